@@ -1,0 +1,75 @@
+-- A list of what is written, member by member.
+use Rattle.std.proofs.Common.{◌≡◌, ℕ, zero, suc, ◌+◌, ◌^◌, ◌<◌, ◌≤◌, Option, Some, None, Bool, true, false, cond, ltb, List, [], ◌∷◌, ◌++◌, length, map, get_or, Ok, take, drop, refl, sym, ap, ◌∙◌, append_assoc, arith, inl, inr, length-append, rules}
+use Rattle.std.proofs.lemmas.Bool.{cases_lt, lt-ltb, le-ltb}
+use Rattle.npr_base.specs.Framing.{Item, encoding}
+use Rattle.std.proofs.lemmas.List.{append-nil, take_more, drop_more, take-append-drop}
+use Rattle.npr_base.specs.declared.refusal.EmitError.{EmitError}
+use Rattle.npr_base.specs.Family.{encodings, held, first_unfit, option_or, checked, overlong, list_unfit}
+
+pub held-past : (n m : ℕ) → held n ≡ None → held (n + m) ≡ None
+held-past n m e = elim (cases_lt n (2 ^ 64)) [
+  | inl lt ↦ absurd (let h : held n ≡ Some n = rw (lt-ltb n (2 ^ 64) lt) refl in cc)
+  | inr le ↦ rw (le-ltb (n + m) (2 ^ 64) (omega arith)) refl
+]
+
+pub held-is : (n t : ℕ) → Some t ≡ held n → (t ≡ n) × (n < 2 ^ 64)
+held-is n t e = elim (cases_lt n (2 ^ 64)) [
+  | inl lt ↦ (let h : held n ≡ Some n = rw (lt-ltb n (2 ^ 64) lt) refl in let k : Some t ≡ Some n = e ∙ h in cc, lt)
+  | inr le ↦ absurd (let h : held n ≡ None = rw (le-ltb n (2 ^ 64) le) refl in cc)
+]
+
+pub none_both : {A : Type 0} (o p : Option A) → option_or o p ≡ None → (o ≡ None) × (p ≡ None)
+none_both None p h = (refl, h)
+none_both (Some x) p h = absurd cc
+
+pub none_first : {A : Type 0} (o p : Option A) → option_or o p ≡ None → o ≡ None
+none_first o p h = (none_both o p h).0
+
+pub encodings-append : {A : Type 0} (item : A → Item) (xs ys : List A) → encodings item (xs ++ ys) ≡ encodings item xs ++ encodings item ys
+encodings-append item [] ys = refl
+encodings-append item (x ∷ xs) ys = ap (λ (w : List ℕ). encoding (item x) ++ w) (encodings-append item xs ys) ∙ sym (append_assoc (encoding (item x)) (encodings item xs) (encodings item ys))
+
+pub encodings-more : {A : Type 0} (item : A → Item) (xs : List A) (i : ℕ) (x : A) → i < length xs → x ≡ get_or xs i x → length (encodings item (take (i + 1) xs)) ≡ length (encodings item (take i xs)) + length (encoding (item x))
+encodings-more item xs i x lt is =
+    let e : take (i + 1) xs ≡ take i xs ++ x ∷ [] = take_more xs i x lt ∙ ap (λ y. take i xs ++ y ∷ []) (sym is) in
+    let s : encodings item (take (i + 1) xs) ≡ encodings item (take i xs) ++ (encoding (item x) ++ []) = ap (encodings item) e ∙ encodings-append item (take i xs) (x ∷ []) in
+    ap length s ∙ length-append (encodings item (take i xs)) (encoding (item x) ++ []) ∙ ap (λ (w : List ℕ). length (encodings item (take i xs)) + length w) (append-nil (encoding (item x)))
+
+-- past a member that can be written
+pub first-past : {A : Type 0} (unfit : A → Option EmitError) (xs : List A) (i : ℕ) (x : A) → i < length xs → x ≡ get_or xs i x → unfit x ≡ None → first_unfit unfit (drop i xs) ≡ first_unfit unfit (drop (i + 1) xs)
+first-past unfit xs i x lt is fits =
+    let e : drop i xs ≡ x ∷ drop (i + 1) xs = drop_more xs i x lt ∙ ap (λ y. y ∷ drop (i + 1) xs) (sym is) in
+    ap (first_unfit unfit) e ∙ ap (λ o. option_or o (first_unfit unfit (drop (i + 1) xs))) fits
+
+pub checked-ok : (o : Option EmitError) (n m : ℕ) → Ok m ≡ checked o n → (o ≡ None) × (m ≡ n)
+checked-ok None n m e = (refl, cc)
+checked-ok (Some f) n m e = absurd cc
+
+pub encodings-below : {A : Type 0} (item : A → Item) (xs : List A) (i : ℕ) → length (encodings item (take i xs)) ≤ length (encodings item xs)
+encodings-below item xs i =
+    let e : encodings item xs ≡ encodings item (take i xs) ++ encodings item (drop i xs) = ap (encodings item) (sym (take-append-drop i xs)) ∙ encodings-append item (take i xs) (drop i xs) in
+    omega (arith, ap length e, length-append (encodings item (take i xs)) (encodings item (drop i xs)))
+
+pub encodings-next : {A : Type 0} (item : A → Item) (xs : List A) (i : ℕ) (x : A) → i < length xs → x ≡ get_or xs i x → encodings item (take (i + 1) xs) ≡ encodings item (take i xs) ++ encoding (item x)
+encodings-next item xs i x lt is =
+    let e : take (i + 1) xs ≡ take i xs ++ x ∷ [] = take_more xs i x lt ∙ ap (λ y. take i xs ++ y ∷ []) (sym is) in
+    ap (encodings item) e ∙ encodings-append item (take i xs) (x ∷ []) ∙ ap (λ (w : List ℕ). encodings item (take i xs) ++ w) (append-nil (encoding (item x)))
+
+pub first-none : {A : Type 0} (unfit : A → Option EmitError) (xs : List A) (i : ℕ) (x : A) → i < length xs → x ≡ get_or xs i x → first_unfit unfit (drop i xs) ≡ None → (unfit x ≡ None) × (first_unfit unfit (drop (i + 1) xs) ≡ None)
+first-none unfit xs i x lt is h =
+    let e : drop i xs ≡ x ∷ drop (i + 1) xs = drop_more xs i x lt ∙ ap (λ y. y ∷ drop (i + 1) xs) (sym is) in
+    none_both (unfit x) (first_unfit unfit (drop (i + 1) xs)) (sym (ap (first_unfit unfit) e) ∙ h)
+
+-- members seen by what they mean
+pub encodings-seen : {A M : Type 0} (item : A → Item) (writes : M → Item) (meaning : A → M) → ((a : A) → item a ≡ writes (meaning a)) → (xs : List A) → encodings item xs ≡ encodings writes (map meaning xs)
+encodings-seen item writes meaning same [] = refl
+encodings-seen item writes meaning same (x ∷ xs) = ap (λ (i : Item). encoding i ++ encodings item xs) (same x) ∙ ap (λ (w : List ℕ). encoding (writes (meaning x)) ++ w) (encodings-seen item writes meaning same xs)
+
+first-seen : {A M : Type 0} (unfit : A → Option EmitError) (misfit : M → Option EmitError) (meaning : A → M) → ((a : A) → unfit a ≡ misfit (meaning a)) → (xs : List A) → first_unfit unfit xs ≡ first_unfit misfit (map meaning xs)
+first-seen unfit misfit meaning same [] = refl
+first-seen unfit misfit meaning same (x ∷ xs) = ap (λ o. option_or o (first_unfit unfit xs)) (same x) ∙ ap (option_or (misfit (meaning x))) (first-seen unfit misfit meaning same xs)
+
+pub list-seen : {A M : Type 0} (unfit : A → Option EmitError) (misfit : M → Option EmitError) (item : A → Item) (writes : M → Item) (meaning : A → M)
+    → ((a : A) → unfit a ≡ misfit (meaning a)) → ((a : A) → item a ≡ writes (meaning a)) → (xs : List A) → list_unfit unfit item xs ≡ list_unfit misfit writes (map meaning xs)
+list-seen unfit misfit item writes meaning u w xs =
+    ap (λ o. option_or o (overlong (length (encodings item xs)))) (first-seen unfit misfit meaning u xs) ∙ ap (λ (e : List ℕ). option_or (first_unfit misfit (map meaning xs)) (overlong (length e))) (encodings-seen item writes meaning w xs)

@@ -1,0 +1,5 @@
+pub mod Fronts
+pub mod Writing
+pub mod Checking
+pub mod Lists
+pub mod Looking

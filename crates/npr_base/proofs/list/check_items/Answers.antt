@@ -1,0 +1,20 @@
+use Rattle.std.proofs.Common.{◌≡◌, ◌+◌, ap, sym, ◌∙◌, length, take}
+use Rattle.npr_base.specs.Framing.{encoding, framed, written_by}
+use Rattle.npr_base.specs.Family.{encodings, held}
+use Rattle.npr_base.proofs.Checking.{checked-ok, first-past, encodings-more}
+use Rattle.npr_base.proofs.Writing.{length-encoding}
+use Rattle.npr_base.proofs.list.check_items.Goals as goal
+
+pub loop-x-preserved : goal.loop-x-preserved
+loop-x-preserved g c =
+    let x = c.x-item.result in
+    let i = c.loop-x.x-index in
+    let all = c.args.list.now in
+    let item = written_by g.A.Nla.nested g.A.Nla.item in
+    let k = checked-ok (g.A.Nla.unfit x) (framed (length (g.A.Nla.item x).value)) c.in_ok-len.len (sym c.in_ok-len.was ∙ c.check.ensures) in
+    let size : length (encodings item (take i all)) + c.in_ok-len.len ≡ length (encodings item (take (i + 1) all)) =
+        ap (λ n. length (encodings item (take i all)) + n) (k.1 ∙ sym (length-encoding (item x))) ∙ sym (encodings-more item all i x c.loop-x-test.true c.x-item.is) in
+    record {
+      fits = c.loop-x.invariant.fits ∙ first-past g.A.Nla.unfit all i x c.loop-x-test.true c.x-item.is k.0;
+      sum = c.plus-total.ensures (length (encodings item (take i all))) c.loop-x.invariant.sum ∙ ap held size;
+    }

@@ -1,0 +1,43 @@
+use Rattle.std.proofs.Common.{◌≡◌, ◌≤◌, ◌+◌, ◌-◌, ◌∷◌, [], ◌++◌, map, length, arith, ap, ◌∙◌, subst, sym}
+use Rattle.std.proofs.lemmas.List.{map_push}
+use Rattle.npr_base.specs.Counts.{Counts, AddsAtMost, SawEach, hit}
+use Rattle.npr_base.specs.Framing.{Front}
+use Rattle.npr_base.specs.Family.{ReadsTo, list_members}
+use Rattle.npr_base.proofs.Fronts.{Front-takes}
+use Rattle.npr_base.proofs.Lists.{begins_so, ReadsTo-more}
+use Rattle.npr_base.proofs.Looking.{SoFar, SoFar-more, SoFar-fault, list_members-more}
+use Rattle.npr_base.proofs.list.read_all.Goals as goal
+
+pub returns-in_err-attribute-clause-memory : goal.returns-in_err-attribute-clause-memory
+returns-in_err-attribute-clause-memory g c = λ h.
+    let f : Front c.loop-next.walk c.in_ok-item.item c.next_counted.new.self = rw c.in_ok-item.was at c.in-Some.ensures.step in
+    begins_so (g.A.Attribute.reads c.args.context) c.args.bytes.now (map g.A.Attribute.meaning c.loop-next.found.items) c.loop-next.walk c.in_ok-item.item c.next_counted.new.self c.loop-next.invariant.read f
+
+pub returns-in_err-push-clause-memory : goal.returns-in_err-push-clause-memory
+returns-in_err-push-clause-memory g c = λ h.
+    let f : Front c.loop-next.walk c.in_ok-item.item c.next_counted.new.self = rw c.in_ok-item.was at c.in-Some.ensures.step in
+    begins_so (g.A.Attribute.reads c.args.context) c.args.bytes.now (map g.A.Attribute.meaning c.loop-next.found.items) c.loop-next.walk c.in_ok-item.item c.next_counted.new.self c.loop-next.invariant.read f
+
+pub loop-next-preserved : goal.loop-next-preserved
+loop-next-preserved g c =
+    let family = g.A.Attribute in
+    let a = c.in_ok-attribute.attribute in
+    let item = c.in_ok-item.item in
+    let past = c.loop-next.invariant in
+    let bytes = c.args.bytes.now in
+    let rest = c.next_counted.new.self in
+    let done = map family.meaning c.loop-next.found.items in
+    let f : Front c.loop-next.walk item rest = rw c.in_ok-item.was at c.in-Some.ensures.step in
+    let took = Front-takes c.loop-next.walk item rest f in
+    let look : c.next_counted.new.looks ≡ hit c.loop-next.looks = rw c.in_ok-item.was at c.in-Some.ensures.counted in
+    let e : map family.meaning c.push.new.self.items ≡ done ++ family.meaning a ∷ [] = rw c.in_ok-push.ensures.items (map_push _ c.loop-next.found.items a) in
+    let after = c.read.new.looks in
+    let adds = subst (λ (k : Counts). AddsAtMost k after (length item.value)) look c.in_ok-attribute.ensures.bounded in
+    let saw = subst (λ (k : Counts). SawEach k after (family.members (family.meaning a))) look c.in_ok-attribute.ensures.counted in
+    let fewer : (length bytes - length c.loop-next.walk) + (4 + length item.value) ≤ length bytes - length rest = omega (arith, took, past.left) in
+    let more = SoFar-more c.args.looks.now c.loop-next.looks after (length bytes - length c.loop-next.walk) (list_members family.members done) (length item.value) (length bytes - length rest) (family.members (family.meaning a)) past.looks adds saw fewer in
+    record {
+      read = rw e (ReadsTo-more (family.reads c.args.context) bytes done c.loop-next.walk item (family.meaning a) rest past.read f c.in_ok-attribute.ensures.ok);
+      left = omega (arith, took, past.left);
+      looks = rw (e, list_members-more family.members done (family.meaning a)) more;
+    }

@@ -1,0 +1,41 @@
+-- How often a header was looked at, at most the greatest u64, and what a reading may add.
+use Rattle.std.specs.Prelude.{◌≡◌, ℕ, ◌+◌, ◌-◌, ◌*◌, ◌/◌, ◌^◌, ◌<◌, ◌≤◌, min}
+
+pub record Counts : Type 0 where
+  pub successful : ℕ
+  pub failed : ℕ
+
+abbrev pub no_looks : Counts
+no_looks = record { successful = 0; failed = 0 }
+
+-- one more, if the greatest u64 leaves room for it
+abbrev pub one_more : ℕ → ℕ
+one_more n = n + min 1 (2 ^ 64 - 1 - n)
+
+abbrev pub hit : Counts → Counts
+hit c = record { successful = one_more c.successful; failed = c.failed }
+
+abbrev pub miss : Counts → Counts
+miss c = record { successful = c.successful; failed = one_more c.failed }
+
+-- the looks that the reading of so many bytes may add: two for four bytes, since a list of route
+-- attributes is looked through once for its encapsulation type and once to be read
+abbrev pub most_successful : ℕ → ℕ
+most_successful bytes = 2 * (bytes / 4)
+
+-- and the failed ones: a walk ends at its first
+abbrev pub most_failed : ℕ → ℕ
+most_failed bytes = 1
+
+-- no count falls, and neither grows by more than the bytes allow
+pub record AddsAtMost (old new : Counts) (bytes : ℕ) : Type 0 where
+  pub kept : old.successful ≤ new.successful
+  pub successful : new.successful ≤ old.successful + most_successful bytes
+  pub failed_kept : old.failed ≤ new.failed
+  pub failed : new.failed ≤ old.failed + most_failed bytes
+
+-- each member had its look, and none failed
+pub record SawEach (old new : Counts) (members : ℕ) : Type 0 where
+  pub failed : new.failed ≡ old.failed
+  -- below the greatest u64, where a count stays
+  pub each : new.successful < 2 ^ 64 - 1 → old.successful + members ≤ new.successful

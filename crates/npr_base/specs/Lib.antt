@@ -1,0 +1,5 @@
+pub mod Refusal
+pub mod Counts
+pub mod Framing
+pub mod Family
+pub mod FitLaws

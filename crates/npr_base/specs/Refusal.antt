@@ -1,0 +1,28 @@
+-- The names of refusals, as a program prints them.
+use Rattle.std.specs.Prelude.{ℕ, List, codes}
+use Rattle.npr_base.specs.declared.refusal.DecodeError.{DecodeError}
+use Rattle.npr_base.specs.declared.refusal.DecodeError.TheVariants.{OutOfMemory, HeaderTooShort, AttributeTooShort, AttributeLength, NextHopTooShort, NextHopLength, ValueLength, NotUtf8, Seg6Header, GeneveOrder, GeneveChild, ViaFamily, Unsupported}
+use Rattle.npr_base.specs.declared.refusal.EmitError.{EmitError}
+use Rattle.npr_base.specs.declared.refusal.EmitError.TheVariants.{TooLong, NextHopTooLong, TooManySegments, IpProtocol, Total}
+
+abbrev pub decode_name : DecodeError → List ℕ
+decode_name OutOfMemory = codes "OutOfMemory"
+decode_name (HeaderTooShort got want) = codes "HeaderTooShort"
+decode_name (AttributeTooShort got) = codes "AttributeTooShort"
+decode_name (AttributeLength length left) = codes "AttributeLength"
+decode_name (NextHopTooShort got) = codes "NextHopTooShort"
+decode_name (NextHopLength length left) = codes "NextHopLength"
+decode_name (ValueLength at got) = codes "ValueLength"
+decode_name (NotUtf8 at) = codes "NotUtf8"
+decode_name (Seg6Header fault) = codes "Seg6Header"
+decode_name (GeneveOrder kind) = codes "GeneveOrder"
+decode_name (GeneveChild kind) = codes "GeneveChild"
+decode_name (ViaFamily family) = codes "ViaFamily"
+decode_name (Unsupported at) = codes "Unsupported"
+
+abbrev pub emit_name : EmitError → List ℕ
+emit_name (TooLong kind len) = codes "TooLong"
+emit_name (NextHopTooLong len) = codes "NextHopTooLong"
+emit_name (TooManySegments count) = codes "TooManySegments"
+emit_name (IpProtocol number) = codes "IpProtocol"
+emit_name Total = codes "Total"

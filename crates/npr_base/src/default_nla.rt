@@ -1,0 +1,111 @@
+//! An attribute that is kept as it stands.
+
+ghost use Rattle.std.specs.Prelude.{◌≡◌, ◌≢◌, ℕ, ◌+◌, false, length, IfOk, IfErr};
+ghost use Rattle.npr_base.specs.declared.refusal.DecodeError.TheVariants.{OutOfMemory};
+ghost use Rattle.npr_base.specs.Framing.{Item, framed};
+ghost use Rattle.npr_base.specs.Family.{checked, too_long};
+ghost use Rattle.npr_base.specs.FitLaws.{too_long-short};
+
+use crate::framing::{NLA_HEADER_SIZE, NlaBuffer, write_bytes};
+use crate::refusal::{DecodeError, EmitError};
+use crate::traits::{Nla, Parseable};
+use std::alloc::{AllocError, Global};
+use std::marker::Model;
+
+/// An attribute that is kept as it stands: all 16 bits of its kind, and its value.
+#[derive(Debug, Drop)]
+pub struct DefaultNla {
+    kind: u16,
+    value: Vec<u8>,
+}
+
+impl Model for DefaultNla {
+    ghost Value = { Item };
+
+    ghost view = { λ d. record { kind = d.kind; value = d.value.items } };
+}
+
+impl DefaultNla {
+    /// An attribute of this kind, with both flags, and this value.
+    pub fn new(kind: u16, value: Vec<u8>) -> Self
+        ensures { result ≡ record { kind = kind; value = value.items } }
+    {
+        DefaultNla { kind, value }
+    }
+
+    /// The value, without header and padding.
+    pub fn value(&self) -> &[u8]
+        ensures { result.now ≡ self.now.value }
+    {
+        self.value.as_slice()
+    }
+
+    /// An equal attribute.
+    ///
+    /// # Errors
+    /// `AllocError` where memory is refused.
+    pub fn clone(&self, alloc: Global) -> Result<Self, AllocError>
+        ensures { IfOk result (λ d. d ≡ self.now) }
+    {
+        Ok(DefaultNla {
+            kind: self.kind,
+            value: Vec::from_slice(alloc, self.value.as_slice())?,
+        })
+    }
+}
+
+impl<'a> Parseable<&'a NlaBuffer<'a>> for DefaultNla {
+    ghost parses = { λ input d. d ≡ input.now };
+
+    ghost misparses = { λ input e. ⊥ };
+
+    fn parse(alloc: Global, input: &'a NlaBuffer<'a>) -> Result<Self, DecodeError> {
+        Ok(DefaultNla {
+            kind: input.raw_kind(),
+            value: Vec::from_slice(alloc, input.value())?,
+        })
+    }
+}
+
+/// The length of an encoding whose value has this length.
+///
+/// # Errors
+/// `TooLong` above 65,531 bytes.
+pub fn check_len(kind: u16, len: usize) -> Result<usize, EmitError>
+    ensures { result ≡ checked (too_long kind len) (framed len) }
+{
+    if len > 65531 {
+        return Err(EmitError::TooLong { kind, len });
+    }
+    Ok((NLA_HEADER_SIZE + len).next_multiple_of(4))
+}
+
+impl Nla for DefaultNla {
+    ghost item = { λ d. d };
+
+    ghost nested = { λ _. false };
+
+    ghost unfit = { λ d. too_long d.kind (length d.value) };
+
+    ghost fits_short = { λ d h. too_long-short d.kind (length d.value) h };
+
+    fn kind(&self) -> u16 {
+        self.kind
+    }
+
+    fn is_nested(&self) -> bool {
+        false
+    }
+
+    fn check(&self) -> Result<usize, EmitError> {
+        check_len(self.kind, self.value.len())
+    }
+
+    fn value_len(&self) -> usize {
+        self.value.len()
+    }
+
+    fn write_value(&self, out: &mut [u8]) -> usize {
+        write_bytes(out, self.value.as_slice())
+    }
+}

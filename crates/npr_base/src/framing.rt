@@ -1,0 +1,235 @@
+//! The framing of attributes: four bytes of header, a value, and padding to a multiple of four.
+
+ghost use Rattle.std.specs.Prelude.{◌≡◌, ◌+◌, ◌%◌, ◌/◌, ◌^◌, ◌≤◌, ◌↔◌, ◌++◌, ◌<◌, [], ◌∷◌, IsTrue, length, take, drop, replicate, List, ℕ, Ok, Err, Some, None};
+ghost use Rattle.std.specs.Int.{w16, to_le_bytes};
+ghost use Rattle.std.specs.Iterator.{at_most};
+ghost use Rattle.npr_base.specs.Framing.{Item, Begins, Step, Writes, encoding, framed, looked, marked, number_of};
+
+use crate::looks::Looks;
+use crate::refusal::DecodeError;
+use std::marker::Model;
+
+/// The flag of a kind that says that the value is a list of attributes (`linux/netlink.h`).
+pub const NLA_F_NESTED: u16 = 0x8000;
+
+/// The flag of a kind that says that the value is in network byte order (`linux/netlink.h`).
+pub const NLA_F_NET_BYTEORDER: u16 = 0x4000;
+
+/// The bits of a kind that are its number (`linux/netlink.h`).
+pub const NLA_TYPE_MASK: u16 = 0x3fff;
+
+/// The next attribute begins at a multiple of so many bytes (`linux/netlink.h`).
+pub const NLA_ALIGNTO: usize = 4;
+
+/// The bytes of an attribute's header (`linux/netlink.h`).
+pub const NLA_HEADER_SIZE: usize = 4;
+
+/// One attribute, borrowed from the bytes that it stands in. Contracts see its kind with both
+/// flags, and its value.
+///
+/// Layout (`linux/netlink.h`, `struct nlattr`), little endian: the length of header and value in
+/// 2 bytes, the kind in 2 bytes, the value, and padding to a multiple of 4.
+#[derive(Debug, Drop)]
+pub struct NlaBuffer<'a> {
+    kind: u16,
+    value: &'a [u8],
+}
+
+impl<'a> Model for NlaBuffer<'a> {
+    ghost Value = { Item };
+
+    ghost view = { λ b. record { kind = b.kind; value = b.value.now } };
+
+    ghost invariant = { λ b. length b.value.now ≤ 65531 };
+}
+
+impl<'a> NlaBuffer<'a> {
+    /// The attribute in front of the bytes; padding is not looked at.
+    ///
+    /// # Errors
+    /// `AttributeTooShort` below 4 bytes; `AttributeLength` where the length that the header
+    /// states is below 4 or above the bytes that are there.
+    pub fn new_checked(bytes: &'a [u8]) -> Result<Self, DecodeError>
+        ensures { Begins bytes.now result }
+    {
+        if bytes.len() < NLA_HEADER_SIZE {
+            return Err(DecodeError::AttributeTooShort { got: bytes.len() });
+        }
+        let length = u16::from_le_bytes([bytes[0], bytes[1]]);
+        if length < 4 || length as usize > bytes.len() {
+            return Err(DecodeError::AttributeLength {
+                length,
+                left: bytes.len(),
+            });
+        }
+        let kind = u16::from_le_bytes([bytes[2], bytes[3]]);
+        Ok(NlaBuffer {
+            kind,
+            value: &bytes[4..length as usize],
+        })
+    }
+
+    /// The length of header and value, in bytes.
+    pub fn length(&self) -> u16
+        ensures { result ≡ 4 + length self.now.value }
+    {
+        self.value.len() as u16 + 4
+    }
+
+    /// The number: the low 14 bits of the kind.
+    pub fn kind(&self) -> u16
+        ensures { result ≡ number_of self.now.kind }
+    {
+        self.kind % NLA_F_NET_BYTEORDER
+    }
+
+    /// The kind with both flags.
+    pub fn raw_kind(&self) -> u16
+        ensures { result ≡ self.now.kind }
+    {
+        self.kind
+    }
+
+    /// Whether the kind has `NLA_F_NESTED`, bit 15.
+    pub fn nested_flag(&self) -> bool
+        ensures { IsTrue result ↔ (self.now.kind / 2 ^ 15 % 2 ≡ 1) }
+    {
+        self.kind / NLA_F_NESTED % 2 == 1
+    }
+
+    /// Whether the kind has `NLA_F_NET_BYTEORDER`, bit 14.
+    pub fn network_byte_order_flag(&self) -> bool
+        ensures { IsTrue result ↔ (self.now.kind / 2 ^ 14 % 2 ≡ 1) }
+    {
+        self.kind / NLA_F_NET_BYTEORDER % 2 == 1
+    }
+
+    /// The value, without header and padding.
+    pub fn value(&self) -> &'a [u8]
+        ensures { result.now ≡ self.now.value }
+    {
+        self.value
+    }
+}
+
+/// A walk over the attributes that stand one after the other. A fault is its last item. Contracts
+/// see the bytes that are left.
+#[derive(Debug, Drop)]
+pub struct NlasIterator<'a> {
+    rest: &'a [u8],
+}
+
+impl<'a> Model for NlasIterator<'a> {
+    ghost Value = { List ℕ };
+
+    ghost view = { λ i. i.rest.now };
+}
+
+impl<'a> NlasIterator<'a> {
+    /// A walk over these bytes.
+    pub fn new(bytes: &'a [u8]) -> Self
+        ensures { result ≡ bytes.now }
+    {
+        NlasIterator { rest: bytes }
+    }
+
+    fn step(&mut self) -> Option<Result<NlaBuffer<'a>, DecodeError>>
+        ensures { Step self.old result self.new }
+    {
+        if self.rest.is_empty() {
+            return None;
+        }
+        match NlaBuffer::new_checked(self.rest) {
+            Ok(found) => {
+                let whole = (found.length() as usize).next_multiple_of(NLA_ALIGNTO);
+                let end = whole.min(self.rest.len());
+                self.rest = &self.rest[end..];
+                Some(Ok(found))
+            }
+            Err(e) => {
+                self.rest = &[];
+                Some(Err(e))
+            }
+        }
+    }
+
+    /// `next`, with its look at a header counted.
+    pub fn next_counted(&mut self, looks: &mut Looks) -> Option<Result<NlaBuffer<'a>, DecodeError>>
+        ensures step { Step self.old result self.new }
+        ensures counted { looks.new ≡ looked result looks.old }
+    {
+        let found = self.step();
+        match &found {
+            None => {}
+            Some(Ok(_)) => looks.hit(),
+            Some(Err(_)) => looks.miss(),
+        }
+        found
+    }
+}
+
+impl<'a> Iterator for NlasIterator<'a> {
+    type Item = Result<NlaBuffer<'a>, DecodeError>;
+
+    ghost can_next = { λ _. Unit {0} };
+
+    ghost next_gives = { λ s r t. Step s r t };
+
+    ghost remaining = { λ s. at_most (length s) };
+
+    fn next(&mut self) -> Option<Result<NlaBuffer<'a>, DecodeError>> {
+        self.step()
+    }
+}
+
+/// The kind, with NESTED where it is wanted.
+pub fn marked_kind(kind: u16, nested: bool) -> u16
+    ensures { result ≡ marked nested kind }
+{
+    if nested {
+        NLA_F_NESTED + kind % NLA_F_NESTED
+    } else {
+        kind
+    }
+}
+
+/// Copies the bytes to the front of the slice, leaves the rest, and answers their length.
+pub fn write_bytes(out: &mut [u8], bytes: &[u8]) -> usize
+    requires { length bytes.now ≤ length out.old }
+    ensures len { result ≡ length bytes.now }
+    ensures after { Writes out.old out.new bytes.now }
+{
+    out[..bytes.len()].copy_from_slice(bytes);
+    bytes.len()
+}
+
+fn write_zeros(out: &mut [u8], count: usize)
+    requires { count ≤ length out.old }
+    ensures { Writes out.old out.new (replicate count 0) }
+{
+    out[..count].fill(0);
+}
+
+fn write_header(out: &mut [u8], size: u16, kind: u16)
+    requires { 4 ≤ length out.old }
+    ensures { Writes out.old out.new (to_le_bytes w16 size ++ to_le_bytes w16 kind) }
+{
+    let [a, b] = size.to_le_bytes();
+    let [c, d] = kind.to_le_bytes();
+    write_bytes(out, &[a, b, c, d]);
+}
+
+/// Writes the header in front of a value that stands already, and zeros after it to the next
+/// multiple of four. Answers the length of all.
+pub(crate) fn frame(out: &mut [u8], kind: u16, len: usize) -> usize
+    requires short { len ≤ 65531 }
+    requires room { framed len ≤ length out.old }
+    ensures len { result ≡ framed len }
+    ensures after { Writes out.old out.new (encoding (record { kind = kind; value = take len (drop 4 out.old) })) }
+{
+    let size = NLA_HEADER_SIZE + len;
+    let end = size.next_multiple_of(NLA_ALIGNTO);
+    write_header(out, size as u16, kind);
+    write_zeros(&mut out[size..], end - size);
+    end
+}

@@ -1,0 +1,21 @@
+//! Attributes of rtnetlink messages: framing, traits, refusals, addresses.
+#![tactic(auto)]
+
+mod attribute;
+mod default_nla;
+mod framing;
+mod list;
+mod looks;
+mod refusal;
+mod traits;
+
+pub use attribute::Attribute;
+pub use default_nla::{DefaultNla, check_len};
+pub use framing::{
+    NLA_ALIGNTO, NLA_F_NESTED, NLA_F_NET_BYTEORDER, NLA_HEADER_SIZE, NLA_TYPE_MASK, NlaBuffer,
+    NlasIterator, marked_kind, write_bytes,
+};
+pub use list::{check_list, emit_list, list_len, parse_list, write_list};
+pub use looks::Looks;
+pub use refusal::{At, AttrFamily, DecodeError, EmitError, Seg6Fault};
+pub use traits::{Emitable, Nla, Parseable, ParseableParametrized};

@@ -1,0 +1,140 @@
+//! Lists of attributes, for any family.
+
+ghost use Rattle.std.specs.Prelude.{◌≡◌, ◌≢◌, ◌≤◌, ◌<◌, ℕ, List, Option, None, length, map, ◌++◌, ◌+◌, IfOk, IfErr, IsErrOf};
+ghost use Rattle.npr_base.specs.Counts.{AddsAtMost, SawEach};
+ghost use Rattle.npr_base.specs.Framing.{Item, Front, Writes, written_by};
+ghost use Rattle.npr_base.specs.Family.{ReadsList, FirstFault, checked, list_unfit, list_members, encodings, held};
+ghost use Rattle.npr_base.specs.declared.refusal.DecodeError.TheVariants.{OutOfMemory};
+
+use crate::attribute::Attribute;
+use crate::framing::NlasIterator;
+use crate::looks::Looks;
+use crate::refusal::{DecodeError, EmitError};
+use crate::traits::Nla;
+use std::alloc::Global;
+
+/// The attributes that the bytes are cut into, in order, each read in the context.
+///
+/// # Errors
+/// `OutOfMemory` where memory is refused, and else the first fault in reading order.
+pub fn parse_list<A: Attribute>(
+    alloc: Global,
+    context: A::Context,
+    bytes: &[u8],
+    looks: &mut Looks,
+) -> Result<Vec<A>, DecodeError>
+    // What is read is what the bytes mean.
+    ensures ok { IfOk result (λ v. ReadsList (A.reads context) bytes.now (map A.meaning v.items)) }
+    // A refusal is the first fault.
+    ensures refused { IfErr result (λ e. e ≢ OutOfMemory → FirstFault (A.reads context) (A.faulty context) bytes.now e) }
+    // Then the bytes mean nothing.
+    ensures none { IfErr result (λ e. e ≢ OutOfMemory → (xs : List A.Meaning) → ReadsList (A.reads context) bytes.now xs → ⊥) }
+    // Memory is taken behind a first whole attribute alone.
+    ensures memory { IsErrOf result OutOfMemory → (x : Item) × (rest : List ℕ) × Front bytes.now x rest }
+    ensures bounded { AddsAtMost looks.old looks.new (length bytes.now) }
+    ensures counted { IfOk result (λ v. SawEach looks.old looks.new (list_members A.members (map A.meaning v.items))) }
+{
+    read_all(alloc, context, bytes, looks)
+}
+
+fn read_all<A: Attribute>(
+    alloc: Global,
+    context: A::Context,
+    bytes: &[u8],
+    looks: &mut Looks,
+) -> Result<Vec<A>, DecodeError>
+    ensures ok { IfOk result (λ v. ReadsList (A.reads context) bytes.now (map A.meaning v.items)) }
+    ensures refused { IfErr result (λ e. e ≢ OutOfMemory → FirstFault (A.reads context) (A.faulty context) bytes.now e) }
+    ensures memory { IsErrOf result OutOfMemory → (x : Item) × (rest : List ℕ) × Front bytes.now x rest }
+    ensures bounded { AddsAtMost looks.old looks.new (length bytes.now) }
+    ensures counted { IfOk result (λ v. SawEach looks.old looks.new (list_members A.members (map A.meaning v.items))) }
+{
+    let mut walk = NlasIterator::new(bytes);
+    let mut found = Vec::new(alloc);
+    while let Some(next) = walk.next_counted(looks) {
+        let item = next?;
+        let attribute = A::read(alloc, context, &item, looks)?;
+        found.push(attribute)?;
+    }
+    Ok(found)
+}
+
+/// The sum, where a `usize` holds it and what came before.
+fn plus(total: Option<usize>, len: usize) -> Option<usize>
+    ensures { (n : ℕ) → total ≡ held n → result ≡ held (n + len) }
+{
+    match total {
+        Some(t) => t.checked_add(len),
+        None => None,
+    }
+}
+
+fn check_items<A: Nla>(list: &[A]) -> Result<usize, EmitError>
+    ensures { result ≡ checked (list_unfit A.unfit (written_by A.nested A.item) list.now) (length (encodings (written_by A.nested A.item) list.now)) }
+{
+    let mut total = Some(0usize);
+    for x in list {
+        let len = x.check()?;
+        total = plus(total, len);
+    }
+    total.ok_or(EmitError::Total)
+}
+
+fn items_len<A: Nla>(list: &[A]) -> usize
+    requires { list_unfit A.unfit (written_by A.nested A.item) list.now ≡ None }
+    ensures { result ≡ length (encodings (written_by A.nested A.item) list.now) }
+{
+    match check_items(list) {
+        Ok(len) => len,
+        Err(_) => unreachable!(),
+    }
+}
+
+fn write_items<A: Nla>(list: &[A], out: &mut [u8]) -> usize
+    requires fits { list_unfit A.unfit (written_by A.nested A.item) list.now ≡ None }
+    requires room { length (encodings (written_by A.nested A.item) list.now) ≤ length out.old }
+    ensures len { result ≡ length (encodings (written_by A.nested A.item) list.now) }
+    ensures after { Writes out.old out.new (encodings (written_by A.nested A.item) list.now) }
+{
+    let mut at = 0usize;
+    for x in list {
+        at += x.write(&mut out[at..]);
+    }
+    at
+}
+
+/// The length of the encodings in bytes, or the first cause why there are none: the first member
+/// that can't be written, or `Total`.
+pub fn check_list<A: Attribute>(list: &[A]) -> Result<usize, EmitError>
+    ensures { result ≡ checked (list_unfit A.misfit A.writes (map A.meaning list.now)) (length (encodings A.writes (map A.meaning list.now))) }
+{
+    check_items(list)
+}
+
+/// The length of the encodings, in bytes. Asks that `check_list` accepts.
+pub fn list_len<A: Attribute>(list: &[A]) -> usize
+    requires { list_unfit A.misfit A.writes (map A.meaning list.now) ≡ None }
+    ensures { result ≡ length (encodings A.writes (map A.meaning list.now)) }
+{
+    items_len(list)
+}
+
+/// `emit_list`, with the length of what is written.
+pub fn write_list<A: Attribute>(list: &[A], out: &mut [u8]) -> usize
+    requires fits { list_unfit A.misfit A.writes (map A.meaning list.now) ≡ None }
+    requires room { length (encodings A.writes (map A.meaning list.now)) ≤ length out.old }
+    ensures len { result ≡ length (encodings A.writes (map A.meaning list.now)) }
+    ensures after { Writes out.old out.new (encodings A.writes (map A.meaning list.now)) }
+{
+    write_items(list, out)
+}
+
+/// Writes the encodings one after the other at the front of the slice, and leaves the rest. Asks
+/// that `check_list` accepts, and room for the length that it answers.
+pub fn emit_list<A: Attribute>(list: &[A], out: &mut [u8])
+    requires fits { list_unfit A.misfit A.writes (map A.meaning list.now) ≡ None }
+    requires room { length (encodings A.writes (map A.meaning list.now)) ≤ length out.old }
+    ensures { Writes out.old out.new (encodings A.writes (map A.meaning list.now)) }
+{
+    write_list(list, out);
+}

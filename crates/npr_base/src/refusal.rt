@@ -1,0 +1,187 @@
+//! Why bytes are refused, and why a value can't be written.
+
+ghost use Rattle.std.specs.Prelude.{◌≡◌};
+ghost use Rattle.npr_base.specs.declared.refusal.DecodeError.TheVariants.{OutOfMemory};
+ghost use Rattle.npr_base.specs.Refusal.{decode_name, emit_name};
+
+use std::alloc::{AllocError, AllocFailed};
+use thiserror::Error;
+
+/// The family of attributes in which a number is to be understood.
+#[derive(Clone, Copy, Debug, PartialEq, Eq)]
+pub enum AttrFamily {
+    /// No family: a value that is read by itself.
+    Value,
+    /// `IFA_*` of `linux/if_addr.h`.
+    Address,
+    /// `FRA_*` of `linux/fib_rules.h`.
+    Rule,
+    /// `RTA_*` of `linux/rtnetlink.h`.
+    Route,
+    /// `RTAX_*` of `linux/rtnetlink.h`.
+    Metric,
+    /// `MPLS_IPTUNNEL_*` of `linux/mpls_iptunnel.h`.
+    Mpls,
+    /// `LWTUNNEL_IP_*` of `linux/lwtunnel.h`.
+    Ip,
+    /// `LWTUNNEL_IP6_*` of `linux/lwtunnel.h`.
+    Ip6,
+    /// `LWT_XFRM_*` of `linux/lwtunnel.h`.
+    Xfrm,
+    /// `LWTUNNEL_IP_OPTS_*` of `linux/lwtunnel.h`.
+    Opt,
+    /// `LWTUNNEL_IP_OPT_GENEVE_*` of `linux/lwtunnel.h`.
+    Geneve,
+    /// `LWTUNNEL_IP_OPT_VXLAN_*` of `linux/lwtunnel.h`.
+    Vxlan,
+    /// `LWTUNNEL_IP_OPT_ERSPAN_*` of `linux/lwtunnel.h`.
+    Erspan,
+    /// `SEG6_IPTUNNEL_*` of `linux/seg6_iptunnel.h`.
+    Seg6,
+    /// `SEG6_LOCAL_*` of `linux/seg6_local.h`.
+    Seg6Local,
+    /// `RPL_IPTUNNEL_*` of `linux/rpl_iptunnel.h`.
+    Rpl,
+    /// `IOAM6_IPTUNNEL_*` of `linux/ioam6_iptunnel.h`.
+    Ioam6,
+}
+
+/// The place of a value: the family of its attribute, and the attribute's number.
+#[derive(Clone, Copy, Debug, PartialEq, Eq)]
+pub struct At {
+    /// The family.
+    pub family: AttrFamily,
+    /// The number, without the two flags of a kind.
+    pub kind: u16,
+}
+
+/// What is wrong with a SEG6 routing header (RFC 8754, section 2).
+#[derive(Clone, Copy, Debug, PartialEq, Eq)]
+pub enum Seg6Fault {
+    /// Fewer bytes than the fixed part takes.
+    Short,
+    /// The length that it states is not the length that it has.
+    Length,
+    /// The HMAC flag is set, and no HMAC has room.
+    Hmac,
+    /// The segments are not whole.
+    Segments,
+}
+
+/// Why bytes are not a value. Lengths are in bytes.
+#[derive(Clone, Copy, Debug, Drop, PartialEq, Eq, Error)]
+pub enum DecodeError {
+    /// Memory was refused.
+    #[error("out of memory")]
+    OutOfMemory,
+    /// A fixed header has `want` bytes, and `got` were there.
+    #[error("{got} bytes, where a header of {want} is wanted")]
+    HeaderTooShort { got: usize, want: usize },
+    /// The header of an attribute has 4 bytes, and `got` were there.
+    #[error("{got} bytes, where an attribute begins with 4")]
+    AttributeTooShort { got: usize },
+    /// An attribute's length is below 4, or above the bytes that are left.
+    #[error("an attribute of length {length} with {left} bytes left")]
+    AttributeLength { length: u16, left: usize },
+    /// The header of a next hop has 8 bytes, and `got` were there.
+    #[error("{got} bytes, where a next hop begins with 8")]
+    NextHopTooShort { got: usize },
+    /// A next hop's length is below 8, or above the bytes that are left.
+    #[error("a next hop of length {length} with {left} bytes left")]
+    NextHopLength { length: u16, left: usize },
+    /// A value of a length that its place doesn't take.
+    #[error("a value of {got} bytes at {at:?}")]
+    ValueLength { at: At, got: usize },
+    /// A name that is no UTF-8.
+    #[error("no UTF-8 at {at:?}")]
+    NotUtf8 { at: At },
+    /// A SEG6 routing header.
+    #[error("a SEG6 routing header: {fault:?}")]
+    Seg6Header { fault: Seg6Fault },
+    /// A Geneve type or data before any class.
+    #[error("Geneve option attribute {kind} before a class")]
+    GeneveOrder { kind: u16 },
+    /// A child of a Geneve option of an unknown number.
+    #[error("Geneve option attribute {kind} is unknown")]
+    GeneveChild { kind: u16 },
+    /// An address family of a gateway that no byte holds.
+    #[error("a gateway of address family {0}")]
+    ViaFamily(u16),
+    /// A routing header in a form that is not read.
+    #[error("an unsupported header at {at:?}")]
+    Unsupported { at: At },
+}
+
+/// Why a value can't be written. Lengths are in bytes.
+#[derive(Clone, Copy, Debug, Drop, PartialEq, Eq, Error)]
+pub enum EmitError {
+    /// The value of the attribute `kind` has more than 65,531 bytes.
+    #[error("attribute {kind} with a value of {len} bytes")]
+    TooLong { kind: u16, len: usize },
+    /// A next hop has more than 65,535 bytes.
+    #[error("a next hop of {len} bytes")]
+    NextHopTooLong { len: usize },
+    /// A routing header with more segments than its length byte can say.
+    #[error("{count} segments")]
+    TooManySegments { count: usize },
+    /// A protocol number that no byte holds.
+    #[error("IP protocol {number}")]
+    IpProtocol { number: i32 },
+    /// A length past the greatest `usize`.
+    #[error("too many bytes in all")]
+    Total,
+}
+
+impl DecodeError {
+    /// The variant's name.
+    pub fn name(&self) -> &'static str
+        ensures { result.now ≡ decode_name self.now }
+    {
+        match self {
+            DecodeError::OutOfMemory => "OutOfMemory",
+            DecodeError::HeaderTooShort { .. } => "HeaderTooShort",
+            DecodeError::AttributeTooShort { .. } => "AttributeTooShort",
+            DecodeError::AttributeLength { .. } => "AttributeLength",
+            DecodeError::NextHopTooShort { .. } => "NextHopTooShort",
+            DecodeError::NextHopLength { .. } => "NextHopLength",
+            DecodeError::ValueLength { .. } => "ValueLength",
+            DecodeError::NotUtf8 { .. } => "NotUtf8",
+            DecodeError::Seg6Header { .. } => "Seg6Header",
+            DecodeError::GeneveOrder { .. } => "GeneveOrder",
+            DecodeError::GeneveChild { .. } => "GeneveChild",
+            DecodeError::ViaFamily(_) => "ViaFamily",
+            DecodeError::Unsupported { .. } => "Unsupported",
+        }
+    }
+}
+
+impl EmitError {
+    /// The variant's name.
+    pub fn name(&self) -> &'static str
+        ensures { result.now ≡ emit_name self.now }
+    {
+        match self {
+            EmitError::TooLong { .. } => "TooLong",
+            EmitError::NextHopTooLong { .. } => "NextHopTooLong",
+            EmitError::TooManySegments { .. } => "TooManySegments",
+            EmitError::IpProtocol { .. } => "IpProtocol",
+            EmitError::Total => "Total",
+        }
+    }
+}
+
+impl From<AllocError> for DecodeError {
+    ghost from_gives = { λ _ e. e ≡ OutOfMemory };
+
+    fn from(_e: AllocError) -> DecodeError {
+        DecodeError::OutOfMemory
+    }
+}
+
+impl<T: Drop> From<AllocFailed<T>> for DecodeError {
+    ghost from_gives = { λ _ e. e ≡ OutOfMemory };
+
+    fn from(_e: AllocFailed<T>) -> DecodeError {
+        DecodeError::OutOfMemory
+    }
+}
