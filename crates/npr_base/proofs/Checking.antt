@@ -4,6 +4,7 @@ use Rattle.std.proofs.lemmas.Bool.{cases_lt, lt-ltb, le-ltb}
 use Rattle.npr_base.specs.Framing.{Item, encoding}
 use Rattle.std.proofs.lemmas.List.{append-nil, take_more, drop_more, take-append-drop}
 use Rattle.npr_base.specs.declared.refusal.EmitError.{EmitError}
+use Rattle.npr_base.specs.ListLaws.{none_both}
 use Rattle.npr_base.specs.Family.{encodings, held, first_unfit, option_or, checked, overlong, list_unfit}
 
 pub held-past : (n m : ℕ) → held n ≡ None → held (n + m) ≡ None
@@ -17,10 +18,6 @@ held-is n t e = elim (cases_lt n (2 ^ 64)) [
   | inl lt ↦ (let h : held n ≡ Some n = rw (lt-ltb n (2 ^ 64) lt) refl in let k : Some t ≡ Some n = e ∙ h in cc, lt)
   | inr le ↦ absurd (let h : held n ≡ None = rw (le-ltb n (2 ^ 64) le) refl in cc)
 ]
-
-pub none_both : {A : Type 0} (o p : Option A) → option_or o p ≡ None → (o ≡ None) × (p ≡ None)
-none_both None p h = (refl, h)
-none_both (Some x) p h = absurd cc
 
 pub none_first : {A : Type 0} (o p : Option A) → option_or o p ≡ None → o ≡ None
 none_first o p h = (none_both o p h).0

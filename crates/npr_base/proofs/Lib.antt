@@ -3,3 +3,4 @@ pub mod Writing
 pub mod Checking
 pub mod Lists
 pub mod Looking
+pub mod Names

@@ -4,11 +4,8 @@ use Rattle.std.specs.Int.{w16, to_le_bytes}
 use Rattle.std.proofs.lemmas.List.{take-append-drop, take_at, drop_at, take_all, drop-drop, append-nil, length-replicate, drop_all}
 use Rattle.std.proofs.Math.Seq.{drop-append-add}
 use borrow.Rule.Slice.PartMut.{put_mid}
-use Rattle.npr_base.specs.Framing.{Item, Writes, text, encoding, framed, pad}
-
--- the length of an encoding follows from the length of the value
-pub length-encoding : (x : Item) → length (encoding x) ≡ framed (length x.value)
-length-encoding x = omega (arith, length-append x.value (replicate (pad (length x.value)) 0), length-replicate {A = ℕ} (pad (length x.value)) 0)
+use Rattle.npr_base.specs.Framing.{Writes, encoding, framed, pad}
+use Rattle.npr_base.specs.ListLaws.{length-encoding}
 
 pub Writes-length : (old new bytes : List ℕ) → length bytes ≤ length old → Writes old new bytes → length new ≡ length old
 Writes-length old new bytes le w = ap length w ∙ omega (arith, length-append bytes (drop (length bytes) old), length-drop (length bytes) old)

@@ -3,3 +3,14 @@ pub mod Counts
 pub mod Framing
 pub mod Family
 pub mod FitLaws
+pub mod FrontLaws
+pub mod ListLaws
+pub mod Name
+pub mod NameLaws
+pub mod Table
+pub mod TableLaws
+pub mod ListCodec
+pub mod LayoutLaws
+pub mod CodecLaws
+pub mod Codec
+pub mod Layout

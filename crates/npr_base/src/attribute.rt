@@ -82,5 +82,5 @@ pub trait Attribute: Nla + Drop {
     ghost reads_back: { (context : Self.Context) (m : Meaning) → coherent context m → misfit m ≡ None → reads context (writes m) m };
 
     /// An encoding is at most five halves as long as the header and value that were read.
-    ghost grows: { (context : Self.Context) (x : Item) (m : Meaning) → reads context x m → 2 * framed (length (writes m).value) ≤ 5 * (4 + length x.value) };
+    ghost grows: { (context : Self.Context) (x : Item) (m : Meaning) → Proper x → reads context x m → 2 * framed (length (writes m).value) ≤ 5 * (4 + length x.value) };
 }

@@ -8,6 +8,7 @@ mod list;
 mod looks;
 mod refusal;
 mod traits;
+mod values;
 
 pub use attribute::Attribute;
 pub use default_nla::{DefaultNla, check_len};
@@ -19,3 +20,7 @@ pub use list::{check_list, emit_list, list_len, parse_list, write_list};
 pub use looks::Looks;
 pub use refusal::{At, AttrFamily, DecodeError, EmitError, Seg6Fault};
 pub use traits::{Emitable, Nla, Parseable, ParseableParametrized};
+pub use values::{
+    read_4, read_16, read_bool, read_bytes, read_i32, read_name, read_u8, read_u16, read_u16_be,
+    read_u32, read_u32_be, read_u64, read_u64_be, write_name,
+};

@@ -2,7 +2,7 @@ use Rattle.std.proofs.Common.{◌≡◌, ◌+◌, ap, sym, ◌∙◌, length, ta
 use Rattle.npr_base.specs.Framing.{encoding, framed, written_by}
 use Rattle.npr_base.specs.Family.{encodings, held}
 use Rattle.npr_base.proofs.Checking.{checked-ok, first-past, encodings-more}
-use Rattle.npr_base.proofs.Writing.{length-encoding}
+use Rattle.npr_base.specs.ListLaws.{length-encoding}
 use Rattle.npr_base.proofs.list.check_items.Goals as goal
 
 pub loop-x-preserved : goal.loop-x-preserved

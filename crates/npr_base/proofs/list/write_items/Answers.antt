@@ -2,7 +2,8 @@ use Rattle.std.proofs.Common.{◌≡◌, ◌+◌, ◌-◌, ◌≤◌, length, ta
 use Rattle.npr_base.specs.Framing.{encoding, framed, written_by}
 use Rattle.npr_base.specs.Family.{encodings}
 use Rattle.npr_base.proofs.Checking.{first-none, encodings-more, encodings-next, encodings-below}
-use Rattle.npr_base.proofs.Writing.{Writes-more, length-encoding}
+use Rattle.npr_base.proofs.Writing.{Writes-more}
+use Rattle.npr_base.specs.ListLaws.{length-encoding}
 use Rattle.npr_base.proofs.list.write_items.Goals as goal
 
 pub write-at-requires-clause-room : goal.write-at-requires-clause-room

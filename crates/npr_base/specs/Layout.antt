@@ -1,0 +1,156 @@
+-- Values of a fixed length.
+use Rattle.std.specs.Prelude.{◌≡◌, ℕ, ◌+◌, ◌*◌, ◌^◌, ◌<◌, Bool, true, false, nat_lt, ℤ, FitsSigned, List, [], ◌∷◌, length, slice_index}
+use Rattle.std.specs.Int.{w8, w16, w32, w64, to_le_bytes, from_le_bytes, to_be_bytes, from_be_bytes, cast_signed, cast_unsigned}
+use Rattle.npr_base.specs.Framing.{IsBytes}
+use Rattle.npr_base.specs.LayoutLaws.{byte-back, le16-holds, le32-holds, le64-holds, be16-holds, be32-holds, be64-holds, signed32-back, signed32-holds}
+use Rattle.std.proofs.Common.{refl, sym, ap, subst, ◌∙◌}
+use Rattle.std.proofs.lemmas.Nat.{from_le_bytes-to_le_bytes_2, from_le_bytes-to_le_bytes_4, from_le_bytes-to_le_bytes_8, from_be_bytes-to_be_bytes_2, from_be_bytes-to_be_bytes_4, from_be_bytes-to_be_bytes_8}
+
+-- how a value is read from `size` bytes and how it is written as so many
+pub record Layout (V : Type 0) : Type 1 where
+  pub size : ℕ
+  pub decode : List ℕ → V
+  pub encode : V → List ℕ
+  -- the values that it can hold
+  pub Holds : V → Type 0
+  -- what it can hold is written in so many bytes and read back; what a program's bytes are, it can hold
+  pub length-encode : (x : V) → Holds x → length (encode x) ≡ size
+  pub decode-encode : (x : V) → Holds x → decode (encode x) ≡ x
+  pub Holds-decode : (bytes : List ℕ) → IsBytes bytes → length bytes ≡ size → Holds (decode bytes)
+
+-- a number in one byte
+abbrev pub byte : Layout ℕ
+byte = record {
+  size = 1;
+  decode = λ bytes. slice_index bytes 0;
+  encode = λ n. to_le_bytes w8 n;
+  Holds = λ n. n < 2 ^ 8;
+  length-encode = λ n h. refl;
+  decode-encode = byte-back;
+  Holds-decode = λ bytes is e. is 0;
+}
+
+-- numbers in two, four and eight bytes, the lowest first
+abbrev pub le16 : Layout ℕ
+le16 = record {
+  size = 2;
+  decode = from_le_bytes w16;
+  encode = to_le_bytes w16;
+  Holds = λ n. n < 2 ^ 16;
+  length-encode = λ n h. refl;
+  decode-encode = from_le_bytes-to_le_bytes_2;
+  Holds-decode = le16-holds;
+}
+
+abbrev pub le32 : Layout ℕ
+le32 = record {
+  size = 4;
+  decode = from_le_bytes w32;
+  encode = to_le_bytes w32;
+  Holds = λ n. n < 2 ^ 32;
+  length-encode = λ n h. refl;
+  decode-encode = from_le_bytes-to_le_bytes_4;
+  Holds-decode = le32-holds;
+}
+
+abbrev pub le64 : Layout ℕ
+le64 = record {
+  size = 8;
+  decode = from_le_bytes w64;
+  encode = to_le_bytes w64;
+  Holds = λ n. n < 2 ^ 64;
+  length-encode = λ n h. refl;
+  decode-encode = from_le_bytes-to_le_bytes_8;
+  Holds-decode = le64-holds;
+}
+
+-- the same, the highest byte first
+abbrev pub be16 : Layout ℕ
+be16 = record {
+  size = 2;
+  decode = from_be_bytes w16;
+  encode = to_be_bytes w16;
+  Holds = λ n. n < 2 ^ 16;
+  length-encode = λ n h. refl;
+  decode-encode = from_be_bytes-to_be_bytes_2;
+  Holds-decode = be16-holds;
+}
+
+abbrev pub be32 : Layout ℕ
+be32 = record {
+  size = 4;
+  decode = from_be_bytes w32;
+  encode = to_be_bytes w32;
+  Holds = λ n. n < 2 ^ 32;
+  length-encode = λ n h. refl;
+  decode-encode = from_be_bytes-to_be_bytes_4;
+  Holds-decode = be32-holds;
+}
+
+abbrev pub be64 : Layout ℕ
+be64 = record {
+  size = 8;
+  decode = from_be_bytes w64;
+  encode = to_be_bytes w64;
+  Holds = λ n. n < 2 ^ 64;
+  length-encode = λ n h. refl;
+  decode-encode = from_be_bytes-to_be_bytes_8;
+  Holds-decode = be64-holds;
+}
+
+-- true for a byte above 0, written as 1 or 0
+abbrev pub truth_byte : Bool → ℕ
+truth_byte true = 1
+truth_byte false = 0
+
+pub boolean-back : (b : Bool) → Unit {0} → nat_lt 0 (truth_byte b) ≡ b
+boolean-back true h = refl
+boolean-back false h = refl
+
+abbrev pub boolean : Layout Bool
+boolean = record {
+  size = 1;
+  decode = λ bytes. nat_lt 0 (slice_index bytes 0);
+  encode = λ b. truth_byte b ∷ [];
+  Holds = λ b. Unit {0};
+  length-encode = λ b h. refl;
+  decode-encode = boolean-back;
+  Holds-decode = λ bytes is e. tt;
+}
+
+-- a signed number in four bytes, the lowest first
+abbrev pub signed32 : Layout ℤ
+signed32 = record {
+  size = 4;
+  decode = λ bytes. cast_signed w32 (from_le_bytes w32 bytes);
+  encode = λ z. to_le_bytes w32 (cast_unsigned w32 z);
+  Holds = FitsSigned w32;
+  length-encode = λ z h. refl;
+  decode-encode = signed32-back;
+  Holds-decode = signed32-holds;
+}
+
+-- so many bytes, as they stand
+abbrev pub octets : ℕ → Layout (List ℕ)
+octets n = record {
+  size = n;
+  decode = λ bytes. bytes;
+  encode = λ bytes. bytes;
+  Holds = λ bytes. (length bytes ≡ n) × IsBytes bytes;
+  length-encode = λ bytes h. h.0;
+  decode-encode = λ bytes h. refl;
+  Holds-decode = λ bytes is e. (e, is);
+}
+
+-- values with numbers, as enumerations and sets of flags: the number is written, and a value can be
+-- held if it is the form of its number
+abbrev pub formed : {V : Type 0} (L : Layout ℕ) (form : ℕ → V) (number : V → ℕ) → ((d : ℕ) → number (form d) ≡ d) → Layout V
+formed L form number same = record {
+  size = L.size;
+  decode = λ bytes. form (L.decode bytes);
+  encode = λ x. L.encode (number x);
+  Holds = λ x. L.Holds (number x) × (form (number x) ≡ x);
+  length-encode = λ x h. L.length-encode (number x) h.0;
+  decode-encode = λ x h. ap form (L.decode-encode (number x) h.0) ∙ h.1;
+  Holds-decode = λ bytes is e. (subst L.Holds (sym (same (L.decode bytes))) (L.Holds-decode bytes is e), ap form (same (L.decode bytes)));
+}

@@ -1,0 +1,34 @@
+-- Names: UTF-8 with one final zero, which may be missing where it is read.
+use Rattle.std.specs.Prelude.{◌≡◌, ◌≢◌, ℕ, ◌+◌, ◌*◌, ◌≤◌, ◌⊎◌, List, [], ◌∷◌, ◌++◌, length, None}
+use Rattle.std.specs.Str.{IsUtf8}
+use Rattle.std.proofs.Common.{refl, inl, inr}
+use Rattle.npr_base.specs.declared.refusal.At.{At}
+use Rattle.npr_base.specs.declared.refusal.DecodeError.{DecodeError}
+use Rattle.npr_base.specs.declared.refusal.DecodeError.TheVariants.{NotUtf8}
+use Rattle.npr_base.specs.Family.{too_long}
+use Rattle.npr_base.specs.FitLaws.{too_long-short}
+use Rattle.npr_base.specs.Codec.{Codec}
+use Rattle.npr_base.specs.NameLaws.{IsUnterminated, name-one, name-grows}
+
+-- the bytes are a UTF-8 text, with or without its zero
+abbrev pub IsName : List ℕ → List ℕ → Type 0
+IsName bytes text = IsUtf8 text × IsUnterminated bytes text
+
+abbrev pub NotName : At → List ℕ → DecodeError → Type 0
+NotName at bytes e = ((text : List ℕ) → IsUnterminated bytes text → IsUtf8 text → ⊥) × (e ≡ NotUtf8 at)
+
+abbrev pub name : Codec (List ℕ)
+name = record {
+  Reads = IsName;
+  Wrong = NotName;
+  writes = λ text. text ++ 0 ∷ [];
+  misfit = λ kind text. too_long kind (length (text ++ 0 ∷ []));
+  Holds = IsUtf8;
+  members = λ text. 0;
+  one_reading = λ bytes x y p q. name-one bytes x y p.1 q.1;
+  no_fault = λ at bytes x e p q. q.0 x p.1 p.0;
+  reads_holds = λ bytes x is p. p.0;
+  fits_short = λ kind x h. too_long-short kind (length (x ++ 0 ∷ [])) h;
+  reads_back = λ kind x h f. (h, inl refl);
+  grows = λ bytes x is p. name-grows bytes x p.1;
+}

@@ -1,0 +1,93 @@
+-- Families of attributes, and those that are read by a table of numbers.
+use Rattle.std.specs.Prelude.{◌≡◌, ℕ, ◌+◌, ◌*◌, ◌<◌, ◌≤◌, ◌^◌, ◌==◌, Bool, true, false, List, [], ◌∷◌, length, Option, None, if◌then◌else◌}
+use Rattle.std.specs.Bool.{MatchBool}
+use Rattle.npr_base.specs.declared.refusal.At.{At}
+use Rattle.npr_base.specs.declared.refusal.AttrFamily.{AttrFamily}
+use Rattle.npr_base.specs.declared.refusal.DecodeError.{DecodeError}
+use Rattle.npr_base.specs.declared.refusal.EmitError.{EmitError}
+use Rattle.npr_base.specs.Framing.{Item, Small, Proper, framed, marked, number_of}
+use Rattle.npr_base.specs.Codec.{Codec, raw}
+
+-- a family: what its attributes mean and how meanings are written, with the laws of both
+pub record Family (M : Type 0) : Type 1 where
+  pub Reads : Item → M → Type 0
+  pub Faulty : Item → DecodeError → Type 0
+  pub writes : M → Item
+  pub misfit : M → Option EmitError
+  pub Coherent : M → Type 0
+  pub members : M → ℕ
+  pub one_reading : (x : Item) (m n : M) → Reads x m → Reads x n → m ≡ n
+  pub no_fault : (x : Item) (m : M) (e : DecodeError) → Reads x m → Faulty x e → ⊥
+  pub reads_coherent : (x : Item) (m : M) → Proper x → Reads x m → Coherent m
+  pub fits_small : (m : M) → Coherent m → misfit m ≡ None → Small (writes m)
+  pub reads_back : (m : M) → Coherent m → misfit m ≡ None → Reads (writes m) m
+  pub grows : (x : Item) (m : M) → Proper x → Reads x m → 2 * framed (length (writes m).value) ≤ 5 * (4 + length x.value)
+
+-- a row of a table: where it stands, how its values are read and written, and what they mean
+pub record Row (M : Type 0) : Type 1 where
+  pub at : At
+  pub V : Type 0
+  pub codec : Codec V
+  pub variant : V → M
+
+abbrev pub row : {M V : Type 0} → At → Codec V → (V → M) → Row M
+row {M} {V} at codec variant = record { at = at; V = V; codec = codec; variant = variant }
+
+-- what an attribute of the number k means: the variant of its row, or else itself
+abbrev pub ReadsAt : {M : Type 0} → (Item → M) → List (Row M) → ℕ → Item → M → Type 0
+ReadsAt other [] k x m = m ≡ other x
+ReadsAt other (r ∷ rows) k x m = MatchBool (k == r.at.kind) ((v : r.V) × r.codec.Reads x.value v × (m ≡ r.variant v)) (ReadsAt other rows k x m)
+
+abbrev pub WrongAt : {M : Type 0} → List (Row M) → ℕ → Item → DecodeError → Type 0
+WrongAt [] k x e = ⊥
+WrongAt (r ∷ rows) k x e = MatchBool (k == r.at.kind) (r.codec.Wrong r.at x.value e) (WrongAt rows k x e)
+
+-- the number has a row
+abbrev pub has_row : {M : Type 0} → List (Row M) → ℕ → Bool
+has_row [] k = false
+has_row (r ∷ rows) k = if k == r.at.kind then true else has_row rows k
+
+-- an attribute that is kept as it stands, since its number has no row
+pub record IsOther {M : Type 0} (rows : List (Row M)) (x : Item) : Type 0 where
+  pub proper : Proper x
+  pub alone : has_row rows (number_of x.kind) ≡ false
+
+-- a value in its place: the kind that is written, whether NESTED is set in it besides, and the value
+pub record Held : Type 1 where
+  pub kind : ℕ
+  pub nested : Bool
+  pub V : Type 0
+  pub codec : Codec V
+  pub value : V
+
+abbrev pub held : {V : Type 0} → ℕ → Codec V → V → Held
+held {V} kind codec value = record { kind = kind; nested = false; V = V; codec = codec; value = value }
+
+abbrev pub held_other : Item → Held
+held_other x = held x.kind raw x.value
+
+abbrev pub item_of : Held → Item
+item_of h = record { kind = marked h.nested h.kind; value = h.codec.writes h.value }
+
+abbrev pub misfit_of : Held → Option EmitError
+misfit_of h = h.codec.misfit h.kind h.value
+
+abbrev pub IsHeld : Held → Type 0
+IsHeld h = h.codec.Holds h.value
+
+-- each row's variant is written by that row, and is coherent where the row can hold its value
+abbrev pub Aligned : {M : Type 0} → (M → Item) → (M → Type 0) → List (Row M) → Type 0
+Aligned writes Coherent [] = Unit {0}
+Aligned writes Coherent (r ∷ rows) = ((v : r.V) → ((writes (r.variant v)).value ≡ r.codec.writes v) × (r.codec.Holds v → Coherent (r.variant v))) × Aligned writes Coherent rows
+
+-- a table: its rows, what an attribute of another number means, the place of each meaning, and which are coherent
+pub record Table (M : Type 0) : Type 1 where
+  pub rows : List (Row M)
+  pub other : Item → M
+  pub place : M → Held
+  pub Coherent : M → Type 0
+  pub aligned : Aligned (λ m. item_of (place m)) Coherent rows
+  pub other_is : (x : Item) → item_of (place (other x)) ≡ x
+  pub other_coherent : (x : Item) → IsOther rows x → Coherent (other x)
+  pub kinds : (m : M) → Coherent m → (place m).kind < 2 ^ 16
+  pub back : (m : M) → Coherent m → misfit_of (place m) ≡ None → ReadsAt other rows (number_of (item_of (place m)).kind) (item_of (place m)) m

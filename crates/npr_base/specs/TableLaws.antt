@@ -1,0 +1,72 @@
+-- A table is a family.
+use Rattle.std.specs.Prelude.{◌==◌}
+use Rattle.std.specs.Bool.{MatchBool}
+use Rattle.std.proofs.Common.{◌≡◌, ℕ, ◌+◌, ◌*◌, ◌%◌, ◌<◌, ◌≤◌, ◌^◌, Bool, true, false, cond, List, [], ◌∷◌, length, Option, None, refl, sym, ap, subst, ◌∙◌, arith}
+use Rattle.npr_base.specs.declared.refusal.DecodeError.{DecodeError}
+use Rattle.npr_base.specs.Framing.{Item, Small, Proper, IsBytes, framed, marked, number_of}
+use Rattle.npr_base.specs.CodecLaws.{framed-grows}
+use Rattle.npr_base.specs.Table.{Family, Row, ReadsAt, WrongAt, has_row, IsOther, Held, item_of, misfit_of, Aligned, Table}
+
+-- two facts on the same test
+both : {P Q S T R : Type 0} (b : Bool) → (P → S → R) → (Q → T → R) → MatchBool b P Q → MatchBool b S T → R
+both true f g p q = f p q
+both false f g p q = g p q
+
+one_of : {P Q R : Type 0} (b : Bool) → (b ≡ true → P → R) → (b ≡ false → Q → R) → MatchBool b P Q → R
+one_of true f g p = f refl p
+one_of false f g p = g refl p
+
+pub flat-one : {M : Type 0} (other : Item → M) (rows : List (Row M)) (k : ℕ) (x : Item) (m n : M) → ReadsAt other rows k x m → ReadsAt other rows k x n → m ≡ n
+flat-one other [] k x m n p q = p ∙ sym q
+flat-one other (r ∷ rows) k x m n p q = both (k == r.at.kind)
+    (λ a b. a.2 ∙ ap r.variant (r.codec.one_reading x.value a.0 b.0 a.1 b.1) ∙ sym b.2)
+    (flat-one other rows k x m n) p q
+
+pub flat-sound : {M : Type 0} (other : Item → M) (rows : List (Row M)) (k : ℕ) (x : Item) (m : M) (e : DecodeError) → ReadsAt other rows k x m → WrongAt rows k x e → ⊥
+flat-sound other [] k x m e p q = q
+flat-sound other (r ∷ rows) k x m e p q = both (k == r.at.kind) (λ a b. r.codec.no_fault r.at x.value a.0 e a.1 b) (flat-sound other rows k x m e) p q
+
+pub flat-coherent : {M : Type 0} (other : Item → M) (writes : M → Item) (Coherent : M → Type 0) (rows : List (Row M)) → Aligned writes Coherent rows
+    → (k : ℕ) (x : Item) → IsBytes x.value → (has_row rows k ≡ false → Coherent (other x)) → (m : M) → ReadsAt other rows k x m → Coherent m
+flat-coherent other writes Coherent [] aligned k x bytes alone m p = subst Coherent (sym p) (alone refl)
+flat-coherent other writes Coherent (r ∷ rows) aligned k x bytes alone m p = one_of (k == r.at.kind)
+    (λ e a. subst Coherent (sym a.2) ((aligned.0 a.0).1 (r.codec.reads_holds x.value a.0 bytes a.1)))
+    (λ e a. flat-coherent other writes Coherent rows aligned.1 k x bytes (λ h. alone (rw e h)) m a) p
+
+pub flat-grows : {M : Type 0} (other : Item → M) (writes : M → Item) (Coherent : M → Type 0) (rows : List (Row M)) → Aligned writes Coherent rows → ((x : Item) → writes (other x) ≡ x)
+    → (k : ℕ) (x : Item) → IsBytes x.value → (m : M) → ReadsAt other rows k x m → 2 * framed (length (writes m).value) ≤ 5 * (4 + length x.value)
+flat-grows other writes Coherent [] aligned same k x bytes m p = framed-grows (length (writes m).value) (length x.value) (omega (arith, ap (λ n. length (writes n).value) p, ap (λ (y : Item). length y.value) (same x)))
+flat-grows other writes Coherent (r ∷ rows) aligned same k x bytes m p = one_of (k == r.at.kind)
+    (λ e. λ (a : (v : r.V) × r.codec.Reads x.value v × (m ≡ r.variant v)).
+        let v : length (writes m).value ≡ length (r.codec.writes a.0) = ap (λ n. length (writes n).value) a.2 ∙ ap length (aligned.0 a.0).0 in
+        rw v (r.codec.grows x.value a.0 bytes a.1))
+    (λ e a. flat-grows other writes Coherent rows aligned.1 same k x bytes m a) p
+
+pub marked-small : (b : Bool) (k : ℕ) → k < 2 ^ 16 → marked b k < 2 ^ 16
+marked-small true k h = omega arith
+marked-small false k h = h
+
+not_here : {R : Type 0} (b c : Bool) → cond b true c ≡ false → (b ≡ false → c ≡ false → R) → R
+not_here true c h f = absurd cc
+not_here false c h f = f refl h
+
+-- an attribute whose number has no row is read as itself
+pub other-back : {M : Type 0} (other : Item → M) (rows : List (Row M)) (k : ℕ) (x : Item) → has_row rows k ≡ false → ReadsAt other rows k x (other x)
+other-back other [] k x h = refl
+other-back other (r ∷ rows) k x h = not_here (k == r.at.kind) (has_row rows k) h (λ e f. rw e (other-back other rows k x f))
+
+abbrev pub flat : {M : Type 0} → Table M → Family M
+flat t = record {
+  Reads = λ x m. ReadsAt t.other t.rows (number_of x.kind) x m;
+  Faulty = λ x e. WrongAt t.rows (number_of x.kind) x e;
+  writes = λ m. item_of (t.place m);
+  misfit = λ m. misfit_of (t.place m);
+  Coherent = t.Coherent;
+  members = λ m. (t.place m).codec.members (t.place m).value;
+  one_reading = λ x m n p q. flat-one t.other t.rows (number_of x.kind) x m n p q;
+  no_fault = λ x m e p q. flat-sound t.other t.rows (number_of x.kind) x m e p q;
+  reads_coherent = λ x m proper p. flat-coherent t.other (λ n. item_of (t.place n)) t.Coherent t.rows t.aligned (number_of x.kind) x proper.value (λ alone. t.other_coherent x (record { proper = proper; alone = alone })) m p;
+  fits_small = λ m c h. record { kind = marked-small (t.place m).nested (t.place m).kind (t.kinds m c); value = (t.place m).codec.fits_short (t.place m).kind (t.place m).value h };
+  reads_back = λ m c h. t.back m c h;
+  grows = λ x m proper p. flat-grows t.other (λ n. item_of (t.place n)) t.Coherent t.rows t.aligned t.other_is (number_of x.kind) x proper.value m p;
+}

@@ -1,0 +1,246 @@
+//! Values of attributes: numbers, bytes and names.
+
+ghost use Rattle.std.specs.Prelude.{◌≡◌, ◌≢◌, ◌≤◌, ℕ, ◌+◌, ◌-◌, [], ◌∷◌, ◌++◌, length, IfOk, IfErr};
+ghost use Rattle.std.specs.String.{string_bytes};
+ghost use Rattle.npr_base.specs.declared.refusal.DecodeError.TheVariants.{OutOfMemory};
+ghost use Rattle.npr_base.specs.Framing.{Writes};
+ghost use Rattle.npr_base.specs.Layout.{byte, le16, le32, le64, be16, be32, be64, signed32, boolean, octets};
+ghost use Rattle.npr_base.specs.Codec.{exactly, raw};
+ghost use Rattle.npr_base.specs.Name.{name};
+ghost use Rattle.npr_base.specs.NameLaws.{IsUnterminated};
+
+use crate::framing::write_bytes;
+use crate::refusal::{At, DecodeError};
+use std::alloc::{AllocError, Global};
+use std::str::from_utf8;
+
+/// A number of one byte.
+///
+/// # Errors
+/// `ValueLength` at another length.
+pub fn read_u8(value: &[u8], at: At) -> Result<u8, DecodeError>
+    ensures ok { IfOk result (λ n. (exactly byte).Reads value.now n) }
+    ensures refused { IfErr result (λ e. (exactly byte).Wrong at value.now e) }
+{
+    match value {
+        [a] => Ok(*a),
+        _ => Err(DecodeError::ValueLength {
+            at,
+            got: value.len(),
+        }),
+    }
+}
+
+/// A truth value of one byte: true above 0.
+///
+/// # Errors
+/// `ValueLength` at another length.
+pub fn read_bool(value: &[u8], at: At) -> Result<bool, DecodeError>
+    ensures ok { IfOk result (λ b. (exactly boolean).Reads value.now b) }
+    ensures refused { IfErr result (λ e. (exactly boolean).Wrong at value.now e) }
+{
+    match value {
+        [a] => Ok(0 < *a),
+        _ => Err(DecodeError::ValueLength {
+            at,
+            got: value.len(),
+        }),
+    }
+}
+
+/// Two bytes.
+///
+/// # Errors
+/// `ValueLength` at another length.
+fn two(value: &[u8], at: At) -> Result<[u8; 2], DecodeError>
+    ensures ok { IfOk result (λ x. (exactly (octets 2)).Reads value.now x) }
+    ensures refused { IfErr result (λ e. (exactly (octets 2)).Wrong at value.now e) }
+{
+    match value {
+        [a, b] => Ok([*a, *b]),
+        _ => Err(DecodeError::ValueLength {
+            at,
+            got: value.len(),
+        }),
+    }
+}
+
+/// Four bytes, as they stand.
+///
+/// # Errors
+/// `ValueLength` at another length.
+pub fn read_4(value: &[u8], at: At) -> Result<[u8; 4], DecodeError>
+    ensures ok { IfOk result (λ x. (exactly (octets 4)).Reads value.now x) }
+    ensures refused { IfErr result (λ e. (exactly (octets 4)).Wrong at value.now e) }
+{
+    match value {
+        [a, b, c, d] => Ok([*a, *b, *c, *d]),
+        _ => Err(DecodeError::ValueLength {
+            at,
+            got: value.len(),
+        }),
+    }
+}
+
+/// Eight bytes, as they stand.
+///
+/// # Errors
+/// `ValueLength` at another length.
+fn eight(value: &[u8], at: At) -> Result<[u8; 8], DecodeError>
+    ensures ok { IfOk result (λ x. (exactly (octets 8)).Reads value.now x) }
+    ensures refused { IfErr result (λ e. (exactly (octets 8)).Wrong at value.now e) }
+{
+    match value {
+        [a, b, c, d, e, f, g, h] => Ok([*a, *b, *c, *d, *e, *f, *g, *h]),
+        _ => Err(DecodeError::ValueLength {
+            at,
+            got: value.len(),
+        }),
+    }
+}
+
+/// Sixteen bytes, as they stand.
+///
+/// # Errors
+/// `ValueLength` at another length.
+pub fn read_16(value: &[u8], at: At) -> Result<[u8; 16], DecodeError>
+    ensures ok { IfOk result (λ x. (exactly (octets 16)).Reads value.now x) }
+    ensures refused { IfErr result (λ e. (exactly (octets 16)).Wrong at value.now e) }
+{
+    if value.len() != 16 {
+        return Err(DecodeError::ValueLength {
+            at,
+            got: value.len(),
+        });
+    }
+    let mut bytes = [0u8; 16];
+    bytes.copy_from_slice(value);
+    Ok(bytes)
+}
+
+/// A number of two bytes, little endian.
+///
+/// # Errors
+/// `ValueLength` at another length.
+pub fn read_u16(value: &[u8], at: At) -> Result<u16, DecodeError>
+    ensures ok { IfOk result (λ n. (exactly le16).Reads value.now n) }
+    ensures refused { IfErr result (λ e. (exactly le16).Wrong at value.now e) }
+{
+    Ok(u16::from_le_bytes(two(value, at)?))
+}
+
+/// A number of two bytes, big endian.
+///
+/// # Errors
+/// `ValueLength` at another length.
+pub fn read_u16_be(value: &[u8], at: At) -> Result<u16, DecodeError>
+    ensures ok { IfOk result (λ n. (exactly be16).Reads value.now n) }
+    ensures refused { IfErr result (λ e. (exactly be16).Wrong at value.now e) }
+{
+    Ok(u16::from_be_bytes(two(value, at)?))
+}
+
+/// A number of four bytes, little endian.
+///
+/// # Errors
+/// `ValueLength` at another length.
+pub fn read_u32(value: &[u8], at: At) -> Result<u32, DecodeError>
+    ensures ok { IfOk result (λ n. (exactly le32).Reads value.now n) }
+    ensures refused { IfErr result (λ e. (exactly le32).Wrong at value.now e) }
+{
+    Ok(u32::from_le_bytes(read_4(value, at)?))
+}
+
+/// A number of four bytes, big endian.
+///
+/// # Errors
+/// `ValueLength` at another length.
+pub fn read_u32_be(value: &[u8], at: At) -> Result<u32, DecodeError>
+    ensures ok { IfOk result (λ n. (exactly be32).Reads value.now n) }
+    ensures refused { IfErr result (λ e. (exactly be32).Wrong at value.now e) }
+{
+    Ok(u32::from_be_bytes(read_4(value, at)?))
+}
+
+/// A signed number of four bytes, little endian.
+///
+/// # Errors
+/// `ValueLength` at another length.
+pub fn read_i32(value: &[u8], at: At) -> Result<i32, DecodeError>
+    ensures ok { IfOk result (λ n. (exactly signed32).Reads value.now n) }
+    ensures refused { IfErr result (λ e. (exactly signed32).Wrong at value.now e) }
+{
+    Ok(i32::from_le_bytes(read_4(value, at)?))
+}
+
+/// A number of eight bytes, little endian.
+///
+/// # Errors
+/// `ValueLength` at another length.
+pub fn read_u64(value: &[u8], at: At) -> Result<u64, DecodeError>
+    ensures ok { IfOk result (λ n. (exactly le64).Reads value.now n) }
+    ensures refused { IfErr result (λ e. (exactly le64).Wrong at value.now e) }
+{
+    Ok(u64::from_le_bytes(eight(value, at)?))
+}
+
+/// A number of eight bytes, big endian.
+///
+/// # Errors
+/// `ValueLength` at another length.
+pub fn read_u64_be(value: &[u8], at: At) -> Result<u64, DecodeError>
+    ensures ok { IfOk result (λ n. (exactly be64).Reads value.now n) }
+    ensures refused { IfErr result (λ e. (exactly be64).Wrong at value.now e) }
+{
+    Ok(u64::from_be_bytes(eight(value, at)?))
+}
+
+/// The bytes, copied.
+///
+/// # Errors
+/// `AllocError` where memory is refused.
+pub fn read_bytes(alloc: Global, value: &[u8]) -> Result<Vec<u8>, AllocError>
+    ensures { IfOk result (λ v. raw.Reads value.now v.items) }
+{
+    Vec::from_slice(alloc, value)
+}
+
+/// The bytes without one final zero, where there is one.
+#[tactic(auto, using(crate::proofs::Names::unterminated))]
+fn without_zero(bytes: &[u8]) -> &[u8]
+    ensures { IsUnterminated bytes.now result.now }
+{
+    if bytes.is_empty() {
+        return bytes;
+    }
+    let last = bytes.len() - 1;
+    if bytes[last] == 0 {
+        &bytes[..last]
+    } else {
+        bytes
+    }
+}
+
+/// A name: UTF-8, with one final zero taken off where there is one.
+///
+/// # Errors
+/// `NotUtf8`, and `OutOfMemory` where memory is refused.
+pub fn read_name(alloc: Global, value: &[u8], at: At) -> Result<String, DecodeError>
+    ensures ok { IfOk result (λ s. name.Reads value.now (string_bytes s)) }
+    ensures refused { IfErr result (λ e. e ≢ OutOfMemory → name.Wrong at value.now e) }
+{
+    let text = from_utf8(without_zero(value)).map_err(|_| DecodeError::NotUtf8 { at })?;
+    Ok(String::from_str(alloc, text)?)
+}
+
+/// Writes a name and one zero at the front of the slice, leaves the rest, and answers their length.
+pub fn write_name(out: &mut [u8], text: &str) -> usize
+    requires { length text.now + 1 ≤ length out.old }
+    ensures len { result ≡ length text.now + 1 }
+    ensures after { Writes out.old out.new (name.writes text.now) }
+{
+    let len = text.len();
+    out[len] = 0;
+    write_bytes(out, text.as_bytes());
+    len + 1
+}
