@@ -4,3 +4,4 @@ pub mod Checking
 pub mod Lists
 pub mod Looking
 pub mod Names
+pub mod Messages

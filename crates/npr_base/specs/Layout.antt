@@ -1,8 +1,10 @@
 -- Values of a fixed length.
 use Rattle.std.specs.Prelude.{◌≡◌, ℕ, ◌+◌, ◌*◌, ◌^◌, ◌<◌, Bool, true, false, nat_lt, ℤ, FitsSigned, List, [], ◌∷◌, length, slice_index}
-use Rattle.std.specs.Int.{w8, w16, w32, w64, to_le_bytes, from_le_bytes, to_be_bytes, from_be_bytes, cast_signed, cast_unsigned}
+use Rattle.std.specs.Int.{w16, w32, w64, to_le_bytes, from_le_bytes, to_be_bytes, from_be_bytes, cast_signed, cast_unsigned}
 use Rattle.npr_base.specs.Framing.{IsBytes}
-use Rattle.npr_base.specs.LayoutLaws.{byte-back, le16-holds, le32-holds, le64-holds, be16-holds, be32-holds, be64-holds, signed32-back, signed32-holds}
+use Rattle.npr_base.specs.Rows.{IsFormed}
+use Rattle.npr_base.specs.RowLaws.{form_IsFormed}
+use Rattle.npr_base.specs.LayoutLaws.{le16-holds, le32-holds, le64-holds, be16-holds, be32-holds, be64-holds, signed32-back, signed32-holds}
 use Rattle.std.proofs.Common.{refl, sym, ap, subst, ◌∙◌}
 use Rattle.std.proofs.lemmas.Nat.{from_le_bytes-to_le_bytes_2, from_le_bytes-to_le_bytes_4, from_le_bytes-to_le_bytes_8, from_be_bytes-to_be_bytes_2, from_be_bytes-to_be_bytes_4, from_be_bytes-to_be_bytes_8}
 
@@ -23,10 +25,10 @@ abbrev pub byte : Layout ℕ
 byte = record {
   size = 1;
   decode = λ bytes. slice_index bytes 0;
-  encode = λ n. to_le_bytes w8 n;
+  encode = λ n. n ∷ [];
   Holds = λ n. n < 2 ^ 8;
   length-encode = λ n h. refl;
-  decode-encode = byte-back;
+  decode-encode = λ n h. refl;
   Holds-decode = λ bytes is e. is 0;
 }
 
@@ -149,8 +151,8 @@ formed L form number same = record {
   size = L.size;
   decode = λ bytes. form (L.decode bytes);
   encode = λ x. L.encode (number x);
-  Holds = λ x. L.Holds (number x) × (form (number x) ≡ x);
+  Holds = λ x. L.Holds (number x) × IsFormed form number x;
   length-encode = λ x h. L.length-encode (number x) h.0;
-  decode-encode = λ x h. ap form (L.decode-encode (number x) h.0) ∙ h.1;
-  Holds-decode = λ bytes is e. (subst L.Holds (sym (same (L.decode bytes))) (L.Holds-decode bytes is e), ap form (same (L.decode bytes)));
+  decode-encode = λ x h. ap form (L.decode-encode (number x) h.0) ∙ sym h.1;
+  Holds-decode = λ bytes is e. (subst L.Holds (sym (same (L.decode bytes))) (L.Holds-decode bytes is e), form_IsFormed form number same (L.decode bytes));
 }

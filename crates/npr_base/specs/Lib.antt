@@ -14,3 +14,14 @@ pub mod LayoutLaws
 pub mod CodecLaws
 pub mod Codec
 pub mod Layout
+pub mod Message
+pub mod Rows
+pub mod RowLaws
+pub mod AddressFamily
+pub mod AddressFamilyLaws
+pub mod Equality
+pub mod EqualityLaws
+pub mod CloneLaws
+pub mod Ip
+pub mod IpCodec
+pub mod ItemEquality

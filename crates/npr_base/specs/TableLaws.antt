@@ -38,8 +38,8 @@ pub flat-grows : {M : Type 0} (other : Item → M) (writes : M → Item) (Cohere
 flat-grows other writes Coherent [] aligned same k x bytes m p = framed-grows (length (writes m).value) (length x.value) (omega (arith, ap (λ n. length (writes n).value) p, ap (λ (y : Item). length y.value) (same x)))
 flat-grows other writes Coherent (r ∷ rows) aligned same k x bytes m p = one_of (k == r.at.kind)
     (λ e. λ (a : (v : r.V) × r.codec.Reads x.value v × (m ≡ r.variant v)).
-        let v : length (writes m).value ≡ length (r.codec.writes a.0) = ap (λ n. length (writes n).value) a.2 ∙ ap length (aligned.0 a.0).0 in
-        rw v (r.codec.grows x.value a.0 bytes a.1))
+    let v : length (writes m).value ≡ length (r.codec.writes a.0) = ap (λ n. length (writes n).value) a.2 ∙ ap length (aligned.0 a.0).0 in
+    rw v (r.codec.grows x.value a.0 bytes a.1))
     (λ e a. flat-grows other writes Coherent rows aligned.1 same k x bytes m a) p
 
 pub marked-small : (b : Bool) (k : ℕ) → k < 2 ^ 16 → marked b k < 2 ^ 16

@@ -1,9 +1,11 @@
 //! An attribute that is kept as it stands.
 
 ghost use Rattle.std.specs.Prelude.{◌≡◌, ◌≢◌, ℕ, ◌+◌, false, length, IfOk, IfErr};
+ghost use Rattle.std.specs.Cmp.{decided, partial_equiv_from_equiv};
 ghost use Rattle.npr_base.specs.declared.refusal.DecodeError.TheVariants.{OutOfMemory};
 ghost use Rattle.npr_base.specs.Framing.{Item, framed};
 ghost use Rattle.npr_base.specs.Family.{checked, too_long};
+ghost use Rattle.npr_base.specs.ItemEquality.{same_item, item_equality};
 ghost use Rattle.npr_base.specs.FitLaws.{too_long-short};
 
 use crate::framing::{NLA_HEADER_SIZE, NlaBuffer, write_bytes};
@@ -52,6 +54,20 @@ impl DefaultNla {
             value: Vec::from_slice(alloc, self.value.as_slice())?,
         })
     }
+}
+
+impl PartialEq for DefaultNla {
+    ghost eq = { same_item };
+
+    ghost laws = { partial_equiv_from_equiv (decided same_item item_equality) };
+
+    fn eq(&self, other: &DefaultNla) -> bool {
+        self.kind == other.kind && self.value == other.value
+    }
+}
+
+impl Eq for DefaultNla {
+    ghost laws = { decided same_item item_equality };
 }
 
 impl<'a> Parseable<&'a NlaBuffer<'a>> for DefaultNla {

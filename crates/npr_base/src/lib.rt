@@ -1,26 +1,32 @@
 //! Attributes of rtnetlink messages: framing, traits, refusals, addresses.
 #![tactic(auto)]
 
+mod address_family;
 mod attribute;
 mod default_nla;
+mod equality;
 mod framing;
+mod ip;
 mod list;
 mod looks;
 mod refusal;
 mod traits;
 mod values;
 
+pub use address_family::{AddressFamily, law_family_number};
 pub use attribute::Attribute;
 pub use default_nla::{DefaultNla, check_len};
+pub use equality::law_equality;
 pub use framing::{
     NLA_ALIGNTO, NLA_F_NESTED, NLA_F_NET_BYTEORDER, NLA_HEADER_SIZE, NLA_TYPE_MASK, NlaBuffer,
     NlasIterator, marked_kind, write_bytes,
 };
+pub use ip::{IpAddr, Ipv4Addr, Ipv6Addr};
 pub use list::{check_list, emit_list, list_len, parse_list, write_list};
 pub use looks::Looks;
 pub use refusal::{At, AttrFamily, DecodeError, EmitError, Seg6Fault};
 pub use traits::{Emitable, Nla, Parseable, ParseableParametrized};
 pub use values::{
-    read_4, read_16, read_bool, read_bytes, read_i32, read_name, read_u8, read_u16, read_u16_be,
-    read_u32, read_u32_be, read_u64, read_u64_be, write_name,
+    ip_len, read_4, read_16, read_bool, read_bytes, read_i32, read_ip, read_name, read_u8,
+    read_u16, read_u16_be, read_u32, read_u32_be, read_u64, read_u64_be, write_ip, write_name,
 };

@@ -6,10 +6,13 @@ ghost use Rattle.npr_base.specs.declared.refusal.DecodeError.TheVariants.{OutOfM
 ghost use Rattle.npr_base.specs.Framing.{Writes};
 ghost use Rattle.npr_base.specs.Layout.{byte, le16, le32, le64, be16, be32, be64, signed32, boolean, octets};
 ghost use Rattle.npr_base.specs.Codec.{exactly, raw};
+ghost use Rattle.npr_base.specs.Ip.{octets_of};
+ghost use Rattle.npr_base.specs.IpCodec.{ip};
 ghost use Rattle.npr_base.specs.Name.{name};
 ghost use Rattle.npr_base.specs.NameLaws.{IsUnterminated};
 
 use crate::framing::write_bytes;
+use crate::ip::{IpAddr, Ipv4Addr, Ipv6Addr};
 use crate::refusal::{At, DecodeError};
 use std::alloc::{AllocError, Global};
 use std::str::from_utf8;
@@ -193,6 +196,43 @@ pub fn read_u64_be(value: &[u8], at: At) -> Result<u64, DecodeError>
     ensures refused { IfErr result (λ e. (exactly be64).Wrong at value.now e) }
 {
     Ok(u64::from_be_bytes(eight(value, at)?))
+}
+
+/// An address: of version 4 in 4 bytes, of version 6 in 16.
+///
+/// # Errors
+/// `ValueLength` at another length.
+pub fn read_ip(value: &[u8], at: At) -> Result<IpAddr, DecodeError>
+    ensures ok { IfOk result (λ address. ip.Reads value.now address) }
+    ensures refused { IfErr result (λ e. ip.Wrong at value.now e) }
+{
+    if value.len() == 4 {
+        Ok(IpAddr::V4(Ipv4Addr::from(read_4(value, at)?)))
+    } else {
+        Ok(IpAddr::V6(Ipv6Addr::from(read_16(value, at)?)))
+    }
+}
+
+/// The length of an address: 4 or 16 bytes.
+pub fn ip_len(address: &IpAddr) -> usize
+    ensures { result ≡ length (octets_of address.now) }
+{
+    match address {
+        IpAddr::V4(v4) => v4.octets().len(),
+        IpAddr::V6(v6) => v6.octets().len(),
+    }
+}
+
+/// Writes an address at the front of the slice, leaves the rest, and answers its length.
+pub fn write_ip(out: &mut [u8], address: &IpAddr) -> usize
+    requires { length (octets_of address.now) ≤ length out.old }
+    ensures len { result ≡ length (octets_of address.now) }
+    ensures after { Writes out.old out.new (octets_of address.now) }
+{
+    match address {
+        IpAddr::V4(v4) => write_bytes(out, &v4.octets()),
+        IpAddr::V6(v6) => write_bytes(out, &v6.octets()),
+    }
 }
 
 /// The bytes, copied.

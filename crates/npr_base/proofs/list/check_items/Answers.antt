@@ -13,7 +13,7 @@ loop-x-preserved g c =
     let item = written_by g.A.Nla.nested g.A.Nla.item in
     let k = checked-ok (g.A.Nla.unfit x) (framed (length (g.A.Nla.item x).value)) c.in_ok-len.len (sym c.in_ok-len.was ∙ c.check.ensures) in
     let size : length (encodings item (take i all)) + c.in_ok-len.len ≡ length (encodings item (take (i + 1) all)) =
-        ap (λ n. length (encodings item (take i all)) + n) (k.1 ∙ sym (length-encoding (item x))) ∙ sym (encodings-more item all i x c.loop-x-test.true c.x-item.is) in
+    ap (λ n. length (encodings item (take i all)) + n) (k.1 ∙ sym (length-encoding (item x))) ∙ sym (encodings-more item all i x c.loop-x-test.true c.x-item.is) in
     record {
       fits = c.loop-x.invariant.fits ∙ first-past g.A.Nla.unfit all i x c.loop-x-test.true c.x-item.is k.0;
       sum = c.plus-total.ensures (length (encodings item (take i all))) c.loop-x.invariant.sum ∙ ap held size;

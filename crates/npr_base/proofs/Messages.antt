@@ -1,0 +1,101 @@
+-- The laws of messages.
+use Rattle.std.specs.Prelude.{◌≢◌, IfOk, IfErr}
+use Rattle.std.proofs.Common.{◌≡◌, ℕ, ◌+◌, ◌-◌, ◌*◌, ◌<◌, ◌≤◌, List, [], ◌∷◌, ◌++◌, length, take, drop, Option, None, Result, Ok, Err, refl, sym, ap, subst, ◌∙◌, arith, inl, inr, length-append, length-take, length-drop}
+use Rattle.std.proofs.lemmas.List.{take-append-drop, take_at, drop_at}
+use Rattle.npr_base.specs.declared.refusal.DecodeError.{DecodeError}
+use Rattle.npr_base.specs.declared.refusal.DecodeError.TheVariants.{OutOfMemory}
+use Rattle.npr_base.specs.Framing.{IsBytes}
+use Rattle.npr_base.specs.Family.{first_unfit, overlong, encodings}
+use Rattle.npr_base.specs.ListLaws.{none_both, IsBytes-left, IsBytes-right}
+use Rattle.npr_base.specs.Layout.{Layout}
+use Rattle.npr_base.specs.Message.{Message, Body, IsMessage, MessageFault, IsCoherent, spelling, message_misfit}
+
+same_message : {H M : Type 0} (m : Message H M) (h : H) (xs : List M) → m.header ≡ h → m.attributes ≡ xs → m ≡ record { header = h; attributes = xs }
+same_message {H} {M} m h xs p q = ap (λ (k : H). record { header = k; attributes = m.attributes }) p ∙ ap (λ (ys : List M). record { header = h; attributes = ys }) q
+
+module _ {H M : Type 0} (L : Layout H) (B : Body H M) where
+  front_is : (bytes front rest : List ℕ) → bytes ≡ front ++ rest → length front ≡ L.size → (front ≡ take L.size bytes) × (rest ≡ drop L.size bytes)
+  front_is bytes front rest is size = (sym (ap (take L.size) is ∙ take_at front rest L.size size), sym (ap (drop L.size) is ∙ drop_at front rest L.size size))
+
+  header_is : (bytes : List ℕ) (m : Message H M) → IsMessage L B bytes m → m.header ≡ L.decode (take L.size bytes)
+  header_is bytes m p = p.header ∙ ap L.decode (front_is bytes p.front p.rest p.is p.size).0
+
+  pub rest_reads : (bytes : List ℕ) (m : Message H M) → IsMessage L B bytes m → B.Reads m.header (drop L.size bytes) m.attributes
+  rest_reads bytes m p = subst (λ (r : List ℕ). B.Reads m.header r m.attributes) (front_is bytes p.front p.rest p.is p.size).1 p.attributes
+
+  pub message_read : (bytes : List ℕ) (m : Message H M) → L.size ≤ length bytes → m.header ≡ L.decode (take L.size bytes) → B.Reads m.header (drop L.size bytes) m.attributes → IsMessage L B bytes m
+  message_read bytes m long header attributes = record {
+    front = take L.size bytes;
+    rest = drop L.size bytes;
+    is = sym (take-append-drop L.size bytes);
+    size = omega (arith, length-take L.size bytes);
+    header = header;
+    attributes = attributes;
+  }
+
+  pub fault_after : (bytes : List ℕ) (h : H) (e : DecodeError) → L.size ≤ length bytes → h ≡ L.decode (take L.size bytes) → B.Faulty h (drop L.size bytes) e → MessageFault L B bytes e
+  fault_after bytes h e long header bad = inr (take L.size bytes, drop L.size bytes, sym (take-append-drop L.size bytes), omega (arith, length-take L.size bytes), subst (λ (k : H). B.Faulty k (drop L.size bytes) e) header bad)
+
+  pub message-one : (bytes : List ℕ) (m n : Message H M) → IsMessage L B bytes m → IsMessage L B bytes n → m ≡ n
+  message-one bytes m n p q =
+      let h : m.header ≡ n.header = header_is bytes m p ∙ sym (header_is bytes n q) in
+      let a = subst (λ (k : H). B.Reads k (drop L.size bytes) m.attributes) h (rest_reads bytes m p) in
+      same_message m n.header n.attributes h (B.one_reading n.header (drop L.size bytes) m.attributes n.attributes a (rest_reads bytes n q))
+
+  pub message-sound : (bytes : List ℕ) (n : Message H M) (e : DecodeError) → MessageFault L B bytes e → IsMessage L B bytes n → ⊥
+  message-sound bytes n e (inl short) q = absurd (omega (arith, short.0, ap length q.is, length-append q.front q.rest, q.size))
+  message-sound bytes n e (inr (front, rest, is, size, bad)) q =
+      let same = front_is bytes front rest is size in
+      let h : L.decode front ≡ n.header = ap L.decode same.0 ∙ sym (header_is bytes n q) in
+      let b = subst (λ (r : List ℕ). B.Faulty n.header r e) same.1 (subst (λ (k : H). B.Faulty k rest e) h bad) in
+      B.no_fault n.header (drop L.size bytes) n.attributes e (rest_reads bytes n q) b
+
+  pub message-coherent : (bytes : List ℕ) (m : Message H M) → IsBytes bytes → IsMessage L B bytes m → IsCoherent L B m
+  message-coherent bytes m fits p =
+      let all : IsBytes (p.front ++ p.rest) = subst IsBytes p.is fits in
+      record {
+        header = subst L.Holds (sym p.header) (L.Holds-decode p.front (IsBytes-left p.front p.rest all) p.size);
+        attributes = B.reads_coherent m.header p.rest m.attributes (IsBytes-right p.front p.rest all) p.attributes;
+      }
+
+  pub message-back : (m : Message H M) → IsCoherent L B m → message_misfit L B m ≡ None → IsMessage L B (spelling L B m) m
+  message-back m c fits = record {
+    front = L.encode m.header;
+    rest = encodings B.writes m.attributes;
+    is = refl;
+    size = L.length-encode m.header c.header;
+    header = sym (L.decode-encode m.header c.header);
+    attributes = B.reads_back m.header m.attributes c.attributes (none_both (first_unfit B.misfit m.attributes) (overlong (length (spelling L B m))) fits).0;
+  }
+
+  pub message-canonical : (m n : Message H M) → IsCoherent L B m → message_misfit L B m ≡ None → IsCoherent L B n → message_misfit L B n ≡ None → spelling L B m ≡ spelling L B n → m ≡ n
+  message-canonical m n c f d g e = message-one (spelling L B n) m n (subst (λ (b : List ℕ). IsMessage L B b m) e (message-back m c f)) (message-back n d g)
+
+  pub message-grows : (bytes : List ℕ) (m : Message H M) → IsBytes bytes → IsMessage L B bytes m → 2 * length (spelling L B m) ≤ 5 * length bytes
+  message-grows bytes m fits p =
+      let all : IsBytes (p.front ++ p.rest) = subst IsBytes p.is fits in
+      let c = message-coherent bytes m fits p in
+      omega (arith, B.grows m.header p.rest m.attributes (IsBytes-right p.front p.rest all) p.attributes, L.length-encode m.header c.header, length-append (L.encode m.header) (encodings B.writes m.attributes), ap length p.is, length-append p.front p.rest, p.size)
+
+  -- ---- of an answer
+
+  pub refused_no_message : {V : Type 0} (bytes : List ℕ) (r : Result V DecodeError) → IfErr r (λ e. e ≢ OutOfMemory → MessageFault L B bytes e) → IfErr r (λ e. e ≢ OutOfMemory → (n : Message H M) → IsMessage L B bytes n → ⊥)
+  refused_no_message bytes (Ok v) h = tt
+  refused_no_message bytes (Err e) h = λ other n p. message-sound bytes n e (h other) p
+
+  pub ok_one : {V : Type 0} (view : V → Message H M) (bytes : List ℕ) (r : Result V DecodeError) → IfOk r (λ v. IsMessage L B bytes (view v)) → IfOk r (λ v. (n : Message H M) → IsMessage L B bytes n → view v ≡ n)
+  ok_one view bytes (Ok v) p = λ n q. message-one bytes (view v) n p q
+  ok_one view bytes (Err e) p = tt
+
+  pub ok_coherent : {V : Type 0} (view : V → Message H M) (bytes : List ℕ) → IsBytes bytes → (r : Result V DecodeError) → IfOk r (λ v. IsMessage L B bytes (view v)) → IfOk r (λ v. IsCoherent L B (view v))
+  ok_coherent view bytes fits (Ok v) p = message-coherent bytes (view v) fits p
+  ok_coherent view bytes fits (Err e) p = tt
+
+  pub ok_again : {V : Type 0} (view : V → Message H M) (bytes : List ℕ) (r : Result V DecodeError) → IfOk r (λ v. IsMessage L B bytes (view v))
+      → IfOk r (λ v. (n : Message H M) → IsCoherent L B n → message_misfit L B n ≡ None → bytes ≡ spelling L B n → view v ≡ n)
+  ok_again view bytes (Ok v) p = λ n c f is. message-one bytes (view v) n p (subst (λ (b : List ℕ). IsMessage L B b n) (sym is) (message-back n c f))
+  ok_again view bytes (Err e) p = tt
+
+  pub ok_grows : {V : Type 0} (view : V → Message H M) (bytes : List ℕ) → IsBytes bytes → (r : Result V DecodeError) → IfOk r (λ v. IsMessage L B bytes (view v)) → IfOk r (λ v. 2 * length (spelling L B (view v)) ≤ 5 * length bytes)
+  ok_grows view bytes fits (Ok v) p = message-grows bytes (view v) fits p
+  ok_grows view bytes fits (Err e) p = tt
