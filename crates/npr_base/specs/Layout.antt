@@ -5,7 +5,7 @@ use Rattle.npr_base.specs.Framing.{IsBytes}
 use Rattle.npr_base.specs.Rows.{IsFormed}
 use Rattle.npr_base.specs.RowLaws.{form_IsFormed}
 use Rattle.npr_base.specs.LayoutLaws.{le16-holds, le32-holds, le64-holds, be16-holds, be32-holds, be64-holds, signed32-back, signed32-holds}
-use Rattle.std.proofs.Common.{refl, sym, ap, subst, ◌∙◌}
+use Rattle.std.proofs.Common.{arith, refl, sym, ap, subst, ◌∙◌}
 use Rattle.std.proofs.lemmas.Nat.{from_le_bytes-to_le_bytes_2, from_le_bytes-to_le_bytes_4, from_le_bytes-to_le_bytes_8, from_be_bytes-to_be_bytes_2, from_be_bytes-to_be_bytes_4, from_be_bytes-to_be_bytes_8}
 
 -- how a value is read from `size` bytes and how it is written as so many
@@ -145,8 +145,8 @@ octets n = record {
 }
 
 -- values with numbers, as enumerations and sets of flags: the number is written, and a value can be
--- held if it is the form of its number
-abbrev pub formed : {V : Type 0} (L : Layout ℕ) (form : ℕ → V) (number : V → ℕ) → ((d : ℕ) → number (form d) ≡ d) → Layout V
+-- held if it is the form of its number; likewise a struct of such fields over one of their numbers
+abbrev pub formed : {N V : Type 0} (L : Layout N) (form : N → V) (number : V → N) → ((d : N) → number (form d) ≡ d) → Layout V
 formed L form number same = record {
   size = L.size;
   decode = λ bytes. form (L.decode bytes);
@@ -156,3 +156,16 @@ formed L form number same = record {
   decode-encode = λ x h. ap form (L.decode-encode (number x) h.0) ∙ sym h.1;
   Holds-decode = λ bytes is e. (subst L.Holds (sym (same (L.decode bytes))) (L.Holds-decode bytes is e), form_IsFormed form number same (L.decode bytes));
 }
+
+-- the numbers that stand at a place of a fixed layout
+abbrev pub le16_at : List ℕ → ℕ → ℕ
+le16_at b i = from_le_bytes w16 (slice_index b i ∷ slice_index b (i + 1) ∷ [])
+
+abbrev pub le32_at : List ℕ → ℕ → ℕ
+le32_at b i = from_le_bytes w32 (slice_index b i ∷ slice_index b (i + 1) ∷ slice_index b (i + 2) ∷ slice_index b (i + 3) ∷ [])
+
+pub le16_at-holds : (b : List ℕ) (i : ℕ) → IsBytes b → le16_at b i < 2 ^ 16
+le16_at-holds b i is = omega (arith, is i, is (i + 1))
+
+pub le32_at-holds : (b : List ℕ) (i : ℕ) → IsBytes b → le32_at b i < 2 ^ 32
+le32_at-holds b i is = omega (arith, is i, is (i + 1), is (i + 2), is (i + 3))

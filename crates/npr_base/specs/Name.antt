@@ -14,19 +14,20 @@ use Rattle.npr_base.specs.NameLaws.{IsUnterminated, name-one, name-grows}
 abbrev pub IsName : List ℕ → List ℕ → Type 0
 IsName bytes text = IsUtf8 text × IsUnterminated bytes text
 
-abbrev pub NotName : At → List ℕ → DecodeError → Type 0
-NotName at bytes e = ((text : List ℕ) → IsUnterminated bytes text → IsUtf8 text → ⊥) × (e ≡ NotUtf8 at)
+-- what stands in front of the zero is no UTF-8
+pub record IsNoName (bytes : List ℕ) : Type 0 where
+  pub no_text : (text : List ℕ) → IsUnterminated bytes text → IsUtf8 text → ⊥
 
 abbrev pub name : Codec (List ℕ)
 name = record {
   Reads = IsName;
-  Wrong = NotName;
+  Wrong = λ at bytes e. IsNoName bytes × (e ≡ NotUtf8 at);
   writes = λ text. text ++ 0 ∷ [];
   misfit = λ kind text. too_long kind (length (text ++ 0 ∷ []));
   Holds = IsUtf8;
   members = λ text. 0;
   one_reading = λ bytes x y p q. name-one bytes x y p.1 q.1;
-  no_fault = λ at bytes x e p q. q.0 x p.1 p.0;
+  no_fault = λ at bytes x e p q. q.0.no_text x p.1 p.0;
   reads_holds = λ bytes x is p. p.0;
   fits_short = λ kind x h. too_long-short kind (length (x ++ 0 ∷ [])) h;
   reads_back = λ kind x h f. (h, inl refl);

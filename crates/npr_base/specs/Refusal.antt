@@ -1,5 +1,7 @@
 -- The names of refusals, as a program prints them.
 use Rattle.std.specs.Prelude.{ℕ, List, codes}
+use Rattle.npr_base.specs.declared.refusal.At.{At}
+use Rattle.npr_base.specs.declared.refusal.AttrFamily.TheVariants.{Value}
 use Rattle.npr_base.specs.declared.refusal.DecodeError.{DecodeError}
 use Rattle.npr_base.specs.declared.refusal.DecodeError.TheVariants.{OutOfMemory, HeaderTooShort, AttributeTooShort, AttributeLength, NextHopTooShort, NextHopLength, ValueLength, NotUtf8, Seg6Header, GeneveOrder, GeneveChild, ViaFamily, Unsupported}
 use Rattle.npr_base.specs.declared.refusal.EmitError.{EmitError}
@@ -26,3 +28,7 @@ emit_name (NextHopTooLong len) = codes "NextHopTooLong"
 emit_name (TooManySegments count) = codes "TooManySegments"
 emit_name (IpProtocol number) = codes "IpProtocol"
 emit_name Total = codes "Total"
+
+-- the place of a value that is read by itself
+abbrev pub no_place : At
+no_place = record { family = Value; kind = 0 }

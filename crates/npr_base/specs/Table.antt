@@ -52,28 +52,37 @@ pub record IsOther {M : Type 0} (rows : List (Row M)) (x : Item) : Type 0 where
   pub proper : Proper x
   pub alone : has_row rows (number_of x.kind) ≡ false
 
--- a value in its place: the kind that is written, whether NESTED is set in it besides, and the value
+-- a value in its place: the kind that is written, whether NESTED is set in it besides, and what its
+-- codec says of the value
 pub record Held : Type 1 where
   pub kind : ℕ
   pub nested : Bool
+  pub bytes : List ℕ
+  pub misfit : Option EmitError
+  pub IsHeld : Type 0
+  pub members : ℕ
   pub V : Type 0
   pub codec : Codec V
   pub value : V
 
 abbrev pub held : {V : Type 0} → ℕ → Codec V → V → Held
-held {V} kind codec value = record { kind = kind; nested = false; V = V; codec = codec; value = value }
+held {V} kind codec value = record {
+  kind = kind;
+  nested = false;
+  bytes = codec.writes value;
+  misfit = codec.misfit kind value;
+  IsHeld = codec.Holds value;
+  members = codec.members value;
+  V = V;
+  codec = codec;
+  value = value;
+}
 
 abbrev pub held_other : Item → Held
 held_other x = held x.kind raw x.value
 
 abbrev pub item_of : Held → Item
-item_of h = record { kind = marked h.nested h.kind; value = h.codec.writes h.value }
-
-abbrev pub misfit_of : Held → Option EmitError
-misfit_of h = h.codec.misfit h.kind h.value
-
-abbrev pub IsHeld : Held → Type 0
-IsHeld h = h.codec.Holds h.value
+item_of h = record { kind = marked h.nested h.kind; value = h.bytes }
 
 -- each row's variant is written by that row, and is coherent where the row can hold its value
 abbrev pub Aligned : {M : Type 0} → (M → Item) → (M → Type 0) → List (Row M) → Type 0
@@ -90,4 +99,5 @@ pub record Table (M : Type 0) : Type 1 where
   pub other_is : (x : Item) → item_of (place (other x)) ≡ x
   pub other_coherent : (x : Item) → IsOther rows x → Coherent (other x)
   pub kinds : (m : M) → Coherent m → (place m).kind < 2 ^ 16
-  pub back : (m : M) → Coherent m → misfit_of (place m) ≡ None → ReadsAt other rows (number_of (item_of (place m)).kind) (item_of (place m)) m
+  pub short : (m : M) → (place m).misfit ≡ None → length (place m).bytes ≤ 65531
+  pub back : (m : M) → Coherent m → (place m).misfit ≡ None → ReadsAt other rows (number_of (item_of (place m)).kind) (item_of (place m)) m

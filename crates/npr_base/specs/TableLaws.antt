@@ -5,7 +5,7 @@ use Rattle.std.proofs.Common.{◌≡◌, ℕ, ◌+◌, ◌*◌, ◌%◌, ◌<◌
 use Rattle.npr_base.specs.declared.refusal.DecodeError.{DecodeError}
 use Rattle.npr_base.specs.Framing.{Item, Small, Proper, IsBytes, framed, marked, number_of}
 use Rattle.npr_base.specs.CodecLaws.{framed-grows}
-use Rattle.npr_base.specs.Table.{Family, Row, ReadsAt, WrongAt, has_row, IsOther, Held, item_of, misfit_of, Aligned, Table}
+use Rattle.npr_base.specs.Table.{Family, Row, ReadsAt, WrongAt, has_row, IsOther, Held, item_of, Aligned, Table}
 
 -- two facts on the same test
 both : {P Q S T R : Type 0} (b : Bool) → (P → S → R) → (Q → T → R) → MatchBool b P Q → MatchBool b S T → R
@@ -60,13 +60,13 @@ flat t = record {
   Reads = λ x m. ReadsAt t.other t.rows (number_of x.kind) x m;
   Faulty = λ x e. WrongAt t.rows (number_of x.kind) x e;
   writes = λ m. item_of (t.place m);
-  misfit = λ m. misfit_of (t.place m);
+  misfit = λ m. (t.place m).misfit;
   Coherent = t.Coherent;
-  members = λ m. (t.place m).codec.members (t.place m).value;
+  members = λ m. (t.place m).members;
   one_reading = λ x m n p q. flat-one t.other t.rows (number_of x.kind) x m n p q;
   no_fault = λ x m e p q. flat-sound t.other t.rows (number_of x.kind) x m e p q;
   reads_coherent = λ x m proper p. flat-coherent t.other (λ n. item_of (t.place n)) t.Coherent t.rows t.aligned (number_of x.kind) x proper.value (λ alone. t.other_coherent x (record { proper = proper; alone = alone })) m p;
-  fits_small = λ m c h. record { kind = marked-small (t.place m).nested (t.place m).kind (t.kinds m c); value = (t.place m).codec.fits_short (t.place m).kind (t.place m).value h };
+  fits_small = λ m c h. record { kind = marked-small (t.place m).nested (t.place m).kind (t.kinds m c); value = t.short m h };
   reads_back = λ m c h. t.back m c h;
   grows = λ x m proper p. flat-grows t.other (λ n. item_of (t.place n)) t.Coherent t.rows t.aligned t.other_is (number_of x.kind) x proper.value m p;
 }

@@ -1,0 +1,93 @@
+-- The attributes of an address message (linux/if_addr.h, IFA_*), by their table.
+use Rattle.std.specs.Prelude.{◌≡◌, ℕ, ◌<◌, ◌≤◌, ◌^◌, List, [], ◌∷◌, length, None}
+use Rattle.std.specs.String.{string_bytes}
+use Rattle.npr_base.specs.declared.refusal.At.{At}
+use Rattle.npr_base.specs.declared.refusal.AttrFamily.TheVariants.{Address as OfAddress}
+use Rattle.npr_base.specs.declared.ip.IpAddr.{IpAddr}
+use Rattle.npr_base.specs.Framing.{Item, number_of}
+use Rattle.npr_base.specs.Codec.{exactly, leading, raw}
+use Rattle.npr_base.specs.IpCodec.{ip}
+use Rattle.npr_base.specs.Name.{name}
+use Rattle.npr_base.specs.Table.{Family, Table, Row, row, Held, held, held_other, item_of, IsOther, Aligned, ReadsAt}
+use Rattle.npr_base.specs.TableLaws.{flat, other-back}
+use Rattle.npr_address.specs.AddressFlags.{address_flags}
+use Rattle.npr_address.specs.CacheInfo.{cache_info}
+use Rattle.npr_address.specs.declared.addr_flags.AddressFlags.{AddressFlags}
+use Rattle.npr_address.specs.declared.cache_info.CacheInfo.{CacheInfo}
+use Rattle.npr_address.specs.declared.attribute.AddressAttribute.{AddressAttribute}
+use Rattle.npr_address.specs.declared.attribute.AddressAttribute.TheVariants.{Address, Local, Label, CacheInfo as Info, Flags, Other}
+use Rattle.std.proofs.Common.{refl, arith, rules}
+
+-- what an attribute is, without where it lies in memory
+pub data Meaning : Type 0 where
+  address : IpAddr → Meaning
+  local : IpAddr → Meaning
+  label : List ℕ → Meaning
+  info : CacheInfo → Meaning
+  flags : AddressFlags → Meaning
+  other : Item → Meaning
+
+abbrev pub meaning_of : AddressAttribute → Meaning
+meaning_of (Address a) = address a
+meaning_of (Local a) = local a
+meaning_of (Label s) = label (string_bytes s)
+meaning_of (Info c) = info c
+meaning_of (Flags f) = flags f
+meaning_of (Other d) = other d
+
+abbrev pub at : ℕ → At
+at number = record { family = OfAddress; kind = number }
+
+-- the table
+abbrev pub rows : List (Row Meaning)
+rows =
+    row (at 1) ip address
+    ∷ row (at 2) ip local
+    ∷ row (at 3) name label
+    ∷ row (at 6) (leading cache_info) info
+    ∷ row (at 8) (exactly address_flags) flags
+    ∷ []
+
+-- where each meaning stands in it
+abbrev pub place : Meaning → Held
+place (address a) = held 1 ip a
+place (local a) = held 2 ip a
+place (label s) = held 3 name s
+place (info c) = held 6 (leading cache_info) c
+place (flags f) = held 8 (exactly address_flags) f
+place (other x) = held_other x
+
+-- what can be read
+abbrev pub Coherent : Meaning → Type 0
+Coherent (other x) = IsOther rows x
+Coherent m = (place m).IsHeld
+
+pub aligned : Aligned (λ m. item_of (place m)) Coherent rows
+aligned = search rules
+
+pub kinds : (m : Meaning) → Coherent m → (place m).kind < 2 ^ 16
+kinds (other x) c = c.proper.kind
+kinds m c = omega arith
+
+pub short : (m : Meaning) → (place m).misfit ≡ None → length (place m).bytes ≤ 65531
+short (other x) fits = raw.fits_short x.kind x.value fits
+short m fits = (place m).codec.fits_short (place m).kind (place m).value fits
+
+pub back : (m : Meaning) → Coherent m → (place m).misfit ≡ None → ReadsAt other rows (number_of (item_of (place m)).kind) (item_of (place m)) m
+back (other x) c fits = other-back other rows (number_of x.kind) x c.alone
+back m c fits = ((place m).value, (place m).codec.reads_back (place m).kind (place m).value c fits, refl)
+
+-- the family
+abbrev pub attributes : Family Meaning
+attributes = flat (record {
+  rows = rows;
+  other = other;
+  place = place;
+  Coherent = Coherent;
+  aligned = aligned;
+  other_is = λ x. refl;
+  other_coherent = λ x is. is;
+  kinds = kinds;
+  short = short;
+  back = back;
+})

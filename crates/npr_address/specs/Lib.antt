@@ -1,0 +1,6 @@
+pub mod AddressScope
+pub mod AddressScopeLaws
+pub mod AddressFlags
+pub mod CacheInfo
+pub mod Header
+pub mod Attribute

@@ -1,0 +1,57 @@
+//! The scope of an address: `RT_SCOPE_*` of `linux/rtnetlink.h`.
+
+ghost use Rattle.std.specs.Prelude.{◌≡◌, ℕ};
+ghost use Rattle.npr_address.specs.AddressScope.{scope_of, scope_number};
+
+/// The scope of an address: `RT_SCOPE_*` of `linux/rtnetlink.h`.
+#[derive(Clone, Copy, Debug, Default, PartialEq, Eq)]
+pub enum AddressScope {
+    /// Everywhere.
+    #[default]
+    Universe,
+    /// Inside the site.
+    Site,
+    /// On the link.
+    Link,
+    /// On the host.
+    Host,
+    /// Nowhere.
+    Nowhere,
+    /// Any other number.
+    Other(u8),
+}
+
+impl From<u8> for AddressScope {
+    ghost from_gives = { λ number scope. scope ≡ scope_of number };
+
+    fn from(number: u8) -> AddressScope {
+        match number {
+            0 => AddressScope::Universe,
+            200 => AddressScope::Site,
+            253 => AddressScope::Link,
+            254 => AddressScope::Host,
+            255 => AddressScope::Nowhere,
+            _ => AddressScope::Other(number),
+        }
+    }
+}
+
+impl From<AddressScope> for u8 {
+    ghost from_gives = { λ scope number. number ≡ scope_number scope };
+
+    fn from(scope: AddressScope) -> u8 {
+        match scope {
+            AddressScope::Universe => 0,
+            AddressScope::Site => 200,
+            AddressScope::Link => 253,
+            AddressScope::Host => 254,
+            AddressScope::Nowhere => 255,
+            AddressScope::Other(number) => number,
+        }
+    }
+}
+
+/// What a number reads as is written as that number.
+pub fn law_scope_number()
+    ensures { (d : ℕ) → scope_number (scope_of d) ≡ d }
+{}

@@ -1,0 +1,121 @@
+//! How long an address is preferred and valid: `struct ifa_cacheinfo` of `linux/if_addr.h`.
+
+ghost use Rattle.std.specs.Prelude.{◌≡◌, ◌≤◌, ◌<◌, ℕ, None, length, IfOk, IfErr};
+ghost use Rattle.npr_base.specs.Codec.{leading};
+ghost use Rattle.npr_base.specs.Family.{checked};
+ghost use Rattle.npr_base.specs.Framing.{Writes};
+ghost use Rattle.npr_address.specs.CacheInfo.{cache_info, cache_info_buffer, buffer_of};
+ghost use Rattle.npr_base.specs.Refusal.{no_place};
+
+use npr_base::{DecodeError, EmitError, Emitable, write_bytes};
+
+/// How long an address is preferred and valid, in seconds, and when it was made and changed, in
+/// hundredths of a second since the start of the system.
+#[derive(Clone, Copy, Debug, Default, PartialEq, Eq)]
+pub struct CacheInfo {
+    /// For how many seconds it is preferred still; the greatest number is for ever.
+    pub ifa_preferred: u32,
+    /// For how many seconds it is valid still; the greatest number is for ever.
+    pub ifa_valid: u32,
+    /// When it was made.
+    pub cstamp: u32,
+    /// When it was changed.
+    pub tstamp: u32,
+}
+
+/// The layout of a [`CacheInfo`]: 16 bytes, four numbers of 4 bytes, little endian.
+#[derive(Clone, Copy, Debug, PartialEq, Eq)]
+pub struct CacheInfoBuffer {
+    pub ifa_preferred: u32,
+    pub ifa_valid: u32,
+    pub cstamp: u32,
+    pub tstamp: u32,
+}
+
+impl CacheInfoBuffer {
+    /// The layout in the first 16 bytes; more are not looked at.
+    ///
+    /// # Errors
+    /// `HeaderTooShort` below 16 bytes.
+    pub fn parse(bytes: &[u8]) -> Result<Self, DecodeError>
+        ensures ok { IfOk result (λ b. (leading cache_info_buffer).Reads bytes.now b) }
+        ensures refused { IfErr result (λ e. (leading cache_info_buffer).Wrong no_place bytes.now e) }
+    {
+        if bytes.len() < 16 {
+            return Err(DecodeError::HeaderTooShort {
+                got: bytes.len(),
+                want: 16,
+            });
+        }
+        let b = &bytes[..16];
+        Ok(CacheInfoBuffer {
+            ifa_preferred: u32::from_le_bytes([b[0], b[1], b[2], b[3]]),
+            ifa_valid: u32::from_le_bytes([b[4], b[5], b[6], b[7]]),
+            cstamp: u32::from_le_bytes([b[8], b[9], b[10], b[11]]),
+            tstamp: u32::from_le_bytes([b[12], b[13], b[14], b[15]]),
+        })
+    }
+
+    /// The 16 bytes of the layout.
+    pub fn to_bytes(&self) -> [u8; 16]
+        ensures { result ≡ cache_info_buffer.encode self.now }
+    {
+        let [a0, a1, a2, a3] = self.ifa_preferred.to_le_bytes();
+        let [b0, b1, b2, b3] = self.ifa_valid.to_le_bytes();
+        let [c0, c1, c2, c3] = self.cstamp.to_le_bytes();
+        let [d0, d1, d2, d3] = self.tstamp.to_le_bytes();
+        [
+            a0, a1, a2, a3, b0, b1, b2, b3, c0, c1, c2, c3, d0, d1, d2, d3,
+        ]
+    }
+}
+
+impl<'a> From<&'a CacheInfo> for CacheInfoBuffer {
+    ghost from_gives = { λ info b. b ≡ buffer_of info.now };
+
+    fn from(info: &'a CacheInfo) -> CacheInfoBuffer {
+        CacheInfoBuffer {
+            ifa_preferred: info.ifa_preferred,
+            ifa_valid: info.ifa_valid,
+            cstamp: info.cstamp,
+            tstamp: info.tstamp,
+        }
+    }
+}
+
+impl CacheInfo {
+    /// The values in the first 16 bytes; more are not looked at.
+    ///
+    /// # Errors
+    /// `HeaderTooShort` below 16 bytes.
+    pub fn parse(bytes: &[u8]) -> Result<Self, DecodeError>
+        ensures ok { IfOk result (λ info. (leading cache_info).Reads bytes.now info) }
+        ensures refused { IfErr result (λ e. (leading cache_info).Wrong no_place bytes.now e) }
+    {
+        let b = CacheInfoBuffer::parse(bytes)?;
+        Ok(CacheInfo {
+            ifa_preferred: b.ifa_preferred,
+            ifa_valid: b.ifa_valid,
+            cstamp: b.cstamp,
+            tstamp: b.tstamp,
+        })
+    }
+}
+
+impl Emitable for CacheInfo {
+    ghost bytes = { cache_info.encode };
+
+    ghost unfit = { λ _. None };
+
+    fn check(&self) -> Result<usize, EmitError> {
+        Ok(16)
+    }
+
+    fn buffer_len(&self) -> usize {
+        16
+    }
+
+    fn emit(&self, out: &mut [u8]) {
+        write_bytes(out, &CacheInfoBuffer::from(self).to_bytes());
+    }
+}

@@ -1,0 +1,134 @@
+//! The header of an address message: `struct ifaddrmsg` of `linux/if_addr.h`.
+
+ghost use Rattle.std.specs.Prelude.{◌≡◌, ◌≤◌, ◌<◌, ℕ, None, length, IfOk, IfErr};
+ghost use Rattle.npr_base.specs.Codec.{leading};
+ghost use Rattle.npr_base.specs.Family.{checked};
+ghost use Rattle.npr_base.specs.Framing.{Writes};
+ghost use Rattle.npr_base.specs.Refusal.{no_place};
+ghost use Rattle.npr_address.specs.Header.{header_buffer, header, buffer_of};
+
+use crate::addr_flags::AddressHeaderFlags;
+use crate::addr_scope::AddressScope;
+use bitflags::Flags;
+use npr_base::{AddressFamily, DecodeError, EmitError, Emitable, write_bytes};
+
+/// The header of an address message.
+#[derive(Clone, Copy, Debug, Default, PartialEq, Eq)]
+pub struct AddressHeader {
+    /// The family of the addresses.
+    pub family: AddressFamily,
+    /// The length of the prefix, in bits.
+    pub prefix_len: u8,
+    /// The flags, as far as they have room here.
+    pub flags: AddressHeaderFlags,
+    /// How far the address reaches.
+    pub scope: AddressScope,
+    /// The number of the interface.
+    pub index: u32,
+}
+
+/// The layout of an [`AddressHeader`]: 8 bytes, each field of 1 byte but the index, which has 4,
+/// little endian.
+#[derive(Clone, Copy, Debug, PartialEq, Eq)]
+pub struct AddressMessageBuffer {
+    pub family: u8,
+    pub prefix_len: u8,
+    pub flags: u8,
+    pub scope: u8,
+    pub index: u32,
+}
+
+impl AddressMessageBuffer {
+    /// The layout in the first 8 bytes; more are not looked at.
+    ///
+    /// # Errors
+    /// `HeaderTooShort` below 8 bytes.
+    pub fn parse(bytes: &[u8]) -> Result<Self, DecodeError>
+        ensures ok { IfOk result (λ b. (leading header_buffer).Reads bytes.now b) }
+        ensures refused { IfErr result (λ e. (leading header_buffer).Wrong no_place bytes.now e) }
+    {
+        if bytes.len() < 8 {
+            return Err(DecodeError::HeaderTooShort {
+                got: bytes.len(),
+                want: 8,
+            });
+        }
+        let b = &bytes[..8];
+        Ok(AddressMessageBuffer {
+            family: b[0],
+            prefix_len: b[1],
+            flags: b[2],
+            scope: b[3],
+            index: u32::from_le_bytes([b[4], b[5], b[6], b[7]]),
+        })
+    }
+
+    /// The 8 bytes of the layout.
+    pub fn to_bytes(&self) -> [u8; 8]
+        ensures { result ≡ header_buffer.encode self.now }
+    {
+        let [a, b, c, d] = self.index.to_le_bytes();
+        [
+            self.family,
+            self.prefix_len,
+            self.flags,
+            self.scope,
+            a,
+            b,
+            c,
+            d,
+        ]
+    }
+}
+
+impl<'a> From<&'a AddressHeader> for AddressMessageBuffer {
+    ghost from_gives = { λ h b. b ≡ buffer_of h.now };
+
+    fn from(header: &'a AddressHeader) -> AddressMessageBuffer {
+        AddressMessageBuffer {
+            family: u8::from(header.family),
+            prefix_len: header.prefix_len,
+            flags: header.flags.bits(),
+            scope: u8::from(header.scope),
+            index: header.index,
+        }
+    }
+}
+
+impl AddressHeader {
+    /// The header in the first 8 bytes; more are not looked at.
+    ///
+    /// # Errors
+    /// `HeaderTooShort` below 8 bytes.
+    pub fn parse(bytes: &[u8]) -> Result<Self, DecodeError>
+        ensures ok { IfOk result (λ h. (leading header).Reads bytes.now h) }
+        ensures refused { IfErr result (λ e. (leading header).Wrong no_place bytes.now e) }
+    {
+        let b = AddressMessageBuffer::parse(bytes)?;
+        Ok(AddressHeader {
+            family: AddressFamily::from(b.family),
+            prefix_len: b.prefix_len,
+            flags: AddressHeaderFlags::from_bits_retain(b.flags),
+            scope: AddressScope::from(b.scope),
+            index: b.index,
+        })
+    }
+}
+
+impl Emitable for AddressHeader {
+    ghost bytes = { header.encode };
+
+    ghost unfit = { λ _. None };
+
+    fn check(&self) -> Result<usize, EmitError> {
+        Ok(8)
+    }
+
+    fn buffer_len(&self) -> usize {
+        8
+    }
+
+    fn emit(&self, out: &mut [u8]) {
+        write_bytes(out, &AddressMessageBuffer::from(self).to_bytes());
+    }
+}

@@ -1,0 +1,14 @@
+//! Address messages of rtnetlink.
+#![tactic(auto)]
+
+mod addr_flags;
+mod addr_scope;
+mod attribute;
+mod cache_info;
+mod header;
+
+pub use addr_flags::{AddressFlags, AddressHeaderFlags};
+pub use addr_scope::{AddressScope, law_scope_number};
+pub use attribute::AddressAttribute;
+pub use cache_info::{CacheInfo, CacheInfoBuffer};
+pub use header::{AddressHeader, AddressMessageBuffer};
