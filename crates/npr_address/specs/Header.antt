@@ -7,6 +7,8 @@ use Rattle.npr_base.specs.Framing.{IsBytes}
 use Rattle.npr_base.specs.Layout.{Layout, byte, formed, le32_at, le32_at-holds}
 use Rattle.npr_base.specs.AddressFamily.{family_of, family_number}
 use Rattle.npr_base.specs.AddressFamilyLaws.{family_number-family_of}
+use Rattle.npr_base.specs.declared.address_family.AddressFamily.TheVariants.{Unspec}
+use Rattle.npr_address.specs.declared.addr_scope.AddressScope.TheVariants.{Universe}
 use Rattle.npr_address.specs.AddressScope.{scope_of, scope_number}
 use Rattle.npr_address.specs.AddressScopeLaws.{scope_number-scope_of}
 use Rattle.npr_address.specs.AddressFlags.{header_flags}
@@ -55,3 +57,7 @@ buffer-header b = λ i. record { family = family_number-family_of b.family i; pr
 
 abbrev pub header : Layout AddressHeader
 header = formed header_buffer header_of buffer_of buffer-header
+
+-- each field at its default
+abbrev pub default_header : AddressHeader
+default_header = record { family = Unspec; prefix_len = 0; flags = record { 0 = 0 }; scope = Universe; index = 0 }

@@ -4,3 +4,4 @@ pub mod AddressFlags
 pub mod CacheInfo
 pub mod Header
 pub mod Attribute
+pub mod Message

@@ -6,9 +6,11 @@ mod addr_scope;
 mod attribute;
 mod cache_info;
 mod header;
+mod message;
 
 pub use addr_flags::{AddressFlags, AddressHeaderFlags};
 pub use addr_scope::{AddressScope, law_scope_number};
 pub use attribute::AddressAttribute;
 pub use cache_info::{CacheInfo, CacheInfoBuffer};
 pub use header::{AddressHeader, AddressMessageBuffer};
+pub use message::AddressMessage;

@@ -21,7 +21,7 @@ pub mod AddressFamily
 pub mod AddressFamilyLaws
 pub mod Equality
 pub mod EqualityLaws
-pub mod CloneLaws
+pub mod MeaningLaws
 pub mod Ip
 pub mod IpCodec
 pub mod ItemEquality

@@ -5,8 +5,8 @@
 use Rattle.std.specs.Prelude.{◌≡◌, ℕ, ℤ, Bool, true, false, List, [], ◌∷◌, nat_eq, if◌then◌else◌}
 use Rattle.std.specs.Ordering.{int_eq}
 use Rattle.std.proofs.Common.{refl, sym, ap, ◌∙◌}
-use Rattle.std.specs.Bool.{Decides}
 use Rattle.std.specs.Cmp.{unsigned_Decides, signed_Decides, first_so, second_so}
+use Rattle.npr_base.specs.Equality.{IsEquality}
 use Rattle.npr_base.specs.Rows.{form_by, agrees_by, form_in, agrees, signed_form_in, signed_agrees, IsFormed}
 
 module _ {K V : Type 0} (number : V → K) where
@@ -14,7 +14,7 @@ module _ {K V : Type 0} (number : V → K) where
   number-if true x y d here later = here refl
   number-if false x y d here later = later
 
-  pub number-form_by : (same : K → K → Bool) → ((a b : K) → Decides (same a b) (a ≡ b)) → (other : K → V) → ((d : K) → number (other d) ≡ d) → (rows : List (K × V)) → agrees_by same number rows ≡ true → (d : K) → number (form_by same other rows d) ≡ d
+  pub number-form_by : (same : K → K → Bool) → IsEquality same → (other : K → V) → ((d : K) → number (other d) ≡ d) → (rows : List (K × V)) → agrees_by same number rows ≡ true → (d : K) → number (form_by same other rows d) ≡ d
   number-form_by same decides other back [] h d = back d
   number-form_by same decides other back (row ∷ rows) h d =
       let here = (decides (number row.1) row.0).0 (first_so (same (number row.1) row.0) (agrees_by same number rows) h) in

@@ -11,7 +11,7 @@ use crate::framing::NlaBuffer;
 use crate::looks::Looks;
 use crate::refusal::DecodeError;
 use crate::traits::Nla;
-use std::alloc::Global;
+use std::alloc::{AllocError, Global};
 
 /// A family of attributes. Each is read in a context, as the family of the message's addresses.
 ///
@@ -59,6 +59,13 @@ pub trait Attribute: Nla + Drop {
         ensures refused { IfErr result (λ e. e ≢ OutOfMemory → faulty context item.now e) }
         ensures bounded { AddsAtMost looks.old looks.new (length (item.now).value) }
         ensures counted { IfOk result (λ a. SawEach looks.old looks.new (members (meaning a))) };
+
+    /// An equal value, as the type's own `clone` makes it.
+    ///
+    /// # Errors
+    /// `AllocError` where memory is refused.
+    fn try_clone(&self, alloc: Global) -> Result<Self, AllocError>
+        ensures { IfOk result (λ a. meaning a ≡ meaning self.now) };
 
     /// The two views of what is written agree.
     ghost item_is: { (a : Self) → written (Self.nested a) (Self.item a) ≡ writes (meaning a) };

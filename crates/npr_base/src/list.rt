@@ -11,7 +11,7 @@ use crate::framing::NlasIterator;
 use crate::looks::Looks;
 use crate::refusal::{DecodeError, EmitError};
 use crate::traits::Nla;
-use std::alloc::Global;
+use std::alloc::{AllocError, Global};
 
 /// The attributes that the bytes are cut into, in order, each read in the context.
 ///
@@ -137,4 +137,18 @@ pub fn emit_list<A: Attribute>(list: &[A], out: &mut [u8])
     ensures { Writes out.old out.new (encodings A.writes (map A.meaning list.now)) }
 {
     write_list(list, out);
+}
+
+/// Equal values, in their order.
+///
+/// # Errors
+/// `AllocError` where memory is refused.
+pub fn clone_list<A: Attribute>(alloc: Global, list: &[A]) -> Result<Vec<A>, AllocError>
+    ensures { IfOk result (λ v. map A.meaning v.items ≡ map A.meaning list.now) }
+{
+    let mut copies = Vec::new(alloc);
+    for x in list {
+        copies.push(x.try_clone(alloc)?)?;
+    }
+    Ok(copies)
 }
