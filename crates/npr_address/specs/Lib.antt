@@ -5,3 +5,4 @@ pub mod CacheInfo
 pub mod Header
 pub mod Attribute
 pub mod Message
+pub mod EqualityLaws

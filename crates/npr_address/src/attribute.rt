@@ -11,7 +11,7 @@ use npr_base::{
     At, AttrFamily, Attribute, DecodeError, DefaultNla, EmitError, IpAddr, Looks, Nla, NlaBuffer,
     Parseable, check_len, ip_len, read_ip, read_name, read_u32, write_bytes, write_ip, write_name,
 };
-use std::alloc::Global;
+use std::alloc::{AllocError, Global};
 
 /// An attribute of an address message.
 #[derive(Debug, Drop, PartialEq, Eq)]
@@ -28,6 +28,27 @@ pub enum AddressAttribute {
     Flags(AddressFlags),
     /// An attribute of another number, as it stands.
     Other(DefaultNla),
+}
+
+impl AddressAttribute {
+    /// An equal attribute.
+    ///
+    /// # Errors
+    /// `AllocError` where memory is refused.
+    pub fn clone(&self, alloc: Global) -> Result<Self, AllocError>
+        ensures { IfOk result (λ a. meaning_of a ≡ meaning_of self.now) }
+    {
+        match self {
+            AddressAttribute::Address(ip) => Ok(AddressAttribute::Address(*ip)),
+            AddressAttribute::Local(ip) => Ok(AddressAttribute::Local(*ip)),
+            AddressAttribute::Label(name) => {
+                String::from_str(alloc, name.as_str()).map(AddressAttribute::Label)
+            }
+            AddressAttribute::CacheInfo(info) => Ok(AddressAttribute::CacheInfo(*info)),
+            AddressAttribute::Flags(flags) => Ok(AddressAttribute::Flags(*flags)),
+            AddressAttribute::Other(nla) => nla.clone(alloc).map(AddressAttribute::Other),
+        }
+    }
 }
 
 const fn at(kind: u16) -> At
@@ -144,5 +165,9 @@ impl Attribute for AddressAttribute {
             )),
             _ => DefaultNla::parse(alloc, item).map(AddressAttribute::Other),
         }
+    }
+
+    fn try_clone(&self, alloc: Global) -> Result<Self, AllocError> {
+        self.clone(alloc)
     }
 }

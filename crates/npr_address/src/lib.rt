@@ -6,6 +6,7 @@ mod addr_scope;
 mod attribute;
 mod cache_info;
 mod header;
+pub mod laws;
 mod message;
 
 pub use addr_flags::{AddressFlags, AddressHeaderFlags};

@@ -9,8 +9,8 @@ ghost use Rattle.npr_address.specs.Message.{Address, message_of, IsAddressMessag
 use crate::attribute::AddressAttribute;
 use crate::header::AddressHeader;
 use npr_base::{
-    DecodeError, EmitError, Emitable, Looks, Parseable, check_list, list_len, parse_list,
-    write_list,
+    DecodeError, EmitError, Emitable, Looks, Parseable, check_list, clone_list, list_len,
+    parse_list, write_list,
 };
 use std::alloc::{AllocError, Global};
 
@@ -33,6 +33,19 @@ impl AddressMessage {
             header: AddressHeader::default(),
             attributes: Vec::new(alloc),
         }
+    }
+
+    /// An equal message.
+    ///
+    /// # Errors
+    /// `AllocError` where memory is refused.
+    pub fn clone(&self, alloc: Global) -> Result<Self, AllocError>
+        ensures { IfOk result (λ m. message_of m ≡ message_of self.now) }
+    {
+        Ok(AddressMessage {
+            header: self.header,
+            attributes: clone_list(alloc, self.attributes.as_slice())?,
+        })
     }
 }
 

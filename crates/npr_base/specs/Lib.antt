@@ -25,3 +25,4 @@ pub mod MeaningLaws
 pub mod Ip
 pub mod IpCodec
 pub mod ItemEquality
+pub mod StructLaws
