@@ -1,0 +1,10 @@
+use Rattle.std.proofs.Common.{◌≡◌, ◌++◌, map, take, drop, None, string_bytes}
+use Rattle.npr_base.specs.Family.{first_unfit}
+use Rattle.nlroute.specs.Report.{lines_text}
+use Rattle.nlroute.proofs.report.lines.Given as goal
+
+abbrev pub invariant-loop-attribute : goal.invariant-loop-attribute
+invariant-loop-attribute g l = record {
+  fit : first_unfit g.A.Attribute.misfit (map g.A.Attribute.meaning (drop l.attribute-index l.attributes)) ≡ None;
+  text : string_bytes l.out ≡ string_bytes l.fn.out ++ lines_text (map g.A.Attribute.writes (map g.A.Attribute.meaning (take l.attribute-index l.attributes)));
+}

@@ -1,0 +1,89 @@
+//! How a run ends that does not print a report.
+
+ghost use Rattle.std.specs.Prelude.{◌≡◌, ◌++◌};
+ghost use Rattle.nlroute.specs.declared.error.RunError.TheVariants.{Memory, Unfit};
+ghost use Rattle.nlroute.specs.Error.{line_of, refusal_of, status_of};
+
+use npr_base::{DecodeError, EmitError};
+use std::alloc::{AllocError, AllocFailed};
+
+/// Why a run prints no report.
+#[derive(Clone, Copy, Debug, PartialEq, Eq)]
+pub enum RunError {
+    /// Standard input is no hexadecimal text.
+    BadHex,
+    /// The bytes are no message.
+    Refused(DecodeError),
+    /// The message can't be written back.
+    Unfit(EmitError),
+    /// Memory was refused.
+    Memory,
+    /// Standard input could not be read.
+    Read,
+    /// Standard output could not be written.
+    Write,
+}
+
+impl RunError {
+    /// The status that the process ends with.
+    pub fn status(&self) -> u8
+        ensures { result ≡ status_of self.now }
+    {
+        match self {
+            RunError::Refused(_) => 1,
+            RunError::BadHex => 2,
+            RunError::Unfit(_) => 3,
+            RunError::Memory => 4,
+            RunError::Read | RunError::Write => 5,
+        }
+    }
+
+    /// The line for standard error, without its end, as two texts to be printed one after the other.
+    pub fn line(&self) -> (&'static str, &'static str)
+        ensures { result.0.now ++ result.1.now ≡ line_of self.now }
+    {
+        match self {
+            RunError::BadHex => ("bad hex", ""),
+            RunError::Refused(fault) => ("refused: ", fault.name()),
+            RunError::Unfit(fault) => ("unfit: ", fault.name()),
+            RunError::Memory => ("out of memory", ""),
+            RunError::Read => ("read failed", ""),
+            RunError::Write => ("write failed", ""),
+        }
+    }
+}
+
+impl From<DecodeError> for RunError {
+    ghost from_gives = { λ fault e. e ≡ refusal_of fault };
+
+    fn from(fault: DecodeError) -> RunError {
+        match fault {
+            DecodeError::OutOfMemory => RunError::Memory,
+            _ => RunError::Refused(fault),
+        }
+    }
+}
+
+impl From<EmitError> for RunError {
+    ghost from_gives = { λ cause e. e ≡ Unfit cause };
+
+    fn from(cause: EmitError) -> RunError {
+        RunError::Unfit(cause)
+    }
+}
+
+impl From<AllocError> for RunError {
+    ghost from_gives = { λ _ e. e ≡ Memory };
+
+    fn from(_e: AllocError) -> RunError {
+        RunError::Memory
+    }
+}
+
+impl<T: Drop> From<AllocFailed<T>> for RunError {
+    ghost from_gives = { λ _ e. e ≡ Memory };
+
+    fn from(_e: AllocFailed<T>) -> RunError {
+        RunError::Memory
+    }
+}

@@ -1,0 +1,207 @@
+//! Lines, words, texts, and readers and writers that fail.
+
+use crate::counted::Counted;
+use crate::error::RunError;
+use crate::hex_text::bytes_of;
+use crate::input::read_all;
+use crate::output::{finish, write_text};
+use crate::report::whole;
+use crate::run::run;
+use crate::which::Which;
+use npr_base::{DecodeError, EmitError};
+use std::alloc::{AllocError, Global};
+use std::io;
+use std::io::{ErrorKind, Read, Write};
+use std::test::Fail;
+
+#[test]
+fn each_error_has_its_status_and_line(rt: HostRuntime) -> Result<(), Fail> {
+    let refused = RunError::Refused(DecodeError::AttributeTooShort { got: 3 });
+    let unfit = RunError::Unfit(EmitError::IpProtocol { number: 300 });
+    for (fault, status, text) in [
+        (refused, 1u8, "refused: AttributeTooShort"),
+        (RunError::BadHex, 2, "bad hex"),
+        (unfit, 3, "unfit: IpProtocol"),
+        (RunError::Memory, 4, "out of memory"),
+        (RunError::Read, 5, "read failed"),
+        (RunError::Write, 5, "write failed"),
+    ] {
+        let (label, name) = fault.line();
+        let whole = format!(in rt.alloc(); "{label}{name}")?;
+        assert_eq!(rt; whole.as_str(), text);
+        assert_eq!(rt; fault.status(), status, "at {text}");
+    }
+    Ok(())
+}
+
+fn which_of(alloc: Global, words: &[&str]) -> Result<Option<Which>, AllocError> {
+    let mut owned = Vec::new(alloc);
+    for word in words {
+        owned.push(String::from_str(alloc, word)?)?;
+    }
+    Ok(Which::of(owned.as_slice()))
+}
+
+#[test]
+fn one_known_word_is_wanted(rt: HostRuntime) -> Result<(), Fail> {
+    let alloc = rt.alloc();
+    assert_eq!(rt; which_of(alloc, &["address"])?, Some(Which::Address));
+    assert_eq!(rt; which_of(alloc, &[])?, None);
+    assert_eq!(rt; which_of(alloc, &["Address"])?, None);
+    assert_eq!(rt; which_of(alloc, &["addresses"])?, None);
+    assert_eq!(rt; which_of(alloc, &["address", "address"])?, None);
+    Ok(())
+}
+
+#[test]
+fn hexadecimal_text(rt: HostRuntime) -> Result<(), Fail> {
+    let alloc = rt.alloc();
+    for text in ["0aFf10", " 0A\tfF\r\n10\n", "0aff 10   "] {
+        let bytes = bytes_of(alloc, text.as_bytes())?;
+        assert_eq!(rt; bytes.as_slice(), [10u8, 255, 16].as_slice());
+    }
+    for text in ["", " \n"] {
+        assert_eq!(rt; bytes_of(alloc, text.as_bytes())?.len(), 0);
+    }
+    for text in ["0 2", "0", "0aF", "0g", "0a,10", "0a\x0b10"] {
+        let Err(fault) = bytes_of(alloc, text.as_bytes()) else {
+            assert!(rt; false, "{text:?} was read");
+            continue;
+        };
+        assert_eq!(rt; fault, RunError::BadHex);
+    }
+    Ok(())
+}
+
+/// Gives its byte again and again, `left` times, and fails at the call `failing`, from 1 on.
+#[derive(Drop)]
+struct Source {
+    byte: u8,
+    left: usize,
+    failing: usize,
+    kind: ErrorKind,
+}
+
+impl Read for Source {
+    fn read(&mut self, buf: &mut [u8]) -> io::Result<usize> {
+        self.failing = self.failing.saturating_sub(1);
+        if self.failing == 0 {
+            return Err(io::Error::from(self.kind));
+        }
+        if self.left == 0 || buf.is_empty() {
+            return Ok(0);
+        }
+        self.left -= 1;
+        buf[0] = self.byte;
+        Ok(1)
+    }
+}
+
+#[test]
+fn reads_to_the_end(rt: HostRuntime) -> Result<(), Fail> {
+    let text = vec![in rt.alloc(); b'7'; 10_000]?;
+    let all = read_all(rt.alloc(), &mut Counted::new(text.as_slice()))?;
+    assert_eq!(rt; all.as_slice(), text.as_slice());
+    for kind in [ErrorKind::Interrupted, ErrorKind::Other] {
+        for failing in 1usize..=5 {
+            let mut reader = Counted::new(Source {
+                byte: b'7',
+                left: 3,
+                failing,
+                kind,
+            });
+            match read_all(rt.alloc(), &mut reader) {
+                Ok(bytes) => {
+                    assert_eq!(rt; failing, 5);
+                    assert_eq!(rt; bytes.as_slice(), b"777".as_slice());
+                }
+                Err(fault) => {
+                    assert!(rt; failing < 5);
+                    assert_eq!(rt; fault, RunError::Read);
+                }
+            }
+        }
+    }
+    Ok(())
+}
+
+/// Takes `step` bytes a call, and fails at the call `failing`, from 1 on. A flush is a call.
+#[derive(Drop)]
+struct Sink {
+    taken: Vec<u8>,
+    step: usize,
+    failing: usize,
+}
+
+impl Sink {
+    fn new(alloc: Global, step: usize, failing: usize) -> Counted<Sink> {
+        Counted::new(Sink {
+            taken: Vec::new(alloc),
+            step,
+            failing,
+        })
+    }
+
+    fn turn(&mut self) -> io::Result<()> {
+        self.failing = self.failing.saturating_sub(1);
+        if self.failing == 0 {
+            return Err(io::Error::from(ErrorKind::Interrupted));
+        }
+        Ok(())
+    }
+}
+
+impl Write for Sink {
+    fn write(&mut self, buf: &[u8]) -> io::Result<usize> {
+        self.turn()?;
+        let count = buf.len().min(self.step);
+        self.taken.extend_from_slice(&buf[..count])?;
+        Ok(count)
+    }
+
+    fn flush(&mut self) -> io::Result<()> {
+        self.turn()
+    }
+}
+
+#[test]
+fn writes_the_whole_text_or_a_beginning(rt: HostRuntime) -> Result<(), Fail> {
+    let mut writer = Sink::new(rt.alloc(), 1, usize::MAX);
+    write_text(&mut writer, b"report")?;
+    finish(&mut writer)?;
+    assert_eq!(rt; writer.into_inner().taken.as_slice(), b"report".as_slice());
+
+    let mut writer = Sink::new(rt.alloc(), 0, usize::MAX);
+    assert_eq!(rt; write_text(&mut writer, b"report"), Err(RunError::Write));
+    assert_eq!(rt; write_text(&mut writer, b""), Ok(()));
+    assert_eq!(rt; writer.into_inner().taken.len(), 0);
+
+    let mut writer = Sink::new(rt.alloc(), 2, 3);
+    assert_eq!(rt; write_text(&mut writer, b"report"), Err(RunError::Write));
+    assert_eq!(rt; writer.into_inner().taken.as_slice(), b"repo".as_slice());
+
+    let mut writer = Sink::new(rt.alloc(), 2, 4);
+    write_text(&mut writer, b"report")?;
+    assert_eq!(rt; finish(&mut writer), Err(RunError::Write));
+    Ok(())
+}
+
+#[test]
+fn prints_a_report(rt: HostRuntime) -> Result<(), Fail> {
+    let lines = [(0x8001u16, 4usize), (65_535, 0)];
+    let out = whole(rt.alloc(), "address", 20, &lines, &[0, 10, 255])?;
+    let want =
+        "address: 20 bytes, 2 attributes\nkind 32769 length 4\nkind 65535 length 0\ncanonical 3 bytes\n000aff\n";
+    assert_eq!(rt; out.as_str(), want);
+    Ok(())
+}
+
+#[test]
+fn runs_over_memory(rt: HostRuntime) -> Result<(), Fail> {
+    let mut reader = Counted::new(b"0A ff\n".as_slice());
+    let mut writer = Counted::new(Vec::new(rt.alloc()));
+    run(rt.alloc(), Which::Address, &mut reader, &mut writer)?;
+    let want = b"address: 2 bytes, 0 attributes\ncanonical 2 bytes\n0aff\n";
+    assert_eq!(rt; writer.into_inner().as_slice(), want.as_slice());
+    Ok(())
+}
