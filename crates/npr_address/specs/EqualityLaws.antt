@@ -7,10 +7,13 @@ use Rattle.npr_base.specs.ItemEquality.{item_equality}
 use Rattle.npr_base.specs.MeaningLaws.{enum_meaning, ◌also◌, one_meaning, text_equality, items_meaning}
 use Rattle.npr_base.specs.StructLaws.{and_decides, decides_as}
 use Rattle.npr_base.specs.AddressFamilyLaws.{family_equality}
-use Rattle.std.specs.Cmp.{unsigned_Decides}
+use Rattle.std.specs.Cmp.{unsigned_Decides, signed_Decides}
 use Rattle.npr_address.specs.declared.header.AddressHeader.{AddressHeader}
 use Rattle.npr_base.specs.contracts.ip.IpAddrPartialEq.TheImpl as IpEq
-use Rattle.npr_address.specs.Attribute.{Meaning, address, local, label, info, flags, other, meaning_of}
+use Rattle.npr_base.specs.contracts.ip.Ipv4AddrPartialEq.TheImpl as Ipv4Eq
+use Rattle.npr_base.specs.contracts.ip.Ipv6AddrPartialEq.TheImpl as Ipv6Eq
+use Rattle.npr_address.specs.contracts.addr_protocol.AddressProtocolPartialEq.TheImpl as ProtocolEq
+use Rattle.npr_address.specs.Attribute.{Meaning, address, local, label, broadcast, anycast, info, multicast, flags, route_priority, target_net_ns_id, protocol, other, meaning_of}
 use Rattle.npr_address.specs.Message.{Address, message_of}
 use Rattle.npr_address.specs.contracts.attribute.AddressAttribute.{enum}
 use Rattle.npr_address.specs.contracts.attribute.AddressAttributePartialEq.TheImpl as AttributeEq
@@ -25,12 +28,27 @@ order : Meaning → ℕ
 order (address a) = 0
 order (local a) = 1
 order (label s) = 2
-order (info c) = 3
-order (flags f) = 4
-order (other x) = 5
+order (broadcast a) = 3
+order (anycast a) = 4
+order (info c) = 5
+order (multicast a) = 6
+order (flags f) = 7
+order (route_priority n) = 8
+order (target_net_ns_id n) = 9
+order (protocol p) = 10
+order (other x) = 11
 
 ip_equality : IsEquality IpEq.ghosts.eq
 ip_equality = search rules
+
+ipv4_equality : IsEquality Ipv4Eq.ghosts.eq
+ipv4_equality = search rules
+
+ipv6_equality : IsEquality Ipv6Eq.ghosts.eq
+ipv6_equality = search rules
+
+protocol_equality : IsEquality ProtocolEq.ghosts.eq
+protocol_equality = search rules
 
 info_equality : IsEquality InfoEq.ghosts.eq
 info_equality = search rules
@@ -61,8 +79,14 @@ attribute_equality =
     (λ x. refl, one_meaning (λ f. f) address ip_equality (λ p q e. cc)) also
     (λ x. refl, one_meaning (λ f. f) local ip_equality (λ p q e. cc)) also
     (λ x. refl, one_meaning string_bytes label text_equality (λ p q e. cc)) also
+    (λ x. refl, one_meaning (λ f. f) broadcast ipv4_equality (λ p q e. cc)) also
+    (λ x. refl, one_meaning (λ f. f) anycast ipv6_equality (λ p q e. cc)) also
     (λ x. refl, one_meaning (λ f. f) info info_equality (λ p q e. cc)) also
+    (λ x. refl, one_meaning (λ f. f) multicast ipv6_equality (λ p q e. cc)) also
     (λ x. refl, one_meaning (λ f. f) flags flags_equality (λ p q e. cc)) also
+    (λ x. refl, one_meaning (λ f. f) route_priority unsigned_Decides (λ p q e. cc)) also
+    (λ x. refl, one_meaning (λ f. f) target_net_ns_id signed_Decides (λ p q e. cc)) also
+    (λ x. refl, one_meaning (λ f. f) protocol protocol_equality (λ p q e. cc)) also
     (λ x. refl, one_meaning (λ f. f) other item_equality (λ p q e. cc)) also tt)
 
 pub message_equality : IsEqualityOf message_of MessageEq.ghosts.eq

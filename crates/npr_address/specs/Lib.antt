@@ -1,5 +1,6 @@
 pub mod AddressScope
 pub mod AddressScopeLaws
+pub mod AddressProtocol
 pub mod AddressFlags
 pub mod CacheInfo
 pub mod Header

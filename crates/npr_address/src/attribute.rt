@@ -5,11 +5,13 @@ ghost use Rattle.std.proofs.Common.{refl};
 ghost use Rattle.npr_address.specs.Attribute.{Meaning, meaning_of, attributes, short};
 
 use crate::addr_flags::AddressFlags;
+use crate::addr_protocol::AddressProtocol;
 use crate::cache_info::{CacheInfo, CacheInfoBuffer};
 use bitflags::Flags;
 use npr_base::{
-    At, AttrFamily, Attribute, DecodeError, DefaultNla, EmitError, IpAddr, Looks, Nla, NlaBuffer,
-    Parseable, check_len, ip_len, read_ip, read_name, read_u32, write_bytes, write_ip, write_name,
+    At, AttrFamily, Attribute, DecodeError, DefaultNla, EmitError, IpAddr, Ipv4Addr, Ipv6Addr,
+    Looks, Nla, NlaBuffer, Parseable, check_len, ip_len, read_i32, read_ip, read_ipv4, read_ipv6,
+    read_name, read_u8, read_u32, write_bytes, write_ip, write_name,
 };
 use std::alloc::{AllocError, Global};
 
@@ -22,10 +24,22 @@ pub enum AddressAttribute {
     Local(IpAddr),
     /// `IFA_LABEL`: the name of the address.
     Label(String),
+    /// `IFA_BROADCAST`: the address that reaches all on the link.
+    Broadcast(Ipv4Addr),
+    /// `IFA_ANYCAST`: an address that reaches any one of several.
+    Anycast(Ipv6Addr),
     /// `IFA_CACHEINFO`: how long it is preferred and valid.
     CacheInfo(CacheInfo),
+    /// `IFA_MULTICAST`: the address of a group.
+    Multicast(Ipv6Addr),
     /// `IFA_FLAGS`: all its flags.
     Flags(AddressFlags),
+    /// `IFA_RT_PRIORITY`: the metric of its route.
+    RoutePriority(u32),
+    /// `IFA_TARGET_NETNSID`: the network namespace that is meant.
+    TargetNetNsId(i32),
+    /// `IFA_PROTO`: what made it.
+    Protocol(AddressProtocol),
     /// An attribute of another number, as it stands.
     Other(DefaultNla),
 }
@@ -44,8 +58,14 @@ impl AddressAttribute {
             AddressAttribute::Label(name) => {
                 String::from_str(alloc, name.as_str()).map(AddressAttribute::Label)
             }
+            AddressAttribute::Broadcast(ip) => Ok(AddressAttribute::Broadcast(*ip)),
+            AddressAttribute::Anycast(ip) => Ok(AddressAttribute::Anycast(*ip)),
             AddressAttribute::CacheInfo(info) => Ok(AddressAttribute::CacheInfo(*info)),
+            AddressAttribute::Multicast(ip) => Ok(AddressAttribute::Multicast(*ip)),
             AddressAttribute::Flags(flags) => Ok(AddressAttribute::Flags(*flags)),
+            AddressAttribute::RoutePriority(n) => Ok(AddressAttribute::RoutePriority(*n)),
+            AddressAttribute::TargetNetNsId(n) => Ok(AddressAttribute::TargetNetNsId(*n)),
+            AddressAttribute::Protocol(protocol) => Ok(AddressAttribute::Protocol(*protocol)),
             AddressAttribute::Other(nla) => nla.clone(alloc).map(AddressAttribute::Other),
         }
     }
@@ -74,8 +94,14 @@ impl Nla for AddressAttribute {
             AddressAttribute::Address(_) => 1,
             AddressAttribute::Local(_) => 2,
             AddressAttribute::Label(_) => 3,
+            AddressAttribute::Broadcast(_) => 4,
+            AddressAttribute::Anycast(_) => 5,
             AddressAttribute::CacheInfo(_) => 6,
+            AddressAttribute::Multicast(_) => 7,
             AddressAttribute::Flags(_) => 8,
+            AddressAttribute::RoutePriority(_) => 9,
+            AddressAttribute::TargetNetNsId(_) => 10,
+            AddressAttribute::Protocol(_) => 11,
             AddressAttribute::Other(nla) => nla.kind(),
         }
     }
@@ -94,8 +120,13 @@ impl Nla for AddressAttribute {
         match self {
             AddressAttribute::Address(ip) | AddressAttribute::Local(ip) => ip_len(ip),
             AddressAttribute::Label(name) => name.len() + 1,
+            AddressAttribute::Broadcast(ip) => ip.octets().len(),
+            AddressAttribute::Anycast(ip) | AddressAttribute::Multicast(ip) => ip.octets().len(),
             AddressAttribute::CacheInfo(_) => 16,
-            AddressAttribute::Flags(_) => 4,
+            AddressAttribute::Flags(_)
+            | AddressAttribute::RoutePriority(_)
+            | AddressAttribute::TargetNetNsId(_) => 4,
+            AddressAttribute::Protocol(_) => 1,
             AddressAttribute::Other(nla) => nla.value().len(),
         }
     }
@@ -107,7 +138,14 @@ impl Nla for AddressAttribute {
             AddressAttribute::CacheInfo(info) => {
                 write_bytes(out, &CacheInfoBuffer::from(info).to_bytes())
             }
+            AddressAttribute::Broadcast(ip) => write_bytes(out, &ip.octets()),
+            AddressAttribute::Anycast(ip) | AddressAttribute::Multicast(ip) => {
+                write_bytes(out, &ip.octets())
+            }
             AddressAttribute::Flags(flags) => write_bytes(out, &flags.bits().to_le_bytes()),
+            AddressAttribute::RoutePriority(n) => write_bytes(out, &n.to_le_bytes()),
+            AddressAttribute::TargetNetNsId(n) => write_bytes(out, &n.to_le_bytes()),
+            AddressAttribute::Protocol(protocol) => write_bytes(out, &[u8::from(*protocol)]),
             AddressAttribute::Other(nla) => write_bytes(out, nla.value()),
         }
     }
@@ -159,9 +197,17 @@ impl Attribute for AddressAttribute {
             1 => read_ip(value, at(1)).map(AddressAttribute::Address),
             2 => read_ip(value, at(2)).map(AddressAttribute::Local),
             3 => read_name(alloc, value, at(3)).map(AddressAttribute::Label),
+            4 => read_ipv4(value, at(4)).map(AddressAttribute::Broadcast),
+            5 => read_ipv6(value, at(5)).map(AddressAttribute::Anycast),
             6 => CacheInfo::parse(value).map(AddressAttribute::CacheInfo),
+            7 => read_ipv6(value, at(7)).map(AddressAttribute::Multicast),
             8 => read_u32(value, at(8)).map(|bits| AddressAttribute::Flags(
                 AddressFlags::from_bits_retain(bits),
+            )),
+            9 => read_u32(value, at(9)).map(AddressAttribute::RoutePriority),
+            10 => read_i32(value, at(10)).map(AddressAttribute::TargetNetNsId),
+            11 => read_u8(value, at(11)).map(|number| AddressAttribute::Protocol(
+                AddressProtocol::from(number),
             )),
             _ => DefaultNla::parse(alloc, item).map(AddressAttribute::Other),
         }

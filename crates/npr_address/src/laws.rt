@@ -7,6 +7,7 @@ ghost use Rattle.npr_address.specs.Attribute.{meaning_of};
 ghost use Rattle.npr_address.specs.Message.{Address, message_of, IsAddressMessage, IsCoherentAddress, address_bytes, address_misfit};
 
 use crate::addr_flags::{AddressFlags, AddressHeaderFlags};
+use crate::addr_protocol::AddressProtocol;
 use crate::addr_scope::AddressScope;
 use crate::attribute::AddressAttribute;
 use crate::cache_info::{CacheInfo, CacheInfoBuffer};
@@ -32,6 +33,7 @@ pub fn law_canonical()
 pub fn law_equality()
     ensures address_flags { IsEquality ⟦<AddressFlags as PartialEq>⟧.eq }
     ensures header_flags { IsEquality ⟦<AddressHeaderFlags as PartialEq>⟧.eq }
+    ensures protocol { IsEquality ⟦<AddressProtocol as PartialEq>⟧.eq }
     ensures scope { IsEquality ⟦<AddressScope as PartialEq>⟧.eq }
     ensures cache_info { IsEquality ⟦<CacheInfo as PartialEq>⟧.eq }
     ensures cache_info_buffer { IsEquality ⟦<CacheInfoBuffer as PartialEq>⟧.eq }

@@ -2,6 +2,7 @@
 #![tactic(auto)]
 
 mod addr_flags;
+mod addr_protocol;
 mod addr_scope;
 mod attribute;
 mod cache_info;
@@ -10,6 +11,7 @@ pub mod laws;
 mod message;
 
 pub use addr_flags::{AddressFlags, AddressHeaderFlags};
+pub use addr_protocol::{AddressProtocol, law_protocol_number};
 pub use addr_scope::{AddressScope, law_scope_number};
 pub use attribute::AddressAttribute;
 pub use cache_info::{CacheInfo, CacheInfoBuffer};

@@ -198,6 +198,28 @@ pub fn read_u64_be(value: &[u8], at: At) -> Result<u64, DecodeError>
     Ok(u64::from_be_bytes(eight(value, at)?))
 }
 
+/// An address of version 4.
+///
+/// # Errors
+/// `ValueLength` at another length than 4.
+pub fn read_ipv4(value: &[u8], at: At) -> Result<Ipv4Addr, DecodeError>
+    ensures ok { IfOk result (λ address. (exactly (octets 4)).Reads value.now address) }
+    ensures refused { IfErr result (λ e. (exactly (octets 4)).Wrong at value.now e) }
+{
+    Ok(Ipv4Addr::from(read_4(value, at)?))
+}
+
+/// An address of version 6.
+///
+/// # Errors
+/// `ValueLength` at another length than 16.
+pub fn read_ipv6(value: &[u8], at: At) -> Result<Ipv6Addr, DecodeError>
+    ensures ok { IfOk result (λ address. (exactly (octets 16)).Reads value.now address) }
+    ensures refused { IfErr result (λ e. (exactly (octets 16)).Wrong at value.now e) }
+{
+    Ok(Ipv6Addr::from(read_16(value, at)?))
+}
+
 /// An address: of version 4 in 4 bytes, of version 6 in 16.
 ///
 /// # Errors
@@ -207,9 +229,9 @@ pub fn read_ip(value: &[u8], at: At) -> Result<IpAddr, DecodeError>
     ensures refused { IfErr result (λ e. ip.Wrong at value.now e) }
 {
     if value.len() == 4 {
-        Ok(IpAddr::V4(Ipv4Addr::from(read_4(value, at)?)))
+        Ok(IpAddr::V4(read_ipv4(value, at)?))
     } else {
-        Ok(IpAddr::V6(Ipv6Addr::from(read_16(value, at)?)))
+        Ok(IpAddr::V6(read_ipv6(value, at)?))
     }
 }
 
