@@ -1,0 +1,56 @@
+//! The answer of a parser to bytes, as a line of text.
+
+use npr_address::AddressMessage;
+use npr_base::{DecodeError, Emitable, Parseable};
+use std::alloc::{AllocError, Global};
+
+/// A kind of message.
+#[derive(Clone, Copy, Debug, PartialEq, Eq)]
+pub enum Word {
+    /// Address messages.
+    Address,
+}
+
+impl Word {
+    /// The kind of this name.
+    pub fn of(name: &str) -> Option<Word> {
+        match name {
+            "address" => Some(Word::Address),
+            _ => None,
+        }
+    }
+}
+
+/// What the parser of this kind answers to the bytes: `canonical` with the canonical bytes in
+/// hexadecimal, `refused` with the name of the refusal, or `unfit` with the name of the cause.
+pub fn answer(alloc: Global, word: Word, bytes: &[u8]) -> Result<String, AllocError> {
+    match word {
+        Word::Address => written(alloc, AddressMessage::parse(alloc, bytes)),
+    }
+}
+
+fn written<M: Emitable + Drop>(
+    alloc: Global,
+    read: Result<M, DecodeError>,
+) -> Result<String, AllocError> {
+    let message = match read {
+        Ok(message) => message,
+        Err(DecodeError::OutOfMemory) => return Err(AllocError),
+        Err(fault) => {
+            let name = fault.name();
+            return format!(in alloc; "refused {name}");
+        }
+    };
+    match message.check() {
+        Ok(length) => {
+            let mut bytes = vec![in alloc; 0u8; length]?;
+            message.emit(bytes.as_mut_slice());
+            let digits = hex::encode(alloc, bytes.as_slice())?;
+            format!(in alloc; "canonical {digits}")
+        }
+        Err(cause) => {
+            let name = cause.name();
+            format!(in alloc; "unfit {name}")
+        }
+    }
+}
