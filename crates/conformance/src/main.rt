@@ -10,7 +10,7 @@ mod comparison;
 use answer::Word;
 use comparison::Comparison;
 use std::process::ExitCode;
-use std::{env, io};
+use std::{env, fmt, io};
 
 const USAGE: &str = "usage: conformance address FILE..";
 
