@@ -32,7 +32,7 @@ fn main(rt: HostRuntime) -> ExitCode {
     summarize(&rt, &comparison)
 }
 
-fn fail(rt: &impl Eprint, line: fmt::Arguments<'_>) -> ExitCode {
+fn fail<D: fmt::Display + Drop>(rt: &impl Eprint, line: D) -> ExitCode {
     let _ = rt.eprintln(line);
     ExitCode::from(2)
 }
