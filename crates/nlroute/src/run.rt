@@ -60,11 +60,19 @@ fn answer(alloc: Global, which: Which, bytes: &[u8]) -> Result<String, RunError>
     ensures errors { IfErr result IsOfMessage }
 {
     match which {
-        Which::Address => {
-            let message = AddressMessage::parse(alloc, bytes)?;
-            written(alloc, which, bytes, &message, message.attributes.as_slice())
-        }
+        Which::Address => address_answer(alloc, bytes),
     }
+}
+
+fn address_answer(alloc: Global, bytes: &[u8]) -> Result<String, RunError>
+    ensures ok { IfOk result (λ text. IsReport Which.Address bytes.now (string_bytes text)) }
+    ensures refused { (e : DecodeError) → result ≡ Err (Refused e) → IsRefused Which.Address bytes.now e }
+    ensures unfit { (e : EmitError) → result ≡ Err (Unfit e) → IsUnfit Which.Address bytes.now e }
+    ensures errors { IfErr result IsOfMessage }
+{
+    let message = AddressMessage::parse(alloc, bytes)?;
+    let attributes = message.attributes.as_slice();
+    written(alloc, Which::Address, bytes, &message, attributes)
 }
 
 /// The report on a message that was read from these bytes.
@@ -83,5 +91,11 @@ fn written<M: Emitable, A: Attribute>(
 {
     let mut canonical = vec![in alloc; 0u8; message.check()?]?;
     message.emit(canonical.as_mut_slice());
-    whole(alloc, which.name(), bytes.len(), attributes, canonical.as_slice())
+    whole(
+        alloc,
+        which.name(),
+        bytes.len(),
+        attributes,
+        canonical.as_slice(),
+    )
 }

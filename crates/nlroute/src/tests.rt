@@ -5,13 +5,13 @@ use crate::error::RunError;
 use crate::hex_text::bytes_of;
 use crate::input::read_all;
 use crate::output::{finish, write_text};
-use crate::report::whole;
 use crate::run::run;
 use crate::which::Which;
 use npr_base::{DecodeError, EmitError};
 use std::alloc::{AllocError, Global};
 use std::io;
 use std::io::{ErrorKind, Read, Write};
+use std::process::Abort;
 use std::test::Fail;
 
 #[test]
@@ -186,22 +186,96 @@ fn writes_the_whole_text_or_a_beginning(rt: HostRuntime) -> Result<(), Fail> {
     Ok(())
 }
 
+/// The address of the loopback interface, and the report on it.
+const LOOPBACK: &[u8] =
+    b"02 08 80 fe 01 00 00 00\t08 00 01 00 7F 00 00 01\r\n08 00 02 00 7f 00 00 01\n07 00 03 00 6c 6f 00 00 0800080080000000 14000600FFFFFFFFffffffff9c0000009c000000\n";
+
+const REPORT: &[u8] =
+    b"address: 60 bytes, 5 attributes\nkind 1 length 4\nkind 2 length 4\nkind 3 length 3\nkind 8 length 4\nkind 6 length 16\ncanonical 60 bytes\n020880fe01000000080001007f000001080002007f000001070003006c6f0000080008008000000014000600ffffffffffffffff9c0000009c000000\n";
+
 #[test]
-fn prints_a_report(rt: HostRuntime) -> Result<(), Fail> {
-    let lines = [(0x8001u16, 4usize), (65_535, 0)];
-    let out = whole(rt.alloc(), "address", 20, &lines, &[0, 10, 255])?;
-    let want =
-        "address: 20 bytes, 2 attributes\nkind 32769 length 4\nkind 65535 length 0\ncanonical 3 bytes\n000aff\n";
-    assert_eq!(rt; out.as_str(), want);
+fn reports_over_memory(rt: HostRuntime) -> Result<(), Fail> {
+    let mut reader = Counted::new(LOOPBACK);
+    let mut writer = Counted::new(Vec::new(rt.alloc()));
+    run(rt.alloc(), Which::Address, &mut reader, &mut writer)?;
+    assert_eq!(rt; writer.into_inner().as_slice(), REPORT);
+
+    // An unknown number keeps both flags of its kind.
+    let mut reader = Counted::new(b"020880fe01000000 080063c0deadbeef".as_slice());
+    let mut writer = Counted::new(Vec::new(rt.alloc()));
+    run(rt.alloc(), Which::Address, &mut reader, &mut writer)?;
+    let report =
+        b"address: 16 bytes, 1 attributes\nkind 49251 length 4\ncanonical 16 bytes\n020880fe01000000080063c0deadbeef\n";
+    assert_eq!(rt; writer.into_inner().as_slice(), report.as_slice());
     Ok(())
 }
 
 #[test]
-fn runs_over_memory(rt: HostRuntime) -> Result<(), Fail> {
-    let mut reader = Counted::new(b"0A ff\n".as_slice());
-    let mut writer = Counted::new(Vec::new(rt.alloc()));
+fn reports_to_a_slow_writer(rt: HostRuntime) -> Result<(), Fail> {
+    let mut reader = Counted::new(LOOPBACK);
+    let mut writer = Sink::new(rt.alloc(), 1, usize::MAX);
     run(rt.alloc(), Which::Address, &mut reader, &mut writer)?;
-    let want = b"address: 2 bytes, 0 attributes\ncanonical 2 bytes\n0aff\n";
-    assert_eq!(rt; writer.into_inner().as_slice(), want.as_slice());
+    assert_eq!(rt; writer.into_inner().taken.as_slice(), REPORT);
+
+    // One that fails holds a beginning of the report.
+    for failing in [1usize, 2, 100] {
+        let mut reader = Counted::new(LOOPBACK);
+        let mut writer = Sink::new(rt.alloc(), 2, failing);
+        let ended = run(rt.alloc(), Which::Address, &mut reader, &mut writer);
+        assert_eq!(rt; ended, Err(RunError::Write));
+        let taken = writer.into_inner().taken;
+        assert!(rt; REPORT.starts_with(taken.as_slice()));
+        assert_eq!(rt; taken.len(), failing.saturating_sub(1).saturating_mul(2));
+    }
+    Ok(())
+}
+
+/// How a run over this text ends; nothing is written unless it ends well.
+fn ending(rt: &(impl Abort + AllocGlobal), text: &[u8]) -> Result<(), RunError> {
+    let mut reader = Counted::new(text);
+    let mut writer = Counted::new(Vec::new(rt.alloc()));
+    let ended = run(rt.alloc(), Which::Address, &mut reader, &mut writer);
+    assert!(rt; ended.is_ok() || writer.into_inner().is_empty());
+    ended
+}
+
+#[test]
+fn writes_nothing_after_a_fault(rt: HostRuntime) -> Result<(), Fail> {
+    let short = RunError::Refused(DecodeError::HeaderTooShort { got: 0, want: 8 });
+    assert_eq!(rt; ending(&rt, b""), Err(short));
+    assert_eq!(rt; ending(&rt, b"0 2"), Err(RunError::BadHex));
+    let rest = RunError::Refused(DecodeError::AttributeTooShort { got: 2 });
+    assert_eq!(rt; ending(&rt, b"020880fe01000000 0000"), Err(rest));
+
+    // A label that has no room for its zero.
+    let mut text = vec![in rt.alloc(); b'6'; 2 * 65_543]?;
+    let front = b"020880fe01000000ffff0300";
+    for (at, digit) in front.iter().enumerate() {
+        if at < text.len() {
+            text[at] = *digit;
+        }
+    }
+    let long = RunError::Unfit(EmitError::TooLong {
+        kind: 3,
+        len: 65_532,
+    });
+    assert_eq!(rt; ending(&rt, text.as_slice()), Err(long));
+    Ok(())
+}
+
+#[test]
+fn tells_a_failed_read(rt: HostRuntime) -> Result<(), Fail> {
+    for failing in [1usize, 2] {
+        let mut reader = Counted::new(Source {
+            byte: b'0',
+            left: 16,
+            failing,
+            kind: ErrorKind::Other,
+        });
+        let mut writer = Counted::new(Vec::new(rt.alloc()));
+        let ended = run(rt.alloc(), Which::Address, &mut reader, &mut writer);
+        assert_eq!(rt; ended, Err(RunError::Read));
+        assert_eq!(rt; writer.into_inner().len(), 0);
+    }
     Ok(())
 }
