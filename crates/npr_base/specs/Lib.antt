@@ -25,3 +25,5 @@ pub mod CloneLaws
 pub mod Ip
 pub mod IpCodec
 pub mod ItemEquality
+pub mod Blocks
+pub mod BlocksLaws
