@@ -157,6 +157,18 @@ formed L form number same = record {
   Holds-decode = λ bytes is e. (subst L.Holds (sym (same (L.decode bytes))) (L.Holds-decode bytes is e), form_IsFormed form number same (L.decode bytes));
 }
 
+-- the same where the form drops what is reserved
+abbrev pub reduced : {N V : Type 0} (L : Layout N) (form : N → V) (number : V → N) → ((d : N) → form (number (form d)) ≡ form d) → ((d : N) → L.Holds d → L.Holds (number (form d))) → Layout V
+reduced L form number same holds = record {
+  size = L.size;
+  decode = λ bytes. form (L.decode bytes);
+  encode = λ x. L.encode (number x);
+  Holds = λ x. L.Holds (number x) × IsFormed form number x;
+  length-encode = λ x h. L.length-encode (number x) h.0;
+  decode-encode = λ x h. ap form (L.decode-encode (number x) h.0) ∙ sym h.1;
+  Holds-decode = λ bytes is e. (holds (L.decode bytes) (L.Holds-decode bytes is e), sym (same (L.decode bytes)));
+}
+
 -- the numbers that stand at a place of a fixed layout
 abbrev pub le16_at : List ℕ → ℕ → ℕ
 le16_at b i = from_le_bytes w16 (slice_index b i ∷ slice_index b (i + 1) ∷ [])

@@ -26,3 +26,5 @@ pub mod Ip
 pub mod IpCodec
 pub mod ItemEquality
 pub mod StructLaws
+pub mod Blocks
+pub mod BlocksLaws

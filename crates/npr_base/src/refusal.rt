@@ -55,6 +55,14 @@ pub struct At {
     pub kind: u16,
 }
 
+impl At {
+    /// The place of a value that is read by itself: no family, and the number 0.
+    pub const NO_PLACE: At = At {
+        family: AttrFamily::Value,
+        kind: 0,
+    };
+}
+
 /// What is wrong with a SEG6 routing header (RFC 8754, section 2).
 #[derive(Clone, Copy, Debug, PartialEq, Eq)]
 pub enum Seg6Fault {

@@ -1,0 +1,90 @@
+-- Values in blocks, one after the other, and then fewer bytes than a block, which are dropped.
+--     IsBlock          a value stands in front
+--     AreBlocks        the bytes are blocks of these values, and what is left has no room for one more
+--     block_bytes      what is written: the blocks, joined
+--     blocks           how such values are read and written, with the laws of both; it refuses no bytes
+use Rattle.std.specs.Prelude.{◌≡◌, ℕ, ◌+◌, ◌*◌, ◌<◌, ◌≤◌, List, [], ◌∷◌, ◌++◌, length, take, drop}
+use Rattle.std.proofs.Common.{refl, sym, ap, subst, ◌∙◌, arith, length-append, length-take, length-drop}
+use Rattle.std.proofs.lemmas.List.{take_at, drop_at, take-append-drop}
+use Rattle.npr_base.specs.Framing.{IsBytes, framed}
+use Rattle.npr_base.specs.Family.{AllOf, too_long}
+use Rattle.npr_base.specs.FitLaws.{too_long-short}
+use Rattle.npr_base.specs.ListLaws.{IsBytes-take, IsBytes-right}
+use Rattle.npr_base.specs.CodecLaws.{framed-grows}
+use Rattle.npr_base.specs.Layout.{Layout}
+use Rattle.npr_base.specs.Codec.{Codec}
+
+-- a value stands in front, in as many bytes as the layout has
+pub record IsBlock {V : Type 0} (L : Layout V) (bytes : List ℕ) (x : V) : Type 0 where
+  pub long : L.size ≤ length bytes
+  pub is : x ≡ L.decode (take L.size bytes)
+
+-- the bytes are blocks of these values, and what is left has no room for one more
+abbrev pub AreBlocks : {V : Type 0} → Layout V → List ℕ → List V → Type 0
+AreBlocks L bytes [] = length bytes < L.size
+AreBlocks L bytes (x ∷ xs) = IsBlock L bytes x × AreBlocks L (drop L.size bytes) xs
+
+-- the blocks of the values, joined
+abbrev pub block_bytes : {V : Type 0} → Layout V → List V → List ℕ
+block_bytes L [] = []
+block_bytes L (x ∷ xs) = L.encode x ++ block_bytes L xs
+
+module _ {V : Type 0} (L : Layout V) where
+  pub blocks-one : (bytes : List ℕ) (xs ys : List V) → AreBlocks L bytes xs → AreBlocks L bytes ys → xs ≡ ys
+  blocks-one bytes [] [] p q = refl
+  blocks-one bytes [] (y ∷ ys) p q = absurd (omega (arith, p, q.0.long))
+  blocks-one bytes (x ∷ xs) [] p q = absurd (omega (arith, p.0.long, q))
+  blocks-one bytes (x ∷ xs) (y ∷ ys) p q =
+      ap (λ (z : V). z ∷ xs) (p.0.is ∙ sym q.0.is) ∙ ap (λ (zs : List V). y ∷ zs) (blocks-one (drop L.size bytes) xs ys p.1 q.1)
+
+  IsBytes-drop : (n : ℕ) (bytes : List ℕ) → IsBytes bytes → IsBytes (drop n bytes)
+  IsBytes-drop n bytes is = IsBytes-right (take n bytes) (drop n bytes) (subst IsBytes (sym (take-append-drop n bytes)) is)
+
+  pub block-holds : (bytes : List ℕ) (x : V) → IsBytes bytes → IsBlock L bytes x → L.Holds x
+  block-holds bytes x is p = subst L.Holds (sym p.is) (L.Holds-decode (take L.size bytes) (IsBytes-take L.size bytes is) (omega (arith, p.long, length-take L.size bytes)))
+
+  pub blocks-hold : (bytes : List ℕ) (xs : List V) → IsBytes bytes → AreBlocks L bytes xs → AllOf L.Holds xs
+  blocks-hold bytes [] is p = tt
+  blocks-hold bytes (x ∷ xs) is p = (block-holds bytes x is p.0, blocks-hold (drop L.size bytes) xs (IsBytes-drop L.size bytes is) p.1)
+
+  -- a block in front of what follows it
+  block-front : (x : V) (more : List ℕ) → L.Holds x → IsBlock L (L.encode x ++ more) x
+  block-front x more h =
+      let len = L.length-encode x h in
+      record {
+        long = omega (arith, len, length-append (L.encode x) more);
+        is = sym (ap L.decode (take_at (L.encode x) more L.size len) ∙ L.decode-encode x h);
+      }
+
+  pub blocks-back : 0 < L.size → (xs : List V) → AllOf L.Holds xs → AreBlocks L (block_bytes L xs) xs
+  blocks-back positive [] all = positive
+  blocks-back positive (x ∷ xs) all =
+      let rest : drop L.size (L.encode x ++ block_bytes L xs) ≡ block_bytes L xs = drop_at (L.encode x) (block_bytes L xs) L.size (L.length-encode x all.0) in
+      (block-front x (block_bytes L xs) all.0, subst (λ (bytes : List ℕ). AreBlocks L bytes xs) (sym rest) (blocks-back positive xs all.1))
+
+  pub blocks-short : (bytes : List ℕ) (xs : List V) → IsBytes bytes → AreBlocks L bytes xs → length (block_bytes L xs) ≤ length bytes
+  blocks-short bytes [] is p = omega arith
+  blocks-short bytes (x ∷ xs) is p =
+      let rest = blocks-short (drop L.size bytes) xs (IsBytes-drop L.size bytes is) p.1 in
+      let len = L.length-encode x (block-holds bytes x is p.0) in
+      omega (arith, rest, len, p.0.long, length-append (L.encode x) (block_bytes L xs), length-drop L.size bytes)
+
+  pub blocks-grow : (bytes : List ℕ) (xs : List V) → IsBytes bytes → AreBlocks L bytes xs → 2 * framed (length (block_bytes L xs)) ≤ 5 * (4 + length bytes)
+  blocks-grow bytes xs is p = framed-grows (length (block_bytes L xs)) (length bytes) (omega (arith, blocks-short bytes xs is p))
+
+-- a block has a byte at least
+abbrev pub blocks : {V : Type 0} (L : Layout V) → 0 < L.size → Codec (List V)
+blocks L positive = record {
+  Reads = AreBlocks L;
+  Wrong = λ at bytes e. ⊥;
+  writes = block_bytes L;
+  misfit = λ kind xs. too_long kind (length (block_bytes L xs));
+  Holds = AllOf L.Holds;
+  members = λ xs. 0;
+  one_reading = blocks-one L;
+  no_fault = λ at bytes xs e p q. q;
+  reads_holds = blocks-hold L;
+  fits_short = λ kind xs h. too_long-short kind (length (block_bytes L xs)) h;
+  reads_back = λ kind xs all fits. blocks-back L positive xs all;
+  grows = blocks-grow L;
+}

@@ -1,0 +1,55 @@
+-- Protocols over IP, by their table: `IPPROTO_*` of `linux/in.h`.
+use Rattle.std.specs.Prelude.{ℕ, ◌^◌, ℤ, pos, negsuc, List, [], ◌∷◌, Option, Some, None, nat_lt, if◌then◌else◌}
+use Rattle.npr_base.specs.Rows.{signed_form_in}
+use Rattle.npr_scalar.specs.declared.ip_protocol.IpProtocol.{IpProtocol}
+use Rattle.npr_scalar.specs.declared.ip_protocol.IpProtocol.TheVariants.{Hopopts, Icmp, Igmp, Ipip, Tcp, Egp, Pup, Udp, Idp, Tp, Dccp, Ipv6, Rsvp, Gre, Esp, Ah, Mtp, Beetph, Encap, Pim, Comp, L2tp, Sctp, Udplite, Mpls, Ethernet, Raw, Mptcp, Other}
+
+abbrev pub ip_protocol_rows : List (ℤ × IpProtocol)
+ip_protocol_rows =
+    (pos 0, Hopopts) ∷ (pos 1, Icmp) ∷ (pos 2, Igmp) ∷ (pos 4, Ipip) ∷ (pos 6, Tcp) ∷ (pos 8, Egp) ∷ (pos 12, Pup) ∷ (pos 17, Udp) ∷ (pos 22, Idp) ∷ (pos 29, Tp) ∷ (pos 33, Dccp) ∷ (pos 41, Ipv6) ∷ (pos 46, Rsvp) ∷ (pos 47, Gre) ∷ (pos 50, Esp) ∷ (pos 51, Ah) ∷ (pos 92, Mtp) ∷ (pos 94, Beetph) ∷ (pos 98, Encap) ∷ (pos 103, Pim) ∷ (pos 108, Comp) ∷ (pos 115, L2tp) ∷ (pos 132, Sctp) ∷ (pos 136, Udplite) ∷ (pos 137, Mpls) ∷ (pos 143, Ethernet) ∷ (pos 255, Raw) ∷ (pos 262, Mptcp) ∷ []
+
+-- the protocol that a number reads as
+abbrev pub ip_protocol_of : ℤ → IpProtocol
+ip_protocol_of d = signed_form_in Other ip_protocol_rows d
+
+-- the number that a protocol is written as
+abbrev pub ip_protocol_number : IpProtocol → ℤ
+ip_protocol_number Hopopts = pos 0
+ip_protocol_number Icmp = pos 1
+ip_protocol_number Igmp = pos 2
+ip_protocol_number Ipip = pos 4
+ip_protocol_number Tcp = pos 6
+ip_protocol_number Egp = pos 8
+ip_protocol_number Pup = pos 12
+ip_protocol_number Udp = pos 17
+ip_protocol_number Idp = pos 22
+ip_protocol_number Tp = pos 29
+ip_protocol_number Dccp = pos 33
+ip_protocol_number Ipv6 = pos 41
+ip_protocol_number Rsvp = pos 46
+ip_protocol_number Gre = pos 47
+ip_protocol_number Esp = pos 50
+ip_protocol_number Ah = pos 51
+ip_protocol_number Mtp = pos 92
+ip_protocol_number Beetph = pos 94
+ip_protocol_number Encap = pos 98
+ip_protocol_number Pim = pos 103
+ip_protocol_number Comp = pos 108
+ip_protocol_number L2tp = pos 115
+ip_protocol_number Sctp = pos 132
+ip_protocol_number Udplite = pos 136
+ip_protocol_number Mpls = pos 137
+ip_protocol_number Ethernet = pos 143
+ip_protocol_number Raw = pos 255
+ip_protocol_number Mptcp = pos 262
+ip_protocol_number (Other d) = d
+
+-- the byte that says a number: none below 0 and above 255
+abbrev pub byte_of : ℤ → Option ℕ
+byte_of (pos n) = if nat_lt n (2 ^ 8) then Some n else None
+byte_of (negsuc n) = None
+
+-- how far a number is above 0
+abbrev pub above_zero : ℤ → ℕ
+above_zero (pos n) = n
+above_zero (negsuc n) = 0

@@ -1,0 +1,15 @@
+pub mod IpProtocol
+pub mod IpProtocolLaws
+pub mod Mpls
+pub mod MplsLaws
+pub mod Realm
+pub mod RouteProtocol
+pub mod RouteProtocolLaws
+pub mod RouteScope
+pub mod RouteScopeLaws
+pub mod RouteType
+pub mod RouteTypeLaws
+pub mod RoutePreference
+pub mod RoutePreferenceLaws
+pub mod TtlPropagation
+pub mod TtlPropagationLaws

@@ -1,0 +1,20 @@
+-- Preferences of routers, by their table: `ICMPV6_ROUTER_PREF_*` of `linux/icmpv6.h`.
+use Rattle.std.specs.Prelude.{ℕ, List, [], ◌∷◌}
+use Rattle.npr_base.specs.Rows.{form_in}
+use Rattle.npr_scalar.specs.declared.preference.RoutePreference.{RoutePreference}
+use Rattle.npr_scalar.specs.declared.preference.RoutePreference.TheVariants.{Medium, High, Invalid, Low, Other}
+
+abbrev pub route_preference_rows : List (ℕ × RoutePreference)
+route_preference_rows = (0, Medium) ∷ (1, High) ∷ (2, Invalid) ∷ (3, Low) ∷ []
+
+-- the preference that a number reads as
+abbrev pub route_preference_of : ℕ → RoutePreference
+route_preference_of d = form_in Other route_preference_rows d
+
+-- the number that a preference is written as
+abbrev pub route_preference_number : RoutePreference → ℕ
+route_preference_number Medium = 0
+route_preference_number High = 1
+route_preference_number Invalid = 2
+route_preference_number Low = 3
+route_preference_number (Other d) = d

@@ -1,0 +1,39 @@
+-- Who made a route, by the table: `RTPROT_*` of `linux/rtnetlink.h`.
+use Rattle.std.specs.Prelude.{ℕ, List, [], ◌∷◌}
+use Rattle.npr_base.specs.Rows.{form_in}
+use Rattle.npr_scalar.specs.declared.header.RouteProtocol.{RouteProtocol}
+use Rattle.npr_scalar.specs.declared.header.RouteProtocol.TheVariants.{Unspec, IcmpRedirect, Kernel, Boot, Static, Gated, Ra, Mrt, Zebra, Bird, DnRouted, Xorp, Ntk, Dhcp, Mrouted, KeepAlived, Babel, Bgp, Isis, Ospf, Rip, Eigrp, Other}
+
+abbrev pub route_protocol_rows : List (ℕ × RouteProtocol)
+route_protocol_rows =
+    (0, Unspec) ∷ (1, IcmpRedirect) ∷ (2, Kernel) ∷ (3, Boot) ∷ (4, Static) ∷ (8, Gated) ∷ (9, Ra) ∷ (10, Mrt) ∷ (11, Zebra) ∷ (12, Bird) ∷ (13, DnRouted) ∷ (14, Xorp) ∷ (15, Ntk) ∷ (16, Dhcp) ∷ (17, Mrouted) ∷ (18, KeepAlived) ∷ (42, Babel) ∷ (186, Bgp) ∷ (187, Isis) ∷ (188, Ospf) ∷ (189, Rip) ∷ (192, Eigrp) ∷ []
+
+-- the protocol that a number reads as
+abbrev pub route_protocol_of : ℕ → RouteProtocol
+route_protocol_of d = form_in Other route_protocol_rows d
+
+-- the number that a protocol is written as
+abbrev pub route_protocol_number : RouteProtocol → ℕ
+route_protocol_number Unspec = 0
+route_protocol_number IcmpRedirect = 1
+route_protocol_number Kernel = 2
+route_protocol_number Boot = 3
+route_protocol_number Static = 4
+route_protocol_number Gated = 8
+route_protocol_number Ra = 9
+route_protocol_number Mrt = 10
+route_protocol_number Zebra = 11
+route_protocol_number Bird = 12
+route_protocol_number DnRouted = 13
+route_protocol_number Xorp = 14
+route_protocol_number Ntk = 15
+route_protocol_number Dhcp = 16
+route_protocol_number Mrouted = 17
+route_protocol_number KeepAlived = 18
+route_protocol_number Babel = 42
+route_protocol_number Bgp = 186
+route_protocol_number Isis = 187
+route_protocol_number Ospf = 188
+route_protocol_number Rip = 189
+route_protocol_number Eigrp = 192
+route_protocol_number (Other d) = d

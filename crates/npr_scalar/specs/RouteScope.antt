@@ -1,0 +1,21 @@
+-- Scopes of routes, by their table: `RT_SCOPE_*` of `linux/rtnetlink.h`.
+use Rattle.std.specs.Prelude.{ℕ, List, [], ◌∷◌}
+use Rattle.npr_base.specs.Rows.{form_in}
+use Rattle.npr_scalar.specs.declared.header.RouteScope.{RouteScope}
+use Rattle.npr_scalar.specs.declared.header.RouteScope.TheVariants.{Universe, Site, Link, Host, NoWhere, Other}
+
+abbrev pub route_scope_rows : List (ℕ × RouteScope)
+route_scope_rows = (0, Universe) ∷ (200, Site) ∷ (253, Link) ∷ (254, Host) ∷ (255, NoWhere) ∷ []
+
+-- the scope that a number reads as
+abbrev pub route_scope_of : ℕ → RouteScope
+route_scope_of d = form_in Other route_scope_rows d
+
+-- the number that a scope is written as
+abbrev pub route_scope_number : RouteScope → ℕ
+route_scope_number Universe = 0
+route_scope_number Site = 200
+route_scope_number Link = 253
+route_scope_number Host = 254
+route_scope_number NoWhere = 255
+route_scope_number (Other d) = d

@@ -1,0 +1,29 @@
+-- Types of routes, by their table: `RTN_*` of `linux/rtnetlink.h`.
+use Rattle.std.specs.Prelude.{ℕ, List, [], ◌∷◌}
+use Rattle.npr_base.specs.Rows.{form_in}
+use Rattle.npr_scalar.specs.declared.header.RouteType.{RouteType}
+use Rattle.npr_scalar.specs.declared.header.RouteType.TheVariants.{Unspec, Unicast, Local, Broadcast, Anycast, Multicast, BlackHole, Unreachable, Prohibit, Throw, Nat, ExternalResolve, Other}
+
+abbrev pub route_type_rows : List (ℕ × RouteType)
+route_type_rows =
+    (0, Unspec) ∷ (1, Unicast) ∷ (2, Local) ∷ (3, Broadcast) ∷ (4, Anycast) ∷ (5, Multicast) ∷ (6, BlackHole) ∷ (7, Unreachable) ∷ (8, Prohibit) ∷ (9, Throw) ∷ (10, Nat) ∷ (11, ExternalResolve) ∷ []
+
+-- the type that a number reads as
+abbrev pub route_type_of : ℕ → RouteType
+route_type_of d = form_in Other route_type_rows d
+
+-- the number that a type is written as
+abbrev pub route_type_number : RouteType → ℕ
+route_type_number Unspec = 0
+route_type_number Unicast = 1
+route_type_number Local = 2
+route_type_number Broadcast = 3
+route_type_number Anycast = 4
+route_type_number Multicast = 5
+route_type_number BlackHole = 6
+route_type_number Unreachable = 7
+route_type_number Prohibit = 8
+route_type_number Throw = 9
+route_type_number Nat = 10
+route_type_number ExternalResolve = 11
+route_type_number (Other d) = d

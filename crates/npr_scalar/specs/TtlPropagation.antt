@@ -1,0 +1,18 @@
+-- Whether a TTL goes on, by the table: the values of `RTA_TTL_PROPAGATE` of `linux/rtnetlink.h`.
+use Rattle.std.specs.Prelude.{ℕ, List, [], ◌∷◌}
+use Rattle.npr_base.specs.Rows.{form_in}
+use Rattle.npr_scalar.specs.declared.preference.RouteMplsTtlPropagation.{RouteMplsTtlPropagation}
+use Rattle.npr_scalar.specs.declared.preference.RouteMplsTtlPropagation.TheVariants.{Disabled, Enabled, Other}
+
+abbrev pub ttl_propagation_rows : List (ℕ × RouteMplsTtlPropagation)
+ttl_propagation_rows = (0, Disabled) ∷ (1, Enabled) ∷ []
+
+-- the choice that a number reads as
+abbrev pub ttl_propagation_of : ℕ → RouteMplsTtlPropagation
+ttl_propagation_of d = form_in Other ttl_propagation_rows d
+
+-- the number that a choice is written as
+abbrev pub ttl_propagation_number : RouteMplsTtlPropagation → ℕ
+ttl_propagation_number Disabled = 0
+ttl_propagation_number Enabled = 1
+ttl_propagation_number (Other d) = d

@@ -1,0 +1,141 @@
+//! Entries of a label stack of MPLS (RFC 3032, section 2.1).
+
+ghost use Rattle.std.specs.Prelude.{◌≡◌, ◌*◌, ◌≤◌, ◌<◌, ◌^◌, ◌↔◌, ℕ, List, None, length, IfOk, IfErr, IsErr};
+ghost use Rattle.npr_base.specs.Codec.{exactly};
+ghost use Rattle.npr_base.specs.Family.{checked};
+ghost use Rattle.npr_base.specs.Framing.{Writes};
+ghost use Rattle.npr_base.specs.Refusal.{no_place};
+ghost use Rattle.npr_base.specs.declared.refusal.DecodeError.TheVariants.{OutOfMemory};
+ghost use Rattle.npr_scalar.specs.declared.mpls.MplsLabel.{MplsLabel};
+ghost use Rattle.npr_scalar.specs.Mpls.{label_of, label_number, IsInRange};
+ghost use Rattle.npr_scalar.specs.MplsLaws.{mpls_label, mpls_labels};
+
+use npr_base::{At, DecodeError, EmitError, Emitable, read_u32_be, write_bytes};
+use std::alloc::Global;
+
+/// One entry of a label stack.
+///
+/// Layout (RFC 3032, section 2.1), 4 bytes, from the highest bit: the label in 20 bits, the
+/// traffic class in 3 (so named by RFC 5462), the bottom of the stack in 1, and the TTL in 8.
+#[derive(Clone, Copy, Debug, PartialEq, Eq)]
+pub struct MplsLabel {
+    /// The label, of which the low 20 bits are written.
+    pub label: u32,
+    /// The traffic class, of which the low 3 bits are written.
+    pub traffic_class: u8,
+    /// Whether it is the last entry of its stack.
+    pub bottom_of_stack: bool,
+    /// How many hops are left.
+    pub ttl: u8,
+}
+
+impl From<u32> for MplsLabel {
+    ghost from_gives = { λ number entry. entry ≡ label_of number };
+
+    fn from(number: u32) -> MplsLabel {
+        MplsLabel {
+            label: number / 0x1000,
+            traffic_class: (number / 0x200 % 8) as u8,
+            bottom_of_stack: number / 0x100 % 2 == 1,
+            ttl: (number % 0x100) as u8,
+        }
+    }
+}
+
+impl From<MplsLabel> for u32 {
+    ghost from_gives = { λ entry number. number ≡ label_number entry };
+
+    fn from(entry: MplsLabel) -> u32 {
+        let bottom = u32::from(entry.bottom_of_stack);
+        entry.label % 0x10_0000 * 0x1000
+            + u32::from(entry.traffic_class % 8) * 0x200
+            + bottom * 0x100
+            + u32::from(entry.ttl)
+    }
+}
+
+impl MplsLabel {
+    /// The entry of four bytes, big endian.
+    ///
+    /// # Errors
+    /// `ValueLength` at another length.
+    pub fn parse(bytes: &[u8]) -> Result<Self, DecodeError>
+        ensures ok { IfOk result (λ entry. (exactly mpls_label).Reads bytes.now entry) }
+        ensures refused { IfErr result (λ e. (exactly mpls_label).Wrong no_place bytes.now e) }
+    {
+        Ok(MplsLabel::from(read_u32_be(bytes, At::NO_PLACE)?))
+    }
+}
+
+impl Emitable for MplsLabel {
+    ghost bytes = { mpls_label.encode };
+
+    ghost unfit = { λ _. None };
+
+    fn check(&self) -> Result<usize, EmitError> {
+        Ok(4)
+    }
+
+    fn buffer_len(&self) -> usize {
+        4
+    }
+
+    fn emit(&self, out: &mut [u8]) {
+        write_bytes(out, &u32::from(*self).to_be_bytes());
+    }
+}
+
+/// The entries of a stack, in order: each whole block of four bytes is one, and the one to three
+/// bytes behind the last are dropped.
+///
+/// # Errors
+/// `OutOfMemory` where memory is refused, which is taken for a first whole block alone.
+pub fn read_labels(alloc: Global, bytes: &[u8]) -> Result<Vec<MplsLabel>, DecodeError>
+    ensures ok { IfOk result (λ labels. mpls_labels.Reads bytes.now labels.items) }
+    ensures refused { IfErr result (λ e. e ≡ OutOfMemory) }
+    ensures memory { IsErr result → 4 ≤ length bytes.now }
+{
+    let mut labels = Vec::new(alloc);
+    let mut rest = bytes;
+    while 4 <= rest.len() {
+        let number = u32::from_be_bytes([rest[0], rest[1], rest[2], rest[3]]);
+        labels.push(MplsLabel::from(number))?;
+        rest = &rest[4..];
+    }
+    Ok(labels)
+}
+
+/// Writes the entries one after the other at the front of the slice, leaves the rest, and answers
+/// their length: four bytes an entry.
+pub fn write_labels(out: &mut [u8], labels: &[MplsLabel]) -> usize
+    requires { length (mpls_labels.writes labels.now) ≤ length out.old }
+    ensures len { result ≡ length (mpls_labels.writes labels.now) }
+    ensures after { Writes out.old out.new (mpls_labels.writes labels.now) }
+{
+    let mut at = 0usize;
+    for entry in labels {
+        at += write_bytes(&mut out[at..], &u32::from(*entry).to_be_bytes());
+    }
+    at
+}
+
+/// Writes the entries one after the other into a slice of exactly their length, which is four
+/// bytes an entry.
+pub fn emit_labels(labels: &[MplsLabel], out: &mut [u8])
+    requires { length out.old ≡ length (mpls_labels.writes labels.now) }
+    ensures { out.new ≡ mpls_labels.writes labels.now }
+{
+    write_labels(out, labels);
+}
+
+/// A number is an entry and is written as that number again; an entry is read again exactly where
+/// its label and its class have room.
+pub fn law_label_number()
+    ensures number { (d : ℕ) → d < 2 ^ 32 → label_number (label_of d) ≡ d }
+    ensures entry { (x : MplsLabel) → x.ttl < 2 ^ 8 → (label_of (label_number x) ≡ x) ↔ IsInRange x }
+{}
+
+/// What is written of a stack is four bytes an entry.
+pub fn law_labels_length()
+    ensures { (xs : List MplsLabel) → length (mpls_labels.writes xs) ≡ length xs * 4 }
+{}

@@ -1,0 +1,80 @@
+//! The realms of a route: the value of `RTA_FLOW` of `linux/rtnetlink.h`.
+
+ghost use Rattle.std.specs.Prelude.{◌≡◌, ◌≤◌, ◌<◌, ◌^◌, ℕ, None, length, IfOk, IfErr};
+ghost use Rattle.npr_base.specs.Codec.{exactly};
+ghost use Rattle.npr_base.specs.Family.{checked};
+ghost use Rattle.npr_base.specs.Framing.{Writes};
+ghost use Rattle.npr_base.specs.Refusal.{no_place};
+ghost use Rattle.npr_scalar.specs.declared.realm.RouteRealm.{RouteRealm};
+ghost use Rattle.npr_scalar.specs.Realm.{realm_of, realm_number, route_realm};
+
+use npr_base::{At, DecodeError, EmitError, Emitable, read_u32, write_bytes};
+
+/// The realms of a route.
+///
+/// Layout (`RTA_FLOW` of `linux/rtnetlink.h`), 4 bytes, a number in little endian: its low half is
+/// the destination, and its high half the source.
+#[derive(Clone, Copy, Debug, PartialEq, Eq)]
+pub struct RouteRealm {
+    /// The realm that a packet comes from.
+    pub source: u16,
+    /// The realm that it goes to.
+    pub destination: u16,
+}
+
+impl From<u32> for RouteRealm {
+    ghost from_gives = { λ number realm. realm ≡ realm_of number };
+
+    fn from(number: u32) -> RouteRealm {
+        RouteRealm {
+            source: (number / 0x1_0000) as u16,
+            destination: (number % 0x1_0000) as u16,
+        }
+    }
+}
+
+impl From<RouteRealm> for u32 {
+    ghost from_gives = { λ realm number. number ≡ realm_number realm };
+
+    fn from(realm: RouteRealm) -> u32 {
+        u32::from(realm.source) * 0x1_0000 + u32::from(realm.destination)
+    }
+}
+
+impl RouteRealm {
+    /// The realms of four bytes, little endian.
+    ///
+    /// # Errors
+    /// `ValueLength` at another length.
+    pub fn parse(bytes: &[u8]) -> Result<Self, DecodeError>
+        ensures ok { IfOk result (λ realm. (exactly route_realm).Reads bytes.now realm) }
+        ensures refused { IfErr result (λ e. (exactly route_realm).Wrong no_place bytes.now e) }
+    {
+        Ok(RouteRealm::from(read_u32(bytes, At::NO_PLACE)?))
+    }
+}
+
+impl Emitable for RouteRealm {
+    ghost bytes = { route_realm.encode };
+
+    ghost unfit = { λ _. None };
+
+    fn check(&self) -> Result<usize, EmitError> {
+        Ok(4)
+    }
+
+    fn buffer_len(&self) -> usize {
+        4
+    }
+
+    fn emit(&self, out: &mut [u8]) {
+        write_bytes(out, &u32::from(*self).to_le_bytes());
+    }
+}
+
+/// A number is two realms and is written as that number again, and two realms of a program are
+/// read again.
+pub fn law_realm_number()
+    ensures number { (d : ℕ) → realm_number (realm_of d) ≡ d }
+    ensures realm { (x : RouteRealm) → x.destination < 2 ^ 16 → realm_of (realm_number x) ≡ x }
+{}
