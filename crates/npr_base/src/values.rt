@@ -89,7 +89,7 @@ pub fn read_4(value: &[u8], at: At) -> Result<[u8; 4], DecodeError>
 ///
 /// # Errors
 /// `ValueLength` at another length.
-fn eight(value: &[u8], at: At) -> Result<[u8; 8], DecodeError>
+pub fn read_8(value: &[u8], at: At) -> Result<[u8; 8], DecodeError>
     ensures ok { IfOk result (λ x. (exactly (octets 8)).Reads value.now x) }
     ensures refused { IfErr result (λ e. (exactly (octets 8)).Wrong at value.now e) }
 {
@@ -184,7 +184,7 @@ pub fn read_u64(value: &[u8], at: At) -> Result<u64, DecodeError>
     ensures ok { IfOk result (λ n. (exactly le64).Reads value.now n) }
     ensures refused { IfErr result (λ e. (exactly le64).Wrong at value.now e) }
 {
-    Ok(u64::from_le_bytes(eight(value, at)?))
+    Ok(u64::from_le_bytes(read_8(value, at)?))
 }
 
 /// A number of eight bytes, big endian.
@@ -195,7 +195,7 @@ pub fn read_u64_be(value: &[u8], at: At) -> Result<u64, DecodeError>
     ensures ok { IfOk result (λ n. (exactly be64).Reads value.now n) }
     ensures refused { IfErr result (λ e. (exactly be64).Wrong at value.now e) }
 {
-    Ok(u64::from_be_bytes(eight(value, at)?))
+    Ok(u64::from_be_bytes(read_8(value, at)?))
 }
 
 /// An address of version 4.

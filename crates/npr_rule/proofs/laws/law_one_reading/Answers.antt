@@ -1,0 +1,7 @@
+use Rattle.npr_base.proofs.Messages.{message-one}
+use Rattle.npr_rule.specs.Header.{header}
+use Rattle.npr_rule.specs.Message.{body}
+use Rattle.npr_rule.proofs.laws.law_one_reading.Goals as goal
+
+pub returns : goal.returns
+returns c = message-one header body

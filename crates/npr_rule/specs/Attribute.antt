@@ -1,0 +1,156 @@
+-- The attributes of a rule message (linux/fib_rules.h, FRA_*), by their table.
+use Rattle.std.specs.Prelude.{◌≡◌, ℕ, Bool, ◌<◌, ◌≤◌, ◌^◌, List, [], ◌∷◌, length, None}
+use Rattle.std.specs.String.{string_bytes}
+use Rattle.std.proofs.Common.{refl, arith, rules}
+use Rattle.npr_base.specs.declared.refusal.At.{At}
+use Rattle.npr_base.specs.declared.refusal.AttrFamily.TheVariants.{Rule}
+use Rattle.npr_base.specs.declared.ip.IpAddr.{IpAddr}
+use Rattle.npr_base.specs.Framing.{Item, number_of}
+use Rattle.npr_base.specs.Layout.{le32, be64, boolean}
+use Rattle.npr_base.specs.Codec.{exactly, raw}
+use Rattle.npr_base.specs.IpCodec.{ip}
+use Rattle.npr_base.specs.Name.{name}
+use Rattle.npr_base.specs.Table.{Family, Table, Row, row, Held, held, held_other, item_of, IsOther, Aligned, ReadsAt}
+use Rattle.npr_base.specs.TableLaws.{flat, other-back}
+use Rattle.npr_scalar.specs.Realm.{route_realm}
+use Rattle.npr_scalar.specs.RouteProtocolLaws.{route_protocol}
+use Rattle.npr_scalar.specs.declared.realm.RouteRealm.{RouteRealm}
+use Rattle.npr_scalar.specs.declared.header.RouteProtocol.{RouteProtocol}
+use Rattle.npr_scalar.specs.declared.ip_protocol.IpProtocol.{IpProtocol}
+use Rattle.npr_rule.specs.IpProtocolByte.{ip_protocol_byte}
+use Rattle.npr_rule.specs.PortRange.{port_range}
+use Rattle.npr_rule.specs.UidRange.{uid_range as uid_range_layout}
+use Rattle.npr_rule.specs.declared.port_range.RulePortRange.{RulePortRange}
+use Rattle.npr_rule.specs.declared.uid_range.RuleUidRange.{RuleUidRange}
+use Rattle.npr_rule.specs.declared.attribute.RuleAttribute.{RuleAttribute}
+use Rattle.npr_rule.specs.declared.attribute.RuleAttribute.TheVariants.{Destination, Source, Iifname, Goto, Priority, FwMark, Realm, TunId, SuppressIfGroup, SuppressPrefixLen, Table as InTable, FwMask, Oifname, L3MDev, UidRange, Protocol, IpProtocol as OverIp, SourcePortRange, DestinationPortRange, Other}
+
+-- what an attribute is, without where it lies in memory
+pub data Meaning : Type 0 where
+  destination : IpAddr → Meaning
+  source : IpAddr → Meaning
+  iifname : List ℕ → Meaning
+  goto : ℕ → Meaning
+  priority : ℕ → Meaning
+  fw_mark : ℕ → Meaning
+  realm : RouteRealm → Meaning
+  tun_id : ℕ → Meaning
+  suppress_if_group : ℕ → Meaning
+  suppress_prefix_len : ℕ → Meaning
+  table : ℕ → Meaning
+  fw_mask : ℕ → Meaning
+  oifname : List ℕ → Meaning
+  l3mdev : Bool → Meaning
+  uid_range : RuleUidRange → Meaning
+  protocol : RouteProtocol → Meaning
+  ip_protocol : IpProtocol → Meaning
+  source_port_range : RulePortRange → Meaning
+  destination_port_range : RulePortRange → Meaning
+  other : Item → Meaning
+
+abbrev pub meaning_of : RuleAttribute → Meaning
+meaning_of (Destination a) = destination a
+meaning_of (Source a) = source a
+meaning_of (Iifname a) = iifname (string_bytes a)
+meaning_of (Goto a) = goto a
+meaning_of (Priority a) = priority a
+meaning_of (FwMark a) = fw_mark a
+meaning_of (Realm a) = realm a
+meaning_of (TunId a) = tun_id a
+meaning_of (SuppressIfGroup a) = suppress_if_group a
+meaning_of (SuppressPrefixLen a) = suppress_prefix_len a
+meaning_of (InTable a) = table a
+meaning_of (FwMask a) = fw_mask a
+meaning_of (Oifname a) = oifname (string_bytes a)
+meaning_of (L3MDev a) = l3mdev a
+meaning_of (UidRange a) = uid_range a
+meaning_of (Protocol a) = protocol a
+meaning_of (OverIp a) = ip_protocol a
+meaning_of (SourcePortRange a) = source_port_range a
+meaning_of (DestinationPortRange a) = destination_port_range a
+meaning_of (Other d) = other d
+
+abbrev pub at : ℕ → At
+at number = record { family = Rule; kind = number }
+
+-- the table
+abbrev pub rows : List (Row Meaning)
+rows =
+    row (at 1) ip destination
+    ∷ row (at 2) ip source
+    ∷ row (at 3) name iifname
+    ∷ row (at 4) (exactly le32) goto
+    ∷ row (at 6) (exactly le32) priority
+    ∷ row (at 10) (exactly le32) fw_mark
+    ∷ row (at 11) (exactly route_realm) realm
+    ∷ row (at 12) (exactly be64) tun_id
+    ∷ row (at 13) (exactly le32) suppress_if_group
+    ∷ row (at 14) (exactly le32) suppress_prefix_len
+    ∷ row (at 15) (exactly le32) table
+    ∷ row (at 16) (exactly le32) fw_mask
+    ∷ row (at 17) name oifname
+    ∷ row (at 19) (exactly boolean) l3mdev
+    ∷ row (at 20) (exactly uid_range_layout) uid_range
+    ∷ row (at 21) (exactly route_protocol) protocol
+    ∷ row (at 22) ip_protocol_byte ip_protocol
+    ∷ row (at 23) (exactly port_range) source_port_range
+    ∷ row (at 24) (exactly port_range) destination_port_range
+    ∷ []
+
+-- where each meaning stands in it
+abbrev pub place : Meaning → Held
+place (destination a) = held 1 ip a
+place (source a) = held 2 ip a
+place (iifname a) = held 3 name a
+place (goto a) = held 4 (exactly le32) a
+place (priority a) = held 6 (exactly le32) a
+place (fw_mark a) = held 10 (exactly le32) a
+place (realm a) = held 11 (exactly route_realm) a
+place (tun_id a) = held 12 (exactly be64) a
+place (suppress_if_group a) = held 13 (exactly le32) a
+place (suppress_prefix_len a) = held 14 (exactly le32) a
+place (table a) = held 15 (exactly le32) a
+place (fw_mask a) = held 16 (exactly le32) a
+place (oifname a) = held 17 name a
+place (l3mdev a) = held 19 (exactly boolean) a
+place (uid_range a) = held 20 (exactly uid_range_layout) a
+place (protocol a) = held 21 (exactly route_protocol) a
+place (ip_protocol a) = held 22 ip_protocol_byte a
+place (source_port_range a) = held 23 (exactly port_range) a
+place (destination_port_range a) = held 24 (exactly port_range) a
+place (other x) = held_other x
+
+-- what can be read
+abbrev pub Coherent : Meaning → Type 0
+Coherent (other x) = IsOther rows x
+Coherent m = (place m).IsHeld
+
+pub aligned : Aligned (λ m. item_of (place m)) Coherent rows
+aligned = search rules
+
+pub kinds : (m : Meaning) → Coherent m → (place m).kind < 2 ^ 16
+kinds (other x) c = c.proper.kind
+kinds m c = omega arith
+
+pub short : (m : Meaning) → (place m).misfit ≡ None → length (place m).bytes ≤ 65531
+short (other x) fits = raw.fits_short x.kind x.value fits
+short m fits = (place m).codec.fits_short (place m).kind (place m).value fits
+
+pub back : (m : Meaning) → Coherent m → (place m).misfit ≡ None → ReadsAt other rows (number_of (item_of (place m)).kind) (item_of (place m)) m
+back (other x) c fits = other-back other rows (number_of x.kind) x c.alone
+back m c fits = ((place m).value, (place m).codec.reads_back (place m).kind (place m).value c fits, refl)
+
+-- the family
+abbrev pub attributes : Family Meaning
+attributes = flat (record {
+  rows = rows;
+  other = other;
+  place = place;
+  Coherent = Coherent;
+  aligned = aligned;
+  other_is = λ x. refl;
+  other_coherent = λ x is. is;
+  kinds = kinds;
+  short = short;
+  back = back;
+})

@@ -1,0 +1,109 @@
+-- What `==` answers of attributes and messages: whether they mean the same.
+use Rattle.std.specs.Prelude.{◌≡◌, ℕ, List, map}
+use Rattle.std.specs.Cmp.{booleans_Decides, unsigned_Decides}
+use Rattle.std.specs.String.{string_bytes}
+use Rattle.std.proofs.Common.{refl, rules, ap}
+use Rattle.npr_base.specs.AddressFamilyLaws.{family_equality}
+use Rattle.npr_base.specs.Equality.{IsEquality, IsEqualityOf}
+use Rattle.npr_base.specs.ItemEquality.{item_equality}
+use Rattle.npr_base.specs.MeaningLaws.{enum_meaning, ◌also◌, one_meaning, text_equality, items_meaning}
+use Rattle.npr_base.specs.StructLaws.{and_decides, decides_as}
+use Rattle.npr_base.specs.contracts.ip.IpAddrPartialEq.TheImpl as IpEq
+use Rattle.npr_scalar.specs.IpProtocolLaws.{ip_protocol_equality}
+use Rattle.npr_scalar.specs.RouteProtocolLaws.{route_protocol_equality}
+use Rattle.npr_scalar.specs.contracts.realm.RouteRealmPartialEq.TheImpl as RealmEq
+use Rattle.npr_rule.specs.Attribute.{Meaning, destination, source, iifname, goto, priority, fw_mark, realm, tun_id, suppress_if_group, suppress_prefix_len, table, fw_mask, oifname, l3mdev, uid_range, protocol, ip_protocol, source_port_range, destination_port_range, other, meaning_of}
+use Rattle.npr_rule.specs.Message.{Rule, message_of}
+use Rattle.npr_rule.specs.contracts.action.RuleActionPartialEq.TheImpl as ActionEq
+use Rattle.npr_rule.specs.contracts.attribute.RuleAttribute.{enum}
+use Rattle.npr_rule.specs.contracts.attribute.RuleAttributePartialEq.TheImpl as AttributeEq
+use Rattle.npr_rule.specs.contracts.flags.RuleFlagsPartialEq.TheImpl as FlagsEq
+use Rattle.npr_rule.specs.contracts.header.RuleHeaderPartialEq.TheImpl as HeaderEq
+use Rattle.npr_rule.specs.contracts.message.RuleMessagePartialEq.TheImpl as MessageEq
+use Rattle.npr_rule.specs.contracts.port_range.RulePortRangePartialEq.TheImpl as PortEq
+use Rattle.npr_rule.specs.contracts.uid_range.RuleUidRangePartialEq.TheImpl as UidEq
+use Rattle.npr_rule.specs.declared.header.RuleHeader.{RuleHeader}
+
+order : Meaning → ℕ
+order (destination a) = 0
+order (source a) = 1
+order (iifname a) = 2
+order (goto a) = 3
+order (priority a) = 4
+order (fw_mark a) = 5
+order (realm a) = 6
+order (tun_id a) = 7
+order (suppress_if_group a) = 8
+order (suppress_prefix_len a) = 9
+order (table a) = 10
+order (fw_mask a) = 11
+order (oifname a) = 12
+order (l3mdev a) = 13
+order (uid_range a) = 14
+order (protocol a) = 15
+order (ip_protocol a) = 16
+order (source_port_range a) = 17
+order (destination_port_range a) = 18
+order (other x) = 19
+
+ip_equality : IsEquality IpEq.ghosts.eq
+ip_equality = search rules
+
+realm_equality : IsEquality RealmEq.ghosts.eq
+realm_equality = search rules
+
+port_equality : IsEquality PortEq.ghosts.eq
+port_equality = search rules
+
+uid_equality : IsEquality UidEq.ghosts.eq
+uid_equality = search rules
+
+flags_equality : IsEquality FlagsEq.ghosts.eq
+flags_equality = search rules
+
+action_equality : IsEquality ActionEq.ghosts.eq
+action_equality = search rules
+
+pub header_equality : IsEquality HeaderEq.ghosts.eq
+header_equality a b =
+    decides_as
+    (λ p. λ i. record { family = p.0 i; dst_len = p.1.0 i; src_len = p.1.1.0 i; tos = p.1.1.1.0 i; table = p.1.1.1.1.0 i; action = p.1.1.1.1.1.0 i; flags = p.1.1.1.1.1.1 i })
+    (λ e. (ap (λ (h : RuleHeader). h.family) e, (ap (λ (h : RuleHeader). h.dst_len) e, (ap (λ (h : RuleHeader). h.src_len) e, (ap (λ (h : RuleHeader). h.tos) e, (ap (λ (h : RuleHeader). h.table) e, (ap (λ (h : RuleHeader). h.action) e, ap (λ (h : RuleHeader). h.flags) e)))))))
+    (and_decides (family_equality a.family b.family)
+    (and_decides (unsigned_Decides a.dst_len b.dst_len)
+    (and_decides (unsigned_Decides a.src_len b.src_len)
+    (and_decides (unsigned_Decides a.tos b.tos)
+    (and_decides (unsigned_Decides a.table b.table)
+    (and_decides (action_equality a.action b.action) (flags_equality a.flags b.flags)))))))
+
+pub attribute_equality : IsEqualityOf meaning_of AttributeEq.ghosts.eq
+unfolding order
+attribute_equality =
+    enum_meaning order enum meaning_of _ (λ t.
+    (λ x. refl, one_meaning (λ f. f) destination ip_equality (λ p q e. cc)) also
+    (λ x. refl, one_meaning (λ f. f) source ip_equality (λ p q e. cc)) also
+    (λ x. refl, one_meaning string_bytes iifname text_equality (λ p q e. cc)) also
+    (λ x. refl, one_meaning (λ f. f) goto unsigned_Decides (λ p q e. cc)) also
+    (λ x. refl, one_meaning (λ f. f) priority unsigned_Decides (λ p q e. cc)) also
+    (λ x. refl, one_meaning (λ f. f) fw_mark unsigned_Decides (λ p q e. cc)) also
+    (λ x. refl, one_meaning (λ f. f) realm realm_equality (λ p q e. cc)) also
+    (λ x. refl, one_meaning (λ f. f) tun_id unsigned_Decides (λ p q e. cc)) also
+    (λ x. refl, one_meaning (λ f. f) suppress_if_group unsigned_Decides (λ p q e. cc)) also
+    (λ x. refl, one_meaning (λ f. f) suppress_prefix_len unsigned_Decides (λ p q e. cc)) also
+    (λ x. refl, one_meaning (λ f. f) table unsigned_Decides (λ p q e. cc)) also
+    (λ x. refl, one_meaning (λ f. f) fw_mask unsigned_Decides (λ p q e. cc)) also
+    (λ x. refl, one_meaning string_bytes oifname text_equality (λ p q e. cc)) also
+    (λ x. refl, one_meaning (λ f. f) l3mdev booleans_Decides (λ p q e. cc)) also
+    (λ x. refl, one_meaning (λ f. f) uid_range uid_equality (λ p q e. cc)) also
+    (λ x. refl, one_meaning (λ f. f) protocol route_protocol_equality (λ p q e. cc)) also
+    (λ x. refl, one_meaning (λ f. f) ip_protocol ip_protocol_equality (λ p q e. cc)) also
+    (λ x. refl, one_meaning (λ f. f) source_port_range port_equality (λ p q e. cc)) also
+    (λ x. refl, one_meaning (λ f. f) destination_port_range port_equality (λ p q e. cc)) also
+    (λ x. refl, one_meaning (λ f. f) other item_equality (λ p q e. cc)) also tt)
+
+pub message_equality : IsEqualityOf message_of MessageEq.ghosts.eq
+message_equality a b =
+    decides_as
+    (λ p. λ i. record { header = p.0 i; attributes = p.1 i })
+    (λ e. (ap (λ (m : Rule). m.header) e, ap (λ (m : Rule). m.attributes) e))
+    (and_decides (header_equality a.header b.header) (items_meaning meaning_of attribute_equality a.attributes b.attributes))

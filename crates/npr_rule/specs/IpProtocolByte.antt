@@ -1,0 +1,34 @@
+-- A protocol over IP as a value of one byte. A number that no byte holds can't be written.
+use Rattle.std.specs.Prelude.{◌≡◌, ℕ, ◌+◌, ◌*◌, ◌≤◌, List, [], ◌∷◌, length, Option, Some, None}
+use Rattle.std.proofs.Common.{refl, arith}
+use Rattle.npr_base.specs.declared.refusal.EmitError.{EmitError}
+use Rattle.npr_base.specs.declared.refusal.EmitError.TheVariants.{IpProtocol as NoByte}
+use Rattle.npr_base.specs.Framing.{framed}
+use Rattle.npr_base.specs.Codec.{Codec, exactly}
+use Rattle.npr_scalar.specs.IpProtocol.{byte_of, ip_protocol_number}
+use Rattle.npr_scalar.specs.IpProtocolLaws.{ip_protocol}
+use Rattle.npr_scalar.specs.declared.ip_protocol.IpProtocol.{IpProtocol}
+
+abbrev pub misfit_by : Option ℕ → EmitError → Option EmitError
+misfit_by (Some byte) cause = None
+misfit_by None cause = Some cause
+
+-- why it can't be written, if so
+abbrev pub protocol_misfit : IpProtocol → Option EmitError
+protocol_misfit x = misfit_by (byte_of (ip_protocol_number x)) (NoByte (ip_protocol_number x))
+
+abbrev pub ip_protocol_byte : Codec IpProtocol
+ip_protocol_byte = record {
+  Reads = (exactly ip_protocol).Reads;
+  Wrong = (exactly ip_protocol).Wrong;
+  writes = ip_protocol.encode;
+  misfit = λ kind x. protocol_misfit x;
+  Holds = ip_protocol.Holds;
+  members = λ x. 0;
+  one_reading = (exactly ip_protocol).one_reading;
+  no_fault = (exactly ip_protocol).no_fault;
+  reads_holds = (exactly ip_protocol).reads_holds;
+  fits_short = λ kind x h. omega arith;
+  reads_back = λ kind x h fits. (exactly ip_protocol).reads_back 0 x h refl;
+  grows = (exactly ip_protocol).grows;
+}

@@ -1,0 +1,307 @@
+//! The attributes of a rule message: `FRA_*` of `linux/fib_rules.h`.
+
+ghost use Rattle.std.specs.Prelude.{◌≡◌, ◌≢◌, ◌≤◌, ◌<◌, ◌+◌, ◌*◌, ℕ, List, Option, None, false, length, IfOk, IfErr};
+ghost use Rattle.std.proofs.Common.{refl};
+ghost use Rattle.npr_base.specs.Family.{checked};
+ghost use Rattle.npr_scalar.specs.IpProtocol.{above_zero, ip_protocol_number};
+ghost use Rattle.npr_rule.specs.IpProtocolByte.{protocol_misfit};
+ghost use Rattle.npr_rule.specs.Attribute.{Meaning, meaning_of, attributes, short};
+
+use crate::port_range::RulePortRange;
+use crate::uid_range::RuleUidRange;
+use npr_base::{
+    At, AttrFamily, Attribute, DecodeError, DefaultNla, EmitError, IpAddr, Looks, Nla, NlaBuffer,
+    Parseable, check_len, ip_len, read_bool, read_ip, read_name, read_u8, read_u32, read_u64_be,
+    write_bytes, write_ip, write_name,
+};
+use npr_scalar::{IpProtocol, RouteProtocol, RouteRealm};
+use std::alloc::{AllocError, Global};
+
+/// An attribute of a rule message.
+#[derive(Debug, Drop, PartialEq, Eq)]
+pub enum RuleAttribute {
+    /// `FRA_DST`: the destination, a prefix.
+    Destination(IpAddr),
+    /// `FRA_SRC`: the source, a prefix.
+    Source(IpAddr),
+    /// `FRA_IIFNAME`: the interface that a packet comes in by.
+    Iifname(String),
+    /// `FRA_GOTO`: the preference of the rule to go on at.
+    Goto(u32),
+    /// `FRA_PRIORITY`: the preference of this rule.
+    Priority(u32),
+    /// `FRA_FWMARK`: the mark of the packet.
+    FwMark(u32),
+    /// `FRA_FLOW`: the realms.
+    Realm(RouteRealm),
+    /// `FRA_TUN_ID`: the id of the tunnel.
+    TunId(u64),
+    /// `FRA_SUPPRESS_IFGROUP`: a route by an interface of this group does not count.
+    SuppressIfGroup(u32),
+    /// `FRA_SUPPRESS_PREFIXLEN`: a route of a prefix of so many bits or fewer does not count.
+    SuppressPrefixLen(u32),
+    /// `FRA_TABLE`: the table.
+    Table(u32),
+    /// `FRA_FWMASK`: the bits of the mark that count.
+    FwMask(u32),
+    /// `FRA_OIFNAME`: the interface that a packet of this host is bound to.
+    Oifname(String),
+    /// `FRA_L3MDEV`: look up in the table of the master device. True for a byte above 0.
+    L3MDev(bool),
+    /// `FRA_UID_RANGE`: the users.
+    UidRange(RuleUidRange),
+    /// `FRA_PROTOCOL`: who made the rule.
+    Protocol(RouteProtocol),
+    /// `FRA_IP_PROTO`: the protocol over IP.
+    IpProtocol(IpProtocol),
+    /// `FRA_SPORT_RANGE`: the ports of the source.
+    SourcePortRange(RulePortRange),
+    /// `FRA_DPORT_RANGE`: the ports of the destination.
+    DestinationPortRange(RulePortRange),
+    /// An attribute of another number, as it stands.
+    Other(DefaultNla),
+}
+
+impl RuleAttribute {
+    /// An equal attribute.
+    ///
+    /// # Errors
+    /// `AllocError` where memory is refused.
+    pub fn clone(&self, alloc: Global) -> Result<Self, AllocError>
+        ensures { IfOk result (λ a. meaning_of a ≡ meaning_of self.now) }
+    {
+        match self {
+            RuleAttribute::Destination(x) => Ok(RuleAttribute::Destination(*x)),
+            RuleAttribute::Source(x) => Ok(RuleAttribute::Source(*x)),
+            RuleAttribute::Iifname(name) => {
+                String::from_str(alloc, name.as_str()).map(RuleAttribute::Iifname)
+            }
+            RuleAttribute::Goto(x) => Ok(RuleAttribute::Goto(*x)),
+            RuleAttribute::Priority(x) => Ok(RuleAttribute::Priority(*x)),
+            RuleAttribute::FwMark(x) => Ok(RuleAttribute::FwMark(*x)),
+            RuleAttribute::Realm(x) => Ok(RuleAttribute::Realm(*x)),
+            RuleAttribute::TunId(x) => Ok(RuleAttribute::TunId(*x)),
+            RuleAttribute::SuppressIfGroup(x) => Ok(RuleAttribute::SuppressIfGroup(*x)),
+            RuleAttribute::SuppressPrefixLen(x) => Ok(RuleAttribute::SuppressPrefixLen(*x)),
+            RuleAttribute::Table(x) => Ok(RuleAttribute::Table(*x)),
+            RuleAttribute::FwMask(x) => Ok(RuleAttribute::FwMask(*x)),
+            RuleAttribute::Oifname(name) => {
+                String::from_str(alloc, name.as_str()).map(RuleAttribute::Oifname)
+            }
+            RuleAttribute::L3MDev(x) => Ok(RuleAttribute::L3MDev(*x)),
+            RuleAttribute::UidRange(x) => Ok(RuleAttribute::UidRange(*x)),
+            RuleAttribute::Protocol(x) => Ok(RuleAttribute::Protocol(*x)),
+            RuleAttribute::IpProtocol(x) => Ok(RuleAttribute::IpProtocol(*x)),
+            RuleAttribute::SourcePortRange(x) => Ok(RuleAttribute::SourcePortRange(*x)),
+            RuleAttribute::DestinationPortRange(x) => Ok(RuleAttribute::DestinationPortRange(*x)),
+            RuleAttribute::Other(nla) => nla.clone(alloc).map(RuleAttribute::Other),
+        }
+    }
+}
+
+const fn at(kind: u16) -> At
+    ensures { result ≡ record { family = AttrFamily.Rule; kind = kind } }
+{
+    At {
+        family: AttrFamily::Rule,
+        kind,
+    }
+}
+
+impl Nla for RuleAttribute {
+    ghost item = { λ a. attributes.writes (meaning_of a) };
+
+    ghost nested = { λ _. false };
+
+    ghost unfit = { λ a. attributes.misfit (meaning_of a) };
+
+    ghost fits_short = { λ a h. short (meaning_of a) h };
+
+    fn kind(&self) -> u16 {
+        match self {
+            RuleAttribute::Destination(_) => 1,
+            RuleAttribute::Source(_) => 2,
+            RuleAttribute::Iifname(_) => 3,
+            RuleAttribute::Goto(_) => 4,
+            RuleAttribute::Priority(_) => 6,
+            RuleAttribute::FwMark(_) => 10,
+            RuleAttribute::Realm(_) => 11,
+            RuleAttribute::TunId(_) => 12,
+            RuleAttribute::SuppressIfGroup(_) => 13,
+            RuleAttribute::SuppressPrefixLen(_) => 14,
+            RuleAttribute::Table(_) => 15,
+            RuleAttribute::FwMask(_) => 16,
+            RuleAttribute::Oifname(_) => 17,
+            RuleAttribute::L3MDev(_) => 19,
+            RuleAttribute::UidRange(_) => 20,
+            RuleAttribute::Protocol(_) => 21,
+            RuleAttribute::IpProtocol(_) => 22,
+            RuleAttribute::SourcePortRange(_) => 23,
+            RuleAttribute::DestinationPortRange(_) => 24,
+            RuleAttribute::Other(nla) => nla.kind(),
+        }
+    }
+
+    fn is_nested(&self) -> bool {
+        false
+    }
+
+    fn check(&self) -> Result<usize, EmitError> {
+        match self {
+            RuleAttribute::IpProtocol(protocol) => check_protocol(*protocol),
+            _ => check_len(self.kind(), self.value_len()),
+        }
+    }
+
+    fn value_len(&self) -> usize
+        ensures { result ≡ length (attributes.writes (meaning_of self.now)).value }
+    {
+        match self {
+            RuleAttribute::Destination(ip) | RuleAttribute::Source(ip) => ip_len(ip),
+            RuleAttribute::Iifname(name) | RuleAttribute::Oifname(name) => name.len() + 1,
+            RuleAttribute::Goto(_)
+            | RuleAttribute::Priority(_)
+            | RuleAttribute::FwMark(_)
+            | RuleAttribute::SuppressIfGroup(_)
+            | RuleAttribute::SuppressPrefixLen(_)
+            | RuleAttribute::Table(_)
+            | RuleAttribute::FwMask(_)
+            | RuleAttribute::Realm(_)
+            | RuleAttribute::SourcePortRange(_)
+            | RuleAttribute::DestinationPortRange(_) => 4,
+            RuleAttribute::TunId(_) | RuleAttribute::UidRange(_) => 8,
+            RuleAttribute::L3MDev(_) | RuleAttribute::Protocol(_) | RuleAttribute::IpProtocol(_) =>
+                1,
+            RuleAttribute::Other(nla) => nla.value().len(),
+        }
+    }
+
+    fn write_value(&self, out: &mut [u8]) -> usize {
+        match self {
+            RuleAttribute::Destination(ip) | RuleAttribute::Source(ip) => write_ip(out, ip),
+            RuleAttribute::Iifname(name) | RuleAttribute::Oifname(name) => {
+                write_name(out, name.as_str())
+            }
+            RuleAttribute::Goto(n)
+            | RuleAttribute::Priority(n)
+            | RuleAttribute::FwMark(n)
+            | RuleAttribute::SuppressIfGroup(n)
+            | RuleAttribute::SuppressPrefixLen(n)
+            | RuleAttribute::Table(n)
+            | RuleAttribute::FwMask(n) => write_bytes(out, &n.to_le_bytes()),
+            RuleAttribute::Realm(realm) => write_bytes(out, &u32::from(*realm).to_le_bytes()),
+            RuleAttribute::TunId(n) => write_bytes(out, &n.to_be_bytes()),
+            RuleAttribute::L3MDev(is) => write_bytes(out, &[u8::from(*is)]),
+            RuleAttribute::UidRange(range) => write_bytes(out, &range.to_bytes()),
+            RuleAttribute::Protocol(protocol) => write_bytes(out, &[u8::from(*protocol)]),
+            RuleAttribute::IpProtocol(protocol) => write_bytes(out, &[protocol_byte(*protocol)]),
+            RuleAttribute::SourcePortRange(range) | RuleAttribute::DestinationPortRange(range) => {
+                write_bytes(out, &range.to_bytes())
+            }
+            RuleAttribute::Other(nla) => write_bytes(out, nla.value()),
+        }
+    }
+}
+
+/// The length of the encoding of a protocol: 8 bytes.
+///
+/// # Errors
+/// `IpProtocol` where no byte holds its number.
+fn check_protocol(protocol: IpProtocol) -> Result<usize, EmitError>
+    ensures { result ≡ checked (protocol_misfit protocol) 8 }
+{
+    match protocol.as_u8() {
+        Some(_) => Ok(8),
+        None => Err(EmitError::IpProtocol {
+            number: i32::from(protocol),
+        }),
+    }
+}
+
+/// The byte of a protocol that has one.
+fn protocol_byte(protocol: IpProtocol) -> u8
+    requires { protocol_misfit protocol ≡ None }
+    ensures { result ≡ above_zero (ip_protocol_number protocol) }
+{
+    match protocol.as_u8() {
+        Some(byte) => byte,
+        None => unreachable!(),
+    }
+}
+
+impl Attribute for RuleAttribute {
+    type Context = ();
+
+    ghost Meaning = { Meaning };
+
+    ghost meaning = { meaning_of };
+
+    ghost writes = { attributes.writes };
+
+    ghost misfit = { attributes.misfit };
+
+    ghost reads = { λ _. attributes.Reads };
+
+    ghost faulty = { λ _. attributes.Faulty };
+
+    ghost coherent = { λ _. attributes.Coherent };
+
+    ghost members = { attributes.members };
+
+    ghost item_is = { λ a. refl };
+
+    ghost unfit_is = { λ a. refl };
+
+    ghost one_reading = { λ _. attributes.one_reading };
+
+    ghost no_fault = { λ _. attributes.no_fault };
+
+    ghost reads_coherent = { λ _. attributes.reads_coherent };
+
+    ghost fits_small = { λ _. attributes.fits_small };
+
+    ghost reads_back = { λ _. attributes.reads_back };
+
+    ghost grows = { λ _. attributes.grows };
+
+    fn read(
+        alloc: Global,
+        _context: (),
+        item: &NlaBuffer<'_>,
+        _looks: &mut Looks,
+    ) -> Result<Self, DecodeError> {
+        let value = item.value();
+        match item.kind() {
+            1 => read_ip(value, at(1)).map(RuleAttribute::Destination),
+            2 => read_ip(value, at(2)).map(RuleAttribute::Source),
+            3 => read_name(alloc, value, at(3)).map(RuleAttribute::Iifname),
+            4 => read_u32(value, at(4)).map(RuleAttribute::Goto),
+            6 => read_u32(value, at(6)).map(RuleAttribute::Priority),
+            10 => read_u32(value, at(10)).map(RuleAttribute::FwMark),
+            11 => read_u32(value, at(11)).map(|number| RuleAttribute::Realm(RouteRealm::from(
+                number,
+            ))),
+            12 => read_u64_be(value, at(12)).map(RuleAttribute::TunId),
+            13 => read_u32(value, at(13)).map(RuleAttribute::SuppressIfGroup),
+            14 => read_u32(value, at(14)).map(RuleAttribute::SuppressPrefixLen),
+            15 => read_u32(value, at(15)).map(RuleAttribute::Table),
+            16 => read_u32(value, at(16)).map(RuleAttribute::FwMask),
+            17 => read_name(alloc, value, at(17)).map(RuleAttribute::Oifname),
+            19 => read_bool(value, at(19)).map(RuleAttribute::L3MDev),
+            20 => RuleUidRange::read(value, at(20)).map(RuleAttribute::UidRange),
+            21 => read_u8(value, at(21)).map(|number| RuleAttribute::Protocol(RouteProtocol::from(
+                number,
+            ))),
+            22 => read_u8(value, at(22)).map(|number| RuleAttribute::IpProtocol(IpProtocol::from(
+                number,
+            ))),
+            23 => RulePortRange::read(value, at(23)).map(RuleAttribute::SourcePortRange),
+            24 => RulePortRange::read(value, at(24)).map(RuleAttribute::DestinationPortRange),
+            _ => DefaultNla::parse(alloc, item).map(RuleAttribute::Other),
+        }
+    }
+
+    fn try_clone(&self, alloc: Global) -> Result<Self, AllocError> {
+        self.clone(alloc)
+    }
+}

@@ -1,0 +1,82 @@
+//! The flags of a rule: `FIB_RULE_*` of `linux/fib_rules.h`. Every bit is kept.
+
+ghost use Rattle.std.specs.Prelude.{⊤, [], ◌∷◌, codes};
+
+use bitflags::{Flag, Flags};
+
+/// The flags of a rule.
+#[derive(Clone, Copy, Debug, Default, PartialEq, Eq)]
+pub struct RuleFlags(u32);
+
+impl RuleFlags {
+    /// `FIB_RULE_PERMANENT`.
+    pub const Permanent: RuleFlags = RuleFlags(0x1);
+
+    /// `FIB_RULE_INVERT`.
+    pub const Invert: RuleFlags = RuleFlags(0x2);
+
+    /// `FIB_RULE_UNRESOLVED`.
+    pub const Unresolved: RuleFlags = RuleFlags(0x4);
+
+    /// `FIB_RULE_IIF_DETACHED`.
+    pub const IifDetached: RuleFlags = RuleFlags(0x8);
+
+    /// `FIB_RULE_DEV_DETACHED`.
+    pub const DevDetached: RuleFlags = RuleFlags(0x8);
+
+    /// `FIB_RULE_OIF_DETACHED`.
+    pub const OifDetached: RuleFlags = RuleFlags(0x10);
+
+    const FLAGS: &'static [Flag<RuleFlags>] = &[
+        Flag {
+            name: "Permanent",
+            value: RuleFlags::Permanent,
+        },
+        Flag {
+            name: "Invert",
+            value: RuleFlags::Invert,
+        },
+        Flag {
+            name: "Unresolved",
+            value: RuleFlags::Unresolved,
+        },
+        Flag {
+            name: "IifDetached",
+            value: RuleFlags::IifDetached,
+        },
+        Flag {
+            name: "DevDetached",
+            value: RuleFlags::DevDetached,
+        },
+        Flag {
+            name: "OifDetached",
+            value: RuleFlags::OifDetached,
+        },
+        Flag {
+            name: "",
+            value: RuleFlags(u32::MAX),
+        },
+    ];
+}
+
+impl Flags for RuleFlags {
+    type Bits = u32;
+
+    ghost exact = { ⊤ };
+
+    ghost table = { (codes "Permanent", 1) ∷ (codes "Invert", 2) ∷ (codes "Unresolved", 4) ∷ (codes "IifDetached", 8) ∷ (codes "DevDetached", 8) ∷ (codes "OifDetached", 16) ∷ ([], 4294967295) ∷ [] };
+
+    ghost set_of = { λ flags. flags.0 };
+
+    fn flags<'a>() -> &'a [Flag<RuleFlags>] {
+        RuleFlags::FLAGS
+    }
+
+    fn bits(&self) -> u32 {
+        self.0
+    }
+
+    fn from_bits_retain(bits: u32) -> RuleFlags {
+        RuleFlags(bits)
+    }
+}

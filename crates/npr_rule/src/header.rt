@@ -1,0 +1,156 @@
+//! The header of a rule message: `struct fib_rule_hdr` of `linux/fib_rules.h`.
+
+ghost use Rattle.std.specs.Prelude.{◌≡◌, ◌≤◌, ◌<◌, ℕ, None, length, IfOk, IfErr};
+ghost use Rattle.npr_base.specs.Codec.{leading};
+ghost use Rattle.npr_base.specs.Family.{checked};
+ghost use Rattle.npr_base.specs.Framing.{Writes};
+ghost use Rattle.npr_base.specs.Refusal.{no_place};
+ghost use Rattle.npr_rule.specs.Header.{header_buffer, header, buffer_of};
+
+use crate::action::RuleAction;
+use crate::flags::RuleFlags;
+use bitflags::Flags;
+use npr_base::{AddressFamily, DecodeError, EmitError, Emitable, write_bytes};
+
+/// The header of a rule message.
+#[derive(Clone, Copy, Debug, Default, PartialEq, Eq)]
+pub struct RuleHeader {
+    /// The family of the packets.
+    pub family: AddressFamily,
+    /// The length of the destination's prefix, in bits.
+    pub dst_len: u8,
+    /// The length of the source's prefix, in bits.
+    pub src_len: u8,
+    /// The type of service of the packets.
+    pub tos: u8,
+    /// The table, where it has room here.
+    pub table: u8,
+    /// What the rule does.
+    pub action: RuleAction,
+    /// The flags.
+    pub flags: RuleFlags,
+}
+
+/// The layout of a [`RuleHeader`]: 12 bytes, each field of 1 byte but the flags, which have 4,
+/// little endian. The reserved bytes are dropped where a header is read, and written 0.
+#[derive(Clone, Copy, Debug, PartialEq, Eq)]
+pub struct RuleMessageBuffer {
+    pub family: u8,
+    pub dst_len: u8,
+    pub src_len: u8,
+    pub tos: u8,
+    pub table: u8,
+    pub reserve_1: u8,
+    pub reserve_2: u8,
+    pub action: u8,
+    pub flags: u32,
+}
+
+impl RuleMessageBuffer {
+    /// The layout in the first 12 bytes; more are not looked at.
+    ///
+    /// # Errors
+    /// `HeaderTooShort` below 12 bytes.
+    pub fn parse(bytes: &[u8]) -> Result<Self, DecodeError>
+        ensures ok { IfOk result (λ b. (leading header_buffer).Reads bytes.now b) }
+        ensures refused { IfErr result (λ e. (leading header_buffer).Wrong no_place bytes.now e) }
+    {
+        if bytes.len() < 12 {
+            return Err(DecodeError::HeaderTooShort {
+                got: bytes.len(),
+                want: 12,
+            });
+        }
+        let b = &bytes[..12];
+        Ok(RuleMessageBuffer {
+            family: b[0],
+            dst_len: b[1],
+            src_len: b[2],
+            tos: b[3],
+            table: b[4],
+            reserve_1: b[5],
+            reserve_2: b[6],
+            action: b[7],
+            flags: u32::from_le_bytes([b[8], b[9], b[10], b[11]]),
+        })
+    }
+
+    /// The 12 bytes of the layout.
+    pub fn to_bytes(&self) -> [u8; 12]
+        ensures { result ≡ header_buffer.encode self.now }
+    {
+        let [a, b, c, d] = self.flags.to_le_bytes();
+        [
+            self.family,
+            self.dst_len,
+            self.src_len,
+            self.tos,
+            self.table,
+            self.reserve_1,
+            self.reserve_2,
+            self.action,
+            a,
+            b,
+            c,
+            d,
+        ]
+    }
+}
+
+impl<'a> From<&'a RuleHeader> for RuleMessageBuffer {
+    ghost from_gives = { λ h b. b ≡ buffer_of h.now };
+
+    fn from(header: &'a RuleHeader) -> RuleMessageBuffer {
+        RuleMessageBuffer {
+            family: u8::from(header.family),
+            dst_len: header.dst_len,
+            src_len: header.src_len,
+            tos: header.tos,
+            table: header.table,
+            reserve_1: 0,
+            reserve_2: 0,
+            action: u8::from(header.action),
+            flags: header.flags.bits(),
+        }
+    }
+}
+
+impl RuleHeader {
+    /// The header in the first 12 bytes; more are not looked at.
+    ///
+    /// # Errors
+    /// `HeaderTooShort` below 12 bytes.
+    pub fn parse(bytes: &[u8]) -> Result<Self, DecodeError>
+        ensures ok { IfOk result (λ h. (leading header).Reads bytes.now h) }
+        ensures refused { IfErr result (λ e. (leading header).Wrong no_place bytes.now e) }
+    {
+        let b = RuleMessageBuffer::parse(bytes)?;
+        Ok(RuleHeader {
+            family: AddressFamily::from(b.family),
+            dst_len: b.dst_len,
+            src_len: b.src_len,
+            tos: b.tos,
+            table: b.table,
+            action: RuleAction::from(b.action),
+            flags: RuleFlags::from_bits_retain(b.flags),
+        })
+    }
+}
+
+impl Emitable for RuleHeader {
+    ghost bytes = { header.encode };
+
+    ghost unfit = { λ _. None };
+
+    fn check(&self) -> Result<usize, EmitError> {
+        Ok(12)
+    }
+
+    fn buffer_len(&self) -> usize {
+        12
+    }
+
+    fn emit(&self, out: &mut [u8]) {
+        write_bytes(out, &RuleMessageBuffer::from(self).to_bytes());
+    }
+}
