@@ -2,6 +2,7 @@
 
 use npr_address::AddressMessage;
 use npr_base::{DecodeError, Emitable, Parseable};
+use npr_rule::RuleMessage;
 use std::alloc::{AllocError, Global};
 
 /// A kind of message.
@@ -9,6 +10,8 @@ use std::alloc::{AllocError, Global};
 pub enum Word {
     /// Address messages.
     Address,
+    /// Rule messages.
+    Rule,
 }
 
 impl Word {
@@ -16,6 +19,7 @@ impl Word {
     pub fn of(name: &str) -> Option<Word> {
         match name {
             "address" => Some(Word::Address),
+            "rule" => Some(Word::Rule),
             _ => None,
         }
     }
@@ -26,6 +30,7 @@ impl Word {
 pub fn answer(alloc: Global, word: Word, bytes: &[u8]) -> Result<String, AllocError> {
     match word {
         Word::Address => written(alloc, AddressMessage::parse(alloc, bytes)),
+        Word::Rule => written(alloc, RuleMessage::parse(alloc, bytes)),
     }
 }
 

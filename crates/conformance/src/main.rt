@@ -1,6 +1,6 @@
 //! Compares the answers of the message parsers with those that stand in files.
 //!
-//! `conformance WORD FILE..`: each line of a file is hexadecimal text, a tab and an answer, which is
+//! `conformance WORD FILE..`, which may be repeated with another word: each line of a file is hexadecimal text, a tab and an answer, which is
 //! `canonical HEX`, `refused NAME` or `unfit NAME`.
 #![tactic(auto)]
 
@@ -12,22 +12,29 @@ use comparison::Comparison;
 use std::process::ExitCode;
 use std::{env, fmt, io};
 
-const USAGE: &str = "usage: conformance address FILE..";
+const USAGE: &str = "usage: conformance address|rule FILE.. [address|rule FILE..]";
 
 fn main(rt: HostRuntime) -> ExitCode {
     let words = match arguments(&rt) {
         Ok(words) => words,
         Err(fault) => return fail(&rt, format_args!("{fault}")),
     };
-    let mut words = words.into_iter();
-    let Some(word) = words.next().and_then(|name| Word::of(name.as_str())) else {
-        return fail(&rt, format_args!("{USAGE}"));
-    };
     let mut comparison = Comparison::new();
-    for path in words {
-        if let Err(fault) = comparison.compare_file(&rt, word, path.as_str()) {
-            return fail(&rt, format_args!("{path}: {fault}"));
+    let mut current = None;
+    for argument in words.iter() {
+        if let Some(word) = Word::of(argument.as_str()) {
+            current = Some(word);
+            continue;
         }
+        let Some(word) = current else {
+            return fail(&rt, format_args!("{USAGE}"));
+        };
+        if let Err(fault) = comparison.compare_file(&rt, word, argument.as_str()) {
+            return fail(&rt, format_args!("{argument}: {fault}"));
+        }
+    }
+    if current.is_none() {
+        return fail(&rt, format_args!("{USAGE}"));
     }
     summarize(&rt, &comparison)
 }

@@ -22,6 +22,7 @@ use crate::report::whole;
 use crate::which::Which;
 use npr_address::AddressMessage;
 use npr_base::{Attribute, Emitable, Parseable};
+use npr_rule::RuleMessage;
 use std::alloc::Global;
 use std::io::{Read, Write};
 
@@ -61,6 +62,7 @@ fn answer(alloc: Global, which: Which, bytes: &[u8]) -> Result<String, RunError>
 {
     match which {
         Which::Address => address_answer(alloc, bytes),
+        Which::Rule => rule_answer(alloc, bytes),
     }
 }
 
@@ -73,6 +75,17 @@ fn address_answer(alloc: Global, bytes: &[u8]) -> Result<String, RunError>
     let message = AddressMessage::parse(alloc, bytes)?;
     let attributes = message.attributes.as_slice();
     written(alloc, Which::Address, bytes, &message, attributes)
+}
+
+fn rule_answer(alloc: Global, bytes: &[u8]) -> Result<String, RunError>
+    ensures ok { IfOk result (λ text. IsReport Which.Rule bytes.now (string_bytes text)) }
+    ensures refused { (e : DecodeError) → result ≡ Err (Refused e) → IsRefused Which.Rule bytes.now e }
+    ensures unfit { (e : EmitError) → result ≡ Err (Unfit e) → IsUnfit Which.Rule bytes.now e }
+    ensures errors { IfErr result IsOfMessage }
+{
+    let message = RuleMessage::parse(alloc, bytes)?;
+    let attributes = message.attributes.as_slice();
+    written(alloc, Which::Rule, bytes, &message, attributes)
 }
 
 /// The report on a message that was read from these bytes.

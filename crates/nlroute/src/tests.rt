@@ -46,6 +46,7 @@ fn which_of(alloc: Global, words: &[&str]) -> Result<Option<Which>, AllocError> 
 fn one_known_word_is_wanted(rt: HostRuntime) -> Result<(), Fail> {
     let alloc = rt.alloc();
     assert_eq!(rt; which_of(alloc, &["address"])?, Some(Which::Address));
+    assert_eq!(rt; which_of(alloc, &["rule"])?, Some(Which::Rule));
     assert_eq!(rt; which_of(alloc, &[])?, None);
     assert_eq!(rt; which_of(alloc, &["Address"])?, None);
     assert_eq!(rt; which_of(alloc, &["addresses"])?, None);
@@ -211,6 +212,17 @@ fn reports_over_memory(rt: HostRuntime) -> Result<(), Fail> {
 }
 
 #[test]
+fn reports_a_rule(rt: HostRuntime) -> Result<(), Fail> {
+    let mut reader = Counted::new(b"02000000fe00000100000000 0800030065746830".as_slice());
+    let mut writer = Counted::new(Vec::new(rt.alloc()));
+    run(rt.alloc(), Which::Rule, &mut reader, &mut writer)?;
+    let report =
+        b"rule: 20 bytes, 1 attributes\nkind 3 length 5\ncanonical 24 bytes\n02000000fe00000100000000090003006574683000000000\n";
+    assert_eq!(rt; writer.into_inner().as_slice(), report.as_slice());
+    Ok(())
+}
+
+#[test]
 fn reports_to_a_slow_writer(rt: HostRuntime) -> Result<(), Fail> {
     let mut reader = Counted::new(LOOPBACK);
     let mut writer = Sink::new(rt.alloc(), 1, usize::MAX);
@@ -231,10 +243,10 @@ fn reports_to_a_slow_writer(rt: HostRuntime) -> Result<(), Fail> {
 }
 
 /// How a run over this text ends; nothing is written unless it ends well.
-fn ending(rt: &(impl Abort + AllocGlobal), text: &[u8]) -> Result<(), RunError> {
+fn ending(rt: &(impl Abort + AllocGlobal), which: Which, text: &[u8]) -> Result<(), RunError> {
     let mut reader = Counted::new(text);
     let mut writer = Counted::new(Vec::new(rt.alloc()));
-    let ended = run(rt.alloc(), Which::Address, &mut reader, &mut writer);
+    let ended = run(rt.alloc(), which, &mut reader, &mut writer);
     assert!(rt; ended.is_ok() || writer.into_inner().is_empty());
     ended
 }
@@ -242,10 +254,13 @@ fn ending(rt: &(impl Abort + AllocGlobal), text: &[u8]) -> Result<(), RunError> 
 #[test]
 fn writes_nothing_after_a_fault(rt: HostRuntime) -> Result<(), Fail> {
     let short = RunError::Refused(DecodeError::HeaderTooShort { got: 0, want: 8 });
-    assert_eq!(rt; ending(&rt, b""), Err(short));
-    assert_eq!(rt; ending(&rt, b"0 2"), Err(RunError::BadHex));
+    assert_eq!(rt; ending(&rt, Which::Address, b""), Err(short));
+    assert_eq!(rt; ending(&rt, Which::Address, b"0 2"), Err(RunError::BadHex));
     let rest = RunError::Refused(DecodeError::AttributeTooShort { got: 2 });
-    assert_eq!(rt; ending(&rt, b"020880fe01000000 0000"), Err(rest));
+    assert_eq!(rt;
+        ending(&rt, Which::Address, b"020880fe01000000 0000"),
+        Err(rest)
+    );
 
     // A label that has no room for its zero.
     let mut text = vec![in rt.alloc(); b'6'; 2 * 65_543]?;
@@ -259,7 +274,17 @@ fn writes_nothing_after_a_fault(rt: HostRuntime) -> Result<(), Fail> {
         kind: 3,
         len: 65_532,
     });
-    assert_eq!(rt; ending(&rt, text.as_slice()), Err(long));
+    assert_eq!(rt; ending(&rt, Which::Address, text.as_slice()), Err(long));
+
+    // The same of a rule's interface, after a header that is four bytes longer.
+    let front = b"02000000fe00000100000000ffff0300";
+    text.extend_from_slice(b"66666666")?;
+    for (at, digit) in front.iter().enumerate() {
+        if at < text.len() {
+            text[at] = *digit;
+        }
+    }
+    assert_eq!(rt; ending(&rt, Which::Rule, text.as_slice()), Err(long));
     Ok(())
 }
 

@@ -12,6 +12,8 @@ pub const USAGE: &str = "usage: nlroute address|route|rule";
 pub enum Which {
     /// An address.
     Address,
+    /// A rule.
+    Rule,
 }
 
 impl Which {
@@ -23,6 +25,7 @@ impl Which {
         match words {
             [word] => match word.as_str() {
                 "address" => Some(Which::Address),
+                "rule" => Some(Which::Rule),
                 _ => None,
             },
             _ => None,
@@ -35,6 +38,7 @@ impl Which {
     {
         match self {
             Which::Address => "address",
+            Which::Rule => "rule",
         }
     }
 }
