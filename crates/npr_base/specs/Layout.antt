@@ -176,6 +176,12 @@ le16_at b i = from_le_bytes w16 (slice_index b i ∷ slice_index b (i + 1) ∷ [
 abbrev pub le32_at : List ℕ → ℕ → ℕ
 le32_at b i = from_le_bytes w32 (slice_index b i ∷ slice_index b (i + 1) ∷ slice_index b (i + 2) ∷ slice_index b (i + 3) ∷ [])
 
+abbrev pub le64_at : List ℕ → ℕ → ℕ
+le64_at b i = from_le_bytes w64 (slice_index b i ∷ slice_index b (i + 1) ∷ slice_index b (i + 2) ∷ slice_index b (i + 3) ∷ slice_index b (i + 4) ∷ slice_index b (i + 5) ∷ slice_index b (i + 6) ∷ slice_index b (i + 7) ∷ [])
+
+pub le64_at-holds : (b : List ℕ) (i : ℕ) → IsBytes b → le64_at b i < 2 ^ 64
+le64_at-holds b i is = omega (arith, is i, is (i + 1), is (i + 2), is (i + 3), is (i + 4), is (i + 5), is (i + 6), is (i + 7))
+
 pub le16_at-holds : (b : List ℕ) (i : ℕ) → IsBytes b → le16_at b i < 2 ^ 16
 le16_at-holds b i is = omega (arith, is i, is (i + 1))
 

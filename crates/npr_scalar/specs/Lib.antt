@@ -13,3 +13,6 @@ pub mod RoutePreference
 pub mod RoutePreferenceLaws
 pub mod TtlPropagation
 pub mod TtlPropagationLaws
+pub mod RouteCacheInfo
+pub mod RouteMfcStats
+pub mod RouteFlags

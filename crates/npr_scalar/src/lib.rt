@@ -1,21 +1,27 @@
 //! The small values of routes and rules: numbers with names, labels of MPLS, and realms.
 #![tactic(auto)]
 
+mod cache_info;
 mod equality;
+mod flags;
 mod header;
 mod ip_protocol;
+mod mfc_stats;
 mod mpls;
 mod preference;
 mod realm;
 #[cfg(test)]
 mod tests;
 
+pub use cache_info::{RouteCacheInfo, RouteCacheInfoBuffer};
 pub use equality::{law_default, law_equality};
+pub use flags::{RouteFlags, RouteNextHopFlags};
 pub use header::{
     RouteProtocol, RouteScope, RouteType, law_route_protocol_number, law_route_scope_number,
     law_route_type_number,
 };
 pub use ip_protocol::{IpProtocol, law_ip_protocol_number};
+pub use mfc_stats::{RouteMfcStats, RouteMfcStatsBuffer};
 pub use mpls::{
     MplsLabel, emit_labels, law_label_number, law_labels_length, read_labels, write_labels,
 };
