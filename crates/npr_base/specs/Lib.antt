@@ -28,3 +28,4 @@ pub mod ItemEquality
 pub mod StructLaws
 pub mod Blocks
 pub mod BlocksLaws
+pub mod VariantCodec

@@ -16,3 +16,4 @@ pub mod TtlPropagationLaws
 pub mod RouteCacheInfo
 pub mod RouteMfcStats
 pub mod RouteFlags
+pub mod RouteAddress

@@ -1,6 +1,7 @@
 //! The small values of routes and rules: numbers with names, labels of MPLS, and realms.
 #![tactic(auto)]
 
+mod address;
 mod cache_info;
 mod equality;
 mod flags;
@@ -13,6 +14,7 @@ mod realm;
 #[cfg(test)]
 mod tests;
 
+pub use address::RouteAddress;
 pub use cache_info::{RouteCacheInfo, RouteCacheInfoBuffer};
 pub use equality::{law_default, law_equality};
 pub use flags::{RouteFlags, RouteNextHopFlags};

@@ -1,0 +1,62 @@
+-- The address of a route: its form follows from the family of the message.
+use Rattle.std.specs.Prelude.{◌≡◌, ℕ, List, length, None}
+use Rattle.std.proofs.Common.{refl}
+use Rattle.npr_base.specs.declared.address_family.AddressFamily.{AddressFamily}
+use Rattle.npr_base.specs.declared.address_family.AddressFamily.TheVariants.{Inet, Inet6, Mpls}
+use Rattle.npr_base.specs.declared.ip.IpAddr.{IpAddr}
+use Rattle.npr_base.specs.declared.ip.IpAddr.TheVariants.{V4, V6}
+use Rattle.npr_base.specs.Layout.{octets}
+use Rattle.npr_base.specs.Codec.{Codec, exactly, raw}
+use Rattle.npr_base.specs.VariantCodec.{variant}
+use Rattle.npr_scalar.specs.MplsLaws.{mpls_label}
+use Rattle.npr_scalar.specs.declared.mpls.MplsLabel.{MplsLabel}
+use Rattle.npr_scalar.specs.declared.address.RouteAddress.{RouteAddress}
+use Rattle.npr_scalar.specs.declared.address.RouteAddress.TheVariants.{Inet as AddressInet, Inet6 as AddressInet6, Mpls as AddressMpls, Other as AddressOther}
+
+-- an address, without where it lies in memory
+pub data Address : Type 0 where
+  inet : List ℕ → Address
+  inet6 : List ℕ → Address
+  mpls : MplsLabel → Address
+  other : List ℕ → Address
+
+abbrev pub address_of : RouteAddress → Address
+address_of (AddressInet a) = inet a
+address_of (AddressInet6 a) = inet6 a
+address_of (AddressMpls l) = mpls l
+address_of (AddressOther v) = other v.items
+
+-- the families whose addresses have a form; a family counts by its variant
+pub data Form : Type 0 where
+  four : Form
+  sixteen : Form
+  label : Form
+  any : Form
+
+abbrev pub form_of : AddressFamily → Form
+form_of Inet = four
+form_of Inet6 = sixteen
+form_of Mpls = label
+form_of family = any
+
+-- the bytes that are written
+abbrev pub address_bytes : Address → List ℕ
+address_bytes (inet a) = a
+address_bytes (inet6 a) = a
+address_bytes (mpls l) = mpls_label.encode l
+address_bytes (other v) = v
+
+-- four bytes, sixteen, one label of four bytes, or any bytes as they stand
+abbrev pub address_in : Form → Codec Address
+address_in four = variant (exactly (octets 4)) inet address_bytes (λ v. refl) (λ kind v h. h)
+address_in sixteen = variant (exactly (octets 16)) inet6 address_bytes (λ v. refl) (λ kind v h. h)
+address_in label = variant (exactly mpls_label) mpls address_bytes (λ v. refl) (λ kind v h. h)
+address_in any = variant raw other address_bytes (λ v. refl) (λ kind v h. h)
+
+abbrev pub route_address : AddressFamily → Codec Address
+route_address family = address_in (form_of family)
+
+-- the address of a route that an address of IP is
+abbrev pub of_ip : IpAddr → RouteAddress
+of_ip (V4 a) = AddressInet a
+of_ip (V6 a) = AddressInet6 a

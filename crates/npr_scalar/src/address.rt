@@ -1,0 +1,162 @@
+//! The addresses of routes.
+
+ghost use Rattle.std.specs.Prelude.{◌≡◌, ◌≢◌, ◌≤◌, ◌<◌, ℕ, None, length, IfOk, IfErr};
+ghost use Rattle.npr_base.specs.declared.refusal.DecodeError.TheVariants.{OutOfMemory};
+ghost use Rattle.npr_base.specs.Family.{checked};
+ghost use Rattle.npr_base.specs.Framing.{Writes};
+ghost use Rattle.npr_base.specs.Refusal.{no_place};
+ghost use Rattle.npr_scalar.specs.RouteAddress.{address_of, address_bytes, of_ip, route_address};
+ghost use Rattle.npr_scalar.specs.declared.address.RouteAddress.TheVariants.{Inet, Inet6, Mpls};
+
+use crate::mpls::MplsLabel;
+use npr_base::{
+    AddressFamily, At, DecodeError, EmitError, Emitable, IpAddr, Ipv4Addr, Ipv6Addr, read_bytes,
+    read_ipv4, read_ipv6, read_u32_be, write_bytes,
+};
+use std::alloc::{AllocError, Global};
+
+/// The address of a route: its form follows from the family of the message.
+#[derive(Debug, Drop, PartialEq, Eq)]
+pub enum RouteAddress {
+    /// An address of IP version 4, in 4 bytes.
+    Inet(Ipv4Addr),
+    /// An address of IP version 6, in 16 bytes.
+    Inet6(Ipv6Addr),
+    /// One label of MPLS, in 4 bytes.
+    Mpls(MplsLabel),
+    /// The bytes of an address of another family.
+    Other(Vec<u8>),
+}
+
+impl RouteAddress {
+    /// The address of this family.
+    ///
+    /// # Errors
+    /// `ValueLength` where inet has not 4 bytes, inet6 not 16 or mpls not 4, and `OutOfMemory`
+    /// where memory is refused.
+    pub fn parse(alloc: Global, family: AddressFamily, bytes: &[u8]) -> Result<Self, DecodeError>
+        ensures ok { IfOk result (λ a. (route_address family).Reads bytes.now (address_of a)) }
+        ensures refused { IfErr result (λ e. e ≢ OutOfMemory → (route_address family).Wrong no_place bytes.now e) }
+    {
+        Self::read(alloc, family, bytes, At::NO_PLACE)
+    }
+
+    /// The address of this family at a place.
+    ///
+    /// # Errors
+    /// As `parse`.
+    pub fn read(
+        alloc: Global,
+        family: AddressFamily,
+        bytes: &[u8],
+        at: At,
+    ) -> Result<Self, DecodeError>
+        ensures ok { IfOk result (λ a. (route_address family).Reads bytes.now (address_of a)) }
+        ensures refused { IfErr result (λ e. e ≢ OutOfMemory → (route_address family).Wrong at bytes.now e) }
+    {
+        match family {
+            AddressFamily::Inet => read_ipv4(bytes, at).map(RouteAddress::Inet),
+            AddressFamily::Inet6 => read_ipv6(bytes, at).map(RouteAddress::Inet6),
+            AddressFamily::Mpls => {
+                read_u32_be(bytes, at).map(|entry| RouteAddress::Mpls(MplsLabel::from(entry)))
+            }
+            _ => Ok(RouteAddress::Other(read_bytes(alloc, bytes)?)),
+        }
+    }
+
+    /// The length of its bytes.
+    pub fn len(&self) -> usize
+        ensures { result ≡ length (address_bytes (address_of self.now)) }
+    {
+        match self {
+            RouteAddress::Inet(ip) => ip.octets().len(),
+            RouteAddress::Inet6(ip) => ip.octets().len(),
+            RouteAddress::Mpls(_) => 4,
+            RouteAddress::Other(bytes) => bytes.len(),
+        }
+    }
+
+    /// Writes its bytes at the front of the slice, leaves the rest, and answers their length.
+    pub fn write(&self, out: &mut [u8]) -> usize
+        requires { length (address_bytes (address_of self.now)) ≤ length out.old }
+        ensures len { result ≡ length (address_bytes (address_of self.now)) }
+        ensures after { Writes out.old out.new (address_bytes (address_of self.now)) }
+    {
+        match self {
+            RouteAddress::Inet(ip) => write_bytes(out, &ip.octets()),
+            RouteAddress::Inet6(ip) => write_bytes(out, &ip.octets()),
+            RouteAddress::Mpls(label) => write_bytes(out, &u32::from(*label).to_be_bytes()),
+            RouteAddress::Other(bytes) => write_bytes(out, bytes.as_slice()),
+        }
+    }
+
+    /// An equal address.
+    ///
+    /// # Errors
+    /// `AllocError` where memory is refused.
+    pub fn clone(&self, alloc: Global) -> Result<Self, AllocError>
+        ensures { IfOk result (λ a. address_of a ≡ address_of self.now) }
+    {
+        match self {
+            RouteAddress::Inet(ip) => Ok(RouteAddress::Inet(*ip)),
+            RouteAddress::Inet6(ip) => Ok(RouteAddress::Inet6(*ip)),
+            RouteAddress::Mpls(label) => Ok(RouteAddress::Mpls(*label)),
+            RouteAddress::Other(bytes) => {
+                Vec::from_slice(alloc, bytes.as_slice()).map(RouteAddress::Other)
+            }
+        }
+    }
+}
+
+impl From<Ipv4Addr> for RouteAddress {
+    ghost from_gives = { λ ip a. a ≡ Inet ip };
+
+    fn from(ip: Ipv4Addr) -> RouteAddress {
+        RouteAddress::Inet(ip)
+    }
+}
+
+impl From<Ipv6Addr> for RouteAddress {
+    ghost from_gives = { λ ip a. a ≡ Inet6 ip };
+
+    fn from(ip: Ipv6Addr) -> RouteAddress {
+        RouteAddress::Inet6(ip)
+    }
+}
+
+impl From<IpAddr> for RouteAddress {
+    ghost from_gives = { λ ip a. a ≡ of_ip ip };
+
+    fn from(ip: IpAddr) -> RouteAddress {
+        match ip {
+            IpAddr::V4(ip) => RouteAddress::Inet(ip),
+            IpAddr::V6(ip) => RouteAddress::Inet6(ip),
+        }
+    }
+}
+
+impl From<MplsLabel> for RouteAddress {
+    ghost from_gives = { λ label a. a ≡ Mpls label };
+
+    fn from(label: MplsLabel) -> RouteAddress {
+        RouteAddress::Mpls(label)
+    }
+}
+
+impl Emitable for RouteAddress {
+    ghost bytes = { λ a. address_bytes (address_of a) };
+
+    ghost unfit = { λ _. None };
+
+    fn check(&self) -> Result<usize, EmitError> {
+        Ok(self.len())
+    }
+
+    fn buffer_len(&self) -> usize {
+        self.len()
+    }
+
+    fn emit(&self, out: &mut [u8]) {
+        self.write(out);
+    }
+}
