@@ -92,6 +92,9 @@ IsBytes-left xs ys h i = elim (cases_lt i (length xs)) [
 pub IsBytes-take : (n : ℕ) (xs : List ℕ) → IsBytes xs → IsBytes (take n xs)
 IsBytes-take n xs h = IsBytes-left (take n xs) (drop n xs) (subst IsBytes (sym (take-append-drop n xs)) h)
 
+pub IsBytes-drop : (n : ℕ) (xs : List ℕ) → IsBytes xs → IsBytes (drop n xs)
+IsBytes-drop n xs h = IsBytes-right (take n xs) (drop n xs) (subst IsBytes (sym (take-append-drop n xs)) h)
+
 -- what stands in front of a program's bytes is a program's
 pub Front-proper : (bs : List ℕ) (x : Item) (rest : List ℕ) → IsBytes bs → Front bs x rest → Proper x × IsBytes rest
 Front-proper bs x rest bytes f =

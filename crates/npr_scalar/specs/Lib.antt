@@ -17,3 +17,5 @@ pub mod RouteCacheInfo
 pub mod RouteMfcStats
 pub mod RouteFlags
 pub mod RouteAddress
+pub mod RouteVia
+pub mod ViaBuffer

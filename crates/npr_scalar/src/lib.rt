@@ -13,6 +13,7 @@ mod preference;
 mod realm;
 #[cfg(test)]
 mod tests;
+mod via;
 
 pub use address::RouteAddress;
 pub use cache_info::{RouteCacheInfo, RouteCacheInfoBuffer};
@@ -32,3 +33,4 @@ pub use preference::{
     law_ttl_propagation_number,
 };
 pub use realm::{RouteRealm, law_realm_number};
+pub use via::{RouteVia, RouteViaBuffer};
