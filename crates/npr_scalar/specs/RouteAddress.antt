@@ -1,10 +1,13 @@
 -- The address of a route: its form follows from the family of the message.
-use Rattle.std.specs.Prelude.{◌≡◌, ℕ, List, length, None}
+use Rattle.std.specs.Prelude.{◌≡◌, ℕ, ◌+◌, ◌*◌, ◌≤◌, List, length, None}
 use Rattle.std.proofs.Common.{refl}
 use Rattle.npr_base.specs.declared.address_family.AddressFamily.{AddressFamily}
 use Rattle.npr_base.specs.declared.address_family.AddressFamily.TheVariants.{Inet, Inet6, Mpls}
 use Rattle.npr_base.specs.declared.ip.IpAddr.{IpAddr}
 use Rattle.npr_base.specs.declared.ip.IpAddr.TheVariants.{V4, V6}
+use Rattle.npr_base.specs.Family.{too_long}
+use Rattle.npr_base.specs.FitLaws.{too_long-short}
+use Rattle.npr_base.specs.Framing.{IsBytes, framed}
 use Rattle.npr_base.specs.Layout.{octets}
 use Rattle.npr_base.specs.Codec.{Codec, exactly, raw}
 use Rattle.npr_base.specs.VariantCodec.{variant}
@@ -47,11 +50,40 @@ address_bytes (mpls l) = mpls_label.encode l
 address_bytes (other v) = v
 
 -- four bytes, sixteen, one label of four bytes, or any bytes as they stand
+abbrev pub address_by : Form → Codec Address
+address_by four = variant (exactly (octets 4)) inet address_bytes (λ v. refl) (λ kind v h. h)
+address_by sixteen = variant (exactly (octets 16)) inet6 address_bytes (λ v. refl) (λ kind v h. h)
+address_by label = variant (exactly mpls_label) mpls address_bytes (λ v. refl) (λ kind v h. h)
+address_by any = variant raw other address_bytes (λ v. refl) (λ kind v h. h)
+
+pub address-back : (form : Form) (kind : ℕ) (a : Address) → (address_by form).Holds a → too_long kind (length (address_bytes a)) ≡ None → (address_by form).Reads (address_bytes a) a
+address-back four kind a h fits = (address_by four).reads_back kind a h fits
+address-back sixteen kind a h fits = (address_by sixteen).reads_back kind a h fits
+address-back label kind a h fits = (address_by label).reads_back kind a h fits
+address-back any kind a h fits = (address_by any).reads_back kind a h fits
+
+pub address-grows : (form : Form) (bytes : List ℕ) (a : Address) → IsBytes bytes → (address_by form).Reads bytes a → 2 * framed (length (address_bytes a)) ≤ 5 * (4 + length bytes)
+address-grows four bytes a is p = (address_by four).grows bytes a is p
+address-grows sixteen bytes a is p = (address_by sixteen).grows bytes a is p
+address-grows label bytes a is p = (address_by label).grows bytes a is p
+address-grows any bytes a is p = (address_by any).grows bytes a is p
+
+-- it is written in one way, whatever the form
 abbrev pub address_in : Form → Codec Address
-address_in four = variant (exactly (octets 4)) inet address_bytes (λ v. refl) (λ kind v h. h)
-address_in sixteen = variant (exactly (octets 16)) inet6 address_bytes (λ v. refl) (λ kind v h. h)
-address_in label = variant (exactly mpls_label) mpls address_bytes (λ v. refl) (λ kind v h. h)
-address_in any = variant raw other address_bytes (λ v. refl) (λ kind v h. h)
+address_in form = record {
+  Reads = (address_by form).Reads;
+  Wrong = (address_by form).Wrong;
+  writes = address_bytes;
+  misfit = λ kind a. too_long kind (length (address_bytes a));
+  Holds = (address_by form).Holds;
+  members = λ a. 0;
+  one_reading = (address_by form).one_reading;
+  no_fault = (address_by form).no_fault;
+  reads_holds = (address_by form).reads_holds;
+  fits_short = λ kind a h. too_long-short kind (length (address_bytes a)) h;
+  reads_back = address-back form;
+  grows = address-grows form;
+}
 
 abbrev pub route_address : AddressFamily → Codec Address
 route_address family = address_in (form_of family)
