@@ -1,0 +1,136 @@
+-- The metrics of a route (linux/rtnetlink.h, RTAX_*), by their table.
+use Rattle.std.specs.Prelude.{◌≡◌, ℕ, ◌<◌, ◌≤◌, ◌^◌, List, [], ◌∷◌, length, None}
+use Rattle.std.specs.String.{string_bytes}
+use Rattle.std.proofs.Common.{refl, arith, rules}
+use Rattle.npr_base.specs.declared.refusal.At.{At}
+use Rattle.npr_base.specs.declared.refusal.AttrFamily.TheVariants.{Metric as OfMetric}
+use Rattle.npr_base.specs.Framing.{Item, number_of}
+use Rattle.npr_base.specs.Layout.{le32}
+use Rattle.npr_base.specs.Codec.{exactly, raw}
+use Rattle.npr_base.specs.Name.{name}
+use Rattle.npr_base.specs.Table.{Family, Table, Row, row, Held, held, held_other, item_of, IsOther, Aligned, ReadsAt}
+use Rattle.npr_base.specs.TableLaws.{flat, other-back}
+use Rattle.npr_route.specs.declared.metrics.RouteMetric.{RouteMetric}
+use Rattle.npr_route.specs.declared.metrics.RouteMetric.TheVariants.{Lock, Mtu, Window, Rtt, RttVar, SsThresh, Cwnd, Advmss, Reordering, Hoplimit, InitCwnd, Features, RtoMin, InitRwnd, QuickAck, CcAlgo, FastopenNoCookie, Other}
+
+-- what a metric is, without where it lies in memory
+pub data Metric : Type 0 where
+  lock : ℕ → Metric
+  mtu : ℕ → Metric
+  window : ℕ → Metric
+  rtt : ℕ → Metric
+  rtt_var : ℕ → Metric
+  ss_thresh : ℕ → Metric
+  cwnd : ℕ → Metric
+  advmss : ℕ → Metric
+  reordering : ℕ → Metric
+  hoplimit : ℕ → Metric
+  init_cwnd : ℕ → Metric
+  features : ℕ → Metric
+  rto_min : ℕ → Metric
+  init_rwnd : ℕ → Metric
+  quick_ack : ℕ → Metric
+  cc_algo : List ℕ → Metric
+  fastopen_no_cookie : ℕ → Metric
+  other : Item → Metric
+
+abbrev pub metric_of : RouteMetric → Metric
+metric_of (Lock a) = lock a
+metric_of (Mtu a) = mtu a
+metric_of (Window a) = window a
+metric_of (Rtt a) = rtt a
+metric_of (RttVar a) = rtt_var a
+metric_of (SsThresh a) = ss_thresh a
+metric_of (Cwnd a) = cwnd a
+metric_of (Advmss a) = advmss a
+metric_of (Reordering a) = reordering a
+metric_of (Hoplimit a) = hoplimit a
+metric_of (InitCwnd a) = init_cwnd a
+metric_of (Features a) = features a
+metric_of (RtoMin a) = rto_min a
+metric_of (InitRwnd a) = init_rwnd a
+metric_of (QuickAck a) = quick_ack a
+metric_of (CcAlgo a) = cc_algo (string_bytes a)
+metric_of (FastopenNoCookie a) = fastopen_no_cookie a
+metric_of (Other d) = other d
+
+abbrev pub at : ℕ → At
+at number = record { family = OfMetric; kind = number }
+
+-- the table
+abbrev pub rows : List (Row Metric)
+rows =
+    row (at 1) (exactly le32) lock
+    ∷ row (at 2) (exactly le32) mtu
+    ∷ row (at 3) (exactly le32) window
+    ∷ row (at 4) (exactly le32) rtt
+    ∷ row (at 5) (exactly le32) rtt_var
+    ∷ row (at 6) (exactly le32) ss_thresh
+    ∷ row (at 7) (exactly le32) cwnd
+    ∷ row (at 8) (exactly le32) advmss
+    ∷ row (at 9) (exactly le32) reordering
+    ∷ row (at 10) (exactly le32) hoplimit
+    ∷ row (at 11) (exactly le32) init_cwnd
+    ∷ row (at 12) (exactly le32) features
+    ∷ row (at 13) (exactly le32) rto_min
+    ∷ row (at 14) (exactly le32) init_rwnd
+    ∷ row (at 15) (exactly le32) quick_ack
+    ∷ row (at 16) name cc_algo
+    ∷ row (at 17) (exactly le32) fastopen_no_cookie
+    ∷ []
+
+-- where each meaning stands in it
+abbrev pub place : Metric → Held
+place (lock a) = held 1 (exactly le32) a
+place (mtu a) = held 2 (exactly le32) a
+place (window a) = held 3 (exactly le32) a
+place (rtt a) = held 4 (exactly le32) a
+place (rtt_var a) = held 5 (exactly le32) a
+place (ss_thresh a) = held 6 (exactly le32) a
+place (cwnd a) = held 7 (exactly le32) a
+place (advmss a) = held 8 (exactly le32) a
+place (reordering a) = held 9 (exactly le32) a
+place (hoplimit a) = held 10 (exactly le32) a
+place (init_cwnd a) = held 11 (exactly le32) a
+place (features a) = held 12 (exactly le32) a
+place (rto_min a) = held 13 (exactly le32) a
+place (init_rwnd a) = held 14 (exactly le32) a
+place (quick_ack a) = held 15 (exactly le32) a
+place (cc_algo a) = held 16 name a
+place (fastopen_no_cookie a) = held 17 (exactly le32) a
+place (other x) = held_other x
+
+-- what can be read
+abbrev pub Coherent : Metric → Type 0
+Coherent (other x) = IsOther rows x
+Coherent m = (place m).IsHeld
+
+pub aligned : Aligned (λ m. item_of (place m)) Coherent rows
+aligned = search rules
+
+pub kinds : (m : Metric) → Coherent m → (place m).kind < 2 ^ 16
+kinds (other x) c = c.proper.kind
+kinds m c = omega arith
+
+pub short : (m : Metric) → (place m).misfit ≡ None → length (place m).bytes ≤ 65531
+short (other x) fits = raw.fits_short x.kind x.value fits
+short m fits = (place m).codec.fits_short (place m).kind (place m).value fits
+
+pub back : (m : Metric) → Coherent m → (place m).misfit ≡ None → ReadsAt other rows (number_of (item_of (place m)).kind) (item_of (place m)) m
+back (other x) c fits = other-back other rows (number_of x.kind) x c.alone
+back m c fits = ((place m).value, (place m).codec.reads_back (place m).kind (place m).value c fits, refl)
+
+-- the family
+abbrev pub metrics : Family Metric
+metrics = flat (record {
+  rows = rows;
+  other = other;
+  place = place;
+  Coherent = Coherent;
+  aligned = aligned;
+  other_is = λ x. refl;
+  other_coherent = λ x is. is;
+  kinds = kinds;
+  short = short;
+  back = back;
+})

@@ -1,0 +1,167 @@
+//! The header of a route message: `struct rtmsg` of `linux/rtnetlink.h`.
+
+ghost use Rattle.std.specs.Prelude.{◌≡◌, ◌≤◌, ◌<◌, ℕ, None, length, IfOk, IfErr};
+ghost use Rattle.npr_base.specs.Codec.{leading};
+ghost use Rattle.npr_base.specs.Family.{checked};
+ghost use Rattle.npr_base.specs.Framing.{Writes};
+ghost use Rattle.npr_base.specs.Refusal.{no_place};
+ghost use Rattle.npr_route.specs.Header.{header_buffer, header, buffer_of};
+
+use bitflags::Flags;
+use npr_base::{AddressFamily, DecodeError, EmitError, Emitable, write_bytes};
+use npr_scalar::{RouteFlags, RouteProtocol, RouteScope, RouteType};
+
+/// The header of a route message.
+#[derive(Clone, Copy, Debug, Default, PartialEq, Eq)]
+pub struct RouteHeader {
+    /// The family of the addresses.
+    pub address_family: AddressFamily,
+    /// The length of the destination's prefix, in bits.
+    pub destination_prefix_length: u8,
+    /// The length of the source's prefix, in bits.
+    pub source_prefix_length: u8,
+    /// The type of service.
+    pub tos: u8,
+    /// The table, where it has room here.
+    pub table: u8,
+    /// Who made the route.
+    pub protocol: RouteProtocol,
+    /// How far the destination is.
+    pub scope: RouteScope,
+    /// What the route does.
+    pub kind: RouteType,
+    /// The flags.
+    pub flags: RouteFlags,
+}
+
+/// The layout of a [`RouteHeader`]: 12 bytes, each field of 1 byte but the flags, which have 4,
+/// little endian.
+#[derive(Clone, Copy, Debug, PartialEq, Eq)]
+pub struct RouteMessageBuffer {
+    pub address_family: u8,
+    pub destination_prefix_length: u8,
+    pub source_prefix_length: u8,
+    pub tos: u8,
+    pub table: u8,
+    pub protocol: u8,
+    pub scope: u8,
+    pub kind: u8,
+    pub flags: u32,
+}
+
+impl RouteMessageBuffer {
+    /// The layout in the first 12 bytes; more are not looked at.
+    ///
+    /// # Errors
+    /// `HeaderTooShort` below 12 bytes.
+    pub fn parse(bytes: &[u8]) -> Result<Self, DecodeError>
+        ensures ok { IfOk result (λ b. (leading header_buffer).Reads bytes.now b) }
+        ensures refused { IfErr result (λ e. (leading header_buffer).Wrong no_place bytes.now e) }
+    {
+        if bytes.len() < 12 {
+            return Err(DecodeError::HeaderTooShort {
+                got: bytes.len(),
+                want: 12,
+            });
+        }
+        let b = &bytes[..12];
+        Ok(RouteMessageBuffer {
+            address_family: b[0],
+            destination_prefix_length: b[1],
+            source_prefix_length: b[2],
+            tos: b[3],
+            table: b[4],
+            protocol: b[5],
+            scope: b[6],
+            kind: b[7],
+            flags: u32::from_le_bytes([b[8], b[9], b[10], b[11]]),
+        })
+    }
+
+    /// The 12 bytes of the layout.
+    pub fn to_bytes(&self) -> [u8; 12]
+        ensures { result ≡ header_buffer.encode self.now }
+    {
+        let [a, b, c, d] = self.flags.to_le_bytes();
+        [
+            self.address_family,
+            self.destination_prefix_length,
+            self.source_prefix_length,
+            self.tos,
+            self.table,
+            self.protocol,
+            self.scope,
+            self.kind,
+            a,
+            b,
+            c,
+            d,
+        ]
+    }
+}
+
+impl<'a> From<&'a RouteHeader> for RouteMessageBuffer {
+    ghost from_gives = { λ h b. b ≡ buffer_of h.now };
+
+    fn from(header: &'a RouteHeader) -> RouteMessageBuffer {
+        RouteMessageBuffer {
+            address_family: u8::from(header.address_family),
+            destination_prefix_length: header.destination_prefix_length,
+            source_prefix_length: header.source_prefix_length,
+            tos: header.tos,
+            table: header.table,
+            protocol: u8::from(header.protocol),
+            scope: u8::from(header.scope),
+            kind: u8::from(header.kind),
+            flags: header.flags.bits(),
+        }
+    }
+}
+
+impl RouteHeader {
+    /// The table main, `RT_TABLE_MAIN` of `linux/rtnetlink.h`.
+    pub const RT_TABLE_MAIN: u8 = 254;
+
+    /// No table, `RT_TABLE_UNSPEC` of `linux/rtnetlink.h`.
+    pub const RT_TABLE_UNSPEC: u8 = 0;
+
+    /// The header in the first 12 bytes; more are not looked at.
+    ///
+    /// # Errors
+    /// `HeaderTooShort` below 12 bytes.
+    pub fn parse(bytes: &[u8]) -> Result<Self, DecodeError>
+        ensures ok { IfOk result (λ h. (leading header).Reads bytes.now h) }
+        ensures refused { IfErr result (λ e. (leading header).Wrong no_place bytes.now e) }
+    {
+        let b = RouteMessageBuffer::parse(bytes)?;
+        Ok(RouteHeader {
+            address_family: AddressFamily::from(b.address_family),
+            destination_prefix_length: b.destination_prefix_length,
+            source_prefix_length: b.source_prefix_length,
+            tos: b.tos,
+            table: b.table,
+            protocol: RouteProtocol::from(b.protocol),
+            scope: RouteScope::from(b.scope),
+            kind: RouteType::from(b.kind),
+            flags: RouteFlags::from_bits_retain(b.flags),
+        })
+    }
+}
+
+impl Emitable for RouteHeader {
+    ghost bytes = { header.encode };
+
+    ghost unfit = { λ _. None };
+
+    fn check(&self) -> Result<usize, EmitError> {
+        Ok(12)
+    }
+
+    fn buffer_len(&self) -> usize {
+        12
+    }
+
+    fn emit(&self, out: &mut [u8]) {
+        write_bytes(out, &RouteMessageBuffer::from(self).to_bytes());
+    }
+}
