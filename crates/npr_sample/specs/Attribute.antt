@@ -1,18 +1,18 @@
 -- The attributes of the sample, by their table: a row of each kind.
-use Rattle.std.specs.Prelude.{◌≡◌, ℕ, ℤ, ◌+◌, ◌<◌, ◌≤◌, ◌^◌, Bool, true, false, List, [], ◌∷◌, length, map, Option, None}
+use Rattle.std.specs.Prelude.{◌≡◌, ℕ, ℤ, ◌<◌, ◌≤◌, ◌^◌, Bool, true, false, List, [], ◌∷◌, length, map, Option, None}
 use Rattle.std.specs.String.{string_bytes}
 use Rattle.npr_base.specs.declared.refusal.At.{At}
 use Rattle.npr_base.specs.declared.refusal.AttrFamily.TheVariants.{Value}
 use Rattle.npr_base.specs.declared.ip.IpAddr.{IpAddr}
 use Rattle.npr_base.specs.Framing.{Item, number_of}
 use Rattle.npr_base.specs.declared.refusal.EmitError.{EmitError}
-use Rattle.npr_base.specs.Family.{list_unfit, option_or, too_long}
+use Rattle.npr_base.specs.Family.{list_unfit}
 use Rattle.npr_base.specs.Layout.{byte, le16, le32, le64, be16, be32, be64, signed32, boolean, octets}
 use Rattle.npr_base.specs.Codec.{exactly, leading, raw}
 use Rattle.npr_base.specs.IpCodec.{ip}
 use Rattle.npr_base.specs.Name.{name}
 use Rattle.npr_base.specs.ListCodec.{list_of}
-use Rattle.npr_base.specs.Table.{Family, Table, Row, row, Held, held, held_nested, held_other, item_of, IsOther, Aligned, ReadsAt}
+use Rattle.npr_base.specs.Table.{Family, Row, row, Held, held, held_nested, held_other, item_of, IsOther, Aligned, ReadsAt}
 use Rattle.npr_base.specs.TableLaws.{flat, other-back}
 use Rattle.npr_sample.specs.Pair.{pair}
 use Rattle.npr_sample.specs.Color.{color, marks}
