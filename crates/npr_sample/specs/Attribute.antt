@@ -6,7 +6,7 @@ use Rattle.npr_base.specs.declared.refusal.AttrFamily.TheVariants.{Value}
 use Rattle.npr_base.specs.declared.ip.IpAddr.{IpAddr}
 use Rattle.npr_base.specs.Framing.{Item, number_of}
 use Rattle.npr_base.specs.declared.refusal.EmitError.{EmitError}
-use Rattle.npr_base.specs.Family.{list_unfit}
+use Rattle.npr_base.specs.Family.{encodings, list_unfit}
 use Rattle.npr_base.specs.Layout.{byte, le16, le32, le64, be16, be32, be64, signed32, boolean, octets}
 use Rattle.npr_base.specs.Codec.{exactly, leading, raw}
 use Rattle.npr_base.specs.IpCodec.{ip}
@@ -177,3 +177,10 @@ attributes context = flat (record {
   short = short;
   back = back context;
 })
+
+-- the canonical bytes of a list, whatever the context, and the first cause why there are none
+abbrev pub list_bytes : List Meaning → List ℕ
+list_bytes xs = encodings (λ m. item_of (place m)) xs
+
+abbrev pub list_misfit : List Meaning → Option EmitError
+list_misfit xs = list_unfit (λ m. (place m).misfit) (λ m. item_of (place m)) xs

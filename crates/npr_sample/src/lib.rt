@@ -5,6 +5,7 @@ mod attribute;
 mod colors;
 mod equality;
 mod inner;
+mod lists;
 mod pairs;
 #[cfg(test)]
 mod tests;
@@ -13,4 +14,5 @@ pub use attribute::SampleAttribute;
 pub use colors::{Color, Marks};
 pub use equality::law_equality;
 pub use inner::InnerAttribute;
+pub use lists::SampleList;
 pub use pairs::Pair;

@@ -1,9 +1,9 @@
 //! A list with one attribute of each row: what it is, and what is written again.
 
-use crate::{Color, InnerAttribute, Marks, Pair, SampleAttribute};
+use crate::{Color, InnerAttribute, Marks, Pair, SampleAttribute, SampleList};
 use npr_base::{
-    At, AttrFamily, DecodeError, DefaultNla, IpAddr, Looks, check_list, clone_list, emit_list,
-    parse_list,
+    At, AttrFamily, DecodeError, DefaultNla, Emitable, IpAddr, Looks, Nla, ParseableParametrized,
+    check_list, clone_list, emit_list, parse_list,
 };
 use std::alloc::{AllocError, Global};
 use std::test::Fail;
@@ -119,9 +119,31 @@ fn reads_by_the_context(rt: HostRuntime) -> Result<(), Fail> {
 fn writes_a_longer_struct_by_its_fields(rt: HostRuntime) -> Result<(), Fail> {
     let alloc = rt.alloc();
     let bytes = [11, 0, 16, 0, 1, 0, 0, 0, 2, 0, 9];
-    let list: Vec<SampleAttribute> = parse_list(alloc, true, &bytes, &mut Looks::new())?;
-    assert_eq!(rt; list, vec![in alloc; SampleAttribute::Prefix(PAIR)]?);
-    assert_eq!(rt; check_list(list.as_slice()), Ok(12));
+    let list = SampleList::parse_with_param(alloc, bytes.as_slice(), true)?;
+    assert_eq!(rt;
+        list.attributes,
+        vec![in alloc; SampleAttribute::Prefix(PAIR)]?
+    );
+    assert_eq!(rt; list.check()?, 12);
+    assert_eq!(rt; list.buffer_len(), 12);
+    let mut out = [0xff; 13];
+    list.emit(&mut out);
+    assert_eq!(rt; out, [10, 0, 16, 0, 1, 0, 0, 0, 2, 0, 0, 0, 0xff]);
+    Ok(())
+}
+
+#[test]
+fn writes_a_value_alone(rt: HostRuntime) -> Result<(), Fail> {
+    let attribute = SampleAttribute::NetworkHalf(0x1234);
+    assert_eq!(rt; attribute.check()?, 8);
+    assert_eq!(rt; attribute.buffer_len(), 8);
+    assert_eq!(rt; attribute.value_len(), 2);
+    let mut value = [0xff; 2];
+    attribute.emit_value(&mut value);
+    assert_eq!(rt; value, [0x12, 0x34]);
+    let mut out = [0xff; 9];
+    attribute.emit(&mut out);
+    assert_eq!(rt; out, [6, 0, 6, 0, 0x12, 0x34, 0, 0, 0xff]);
     Ok(())
 }
 
