@@ -1,13 +1,8 @@
 -- What stands in front of bytes, and that it is one attribute at most.
-use Rattle.std.proofs.Common.{◌≡◌, ℕ, min, zero, suc, ◌+◌, ◌-◌, ◌*◌, ◌/◌, ◌%◌, ◌^◌, ◌<◌, ◌≤◌, List, [], ◌∷◌, ◌++◌, length, get_or, take, drop, Result, Ok, Err, refl, sym, ap, subst, ◌∙◌, append_assoc, arith, inl, inr, length-append, length-drop, rules}
-use Rattle.std.proofs.lemmas.List.{append-nil, take-append-drop, length-take, take_at, drop_at, drop_min, take_rest, drop_all, take_all, drop-drop}
-use Rattle.std.proofs.lemmas.Nat.{le_bytes_2, from_le_bytes-to_le_bytes_2}
-use Rattle.std.proofs.lemmas.Bool.{cases_lt}
-use Rattle.std.proofs.lemmas.Grind.{common_steps}
-use Rattle.std.specs.Int.{w16, to_le_bytes, from_le_bytes}
-use Rattle.npr_base.specs.declared.refusal.DecodeError.{DecodeError}
-use Rattle.npr_base.specs.declared.refusal.DecodeError.TheVariants.{AttributeTooShort, AttributeLength}
-use Rattle.npr_base.specs.Framing.{Item, Small, pad, text, Front, Passes, Cut, Fault, Stops, Step, Begins}
+use Rattle.std.proofs.Common.{◌≡◌, ℕ, min, ◌+◌, ◌-◌, ◌*◌, ◌/◌, ◌%◌, ◌<◌, ◌≤◌, List, [], ◌∷◌, ◌++◌, length, get_or, take, drop, Ok, refl, sym, ap, subst, ◌∙◌, append_assoc, arith, length-append, length-drop}
+use Rattle.std.proofs.lemmas.List.{append-nil, take-append-drop, length-take, drop_at, drop_min, take_rest, drop-drop}
+use Rattle.std.specs.Int.{w16, to_le_bytes}
+use Rattle.npr_base.specs.Framing.{Item, pad, text, Front, Begins}
 
 four : (bs : List ℕ) → 4 ≤ length bs → bs ≡ get_or bs 0 0 ∷ get_or bs 1 0 ∷ get_or bs 2 0 ∷ get_or bs 3 0 ∷ drop 4 bs
 four (a ∷ b ∷ c ∷ d ∷ t) h = refl

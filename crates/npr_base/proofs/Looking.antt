@@ -1,5 +1,5 @@
 -- Looks at the members of a list, one member after the other.
-use Rattle.std.proofs.Common.{◌≡◌, ℕ, ◌+◌, ◌-◌, ◌*◌, ◌/◌, ◌^◌, ◌<◌, ◌≤◌, List, [], ◌∷◌, ◌++◌, refl, ap, arith}
+use Rattle.std.proofs.Common.{◌≡◌, ℕ, ◌+◌, ◌*◌, ◌/◌, ◌≤◌, List, [], ◌∷◌, ◌++◌, refl, arith}
 use Rattle.npr_base.specs.Counts.{Counts, AddsAtMost, SawEach, hit, miss}
 use Rattle.npr_base.specs.Family.{list_members}
 

@@ -1,7 +1,7 @@
 -- Writes at the front of a slice, one after the other.
-use Rattle.std.proofs.Common.{◌≡◌, ℕ, zero, suc, ◌+◌, ◌-◌, ◌*◌, ◌/◌, ◌%◌, ◌<◌, ◌≤◌, List, [], ◌∷◌, ◌++◌, length, take, drop, replicate, refl, sym, ap, ◌∙◌, arith, subst, length-append, length-take, length-drop, append_assoc}
+use Rattle.std.proofs.Common.{◌≡◌, ℕ, ◌+◌, ◌-◌, ◌≤◌, List, [], ◌++◌, length, take, drop, replicate, sym, ap, ◌∙◌, arith, subst, length-append, length-take, length-drop, append_assoc}
 use Rattle.std.specs.Int.{w16, to_le_bytes}
-use Rattle.std.proofs.lemmas.List.{take-append-drop, take_at, drop_at, take_all, drop-drop, append-nil, length-replicate, drop_all}
+use Rattle.std.proofs.lemmas.List.{take-append-drop, take_at, drop_at, take_all, drop-drop, append-nil, drop_all}
 use Rattle.std.proofs.Math.Seq.{drop-append-add}
 use borrow.Rule.Slice.PartMut.{put_mid}
 use Rattle.npr_base.specs.Framing.{Writes, encoding, framed, pad}

@@ -1,13 +1,11 @@
 -- The laws of values of fixed size and of bytes as they stand.
-use Rattle.std.specs.Prelude.{◌≢◌, Option, None}
-use Rattle.std.proofs.Common.{◌≡◌, ℕ, ◌+◌, ◌-◌, ◌*◌, ◌%◌, ◌<◌, ◌≤◌, List, length, take, refl, sym, ap, subst, ◌∙◌, arith, length-take}
-use Rattle.std.proofs.lemmas.List.{take_all, get_or_past}
-use Rattle.std.proofs.lemmas.Bool.{cases_lt}
-use Rattle.std.proofs.Common.{inl, inr, get_or}
+use Rattle.std.specs.Prelude.{◌≢◌, None}
+use Rattle.std.proofs.Common.{◌≡◌, ℕ, ◌+◌, ◌*◌, ◌<◌, ◌≤◌, List, length, take, sym, ap, subst, ◌∙◌, arith, length-take}
+use Rattle.std.proofs.lemmas.List.{take_all}
 use Rattle.npr_base.specs.declared.refusal.At.{At}
 use Rattle.npr_base.specs.declared.refusal.DecodeError.{DecodeError}
 use Rattle.npr_base.specs.declared.refusal.DecodeError.TheVariants.{ValueLength, HeaderTooShort}
-use Rattle.npr_base.specs.Framing.{IsBytes, framed, pad}
+use Rattle.npr_base.specs.Framing.{IsBytes, framed}
 use Rattle.npr_base.specs.Family.{too_long}
 use Rattle.npr_base.specs.Layout.{Layout}
 use Rattle.npr_base.specs.ListLaws.{IsBytes-take}

@@ -1,5 +1,5 @@
 -- Whether two attributes are equal: both kinds and both values.
-use Rattle.std.specs.Prelude.{ℕ, Bool, ◌==◌, ◌&&◌, nat_eq}
+use Rattle.std.specs.Prelude.{Bool, ◌==◌, ◌&&◌, nat_eq}
 use Rattle.std.specs.Cmp.{unsigned_Decides, first_so, second_so}
 use Rattle.std.specs.Cmp.Lexicographic.{pointwise, bytes_decides}
 use Rattle.std.proofs.Common.{ap}

@@ -1,11 +1,11 @@
 -- Numbers of one to eight bytes.
-use Rattle.std.proofs.Common.{◌≡◌, ℕ, ◌+◌, ◌*◌, ◌%◌, ◌/◌, ◌^◌, ◌<◌, List, [], ◌∷◌, length, slice_index, arith}
+use Rattle.std.proofs.Common.{◌≡◌, ℕ, ◌^◌, ◌<◌, List, length, arith}
 use Rattle.std.specs.Prelude.{ℤ, FitsSigned}
 use Rattle.std.proofs.Common.{ap, ◌∙◌, to_z-of_z}
 use Rattle.std.proofs.Math.Facts.{Fits-lt-pow, Fits-bits, sfits_to_z}
 use mir.ValLaws.{of_z_fits}
 use Rattle.std.proofs.lemmas.Nat.{from_le_bytes-to_le_bytes_4}
-use Rattle.std.specs.Int.{w16, w32, w64, to_le_bytes, from_le_bytes, to_be_bytes, from_be_bytes, cast_signed, cast_unsigned}
+use Rattle.std.specs.Int.{w16, w32, w64, to_le_bytes, from_le_bytes, from_be_bytes, cast_signed, cast_unsigned}
 use Rattle.npr_base.specs.Framing.{IsBytes}
 
 pub le16-holds : (bytes : List ℕ) → IsBytes bytes → length bytes ≡ 2 → from_le_bytes w16 bytes < 2 ^ 16

@@ -1,6 +1,5 @@
 -- A list of attributes of another family as a value.
-use Rattle.std.specs.Prelude.{◌≡◌, ℕ, List, length, Option, None}
-use Rattle.npr_base.specs.Framing.{IsBytes, framed}
+use Rattle.std.specs.Prelude.{List, length}
 use Rattle.npr_base.specs.Family.{AllOf, ReadsList, FirstFault, encodings, first_unfit, list_unfit, list_members, option_or, overlong, too_long}
 use Rattle.npr_base.specs.FitLaws.{too_long-short}
 use Rattle.npr_base.specs.ListLaws.{none_both, ReadsList-one, FirstFault-excludes, ReadsList-known, encodings-read, list-grows}

@@ -1,13 +1,13 @@
 -- Bytes are one list at most, what is wrong with them is no list, and what is written is read again.
 use Rattle.std.specs.Prelude.{◌≢◌, IfErr, Option, Some, None, replicate}
-use Rattle.std.proofs.Common.{Result, Ok, Err, ◌≡◌, ℕ, suc, ◌+◌, ◌*◌, ◌%◌, ◌<◌, ◌≤◌, List, [], ◌∷◌, ◌++◌, length, get_or, take, drop, refl, sym, ap, subst, ◌∙◌, append_assoc, arith, inl, inr, length-append}
+use Rattle.std.proofs.Common.{Result, Ok, Err, ◌≡◌, ℕ, suc, ◌+◌, ◌*◌, ◌%◌, ◌≤◌, List, [], ◌∷◌, ◌++◌, length, take, drop, refl, sym, ap, subst, ◌∙◌, arith, inl, inr, length-append}
 use Rattle.std.proofs.lemmas.Bool.{cases_lt}
 use Rattle.std.proofs.lemmas.List.{length-replicate, take-append-drop, get_or-append-add, get_or_append_left, get_or_past}
 use Rattle.npr_base.specs.declared.refusal.DecodeError.{DecodeError}
 use Rattle.npr_base.specs.declared.refusal.DecodeError.TheVariants.{OutOfMemory}
 use Rattle.npr_base.specs.declared.refusal.EmitError.{EmitError}
-use Rattle.npr_base.specs.Framing.{Item, Small, Proper, IsBytes, Front, Passes, Fault, text, pad, encoding, framed}
-use Rattle.npr_base.specs.Family.{Each, AllOf, ReadsTo, ReadsList, IsWrong, FirstFault, encodings, first_unfit, option_or}
+use Rattle.npr_base.specs.Framing.{Item, Small, Proper, IsBytes, Front, Passes, text, pad, encoding, framed}
+use Rattle.npr_base.specs.Family.{Each, AllOf, ReadsList, IsWrong, FirstFault, encodings, first_unfit, option_or}
 use Rattle.npr_base.specs.FrontLaws.{Front-same, Front-sound, Front-shrinks, Front-takes, Cut-same}
 
 pub none_both : {A : Type 0} (o p : Option A) → option_or o p ≡ None → (o ≡ None) × (p ≡ None)

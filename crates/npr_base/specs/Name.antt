@@ -1,9 +1,7 @@
 -- Names: UTF-8 with one final zero, which may be missing where it is read.
-use Rattle.std.specs.Prelude.{◌≡◌, ◌≢◌, ℕ, ◌+◌, ◌*◌, ◌≤◌, ◌⊎◌, List, [], ◌∷◌, ◌++◌, length, None}
+use Rattle.std.specs.Prelude.{◌≡◌, ℕ, List, [], ◌∷◌, ◌++◌, length}
 use Rattle.std.specs.Str.{IsUtf8}
-use Rattle.std.proofs.Common.{refl, inl, inr}
-use Rattle.npr_base.specs.declared.refusal.At.{At}
-use Rattle.npr_base.specs.declared.refusal.DecodeError.{DecodeError}
+use Rattle.std.proofs.Common.{refl, inl}
 use Rattle.npr_base.specs.declared.refusal.DecodeError.TheVariants.{NotUtf8}
 use Rattle.npr_base.specs.Family.{too_long}
 use Rattle.npr_base.specs.FitLaws.{too_long-short}

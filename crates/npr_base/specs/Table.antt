@@ -2,7 +2,6 @@
 use Rattle.std.specs.Prelude.{◌≡◌, ℕ, ◌+◌, ◌*◌, ◌<◌, ◌≤◌, ◌^◌, ◌==◌, Bool, true, false, List, [], ◌∷◌, length, Option, None, if◌then◌else◌}
 use Rattle.std.specs.Bool.{MatchBool}
 use Rattle.npr_base.specs.declared.refusal.At.{At}
-use Rattle.npr_base.specs.declared.refusal.AttrFamily.{AttrFamily}
 use Rattle.npr_base.specs.declared.refusal.DecodeError.{DecodeError}
 use Rattle.npr_base.specs.declared.refusal.EmitError.{EmitError}
 use Rattle.npr_base.specs.Framing.{Item, Small, Proper, framed, marked, number_of}
@@ -78,8 +77,26 @@ held {V} kind codec value = record {
   value = value;
 }
 
+-- the same with NESTED in the written kind, whatever the kind says
+abbrev pub held_nested : {V : Type 0} → ℕ → Codec V → V → Held
+held_nested {V} kind codec value = record {
+  kind = kind;
+  nested = true;
+  bytes = codec.writes value;
+  misfit = codec.misfit kind value;
+  IsHeld = codec.Holds value;
+  members = codec.members value;
+  V = V;
+  codec = codec;
+  value = value;
+}
+
 abbrev pub held_other : Item → Held
 held_other x = held x.kind raw x.value
+
+-- before NESTED is set in its kind, and after
+abbrev pub plain_item : Held → Item
+plain_item h = record { kind = h.kind; value = h.bytes }
 
 abbrev pub item_of : Held → Item
 item_of h = record { kind = marked h.nested h.kind; value = h.bytes }

@@ -1,11 +1,11 @@
 -- A table is a family.
 use Rattle.std.specs.Prelude.{◌==◌}
 use Rattle.std.specs.Bool.{MatchBool}
-use Rattle.std.proofs.Common.{◌≡◌, ℕ, ◌+◌, ◌*◌, ◌%◌, ◌<◌, ◌≤◌, ◌^◌, Bool, true, false, cond, List, [], ◌∷◌, length, Option, None, refl, sym, ap, subst, ◌∙◌, arith}
+use Rattle.std.proofs.Common.{◌≡◌, ℕ, ◌+◌, ◌*◌, ◌<◌, ◌≤◌, ◌^◌, Bool, true, false, cond, List, [], ◌∷◌, length, refl, sym, ap, subst, ◌∙◌, arith}
 use Rattle.npr_base.specs.declared.refusal.DecodeError.{DecodeError}
-use Rattle.npr_base.specs.Framing.{Item, Small, Proper, IsBytes, framed, marked, number_of}
+use Rattle.npr_base.specs.Framing.{Item, IsBytes, framed, marked, number_of}
 use Rattle.npr_base.specs.CodecLaws.{framed-grows}
-use Rattle.npr_base.specs.Table.{Family, Row, ReadsAt, WrongAt, has_row, IsOther, Held, item_of, Aligned, Table}
+use Rattle.npr_base.specs.Table.{Family, Row, ReadsAt, WrongAt, has_row, item_of, Aligned, Table}
 
 -- two facts on the same test
 both : {P Q S T R : Type 0} (b : Bool) → (P → S → R) → (Q → T → R) → MatchBool b P Q → MatchBool b S T → R

@@ -10,6 +10,8 @@ mod ip;
 mod list;
 mod looks;
 mod refusal;
+#[cfg(test)]
+mod tests;
 mod traits;
 mod values;
 

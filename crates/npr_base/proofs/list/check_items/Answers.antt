@@ -1,5 +1,5 @@
 use Rattle.std.proofs.Common.{◌≡◌, ◌+◌, ap, sym, ◌∙◌, length, take}
-use Rattle.npr_base.specs.Framing.{encoding, framed, written_by}
+use Rattle.npr_base.specs.Framing.{framed, written_by}
 use Rattle.npr_base.specs.Family.{encodings, held}
 use Rattle.npr_base.proofs.Checking.{checked-ok, first-past, encodings-more}
 use Rattle.npr_base.specs.ListLaws.{length-encoding}

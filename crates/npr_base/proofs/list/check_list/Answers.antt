@@ -1,4 +1,3 @@
-use Rattle.std.proofs.Common.{sym, ◌∙◌}
 use Rattle.npr_base.specs.Framing.{written_by}
 use Rattle.npr_base.proofs.Checking.{encodings-seen, list-seen}
 use Rattle.npr_base.proofs.list.check_list.Goals as goal

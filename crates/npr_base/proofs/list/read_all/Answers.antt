@@ -1,11 +1,11 @@
-use Rattle.std.proofs.Common.{◌≡◌, ◌≤◌, ◌+◌, ◌-◌, ◌∷◌, [], ◌++◌, map, length, arith, ap, ◌∙◌, subst, sym}
+use Rattle.std.proofs.Common.{◌≡◌, ◌≤◌, ◌+◌, ◌-◌, ◌∷◌, [], ◌++◌, map, length, arith, subst}
 use Rattle.std.proofs.lemmas.List.{map_push}
 use Rattle.npr_base.specs.Counts.{Counts, AddsAtMost, SawEach, hit}
 use Rattle.npr_base.specs.Framing.{Front}
-use Rattle.npr_base.specs.Family.{ReadsTo, list_members}
+use Rattle.npr_base.specs.Family.{list_members}
 use Rattle.npr_base.specs.FrontLaws.{Front-takes}
 use Rattle.npr_base.proofs.Lists.{begins_so, ReadsTo-more}
-use Rattle.npr_base.proofs.Looking.{SoFar, SoFar-more, SoFar-fault, list_members-more}
+use Rattle.npr_base.proofs.Looking.{SoFar-more, list_members-more}
 use Rattle.npr_base.proofs.list.read_all.Goals as goal
 
 pub returns-in_err-attribute-clause-memory : goal.returns-in_err-attribute-clause-memory

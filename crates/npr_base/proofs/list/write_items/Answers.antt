@@ -1,4 +1,4 @@
-use Rattle.std.proofs.Common.{◌≡◌, ◌+◌, ◌-◌, ◌≤◌, length, take, drop, arith, ◌∙◌, sym, length-take, length-drop}
+use Rattle.std.proofs.Common.{◌≡◌, ◌+◌, ◌-◌, ◌≤◌, length, take, drop, arith, length-take, length-drop}
 use Rattle.npr_base.specs.Framing.{encoding, framed, written_by}
 use Rattle.npr_base.specs.Family.{encodings}
 use Rattle.npr_base.proofs.Checking.{first-none, encodings-more, encodings-next, encodings-below}

@@ -1,4 +1,4 @@
-use Rattle.std.proofs.Common.{sym, ◌∙◌}
+use Rattle.std.proofs.Common.{◌∙◌}
 use Rattle.npr_base.specs.Framing.{written_by}
 use Rattle.npr_base.proofs.Checking.{encodings-seen, list-seen}
 use Rattle.npr_base.proofs.list.write_list.Goals as goal

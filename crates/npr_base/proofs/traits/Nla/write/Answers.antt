@@ -1,4 +1,4 @@
-use Rattle.std.proofs.Common.{◌≡◌, ℕ, ap, ◌∙◌, subst, length, take, drop, ◌-◌}
+use Rattle.std.proofs.Common.{◌≡◌, ℕ, subst, length, take, drop, ◌-◌}
 use Rattle.npr_base.specs.Framing.{Writes, Item, encoding, marked}
 use Rattle.npr_base.proofs.Writing.{Writes-encoding}
 use borrow.Rule.Slice.PartMut.{put_mid}

@@ -1,0 +1,4 @@
+pub mod Pair
+pub mod Color
+pub mod Inner
+pub mod Attribute

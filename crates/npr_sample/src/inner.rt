@@ -1,0 +1,147 @@
+//! The attributes of a list inside an attribute: two rows.
+
+ghost use Rattle.std.specs.Prelude.{◌≡◌, ◌≢◌, ◌≤◌, ◌<◌, ◌+◌, ◌*◌, ℕ, List, Option, None, false, length, IfOk, IfErr};
+ghost use Rattle.std.proofs.Common.{refl};
+ghost use Rattle.npr_sample.specs.Inner.{Meaning, meaning_of, attributes, short};
+
+use npr_base::{
+    At, AttrFamily, Attribute, DecodeError, DefaultNla, EmitError, Looks, NLA_F_NESTED, Nla,
+    NlaBuffer, Parseable, check_len, read_name, read_u32, write_bytes, write_name,
+};
+use std::alloc::{AllocError, Global};
+
+/// An attribute of the list inside.
+#[derive(Debug, Drop, PartialEq, Eq)]
+pub enum InnerAttribute {
+    /// A number of four bytes.
+    Count(u32),
+    /// A name, whose written kind has the NESTED flag.
+    Label(String),
+    /// An attribute of another number, as it stands.
+    Other(DefaultNla),
+}
+
+impl InnerAttribute {
+    /// An equal attribute.
+    ///
+    /// # Errors
+    /// `AllocError` where memory is refused.
+    pub fn clone(&self, alloc: Global) -> Result<Self, AllocError>
+        ensures { IfOk result (λ a. meaning_of a ≡ meaning_of self.now) }
+    {
+        Ok(match self {
+            InnerAttribute::Count(count) => InnerAttribute::Count(*count),
+            InnerAttribute::Label(name) => {
+                InnerAttribute::Label(String::from_str(alloc, name.as_str())?)
+            }
+            InnerAttribute::Other(nla) => InnerAttribute::Other(nla.clone(alloc)?),
+        })
+    }
+}
+
+const fn at(kind: u16) -> At
+    ensures { result ≡ record { family = AttrFamily.Metric; kind = kind } }
+{
+    At {
+        family: AttrFamily::Metric,
+        kind,
+    }
+}
+
+impl Nla for InnerAttribute {
+    ghost item = { λ a. attributes.writes (meaning_of a) };
+
+    ghost nested = { λ _. false };
+
+    ghost unfit = { λ a. attributes.misfit (meaning_of a) };
+
+    ghost fits_short = { λ a h. short (meaning_of a) h };
+
+    fn kind(&self) -> u16 {
+        match self {
+            InnerAttribute::Count(_) => 1,
+            InnerAttribute::Label(_) => 2 + NLA_F_NESTED,
+            InnerAttribute::Other(nla) => nla.kind(),
+        }
+    }
+
+    fn is_nested(&self) -> bool {
+        false
+    }
+
+    fn check(&self) -> Result<usize, EmitError> {
+        check_len(self.kind(), self.value_len())
+    }
+
+    fn value_len(&self) -> usize
+        ensures { result ≡ length (attributes.writes (meaning_of self.now)).value }
+    {
+        match self {
+            InnerAttribute::Count(_) => 4,
+            InnerAttribute::Label(name) => name.len() + 1,
+            InnerAttribute::Other(nla) => nla.value().len(),
+        }
+    }
+
+    fn write_value(&self, out: &mut [u8]) -> usize {
+        match self {
+            InnerAttribute::Count(count) => write_bytes(out, &count.to_le_bytes()),
+            InnerAttribute::Label(name) => write_name(out, name.as_str()),
+            InnerAttribute::Other(nla) => write_bytes(out, nla.value()),
+        }
+    }
+}
+
+impl Attribute for InnerAttribute {
+    type Context = ();
+
+    ghost Meaning = { Meaning };
+
+    ghost meaning = { meaning_of };
+
+    ghost writes = { attributes.writes };
+
+    ghost misfit = { attributes.misfit };
+
+    ghost reads = { λ _. attributes.Reads };
+
+    ghost faulty = { λ _. attributes.Faulty };
+
+    ghost coherent = { λ _. attributes.Coherent };
+
+    ghost members = { attributes.members };
+
+    ghost item_is = { λ a. refl };
+
+    ghost unfit_is = { λ a. refl };
+
+    ghost one_reading = { λ _. attributes.one_reading };
+
+    ghost no_fault = { λ _. attributes.no_fault };
+
+    ghost reads_coherent = { λ _. attributes.reads_coherent };
+
+    ghost fits_small = { λ _. attributes.fits_small };
+
+    ghost reads_back = { λ _. attributes.reads_back };
+
+    ghost grows = { λ _. attributes.grows };
+
+    fn read(
+        alloc: Global,
+        _context: (),
+        item: &NlaBuffer<'_>,
+        _looks: &mut Looks,
+    ) -> Result<Self, DecodeError> {
+        let value = item.value();
+        match item.kind() {
+            1 => read_u32(value, at(1)).map(InnerAttribute::Count),
+            2 => read_name(alloc, value, at(2)).map(InnerAttribute::Label),
+            _ => DefaultNla::parse(alloc, item).map(InnerAttribute::Other),
+        }
+    }
+
+    fn try_clone(&self, alloc: Global) -> Result<Self, AllocError> {
+        self.clone(alloc)
+    }
+}
