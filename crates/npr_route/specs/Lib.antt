@@ -1,2 +1,4 @@
 pub mod Header
 pub mod Metric
+pub mod Attribute
+pub mod AttributeLaws

@@ -1,0 +1,188 @@
+-- The attributes of a route message (linux/rtnetlink.h, RTA_*), by their table under the header.
+use Rattle.std.specs.Prelude.{◌≡◌, ◌≢◌, ℕ, ◌<◌, ◌≤◌, ◌^◌, Bool, true, false, List, [], ◌∷◌, length, map, None}
+use Rattle.std.proofs.Common.{refl, arith, rules}
+use Rattle.npr_base.specs.declared.refusal.At.{At}
+use Rattle.npr_base.specs.declared.refusal.AttrFamily.TheVariants.{Route as OfRoute}
+use Rattle.npr_base.specs.declared.address_family.AddressFamily.{AddressFamily}
+use Rattle.npr_base.specs.Framing.{Item, number_of}
+use Rattle.npr_base.specs.Layout.{byte, le32, le64, be16, be32}
+use Rattle.npr_base.specs.Codec.{exactly, leading, raw}
+use Rattle.npr_base.specs.ListCodec.{list_of}
+use Rattle.npr_base.specs.Table.{Family, Table, Row, row, Held, held, held_other, item_of, IsOther, Aligned, ReadsAt}
+use Rattle.npr_base.specs.TableLaws.{flat, other-back}
+use Rattle.npr_scalar.specs.MplsLaws.{mpls_labels}
+use Rattle.npr_scalar.specs.Realm.{route_realm}
+use Rattle.npr_scalar.specs.RouteAddress.{Address as AddressMeaning, address_of, address_bytes, address_in, Form, four, sixteen, label, any, form_of}
+use Rattle.npr_scalar.specs.RouteCacheInfo.{route_cache_info}
+use Rattle.npr_scalar.specs.RouteMfcStats.{route_mfc_stats}
+use Rattle.npr_scalar.specs.RoutePreferenceLaws.{route_preference}
+use Rattle.npr_scalar.specs.RouteVia.{Via as ViaMeaning, via_of, via_value}
+use Rattle.npr_scalar.specs.TtlPropagationLaws.{ttl_propagation}
+use Rattle.npr_scalar.specs.declared.cache_info.RouteCacheInfo.{RouteCacheInfo}
+use Rattle.npr_scalar.specs.declared.header.RouteType.{RouteType}
+use Rattle.npr_scalar.specs.declared.header.RouteType.TheVariants.{Multicast}
+use Rattle.npr_scalar.specs.declared.mfc_stats.RouteMfcStats.{RouteMfcStats}
+use Rattle.npr_scalar.specs.declared.mpls.MplsLabel.{MplsLabel}
+use Rattle.npr_scalar.specs.declared.preference.RouteMplsTtlPropagation.{RouteMplsTtlPropagation}
+use Rattle.npr_scalar.specs.declared.preference.RoutePreference.{RoutePreference}
+use Rattle.npr_scalar.specs.declared.realm.RouteRealm.{RouteRealm}
+use Rattle.npr_tunnel.specs.EncapType.{encap_type as encap_type_layout}
+use Rattle.npr_tunnel.specs.declared.encap_type.RouteLwEnCapType.{RouteLwEnCapType}
+use Rattle.npr_route.specs.Metric.{Metric, metric_of, metrics as metric_family}
+use Rattle.npr_route.specs.declared.attribute.RouteAttribute.{RouteAttribute}
+use Rattle.npr_route.specs.declared.attribute.RouteAttribute.TheVariants.{Destination, Source, Iif, Oif, Gateway, Priority, PrefSource, Metrics as HasMetrics, Realm, CacheInfo, Table as HasTable, Mark, MfcStats, Via as HasVia, NewDestination, NewDestinationAddress, Preference, EncapType, Expires, MulticastExpires, Uid, TtlPropagate, IpProto, Sport, Dport, NhId, Flowlabel, Other}
+
+-- what an attribute is, without where it lies in memory
+pub data Meaning : Type 0 where
+  destination : AddressMeaning → Meaning
+  source : AddressMeaning → Meaning
+  iif : ℕ → Meaning
+  oif : ℕ → Meaning
+  gateway : AddressMeaning → Meaning
+  priority : ℕ → Meaning
+  pref_source : AddressMeaning → Meaning
+  metrics : List Metric → Meaning
+  realm : RouteRealm → Meaning
+  cache_info : RouteCacheInfo → Meaning
+  table : ℕ → Meaning
+  mark : ℕ → Meaning
+  mfc_stats : RouteMfcStats → Meaning
+  via : ViaMeaning → Meaning
+  new_destination : List MplsLabel → Meaning
+  new_destination_address : AddressMeaning → Meaning
+  preference : RoutePreference → Meaning
+  encap_type : RouteLwEnCapType → Meaning
+  expires : ℕ → Meaning
+  multicast_expires : ℕ → Meaning
+  uid : ℕ → Meaning
+  ttl_propagate : RouteMplsTtlPropagation → Meaning
+  ip_proto : ℕ → Meaning
+  sport : ℕ → Meaning
+  dport : ℕ → Meaning
+  nh_id : ℕ → Meaning
+  flowlabel : ℕ → Meaning
+  other : Item → Meaning
+
+abbrev pub meaning_of : RouteAttribute → Meaning
+meaning_of (Destination a) = destination (address_of a)
+meaning_of (Source a) = source (address_of a)
+meaning_of (Iif a) = iif a
+meaning_of (Oif a) = oif a
+meaning_of (Gateway a) = gateway (address_of a)
+meaning_of (Priority a) = priority a
+meaning_of (PrefSource a) = pref_source (address_of a)
+meaning_of (HasMetrics a) = metrics (map metric_of a.items)
+meaning_of (Realm a) = realm a
+meaning_of (CacheInfo a) = cache_info a
+meaning_of (HasTable a) = table a
+meaning_of (Mark a) = mark a
+meaning_of (MfcStats a) = mfc_stats a
+meaning_of (HasVia a) = via (via_of a)
+meaning_of (NewDestination a) = new_destination a.items
+meaning_of (NewDestinationAddress a) = new_destination_address (address_of a)
+meaning_of (Preference a) = preference a
+meaning_of (EncapType a) = encap_type a
+meaning_of (Expires a) = expires a
+meaning_of (MulticastExpires a) = multicast_expires a
+meaning_of (Uid a) = uid a
+meaning_of (TtlPropagate a) = ttl_propagate a
+meaning_of (IpProto a) = ip_proto a
+meaning_of (Sport a) = sport a
+meaning_of (Dport a) = dport a
+meaning_of (NhId a) = nh_id a
+meaning_of (Flowlabel a) = flowlabel a
+meaning_of (Other d) = other d
+
+abbrev pub at : ℕ → At
+at number = record { family = OfRoute; kind = number }
+
+-- a route type counts by its variant
+abbrev pub is_multicast : RouteType → Bool
+is_multicast Multicast = true
+is_multicast kind = false
+
+-- the rows that rest on the header: labels for family mpls, else an address; eight bytes of a
+-- multicast route, else four
+abbrev pub new_destination_row : Form → Row Meaning
+new_destination_row label = row (at 19) mpls_labels new_destination
+new_destination_row form = row (at 19) (address_in form) new_destination_address
+
+abbrev pub expires_row : Bool → Row Meaning
+expires_row true = row (at 23) (exactly le64) multicast_expires
+expires_row false = row (at 23) (exactly le32) expires
+
+-- the other rows
+abbrev pub fixed_rows : Form → List (Row Meaning)
+fixed_rows form =
+    row (at 1) (address_in form) destination
+    ∷ row (at 2) (address_in form) source
+    ∷ row (at 3) (exactly le32) iif
+    ∷ row (at 4) (exactly le32) oif
+    ∷ row (at 5) (address_in form) gateway
+    ∷ row (at 6) (exactly le32) priority
+    ∷ row (at 7) (address_in form) pref_source
+    ∷ row (at 8) (list_of metric_family) metrics
+    ∷ row (at 11) (exactly route_realm) realm
+    ∷ row (at 12) (leading route_cache_info) cache_info
+    ∷ row (at 15) (exactly le32) table
+    ∷ row (at 16) (exactly le32) mark
+    ∷ row (at 17) (leading route_mfc_stats) mfc_stats
+    ∷ row (at 18) via_value via
+    ∷ row (at 20) (exactly route_preference) preference
+    ∷ row (at 21) (exactly encap_type_layout) encap_type
+    ∷ row (at 25) (exactly le32) uid
+    ∷ row (at 26) (exactly ttl_propagation) ttl_propagate
+    ∷ row (at 27) (exactly byte) ip_proto
+    ∷ row (at 28) (exactly be16) sport
+    ∷ row (at 29) (exactly be16) dport
+    ∷ row (at 30) (exactly le32) nh_id
+    ∷ row (at 31) (exactly be32) flowlabel
+    ∷ []
+
+-- the table
+abbrev pub rows : Form → Bool → List (Row Meaning)
+rows form multicast = new_destination_row form ∷ expires_row multicast ∷ fixed_rows form
+
+-- how each meaning is written, whatever the header
+abbrev pub place : Meaning → Held
+place (destination a) = held 1 raw (address_bytes a)
+place (source a) = held 2 raw (address_bytes a)
+place (iif a) = held 3 (exactly le32) a
+place (oif a) = held 4 (exactly le32) a
+place (gateway a) = held 5 raw (address_bytes a)
+place (priority a) = held 6 (exactly le32) a
+place (pref_source a) = held 7 raw (address_bytes a)
+place (metrics a) = held 8 (list_of metric_family) a
+place (realm a) = held 11 (exactly route_realm) a
+place (cache_info a) = held 12 (leading route_cache_info) a
+place (table a) = held 15 (exactly le32) a
+place (mark a) = held 16 (exactly le32) a
+place (mfc_stats a) = held 17 (leading route_mfc_stats) a
+place (via a) = held 18 via_value a
+place (new_destination a) = held 19 mpls_labels a
+place (new_destination_address a) = held 19 raw (address_bytes a)
+place (preference a) = held 20 (exactly route_preference) a
+place (encap_type a) = held 21 (exactly encap_type_layout) a
+place (expires a) = held 23 (exactly le32) a
+place (multicast_expires a) = held 23 (exactly le64) a
+place (uid a) = held 25 (exactly le32) a
+place (ttl_propagate a) = held 26 (exactly ttl_propagation) a
+place (ip_proto a) = held 27 (exactly byte) a
+place (sport a) = held 28 (exactly be16) a
+place (dport a) = held 29 (exactly be16) a
+place (nh_id a) = held 30 (exactly le32) a
+place (flowlabel a) = held 31 (exactly be32) a
+place (other x) = held_other x
+
+-- what can be read
+abbrev pub Coherent : Form → Bool → Meaning → Type 0
+Coherent form multicast (destination a) = (address_in form).Holds a
+Coherent form multicast (source a) = (address_in form).Holds a
+Coherent form multicast (gateway a) = (address_in form).Holds a
+Coherent form multicast (pref_source a) = (address_in form).Holds a
+Coherent form multicast (new_destination a) = (form ≡ label) × mpls_labels.Holds a
+Coherent form multicast (new_destination_address a) = (form ≢ label) × (address_in form).Holds a
+Coherent form multicast (expires n) = (multicast ≡ false) × (n < 2 ^ 32)
+Coherent form multicast (multicast_expires n) = (multicast ≡ true) × (n < 2 ^ 64)
+Coherent form multicast (other x) = IsOther (rows form multicast) x
+Coherent form multicast m = (place m).IsHeld
