@@ -4,6 +4,7 @@
 mod equality;
 mod header;
 mod ip_protocol;
+mod layouts;
 mod mpls;
 mod place;
 mod preference;
@@ -17,6 +18,7 @@ pub use header::{
     law_route_type_number,
 };
 pub use ip_protocol::{IpProtocol, law_ip_protocol_number};
+pub use layouts::law_layouts;
 pub use mpls::{
     MplsLabel, emit_labels, law_label_number, law_labels_length, read_labels, write_labels,
 };

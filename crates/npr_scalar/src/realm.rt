@@ -3,7 +3,6 @@
 ghost use Rattle.std.specs.Prelude.{◌≡◌, ◌<◌, ◌^◌, ℕ, None, IfOk, IfErr};
 ghost use Rattle.npr_base.specs.Codec.{exactly};
 ghost use Rattle.npr_base.specs.Refusal.{no_place};
-ghost use Rattle.npr_scalar.specs.declared.realm.RouteRealm.{RouteRealm};
 ghost use Rattle.npr_scalar.specs.Realm.{realm_of, realm_number, route_realm};
 
 use crate::place::NO_PLACE;
