@@ -1,10 +1,8 @@
 //! The fields of a route's header with numbers of their own (`linux/rtnetlink.h`): who made the
 //! route, how far its destination is, and what becomes of a packet.
 
-ghost use Rattle.std.specs.Prelude.{◌≡◌, ◌≤◌, ℕ, None, length, IfOk, IfErr};
+ghost use Rattle.std.specs.Prelude.{◌≡◌, ℕ, None, IfOk, IfErr};
 ghost use Rattle.npr_base.specs.Codec.{exactly};
-ghost use Rattle.npr_base.specs.Family.{checked};
-ghost use Rattle.npr_base.specs.Framing.{Writes};
 ghost use Rattle.npr_base.specs.Refusal.{no_place};
 ghost use Rattle.npr_scalar.specs.RouteProtocol.{route_protocol_of, route_protocol_number};
 ghost use Rattle.npr_scalar.specs.RouteProtocolLaws.{route_protocol};

@@ -6,6 +6,7 @@ ghost use Rattle.npr_scalar.specs.IpProtocol.{ip_protocol_of, ip_protocol_number
 /// A protocol over IP: `IPPROTO_*` of `linux/in.h`, a signed number of 32 bits.
 #[derive(Clone, Copy, Debug, Default, PartialEq, Eq)]
 pub enum IpProtocol {
+    /// Options for each hop (`linux/in6.h`); `linux/in.h` has `IPPROTO_IP` at its number, 0.
     Hopopts,
     Icmp,
     Igmp,

@@ -7,6 +7,7 @@ mod equality;
 mod flags;
 mod header;
 mod ip_protocol;
+mod layouts;
 mod mfc_stats;
 mod mpls;
 mod preference;
@@ -24,6 +25,7 @@ pub use header::{
     law_route_type_number,
 };
 pub use ip_protocol::{IpProtocol, law_ip_protocol_number};
+pub use layouts::law_layouts;
 pub use mfc_stats::{RouteMfcStats, RouteMfcStatsBuffer};
 pub use mpls::{
     MplsLabel, emit_labels, law_label_number, law_labels_length, read_labels, write_labels,

@@ -2,11 +2,9 @@
 
 ghost use Rattle.std.specs.Prelude.{◌≡◌, ◌*◌, ◌≤◌, ◌<◌, ◌^◌, ◌↔◌, ℕ, List, None, length, IfOk, IfErr, IsErr};
 ghost use Rattle.npr_base.specs.Codec.{exactly};
-ghost use Rattle.npr_base.specs.Family.{checked};
 ghost use Rattle.npr_base.specs.Framing.{Writes};
 ghost use Rattle.npr_base.specs.Refusal.{no_place};
 ghost use Rattle.npr_base.specs.declared.refusal.DecodeError.TheVariants.{OutOfMemory};
-ghost use Rattle.npr_scalar.specs.declared.mpls.MplsLabel.{MplsLabel};
 ghost use Rattle.npr_scalar.specs.Mpls.{label_of, label_number, IsInRange};
 ghost use Rattle.npr_scalar.specs.MplsLaws.{mpls_label, mpls_labels};
 

@@ -1,0 +1,21 @@
+use Rattle.npr_scalar.specs.IpProtocolLaws.{ip_protocol}
+use Rattle.npr_scalar.specs.RouteScopeLaws.{route_scope}
+use Rattle.npr_scalar.specs.RouteTypeLaws.{route_type}
+use Rattle.npr_scalar.specs.RoutePreferenceLaws.{route_preference}
+use Rattle.npr_scalar.specs.TtlPropagationLaws.{ttl_propagation}
+use Rattle.npr_scalar.proofs.layouts.law_layouts.Goals as goal
+
+pub returns-clause-ip_protocol : goal.returns-clause-ip_protocol
+returns-clause-ip_protocol c = ip_protocol.decode-encode
+
+pub returns-clause-route_scope : goal.returns-clause-route_scope
+returns-clause-route_scope c = route_scope.decode-encode
+
+pub returns-clause-route_type : goal.returns-clause-route_type
+returns-clause-route_type c = route_type.decode-encode
+
+pub returns-clause-route_preference : goal.returns-clause-route_preference
+returns-clause-route_preference c = route_preference.decode-encode
+
+pub returns-clause-ttl_propagation : goal.returns-clause-ttl_propagation
+returns-clause-ttl_propagation c = ttl_propagation.decode-encode
