@@ -26,3 +26,6 @@ pub mod Ip
 pub mod IpCodec
 pub mod ItemEquality
 pub mod StructLaws
+pub mod DroppedCodec
+pub mod V6List
+pub mod V6ListLaws
