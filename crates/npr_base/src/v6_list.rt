@@ -1,9 +1,10 @@
 //! Lists of addresses of IP version 6, as routing headers have them (RFC 8754, RFC 6554): 16 bytes
 //! each, one after the other.
 
-ghost use Rattle.std.specs.Prelude.{◌≡◌, ◌*◌, ◌%◌, length, IfOk, IfErr};
+ghost use Rattle.std.specs.Prelude.{◌≡◌, ◌*◌, ◌%◌, ◌^◌, ◌<◌, length, IfOk, IfErr};
 ghost use Rattle.std.specs.List.{concat};
 ghost use Rattle.npr_base.specs.declared.refusal.DecodeError.TheVariants.{OutOfMemory};
+ghost use Rattle.npr_base.specs.Family.{AllOf};
 ghost use Rattle.npr_base.specs.V6List.{IsV6List};
 
 use crate::framing::write_bytes;
@@ -30,6 +31,19 @@ pub fn read_v6_list(alloc: Global, bytes: &[u8]) -> Result<Vec<Ipv6Addr>, Decode
         at += 16;
     }
     Ok(addresses)
+}
+
+/// The length of the addresses, in bytes: 16 each.
+pub fn v6_list_len(addresses: &[Ipv6Addr]) -> usize
+    ensures len { result ≡ length (concat addresses.now) }
+    ensures each { AllOf (λ a. length a ≡ 16) addresses.now }
+    ensures bound { result < 2 ^ 63 }
+{
+    let mut total = 0usize;
+    for address in addresses {
+        total += address.octets().len();
+    }
+    total
 }
 
 /// Writes the addresses one after the other, in the order of the list, into a slice of exactly 16

@@ -4,3 +4,7 @@ pub mod Seg6LocalAction
 pub mod Seg6LocalActionLaws
 pub mod Ioam6Mode
 pub mod Ioam6ModeLaws
+pub mod Segments
+pub mod Seg6
+pub mod Seg6Codec
+pub mod Seg6Tunnel
