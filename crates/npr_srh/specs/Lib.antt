@@ -4,7 +4,16 @@ pub mod Seg6LocalAction
 pub mod Seg6LocalActionLaws
 pub mod Ioam6Mode
 pub mod Ioam6ModeLaws
+pub mod Places
 pub mod Segments
 pub mod Seg6
 pub mod Seg6Codec
 pub mod Seg6Tunnel
+pub mod Headed
+pub mod Keeping
+pub mod Seg6Local
+pub mod Seg6LocalTunnel
+pub mod Rpl
+pub mod RplTunnel
+pub mod Trace
+pub mod Ioam6Tunnel

@@ -2,10 +2,12 @@
 #![tactic(auto)]
 
 mod ioam6;
+mod rpl;
 mod seg6;
 mod seg6local;
 mod segments;
 
-pub use ioam6::{Ioam6Mode, law_ioam6_mode_number};
+pub use ioam6::{Ioam6Mode, Ioam6TraceHdr, RouteIoam6Tunnel, law_ioam6_mode_number};
+pub use rpl::{RouteRplIpTunnel, RplSrh};
 pub use seg6::{RouteSeg6IpTunnel, Seg6Header, Seg6MessageBuffer, Seg6Mode, law_mode_number};
-pub use seg6local::{Seg6LocalAction, law_action_number};
+pub use seg6local::{RouteSeg6LocalTunnel, Seg6LocalAction, Seg6LocalSrh, law_action_number};
