@@ -105,13 +105,6 @@ module _ {F : Type 0} (L : Fixed F) where
         readable = readable;
       }
 
-  -- fields that can't be read are no meaning
-  pub headed-readable : (bytes : List ℕ) (h : Headed F) → IsHeaded L bytes h → L.Readable (L.decode (take 8 bytes))
-  headed-readable bytes h p =
-      let has = headed-sizes bytes h p in
-      let s = same_parts (take 8 bytes) (drop 8 bytes) p.head (concat h.segments) (omega (arith, length-take 8 bytes, has.long, p.size)) (take-append-drop 8 bytes ∙ p.is) in
-      subst L.Readable (p.front ∙ ap L.decode (sym s.0)) p.readable
-
   pub headed-holds : (bytes : List ℕ) (h : Headed F) → IsBytes bytes → IsHeaded L bytes h → HoldsHeaded L h
   headed-holds bytes h is p =
       let all : IsBytes (p.head ++ concat h.segments) = subst IsBytes p.is is in

@@ -17,3 +17,4 @@ pub mod Rpl
 pub mod RplTunnel
 pub mod Trace
 pub mod Ioam6Tunnel
+pub mod EqualityLaws

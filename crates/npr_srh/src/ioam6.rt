@@ -159,11 +159,16 @@ impl<'a> Parseable<&'a NlaBuffer<'a>> for Ioam6TraceHdr {
 
     ghost misparses = { λ input e. trace.Wrong (place_at 3) input.now.value e };
 
-    /// The header that the value is. It takes no memory.
+    /// The header that the value is.
     ///
     /// # Errors
     /// `Unsupported` at a length other than 8 bytes.
-    fn parse(_alloc: Global, input: &'a NlaBuffer<'a>) -> Result<Self, DecodeError> {
+    fn parse(_alloc: Global, input: &'a NlaBuffer<'a>) -> Result<Self, DecodeError>
+        ensures ok { IfOk result (λ t. trace.Reads input.now.value t) }
+        ensures refused { IfErr result (λ e. e ≢ OutOfMemory → trace.Wrong (place_at 3) input.now.value e) }
+        // It takes no memory.
+        ensures memory { IfErr result (λ e. e ≢ OutOfMemory) }
+    {
         Ioam6TraceHdr::read(input.value()).ok_or(DecodeError::Unsupported { at: at(3) })
     }
 }
@@ -333,5 +338,19 @@ impl Attribute for RouteIoam6Tunnel {
 
     fn try_clone(&self, alloc: Global) -> Result<Self, AllocError> {
         self.clone(alloc)
+    }
+}
+
+impl<'a> Parseable<&'a NlaBuffer<'a>> for RouteIoam6Tunnel {
+    ghost parses = { λ input a. members.Reads input.now (meaning_of a) };
+
+    ghost misparses = { λ input e. members.Faulty input.now e };
+
+    /// The member that the attribute is: `read`, with looks that nobody counts.
+    ///
+    /// # Errors
+    /// `OutOfMemory` where memory is refused, and else what is wrong with the value.
+    fn parse(alloc: Global, input: &'a NlaBuffer<'a>) -> Result<Self, DecodeError> {
+        RouteIoam6Tunnel::read(alloc, (), input, &mut Looks::new())
     }
 }

@@ -2,6 +2,7 @@
 #![tactic(auto)]
 
 mod ioam6;
+pub mod laws;
 mod rpl;
 mod seg6;
 mod seg6local;

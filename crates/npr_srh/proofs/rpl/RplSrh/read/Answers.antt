@@ -1,7 +1,7 @@
 use Rattle.std.proofs.Common.{◌≡◌, ℕ, ◌/◌, ◌%◌, List, take, slice_index, sym, ◌∙◌, subst, true≢false}
 use Rattle.std.proofs.lemmas.List.{take_rest}
 use Rattle.npr_base.specs.V6List.{IsV6List}
-use Rattle.npr_srh.specs.Headed.{headed-sizes, headed-is, headed-readable}
+use Rattle.npr_srh.specs.Headed.{headed-sizes, headed-is}
 use Rattle.npr_srh.specs.Rpl.{Rpl, RplFront, rpl_front, decode_rpl}
 use Rattle.npr_srh.proofs.rpl.RplSrh.read.Goals as goal
 
