@@ -7,6 +7,8 @@ mod rpl;
 mod seg6;
 mod seg6local;
 mod segments;
+#[cfg(test)]
+mod tests;
 
 pub use ioam6::{Ioam6Mode, Ioam6TraceHdr, RouteIoam6Tunnel, law_ioam6_mode_number};
 pub use rpl::{RouteRplIpTunnel, RplSrh};
