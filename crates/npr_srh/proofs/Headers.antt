@@ -1,6 +1,6 @@
 -- How a routing header is read and written, part by part.
 use Rattle.std.specs.List.{concat}
-use Rattle.std.proofs.Common.{◌≡◌, ℕ, ◌+◌, ◌-◌, ◌*◌, ◌%◌, ◌≤◌, List, [], ◌∷◌, ◌++◌, length, take, drop, reverse, refl, sym, ap, ◌∙◌, arith, length-append, length-take, length-drop, append_assoc}
+use Rattle.std.proofs.Common.{◌≡◌, ℕ, ◌+◌, ◌-◌, ◌≤◌, List, ◌++◌, length, take, drop, reverse, sym, ap, ◌∙◌, arith, length-append, length-take, length-drop, append_assoc}
 use Rattle.std.proofs.lemmas.List.{take-append-drop, drop-drop}
 use Rattle.std.proofs.lemmas.List.Folds.{concat-append}
 use borrow.Rule.Slice.PartMut.{put_mid}
@@ -9,7 +9,7 @@ use Rattle.npr_base.specs.V6List.{IsV6List}
 use Rattle.npr_base.proofs.Writing.{Writes-more}
 use Rattle.npr_srh.specs.declared.seg6.Seg6MessageBuffer.{Seg6MessageBuffer}
 use Rattle.npr_srh.specs.Seg6Mode.{mode_of}
-use Rattle.npr_srh.specs.Seg6.{Seg6, IsSeg6, IsKey, HasFront, decode_message, hmac_len, header_len}
+use Rattle.npr_srh.specs.Seg6.{Seg6, IsSeg6, IsKey, HasFront, hmac_len, header_len}
 
 -- the first so many are no longer than all
 pub concat-below : (xs : List (List ℕ)) (n : ℕ) → length (concat (take n xs)) ≤ length (concat xs)

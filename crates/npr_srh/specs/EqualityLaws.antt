@@ -1,5 +1,5 @@
 -- What `==` answers of routing headers and of members of tunnels: whether they mean the same.
-use Rattle.std.specs.Prelude.{◌≡◌, ℕ, List, Option, Some, None, nat_eq}
+use Rattle.std.specs.Prelude.{◌≡◌, ℕ, Option, Some, None, nat_eq}
 use Rattle.std.specs.Bool.{Decides}
 use Rattle.std.specs.Option.{option_eq}
 use Rattle.std.specs.Cmp.{unsigned_Decides}

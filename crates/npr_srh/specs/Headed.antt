@@ -4,10 +4,8 @@
 --     HasHeader      the lengths without which it means nothing
 --     headed         the values, with their laws
 use Rattle.std.specs.List.{concat}
-use Rattle.std.proofs.Common.{◌≡◌, ℕ, ◌+◌, ◌-◌, ◌*◌, ◌%◌, ◌^◌, ◌<◌, ◌≤◌, List, [], ◌∷◌, ◌++◌, length, take, drop, slice_index, Option, None, refl, sym, ap, subst, ◌∙◌, arith, length-append, length-take}
+use Rattle.std.proofs.Common.{◌≡◌, ℕ, ◌+◌, ◌-◌, ◌*◌, ◌%◌, ◌≤◌, List, ◌++◌, length, take, drop, slice_index, Option, refl, sym, ap, subst, ◌∙◌, arith, length-append, length-take}
 use Rattle.std.proofs.lemmas.List.{get_or_append_left, get_or-take, take-append-drop}
-use Rattle.npr_base.specs.declared.refusal.At.{At}
-use Rattle.npr_base.specs.declared.refusal.DecodeError.{DecodeError}
 use Rattle.npr_base.specs.declared.refusal.DecodeError.TheVariants.{Unsupported}
 use Rattle.npr_base.specs.declared.refusal.EmitError.{EmitError}
 use Rattle.npr_base.specs.Framing.{IsBytes, framed}
@@ -18,7 +16,7 @@ use Rattle.npr_base.specs.ListLaws.{none_both, IsBytes-left, IsBytes-right}
 use Rattle.npr_base.specs.V6List.{IsV6List}
 use Rattle.npr_base.specs.V6ListLaws.{same_parts, length-concat, v6_list-one, v6_list-bytes}
 use Rattle.npr_base.specs.Codec.{Codec}
-use Rattle.npr_srh.specs.Segments.{too_many, few}
+use Rattle.npr_srh.specs.Segments.{too_many}
 
 -- the eight bytes: the fields that they hold, and how the fields are written with a number of eights
 pub record Fixed (F : Type 0) : Type 1 where

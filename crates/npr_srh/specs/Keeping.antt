@@ -1,5 +1,5 @@
 -- Families in which an attribute is kept as it stands, besides those of numbers without a row, where one row's value means nothing.
-use Rattle.std.proofs.Common.{◌≡◌, ℕ, ◌+◌, ◌*◌, ◌<◌, ◌≤◌, ◌^◌, ◌⊎◌, List, length, None, refl, sym, ap, subst, ◌∙◌, inl, inr, arith}
+use Rattle.std.proofs.Common.{◌≡◌, ◌+◌, ◌*◌, ◌<◌, ◌≤◌, ◌^◌, ◌⊎◌, length, None, sym, ap, subst, ◌∙◌, inl, inr, arith}
 use Rattle.npr_base.specs.declared.refusal.DecodeError.{DecodeError}
 use Rattle.npr_base.specs.Framing.{Item, Proper, Small, framed, number_of}
 use Rattle.npr_base.specs.CodecLaws.{framed-grows}

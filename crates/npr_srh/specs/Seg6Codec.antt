@@ -1,15 +1,11 @@
 -- A SEG6 header as a value, with its laws.
-use Rattle.std.specs.Prelude.{◌≢◌}
-use Rattle.std.specs.Int.{w32, from_be_bytes}
 use Rattle.std.specs.List.{concat}
-use Rattle.std.proofs.Common.{◌≡◌, ℕ, ◌+◌, ◌-◌, ◌*◌, ◌/◌, ◌%◌, ◌^◌, ◌<◌, ◌≤◌, List, [], ◌∷◌, ◌++◌, length, take, drop, reverse, Option, Some, None, nat_lt, slice_index, get_or, refl, sym, ap, subst, ◌∙◌, inl, inr, arith, length-append, length-take, length-drop, append_assoc}
-use Rattle.std.proofs.lemmas.List.{append-nil, take_at, take-append-drop, reverse-reverse, length-reverse, length-replicate, get_or_append_left}
-use Rattle.std.proofs.lemmas.Bool.{cases_lt, lt-ltb}
+use Rattle.std.proofs.Common.{◌≡◌, ℕ, ◌+◌, ◌-◌, ◌*◌, ◌/◌, ◌%◌, ◌^◌, ◌<◌, ◌≤◌, List, [], ◌++◌, length, take, drop, reverse, Option, Some, None, refl, sym, ap, subst, ◌∙◌, arith, length-append, length-take, length-drop}
+use Rattle.std.proofs.lemmas.List.{append-nil, take_at, take-append-drop, reverse-reverse, length-reverse}
 use Rattle.std.proofs.lemmas.Nat.{from_be_bytes-to_be_bytes_4}
 use Rattle.npr_base.specs.declared.refusal.At.{At}
 use Rattle.npr_base.specs.declared.refusal.DecodeError.{DecodeError}
-use Rattle.npr_base.specs.declared.refusal.DecodeError.TheVariants.{OutOfMemory, HeaderTooShort, AttributeTooShort, AttributeLength, NextHopTooShort, NextHopLength, ValueLength, NotUtf8, Seg6Header as Refused, GeneveOrder, GeneveChild, ViaFamily, Unsupported}
-use Rattle.npr_base.specs.declared.refusal.EmitError.TheVariants.{TooManySegments}
+use Rattle.npr_base.specs.declared.refusal.DecodeError.TheVariants.{Seg6Header as Refused}
 use Rattle.npr_base.specs.declared.refusal.Seg6Fault.{Seg6Fault}
 use Rattle.npr_base.specs.declared.refusal.Seg6Fault.TheVariants.{Short, Length, Hmac, Segments}
 use Rattle.npr_base.specs.Framing.{IsBytes, framed}

@@ -1,5 +1,5 @@
 -- The routing header of a SEG6 local tunnel (linux/seg6_local.h, SEG6_LOCAL_SRH): a segment routing header (RFC 8754, section 2), with its tag big endian.
-use Rattle.std.specs.Prelude.{◌≡◌, ℕ, ◌<◌, ◌^◌, List, ◌∷◌, ◌++◌, length, slice_index}
+use Rattle.std.specs.Prelude.{◌≡◌, ℕ, ◌<◌, ◌^◌, List, ◌∷◌, length, slice_index}
 use Rattle.std.specs.Int.{w16, to_be_bytes}
 use Rattle.std.proofs.Common.{refl, arith}
 use Rattle.std.proofs.lemmas.Nat.{from_be_bytes-to_be_bytes_2}

@@ -5,7 +5,7 @@ use Rattle.npr_base.specs.declared.refusal.AttrFamily.TheVariants.{Seg6 as OfSeg
 use Rattle.npr_base.specs.Framing.{Item, number_of}
 use Rattle.npr_base.specs.Codec.{exactly, raw}
 use Rattle.npr_base.specs.Layout.{le32, octets}
-use Rattle.npr_base.specs.Table.{Family, Table, Row, row, Held, held, held_other, item_of, IsOther, Aligned, ReadsAt}
+use Rattle.npr_base.specs.Table.{Family, Row, row, Held, held, held_other, item_of, IsOther, Aligned, ReadsAt}
 use Rattle.npr_base.specs.TableLaws.{flat, other-back}
 use Rattle.npr_srh.specs.Seg6.{Seg6 as Header, seg6_of}
 use Rattle.npr_srh.specs.Seg6Codec.{seg6}
