@@ -29,3 +29,6 @@ pub mod StructLaws
 pub mod Blocks
 pub mod BlocksLaws
 pub mod VariantCodec
+pub mod DroppedCodec
+pub mod V6List
+pub mod V6ListLaws

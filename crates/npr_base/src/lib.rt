@@ -13,6 +13,7 @@ mod refusal;
 #[cfg(test)]
 mod tests;
 mod traits;
+mod v6_list;
 mod values;
 
 pub use address_family::{AddressFamily, law_family_number};
@@ -28,6 +29,7 @@ pub use list::{check_list, clone_list, emit_list, list_len, parse_list, write_li
 pub use looks::Looks;
 pub use refusal::{At, AttrFamily, DecodeError, EmitError, Seg6Fault};
 pub use traits::{Emitable, Nla, Parseable, ParseableParametrized};
+pub use v6_list::{emit_v6_list, read_v6_list, v6_list_len};
 pub use values::{
     ip_len, read_4, read_8, read_16, read_bool, read_bytes, read_i32, read_ip, read_ipv4,
     read_ipv6, read_name, read_u8, read_u16, read_u16_be, read_u32, read_u32_be, read_u64,

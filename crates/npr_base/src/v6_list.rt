@@ -1,0 +1,59 @@
+//! Lists of addresses of IP version 6, as routing headers have them (RFC 8754, RFC 6554): 16 bytes
+//! each, one after the other.
+
+ghost use Rattle.std.specs.Prelude.{◌≡◌, ◌*◌, ◌%◌, ◌^◌, ◌<◌, length, IfOk, IfErr};
+ghost use Rattle.std.specs.List.{concat};
+ghost use Rattle.npr_base.specs.declared.refusal.DecodeError.TheVariants.{OutOfMemory};
+ghost use Rattle.npr_base.specs.Family.{AllOf};
+ghost use Rattle.npr_base.specs.V6List.{IsV6List};
+
+use crate::framing::write_bytes;
+use crate::ip::Ipv6Addr;
+use crate::refusal::DecodeError;
+use std::alloc::Global;
+
+/// The addresses that the bytes are, in the order of the wire. Asks that the length is a multiple
+/// of 16.
+///
+/// # Errors
+/// `OutOfMemory` alone, where memory is refused.
+pub fn read_v6_list(alloc: Global, bytes: &[u8]) -> Result<Vec<Ipv6Addr>, DecodeError>
+    requires { length bytes.now % 16 ≡ 0 }
+    ensures ok { IfOk result (λ v. IsV6List bytes.now v.items) }
+    ensures refused { IfErr result (λ e. e ≡ OutOfMemory) }
+{
+    let mut addresses = Vec::new(alloc);
+    let mut at = 0usize;
+    while at < bytes.len() {
+        let mut octets = [0u8; 16];
+        octets.copy_from_slice(&bytes[at..at + 16]);
+        addresses.push(Ipv6Addr::from(octets))?;
+        at += 16;
+    }
+    Ok(addresses)
+}
+
+/// The length of the addresses, in bytes: 16 each.
+pub fn v6_list_len(addresses: &[Ipv6Addr]) -> usize
+    ensures len { result ≡ length (concat addresses.now) }
+    ensures each { AllOf (λ a. length a ≡ 16) addresses.now }
+    ensures bound { result < 2 ^ 63 }
+{
+    let mut total = 0usize;
+    for address in addresses {
+        total += address.octets().len();
+    }
+    total
+}
+
+/// Writes the addresses one after the other, in the order of the list, into a slice of exactly 16
+/// bytes for each.
+pub fn emit_v6_list(addresses: &[Ipv6Addr], out: &mut [u8])
+    requires { length out.old ≡ 16 * length addresses.now }
+    ensures { out.new ≡ concat addresses.now }
+{
+    let mut at = 0usize;
+    for address in addresses {
+        at += write_bytes(&mut out[at..], &address.octets());
+    }
+}

@@ -1,0 +1,50 @@
+-- How a routing header is read and written, part by part.
+use Rattle.std.specs.List.{concat}
+use Rattle.std.proofs.Common.{◌≡◌, ℕ, ◌+◌, ◌-◌, ◌≤◌, List, ◌++◌, length, take, drop, reverse, sym, ap, ◌∙◌, arith, length-append, length-take, length-drop, append_assoc}
+use Rattle.std.proofs.lemmas.List.{take-append-drop, drop-drop}
+use Rattle.std.proofs.lemmas.List.Folds.{concat-append}
+use borrow.Rule.Slice.PartMut.{put_mid}
+use Rattle.npr_base.specs.Framing.{Writes}
+use Rattle.npr_base.specs.V6List.{IsV6List}
+use Rattle.npr_base.proofs.Writing.{Writes-more}
+use Rattle.npr_srh.specs.declared.seg6.Seg6MessageBuffer.{Seg6MessageBuffer}
+use Rattle.npr_srh.specs.Seg6Mode.{mode_of}
+use Rattle.npr_srh.specs.Seg6.{Seg6, IsSeg6, IsKey, HasFront, hmac_len, header_len}
+
+-- the first so many are no longer than all
+pub concat-below : (xs : List (List ℕ)) (n : ℕ) → length (concat (take n xs)) ≤ length (concat xs)
+concat-below xs n = omega (arith, ap length (ap concat (sym (take-append-drop n xs)) ∙ concat-append (take n xs) (drop n xs)), length-append (concat (take n xs)) (concat (drop n xs)))
+
+-- three parts, written one behind the other
+pub Writes-three : (old one two three a b c : List ℕ) (at end : ℕ) → at ≡ length a → end ≡ at + length b → length a + length b ≤ length old → Writes old one a
+    → Writes (take (length one - at) (drop at one)) two b → Writes (take (length (put_mid at (length one - at) one two) - end) (drop end (put_mid at (length one - at) one two))) three c
+    → Writes old (put_mid end (length (put_mid at (length one - at) one two) - end) (put_mid at (length one - at) one two) three) (a ++ (b ++ c))
+Writes-three old one two three a b c at end e f le p q r =
+    let first = Writes-more old one two a b at e (omega arith) p q in
+    let whole = Writes-more old (put_mid at (length one - at) one two) three (a ++ b) c end (omega (arith, length-append a b)) (omega (arith, length-append a b)) first r in
+    rw (← append_assoc a b c) whole
+
+-- the parts of a SEG6 header
+pub seg6_read : (bytes : List ℕ) (b : Seg6MessageBuffer) (len : ℕ) (wire : List (List ℕ)) (h : Seg6) → HasFront bytes b len → IsV6List (take len (drop 12 bytes)) wire
+    → h.mode ≡ mode_of b.mode → h.segments ≡ reverse wire → IsKey (take (hmac_len b) (drop (12 + len) bytes)) h.hmac → IsSeg6 bytes h
+seg6_read bytes b len wire h f list mode segments key =
+    let same = f.front in
+    let k = hmac_len b in
+    let body : drop 12 bytes ≡ concat wire ++ drop (12 + len) bytes = sym (take-append-drop len (drop 12 bytes)) ∙ ap (λ (w : List ℕ). w ++ drop len (drop 12 bytes)) list.0 ∙ ap (λ (w : List ℕ). concat wire ++ w) (drop-drop len 12 bytes) in
+    let last : drop (12 + len) bytes ≡ take k (drop (12 + len) bytes) ++ drop k (drop (12 + len) bytes) = sym (take-append-drop k (drop (12 + len) bytes)) in
+    let count : length (concat wire) ≡ len = sym (ap length list.0) ∙ omega (arith, length-take len (drop 12 bytes), length-drop 12 bytes, f.long, f.room, f.split) in
+    let tail : length (take k (drop (12 + len) bytes)) ≡ k = omega (arith, length-take k (drop (12 + len) bytes), length-drop (12 + len) bytes, f.long, f.room, f.split) in
+    record {
+      front = take 12 bytes;
+      wire = wire;
+      hmac = take k (drop (12 + len) bytes);
+      rest = drop k (drop (12 + len) bytes);
+      is = sym (take-append-drop 12 bytes) ∙ ap (λ (w : List ℕ). take 12 bytes ++ w) (body ∙ ap (λ (w : List ℕ). concat wire ++ w) last);
+      size = omega (arith, length-take 12 bytes, f.long);
+      whole = list.1;
+      len = omega (arith, count, tail, f.split, ap header_len same);
+      hmac_size = tail ∙ ap hmac_len same;
+      mode = mode ∙ ap (λ (c : Seg6MessageBuffer). mode_of c.mode) same;
+      segments = segments;
+      key = key;
+    }

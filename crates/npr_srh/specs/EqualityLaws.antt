@@ -1,0 +1,173 @@
+-- What `==` answers of routing headers and of members of tunnels: whether they mean the same.
+use Rattle.std.specs.Prelude.{◌≡◌, ℕ, Option, Some, None, nat_eq}
+use Rattle.std.specs.Bool.{Decides}
+use Rattle.std.specs.Option.{option_eq}
+use Rattle.std.specs.Cmp.{unsigned_Decides}
+use Rattle.std.proofs.Common.{refl, sym, rules, ap, true≢false}
+use Rattle.npr_base.specs.Equality.{IsEquality, IsEqualityOf}
+use Rattle.npr_base.specs.ItemEquality.{item_equality}
+use Rattle.npr_base.specs.MeaningLaws.{enum_meaning, ◌also◌, one_meaning, items_equality}
+use Rattle.npr_base.specs.StructLaws.{and_decides, decides_as}
+use Rattle.npr_base.specs.contracts.ip.Ipv4AddrPartialEq.TheImpl as V4Eq
+use Rattle.npr_base.specs.contracts.ip.Ipv6AddrPartialEq.TheImpl as V6Eq
+use Rattle.npr_srh.specs.Seg6.{Seg6, seg6_of}
+use Rattle.npr_srh.specs.Seg6Tunnel as OfSeg6
+use Rattle.npr_srh.specs.Seg6Local.{Local, local_of}
+use Rattle.npr_srh.specs.Seg6LocalTunnel as OfLocal
+use Rattle.npr_srh.specs.Rpl.{Rpl, rpl_of}
+use Rattle.npr_srh.specs.RplTunnel as OfRpl
+use Rattle.npr_srh.specs.Ioam6Tunnel as OfIoam6
+use Rattle.npr_srh.specs.contracts.seg6.Seg6ModePartialEq.TheImpl as ModeEq
+use Rattle.npr_srh.specs.contracts.seg6.Seg6HeaderPartialEq.TheImpl as HeaderEq
+use Rattle.npr_srh.specs.contracts.seg6.RouteSeg6IpTunnel.{enum as seg6_enum}
+use Rattle.npr_srh.specs.contracts.seg6.RouteSeg6IpTunnelPartialEq.TheImpl as Seg6Eq
+use Rattle.npr_srh.specs.contracts.seg6local.Seg6LocalActionPartialEq.TheImpl as ActionEq
+use Rattle.npr_srh.specs.contracts.seg6local.Seg6LocalSrhPartialEq.TheImpl as LocalHeaderEq
+use Rattle.npr_srh.specs.contracts.seg6local.RouteSeg6LocalTunnel.{enum as local_enum}
+use Rattle.npr_srh.specs.contracts.seg6local.RouteSeg6LocalTunnelPartialEq.TheImpl as LocalEq
+use Rattle.npr_srh.specs.contracts.rpl.RplSrhPartialEq.TheImpl as RplHeaderEq
+use Rattle.npr_srh.specs.contracts.rpl.RouteRplIpTunnel.{enum as rpl_enum}
+use Rattle.npr_srh.specs.contracts.rpl.RouteRplIpTunnelPartialEq.TheImpl as RplEq
+use Rattle.npr_srh.specs.contracts.ioam6.Ioam6ModePartialEq.TheImpl as Ioam6ModeEq
+use Rattle.npr_srh.specs.contracts.ioam6.Ioam6TraceHdrPartialEq.TheImpl as TraceEq
+use Rattle.npr_srh.specs.contracts.ioam6.RouteIoam6Tunnel.{enum as ioam6_enum}
+use Rattle.npr_srh.specs.contracts.ioam6.RouteIoam6TunnelPartialEq.TheImpl as Ioam6Eq
+
+-- ---- the fields
+
+v4_equality : IsEquality V4Eq.ghosts.eq
+v4_equality = search rules
+
+v6_equality : IsEquality V6Eq.ghosts.eq
+v6_equality = search rules
+
+mode_equality : IsEquality ModeEq.ghosts.eq
+mode_equality = search rules
+
+action_equality : IsEquality ActionEq.ghosts.eq
+action_equality = search rules
+
+ioam6_mode_equality : IsEquality Ioam6ModeEq.ghosts.eq
+ioam6_mode_equality = search rules
+
+trace_equality : IsEquality TraceEq.ghosts.eq
+trace_equality = search rules
+
+key_equality : (a b : Option ℕ) → Decides (option_eq nat_eq a b) (a ≡ b)
+key_equality None None = (λ e. refl, λ e. refl)
+key_equality None (Some y) = (λ e. absurd (true≢false (sym e)), λ e. cc)
+key_equality (Some x) None = (λ e. absurd (true≢false (sym e)), λ e. cc)
+key_equality (Some x) (Some y) = let h = unsigned_Decides x y in (λ e. ap Some (h.0 e), λ e. h.1 cc)
+
+-- ---- the headers
+
+pub seg6_header_equality : IsEqualityOf seg6_of HeaderEq.ghosts.eq
+seg6_header_equality a b =
+    decides_as
+    (λ p. λ i. record { mode = p.0 i; segments = p.1.0 i; hmac = p.1.1 i })
+    (λ e. (ap (λ (h : Seg6). h.mode) e, (ap (λ (h : Seg6). h.segments) e, ap (λ (h : Seg6). h.hmac) e)))
+    (and_decides (mode_equality a.mode b.mode) (and_decides (items_equality v6_equality a.segments b.segments) (key_equality a.hmac b.hmac)))
+
+pub local_header_equality : IsEqualityOf local_of LocalHeaderEq.ghosts.eq
+local_header_equality a b =
+    decides_as
+    (λ p. λ i. record { front = record { next_header = p.0 i; routing_type = p.1.0 i; segments_left = p.1.1.0 i; first_segment = p.1.1.1.0 i; flags = p.1.1.1.1.0 i; tag = p.1.1.1.1.1.0 i }; segments = p.1.1.1.1.1.1 i })
+    (λ e. (ap (λ (h : Local). h.front.next_header) e, (ap (λ (h : Local). h.front.routing_type) e, (ap (λ (h : Local). h.front.segments_left) e, (ap (λ (h : Local). h.front.first_segment) e, (ap (λ (h : Local). h.front.flags) e, (ap (λ (h : Local). h.front.tag) e, ap (λ (h : Local). h.segments) e)))))))
+    (and_decides (unsigned_Decides a.next_header b.next_header)
+    (and_decides (unsigned_Decides a.routing_type b.routing_type)
+    (and_decides (unsigned_Decides a.segments_left b.segments_left)
+    (and_decides (unsigned_Decides a.first_segment b.first_segment)
+    (and_decides (unsigned_Decides a.flags b.flags)
+    (and_decides (unsigned_Decides a.tag b.tag) (items_equality v6_equality a.segments b.segments)))))))
+
+pub rpl_header_equality : IsEqualityOf rpl_of RplHeaderEq.ghosts.eq
+rpl_header_equality a b =
+    decides_as
+    (λ p. λ i. record { front = record { next_header = p.0 i; routing_type = p.1.0 i; segments_left = p.1.1.0 i; cmpri = p.1.1.1.0 i; cmpre = p.1.1.1.1.0 i; pad = p.1.1.1.1.1.0 i }; segments = p.1.1.1.1.1.1 i })
+    (λ e. (ap (λ (h : Rpl). h.front.next_header) e, (ap (λ (h : Rpl). h.front.routing_type) e, (ap (λ (h : Rpl). h.front.segments_left) e, (ap (λ (h : Rpl). h.front.cmpri) e, (ap (λ (h : Rpl). h.front.cmpre) e, (ap (λ (h : Rpl). h.front.pad) e, ap (λ (h : Rpl). h.segments) e)))))))
+    (and_decides (unsigned_Decides a.next_header b.next_header)
+    (and_decides (unsigned_Decides a.routing_type b.routing_type)
+    (and_decides (unsigned_Decides a.segments_left b.segments_left)
+    (and_decides (unsigned_Decides a.cmpri b.cmpri)
+    (and_decides (unsigned_Decides a.cmpre b.cmpre)
+    (and_decides (unsigned_Decides a.pad b.pad) (items_equality v6_equality a.segments b.segments)))))))
+
+-- ---- the members
+
+seg6_order : OfSeg6.Meaning → ℕ
+seg6_order (OfSeg6.header h) = 0
+seg6_order (OfSeg6.src a) = 1
+seg6_order (OfSeg6.table n) = 2
+seg6_order (OfSeg6.other x) = 3
+
+pub seg6_equality : IsEqualityOf OfSeg6.meaning_of Seg6Eq.ghosts.eq
+unfolding seg6_order
+seg6_equality =
+    enum_meaning seg6_order seg6_enum OfSeg6.meaning_of _ (λ t.
+    (λ x. refl, one_meaning seg6_of OfSeg6.header seg6_header_equality (λ p q e. cc)) also
+    (λ x. refl, one_meaning (λ f. f) OfSeg6.src v6_equality (λ p q e. cc)) also
+    (λ x. refl, one_meaning (λ f. f) OfSeg6.table unsigned_Decides (λ p q e. cc)) also
+    (λ x. refl, one_meaning (λ f. f) OfSeg6.other item_equality (λ p q e. cc)) also tt)
+
+local_order : OfLocal.Meaning → ℕ
+local_order OfLocal.unspecified = 0
+local_order (OfLocal.act a) = 1
+local_order (OfLocal.srh h) = 2
+local_order (OfLocal.table n) = 3
+local_order (OfLocal.nh4 a) = 4
+local_order (OfLocal.nh6 a) = 5
+local_order (OfLocal.iif n) = 6
+local_order (OfLocal.oif n) = 7
+local_order (OfLocal.vrf_table n) = 8
+local_order (OfLocal.other x) = 9
+
+pub local_equality : IsEqualityOf OfLocal.meaning_of LocalEq.ghosts.eq
+unfolding local_order
+local_equality =
+    enum_meaning local_order local_enum OfLocal.meaning_of _ (λ t.
+    (λ x. refl, λ x y is. (λ e. refl, λ e. refl)) also
+    (λ x. refl, one_meaning (λ f. f) OfLocal.act action_equality (λ p q e. cc)) also
+    (λ x. refl, one_meaning local_of OfLocal.srh local_header_equality (λ p q e. cc)) also
+    (λ x. refl, one_meaning (λ f. f) OfLocal.table unsigned_Decides (λ p q e. cc)) also
+    (λ x. refl, one_meaning (λ f. f) OfLocal.nh4 v4_equality (λ p q e. cc)) also
+    (λ x. refl, one_meaning (λ f. f) OfLocal.nh6 v6_equality (λ p q e. cc)) also
+    (λ x. refl, one_meaning (λ f. f) OfLocal.iif unsigned_Decides (λ p q e. cc)) also
+    (λ x. refl, one_meaning (λ f. f) OfLocal.oif unsigned_Decides (λ p q e. cc)) also
+    (λ x. refl, one_meaning (λ f. f) OfLocal.vrf_table unsigned_Decides (λ p q e. cc)) also
+    (λ x. refl, one_meaning (λ f. f) OfLocal.other item_equality (λ p q e. cc)) also tt)
+
+rpl_order : OfRpl.Meaning → ℕ
+rpl_order OfRpl.unspecified = 0
+rpl_order (OfRpl.srh h) = 1
+rpl_order (OfRpl.other x) = 2
+
+pub rpl_equality : IsEqualityOf OfRpl.meaning_of RplEq.ghosts.eq
+unfolding rpl_order
+rpl_equality =
+    enum_meaning rpl_order rpl_enum OfRpl.meaning_of _ (λ t.
+    (λ x. refl, λ x y is. (λ e. refl, λ e. refl)) also
+    (λ x. refl, one_meaning rpl_of OfRpl.srh rpl_header_equality (λ p q e. cc)) also
+    (λ x. refl, one_meaning (λ f. f) OfRpl.other item_equality (λ p q e. cc)) also tt)
+
+ioam6_order : OfIoam6.Meaning → ℕ
+ioam6_order OfIoam6.unspecified = 0
+ioam6_order (OfIoam6.mode m) = 1
+ioam6_order (OfIoam6.dst a) = 2
+ioam6_order (OfIoam6.traced t) = 3
+ioam6_order (OfIoam6.freq_k n) = 4
+ioam6_order (OfIoam6.freq_n n) = 5
+ioam6_order (OfIoam6.src a) = 6
+ioam6_order (OfIoam6.other x) = 7
+
+pub ioam6_equality : IsEqualityOf OfIoam6.meaning_of Ioam6Eq.ghosts.eq
+unfolding ioam6_order
+ioam6_equality =
+    enum_meaning ioam6_order ioam6_enum OfIoam6.meaning_of _ (λ t.
+    (λ x. refl, λ x y is. (λ e. refl, λ e. refl)) also
+    (λ x. refl, one_meaning (λ f. f) OfIoam6.mode ioam6_mode_equality (λ p q e. cc)) also
+    (λ x. refl, one_meaning (λ f. f) OfIoam6.dst v6_equality (λ p q e. cc)) also
+    (λ x. refl, one_meaning (λ f. f) OfIoam6.traced trace_equality (λ p q e. cc)) also
+    (λ x. refl, one_meaning (λ f. f) OfIoam6.freq_k unsigned_Decides (λ p q e. cc)) also
+    (λ x. refl, one_meaning (λ f. f) OfIoam6.freq_n unsigned_Decides (λ p q e. cc)) also
+    (λ x. refl, one_meaning (λ f. f) OfIoam6.src v6_equality (λ p q e. cc)) also
+    (λ x. refl, one_meaning (λ f. f) OfIoam6.other item_equality (λ p q e. cc)) also tt)

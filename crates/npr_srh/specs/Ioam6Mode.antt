@@ -1,0 +1,19 @@
+-- How an IOAM trace is put in (linux/ioam6_iptunnel.h, IOAM6_IPTUNNEL_MODE_*), by its table.
+use Rattle.std.specs.Prelude.{ℕ, List, [], ◌∷◌}
+use Rattle.npr_base.specs.Rows.{form_in}
+use Rattle.npr_srh.specs.declared.ioam6.Ioam6Mode.{Ioam6Mode}
+use Rattle.npr_srh.specs.declared.ioam6.Ioam6Mode.TheVariants.{Inline, Encap, Auto, Other}
+
+abbrev pub ioam6_mode_rows : List (ℕ × Ioam6Mode)
+ioam6_mode_rows = (1, Inline) ∷ (2, Encap) ∷ (3, Auto) ∷ []
+
+-- the mode that a number reads as
+abbrev pub ioam6_mode_of : ℕ → Ioam6Mode
+ioam6_mode_of d = form_in Other ioam6_mode_rows d
+
+-- the number that a mode is written as
+abbrev pub ioam6_mode_number : Ioam6Mode → ℕ
+ioam6_mode_number Inline = 1
+ioam6_mode_number Encap = 2
+ioam6_mode_number Auto = 3
+ioam6_mode_number (Other d) = d

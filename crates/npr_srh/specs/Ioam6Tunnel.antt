@@ -1,0 +1,110 @@
+-- The members of an IOAM6 tunnel (linux/ioam6_iptunnel.h, IOAM6_IPTUNNEL_*), by their table.
+use Rattle.std.specs.Prelude.{◌≡◌, ℕ, ◌<◌, ◌≤◌, ◌^◌, List, [], ◌∷◌, length, None}
+use Rattle.npr_base.specs.declared.refusal.At.{At}
+use Rattle.npr_base.specs.declared.refusal.AttrFamily.TheVariants.{Ioam6 as OfIoam6}
+use Rattle.npr_base.specs.Framing.{Item, number_of}
+use Rattle.npr_base.specs.Codec.{exactly, raw}
+use Rattle.npr_base.specs.DroppedCodec.{dropped}
+use Rattle.npr_base.specs.Layout.{le32, octets}
+use Rattle.npr_base.specs.Table.{Family, Table, Row, row, Held, held, held_other, item_of, IsOther, Aligned, ReadsAt}
+use Rattle.npr_base.specs.TableLaws.{other-back}
+use Rattle.npr_srh.specs.Keeping.{keeping, IsRowOf}
+use Rattle.npr_srh.specs.Ioam6ModeLaws.{ioam6_mode}
+use Rattle.npr_srh.specs.Trace.{trace}
+use Rattle.npr_srh.specs.declared.ioam6.Ioam6Mode.{Ioam6Mode}
+use Rattle.npr_srh.specs.declared.ioam6.Ioam6TraceHdr.{Ioam6TraceHdr}
+use Rattle.npr_srh.specs.declared.ioam6.RouteIoam6Tunnel.{RouteIoam6Tunnel}
+use Rattle.npr_srh.specs.declared.ioam6.RouteIoam6Tunnel.TheVariants.{Unspecified, Mode, Dst, Trace, FreqK, FreqN, Src, Other}
+use Rattle.std.proofs.Common.{refl, arith, rules}
+
+-- what a member is, without where it lies in memory
+pub data Meaning : Type 0 where
+  unspecified : Meaning
+  mode : Ioam6Mode → Meaning
+  dst : List ℕ → Meaning
+  traced : Ioam6TraceHdr → Meaning
+  freq_k : ℕ → Meaning
+  freq_n : ℕ → Meaning
+  src : List ℕ → Meaning
+  other : Item → Meaning
+
+abbrev pub meaning_of : RouteIoam6Tunnel → Meaning
+meaning_of Unspecified = unspecified
+meaning_of (Mode m) = mode m
+meaning_of (Dst a) = dst a
+meaning_of (Trace t) = traced t
+meaning_of (FreqK n) = freq_k n
+meaning_of (FreqN n) = freq_n n
+meaning_of (Src a) = src a
+meaning_of (Other d) = other d
+
+abbrev pub at : ℕ → At
+at number = record { family = OfIoam6; kind = number }
+
+-- the row whose value may be kept
+abbrev pub trace_row : Row Meaning
+trace_row = row (at 3) trace traced
+
+-- the table
+abbrev pub rows : List (Row Meaning)
+rows =
+    row (at 0) dropped (λ u. unspecified)
+    ∷ row (at 1) (exactly ioam6_mode) mode
+    ∷ row (at 2) (exactly (octets 16)) dst
+    ∷ trace_row
+    ∷ row (at 4) (exactly le32) freq_k
+    ∷ row (at 5) (exactly le32) freq_n
+    ∷ row (at 6) (exactly (octets 16)) src
+    ∷ []
+
+-- where each meaning stands in it
+abbrev pub place : Meaning → Held
+place unspecified = held 0 dropped tt
+place (mode m) = held 1 (exactly ioam6_mode) m
+place (dst a) = held 2 (exactly (octets 16)) a
+place (traced t) = held 3 trace t
+place (freq_k n) = held 4 (exactly le32) n
+place (freq_n n) = held 5 (exactly le32) n
+place (src a) = held 6 (exactly (octets 16)) a
+place (other x) = held_other x
+
+-- what can be read by it
+abbrev pub Coherent : Meaning → Type 0
+Coherent (other x) = IsOther rows x
+Coherent m = (place m).IsHeld
+
+pub aligned : Aligned (λ m. item_of (place m)) Coherent rows
+aligned = search rules
+
+pub kinds : (m : Meaning) → Coherent m → (place m).kind < 2 ^ 16
+kinds (other x) c = c.proper.kind
+kinds m c = omega arith
+
+pub short : (m : Meaning) → (place m).misfit ≡ None → length (place m).bytes ≤ 65531
+short (other x) fits = raw.fits_short x.kind x.value fits
+short m fits = (place m).codec.fits_short (place m).kind (place m).value fits
+
+pub back : (m : Meaning) → Coherent m → (place m).misfit ≡ None → ReadsAt other rows (number_of (item_of (place m)).kind) (item_of (place m)) m
+back (other x) c fits = other-back other rows (number_of x.kind) x c.alone
+back m c fits = ((place m).value, (place m).codec.reads_back (place m).kind (place m).value c fits, refl)
+
+abbrev pub table_of_rows : Table Meaning
+table_of_rows = record {
+  rows = rows;
+  other = other;
+  place = place;
+  Coherent = Coherent;
+  aligned = aligned;
+  other_is = λ x. refl;
+  other_coherent = λ x is. is;
+  kinds = kinds;
+  short = short;
+  back = back;
+}
+
+pub here : IsRowOf table_of_rows trace_row
+here x m e p = let q = rw e at p in (q.0, q.1)
+
+-- the family: where the routing header can't be read, the attribute is kept
+abbrev pub members : Family Meaning
+members = keeping table_of_rows trace_row here

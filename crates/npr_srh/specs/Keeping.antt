@@ -1,0 +1,72 @@
+-- Families in which an attribute is kept as it stands, besides those of numbers without a row, where one row's value means nothing.
+use Rattle.std.proofs.Common.{◌≡◌, ◌+◌, ◌*◌, ◌<◌, ◌≤◌, ◌^◌, ◌⊎◌, length, None, sym, ap, subst, ◌∙◌, inl, inr, arith}
+use Rattle.npr_base.specs.declared.refusal.DecodeError.{DecodeError}
+use Rattle.npr_base.specs.Framing.{Item, Proper, Small, framed, number_of}
+use Rattle.npr_base.specs.CodecLaws.{framed-grows}
+use Rattle.npr_base.specs.Table.{Family, Row, Table, item_of}
+use Rattle.npr_base.specs.TableLaws.{flat}
+
+-- the attribute has the row's number, and its value means nothing there
+pub record IsUnreadable {M : Type 0} (r : Row M) (x : Item) : Type 0 where
+  pub number : number_of x.kind ≡ r.at.kind
+  pub unread : (v : r.V) → r.codec.Reads x.value v → ⊥
+
+-- it is kept for that
+pub record IsKept {M : Type 0} (other : Item → M) (r : Row M) (x : Item) (m : M) : Type 0 where
+  pub unreadable : IsUnreadable r x
+  pub is : m ≡ other x
+
+-- so it is what can be read: by the table, or kept
+abbrev pub CoherentOrKept : {M : Type 0} → Table M → Row M → M → Type 0
+CoherentOrKept t r m = t.Coherent m ⊎ ((x : Item) × Proper x × IsKept t.other r x m)
+
+module _ {M : Type 0} (t : Table M) (r : Row M) where
+  -- at the row's number the table reads by the row
+  abbrev pub IsRowOf : Type 0
+  IsRowOf = (x : Item) (m : M) → number_of x.kind ≡ r.at.kind → (flat t).Reads x m → (v : r.V) × r.codec.Reads x.value v
+
+  kept-is : (x : Item) (m : M) → m ≡ t.other x → item_of (t.place m) ≡ x
+  kept-is x m e = ap (λ (n : M). item_of (t.place n)) e ∙ t.other_is x
+
+  pub keeping-one : IsRowOf → (x : Item) (m n : M) → (flat t).Reads x m ⊎ IsKept t.other r x m → (flat t).Reads x n ⊎ IsKept t.other r x n → m ≡ n
+  keeping-one here x m n (inl p) (inl q) = (flat t).one_reading x m n p q
+  keeping-one here x m n (inl p) (inr q) = let v = here x m q.unreadable.number p in absurd (q.unreadable.unread v.0 v.1)
+  keeping-one here x m n (inr p) (inl q) = let v = here x n p.unreadable.number q in absurd (p.unreadable.unread v.0 v.1)
+  keeping-one here x m n (inr p) (inr q) = p.is ∙ sym q.is
+
+  pub keeping-sound : (x : Item) (m : M) (e : DecodeError) → (flat t).Reads x m ⊎ IsKept t.other r x m → (flat t).Faulty x e × (IsUnreadable r x → ⊥) → ⊥
+  keeping-sound x m e (inl p) q = (flat t).no_fault x m e p q.0
+  keeping-sound x m e (inr p) q = q.1 p.unreadable
+
+  pub keeping-coherent : (x : Item) (m : M) → Proper x → (flat t).Reads x m ⊎ IsKept t.other r x m → CoherentOrKept t r m
+  keeping-coherent x m proper (inl p) = inl ((flat t).reads_coherent x m proper p)
+  keeping-coherent x m proper (inr p) = inr (x, proper, p)
+
+  pub keeping-small : (m : M) → CoherentOrKept t r m → (flat t).misfit m ≡ None → Small ((flat t).writes m)
+  keeping-small m (inl c) fits = (flat t).fits_small m c fits
+  keeping-small m (inr (x, proper, k)) fits = record { kind = subst (λ (y : Item). y.kind < 2 ^ 16) (sym (kept-is x m k.is)) proper.kind; value = t.short m fits }
+
+  pub keeping-back : (m : M) → CoherentOrKept t r m → (flat t).misfit m ≡ None → (flat t).Reads ((flat t).writes m) m ⊎ IsKept t.other r ((flat t).writes m) m
+  keeping-back m (inl c) fits = inl ((flat t).reads_back m c fits)
+  keeping-back m (inr (x, proper, k)) fits = inr (subst (λ (y : Item). IsKept t.other r y m) (sym (kept-is x m k.is)) k)
+
+  pub keeping-grows : (x : Item) (m : M) → Proper x → (flat t).Reads x m ⊎ IsKept t.other r x m → 2 * framed (length ((flat t).writes m).value) ≤ 5 * (4 + length x.value)
+  keeping-grows x m proper (inl p) = (flat t).grows x m proper p
+  keeping-grows x m proper (inr k) = framed-grows (length ((flat t).writes m).value) (length x.value) (omega (arith, ap (λ (y : Item). length y.value) (kept-is x m k.is)))
+
+-- the family: `here` says that the row is the table's at its number
+abbrev pub keeping : {M : Type 0} (t : Table M) (r : Row M) → IsRowOf t r → Family M
+keeping t r here = record {
+  Reads = λ x m. (flat t).Reads x m ⊎ IsKept t.other r x m;
+  Faulty = λ x e. (flat t).Faulty x e × (IsUnreadable r x → ⊥);
+  writes = (flat t).writes;
+  misfit = (flat t).misfit;
+  Coherent = CoherentOrKept t r;
+  members = (flat t).members;
+  one_reading = keeping-one t r here;
+  no_fault = keeping-sound t r;
+  reads_coherent = keeping-coherent t r;
+  fits_small = keeping-small t r;
+  reads_back = keeping-back t r;
+  grows = keeping-grows t r;
+}

@@ -1,0 +1,174 @@
+-- The value of a SEG6 attribute (linux/seg6_iptunnel.h, struct seg6_iptunnel_encap): a mode of four bytes, and then a routing header of segments (RFC 8754, section 2; linux/seg6.h, struct ipv6_sr_hdr).
+use Rattle.std.specs.Prelude.{◌≡◌, ◌≢◌, ℕ, ◌+◌, ◌-◌, ◌*◌, ◌/◌, ◌%◌, ◌^◌, ◌<◌, ◌≤◌, List, [], ◌∷◌, ◌++◌, length, take, drop, slice_index, replicate, reverse, Option, Some, None}
+use Rattle.std.specs.Int.{w16, w32, to_le_bytes, to_be_bytes, from_be_bytes}
+use Rattle.std.specs.List.{concat}
+use Rattle.std.proofs.Common.{refl}
+use Rattle.std.proofs.lemmas.Nat.{from_le_bytes-to_le_bytes_2, from_le_bytes-to_le_bytes_4}
+use Rattle.npr_base.specs.declared.refusal.DecodeError.{DecodeError}
+use Rattle.npr_base.specs.declared.refusal.DecodeError.TheVariants.{Seg6Header as Refused}
+use Rattle.npr_base.specs.declared.refusal.EmitError.{EmitError}
+use Rattle.npr_base.specs.declared.refusal.Seg6Fault.{Seg6Fault}
+use Rattle.npr_base.specs.declared.refusal.Seg6Fault.TheVariants.{Short, Length, Hmac, Segments}
+use Rattle.npr_base.specs.Framing.{IsBytes}
+use Rattle.npr_base.specs.Family.{AllOf, option_or, too_long}
+use Rattle.npr_base.specs.Layout.{Layout, le16_at, le32_at, le16_at-holds, le32_at-holds}
+use Rattle.npr_base.specs.Rows.{IsFormed}
+use Rattle.npr_srh.specs.Segments.{too_many}
+use Rattle.npr_srh.specs.Seg6Mode.{mode_of, mode_number}
+use Rattle.npr_srh.specs.declared.seg6.Seg6Mode.{Seg6Mode}
+use Rattle.npr_srh.specs.declared.seg6.Seg6MessageBuffer.{Seg6MessageBuffer}
+use Rattle.npr_srh.specs.declared.seg6.Seg6Header.{Seg6Header}
+
+-- ---- the first twelve bytes
+
+abbrev pub decode_message : List ℕ → Seg6MessageBuffer
+decode_message b = record { mode = le32_at b 0; nexthdr = slice_index b 4; hdrlen = slice_index b 5; seg_type = slice_index b 6; segments_left = slice_index b 7; first_segment = slice_index b 8; flags = slice_index b 9; tag = le16_at b 10 }
+
+abbrev pub encode_message : Seg6MessageBuffer → List ℕ
+encode_message b = to_le_bytes w32 b.mode ++ b.nexthdr ∷ b.hdrlen ∷ b.seg_type ∷ b.segments_left ∷ b.first_segment ∷ b.flags ∷ to_le_bytes w16 b.tag
+
+pub record HoldsMessage (b : Seg6MessageBuffer) : Type 0 where
+  pub mode : b.mode < 2 ^ 32
+  pub nexthdr : b.nexthdr < 2 ^ 8
+  pub hdrlen : b.hdrlen < 2 ^ 8
+  pub seg_type : b.seg_type < 2 ^ 8
+  pub segments_left : b.segments_left < 2 ^ 8
+  pub first_segment : b.first_segment < 2 ^ 8
+  pub flags : b.flags < 2 ^ 8
+  pub tag : b.tag < 2 ^ 16
+
+pub message-back : (b : Seg6MessageBuffer) → HoldsMessage b → decode_message (encode_message b) ≡ b
+message-back b h = λ i. record {
+  mode = from_le_bytes-to_le_bytes_4 b.mode h.mode i;
+  nexthdr = b.nexthdr;
+  hdrlen = b.hdrlen;
+  seg_type = b.seg_type;
+  segments_left = b.segments_left;
+  first_segment = b.first_segment;
+  flags = b.flags;
+  tag = from_le_bytes-to_le_bytes_2 b.tag h.tag i;
+}
+
+pub message-holds : (b : List ℕ) → IsBytes b → length b ≡ 12 → HoldsMessage (decode_message b)
+message-holds b is e = record { mode = le32_at-holds b 0 is; nexthdr = is 4; hdrlen = is 5; seg_type = is 6; segments_left = is 7; first_segment = is 8; flags = is 9; tag = le16_at-holds b 10 is }
+
+abbrev pub message : Layout Seg6MessageBuffer
+message = record {
+  size = 12;
+  decode = decode_message;
+  encode = encode_message;
+  Holds = HoldsMessage;
+  length-encode = λ b h. refl;
+  decode-encode = message-back;
+  Holds-decode = message-holds;
+}
+
+-- ---- what the value means
+
+-- a header without where it lies in memory
+pub record Seg6 : Type 0 where
+  pub mode : Seg6Mode
+  pub segments : List (List ℕ)
+  pub hmac : Option ℕ
+
+abbrev pub seg6_of : Seg6Header → Seg6
+seg6_of h = record { mode = h.mode; segments = h.segments.items; hmac = h.hmac }
+
+-- the bytes of the routing header: its length byte counts eights, the first one left out
+abbrev pub header_len : Seg6MessageBuffer → ℕ
+header_len b = 8 * (b.hdrlen + 1)
+
+-- the bytes of the HMAC at its end (RFC 8754, section 2.1.2), where bit 3 of the flags says that there is one (linux/seg6.h, SR6_FLAG1_HMAC)
+abbrev pub hmac_len : Seg6MessageBuffer → ℕ
+hmac_len b = 40 * (b.flags / 8 % 2)
+
+-- the number of the key is big endian behind type, length and four flags and reserved bits
+abbrev pub IsKey : List ℕ → Option ℕ → Type 0
+IsKey hmac None = length hmac ≡ 0
+IsKey hmac (Some key) = (length hmac ≡ 40) × (key ≡ from_be_bytes w32 (take 4 (drop 4 hmac)))
+
+-- twelve bytes, the addresses on the wire, the HMAC, and bytes that are not looked at; the segments are the reverse of the wire
+pub record IsSeg6 (bytes : List ℕ) (h : Seg6) : Type 0 where
+  pub front : List ℕ
+  pub wire : List (List ℕ)
+  pub hmac : List ℕ
+  pub rest : List ℕ
+  pub is : bytes ≡ front ++ (concat wire ++ (hmac ++ rest))
+  pub size : length front ≡ 12
+  pub whole : AllOf (λ a. length a ≡ 16) wire
+  pub len : 8 + (length (concat wire) + length hmac) ≡ header_len (decode_message front)
+  pub hmac_size : length hmac ≡ hmac_len (decode_message front)
+  pub mode : h.mode ≡ mode_of (decode_message front).mode
+  pub segments : h.segments ≡ reverse wire
+  pub key : IsKey hmac h.hmac
+
+-- the layout in front, behind which so many bytes of addresses have room, and then the HMAC
+pub record HasFront (bytes : List ℕ) (b : Seg6MessageBuffer) (len : ℕ) : Type 0 where
+  pub long : 12 ≤ length bytes
+  pub front : b ≡ decode_message (take 12 bytes)
+  pub room : 4 + header_len b ≤ length bytes
+  pub split : 8 + (len + hmac_len b) ≡ header_len b
+  pub whole : len % 16 ≡ 0
+
+-- why a value means nothing: each fault, where none before it stands
+abbrev pub Seg6Faulty : List ℕ → Seg6MessageBuffer → Seg6Fault → Type 0
+Seg6Faulty bytes b Short = length bytes < 12
+Seg6Faulty bytes b Length = (12 ≤ length bytes) × (length bytes < 4 + header_len b)
+Seg6Faulty bytes b Hmac = (12 ≤ length bytes) × (4 + header_len b ≤ length bytes) × (hmac_len b ≡ 40) × (header_len b < 48)
+Seg6Faulty bytes b Segments = (12 ≤ length bytes) × (4 + header_len b ≤ length bytes) × (8 + hmac_len b ≤ header_len b) × ((header_len b - (8 + hmac_len b)) % 16 ≢ 0)
+
+abbrev pub Seg6Wrong : List ℕ → DecodeError → Type 0
+Seg6Wrong bytes (Refused fault) = Seg6Faulty bytes (decode_message (take 12 bytes)) fault
+Seg6Wrong bytes _ = ⊥
+
+-- ---- how it is written
+
+-- the flags, and the eights that the HMAC takes
+abbrev pub key_flags : Option ℕ → ℕ
+key_flags None = 0
+key_flags (Some key) = 8
+
+abbrev pub key_eights : Option ℕ → ℕ
+key_eights None = 0
+key_eights (Some key) = 5
+
+-- type 5, a length of 38, no flags, the key, and a code of zeros
+abbrev pub key_bytes : Option ℕ → List ℕ
+key_bytes None = []
+key_bytes (Some key) = 5 ∷ 38 ∷ 0 ∷ 0 ∷ (to_be_bytes w32 key ++ replicate 32 0)
+
+-- the routing type is 4; the last segment is the first on the wire
+abbrev pub front_of : Seg6 → Seg6MessageBuffer
+front_of h = record {
+  mode = mode_number h.mode;
+  nexthdr = 0;
+  hdrlen = 2 * length h.segments + key_eights h.hmac;
+  seg_type = 4;
+  segments_left = length h.segments - 1;
+  first_segment = length h.segments - 1;
+  flags = key_flags h.hmac;
+  tag = 0;
+}
+
+abbrev pub seg6_bytes : Seg6 → List ℕ
+seg6_bytes h = encode_message (front_of h) ++ (concat (reverse h.segments) ++ key_bytes h.hmac)
+
+-- so many segments can the length byte say
+abbrev pub most_segments : Option ℕ → ℕ
+most_segments None = 127
+most_segments (Some key) = 125
+
+abbrev pub seg6_misfit : ℕ → Seg6 → Option EmitError
+seg6_misfit kind h = option_or (too_long kind (length (seg6_bytes h))) (too_many (most_segments h.hmac) (length h.segments))
+
+-- what can be read
+abbrev pub HoldsKey : Option ℕ → Type 0
+HoldsKey None = Unit {0}
+HoldsKey (Some key) = key < 2 ^ 32
+
+pub record HoldsSeg6 (h : Seg6) : Type 0 where
+  pub mode : mode_number h.mode < 2 ^ 32
+  pub formed : IsFormed mode_of mode_number h.mode
+  pub whole : AllOf (λ a. length a ≡ 16) h.segments
+  pub segments : AllOf IsBytes h.segments
+  pub key : HoldsKey h.hmac

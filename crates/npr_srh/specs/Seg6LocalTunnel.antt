@@ -1,0 +1,117 @@
+-- The members of a SEG6 local tunnel (linux/seg6_local.h, SEG6_LOCAL_*), by their table.
+use Rattle.std.specs.Prelude.{◌≡◌, ℕ, ◌<◌, ◌≤◌, ◌^◌, List, [], ◌∷◌, length, None}
+use Rattle.npr_base.specs.declared.refusal.At.{At}
+use Rattle.npr_base.specs.declared.refusal.AttrFamily.TheVariants.{Seg6Local as OfSeg6Local}
+use Rattle.npr_base.specs.Framing.{Item, number_of}
+use Rattle.npr_base.specs.Codec.{exactly, raw}
+use Rattle.npr_base.specs.DroppedCodec.{dropped}
+use Rattle.npr_base.specs.Layout.{le32, octets}
+use Rattle.npr_base.specs.Table.{Family, Table, Row, row, Held, held, held_other, item_of, IsOther, Aligned, ReadsAt}
+use Rattle.npr_base.specs.TableLaws.{other-back}
+use Rattle.npr_srh.specs.Keeping.{keeping, IsRowOf}
+use Rattle.npr_srh.specs.Seg6LocalActionLaws.{action}
+use Rattle.npr_srh.specs.Seg6Local.{Local, local, local_of}
+use Rattle.npr_srh.specs.declared.seg6local.Seg6LocalAction.{Seg6LocalAction}
+use Rattle.npr_srh.specs.declared.seg6local.RouteSeg6LocalTunnel.{RouteSeg6LocalTunnel}
+use Rattle.npr_srh.specs.declared.seg6local.RouteSeg6LocalTunnel.TheVariants.{Unspecified, Action, Srh, Table as RouteTable, Nh4, Nh6, Iif, Oif, VrfTable, Other}
+use Rattle.std.proofs.Common.{refl, arith, rules}
+
+-- what a member is, without where it lies in memory
+pub data Meaning : Type 0 where
+  unspecified : Meaning
+  act : Seg6LocalAction → Meaning
+  srh : Local → Meaning
+  table : ℕ → Meaning
+  nh4 : List ℕ → Meaning
+  nh6 : List ℕ → Meaning
+  iif : ℕ → Meaning
+  oif : ℕ → Meaning
+  vrf_table : ℕ → Meaning
+  other : Item → Meaning
+
+abbrev pub meaning_of : RouteSeg6LocalTunnel → Meaning
+meaning_of Unspecified = unspecified
+meaning_of (Action a) = act a
+meaning_of (Srh h) = srh (local_of h)
+meaning_of (RouteTable n) = table n
+meaning_of (Nh4 a) = nh4 a
+meaning_of (Nh6 a) = nh6 a
+meaning_of (Iif n) = iif n
+meaning_of (Oif n) = oif n
+meaning_of (VrfTable n) = vrf_table n
+meaning_of (Other d) = other d
+
+abbrev pub at : ℕ → At
+at number = record { family = OfSeg6Local; kind = number }
+
+-- the row whose value may be kept
+abbrev pub srh_row : Row Meaning
+srh_row = row (at 2) local srh
+
+-- the table
+abbrev pub rows : List (Row Meaning)
+rows =
+    row (at 0) dropped (λ u. unspecified)
+    ∷ row (at 1) (exactly action) act
+    ∷ srh_row
+    ∷ row (at 3) (exactly le32) table
+    ∷ row (at 4) (exactly (octets 4)) nh4
+    ∷ row (at 5) (exactly (octets 16)) nh6
+    ∷ row (at 6) (exactly le32) iif
+    ∷ row (at 7) (exactly le32) oif
+    ∷ row (at 9) (exactly le32) vrf_table
+    ∷ []
+
+-- where each meaning stands in it
+abbrev pub place : Meaning → Held
+place unspecified = held 0 dropped tt
+place (act a) = held 1 (exactly action) a
+place (srh h) = held 2 local h
+place (table n) = held 3 (exactly le32) n
+place (nh4 a) = held 4 (exactly (octets 4)) a
+place (nh6 a) = held 5 (exactly (octets 16)) a
+place (iif n) = held 6 (exactly le32) n
+place (oif n) = held 7 (exactly le32) n
+place (vrf_table n) = held 9 (exactly le32) n
+place (other x) = held_other x
+
+-- what can be read by it
+abbrev pub Coherent : Meaning → Type 0
+Coherent (other x) = IsOther rows x
+Coherent m = (place m).IsHeld
+
+pub aligned : Aligned (λ m. item_of (place m)) Coherent rows
+aligned = search rules
+
+pub kinds : (m : Meaning) → Coherent m → (place m).kind < 2 ^ 16
+kinds (other x) c = c.proper.kind
+kinds m c = omega arith
+
+pub short : (m : Meaning) → (place m).misfit ≡ None → length (place m).bytes ≤ 65531
+short (other x) fits = raw.fits_short x.kind x.value fits
+short m fits = (place m).codec.fits_short (place m).kind (place m).value fits
+
+pub back : (m : Meaning) → Coherent m → (place m).misfit ≡ None → ReadsAt other rows (number_of (item_of (place m)).kind) (item_of (place m)) m
+back (other x) c fits = other-back other rows (number_of x.kind) x c.alone
+back m c fits = ((place m).value, (place m).codec.reads_back (place m).kind (place m).value c fits, refl)
+
+abbrev pub table_of_rows : Table Meaning
+table_of_rows = record {
+  rows = rows;
+  other = other;
+  place = place;
+  Coherent = Coherent;
+  aligned = aligned;
+  other_is = λ x. refl;
+  other_coherent = λ x is. is;
+  kinds = kinds;
+  short = short;
+  back = back;
+}
+
+pub here : IsRowOf table_of_rows srh_row
+here x m e p = let q = rw e at p in (q.0, q.1)
+
+-- the family: where the routing header can't be read, the attribute is kept
+abbrev pub members : Family Meaning
+members = keeping table_of_rows srh_row here

@@ -1,0 +1,356 @@
+//! IOAM6: traces in packets (RFC 9197; `linux/ioam6.h` and `linux/ioam6_iptunnel.h`).
+
+ghost use Rattle.std.specs.Prelude.{◌≡◌, ◌≢◌, ◌≤◌, ◌<◌, ◌+◌, ◌*◌, ℕ, List, Option, None, false, length, IfOk, IfErr, IfSome, IfNone};
+ghost use Rattle.std.proofs.Common.{refl};
+ghost use Rattle.npr_base.specs.declared.refusal.DecodeError.TheVariants.{OutOfMemory};
+ghost use Rattle.npr_srh.specs.Ioam6Mode.{ioam6_mode_of, ioam6_mode_number};
+ghost use Rattle.npr_srh.specs.Trace.{trace, IsTrace, encode_trace};
+ghost use Rattle.npr_srh.specs.declared.ioam6.Ioam6TraceHdr.{Ioam6TraceHdr};
+ghost use Rattle.npr_srh.specs.Ioam6Tunnel.{Meaning, meaning_of, members, short, at as place_at};
+
+use crate::segments::read_v6;
+use npr_base::{
+    At, AttrFamily, Attribute, DecodeError, DefaultNla, EmitError, Ipv6Addr, Looks, Nla, NlaBuffer,
+    Parseable, check_len, read_u8, read_u32, write_bytes,
+};
+use std::alloc::{AllocError, Global};
+
+/// How a trace is put in: `IOAM6_IPTUNNEL_MODE_*` of `linux/ioam6_iptunnel.h`.
+#[derive(Clone, Copy, Debug, Default, PartialEq, Eq)]
+pub enum Ioam6Mode {
+    /// Into the packet itself.
+    #[default]
+    Inline,
+    /// With a header of IP around the packet.
+    Encap,
+    /// Into the packet where the host made it, and else with a header around it.
+    Auto,
+    /// Any other number.
+    Other(u8),
+}
+
+impl From<u8> for Ioam6Mode {
+    ghost from_gives = { λ number mode. mode ≡ ioam6_mode_of number };
+
+    fn from(number: u8) -> Ioam6Mode {
+        match number {
+            1 => Ioam6Mode::Inline,
+            2 => Ioam6Mode::Encap,
+            3 => Ioam6Mode::Auto,
+            _ => Ioam6Mode::Other(number),
+        }
+    }
+}
+
+impl From<Ioam6Mode> for u8 {
+    ghost from_gives = { λ mode number. number ≡ ioam6_mode_number mode };
+
+    fn from(mode: Ioam6Mode) -> u8 {
+        match mode {
+            Ioam6Mode::Inline => 1,
+            Ioam6Mode::Encap => 2,
+            Ioam6Mode::Auto => 3,
+            Ioam6Mode::Other(number) => number,
+        }
+    }
+}
+
+/// What a number reads as is written as that number.
+pub fn law_ioam6_mode_number()
+    ensures { (d : ℕ) → ioam6_mode_number (ioam6_mode_of d) ≡ d }
+{}
+
+/// The header of a trace whose room is there from the start (RFC 9197, section 4.4.1).
+#[derive(Clone, Copy, Debug, Default, PartialEq, Eq)]
+pub struct Ioam6TraceHdr {
+    /// The number of the namespace.
+    pub namespace_id: u16,
+    /// The length of a node's data, in units of 4 bytes. 5 bits.
+    pub nodelen: u8,
+    /// Whether a node found no room.
+    pub overflow: bool,
+    /// The room that is left, in units of 4 bytes. 7 bits.
+    pub remlen: u8,
+    /// Which data each node writes, a bit for each. 24 bits.
+    pub trace_type: u32,
+}
+
+const fn at(kind: u16) -> At
+    ensures { result ≡ record { family = AttrFamily.Ioam6; kind = kind } }
+{
+    At {
+        family: AttrFamily::Ioam6,
+        kind,
+    }
+}
+
+impl Ioam6TraceHdr {
+    /// The header that a value is: exactly 8 bytes.
+    pub(crate) fn read(value: &[u8]) -> Option<Self>
+        ensures some { IfSome result (λ t. IsTrace value.now t) }
+        ensures none { IfNone result ((t : Ioam6TraceHdr) → IsTrace value.now t → ⊥) }
+    {
+        let [a, b, node, rem, c, d, e, f] = value else {
+            return None;
+        };
+        Some(Ioam6TraceHdr {
+            namespace_id: u16::from_be_bytes([*a, *b]),
+            nodelen: *node / 8,
+            overflow: *node / 4 % 2 == 1,
+            remlen: *rem % 128,
+            trace_type: u32::from_be_bytes([*c, *d, *e, *f]) / 256,
+        })
+    }
+
+    /// The eight bytes, each field modulo its bits.
+    fn to_bytes(&self) -> [u8; 8]
+        ensures { result ≡ encode_trace self.now }
+    {
+        let [a, b] = self.namespace_id.to_be_bytes();
+        let overflow = if self.overflow { 4 } else { 0 };
+        let [c, d, e, f] = (256 * (self.trace_type % 0x0100_0000)).to_be_bytes();
+        [
+            a,
+            b,
+            8 * (self.nodelen % 32) + overflow,
+            self.remlen % 128,
+            c,
+            d,
+            e,
+            f,
+        ]
+    }
+}
+
+impl Nla for Ioam6TraceHdr {
+    ghost item = { λ t. record { kind = 3; value = trace.writes t } };
+
+    ghost nested = { λ _. false };
+
+    ghost unfit = { λ t. trace.misfit 3 t };
+
+    ghost fits_short = { λ t fits. trace.fits_short 3 t fits };
+
+    fn kind(&self) -> u16 {
+        3
+    }
+
+    fn is_nested(&self) -> bool {
+        false
+    }
+
+    fn check(&self) -> Result<usize, EmitError> {
+        check_len(3, self.value_len())
+    }
+
+    fn value_len(&self) -> usize
+        ensures { result ≡ 8 }
+    {
+        8
+    }
+
+    fn write_value(&self, out: &mut [u8]) -> usize {
+        write_bytes(out, &self.to_bytes())
+    }
+}
+
+impl<'a> Parseable<&'a NlaBuffer<'a>> for Ioam6TraceHdr {
+    ghost parses = { λ input t. trace.Reads input.now.value t };
+
+    ghost misparses = { λ input e. trace.Wrong (place_at 3) input.now.value e };
+
+    /// The header that the value is.
+    ///
+    /// # Errors
+    /// `Unsupported` at a length other than 8 bytes.
+    fn parse(_alloc: Global, input: &'a NlaBuffer<'a>) -> Result<Self, DecodeError>
+        ensures ok { IfOk result (λ t. trace.Reads input.now.value t) }
+        ensures refused { IfErr result (λ e. e ≢ OutOfMemory → trace.Wrong (place_at 3) input.now.value e) }
+        // It takes no memory.
+        ensures memory { IfErr result (λ e. e ≢ OutOfMemory) }
+    {
+        Ioam6TraceHdr::read(input.value()).ok_or(DecodeError::Unsupported { at: at(3) })
+    }
+}
+
+/// A member of an IOAM6 tunnel: `IOAM6_IPTUNNEL_*` of `linux/ioam6_iptunnel.h`.
+#[derive(Debug, Default, Drop, PartialEq, Eq)]
+pub enum RouteIoam6Tunnel {
+    /// `IOAM6_IPTUNNEL_UNSPEC`: nothing; what stood in its value is dropped.
+    #[default]
+    Unspecified,
+    /// `IOAM6_IPTUNNEL_MODE`: how the trace is put in.
+    Mode(Ioam6Mode),
+    /// `IOAM6_IPTUNNEL_DST`: the address that the header around the packet is sent to.
+    Dst(Ipv6Addr),
+    /// `IOAM6_IPTUNNEL_TRACE`: the trace that is put in.
+    Trace(Ioam6TraceHdr),
+    /// `IOAM6_IPTUNNEL_FREQ_K`: it is put into so many packets..
+    FreqK(u32),
+    /// `IOAM6_IPTUNNEL_FREQ_N`: .. of so many.
+    FreqN(u32),
+    /// `IOAM6_IPTUNNEL_SRC`: the address that the header around the packet is sent from.
+    Src(Ipv6Addr),
+    /// A member of another number, or a trace that can't be read, as it stands.
+    Other(DefaultNla),
+}
+
+impl RouteIoam6Tunnel {
+    /// An equal member.
+    ///
+    /// # Errors
+    /// `AllocError` where memory is refused.
+    pub fn clone(&self, alloc: Global) -> Result<Self, AllocError>
+        ensures { IfOk result (λ a. meaning_of a ≡ meaning_of self.now) }
+    {
+        match self {
+            RouteIoam6Tunnel::Unspecified => Ok(RouteIoam6Tunnel::Unspecified),
+            RouteIoam6Tunnel::Mode(mode) => Ok(RouteIoam6Tunnel::Mode(*mode)),
+            RouteIoam6Tunnel::Dst(address) => Ok(RouteIoam6Tunnel::Dst(*address)),
+            RouteIoam6Tunnel::Trace(trace) => Ok(RouteIoam6Tunnel::Trace(*trace)),
+            RouteIoam6Tunnel::FreqK(count) => Ok(RouteIoam6Tunnel::FreqK(*count)),
+            RouteIoam6Tunnel::FreqN(count) => Ok(RouteIoam6Tunnel::FreqN(*count)),
+            RouteIoam6Tunnel::Src(address) => Ok(RouteIoam6Tunnel::Src(*address)),
+            RouteIoam6Tunnel::Other(nla) => nla.clone(alloc).map(RouteIoam6Tunnel::Other),
+        }
+    }
+}
+
+impl Nla for RouteIoam6Tunnel {
+    ghost item = { λ a. members.writes (meaning_of a) };
+
+    ghost nested = { λ _. false };
+
+    ghost unfit = { λ a. members.misfit (meaning_of a) };
+
+    ghost fits_short = { λ a h. short (meaning_of a) h };
+
+    fn kind(&self) -> u16 {
+        match self {
+            RouteIoam6Tunnel::Unspecified => 0,
+            RouteIoam6Tunnel::Mode(_) => 1,
+            RouteIoam6Tunnel::Dst(_) => 2,
+            RouteIoam6Tunnel::Trace(_) => 3,
+            RouteIoam6Tunnel::FreqK(_) => 4,
+            RouteIoam6Tunnel::FreqN(_) => 5,
+            RouteIoam6Tunnel::Src(_) => 6,
+            RouteIoam6Tunnel::Other(nla) => nla.kind(),
+        }
+    }
+
+    fn is_nested(&self) -> bool {
+        false
+    }
+
+    fn check(&self) -> Result<usize, EmitError> {
+        check_len(self.kind(), self.value_len())
+    }
+
+    fn value_len(&self) -> usize
+        ensures { result ≡ length (members.writes (meaning_of self.now)).value }
+    {
+        match self {
+            RouteIoam6Tunnel::Unspecified => 0,
+            RouteIoam6Tunnel::Mode(_) => 1,
+            RouteIoam6Tunnel::Dst(address) | RouteIoam6Tunnel::Src(address) => address
+                .octets()
+                .len(),
+            RouteIoam6Tunnel::Trace(trace) => trace.value_len(),
+            RouteIoam6Tunnel::FreqK(_) | RouteIoam6Tunnel::FreqN(_) => 4,
+            RouteIoam6Tunnel::Other(nla) => nla.value().len(),
+        }
+    }
+
+    fn write_value(&self, out: &mut [u8]) -> usize {
+        match self {
+            RouteIoam6Tunnel::Unspecified => 0,
+            RouteIoam6Tunnel::Mode(mode) => write_bytes(out, &[u8::from(*mode)]),
+            RouteIoam6Tunnel::Dst(address) | RouteIoam6Tunnel::Src(address) => write_bytes(
+                out,
+                &address.octets(),
+            ),
+            RouteIoam6Tunnel::Trace(trace) => trace.write_value(out),
+            RouteIoam6Tunnel::FreqK(n) | RouteIoam6Tunnel::FreqN(n) => write_bytes(
+                out,
+                &n.to_le_bytes(),
+            ),
+            RouteIoam6Tunnel::Other(nla) => write_bytes(out, nla.value()),
+        }
+    }
+}
+
+impl Attribute for RouteIoam6Tunnel {
+    type Context = ();
+
+    ghost Meaning = { Meaning };
+
+    ghost meaning = { meaning_of };
+
+    ghost writes = { members.writes };
+
+    ghost misfit = { members.misfit };
+
+    ghost reads = { λ _. members.Reads };
+
+    ghost faulty = { λ _. members.Faulty };
+
+    ghost coherent = { λ _. members.Coherent };
+
+    ghost members = { members.members };
+
+    ghost item_is = { λ a. refl };
+
+    ghost unfit_is = { λ a. refl };
+
+    ghost one_reading = { λ _. members.one_reading };
+
+    ghost no_fault = { λ _. members.no_fault };
+
+    ghost reads_coherent = { λ _. members.reads_coherent };
+
+    ghost fits_small = { λ _. members.fits_small };
+
+    ghost reads_back = { λ _. members.reads_back };
+
+    ghost grows = { λ _. members.grows };
+
+    fn read(
+        alloc: Global,
+        _context: (),
+        item: &NlaBuffer<'_>,
+        _looks: &mut Looks,
+    ) -> Result<Self, DecodeError> {
+        let value = item.value();
+        match item.kind() {
+            0 => Ok(RouteIoam6Tunnel::Unspecified),
+            1 => read_u8(value, at(1)).map(|n| RouteIoam6Tunnel::Mode(Ioam6Mode::from(n))),
+            2 => read_v6(value, at(2)).map(RouteIoam6Tunnel::Dst),
+            3 => match Ioam6TraceHdr::read(value) {
+                Some(trace) => Ok(RouteIoam6Tunnel::Trace(trace)),
+                None => Ok(RouteIoam6Tunnel::Other(DefaultNla::parse(alloc, item)?)),
+            },
+            4 => read_u32(value, at(4)).map(RouteIoam6Tunnel::FreqK),
+            5 => read_u32(value, at(5)).map(RouteIoam6Tunnel::FreqN),
+            6 => read_v6(value, at(6)).map(RouteIoam6Tunnel::Src),
+            _ => DefaultNla::parse(alloc, item).map(RouteIoam6Tunnel::Other),
+        }
+    }
+
+    fn try_clone(&self, alloc: Global) -> Result<Self, AllocError> {
+        self.clone(alloc)
+    }
+}
+
+impl<'a> Parseable<&'a NlaBuffer<'a>> for RouteIoam6Tunnel {
+    ghost parses = { λ input a. members.Reads input.now (meaning_of a) };
+
+    ghost misparses = { λ input e. members.Faulty input.now e };
+
+    /// The member that the attribute is: `read`, with looks that nobody counts.
+    ///
+    /// # Errors
+    /// `OutOfMemory` where memory is refused, and else what is wrong with the value.
+    fn parse(alloc: Global, input: &'a NlaBuffer<'a>) -> Result<Self, DecodeError> {
+        RouteIoam6Tunnel::read(alloc, (), input, &mut Looks::new())
+    }
+}

@@ -1,0 +1,323 @@
+//! RPL: source routes of a network of low power (RFC 6554; `linux/rpl.h` and
+//! `linux/rpl_iptunnel.h`).
+
+ghost use Rattle.std.specs.Prelude.{◌≡◌, ◌≢◌, ◌≤◌, ◌<◌, ◌+◌, ◌*◌, ℕ, List, Option, None, false, length, [], IfOk, IfErr, IfSome, IfNone};
+ghost use Rattle.std.proofs.Common.{refl};
+ghost use Rattle.npr_base.specs.declared.refusal.DecodeError.TheVariants.{OutOfMemory};
+ghost use Rattle.npr_srh.specs.Headed.{IsUnread};
+ghost use Rattle.npr_srh.specs.Rpl.{rpl, rpl_of, rpl_front, encode_rpl};
+ghost use Rattle.npr_srh.specs.RplTunnel.{Meaning, meaning_of, members, short, at as place_at};
+
+use crate::segments::{check_header, has_header, write_segments};
+use npr_base::{
+    At, AttrFamily, Attribute, DecodeError, DefaultNla, EmitError, Ipv6Addr, Looks, Nla, NlaBuffer,
+    Parseable, check_len, read_v6_list, v6_list_len, write_bytes,
+};
+use std::alloc::{AllocError, Global};
+
+/// An RPL source routing header (RFC 6554, section 3).
+#[derive(Debug, Drop, PartialEq, Eq)]
+pub struct RplSrh {
+    /// The protocol of what follows.
+    pub next_header: u8,
+    /// The routing type: 3.
+    pub routing_type: u8,
+    /// How many segments are still to be visited.
+    pub segments_left: u8,
+    /// How many bytes in front are left out of each address but the last. 4 bits.
+    pub cmpri: u8,
+    /// How many bytes in front are left out of the last address. 4 bits.
+    pub cmpre: u8,
+    /// How many bytes of padding stand at the end. 4 bits.
+    pub pad: u8,
+    /// The segments, in the order of the wire.
+    pub segments: Vec<Ipv6Addr>,
+}
+
+const fn at(kind: u16) -> At
+    ensures { result ≡ record { family = AttrFamily.Rpl; kind = kind } }
+{
+    At {
+        family: AttrFamily::Rpl,
+        kind,
+    }
+}
+
+impl RplSrh {
+    /// A header with each field 0 and no segments. It takes no memory.
+    pub fn new(alloc: Global) -> Self
+        ensures { rpl_of result ≡ record { front = record { next_header = 0; routing_type = 0; segments_left = 0; cmpri = 0; cmpre = 0; pad = 0 }; segments = [] } }
+    {
+        RplSrh {
+            next_header: 0,
+            routing_type: 0,
+            segments_left: 0,
+            cmpri: 0,
+            cmpre: 0,
+            pad: 0,
+            segments: Vec::new(alloc),
+        }
+    }
+
+    /// An equal header.
+    ///
+    /// # Errors
+    /// `AllocError` where memory is refused.
+    pub fn clone(&self, alloc: Global) -> Result<Self, AllocError>
+        ensures { IfOk result (λ h. rpl_of h ≡ rpl_of self.now) }
+    {
+        Ok(RplSrh {
+            next_header: self.next_header,
+            routing_type: self.routing_type,
+            segments_left: self.segments_left,
+            cmpri: self.cmpri,
+            cmpre: self.cmpre,
+            pad: self.pad,
+            segments: Vec::from_slice(alloc, self.segments.as_slice())?,
+        })
+    }
+
+    /// The header that a value is, or `None` where it can't be read.
+    ///
+    /// # Errors
+    /// `OutOfMemory` alone, where memory is refused.
+    pub(crate) fn read(alloc: Global, value: &[u8]) -> Result<Option<Self>, DecodeError>
+        ensures some { IfOk result (λ o. IfSome o (λ h. rpl.Reads value.now (rpl_of h))) }
+        ensures none { IfOk result (λ o. IfNone o (IsUnread rpl_front value.now)) }
+        ensures refused { IfErr result (λ e. e ≡ OutOfMemory) }
+    {
+        if !has_header(value) {
+            return Ok(None);
+        }
+        let head = &value[..8];
+        let word = u32::from_le_bytes([head[4], head[5], head[6], head[7]]);
+        let (cmpri, cmpre) = ((word / 16 % 16) as u8, (word % 16) as u8);
+        if cmpri != 0 || cmpre != 0 {
+            return Ok(None);
+        }
+        Ok(Some(RplSrh {
+            next_header: head[0],
+            routing_type: head[2],
+            segments_left: head[3],
+            cmpri,
+            cmpre,
+            pad: (word / 4096 % 16) as u8,
+            segments: read_v6_list(alloc, &value[8..])?,
+        }))
+    }
+
+    /// The eight bytes in front. Asks that the segments fit.
+    fn front(&self) -> [u8; 8]
+        requires { length self.now.segments.items ≤ 127 }
+        ensures { result ≡ encode_rpl (2 * length self.now.segments.items) (rpl_of self.now).front }
+    {
+        let low = (self.cmpre % 16) as u32 + 16 * (self.cmpri % 16) as u32;
+        let [a, b, c, d] = (low + 4096 * (self.pad % 16) as u32).to_le_bytes();
+        [
+            self.next_header,
+            (2 * self.segments.len()) as u8,
+            self.routing_type,
+            self.segments_left,
+            a,
+            b,
+            c,
+            d,
+        ]
+    }
+}
+
+impl Nla for RplSrh {
+    ghost item = { λ h. record { kind = 1; value = rpl.writes (rpl_of h) } };
+
+    ghost nested = { λ _. false };
+
+    ghost unfit = { λ h. rpl.misfit 1 (rpl_of h) };
+
+    ghost fits_short = { λ h fits. rpl.fits_short 1 (rpl_of h) fits };
+
+    fn kind(&self) -> u16 {
+        1
+    }
+
+    fn is_nested(&self) -> bool {
+        false
+    }
+
+    fn check(&self) -> Result<usize, EmitError> {
+        check_header(1, self.value_len(), self.segments.len(), 127)
+    }
+
+    fn value_len(&self) -> usize
+        ensures { result ≡ length (rpl.writes (rpl_of self.now)) }
+    {
+        8 + v6_list_len(self.segments.as_slice())
+    }
+
+    fn write_value(&self, out: &mut [u8]) -> usize {
+        let front = write_bytes(out, &self.front());
+        front + write_segments(&mut out[front..], self.segments.as_slice())
+    }
+}
+
+impl<'a> Parseable<&'a NlaBuffer<'a>> for RplSrh {
+    ghost parses = { λ input h. rpl.Reads input.now.value (rpl_of h) };
+
+    ghost misparses = { λ input e. rpl.Wrong (place_at 1) input.now.value e };
+
+    /// The header that the value is.
+    ///
+    /// # Errors
+    /// `OutOfMemory` where memory is refused, and else `Unsupported`.
+    fn parse(alloc: Global, input: &'a NlaBuffer<'a>) -> Result<Self, DecodeError> {
+        match RplSrh::read(alloc, input.value())? {
+            Some(header) => Ok(header),
+            None => Err(DecodeError::Unsupported { at: at(1) }),
+        }
+    }
+}
+
+/// A member of an RPL tunnel: `RPL_IPTUNNEL_*` of `linux/rpl_iptunnel.h`.
+#[derive(Debug, Default, Drop, PartialEq, Eq)]
+pub enum RouteRplIpTunnel {
+    /// `RPL_IPTUNNEL_UNSPEC`: nothing; what stood in its value is dropped.
+    #[default]
+    Unspecified,
+    /// `RPL_IPTUNNEL_SRH`: the routing header.
+    Srh(RplSrh),
+    /// A member of another number, or a header that can't be read, as it stands.
+    Other(DefaultNla),
+}
+
+impl RouteRplIpTunnel {
+    /// An equal member.
+    ///
+    /// # Errors
+    /// `AllocError` where memory is refused.
+    pub fn clone(&self, alloc: Global) -> Result<Self, AllocError>
+        ensures { IfOk result (λ a. meaning_of a ≡ meaning_of self.now) }
+    {
+        match self {
+            RouteRplIpTunnel::Unspecified => Ok(RouteRplIpTunnel::Unspecified),
+            RouteRplIpTunnel::Srh(header) => header.clone(alloc).map(RouteRplIpTunnel::Srh),
+            RouteRplIpTunnel::Other(nla) => nla.clone(alloc).map(RouteRplIpTunnel::Other),
+        }
+    }
+}
+
+impl Nla for RouteRplIpTunnel {
+    ghost item = { λ a. members.writes (meaning_of a) };
+
+    ghost nested = { λ _. false };
+
+    ghost unfit = { λ a. members.misfit (meaning_of a) };
+
+    ghost fits_short = { λ a h. short (meaning_of a) h };
+
+    fn kind(&self) -> u16 {
+        match self {
+            RouteRplIpTunnel::Unspecified => 0,
+            RouteRplIpTunnel::Srh(_) => 1,
+            RouteRplIpTunnel::Other(nla) => nla.kind(),
+        }
+    }
+
+    fn is_nested(&self) -> bool {
+        false
+    }
+
+    fn check(&self) -> Result<usize, EmitError> {
+        match self {
+            RouteRplIpTunnel::Srh(header) => header.check(),
+            _ => check_len(self.kind(), self.value_len()),
+        }
+    }
+
+    fn value_len(&self) -> usize
+        ensures { result ≡ length (members.writes (meaning_of self.now)).value }
+    {
+        match self {
+            RouteRplIpTunnel::Unspecified => 0,
+            RouteRplIpTunnel::Srh(header) => header.value_len(),
+            RouteRplIpTunnel::Other(nla) => nla.value().len(),
+        }
+    }
+
+    fn write_value(&self, out: &mut [u8]) -> usize {
+        match self {
+            RouteRplIpTunnel::Unspecified => 0,
+            RouteRplIpTunnel::Srh(header) => header.write_value(out),
+            RouteRplIpTunnel::Other(nla) => write_bytes(out, nla.value()),
+        }
+    }
+}
+
+impl Attribute for RouteRplIpTunnel {
+    type Context = ();
+
+    ghost Meaning = { Meaning };
+
+    ghost meaning = { meaning_of };
+
+    ghost writes = { members.writes };
+
+    ghost misfit = { members.misfit };
+
+    ghost reads = { λ _. members.Reads };
+
+    ghost faulty = { λ _. members.Faulty };
+
+    ghost coherent = { λ _. members.Coherent };
+
+    ghost members = { members.members };
+
+    ghost item_is = { λ a. refl };
+
+    ghost unfit_is = { λ a. refl };
+
+    ghost one_reading = { λ _. members.one_reading };
+
+    ghost no_fault = { λ _. members.no_fault };
+
+    ghost reads_coherent = { λ _. members.reads_coherent };
+
+    ghost fits_small = { λ _. members.fits_small };
+
+    ghost reads_back = { λ _. members.reads_back };
+
+    ghost grows = { λ _. members.grows };
+
+    fn read(
+        alloc: Global,
+        _context: (),
+        item: &NlaBuffer<'_>,
+        _looks: &mut Looks,
+    ) -> Result<Self, DecodeError> {
+        let value = item.value();
+        match item.kind() {
+            0 => Ok(RouteRplIpTunnel::Unspecified),
+            1 => match RplSrh::read(alloc, value)? {
+                Some(header) => Ok(RouteRplIpTunnel::Srh(header)),
+                None => Ok(RouteRplIpTunnel::Other(DefaultNla::parse(alloc, item)?)),
+            },
+            _ => DefaultNla::parse(alloc, item).map(RouteRplIpTunnel::Other),
+        }
+    }
+
+    fn try_clone(&self, alloc: Global) -> Result<Self, AllocError> {
+        self.clone(alloc)
+    }
+}
+
+impl<'a> Parseable<&'a NlaBuffer<'a>> for RouteRplIpTunnel {
+    ghost parses = { λ input a. members.Reads input.now (meaning_of a) };
+
+    ghost misparses = { λ input e. members.Faulty input.now e };
+
+    /// The member that the attribute is: `read`, with looks that nobody counts.
+    ///
+    /// # Errors
+    /// `OutOfMemory` where memory is refused, and else what is wrong with the value.
+    fn parse(alloc: Global, input: &'a NlaBuffer<'a>) -> Result<Self, DecodeError> {
+        RouteRplIpTunnel::read(alloc, (), input, &mut Looks::new())
+    }
+}
