@@ -1,5 +1,9 @@
 //! The answer of a parser to bytes, as a line of text.
 
+ghost use Rattle.std.specs.Prelude.{◌≡◌, ◌≢◌, IfSome, IsNone};
+ghost use Rattle.conformance.specs.declared.answer.Word.{Word};
+ghost use Rattle.conformance.specs.Word.{word_name};
+
 use npr_address::AddressMessage;
 use npr_base::{DecodeError, Emitable, Parseable};
 use npr_rule::RuleMessage;
@@ -16,7 +20,10 @@ pub enum Word {
 
 impl Word {
     /// The kind of this name.
-    pub fn of(name: &str) -> Option<Word> {
+    pub fn of(name: &str) -> Option<Word>
+        ensures named { IfSome result (λ word. name.now ≡ word_name word) }
+        ensures other { IsNone result → (word : Word) → name.now ≢ word_name word }
+    {
         match name {
             "address" => Some(Word::Address),
             "rule" => Some(Word::Rule),

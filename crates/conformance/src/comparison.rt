@@ -1,5 +1,7 @@
 //! Lines of files, compared one after the other.
 
+ghost use Rattle.std.specs.Prelude.{◌≡◌};
+
 use crate::answer::{Word, answer};
 use hex::FromHexError;
 use std::alloc::{AllocError, Global};
@@ -30,27 +32,21 @@ impl From<AllocError> for Fault {
 /// How many lines were compared, and how many were answered otherwise.
 #[derive(Debug, Drop)]
 pub struct Comparison {
-    lines: u64,
-    differ: u64,
+    /// The lines that were compared.
+    pub lines: u64,
+    /// Those of them that were answered otherwise.
+    pub differ: u64,
 }
 
 impl Comparison {
     /// Nothing is compared yet.
-    pub fn new() -> Comparison {
+    pub fn new() -> Comparison
+        ensures { result ≡ record { lines = 0; differ = 0 } }
+    {
         Comparison {
             lines: 0,
             differ: 0,
         }
-    }
-
-    /// The lines that were compared.
-    pub fn lines(&self) -> u64 {
-        self.lines
-    }
-
-    /// Those of them that were answered otherwise.
-    pub fn differ(&self) -> u64 {
-        self.differ
     }
 
     /// Compares each line of a file, one in memory at a time.

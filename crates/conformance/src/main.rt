@@ -50,8 +50,8 @@ fn arguments(rt: &HostRuntime) -> io::Result<Vec<String>> {
 }
 
 fn summarize(rt: &HostRuntime, comparison: &Comparison) -> ExitCode {
-    let lines = comparison.lines();
-    let differ = comparison.differ();
+    let lines = comparison.lines;
+    let differ = comparison.differ;
     match println!(rt; "{lines} lines, {differ} differ") {
         Ok(()) if differ == 0 => ExitCode::SUCCESS,
         _ => ExitCode::from(1),
