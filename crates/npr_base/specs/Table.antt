@@ -32,14 +32,21 @@ pub record Row (M : Type 0) : Type 1 where
 abbrev pub row : {M V : Type 0} → At → Codec V → (V → M) → Row M
 row {M} {V} at codec variant = record { at = at; V = V; codec = codec; variant = variant }
 
+-- what bytes mean by a row, and why they mean nothing
+abbrev pub ReadsBy : {M : Type 0} → Row M → List ℕ → M → Type 0
+ReadsBy r bytes m = (v : r.V) × r.codec.Reads bytes v × (m ≡ r.variant v)
+
+abbrev pub WrongBy : {M : Type 0} → Row M → List ℕ → DecodeError → Type 0
+WrongBy r bytes e = r.codec.Wrong r.at bytes e
+
 -- what an attribute of the number k means: the variant of its row, or else itself
 abbrev pub ReadsAt : {M : Type 0} → (Item → M) → List (Row M) → ℕ → Item → M → Type 0
 ReadsAt other [] k x m = m ≡ other x
-ReadsAt other (r ∷ rows) k x m = MatchBool (k == r.at.kind) ((v : r.V) × r.codec.Reads x.value v × (m ≡ r.variant v)) (ReadsAt other rows k x m)
+ReadsAt other (r ∷ rows) k x m = MatchBool (k == r.at.kind) (ReadsBy r x.value m) (ReadsAt other rows k x m)
 
 abbrev pub WrongAt : {M : Type 0} → List (Row M) → ℕ → Item → DecodeError → Type 0
 WrongAt [] k x e = ⊥
-WrongAt (r ∷ rows) k x e = MatchBool (k == r.at.kind) (r.codec.Wrong r.at x.value e) (WrongAt rows k x e)
+WrongAt (r ∷ rows) k x e = MatchBool (k == r.at.kind) (WrongBy r x.value e) (WrongAt rows k x e)
 
 -- the number has a row
 abbrev pub has_row : {M : Type 0} → List (Row M) → ℕ → Bool

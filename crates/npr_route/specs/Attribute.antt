@@ -1,12 +1,14 @@
 -- The attributes of a route message (linux/rtnetlink.h, RTA_*), by their table under the header.
-use Rattle.std.specs.Prelude.{◌≡◌, ◌≢◌, ℕ, ◌<◌, ◌≤◌, ◌^◌, Bool, true, false, List, [], ◌∷◌, length, map, None}
+use Rattle.std.specs.Prelude.{◌≡◌, ◌≢◌, ℕ, ◌<◌, ◌≤◌, ◌^◌, Bool, true, false, List, [], ◌∷◌, length, map, Option, None}
 use Rattle.std.proofs.Common.{refl, arith, rules}
 use Rattle.npr_base.specs.declared.refusal.At.{At}
 use Rattle.npr_base.specs.declared.refusal.AttrFamily.TheVariants.{Route as OfRoute}
+use Rattle.npr_base.specs.declared.refusal.EmitError.{EmitError}
 use Rattle.npr_base.specs.declared.address_family.AddressFamily.{AddressFamily}
+use Rattle.npr_base.specs.Family.{list_unfit}
 use Rattle.npr_base.specs.Framing.{Item, number_of}
-use Rattle.npr_base.specs.Layout.{byte, le32, le64, be16, be32}
-use Rattle.npr_base.specs.Codec.{exactly, leading, raw}
+use Rattle.npr_base.specs.Layout.{Layout, byte, le32, le64, be16, be32}
+use Rattle.npr_base.specs.Codec.{Codec, exactly, leading, raw}
 use Rattle.npr_base.specs.ListCodec.{list_of}
 use Rattle.npr_base.specs.Table.{Family, Table, Row, row, Held, held, held_other, item_of, IsOther, Aligned, ReadsAt}
 use Rattle.npr_base.specs.TableLaws.{flat, other-back}
@@ -101,19 +103,48 @@ abbrev pub is_multicast : RouteType → Bool
 is_multicast Multicast = true
 is_multicast kind = false
 
--- the rows that rest on the header: labels for family mpls, else an address; eight bytes of a
--- multicast route, else four
+-- what the reading of an attribute rests on besides its bytes: the family and the type of the
+-- message's header, and the type of its encapsulation
+abbrev pub Context : Type 0
+Context = AddressFamily × RouteType × RouteLwEnCapType
+
+-- number 19: labels for family mpls, else an address
+abbrev pub NewDestinationValue : Form → Type 0
+NewDestinationValue four = AddressMeaning
+NewDestinationValue sixteen = AddressMeaning
+NewDestinationValue label = List MplsLabel
+NewDestinationValue any = AddressMeaning
+
+abbrev pub new_destination_codec : (form : Form) → Codec (NewDestinationValue form)
+new_destination_codec four = address_in four
+new_destination_codec sixteen = address_in sixteen
+new_destination_codec label = mpls_labels
+new_destination_codec any = address_in any
+
+abbrev pub new_destination_variant : (form : Form) → NewDestinationValue form → Meaning
+new_destination_variant four a = new_destination_address a
+new_destination_variant sixteen a = new_destination_address a
+new_destination_variant label a = new_destination a
+new_destination_variant any a = new_destination_address a
+
 abbrev pub new_destination_row : Form → Row Meaning
-new_destination_row label = row (at 19) mpls_labels new_destination
-new_destination_row form = row (at 19) (address_in form) new_destination_address
+new_destination_row form = row (at 19) (new_destination_codec form) (new_destination_variant form)
+
+-- number 23: eight bytes of a multicast route, else four
+abbrev pub expires_layout : Bool → Layout ℕ
+expires_layout true = le64
+expires_layout false = le32
+
+abbrev pub expires_variant : Bool → ℕ → Meaning
+expires_variant true n = multicast_expires n
+expires_variant false n = expires n
 
 abbrev pub expires_row : Bool → Row Meaning
-expires_row true = row (at 23) (exactly le64) multicast_expires
-expires_row false = row (at 23) (exactly le32) expires
+expires_row multicast = row (at 23) (exactly (expires_layout multicast)) (expires_variant multicast)
 
--- the other rows
-abbrev pub fixed_rows : Form → List (Row Meaning)
-fixed_rows form =
+-- the table
+abbrev pub rows : Form → Bool → List (Row Meaning)
+rows form multicast =
     row (at 1) (address_in form) destination
     ∷ row (at 2) (address_in form) source
     ∷ row (at 3) (exactly le32) iif
@@ -128,8 +159,10 @@ fixed_rows form =
     ∷ row (at 16) (exactly le32) mark
     ∷ row (at 17) (leading route_mfc_stats) mfc_stats
     ∷ row (at 18) via_value via
+    ∷ new_destination_row form
     ∷ row (at 20) (exactly route_preference) preference
     ∷ row (at 21) (exactly encap_type_layout) encap_type
+    ∷ expires_row multicast
     ∷ row (at 25) (exactly le32) uid
     ∷ row (at 26) (exactly ttl_propagation) ttl_propagate
     ∷ row (at 27) (exactly byte) ip_proto
@@ -138,10 +171,6 @@ fixed_rows form =
     ∷ row (at 30) (exactly le32) nh_id
     ∷ row (at 31) (exactly be32) flowlabel
     ∷ []
-
--- the table
-abbrev pub rows : Form → Bool → List (Row Meaning)
-rows form multicast = new_destination_row form ∷ expires_row multicast ∷ fixed_rows form
 
 -- how each meaning is written, whatever the header
 abbrev pub place : Meaning → Held
@@ -173,6 +202,11 @@ place (dport a) = held 29 (exactly be16) a
 place (nh_id a) = held 30 (exactly le32) a
 place (flowlabel a) = held 31 (exactly be32) a
 place (other x) = held_other x
+
+-- why the list inside can't be written, if so
+abbrev pub unfit_inside : Meaning → Option EmitError
+unfit_inside (metrics xs) = list_unfit metric_family.misfit metric_family.writes xs
+unfit_inside m = None
 
 -- what can be read
 abbrev pub Coherent : Form → Bool → Meaning → Type 0

@@ -1,30 +1,28 @@
--- The family of the attributes of a route message under a header.
-use Rattle.std.specs.Prelude.{◌≡◌, ◌≢◌, ℕ, ◌<◌, ◌≤◌, ◌^◌, Bool, true, false, List, [], ◌∷◌, length, None}
-use Rattle.std.proofs.Common.{refl, sym, arith, rules}
-use Rattle.std.proofs.lemmas.Nat.{from_le_bytes-to_le_bytes_4, from_le_bytes-to_le_bytes_8}
+-- The family of the attributes of a route message under a context.
+use Rattle.std.specs.Prelude.{◌≡◌, ◌≢◌, ℕ, ◌<◌, ◌≤◌, ◌^◌, Bool, true, false, length, Option, None}
+use Rattle.std.proofs.Common.{refl, arith, rules}
+use Rattle.npr_base.specs.declared.refusal.EmitError.{EmitError}
 use Rattle.npr_base.specs.Framing.{Item, number_of}
 use Rattle.npr_base.specs.Layout.{le32, le64}
 use Rattle.npr_base.specs.Codec.{Codec, exactly, raw}
-use Rattle.npr_base.specs.Table.{Family, Row, Held, held, item_of, IsOther, Aligned, ReadsAt}
+use Rattle.npr_base.specs.Table.{Family, item_of, Aligned, ReadsAt}
 use Rattle.npr_base.specs.TableLaws.{flat, other-back}
 use Rattle.npr_scalar.specs.MplsLaws.{mpls_labels}
-use Rattle.npr_scalar.specs.RouteAddress.{address_bytes, address_in, Form, four, sixteen, label, any, form_of}
-use Rattle.npr_base.specs.declared.address_family.AddressFamily.{AddressFamily}
-use Rattle.npr_scalar.specs.declared.header.RouteType.{RouteType}
-use Rattle.npr_route.specs.Attribute.{Meaning, destination, source, iif, oif, gateway, priority, pref_source, metrics, realm, cache_info, table, mark, mfc_stats, via, new_destination, new_destination_address, preference, encap_type, expires, multicast_expires, uid, ttl_propagate, ip_proto, sport, dport, nh_id, flowlabel, other, rows, fixed_rows, new_destination_row, expires_row, place, Coherent, is_multicast}
+use Rattle.npr_scalar.specs.RouteAddress.{address_in, Form, four, sixteen, label, any, form_of}
+use Rattle.npr_route.specs.Attribute.{Context, Meaning, destination, source, gateway, pref_source, new_destination, new_destination_address, expires, multicast_expires, other, rows, new_destination_codec, new_destination_variant, NewDestinationValue, expires_layout, expires_variant, place, Coherent, is_multicast}
 
-pub fixed-aligned : (form : Form) (multicast : Bool) → Aligned (λ m. item_of (place m)) (Coherent form multicast) (fixed_rows form)
-fixed-aligned form multicast = search rules
+new_destination-aligned : (form : Form) (multicast : Bool) (v : NewDestinationValue form) → ((item_of (place (new_destination_variant form v))).value ≡ (new_destination_codec form).writes v) × ((new_destination_codec form).Holds v → Coherent form multicast (new_destination_variant form v))
+new_destination-aligned four multicast v = (refl, λ h. (λ e. cc, h))
+new_destination-aligned sixteen multicast v = (refl, λ h. (λ e. cc, h))
+new_destination-aligned label multicast v = (refl, λ h. (refl, h))
+new_destination-aligned any multicast v = (refl, λ h. (λ e. cc, h))
+
+expires-aligned : (form : Form) (multicast : Bool) (v : ℕ) → ((item_of (place (expires_variant multicast v))).value ≡ (exactly (expires_layout multicast)).writes v) × ((exactly (expires_layout multicast)).Holds v → Coherent form multicast (expires_variant multicast v))
+expires-aligned form true v = (refl, λ h. (refl, h))
+expires-aligned form false v = (refl, λ h. (refl, h))
 
 pub aligned : (form : Form) (multicast : Bool) → Aligned (λ m. item_of (place m)) (Coherent form multicast) (rows form multicast)
-aligned four true = (λ v. (refl, λ h. (λ e. cc, h)), (λ v. (refl, λ h. (refl, h)), fixed-aligned four true))
-aligned four false = (λ v. (refl, λ h. (λ e. cc, h)), (λ v. (refl, λ h. (refl, h)), fixed-aligned four false))
-aligned sixteen true = (λ v. (refl, λ h. (λ e. cc, h)), (λ v. (refl, λ h. (refl, h)), fixed-aligned sixteen true))
-aligned sixteen false = (λ v. (refl, λ h. (λ e. cc, h)), (λ v. (refl, λ h. (refl, h)), fixed-aligned sixteen false))
-aligned label true = (λ v. (refl, λ h. (refl, h)), (λ v. (refl, λ h. (refl, h)), fixed-aligned label true))
-aligned label false = (λ v. (refl, λ h. (refl, h)), (λ v. (refl, λ h. (refl, h)), fixed-aligned label false))
-aligned any true = (λ v. (refl, λ h. (λ e. cc, h)), (λ v. (refl, λ h. (refl, h)), fixed-aligned any true))
-aligned any false = (λ v. (refl, λ h. (λ e. cc, h)), (λ v. (refl, λ h. (refl, h)), fixed-aligned any false))
+aligned form multicast = search (rules, new_destination-aligned form multicast, expires-aligned form multicast)
 
 pub kinds : (form : Form) (multicast : Bool) (m : Meaning) → Coherent form multicast m → (place m).kind < 2 ^ 16
 kinds form multicast (other x) c = c.proper.kind
@@ -35,86 +33,31 @@ short (other x) fits = raw.fits_short x.kind x.value fits
 short m fits = (place m).codec.fits_short (place m).kind (place m).value fits
 
 pub back : (form : Form) (multicast : Bool) (m : Meaning) → Coherent form multicast m → (place m).misfit ≡ None → ReadsAt other (rows form multicast) (number_of (item_of (place m)).kind) (item_of (place m)) m
-back four true (other x) c fits = other-back other (rows four true) (number_of x.kind) x c.alone
-back four false (other x) c fits = other-back other (rows four false) (number_of x.kind) x c.alone
-back sixteen true (other x) c fits = other-back other (rows sixteen true) (number_of x.kind) x c.alone
-back sixteen false (other x) c fits = other-back other (rows sixteen false) (number_of x.kind) x c.alone
-back label true (other x) c fits = other-back other (rows label true) (number_of x.kind) x c.alone
-back label false (other x) c fits = other-back other (rows label false) (number_of x.kind) x c.alone
-back any true (other x) c fits = other-back other (rows any true) (number_of x.kind) x c.alone
-back any false (other x) c fits = other-back other (rows any false) (number_of x.kind) x c.alone
-back four true (destination a) c fits = (a, (address_in four).reads_back 1 a c fits, refl)
-back four true (source a) c fits = (a, (address_in four).reads_back 2 a c fits, refl)
-back four true (gateway a) c fits = (a, (address_in four).reads_back 5 a c fits, refl)
-back four true (pref_source a) c fits = (a, (address_in four).reads_back 7 a c fits, refl)
-back four false (destination a) c fits = (a, (address_in four).reads_back 1 a c fits, refl)
-back four false (source a) c fits = (a, (address_in four).reads_back 2 a c fits, refl)
-back four false (gateway a) c fits = (a, (address_in four).reads_back 5 a c fits, refl)
-back four false (pref_source a) c fits = (a, (address_in four).reads_back 7 a c fits, refl)
-back sixteen true (destination a) c fits = (a, (address_in sixteen).reads_back 1 a c fits, refl)
-back sixteen true (source a) c fits = (a, (address_in sixteen).reads_back 2 a c fits, refl)
-back sixteen true (gateway a) c fits = (a, (address_in sixteen).reads_back 5 a c fits, refl)
-back sixteen true (pref_source a) c fits = (a, (address_in sixteen).reads_back 7 a c fits, refl)
-back sixteen false (destination a) c fits = (a, (address_in sixteen).reads_back 1 a c fits, refl)
-back sixteen false (source a) c fits = (a, (address_in sixteen).reads_back 2 a c fits, refl)
-back sixteen false (gateway a) c fits = (a, (address_in sixteen).reads_back 5 a c fits, refl)
-back sixteen false (pref_source a) c fits = (a, (address_in sixteen).reads_back 7 a c fits, refl)
-back label true (destination a) c fits = (a, (address_in label).reads_back 1 a c fits, refl)
-back label true (source a) c fits = (a, (address_in label).reads_back 2 a c fits, refl)
-back label true (gateway a) c fits = (a, (address_in label).reads_back 5 a c fits, refl)
-back label true (pref_source a) c fits = (a, (address_in label).reads_back 7 a c fits, refl)
-back label false (destination a) c fits = (a, (address_in label).reads_back 1 a c fits, refl)
-back label false (source a) c fits = (a, (address_in label).reads_back 2 a c fits, refl)
-back label false (gateway a) c fits = (a, (address_in label).reads_back 5 a c fits, refl)
-back label false (pref_source a) c fits = (a, (address_in label).reads_back 7 a c fits, refl)
-back any true (destination a) c fits = (a, (address_in any).reads_back 1 a c fits, refl)
-back any true (source a) c fits = (a, (address_in any).reads_back 2 a c fits, refl)
-back any true (gateway a) c fits = (a, (address_in any).reads_back 5 a c fits, refl)
-back any true (pref_source a) c fits = (a, (address_in any).reads_back 7 a c fits, refl)
-back any false (destination a) c fits = (a, (address_in any).reads_back 1 a c fits, refl)
-back any false (source a) c fits = (a, (address_in any).reads_back 2 a c fits, refl)
-back any false (gateway a) c fits = (a, (address_in any).reads_back 5 a c fits, refl)
-back any false (pref_source a) c fits = (a, (address_in any).reads_back 7 a c fits, refl)
-back four true (new_destination a) c fits = absurd (let e = c.0 in cc)
-back four false (new_destination a) c fits = absurd (let e = c.0 in cc)
-back sixteen true (new_destination a) c fits = absurd (let e = c.0 in cc)
-back sixteen false (new_destination a) c fits = absurd (let e = c.0 in cc)
-back label true (new_destination a) c fits = (a, mpls_labels.reads_back 19 a c.1 fits, refl)
-back label false (new_destination a) c fits = (a, mpls_labels.reads_back 19 a c.1 fits, refl)
-back any true (new_destination a) c fits = absurd (let e = c.0 in cc)
-back any false (new_destination a) c fits = absurd (let e = c.0 in cc)
-back four true (new_destination_address a) c fits = (a, (address_in four).reads_back 19 a c.1 fits, refl)
-back four false (new_destination_address a) c fits = (a, (address_in four).reads_back 19 a c.1 fits, refl)
-back sixteen true (new_destination_address a) c fits = (a, (address_in sixteen).reads_back 19 a c.1 fits, refl)
-back sixteen false (new_destination_address a) c fits = (a, (address_in sixteen).reads_back 19 a c.1 fits, refl)
-back label true (new_destination_address a) c fits = absurd (c.0 refl)
-back label false (new_destination_address a) c fits = absurd (c.0 refl)
-back any true (new_destination_address a) c fits = (a, (address_in any).reads_back 19 a c.1 fits, refl)
-back any false (new_destination_address a) c fits = (a, (address_in any).reads_back 19 a c.1 fits, refl)
-back four true (expires n) c fits = absurd (let e = c.0 in cc)
-back four false (expires n) c fits = (n, (exactly le32).reads_back 23 n c.1 fits, refl)
-back sixteen true (expires n) c fits = absurd (let e = c.0 in cc)
-back sixteen false (expires n) c fits = (n, (exactly le32).reads_back 23 n c.1 fits, refl)
-back label true (expires n) c fits = absurd (let e = c.0 in cc)
-back label false (expires n) c fits = (n, (exactly le32).reads_back 23 n c.1 fits, refl)
-back any true (expires n) c fits = absurd (let e = c.0 in cc)
-back any false (expires n) c fits = (n, (exactly le32).reads_back 23 n c.1 fits, refl)
-back four true (multicast_expires n) c fits = (n, (exactly le64).reads_back 23 n c.1 fits, refl)
-back four false (multicast_expires n) c fits = absurd (let e = c.0 in cc)
-back sixteen true (multicast_expires n) c fits = (n, (exactly le64).reads_back 23 n c.1 fits, refl)
-back sixteen false (multicast_expires n) c fits = absurd (let e = c.0 in cc)
-back label true (multicast_expires n) c fits = (n, (exactly le64).reads_back 23 n c.1 fits, refl)
-back label false (multicast_expires n) c fits = absurd (let e = c.0 in cc)
-back any true (multicast_expires n) c fits = (n, (exactly le64).reads_back 23 n c.1 fits, refl)
-back any false (multicast_expires n) c fits = absurd (let e = c.0 in cc)
-back four true m c fits = ((place m).value, (place m).codec.reads_back (place m).kind (place m).value c fits, refl)
-back four false m c fits = ((place m).value, (place m).codec.reads_back (place m).kind (place m).value c fits, refl)
-back sixteen true m c fits = ((place m).value, (place m).codec.reads_back (place m).kind (place m).value c fits, refl)
-back sixteen false m c fits = ((place m).value, (place m).codec.reads_back (place m).kind (place m).value c fits, refl)
-back label true m c fits = ((place m).value, (place m).codec.reads_back (place m).kind (place m).value c fits, refl)
-back label false m c fits = ((place m).value, (place m).codec.reads_back (place m).kind (place m).value c fits, refl)
-back any true m c fits = ((place m).value, (place m).codec.reads_back (place m).kind (place m).value c fits, refl)
-back any false m c fits = ((place m).value, (place m).codec.reads_back (place m).kind (place m).value c fits, refl)
+back form multicast (other x) c fits = other-back other (rows form multicast) (number_of x.kind) x c.alone
+back form multicast (destination a) c fits = (a, (address_in form).reads_back 1 a c fits, refl)
+back form multicast (source a) c fits = (a, (address_in form).reads_back 2 a c fits, refl)
+back form multicast (gateway a) c fits = (a, (address_in form).reads_back 5 a c fits, refl)
+back form multicast (pref_source a) c fits = (a, (address_in form).reads_back 7 a c fits, refl)
+back label multicast (new_destination a) c fits = (a, mpls_labels.reads_back 19 a c.1 fits, refl)
+back four multicast (new_destination a) c fits = absurd (let e = c.0 in cc)
+back sixteen multicast (new_destination a) c fits = absurd (let e = c.0 in cc)
+back any multicast (new_destination a) c fits = absurd (let e = c.0 in cc)
+back label multicast (new_destination_address a) c fits = absurd (c.0 refl)
+back four multicast (new_destination_address a) c fits = (a, (address_in four).reads_back 19 a c.1 fits, refl)
+back sixteen multicast (new_destination_address a) c fits = (a, (address_in sixteen).reads_back 19 a c.1 fits, refl)
+back any multicast (new_destination_address a) c fits = (a, (address_in any).reads_back 19 a c.1 fits, refl)
+back form false (expires n) c fits = (n, (exactly le32).reads_back 23 n c.1 fits, refl)
+back form true (expires n) c fits = absurd (let e = c.0 in cc)
+back form true (multicast_expires n) c fits = (n, (exactly le64).reads_back 23 n c.1 fits, refl)
+back form false (multicast_expires n) c fits = absurd (let e = c.0 in cc)
+back form multicast m c fits = ((place m).value, (place m).codec.reads_back (place m).kind (place m).value c fits, refl)
+
+-- how each is written, whatever the context, and why it can't be
+abbrev pub writes : Meaning → Item
+writes m = item_of (place m)
+
+abbrev pub misfit : Meaning → Option EmitError
+misfit m = (place m).misfit
 
 -- the family under a form of addresses, and for multicast routes or others
 abbrev pub attributes_in : Form → Bool → Family Meaning
@@ -131,6 +74,6 @@ attributes_in form multicast = flat (record {
   back = back form multicast;
 })
 
--- the family under the address family and the type of the route
-abbrev pub attributes : AddressFamily → RouteType → Family Meaning
-attributes family kind = attributes_in (form_of family) (is_multicast kind)
+-- the family under a context
+abbrev pub attributes : Context → Family Meaning
+attributes context = attributes_in (form_of context.0) (is_multicast context.1)

@@ -2,3 +2,4 @@ pub mod Header
 pub mod Metric
 pub mod Attribute
 pub mod AttributeLaws
+pub mod Message

@@ -28,7 +28,8 @@ pub use ip_protocol::{IpProtocol, law_ip_protocol_number};
 pub use layouts::law_layouts;
 pub use mfc_stats::{RouteMfcStats, RouteMfcStatsBuffer};
 pub use mpls::{
-    MplsLabel, emit_labels, law_label_number, law_labels_length, read_labels, write_labels,
+    MplsLabel, emit_labels, labels_len, law_label_number, law_labels_length, read_labels,
+    write_labels,
 };
 pub use preference::{
     RouteMplsTtlPropagation, RoutePreference, law_route_preference_number,

@@ -103,6 +103,13 @@ pub fn read_labels(alloc: Global, bytes: &[u8]) -> Result<Vec<MplsLabel>, Decode
     Ok(labels)
 }
 
+/// The length of the entries, in bytes: four an entry.
+pub fn labels_len(labels: &[MplsLabel]) -> usize
+    ensures { result ≡ length (mpls_labels.writes labels.now) }
+{
+    labels.len() * 4
+}
+
 /// Writes the entries one after the other at the front of the slice, leaves the rest, and answers
 /// their length: four bytes an entry.
 pub fn write_labels(out: &mut [u8], labels: &[MplsLabel]) -> usize

@@ -1,0 +1,111 @@
+//! Route messages: `RTM_NEWROUTE`, `RTM_DELROUTE` and `RTM_GETROUTE`, without the envelope.
+
+ghost use Rattle.std.specs.Prelude.{◌≡◌, ◌≢◌, ◌≤◌, ◌<◌, ◌*◌, ℕ, List, None, [], length, drop, IfOk, IfErr, IsErrOf};
+ghost use Rattle.npr_base.specs.declared.refusal.DecodeError.TheVariants.{OutOfMemory};
+ghost use Rattle.npr_base.specs.Framing.{Item, Front};
+ghost use Rattle.npr_route.specs.Header.{default_header};
+ghost use Rattle.npr_route.specs.Message.{Route, message_of, IsRouteMessage, RouteFault, IsCoherentRoute, route_bytes, route_misfit};
+
+use crate::attribute::RouteAttribute;
+use crate::header::RouteHeader;
+use npr_base::{
+    DecodeError, EmitError, Emitable, Looks, Parseable, check_list, clone_list, list_len,
+    parse_list, write_list,
+};
+use std::alloc::{AllocError, Global};
+
+/// A route message: a header of 12 bytes, and attributes to the end.
+#[derive(Debug, Drop, PartialEq, Eq)]
+pub struct RouteMessage {
+    /// The header.
+    pub header: RouteHeader,
+    /// The attributes, in their order.
+    pub attributes: Vec<RouteAttribute>,
+}
+
+impl RouteMessage {
+    /// A message with each field of the header at its default, and no attributes. It takes no
+    /// memory.
+    pub fn new(alloc: Global) -> Self
+        ensures { message_of result ≡ record { header = default_header; attributes = [] } }
+    {
+        RouteMessage {
+            header: RouteHeader::default(),
+            attributes: Vec::new(alloc),
+        }
+    }
+
+    /// An equal message.
+    ///
+    /// # Errors
+    /// `AllocError` where memory is refused.
+    pub fn clone(&self, alloc: Global) -> Result<Self, AllocError>
+        ensures { IfOk result (λ m. message_of m ≡ message_of self.now) }
+    {
+        Ok(RouteMessage {
+            header: self.header,
+            attributes: clone_list(alloc, self.attributes.as_slice())?,
+        })
+    }
+}
+
+impl<'a> Parseable<&'a [u8]> for RouteMessage {
+    ghost parses = { λ bytes m. IsRouteMessage bytes.now (message_of m) };
+
+    ghost misparses = { λ bytes e. RouteFault bytes.now e };
+
+    /// The message that the bytes are.
+    ///
+    /// # Errors
+    /// `OutOfMemory` where memory is refused, and else the first fault in reading order.
+    fn parse(alloc: Global, bytes: &'a [u8]) -> Result<Self, DecodeError>
+        // What is read is what the bytes mean.
+        ensures ok { IfOk result (λ m. IsRouteMessage bytes.now (message_of m)) }
+        // They mean nothing else.
+        ensures one { IfOk result (λ m. (n : Route) → IsRouteMessage bytes.now n → message_of m ≡ n) }
+        ensures coherent { IfOk result (λ m. IsCoherentRoute (message_of m)) }
+        // A refusal is the first fault.
+        ensures refused { IfErr result (λ e. e ≢ OutOfMemory → RouteFault bytes.now e) }
+        // Then the bytes mean nothing.
+        ensures none { IfErr result (λ e. e ≢ OutOfMemory → (n : Route) → IsRouteMessage bytes.now n → ⊥) }
+        // Canonical bytes give back their message.
+        ensures again { IfOk result (λ m. (n : Route) → IsCoherentRoute n → route_misfit n ≡ None → bytes.now ≡ route_bytes n → message_of m ≡ n) }
+        // Memory is taken behind a first whole attribute alone.
+        ensures memory { IsErrOf result OutOfMemory → (x : Item) × (rest : List ℕ) × Front (drop 12 bytes.now) x rest }
+        // Canonical bytes are at most five halves as long as what was read.
+        ensures growth { IfOk result (λ m. 2 * length (route_bytes (message_of m)) ≤ 5 * length bytes.now) }
+    {
+        read(alloc, bytes)
+    }
+}
+
+fn read(alloc: Global, bytes: &[u8]) -> Result<RouteMessage, DecodeError>
+    ensures ok { IfOk result (λ m. IsRouteMessage bytes.now (message_of m)) }
+    ensures refused { IfErr result (λ e. e ≢ OutOfMemory → RouteFault bytes.now e) }
+    ensures memory { IsErrOf result OutOfMemory → (x : Item) × (rest : List ℕ) × Front (drop 12 bytes.now) x rest }
+{
+    let header = RouteHeader::parse(bytes)?;
+    let context = header.context();
+    let attributes = parse_list(alloc, context, &bytes[12..], &mut Looks::new())?;
+    Ok(RouteMessage { header, attributes })
+}
+
+impl Emitable for RouteMessage {
+    ghost bytes = { λ m. route_bytes (message_of m) };
+
+    ghost unfit = { λ m. route_misfit (message_of m) };
+
+    fn check(&self) -> Result<usize, EmitError> {
+        let len = check_list(self.attributes.as_slice())?;
+        len.checked_add(12).ok_or(EmitError::Total)
+    }
+
+    fn buffer_len(&self) -> usize {
+        12 + list_len(self.attributes.as_slice())
+    }
+
+    fn emit(&self, out: &mut [u8]) {
+        write_list(self.attributes.as_slice(), &mut out[12..]);
+        self.header.emit(out);
+    }
+}
