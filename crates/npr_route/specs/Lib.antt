@@ -3,3 +3,4 @@ pub mod Metric
 pub mod Attribute
 pub mod AttributeLaws
 pub mod Message
+pub mod EqualityLaws

@@ -93,39 +93,34 @@ impl RouteAttribute {
         ensures { IfOk result (λ a. meaning_of a ≡ meaning_of self.now) }
     {
         Ok(match self {
-            RouteAttribute::Destination(x) => RouteAttribute::Destination(x.clone(alloc)?),
-            RouteAttribute::Source(x) => RouteAttribute::Source(x.clone(alloc)?),
-            RouteAttribute::Iif(x) => RouteAttribute::Iif(*x),
-            RouteAttribute::Oif(x) => RouteAttribute::Oif(*x),
-            RouteAttribute::Gateway(x) => RouteAttribute::Gateway(x.clone(alloc)?),
-            RouteAttribute::Priority(x) => RouteAttribute::Priority(*x),
-            RouteAttribute::PrefSource(x) => RouteAttribute::PrefSource(x.clone(alloc)?),
-            RouteAttribute::Metrics(x) => RouteAttribute::Metrics(clone_list(alloc, x.as_slice())?),
-            RouteAttribute::Realm(x) => RouteAttribute::Realm(*x),
-            RouteAttribute::CacheInfo(x) => RouteAttribute::CacheInfo(*x),
-            RouteAttribute::Table(x) => RouteAttribute::Table(*x),
-            RouteAttribute::Mark(x) => RouteAttribute::Mark(*x),
-            RouteAttribute::MfcStats(x) => RouteAttribute::MfcStats(*x),
-            RouteAttribute::Via(x) => RouteAttribute::Via(x.clone(alloc)?),
-            RouteAttribute::NewDestination(x) => RouteAttribute::NewDestination(Vec::from_slice(
-                alloc,
-                x.as_slice(),
-            )?),
-            RouteAttribute::NewDestinationAddress(x) => RouteAttribute::NewDestinationAddress(
-                x.clone(alloc)?,
-            ),
-            RouteAttribute::Preference(x) => RouteAttribute::Preference(*x),
-            RouteAttribute::EncapType(x) => RouteAttribute::EncapType(*x),
-            RouteAttribute::Expires(x) => RouteAttribute::Expires(*x),
-            RouteAttribute::MulticastExpires(x) => RouteAttribute::MulticastExpires(*x),
-            RouteAttribute::Uid(x) => RouteAttribute::Uid(*x),
-            RouteAttribute::TtlPropagate(x) => RouteAttribute::TtlPropagate(*x),
-            RouteAttribute::IpProto(x) => RouteAttribute::IpProto(*x),
-            RouteAttribute::Sport(x) => RouteAttribute::Sport(*x),
-            RouteAttribute::Dport(x) => RouteAttribute::Dport(*x),
-            RouteAttribute::NhId(x) => RouteAttribute::NhId(*x),
-            RouteAttribute::Flowlabel(x) => RouteAttribute::Flowlabel(*x),
-            RouteAttribute::Other(nla) => RouteAttribute::Other(nla.clone(alloc)?),
+            Self::Destination(x) => Self::Destination(x.clone(alloc)?),
+            Self::Source(x) => Self::Source(x.clone(alloc)?),
+            Self::Iif(x) => Self::Iif(*x),
+            Self::Oif(x) => Self::Oif(*x),
+            Self::Gateway(x) => Self::Gateway(x.clone(alloc)?),
+            Self::Priority(x) => Self::Priority(*x),
+            Self::PrefSource(x) => Self::PrefSource(x.clone(alloc)?),
+            Self::Metrics(x) => Self::Metrics(clone_list(alloc, x.as_slice())?),
+            Self::Realm(x) => Self::Realm(*x),
+            Self::CacheInfo(x) => Self::CacheInfo(*x),
+            Self::Table(x) => Self::Table(*x),
+            Self::Mark(x) => Self::Mark(*x),
+            Self::MfcStats(x) => Self::MfcStats(*x),
+            Self::Via(x) => Self::Via(x.clone(alloc)?),
+            Self::NewDestination(x) => Self::NewDestination(Vec::from_slice(alloc, x.as_slice())?),
+            Self::NewDestinationAddress(x) => Self::NewDestinationAddress(x.clone(alloc)?),
+            Self::Preference(x) => Self::Preference(*x),
+            Self::EncapType(x) => Self::EncapType(*x),
+            Self::Expires(x) => Self::Expires(*x),
+            Self::MulticastExpires(x) => Self::MulticastExpires(*x),
+            Self::Uid(x) => Self::Uid(*x),
+            Self::TtlPropagate(x) => Self::TtlPropagate(*x),
+            Self::IpProto(x) => Self::IpProto(*x),
+            Self::Sport(x) => Self::Sport(*x),
+            Self::Dport(x) => Self::Dport(*x),
+            Self::NhId(x) => Self::NhId(*x),
+            Self::Flowlabel(x) => Self::Flowlabel(*x),
+            Self::Other(nla) => Self::Other(nla.clone(alloc)?),
         })
     }
 
@@ -134,22 +129,20 @@ impl RouteAttribute {
         ensures { result ≡ checked (unfit_inside (meaning_of self.now)) (length (place (meaning_of self.now)).bytes) }
     {
         Ok(match self {
-            RouteAttribute::Destination(x)
-            | RouteAttribute::Source(x)
-            | RouteAttribute::Gateway(x)
-            | RouteAttribute::PrefSource(x)
-            | RouteAttribute::NewDestinationAddress(x) => x.len(),
-            RouteAttribute::Via(x) => x.len(),
-            RouteAttribute::Metrics(list) => check_list(list.as_slice())?,
-            RouteAttribute::NewDestination(labels) => labels_len(labels.as_slice()),
-            RouteAttribute::Preference(_)
-            | RouteAttribute::TtlPropagate(_)
-            | RouteAttribute::IpProto(_) => 1,
-            RouteAttribute::EncapType(_) | RouteAttribute::Sport(_) | RouteAttribute::Dport(_) => 2,
-            RouteAttribute::MulticastExpires(_) => 8,
-            RouteAttribute::MfcStats(_) => 24,
-            RouteAttribute::CacheInfo(_) => 32,
-            RouteAttribute::Other(nla) => nla.value().len(),
+            Self::Destination(x)
+            | Self::Source(x)
+            | Self::Gateway(x)
+            | Self::PrefSource(x)
+            | Self::NewDestinationAddress(x) => x.len(),
+            Self::Via(x) => x.len(),
+            Self::Metrics(list) => check_list(list.as_slice())?,
+            Self::NewDestination(labels) => labels_len(labels.as_slice()),
+            Self::Preference(_) | Self::TtlPropagate(_) | Self::IpProto(_) => 1,
+            Self::EncapType(_) | Self::Sport(_) | Self::Dport(_) => 2,
+            Self::MulticastExpires(_) => 8,
+            Self::MfcStats(_) => 24,
+            Self::CacheInfo(_) => 32,
+            Self::Other(nla) => nla.value().len(),
             _ => 4,
         })
     }
@@ -175,34 +168,34 @@ impl Nla for RouteAttribute {
 
     fn kind(&self) -> u16 {
         match self {
-            RouteAttribute::Destination(_) => 1,
-            RouteAttribute::Source(_) => 2,
-            RouteAttribute::Iif(_) => 3,
-            RouteAttribute::Oif(_) => 4,
-            RouteAttribute::Gateway(_) => 5,
-            RouteAttribute::Priority(_) => 6,
-            RouteAttribute::PrefSource(_) => 7,
-            RouteAttribute::Metrics(_) => 8,
-            RouteAttribute::Realm(_) => 11,
-            RouteAttribute::CacheInfo(_) => 12,
-            RouteAttribute::Table(_) => 15,
-            RouteAttribute::Mark(_) => 16,
-            RouteAttribute::MfcStats(_) => 17,
-            RouteAttribute::Via(_) => 18,
-            RouteAttribute::NewDestination(_) => 19,
-            RouteAttribute::NewDestinationAddress(_) => 19,
-            RouteAttribute::Preference(_) => 20,
-            RouteAttribute::EncapType(_) => 21,
-            RouteAttribute::Expires(_) => 23,
-            RouteAttribute::MulticastExpires(_) => 23,
-            RouteAttribute::Uid(_) => 25,
-            RouteAttribute::TtlPropagate(_) => 26,
-            RouteAttribute::IpProto(_) => 27,
-            RouteAttribute::Sport(_) => 28,
-            RouteAttribute::Dport(_) => 29,
-            RouteAttribute::NhId(_) => 30,
-            RouteAttribute::Flowlabel(_) => 31,
-            RouteAttribute::Other(nla) => nla.kind(),
+            Self::Destination(_) => 1,
+            Self::Source(_) => 2,
+            Self::Iif(_) => 3,
+            Self::Oif(_) => 4,
+            Self::Gateway(_) => 5,
+            Self::Priority(_) => 6,
+            Self::PrefSource(_) => 7,
+            Self::Metrics(_) => 8,
+            Self::Realm(_) => 11,
+            Self::CacheInfo(_) => 12,
+            Self::Table(_) => 15,
+            Self::Mark(_) => 16,
+            Self::MfcStats(_) => 17,
+            Self::Via(_) => 18,
+            Self::NewDestination(_) => 19,
+            Self::NewDestinationAddress(_) => 19,
+            Self::Preference(_) => 20,
+            Self::EncapType(_) => 21,
+            Self::Expires(_) => 23,
+            Self::MulticastExpires(_) => 23,
+            Self::Uid(_) => 25,
+            Self::TtlPropagate(_) => 26,
+            Self::IpProto(_) => 27,
+            Self::Sport(_) => 28,
+            Self::Dport(_) => 29,
+            Self::NhId(_) => 30,
+            Self::Flowlabel(_) => 31,
+            Self::Other(nla) => nla.kind(),
         }
     }
 
@@ -223,42 +216,33 @@ impl Nla for RouteAttribute {
 
     fn write_value(&self, out: &mut [u8]) -> usize {
         match self {
-            RouteAttribute::Destination(x)
-            | RouteAttribute::Source(x)
-            | RouteAttribute::Gateway(x)
-            | RouteAttribute::PrefSource(x)
-            | RouteAttribute::NewDestinationAddress(x) => x.write(out),
-            RouteAttribute::Via(x) => x.write(out),
-            RouteAttribute::Metrics(list) => write_list(list.as_slice(), out),
-            RouteAttribute::NewDestination(labels) => write_labels(out, labels.as_slice()),
-            RouteAttribute::Iif(x)
-            | RouteAttribute::Oif(x)
-            | RouteAttribute::Priority(x)
-            | RouteAttribute::Table(x)
-            | RouteAttribute::Mark(x)
-            | RouteAttribute::Expires(x)
-            | RouteAttribute::Uid(x)
-            | RouteAttribute::NhId(x) => write_bytes(out, &x.to_le_bytes()),
-            RouteAttribute::MulticastExpires(x) => write_bytes(out, &x.to_le_bytes()),
-            RouteAttribute::Sport(x) | RouteAttribute::Dport(x) => write_bytes(
-                out,
-                &x.to_be_bytes(),
-            ),
-            RouteAttribute::Flowlabel(x) => write_bytes(out, &x.to_be_bytes()),
-            RouteAttribute::IpProto(x) => write_bytes(out, &[*x]),
-            RouteAttribute::Realm(x) => write_bytes(out, &u32::from(*x).to_le_bytes()),
-            RouteAttribute::Preference(x) => write_bytes(out, &[u8::from(*x)]),
-            RouteAttribute::TtlPropagate(x) => write_bytes(out, &[u8::from(*x)]),
-            RouteAttribute::EncapType(x) => write_bytes(out, &u16::from(*x).to_le_bytes()),
-            RouteAttribute::CacheInfo(x) => write_bytes(
-                out,
-                &RouteCacheInfoBuffer::from(x).to_bytes(),
-            ),
-            RouteAttribute::MfcStats(x) => write_bytes(
-                out,
-                &RouteMfcStatsBuffer::from(x).to_bytes(),
-            ),
-            RouteAttribute::Other(nla) => write_bytes(out, nla.value()),
+            Self::Destination(x)
+            | Self::Source(x)
+            | Self::Gateway(x)
+            | Self::PrefSource(x)
+            | Self::NewDestinationAddress(x) => x.write(out),
+            Self::Via(x) => x.write(out),
+            Self::Metrics(list) => write_list(list.as_slice(), out),
+            Self::NewDestination(labels) => write_labels(out, labels.as_slice()),
+            Self::Iif(x)
+            | Self::Oif(x)
+            | Self::Priority(x)
+            | Self::Table(x)
+            | Self::Mark(x)
+            | Self::Expires(x)
+            | Self::Uid(x)
+            | Self::NhId(x) => write_bytes(out, &x.to_le_bytes()),
+            Self::MulticastExpires(x) => write_bytes(out, &x.to_le_bytes()),
+            Self::Sport(x) | Self::Dport(x) => write_bytes(out, &x.to_be_bytes()),
+            Self::Flowlabel(x) => write_bytes(out, &x.to_be_bytes()),
+            Self::IpProto(x) => write_bytes(out, &[*x]),
+            Self::Realm(x) => write_bytes(out, &u32::from(*x).to_le_bytes()),
+            Self::Preference(x) => write_bytes(out, &[u8::from(*x)]),
+            Self::TtlPropagate(x) => write_bytes(out, &[u8::from(*x)]),
+            Self::EncapType(x) => write_bytes(out, &u16::from(*x).to_le_bytes()),
+            Self::CacheInfo(x) => write_bytes(out, &RouteCacheInfoBuffer::from(x).to_bytes()),
+            Self::MfcStats(x) => write_bytes(out, &RouteMfcStatsBuffer::from(x).to_bytes()),
+            Self::Other(nla) => write_bytes(out, nla.value()),
         }
     }
 }
@@ -335,42 +319,34 @@ impl Attribute for RouteAttribute {
         let (family, kind, _) = context;
         let value = item.value();
         match item.kind() {
-            1 => RouteAddress::read(alloc, family, value, at(1)).map(RouteAttribute::Destination),
-            2 => RouteAddress::read(alloc, family, value, at(2)).map(RouteAttribute::Source),
-            3 => read_u32(value, at(3)).map(RouteAttribute::Iif),
-            4 => read_u32(value, at(4)).map(RouteAttribute::Oif),
-            5 => RouteAddress::read(alloc, family, value, at(5)).map(RouteAttribute::Gateway),
-            6 => read_u32(value, at(6)).map(RouteAttribute::Priority),
-            7 => RouteAddress::read(alloc, family, value, at(7)).map(RouteAttribute::PrefSource),
-            8 => parse_list(alloc, (), value, looks).map(RouteAttribute::Metrics),
-            11 => read_u32(value, at(11)).map(|number| RouteAttribute::Realm(RouteRealm::from(
-                number,
-            ))),
-            12 => RouteCacheInfo::parse(value).map(RouteAttribute::CacheInfo),
-            15 => read_u32(value, at(15)).map(RouteAttribute::Table),
-            16 => read_u32(value, at(16)).map(RouteAttribute::Mark),
-            17 => RouteMfcStats::parse(value).map(RouteAttribute::MfcStats),
-            18 => RouteVia::read(alloc, value, at(18)).map(RouteAttribute::Via),
+            1 => RouteAddress::read(alloc, family, value, at(1)).map(Self::Destination),
+            2 => RouteAddress::read(alloc, family, value, at(2)).map(Self::Source),
+            3 => read_u32(value, at(3)).map(Self::Iif),
+            4 => read_u32(value, at(4)).map(Self::Oif),
+            5 => RouteAddress::read(alloc, family, value, at(5)).map(Self::Gateway),
+            6 => read_u32(value, at(6)).map(Self::Priority),
+            7 => RouteAddress::read(alloc, family, value, at(7)).map(Self::PrefSource),
+            8 => parse_list(alloc, (), value, looks).map(Self::Metrics),
+            11 => read_u32(value, at(11)).map(|number| Self::Realm(RouteRealm::from(number))),
+            12 => RouteCacheInfo::parse(value).map(Self::CacheInfo),
+            15 => read_u32(value, at(15)).map(Self::Table),
+            16 => read_u32(value, at(16)).map(Self::Mark),
+            17 => RouteMfcStats::parse(value).map(Self::MfcStats),
+            18 => RouteVia::read(alloc, value, at(18)).map(Self::Via),
             19 => read_new_destination(alloc, family, value),
-            20 => read_u8(value, at(20)).map(|n| RouteAttribute::Preference(RoutePreference::from(
-                n,
-            ))),
-            21 => read_u16(value, at(21)).map(|n| RouteAttribute::EncapType(RouteLwEnCapType::from(
-                n,
-            ))),
+            20 => read_u8(value, at(20)).map(|n| Self::Preference(RoutePreference::from(n))),
+            21 => read_u16(value, at(21)).map(|n| Self::EncapType(RouteLwEnCapType::from(n))),
             23 => read_expires(kind, value),
-            25 => read_u32(value, at(25)).map(RouteAttribute::Uid),
+            25 => read_u32(value, at(25)).map(Self::Uid),
             26 => {
-                read_u8(value, at(26)).map(|n| RouteAttribute::TtlPropagate(
-                    RouteMplsTtlPropagation::from(n),
-                ))
+                read_u8(value, at(26)).map(|n| Self::TtlPropagate(RouteMplsTtlPropagation::from(n)))
             }
-            27 => read_u8(value, at(27)).map(RouteAttribute::IpProto),
-            28 => read_u16_be(value, at(28)).map(RouteAttribute::Sport),
-            29 => read_u16_be(value, at(29)).map(RouteAttribute::Dport),
-            30 => read_u32(value, at(30)).map(RouteAttribute::NhId),
-            31 => read_u32_be(value, at(31)).map(RouteAttribute::Flowlabel),
-            _ => DefaultNla::parse(alloc, item).map(RouteAttribute::Other),
+            27 => read_u8(value, at(27)).map(Self::IpProto),
+            28 => read_u16_be(value, at(28)).map(Self::Sport),
+            29 => read_u16_be(value, at(29)).map(Self::Dport),
+            30 => read_u32(value, at(30)).map(Self::NhId),
+            31 => read_u32_be(value, at(31)).map(Self::Flowlabel),
+            _ => DefaultNla::parse(alloc, item).map(Self::Other),
         }
     }
 
@@ -385,10 +361,10 @@ impl<'a> ParseableParametrized<&'a NlaBuffer<'a>, (AddressFamily, RouteType, Rou
 
     ghost misparses = { λ context input e. (attributes context).Faulty input.now e };
 
-    /// The attribute that the input is, as `read` with its looks uncounted.
+    /// What the attribute is in a route message: `read`, with looks that nobody counts.
     ///
     /// # Errors
-    /// `OutOfMemory` where memory is refused, and else the first fault in reading order.
+    /// `OutOfMemory` where memory is refused, and else what is wrong with the value.
     fn parse_with_param(
         alloc: Global,
         input: &'a NlaBuffer<'a>,

@@ -3,8 +3,11 @@
 
 mod attribute;
 mod header;
+pub mod laws;
 mod message;
 mod metrics;
+#[cfg(test)]
+mod tests;
 
 pub use attribute::RouteAttribute;
 pub use header::{RouteHeader, RouteMessageBuffer};

@@ -1,0 +1,14 @@
+use Rattle.npr_route.specs.EqualityLaws.{attribute_equality, header_equality, message_equality, metric_equality}
+use Rattle.npr_route.proofs.laws.law_equality.Goals as goal
+
+pub returns-clause-header : goal.returns-clause-header
+returns-clause-header c = header_equality
+
+pub returns-clause-metric : goal.returns-clause-metric
+returns-clause-metric c = metric_equality
+
+pub returns-clause-attribute : goal.returns-clause-attribute
+returns-clause-attribute c = attribute_equality
+
+pub returns-clause-message : goal.returns-clause-message
+returns-clause-message c = message_equality

@@ -1,0 +1,7 @@
+use Rattle.npr_base.proofs.Messages.{message-back}
+use Rattle.npr_route.specs.Header.{header}
+use Rattle.npr_route.specs.Message.{body}
+use Rattle.npr_route.proofs.laws.law_read_back.Goals as goal
+
+pub returns : goal.returns
+returns c = message-back header body

@@ -1,0 +1,37 @@
+//! The laws of route messages, over their definitions alone. Each function does nothing, and its
+//! contract is the law.
+
+ghost use Rattle.std.specs.Prelude.{◌≡◌, ℕ, List, None};
+ghost use Rattle.npr_base.specs.Equality.{IsEquality, IsEqualityOf};
+ghost use Rattle.npr_route.specs.Attribute.{meaning_of};
+ghost use Rattle.npr_route.specs.Metric.{metric_of};
+ghost use Rattle.npr_route.specs.Message.{Route, message_of, IsRouteMessage, IsCoherentRoute, route_bytes, route_misfit};
+
+use crate::attribute::RouteAttribute;
+use crate::header::{RouteHeader, RouteMessageBuffer};
+use crate::message::RouteMessage;
+use crate::metrics::RouteMetric;
+
+/// Bytes are one message at most.
+pub fn law_one_reading()
+    ensures { (bytes : List ℕ) (m n : Route) → IsRouteMessage bytes m → IsRouteMessage bytes n → m ≡ n }
+{}
+
+/// The canonical bytes of a coherent message that fits are that message.
+pub fn law_read_back()
+    ensures { (m : Route) → IsCoherentRoute m → route_misfit m ≡ None → IsRouteMessage (route_bytes m) m }
+{}
+
+/// Coherent messages that fit are equal where their canonical bytes are.
+pub fn law_canonical()
+    ensures { (m n : Route) → IsCoherentRoute m → route_misfit m ≡ None → IsCoherentRoute n → route_misfit n ≡ None → route_bytes m ≡ route_bytes n → m ≡ n }
+{}
+
+/// `==` answers whether two values are equal, or mean the same where they hold a vector or a text.
+pub fn law_equality()
+    ensures header { IsEquality ⟦<RouteHeader as PartialEq>⟧.eq }
+    ensures header_buffer { IsEquality ⟦<RouteMessageBuffer as PartialEq>⟧.eq }
+    ensures metric { IsEqualityOf metric_of ⟦<RouteMetric as PartialEq>⟧.eq }
+    ensures attribute { IsEqualityOf meaning_of ⟦<RouteAttribute as PartialEq>⟧.eq }
+    ensures message { IsEqualityOf message_of ⟦<RouteMessage as PartialEq>⟧.eq }
+{}
