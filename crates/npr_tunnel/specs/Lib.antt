@@ -1,1 +1,10 @@
 pub mod EncapType
+pub mod XfrmTunnel
+pub mod MplsTunnel
+pub mod VxlanOptions
+pub mod ErspanOptions
+pub mod Geneve
+pub mod GeneveLaws
+pub mod GeneveSteps
+pub mod TunnelOptions
+pub mod IpTunnel
