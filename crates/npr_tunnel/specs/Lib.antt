@@ -8,3 +8,5 @@ pub mod GeneveLaws
 pub mod GeneveSteps
 pub mod TunnelOptions
 pub mod IpTunnel
+pub mod Wrapped
+pub mod Encapsulation

@@ -1,6 +1,7 @@
 //! The encapsulations of routes.
 #![tactic(auto)]
 
+mod encap;
 mod encap_type;
 mod erspan;
 mod flags;
@@ -15,6 +16,7 @@ mod tunnel_opts;
 mod vxlan;
 mod xfrm;
 
+pub use encap::RouteLwTunnelEncap;
 pub use encap_type::RouteLwEnCapType;
 pub use erspan::RouteErspanOpt;
 pub use flags::{RouteIp6TunnelFlags, RouteIpTunnelFlags};
