@@ -5,3 +5,4 @@ pub mod Lists
 pub mod Looking
 pub mod Names
 pub mod Messages
+pub mod Mapped

@@ -25,7 +25,7 @@ pub use framing::{
     NlasIterator, marked_kind, write_bytes,
 };
 pub use ip::{IpAddr, Ipv4Addr, Ipv6Addr};
-pub use list::{check_list, clone_list, emit_list, list_len, parse_list, write_list};
+pub use list::{check_list, clone_list, emit_list, list_len, parse_list, plus, write_list};
 pub use looks::Looks;
 pub use refusal::{At, AttrFamily, DecodeError, EmitError, Seg6Fault};
 pub use traits::{Emitable, Nla, Parseable, ParseableParametrized};

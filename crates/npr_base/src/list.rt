@@ -59,8 +59,8 @@ fn read_all<A: Attribute>(
     Ok(found)
 }
 
-/// The sum, where a `usize` holds it and what came before.
-fn plus(total: Option<usize>, len: usize) -> Option<usize>
+/// The sum of a length and those before it, where a `usize` holds it.
+pub fn plus(total: Option<usize>, len: usize) -> Option<usize>
     ensures { (n : ℕ) → total ≡ held n → result ≡ held (n + len) }
 {
     match total {

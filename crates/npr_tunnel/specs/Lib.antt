@@ -1,1 +1,12 @@
 pub mod EncapType
+pub mod XfrmTunnel
+pub mod MplsTunnel
+pub mod VxlanOptions
+pub mod ErspanOptions
+pub mod Geneve
+pub mod GeneveLaws
+pub mod GeneveSteps
+pub mod TunnelOptions
+pub mod IpTunnel
+pub mod Wrapped
+pub mod Encapsulation

@@ -1,5 +1,5 @@
 use Rattle.std.proofs.Common.{rules, sym, ◌∙◌}
-use Rattle.npr_route.proofs.Mapped.{IfErr-mapped}
+use Rattle.npr_base.proofs.Mapped.{IfErr-mapped}
 use Rattle.npr_route.proofs.attribute.RouteAttributeAttribute.read.Goals as goal
 
 pub returns-in-8-clause-refused : goal.returns-in-8-clause-refused

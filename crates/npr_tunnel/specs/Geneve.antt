@@ -1,0 +1,122 @@
+-- The options of Geneve (linux/lwtunnel.h, LWTUNNEL_IP_OPT_GENEVE_*): attributes, of which a class opens an option, and
+-- types and data that follow it stand in that option.
+use Rattle.std.specs.Prelude.{◌≡◌, ◌≢◌, ◌⊎◌, ℕ, ◌^◌, ◌<◌, Bool, true, false, List, [], ◌∷◌, ◌++◌, Option}
+use Rattle.npr_base.specs.declared.refusal.At.{At}
+use Rattle.npr_base.specs.declared.refusal.AttrFamily.TheVariants.{Geneve as OfGeneve}
+use Rattle.npr_base.specs.declared.refusal.DecodeError.{DecodeError}
+use Rattle.npr_base.specs.declared.refusal.DecodeError.TheVariants.{GeneveOrder, GeneveChild}
+use Rattle.npr_base.specs.declared.refusal.EmitError.{EmitError}
+use Rattle.npr_base.specs.Codec.{exactly, raw}
+use Rattle.npr_base.specs.Family.{ReadsList, ReadsTo, IsWrong, encodings, list_unfit, option_or, too_long}
+use Rattle.npr_base.specs.Framing.{Item, IsBytes, number_of}
+use Rattle.npr_base.specs.Layout.{byte, be16}
+use Rattle.npr_tunnel.specs.declared.geneve.RouteGeneveOpt.{RouteGeneveOpt}
+
+-- an option, without where it lies in memory
+pub record Geneve : Type 0 where
+  pub class : ℕ
+  pub typ : ℕ
+  pub opt_data : List ℕ
+
+abbrev pub option_of : RouteGeneveOpt → Geneve
+option_of o = record { class = o.class; typ = o.typ; opt_data = o.opt_data.items }
+
+-- one attribute of the list
+pub data Child : Type 0 where
+  class_child : ℕ → Child
+  type_child : ℕ → Child
+  data_child : List ℕ → Child
+
+abbrev pub at : ℕ → At
+at number = record { family = OfGeneve; kind = number }
+
+-- what it means
+abbrev pub ReadsChild : Item → Child → Type 0
+ReadsChild x (class_child n) = (number_of x.kind ≡ 1) × (exactly be16).Reads x.value n
+ReadsChild x (type_child n) = (number_of x.kind ≡ 2) × (exactly byte).Reads x.value n
+ReadsChild x (data_child d) = (number_of x.kind ≡ 3) × raw.Reads x.value d
+
+-- why it means nothing: it has the wrong length, it changes an option where none is open, or it has another number
+pub data WrongChild (inside : Bool) (x : Item) : DecodeError → Type 0 where
+  class_length : (e : DecodeError) → number_of x.kind ≡ 1 → (exactly be16).Wrong (at 1) x.value e → WrongChild inside x e
+  type_length : (e : DecodeError) → number_of x.kind ≡ 2 → inside ≡ true → (exactly byte).Wrong (at 2) x.value e → WrongChild inside x e
+  order : inside ≡ false → (number_of x.kind ≡ 2) ⊎ (number_of x.kind ≡ 3) → WrongChild inside x (GeneveOrder (number_of x.kind))
+  child : number_of x.kind ≢ 1 → number_of x.kind ≢ 2 → number_of x.kind ≢ 3 → WrongChild inside x (GeneveChild (number_of x.kind))
+
+-- what opens no option
+abbrev pub Plain : List Child → Type 0
+Plain [] = Unit {0}
+Plain (class_child n ∷ cs) = ⊥
+Plain (type_child n ∷ cs) = Plain cs
+Plain (data_child d ∷ cs) = Plain cs
+
+-- the last type and the last data, or what stood before
+abbrev pub last_type : ℕ → List Child → ℕ
+last_type t [] = t
+last_type t (class_child n ∷ cs) = last_type t cs
+last_type t (type_child n ∷ cs) = last_type n cs
+last_type t (data_child d ∷ cs) = last_type t cs
+
+abbrev pub last_data : List ℕ → List Child → List ℕ
+last_data v [] = v
+last_data v (class_child n ∷ cs) = last_data v cs
+last_data v (type_child n ∷ cs) = last_data v cs
+last_data v (data_child d ∷ cs) = last_data d cs
+
+-- a class and then only types and data: the last of each counts, or else 0 and nothing
+pub record IsGroup (group : List Child) (o : Geneve) : Type 0 where
+  pub rest : List Child
+  pub is : group ≡ class_child o.class ∷ rest
+  pub plain : Plain rest
+  pub typ : o.typ ≡ last_type 0 rest
+  pub opt_data : o.opt_data ≡ last_data [] rest
+
+-- groups one after the other, one an option
+abbrev pub AreGroups : List Child → List Geneve → Type 0
+AreGroups children [] = children ≡ []
+AreGroups children (o ∷ os) = (group : List Child) × (more : List Child) × (children ≡ group ++ more) × IsGroup group o × AreGroups more os
+
+-- the bytes are the options
+abbrev pub AreOptions : List ℕ → List Geneve → Type 0
+AreOptions bytes os = (children : List Child) × ReadsList ReadsChild bytes children × AreGroups children os
+
+-- an option is open behind the first group
+abbrev pub is_open : List Geneve → Bool
+is_open [] = false
+is_open (o ∷ os) = true
+
+-- the first fault of bytes that are none: groups that read, and then what is wrong
+abbrev pub OptionsFault : List ℕ → DecodeError → Type 0
+OptionsFault bytes e = (children : List Child) × (os : List Geneve) × (rest : List ℕ) × ReadsTo ReadsChild bytes children rest × AreGroups children os × IsWrong (WrongChild (is_open os)) rest e
+
+-- each option is written as its class, its type and its data
+abbrev pub children_of : List Geneve → List Child
+children_of [] = []
+children_of (o ∷ os) = class_child o.class ∷ type_child o.typ ∷ data_child o.opt_data ∷ children_of os
+
+abbrev pub child_item : Child → Item
+child_item (class_child n) = record { kind = 1; value = (exactly be16).writes n }
+child_item (type_child n) = record { kind = 2; value = (exactly byte).writes n }
+child_item (data_child d) = record { kind = 3; value = d }
+
+abbrev pub child_misfit : Child → Option EmitError
+child_misfit (class_child n) = (exactly be16).misfit 1 n
+child_misfit (type_child n) = (exactly byte).misfit 2 n
+child_misfit (data_child d) = raw.misfit 3 d
+
+abbrev pub option_bytes : List Geneve → List ℕ
+option_bytes os = encodings child_item (children_of os)
+
+-- why an option can't be written, if so: its data are too long
+abbrev pub option_misfit : Geneve → Option EmitError
+option_misfit o = child_misfit (data_child o.opt_data)
+
+-- and why the options can't
+abbrev pub options_unfit : List Geneve → Option EmitError
+options_unfit os = list_unfit child_misfit child_item (children_of os)
+
+-- what can be read
+pub record IsOption (o : Geneve) : Type 0 where
+  pub class : o.class < 2 ^ 16
+  pub typ : o.typ < 2 ^ 8
+  pub opt_data : IsBytes o.opt_data

@@ -1,0 +1,24 @@
+-- Options of Geneve, child by child.
+use Rattle.std.specs.Prelude.{◌≡◌, ℕ, Bool, true, false, List, [], ◌∷◌, Option, Some, None}
+use Rattle.npr_tunnel.specs.Geneve.{Geneve, Child, class_child, type_child, data_child, option_of}
+use Rattle.npr_tunnel.specs.declared.geneve.RouteGeneveOpt.{RouteGeneveOpt}
+
+abbrev pub seen : Option RouteGeneveOpt → Option Geneve
+seen None = None
+seen (Some o) = Some (option_of o)
+
+abbrev pub listed : {A : Type 0} → Option A → List A
+listed None = []
+listed (Some a) = a ∷ []
+
+abbrev pub is_some : {A : Type 0} → Option A → Bool
+is_some None = false
+is_some (Some a) = true
+
+-- a class closes the option that is open and opens another; a type or data change the one that is open
+abbrev pub Changes : Option Geneve → Child → Option Geneve → Geneve → Type 0
+Changes before (class_child n) closed opened = (closed ≡ before) × (opened ≡ record { class = n; typ = 0; opt_data = [] })
+Changes (Some o) (type_child n) closed opened = (closed ≡ None) × (opened ≡ record { class = o.class; typ = n; opt_data = o.opt_data })
+Changes (Some o) (data_child d) closed opened = (closed ≡ None) × (opened ≡ record { class = o.class; typ = o.typ; opt_data = d })
+Changes None (type_child n) closed opened = ⊥
+Changes None (data_child d) closed opened = ⊥

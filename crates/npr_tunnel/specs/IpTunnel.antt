@@ -1,0 +1,126 @@
+-- The members of a tunnel over IP (linux/lwtunnel.h, LWTUNNEL_IP_* and LWTUNNEL_IP6_*), by a table that is the same for
+-- both versions but for the width of an address.
+use Rattle.std.specs.Prelude.{◌≡◌, ℕ, ◌+◌, ◌<◌, ◌≤◌, ◌^◌, List, [], ◌∷◌, length, map, Option, None}
+use Rattle.std.proofs.Common.{refl, arith, rules}
+use Rattle.npr_base.specs.declared.refusal.At.{At}
+use Rattle.npr_base.specs.declared.refusal.AttrFamily.{AttrFamily}
+use Rattle.npr_base.specs.declared.refusal.AttrFamily.TheVariants.{Ip as OfIp, Ip6 as OfIp6}
+use Rattle.npr_base.specs.declared.refusal.EmitError.{EmitError}
+use Rattle.npr_base.specs.Codec.{exactly, raw}
+use Rattle.npr_base.specs.DroppedCodec.{dropped}
+use Rattle.npr_base.specs.Family.{list_unfit}
+use Rattle.npr_base.specs.Framing.{Item, number_of}
+use Rattle.npr_base.specs.Layout.{byte, be16, be64, octets}
+use Rattle.npr_base.specs.ListCodec.{list_of}
+use Rattle.npr_base.specs.Table.{Family, Row, row, Held, held, held_other, item_of, IsOther, Aligned, ReadsAt}
+use Rattle.npr_base.specs.TableLaws.{flat, other-back}
+use Rattle.npr_tunnel.specs.TunnelOptions as OfOption
+use Rattle.npr_tunnel.specs.declared.ip.RouteIpTunnel.{RouteIpTunnel}
+use Rattle.npr_tunnel.specs.declared.ip.RouteIpTunnel.TheVariants.{Unspecified, Id, Destination, Source, Ttl, Tos, Flags, Opts, Other}
+use Rattle.npr_tunnel.specs.declared.ip6.RouteIp6Tunnel.{RouteIp6Tunnel}
+use Rattle.npr_tunnel.specs.declared.ip6.RouteIp6Tunnel.TheVariants.{Unspecified as Unspecified6, Id as Id6, Destination as Destination6, Source as Source6, Hoplimit, Tc, Flags as Flags6, Opts as Opts6, Other as Other6}
+
+-- what a member is, without where it lies in memory
+pub data Meaning : Type 0 where
+  unspecified : Meaning
+  id : ℕ → Meaning
+  destination : List ℕ → Meaning
+  source : List ℕ → Meaning
+  hops : ℕ → Meaning
+  service : ℕ → Meaning
+  flags : ℕ → Meaning
+  options : List OfOption.Meaning → Meaning
+  other : Item → Meaning
+
+abbrev pub meaning_of : RouteIpTunnel → Meaning
+meaning_of Unspecified = unspecified
+meaning_of (Id n) = id n
+meaning_of (Destination a) = destination a
+meaning_of (Source a) = source a
+meaning_of (Ttl n) = hops n
+meaning_of (Tos n) = service n
+meaning_of (Flags f) = flags f.0
+meaning_of (Opts v) = options (map OfOption.meaning_of v.items)
+meaning_of (Other d) = other d
+
+abbrev pub meaning6_of : RouteIp6Tunnel → Meaning
+meaning6_of Unspecified6 = unspecified
+meaning6_of (Id6 n) = id n
+meaning6_of (Destination6 a) = destination a
+meaning6_of (Source6 a) = source a
+meaning6_of (Hoplimit n) = hops n
+meaning6_of (Tc n) = service n
+meaning6_of (Flags6 f) = flags f.0
+meaning6_of (Opts6 v) = options (map OfOption.meaning_of v.items)
+meaning6_of (Other6 d) = other d
+
+-- the table, where an address has so many bytes
+abbrev pub rows : AttrFamily → ℕ → List (Row Meaning)
+rows family width =
+    row (record { family = family; kind = 0 }) dropped (λ u. unspecified)
+    ∷ row (record { family = family; kind = 1 }) (exactly be64) id
+    ∷ row (record { family = family; kind = 2 }) (exactly (octets width)) destination
+    ∷ row (record { family = family; kind = 3 }) (exactly (octets width)) source
+    ∷ row (record { family = family; kind = 4 }) (exactly byte) hops
+    ∷ row (record { family = family; kind = 5 }) (exactly byte) service
+    ∷ row (record { family = family; kind = 6 }) (exactly be16) flags
+    ∷ row (record { family = family; kind = 8 }) (list_of OfOption.members) options
+    ∷ []
+
+-- where each meaning stands in it: options are written with NESTED, which is bit 15 of the kind
+abbrev pub place : ℕ → Meaning → Held
+place width unspecified = held 0 dropped tt
+place width (id n) = held 1 (exactly be64) n
+place width (destination a) = held 2 (exactly (octets width)) a
+place width (source a) = held 3 (exactly (octets width)) a
+place width (hops n) = held 4 (exactly byte) n
+place width (service n) = held 5 (exactly byte) n
+place width (flags n) = held 6 (exactly be16) n
+place width (options xs) = held (2 ^ 15 + 8) (list_of OfOption.members) xs
+place width (other x) = held_other x
+
+-- why the list inside can't be written, if so
+abbrev pub unfit_inside : Meaning → Option EmitError
+unfit_inside (options xs) = list_unfit OfOption.members.misfit OfOption.members.writes xs
+unfit_inside m = None
+
+-- what can be read
+abbrev pub Coherent : AttrFamily → ℕ → Meaning → Type 0
+Coherent family width (other x) = IsOther (rows family width) x
+Coherent family width m = (place width m).IsHeld
+
+pub aligned : (family : AttrFamily) (width : ℕ) → Aligned (λ m. item_of (place width m)) (Coherent family width) (rows family width)
+aligned family width = search rules
+
+pub kinds : (family : AttrFamily) (width : ℕ) (m : Meaning) → Coherent family width m → (place width m).kind < 2 ^ 16
+kinds family width (other x) c = c.proper.kind
+kinds family width m c = omega arith
+
+pub short : (width : ℕ) (m : Meaning) → (place width m).misfit ≡ None → length (place width m).bytes ≤ 65531
+short width (other x) fits = raw.fits_short x.kind x.value fits
+short width m fits = (place width m).codec.fits_short (place width m).kind (place width m).value fits
+
+pub back : (family : AttrFamily) (width : ℕ) (m : Meaning) → Coherent family width m → (place width m).misfit ≡ None → ReadsAt other (rows family width) (number_of (item_of (place width m)).kind) (item_of (place width m)) m
+back family width (other x) c fits = other-back other (rows family width) (number_of x.kind) x c.alone
+back family width m c fits = ((place width m).value, (place width m).codec.reads_back (place width m).kind (place width m).value c fits, refl)
+
+abbrev pub members_of : AttrFamily → ℕ → Family Meaning
+members_of family width = flat (record {
+  rows = rows family width;
+  other = other;
+  place = place width;
+  Coherent = Coherent family width;
+  aligned = aligned family width;
+  other_is = λ x. refl;
+  other_coherent = λ x is. is;
+  kinds = kinds family width;
+  short = short width;
+  back = back family width;
+})
+
+-- the families
+abbrev pub members : Family Meaning
+members = members_of OfIp 4
+
+abbrev pub members6 : Family Meaning
+members6 = members_of OfIp6 16

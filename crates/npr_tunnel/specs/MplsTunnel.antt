@@ -1,0 +1,76 @@
+-- The members of an MPLS tunnel (linux/mpls_iptunnel.h, MPLS_IPTUNNEL_*), by their table.
+use Rattle.std.specs.Prelude.{◌≡◌, ℕ, ◌<◌, ◌≤◌, ◌^◌, List, [], ◌∷◌, length, None}
+use Rattle.std.proofs.Common.{refl, arith, rules}
+use Rattle.npr_base.specs.declared.refusal.At.{At}
+use Rattle.npr_base.specs.declared.refusal.AttrFamily.TheVariants.{Mpls as OfMpls}
+use Rattle.npr_base.specs.Framing.{Item, number_of}
+use Rattle.npr_base.specs.Layout.{byte}
+use Rattle.npr_base.specs.Codec.{exactly, raw}
+use Rattle.npr_base.specs.Table.{Family, Row, row, Held, held, held_other, item_of, IsOther, Aligned, ReadsAt}
+use Rattle.npr_base.specs.TableLaws.{flat, other-back}
+use Rattle.npr_scalar.specs.MplsLaws.{mpls_labels}
+use Rattle.npr_scalar.specs.declared.mpls.MplsLabel.{MplsLabel}
+use Rattle.npr_tunnel.specs.declared.mpls.RouteMplsIpTunnel.{RouteMplsIpTunnel}
+use Rattle.npr_tunnel.specs.declared.mpls.RouteMplsIpTunnel.TheVariants.{Destination, Ttl, Other}
+
+-- what a member is, without where it lies in memory
+pub data Meaning : Type 0 where
+  destination : List MplsLabel → Meaning
+  ttl : ℕ → Meaning
+  other : Item → Meaning
+
+abbrev pub meaning_of : RouteMplsIpTunnel → Meaning
+meaning_of (Destination a) = destination a.items
+meaning_of (Ttl a) = ttl a
+meaning_of (Other d) = other d
+
+abbrev pub at : ℕ → At
+at number = record { family = OfMpls; kind = number }
+
+-- the table
+abbrev pub rows : List (Row Meaning)
+rows =
+    row (at 1) mpls_labels destination
+    ∷ row (at 2) (exactly byte) ttl
+    ∷ []
+
+-- where each meaning stands in it
+abbrev pub place : Meaning → Held
+place (destination a) = held 1 mpls_labels a
+place (ttl a) = held 2 (exactly byte) a
+place (other x) = held_other x
+
+-- what can be read
+abbrev pub Coherent : Meaning → Type 0
+Coherent (other x) = IsOther rows x
+Coherent m = (place m).IsHeld
+
+pub aligned : Aligned (λ m. item_of (place m)) Coherent rows
+aligned = search rules
+
+pub kinds : (m : Meaning) → Coherent m → (place m).kind < 2 ^ 16
+kinds (other x) c = c.proper.kind
+kinds m c = omega arith
+
+pub short : (m : Meaning) → (place m).misfit ≡ None → length (place m).bytes ≤ 65531
+short (other x) fits = raw.fits_short x.kind x.value fits
+short m fits = (place m).codec.fits_short (place m).kind (place m).value fits
+
+pub back : (m : Meaning) → Coherent m → (place m).misfit ≡ None → ReadsAt other rows (number_of (item_of (place m)).kind) (item_of (place m)) m
+back (other x) c fits = other-back other rows (number_of x.kind) x c.alone
+back m c fits = ((place m).value, (place m).codec.reads_back (place m).kind (place m).value c fits, refl)
+
+-- the family
+abbrev pub members : Family Meaning
+members = flat (record {
+  rows = rows;
+  other = other;
+  place = place;
+  Coherent = Coherent;
+  aligned = aligned;
+  other_is = λ x. refl;
+  other_coherent = λ x is. is;
+  kinds = kinds;
+  short = short;
+  back = back;
+})

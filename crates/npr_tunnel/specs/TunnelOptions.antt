@@ -1,0 +1,92 @@
+-- The options of a tunnel over IP (linux/lwtunnel.h, LWTUNNEL_IP_OPTS_*), by their table. Each is written with NESTED,
+-- which is bit 15 of its kind.
+use Rattle.std.specs.Prelude.{◌≡◌, ℕ, ◌+◌, ◌<◌, ◌≤◌, ◌^◌, List, [], ◌∷◌, length, map, Option, None}
+use Rattle.std.proofs.Common.{refl, arith, rules}
+use Rattle.npr_base.specs.declared.refusal.At.{At}
+use Rattle.npr_base.specs.declared.refusal.AttrFamily.TheVariants.{Opt as OfOption}
+use Rattle.npr_base.specs.declared.refusal.EmitError.{EmitError}
+use Rattle.npr_base.specs.Codec.{raw}
+use Rattle.npr_base.specs.Family.{list_unfit}
+use Rattle.npr_base.specs.Framing.{Item, number_of}
+use Rattle.npr_base.specs.ListCodec.{list_of}
+use Rattle.npr_base.specs.Table.{Family, Row, row, Held, held, held_other, item_of, IsOther, Aligned, ReadsAt}
+use Rattle.npr_base.specs.TableLaws.{flat, other-back}
+use Rattle.npr_tunnel.specs.ErspanOptions as OfErspan
+use Rattle.npr_tunnel.specs.Geneve.{Geneve as GeneveOption, option_of, options_unfit}
+use Rattle.npr_tunnel.specs.GeneveLaws.{geneve_options}
+use Rattle.npr_tunnel.specs.VxlanOptions as OfVxlan
+use Rattle.npr_tunnel.specs.declared.tunnel_opts.RouteLwTunnelOpt.{RouteLwTunnelOpt}
+use Rattle.npr_tunnel.specs.declared.tunnel_opts.RouteLwTunnelOpt.TheVariants.{Geneve, Vxlan, Erspan, Other}
+
+-- what an option is, without where it lies in memory
+pub data Meaning : Type 0 where
+  geneve : List GeneveOption → Meaning
+  vxlan : List OfVxlan.Meaning → Meaning
+  erspan : List OfErspan.Meaning → Meaning
+  other : Item → Meaning
+
+abbrev pub meaning_of : RouteLwTunnelOpt → Meaning
+meaning_of (Geneve v) = geneve (map option_of v.items)
+meaning_of (Vxlan v) = vxlan (map OfVxlan.meaning_of v.items)
+meaning_of (Erspan v) = erspan (map OfErspan.meaning_of v.items)
+meaning_of (Other d) = other d
+
+abbrev pub at : ℕ → At
+at number = record { family = OfOption; kind = number }
+
+-- the table
+abbrev pub rows : List (Row Meaning)
+rows =
+    row (at 1) geneve_options geneve
+    ∷ row (at 2) (list_of OfVxlan.members) vxlan
+    ∷ row (at 3) (list_of OfErspan.members) erspan
+    ∷ []
+
+-- where each meaning stands in it
+abbrev pub place : Meaning → Held
+place (geneve os) = held (2 ^ 15 + 1) geneve_options os
+place (vxlan xs) = held (2 ^ 15 + 2) (list_of OfVxlan.members) xs
+place (erspan xs) = held (2 ^ 15 + 3) (list_of OfErspan.members) xs
+place (other x) = held_other x
+
+-- why the list inside can't be written, if so
+abbrev pub unfit_inside : Meaning → Option EmitError
+unfit_inside (geneve os) = options_unfit os
+unfit_inside (vxlan xs) = list_unfit OfVxlan.members.misfit OfVxlan.members.writes xs
+unfit_inside (erspan xs) = list_unfit OfErspan.members.misfit OfErspan.members.writes xs
+unfit_inside (other x) = None
+
+-- what can be read
+abbrev pub Coherent : Meaning → Type 0
+Coherent (other x) = IsOther rows x
+Coherent m = (place m).IsHeld
+
+pub aligned : Aligned (λ m. item_of (place m)) Coherent rows
+aligned = search rules
+
+pub kinds : (m : Meaning) → Coherent m → (place m).kind < 2 ^ 16
+kinds (other x) c = c.proper.kind
+kinds m c = omega arith
+
+pub short : (m : Meaning) → (place m).misfit ≡ None → length (place m).bytes ≤ 65531
+short (other x) fits = raw.fits_short x.kind x.value fits
+short m fits = (place m).codec.fits_short (place m).kind (place m).value fits
+
+pub back : (m : Meaning) → Coherent m → (place m).misfit ≡ None → ReadsAt other rows (number_of (item_of (place m)).kind) (item_of (place m)) m
+back (other x) c fits = other-back other rows (number_of x.kind) x c.alone
+back m c fits = ((place m).value, (place m).codec.reads_back (place m).kind (place m).value c fits, refl)
+
+-- the family
+abbrev pub members : Family Meaning
+members = flat (record {
+  rows = rows;
+  other = other;
+  place = place;
+  Coherent = Coherent;
+  aligned = aligned;
+  other_is = λ x. refl;
+  other_coherent = λ x is. is;
+  kinds = kinds;
+  short = short;
+  back = back;
+})

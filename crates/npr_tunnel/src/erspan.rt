@@ -1,0 +1,171 @@
+//! Options of ERSPAN: `LWTUNNEL_IP_OPT_ERSPAN_*` of `linux/lwtunnel.h`.
+
+ghost use Rattle.std.specs.Prelude.{◌≡◌, ◌≢◌, ◌≤◌, ◌<◌, ◌+◌, ◌*◌, ℕ, List, Option, None, false, length, IfOk, IfErr};
+ghost use Rattle.std.proofs.Common.{refl};
+ghost use Rattle.npr_base.specs.Family.{checked};
+ghost use Rattle.npr_tunnel.specs.ErspanOptions.{Meaning, meaning_of, members, short};
+
+use npr_base::{
+    At, AttrFamily, Attribute, DecodeError, DefaultNla, EmitError, Looks, Nla, NlaBuffer,
+    Parseable, check_len, read_u8, read_u32_be, write_bytes,
+};
+use std::alloc::{AllocError, Global};
+
+/// An option of ERSPAN.
+#[derive(Debug, Drop, PartialEq, Eq)]
+pub enum RouteErspanOpt {
+    /// `LWTUNNEL_IP_OPT_ERSPAN_VER`: the version.
+    Ver(u8),
+    /// `LWTUNNEL_IP_OPT_ERSPAN_INDEX`: the port, of version 1; big endian.
+    Index(u32),
+    /// `LWTUNNEL_IP_OPT_ERSPAN_DIR`: the direction, of version 2.
+    Dir(u8),
+    /// `LWTUNNEL_IP_OPT_ERSPAN_HWID`: the id of the hardware, of version 2.
+    Hwid(u8),
+    /// An option of another number, as it stands.
+    Other(DefaultNla),
+}
+
+impl RouteErspanOpt {
+    /// An equal option.
+    ///
+    /// # Errors
+    /// `AllocError` where memory is refused.
+    pub fn clone(&self, alloc: Global) -> Result<Self, AllocError>
+        ensures { IfOk result (λ a. meaning_of a ≡ meaning_of self.now) }
+    {
+        match self {
+            RouteErspanOpt::Ver(x) => Ok(RouteErspanOpt::Ver(*x)),
+            RouteErspanOpt::Index(x) => Ok(RouteErspanOpt::Index(*x)),
+            RouteErspanOpt::Dir(x) => Ok(RouteErspanOpt::Dir(*x)),
+            RouteErspanOpt::Hwid(x) => Ok(RouteErspanOpt::Hwid(*x)),
+            RouteErspanOpt::Other(nla) => nla.clone(alloc).map(RouteErspanOpt::Other),
+        }
+    }
+}
+
+const fn at(kind: u16) -> At
+    ensures { result ≡ record { family = AttrFamily.Erspan; kind = kind } }
+{
+    At {
+        family: AttrFamily::Erspan,
+        kind,
+    }
+}
+
+impl Nla for RouteErspanOpt {
+    ghost item = { λ a. members.writes (meaning_of a) };
+
+    ghost nested = { λ _. false };
+
+    ghost unfit = { λ a. members.misfit (meaning_of a) };
+
+    ghost fits_short = { λ a h. short (meaning_of a) h };
+
+    fn kind(&self) -> u16 {
+        match self {
+            RouteErspanOpt::Ver(_) => 1,
+            RouteErspanOpt::Index(_) => 2,
+            RouteErspanOpt::Dir(_) => 3,
+            RouteErspanOpt::Hwid(_) => 4,
+            RouteErspanOpt::Other(nla) => nla.kind(),
+        }
+    }
+
+    fn is_nested(&self) -> bool {
+        false
+    }
+
+    fn check(&self) -> Result<usize, EmitError> {
+        check_len(self.kind(), self.value_len())
+    }
+
+    fn value_len(&self) -> usize
+        ensures { result ≡ length (members.writes (meaning_of self.now)).value }
+    {
+        match self {
+            RouteErspanOpt::Ver(_) | RouteErspanOpt::Dir(_) | RouteErspanOpt::Hwid(_) => 1,
+            RouteErspanOpt::Index(_) => 4,
+            RouteErspanOpt::Other(nla) => nla.value().len(),
+        }
+    }
+
+    fn write_value(&self, out: &mut [u8]) -> usize {
+        match self {
+            RouteErspanOpt::Ver(x) | RouteErspanOpt::Dir(x) | RouteErspanOpt::Hwid(x) =>
+                write_bytes(out, &[*x]),
+            RouteErspanOpt::Index(x) => write_bytes(out, &x.to_be_bytes()),
+            RouteErspanOpt::Other(nla) => write_bytes(out, nla.value()),
+        }
+    }
+}
+
+impl Attribute for RouteErspanOpt {
+    type Context = ();
+
+    ghost Meaning = { Meaning };
+
+    ghost meaning = { meaning_of };
+
+    ghost writes = { members.writes };
+
+    ghost misfit = { members.misfit };
+
+    ghost reads = { λ _. members.Reads };
+
+    ghost faulty = { λ _. members.Faulty };
+
+    ghost coherent = { λ _. members.Coherent };
+
+    ghost members = { members.members };
+
+    ghost item_is = { λ a. refl };
+
+    ghost unfit_is = { λ a. refl };
+
+    ghost one_reading = { λ _. members.one_reading };
+
+    ghost no_fault = { λ _. members.no_fault };
+
+    ghost reads_coherent = { λ _. members.reads_coherent };
+
+    ghost fits_small = { λ _. members.fits_small };
+
+    ghost reads_back = { λ _. members.reads_back };
+
+    ghost grows = { λ _. members.grows };
+
+    fn read(
+        alloc: Global,
+        _context: (),
+        item: &NlaBuffer<'_>,
+        _looks: &mut Looks,
+    ) -> Result<Self, DecodeError> {
+        let value = item.value();
+        match item.kind() {
+            1 => read_u8(value, at(1)).map(RouteErspanOpt::Ver),
+            2 => read_u32_be(value, at(2)).map(RouteErspanOpt::Index),
+            3 => read_u8(value, at(3)).map(RouteErspanOpt::Dir),
+            4 => read_u8(value, at(4)).map(RouteErspanOpt::Hwid),
+            _ => DefaultNla::parse(alloc, item).map(RouteErspanOpt::Other),
+        }
+    }
+
+    fn try_clone(&self, alloc: Global) -> Result<Self, AllocError> {
+        self.clone(alloc)
+    }
+}
+
+impl<'a> Parseable<&'a NlaBuffer<'a>> for RouteErspanOpt {
+    ghost parses = { λ input a. members.Reads input.now (meaning_of a) };
+
+    ghost misparses = { λ input e. members.Faulty input.now e };
+
+    /// The option that the attribute is: `read`, with looks that nobody counts.
+    ///
+    /// # Errors
+    /// `OutOfMemory` where memory is refused, and else what is wrong with the value.
+    fn parse(alloc: Global, input: &'a NlaBuffer<'a>) -> Result<Self, DecodeError> {
+        RouteErspanOpt::read(alloc, (), input, &mut Looks::new())
+    }
+}

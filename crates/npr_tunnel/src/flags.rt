@@ -1,0 +1,117 @@
+//! The flags of tunnels over IP: `TUNNEL_*` of `linux/if_tunnel.h`.
+
+ghost use Rattle.std.specs.Prelude.{⊤, [], ◌∷◌, codes};
+
+use bitflags::{Flag, Flags};
+
+/// The flags of a tunnel over IP version 4: `TUNNEL_*` of `linux/if_tunnel.h`. Every bit is kept.
+#[derive(Clone, Copy, Debug, Default, PartialEq, Eq)]
+pub struct RouteIpTunnelFlags(u16);
+
+impl RouteIpTunnelFlags {
+    /// Packets have a checksum.
+    pub const Checksum: RouteIpTunnelFlags = RouteIpTunnelFlags(0x1);
+
+    /// Packets have a key.
+    pub const Key: RouteIpTunnelFlags = RouteIpTunnelFlags(0x4);
+
+    /// Packets are numbered.
+    pub const Sequence: RouteIpTunnelFlags = RouteIpTunnelFlags(0x8);
+
+    const FLAGS: &'static [Flag<RouteIpTunnelFlags>] = &[
+        Flag {
+            name: "Checksum",
+            value: RouteIpTunnelFlags::Checksum,
+        },
+        Flag {
+            name: "Key",
+            value: RouteIpTunnelFlags::Key,
+        },
+        Flag {
+            name: "Sequence",
+            value: RouteIpTunnelFlags::Sequence,
+        },
+        Flag {
+            name: "",
+            value: RouteIpTunnelFlags(u16::MAX),
+        },
+    ];
+}
+
+impl Flags for RouteIpTunnelFlags {
+    type Bits = u16;
+
+    ghost exact = { ⊤ };
+
+    ghost table = { (codes "Checksum", 1) ∷ (codes "Key", 4) ∷ (codes "Sequence", 8) ∷ ([], 65535) ∷ [] };
+
+    ghost set_of = { λ flags. flags.0 };
+
+    fn flags<'a>() -> &'a [Flag<RouteIpTunnelFlags>] {
+        RouteIpTunnelFlags::FLAGS
+    }
+
+    fn bits(&self) -> u16 {
+        self.0
+    }
+
+    fn from_bits_retain(bits: u16) -> RouteIpTunnelFlags {
+        RouteIpTunnelFlags(bits)
+    }
+}
+
+/// The flags of a tunnel over IP version 6: `TUNNEL_*` of `linux/if_tunnel.h`. Every bit is kept.
+#[derive(Clone, Copy, Debug, Default, PartialEq, Eq)]
+pub struct RouteIp6TunnelFlags(u16);
+
+impl RouteIp6TunnelFlags {
+    /// Packets have a checksum.
+    pub const Checksum: RouteIp6TunnelFlags = RouteIp6TunnelFlags(0x1);
+
+    /// Packets have a key.
+    pub const Key: RouteIp6TunnelFlags = RouteIp6TunnelFlags(0x4);
+
+    /// Packets are numbered.
+    pub const Sequence: RouteIp6TunnelFlags = RouteIp6TunnelFlags(0x8);
+
+    const FLAGS: &'static [Flag<RouteIp6TunnelFlags>] = &[
+        Flag {
+            name: "Checksum",
+            value: RouteIp6TunnelFlags::Checksum,
+        },
+        Flag {
+            name: "Key",
+            value: RouteIp6TunnelFlags::Key,
+        },
+        Flag {
+            name: "Sequence",
+            value: RouteIp6TunnelFlags::Sequence,
+        },
+        Flag {
+            name: "",
+            value: RouteIp6TunnelFlags(u16::MAX),
+        },
+    ];
+}
+
+impl Flags for RouteIp6TunnelFlags {
+    type Bits = u16;
+
+    ghost exact = { ⊤ };
+
+    ghost table = { (codes "Checksum", 1) ∷ (codes "Key", 4) ∷ (codes "Sequence", 8) ∷ ([], 65535) ∷ [] };
+
+    ghost set_of = { λ flags. flags.0 };
+
+    fn flags<'a>() -> &'a [Flag<RouteIp6TunnelFlags>] {
+        RouteIp6TunnelFlags::FLAGS
+    }
+
+    fn bits(&self) -> u16 {
+        self.0
+    }
+
+    fn from_bits_retain(bits: u16) -> RouteIp6TunnelFlags {
+        RouteIp6TunnelFlags(bits)
+    }
+}

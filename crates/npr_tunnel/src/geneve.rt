@@ -1,0 +1,290 @@
+//! Options of Geneve: `LWTUNNEL_IP_OPT_GENEVE_*` of `linux/lwtunnel.h`.
+
+ghost use Rattle.std.specs.Prelude.{◌≡◌, ◌≢◌, ◌≤◌, ◌⊎◌, ◌+◌, ◌∷◌, ◌++◌, true, false, [], ℕ, Some, None, length, map, IfOk, IfErr, OnOk};
+ghost use Rattle.npr_base.specs.Codec.{exactly, raw};
+ghost use Rattle.npr_base.specs.Family.{checked};
+ghost use Rattle.npr_base.specs.Counts.{AddsAtMost, SawEach};
+ghost use Rattle.npr_base.specs.Framing.{Writes, framed, number_of};
+ghost use Rattle.npr_base.specs.Layout.{byte, be16};
+ghost use Rattle.npr_base.specs.declared.refusal.DecodeError.TheVariants.{OutOfMemory};
+ghost use Rattle.npr_tunnel.specs.Geneve.{at, Child, child_item, child_misfit, option_bytes, option_misfit, options_unfit, class_child, type_child, data_child, option_of, ReadsChild, WrongChild, AreOptions, OptionsFault};
+ghost use Rattle.npr_tunnel.specs.GeneveSteps.{seen, listed, is_some, Changes};
+
+use npr_base::{
+    At, AttrFamily, DecodeError, EmitError, Looks, Nla, NlaBuffer, NlasIterator, check_len, plus,
+    read_bytes, read_u8, read_u16_be, write_bytes,
+};
+use std::alloc::{AllocError, Global};
+
+/// An option of Geneve. A list of them is attributes: a class opens an option, and a type or data
+/// that follow it stand in that option.
+#[derive(Debug, Drop, PartialEq, Eq)]
+pub struct RouteGeneveOpt {
+    /// `LWTUNNEL_IP_OPT_GENEVE_CLASS`: the class, big endian.
+    pub class: u16,
+    /// `LWTUNNEL_IP_OPT_GENEVE_TYPE`: the type.
+    pub typ: u8,
+    /// `LWTUNNEL_IP_OPT_GENEVE_DATA`: the data.
+    pub opt_data: Vec<u8>,
+}
+
+impl RouteGeneveOpt {
+    /// An option of class and type 0, with no data. It takes no memory.
+    pub fn new(alloc: Global) -> Self
+        ensures { option_of result ≡ record { class = 0; typ = 0; opt_data = [] } }
+    {
+        RouteGeneveOpt {
+            class: 0,
+            typ: 0,
+            opt_data: Vec::new(alloc),
+        }
+    }
+
+    /// An equal option.
+    ///
+    /// # Errors
+    /// `AllocError` where memory is refused.
+    pub fn clone(&self, alloc: Global) -> Result<Self, AllocError>
+        ensures { IfOk result (λ o. option_of o ≡ option_of self.now) }
+    {
+        Ok(RouteGeneveOpt {
+            class: self.class,
+            typ: self.typ,
+            opt_data: Vec::from_slice(alloc, self.opt_data.as_slice())?,
+        })
+    }
+}
+
+const fn at(kind: u16) -> At
+    ensures { result ≡ record { family = AttrFamily.Geneve; kind = kind } }
+{
+    At {
+        family: AttrFamily::Geneve,
+        kind,
+    }
+}
+
+/// A class closes the option that is open, and opens another.
+fn read_class(
+    alloc: Global,
+    current: Option<RouteGeneveOpt>,
+    value: &[u8],
+) -> Result<(Option<RouteGeneveOpt>, RouteGeneveOpt), DecodeError>
+    ensures ok { IfOk result (λ p. (n : ℕ) × (exactly be16).Reads value.now n × Changes (seen current) (class_child n) (seen p.0) (option_of p.1)) }
+    ensures refused { IfErr result (λ e. (exactly be16).Wrong (at 1) value.now e) }
+{
+    let class = read_u16_be(value, at(1))?;
+    let opened = RouteGeneveOpt {
+        class,
+        ..RouteGeneveOpt::new(alloc)
+    };
+    Ok((current, opened))
+}
+
+/// A type changes the option that is open.
+fn read_type(option: RouteGeneveOpt, value: &[u8]) -> Result<RouteGeneveOpt, DecodeError>
+    ensures ok { IfOk result (λ o. (n : ℕ) × (exactly byte).Reads value.now n × Changes (Some (option_of option)) (type_child n) None (option_of o)) }
+    ensures refused { IfErr result (λ e. (exactly byte).Wrong (at 2) value.now e) }
+{
+    let typ = read_u8(value, at(2))?;
+    Ok(RouteGeneveOpt { typ, ..option })
+}
+
+/// Data change the option that is open.
+fn read_data(
+    alloc: Global,
+    option: RouteGeneveOpt,
+    value: &[u8],
+) -> Result<RouteGeneveOpt, DecodeError>
+    ensures ok { IfOk result (λ o. Changes (Some (option_of option)) (data_child value.now) None (option_of o)) }
+    ensures refused { IfErr result (λ e. e ≡ OutOfMemory) }
+{
+    let opt_data = read_bytes(alloc, value)?;
+    Ok(RouteGeneveOpt { opt_data, ..option })
+}
+
+/// What a type or data do to the option that is open.
+fn change(
+    alloc: Global,
+    option: RouteGeneveOpt,
+    child: &NlaBuffer<'_>,
+) -> Result<RouteGeneveOpt, DecodeError>
+    requires { (number_of (child.now).kind ≡ 2) ⊎ (number_of (child.now).kind ≡ 3) }
+    ensures ok { IfOk result (λ o. (c : Child) × ReadsChild child.now c × Changes (Some (option_of option)) c None (option_of o)) }
+    ensures refused { IfErr result (λ e. e ≢ OutOfMemory → WrongChild true child.now e) }
+{
+    if child.kind() == 2 {
+        read_type(option, child.value())
+    } else {
+        read_data(alloc, option, child.value())
+    }
+}
+
+/// The option that a child closes, and the one that is open after it.
+fn read_child(
+    alloc: Global,
+    current: Option<RouteGeneveOpt>,
+    child: &NlaBuffer<'_>,
+) -> Result<(Option<RouteGeneveOpt>, RouteGeneveOpt), DecodeError>
+    ensures ok { IfOk result (λ p. (c : Child) × ReadsChild child.now c × Changes (seen current) c (seen p.0) (option_of p.1)) }
+    ensures refused { IfErr result (λ e. e ≢ OutOfMemory → WrongChild (is_some current) child.now e) }
+{
+    let kind = child.kind();
+    if kind == 1 {
+        return read_class(alloc, current, child.value());
+    }
+    if kind != 2 && kind != 3 {
+        return Err(DecodeError::GeneveChild { kind });
+    }
+    match current {
+        Some(option) => Ok((None, change(alloc, option, child)?)),
+        None => Err(DecodeError::GeneveOrder { kind }),
+    }
+}
+
+/// Puts an option, if there is one, behind the others.
+fn close(
+    options: &mut Vec<RouteGeneveOpt>,
+    option: Option<RouteGeneveOpt>,
+) -> Result<(), DecodeError>
+    ensures ok { OnOk result (map option_of options.new.items ≡ map option_of options.old.items ++ listed (seen option)) }
+    ensures refused { IfErr result (λ e. e ≡ OutOfMemory) }
+{
+    if let Some(option) = option {
+        options.push(option)?;
+    }
+    Ok(())
+}
+
+/// The options that the bytes are.
+///
+/// # Errors
+/// `OutOfMemory` where memory is refused, and else the first fault in reading order: of the walk,
+/// `GeneveOrder` for a type or data before a class, `ValueLength`, and `GeneveChild` for an
+/// attribute of another number.
+pub(crate) fn read_options(
+    alloc: Global,
+    bytes: &[u8],
+    looks: &mut Looks,
+) -> Result<Vec<RouteGeneveOpt>, DecodeError>
+    ensures ok { IfOk result (λ v. AreOptions bytes.now (map option_of v.items)) }
+    ensures refused { IfErr result (λ e. e ≢ OutOfMemory → OptionsFault bytes.now e) }
+    ensures bounded { AddsAtMost looks.old looks.new (length bytes.now) }
+    ensures counted { IfOk result (λ v. SawEach looks.old looks.new (length v.items)) }
+{
+    let mut walk = NlasIterator::new(bytes);
+    let mut options = Vec::new(alloc);
+    let mut current = None;
+    while let Some(next) = walk.next_counted(looks) {
+        let child = next?;
+        let (closed, opened) = read_child(alloc, current, &child)?;
+        close(&mut options, closed)?;
+        current = Some(opened);
+    }
+    close(&mut options, current)?;
+    Ok(options)
+}
+
+/// The data of an option, to be written as an attribute.
+#[derive(Drop)]
+struct Data<'a>(&'a [u8]);
+
+impl<'a> Nla for Data<'a> {
+    ghost item = { λ d. child_item (data_child d.0.now) };
+
+    ghost nested = { λ _. false };
+
+    ghost unfit = { λ d. child_misfit (data_child d.0.now) };
+
+    ghost fits_short = { λ d h. raw.fits_short 3 d.0.now h };
+
+    fn kind(&self) -> u16 {
+        3
+    }
+
+    fn is_nested(&self) -> bool {
+        false
+    }
+
+    fn check(&self) -> Result<usize, EmitError> {
+        check_len(3, self.0.len())
+    }
+
+    fn value_len(&self) -> usize {
+        self.0.len()
+    }
+
+    fn write_value(&self, out: &mut [u8]) -> usize {
+        write_bytes(out, self.0)
+    }
+}
+
+/// The length of the encoding of an option: a class and a type of 8 bytes each, and its data.
+///
+/// # Errors
+/// `TooLong` or `Total` where the data are too long.
+fn check_option(option: &RouteGeneveOpt) -> Result<usize, EmitError>
+    ensures { result ≡ checked (option_misfit (option_of option.now)) (length (option_bytes (option_of option.now ∷ []))) }
+{
+    Ok(16 + Data(option.opt_data.as_slice()).check()?)
+}
+
+/// Writes class, type and data of an option at the front of the slice, leaves the rest, and
+/// answers their length.
+fn write_option(option: &RouteGeneveOpt, out: &mut [u8]) -> usize
+    requires fits { option_misfit (option_of option.now) ≡ None }
+    requires room { length (option_bytes (option_of option.now ∷ [])) ≤ length out.old }
+    ensures len { result ≡ length (option_bytes (option_of option.now ∷ [])) }
+    ensures after { Writes out.old out.new (option_bytes (option_of option.now ∷ [])) }
+{
+    let [high, low] = option.class.to_be_bytes();
+    let class = [6, 0, 1, 0, high, low, 0, 0];
+    let typ = [5, 0, 2, 0, option.typ, 0, 0, 0];
+    write_bytes(out, &class);
+    write_bytes(&mut out[8..], &typ);
+    16 + Data(option.opt_data.as_slice()).write(&mut out[16..])
+}
+
+/// The length of the encodings in bytes, or the first cause why there are none.
+pub(crate) fn check_options(options: &[RouteGeneveOpt]) -> Result<usize, EmitError>
+    ensures { result ≡ checked (options_unfit (map option_of options.now)) (length (option_bytes (map option_of options.now))) }
+{
+    let mut total = Some(0usize);
+    for option in options {
+        let len = check_option(option)?;
+        total = plus(total, len);
+    }
+    total.ok_or(EmitError::Total)
+}
+
+/// Writes the encodings one after the other at the front of the slice, leaves the rest, and
+/// answers their length.
+pub(crate) fn write_options(options: &[RouteGeneveOpt], out: &mut [u8]) -> usize
+    requires fits { options_unfit (map option_of options.now) ≡ None }
+    requires room { length (option_bytes (map option_of options.now)) ≤ length out.old }
+    ensures len { result ≡ length (option_bytes (map option_of options.now)) }
+    ensures after { Writes out.old out.new (option_bytes (map option_of options.now)) }
+{
+    let mut at = 0usize;
+    for option in options {
+        at += write_option(option, &mut out[at..]);
+    }
+    at
+}
+
+/// Equal options, in their order.
+///
+/// # Errors
+/// `AllocError` where memory is refused.
+pub(crate) fn clone_options(
+    alloc: Global,
+    options: &[RouteGeneveOpt],
+) -> Result<Vec<RouteGeneveOpt>, AllocError>
+    ensures { IfOk result (λ v. map option_of v.items ≡ map option_of options.now) }
+{
+    let mut copies = Vec::new(alloc);
+    for option in options {
+        copies.push(option.clone(alloc)?)?;
+    }
+    Ok(copies)
+}

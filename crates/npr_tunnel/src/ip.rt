@@ -1,0 +1,216 @@
+//! Tunnels over IP version 4: `LWTUNNEL_IP_*` of `linux/lwtunnel.h`.
+
+ghost use Rattle.std.specs.Prelude.{◌≡◌, ◌≢◌, ◌≤◌, ◌<◌, ◌+◌, ◌*◌, ℕ, List, Option, None, false, length, IfOk, IfErr};
+ghost use Rattle.std.proofs.Common.{refl};
+ghost use Rattle.npr_base.specs.Family.{checked};
+ghost use Rattle.npr_tunnel.specs.IpTunnel.{Meaning, meaning_of, members, place, short, unfit_inside};
+
+use crate::flags::RouteIpTunnelFlags;
+use crate::tunnel_opts::RouteLwTunnelOpt;
+use bitflags::Flags;
+use npr_base::{
+    At, AttrFamily, Attribute, DecodeError, DefaultNla, EmitError, Ipv4Addr, Looks, NLA_F_NESTED,
+    Nla, NlaBuffer, Parseable, check_len, check_list, clone_list, parse_list, read_ipv4, read_u8,
+    read_u16_be, read_u64_be, write_bytes, write_list,
+};
+use std::alloc::{AllocError, Global};
+
+/// A member of a tunnel over IP version 4.
+#[derive(Debug, Default, Drop, PartialEq, Eq)]
+pub enum RouteIpTunnel {
+    /// `LWTUNNEL_IP_UNSPEC`: its value is dropped.
+    #[default]
+    Unspecified,
+    /// `LWTUNNEL_IP_ID`: the id of the tunnel, big endian.
+    Id(u64),
+    /// `LWTUNNEL_IP_DST`: the address that it goes to.
+    Destination(Ipv4Addr),
+    /// `LWTUNNEL_IP_SRC`: the address that it comes from.
+    Source(Ipv4Addr),
+    /// `LWTUNNEL_IP_TTL`: how many hops are left.
+    Ttl(u8),
+    /// `LWTUNNEL_IP_TOS`: the type of service.
+    Tos(u8),
+    /// `LWTUNNEL_IP_FLAGS`: the flags, big endian.
+    Flags(RouteIpTunnelFlags),
+    /// `LWTUNNEL_IP_OPTS`: the options, written with NESTED.
+    Opts(Vec<RouteLwTunnelOpt>),
+    /// A member of another number, as it stands.
+    Other(DefaultNla),
+}
+
+impl RouteIpTunnel {
+    /// An equal member.
+    ///
+    /// # Errors
+    /// `AllocError` where memory is refused.
+    pub fn clone(&self, alloc: Global) -> Result<Self, AllocError>
+        ensures { IfOk result (λ a. meaning_of a ≡ meaning_of self.now) }
+    {
+        Ok(match self {
+            RouteIpTunnel::Unspecified => RouteIpTunnel::Unspecified,
+            RouteIpTunnel::Id(n) => RouteIpTunnel::Id(*n),
+            RouteIpTunnel::Destination(a) => RouteIpTunnel::Destination(*a),
+            RouteIpTunnel::Source(a) => RouteIpTunnel::Source(*a),
+            RouteIpTunnel::Ttl(n) => RouteIpTunnel::Ttl(*n),
+            RouteIpTunnel::Tos(n) => RouteIpTunnel::Tos(*n),
+            RouteIpTunnel::Flags(flags) => RouteIpTunnel::Flags(*flags),
+            RouteIpTunnel::Opts(v) => RouteIpTunnel::Opts(clone_list(alloc, v.as_slice())?),
+            RouteIpTunnel::Other(nla) => RouteIpTunnel::Other(nla.clone(alloc)?),
+        })
+    }
+
+    /// The length of the value, or the first cause why the list inside has none.
+    fn len(&self) -> Result<usize, EmitError>
+        ensures { result ≡ checked (unfit_inside (meaning_of self.now)) (length (place 4 (meaning_of self.now)).bytes) }
+    {
+        Ok(match self {
+            RouteIpTunnel::Unspecified => 0,
+            RouteIpTunnel::Id(_) => 8,
+            RouteIpTunnel::Destination(a) | RouteIpTunnel::Source(a) => a.octets().len(),
+            RouteIpTunnel::Ttl(_) | RouteIpTunnel::Tos(_) => 1,
+            RouteIpTunnel::Flags(_) => 2,
+            RouteIpTunnel::Opts(v) => check_list(v.as_slice())?,
+            RouteIpTunnel::Other(nla) => nla.value().len(),
+        })
+    }
+}
+
+const fn at(kind: u16) -> At
+    ensures { result ≡ record { family = AttrFamily.Ip; kind = kind } }
+{
+    At {
+        family: AttrFamily::Ip,
+        kind,
+    }
+}
+
+impl Nla for RouteIpTunnel {
+    ghost item = { λ a. members.writes (meaning_of a) };
+
+    ghost nested = { λ _. false };
+
+    ghost unfit = { λ a. members.misfit (meaning_of a) };
+
+    ghost fits_short = { λ a h. short 4 (meaning_of a) h };
+
+    fn kind(&self) -> u16 {
+        match self {
+            RouteIpTunnel::Unspecified => 0,
+            RouteIpTunnel::Id(_) => 1,
+            RouteIpTunnel::Destination(_) => 2,
+            RouteIpTunnel::Source(_) => 3,
+            RouteIpTunnel::Ttl(_) => 4,
+            RouteIpTunnel::Tos(_) => 5,
+            RouteIpTunnel::Flags(_) => 6,
+            RouteIpTunnel::Opts(_) => NLA_F_NESTED + 8,
+            RouteIpTunnel::Other(nla) => nla.kind(),
+        }
+    }
+
+    fn is_nested(&self) -> bool {
+        false
+    }
+
+    fn check(&self) -> Result<usize, EmitError> {
+        check_len(self.kind(), self.len()?)
+    }
+
+    fn value_len(&self) -> usize {
+        match self.len() {
+            Ok(len) => len,
+            Err(_) => unreachable!(),
+        }
+    }
+
+    fn write_value(&self, out: &mut [u8]) -> usize {
+        match self {
+            RouteIpTunnel::Unspecified => 0,
+            RouteIpTunnel::Id(n) => write_bytes(out, &n.to_be_bytes()),
+            RouteIpTunnel::Destination(a) | RouteIpTunnel::Source(a) => write_bytes(
+                out,
+                &a.octets(),
+            ),
+            RouteIpTunnel::Ttl(n) | RouteIpTunnel::Tos(n) => write_bytes(out, &[*n]),
+            RouteIpTunnel::Flags(flags) => write_bytes(out, &flags.bits().to_be_bytes()),
+            RouteIpTunnel::Opts(v) => write_list(v.as_slice(), out),
+            RouteIpTunnel::Other(nla) => write_bytes(out, nla.value()),
+        }
+    }
+}
+
+impl Attribute for RouteIpTunnel {
+    type Context = ();
+
+    ghost Meaning = { Meaning };
+
+    ghost meaning = { meaning_of };
+
+    ghost writes = { members.writes };
+
+    ghost misfit = { members.misfit };
+
+    ghost reads = { λ _. members.Reads };
+
+    ghost faulty = { λ _. members.Faulty };
+
+    ghost coherent = { λ _. members.Coherent };
+
+    ghost members = { members.members };
+
+    ghost item_is = { λ a. refl };
+
+    ghost unfit_is = { λ a. refl };
+
+    ghost one_reading = { λ _. members.one_reading };
+
+    ghost no_fault = { λ _. members.no_fault };
+
+    ghost reads_coherent = { λ _. members.reads_coherent };
+
+    ghost fits_small = { λ _. members.fits_small };
+
+    ghost reads_back = { λ _. members.reads_back };
+
+    ghost grows = { λ _. members.grows };
+
+    fn read(
+        alloc: Global,
+        _context: (),
+        item: &NlaBuffer<'_>,
+        looks: &mut Looks,
+    ) -> Result<Self, DecodeError> {
+        let value = item.value();
+        match item.kind() {
+            0 => Ok(RouteIpTunnel::Unspecified),
+            1 => read_u64_be(value, at(1)).map(RouteIpTunnel::Id),
+            2 => read_ipv4(value, at(2)).map(RouteIpTunnel::Destination),
+            3 => read_ipv4(value, at(3)).map(RouteIpTunnel::Source),
+            4 => read_u8(value, at(4)).map(RouteIpTunnel::Ttl),
+            5 => read_u8(value, at(5)).map(RouteIpTunnel::Tos),
+            6 => read_u16_be(value, at(6)).map(|bits| RouteIpTunnel::Flags(
+                RouteIpTunnelFlags::from_bits_retain(bits),
+            )),
+            8 => parse_list(alloc, (), value, looks).map(RouteIpTunnel::Opts),
+            _ => DefaultNla::parse(alloc, item).map(RouteIpTunnel::Other),
+        }
+    }
+
+    fn try_clone(&self, alloc: Global) -> Result<Self, AllocError> {
+        self.clone(alloc)
+    }
+}
+
+impl<'a> Parseable<&'a NlaBuffer<'a>> for RouteIpTunnel {
+    ghost parses = { λ input a. members.Reads input.now (meaning_of a) };
+
+    ghost misparses = { λ input e. members.Faulty input.now e };
+
+    /// The member that the attribute is: `read`, with looks that nobody counts.
+    ///
+    /// # Errors
+    /// `OutOfMemory` where memory is refused, and else what is wrong with the value.
+    fn parse(alloc: Global, input: &'a NlaBuffer<'a>) -> Result<Self, DecodeError> {
+        RouteIpTunnel::read(alloc, (), input, &mut Looks::new())
+    }
+}

@@ -1,0 +1,216 @@
+//! Tunnels over IP version 6: `LWTUNNEL_IP6_*` of `linux/lwtunnel.h`.
+
+ghost use Rattle.std.specs.Prelude.{◌≡◌, ◌≢◌, ◌≤◌, ◌<◌, ◌+◌, ◌*◌, ℕ, List, Option, None, false, length, IfOk, IfErr};
+ghost use Rattle.std.proofs.Common.{refl};
+ghost use Rattle.npr_base.specs.Family.{checked};
+ghost use Rattle.npr_tunnel.specs.IpTunnel.{Meaning, meaning6_of, members6, place, short, unfit_inside};
+
+use crate::flags::RouteIp6TunnelFlags;
+use crate::tunnel_opts::RouteLwTunnelOpt;
+use bitflags::Flags;
+use npr_base::{
+    At, AttrFamily, Attribute, DecodeError, DefaultNla, EmitError, Ipv6Addr, Looks, NLA_F_NESTED,
+    Nla, NlaBuffer, Parseable, check_len, check_list, clone_list, parse_list, read_ipv6, read_u8,
+    read_u16_be, read_u64_be, write_bytes, write_list,
+};
+use std::alloc::{AllocError, Global};
+
+/// A member of a tunnel over IP version 6.
+#[derive(Debug, Default, Drop, PartialEq, Eq)]
+pub enum RouteIp6Tunnel {
+    /// `LWTUNNEL_IP6_UNSPEC`: its value is dropped.
+    #[default]
+    Unspecified,
+    /// `LWTUNNEL_IP6_ID`: the id of the tunnel, big endian.
+    Id(u64),
+    /// `LWTUNNEL_IP6_DST`: the address that it goes to.
+    Destination(Ipv6Addr),
+    /// `LWTUNNEL_IP6_SRC`: the address that it comes from.
+    Source(Ipv6Addr),
+    /// `LWTUNNEL_IP6_HOPLIMIT`: how many hops are left.
+    Hoplimit(u8),
+    /// `LWTUNNEL_IP6_TC`: the traffic class.
+    Tc(u8),
+    /// `LWTUNNEL_IP6_FLAGS`: the flags, big endian.
+    Flags(RouteIp6TunnelFlags),
+    /// `LWTUNNEL_IP6_OPTS`: the options, written with NESTED.
+    Opts(Vec<RouteLwTunnelOpt>),
+    /// A member of another number, as it stands.
+    Other(DefaultNla),
+}
+
+impl RouteIp6Tunnel {
+    /// An equal member.
+    ///
+    /// # Errors
+    /// `AllocError` where memory is refused.
+    pub fn clone(&self, alloc: Global) -> Result<Self, AllocError>
+        ensures { IfOk result (λ a. meaning6_of a ≡ meaning6_of self.now) }
+    {
+        Ok(match self {
+            RouteIp6Tunnel::Unspecified => RouteIp6Tunnel::Unspecified,
+            RouteIp6Tunnel::Id(n) => RouteIp6Tunnel::Id(*n),
+            RouteIp6Tunnel::Destination(a) => RouteIp6Tunnel::Destination(*a),
+            RouteIp6Tunnel::Source(a) => RouteIp6Tunnel::Source(*a),
+            RouteIp6Tunnel::Hoplimit(n) => RouteIp6Tunnel::Hoplimit(*n),
+            RouteIp6Tunnel::Tc(n) => RouteIp6Tunnel::Tc(*n),
+            RouteIp6Tunnel::Flags(flags) => RouteIp6Tunnel::Flags(*flags),
+            RouteIp6Tunnel::Opts(v) => RouteIp6Tunnel::Opts(clone_list(alloc, v.as_slice())?),
+            RouteIp6Tunnel::Other(nla) => RouteIp6Tunnel::Other(nla.clone(alloc)?),
+        })
+    }
+
+    /// The length of the value, or the first cause why the list inside has none.
+    fn len(&self) -> Result<usize, EmitError>
+        ensures { result ≡ checked (unfit_inside (meaning6_of self.now)) (length (place 16 (meaning6_of self.now)).bytes) }
+    {
+        Ok(match self {
+            RouteIp6Tunnel::Unspecified => 0,
+            RouteIp6Tunnel::Id(_) => 8,
+            RouteIp6Tunnel::Destination(a) | RouteIp6Tunnel::Source(a) => a.octets().len(),
+            RouteIp6Tunnel::Hoplimit(_) | RouteIp6Tunnel::Tc(_) => 1,
+            RouteIp6Tunnel::Flags(_) => 2,
+            RouteIp6Tunnel::Opts(v) => check_list(v.as_slice())?,
+            RouteIp6Tunnel::Other(nla) => nla.value().len(),
+        })
+    }
+}
+
+const fn at(kind: u16) -> At
+    ensures { result ≡ record { family = AttrFamily.Ip6; kind = kind } }
+{
+    At {
+        family: AttrFamily::Ip6,
+        kind,
+    }
+}
+
+impl Nla for RouteIp6Tunnel {
+    ghost item = { λ a. members6.writes (meaning6_of a) };
+
+    ghost nested = { λ _. false };
+
+    ghost unfit = { λ a. members6.misfit (meaning6_of a) };
+
+    ghost fits_short = { λ a h. short 16 (meaning6_of a) h };
+
+    fn kind(&self) -> u16 {
+        match self {
+            RouteIp6Tunnel::Unspecified => 0,
+            RouteIp6Tunnel::Id(_) => 1,
+            RouteIp6Tunnel::Destination(_) => 2,
+            RouteIp6Tunnel::Source(_) => 3,
+            RouteIp6Tunnel::Hoplimit(_) => 4,
+            RouteIp6Tunnel::Tc(_) => 5,
+            RouteIp6Tunnel::Flags(_) => 6,
+            RouteIp6Tunnel::Opts(_) => NLA_F_NESTED + 8,
+            RouteIp6Tunnel::Other(nla) => nla.kind(),
+        }
+    }
+
+    fn is_nested(&self) -> bool {
+        false
+    }
+
+    fn check(&self) -> Result<usize, EmitError> {
+        check_len(self.kind(), self.len()?)
+    }
+
+    fn value_len(&self) -> usize {
+        match self.len() {
+            Ok(len) => len,
+            Err(_) => unreachable!(),
+        }
+    }
+
+    fn write_value(&self, out: &mut [u8]) -> usize {
+        match self {
+            RouteIp6Tunnel::Unspecified => 0,
+            RouteIp6Tunnel::Id(n) => write_bytes(out, &n.to_be_bytes()),
+            RouteIp6Tunnel::Destination(a) | RouteIp6Tunnel::Source(a) => write_bytes(
+                out,
+                &a.octets(),
+            ),
+            RouteIp6Tunnel::Hoplimit(n) | RouteIp6Tunnel::Tc(n) => write_bytes(out, &[*n]),
+            RouteIp6Tunnel::Flags(flags) => write_bytes(out, &flags.bits().to_be_bytes()),
+            RouteIp6Tunnel::Opts(v) => write_list(v.as_slice(), out),
+            RouteIp6Tunnel::Other(nla) => write_bytes(out, nla.value()),
+        }
+    }
+}
+
+impl Attribute for RouteIp6Tunnel {
+    type Context = ();
+
+    ghost Meaning = { Meaning };
+
+    ghost meaning = { meaning6_of };
+
+    ghost writes = { members6.writes };
+
+    ghost misfit = { members6.misfit };
+
+    ghost reads = { λ _. members6.Reads };
+
+    ghost faulty = { λ _. members6.Faulty };
+
+    ghost coherent = { λ _. members6.Coherent };
+
+    ghost members = { members6.members };
+
+    ghost item_is = { λ a. refl };
+
+    ghost unfit_is = { λ a. refl };
+
+    ghost one_reading = { λ _. members6.one_reading };
+
+    ghost no_fault = { λ _. members6.no_fault };
+
+    ghost reads_coherent = { λ _. members6.reads_coherent };
+
+    ghost fits_small = { λ _. members6.fits_small };
+
+    ghost reads_back = { λ _. members6.reads_back };
+
+    ghost grows = { λ _. members6.grows };
+
+    fn read(
+        alloc: Global,
+        _context: (),
+        item: &NlaBuffer<'_>,
+        looks: &mut Looks,
+    ) -> Result<Self, DecodeError> {
+        let value = item.value();
+        match item.kind() {
+            0 => Ok(RouteIp6Tunnel::Unspecified),
+            1 => read_u64_be(value, at(1)).map(RouteIp6Tunnel::Id),
+            2 => read_ipv6(value, at(2)).map(RouteIp6Tunnel::Destination),
+            3 => read_ipv6(value, at(3)).map(RouteIp6Tunnel::Source),
+            4 => read_u8(value, at(4)).map(RouteIp6Tunnel::Hoplimit),
+            5 => read_u8(value, at(5)).map(RouteIp6Tunnel::Tc),
+            6 => read_u16_be(value, at(6)).map(|bits| RouteIp6Tunnel::Flags(
+                RouteIp6TunnelFlags::from_bits_retain(bits),
+            )),
+            8 => parse_list(alloc, (), value, looks).map(RouteIp6Tunnel::Opts),
+            _ => DefaultNla::parse(alloc, item).map(RouteIp6Tunnel::Other),
+        }
+    }
+
+    fn try_clone(&self, alloc: Global) -> Result<Self, AllocError> {
+        self.clone(alloc)
+    }
+}
+
+impl<'a> Parseable<&'a NlaBuffer<'a>> for RouteIp6Tunnel {
+    ghost parses = { λ input a. members6.Reads input.now (meaning6_of a) };
+
+    ghost misparses = { λ input e. members6.Faulty input.now e };
+
+    /// The member that the attribute is: `read`, with looks that nobody counts.
+    ///
+    /// # Errors
+    /// `OutOfMemory` where memory is refused, and else what is wrong with the value.
+    fn parse(alloc: Global, input: &'a NlaBuffer<'a>) -> Result<Self, DecodeError> {
+        RouteIp6Tunnel::read(alloc, (), input, &mut Looks::new())
+    }
+}

@@ -1,0 +1,163 @@
+//! The tunnel of MPLS: `MPLS_IPTUNNEL_*` of `linux/mpls_iptunnel.h`.
+
+ghost use Rattle.std.specs.Prelude.{◌≡◌, ◌≢◌, ◌≤◌, ◌<◌, ◌+◌, ◌*◌, ℕ, List, Option, None, false, length, IfOk, IfErr};
+ghost use Rattle.std.proofs.Common.{refl};
+ghost use Rattle.npr_base.specs.Family.{checked};
+ghost use Rattle.npr_tunnel.specs.MplsTunnel.{Meaning, meaning_of, members, short};
+
+use npr_base::{
+    At, AttrFamily, Attribute, DecodeError, DefaultNla, EmitError, Looks, Nla, NlaBuffer,
+    Parseable, check_len, read_u8, write_bytes,
+};
+use npr_scalar::{MplsLabel, labels_len, read_labels, write_labels};
+use std::alloc::{AllocError, Global};
+
+/// A member of the tunnel of MPLS.
+#[derive(Debug, Drop, PartialEq, Eq)]
+pub enum RouteMplsIpTunnel {
+    /// `MPLS_IPTUNNEL_DST`: the labels that are put on.
+    Destination(Vec<MplsLabel>),
+    /// `MPLS_IPTUNNEL_TTL`: how many hops are left.
+    Ttl(u8),
+    /// A member of another number, as it stands.
+    Other(DefaultNla),
+}
+
+impl RouteMplsIpTunnel {
+    /// An equal member.
+    ///
+    /// # Errors
+    /// `AllocError` where memory is refused.
+    pub fn clone(&self, alloc: Global) -> Result<Self, AllocError>
+        ensures { IfOk result (λ a. meaning_of a ≡ meaning_of self.now) }
+    {
+        match self {
+            RouteMplsIpTunnel::Destination(x) => Vec::from_slice(alloc, x.as_slice()).map(
+                RouteMplsIpTunnel::Destination,
+            ),
+            RouteMplsIpTunnel::Ttl(x) => Ok(RouteMplsIpTunnel::Ttl(*x)),
+            RouteMplsIpTunnel::Other(nla) => nla.clone(alloc).map(RouteMplsIpTunnel::Other),
+        }
+    }
+}
+
+const fn at(kind: u16) -> At
+    ensures { result ≡ record { family = AttrFamily.Mpls; kind = kind } }
+{
+    At {
+        family: AttrFamily::Mpls,
+        kind,
+    }
+}
+
+impl Nla for RouteMplsIpTunnel {
+    ghost item = { λ a. members.writes (meaning_of a) };
+
+    ghost nested = { λ _. false };
+
+    ghost unfit = { λ a. members.misfit (meaning_of a) };
+
+    ghost fits_short = { λ a h. short (meaning_of a) h };
+
+    fn kind(&self) -> u16 {
+        match self {
+            RouteMplsIpTunnel::Destination(_) => 1,
+            RouteMplsIpTunnel::Ttl(_) => 2,
+            RouteMplsIpTunnel::Other(nla) => nla.kind(),
+        }
+    }
+
+    fn is_nested(&self) -> bool {
+        false
+    }
+
+    fn check(&self) -> Result<usize, EmitError> {
+        check_len(self.kind(), self.value_len())
+    }
+
+    fn value_len(&self) -> usize
+        ensures { result ≡ length (members.writes (meaning_of self.now)).value }
+    {
+        match self {
+            RouteMplsIpTunnel::Destination(x) => labels_len(x.as_slice()),
+            RouteMplsIpTunnel::Ttl(_) => 1,
+            RouteMplsIpTunnel::Other(nla) => nla.value().len(),
+        }
+    }
+
+    fn write_value(&self, out: &mut [u8]) -> usize {
+        match self {
+            RouteMplsIpTunnel::Destination(x) => write_labels(out, x.as_slice()),
+            RouteMplsIpTunnel::Ttl(x) => write_bytes(out, &[*x]),
+            RouteMplsIpTunnel::Other(nla) => write_bytes(out, nla.value()),
+        }
+    }
+}
+
+impl Attribute for RouteMplsIpTunnel {
+    type Context = ();
+
+    ghost Meaning = { Meaning };
+
+    ghost meaning = { meaning_of };
+
+    ghost writes = { members.writes };
+
+    ghost misfit = { members.misfit };
+
+    ghost reads = { λ _. members.Reads };
+
+    ghost faulty = { λ _. members.Faulty };
+
+    ghost coherent = { λ _. members.Coherent };
+
+    ghost members = { members.members };
+
+    ghost item_is = { λ a. refl };
+
+    ghost unfit_is = { λ a. refl };
+
+    ghost one_reading = { λ _. members.one_reading };
+
+    ghost no_fault = { λ _. members.no_fault };
+
+    ghost reads_coherent = { λ _. members.reads_coherent };
+
+    ghost fits_small = { λ _. members.fits_small };
+
+    ghost reads_back = { λ _. members.reads_back };
+
+    ghost grows = { λ _. members.grows };
+
+    fn read(
+        alloc: Global,
+        _context: (),
+        item: &NlaBuffer<'_>,
+        _looks: &mut Looks,
+    ) -> Result<Self, DecodeError> {
+        let value = item.value();
+        match item.kind() {
+            1 => read_labels(alloc, value).map(RouteMplsIpTunnel::Destination),
+            2 => read_u8(value, at(2)).map(RouteMplsIpTunnel::Ttl),
+            _ => DefaultNla::parse(alloc, item).map(RouteMplsIpTunnel::Other),
+        }
+    }
+
+    fn try_clone(&self, alloc: Global) -> Result<Self, AllocError> {
+        self.clone(alloc)
+    }
+}
+
+impl<'a> Parseable<&'a NlaBuffer<'a>> for RouteMplsIpTunnel {
+    ghost parses = { λ input a. members.Reads input.now (meaning_of a) };
+
+    ghost misparses = { λ input e. members.Faulty input.now e };
+
+    /// The member that the attribute is: `read`, with looks that nobody counts.
+    ///
+    /// # Errors
+    /// `OutOfMemory` where memory is refused, and else what is wrong with the value.
+    fn parse(alloc: Global, input: &'a NlaBuffer<'a>) -> Result<Self, DecodeError> {
+        RouteMplsIpTunnel::read(alloc, (), input, &mut Looks::new())
+    }
+}

@@ -1,0 +1,175 @@
+//! Options of tunnels over IP: `LWTUNNEL_IP_OPTS_*` of `linux/lwtunnel.h`.
+
+ghost use Rattle.std.specs.Prelude.{◌≡◌, ◌≢◌, ◌≤◌, ◌<◌, ◌+◌, ◌*◌, ℕ, List, Option, None, false, length, IfOk, IfErr};
+ghost use Rattle.std.proofs.Common.{refl};
+ghost use Rattle.npr_base.specs.Family.{checked};
+ghost use Rattle.npr_tunnel.specs.TunnelOptions.{Meaning, meaning_of, members, place, short, unfit_inside};
+
+use crate::erspan::RouteErspanOpt;
+use crate::geneve::{RouteGeneveOpt, check_options, clone_options, read_options, write_options};
+use crate::vxlan::RouteVxlanOpt;
+use npr_base::{
+    Attribute, DecodeError, DefaultNla, EmitError, Looks, NLA_F_NESTED, Nla, NlaBuffer, Parseable,
+    check_len, check_list, clone_list, parse_list, write_bytes, write_list,
+};
+use std::alloc::{AllocError, Global};
+
+/// An option of a tunnel over IP. Each is written with NESTED.
+#[derive(Debug, Drop, PartialEq, Eq)]
+pub enum RouteLwTunnelOpt {
+    /// `LWTUNNEL_IP_OPTS_GENEVE`: options of Geneve.
+    Geneve(Vec<RouteGeneveOpt>),
+    /// `LWTUNNEL_IP_OPTS_VXLAN`: options of VXLAN.
+    Vxlan(Vec<RouteVxlanOpt>),
+    /// `LWTUNNEL_IP_OPTS_ERSPAN`: options of ERSPAN.
+    Erspan(Vec<RouteErspanOpt>),
+    /// An option of another number, as it stands.
+    Other(DefaultNla),
+}
+
+impl RouteLwTunnelOpt {
+    /// An equal option.
+    ///
+    /// # Errors
+    /// `AllocError` where memory is refused.
+    pub fn clone(&self, alloc: Global) -> Result<Self, AllocError>
+        ensures { IfOk result (λ a. meaning_of a ≡ meaning_of self.now) }
+    {
+        Ok(match self {
+            RouteLwTunnelOpt::Geneve(v) => RouteLwTunnelOpt::Geneve(clone_options(
+                alloc,
+                v.as_slice(),
+            )?),
+            RouteLwTunnelOpt::Vxlan(v) => RouteLwTunnelOpt::Vxlan(clone_list(alloc, v.as_slice())?),
+            RouteLwTunnelOpt::Erspan(v) => RouteLwTunnelOpt::Erspan(clone_list(
+                alloc,
+                v.as_slice(),
+            )?),
+            RouteLwTunnelOpt::Other(nla) => RouteLwTunnelOpt::Other(nla.clone(alloc)?),
+        })
+    }
+
+    /// The length of the value, or the first cause why the list inside has none.
+    fn len(&self) -> Result<usize, EmitError>
+        ensures { result ≡ checked (unfit_inside (meaning_of self.now)) (length (place (meaning_of self.now)).bytes) }
+    {
+        Ok(match self {
+            RouteLwTunnelOpt::Geneve(v) => check_options(v.as_slice())?,
+            RouteLwTunnelOpt::Vxlan(v) => check_list(v.as_slice())?,
+            RouteLwTunnelOpt::Erspan(v) => check_list(v.as_slice())?,
+            RouteLwTunnelOpt::Other(nla) => nla.value().len(),
+        })
+    }
+}
+
+impl Nla for RouteLwTunnelOpt {
+    ghost item = { λ a. members.writes (meaning_of a) };
+
+    ghost nested = { λ _. false };
+
+    ghost unfit = { λ a. members.misfit (meaning_of a) };
+
+    ghost fits_short = { λ a h. short (meaning_of a) h };
+
+    fn kind(&self) -> u16 {
+        match self {
+            RouteLwTunnelOpt::Geneve(_) => NLA_F_NESTED + 1,
+            RouteLwTunnelOpt::Vxlan(_) => NLA_F_NESTED + 2,
+            RouteLwTunnelOpt::Erspan(_) => NLA_F_NESTED + 3,
+            RouteLwTunnelOpt::Other(nla) => nla.kind(),
+        }
+    }
+
+    fn is_nested(&self) -> bool {
+        false
+    }
+
+    fn check(&self) -> Result<usize, EmitError> {
+        check_len(self.kind(), self.len()?)
+    }
+
+    fn value_len(&self) -> usize {
+        match self.len() {
+            Ok(len) => len,
+            Err(_) => unreachable!(),
+        }
+    }
+
+    fn write_value(&self, out: &mut [u8]) -> usize {
+        match self {
+            RouteLwTunnelOpt::Geneve(v) => write_options(v.as_slice(), out),
+            RouteLwTunnelOpt::Vxlan(v) => write_list(v.as_slice(), out),
+            RouteLwTunnelOpt::Erspan(v) => write_list(v.as_slice(), out),
+            RouteLwTunnelOpt::Other(nla) => write_bytes(out, nla.value()),
+        }
+    }
+}
+
+impl Attribute for RouteLwTunnelOpt {
+    type Context = ();
+
+    ghost Meaning = { Meaning };
+
+    ghost meaning = { meaning_of };
+
+    ghost writes = { members.writes };
+
+    ghost misfit = { members.misfit };
+
+    ghost reads = { λ _. members.Reads };
+
+    ghost faulty = { λ _. members.Faulty };
+
+    ghost coherent = { λ _. members.Coherent };
+
+    ghost members = { members.members };
+
+    ghost item_is = { λ a. refl };
+
+    ghost unfit_is = { λ a. refl };
+
+    ghost one_reading = { λ _. members.one_reading };
+
+    ghost no_fault = { λ _. members.no_fault };
+
+    ghost reads_coherent = { λ _. members.reads_coherent };
+
+    ghost fits_small = { λ _. members.fits_small };
+
+    ghost reads_back = { λ _. members.reads_back };
+
+    ghost grows = { λ _. members.grows };
+
+    fn read(
+        alloc: Global,
+        _context: (),
+        item: &NlaBuffer<'_>,
+        looks: &mut Looks,
+    ) -> Result<Self, DecodeError> {
+        let value = item.value();
+        match item.kind() {
+            1 => read_options(alloc, value, looks).map(RouteLwTunnelOpt::Geneve),
+            2 => parse_list(alloc, (), value, looks).map(RouteLwTunnelOpt::Vxlan),
+            3 => parse_list(alloc, (), value, looks).map(RouteLwTunnelOpt::Erspan),
+            _ => DefaultNla::parse(alloc, item).map(RouteLwTunnelOpt::Other),
+        }
+    }
+
+    fn try_clone(&self, alloc: Global) -> Result<Self, AllocError> {
+        self.clone(alloc)
+    }
+}
+
+impl<'a> Parseable<&'a NlaBuffer<'a>> for RouteLwTunnelOpt {
+    ghost parses = { λ input a. members.Reads input.now (meaning_of a) };
+
+    ghost misparses = { λ input e. members.Faulty input.now e };
+
+    /// The option that the attribute is: `read`, with looks that nobody counts.
+    ///
+    /// # Errors
+    /// `OutOfMemory` where memory is refused, and else what is wrong with the value.
+    fn parse(alloc: Global, input: &'a NlaBuffer<'a>) -> Result<Self, DecodeError> {
+        RouteLwTunnelOpt::read(alloc, (), input, &mut Looks::new())
+    }
+}

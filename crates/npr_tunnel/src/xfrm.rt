@@ -1,0 +1,169 @@
+//! The tunnel of an IPsec interface: `LWT_XFRM_*` of `linux/lwtunnel.h`.
+
+ghost use Rattle.std.specs.Prelude.{◌≡◌, ◌≢◌, ◌≤◌, ◌<◌, ◌+◌, ◌*◌, ℕ, List, Option, None, false, length, IfOk, IfErr};
+ghost use Rattle.std.proofs.Common.{refl};
+ghost use Rattle.npr_base.specs.Family.{checked};
+ghost use Rattle.npr_tunnel.specs.XfrmTunnel.{Meaning, meaning_of, members, short};
+
+use npr_base::{
+    At, AttrFamily, Attribute, DecodeError, DefaultNla, EmitError, Looks, Nla, NlaBuffer,
+    Parseable, check_len, read_u32, write_bytes,
+};
+use std::alloc::{AllocError, Global};
+
+/// A member of the tunnel of an IPsec interface.
+#[derive(Debug, Default, Drop, PartialEq, Eq)]
+pub enum RouteXfrmTunnel {
+    /// `LWT_XFRM_UNSPEC`: its value is dropped.
+    #[default]
+    Unspecified,
+    /// `LWT_XFRM_IF_ID`: the id of the interface.
+    IfId(u32),
+    /// `LWT_XFRM_LINK`: the index of the interface under it.
+    Link(u32),
+    /// A member of another number, as it stands.
+    Other(DefaultNla),
+}
+
+impl RouteXfrmTunnel {
+    /// An equal member.
+    ///
+    /// # Errors
+    /// `AllocError` where memory is refused.
+    pub fn clone(&self, alloc: Global) -> Result<Self, AllocError>
+        ensures { IfOk result (λ a. meaning_of a ≡ meaning_of self.now) }
+    {
+        match self {
+            RouteXfrmTunnel::Unspecified => Ok(RouteXfrmTunnel::Unspecified),
+            RouteXfrmTunnel::IfId(x) => Ok(RouteXfrmTunnel::IfId(*x)),
+            RouteXfrmTunnel::Link(x) => Ok(RouteXfrmTunnel::Link(*x)),
+            RouteXfrmTunnel::Other(nla) => nla.clone(alloc).map(RouteXfrmTunnel::Other),
+        }
+    }
+}
+
+const fn at(kind: u16) -> At
+    ensures { result ≡ record { family = AttrFamily.Xfrm; kind = kind } }
+{
+    At {
+        family: AttrFamily::Xfrm,
+        kind,
+    }
+}
+
+impl Nla for RouteXfrmTunnel {
+    ghost item = { λ a. members.writes (meaning_of a) };
+
+    ghost nested = { λ _. false };
+
+    ghost unfit = { λ a. members.misfit (meaning_of a) };
+
+    ghost fits_short = { λ a h. short (meaning_of a) h };
+
+    fn kind(&self) -> u16 {
+        match self {
+            RouteXfrmTunnel::Unspecified => 0,
+            RouteXfrmTunnel::IfId(_) => 1,
+            RouteXfrmTunnel::Link(_) => 2,
+            RouteXfrmTunnel::Other(nla) => nla.kind(),
+        }
+    }
+
+    fn is_nested(&self) -> bool {
+        false
+    }
+
+    fn check(&self) -> Result<usize, EmitError> {
+        check_len(self.kind(), self.value_len())
+    }
+
+    fn value_len(&self) -> usize
+        ensures { result ≡ length (members.writes (meaning_of self.now)).value }
+    {
+        match self {
+            RouteXfrmTunnel::Unspecified => 0,
+            RouteXfrmTunnel::IfId(_) | RouteXfrmTunnel::Link(_) => 4,
+            RouteXfrmTunnel::Other(nla) => nla.value().len(),
+        }
+    }
+
+    fn write_value(&self, out: &mut [u8]) -> usize {
+        match self {
+            RouteXfrmTunnel::Unspecified => 0,
+            RouteXfrmTunnel::IfId(x) | RouteXfrmTunnel::Link(x) => write_bytes(
+                out,
+                &x.to_le_bytes(),
+            ),
+            RouteXfrmTunnel::Other(nla) => write_bytes(out, nla.value()),
+        }
+    }
+}
+
+impl Attribute for RouteXfrmTunnel {
+    type Context = ();
+
+    ghost Meaning = { Meaning };
+
+    ghost meaning = { meaning_of };
+
+    ghost writes = { members.writes };
+
+    ghost misfit = { members.misfit };
+
+    ghost reads = { λ _. members.Reads };
+
+    ghost faulty = { λ _. members.Faulty };
+
+    ghost coherent = { λ _. members.Coherent };
+
+    ghost members = { members.members };
+
+    ghost item_is = { λ a. refl };
+
+    ghost unfit_is = { λ a. refl };
+
+    ghost one_reading = { λ _. members.one_reading };
+
+    ghost no_fault = { λ _. members.no_fault };
+
+    ghost reads_coherent = { λ _. members.reads_coherent };
+
+    ghost fits_small = { λ _. members.fits_small };
+
+    ghost reads_back = { λ _. members.reads_back };
+
+    ghost grows = { λ _. members.grows };
+
+    fn read(
+        alloc: Global,
+        _context: (),
+        item: &NlaBuffer<'_>,
+        _looks: &mut Looks,
+    ) -> Result<Self, DecodeError> {
+        let value = item.value();
+        match item.kind() {
+            0 => Ok(RouteXfrmTunnel::Unspecified),
+            1 => read_u32(value, at(1)).map(RouteXfrmTunnel::IfId),
+            2 => read_u32(value, at(2)).map(RouteXfrmTunnel::Link),
+            _ => DefaultNla::parse(alloc, item).map(RouteXfrmTunnel::Other),
+        }
+    }
+
+    fn try_clone(&self, alloc: Global) -> Result<Self, AllocError> {
+        self.clone(alloc)
+    }
+}
+
+impl<'a> Parseable<&'a NlaBuffer<'a>> for RouteXfrmTunnel {
+    ghost parses = { λ input a. members.Reads input.now (meaning_of a) };
+
+    ghost misparses = { λ input e. members.Faulty input.now e };
+
+    /// The member that the attribute is: `read`, with looks that nobody counts.
+    ///
+    /// # Errors
+    /// `OutOfMemory` where memory is refused, and else what is wrong with the value.
+    fn parse(alloc: Global, input: &'a NlaBuffer<'a>) -> Result<Self, DecodeError> {
+        RouteXfrmTunnel::read(alloc, (), input, &mut Looks::new())
+    }
+}
