@@ -19,3 +19,4 @@ pub mod RouteFlags
 pub mod RouteAddress
 pub mod RouteVia
 pub mod ViaBuffer
+pub mod EqualityLaws
