@@ -13,6 +13,8 @@ mod mpls;
 mod preference;
 mod realm;
 #[cfg(test)]
+mod route_tests;
+#[cfg(test)]
 mod tests;
 mod via;
 
