@@ -13,6 +13,8 @@ mod mpls;
 mod preference;
 mod realm;
 #[cfg(test)]
+mod route_tests;
+#[cfg(test)]
 mod tests;
 mod via;
 
@@ -25,7 +27,7 @@ pub use header::{
     law_route_type_number,
 };
 pub use ip_protocol::{IpProtocol, law_ip_protocol_number};
-pub use layouts::law_layouts;
+pub use layouts::{law_layouts, law_read_back};
 pub use mfc_stats::{RouteMfcStats, RouteMfcStatsBuffer};
 pub use mpls::{
     MplsLabel, emit_labels, labels_len, law_label_number, law_labels_length, read_labels,

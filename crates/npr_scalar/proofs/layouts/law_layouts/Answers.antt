@@ -3,6 +3,9 @@ use Rattle.npr_scalar.specs.RouteScopeLaws.{route_scope}
 use Rattle.npr_scalar.specs.RouteTypeLaws.{route_type}
 use Rattle.npr_scalar.specs.RoutePreferenceLaws.{route_preference}
 use Rattle.npr_scalar.specs.TtlPropagationLaws.{ttl_propagation}
+use Rattle.npr_scalar.specs.RouteFlags.{route_flags, next_hop_flags}
+use Rattle.npr_scalar.specs.RouteCacheInfo.{route_cache_info}
+use Rattle.npr_scalar.specs.RouteMfcStats.{route_mfc_stats}
 use Rattle.npr_scalar.proofs.layouts.law_layouts.Goals as goal
 
 pub returns-clause-ip_protocol : goal.returns-clause-ip_protocol
@@ -19,3 +22,15 @@ returns-clause-route_preference c = route_preference.decode-encode
 
 pub returns-clause-ttl_propagation : goal.returns-clause-ttl_propagation
 returns-clause-ttl_propagation c = ttl_propagation.decode-encode
+
+pub returns-clause-route_flags : goal.returns-clause-route_flags
+returns-clause-route_flags c = route_flags.decode-encode
+
+pub returns-clause-next_hop_flags : goal.returns-clause-next_hop_flags
+returns-clause-next_hop_flags c = next_hop_flags.decode-encode
+
+pub returns-clause-cache_info : goal.returns-clause-cache_info
+returns-clause-cache_info c = route_cache_info.decode-encode
+
+pub returns-clause-mfc_stats : goal.returns-clause-mfc_stats
+returns-clause-mfc_stats c = route_mfc_stats.decode-encode
