@@ -6,6 +6,7 @@ ghost use Rattle.conformance.specs.Word.{word_name};
 
 use npr_address::AddressMessage;
 use npr_base::{DecodeError, Emitable, Parseable};
+use npr_route::RouteMessage;
 use npr_rule::RuleMessage;
 use std::alloc::{AllocError, Global};
 
@@ -14,6 +15,8 @@ use std::alloc::{AllocError, Global};
 pub enum Word {
     /// Address messages.
     Address,
+    /// Route messages.
+    Route,
     /// Rule messages.
     Rule,
 }
@@ -26,6 +29,7 @@ impl Word {
     {
         match name {
             "address" => Some(Word::Address),
+            "route" => Some(Word::Route),
             "rule" => Some(Word::Rule),
             _ => None,
         }
@@ -37,6 +41,7 @@ impl Word {
 pub fn answer(alloc: Global, word: Word, bytes: &[u8]) -> Result<String, AllocError> {
     match word {
         Word::Address => written(alloc, AddressMessage::parse(alloc, bytes)),
+        Word::Route => written(alloc, RouteMessage::parse(alloc, bytes)),
         Word::Rule => written(alloc, RuleMessage::parse(alloc, bytes)),
     }
 }

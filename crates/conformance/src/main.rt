@@ -12,7 +12,7 @@ use comparison::Comparison;
 use std::process::ExitCode;
 use std::{env, fmt, io};
 
-const USAGE: &str = "usage: conformance address|rule FILE.. [address|rule FILE..]";
+const USAGE: &str = "usage: conformance address|route|rule FILE.. [address|route|rule FILE..]";
 
 fn main(rt: HostRuntime) -> ExitCode {
     let words = match arguments(&rt) {

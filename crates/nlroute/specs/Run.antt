@@ -6,19 +6,24 @@ use Rattle.npr_base.specs.declared.refusal.DecodeError.TheVariants.{OutOfMemory}
 use Rattle.npr_base.specs.declared.refusal.EmitError.{EmitError}
 use Rattle.npr_address.specs.Attribute.{attributes as address_attributes}
 use Rattle.npr_address.specs.Message.{Address as AddressMeaning, IsAddressMessage, AddressFault, address_bytes, address_misfit}
+use Rattle.npr_route.specs.AttributeLaws.{writes as route_writes}
+use Rattle.npr_route.specs.Message.{Route as RouteMeaning, IsRouteMessage, RouteFault, route_bytes, route_misfit}
 use Rattle.npr_rule.specs.Attribute.{attributes as rule_attributes}
 use Rattle.npr_rule.specs.Message.{Rule as RuleMeaning, IsRuleMessage, RuleFault, rule_bytes, rule_misfit}
 use Rattle.nlroute.specs.HexText.{IsHexText}
 use Rattle.nlroute.specs.Report.{report}
 use Rattle.nlroute.specs.Which.{which_name}
 use Rattle.nlroute.specs.declared.which.Which.{Which}
-use Rattle.nlroute.specs.declared.which.Which.TheVariants.{Address, Rule}
+use Rattle.nlroute.specs.declared.which.Which.TheVariants.{Address, Route, Rule}
 
 -- the bytes are a message that can be written, and the text is the report on it
 abbrev pub IsReport : Which → List ℕ → List ℕ → Type 0
 IsReport Address bytes text =
     (m : AddressMeaning) × IsAddressMessage bytes m × (address_misfit m ≡ None)
     × (text ≡ report (which_name Address) (length bytes) (map address_attributes.writes m.attributes) (address_bytes m))
+IsReport Route bytes text =
+    (m : RouteMeaning) × IsRouteMessage bytes m × (route_misfit m ≡ None)
+    × (text ≡ report (which_name Route) (length bytes) (map route_writes m.attributes) (route_bytes m))
 IsReport Rule bytes text =
     (m : RuleMeaning) × IsRuleMessage bytes m × (rule_misfit m ≡ None)
     × (text ≡ report (which_name Rule) (length bytes) (map rule_attributes.writes m.attributes) (rule_bytes m))
@@ -26,11 +31,13 @@ IsReport Rule bytes text =
 -- the bytes are no message, and this is their first fault
 abbrev pub IsRefused : Which → List ℕ → DecodeError → Type 0
 IsRefused Address bytes e = (e ≢ OutOfMemory) × AddressFault bytes e
+IsRefused Route bytes e = (e ≢ OutOfMemory) × RouteFault bytes e
 IsRefused Rule bytes e = (e ≢ OutOfMemory) × RuleFault bytes e
 
 -- the bytes are a message that can't be written, and this is the first cause
 abbrev pub IsUnfit : Which → List ℕ → EmitError → Type 0
 IsUnfit Address bytes e = (m : AddressMeaning) × IsAddressMessage bytes m × (address_misfit m ≡ Some e)
+IsUnfit Route bytes e = (m : RouteMeaning) × IsRouteMessage bytes m × (route_misfit m ≡ Some e)
 IsUnfit Rule bytes e = (m : RuleMeaning) × IsRuleMessage bytes m × (rule_misfit m ≡ Some e)
 
 -- the text that was left to read stands for bytes of which this holds

@@ -4,6 +4,7 @@ ghost use Rattle.std.specs.Prelude.{◌≡◌, ◌≢◌, ◌⊎◌, None, Some,
 ghost use Rattle.std.specs.Io.KnownBytes.{Keeps};
 ghost use Rattle.npr_base.specs.Family.{first_unfit};
 ghost use Rattle.npr_base.specs.declared.refusal.DecodeError.{DecodeError};
+ghost use Rattle.npr_base.specs.declared.refusal.DecodeError.TheVariants.{OutOfMemory};
 ghost use Rattle.npr_base.specs.declared.refusal.EmitError.{EmitError};
 ghost use Rattle.nlroute.specs.Counted.{raised};
 ghost use Rattle.nlroute.specs.Error.{IsOfMessage};
@@ -22,6 +23,7 @@ use crate::report::whole;
 use crate::which::Which;
 use npr_address::AddressMessage;
 use npr_base::{Attribute, Emitable, Parseable};
+use npr_route::RouteMessage;
 use npr_rule::RuleMessage;
 use std::alloc::Global;
 use std::io::{Read, Write};
@@ -61,31 +63,28 @@ fn answer(alloc: Global, which: Which, bytes: &[u8]) -> Result<String, RunError>
     ensures errors { IfErr result IsOfMessage }
 {
     match which {
-        Which::Address => address_answer(alloc, bytes),
-        Which::Rule => rule_answer(alloc, bytes),
+        Which::Address => {
+            let message: AddressMessage = parsed(alloc, bytes)?;
+            written(alloc, which, bytes, &message, message.attributes.as_slice())
+        }
+        Which::Route => {
+            let message: RouteMessage = parsed(alloc, bytes)?;
+            written(alloc, which, bytes, &message, message.attributes.as_slice())
+        }
+        Which::Rule => {
+            let message: RuleMessage = parsed(alloc, bytes)?;
+            written(alloc, which, bytes, &message, message.attributes.as_slice())
+        }
     }
 }
 
-fn address_answer(alloc: Global, bytes: &[u8]) -> Result<String, RunError>
-    ensures ok { IfOk result (λ text. IsReport Which.Address bytes.now (string_bytes text)) }
-    ensures refused { (e : DecodeError) → result ≡ Err (Refused e) → IsRefused Which.Address bytes.now e }
-    ensures unfit { (e : EmitError) → result ≡ Err (Unfit e) → IsUnfit Which.Address bytes.now e }
-    ensures errors { IfErr result IsOfMessage }
+/// The message that the bytes are.
+fn parsed<'a, M: Parseable<&'a [u8]>>(alloc: Global, bytes: &'a [u8]) -> Result<M, RunError>
+    ensures ok { IfOk result (λ m. M.parses bytes.entry m) }
+    ensures refused { (e : DecodeError) → result ≡ Err (Refused e) → (e ≢ OutOfMemory) × M.misparses bytes.entry e }
+    ensures errors { IfErr result (λ e. (e ≡ Memory) ⊎ ((fault : DecodeError) × (e ≡ Refused fault))) }
 {
-    let message = AddressMessage::parse(alloc, bytes)?;
-    let attributes = message.attributes.as_slice();
-    written(alloc, Which::Address, bytes, &message, attributes)
-}
-
-fn rule_answer(alloc: Global, bytes: &[u8]) -> Result<String, RunError>
-    ensures ok { IfOk result (λ text. IsReport Which.Rule bytes.now (string_bytes text)) }
-    ensures refused { (e : DecodeError) → result ≡ Err (Refused e) → IsRefused Which.Rule bytes.now e }
-    ensures unfit { (e : EmitError) → result ≡ Err (Unfit e) → IsUnfit Which.Rule bytes.now e }
-    ensures errors { IfErr result IsOfMessage }
-{
-    let message = RuleMessage::parse(alloc, bytes)?;
-    let attributes = message.attributes.as_slice();
-    written(alloc, Which::Rule, bytes, &message, attributes)
+    Ok(M::parse(alloc, bytes)?)
 }
 
 /// The report on a message that was read from these bytes.

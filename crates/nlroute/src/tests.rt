@@ -46,6 +46,7 @@ fn which_of(alloc: Global, words: &[&str]) -> Result<Option<Which>, AllocError> 
 fn one_known_word_is_wanted(rt: HostRuntime) -> Result<(), Fail> {
     let alloc = rt.alloc();
     assert_eq!(rt; which_of(alloc, &["address"])?, Some(Which::Address));
+    assert_eq!(rt; which_of(alloc, &["route"])?, Some(Which::Route));
     assert_eq!(rt; which_of(alloc, &["rule"])?, Some(Which::Rule));
     assert_eq!(rt; which_of(alloc, &[])?, None);
     assert_eq!(rt; which_of(alloc, &["Address"])?, None);
@@ -212,6 +213,25 @@ fn reports_over_memory(rt: HostRuntime) -> Result<(), Fail> {
 }
 
 #[test]
+fn reports_a_route(rt: HostRuntime) -> Result<(), Fail> {
+    let mut reader = Counted::new(b"02000000fe03000100000000080063c0deadbeef".as_slice());
+    let mut writer = Counted::new(Vec::new(rt.alloc()));
+    run(rt.alloc(), Which::Route, &mut reader, &mut writer)?;
+    let report =
+        b"route: 20 bytes, 1 attributes\nkind 49251 length 4\ncanonical 20 bytes\n02000000fe03000100000000080063c0deadbeef\n";
+    assert_eq!(rt; writer.into_inner().as_slice(), report.as_slice());
+
+    // The last padding is not there, and is written.
+    let mut reader = Counted::new(b"02000000fe03000100000000 0500140001".as_slice());
+    let mut writer = Counted::new(Vec::new(rt.alloc()));
+    run(rt.alloc(), Which::Route, &mut reader, &mut writer)?;
+    let report =
+        b"route: 17 bytes, 1 attributes\nkind 20 length 1\ncanonical 20 bytes\n02000000fe030001000000000500140001000000\n";
+    assert_eq!(rt; writer.into_inner().as_slice(), report.as_slice());
+    Ok(())
+}
+
+#[test]
 fn reports_a_rule(rt: HostRuntime) -> Result<(), Fail> {
     let mut reader = Counted::new(b"02000000fe00000100000000 0800030065746830".as_slice());
     let mut writer = Counted::new(Vec::new(rt.alloc()));
@@ -286,6 +306,15 @@ fn writes_nothing_after_a_fault(rt: HostRuntime) -> Result<(), Fail> {
     }
     assert_eq!(rt; ending(&rt, Which::Rule, text.as_slice()), Err(long));
     Ok(())
+}
+
+#[test]
+fn refuses_a_route(rt: HostRuntime) {
+    let short = RunError::Refused(DecodeError::HeaderTooShort { got: 0, want: 12 });
+    assert_eq!(rt; ending(&rt, Which::Route, b""), Err(short));
+    let via = RunError::Refused(DecodeError::ViaFamily(258));
+    let text = b"02000000fe03000100000000 0a00120002010a0000010000";
+    assert_eq!(rt; ending(&rt, Which::Route, text), Err(via));
 }
 
 #[test]

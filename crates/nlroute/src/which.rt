@@ -12,6 +12,8 @@ pub const USAGE: &str = "usage: nlroute address|route|rule";
 pub enum Which {
     /// An address.
     Address,
+    /// A route.
+    Route,
     /// A rule.
     Rule,
 }
@@ -25,6 +27,7 @@ impl Which {
         match words {
             [word] => match word.as_str() {
                 "address" => Some(Which::Address),
+                "route" => Some(Which::Route),
                 "rule" => Some(Which::Rule),
                 _ => None,
             },
@@ -38,6 +41,7 @@ impl Which {
     {
         match self {
             Which::Address => "address",
+            Which::Route => "route",
             Which::Rule => "rule",
         }
     }
