@@ -10,3 +10,4 @@ pub mod TunnelOptions
 pub mod IpTunnel
 pub mod Wrapped
 pub mod Encapsulation
+pub mod EqualityLaws

@@ -23,7 +23,7 @@ pub use flags::{RouteIp6TunnelFlags, RouteIpTunnelFlags};
 pub use geneve::RouteGeneveOpt;
 pub use ip::RouteIpTunnel;
 pub use ip6::RouteIp6Tunnel;
-pub use laws::{law_encap_type_number, law_equality};
+pub use laws::{law_default, law_encap_type_number, law_equality};
 pub use mpls::RouteMplsIpTunnel;
 pub use tunnel_opts::RouteLwTunnelOpt;
 pub use vxlan::RouteVxlanOpt;

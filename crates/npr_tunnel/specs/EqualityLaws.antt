@@ -1,0 +1,207 @@
+-- What `==` answers of tunnels and their options: whether they mean the same.
+use Rattle.std.specs.Prelude.{◌≡◌, ℕ, map}
+use Rattle.std.specs.Cmp.{unsigned_Decides}
+use Rattle.std.proofs.Common.{refl, rules, ap}
+use Rattle.npr_base.specs.Equality.{IsEquality, IsEqualityOf}
+use Rattle.npr_base.specs.ItemEquality.{item_equality}
+use Rattle.npr_base.specs.MeaningLaws.{enum_meaning, ◌also◌, one_meaning, items_equality, items_meaning}
+use Rattle.npr_base.specs.StructLaws.{and_decides, decides_as}
+use Rattle.npr_base.specs.contracts.ip.Ipv4AddrPartialEq.TheImpl as V4Eq
+use Rattle.npr_base.specs.contracts.ip.Ipv6AddrPartialEq.TheImpl as V6Eq
+use Rattle.npr_scalar.specs.contracts.mpls.MplsLabelPartialEq.TheImpl as LabelEq
+use Rattle.npr_srh.specs.EqualityLaws.{seg6_equality, local_equality, rpl_equality, ioam6_equality}
+use Rattle.npr_srh.specs.Ioam6Tunnel as OfIoam6
+use Rattle.npr_srh.specs.RplTunnel as OfRpl
+use Rattle.npr_srh.specs.Seg6LocalTunnel as OfLocal
+use Rattle.npr_srh.specs.Seg6Tunnel as OfSeg6
+use Rattle.npr_tunnel.specs.Geneve.{Geneve, option_of}
+use Rattle.npr_tunnel.specs.contracts.flags.RouteIp6TunnelFlagsPartialEq.TheImpl as Ip6FlagsEq
+use Rattle.npr_tunnel.specs.contracts.flags.RouteIpTunnelFlagsPartialEq.TheImpl as IpFlagsEq
+use Rattle.npr_tunnel.specs.contracts.geneve.RouteGeneveOptPartialEq.TheImpl as GeneveEq
+use Rattle.npr_tunnel.specs.declared.flags.RouteIp6TunnelFlags.{RouteIp6TunnelFlags}
+use Rattle.npr_tunnel.specs.declared.flags.RouteIpTunnelFlags.{RouteIpTunnelFlags}
+use Rattle.npr_tunnel.specs.XfrmTunnel as OfXfrm
+use Rattle.npr_tunnel.specs.MplsTunnel as OfMpls
+use Rattle.npr_tunnel.specs.VxlanOptions as OfVxlan
+use Rattle.npr_tunnel.specs.ErspanOptions as OfErspan
+use Rattle.npr_tunnel.specs.TunnelOptions as OfOption
+use Rattle.npr_tunnel.specs.IpTunnel as OfIp
+use Rattle.npr_tunnel.specs.Encapsulation as OfEncap
+use Rattle.npr_tunnel.specs.contracts.xfrm.RouteXfrmTunnel.{enum as xfrm_enum}
+use Rattle.npr_tunnel.specs.contracts.xfrm.RouteXfrmTunnelPartialEq.TheImpl as XfrmEq
+use Rattle.npr_tunnel.specs.contracts.mpls.RouteMplsIpTunnel.{enum as mpls_enum}
+use Rattle.npr_tunnel.specs.contracts.mpls.RouteMplsIpTunnelPartialEq.TheImpl as MplsEq
+use Rattle.npr_tunnel.specs.contracts.vxlan.RouteVxlanOpt.{enum as vxlan_enum}
+use Rattle.npr_tunnel.specs.contracts.vxlan.RouteVxlanOptPartialEq.TheImpl as VxlanEq
+use Rattle.npr_tunnel.specs.contracts.erspan.RouteErspanOpt.{enum as erspan_enum}
+use Rattle.npr_tunnel.specs.contracts.erspan.RouteErspanOptPartialEq.TheImpl as ErspanEq
+use Rattle.npr_tunnel.specs.contracts.tunnel_opts.RouteLwTunnelOpt.{enum as tunnel_option_enum}
+use Rattle.npr_tunnel.specs.contracts.tunnel_opts.RouteLwTunnelOptPartialEq.TheImpl as TunnelOptionEq
+use Rattle.npr_tunnel.specs.contracts.ip.RouteIpTunnel.{enum as ip_enum}
+use Rattle.npr_tunnel.specs.contracts.ip.RouteIpTunnelPartialEq.TheImpl as IpEq
+use Rattle.npr_tunnel.specs.contracts.ip6.RouteIp6Tunnel.{enum as ip6_enum}
+use Rattle.npr_tunnel.specs.contracts.ip6.RouteIp6TunnelPartialEq.TheImpl as Ip6Eq
+use Rattle.npr_tunnel.specs.contracts.encap.RouteLwTunnelEncap.{enum as encap_enum}
+use Rattle.npr_tunnel.specs.contracts.encap.RouteLwTunnelEncapPartialEq.TheImpl as EncapEq
+
+-- ---- the fields
+
+v4_equality : IsEquality V4Eq.ghosts.eq
+v4_equality = search rules
+
+v6_equality : IsEquality V6Eq.ghosts.eq
+v6_equality = search rules
+
+label_equality : IsEquality LabelEq.ghosts.eq
+label_equality = search rules
+
+ip_flags_equality : IsEqualityOf (λ (f : RouteIpTunnelFlags). f.0) IpFlagsEq.ghosts.eq
+ip_flags_equality a b = unsigned_Decides a.0 b.0
+
+ip6_flags_equality : IsEqualityOf (λ (f : RouteIp6TunnelFlags). f.0) Ip6FlagsEq.ghosts.eq
+ip6_flags_equality a b = unsigned_Decides a.0 b.0
+
+pub geneve_equality : IsEqualityOf option_of GeneveEq.ghosts.eq
+geneve_equality a b =
+    decides_as
+    (λ p. λ i. record { class = p.0 i; typ = p.1.0 i; opt_data = p.1.1 i })
+    (λ e. (ap (λ (o : Geneve). o.class) e, (ap (λ (o : Geneve). o.typ) e, ap (λ (o : Geneve). o.opt_data) e)))
+    (and_decides (unsigned_Decides a.class b.class)
+    (and_decides (unsigned_Decides a.typ b.typ) (items_equality unsigned_Decides a.opt_data b.opt_data)))
+
+-- ---- the members and options
+
+xfrm_order : OfXfrm.Meaning → ℕ
+xfrm_order OfXfrm.unspecified = 0
+xfrm_order (OfXfrm.if_id x) = 1
+xfrm_order (OfXfrm.link x) = 2
+xfrm_order (OfXfrm.other x) = 3
+
+pub xfrm_equality : IsEqualityOf OfXfrm.meaning_of XfrmEq.ghosts.eq
+unfolding xfrm_order
+xfrm_equality =
+    enum_meaning xfrm_order xfrm_enum OfXfrm.meaning_of _ (λ t.
+    (λ x. refl, λ x y is. (λ e. refl, λ e. refl)) also
+    (λ x. refl, one_meaning (λ n. n) OfXfrm.if_id unsigned_Decides (λ p q e. cc)) also
+    (λ x. refl, one_meaning (λ n. n) OfXfrm.link unsigned_Decides (λ p q e. cc)) also
+    (λ x. refl, one_meaning (λ d. d) OfXfrm.other item_equality (λ p q e. cc)) also tt)
+
+mpls_order : OfMpls.Meaning → ℕ
+mpls_order (OfMpls.destination x) = 0
+mpls_order (OfMpls.ttl x) = 1
+mpls_order (OfMpls.other x) = 2
+
+pub mpls_equality : IsEqualityOf OfMpls.meaning_of MplsEq.ghosts.eq
+unfolding mpls_order
+mpls_equality =
+    enum_meaning mpls_order mpls_enum OfMpls.meaning_of _ (λ t.
+    (λ x. refl, one_meaning (λ v. v.items) OfMpls.destination (items_equality label_equality) (λ p q e. cc)) also
+    (λ x. refl, one_meaning (λ n. n) OfMpls.ttl unsigned_Decides (λ p q e. cc)) also
+    (λ x. refl, one_meaning (λ d. d) OfMpls.other item_equality (λ p q e. cc)) also tt)
+
+vxlan_order : OfVxlan.Meaning → ℕ
+vxlan_order (OfVxlan.gbp x) = 0
+vxlan_order (OfVxlan.other x) = 1
+
+pub vxlan_equality : IsEqualityOf OfVxlan.meaning_of VxlanEq.ghosts.eq
+unfolding vxlan_order
+vxlan_equality =
+    enum_meaning vxlan_order vxlan_enum OfVxlan.meaning_of _ (λ t.
+    (λ x. refl, one_meaning (λ n. n) OfVxlan.gbp unsigned_Decides (λ p q e. cc)) also
+    (λ x. refl, one_meaning (λ d. d) OfVxlan.other item_equality (λ p q e. cc)) also tt)
+
+erspan_order : OfErspan.Meaning → ℕ
+erspan_order (OfErspan.version x) = 0
+erspan_order (OfErspan.index x) = 1
+erspan_order (OfErspan.direction x) = 2
+erspan_order (OfErspan.hardware_id x) = 3
+erspan_order (OfErspan.other x) = 4
+
+pub erspan_equality : IsEqualityOf OfErspan.meaning_of ErspanEq.ghosts.eq
+unfolding erspan_order
+erspan_equality =
+    enum_meaning erspan_order erspan_enum OfErspan.meaning_of _ (λ t.
+    (λ x. refl, one_meaning (λ n. n) OfErspan.version unsigned_Decides (λ p q e. cc)) also
+    (λ x. refl, one_meaning (λ n. n) OfErspan.index unsigned_Decides (λ p q e. cc)) also
+    (λ x. refl, one_meaning (λ n. n) OfErspan.direction unsigned_Decides (λ p q e. cc)) also
+    (λ x. refl, one_meaning (λ n. n) OfErspan.hardware_id unsigned_Decides (λ p q e. cc)) also
+    (λ x. refl, one_meaning (λ d. d) OfErspan.other item_equality (λ p q e. cc)) also tt)
+
+tunnel_option_order : OfOption.Meaning → ℕ
+tunnel_option_order (OfOption.geneve x) = 0
+tunnel_option_order (OfOption.vxlan x) = 1
+tunnel_option_order (OfOption.erspan x) = 2
+tunnel_option_order (OfOption.other x) = 3
+
+pub tunnel_option_equality : IsEqualityOf OfOption.meaning_of TunnelOptionEq.ghosts.eq
+unfolding tunnel_option_order
+tunnel_option_equality =
+    enum_meaning tunnel_option_order tunnel_option_enum OfOption.meaning_of _ (λ t.
+    (λ x. refl, one_meaning (λ v. map option_of v.items) OfOption.geneve (items_meaning option_of geneve_equality) (λ p q e. cc)) also
+    (λ x. refl, one_meaning (λ v. map OfVxlan.meaning_of v.items) OfOption.vxlan (items_meaning OfVxlan.meaning_of vxlan_equality) (λ p q e. cc)) also
+    (λ x. refl, one_meaning (λ v. map OfErspan.meaning_of v.items) OfOption.erspan (items_meaning OfErspan.meaning_of erspan_equality) (λ p q e. cc)) also
+    (λ x. refl, one_meaning (λ d. d) OfOption.other item_equality (λ p q e. cc)) also tt)
+
+ip_order : OfIp.Meaning → ℕ
+ip_order OfIp.unspecified = 0
+ip_order (OfIp.id x) = 1
+ip_order (OfIp.destination x) = 2
+ip_order (OfIp.source x) = 3
+ip_order (OfIp.hops x) = 4
+ip_order (OfIp.service x) = 5
+ip_order (OfIp.flags x) = 6
+ip_order (OfIp.options x) = 7
+ip_order (OfIp.other x) = 8
+
+pub ip_equality : IsEqualityOf OfIp.meaning_of IpEq.ghosts.eq
+unfolding ip_order
+ip_equality =
+    enum_meaning ip_order ip_enum OfIp.meaning_of _ (λ t.
+    (λ x. refl, λ x y is. (λ e. refl, λ e. refl)) also
+    (λ x. refl, one_meaning (λ n. n) OfIp.id unsigned_Decides (λ p q e. cc)) also
+    (λ x. refl, one_meaning (λ a. a) OfIp.destination v4_equality (λ p q e. cc)) also
+    (λ x. refl, one_meaning (λ a. a) OfIp.source v4_equality (λ p q e. cc)) also
+    (λ x. refl, one_meaning (λ n. n) OfIp.hops unsigned_Decides (λ p q e. cc)) also
+    (λ x. refl, one_meaning (λ n. n) OfIp.service unsigned_Decides (λ p q e. cc)) also
+    (λ x. refl, one_meaning (λ (f : RouteIpTunnelFlags). f.0) OfIp.flags ip_flags_equality (λ p q e. cc)) also
+    (λ x. refl, one_meaning (λ v. map OfOption.meaning_of v.items) OfIp.options (items_meaning OfOption.meaning_of tunnel_option_equality) (λ p q e. cc)) also
+    (λ x. refl, one_meaning (λ d. d) OfIp.other item_equality (λ p q e. cc)) also tt)
+
+pub ip6_equality : IsEqualityOf OfIp.meaning6_of Ip6Eq.ghosts.eq
+unfolding ip_order
+ip6_equality =
+    enum_meaning ip_order ip6_enum OfIp.meaning6_of _ (λ t.
+    (λ x. refl, λ x y is. (λ e. refl, λ e. refl)) also
+    (λ x. refl, one_meaning (λ n. n) OfIp.id unsigned_Decides (λ p q e. cc)) also
+    (λ x. refl, one_meaning (λ a. a) OfIp.destination v6_equality (λ p q e. cc)) also
+    (λ x. refl, one_meaning (λ a. a) OfIp.source v6_equality (λ p q e. cc)) also
+    (λ x. refl, one_meaning (λ n. n) OfIp.hops unsigned_Decides (λ p q e. cc)) also
+    (λ x. refl, one_meaning (λ n. n) OfIp.service unsigned_Decides (λ p q e. cc)) also
+    (λ x. refl, one_meaning (λ (f : RouteIp6TunnelFlags). f.0) OfIp.flags ip6_flags_equality (λ p q e. cc)) also
+    (λ x. refl, one_meaning (λ v. map OfOption.meaning_of v.items) OfIp.options (items_meaning OfOption.meaning_of tunnel_option_equality) (λ p q e. cc)) also
+    (λ x. refl, one_meaning (λ d. d) OfIp.other item_equality (λ p q e. cc)) also tt)
+
+encap_order : OfEncap.Meaning → ℕ
+encap_order (OfEncap.mpls x) = 0
+encap_order (OfEncap.seg6 x) = 1
+encap_order (OfEncap.ip x) = 2
+encap_order (OfEncap.ip6 x) = 3
+encap_order (OfEncap.ioam6 x) = 4
+encap_order (OfEncap.rpl x) = 5
+encap_order (OfEncap.seg6_local x) = 6
+encap_order (OfEncap.xfrm x) = 7
+encap_order (OfEncap.other x) = 8
+
+pub encap_equality : IsEqualityOf OfEncap.meaning_of EncapEq.ghosts.eq
+unfolding encap_order
+encap_equality =
+    enum_meaning encap_order encap_enum OfEncap.meaning_of _ (λ t.
+    (λ x. refl, one_meaning OfMpls.meaning_of OfEncap.mpls mpls_equality (λ p q e. cc)) also
+    (λ x. refl, one_meaning OfSeg6.meaning_of OfEncap.seg6 seg6_equality (λ p q e. cc)) also
+    (λ x. refl, one_meaning OfIp.meaning_of OfEncap.ip ip_equality (λ p q e. cc)) also
+    (λ x. refl, one_meaning OfIp.meaning6_of OfEncap.ip6 ip6_equality (λ p q e. cc)) also
+    (λ x. refl, one_meaning OfIoam6.meaning_of OfEncap.ioam6 ioam6_equality (λ p q e. cc)) also
+    (λ x. refl, one_meaning OfRpl.meaning_of OfEncap.rpl rpl_equality (λ p q e. cc)) also
+    (λ x. refl, one_meaning OfLocal.meaning_of OfEncap.seg6_local local_equality (λ p q e. cc)) also
+    (λ x. refl, one_meaning OfXfrm.meaning_of OfEncap.xfrm xfrm_equality (λ p q e. cc)) also
+    (λ x. refl, one_meaning (λ d. d) OfEncap.other item_equality (λ p q e. cc)) also tt)
