@@ -7,7 +7,7 @@ use borrow.Rule.Slice.PartMut.{put_mid}
 use Rattle.npr_base.specs.Framing.{Writes}
 use Rattle.npr_base.specs.V6List.{IsV6List}
 use Rattle.npr_base.proofs.Writing.{Writes-more}
-use Rattle.npr_srh.specs.declared.seg6.Seg6MessageBuffer.{Seg6MessageBuffer}
+use Rattle.npr_srh.specs.declared.seg6_header.Seg6MessageBuffer.{Seg6MessageBuffer}
 use Rattle.npr_srh.specs.Seg6Mode.{mode_of}
 use Rattle.npr_srh.specs.Seg6.{Seg6, IsSeg6, IsKey, HasFront, hmac_len, header_len}
 

@@ -17,12 +17,12 @@ use Rattle.npr_srh.specs.Seg6LocalTunnel as OfLocal
 use Rattle.npr_srh.specs.Rpl.{Rpl, rpl_of}
 use Rattle.npr_srh.specs.RplTunnel as OfRpl
 use Rattle.npr_srh.specs.Ioam6Tunnel as OfIoam6
-use Rattle.npr_srh.specs.contracts.seg6.Seg6ModePartialEq.TheImpl as ModeEq
-use Rattle.npr_srh.specs.contracts.seg6.Seg6HeaderPartialEq.TheImpl as HeaderEq
+use Rattle.npr_srh.specs.contracts.seg6_mode.Seg6ModePartialEq.TheImpl as ModeEq
+use Rattle.npr_srh.specs.contracts.seg6_header.Seg6HeaderPartialEq.TheImpl as HeaderEq
 use Rattle.npr_srh.specs.contracts.seg6.RouteSeg6IpTunnel.{enum as seg6_enum}
 use Rattle.npr_srh.specs.contracts.seg6.RouteSeg6IpTunnelPartialEq.TheImpl as Seg6Eq
-use Rattle.npr_srh.specs.contracts.seg6local.Seg6LocalActionPartialEq.TheImpl as ActionEq
-use Rattle.npr_srh.specs.contracts.seg6local.Seg6LocalSrhPartialEq.TheImpl as LocalHeaderEq
+use Rattle.npr_srh.specs.contracts.seg6local_action.Seg6LocalActionPartialEq.TheImpl as ActionEq
+use Rattle.npr_srh.specs.contracts.seg6local_srh.Seg6LocalSrhPartialEq.TheImpl as LocalHeaderEq
 use Rattle.npr_srh.specs.contracts.seg6local.RouteSeg6LocalTunnel.{enum as local_enum}
 use Rattle.npr_srh.specs.contracts.seg6local.RouteSeg6LocalTunnelPartialEq.TheImpl as LocalEq
 use Rattle.npr_srh.specs.contracts.rpl.RplSrhPartialEq.TheImpl as RplHeaderEq

@@ -15,9 +15,9 @@ use Rattle.npr_base.specs.Layout.{Layout, le16_at, le32_at, le16_at-holds, le32_
 use Rattle.npr_base.specs.Rows.{IsFormed}
 use Rattle.npr_srh.specs.Segments.{too_many}
 use Rattle.npr_srh.specs.Seg6Mode.{mode_of, mode_number}
-use Rattle.npr_srh.specs.declared.seg6.Seg6Mode.{Seg6Mode}
-use Rattle.npr_srh.specs.declared.seg6.Seg6MessageBuffer.{Seg6MessageBuffer}
-use Rattle.npr_srh.specs.declared.seg6.Seg6Header.{Seg6Header}
+use Rattle.npr_srh.specs.declared.seg6_mode.Seg6Mode.{Seg6Mode}
+use Rattle.npr_srh.specs.declared.seg6_header.Seg6MessageBuffer.{Seg6MessageBuffer}
+use Rattle.npr_srh.specs.declared.seg6_header.Seg6Header.{Seg6Header}
 
 -- ---- the first twelve bytes
 

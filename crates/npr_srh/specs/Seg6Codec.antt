@@ -20,7 +20,7 @@ use Rattle.npr_base.specs.Rows.{IsFormed}
 use Rattle.npr_base.specs.Codec.{Codec}
 use Rattle.npr_srh.specs.Seg6Mode.{mode_of, mode_number}
 use Rattle.npr_srh.specs.Seg6ModeLaws.{mode_number-mode_of}
-use Rattle.npr_srh.specs.declared.seg6.Seg6MessageBuffer.{Seg6MessageBuffer}
+use Rattle.npr_srh.specs.declared.seg6_header.Seg6MessageBuffer.{Seg6MessageBuffer}
 use Rattle.npr_srh.specs.Segments.{too_many, few}
 use Rattle.npr_srh.specs.Seg6.{Seg6, IsSeg6, IsKey, Seg6Wrong, Seg6Faulty, HoldsSeg6, HoldsKey, HoldsMessage, decode_message, encode_message, message-back, message-holds, header_len, hmac_len, front_of, seg6_bytes, key_bytes, key_eights, key_flags, most_segments, seg6_misfit}
 

@@ -7,7 +7,7 @@ use Rattle.npr_base.specs.Framing.{IsBytes}
 use Rattle.npr_base.specs.Codec.{Codec}
 use Rattle.npr_srh.specs.Places.{be16_at}
 use Rattle.npr_srh.specs.Headed.{Fixed, Headed, headed}
-use Rattle.npr_srh.specs.declared.seg6local.Seg6LocalSrh.{Seg6LocalSrh}
+use Rattle.npr_srh.specs.declared.seg6local_srh.Seg6LocalSrh.{Seg6LocalSrh}
 
 -- the fields besides the length byte
 pub record LocalFront : Type 0 where

@@ -1,8 +1,8 @@
 -- What is done at a local segment (linux/seg6_local.h, SEG6_LOCAL_ACTION_*), by its table.
 use Rattle.std.specs.Prelude.{ℕ, List, [], ◌∷◌}
 use Rattle.npr_base.specs.Rows.{form_in}
-use Rattle.npr_srh.specs.declared.seg6local.Seg6LocalAction.{Seg6LocalAction}
-use Rattle.npr_srh.specs.declared.seg6local.Seg6LocalAction.TheVariants.{End, EndX, EndT, EndDx2, EndDx6, EndDx4, EndDt6, EndDt4, EndB6, EndB6Encap, EndBm, EndS, EndAs, EndAm, EndBpf, EndDt46, Unspec, Other}
+use Rattle.npr_srh.specs.declared.seg6local_action.Seg6LocalAction.{Seg6LocalAction}
+use Rattle.npr_srh.specs.declared.seg6local_action.Seg6LocalAction.TheVariants.{End, EndX, EndT, EndDx2, EndDx6, EndDx4, EndDt6, EndDt4, EndB6, EndB6Encap, EndBm, EndS, EndAs, EndAm, EndBpf, EndDt46, Unspec, Other}
 
 abbrev pub action_rows : List (ℕ × Seg6LocalAction)
 action_rows = (1, End) ∷ (2, EndX) ∷ (3, EndT) ∷ (4, EndDx2) ∷ (5, EndDx6) ∷ (6, EndDx4) ∷ (7, EndDt6) ∷ (8, EndDt4) ∷ (9, EndB6) ∷ (10, EndB6Encap) ∷ (11, EndBm) ∷ (12, EndS) ∷ (13, EndAs) ∷ (14, EndAm) ∷ (15, EndBpf) ∷ (16, EndDt46) ∷ []

@@ -6,8 +6,8 @@ use Rattle.std.proofs.Common.{refl}
 use Rattle.npr_base.specs.RowLaws.{number-form}
 use Rattle.npr_base.specs.Layout.{Layout, le32, formed}
 use Rattle.npr_srh.specs.Seg6LocalAction.{action_rows, action_of, action_number}
-use Rattle.npr_srh.specs.declared.seg6local.Seg6LocalAction.{Seg6LocalAction}
-use Rattle.npr_srh.specs.declared.seg6local.Seg6LocalAction.TheVariants.{Other}
+use Rattle.npr_srh.specs.declared.seg6local_action.Seg6LocalAction.{Seg6LocalAction}
+use Rattle.npr_srh.specs.declared.seg6local_action.Seg6LocalAction.TheVariants.{Other}
 
 pub action_number-action_of : (d : ℕ) → action_number (action_of d) ≡ d
 action_number-action_of = number-form action_number Other (λ d. refl) action_rows refl

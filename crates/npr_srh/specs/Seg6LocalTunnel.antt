@@ -11,7 +11,7 @@ use Rattle.npr_base.specs.TableLaws.{other-back}
 use Rattle.npr_srh.specs.Keeping.{keeping, IsRowOf}
 use Rattle.npr_srh.specs.Seg6LocalActionLaws.{action}
 use Rattle.npr_srh.specs.Seg6Local.{Local, local, local_of}
-use Rattle.npr_srh.specs.declared.seg6local.Seg6LocalAction.{Seg6LocalAction}
+use Rattle.npr_srh.specs.declared.seg6local_action.Seg6LocalAction.{Seg6LocalAction}
 use Rattle.npr_srh.specs.declared.seg6local.RouteSeg6LocalTunnel.{RouteSeg6LocalTunnel}
 use Rattle.npr_srh.specs.declared.seg6local.RouteSeg6LocalTunnel.TheVariants.{Unspecified, Action, Srh, Table as RouteTable, Nh4, Nh6, Iif, Oif, VrfTable, Other}
 use Rattle.std.proofs.Common.{refl, arith, rules}

@@ -1,8 +1,8 @@
 -- How a SEG6 header is put in (linux/seg6_iptunnel.h, SEG6_IPTUN_MODE_*), by its table.
 use Rattle.std.specs.Prelude.{ℕ, List, [], ◌∷◌}
 use Rattle.npr_base.specs.Rows.{form_in}
-use Rattle.npr_srh.specs.declared.seg6.Seg6Mode.{Seg6Mode}
-use Rattle.npr_srh.specs.declared.seg6.Seg6Mode.TheVariants.{Inline, Encap, Other}
+use Rattle.npr_srh.specs.declared.seg6_mode.Seg6Mode.{Seg6Mode}
+use Rattle.npr_srh.specs.declared.seg6_mode.Seg6Mode.TheVariants.{Inline, Encap, Other}
 
 abbrev pub mode_rows : List (ℕ × Seg6Mode)
 mode_rows = (0, Inline) ∷ (1, Encap) ∷ []

@@ -12,8 +12,12 @@ ghost use Rattle.npr_srh.specs.Ioam6Tunnel.{meaning_of as ioam6_member};
 
 use crate::ioam6::{Ioam6Mode, Ioam6TraceHdr, RouteIoam6Tunnel};
 use crate::rpl::{RouteRplIpTunnel, RplSrh};
-use crate::seg6::{RouteSeg6IpTunnel, Seg6Header, Seg6MessageBuffer, Seg6Mode};
-use crate::seg6local::{RouteSeg6LocalTunnel, Seg6LocalAction, Seg6LocalSrh};
+use crate::seg6::RouteSeg6IpTunnel;
+use crate::seg6_header::{Seg6Header, Seg6MessageBuffer};
+use crate::seg6_mode::Seg6Mode;
+use crate::seg6local::RouteSeg6LocalTunnel;
+use crate::seg6local_action::Seg6LocalAction;
+use crate::seg6local_srh::Seg6LocalSrh;
 
 /// `==` answers whether two values are equal, or mean the same where they hold a vector.
 pub fn law_equality()

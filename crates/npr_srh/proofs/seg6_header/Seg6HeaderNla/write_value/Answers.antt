@@ -3,7 +3,7 @@ use Rattle.std.proofs.Common.{◌≡◌, ◌+◌, ◌-◌, List, ℕ, length, ta
 use Rattle.npr_base.specs.Framing.{Writes}
 use Rattle.npr_srh.specs.Seg6.{seg6_of, encode_message, front_of, key_bytes}
 use Rattle.npr_srh.proofs.Headers.{Writes-three}
-use Rattle.npr_srh.proofs.seg6.Seg6HeaderNla.write_value.Goals as goal
+use Rattle.npr_srh.proofs.seg6_header.Seg6HeaderNla.write_value.Goals as goal
 
 pub returns-clause-after : goal.returns-clause-after
 returns-clause-after c =

@@ -3,7 +3,7 @@ use Rattle.std.proofs.lemmas.List.{take_rest}
 use Rattle.npr_base.specs.V6List.{IsV6List}
 use Rattle.npr_srh.specs.Seg6.{seg6_of, IsKey}
 use Rattle.npr_srh.proofs.Headers.{seg6_read}
-use Rattle.npr_srh.proofs.seg6.Seg6Header.read.Goals as goal
+use Rattle.npr_srh.proofs.seg6_header.Seg6Header.read.Goals as goal
 
 pub returns-clause-ok : goal.returns-clause-ok
 returns-clause-ok c =

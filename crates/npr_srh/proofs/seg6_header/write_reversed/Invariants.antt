@@ -1,7 +1,7 @@
 use Rattle.std.proofs.Common.{◌≡◌, ◌*◌, length, take, reverse}
 use Rattle.std.specs.List.{concat}
 use Rattle.npr_base.specs.Framing.{Writes}
-use Rattle.npr_srh.proofs.seg6.write_reversed.Given as goal
+use Rattle.npr_srh.proofs.seg6_header.write_reversed.Given as goal
 
 abbrev pub invariant-loop-i : goal.invariant-loop-i
 invariant-loop-i l = record {

@@ -3,7 +3,7 @@ use Rattle.std.proofs.lemmas.List.{take_rest}
 use Rattle.npr_base.specs.V6List.{IsV6List}
 use Rattle.npr_srh.specs.Headed.{headed-sizes, headed-is}
 use Rattle.npr_srh.specs.Seg6Local.{Local, LocalFront, local_front, decode_local}
-use Rattle.npr_srh.proofs.seg6local.Seg6LocalSrh.read.Goals as goal
+use Rattle.npr_srh.proofs.seg6local_srh.Seg6LocalSrh.read.Goals as goal
 
 pub returns-then-not-has_header-clause-none : goal.returns-then-not-has_header-clause-none
 returns-then-not-has_header-clause-none c = λ h p. let has = c.has_header.ensures.1 (headed-sizes local_front c.args.value.now h p) in absurd (true≢false (sym has ∙ c.if-not-has_header.true))

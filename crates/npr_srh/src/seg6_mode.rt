@@ -1,0 +1,45 @@
+//! How a SEG6 header is put in, and its numbers (`linux/seg6_iptunnel.h`).
+
+ghost use Rattle.std.specs.Prelude.{◌≡◌, ℕ};
+ghost use Rattle.npr_srh.specs.Seg6Mode.{mode_of, mode_number};
+
+/// How a SEG6 header is put in: `SEG6_IPTUN_MODE_*` of `linux/seg6_iptunnel.h`.
+#[derive(Clone, Copy, Debug, Default, PartialEq, Eq)]
+pub enum Seg6Mode {
+    /// Into the packet itself.
+    #[default]
+    Inline,
+    /// With a header of IP around the packet.
+    Encap,
+    /// Any other number.
+    Other(u32),
+}
+
+impl From<u32> for Seg6Mode {
+    ghost from_gives = { λ number mode. mode ≡ mode_of number };
+
+    fn from(number: u32) -> Seg6Mode {
+        match number {
+            0 => Seg6Mode::Inline,
+            1 => Seg6Mode::Encap,
+            _ => Seg6Mode::Other(number),
+        }
+    }
+}
+
+impl From<Seg6Mode> for u32 {
+    ghost from_gives = { λ mode number. number ≡ mode_number mode };
+
+    fn from(mode: Seg6Mode) -> u32 {
+        match mode {
+            Seg6Mode::Inline => 0,
+            Seg6Mode::Encap => 1,
+            Seg6Mode::Other(number) => number,
+        }
+    }
+}
+
+/// What a number reads as is written as that number.
+pub fn law_mode_number()
+    ensures { (d : ℕ) → mode_number (mode_of d) ≡ d }
+{}

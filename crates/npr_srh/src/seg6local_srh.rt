@@ -1,0 +1,170 @@
+//! SEG6 local's routing header of segments (RFC 8754; `linux/seg6_local.h`).
+
+ghost use Rattle.std.specs.Prelude.{◌≡◌, ◌≤◌, ◌*◌, false, length, [], IfOk, IfErr, IfSome, IfNone};
+ghost use Rattle.npr_base.specs.declared.refusal.DecodeError.TheVariants.{OutOfMemory};
+ghost use Rattle.npr_srh.specs.Headed.{IsUnread};
+ghost use Rattle.npr_srh.specs.Seg6Local.{local, local_of, local_front, encode_local};
+ghost use Rattle.npr_srh.specs.Seg6LocalTunnel.{at as place_at};
+
+use crate::segments::{check_header, has_header, write_segments};
+use npr_base::{
+    At, AttrFamily, DecodeError, EmitError, Ipv6Addr, Nla, NlaBuffer, Parseable, read_v6_list,
+    v6_list_len, write_bytes,
+};
+use std::alloc::{AllocError, Global};
+
+/// The segment routing header of a local segment (RFC 8754, section 2).
+#[derive(Debug, Drop, PartialEq, Eq)]
+pub struct Seg6LocalSrh {
+    /// The protocol of what follows.
+    pub next_header: u8,
+    /// The routing type: 4.
+    pub routing_type: u8,
+    /// How many segments are still to be visited.
+    pub segments_left: u8,
+    /// The place of the last entry of the list.
+    pub first_segment: u8,
+    /// The flags.
+    pub flags: u8,
+    /// The tag of the packet.
+    pub tag: u16,
+    /// The segments, in the order of the wire.
+    pub segments: Vec<Ipv6Addr>,
+}
+
+/// The place of a member of this number in a SEG6 local tunnel.
+pub(crate) const fn at(kind: u16) -> At
+    ensures { result ≡ record { family = AttrFamily.Seg6Local; kind = kind } }
+{
+    At {
+        family: AttrFamily::Seg6Local,
+        kind,
+    }
+}
+
+impl Seg6LocalSrh {
+    /// A header with each field 0 and no segments. It takes no memory.
+    pub fn new(alloc: Global) -> Self
+        ensures { local_of result ≡ record { front = record { next_header = 0; routing_type = 0; segments_left = 0; first_segment = 0; flags = 0; tag = 0 }; segments = [] } }
+    {
+        Seg6LocalSrh {
+            next_header: 0,
+            routing_type: 0,
+            segments_left: 0,
+            first_segment: 0,
+            flags: 0,
+            tag: 0,
+            segments: Vec::new(alloc),
+        }
+    }
+
+    /// An equal header.
+    ///
+    /// # Errors
+    /// `AllocError` where memory is refused.
+    pub fn clone(&self, alloc: Global) -> Result<Self, AllocError>
+        ensures { IfOk result (λ h. local_of h ≡ local_of self.now) }
+    {
+        Ok(Seg6LocalSrh {
+            next_header: self.next_header,
+            routing_type: self.routing_type,
+            segments_left: self.segments_left,
+            first_segment: self.first_segment,
+            flags: self.flags,
+            tag: self.tag,
+            segments: Vec::from_slice(alloc, self.segments.as_slice())?,
+        })
+    }
+
+    /// The header that a value is, or `None` where it can't be read.
+    ///
+    /// # Errors
+    /// `OutOfMemory` alone, where memory is refused.
+    pub(crate) fn read(alloc: Global, value: &[u8]) -> Result<Option<Self>, DecodeError>
+        ensures some { IfOk result (λ o. IfSome o (λ h. local.Reads value.now (local_of h))) }
+        ensures none { IfOk result (λ o. IfNone o (IsUnread local_front value.now)) }
+        ensures refused { IfErr result (λ e. e ≡ OutOfMemory) }
+    {
+        if !has_header(value) {
+            return Ok(None);
+        }
+        let head = &value[..8];
+        Ok(Some(Seg6LocalSrh {
+            next_header: head[0],
+            routing_type: head[2],
+            segments_left: head[3],
+            first_segment: head[4],
+            flags: head[5],
+            tag: u16::from_be_bytes([head[6], head[7]]),
+            segments: read_v6_list(alloc, &value[8..])?,
+        }))
+    }
+
+    /// The eight bytes in front. Asks that the segments fit.
+    fn front(&self) -> [u8; 8]
+        requires { length self.now.segments.items ≤ 127 }
+        ensures { result ≡ encode_local (2 * length self.now.segments.items) (local_of self.now).front }
+    {
+        let [a, b] = self.tag.to_be_bytes();
+        [
+            self.next_header,
+            (2 * self.segments.len()) as u8,
+            self.routing_type,
+            self.segments_left,
+            self.first_segment,
+            self.flags,
+            a,
+            b,
+        ]
+    }
+}
+
+impl Nla for Seg6LocalSrh {
+    ghost item = { λ h. record { kind = 2; value = local.writes (local_of h) } };
+
+    ghost nested = { λ _. false };
+
+    ghost unfit = { λ h. local.misfit 2 (local_of h) };
+
+    ghost fits_short = { λ h fits. local.fits_short 2 (local_of h) fits };
+
+    fn kind(&self) -> u16 {
+        2
+    }
+
+    fn is_nested(&self) -> bool {
+        false
+    }
+
+    fn check(&self) -> Result<usize, EmitError> {
+        check_header(2, self.value_len(), self.segments.len(), 127)
+    }
+
+    fn value_len(&self) -> usize
+        ensures { result ≡ length (local.writes (local_of self.now)) }
+    {
+        8 + v6_list_len(self.segments.as_slice())
+    }
+
+    fn write_value(&self, out: &mut [u8]) -> usize {
+        let front = write_bytes(out, &self.front());
+        front + write_segments(&mut out[front..], self.segments.as_slice())
+    }
+}
+
+impl<'a> Parseable<&'a NlaBuffer<'a>> for Seg6LocalSrh {
+    ghost parses = { λ input h. local.Reads input.now.value (local_of h) };
+
+    ghost misparses = { λ input e. local.Wrong (place_at 2) input.now.value e };
+
+    /// The header that the value is.
+    ///
+    /// # Errors
+    /// `OutOfMemory` where memory is refused, and else `Unsupported`.
+    fn parse(alloc: Global, input: &'a NlaBuffer<'a>) -> Result<Self, DecodeError> {
+        match Seg6LocalSrh::read(alloc, input.value())? {
+            Some(header) => Ok(header),
+            None => Err(DecodeError::Unsupported { at: at(2) }),
+        }
+    }
+}
