@@ -4,14 +4,12 @@ use Rattle.std.specs.String.{string_bytes}
 use Rattle.std.proofs.Common.{refl, rules, ap}
 use Rattle.npr_base.specs.Equality.{IsEquality, IsEqualityOf}
 use Rattle.npr_base.specs.ItemEquality.{item_equality}
+use Rattle.npr_base.specs.IpLaws.{ip_equality, ipv4_equality, ipv6_equality}
 use Rattle.npr_base.specs.MeaningLaws.{enum_meaning, ◌also◌, one_meaning, text_equality, items_meaning}
 use Rattle.npr_base.specs.StructLaws.{and_decides, decides_as}
 use Rattle.npr_base.specs.AddressFamilyLaws.{family_equality}
 use Rattle.std.specs.Cmp.{unsigned_Decides, signed_Decides}
 use Rattle.npr_address.specs.declared.header.AddressHeader.{AddressHeader}
-use Rattle.npr_base.specs.contracts.ip.IpAddrPartialEq.TheImpl as IpEq
-use Rattle.npr_base.specs.contracts.ip.Ipv4AddrPartialEq.TheImpl as Ipv4Eq
-use Rattle.npr_base.specs.contracts.ip.Ipv6AddrPartialEq.TheImpl as Ipv6Eq
 use Rattle.npr_address.specs.contracts.addr_protocol.AddressProtocolPartialEq.TheImpl as ProtocolEq
 use Rattle.npr_address.specs.Attribute.{Meaning, address, local, label, broadcast, anycast, info, multicast, flags, route_priority, target_net_ns_id, protocol, other, meaning_of}
 use Rattle.npr_address.specs.Message.{Address, message_of}
@@ -37,15 +35,6 @@ order (route_priority n) = 8
 order (target_net_ns_id n) = 9
 order (protocol p) = 10
 order (other x) = 11
-
-ip_equality : IsEquality IpEq.ghosts.eq
-ip_equality = search rules
-
-ipv4_equality : IsEquality Ipv4Eq.ghosts.eq
-ipv4_equality = search rules
-
-ipv6_equality : IsEquality Ipv6Eq.ghosts.eq
-ipv6_equality = search rules
 
 protocol_equality : IsEquality ProtocolEq.ghosts.eq
 protocol_equality = search rules

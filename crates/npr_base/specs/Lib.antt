@@ -19,6 +19,7 @@ pub mod Rows
 pub mod RowLaws
 pub mod AddressFamily
 pub mod AddressFamilyLaws
+pub mod IpLaws
 pub mod Equality
 pub mod EqualityLaws
 pub mod MeaningLaws

@@ -2,13 +2,13 @@
 use Rattle.std.specs.Prelude.{◌≡◌, ℕ, List, map}
 use Rattle.std.specs.Cmp.{unsigned_Decides}
 use Rattle.std.specs.String.{string_bytes}
-use Rattle.std.proofs.Common.{refl, rules, ap}
+use Rattle.std.proofs.Common.{refl, ap}
 use Rattle.npr_base.specs.AddressFamilyLaws.{family_equality}
 use Rattle.npr_base.specs.Equality.{IsEquality, IsEqualityOf}
 use Rattle.npr_base.specs.ItemEquality.{item_equality}
 use Rattle.npr_base.specs.MeaningLaws.{enum_meaning, ◌also◌, one_meaning, text_equality, items_equality, items_meaning}
 use Rattle.npr_base.specs.StructLaws.{and_decides, decides_as}
-use Rattle.npr_scalar.specs.EqualityLaws.{address_equality, via_equality}
+use Rattle.npr_scalar.specs.EqualityLaws.{address_equality, cache_info_equality, label_equality, mfc_stats_equality, realm_equality, route_flags_equality, via_equality}
 use Rattle.npr_scalar.specs.RouteAddress.{address_of}
 use Rattle.npr_scalar.specs.RouteProtocolLaws.{route_protocol_equality}
 use Rattle.npr_scalar.specs.RouteScopeLaws.{route_scope_equality}
@@ -16,12 +16,7 @@ use Rattle.npr_scalar.specs.RouteTypeLaws.{route_type_equality}
 use Rattle.npr_scalar.specs.RoutePreferenceLaws.{route_preference_equality}
 use Rattle.npr_scalar.specs.RouteVia.{via_of}
 use Rattle.npr_scalar.specs.TtlPropagationLaws.{ttl_propagation_equality}
-use Rattle.npr_scalar.specs.contracts.cache_info.RouteCacheInfoPartialEq.TheImpl as CacheInfoEq
-use Rattle.npr_scalar.specs.contracts.flags.RouteFlagsPartialEq.TheImpl as FlagsEq
-use Rattle.npr_scalar.specs.contracts.mfc_stats.RouteMfcStatsPartialEq.TheImpl as StatsEq
-use Rattle.npr_scalar.specs.contracts.mpls.MplsLabelPartialEq.TheImpl as LabelEq
-use Rattle.npr_scalar.specs.contracts.realm.RouteRealmPartialEq.TheImpl as RealmEq
-use Rattle.npr_tunnel.specs.contracts.encap_type.RouteLwEnCapTypePartialEq.TheImpl as TypeEq
+use Rattle.npr_tunnel.specs.EqualityLaws.{encap_type_equality}
 use Rattle.npr_route.specs.Attribute as Routes
 use Rattle.npr_route.specs.Attribute.{meaning_of}
 use Rattle.npr_route.specs.Metric as Metrics
@@ -37,24 +32,6 @@ use Rattle.npr_route.specs.contracts.metrics.RouteMetricPartialEq.TheImpl as Met
 use Rattle.npr_route.specs.declared.header.RouteHeader.{RouteHeader}
 use Rattle.npr_route.specs.declared.header.RouteMessageBuffer.{RouteMessageBuffer}
 
-realm_equality : IsEquality RealmEq.ghosts.eq
-realm_equality = search rules
-
-label_equality : IsEquality LabelEq.ghosts.eq
-label_equality = search rules
-
-cache_info_equality : IsEquality CacheInfoEq.ghosts.eq
-cache_info_equality = search rules
-
-mfc_stats_equality : IsEquality StatsEq.ghosts.eq
-mfc_stats_equality = search rules
-
-flags_equality : IsEquality FlagsEq.ghosts.eq
-flags_equality = search rules
-
-encap_type_equality : IsEquality TypeEq.ghosts.eq
-encap_type_equality = search rules
-
 pub header_equality : IsEquality HeaderEq.ghosts.eq
 header_equality a b =
     decides_as
@@ -67,7 +44,7 @@ header_equality a b =
     (and_decides (unsigned_Decides a.table b.table)
     (and_decides (route_protocol_equality a.protocol b.protocol)
     (and_decides (route_scope_equality a.scope b.scope)
-    (and_decides (route_type_equality a.kind b.kind) (flags_equality a.flags b.flags)))))))))
+    (and_decides (route_type_equality a.kind b.kind) (route_flags_equality a.flags b.flags)))))))))
 
 -- the places of the meanings' variants
 metric_order : Metrics.Metric → ℕ

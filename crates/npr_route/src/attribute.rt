@@ -23,7 +23,8 @@ use npr_scalar::{
 use npr_tunnel::RouteLwEnCapType;
 use std::alloc::{AllocError, Global};
 
-/// An attribute of a route message.
+/// An attribute of a route message. What it means rests on a context: the family and the type of
+/// the message's header, and the type of its encapsulation.
 #[derive(Debug, Drop, PartialEq, Eq)]
 pub enum RouteAttribute {
     /// `RTA_DST`: the destination, a prefix.

@@ -6,12 +6,12 @@ use Rattle.std.proofs.Common.{refl, rules, ap}
 use Rattle.npr_base.specs.AddressFamilyLaws.{family_equality}
 use Rattle.npr_base.specs.Equality.{IsEquality, IsEqualityOf}
 use Rattle.npr_base.specs.ItemEquality.{item_equality}
+use Rattle.npr_base.specs.IpLaws.{ip_equality}
 use Rattle.npr_base.specs.MeaningLaws.{enum_meaning, ◌also◌, one_meaning, text_equality, items_meaning}
 use Rattle.npr_base.specs.StructLaws.{and_decides, decides_as}
-use Rattle.npr_base.specs.contracts.ip.IpAddrPartialEq.TheImpl as IpEq
+use Rattle.npr_scalar.specs.EqualityLaws.{realm_equality}
 use Rattle.npr_scalar.specs.IpProtocolLaws.{ip_protocol_equality}
 use Rattle.npr_scalar.specs.RouteProtocolLaws.{route_protocol_equality}
-use Rattle.npr_scalar.specs.contracts.realm.RouteRealmPartialEq.TheImpl as RealmEq
 use Rattle.npr_rule.specs.Attribute.{Meaning, destination, source, iifname, goto, priority, fw_mark, realm, tun_id, suppress_if_group, suppress_prefix_len, table, fw_mask, oifname, l3mdev, uid_range, protocol, ip_protocol, source_port_range, destination_port_range, other, meaning_of}
 use Rattle.npr_rule.specs.Message.{Rule, message_of}
 use Rattle.npr_rule.specs.contracts.action.RuleActionPartialEq.TheImpl as ActionEq
@@ -45,12 +45,6 @@ order (ip_protocol a) = 16
 order (source_port_range a) = 17
 order (destination_port_range a) = 18
 order (other x) = 19
-
-ip_equality : IsEquality IpEq.ghosts.eq
-ip_equality = search rules
-
-realm_equality : IsEquality RealmEq.ghosts.eq
-realm_equality = search rules
 
 port_equality : IsEquality PortEq.ghosts.eq
 port_equality = search rules

@@ -6,8 +6,8 @@ use Rattle.std.specs.String.{string_bytes}
 use Rattle.std.proofs.Common.{refl, rules}
 use Rattle.npr_base.specs.Equality.{IsEquality, IsEqualityOf}
 use Rattle.npr_base.specs.ItemEquality.{item_equality}
+use Rattle.npr_base.specs.IpLaws.{ip_equality}
 use Rattle.npr_base.specs.MeaningLaws.{◌also◌, enum_meaning, one_meaning, text_equality, items_equality, items_meaning}
-use Rattle.npr_base.specs.contracts.ip.IpAddrPartialEq.TheImpl.{ghosts as of_address}
 use Rattle.npr_sample.specs.Inner as Inner
 use Rattle.npr_sample.specs.Attribute as Outer
 use Rattle.npr_sample.specs.contracts.inner.InnerAttribute.{enum as inner_enum}
@@ -17,9 +17,6 @@ use Rattle.npr_sample.specs.contracts.attribute.SampleAttributePartialEq.TheImpl
 use Rattle.npr_sample.specs.contracts.pairs.PairPartialEq.TheImpl.{ghosts as of_pair}
 use Rattle.npr_sample.specs.contracts.colors.ColorPartialEq.TheImpl.{ghosts as of_color}
 use Rattle.npr_sample.specs.contracts.colors.MarksPartialEq.TheImpl.{ghosts as of_marks}
-
-pub address_equality : IsEquality of_address.eq
-address_equality = search rules
 
 pub pair_equality : IsEquality of_pair.eq
 pair_equality = search rules
@@ -81,7 +78,7 @@ sample_equality = enum_meaning outer_order sample_enum Outer.meaning_of _ (λ t.
     also (λ x. refl, one_meaning (λ n. n) Outer.network_double unsigned_Decides (λ p q e. cc))
     also (λ x. refl, one_meaning (λ b. b) Outer.truth booleans_Decides (λ p q e. cc))
     also (λ x. refl, one_meaning (λ s. string_bytes s) Outer.label text_equality (λ p q e. cc))
-    also (λ x. refl, one_meaning (λ a. a) Outer.address address_equality (λ p q e. cc))
+    also (λ x. refl, one_meaning (λ a. a) Outer.address ip_equality (λ p q e. cc))
     also (λ x. refl, one_meaning (λ b. b) Outer.four bytes_decides (λ p q e. cc))
     also (λ x. refl, one_meaning (λ b. b) Outer.sixteen bytes_decides (λ p q e. cc))
     also (λ x. refl, one_meaning (λ v. v.items) Outer.blob (items_equality unsigned_Decides) (λ p q e. cc))

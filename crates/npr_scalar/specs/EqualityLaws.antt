@@ -8,27 +8,36 @@ use Rattle.std.proofs.Common.{refl, rules, ap}
 use Rattle.npr_base.specs.AddressFamilyLaws.{family_equality}
 use Rattle.npr_base.specs.declared.address_family.AddressFamily.{AddressFamily}
 use Rattle.npr_base.specs.Equality.{IsEquality, IsEqualityOf}
+use Rattle.npr_base.specs.IpLaws.{ipv4_equality, ipv6_equality}
 use Rattle.npr_base.specs.MeaningLaws.{enum_meaning, ◌also◌, one_meaning, items_equality}
 use Rattle.npr_base.specs.StructLaws.{and_decides, decides_as}
 use Rattle.npr_base.specs.contracts.address_family.AddressFamilyPartialEq.TheImpl as FamilyEq
-use Rattle.npr_base.specs.contracts.ip.Ipv4AddrPartialEq.TheImpl as FourEq
-use Rattle.npr_base.specs.contracts.ip.Ipv6AddrPartialEq.TheImpl as SixteenEq
 use Rattle.npr_scalar.specs.RouteAddress as A
 use Rattle.npr_scalar.specs.RouteVia as V
 use Rattle.npr_scalar.specs.contracts.address.RouteAddress.{enum as address_enum}
 use Rattle.npr_scalar.specs.contracts.address.RouteAddressPartialEq.TheImpl as AddressEq
+use Rattle.npr_scalar.specs.contracts.cache_info.RouteCacheInfoPartialEq.TheImpl as CacheInfoEq
+use Rattle.npr_scalar.specs.contracts.flags.RouteFlagsPartialEq.TheImpl as FlagsEq
+use Rattle.npr_scalar.specs.contracts.mfc_stats.RouteMfcStatsPartialEq.TheImpl as StatsEq
+use Rattle.npr_scalar.specs.contracts.realm.RouteRealmPartialEq.TheImpl as RealmEq
 use Rattle.npr_scalar.specs.contracts.mpls.MplsLabelPartialEq.TheImpl as LabelEq
 use Rattle.npr_scalar.specs.contracts.via.RouteVia.{enum as via_enum}
 use Rattle.npr_scalar.specs.contracts.via.RouteViaPartialEq.TheImpl as ViaEq
 
-four_equality : IsEquality FourEq.ghosts.eq
-four_equality = search rules
-
-sixteen_equality : IsEquality SixteenEq.ghosts.eq
-sixteen_equality = search rules
-
-label_equality : IsEquality LabelEq.ghosts.eq
+pub label_equality : IsEquality LabelEq.ghosts.eq
 label_equality = search rules
+
+pub realm_equality : IsEquality RealmEq.ghosts.eq
+realm_equality = search rules
+
+pub cache_info_equality : IsEquality CacheInfoEq.ghosts.eq
+cache_info_equality = search rules
+
+pub mfc_stats_equality : IsEquality StatsEq.ghosts.eq
+mfc_stats_equality = search rules
+
+pub route_flags_equality : IsEquality FlagsEq.ghosts.eq
+route_flags_equality = search rules
 
 -- the places of the variants
 address_order : A.Address → ℕ
@@ -41,8 +50,8 @@ pub address_equality : IsEqualityOf A.address_of AddressEq.ghosts.eq
 unfolding address_order
 address_equality =
     enum_meaning address_order address_enum A.address_of _ (λ t.
-    (λ x. refl, one_meaning (λ a. a) A.inet four_equality (λ p q e. cc)) also
-    (λ x. refl, one_meaning (λ a. a) A.inet6 sixteen_equality (λ p q e. cc)) also
+    (λ x. refl, one_meaning (λ a. a) A.inet ipv4_equality (λ p q e. cc)) also
+    (λ x. refl, one_meaning (λ a. a) A.inet6 ipv6_equality (λ p q e. cc)) also
     (λ x. refl, one_meaning (λ l. l) A.mpls label_equality (λ p q e. cc)) also
     (λ x. refl, one_meaning (λ v. v.items) A.other (items_equality unsigned_Decides) (λ p q e. cc)) also tt)
 
@@ -76,7 +85,7 @@ pub via_equality : IsEqualityOf V.via_of ViaEq.ghosts.eq
 unfolding via_order
 via_equality =
     enum_meaning via_order via_enum V.via_of _ (λ t.
-    (λ x. refl, one_meaning (λ a. a) V.inet four_equality (λ p q e. cc)) also
-    (λ x. refl, one_meaning (λ a. a) V.inet6 sixteen_equality (λ p q e. cc)) also
+    (λ x. refl, one_meaning (λ a. a) V.inet ipv4_equality (λ p q e. cc)) also
+    (λ x. refl, one_meaning (λ a. a) V.inet6 ipv6_equality (λ p q e. cc)) also
     (λ x. refl, one_meaning (λ v. v.items) V.packet (items_equality unsigned_Decides) (λ p q e. cc)) also
     (λ x. refl, one_meaning of_other other_of other_equality other_one) also tt)

@@ -6,10 +6,9 @@ use Rattle.std.specs.Cmp.{unsigned_Decides}
 use Rattle.std.proofs.Common.{refl, sym, rules, ap, true≢false}
 use Rattle.npr_base.specs.Equality.{IsEquality, IsEqualityOf}
 use Rattle.npr_base.specs.ItemEquality.{item_equality}
+use Rattle.npr_base.specs.IpLaws.{ipv4_equality, ipv6_equality}
 use Rattle.npr_base.specs.MeaningLaws.{enum_meaning, ◌also◌, one_meaning, items_equality}
 use Rattle.npr_base.specs.StructLaws.{and_decides, decides_as}
-use Rattle.npr_base.specs.contracts.ip.Ipv4AddrPartialEq.TheImpl as V4Eq
-use Rattle.npr_base.specs.contracts.ip.Ipv6AddrPartialEq.TheImpl as V6Eq
 use Rattle.npr_srh.specs.Seg6.{Seg6, seg6_of}
 use Rattle.npr_srh.specs.Seg6Tunnel as OfSeg6
 use Rattle.npr_srh.specs.Seg6Local.{Local, local_of}
@@ -34,12 +33,6 @@ use Rattle.npr_srh.specs.contracts.ioam6.RouteIoam6Tunnel.{enum as ioam6_enum}
 use Rattle.npr_srh.specs.contracts.ioam6.RouteIoam6TunnelPartialEq.TheImpl as Ioam6Eq
 
 -- ---- the fields
-
-v4_equality : IsEquality V4Eq.ghosts.eq
-v4_equality = search rules
-
-v6_equality : IsEquality V6Eq.ghosts.eq
-v6_equality = search rules
 
 mode_equality : IsEquality ModeEq.ghosts.eq
 mode_equality = search rules
@@ -66,7 +59,7 @@ seg6_header_equality a b =
     decides_as
     (λ p. λ i. record { mode = p.0 i; segments = p.1.0 i; hmac = p.1.1 i })
     (λ e. (ap (λ (h : Seg6). h.mode) e, (ap (λ (h : Seg6). h.segments) e, ap (λ (h : Seg6). h.hmac) e)))
-    (and_decides (mode_equality a.mode b.mode) (and_decides (items_equality v6_equality a.segments b.segments) (key_equality a.hmac b.hmac)))
+    (and_decides (mode_equality a.mode b.mode) (and_decides (items_equality ipv6_equality a.segments b.segments) (key_equality a.hmac b.hmac)))
 
 pub local_header_equality : IsEqualityOf local_of LocalHeaderEq.ghosts.eq
 local_header_equality a b =
@@ -78,7 +71,7 @@ local_header_equality a b =
     (and_decides (unsigned_Decides a.segments_left b.segments_left)
     (and_decides (unsigned_Decides a.first_segment b.first_segment)
     (and_decides (unsigned_Decides a.flags b.flags)
-    (and_decides (unsigned_Decides a.tag b.tag) (items_equality v6_equality a.segments b.segments)))))))
+    (and_decides (unsigned_Decides a.tag b.tag) (items_equality ipv6_equality a.segments b.segments)))))))
 
 pub rpl_header_equality : IsEqualityOf rpl_of RplHeaderEq.ghosts.eq
 rpl_header_equality a b =
@@ -90,7 +83,7 @@ rpl_header_equality a b =
     (and_decides (unsigned_Decides a.segments_left b.segments_left)
     (and_decides (unsigned_Decides a.cmpri b.cmpri)
     (and_decides (unsigned_Decides a.cmpre b.cmpre)
-    (and_decides (unsigned_Decides a.pad b.pad) (items_equality v6_equality a.segments b.segments)))))))
+    (and_decides (unsigned_Decides a.pad b.pad) (items_equality ipv6_equality a.segments b.segments)))))))
 
 -- ---- the members
 
@@ -105,7 +98,7 @@ unfolding seg6_order
 seg6_equality =
     enum_meaning seg6_order seg6_enum OfSeg6.meaning_of _ (λ t.
     (λ x. refl, one_meaning seg6_of OfSeg6.header seg6_header_equality (λ p q e. cc)) also
-    (λ x. refl, one_meaning (λ f. f) OfSeg6.src v6_equality (λ p q e. cc)) also
+    (λ x. refl, one_meaning (λ f. f) OfSeg6.src ipv6_equality (λ p q e. cc)) also
     (λ x. refl, one_meaning (λ f. f) OfSeg6.table unsigned_Decides (λ p q e. cc)) also
     (λ x. refl, one_meaning (λ f. f) OfSeg6.other item_equality (λ p q e. cc)) also tt)
 
@@ -129,8 +122,8 @@ local_equality =
     (λ x. refl, one_meaning (λ f. f) OfLocal.act action_equality (λ p q e. cc)) also
     (λ x. refl, one_meaning local_of OfLocal.srh local_header_equality (λ p q e. cc)) also
     (λ x. refl, one_meaning (λ f. f) OfLocal.table unsigned_Decides (λ p q e. cc)) also
-    (λ x. refl, one_meaning (λ f. f) OfLocal.nh4 v4_equality (λ p q e. cc)) also
-    (λ x. refl, one_meaning (λ f. f) OfLocal.nh6 v6_equality (λ p q e. cc)) also
+    (λ x. refl, one_meaning (λ f. f) OfLocal.nh4 ipv4_equality (λ p q e. cc)) also
+    (λ x. refl, one_meaning (λ f. f) OfLocal.nh6 ipv6_equality (λ p q e. cc)) also
     (λ x. refl, one_meaning (λ f. f) OfLocal.iif unsigned_Decides (λ p q e. cc)) also
     (λ x. refl, one_meaning (λ f. f) OfLocal.oif unsigned_Decides (λ p q e. cc)) also
     (λ x. refl, one_meaning (λ f. f) OfLocal.vrf_table unsigned_Decides (λ p q e. cc)) also
@@ -165,9 +158,9 @@ ioam6_equality =
     enum_meaning ioam6_order ioam6_enum OfIoam6.meaning_of _ (λ t.
     (λ x. refl, λ x y is. (λ e. refl, λ e. refl)) also
     (λ x. refl, one_meaning (λ f. f) OfIoam6.mode ioam6_mode_equality (λ p q e. cc)) also
-    (λ x. refl, one_meaning (λ f. f) OfIoam6.dst v6_equality (λ p q e. cc)) also
+    (λ x. refl, one_meaning (λ f. f) OfIoam6.dst ipv6_equality (λ p q e. cc)) also
     (λ x. refl, one_meaning (λ f. f) OfIoam6.traced trace_equality (λ p q e. cc)) also
     (λ x. refl, one_meaning (λ f. f) OfIoam6.freq_k unsigned_Decides (λ p q e. cc)) also
     (λ x. refl, one_meaning (λ f. f) OfIoam6.freq_n unsigned_Decides (λ p q e. cc)) also
-    (λ x. refl, one_meaning (λ f. f) OfIoam6.src v6_equality (λ p q e. cc)) also
+    (λ x. refl, one_meaning (λ f. f) OfIoam6.src ipv6_equality (λ p q e. cc)) also
     (λ x. refl, one_meaning (λ f. f) OfIoam6.other item_equality (λ p q e. cc)) also tt)

@@ -4,17 +4,17 @@ use Rattle.std.specs.Cmp.{unsigned_Decides}
 use Rattle.std.proofs.Common.{refl, rules, ap}
 use Rattle.npr_base.specs.Equality.{IsEquality, IsEqualityOf}
 use Rattle.npr_base.specs.ItemEquality.{item_equality}
+use Rattle.npr_base.specs.IpLaws.{ipv4_equality, ipv6_equality}
 use Rattle.npr_base.specs.MeaningLaws.{enum_meaning, ◌also◌, one_meaning, items_equality, items_meaning}
 use Rattle.npr_base.specs.StructLaws.{and_decides, decides_as}
-use Rattle.npr_base.specs.contracts.ip.Ipv4AddrPartialEq.TheImpl as V4Eq
-use Rattle.npr_base.specs.contracts.ip.Ipv6AddrPartialEq.TheImpl as V6Eq
-use Rattle.npr_scalar.specs.contracts.mpls.MplsLabelPartialEq.TheImpl as LabelEq
+use Rattle.npr_scalar.specs.EqualityLaws.{label_equality}
 use Rattle.npr_srh.specs.EqualityLaws.{seg6_equality, local_equality, rpl_equality, ioam6_equality}
 use Rattle.npr_srh.specs.Ioam6Tunnel as OfIoam6
 use Rattle.npr_srh.specs.RplTunnel as OfRpl
 use Rattle.npr_srh.specs.Seg6LocalTunnel as OfLocal
 use Rattle.npr_srh.specs.Seg6Tunnel as OfSeg6
 use Rattle.npr_tunnel.specs.Geneve.{Geneve, option_of}
+use Rattle.npr_tunnel.specs.contracts.encap_type.RouteLwEnCapTypePartialEq.TheImpl as TypeEq
 use Rattle.npr_tunnel.specs.contracts.flags.RouteIp6TunnelFlagsPartialEq.TheImpl as Ip6FlagsEq
 use Rattle.npr_tunnel.specs.contracts.flags.RouteIpTunnelFlagsPartialEq.TheImpl as IpFlagsEq
 use Rattle.npr_tunnel.specs.contracts.geneve.RouteGeneveOptPartialEq.TheImpl as GeneveEq
@@ -46,14 +46,8 @@ use Rattle.npr_tunnel.specs.contracts.encap.RouteLwTunnelEncapPartialEq.TheImpl 
 
 -- ---- the fields
 
-v4_equality : IsEquality V4Eq.ghosts.eq
-v4_equality = search rules
-
-v6_equality : IsEquality V6Eq.ghosts.eq
-v6_equality = search rules
-
-label_equality : IsEquality LabelEq.ghosts.eq
-label_equality = search rules
+pub encap_type_equality : IsEquality TypeEq.ghosts.eq
+encap_type_equality = search rules
 
 ip_flags_equality : IsEqualityOf (λ (f : RouteIpTunnelFlags). f.0) IpFlagsEq.ghosts.eq
 ip_flags_equality a b = unsigned_Decides a.0 b.0
@@ -159,8 +153,8 @@ ip_equality =
     enum_meaning ip_order ip_enum OfIp.meaning_of _ (λ t.
     (λ x. refl, λ x y is. (λ e. refl, λ e. refl)) also
     (λ x. refl, one_meaning (λ n. n) OfIp.id unsigned_Decides (λ p q e. cc)) also
-    (λ x. refl, one_meaning (λ a. a) OfIp.destination v4_equality (λ p q e. cc)) also
-    (λ x. refl, one_meaning (λ a. a) OfIp.source v4_equality (λ p q e. cc)) also
+    (λ x. refl, one_meaning (λ a. a) OfIp.destination ipv4_equality (λ p q e. cc)) also
+    (λ x. refl, one_meaning (λ a. a) OfIp.source ipv4_equality (λ p q e. cc)) also
     (λ x. refl, one_meaning (λ n. n) OfIp.hops unsigned_Decides (λ p q e. cc)) also
     (λ x. refl, one_meaning (λ n. n) OfIp.service unsigned_Decides (λ p q e. cc)) also
     (λ x. refl, one_meaning (λ (f : RouteIpTunnelFlags). f.0) OfIp.flags ip_flags_equality (λ p q e. cc)) also
@@ -173,8 +167,8 @@ ip6_equality =
     enum_meaning ip_order ip6_enum OfIp.meaning6_of _ (λ t.
     (λ x. refl, λ x y is. (λ e. refl, λ e. refl)) also
     (λ x. refl, one_meaning (λ n. n) OfIp.id unsigned_Decides (λ p q e. cc)) also
-    (λ x. refl, one_meaning (λ a. a) OfIp.destination v6_equality (λ p q e. cc)) also
-    (λ x. refl, one_meaning (λ a. a) OfIp.source v6_equality (λ p q e. cc)) also
+    (λ x. refl, one_meaning (λ a. a) OfIp.destination ipv6_equality (λ p q e. cc)) also
+    (λ x. refl, one_meaning (λ a. a) OfIp.source ipv6_equality (λ p q e. cc)) also
     (λ x. refl, one_meaning (λ n. n) OfIp.hops unsigned_Decides (λ p q e. cc)) also
     (λ x. refl, one_meaning (λ n. n) OfIp.service unsigned_Decides (λ p q e. cc)) also
     (λ x. refl, one_meaning (λ (f : RouteIp6TunnelFlags). f.0) OfIp.flags ip6_flags_equality (λ p q e. cc)) also
