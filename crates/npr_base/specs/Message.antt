@@ -1,6 +1,5 @@
 -- A message: a fixed header, and attributes to the end of the bytes.
 use Rattle.std.specs.Prelude.{◌≡◌, ℕ, ◌*◌, ◌<◌, ◌≤◌, ◌⊎◌, List, ◌++◌, length, Option, None}
-use Rattle.std.proofs.Common.{refl, sym, subst}
 use Rattle.npr_base.specs.declared.refusal.DecodeError.{DecodeError}
 use Rattle.npr_base.specs.declared.refusal.DecodeError.TheVariants.{HeaderTooShort}
 use Rattle.npr_base.specs.declared.refusal.EmitError.{EmitError}
@@ -28,28 +27,20 @@ pub record Body (H M : Type 0) : Type 1 where
   pub reads_back : (h : H) (xs : List M) → Coherent h xs → first_unfit misfit xs ≡ None → Reads h (encodings writes xs) xs
   pub grows : (h : H) (bytes : List ℕ) (xs : List M) → IsBytes bytes → Reads h bytes xs → 2 * length (encodings writes xs) ≤ 5 * length bytes
 
--- attributes of a family that rests on the header, whose members are written in one way under all
-abbrev pub attributes_under : {H M : Type 0} (f : H → Family M) (writes : M → Item) (misfit : M → Option EmitError) → ((h : H) → (f h).writes ≡ writes) → ((h : H) → (f h).misfit ≡ misfit) → Body H M
-attributes_under f writes misfit same_writes same_misfit = record {
-  Reads = λ h bytes xs. ReadsList (f h).Reads bytes xs;
-  Faulty = λ h bytes e. FirstFault (f h).Reads (f h).Faulty bytes e;
-  writes = writes;
-  misfit = misfit;
-  Coherent = λ h xs. AllOf (f h).Coherent xs;
-  one_reading = λ h bytes xs ys p q. ReadsList-one (f h).Reads (f h).one_reading bytes xs ys p q;
-  no_fault = λ h bytes xs e p q. FirstFault-excludes (f h).Reads (f h).Faulty (f h).no_fault bytes e xs q p;
-  reads_coherent = λ h bytes xs is p. ReadsList-known (f h).Coherent (f h).Reads (f h).reads_coherent bytes xs is p;
-  reads_back = λ h xs all fits.
-      subst (λ w. ReadsList (f h).Reads (encodings w xs) xs) (same_writes h)
-      (encodings-read (f h).Coherent (f h).misfit (f h).writes (f h).Reads (f h).fits_small (f h).reads_back xs all (subst (λ k. first_unfit k xs ≡ None) (sym (same_misfit h)) fits));
-  grows = λ h bytes xs is p.
-      subst (λ w. 2 * length (encodings w xs) ≤ 5 * length bytes) (same_writes h)
-      (ReadsList-grows (f h).writes (f h).Reads (f h).grows bytes xs is p);
-}
-
 -- attributes of one family, whatever the header says
 abbrev pub attributes_of : {H M : Type 0} → Family M → Body H M
-attributes_of f = attributes_under (λ h. f) f.writes f.misfit (λ h. refl) (λ h. refl)
+attributes_of f = record {
+  Reads = λ h bytes xs. ReadsList f.Reads bytes xs;
+  Faulty = λ h bytes e. FirstFault f.Reads f.Faulty bytes e;
+  writes = f.writes;
+  misfit = f.misfit;
+  Coherent = λ h xs. AllOf f.Coherent xs;
+  one_reading = λ h bytes xs ys p q. ReadsList-one f.Reads f.one_reading bytes xs ys p q;
+  no_fault = λ h bytes xs e p q. FirstFault-excludes f.Reads f.Faulty f.no_fault bytes e xs q p;
+  reads_coherent = λ h bytes xs is p. ReadsList-known f.Coherent f.Reads f.reads_coherent bytes xs is p;
+  reads_back = λ h xs all fits. encodings-read f.Coherent f.misfit f.writes f.Reads f.fits_small f.reads_back xs all fits;
+  grows = λ h bytes xs is p. ReadsList-grows f.writes f.Reads f.grows bytes xs is p;
+}
 
 -- the bytes are the message: a header, and then its attributes
 pub record IsMessage {H M : Type 0} (L : Layout H) (B : Body H M) (bytes : List ℕ) (m : Message H M) : Type 0 where

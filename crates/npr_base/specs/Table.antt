@@ -71,10 +71,10 @@ pub record Held : Type 1 where
   pub codec : Codec V
   pub value : V
 
-abbrev pub held : {V : Type 0} → ℕ → Codec V → V → Held
-held {V} kind codec value = record {
+abbrev pub held_marked : {V : Type 0} → Bool → ℕ → Codec V → V → Held
+held_marked {V} nested kind codec value = record {
   kind = kind;
-  nested = false;
+  nested = nested;
   bytes = codec.writes value;
   misfit = codec.misfit kind value;
   IsHeld = codec.Holds value;
@@ -84,19 +84,8 @@ held {V} kind codec value = record {
   value = value;
 }
 
--- the same with NESTED in the written kind, whatever the kind says
-abbrev pub held_nested : {V : Type 0} → ℕ → Codec V → V → Held
-held_nested {V} kind codec value = record {
-  kind = kind;
-  nested = true;
-  bytes = codec.writes value;
-  misfit = codec.misfit kind value;
-  IsHeld = codec.Holds value;
-  members = codec.members value;
-  V = V;
-  codec = codec;
-  value = value;
-}
+abbrev pub held : {V : Type 0} → ℕ → Codec V → V → Held
+held kind codec value = held_marked false kind codec value
 
 abbrev pub held_other : Item → Held
 held_other x = held x.kind raw x.value

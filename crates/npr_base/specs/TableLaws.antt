@@ -12,7 +12,7 @@ both : {P Q S T R : Type 0} (b : Bool) → (P → S → R) → (Q → T → R) �
 both true f g p q = f p q
 both false f g p q = g p q
 
-one_of : {P Q R : Type 0} (b : Bool) → (b ≡ true → P → R) → (b ≡ false → Q → R) → MatchBool b P Q → R
+pub one_of : {P Q R : Type 0} (b : Bool) → (b ≡ true → P → R) → (b ≡ false → Q → R) → MatchBool b P Q → R
 one_of true f g p = f refl p
 one_of false f g p = g refl p
 

@@ -1,5 +1,5 @@
 -- The attributes of a route message (linux/rtnetlink.h, RTA_*), by their table under the header.
-use Rattle.std.specs.Prelude.{◌≡◌, ◌≢◌, ℕ, ◌<◌, ◌≤◌, ◌^◌, Bool, true, false, List, [], ◌∷◌, length, map, Option, None}
+use Rattle.std.specs.Prelude.{◌≡◌, ◌≢◌, ℕ, ◌<◌, ◌≤◌, ◌^◌, Bool, true, false, List, [], ◌∷◌, length, map, Option, None, if◌then◌else◌}
 use Rattle.std.proofs.Common.{refl, arith, rules}
 use Rattle.npr_base.specs.declared.refusal.At.{At}
 use Rattle.npr_base.specs.declared.refusal.AttrFamily.TheVariants.{Route as OfRoute}
@@ -10,7 +10,7 @@ use Rattle.npr_base.specs.Framing.{Item, number_of}
 use Rattle.npr_base.specs.Layout.{Layout, byte, le32, le64, be16, be32}
 use Rattle.npr_base.specs.Codec.{Codec, exactly, leading, raw}
 use Rattle.npr_base.specs.ListCodec.{list_of}
-use Rattle.npr_base.specs.Table.{Family, Table, Row, row, Held, held, held_other, item_of, IsOther, Aligned, ReadsAt}
+use Rattle.npr_base.specs.Table.{Family, Table, Row, row, Held, held, held_marked, held_other, item_of, IsOther, Aligned, ReadsAt}
 use Rattle.npr_base.specs.TableLaws.{flat, other-back}
 use Rattle.npr_scalar.specs.MplsLaws.{mpls_labels}
 use Rattle.npr_scalar.specs.Realm.{route_realm}
@@ -29,10 +29,13 @@ use Rattle.npr_scalar.specs.declared.preference.RouteMplsTtlPropagation.{RouteMp
 use Rattle.npr_scalar.specs.declared.preference.RoutePreference.{RoutePreference}
 use Rattle.npr_scalar.specs.declared.realm.RouteRealm.{RouteRealm}
 use Rattle.npr_tunnel.specs.EncapType.{encap_type as encap_type_layout}
+use Rattle.npr_tunnel.specs.Encapsulation as OfEncap
+use Rattle.npr_tunnel.specs.IpTunnel as OfIp
 use Rattle.npr_tunnel.specs.declared.encap_type.RouteLwEnCapType.{RouteLwEnCapType}
+use Rattle.npr_tunnel.specs.declared.encap_type.RouteLwEnCapType.TheVariants.{None as NoEncapsulation}
 use Rattle.npr_route.specs.Metric.{Metric, metric_of, metrics as metric_family}
 use Rattle.npr_route.specs.declared.attribute.RouteAttribute.{RouteAttribute}
-use Rattle.npr_route.specs.declared.attribute.RouteAttribute.TheVariants.{Destination, Source, Iif, Oif, Gateway, Priority, PrefSource, Metrics as HasMetrics, Realm, CacheInfo, Table as HasTable, Mark, MfcStats, Via as HasVia, NewDestination, NewDestinationAddress, Preference, EncapType, Expires, MulticastExpires, Uid, TtlPropagate, IpProto, Sport, Dport, NhId, Flowlabel, Other}
+use Rattle.npr_route.specs.declared.attribute.RouteAttribute.TheVariants.{Destination, Source, Iif, Oif, Gateway, Priority, PrefSource, Metrics as HasMetrics, Realm, CacheInfo, Table as HasTable, Mark, MfcStats, Via as HasVia, NewDestination, NewDestinationAddress, Preference, EncapType, Encap, Expires, MulticastExpires, Uid, TtlPropagate, IpProto, Sport, Dport, NhId, Flowlabel, Other}
 
 -- what an attribute is, without where it lies in memory
 pub data Meaning : Type 0 where
@@ -54,6 +57,7 @@ pub data Meaning : Type 0 where
   new_destination_address : AddressMeaning → Meaning
   preference : RoutePreference → Meaning
   encap_type : RouteLwEnCapType → Meaning
+  encap : List OfEncap.Meaning → Meaning
   expires : ℕ → Meaning
   multicast_expires : ℕ → Meaning
   uid : ℕ → Meaning
@@ -84,6 +88,7 @@ meaning_of (NewDestination a) = new_destination a.items
 meaning_of (NewDestinationAddress a) = new_destination_address (address_of a)
 meaning_of (Preference a) = preference a
 meaning_of (EncapType a) = encap_type a
+meaning_of (Encap a) = encap (map OfEncap.meaning_of a.items)
 meaning_of (Expires a) = expires a
 meaning_of (MulticastExpires a) = multicast_expires a
 meaning_of (Uid a) = uid a
@@ -104,7 +109,7 @@ is_multicast Multicast = true
 is_multicast kind = false
 
 -- what the reading of an attribute rests on besides its bytes: the family and the type of the
--- message's header, and the type of its encapsulation
+-- message's header, and the type that governs its encapsulation
 abbrev pub Context : Type 0
 Context = AddressFamily × RouteType × RouteLwEnCapType
 
@@ -142,9 +147,27 @@ expires_variant false n = expires n
 abbrev pub expires_row : Bool → Row Meaning
 expires_row multicast = row (at 23) (exactly (expires_layout multicast)) (expires_variant multicast)
 
+-- number 22: members of the family of the type
+abbrev pub encap_row : RouteLwEnCapType → Row Meaning
+encap_row type = row (at 22) (list_of (OfEncap.encapsulation type)) encap
+
+-- the members beside which it is written with NESTED
+abbrev pub marks : OfEncap.Meaning → Bool
+marks (OfEncap.seg6 m) = true
+marks (OfEncap.xfrm m) = true
+marks (OfEncap.rpl m) = true
+marks (OfEncap.ioam6 m) = true
+marks (OfEncap.ip (OfIp.options xs)) = true
+marks (OfEncap.ip6 (OfIp.options xs)) = true
+marks m = false
+
+abbrev pub any_marks : List OfEncap.Meaning → Bool
+any_marks [] = false
+any_marks (m ∷ ms) = if marks m then true else any_marks ms
+
 -- the table
-abbrev pub rows : Form → Bool → List (Row Meaning)
-rows form multicast =
+abbrev pub rows : Form → Bool → RouteLwEnCapType → List (Row Meaning)
+rows form multicast type =
     row (at 1) (address_in form) destination
     ∷ row (at 2) (address_in form) source
     ∷ row (at 3) (exactly le32) iif
@@ -162,6 +185,7 @@ rows form multicast =
     ∷ new_destination_row form
     ∷ row (at 20) (exactly route_preference) preference
     ∷ row (at 21) (exactly encap_type_layout) encap_type
+    ∷ encap_row type
     ∷ expires_row multicast
     ∷ row (at 25) (exactly le32) uid
     ∷ row (at 26) (exactly ttl_propagation) ttl_propagate
@@ -172,7 +196,7 @@ rows form multicast =
     ∷ row (at 31) (exactly be32) flowlabel
     ∷ []
 
--- how each meaning is written, whatever the header
+-- how each meaning is written, whatever the context
 abbrev pub place : Meaning → Held
 place (destination a) = held 1 raw (address_bytes a)
 place (source a) = held 2 raw (address_bytes a)
@@ -192,6 +216,7 @@ place (new_destination a) = held 19 mpls_labels a
 place (new_destination_address a) = held 19 raw (address_bytes a)
 place (preference a) = held 20 (exactly route_preference) a
 place (encap_type a) = held 21 (exactly encap_type_layout) a
+place (encap a) = held_marked (any_marks a) 22 (list_of (OfEncap.encapsulation NoEncapsulation)) a
 place (expires a) = held 23 (exactly le32) a
 place (multicast_expires a) = held 23 (exactly le64) a
 place (uid a) = held 25 (exactly le32) a
@@ -206,17 +231,19 @@ place (other x) = held_other x
 -- why the list inside can't be written, if so
 abbrev pub unfit_inside : Meaning → Option EmitError
 unfit_inside (metrics xs) = list_unfit metric_family.misfit metric_family.writes xs
+unfit_inside (encap xs) = list_unfit OfEncap.misfit OfEncap.writes xs
 unfit_inside m = None
 
 -- what can be read
-abbrev pub Coherent : Form → Bool → Meaning → Type 0
-Coherent form multicast (destination a) = (address_in form).Holds a
-Coherent form multicast (source a) = (address_in form).Holds a
-Coherent form multicast (gateway a) = (address_in form).Holds a
-Coherent form multicast (pref_source a) = (address_in form).Holds a
-Coherent form multicast (new_destination a) = (form ≡ label) × mpls_labels.Holds a
-Coherent form multicast (new_destination_address a) = (form ≢ label) × (address_in form).Holds a
-Coherent form multicast (expires n) = (multicast ≡ false) × (n < 2 ^ 32)
-Coherent form multicast (multicast_expires n) = (multicast ≡ true) × (n < 2 ^ 64)
-Coherent form multicast (other x) = IsOther (rows form multicast) x
-Coherent form multicast m = (place m).IsHeld
+abbrev pub Coherent : Form → Bool → RouteLwEnCapType → Meaning → Type 0
+Coherent form multicast type (destination a) = (address_in form).Holds a
+Coherent form multicast type (source a) = (address_in form).Holds a
+Coherent form multicast type (gateway a) = (address_in form).Holds a
+Coherent form multicast type (pref_source a) = (address_in form).Holds a
+Coherent form multicast type (new_destination a) = (form ≡ label) × mpls_labels.Holds a
+Coherent form multicast type (new_destination_address a) = (form ≢ label) × (address_in form).Holds a
+Coherent form multicast type (encap xs) = (list_of (OfEncap.encapsulation type)).Holds xs
+Coherent form multicast type (expires n) = (multicast ≡ false) × (n < 2 ^ 32)
+Coherent form multicast type (multicast_expires n) = (multicast ≡ true) × (n < 2 ^ 64)
+Coherent form multicast type (other x) = IsOther (rows form multicast type) x
+Coherent form multicast type m = (place m).IsHeld

@@ -2,55 +2,63 @@
 use Rattle.std.specs.Prelude.{◌≡◌, ◌≢◌, ℕ, ◌<◌, ◌≤◌, ◌^◌, Bool, true, false, length, Option, None}
 use Rattle.std.proofs.Common.{refl, arith, rules}
 use Rattle.npr_base.specs.declared.refusal.EmitError.{EmitError}
-use Rattle.npr_base.specs.Framing.{Item, number_of}
+use Rattle.npr_base.specs.Framing.{Item, marked, number_of}
 use Rattle.npr_base.specs.Layout.{le32, le64}
 use Rattle.npr_base.specs.Codec.{Codec, exactly, raw}
+use Rattle.npr_base.specs.ListCodec.{list_of}
 use Rattle.npr_base.specs.Table.{Family, item_of, Aligned, ReadsAt}
 use Rattle.npr_base.specs.TableLaws.{flat, other-back}
 use Rattle.npr_scalar.specs.MplsLaws.{mpls_labels}
 use Rattle.npr_scalar.specs.RouteAddress.{address_in, Form, four, sixteen, label, any, form_of}
-use Rattle.npr_route.specs.Attribute.{Context, Meaning, destination, source, gateway, pref_source, new_destination, new_destination_address, expires, multicast_expires, other, rows, new_destination_codec, new_destination_variant, NewDestinationValue, expires_layout, expires_variant, place, Coherent, is_multicast}
+use Rattle.npr_tunnel.specs.Encapsulation.{encapsulation}
+use Rattle.npr_tunnel.specs.declared.encap_type.RouteLwEnCapType.{RouteLwEnCapType}
+use Rattle.npr_route.specs.Attribute.{Context, Meaning, destination, source, gateway, pref_source, new_destination, new_destination_address, encap, any_marks, expires, multicast_expires, other, rows, new_destination_codec, new_destination_variant, NewDestinationValue, expires_layout, expires_variant, place, Coherent, is_multicast}
 
-new_destination-aligned : (form : Form) (multicast : Bool) (v : NewDestinationValue form) → ((item_of (place (new_destination_variant form v))).value ≡ (new_destination_codec form).writes v) × ((new_destination_codec form).Holds v → Coherent form multicast (new_destination_variant form v))
-new_destination-aligned four multicast v = (refl, λ h. (λ e. cc, h))
-new_destination-aligned sixteen multicast v = (refl, λ h. (λ e. cc, h))
-new_destination-aligned label multicast v = (refl, λ h. (refl, h))
-new_destination-aligned any multicast v = (refl, λ h. (λ e. cc, h))
+new_destination-aligned : (form : Form) (multicast : Bool) (type : RouteLwEnCapType) (v : NewDestinationValue form) → ((item_of (place (new_destination_variant form v))).value ≡ (new_destination_codec form).writes v) × ((new_destination_codec form).Holds v → Coherent form multicast type (new_destination_variant form v))
+new_destination-aligned four multicast type v = (refl, λ h. (λ e. cc, h))
+new_destination-aligned sixteen multicast type v = (refl, λ h. (λ e. cc, h))
+new_destination-aligned label multicast type v = (refl, λ h. (refl, h))
+new_destination-aligned any multicast type v = (refl, λ h. (λ e. cc, h))
 
-expires-aligned : (form : Form) (multicast : Bool) (v : ℕ) → ((item_of (place (expires_variant multicast v))).value ≡ (exactly (expires_layout multicast)).writes v) × ((exactly (expires_layout multicast)).Holds v → Coherent form multicast (expires_variant multicast v))
-expires-aligned form true v = (refl, λ h. (refl, h))
-expires-aligned form false v = (refl, λ h. (refl, h))
+expires-aligned : (form : Form) (multicast : Bool) (type : RouteLwEnCapType) (v : ℕ) → ((item_of (place (expires_variant multicast v))).value ≡ (exactly (expires_layout multicast)).writes v) × ((exactly (expires_layout multicast)).Holds v → Coherent form multicast type (expires_variant multicast v))
+expires-aligned form true type v = (refl, λ h. (refl, h))
+expires-aligned form false type v = (refl, λ h. (refl, h))
 
-pub aligned : (form : Form) (multicast : Bool) → Aligned (λ m. item_of (place m)) (Coherent form multicast) (rows form multicast)
-aligned form multicast = search (rules, new_destination-aligned form multicast, expires-aligned form multicast)
+pub aligned : (form : Form) (multicast : Bool) (type : RouteLwEnCapType) → Aligned (λ m. item_of (place m)) (Coherent form multicast type) (rows form multicast type)
+aligned form multicast type = search (rules, new_destination-aligned form multicast type, expires-aligned form multicast type)
 
-pub kinds : (form : Form) (multicast : Bool) (m : Meaning) → Coherent form multicast m → (place m).kind < 2 ^ 16
-kinds form multicast (other x) c = c.proper.kind
-kinds form multicast m c = omega arith
+pub kinds : (form : Form) (multicast : Bool) (type : RouteLwEnCapType) (m : Meaning) → Coherent form multicast type m → (place m).kind < 2 ^ 16
+kinds form multicast type (other x) c = c.proper.kind
+kinds form multicast type m c = omega arith
 
 pub short : (m : Meaning) → (place m).misfit ≡ None → length (place m).bytes ≤ 65531
 short (other x) fits = raw.fits_short x.kind x.value fits
 short m fits = (place m).codec.fits_short (place m).kind (place m).value fits
 
-pub back : (form : Form) (multicast : Bool) (m : Meaning) → Coherent form multicast m → (place m).misfit ≡ None → ReadsAt other (rows form multicast) (number_of (item_of (place m)).kind) (item_of (place m)) m
-back form multicast (other x) c fits = other-back other (rows form multicast) (number_of x.kind) x c.alone
-back form multicast (destination a) c fits = (a, (address_in form).reads_back 1 a c fits, refl)
-back form multicast (source a) c fits = (a, (address_in form).reads_back 2 a c fits, refl)
-back form multicast (gateway a) c fits = (a, (address_in form).reads_back 5 a c fits, refl)
-back form multicast (pref_source a) c fits = (a, (address_in form).reads_back 7 a c fits, refl)
-back label multicast (new_destination a) c fits = (a, mpls_labels.reads_back 19 a c.1 fits, refl)
-back four multicast (new_destination a) c fits = absurd (let e = c.0 in cc)
-back sixteen multicast (new_destination a) c fits = absurd (let e = c.0 in cc)
-back any multicast (new_destination a) c fits = absurd (let e = c.0 in cc)
-back label multicast (new_destination_address a) c fits = absurd (c.0 refl)
-back four multicast (new_destination_address a) c fits = (a, (address_in four).reads_back 19 a c.1 fits, refl)
-back sixteen multicast (new_destination_address a) c fits = (a, (address_in sixteen).reads_back 19 a c.1 fits, refl)
-back any multicast (new_destination_address a) c fits = (a, (address_in any).reads_back 19 a c.1 fits, refl)
-back form false (expires n) c fits = (n, (exactly le32).reads_back 23 n c.1 fits, refl)
-back form true (expires n) c fits = absurd (let e = c.0 in cc)
-back form true (multicast_expires n) c fits = (n, (exactly le64).reads_back 23 n c.1 fits, refl)
-back form false (multicast_expires n) c fits = absurd (let e = c.0 in cc)
-back form multicast m c fits = ((place m).value, (place m).codec.reads_back (place m).kind (place m).value c fits, refl)
+encap-number : (nested : Bool) → number_of (marked nested 22) ≡ 22
+encap-number true = refl
+encap-number false = refl
+
+pub back : (form : Form) (multicast : Bool) (type : RouteLwEnCapType) (m : Meaning) → Coherent form multicast type m → (place m).misfit ≡ None → ReadsAt other (rows form multicast type) (number_of (item_of (place m)).kind) (item_of (place m)) m
+back form multicast type (other x) c fits = other-back other (rows form multicast type) (number_of x.kind) x c.alone
+back form multicast type (destination a) c fits = (a, (address_in form).reads_back 1 a c fits, refl)
+back form multicast type (source a) c fits = (a, (address_in form).reads_back 2 a c fits, refl)
+back form multicast type (gateway a) c fits = (a, (address_in form).reads_back 5 a c fits, refl)
+back form multicast type (pref_source a) c fits = (a, (address_in form).reads_back 7 a c fits, refl)
+back label multicast type (new_destination a) c fits = (a, mpls_labels.reads_back 19 a c.1 fits, refl)
+back four multicast type (new_destination a) c fits = absurd (let e = c.0 in cc)
+back sixteen multicast type (new_destination a) c fits = absurd (let e = c.0 in cc)
+back any multicast type (new_destination a) c fits = absurd (let e = c.0 in cc)
+back label multicast type (new_destination_address a) c fits = absurd (c.0 refl)
+back four multicast type (new_destination_address a) c fits = (a, (address_in four).reads_back 19 a c.1 fits, refl)
+back sixteen multicast type (new_destination_address a) c fits = (a, (address_in sixteen).reads_back 19 a c.1 fits, refl)
+back any multicast type (new_destination_address a) c fits = (a, (address_in any).reads_back 19 a c.1 fits, refl)
+back form multicast type (encap a) c fits = rw (encap-number (any_marks a)) (a, (list_of (encapsulation type)).reads_back 22 a c fits, refl)
+back form false type (expires n) c fits = (n, (exactly le32).reads_back 23 n c.1 fits, refl)
+back form true type (expires n) c fits = absurd (let e = c.0 in cc)
+back form true type (multicast_expires n) c fits = (n, (exactly le64).reads_back 23 n c.1 fits, refl)
+back form false type (multicast_expires n) c fits = absurd (let e = c.0 in cc)
+back form multicast type m c fits = ((place m).value, (place m).codec.reads_back (place m).kind (place m).value c fits, refl)
 
 -- how each is written, whatever the context, and why it can't be
 abbrev pub writes : Meaning → Item
@@ -59,21 +67,21 @@ writes m = item_of (place m)
 abbrev pub misfit : Meaning → Option EmitError
 misfit m = (place m).misfit
 
--- the family under a form of addresses, and for multicast routes or others
-abbrev pub attributes_in : Form → Bool → Family Meaning
-attributes_in form multicast = flat (record {
-  rows = rows form multicast;
+-- the family under a form of addresses, for multicast routes or others, and under a type of encapsulation
+abbrev pub attributes_in : Form → Bool → RouteLwEnCapType → Family Meaning
+attributes_in form multicast type = flat (record {
+  rows = rows form multicast type;
   other = other;
   place = place;
-  Coherent = Coherent form multicast;
-  aligned = aligned form multicast;
+  Coherent = Coherent form multicast type;
+  aligned = aligned form multicast type;
   other_is = λ x. refl;
   other_coherent = λ x is. is;
-  kinds = kinds form multicast;
+  kinds = kinds form multicast type;
   short = short;
-  back = back form multicast;
+  back = back form multicast type;
 })
 
 -- the family under a context
 abbrev pub attributes : Context → Family Meaning
-attributes context = attributes_in (form_of context.0) (is_multicast context.1)
+attributes context = attributes_in (form_of context.0) (is_multicast context.1) context.2

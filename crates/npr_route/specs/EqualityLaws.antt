@@ -16,7 +16,8 @@ use Rattle.npr_scalar.specs.RouteTypeLaws.{route_type_equality}
 use Rattle.npr_scalar.specs.RoutePreferenceLaws.{route_preference_equality}
 use Rattle.npr_scalar.specs.RouteVia.{via_of}
 use Rattle.npr_scalar.specs.TtlPropagationLaws.{ttl_propagation_equality}
-use Rattle.npr_tunnel.specs.EqualityLaws.{encap_type_equality}
+use Rattle.npr_tunnel.specs.Encapsulation as OfEncap
+use Rattle.npr_tunnel.specs.EqualityLaws.{encap_type_equality, encap_equality}
 use Rattle.npr_route.specs.Attribute as Routes
 use Rattle.npr_route.specs.Attribute.{meaning_of}
 use Rattle.npr_route.specs.Metric as Metrics
@@ -109,16 +110,17 @@ order (Routes.new_destination a) = 14
 order (Routes.new_destination_address a) = 15
 order (Routes.preference a) = 16
 order (Routes.encap_type a) = 17
-order (Routes.expires a) = 18
-order (Routes.multicast_expires a) = 19
-order (Routes.uid a) = 20
-order (Routes.ttl_propagate a) = 21
-order (Routes.ip_proto a) = 22
-order (Routes.sport a) = 23
-order (Routes.dport a) = 24
-order (Routes.nh_id a) = 25
-order (Routes.flowlabel a) = 26
-order (Routes.other a) = 27
+order (Routes.encap a) = 18
+order (Routes.expires a) = 19
+order (Routes.multicast_expires a) = 20
+order (Routes.uid a) = 21
+order (Routes.ttl_propagate a) = 22
+order (Routes.ip_proto a) = 23
+order (Routes.sport a) = 24
+order (Routes.dport a) = 25
+order (Routes.nh_id a) = 26
+order (Routes.flowlabel a) = 27
+order (Routes.other a) = 28
 
 pub attribute_equality : IsEqualityOf meaning_of AttributeEq.ghosts.eq
 unfolding order
@@ -142,6 +144,7 @@ attribute_equality =
     (λ x. refl, one_meaning address_of Routes.new_destination_address address_equality (λ p q e. cc)) also
     (λ x. refl, one_meaning (λ f. f) Routes.preference route_preference_equality (λ p q e. cc)) also
     (λ x. refl, one_meaning (λ f. f) Routes.encap_type encap_type_equality (λ p q e. cc)) also
+    (λ x. refl, one_meaning (λ v. map OfEncap.meaning_of v.items) Routes.encap (items_meaning OfEncap.meaning_of encap_equality) (λ p q e. cc)) also
     (λ x. refl, one_meaning (λ n. n) Routes.expires unsigned_Decides (λ p q e. cc)) also
     (λ x. refl, one_meaning (λ n. n) Routes.multicast_expires unsigned_Decides (λ p q e. cc)) also
     (λ x. refl, one_meaning (λ n. n) Routes.uid unsigned_Decides (λ p q e. cc)) also

@@ -2,5 +2,8 @@ pub mod Header
 pub mod Metric
 pub mod Attribute
 pub mod AttributeLaws
+pub mod Governing
+pub mod RouteList
+pub mod RouteListLaws
 pub mod Message
 pub mod EqualityLaws

@@ -1,13 +1,14 @@
--- A route message: its header, and attributes to the end, whose meaning rests on the header (linux/rtnetlink.h).
+-- A route message: its header, and attributes to the end, whose meaning rests on the header and on the type of
+-- encapsulation among them (linux/rtnetlink.h).
 use Rattle.std.specs.Prelude.{ℕ, List, map, Option}
-use Rattle.std.proofs.Common.{refl}
 use Rattle.npr_base.specs.declared.refusal.DecodeError.{DecodeError}
 use Rattle.npr_base.specs.declared.refusal.EmitError.{EmitError}
-use Rattle.npr_base.specs.Message.{Message, Body, attributes_under, IsMessage, MessageFault, IsCoherent, spelling, message_misfit}
-use Rattle.npr_tunnel.specs.declared.encap_type.RouteLwEnCapType.TheVariants.{None as NoEncapsulation}
-use Rattle.npr_route.specs.Attribute.{Context, Meaning, meaning_of}
-use Rattle.npr_route.specs.AttributeLaws.{attributes, writes, misfit}
+use Rattle.npr_base.specs.Message.{Message, Body, IsMessage, MessageFault, IsCoherent, spelling, message_misfit}
+use Rattle.npr_route.specs.Attribute.{Meaning, meaning_of}
+use Rattle.npr_route.specs.AttributeLaws.{writes, misfit}
 use Rattle.npr_route.specs.Header.{header}
+use Rattle.npr_route.specs.RouteList.{Under, IsRouteList, RouteListFault, IsCoherentList}
+use Rattle.npr_route.specs.RouteListLaws.{route-list-one, route-list-sound, route-list-coherent, route-list-back, route-list-grows}
 use Rattle.npr_route.specs.declared.header.RouteHeader.{RouteHeader}
 use Rattle.npr_route.specs.declared.message.RouteMessage.{RouteMessage}
 
@@ -18,12 +19,23 @@ Route = Message RouteHeader Meaning
 abbrev pub message_of : RouteMessage → Route
 message_of m = record { header = m.header; attributes = map meaning_of m.attributes.items }
 
--- the context of the attributes under a header; no row rests on the type of encapsulation yet
-abbrev pub context_of : RouteHeader → Context
-context_of h = (h.address_family, h.kind, NoEncapsulation)
+-- what the header says of its list
+abbrev pub under : RouteHeader → Under
+under h = (h.address_family, h.kind)
 
 abbrev pub body : Body RouteHeader Meaning
-body = attributes_under (λ h. attributes (context_of h)) writes misfit (λ h. refl) (λ h. refl)
+body = record {
+  Reads = λ h bytes xs. IsRouteList (under h) bytes xs;
+  Faulty = λ h bytes e. RouteListFault (under h) bytes e;
+  writes = writes;
+  misfit = misfit;
+  Coherent = λ h xs. IsCoherentList (under h) xs;
+  one_reading = λ h bytes xs ys p q. route-list-one (under h) bytes xs ys p q;
+  no_fault = λ h bytes xs e p q. route-list-sound (under h) bytes xs e p q;
+  reads_coherent = λ h bytes xs is p. route-list-coherent (under h) bytes xs is p;
+  reads_back = λ h xs all fits. route-list-back (under h) xs all fits;
+  grows = λ h bytes xs is p. route-list-grows (under h) bytes xs is p;
+}
 
 -- the bytes are the message
 abbrev pub IsRouteMessage : List ℕ → Route → Type 0

@@ -1,12 +1,13 @@
 //! The attributes of a route message: `RTA_*` of `linux/rtnetlink.h`.
 
-ghost use Rattle.std.specs.Prelude.{◌≡◌, ◌≢◌, ◌≤◌, ◌<◌, ◌+◌, ◌*◌, ℕ, List, Option, None, false, length, IfOk, IfErr};
+ghost use Rattle.std.specs.Prelude.{◌≡◌, ◌≢◌, ◌≤◌, ◌<◌, ◌+◌, ◌*◌, ℕ, List, Option, None, false, length, map, IfOk, IfErr};
 ghost use Rattle.std.proofs.Common.{refl};
 ghost use Rattle.npr_base.specs.Family.{checked};
-ghost use Rattle.npr_base.specs.Table.{ReadsBy, WrongBy};
+ghost use Rattle.npr_base.specs.Table.{ReadsBy, WrongBy, plain_item};
 ghost use Rattle.npr_base.specs.declared.refusal.DecodeError.TheVariants.{OutOfMemory};
 ghost use Rattle.npr_scalar.specs.RouteAddress.{form_of};
-ghost use Rattle.npr_route.specs.Attribute.{Meaning, meaning_of, place, unfit_inside, is_multicast, new_destination_row, expires_row};
+ghost use Rattle.npr_route.specs.Attribute.{Meaning, meaning_of, place, unfit_inside, is_multicast, new_destination_row, expires_row, marks, any_marks};
+ghost use Rattle.npr_tunnel.specs.Encapsulation.{meaning_of as member_of};
 ghost use Rattle.npr_route.specs.AttributeLaws.{attributes, writes, misfit, short};
 
 use crate::metrics::RouteMetric;
@@ -20,7 +21,7 @@ use npr_scalar::{
     RouteMfcStatsBuffer, RouteMplsTtlPropagation, RoutePreference, RouteRealm, RouteType, RouteVia,
     labels_len, read_labels, write_labels,
 };
-use npr_tunnel::RouteLwEnCapType;
+use npr_tunnel::{RouteIp6Tunnel, RouteIpTunnel, RouteLwEnCapType, RouteLwTunnelEncap};
 use std::alloc::{AllocError, Global};
 
 /// An attribute of a route message. What it means rests on a context: the family and the type of
@@ -63,6 +64,8 @@ pub enum RouteAttribute {
     Preference(RoutePreference),
     /// `RTA_ENCAP_TYPE`: the type of the encapsulation.
     EncapType(RouteLwEnCapType),
+    /// `RTA_ENCAP`: the encapsulation, by the type that governs it.
+    Encap(Vec<RouteLwTunnelEncap>),
     /// `RTA_EXPIRES` of a route that is not multicast: in so many seconds.
     Expires(u32),
     /// `RTA_EXPIRES` of a multicast route, in ticks.
@@ -112,6 +115,7 @@ impl RouteAttribute {
             Self::NewDestinationAddress(x) => Self::NewDestinationAddress(x.clone(alloc)?),
             Self::Preference(x) => Self::Preference(*x),
             Self::EncapType(x) => Self::EncapType(*x),
+            Self::Encap(x) => Self::Encap(clone_list(alloc, x.as_slice())?),
             Self::Expires(x) => Self::Expires(*x),
             Self::MulticastExpires(x) => Self::MulticastExpires(*x),
             Self::Uid(x) => Self::Uid(*x),
@@ -137,6 +141,7 @@ impl RouteAttribute {
             | Self::NewDestinationAddress(x) => x.len(),
             Self::Via(x) => x.len(),
             Self::Metrics(list) => check_list(list.as_slice())?,
+            Self::Encap(list) => check_list(list.as_slice())?,
             Self::NewDestination(labels) => labels_len(labels.as_slice()),
             Self::Preference(_) | Self::TtlPropagate(_) | Self::IpProto(_) => 1,
             Self::EncapType(_) | Self::Sport(_) | Self::Dport(_) => 2,
@@ -158,10 +163,36 @@ const fn at(kind: u16) -> At
     }
 }
 
-impl Nla for RouteAttribute {
-    ghost item = { λ a. writes (meaning_of a) };
+/// Whether the member makes `RTA_ENCAP` carry `NLA_F_NESTED`: as the kernel and `ip` write it.
+const fn wants_nested(member: &RouteLwTunnelEncap) -> bool
+    ensures { result ≡ marks (member_of member.now) }
+{
+    matches!(
+        member,
+        RouteLwTunnelEncap::Seg6(_)
+            | RouteLwTunnelEncap::Xfrm(_)
+            | RouteLwTunnelEncap::Rpl(_)
+            | RouteLwTunnelEncap::Ioam6(_)
+            | RouteLwTunnelEncap::Ip(RouteIpTunnel::Opts(_))
+            | RouteLwTunnelEncap::Ip6(RouteIp6Tunnel::Opts(_))
+    )
+}
 
-    ghost nested = { λ _. false };
+fn is_marked(members: &[RouteLwTunnelEncap]) -> bool
+    ensures { result ≡ any_marks (map member_of members.now) }
+{
+    for member in members {
+        if wants_nested(member) {
+            return true;
+        }
+    }
+    false
+}
+
+impl Nla for RouteAttribute {
+    ghost item = { λ a. plain_item (place (meaning_of a)) };
+
+    ghost nested = { λ a. (place (meaning_of a)).nested };
 
     ghost unfit = { λ a. misfit (meaning_of a) };
 
@@ -187,6 +218,7 @@ impl Nla for RouteAttribute {
             Self::NewDestinationAddress(_) => 19,
             Self::Preference(_) => 20,
             Self::EncapType(_) => 21,
+            Self::Encap(_) => 22,
             Self::Expires(_) => 23,
             Self::MulticastExpires(_) => 23,
             Self::Uid(_) => 25,
@@ -200,8 +232,12 @@ impl Nla for RouteAttribute {
         }
     }
 
+    /// An encapsulation is, where one of its members wants it.
     fn is_nested(&self) -> bool {
-        false
+        match self {
+            Self::Encap(list) => is_marked(list.as_slice()),
+            _ => false,
+        }
     }
 
     fn check(&self) -> Result<usize, EmitError> {
@@ -224,6 +260,7 @@ impl Nla for RouteAttribute {
             | Self::NewDestinationAddress(x) => x.write(out),
             Self::Via(x) => x.write(out),
             Self::Metrics(list) => write_list(list.as_slice(), out),
+            Self::Encap(list) => write_list(list.as_slice(), out),
             Self::NewDestination(labels) => write_labels(out, labels.as_slice()),
             Self::Iif(x)
             | Self::Oif(x)
@@ -317,7 +354,7 @@ impl Attribute for RouteAttribute {
         item: &NlaBuffer<'_>,
         looks: &mut Looks,
     ) -> Result<Self, DecodeError> {
-        let (family, kind, _) = context;
+        let (family, kind, encapsulation) = context;
         let value = item.value();
         match item.kind() {
             1 => RouteAddress::read(alloc, family, value, at(1)).map(Self::Destination),
@@ -337,6 +374,7 @@ impl Attribute for RouteAttribute {
             19 => read_new_destination(alloc, family, value),
             20 => read_u8(value, at(20)).map(|n| Self::Preference(RoutePreference::from(n))),
             21 => read_u16(value, at(21)).map(|n| Self::EncapType(RouteLwEnCapType::from(n))),
+            22 => parse_list(alloc, encapsulation, value, looks).map(Self::Encap),
             23 => read_expires(kind, value),
             25 => read_u32(value, at(25)).map(Self::Uid),
             26 => {

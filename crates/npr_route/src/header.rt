@@ -6,12 +6,10 @@ ghost use Rattle.npr_base.specs.Family.{checked};
 ghost use Rattle.npr_base.specs.Framing.{Writes};
 ghost use Rattle.npr_base.specs.Refusal.{no_place};
 ghost use Rattle.npr_route.specs.Header.{header_buffer, header, buffer_of};
-ghost use Rattle.npr_route.specs.Message.{context_of};
 
 use bitflags::Flags;
 use npr_base::{AddressFamily, DecodeError, EmitError, Emitable, write_bytes};
 use npr_scalar::{RouteFlags, RouteProtocol, RouteScope, RouteType};
-use npr_tunnel::RouteLwEnCapType;
 
 /// The header of a route message.
 #[derive(Clone, Copy, Debug, Default, PartialEq, Eq)]
@@ -147,13 +145,6 @@ impl RouteHeader {
             kind: RouteType::from(b.kind),
             flags: RouteFlags::from_bits_retain(b.flags),
         })
-    }
-
-    /// What the reading of the attributes under this header rests on.
-    pub(crate) fn context(&self) -> (AddressFamily, RouteType, RouteLwEnCapType)
-        ensures { result ≡ context_of self.now }
-    {
-        (self.address_family, self.kind, RouteLwEnCapType::None)
     }
 }
 

@@ -3,9 +3,12 @@
 
 ghost use Rattle.std.specs.Prelude.{◌≡◌, ℕ, List, None};
 ghost use Rattle.npr_base.specs.Equality.{IsEquality, IsEqualityOf};
-ghost use Rattle.npr_route.specs.Attribute.{meaning_of};
+ghost use Rattle.npr_tunnel.specs.declared.encap_type.RouteLwEnCapType.{RouteLwEnCapType};
+ghost use Rattle.npr_route.specs.Attribute.{Meaning, meaning_of};
+ghost use Rattle.npr_route.specs.Governing.{Governs};
 ghost use Rattle.npr_route.specs.Metric.{metric_of};
 ghost use Rattle.npr_route.specs.Message.{Route, message_of, IsRouteMessage, IsCoherentRoute, route_bytes, route_misfit};
+ghost use Rattle.npr_route.specs.RouteList.{Under, IsRouteList, first_type};
 
 use crate::attribute::RouteAttribute;
 use crate::header::{RouteHeader, RouteMessageBuffer};
@@ -25,6 +28,13 @@ pub fn law_read_back()
 /// Coherent messages that fit are equal where their canonical bytes are.
 pub fn law_canonical()
     ensures { (m n : Route) → IsCoherentRoute m → route_misfit m ≡ None → IsCoherentRoute n → route_misfit n ≡ None → route_bytes m ≡ route_bytes n → m ≡ n }
+{}
+
+/// One type governs a list, whatever its bytes are; and where the bytes are a list, that is the
+/// first type that its attributes hold.
+pub fn law_governing_type()
+    ensures one { (bytes : List ℕ) (a b : RouteLwEnCapType) → Governs bytes a → Governs bytes b → a ≡ b }
+    ensures first { (under : Under) (bytes : List ℕ) (xs : List Meaning) → IsRouteList under bytes xs → Governs bytes (first_type xs) }
 {}
 
 /// `==` answers whether two values are equal, or mean the same where they hold a vector or a text.

@@ -2,8 +2,11 @@
 #![tactic(auto)]
 
 mod attribute;
+#[cfg(test)]
+mod encap_tests;
 mod header;
 pub mod laws;
+mod list;
 mod message;
 mod metrics;
 #[cfg(test)]
@@ -11,5 +14,6 @@ mod tests;
 
 pub use attribute::RouteAttribute;
 pub use header::{RouteHeader, RouteMessageBuffer};
+pub use list::read_route_list;
 pub use message::RouteMessage;
 pub use metrics::RouteMetric;

@@ -8,9 +8,10 @@ ghost use Rattle.npr_route.specs.Message.{Route, message_of, IsRouteMessage, Rou
 
 use crate::attribute::RouteAttribute;
 use crate::header::RouteHeader;
+use crate::list::read_route_list;
 use npr_base::{
     DecodeError, EmitError, Emitable, Looks, Parseable, check_list, clone_list, list_len,
-    parse_list, write_list,
+    write_list,
 };
 use std::alloc::{AllocError, Global};
 
@@ -85,8 +86,8 @@ fn read(alloc: Global, bytes: &[u8]) -> Result<RouteMessage, DecodeError>
     ensures memory { IsErrOf result OutOfMemory → (x : Item) × (rest : List ℕ) × Front (drop 12 bytes.now) x rest }
 {
     let header = RouteHeader::parse(bytes)?;
-    let context = header.context();
-    let attributes = parse_list(alloc, context, &bytes[12..], &mut Looks::new())?;
+    let under = (header.address_family, header.kind);
+    let attributes = read_route_list(alloc, &bytes[12..], under, &mut Looks::new())?;
     Ok(RouteMessage { header, attributes })
 }
 

@@ -14,14 +14,14 @@ use npr_tunnel::RouteLwEnCapType;
 use std::process::Abort;
 use std::test::Fail;
 
-const INET: [u8; 12] = [2, 0, 0, 0, 0xfe, 3, 0, 1, 0, 0, 0, 0];
+pub(super) const INET: [u8; 12] = [2, 0, 0, 0, 0xfe, 3, 0, 1, 0, 0, 0, 0];
 
 const MULTICAST: [u8; 12] = [2, 0, 0, 0, 0xfe, 3, 0, 5, 0, 0, 0, 0];
 
 const MPLS: [u8; 12] = [0x1c, 0, 0, 0, 0xfe, 3, 0, 1, 0, 0, 0, 0];
 
 /// Label 100, the bottom of its stack, in `00 06 41 ff`.
-const LABEL: MplsLabel = MplsLabel {
+pub(super) const LABEL: MplsLabel = MplsLabel {
     label: 100,
     traffic_class: 0,
     bottom_of_stack: true,
@@ -29,14 +29,14 @@ const LABEL: MplsLabel = MplsLabel {
 };
 
 /// The header and these attributes.
-fn message_of(rt: &impl AllocGlobal, header: &[u8], attributes: &[u8]) -> Result<Vec<u8>, Fail> {
+pub(super) fn message_of(rt: &impl AllocGlobal, header: &[u8], attributes: &[u8]) -> Result<Vec<u8>, Fail> {
     let mut bytes = header.to_vec(rt.alloc())?;
     bytes.extend_from_slice(attributes)?;
     Ok(bytes)
 }
 
 /// The canonical bytes of the message that these bytes are, written into a longer buffer.
-fn rewritten(rt: &(impl Abort + AllocGlobal), bytes: &[u8]) -> Result<Vec<u8>, Fail> {
+pub(super) fn rewritten(rt: &(impl Abort + AllocGlobal), bytes: &[u8]) -> Result<Vec<u8>, Fail> {
     let message = RouteMessage::parse(rt.alloc(), bytes)?;
     let length = message.check()?;
     assert_eq!(rt; message.buffer_len(), length);
@@ -62,7 +62,7 @@ fn only(
     Ok(first.clone(rt.alloc())?)
 }
 
-fn refusal(
+pub(super) fn refusal(
     rt: &impl AllocGlobal,
     header: &[u8],
     attributes: &[u8],

@@ -12,7 +12,7 @@ use Rattle.npr_base.specs.Codec.{exactly, leading, raw}
 use Rattle.npr_base.specs.IpCodec.{ip}
 use Rattle.npr_base.specs.Name.{name}
 use Rattle.npr_base.specs.ListCodec.{list_of}
-use Rattle.npr_base.specs.Table.{Family, Row, row, Held, held, held_nested, held_other, item_of, IsOther, Aligned, ReadsAt}
+use Rattle.npr_base.specs.Table.{Family, Row, row, Held, held, held_marked, held_other, item_of, IsOther, Aligned, ReadsAt}
 use Rattle.npr_base.specs.TableLaws.{flat, other-back}
 use Rattle.npr_sample.specs.Pair.{pair}
 use Rattle.npr_sample.specs.Color.{color, marks}
@@ -126,7 +126,7 @@ place (whole p) = held 15 (exactly pair) p
 place (prefix p) = held 16 (leading pair) p
 place (painted c) = held 17 (exactly color) c
 place (marked_by s) = held 18 (exactly marks) s
-place (inside xs) = held_nested 19 (list_of Inner.attributes) xs
+place (inside xs) = held_marked true 19 (list_of Inner.attributes) xs
 place (narrow n) = held 30 (exactly le32) n
 place (wide n) = held 30 (exactly le64) n
 place (other x) = held_other x

@@ -1,0 +1,140 @@
+-- The type that governs a list is one, and is the first that its attributes hold.
+use Rattle.std.specs.Prelude.{◌==◌}
+use Rattle.std.specs.Bool.{MatchBool}
+use Rattle.std.proofs.Common.{◌≡◌, ℕ, ◌+◌, ◌*◌, ◌<◌, ◌≤◌, Bool, true, false, List, [], ◌∷◌, length, Option, Some, None, refl, sym, ap, subst, ◌∙◌, arith, rules, inl, inr}
+use Rattle.std.proofs.lemmas.Bool.{eqb-true, cases_Bool}
+use Rattle.npr_base.specs.declared.refusal.DecodeError.{DecodeError}
+use Rattle.npr_base.specs.declared.refusal.EmitError.{EmitError}
+use Rattle.npr_base.specs.Framing.{Item, IsBytes, number_of, Front, Passes}
+use Rattle.npr_base.specs.Family.{Each, AllOf, ReadsList, encodings, first_unfit}
+use Rattle.npr_base.specs.FrontLaws.{Front-same, Front-shrinks, Front-sound}
+use Rattle.npr_base.specs.ListLaws.{ReadsList-one, FirstFault-excludes, ReadsList-known, encodings-read, ReadsList-grows}
+use Rattle.npr_base.specs.Table.{Family, Row, ReadsAt}
+use Rattle.npr_base.specs.TableLaws.{one_of}
+use Rattle.npr_scalar.specs.RouteAddress.{Form, four, sixteen, label, any, form_of}
+use Rattle.npr_tunnel.specs.declared.encap_type.RouteLwEnCapType.{RouteLwEnCapType}
+use Rattle.npr_route.specs.Attribute.{Context, Meaning, other, rows, is_multicast, new_destination_variant, NewDestinationValue, expires_variant}
+use Rattle.npr_route.specs.AttributeLaws.{attributes_in, attributes, writes, misfit}
+use Rattle.npr_route.specs.Governing.{told, Ends, Tells, Governs}
+use Rattle.npr_route.specs.RouteList.{Under, IsRouteList, RouteListFault, type_held, or_else, first_type, IsCoherentList}
+
+-- ---- one type
+
+ends_empty : (rest more : List ℕ) (x : Item) → Ends rest → Front rest x more → ⊥
+ends_empty rest more x (inl is) f = absurd (omega (arith, ap length is, Front-shrinks rest x more f))
+ends_empty rest more x (inr (e, left, bad)) f = Front-sound rest x more e f bad
+
+the_same : {A : Type 0} (o : Option A) (x y : A) → o ≡ Some x → o ≡ Some y → x ≡ y
+the_same o x y p q = cc
+
+none_told : {A B : Type 0} (o : Option A) (x : A) → o ≡ None → o ≡ Some x → B
+none_told o x p q = absurd cc
+
+tells-one : (rest : List ℕ) (a b : RouteLwEnCapType) → Tells rest a → Tells rest b → a ≡ b
+tells-one rest a b (inl (x, r, f, p)) (inl (y, s, g, q)) = the_same (told x) a b p (ap told (Front-same rest x y r s f g).0 ∙ q)
+tells-one rest a b (inl (x, r, f, p)) (inr (ends, q)) = absurd (ends_empty rest r x ends f)
+tells-one rest a b (inr (ends, p)) (inl (y, s, g, q)) = absurd (ends_empty rest s y ends g)
+tells-one rest a b (inr (ends, p)) (inr (also_ends, q)) = p ∙ sym q
+
+-- a list whose first attribute tells none is governed as what follows it
+tells-front : (rest more : List ℕ) (x : Item) (a : RouteLwEnCapType) → Tells rest a → Front rest x more → told x ≡ None → ⊥
+tells-front rest more x a (inl (y, s, g, q)) f none = none_told (told y) a (ap told (Front-same rest y x s more g f).0 ∙ none) q
+tells-front rest more x a (inr (ends, p)) f none = ends_empty rest more x ends f
+
+governs-step : (xs ys : List Item) (bytes r s : List ℕ) (a b : RouteLwEnCapType) → Passes bytes xs r → AllOf (λ x. told x ≡ None) xs → Tells r a → Passes bytes ys s → AllOf (λ x. told x ≡ None) ys → Tells s b → a ≡ b
+governs-step [] [] bytes r s a b p n t q m u = tells-one r a b t (subst (λ (w : List ℕ). Tells w b) (sym q ∙ p) u)
+governs-step [] (y ∷ ys) bytes r s a b p n t (w, g, q) m u = absurd (tells-front bytes w y a (subst (λ (v : List ℕ). Tells v a) (sym p) t) g m.0)
+governs-step (x ∷ xs) [] bytes r s a b (v, f, p) n t q m u = absurd (tells-front bytes v x b (subst (λ (w : List ℕ). Tells w b) (sym q) u) f n.0)
+governs-step (x ∷ xs) (y ∷ ys) bytes r s a b (v, f, p) n t (w, g, q) m u =
+    governs-step xs ys v r s a b p n.1 t (subst (λ (z : List ℕ). Passes z ys s) (Front-same bytes y x w v g f).1 q) m.1 u
+
+pub governs-one : (bytes : List ℕ) (a b : RouteLwEnCapType) → Governs bytes a → Governs bytes b → a ≡ b
+governs-one bytes a b (xs, r, p, n, t) (ys, s, q, m, u) = governs-step xs ys bytes r s a b p n t q m u
+
+-- ---- which is the first that is held
+
+-- what holds of the variants of all rows but those of one number
+abbrev Unless : {M : Type 0} → (M → Type 0) → ℕ → List (Row M) → Type 0
+Unless P n [] = Unit {0}
+Unless P n (r ∷ rs) = ((r.at.kind == n) ≡ false → (v : r.V) → P (r.variant v)) × Unless P n rs
+
+-- holds of what another number reads as
+unless-reads : {M : Type 0} (P : M → Type 0) (n : ℕ) (kept : Item → M) (rs : List (Row M)) → Unless P n rs → ((x : Item) → P (kept x)) → (k : ℕ) (x : Item) (m : M) → (k == n) ≡ false → ReadsAt kept rs k x m → P m
+unless-reads P n kept [] all too k x m not p = subst P (sym p) (too x)
+unless-reads P n kept (r ∷ rs) all too k x m not p = one_of (k == r.at.kind)
+    (λ e a. subst P (sym a.2) (all.0 (subst (λ (z : ℕ). (z == n) ≡ false) (eqb-true k r.at.kind e) not) a.0))
+    (λ e a. unless-reads P n kept rs all.1 too k x m not a) p
+
+-- a type is held by number 21 alone
+abbrev HoldsNone : Meaning → Type 0
+HoldsNone m = type_held m ≡ None
+
+destination_none : (form : Form) (v : NewDestinationValue form) → HoldsNone (new_destination_variant form v)
+destination_none four v = refl
+destination_none sixteen v = refl
+destination_none label v = refl
+destination_none any v = refl
+
+expires_none : (multicast : Bool) (v : ℕ) → HoldsNone (expires_variant multicast v)
+expires_none true v = refl
+expires_none false v = refl
+
+rows_none : (form : Form) (multicast : Bool) (type : RouteLwEnCapType) → Unless HoldsNone 21 (rows form multicast type)
+rows_none form multicast type = search (rules, destination_none form, expires_none multicast)
+
+alike_at : (form : Form) (multicast : Bool) (type : RouteLwEnCapType) (x : Item) (m : Meaning) → (number_of x.kind ≡ 21) → ReadsAt other (rows form multicast type) 21 x m → told x ≡ type_held m
+alike_at form multicast type x m is (v, (size, p), q) = rw (is, size) (ap Some (sym p) ∙ sym (ap type_held q))
+
+-- an attribute tells the type that its meaning holds
+pub alike : (form : Form) (multicast : Bool) (type : RouteLwEnCapType) (x : Item) (m : Meaning) → (attributes_in form multicast type).Reads x m → told x ≡ type_held m
+alike form multicast type x m p = elim (cases_Bool (number_of x.kind == 21)) [
+  | inl e ↦ let is : number_of x.kind ≡ 21 = eqb-true (number_of x.kind) 21 e in alike_at form multicast type x m is (subst (λ (k : ℕ). ReadsAt other (rows form multicast type) k x m) is p)
+  | inr e ↦ rw e (sym (unless-reads HoldsNone 21 other (rows form multicast type) (rows_none form multicast type) (λ y. refl) (number_of x.kind) x m e p))
+]
+
+-- the first of these attributes tells what the first meaning holds, or none does
+first_step : (o : Option RouteLwEnCapType) (x : Item) (more bytes : List ℕ) (next : RouteLwEnCapType) → told x ≡ o → Front bytes x more → Governs more next → Governs bytes (or_else o next)
+first_step (Some t) x more bytes next is f g = ([], bytes, refl, tt, inl (x, more, f, is))
+first_step None x more bytes next is f (before, rest, p, silent, tells) = (x ∷ before, rest, (more, f, p), (is, silent), tells)
+
+first_governs : (items : List Item) (ms : List Meaning) (bytes : List ℕ) (R : Item → Meaning → Type 0) → ((x : Item) (m : Meaning) → R x m → told x ≡ type_held m) → Passes bytes items [] → Each R items ms → Governs bytes (first_type ms)
+first_governs [] [] bytes R tells p h = ([], bytes, refl, tt, inr (inl p, refl))
+first_governs [] (m ∷ ms) bytes R tells p h = absurd h
+first_governs (x ∷ xs) [] bytes R tells p h = absurd h
+first_governs (x ∷ xs) (m ∷ ms) bytes R tells (r, f, p) h = first_step (type_held m) x r bytes (first_type ms) (tells x m h.0) f (first_governs xs ms r R tells p h.1)
+
+-- the first type that a list holds governs it
+pub list_governs : (context : Context) (bytes : List ℕ) (ms : List Meaning) → ReadsList (attributes context).Reads bytes ms → Governs bytes (first_type ms)
+list_governs context bytes ms (items, p, h) = first_governs items ms bytes (attributes context).Reads (alike (form_of context.0) (is_multicast context.1) context.2) p h
+
+pub governs_first : (under : Under) (bytes : List ℕ) (ms : List Meaning) (p : IsRouteList under bytes ms) → p.0 ≡ first_type ms
+governs_first under bytes ms (type, g, p) = governs-one bytes type (first_type ms) g (list_governs (under.0, under.1, type) bytes ms p)
+
+-- ---- the laws of a list
+
+pub route-list-one : (under : Under) (bytes : List ℕ) (xs ys : List Meaning) → IsRouteList under bytes xs → IsRouteList under bytes ys → xs ≡ ys
+route-list-one under bytes xs ys (a, g, p) (b, h, q) =
+    let f : Family Meaning = attributes (under.0, under.1, a) in
+    ReadsList-one f.Reads f.one_reading bytes xs ys p (subst (λ (t : RouteLwEnCapType). ReadsList (attributes (under.0, under.1, t)).Reads bytes ys) (governs-one bytes b a h g) q)
+
+pub route-list-sound : (under : Under) (bytes : List ℕ) (xs : List Meaning) (e : DecodeError) → IsRouteList under bytes xs → RouteListFault under bytes e → ⊥
+route-list-sound under bytes xs e (a, g, p) (b, h, q) =
+    let f : Family Meaning = attributes (under.0, under.1, b) in
+    FirstFault-excludes f.Reads f.Faulty f.no_fault bytes e xs q (subst (λ (t : RouteLwEnCapType). ReadsList (attributes (under.0, under.1, t)).Reads bytes xs) (governs-one bytes a b g h) p)
+
+pub route-list-coherent : (under : Under) (bytes : List ℕ) (xs : List Meaning) → IsBytes bytes → IsRouteList under bytes xs → IsCoherentList under xs
+route-list-coherent under bytes xs is p =
+    let f : Family Meaning = attributes (under.0, under.1, p.0) in
+    subst (λ (t : RouteLwEnCapType). AllOf (attributes (under.0, under.1, t)).Coherent xs) (governs_first under bytes xs p) (ReadsList-known f.Coherent f.Reads f.reads_coherent bytes xs is p.2)
+
+pub route-list-back : (under : Under) (xs : List Meaning) → IsCoherentList under xs → first_unfit misfit xs ≡ None → IsRouteList under (encodings writes xs) xs
+route-list-back under xs all fits =
+    let context : Context = (under.0, under.1, first_type xs) in
+    let f : Family Meaning = attributes context in
+    let p : ReadsList f.Reads (encodings writes xs) xs = encodings-read f.Coherent misfit writes f.Reads f.fits_small f.reads_back xs all fits in
+    (first_type xs, list_governs context (encodings writes xs) xs p, p)
+
+pub route-list-grows : (under : Under) (bytes : List ℕ) (xs : List Meaning) → IsBytes bytes → IsRouteList under bytes xs → 2 * length (encodings writes xs) ≤ 5 * length bytes
+route-list-grows under bytes xs is (type, g, p) =
+    let f : Family Meaning = attributes (under.0, under.1, type) in
+    ReadsList-grows writes f.Reads f.grows bytes xs is p

@@ -1,0 +1,68 @@
+//! Lists of route attributes: the type that governs them is found first, and then they are read.
+
+ghost use Rattle.std.specs.Prelude.{◌≡◌, ◌≢◌, ℕ, List, [], map, IfOk, IfErr, IsErrOf};
+ghost use Rattle.npr_base.specs.declared.refusal.DecodeError.TheVariants.{OutOfMemory};
+ghost use Rattle.npr_base.specs.Counts.{SawEach};
+ghost use Rattle.npr_base.specs.Family.{AllOf, list_members};
+ghost use Rattle.npr_base.specs.Framing.{Item, Front, Passes};
+ghost use Rattle.npr_route.specs.Attribute.{Meaning, meaning_of, place};
+ghost use Rattle.npr_route.specs.Governing.{told, Governs};
+ghost use Rattle.npr_route.specs.RouteList.{IsRouteList, RouteListFault};
+
+use crate::attribute::RouteAttribute;
+use npr_base::{AddressFamily, DecodeError, Looks, NlaBuffer, NlasIterator, parse_list};
+use npr_scalar::RouteType;
+use npr_tunnel::RouteLwEnCapType;
+use std::alloc::Global;
+
+/// The type that an `RTA_ENCAP_TYPE` of two bytes tells.
+fn told_by(item: &NlaBuffer<'_>) -> Option<RouteLwEnCapType>
+    ensures { result ≡ told item.now }
+{
+    match item.value() {
+        [low, high] if item.kind() == 21 => {
+            Some(RouteLwEnCapType::from(u16::from_le_bytes([*low, *high])))
+        }
+        _ => None,
+    }
+}
+
+/// The type that governs the list in the bytes: that of its first `RTA_ENCAP_TYPE` of two bytes,
+/// wherever it stands, and `None` where there is none. A fault ends the search and no more: it is
+/// refused when the list is read.
+fn governing_type(bytes: &[u8], looks: &mut Looks) -> RouteLwEnCapType
+    ensures { Governs bytes.now result }
+{
+    let mut walk = NlasIterator::new(bytes);
+    while let Some(Ok(item)) = walk.next_counted(looks) {
+        if let Some(kind) = told_by(&item) {
+            return kind;
+        }
+    }
+    RouteLwEnCapType::None
+}
+
+/// The attributes that the bytes are cut into, in their order, under the family and the type of a
+/// header. Encapsulations are read by the first `RTA_ENCAP_TYPE` among them, which is looked for
+/// before anything is read; each look at a header is counted.
+///
+/// # Errors
+/// `OutOfMemory` where memory is refused, and else the first fault in reading order.
+pub fn read_route_list(
+    alloc: Global,
+    bytes: &[u8],
+    under: (AddressFamily, RouteType),
+    looks: &mut Looks,
+) -> Result<Vec<RouteAttribute>, DecodeError>
+    // What is read is what the bytes mean.
+    ensures ok { IfOk result (λ v. IsRouteList under bytes.now (map meaning_of v.items)) }
+    // A refusal is the first fault.
+    ensures refused { IfErr result (λ e. e ≢ OutOfMemory → RouteListFault under bytes.now e) }
+    // Then the bytes mean nothing.
+    ensures none { IfErr result (λ e. e ≢ OutOfMemory → (xs : List Meaning) → IsRouteList under bytes.now xs → ⊥) }
+    // Memory is taken behind a first whole attribute alone.
+    ensures memory { IsErrOf result OutOfMemory → (x : Item) × (rest : List ℕ) × Front bytes.now x rest }
+{
+    let kind = governing_type(bytes, looks);
+    parse_list(alloc, (under.0, under.1, kind), bytes, looks)
+}
