@@ -23,6 +23,15 @@ const OF_IP: [u8; 8] = [6, 0, 21, 0, 2, 0, 0, 0];
 
 const OF_XFRM: [u8; 8] = [6, 0, 21, 0, 10, 0, 0, 0];
 
+/// Options of IP, an identifier 42 of Vxlan, and a class 258 of Geneve.
+const VXLAN: [u8; 20] = [
+    20, 0, 22, 0x80, 16, 0, 8, 0x80, 12, 0, 2, 0x80, 8, 0, 1, 0, 42, 0, 0, 0,
+];
+
+const GENEVE: [u8; 20] = [
+    20, 0, 22, 0x80, 16, 0, 8, 0x80, 12, 0, 1, 0x80, 6, 0, 1, 0, 1, 2, 0, 0,
+];
+
 /// The parts one after the other.
 fn joined(rt: &impl AllocGlobal, parts: &[&[u8]]) -> Result<Vec<u8>, Fail> {
     let mut bytes = Vec::new(rt.alloc());
@@ -32,14 +41,16 @@ fn joined(rt: &impl AllocGlobal, parts: &[&[u8]]) -> Result<Vec<u8>, Fail> {
     Ok(bytes)
 }
 
-/// The attributes of a route of family inet.
-fn attributes(
+/// Whether a route of family inet with these attributes reads as those.
+fn reads(
     rt: &(impl Abort + AllocGlobal),
     parts: &[&[u8]],
-) -> Result<Vec<RouteAttribute>, Fail> {
+    wanted: &[RouteAttribute],
+) -> Result<bool, Fail> {
     let list = joined(rt, parts)?;
     let bytes = message_of(rt, &INET, list.as_slice())?;
-    Ok(RouteMessage::parse(rt.alloc(), bytes.as_slice())?.attributes)
+    let message = RouteMessage::parse(rt.alloc(), bytes.as_slice())?;
+    Ok(message.attributes.as_slice() == wanted)
 }
 
 /// An encapsulation of one member.
@@ -52,87 +63,112 @@ fn one(rt: &impl AllocGlobal, member: RouteLwTunnelEncap) -> Result<RouteAttribu
 /// An encapsulation of MPLS whose destination is `LABEL`.
 fn labels(rt: &impl AllocGlobal) -> Result<RouteAttribute, Fail> {
     let stack = [LABEL].to_vec(rt.alloc())?;
-    one(rt, RouteLwTunnelEncap::Mpls(RouteMplsIpTunnel::Destination(stack)))
+    one(
+        rt,
+        RouteLwTunnelEncap::Mpls(RouteMplsIpTunnel::Destination(stack)),
+    )
 }
 
-/// An encapsulation whose member of number 1 is kept as it stands.
-fn kept(rt: &impl AllocGlobal) -> Result<RouteAttribute, Fail> {
-    let value = [0, 6, 0x41, 0xff].to_vec(rt.alloc())?;
-    one(rt, RouteLwTunnelEncap::Other(DefaultNla::new(1, value)))
+/// An encapsulation of IP with these options.
+fn options(rt: &impl AllocGlobal, option: RouteLwTunnelOpt) -> Result<RouteAttribute, Fail> {
+    let mut options = Vec::new(rt.alloc());
+    options.push(option)?;
+    one(rt, RouteLwTunnelEncap::Ip(RouteIpTunnel::Opts(options)))
 }
 
-/// The first type governs, wherever it stands; without one a member is kept as it stands.
+/// The first type governs, wherever it stands.
 #[test]
 fn the_first_type_governs(rt: HostRuntime) -> Result<(), Fail> {
-    let behind = attributes(&rt, &[&LABELS, &OF_MPLS])?;
-    assert!(rt; behind[0] == labels(&rt)?);
-    assert!(rt; behind[1] == RouteAttribute::EncapType(RouteLwEnCapType::Mpls));
-    let before = attributes(&rt, &[&OF_MPLS, &LABELS])?;
-    assert!(rt; before[1] == labels(&rt)?);
-    let two = attributes(&rt, &[&LABELS, &OF_MPLS, &OF_IP])?;
-    assert!(rt; two[0] == labels(&rt)?);
-    assert!(rt; two[2] == RouteAttribute::EncapType(RouteLwEnCapType::Ip));
-    let turned = attributes(&rt, &[&LABELS, &OF_XFRM, &OF_MPLS])?;
-    let number = RouteXfrmTunnel::IfId(0xff41_0600);
-    assert!(rt; turned[0] == one(&rt, RouteLwTunnelEncap::Xfrm(number))?);
-    let none = attributes(&rt, &[&LABELS])?;
-    assert!(rt; none[0] == kept(&rt)?);
-    assert!(rt; none[0].clone(rt.alloc())? == kept(&rt)?);
+    let mpls = RouteAttribute::EncapType(RouteLwEnCapType::Mpls);
+    let ip = RouteAttribute::EncapType(RouteLwEnCapType::Ip);
+    let wanted = [labels(&rt)?, mpls, ip];
+    assert!(rt; reads(&rt, &[&LABELS, &OF_MPLS, &OF_IP], &wanted)?);
+    assert!(rt; reads(&rt, &[&LABELS, &OF_MPLS], &wanted[..2])?);
+    let mpls = RouteAttribute::EncapType(RouteLwEnCapType::Mpls);
+    assert!(rt; reads(&rt, &[&OF_MPLS, &LABELS], &[mpls, labels(&rt)?])?);
     Ok(())
 }
 
-/// The list by itself, under a family and a type.
+/// Without a type a member is kept as it stands.
+#[test]
+fn no_type_governs(rt: HostRuntime) -> Result<(), Fail> {
+    let value = [0, 6, 0x41, 0xff].to_vec(rt.alloc())?;
+    let kept = one(&rt, RouteLwTunnelEncap::Other(DefaultNla::new(1, value)))?;
+    let copy = kept.clone(rt.alloc())?;
+    assert!(rt; copy == kept);
+    assert!(rt; reads(&rt, &[&LABELS], &[kept])?);
+    Ok(())
+}
+
+const UNDER: (AddressFamily, RouteType) = (AddressFamily::Inet, RouteType::Unicast);
+
+/// The list by itself: twice two attributes are looked at, and the one inside.
 #[test]
 fn reads_a_list(rt: HostRuntime) -> Result<(), Fail> {
-    let under = (AddressFamily::Inet, RouteType::Unicast);
     let bytes = joined(&rt, &[&LABELS, &OF_MPLS])?;
     let mut looks = Looks::new();
-    let list = read_route_list(rt.alloc(), bytes.as_slice(), under, &mut looks)?;
-    assert!(rt; list[0] == labels(&rt)?);
-    // Twice two attributes, and the one inside.
-    assert_eq!(rt; looks.successful(), 5);
-    assert_eq!(rt; looks.failed(), 0);
+    let list = read_route_list(rt.alloc(), bytes.as_slice(), UNDER, &mut looks)?;
+    let mpls = RouteAttribute::EncapType(RouteLwEnCapType::Mpls);
+    assert!(rt; list.as_slice() == [labels(&rt)?, mpls].as_slice());
+    assert_eq!(rt; (looks.successful(), looks.failed()), (5, 0));
+    Ok(())
+}
+
+#[test]
+fn refuses_a_list(rt: HostRuntime) -> Result<(), Fail> {
     let mut looks = Looks::new();
-    let short = read_route_list(rt.alloc(), &[8, 0, 1], under, &mut looks);
+    let short = read_route_list(rt.alloc(), &[8, 0, 1], UNDER, &mut looks);
     assert!(rt; short.err() == Some(DecodeError::AttributeTooShort { got: 3 }));
-    assert_eq!(rt; looks.successful(), 0);
-    assert_eq!(rt; looks.failed(), 2);
+    assert_eq!(rt; (looks.successful(), looks.failed()), (0, 2));
+    Ok(())
+}
+
+/// One attribute by itself, under a type given beside it.
+#[test]
+fn reads_an_encapsulation(rt: HostRuntime) -> Result<(), Fail> {
     let item = NlaBuffer::new_checked(&LABELS)?;
-    let context = (AddressFamily::Inet, RouteType::Unicast, RouteLwEnCapType::Mpls);
-    assert!(rt; RouteAttribute::parse_with_param(rt.alloc(), &item, context)? == labels(&rt)?);
+    let context = (UNDER.0, UNDER.1, RouteLwEnCapType::Mpls);
+    let read = RouteAttribute::parse_with_param(rt.alloc(), &item, context)?;
+    assert!(rt; read == labels(&rt)?);
+    Ok(())
+}
+
+/// The same member as above, under another first type.
+#[test]
+fn reads_an_interface(rt: HostRuntime) -> Result<(), Fail> {
+    let number = RouteXfrmTunnel::IfId(0xff41_0600);
+    let wanted = [
+        one(&rt, RouteLwTunnelEncap::Xfrm(number))?,
+        RouteAttribute::EncapType(RouteLwEnCapType::Xfrm),
+        RouteAttribute::EncapType(RouteLwEnCapType::Mpls),
+    ];
+    assert!(rt; reads(&rt, &[&LABELS, &OF_XFRM, &OF_MPLS], &wanted)?);
     Ok(())
 }
 
 #[test]
 fn reads_options(rt: HostRuntime) -> Result<(), Fail> {
-    let vxlan = attributes(
-        &rt,
-        &[
-            &[20, 0, 22, 0x80, 16, 0, 8, 0x80, 12, 0, 2, 0x80, 8, 0, 1, 0, 42, 0, 0, 0],
-            &OF_IP,
-        ],
-    )?;
     let mut inside = Vec::new(rt.alloc());
     inside.push(RouteVxlanOpt::Gbp(42))?;
-    let mut options = Vec::new(rt.alloc());
-    options.push(RouteLwTunnelOpt::Vxlan(inside))?;
-    let tunnel = RouteLwTunnelEncap::Ip(RouteIpTunnel::Opts(options));
-    assert!(rt; vxlan[0] == one(&rt, tunnel)?);
-    let geneve = attributes(
-        &rt,
-        &[
-            &[20, 0, 22, 0x80, 16, 0, 8, 0x80, 12, 0, 1, 0x80, 6, 0, 1, 0, 1, 2, 0, 0],
-            &OF_IP,
-        ],
-    )?;
+    let wanted = [
+        options(&rt, RouteLwTunnelOpt::Vxlan(inside))?,
+        RouteAttribute::EncapType(RouteLwEnCapType::Ip),
+    ];
+    assert!(rt; reads(&rt, &[&VXLAN, &OF_IP], &wanted)?);
+    Ok(())
+}
+
+#[test]
+fn reads_a_class_alone(rt: HostRuntime) -> Result<(), Fail> {
     let mut option = RouteGeneveOpt::new(rt.alloc());
     option.class = 258;
     let mut inside = Vec::new(rt.alloc());
     inside.push(option)?;
-    let mut options = Vec::new(rt.alloc());
-    options.push(RouteLwTunnelOpt::Geneve(inside))?;
-    let tunnel = RouteLwTunnelEncap::Ip(RouteIpTunnel::Opts(options));
-    assert!(rt; geneve[0] == one(&rt, tunnel)?);
+    let wanted = [
+        options(&rt, RouteLwTunnelOpt::Geneve(inside))?,
+        RouteAttribute::EncapType(RouteLwEnCapType::Ip),
+    ];
+    assert!(rt; reads(&rt, &[&GENEVE, &OF_IP], &wanted)?);
     Ok(())
 }
 
@@ -151,23 +187,13 @@ fn writes_encapsulations(rt: HostRuntime) -> Result<(), Fail> {
             &[&[12, 0, 22, 0, 8, 0, 1, 0, 7, 0, 0, 0], &OF_XFRM],
             &[&[12, 0, 22, 0x80, 8, 0, 1, 0, 7, 0, 0, 0], &OF_XFRM],
         ),
+        (&[&VXLAN, &OF_IP], &[&VXLAN, &OF_IP]),
         (
+            &[&GENEVE, &OF_IP],
             &[
-                &[20, 0, 22, 0x80, 16, 0, 8, 0x80, 12, 0, 2, 0x80, 8, 0, 1, 0, 42, 0, 0, 0],
-                &OF_IP,
-            ],
-            &[
-                &[20, 0, 22, 0x80, 16, 0, 8, 0x80, 12, 0, 2, 0x80, 8, 0, 1, 0, 42, 0, 0, 0],
-                &OF_IP,
-            ],
-        ),
-        (
-            &[
-                &[20, 0, 22, 0x80, 16, 0, 8, 0x80, 12, 0, 1, 0x80, 6, 0, 1, 0, 1, 2, 0, 0],
-                &OF_IP,
-            ],
-            &[
-                &[32, 0, 22, 0x80, 28, 0, 8, 0x80, 24, 0, 1, 0x80, 6, 0, 1, 0, 1, 2, 0, 0],
+                &[
+                    32, 0, 22, 0x80, 28, 0, 8, 0x80, 24, 0, 1, 0x80, 6, 0, 1, 0, 1, 2, 0, 0,
+                ],
                 &[5, 0, 2, 0, 0, 0, 0, 0, 4, 0, 3, 0],
                 &OF_IP,
             ],
@@ -192,7 +218,10 @@ fn refuses_encapsulations(rt: HostRuntime) -> Result<(), Fail> {
     let at = At { family, kind: 21 };
     let rows: [(&[&[u8]], DecodeError); 4] = [
         (
-            &[&[16, 0, 22, 0x80, 12, 0, 8, 0x80, 8, 0, 1, 0x80, 4, 0, 4, 0], &OF_IP],
+            &[
+                &[16, 0, 22, 0x80, 12, 0, 8, 0x80, 8, 0, 1, 0x80, 4, 0, 4, 0],
+                &OF_IP,
+            ],
             DecodeError::GeneveChild { kind: 4 },
         ),
         // The first type has one byte: it governs nothing, and is refused.

@@ -29,7 +29,11 @@ pub(super) const LABEL: MplsLabel = MplsLabel {
 };
 
 /// The header and these attributes.
-pub(super) fn message_of(rt: &impl AllocGlobal, header: &[u8], attributes: &[u8]) -> Result<Vec<u8>, Fail> {
+pub(super) fn message_of(
+    rt: &impl AllocGlobal,
+    header: &[u8],
+    attributes: &[u8],
+) -> Result<Vec<u8>, Fail> {
     let mut bytes = header.to_vec(rt.alloc())?;
     bytes.extend_from_slice(attributes)?;
     Ok(bytes)
