@@ -7,3 +7,7 @@ pub mod RouteList
 pub mod RouteListLaws
 pub mod Message
 pub mod EqualityLaws
+pub mod NextHopHeader
+pub mod NextHops
+pub mod NextHopFronts
+pub mod NextHopLaws

@@ -1,19 +1,23 @@
 //! The laws of route messages, over their definitions alone. Each function does nothing, and its
 //! contract is the law.
 
-ghost use Rattle.std.specs.Prelude.{◌≡◌, ℕ, List, None};
+ghost use Rattle.std.specs.Prelude.{◌≡◌, ◌≤◌, ◌+◌, ◌*◌, ℕ, List, None, length};
 ghost use Rattle.npr_base.specs.Equality.{IsEquality, IsEqualityOf};
 ghost use Rattle.npr_tunnel.specs.declared.encap_type.RouteLwEnCapType.{RouteLwEnCapType};
-ghost use Rattle.npr_route.specs.Attribute.{Meaning, meaning_of};
+ghost use Rattle.npr_base.specs.declared.refusal.DecodeError.{DecodeError};
+ghost use Rattle.npr_base.specs.Framing.{IsBytes};
+ghost use Rattle.npr_route.specs.Attribute.{Context, Meaning, meaning_of};
 ghost use Rattle.npr_route.specs.Governing.{Governs};
 ghost use Rattle.npr_route.specs.Metric.{metric_of};
 ghost use Rattle.npr_route.specs.Message.{Route, message_of, IsRouteMessage, IsCoherentRoute, route_bytes, route_misfit};
+ghost use Rattle.npr_route.specs.NextHops.{Hops, AreHops, HopsWrong, HopsCoherent, hops_bytes, hops_misfit, hops_depth};
 ghost use Rattle.npr_route.specs.RouteList.{Under, IsRouteList, first_type};
 
 use crate::attribute::RouteAttribute;
 use crate::header::{RouteHeader, RouteMessageBuffer};
 use crate::message::RouteMessage;
 use crate::metrics::RouteMetric;
+use crate::next_hops::RouteNextHopBuffer;
 
 /// Bytes are one message at most.
 pub fn law_one_reading()
@@ -37,10 +41,23 @@ pub fn law_governing_type()
     ensures first { (under : Under) (bytes : List ℕ) (xs : List Meaning) → IsRouteList under bytes xs → Governs bytes (first_type xs) }
 {}
 
+/// Next hops, over their definitions: bytes are one list of them at most, and none where there is
+/// a fault; what is read is coherent, what is coherent and fits is read back from its encoding,
+/// an encoding is at most five halves as long as what was read, and each level takes 12 bytes.
+pub fn law_next_hops()
+    ensures one { (c : Context) (bytes : List ℕ) (gs hs : Hops) → AreHops c bytes gs → AreHops c bytes hs → gs ≡ hs }
+    ensures none { (c : Context) (bytes : List ℕ) (hs : Hops) (e : DecodeError) → AreHops c bytes hs → HopsWrong c bytes e → ⊥ }
+    ensures coherent { (c : Context) (bytes : List ℕ) (hs : Hops) → IsBytes bytes → AreHops c bytes hs → HopsCoherent c hs }
+    ensures back { (c : Context) (hs : Hops) → HopsCoherent c hs → hops_misfit hs ≡ None → AreHops c (hops_bytes hs) hs }
+    ensures growth { (c : Context) (bytes : List ℕ) (hs : Hops) → IsBytes bytes → AreHops c bytes hs → 2 * length (hops_bytes hs) ≤ 5 * length bytes }
+    ensures depth { (c : Context) (bytes : List ℕ) (hs : Hops) → AreHops c bytes hs → 12 * hops_depth hs ≤ 4 + length bytes }
+{}
+
 /// `==` answers whether two values are equal, or mean the same where they hold a vector or a text.
 pub fn law_equality()
     ensures header { IsEquality ⟦<RouteHeader as PartialEq>⟧.eq }
     ensures header_buffer { IsEquality ⟦<RouteMessageBuffer as PartialEq>⟧.eq }
+    ensures next_hop_buffer { IsEquality ⟦<RouteNextHopBuffer as PartialEq>⟧.eq }
     ensures metric { IsEqualityOf metric_of ⟦<RouteMetric as PartialEq>⟧.eq }
     ensures attribute { IsEqualityOf meaning_of ⟦<RouteAttribute as PartialEq>⟧.eq }
     ensures message { IsEqualityOf message_of ⟦<RouteMessage as PartialEq>⟧.eq }

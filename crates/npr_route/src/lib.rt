@@ -10,6 +10,9 @@ mod list;
 mod message;
 mod metrics;
 #[cfg(test)]
+mod next_hop_tests;
+mod next_hops;
+#[cfg(test)]
 mod tests;
 
 pub use attribute::RouteAttribute;
@@ -17,3 +20,4 @@ pub use header::{RouteHeader, RouteMessageBuffer};
 pub use list::read_route_list;
 pub use message::RouteMessage;
 pub use metrics::RouteMetric;
+pub use next_hops::RouteNextHopBuffer;

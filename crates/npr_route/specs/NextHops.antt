@@ -1,0 +1,158 @@
+-- Next hops of a multipath route (linux/rtnetlink.h, struct rtnexthop): each is a header of eight bytes and attributes,
+-- which may be next hops again.
+use Rattle.std.specs.Prelude.{◌≡◌, ◌≢◌, ℕ, ◌+◌, ◌<◌, ◌≤◌, ◌^◌, ◌⊎◌, List, [], ◌∷◌, ◌++◌, length, take, max, Option, Some, None, nat_lt, if◌then◌else◌}
+use Rattle.std.specs.Int.{w16, w32, to_le_bytes, from_le_bytes}
+use Rattle.npr_base.specs.declared.refusal.DecodeError.{DecodeError}
+use Rattle.npr_base.specs.declared.refusal.DecodeError.TheVariants.{NextHopTooShort, NextHopLength}
+use Rattle.npr_base.specs.declared.refusal.EmitError.{EmitError}
+use Rattle.npr_base.specs.declared.refusal.EmitError.TheVariants.{NextHopTooLong, Total}
+use Rattle.npr_base.specs.Family.{option_or, too_long, overlong}
+use Rattle.npr_base.specs.Framing.{Item, number_of, encoding, Front, Fault}
+use Rattle.npr_route.specs.Attribute as Flat
+use Rattle.npr_route.specs.Attribute.{Context}
+use Rattle.npr_route.specs.AttributeLaws as Flats
+
+-- the header without its length, which counts its eight bytes and the attributes
+pub record HopHead : Type 0 where
+  pub flags : ℕ
+  pub hops : ℕ
+  pub interface_index : ℕ
+
+pub record HoldsHead (h : HopHead) : Type 0 where
+  pub flags : h.flags < 2 ^ 8
+  pub hops : h.hops < 2 ^ 8
+  pub interface_index : h.interface_index < 2 ^ 32
+
+abbrev pub hop_text : HopHead → List ℕ → List ℕ
+hop_text h inside = to_le_bytes w16 (8 + length inside) ++ (h.flags ∷ h.hops ∷ to_le_bytes w32 h.interface_index ++ inside)
+
+-- the bytes are a next hop with these bytes of attributes, and then the rest; nothing is rounded
+pub record HopFront (bytes : List ℕ) (h : HopHead) (inside rest : List ℕ) : Type 0 where
+  pub is : bytes ≡ hop_text h inside ++ rest
+  pub holds : HoldsHead h
+  pub short : 8 + length inside ≤ 65535
+
+-- why no next hop stands in front
+abbrev pub HopFault : List ℕ → DecodeError → Type 0
+HopFault r (NextHopTooShort got) = (got ≡ length r) × (length r < 8)
+HopFault r (NextHopLength l left) = (left ≡ length r) × (8 ≤ length r) × (l ≡ from_le_bytes w16 (take 2 r)) × ((l < 8) ⊎ (length r < l))
+HopFault r _ = ⊥
+
+-- an attribute: one without next hops, or a list of them
+mutual
+  pub data Meaning : Type 0 where
+    flat : Flat.Meaning → Meaning
+    multi_path : Hops → Meaning
+
+  pub data Attributes : Type 0 where
+    no_more : Attributes
+    attribute : Meaning → Attributes → Attributes
+
+  pub data Hops : Type 0 where
+    no_hops : Hops
+    hop : HopHead → Attributes → Hops → Hops
+
+abbrev mutual
+  -- what an attribute means: number 9 holds next hops
+  pub Reads : Context → Item → Meaning → Type 0
+  Reads c x (flat m) = (number_of x.kind ≢ 9) × (Flats.attributes c).Reads x m
+  Reads c x (multi_path hs) = (number_of x.kind ≡ 9) × AreHops c x.value hs
+
+  pub AreAttributes : Context → List ℕ → Attributes → Type 0
+  AreAttributes c bytes no_more = bytes ≡ []
+  AreAttributes c bytes (attribute m ms) = (x : Item) × (rest : List ℕ) × Front bytes x rest × Reads c x m × AreAttributes c rest ms
+
+  -- next hops one after the other, whose attributes are read in the context outside
+  pub AreHops : Context → List ℕ → Hops → Type 0
+  AreHops c bytes no_hops = bytes ≡ []
+  AreHops c bytes (hop h ms hs) = (inside : List ℕ) × (rest : List ℕ) × HopFront bytes h inside rest × AreAttributes c inside ms × AreHops c rest hs
+
+-- why it means nothing: the first fault, what stands inside before what follows
+mutual
+  pub data Wrong : Context → Item → DecodeError → Type 0 where
+    value_wrong : {c : Context} {x : Item} {e : DecodeError} → number_of x.kind ≢ 9 → (Flats.attributes c).Faulty x e → Wrong c x e
+    hops_wrong : {c : Context} {x : Item} {e : DecodeError} → number_of x.kind ≡ 9 → HopsWrong c x.value e → Wrong c x e
+
+  pub data AttributesWrong : Context → List ℕ → DecodeError → Type 0 where
+    none_in_front : {c : Context} {bytes : List ℕ} {e : DecodeError} → 0 < length bytes → Fault bytes e → AttributesWrong c bytes e
+    first_wrong : {c : Context} {bytes : List ℕ} {e : DecodeError} (x : Item) (rest : List ℕ) → Front bytes x rest → Wrong c x e → AttributesWrong c bytes e
+    later_wrong : {c : Context} {bytes : List ℕ} {e : DecodeError} (x : Item) (rest : List ℕ) (m : Meaning) → Front bytes x rest → Reads c x m → AttributesWrong c rest e → AttributesWrong c bytes e
+
+  pub data HopsWrong : Context → List ℕ → DecodeError → Type 0 where
+    no_hop_in_front : {c : Context} {bytes : List ℕ} {e : DecodeError} → 0 < length bytes → HopFault bytes e → HopsWrong c bytes e
+    first_hop_wrong : {c : Context} {bytes : List ℕ} {e : DecodeError} (h : HopHead) (inside rest : List ℕ) → HopFront bytes h inside rest → AttributesWrong c inside e → HopsWrong c bytes e
+    later_hop_wrong : {c : Context} {bytes : List ℕ} {e : DecodeError} (h : HopHead) (inside rest : List ℕ) (ms : Attributes) → HopFront bytes h inside rest → AreAttributes c inside ms → HopsWrong c rest e → HopsWrong c bytes e
+
+-- what is written: an attribute under its kind, and next hops with their lengths
+abbrev mutual
+  pub writes : Meaning → Item
+  writes (flat m) = Flats.writes m
+  writes (multi_path hs) = record { kind = 9; value = hops_bytes hs }
+
+  pub attributes_bytes : Attributes → List ℕ
+  attributes_bytes no_more = []
+  attributes_bytes (attribute m ms) = encoding (writes m) ++ attributes_bytes ms
+
+  pub hops_bytes : Hops → List ℕ
+  hops_bytes no_hops = []
+  hops_bytes (hop h ms hs) = hop_text h (attributes_bytes ms) ++ hops_bytes hs
+
+-- a next hop that is too long, by the length in its header
+abbrev pub hop_overlong : ℕ → Option EmitError
+hop_overlong len = if nat_lt len 65536 then None else if nat_lt len (2 ^ 64) then Some (NextHopTooLong len) else Some Total
+
+-- why it can't be written, if so: what stands inside, and then its own length
+abbrev mutual
+  pub misfit : Meaning → Option EmitError
+  misfit (flat m) = Flats.misfit m
+  misfit (multi_path hs) = option_or (option_or (hops_misfit hs) (overlong (length (hops_bytes hs)))) (too_long 9 (length (hops_bytes hs)))
+
+  pub attributes_misfit : Attributes → Option EmitError
+  attributes_misfit no_more = None
+  attributes_misfit (attribute m ms) = option_or (misfit m) (attributes_misfit ms)
+
+  pub hops_misfit : Hops → Option EmitError
+  hops_misfit no_hops = None
+  hops_misfit (hop h ms hs) = option_or (option_or (attributes_misfit ms) (hop_overlong (8 + length (attributes_bytes ms)))) (hops_misfit hs)
+
+-- what can be read
+abbrev mutual
+  pub Coherent : Context → Meaning → Type 0
+  Coherent c (flat m) = (Flats.attributes c).Coherent m × (number_of (Flats.writes m).kind ≢ 9)
+  Coherent c (multi_path hs) = HopsCoherent c hs
+
+  pub AttributesCoherent : Context → Attributes → Type 0
+  AttributesCoherent c no_more = Unit {0}
+  AttributesCoherent c (attribute m ms) = Coherent c m × AttributesCoherent c ms
+
+  pub HopsCoherent : Context → Hops → Type 0
+  HopsCoherent c no_hops = Unit {0}
+  HopsCoherent c (hop h ms hs) = HoldsHead h × AttributesCoherent c ms × HopsCoherent c hs
+
+-- how many attributes and next hops stand inside, at all depths
+abbrev mutual
+  pub members : Meaning → ℕ
+  members (flat m) = (Flat.place m).members
+  members (multi_path hs) = hops_members hs
+
+  pub attributes_members : Attributes → ℕ
+  attributes_members no_more = 0
+  attributes_members (attribute m ms) = 1 + members m + attributes_members ms
+
+  pub hops_members : Hops → ℕ
+  hops_members no_hops = 0
+  hops_members (hop h ms hs) = 1 + attributes_members ms + hops_members hs
+
+-- how deep next hops stand inside one another
+abbrev mutual
+  pub depth : Meaning → ℕ
+  depth (flat m) = 0
+  depth (multi_path hs) = hops_depth hs
+
+  pub attributes_depth : Attributes → ℕ
+  attributes_depth no_more = 0
+  attributes_depth (attribute m ms) = max (depth m) (attributes_depth ms)
+
+  pub hops_depth : Hops → ℕ
+  hops_depth no_hops = 0
+  hops_depth (hop h ms hs) = max (1 + attributes_depth ms) (hops_depth hs)
