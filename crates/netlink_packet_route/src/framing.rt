@@ -1,0 +1,7 @@
+//! Attributes and lists of them: `struct nlattr` of `linux/netlink.h`.
+
+pub use npr_base::{
+    At, AttrFamily, Attribute, DecodeError, DefaultNla, EmitError, Emitable, Looks, NLA_ALIGNTO,
+    NLA_F_NESTED, NLA_F_NET_BYTEORDER, NLA_HEADER_SIZE, NLA_TYPE_MASK, Nla, NlaBuffer,
+    NlasIterator, Parseable, ParseableParametrized, Seg6Fault, check_list, emit_list, parse_list,
+};

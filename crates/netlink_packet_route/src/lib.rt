@@ -1,0 +1,18 @@
+//! Messages of Linux rtnetlink on addresses, routes and rules: bytes to typed values and back.
+//!
+//! A message is read by `parse` and written by `emit`, once `check` accepts it. Names and paths are
+//! those of the Rust crate `netlink-packet-route`; what that crate takes from others stands in
+//! `framing` and `net`, and the laws of all messages in `laws`.
+#![tactic(auto)]
+
+pub mod address;
+pub mod framing;
+pub mod laws;
+pub mod net;
+pub mod route;
+pub mod rule;
+#[cfg(test)]
+mod tests;
+
+pub use npr_base::AddressFamily;
+pub use npr_scalar::IpProtocol;
