@@ -1,20 +1,18 @@
 -- The attributes of a route message (linux/rtnetlink.h, RTA_*), by their table under the header.
-use Rattle.std.specs.Prelude.{◌≡◌, ◌≢◌, ℕ, ◌<◌, ◌≤◌, ◌^◌, Bool, true, false, List, [], ◌∷◌, length, map, Option, None, if◌then◌else◌}
-use Rattle.std.proofs.Common.{refl, arith, rules}
+use Rattle.std.specs.Prelude.{◌≡◌, ◌≢◌, ℕ, ◌<◌, ◌^◌, Bool, true, false, List, [], ◌∷◌, map, Option, None, if◌then◌else◌}
 use Rattle.npr_base.specs.declared.refusal.At.{At}
 use Rattle.npr_base.specs.declared.refusal.AttrFamily.TheVariants.{Route as OfRoute}
 use Rattle.npr_base.specs.declared.refusal.EmitError.{EmitError}
 use Rattle.npr_base.specs.declared.address_family.AddressFamily.{AddressFamily}
 use Rattle.npr_base.specs.Family.{list_unfit}
-use Rattle.npr_base.specs.Framing.{Item, number_of}
+use Rattle.npr_base.specs.Framing.{Item}
 use Rattle.npr_base.specs.Layout.{Layout, byte, le32, le64, be16, be32}
 use Rattle.npr_base.specs.Codec.{Codec, exactly, leading, raw}
 use Rattle.npr_base.specs.ListCodec.{list_of}
-use Rattle.npr_base.specs.Table.{Family, Table, Row, row, Held, held, held_marked, held_other, item_of, IsOther, Aligned, ReadsAt}
-use Rattle.npr_base.specs.TableLaws.{flat, other-back}
+use Rattle.npr_base.specs.Table.{Row, row, Held, held, held_marked, held_other, IsOther}
 use Rattle.npr_scalar.specs.MplsLaws.{mpls_labels}
 use Rattle.npr_scalar.specs.Realm.{route_realm}
-use Rattle.npr_scalar.specs.RouteAddress.{Address as AddressMeaning, address_of, address_bytes, address_in, Form, four, sixteen, label, any, form_of}
+use Rattle.npr_scalar.specs.RouteAddress.{Address as AddressMeaning, address_of, address_bytes, address_in, Form, four, sixteen, label, any}
 use Rattle.npr_scalar.specs.RouteCacheInfo.{route_cache_info}
 use Rattle.npr_scalar.specs.RouteMfcStats.{route_mfc_stats}
 use Rattle.npr_scalar.specs.RoutePreferenceLaws.{route_preference}

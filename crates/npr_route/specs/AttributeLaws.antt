@@ -1,10 +1,10 @@
 -- The family of the attributes of a route message under a context.
-use Rattle.std.specs.Prelude.{◌≡◌, ◌≢◌, ℕ, ◌<◌, ◌≤◌, ◌^◌, Bool, true, false, length, Option, None}
+use Rattle.std.specs.Prelude.{◌≡◌, ℕ, ◌<◌, ◌≤◌, ◌^◌, Bool, true, false, length, Option, None}
 use Rattle.std.proofs.Common.{refl, arith, rules}
 use Rattle.npr_base.specs.declared.refusal.EmitError.{EmitError}
 use Rattle.npr_base.specs.Framing.{Item, marked, number_of}
 use Rattle.npr_base.specs.Layout.{le32, le64}
-use Rattle.npr_base.specs.Codec.{Codec, exactly, raw}
+use Rattle.npr_base.specs.Codec.{exactly, raw}
 use Rattle.npr_base.specs.ListCodec.{list_of}
 use Rattle.npr_base.specs.Table.{Family, item_of, Aligned, ReadsAt}
 use Rattle.npr_base.specs.TableLaws.{flat, other-back}

@@ -1,5 +1,5 @@
 -- What `==` answers of metrics, attributes and messages: whether they mean the same.
-use Rattle.std.specs.Prelude.{◌≡◌, ℕ, List, map}
+use Rattle.std.specs.Prelude.{ℕ, map}
 use Rattle.std.specs.Cmp.{unsigned_Decides}
 use Rattle.std.specs.String.{string_bytes}
 use Rattle.std.proofs.Common.{refl, ap}
@@ -26,12 +26,10 @@ use Rattle.npr_route.specs.Message.{Route, message_of}
 use Rattle.npr_route.specs.contracts.attribute.RouteAttribute.{enum}
 use Rattle.npr_route.specs.contracts.attribute.RouteAttributePartialEq.TheImpl as AttributeEq
 use Rattle.npr_route.specs.contracts.header.RouteHeaderPartialEq.TheImpl as HeaderEq
-use Rattle.npr_route.specs.contracts.header.RouteMessageBufferPartialEq.TheImpl as BufferEq
 use Rattle.npr_route.specs.contracts.message.RouteMessagePartialEq.TheImpl as MessageEq
 use Rattle.npr_route.specs.contracts.metrics.RouteMetric.{enum as metric_enum}
 use Rattle.npr_route.specs.contracts.metrics.RouteMetricPartialEq.TheImpl as MetricEq
 use Rattle.npr_route.specs.declared.header.RouteHeader.{RouteHeader}
-use Rattle.npr_route.specs.declared.header.RouteMessageBuffer.{RouteMessageBuffer}
 
 pub header_equality : IsEquality HeaderEq.ghosts.eq
 header_equality a b =

@@ -1,6 +1,6 @@
 -- The type that governs a list of route attributes: RTA_ENCAP is read by the first RTA_ENCAP_TYPE beside it, wherever
 -- that stands (linux/rtnetlink.h).
-use Rattle.std.specs.Prelude.{◌≡◌, ℕ, ◌<◌, ◌==◌, ◌⊎◌, Bool, true, false, List, [], ◌∷◌, length, Option, Some, None, if◌then◌else◌}
+use Rattle.std.specs.Prelude.{◌≡◌, ℕ, ◌<◌, ◌==◌, ◌⊎◌, List, [], length, Option, Some, None, if◌then◌else◌}
 use Rattle.npr_base.specs.declared.refusal.DecodeError.{DecodeError}
 use Rattle.npr_base.specs.Framing.{Item, number_of, Front, Passes, Fault}
 use Rattle.npr_base.specs.Family.{AllOf}

@@ -8,7 +8,7 @@ use Rattle.npr_base.specs.Framing.{Item, number_of}
 use Rattle.npr_base.specs.Layout.{le32}
 use Rattle.npr_base.specs.Codec.{exactly, raw}
 use Rattle.npr_base.specs.Name.{name}
-use Rattle.npr_base.specs.Table.{Family, Table, Row, row, Held, held, held_other, item_of, IsOther, Aligned, ReadsAt}
+use Rattle.npr_base.specs.Table.{Family, Row, row, Held, held, held_other, item_of, IsOther, Aligned, ReadsAt}
 use Rattle.npr_base.specs.TableLaws.{flat, other-back}
 use Rattle.npr_route.specs.declared.metrics.RouteMetric.{RouteMetric}
 use Rattle.npr_route.specs.declared.metrics.RouteMetric.TheVariants.{Lock, Mtu, Window, Rtt, RttVar, SsThresh, Cwnd, Advmss, Reordering, Hoplimit, InitCwnd, Features, RtoMin, InitRwnd, QuickAck, CcAlgo, FastopenNoCookie, Other}

@@ -1,24 +1,22 @@
 -- Bytes are one list of next hops at most, what is wrong with them is none, and what is written is read again.
 use Rattle.std.specs.Prelude.{◌==◌}
-use Rattle.std.specs.Bool.{MatchBool}
-use Rattle.std.proofs.Common.{◌≡◌, ◌≢◌, ℕ, ◌+◌, ◌*◌, ◌<◌, ◌≤◌, ◌^◌, Bool, true, false, List, [], ◌∷◌, ◌++◌, length, Option, Some, None, refl, sym, ap, subst, ◌∙◌, arith, rules, inl, inr, length-append}
+use Rattle.std.proofs.Common.{◌≡◌, ℕ, ◌+◌, ◌*◌, ◌≤◌, ◌^◌, Bool, true, false, List, [], ◌∷◌, ◌++◌, length, Some, None, refl, sym, ap, subst, ◌∙◌, arith, rules, inl, inr, length-append}
 use Rattle.std.proofs.lemmas.Bool.{eqb-true, cases_lt, lt-ltb, le-ltb}
 use Rattle.npr_base.specs.declared.refusal.DecodeError.{DecodeError}
-use Rattle.npr_base.specs.declared.refusal.EmitError.{EmitError}
 use Rattle.npr_base.specs.declared.refusal.EmitError.TheVariants.{NextHopTooLong, Total}
 use Rattle.npr_base.specs.Framing.{Item, IsBytes, Proper, Small, Front, number_of, marked, encoding, framed}
 use Rattle.npr_base.specs.Family.{option_or, too_long, overlong}
 use Rattle.npr_base.specs.FitLaws.{too_long-short}
 use Rattle.npr_base.specs.FrontLaws.{Front-same, Front-shrinks, Front-sound, Front-takes}
 use Rattle.npr_base.specs.ListLaws.{none_both, encoding-front, Front-proper, length-encoding}
-use Rattle.npr_base.specs.Table.{Family, Row, ReadsAt, item_of}
+use Rattle.npr_base.specs.Table.{Family, Row, ReadsAt}
 use Rattle.npr_base.specs.TableLaws.{one_of}
 use Rattle.npr_scalar.specs.RouteAddress.{Form, four, sixteen, label, any, form_of}
 use Rattle.npr_tunnel.specs.declared.encap_type.RouteLwEnCapType.{RouteLwEnCapType}
 use Rattle.npr_route.specs.Attribute as Flat
 use Rattle.npr_route.specs.Attribute.{Context, rows, other, is_multicast, new_destination_variant, NewDestinationValue, expires_variant}
 use Rattle.npr_route.specs.AttributeLaws as Flats
-use Rattle.npr_route.specs.NextHops.{HopHead, HoldsHead, hop_text, HopFront, HopFault, Meaning, flat, multi_path, Attributes, no_more, attribute, Hops, no_hops, hop, Reads, AreAttributes, AreHops, Wrong, value_wrong, hops_wrong, AttributesWrong, none_in_front, first_wrong, later_wrong, HopsWrong, no_hop_in_front, first_hop_wrong, later_hop_wrong, writes, attributes_bytes, hops_bytes, hop_overlong, misfit, attributes_misfit, hops_misfit, Coherent, AttributesCoherent, HopsCoherent, members, depth, attributes_depth, hops_depth}
+use Rattle.npr_route.specs.NextHops.{HopHead, HoldsHead, hop_text, HopFront, Meaning, flat, multi_path, Attributes, no_more, attribute, Hops, no_hops, hop, Reads, AreAttributes, AreHops, Wrong, value_wrong, hops_wrong, AttributesWrong, none_in_front, first_wrong, later_wrong, HopsWrong, no_hop_in_front, first_hop_wrong, later_hop_wrong, writes, attributes_bytes, hops_bytes, hop_overlong, misfit, attributes_misfit, hops_misfit, Coherent, AttributesCoherent, HopsCoherent, members, depth, attributes_depth, hops_depth}
 use Rattle.npr_route.specs.NextHopFronts.{HopFront-same, HopFront-sound, HopFront-length, HopFront-proper}
 
 no_front : {A : Type 0} (bytes rest : List ℕ) (x : Item) → bytes ≡ [] → Front bytes x rest → A

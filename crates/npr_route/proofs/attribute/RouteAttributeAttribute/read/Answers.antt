@@ -1,4 +1,4 @@
-use Rattle.std.proofs.Common.{rules, sym, ◌∙◌}
+use Rattle.std.proofs.Common.{sym, ◌∙◌}
 use Rattle.npr_base.proofs.Mapped.{IfErr-mapped}
 use Rattle.npr_route.proofs.attribute.RouteAttributeAttribute.read.Goals as goal
 
