@@ -1,14 +1,14 @@
 -- What a run has read, answered and written.
-use Rattle.std.specs.Prelude.{◌≡◌, ◌≢◌, ℕ, ◌≤◌, List, codes, length, map, take, Option, Some, None, IfSome}
+use Rattle.std.specs.Prelude.{◌≡◌, ◌≢◌, ℕ, ◌≤◌, List, length, map, take, Option, Some, None, IfSome}
 use Rattle.std.specs.Io.KnownBytes.{Appends}
 use Rattle.npr_base.specs.declared.refusal.DecodeError.{DecodeError}
 use Rattle.npr_base.specs.declared.refusal.DecodeError.TheVariants.{OutOfMemory}
 use Rattle.npr_base.specs.declared.refusal.EmitError.{EmitError}
-use Rattle.npr_address.specs.Attribute.{attributes as address_attributes}
+use Rattle.npr_address.specs.Attribute.{writing as address_writing}
 use Rattle.npr_address.specs.Message.{Address as AddressMeaning, IsAddressMessage, AddressFault, address_bytes, address_misfit}
-use Rattle.npr_route.specs.AttributeLaws.{writes as route_writes}
+use Rattle.npr_route.specs.AttributeLaws.{writing as route_writing}
 use Rattle.npr_route.specs.Message.{Route as RouteMeaning, IsRouteMessage, RouteFault, route_bytes, route_misfit}
-use Rattle.npr_rule.specs.Attribute.{attributes as rule_attributes}
+use Rattle.npr_rule.specs.Attribute.{writing as rule_writing}
 use Rattle.npr_rule.specs.Message.{Rule as RuleMeaning, IsRuleMessage, RuleFault, rule_bytes, rule_misfit}
 use Rattle.nlroute.specs.HexText.{IsHexText}
 use Rattle.nlroute.specs.Report.{report}
@@ -20,13 +20,13 @@ use Rattle.nlroute.specs.declared.which.Which.TheVariants.{Address, Route, Rule}
 abbrev pub IsReport : Which → List ℕ → List ℕ → Type 0
 IsReport Address bytes text =
     (m : AddressMeaning) × IsAddressMessage bytes m × (address_misfit m ≡ None)
-    × (text ≡ report (which_name Address) (length bytes) (map address_attributes.writes m.attributes) (address_bytes m))
+    × (text ≡ report (which_name Address) (length bytes) (map address_writing.writes m.attributes) (address_bytes m))
 IsReport Route bytes text =
     (m : RouteMeaning) × IsRouteMessage bytes m × (route_misfit m ≡ None)
-    × (text ≡ report (which_name Route) (length bytes) (map route_writes m.attributes) (route_bytes m))
+    × (text ≡ report (which_name Route) (length bytes) (map route_writing.writes m.attributes) (route_bytes m))
 IsReport Rule bytes text =
     (m : RuleMeaning) × IsRuleMessage bytes m × (rule_misfit m ≡ None)
-    × (text ≡ report (which_name Rule) (length bytes) (map rule_attributes.writes m.attributes) (rule_bytes m))
+    × (text ≡ report (which_name Rule) (length bytes) (map rule_writing.writes m.attributes) (rule_bytes m))
 
 -- the bytes are no message, and this is their first fault
 abbrev pub IsRefused : Which → List ℕ → DecodeError → Type 0

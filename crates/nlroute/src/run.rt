@@ -95,9 +95,9 @@ fn written<M: Emitable, A: Attribute>(
     message: &M,
     attributes: &[A],
 ) -> Result<String, RunError>
-    requires { M.unfit message.now ≡ None → first_unfit A.misfit (map A.meaning attributes.now) ≡ None }
+    requires { M.unfit message.now ≡ None → first_unfit A.writing.misfit (map A.meaning attributes.now) ≡ None }
     ensures ok { IfOk result (λ text. (M.unfit message.now ≡ None)
-        × (string_bytes text ≡ report (which_name which) (length bytes.now) (map A.writes (map A.meaning attributes.now)) (M.bytes message.now))) }
+        × (string_bytes text ≡ report (which_name which) (length bytes.now) (map A.writing.writes (map A.meaning attributes.now)) (M.bytes message.now))) }
     ensures unfit { (e : EmitError) → result ≡ Err (Unfit e) → M.unfit message.now ≡ Some e }
     ensures errors { IfErr result (λ e. (e ≡ Memory) ⊎ ((cause : EmitError) × (e ≡ Unfit cause))) }
 {

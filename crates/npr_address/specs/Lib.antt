@@ -1,9 +1,10 @@
+pub mod AddressFlags
+pub mod AddressProtocol
 pub mod AddressScope
 pub mod AddressScopeLaws
-pub mod AddressProtocol
-pub mod AddressFlags
-pub mod CacheInfo
-pub mod Header
 pub mod Attribute
-pub mod Message
+pub mod CacheInfo
 pub mod EqualityLaws
+pub mod Header
+pub mod Message
+pub mod MessageLaws

@@ -3,7 +3,7 @@ use Rattle.std.specs.Prelude.{ℕ, List, map, Option}
 use Rattle.npr_base.specs.declared.refusal.DecodeError.{DecodeError}
 use Rattle.npr_base.specs.declared.refusal.EmitError.{EmitError}
 use Rattle.npr_base.specs.Message.{Message, Body, attributes_of, IsMessage, MessageFault, IsCoherent, spelling, message_misfit}
-use Rattle.npr_address.specs.Attribute.{Meaning, meaning_of, attributes}
+use Rattle.npr_address.specs.Attribute.{Meaning, meaning_of, writing, attributes}
 use Rattle.npr_address.specs.Header.{header}
 use Rattle.npr_address.specs.declared.header.AddressHeader.{AddressHeader}
 use Rattle.npr_address.specs.declared.message.AddressMessage.{AddressMessage}
@@ -15,25 +15,25 @@ Address = Message AddressHeader Meaning
 abbrev pub message_of : AddressMessage → Address
 message_of m = record { header = m.header; attributes = map meaning_of m.attributes.items }
 
-abbrev pub body : Body AddressHeader Meaning
+abbrev pub body : Body AddressHeader writing
 body = attributes_of attributes
 
 -- the bytes are the message
-abbrev pub IsAddressMessage : List ℕ → Address → Type 0
+unfoldable pub IsAddressMessage : List ℕ → Address → Type 0
 IsAddressMessage bytes m = IsMessage header body bytes m
 
 -- the first fault of bytes that are none
-abbrev pub AddressFault : List ℕ → DecodeError → Type 0
+unfoldable pub AddressFault : List ℕ → DecodeError → Type 0
 AddressFault bytes e = MessageFault header body bytes e
 
 -- what can be read
-abbrev pub IsCoherentAddress : Address → Type 0
+unfoldable pub IsCoherentAddress : Address → Type 0
 IsCoherentAddress m = IsCoherent header body m
 
 -- the canonical bytes
-abbrev pub address_bytes : Address → List ℕ
-address_bytes m = spelling header body m
+unfoldable pub address_bytes : Address → List ℕ
+address_bytes m = spelling header writing m
 
 -- the first cause why there are none
-abbrev pub address_misfit : Address → Option EmitError
-address_misfit m = message_misfit header body m
+unfoldable pub address_misfit : Address → Option EmitError
+address_misfit m = message_misfit header writing m

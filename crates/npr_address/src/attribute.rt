@@ -2,7 +2,7 @@
 
 ghost use Rattle.std.specs.Prelude.{◌≡◌, ◌≢◌, ◌≤◌, ◌<◌, ◌+◌, ◌*◌, ℕ, List, Option, None, false, length, IfOk, IfErr};
 ghost use Rattle.std.proofs.Common.{refl};
-ghost use Rattle.npr_address.specs.Attribute.{Meaning, meaning_of, attributes, short};
+ghost use Rattle.npr_address.specs.Attribute.{Meaning, meaning_of, writing, attributes};
 
 use crate::addr_flags::AddressFlags;
 use crate::addr_protocol::AddressProtocol;
@@ -81,13 +81,13 @@ const fn at(kind: u16) -> At
 }
 
 impl Nla for AddressAttribute {
-    ghost item = { λ a. attributes.writes (meaning_of a) };
+    ghost item = { λ a. writing.writes (meaning_of a) };
 
     ghost nested = { λ _. false };
 
-    ghost unfit = { λ a. attributes.misfit (meaning_of a) };
+    ghost unfit = { λ a. writing.misfit (meaning_of a) };
 
-    ghost fits_short = { λ a h. short (meaning_of a) h };
+    ghost fits_short = { λ a h. writing.short (meaning_of a) h };
 
     fn kind(&self) -> u16 {
         match self {
@@ -115,7 +115,7 @@ impl Nla for AddressAttribute {
     }
 
     fn value_len(&self) -> usize
-        ensures { result ≡ length (attributes.writes (meaning_of self.now)).value }
+        ensures { result ≡ length (writing.writes (meaning_of self.now)).value }
     {
         match self {
             AddressAttribute::Address(ip) | AddressAttribute::Local(ip) => ip_len(ip),
@@ -158,33 +158,13 @@ impl Attribute for AddressAttribute {
 
     ghost meaning = { meaning_of };
 
-    ghost writes = { attributes.writes };
+    ghost writing = { writing };
 
-    ghost misfit = { attributes.misfit };
-
-    ghost reads = { λ _. attributes.Reads };
-
-    ghost faulty = { λ _. attributes.Faulty };
-
-    ghost coherent = { λ _. attributes.Coherent };
-
-    ghost members = { attributes.members };
+    ghost reading = { λ _. attributes };
 
     ghost item_is = { λ a. refl };
 
     ghost unfit_is = { λ a. refl };
-
-    ghost one_reading = { λ _. attributes.one_reading };
-
-    ghost no_fault = { λ _. attributes.no_fault };
-
-    ghost reads_coherent = { λ _. attributes.reads_coherent };
-
-    ghost fits_small = { λ _. attributes.fits_small };
-
-    ghost reads_back = { λ _. attributes.reads_back };
-
-    ghost grows = { λ _. attributes.grows };
 
     fn read(
         alloc: Global,
@@ -193,24 +173,20 @@ impl Attribute for AddressAttribute {
         _looks: &mut Looks,
     ) -> Result<Self, DecodeError> {
         let value = item.value();
-        match item.kind() {
-            1 => read_ip(value, at(1)).map(AddressAttribute::Address),
-            2 => read_ip(value, at(2)).map(AddressAttribute::Local),
-            3 => read_name(alloc, value, at(3)).map(AddressAttribute::Label),
-            4 => read_ipv4(value, at(4)).map(AddressAttribute::Broadcast),
-            5 => read_ipv6(value, at(5)).map(AddressAttribute::Anycast),
-            6 => CacheInfo::parse(value).map(AddressAttribute::CacheInfo),
-            7 => read_ipv6(value, at(7)).map(AddressAttribute::Multicast),
-            8 => read_u32(value, at(8)).map(|bits| AddressAttribute::Flags(
-                AddressFlags::from_bits_retain(bits),
-            )),
-            9 => read_u32(value, at(9)).map(AddressAttribute::RoutePriority),
-            10 => read_i32(value, at(10)).map(AddressAttribute::TargetNetNsId),
-            11 => read_u8(value, at(11)).map(|number| AddressAttribute::Protocol(
-                AddressProtocol::from(number),
-            )),
-            _ => DefaultNla::parse(alloc, item).map(AddressAttribute::Other),
-        }
+        Ok(match item.kind() {
+            1 => AddressAttribute::Address(read_ip(value, at(1))?),
+            2 => AddressAttribute::Local(read_ip(value, at(2))?),
+            3 => AddressAttribute::Label(read_name(alloc, value, at(3))?),
+            4 => AddressAttribute::Broadcast(read_ipv4(value, at(4))?),
+            5 => AddressAttribute::Anycast(read_ipv6(value, at(5))?),
+            6 => AddressAttribute::CacheInfo(CacheInfo::parse(value)?),
+            7 => AddressAttribute::Multicast(read_ipv6(value, at(7))?),
+            8 => AddressAttribute::Flags(AddressFlags::from_bits_retain(read_u32(value, at(8))?)),
+            9 => AddressAttribute::RoutePriority(read_u32(value, at(9))?),
+            10 => AddressAttribute::TargetNetNsId(read_i32(value, at(10))?),
+            11 => AddressAttribute::Protocol(AddressProtocol::from(read_u8(value, at(11))?)),
+            _ => AddressAttribute::Other(DefaultNla::parse(alloc, item)?),
+        })
     }
 
     fn try_clone(&self, alloc: Global) -> Result<Self, AllocError> {

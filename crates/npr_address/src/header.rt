@@ -104,14 +104,29 @@ impl AddressHeader {
         ensures ok { IfOk result (λ h. (leading header).Reads bytes.now h) }
         ensures refused { IfErr result (λ e. (leading header).Wrong no_place bytes.now e) }
     {
-        let b = AddressMessageBuffer::parse(bytes)?;
-        Ok(AddressHeader {
-            family: AddressFamily::from(b.family),
-            prefix_len: b.prefix_len,
-            flags: AddressHeaderFlags::from_bits_retain(b.flags),
-            scope: AddressScope::from(b.scope),
-            index: b.index,
-        })
+        if bytes.len() < 8 {
+            return Err(DecodeError::HeaderTooShort {
+                got: bytes.len(),
+                want: 8,
+            });
+        }
+        Ok(AddressHeader::in_front(bytes))
+    }
+
+    /// The header in the first 8 bytes, which are there.
+    #[inline]
+    pub(crate) fn in_front(bytes: &[u8]) -> Self
+        requires { 8 ≤ length bytes.now }
+        ensures { (leading header).Reads bytes.now result }
+    {
+        let b = &bytes[..8];
+        AddressHeader {
+            family: AddressFamily::from(b[0]),
+            prefix_len: b[1],
+            flags: AddressHeaderFlags::from_bits_retain(b[2]),
+            scope: AddressScope::from(b[3]),
+            index: u32::from_le_bytes([b[4], b[5], b[6], b[7]]),
+        }
     }
 }
 

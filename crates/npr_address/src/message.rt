@@ -79,16 +79,26 @@ impl<'a> Parseable<&'a [u8]> for AddressMessage {
     }
 }
 
+#[tactic(auto, unfolding(crate::specs::Message::AddressFault))]
 fn read(alloc: Global, bytes: &[u8]) -> Result<AddressMessage, DecodeError>
     ensures ok { IfOk result (λ m. IsAddressMessage bytes.now (message_of m)) }
     ensures refused { IfErr result (λ e. e ≢ OutOfMemory → AddressFault bytes.now e) }
     ensures memory { IsErrOf result OutOfMemory → (x : Item) × (rest : List ℕ) × Front (drop 8 bytes.now) x rest }
 {
-    let header = AddressHeader::parse(bytes)?;
+    if bytes.len() < 8 {
+        return Err(DecodeError::HeaderTooShort {
+            got: bytes.len(),
+            want: 8,
+        });
+    }
     let attributes = parse_list(alloc, (), &bytes[8..], &mut Looks::new())?;
-    Ok(AddressMessage { header, attributes })
+    Ok(AddressMessage {
+        header: AddressHeader::in_front(bytes),
+        attributes,
+    })
 }
 
+#[tactic(auto, unfolding(crate::specs::Message::address_bytes, crate::specs::Message::address_misfit))]
 impl Emitable for AddressMessage {
     ghost bytes = { λ m. address_bytes (message_of m) };
 

@@ -9,11 +9,12 @@ use Rattle.npr_base.specs.Family.{first_unfit, overlong, encodings}
 use Rattle.npr_base.specs.ListLaws.{none_both, IsBytes-left, IsBytes-right}
 use Rattle.npr_base.specs.Layout.{Layout}
 use Rattle.npr_base.specs.Message.{Message, Body, IsMessage, MessageFault, IsCoherent, spelling, message_misfit}
+use Rattle.npr_base.specs.Table.{Writing}
 
 same_message : {H M : Type 0} (m : Message H M) (h : H) (xs : List M) → m.header ≡ h → m.attributes ≡ xs → m ≡ record { header = h; attributes = xs }
 same_message {H} {M} m h xs p q = ap (λ (k : H). record { header = k; attributes = m.attributes }) p ∙ ap (λ (ys : List M). record { header = h; attributes = ys }) q
 
-module _ {H M : Type 0} (L : Layout H) (B : Body H M) where
+module _ {H M : Type 0} {w : Writing M} (L : Layout H) (B : Body H w) where
   front_is : (bytes front rest : List ℕ) → bytes ≡ front ++ rest → length front ≡ L.size → (front ≡ take L.size bytes) × (rest ≡ drop L.size bytes)
   front_is bytes front rest is size = (sym (ap (take L.size) is ∙ take_at front rest L.size size), sym (ap (drop L.size) is ∙ drop_at front rest L.size size))
 
@@ -58,24 +59,24 @@ module _ {H M : Type 0} (L : Layout H) (B : Body H M) where
         attributes = B.reads_coherent m.header p.rest m.attributes (IsBytes-right p.front p.rest all) p.attributes;
       }
 
-  pub message-back : (m : Message H M) → IsCoherent L B m → message_misfit L B m ≡ None → IsMessage L B (spelling L B m) m
+  pub message-back : (m : Message H M) → IsCoherent L B m → message_misfit L w m ≡ None → IsMessage L B (spelling L w m) m
   message-back m c fits = record {
     front = L.encode m.header;
-    rest = encodings B.writes m.attributes;
+    rest = encodings w.writes m.attributes;
     is = refl;
     size = L.length-encode m.header c.header;
     header = sym (L.decode-encode m.header c.header);
-    attributes = B.reads_back m.header m.attributes c.attributes (none_both (first_unfit B.misfit m.attributes) (overlong (length (spelling L B m))) fits).0;
+    attributes = B.reads_back m.header m.attributes c.attributes (none_both (first_unfit w.misfit m.attributes) (overlong (length (spelling L w m))) fits).0;
   }
 
-  pub message-canonical : (m n : Message H M) → IsCoherent L B m → message_misfit L B m ≡ None → IsCoherent L B n → message_misfit L B n ≡ None → spelling L B m ≡ spelling L B n → m ≡ n
-  message-canonical m n c f d g e = message-one (spelling L B n) m n (subst (λ (b : List ℕ). IsMessage L B b m) e (message-back m c f)) (message-back n d g)
+  pub message-canonical : (m n : Message H M) → IsCoherent L B m → message_misfit L w m ≡ None → IsCoherent L B n → message_misfit L w n ≡ None → spelling L w m ≡ spelling L w n → m ≡ n
+  message-canonical m n c f d g e = message-one (spelling L w n) m n (subst (λ (b : List ℕ). IsMessage L B b m) e (message-back m c f)) (message-back n d g)
 
-  pub message-grows : (bytes : List ℕ) (m : Message H M) → IsBytes bytes → IsMessage L B bytes m → 2 * length (spelling L B m) ≤ 5 * length bytes
+  pub message-grows : (bytes : List ℕ) (m : Message H M) → IsBytes bytes → IsMessage L B bytes m → 2 * length (spelling L w m) ≤ 5 * length bytes
   message-grows bytes m fits p =
       let all : IsBytes (p.front ++ p.rest) = subst IsBytes p.is fits in
       let c = message-coherent bytes m fits p in
-      omega (arith, B.grows m.header p.rest m.attributes (IsBytes-right p.front p.rest all) p.attributes, L.length-encode m.header c.header, length-append (L.encode m.header) (encodings B.writes m.attributes), ap length p.is, length-append p.front p.rest, p.size)
+      omega (arith, B.grows m.header p.rest m.attributes (IsBytes-right p.front p.rest all) p.attributes, L.length-encode m.header c.header, length-append (L.encode m.header) (encodings w.writes m.attributes), ap length p.is, length-append p.front p.rest, p.size)
 
   -- ---- of an answer
 
@@ -92,10 +93,10 @@ module _ {H M : Type 0} (L : Layout H) (B : Body H M) where
   ok_coherent view bytes fits (Err e) p = tt
 
   pub ok_again : {V : Type 0} (view : V → Message H M) (bytes : List ℕ) (r : Result V DecodeError) → IfOk r (λ v. IsMessage L B bytes (view v))
-      → IfOk r (λ v. (n : Message H M) → IsCoherent L B n → message_misfit L B n ≡ None → bytes ≡ spelling L B n → view v ≡ n)
+      → IfOk r (λ v. (n : Message H M) → IsCoherent L B n → message_misfit L w n ≡ None → bytes ≡ spelling L w n → view v ≡ n)
   ok_again view bytes (Ok v) p = λ n c f is. message-one bytes (view v) n p (subst (λ (b : List ℕ). IsMessage L B b n) (sym is) (message-back n c f))
   ok_again view bytes (Err e) p = tt
 
-  pub ok_grows : {V : Type 0} (view : V → Message H M) (bytes : List ℕ) → IsBytes bytes → (r : Result V DecodeError) → IfOk r (λ v. IsMessage L B bytes (view v)) → IfOk r (λ v. 2 * length (spelling L B (view v)) ≤ 5 * length bytes)
+  pub ok_grows : {V : Type 0} (view : V → Message H M) (bytes : List ℕ) → IsBytes bytes → (r : Result V DecodeError) → IfOk r (λ v. IsMessage L B bytes (view v)) → IfOk r (λ v. 2 * length (spelling L w (view v)) ≤ 5 * length bytes)
   ok_grows view bytes fits (Ok v) p = message-grows bytes (view v) fits p
   ok_grows view bytes fits (Err e) p = tt

@@ -4,22 +4,22 @@ use Rattle.npr_base.specs.Family.{AllOf, ReadsList, FirstFault, encodings, first
 use Rattle.npr_base.specs.FitLaws.{too_long-short}
 use Rattle.npr_base.specs.ListLaws.{none_both, ReadsList-one, FirstFault-excludes, ReadsList-known, encodings-read, list-grows}
 use Rattle.npr_base.specs.Codec.{Codec}
-use Rattle.npr_base.specs.Table.{Family}
+use Rattle.npr_base.specs.Table.{Writing, Reading, fits-small}
 
-abbrev pub list_of : {M : Type 0} → Family M → Codec (List M)
-list_of f = record {
+abbrev pub list_of : {M : Type 0} {w : Writing M} → Reading w → Codec (List M)
+list_of {M} {w} f = record {
   Reads = ReadsList f.Reads;
   Wrong = λ at bytes e. FirstFault f.Reads f.Faulty bytes e;
-  writes = encodings f.writes;
-  misfit = λ kind xs. option_or (list_unfit f.misfit f.writes xs) (too_long kind (length (encodings f.writes xs)));
+  writes = encodings w.writes;
+  misfit = λ kind xs. option_or (list_unfit w.misfit w.writes xs) (too_long kind (length (encodings w.writes xs)));
   Holds = AllOf f.Coherent;
-  members = list_members f.members;
+  members = list_members w.members;
   one_reading = λ bytes xs ys p q. ReadsList-one f.Reads f.one_reading bytes xs ys p q;
   no_fault = λ at bytes xs e p q. FirstFault-excludes f.Reads f.Faulty f.no_fault bytes e xs q p;
   reads_holds = λ bytes xs is p. ReadsList-known f.Coherent f.Reads f.reads_coherent bytes xs is p;
-  fits_short = λ kind xs h. too_long-short kind (length (encodings f.writes xs)) (none_both (list_unfit f.misfit f.writes xs) (too_long kind (length (encodings f.writes xs))) h).1;
+  fits_short = λ kind xs h. too_long-short kind (length (encodings w.writes xs)) (none_both (list_unfit w.misfit w.writes xs) (too_long kind (length (encodings w.writes xs))) h).1;
   reads_back = λ kind xs all h.
-      encodings-read f.Coherent f.misfit f.writes f.Reads f.fits_small f.reads_back xs all
-      (none_both (first_unfit f.misfit xs) (overlong (length (encodings f.writes xs))) (none_both (list_unfit f.misfit f.writes xs) (too_long kind (length (encodings f.writes xs))) h).0).0;
-  grows = λ bytes xs is p. list-grows f.writes f.Reads f.grows bytes xs is p;
+      encodings-read f.Coherent w.misfit w.writes f.Reads (fits-small f) f.reads_back xs all
+      (none_both (first_unfit w.misfit xs) (overlong (length (encodings w.writes xs))) (none_both (list_unfit w.misfit w.writes xs) (too_long kind (length (encodings w.writes xs))) h).0).0;
+  grows = λ bytes xs is p. list-grows w.writes f.Reads f.grows bytes xs is p;
 }

@@ -3,47 +3,43 @@ use Rattle.std.specs.Prelude.{◌≡◌, ℕ, ◌*◌, ◌<◌, ◌≤◌, ◌�
 use Rattle.npr_base.specs.declared.refusal.DecodeError.{DecodeError}
 use Rattle.npr_base.specs.declared.refusal.DecodeError.TheVariants.{HeaderTooShort}
 use Rattle.npr_base.specs.declared.refusal.EmitError.{EmitError}
-use Rattle.npr_base.specs.Framing.{Item, IsBytes}
+use Rattle.npr_base.specs.Framing.{IsBytes}
 use Rattle.npr_base.specs.Family.{AllOf, ReadsList, FirstFault, encodings, first_unfit, option_or, overlong}
 use Rattle.npr_base.specs.ListLaws.{ReadsList-one, FirstFault-excludes, ReadsList-known, encodings-read, ReadsList-grows}
 use Rattle.npr_base.specs.Layout.{Layout}
-use Rattle.npr_base.specs.Table.{Family}
+use Rattle.npr_base.specs.Table.{Writing, Reading, fits-small}
 
 -- a message without where it lies in memory
 pub record Message (H M : Type 0) : Type 0 where
   pub header : H
   pub attributes : List M
 
--- what the bytes after a header mean, how the attributes are written, and the laws of both
-pub record Body (H M : Type 0) : Type 1 where
+-- what the bytes after a header mean, where attributes are written so, with the laws of both
+pub record Body (H : Type 0) {M : Type 0} (w : Writing M) : Type 1 where
   pub Reads : H → List ℕ → List M → Type 0
   pub Faulty : H → List ℕ → DecodeError → Type 0
-  pub writes : M → Item
-  pub misfit : M → Option EmitError
   pub Coherent : H → List M → Type 0
   pub one_reading : (h : H) (bytes : List ℕ) (xs ys : List M) → Reads h bytes xs → Reads h bytes ys → xs ≡ ys
   pub no_fault : (h : H) (bytes : List ℕ) (xs : List M) (e : DecodeError) → Reads h bytes xs → Faulty h bytes e → ⊥
   pub reads_coherent : (h : H) (bytes : List ℕ) (xs : List M) → IsBytes bytes → Reads h bytes xs → Coherent h xs
-  pub reads_back : (h : H) (xs : List M) → Coherent h xs → first_unfit misfit xs ≡ None → Reads h (encodings writes xs) xs
-  pub grows : (h : H) (bytes : List ℕ) (xs : List M) → IsBytes bytes → Reads h bytes xs → 2 * length (encodings writes xs) ≤ 5 * length bytes
+  pub reads_back : (h : H) (xs : List M) → Coherent h xs → first_unfit w.misfit xs ≡ None → Reads h (encodings w.writes xs) xs
+  pub grows : (h : H) (bytes : List ℕ) (xs : List M) → IsBytes bytes → Reads h bytes xs → 2 * length (encodings w.writes xs) ≤ 5 * length bytes
 
 -- attributes of one family, whatever the header says
-abbrev pub attributes_of : {H M : Type 0} → Family M → Body H M
-attributes_of f = record {
+abbrev pub attributes_of : {H M : Type 0} {w : Writing M} → Reading w → Body H w
+attributes_of {H} {M} {w} f = record {
   Reads = λ h bytes xs. ReadsList f.Reads bytes xs;
   Faulty = λ h bytes e. FirstFault f.Reads f.Faulty bytes e;
-  writes = f.writes;
-  misfit = f.misfit;
   Coherent = λ h xs. AllOf f.Coherent xs;
   one_reading = λ h bytes xs ys p q. ReadsList-one f.Reads f.one_reading bytes xs ys p q;
   no_fault = λ h bytes xs e p q. FirstFault-excludes f.Reads f.Faulty f.no_fault bytes e xs q p;
   reads_coherent = λ h bytes xs is p. ReadsList-known f.Coherent f.Reads f.reads_coherent bytes xs is p;
-  reads_back = λ h xs all fits. encodings-read f.Coherent f.misfit f.writes f.Reads f.fits_small f.reads_back xs all fits;
-  grows = λ h bytes xs is p. ReadsList-grows f.writes f.Reads f.grows bytes xs is p;
+  reads_back = λ h xs all fits. encodings-read f.Coherent w.misfit w.writes f.Reads (fits-small f) f.reads_back xs all fits;
+  grows = λ h bytes xs is p. ReadsList-grows w.writes f.Reads f.grows bytes xs is p;
 }
 
 -- the bytes are the message: a header, and then its attributes
-pub record IsMessage {H M : Type 0} (L : Layout H) (B : Body H M) (bytes : List ℕ) (m : Message H M) : Type 0 where
+pub record IsMessage {H M : Type 0} {w : Writing M} (L : Layout H) (B : Body H w) (bytes : List ℕ) (m : Message H M) : Type 0 where
   pub front : List ℕ
   pub rest : List ℕ
   pub is : bytes ≡ front ++ rest
@@ -52,19 +48,19 @@ pub record IsMessage {H M : Type 0} (L : Layout H) (B : Body H M) (bytes : List 
   pub attributes : B.Reads m.header rest m.attributes
 
 -- the first fault of bytes that are no message: too few for the header, or a fault after it
-abbrev pub MessageFault : {H M : Type 0} → Layout H → Body H M → List ℕ → DecodeError → Type 0
+abbrev pub MessageFault : {H M : Type 0} {w : Writing M} → Layout H → Body H w → List ℕ → DecodeError → Type 0
 MessageFault L B bytes e =
     ((length bytes < L.size) × (e ≡ HeaderTooShort (length bytes) L.size))
     ⊎ ((front : List ℕ) × (rest : List ℕ) × (bytes ≡ front ++ rest) × (length front ≡ L.size) × B.Faulty (L.decode front) rest e)
 
-pub record IsCoherent {H M : Type 0} (L : Layout H) (B : Body H M) (m : Message H M) : Type 0 where
+pub record IsCoherent {H M : Type 0} {w : Writing M} (L : Layout H) (B : Body H w) (m : Message H M) : Type 0 where
   pub header : L.Holds m.header
   pub attributes : B.Coherent m.header m.attributes
 
 -- the canonical bytes
-abbrev pub spelling : {H M : Type 0} → Layout H → Body H M → Message H M → List ℕ
-spelling L B m = L.encode m.header ++ encodings B.writes m.attributes
+abbrev pub spelling : {H M : Type 0} → Layout H → Writing M → Message H M → List ℕ
+spelling L w m = L.encode m.header ++ encodings w.writes m.attributes
 
 -- why there are none: the first attribute that can't be written, or a length that no usize holds
-abbrev pub message_misfit : {H M : Type 0} → Layout H → Body H M → Message H M → Option EmitError
-message_misfit L B m = option_or (first_unfit B.misfit m.attributes) (overlong (length (spelling L B m)))
+abbrev pub message_misfit : {H M : Type 0} → Layout H → Writing M → Message H M → Option EmitError
+message_misfit L w m = option_or (first_unfit w.misfit m.attributes) (overlong (length (spelling L w m)))

@@ -7,20 +7,30 @@ use Rattle.npr_base.specs.declared.refusal.EmitError.{EmitError}
 use Rattle.npr_base.specs.Framing.{Item, Small, Proper, framed, marked, number_of}
 use Rattle.npr_base.specs.Codec.{Codec, raw}
 
--- a family: what its attributes mean and how meanings are written, with the laws of both
-pub record Family (M : Type 0) : Type 1 where
-  pub Reads : Item → M → Type 0
-  pub Faulty : Item → DecodeError → Type 0
+-- how meanings are written: the attribute, why there is none, and how many stand inside it at all
+-- depths
+pub record Writing (M : Type 0) : Type 0 where
   pub writes : M → Item
   pub misfit : M → Option EmitError
-  pub Coherent : M → Type 0
   pub members : M → ℕ
+  -- what fits is short
+  pub short : (m : M) → misfit m ≡ None → length (writes m).value ≤ 65531
+
+-- a family: what attributes mean that are written so, with the laws of both
+pub record Reading {M : Type 0} (w : Writing M) : Type 1 where
+  pub Reads : Item → M → Type 0
+  pub Faulty : Item → DecodeError → Type 0
+  pub Coherent : M → Type 0
   pub one_reading : (x : Item) (m n : M) → Reads x m → Reads x n → m ≡ n
   pub no_fault : (x : Item) (m : M) (e : DecodeError) → Reads x m → Faulty x e → ⊥
   pub reads_coherent : (x : Item) (m : M) → Proper x → Reads x m → Coherent m
-  pub fits_small : (m : M) → Coherent m → misfit m ≡ None → Small (writes m)
-  pub reads_back : (m : M) → Coherent m → misfit m ≡ None → Reads (writes m) m
-  pub grows : (x : Item) (m : M) → Proper x → Reads x m → 2 * framed (length (writes m).value) ≤ 5 * (4 + length x.value)
+  pub kinds : (m : M) → Coherent m → (w.writes m).kind < 2 ^ 16
+  pub reads_back : (m : M) → Coherent m → w.misfit m ≡ None → Reads (w.writes m) m
+  pub grows : (x : Item) (m : M) → Proper x → Reads x m → 2 * framed (length (w.writes m).value) ≤ 5 * (4 + length x.value)
+
+-- what can be read and fits is an attribute that a text can hold
+pub fits-small : {M : Type 0} {w : Writing M} (r : Reading w) (m : M) → r.Coherent m → w.misfit m ≡ None → Small (w.writes m)
+fits-small {M} {w} r m c h = record { kind = r.kinds m c; value = w.short m h }
 
 -- a row of a table: where it stands, how its values are read and written, and what they mean
 pub record Row (M : Type 0) : Type 1 where
@@ -58,31 +68,46 @@ pub record IsOther {M : Type 0} (rows : List (Row M)) (x : Item) : Type 0 where
   pub proper : Proper x
   pub alone : has_row rows (number_of x.kind) ≡ false
 
--- a value in its place: the kind that is written, whether NESTED is set in it besides, and what its
--- codec says of the value
-pub record Held : Type 1 where
-  pub kind : ℕ
-  pub nested : Bool
-  pub bytes : List ℕ
-  pub misfit : Option EmitError
-  pub IsHeld : Type 0
-  pub members : ℕ
-  pub V : Type 0
-  pub codec : Codec V
-  pub value : V
+-- a value in its place: the kind that is written, whether NESTED is set in it besides, and the value
+-- under its codec
+pub data Held : Type 1 where
+  held_marked : {V : Type 0} → Bool → ℕ → Codec V → V → Held
 
-abbrev pub held_marked : {V : Type 0} → Bool → ℕ → Codec V → V → Held
-held_marked {V} nested kind codec value = record {
-  kind = kind;
-  nested = nested;
-  bytes = codec.writes value;
-  misfit = codec.misfit kind value;
-  IsHeld = codec.Holds value;
-  members = codec.members value;
-  V = V;
-  codec = codec;
-  value = value;
-}
+abbrev pub held_kind : Held → ℕ
+held_kind (held_marked nested kind codec value) = kind
+
+abbrev pub held_nested : Held → Bool
+held_nested (held_marked nested kind codec value) = nested
+
+abbrev pub HeldType : Held → Type 0
+HeldType (held_marked {V} nested kind codec value) = V
+
+abbrev pub held_codec : (h : Held) → Codec (HeldType h)
+held_codec (held_marked nested kind codec value) = codec
+
+abbrev pub held_value : (h : Held) → HeldType h
+held_value (held_marked nested kind codec value) = value
+
+-- what its codec says of it
+abbrev pub held_bytes : Held → List ℕ
+held_bytes (held_marked nested kind codec value) = codec.writes value
+
+abbrev pub held_misfit : Held → Option EmitError
+held_misfit (held_marked nested kind codec value) = codec.misfit kind value
+
+abbrev pub IsHeld : Held → Type 0
+IsHeld (held_marked nested kind codec value) = codec.Holds value
+
+abbrev pub held_members : Held → ℕ
+held_members (held_marked nested kind codec value) = codec.members value
+
+-- what fits is short
+pub held-short : (h : Held) → held_misfit h ≡ None → length (held_bytes h) ≤ 65531
+held-short (held_marked nested kind codec value) fits = codec.fits_short kind value fits
+
+-- and its bytes mean it again
+pub held-reads : (h : Held) → IsHeld h → held_misfit h ≡ None → (held_codec h).Reads (held_bytes h) (held_value h)
+held-reads (held_marked nested kind codec value) is fits = codec.reads_back kind value is fits
 
 abbrev pub held : {V : Type 0} → ℕ → Codec V → V → Held
 held kind codec value = held_marked false kind codec value
@@ -92,10 +117,14 @@ held_other x = held x.kind raw x.value
 
 -- before NESTED is set in its kind, and after
 abbrev pub plain_item : Held → Item
-plain_item h = record { kind = h.kind; value = h.bytes }
+plain_item h = record { kind = held_kind h; value = held_bytes h }
 
 abbrev pub item_of : Held → Item
-item_of h = record { kind = marked h.nested h.kind; value = h.bytes }
+item_of h = record { kind = marked (held_nested h) (held_kind h); value = held_bytes h }
+
+-- meanings are written each from its place
+abbrev pub placed : {M : Type 0} → (M → Held) → Writing M
+placed place = record { writes = λ m. item_of (place m); misfit = λ m. held_misfit (place m); members = λ m. held_members (place m); short = λ m h. held-short (place m) h }
 
 -- each row's variant is written by that row, and is coherent where the row can hold its value
 abbrev pub Aligned : {M : Type 0} → (M → Item) → (M → Type 0) → List (Row M) → Type 0
@@ -111,6 +140,5 @@ pub record Table (M : Type 0) : Type 1 where
   pub aligned : Aligned (λ m. item_of (place m)) Coherent rows
   pub other_is : (x : Item) → item_of (place (other x)) ≡ x
   pub other_coherent : (x : Item) → IsOther rows x → Coherent (other x)
-  pub kinds : (m : M) → Coherent m → (place m).kind < 2 ^ 16
-  pub short : (m : M) → (place m).misfit ≡ None → length (place m).bytes ≤ 65531
-  pub back : (m : M) → Coherent m → (place m).misfit ≡ None → ReadsAt other rows (number_of (item_of (place m)).kind) (item_of (place m)) m
+  pub kinds : (m : M) → Coherent m → held_kind (place m) < 2 ^ 16
+  pub back : (m : M) → Coherent m → held_misfit (place m) ≡ None → ReadsAt other rows (number_of (item_of (place m)).kind) (item_of (place m)) m

@@ -5,7 +5,7 @@ use Rattle.std.proofs.Common.{◌≡◌, ℕ, ◌+◌, ◌*◌, ◌<◌, ◌≤�
 use Rattle.npr_base.specs.declared.refusal.DecodeError.{DecodeError}
 use Rattle.npr_base.specs.Framing.{Item, IsBytes, framed, marked, number_of}
 use Rattle.npr_base.specs.CodecLaws.{framed-grows}
-use Rattle.npr_base.specs.Table.{Family, Row, ReadsAt, WrongAt, has_row, item_of, Aligned, Table}
+use Rattle.npr_base.specs.Table.{Reading, Row, ReadsAt, WrongAt, has_row, item_of, held_kind, held_nested, placed, Aligned, Table}
 
 -- two facts on the same test
 both : {P Q S T R : Type 0} (b : Bool) → (P → S → R) → (Q → T → R) → MatchBool b P Q → MatchBool b S T → R
@@ -55,18 +55,15 @@ pub other-back : {M : Type 0} (other : Item → M) (rows : List (Row M)) (k : �
 other-back other [] k x h = refl
 other-back other (r ∷ rows) k x h = not_here (k == r.at.kind) (has_row rows k) h (λ e f. rw e (other-back other rows k x f))
 
-abbrev pub flat : {M : Type 0} → Table M → Family M
+abbrev pub flat : {M : Type 0} → (t : Table M) → Reading (placed t.place)
 flat t = record {
   Reads = λ x m. ReadsAt t.other t.rows (number_of x.kind) x m;
   Faulty = λ x e. WrongAt t.rows (number_of x.kind) x e;
-  writes = λ m. item_of (t.place m);
-  misfit = λ m. (t.place m).misfit;
   Coherent = t.Coherent;
-  members = λ m. (t.place m).members;
   one_reading = λ x m n p q. flat-one t.other t.rows (number_of x.kind) x m n p q;
   no_fault = λ x m e p q. flat-sound t.other t.rows (number_of x.kind) x m e p q;
   reads_coherent = λ x m proper p. flat-coherent t.other (λ n. item_of (t.place n)) t.Coherent t.rows t.aligned (number_of x.kind) x proper.value (λ alone. t.other_coherent x (record { proper = proper; alone = alone })) m p;
-  fits_small = λ m c h. record { kind = marked-small (t.place m).nested (t.place m).kind (t.kinds m c); value = t.short m h };
+  kinds = λ m c. marked-small (held_nested (t.place m)) (held_kind (t.place m)) (t.kinds m c);
   reads_back = λ m c h. t.back m c h;
   grows = λ x m proper p. flat-grows t.other (λ n. item_of (t.place n)) t.Coherent t.rows t.aligned t.other_is (number_of x.kind) x proper.value m p;
 }

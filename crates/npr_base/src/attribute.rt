@@ -1,11 +1,10 @@
 //! A family of attributes, with its laws.
 
-ghost use Rattle.std.specs.Prelude.{◌≡◌, ◌≢◌, ◌≤◌, ◌*◌, ◌+◌, ℕ, List, Option, None, length, IfOk, IfErr};
-ghost use Rattle.npr_base.specs.declared.refusal.EmitError.{EmitError};
-ghost use Rattle.npr_base.specs.declared.refusal.DecodeError.{DecodeError};
+ghost use Rattle.std.specs.Prelude.{◌≡◌, ◌≢◌, length, IfOk, IfErr};
 ghost use Rattle.npr_base.specs.declared.refusal.DecodeError.TheVariants.{OutOfMemory};
 ghost use Rattle.npr_base.specs.Counts.{AddsAtMost, SawEach};
-ghost use Rattle.npr_base.specs.Framing.{Item, Proper, Small, framed, written};
+ghost use Rattle.npr_base.specs.Framing.{written};
+ghost use Rattle.npr_base.specs.Table.{Writing, Reading};
 
 use crate::framing::NlaBuffer;
 use crate::looks::Looks;
@@ -26,23 +25,11 @@ pub trait Attribute: Nla + Drop {
     /// What this value is.
     ghost meaning: { Self → Meaning };
 
-    /// The attribute that is written for a meaning, under its written kind.
-    ghost writes: { Meaning → Item };
+    /// How meanings are written, whatever the context.
+    ghost writing: { Writing Meaning };
 
-    /// Why a meaning can't be written, if so.
-    ghost misfit: { Meaning → Option EmitError };
-
-    /// What an attribute means in a context.
-    ghost reads: { Self.Context → Item → Meaning → Type 0 };
-
-    /// Why it means nothing.
-    ghost faulty: { Self.Context → Item → DecodeError → Type 0 };
-
-    /// What can be read in a context.
-    ghost coherent: { Self.Context → Meaning → Type 0 };
-
-    /// How many attributes and next hops stand inside it, at all depths.
-    ghost members: { Meaning → ℕ };
+    /// What attributes mean in a context, with the laws of reading and writing.
+    ghost reading: { Self.Context → Reading writing };
 
     /// The value that the attribute means in the context. Each look at a header inside it is
     /// counted.
@@ -55,10 +42,10 @@ pub trait Attribute: Nla + Drop {
         item: &NlaBuffer<'_>,
         looks: &mut Looks,
     ) -> Result<Self, DecodeError>
-        ensures ok { IfOk result (λ a. reads context item.now (meaning a)) }
-        ensures refused { IfErr result (λ e. e ≢ OutOfMemory → faulty context item.now e) }
+        ensures ok { IfOk result (λ a. (reading context).Reads item.now (meaning a)) }
+        ensures refused { IfErr result (λ e. e ≢ OutOfMemory → (reading context).Faulty item.now e) }
         ensures bounded { AddsAtMost looks.old looks.new (length (item.now).value) }
-        ensures counted { IfOk result (λ a. SawEach looks.old looks.new (members (meaning a))) };
+        ensures counted { IfOk result (λ a. SawEach looks.old looks.new (writing.members (meaning a))) };
 
     /// An equal value, as the type's own `clone` makes it.
     ///
@@ -68,26 +55,8 @@ pub trait Attribute: Nla + Drop {
         ensures { IfOk result (λ a. meaning a ≡ meaning self.now) };
 
     /// The two views of what is written agree.
-    ghost item_is: { (a : Self) → written (Self.nested a) (Self.item a) ≡ writes (meaning a) };
+    ghost item_is: { (a : Self) → written (Self.nested a) (Self.item a) ≡ writing.writes (meaning a) };
 
     /// The two views of why it can't be written agree.
-    ghost unfit_is: { (a : Self) → Self.unfit a ≡ misfit (meaning a) };
-
-    /// An attribute has one meaning at most.
-    ghost one_reading: { (context : Self.Context) (x : Item) (m n : Meaning) → reads context x m → reads context x n → m ≡ n };
-
-    /// What means something is not faulty.
-    ghost no_fault: { (context : Self.Context) (x : Item) (m : Meaning) (e : DecodeError) → reads context x m → faulty context x e → ⊥ };
-
-    /// What a program's bytes mean is coherent.
-    ghost reads_coherent: { (context : Self.Context) (x : Item) (m : Meaning) → Proper x → reads context x m → coherent context m };
-
-    /// What is coherent and fits is written as an attribute that a text can hold.
-    ghost fits_small: { (context : Self.Context) (m : Meaning) → coherent context m → misfit m ≡ None → Small (writes m) };
-
-    /// And that attribute means it again.
-    ghost reads_back: { (context : Self.Context) (m : Meaning) → coherent context m → misfit m ≡ None → reads context (writes m) m };
-
-    /// An encoding is at most five halves as long as the header and value that were read.
-    ghost grows: { (context : Self.Context) (x : Item) (m : Meaning) → Proper x → reads context x m → 2 * framed (length (writes m).value) ≤ 5 * (4 + length x.value) };
+    ghost unfit_is: { (a : Self) → Self.unfit a ≡ writing.misfit (meaning a) };
 }

@@ -24,17 +24,29 @@ pub fn parse_list<A: Attribute>(
     looks: &mut Looks,
 ) -> Result<Vec<A>, DecodeError>
     // What is read is what the bytes mean.
-    ensures ok { IfOk result (λ v. ReadsList (A.reads context) bytes.now (map A.meaning v.items)) }
+    ensures ok { IfOk result (λ v. ReadsList (A.reading context).Reads bytes.now (map A.meaning v.items)) }
     // A refusal is the first fault.
-    ensures refused { IfErr result (λ e. e ≢ OutOfMemory → FirstFault (A.reads context) (A.faulty context) bytes.now e) }
+    ensures refused { IfErr result (λ e. e ≢ OutOfMemory → FirstFault (A.reading context).Reads (A.reading context).Faulty bytes.now e) }
     // Then the bytes mean nothing.
-    ensures none { IfErr result (λ e. e ≢ OutOfMemory → (xs : List A.Meaning) → ReadsList (A.reads context) bytes.now xs → ⊥) }
+    ensures none { IfErr result (λ e. e ≢ OutOfMemory → (xs : List A.Meaning) → ReadsList (A.reading context).Reads bytes.now xs → ⊥) }
     // Memory is taken behind a first whole attribute alone.
     ensures memory { IsErrOf result OutOfMemory → (x : Item) × (rest : List ℕ) × Front bytes.now x rest }
     ensures bounded { AddsAtMost looks.old looks.new (length bytes.now) }
-    ensures counted { IfOk result (λ v. SawEach looks.old looks.new (list_members A.members (map A.meaning v.items))) }
+    ensures counted { IfOk result (λ v. SawEach looks.old looks.new (list_members A.writing.members (map A.meaning v.items))) }
 {
     read_all(alloc, context, bytes, looks)
+}
+
+/// Before the first attribute of a list of so many bytes: room for as many as the bytes hold of the
+/// shortest, and for 16 at most, so that a list of a real message takes memory once.
+fn make_room<A: Drop>(found: &mut Vec<A>, len: usize) -> Result<(), AllocError>
+    ensures { found.new.items ≡ found.old.items }
+{
+    if found.is_empty() {
+        found.reserve((len / 8).min(16))
+    } else {
+        Ok(())
+    }
 }
 
 fn read_all<A: Attribute>(
@@ -43,16 +55,17 @@ fn read_all<A: Attribute>(
     bytes: &[u8],
     looks: &mut Looks,
 ) -> Result<Vec<A>, DecodeError>
-    ensures ok { IfOk result (λ v. ReadsList (A.reads context) bytes.now (map A.meaning v.items)) }
-    ensures refused { IfErr result (λ e. e ≢ OutOfMemory → FirstFault (A.reads context) (A.faulty context) bytes.now e) }
+    ensures ok { IfOk result (λ v. ReadsList (A.reading context).Reads bytes.now (map A.meaning v.items)) }
+    ensures refused { IfErr result (λ e. e ≢ OutOfMemory → FirstFault (A.reading context).Reads (A.reading context).Faulty bytes.now e) }
     ensures memory { IsErrOf result OutOfMemory → (x : Item) × (rest : List ℕ) × Front bytes.now x rest }
     ensures bounded { AddsAtMost looks.old looks.new (length bytes.now) }
-    ensures counted { IfOk result (λ v. SawEach looks.old looks.new (list_members A.members (map A.meaning v.items))) }
+    ensures counted { IfOk result (λ v. SawEach looks.old looks.new (list_members A.writing.members (map A.meaning v.items))) }
 {
     let mut walk = NlasIterator::new(bytes);
     let mut found = Vec::new(alloc);
     while let Some(next) = walk.next_counted(looks) {
         let item = next?;
+        make_room(&mut found, bytes.len())?;
         let attribute = A::read(alloc, context, &item, looks)?;
         found.push(attribute)?;
     }
@@ -106,25 +119,25 @@ fn write_items<A: Nla>(list: &[A], out: &mut [u8]) -> usize
 /// The length of the encodings in bytes, or the first cause why there are none: the first member
 /// that can't be written, or `Total`.
 pub fn check_list<A: Attribute>(list: &[A]) -> Result<usize, EmitError>
-    ensures { result ≡ checked (list_unfit A.misfit A.writes (map A.meaning list.now)) (length (encodings A.writes (map A.meaning list.now))) }
+    ensures { result ≡ checked (list_unfit A.writing.misfit A.writing.writes (map A.meaning list.now)) (length (encodings A.writing.writes (map A.meaning list.now))) }
 {
     check_items(list)
 }
 
 /// The length of the encodings, in bytes. Asks that `check_list` accepts.
 pub fn list_len<A: Attribute>(list: &[A]) -> usize
-    requires { list_unfit A.misfit A.writes (map A.meaning list.now) ≡ None }
-    ensures { result ≡ length (encodings A.writes (map A.meaning list.now)) }
+    requires { list_unfit A.writing.misfit A.writing.writes (map A.meaning list.now) ≡ None }
+    ensures { result ≡ length (encodings A.writing.writes (map A.meaning list.now)) }
 {
     items_len(list)
 }
 
 /// `emit_list`, with the length of what is written.
 pub fn write_list<A: Attribute>(list: &[A], out: &mut [u8]) -> usize
-    requires fits { list_unfit A.misfit A.writes (map A.meaning list.now) ≡ None }
-    requires room { length (encodings A.writes (map A.meaning list.now)) ≤ length out.old }
-    ensures len { result ≡ length (encodings A.writes (map A.meaning list.now)) }
-    ensures after { Writes out.old out.new (encodings A.writes (map A.meaning list.now)) }
+    requires fits { list_unfit A.writing.misfit A.writing.writes (map A.meaning list.now) ≡ None }
+    requires room { length (encodings A.writing.writes (map A.meaning list.now)) ≤ length out.old }
+    ensures len { result ≡ length (encodings A.writing.writes (map A.meaning list.now)) }
+    ensures after { Writes out.old out.new (encodings A.writing.writes (map A.meaning list.now)) }
 {
     write_items(list, out)
 }
@@ -132,9 +145,9 @@ pub fn write_list<A: Attribute>(list: &[A], out: &mut [u8]) -> usize
 /// Writes the encodings one after the other at the front of the slice, and leaves the rest. Asks
 /// that `check_list` accepts, and room for the length that it answers.
 pub fn emit_list<A: Attribute>(list: &[A], out: &mut [u8])
-    requires fits { list_unfit A.misfit A.writes (map A.meaning list.now) ≡ None }
-    requires room { length (encodings A.writes (map A.meaning list.now)) ≤ length out.old }
-    ensures { Writes out.old out.new (encodings A.writes (map A.meaning list.now)) }
+    requires fits { list_unfit A.writing.misfit A.writing.writes (map A.meaning list.now) ≡ None }
+    requires room { length (encodings A.writing.writes (map A.meaning list.now)) ≤ length out.old }
+    ensures { Writes out.old out.new (encodings A.writing.writes (map A.meaning list.now)) }
 {
     write_list(list, out);
 }

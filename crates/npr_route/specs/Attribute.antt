@@ -9,7 +9,7 @@ use Rattle.npr_base.specs.Framing.{Item}
 use Rattle.npr_base.specs.Layout.{Layout, byte, le32, le64, be16, be32}
 use Rattle.npr_base.specs.Codec.{Codec, exactly, leading, raw}
 use Rattle.npr_base.specs.ListCodec.{list_of}
-use Rattle.npr_base.specs.Table.{Row, row, Held, held, held_marked, held_other, IsOther}
+use Rattle.npr_base.specs.Table.{Row, row, Held, held, held_marked, held_other, IsHeld, IsOther}
 use Rattle.npr_scalar.specs.MplsLaws.{mpls_labels}
 use Rattle.npr_scalar.specs.Realm.{route_realm}
 use Rattle.npr_scalar.specs.RouteAddress.{Address as AddressMeaning, address_of, address_bytes, address_in, Form, four, sixteen, label, any}
@@ -31,7 +31,7 @@ use Rattle.npr_tunnel.specs.Encapsulation as OfEncap
 use Rattle.npr_tunnel.specs.IpTunnel as OfIp
 use Rattle.npr_tunnel.specs.declared.encap_type.RouteLwEnCapType.{RouteLwEnCapType}
 use Rattle.npr_tunnel.specs.declared.encap_type.RouteLwEnCapType.TheVariants.{None as NoEncapsulation}
-use Rattle.npr_route.specs.Metric.{Metric, metric_of, metrics as metric_family}
+use Rattle.npr_route.specs.Metric.{Metric, metric_of, metrics as metric_family, writing as metric_writing}
 use Rattle.npr_route.specs.declared.attribute.RouteAttribute.{RouteAttribute}
 use Rattle.npr_route.specs.declared.attribute.RouteAttribute.TheVariants.{Destination, Source, Iif, Oif, Gateway, Priority, PrefSource, Metrics as HasMetrics, Realm, CacheInfo, Table as HasTable, Mark, MfcStats, Via as HasVia, NewDestination, NewDestinationAddress, Preference, EncapType, Encap, Expires, MulticastExpires, Uid, TtlPropagate, IpProto, Sport, Dport, NhId, Flowlabel, Other}
 
@@ -228,8 +228,8 @@ place (other x) = held_other x
 
 -- why the list inside can't be written, if so
 abbrev pub unfit_inside : Meaning → Option EmitError
-unfit_inside (metrics xs) = list_unfit metric_family.misfit metric_family.writes xs
-unfit_inside (encap xs) = list_unfit OfEncap.misfit OfEncap.writes xs
+unfit_inside (metrics xs) = list_unfit metric_writing.misfit metric_writing.writes xs
+unfit_inside (encap xs) = list_unfit OfEncap.writing.misfit OfEncap.writing.writes xs
 unfit_inside m = None
 
 -- what can be read
@@ -244,4 +244,4 @@ Coherent form multicast type (encap xs) = (list_of (OfEncap.encapsulation type))
 Coherent form multicast type (expires n) = (multicast ≡ false) × (n < 2 ^ 32)
 Coherent form multicast type (multicast_expires n) = (multicast ≡ true) × (n < 2 ^ 64)
 Coherent form multicast type (other x) = IsOther (rows form multicast type) x
-Coherent form multicast type m = (place m).IsHeld
+Coherent form multicast type m = IsHeld (place m)

@@ -1,12 +1,11 @@
 -- The family of the attributes of a route message under a context.
-use Rattle.std.specs.Prelude.{◌≡◌, ℕ, ◌<◌, ◌≤◌, ◌^◌, Bool, true, false, length, Option, None}
+use Rattle.std.specs.Prelude.{◌≡◌, ℕ, ◌<◌, ◌^◌, Bool, true, false, None}
 use Rattle.std.proofs.Common.{refl, arith, rules}
-use Rattle.npr_base.specs.declared.refusal.EmitError.{EmitError}
-use Rattle.npr_base.specs.Framing.{Item, marked, number_of}
+use Rattle.npr_base.specs.Framing.{marked, number_of}
 use Rattle.npr_base.specs.Layout.{le32, le64}
-use Rattle.npr_base.specs.Codec.{exactly, raw}
+use Rattle.npr_base.specs.Codec.{exactly}
 use Rattle.npr_base.specs.ListCodec.{list_of}
-use Rattle.npr_base.specs.Table.{Family, item_of, Aligned, ReadsAt}
+use Rattle.npr_base.specs.Table.{Writing, Reading, held_kind, held_value, held_misfit, held-reads, item_of, placed, Aligned, ReadsAt}
 use Rattle.npr_base.specs.TableLaws.{flat, other-back}
 use Rattle.npr_scalar.specs.MplsLaws.{mpls_labels}
 use Rattle.npr_scalar.specs.RouteAddress.{address_in, Form, four, sixteen, label, any, form_of}
@@ -27,19 +26,15 @@ expires-aligned form false type v = (refl, λ h. (refl, h))
 pub aligned : (form : Form) (multicast : Bool) (type : RouteLwEnCapType) → Aligned (λ m. item_of (place m)) (Coherent form multicast type) (rows form multicast type)
 aligned form multicast type = search (rules, new_destination-aligned form multicast type, expires-aligned form multicast type)
 
-pub kinds : (form : Form) (multicast : Bool) (type : RouteLwEnCapType) (m : Meaning) → Coherent form multicast type m → (place m).kind < 2 ^ 16
+pub kinds : (form : Form) (multicast : Bool) (type : RouteLwEnCapType) (m : Meaning) → Coherent form multicast type m → held_kind (place m) < 2 ^ 16
 kinds form multicast type (other x) c = c.proper.kind
 kinds form multicast type m c = omega arith
-
-pub short : (m : Meaning) → (place m).misfit ≡ None → length (place m).bytes ≤ 65531
-short (other x) fits = raw.fits_short x.kind x.value fits
-short m fits = (place m).codec.fits_short (place m).kind (place m).value fits
 
 encap-number : (nested : Bool) → number_of (marked nested 22) ≡ 22
 encap-number true = refl
 encap-number false = refl
 
-pub back : (form : Form) (multicast : Bool) (type : RouteLwEnCapType) (m : Meaning) → Coherent form multicast type m → (place m).misfit ≡ None → ReadsAt other (rows form multicast type) (number_of (item_of (place m)).kind) (item_of (place m)) m
+pub back : (form : Form) (multicast : Bool) (type : RouteLwEnCapType) (m : Meaning) → Coherent form multicast type m → held_misfit (place m) ≡ None → ReadsAt other (rows form multicast type) (number_of (item_of (place m)).kind) (item_of (place m)) m
 back form multicast type (other x) c fits = other-back other (rows form multicast type) (number_of x.kind) x c.alone
 back form multicast type (destination a) c fits = (a, (address_in form).reads_back 1 a c fits, refl)
 back form multicast type (source a) c fits = (a, (address_in form).reads_back 2 a c fits, refl)
@@ -58,17 +53,14 @@ back form false type (expires n) c fits = (n, (exactly le32).reads_back 23 n c.1
 back form true type (expires n) c fits = absurd (let e = c.0 in cc)
 back form true type (multicast_expires n) c fits = (n, (exactly le64).reads_back 23 n c.1 fits, refl)
 back form false type (multicast_expires n) c fits = absurd (let e = c.0 in cc)
-back form multicast type m c fits = ((place m).value, (place m).codec.reads_back (place m).kind (place m).value c fits, refl)
+back form multicast type m c fits = (held_value (place m), held-reads (place m) c fits, refl)
 
--- how each is written, whatever the context, and why it can't be
-abbrev pub writes : Meaning → Item
-writes m = item_of (place m)
-
-abbrev pub misfit : Meaning → Option EmitError
-misfit m = (place m).misfit
+-- how each is written, whatever the context
+abbrev pub writing : Writing Meaning
+writing = placed place
 
 -- the family under a form of addresses, for multicast routes or others, and under a type of encapsulation
-abbrev pub attributes_in : Form → Bool → RouteLwEnCapType → Family Meaning
+abbrev pub attributes_in : Form → Bool → RouteLwEnCapType → Reading writing
 attributes_in form multicast type = flat (record {
   rows = rows form multicast type;
   other = other;
@@ -78,10 +70,9 @@ attributes_in form multicast type = flat (record {
   other_is = λ x. refl;
   other_coherent = λ x is. is;
   kinds = kinds form multicast type;
-  short = short;
   back = back form multicast type;
 })
 
 -- the family under a context
-abbrev pub attributes : Context → Family Meaning
+abbrev pub attributes : Context → Reading writing
 attributes context = attributes_in (form_of context.0) (is_multicast context.1) context.2

@@ -5,7 +5,7 @@ use Rattle.npr_base.specs.declared.refusal.DecodeError.{DecodeError}
 use Rattle.npr_base.specs.declared.refusal.EmitError.{EmitError}
 use Rattle.npr_base.specs.Message.{Message, Body, IsMessage, MessageFault, IsCoherent, spelling, message_misfit}
 use Rattle.npr_route.specs.Attribute.{Meaning, meaning_of}
-use Rattle.npr_route.specs.AttributeLaws.{writes, misfit}
+use Rattle.npr_route.specs.AttributeLaws.{writing}
 use Rattle.npr_route.specs.Header.{header}
 use Rattle.npr_route.specs.RouteList.{Under, IsRouteList, RouteListFault, IsCoherentList}
 use Rattle.npr_route.specs.RouteListLaws.{route-list-one, route-list-sound, route-list-coherent, route-list-back, route-list-grows}
@@ -23,12 +23,10 @@ message_of m = record { header = m.header; attributes = map meaning_of m.attribu
 abbrev pub under : RouteHeader → Under
 under h = (h.address_family, h.kind)
 
-abbrev pub body : Body RouteHeader Meaning
+abbrev pub body : Body RouteHeader writing
 body = record {
   Reads = λ h bytes xs. IsRouteList (under h) bytes xs;
   Faulty = λ h bytes e. RouteListFault (under h) bytes e;
-  writes = writes;
-  misfit = misfit;
   Coherent = λ h xs. IsCoherentList (under h) xs;
   one_reading = λ h bytes xs ys p q. route-list-one (under h) bytes xs ys p q;
   no_fault = λ h bytes xs e p q. route-list-sound (under h) bytes xs e p q;
@@ -38,21 +36,21 @@ body = record {
 }
 
 -- the bytes are the message
-abbrev pub IsRouteMessage : List ℕ → Route → Type 0
+unfoldable pub IsRouteMessage : List ℕ → Route → Type 0
 IsRouteMessage bytes m = IsMessage header body bytes m
 
 -- the first fault of bytes that are none
-abbrev pub RouteFault : List ℕ → DecodeError → Type 0
+unfoldable pub RouteFault : List ℕ → DecodeError → Type 0
 RouteFault bytes e = MessageFault header body bytes e
 
 -- what can be read
-abbrev pub IsCoherentRoute : Route → Type 0
+unfoldable pub IsCoherentRoute : Route → Type 0
 IsCoherentRoute m = IsCoherent header body m
 
 -- the canonical bytes
-abbrev pub route_bytes : Route → List ℕ
-route_bytes m = spelling header body m
+unfoldable pub route_bytes : Route → List ℕ
+route_bytes m = spelling header writing m
 
 -- the first cause why there are none
-abbrev pub route_misfit : Route → Option EmitError
-route_misfit m = message_misfit header body m
+unfoldable pub route_misfit : Route → Option EmitError
+route_misfit m = message_misfit header writing m

@@ -1,6 +1,6 @@
 -- Bytes are one list of next hops at most, what is wrong with them is none, and what is written is read again.
 use Rattle.std.specs.Prelude.{◌==◌}
-use Rattle.std.proofs.Common.{◌≡◌, ℕ, ◌+◌, ◌*◌, ◌≤◌, ◌^◌, Bool, true, false, List, [], ◌∷◌, ◌++◌, length, Some, None, refl, sym, ap, subst, ◌∙◌, arith, rules, inl, inr, length-append}
+use Rattle.std.proofs.Common.{◌≡◌, ℕ, ◌+◌, ◌*◌, ◌<◌, ◌≤◌, ◌^◌, Bool, true, false, List, [], ◌∷◌, ◌++◌, length, Some, None, refl, sym, ap, subst, ◌∙◌, arith, rules, inl, inr, length-append}
 use Rattle.std.proofs.lemmas.Bool.{eqb-true, cases_lt, lt-ltb, le-ltb}
 use Rattle.npr_base.specs.declared.refusal.DecodeError.{DecodeError}
 use Rattle.npr_base.specs.declared.refusal.EmitError.TheVariants.{NextHopTooLong, Total}
@@ -9,7 +9,7 @@ use Rattle.npr_base.specs.Family.{option_or, too_long, overlong}
 use Rattle.npr_base.specs.FitLaws.{too_long-short}
 use Rattle.npr_base.specs.FrontLaws.{Front-same, Front-shrinks, Front-sound, Front-takes}
 use Rattle.npr_base.specs.ListLaws.{none_both, encoding-front, Front-proper, length-encoding}
-use Rattle.npr_base.specs.Table.{Family, Row, ReadsAt}
+use Rattle.npr_base.specs.Table.{Writing, Reading, Row, ReadsAt}
 use Rattle.npr_base.specs.TableLaws.{one_of}
 use Rattle.npr_scalar.specs.RouteAddress.{Form, four, sixteen, label, any, form_of}
 use Rattle.npr_tunnel.specs.declared.encap_type.RouteLwEnCapType.{RouteLwEnCapType}
@@ -98,7 +98,7 @@ numbered-reads number kept same (r ∷ rs) all k x m is p = one_of (k == r.at.ki
 
 -- the number under which an attribute is written
 abbrev written_number : Flat.Meaning → ℕ
-written_number m = number_of (Flats.writes m).kind
+written_number m = number_of (Flats.writing.writes m).kind
 
 number_marked : (nested : Bool) → number_of (marked nested 22) ≡ 22
 number_marked true = refl
@@ -153,12 +153,16 @@ hop-short len e = elim (cases_lt len 65536) [
 fits-inside : (hs : Hops) → misfit (multi_path hs) ≡ None → hops_misfit hs ≡ None
 fits-inside hs h = (none_both (hops_misfit hs) (overlong (length (hops_bytes hs))) (none_both (option_or (hops_misfit hs) (overlong (length (hops_bytes hs)))) (too_long 9 (length (hops_bytes hs))) h).0).0
 
-pub fits-small : (c : Context) (m : Meaning) → Coherent c m → misfit m ≡ None → Small (writes m)
-fits-small c (flat m) k h = (Flats.attributes c).fits_small m k.0 h
-fits-small c (multi_path hs) k h = record {
-  kind = omega arith;
-  value = too_long-short 9 (length (hops_bytes hs)) (none_both (option_or (hops_misfit hs) (overlong (length (hops_bytes hs)))) (too_long 9 (length (hops_bytes hs))) h).1;
-}
+pub kinds : (c : Context) (m : Meaning) → Coherent c m → (writes m).kind < 2 ^ 16
+kinds c (flat m) k = (Flats.attributes c).kinds m k.0
+kinds c (multi_path hs) k = omega arith
+
+pub short : (m : Meaning) → misfit m ≡ None → length (writes m).value ≤ 65531
+short (flat m) h = Flats.writing.short m h
+short (multi_path hs) h = too_long-short 9 (length (hops_bytes hs)) (none_both (option_or (hops_misfit hs) (overlong (length (hops_bytes hs)))) (too_long 9 (length (hops_bytes hs))) h).1
+
+small : (c : Context) (m : Meaning) → Coherent c m → misfit m ≡ None → Small (writes m)
+small c m k h = record { kind = kinds c m k; value = short m h }
 
 hop-front : (h : HopHead) (inside rest : List ℕ) → HoldsHead h → 8 + length inside ≤ 65535 → HopFront (hop_text h inside ++ rest) h inside rest
 hop-front h inside rest holds short = record { is = refl; holds = holds; short = short }
@@ -172,7 +176,7 @@ mutual
   attributes-back c no_more k h = refl
   attributes-back c (attribute m ms) k h =
       let f = none_both (misfit m) (attributes_misfit ms) h in
-      (writes m, attributes_bytes ms, encoding-front (writes m) (attributes_bytes ms) (fits-small c m k.0 f.0), reads-back c m k.0 f.0, attributes-back c ms k.1 f.1)
+      (writes m, attributes_bytes ms, encoding-front (writes m) (attributes_bytes ms) (small c m k.0 f.0), reads-back c m k.0 f.0, attributes-back c ms k.1 f.1)
 
   pub hops-back : (c : Context) (hs : Hops) → HopsCoherent c hs → hops_misfit hs ≡ None → AreHops c (hops_bytes hs) hs
   hops-back c no_hops k h = refl
@@ -216,19 +220,20 @@ mutual
   hops-depth c bytes no_hops p = omega arith
   hops-depth c bytes (hop h ms hs) (i, r, f, p, ps) = omega (arith, attributes-depth c i ms p, hops-depth c r hs ps, HopFront-length bytes h i r f)
 
+-- how each is written
+abbrev pub writing : Writing Meaning
+writing = record { writes = writes; misfit = misfit; members = members; short = short }
+
 -- the family of attributes with next hops
-abbrev pub attributes : Context → Family Meaning
+abbrev pub attributes : Context → Reading writing
 attributes c = record {
   Reads = Reads c;
   Faulty = Wrong c;
-  writes = writes;
-  misfit = misfit;
   Coherent = Coherent c;
-  members = members;
   one_reading = reads-one c;
   no_fault = reads-sound c;
   reads_coherent = reads-coherent c;
-  fits_small = fits-small c;
+  kinds = kinds c;
   reads_back = reads-back c;
   grows = reads-grow c;
 }

@@ -86,7 +86,7 @@ mutual
 -- what is written: an attribute under its kind, and next hops with their lengths
 abbrev mutual
   pub writes : Meaning → Item
-  writes (flat m) = Flats.writes m
+  writes (flat m) = Flats.writing.writes m
   writes (multi_path hs) = record { kind = 9; value = hops_bytes hs }
 
   pub attributes_bytes : Attributes → List ℕ
@@ -104,7 +104,7 @@ hop_overlong len = if nat_lt len 65536 then None else if nat_lt len (2 ^ 64) the
 -- why it can't be written, if so: what stands inside, and then its own length
 abbrev mutual
   pub misfit : Meaning → Option EmitError
-  misfit (flat m) = Flats.misfit m
+  misfit (flat m) = Flats.writing.misfit m
   misfit (multi_path hs) = option_or (option_or (hops_misfit hs) (overlong (length (hops_bytes hs)))) (too_long 9 (length (hops_bytes hs)))
 
   pub attributes_misfit : Attributes → Option EmitError
@@ -118,7 +118,7 @@ abbrev mutual
 -- what can be read
 abbrev mutual
   pub Coherent : Context → Meaning → Type 0
-  Coherent c (flat m) = (Flats.attributes c).Coherent m × (number_of (Flats.writes m).kind ≢ 9)
+  Coherent c (flat m) = (Flats.attributes c).Coherent m × (number_of (Flats.writing.writes m).kind ≢ 9)
   Coherent c (multi_path hs) = HopsCoherent c hs
 
   pub AttributesCoherent : Context → Attributes → Type 0
@@ -132,7 +132,7 @@ abbrev mutual
 -- how many attributes and next hops stand inside, at all depths
 abbrev mutual
   pub members : Meaning → ℕ
-  members (flat m) = (Flat.place m).members
+  members (flat m) = Flats.writing.members m
   members (multi_path hs) = hops_members hs
 
   pub attributes_members : Attributes → ℕ

@@ -7,12 +7,12 @@ use Rattle.npr_base.specs.Framing.{Item, IsBytes, number_of, Front, Passes}
 use Rattle.npr_base.specs.Family.{Each, AllOf, ReadsList, encodings, first_unfit}
 use Rattle.npr_base.specs.FrontLaws.{Front-same, Front-shrinks, Front-sound}
 use Rattle.npr_base.specs.ListLaws.{ReadsList-one, FirstFault-excludes, ReadsList-known, encodings-read, ReadsList-grows}
-use Rattle.npr_base.specs.Table.{Family, Row, ReadsAt}
+use Rattle.npr_base.specs.Table.{Reading, fits-small, Row, ReadsAt}
 use Rattle.npr_base.specs.TableLaws.{one_of}
 use Rattle.npr_scalar.specs.RouteAddress.{Form, four, sixteen, label, any, form_of}
 use Rattle.npr_tunnel.specs.declared.encap_type.RouteLwEnCapType.{RouteLwEnCapType}
 use Rattle.npr_route.specs.Attribute.{Context, Meaning, other, rows, is_multicast, new_destination_variant, NewDestinationValue, expires_variant}
-use Rattle.npr_route.specs.AttributeLaws.{attributes_in, attributes, writes, misfit}
+use Rattle.npr_route.specs.AttributeLaws.{attributes_in, attributes, writing}
 use Rattle.npr_route.specs.Governing.{told, Ends, Tells, Governs}
 use Rattle.npr_route.specs.RouteList.{Under, IsRouteList, RouteListFault, type_held, or_else, first_type, IsCoherentList}
 
@@ -112,27 +112,27 @@ governs_first under bytes ms (type, g, p) = governs-one bytes type (first_type m
 
 pub route-list-one : (under : Under) (bytes : List ℕ) (xs ys : List Meaning) → IsRouteList under bytes xs → IsRouteList under bytes ys → xs ≡ ys
 route-list-one under bytes xs ys (a, g, p) (b, h, q) =
-    let f : Family Meaning = attributes (under.0, under.1, a) in
+    let f : Reading writing = attributes (under.0, under.1, a) in
     ReadsList-one f.Reads f.one_reading bytes xs ys p (subst (λ (t : RouteLwEnCapType). ReadsList (attributes (under.0, under.1, t)).Reads bytes ys) (governs-one bytes b a h g) q)
 
 pub route-list-sound : (under : Under) (bytes : List ℕ) (xs : List Meaning) (e : DecodeError) → IsRouteList under bytes xs → RouteListFault under bytes e → ⊥
 route-list-sound under bytes xs e (a, g, p) (b, h, q) =
-    let f : Family Meaning = attributes (under.0, under.1, b) in
+    let f : Reading writing = attributes (under.0, under.1, b) in
     FirstFault-excludes f.Reads f.Faulty f.no_fault bytes e xs q (subst (λ (t : RouteLwEnCapType). ReadsList (attributes (under.0, under.1, t)).Reads bytes xs) (governs-one bytes a b g h) p)
 
 pub route-list-coherent : (under : Under) (bytes : List ℕ) (xs : List Meaning) → IsBytes bytes → IsRouteList under bytes xs → IsCoherentList under xs
 route-list-coherent under bytes xs is p =
-    let f : Family Meaning = attributes (under.0, under.1, p.0) in
+    let f : Reading writing = attributes (under.0, under.1, p.0) in
     subst (λ (t : RouteLwEnCapType). AllOf (attributes (under.0, under.1, t)).Coherent xs) (governs_first under bytes xs p) (ReadsList-known f.Coherent f.Reads f.reads_coherent bytes xs is p.2)
 
-pub route-list-back : (under : Under) (xs : List Meaning) → IsCoherentList under xs → first_unfit misfit xs ≡ None → IsRouteList under (encodings writes xs) xs
+pub route-list-back : (under : Under) (xs : List Meaning) → IsCoherentList under xs → first_unfit writing.misfit xs ≡ None → IsRouteList under (encodings writing.writes xs) xs
 route-list-back under xs all fits =
     let context : Context = (under.0, under.1, first_type xs) in
-    let f : Family Meaning = attributes context in
-    let p : ReadsList f.Reads (encodings writes xs) xs = encodings-read f.Coherent misfit writes f.Reads f.fits_small f.reads_back xs all fits in
-    (first_type xs, list_governs context (encodings writes xs) xs p, p)
+    let f : Reading writing = attributes context in
+    let p : ReadsList f.Reads (encodings writing.writes xs) xs = encodings-read f.Coherent writing.misfit writing.writes f.Reads (fits-small f) f.reads_back xs all fits in
+    (first_type xs, list_governs context (encodings writing.writes xs) xs p, p)
 
-pub route-list-grows : (under : Under) (bytes : List ℕ) (xs : List Meaning) → IsBytes bytes → IsRouteList under bytes xs → 2 * length (encodings writes xs) ≤ 5 * length bytes
+pub route-list-grows : (under : Under) (bytes : List ℕ) (xs : List Meaning) → IsBytes bytes → IsRouteList under bytes xs → 2 * length (encodings writing.writes xs) ≤ 5 * length bytes
 route-list-grows under bytes xs is (type, g, p) =
-    let f : Family Meaning = attributes (under.0, under.1, type) in
-    ReadsList-grows writes f.Reads f.grows bytes xs is p
+    let f : Reading writing = attributes (under.0, under.1, type) in
+    ReadsList-grows writing.writes f.Reads f.grows bytes xs is p

@@ -3,12 +3,12 @@
 ghost use Rattle.std.specs.Prelude.{◌≡◌, ◌≢◌, ◌≤◌, ◌<◌, ◌+◌, ◌*◌, ℕ, List, Option, None, false, length, map, IfOk, IfErr};
 ghost use Rattle.std.proofs.Common.{refl};
 ghost use Rattle.npr_base.specs.Family.{checked};
-ghost use Rattle.npr_base.specs.Table.{ReadsBy, WrongBy, plain_item};
+ghost use Rattle.npr_base.specs.Table.{ReadsBy, WrongBy, held_nested, held_bytes, plain_item};
 ghost use Rattle.npr_base.specs.declared.refusal.DecodeError.TheVariants.{OutOfMemory};
 ghost use Rattle.npr_scalar.specs.RouteAddress.{form_of};
 ghost use Rattle.npr_route.specs.Attribute.{Meaning, meaning_of, place, unfit_inside, is_multicast, new_destination_row, expires_row, marks, any_marks};
 ghost use Rattle.npr_tunnel.specs.Encapsulation.{meaning_of as member_of};
-ghost use Rattle.npr_route.specs.AttributeLaws.{attributes, writes, misfit, short};
+ghost use Rattle.npr_route.specs.AttributeLaws.{writing, attributes};
 
 use crate::metrics::RouteMetric;
 use npr_base::{
@@ -131,7 +131,7 @@ impl RouteAttribute {
 
     /// The length of the value, or the first cause why the list inside has none.
     fn len(&self) -> Result<usize, EmitError>
-        ensures { result ≡ checked (unfit_inside (meaning_of self.now)) (length (place (meaning_of self.now)).bytes) }
+        ensures { result ≡ checked (unfit_inside (meaning_of self.now)) (length (held_bytes (place (meaning_of self.now)))) }
     {
         Ok(match self {
             Self::Destination(x)
@@ -192,11 +192,11 @@ fn is_marked(members: &[RouteLwTunnelEncap]) -> bool
 impl Nla for RouteAttribute {
     ghost item = { λ a. plain_item (place (meaning_of a)) };
 
-    ghost nested = { λ a. (place (meaning_of a)).nested };
+    ghost nested = { λ a. held_nested (place (meaning_of a)) };
 
-    ghost unfit = { λ a. misfit (meaning_of a) };
+    ghost unfit = { λ a. writing.misfit (meaning_of a) };
 
-    ghost fits_short = { λ a h. short (meaning_of a) h };
+    ghost fits_short = { λ a h. writing.short (meaning_of a) h };
 
     fn kind(&self) -> u16 {
         match self {
@@ -320,33 +320,13 @@ impl Attribute for RouteAttribute {
 
     ghost meaning = { meaning_of };
 
-    ghost writes = { writes };
+    ghost writing = { writing };
 
-    ghost misfit = { misfit };
-
-    ghost reads = { λ context. (attributes context).Reads };
-
-    ghost faulty = { λ context. (attributes context).Faulty };
-
-    ghost coherent = { λ context. (attributes context).Coherent };
-
-    ghost members = { λ m. (place m).members };
+    ghost reading = { attributes };
 
     ghost item_is = { λ a. refl };
 
     ghost unfit_is = { λ a. refl };
-
-    ghost one_reading = { λ context. (attributes context).one_reading };
-
-    ghost no_fault = { λ context. (attributes context).no_fault };
-
-    ghost reads_coherent = { λ context. (attributes context).reads_coherent };
-
-    ghost fits_small = { λ context. (attributes context).fits_small };
-
-    ghost reads_back = { λ context. (attributes context).reads_back };
-
-    ghost grows = { λ context. (attributes context).grows };
 
     fn read(
         alloc: Global,

@@ -133,18 +133,33 @@ impl RouteHeader {
         ensures ok { IfOk result (λ h. (leading header).Reads bytes.now h) }
         ensures refused { IfErr result (λ e. (leading header).Wrong no_place bytes.now e) }
     {
-        let b = RouteMessageBuffer::parse(bytes)?;
-        Ok(RouteHeader {
-            address_family: AddressFamily::from(b.address_family),
-            destination_prefix_length: b.destination_prefix_length,
-            source_prefix_length: b.source_prefix_length,
-            tos: b.tos,
-            table: b.table,
-            protocol: RouteProtocol::from(b.protocol),
-            scope: RouteScope::from(b.scope),
-            kind: RouteType::from(b.kind),
-            flags: RouteFlags::from_bits_retain(b.flags),
-        })
+        if bytes.len() < 12 {
+            return Err(DecodeError::HeaderTooShort {
+                got: bytes.len(),
+                want: 12,
+            });
+        }
+        Ok(RouteHeader::in_front(bytes))
+    }
+
+    /// The header in the first 12 bytes, which are there.
+    #[inline]
+    pub(crate) fn in_front(bytes: &[u8]) -> Self
+        requires { 12 ≤ length bytes.now }
+        ensures { (leading header).Reads bytes.now result }
+    {
+        let b = &bytes[..12];
+        RouteHeader {
+            address_family: AddressFamily::from(b[0]),
+            destination_prefix_length: b[1],
+            source_prefix_length: b[2],
+            tos: b[3],
+            table: b[4],
+            protocol: RouteProtocol::from(b[5]),
+            scope: RouteScope::from(b[6]),
+            kind: RouteType::from(b[7]),
+            flags: RouteFlags::from_bits_retain(u32::from_le_bytes([b[8], b[9], b[10], b[11]])),
+        }
     }
 }
 

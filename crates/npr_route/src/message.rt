@@ -80,17 +80,25 @@ impl<'a> Parseable<&'a [u8]> for RouteMessage {
     }
 }
 
+#[tactic(auto, unfolding(crate::specs::Message::RouteFault))]
 fn read(alloc: Global, bytes: &[u8]) -> Result<RouteMessage, DecodeError>
     ensures ok { IfOk result (λ m. IsRouteMessage bytes.now (message_of m)) }
     ensures refused { IfErr result (λ e. e ≢ OutOfMemory → RouteFault bytes.now e) }
     ensures memory { IsErrOf result OutOfMemory → (x : Item) × (rest : List ℕ) × Front (drop 12 bytes.now) x rest }
 {
-    let header = RouteHeader::parse(bytes)?;
+    if bytes.len() < 12 {
+        return Err(DecodeError::HeaderTooShort {
+            got: bytes.len(),
+            want: 12,
+        });
+    }
+    let header = RouteHeader::in_front(bytes);
     let under = (header.address_family, header.kind);
     let attributes = read_route_list(alloc, &bytes[12..], under, &mut Looks::new())?;
     Ok(RouteMessage { header, attributes })
 }
 
+#[tactic(auto, unfolding(crate::specs::Message::route_bytes, crate::specs::Message::route_misfit))]
 impl Emitable for RouteMessage {
     ghost bytes = { λ m. route_bytes (message_of m) };
 

@@ -2,7 +2,7 @@
 
 ghost use Rattle.std.specs.Prelude.{◌≡◌, ◌≢◌, ◌≤◌, ◌<◌, ◌+◌, ◌*◌, ℕ, List, Option, None, false, length, IfOk, IfErr};
 ghost use Rattle.std.proofs.Common.{refl};
-ghost use Rattle.npr_route.specs.Metric.{Metric, metric_of, metrics, short};
+ghost use Rattle.npr_route.specs.Metric.{Metric, metric_of, writing, metrics};
 
 use npr_base::{
     At, AttrFamily, Attribute, DecodeError, DefaultNla, EmitError, Looks, Nla, NlaBuffer,
@@ -94,13 +94,13 @@ const fn at(kind: u16) -> At
 }
 
 impl Nla for RouteMetric {
-    ghost item = { λ a. metrics.writes (metric_of a) };
+    ghost item = { λ a. writing.writes (metric_of a) };
 
     ghost nested = { λ _. false };
 
-    ghost unfit = { λ a. metrics.misfit (metric_of a) };
+    ghost unfit = { λ a. writing.misfit (metric_of a) };
 
-    ghost fits_short = { λ a h. short (metric_of a) h };
+    ghost fits_short = { λ a h. writing.short (metric_of a) h };
 
     fn kind(&self) -> u16 {
         match self {
@@ -134,7 +134,7 @@ impl Nla for RouteMetric {
     }
 
     fn value_len(&self) -> usize
-        ensures { result ≡ length (metrics.writes (metric_of self.now)).value }
+        ensures { result ≡ length (writing.writes (metric_of self.now)).value }
     {
         match self {
             RouteMetric::CcAlgo(name) => name.len() + 1,
@@ -174,33 +174,13 @@ impl Attribute for RouteMetric {
 
     ghost meaning = { metric_of };
 
-    ghost writes = { metrics.writes };
+    ghost writing = { writing };
 
-    ghost misfit = { metrics.misfit };
-
-    ghost reads = { λ _. metrics.Reads };
-
-    ghost faulty = { λ _. metrics.Faulty };
-
-    ghost coherent = { λ _. metrics.Coherent };
-
-    ghost members = { metrics.members };
+    ghost reading = { λ _. metrics };
 
     ghost item_is = { λ a. refl };
 
     ghost unfit_is = { λ a. refl };
-
-    ghost one_reading = { λ _. metrics.one_reading };
-
-    ghost no_fault = { λ _. metrics.no_fault };
-
-    ghost reads_coherent = { λ _. metrics.reads_coherent };
-
-    ghost fits_small = { λ _. metrics.fits_small };
-
-    ghost reads_back = { λ _. metrics.reads_back };
-
-    ghost grows = { λ _. metrics.grows };
 
     fn read(
         alloc: Global,

@@ -1,5 +1,5 @@
 -- The attributes of a rule message (linux/fib_rules.h, FRA_*), by their table.
-use Rattle.std.specs.Prelude.{◌≡◌, ℕ, Bool, ◌<◌, ◌≤◌, ◌^◌, List, [], ◌∷◌, length, None}
+use Rattle.std.specs.Prelude.{◌≡◌, ℕ, Bool, ◌<◌, ◌^◌, List, [], ◌∷◌, None}
 use Rattle.std.specs.String.{string_bytes}
 use Rattle.std.proofs.Common.{refl, arith, rules}
 use Rattle.npr_base.specs.declared.refusal.At.{At}
@@ -7,10 +7,10 @@ use Rattle.npr_base.specs.declared.refusal.AttrFamily.TheVariants.{Rule}
 use Rattle.npr_base.specs.declared.ip.IpAddr.{IpAddr}
 use Rattle.npr_base.specs.Framing.{Item, number_of}
 use Rattle.npr_base.specs.Layout.{le32, be64, boolean}
-use Rattle.npr_base.specs.Codec.{exactly, raw}
+use Rattle.npr_base.specs.Codec.{exactly}
 use Rattle.npr_base.specs.IpCodec.{ip}
 use Rattle.npr_base.specs.Name.{name}
-use Rattle.npr_base.specs.Table.{Family, Table, Row, row, Held, held, held_other, item_of, IsOther, Aligned, ReadsAt}
+use Rattle.npr_base.specs.Table.{Writing, Reading, Row, row, Held, held, held_other, held_kind, held_value, held_misfit, held-reads, IsHeld, item_of, placed, IsOther, Aligned, ReadsAt}
 use Rattle.npr_base.specs.TableLaws.{flat, other-back}
 use Rattle.npr_scalar.specs.Realm.{route_realm}
 use Rattle.npr_scalar.specs.RouteProtocolLaws.{route_protocol}
@@ -123,25 +123,25 @@ place (other x) = held_other x
 -- what can be read
 abbrev pub Coherent : Meaning → Type 0
 Coherent (other x) = IsOther rows x
-Coherent m = (place m).IsHeld
+Coherent m = IsHeld (place m)
 
 pub aligned : Aligned (λ m. item_of (place m)) Coherent rows
 aligned = search rules
 
-pub kinds : (m : Meaning) → Coherent m → (place m).kind < 2 ^ 16
+pub kinds : (m : Meaning) → Coherent m → held_kind (place m) < 2 ^ 16
 kinds (other x) c = c.proper.kind
 kinds m c = omega arith
 
-pub short : (m : Meaning) → (place m).misfit ≡ None → length (place m).bytes ≤ 65531
-short (other x) fits = raw.fits_short x.kind x.value fits
-short m fits = (place m).codec.fits_short (place m).kind (place m).value fits
-
-pub back : (m : Meaning) → Coherent m → (place m).misfit ≡ None → ReadsAt other rows (number_of (item_of (place m)).kind) (item_of (place m)) m
+pub back : (m : Meaning) → Coherent m → held_misfit (place m) ≡ None → ReadsAt other rows (number_of (item_of (place m)).kind) (item_of (place m)) m
 back (other x) c fits = other-back other rows (number_of x.kind) x c.alone
-back m c fits = ((place m).value, (place m).codec.reads_back (place m).kind (place m).value c fits, refl)
+back m c fits = (held_value (place m), held-reads (place m) c fits, refl)
+
+-- how each is written
+abbrev pub writing : Writing Meaning
+writing = placed place
 
 -- the family
-abbrev pub attributes : Family Meaning
+abbrev pub attributes : Reading writing
 attributes = flat (record {
   rows = rows;
   other = other;
@@ -151,6 +151,5 @@ attributes = flat (record {
   other_is = λ x. refl;
   other_coherent = λ x is. is;
   kinds = kinds;
-  short = short;
   back = back;
 })

@@ -1,8 +1,9 @@
 pub mod Action
-pub mod PortRange
-pub mod UidRange
+pub mod Attribute
+pub mod EqualityLaws
 pub mod Header
 pub mod IpProtocolByte
-pub mod Attribute
 pub mod Message
-pub mod EqualityLaws
+pub mod MessageLaws
+pub mod PortRange
+pub mod UidRange

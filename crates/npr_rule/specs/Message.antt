@@ -3,7 +3,7 @@ use Rattle.std.specs.Prelude.{ℕ, List, map, Option}
 use Rattle.npr_base.specs.declared.refusal.DecodeError.{DecodeError}
 use Rattle.npr_base.specs.declared.refusal.EmitError.{EmitError}
 use Rattle.npr_base.specs.Message.{Message, Body, attributes_of, IsMessage, MessageFault, IsCoherent, spelling, message_misfit}
-use Rattle.npr_rule.specs.Attribute.{Meaning, meaning_of, attributes}
+use Rattle.npr_rule.specs.Attribute.{Meaning, meaning_of, writing, attributes}
 use Rattle.npr_rule.specs.Header.{header}
 use Rattle.npr_rule.specs.declared.header.RuleHeader.{RuleHeader}
 use Rattle.npr_rule.specs.declared.message.RuleMessage.{RuleMessage}
@@ -15,25 +15,25 @@ Rule = Message RuleHeader Meaning
 abbrev pub message_of : RuleMessage → Rule
 message_of m = record { header = m.header; attributes = map meaning_of m.attributes.items }
 
-abbrev pub body : Body RuleHeader Meaning
+abbrev pub body : Body RuleHeader writing
 body = attributes_of attributes
 
 -- the bytes are the message
-abbrev pub IsRuleMessage : List ℕ → Rule → Type 0
+unfoldable pub IsRuleMessage : List ℕ → Rule → Type 0
 IsRuleMessage bytes m = IsMessage header body bytes m
 
 -- the first fault of bytes that are none
-abbrev pub RuleFault : List ℕ → DecodeError → Type 0
+unfoldable pub RuleFault : List ℕ → DecodeError → Type 0
 RuleFault bytes e = MessageFault header body bytes e
 
 -- what can be read
-abbrev pub IsCoherentRule : Rule → Type 0
+unfoldable pub IsCoherentRule : Rule → Type 0
 IsCoherentRule m = IsCoherent header body m
 
 -- the canonical bytes
-abbrev pub rule_bytes : Rule → List ℕ
-rule_bytes m = spelling header body m
+unfoldable pub rule_bytes : Rule → List ℕ
+rule_bytes m = spelling header writing m
 
 -- the first cause why there are none
-abbrev pub rule_misfit : Rule → Option EmitError
-rule_misfit m = message_misfit header body m
+unfoldable pub rule_misfit : Rule → Option EmitError
+rule_misfit m = message_misfit header writing m

@@ -5,7 +5,7 @@ ghost use Rattle.std.proofs.Common.{refl};
 ghost use Rattle.npr_base.specs.Family.{checked};
 ghost use Rattle.npr_scalar.specs.IpProtocol.{above_zero, ip_protocol_number};
 ghost use Rattle.npr_rule.specs.IpProtocolByte.{protocol_misfit};
-ghost use Rattle.npr_rule.specs.Attribute.{Meaning, meaning_of, attributes, short};
+ghost use Rattle.npr_rule.specs.Attribute.{Meaning, meaning_of, writing, attributes};
 
 use crate::port_range::RulePortRange;
 use crate::uid_range::RuleUidRange;
@@ -109,13 +109,13 @@ const fn at(kind: u16) -> At
 }
 
 impl Nla for RuleAttribute {
-    ghost item = { λ a. attributes.writes (meaning_of a) };
+    ghost item = { λ a. writing.writes (meaning_of a) };
 
     ghost nested = { λ _. false };
 
-    ghost unfit = { λ a. attributes.misfit (meaning_of a) };
+    ghost unfit = { λ a. writing.misfit (meaning_of a) };
 
-    ghost fits_short = { λ a h. short (meaning_of a) h };
+    ghost fits_short = { λ a h. writing.short (meaning_of a) h };
 
     fn kind(&self) -> u16 {
         match self {
@@ -154,7 +154,7 @@ impl Nla for RuleAttribute {
     }
 
     fn value_len(&self) -> usize
-        ensures { result ≡ length (attributes.writes (meaning_of self.now)).value }
+        ensures { result ≡ length (writing.writes (meaning_of self.now)).value }
     {
         match self {
             RuleAttribute::Destination(ip) | RuleAttribute::Source(ip) => ip_len(ip),
@@ -236,33 +236,13 @@ impl Attribute for RuleAttribute {
 
     ghost meaning = { meaning_of };
 
-    ghost writes = { attributes.writes };
+    ghost writing = { writing };
 
-    ghost misfit = { attributes.misfit };
-
-    ghost reads = { λ _. attributes.Reads };
-
-    ghost faulty = { λ _. attributes.Faulty };
-
-    ghost coherent = { λ _. attributes.Coherent };
-
-    ghost members = { attributes.members };
+    ghost reading = { λ _. attributes };
 
     ghost item_is = { λ a. refl };
 
     ghost unfit_is = { λ a. refl };
-
-    ghost one_reading = { λ _. attributes.one_reading };
-
-    ghost no_fault = { λ _. attributes.no_fault };
-
-    ghost reads_coherent = { λ _. attributes.reads_coherent };
-
-    ghost fits_small = { λ _. attributes.fits_small };
-
-    ghost reads_back = { λ _. attributes.reads_back };
-
-    ghost grows = { λ _. attributes.grows };
 
     fn read(
         alloc: Global,
@@ -271,34 +251,28 @@ impl Attribute for RuleAttribute {
         _looks: &mut Looks,
     ) -> Result<Self, DecodeError> {
         let value = item.value();
-        match item.kind() {
-            1 => read_ip(value, at(1)).map(RuleAttribute::Destination),
-            2 => read_ip(value, at(2)).map(RuleAttribute::Source),
-            3 => read_name(alloc, value, at(3)).map(RuleAttribute::Iifname),
-            4 => read_u32(value, at(4)).map(RuleAttribute::Goto),
-            6 => read_u32(value, at(6)).map(RuleAttribute::Priority),
-            10 => read_u32(value, at(10)).map(RuleAttribute::FwMark),
-            11 => read_u32(value, at(11)).map(|number| RuleAttribute::Realm(RouteRealm::from(
-                number,
-            ))),
-            12 => read_u64_be(value, at(12)).map(RuleAttribute::TunId),
-            13 => read_u32(value, at(13)).map(RuleAttribute::SuppressIfGroup),
-            14 => read_u32(value, at(14)).map(RuleAttribute::SuppressPrefixLen),
-            15 => read_u32(value, at(15)).map(RuleAttribute::Table),
-            16 => read_u32(value, at(16)).map(RuleAttribute::FwMask),
-            17 => read_name(alloc, value, at(17)).map(RuleAttribute::Oifname),
-            19 => read_bool(value, at(19)).map(RuleAttribute::L3MDev),
-            20 => RuleUidRange::read(value, at(20)).map(RuleAttribute::UidRange),
-            21 => read_u8(value, at(21)).map(|number| RuleAttribute::Protocol(RouteProtocol::from(
-                number,
-            ))),
-            22 => read_u8(value, at(22)).map(|number| RuleAttribute::IpProtocol(IpProtocol::from(
-                number,
-            ))),
-            23 => RulePortRange::read(value, at(23)).map(RuleAttribute::SourcePortRange),
-            24 => RulePortRange::read(value, at(24)).map(RuleAttribute::DestinationPortRange),
-            _ => DefaultNla::parse(alloc, item).map(RuleAttribute::Other),
-        }
+        Ok(match item.kind() {
+            1 => RuleAttribute::Destination(read_ip(value, at(1))?),
+            2 => RuleAttribute::Source(read_ip(value, at(2))?),
+            3 => RuleAttribute::Iifname(read_name(alloc, value, at(3))?),
+            4 => RuleAttribute::Goto(read_u32(value, at(4))?),
+            6 => RuleAttribute::Priority(read_u32(value, at(6))?),
+            10 => RuleAttribute::FwMark(read_u32(value, at(10))?),
+            11 => RuleAttribute::Realm(RouteRealm::from(read_u32(value, at(11))?)),
+            12 => RuleAttribute::TunId(read_u64_be(value, at(12))?),
+            13 => RuleAttribute::SuppressIfGroup(read_u32(value, at(13))?),
+            14 => RuleAttribute::SuppressPrefixLen(read_u32(value, at(14))?),
+            15 => RuleAttribute::Table(read_u32(value, at(15))?),
+            16 => RuleAttribute::FwMask(read_u32(value, at(16))?),
+            17 => RuleAttribute::Oifname(read_name(alloc, value, at(17))?),
+            19 => RuleAttribute::L3MDev(read_bool(value, at(19))?),
+            20 => RuleAttribute::UidRange(RuleUidRange::read(value, at(20))?),
+            21 => RuleAttribute::Protocol(RouteProtocol::from(read_u8(value, at(21))?)),
+            22 => RuleAttribute::IpProtocol(IpProtocol::from(read_u8(value, at(22))?)),
+            23 => RuleAttribute::SourcePortRange(RulePortRange::read(value, at(23))?),
+            24 => RuleAttribute::DestinationPortRange(RulePortRange::read(value, at(24))?),
+            _ => RuleAttribute::Other(DefaultNla::parse(alloc, item)?),
+        })
     }
 
     fn try_clone(&self, alloc: Global) -> Result<Self, AllocError> {

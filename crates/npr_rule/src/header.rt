@@ -124,16 +124,31 @@ impl RuleHeader {
         ensures ok { IfOk result (λ h. (leading header).Reads bytes.now h) }
         ensures refused { IfErr result (λ e. (leading header).Wrong no_place bytes.now e) }
     {
-        let b = RuleMessageBuffer::parse(bytes)?;
-        Ok(RuleHeader {
-            family: AddressFamily::from(b.family),
-            dst_len: b.dst_len,
-            src_len: b.src_len,
-            tos: b.tos,
-            table: b.table,
-            action: RuleAction::from(b.action),
-            flags: RuleFlags::from_bits_retain(b.flags),
-        })
+        if bytes.len() < 12 {
+            return Err(DecodeError::HeaderTooShort {
+                got: bytes.len(),
+                want: 12,
+            });
+        }
+        Ok(RuleHeader::in_front(bytes))
+    }
+
+    /// The header in the first 12 bytes, which are there.
+    #[inline]
+    pub(crate) fn in_front(bytes: &[u8]) -> Self
+        requires { 12 ≤ length bytes.now }
+        ensures { (leading header).Reads bytes.now result }
+    {
+        let b = &bytes[..12];
+        RuleHeader {
+            family: AddressFamily::from(b[0]),
+            dst_len: b[1],
+            src_len: b[2],
+            tos: b[3],
+            table: b[4],
+            action: RuleAction::from(b[7]),
+            flags: RuleFlags::from_bits_retain(u32::from_le_bytes([b[8], b[9], b[10], b[11]])),
+        }
     }
 }
 

@@ -79,16 +79,26 @@ impl<'a> Parseable<&'a [u8]> for RuleMessage {
     }
 }
 
+#[tactic(auto, unfolding(crate::specs::Message::RuleFault))]
 fn read(alloc: Global, bytes: &[u8]) -> Result<RuleMessage, DecodeError>
     ensures ok { IfOk result (λ m. IsRuleMessage bytes.now (message_of m)) }
     ensures refused { IfErr result (λ e. e ≢ OutOfMemory → RuleFault bytes.now e) }
     ensures memory { IsErrOf result OutOfMemory → (x : Item) × (rest : List ℕ) × Front (drop 12 bytes.now) x rest }
 {
-    let header = RuleHeader::parse(bytes)?;
+    if bytes.len() < 12 {
+        return Err(DecodeError::HeaderTooShort {
+            got: bytes.len(),
+            want: 12,
+        });
+    }
     let attributes = parse_list(alloc, (), &bytes[12..], &mut Looks::new())?;
-    Ok(RuleMessage { header, attributes })
+    Ok(RuleMessage {
+        header: RuleHeader::in_front(bytes),
+        attributes,
+    })
 }
 
+#[tactic(auto, unfolding(crate::specs::Message::rule_bytes, crate::specs::Message::rule_misfit))]
 impl Emitable for RuleMessage {
     ghost bytes = { λ m. rule_bytes (message_of m) };
 

@@ -1,5 +1,5 @@
 -- The attributes of the sample, by their table: a row of each kind.
-use Rattle.std.specs.Prelude.{◌≡◌, ℕ, ℤ, ◌<◌, ◌≤◌, ◌^◌, Bool, true, false, List, [], ◌∷◌, length, map, Option, None}
+use Rattle.std.specs.Prelude.{◌≡◌, ℕ, ℤ, ◌<◌, ◌^◌, Bool, true, false, List, [], ◌∷◌, map, Option, None}
 use Rattle.std.specs.String.{string_bytes}
 use Rattle.npr_base.specs.declared.refusal.At.{At}
 use Rattle.npr_base.specs.declared.refusal.AttrFamily.TheVariants.{Value}
@@ -12,7 +12,7 @@ use Rattle.npr_base.specs.Codec.{exactly, leading, raw}
 use Rattle.npr_base.specs.IpCodec.{ip}
 use Rattle.npr_base.specs.Name.{name}
 use Rattle.npr_base.specs.ListCodec.{list_of}
-use Rattle.npr_base.specs.Table.{Family, Row, row, Held, held, held_marked, held_other, item_of, IsOther, Aligned, ReadsAt}
+use Rattle.npr_base.specs.Table.{Writing, Reading, Row, row, Held, held, held_marked, held_other, held_kind, held_value, held_misfit, held-reads, IsHeld, item_of, placed, IsOther, Aligned, ReadsAt}
 use Rattle.npr_base.specs.TableLaws.{flat, other-back}
 use Rattle.npr_sample.specs.Pair.{pair}
 use Rattle.npr_sample.specs.Color.{color, marks}
@@ -133,38 +133,38 @@ place (other x) = held_other x
 
 -- why the list inside can't be written, if so
 abbrev pub unfit_inside : Meaning → Option EmitError
-unfit_inside (inside xs) = list_unfit Inner.attributes.misfit Inner.attributes.writes xs
+unfit_inside (inside xs) = list_unfit Inner.writing.misfit Inner.writing.writes xs
 unfit_inside m = None
 
 -- what can be read
 abbrev pub Coherent : Bool → Meaning → Type 0
-Coherent context (narrow n) = (context ≡ false) × (place (narrow n)).IsHeld
-Coherent context (wide n) = (context ≡ true) × (place (wide n)).IsHeld
+Coherent context (narrow n) = (context ≡ false) × IsHeld (place (narrow n))
+Coherent context (wide n) = (context ≡ true) × IsHeld (place (wide n))
 Coherent context (other x) = IsOther (rows context) x
-Coherent context m = (place m).IsHeld
+Coherent context m = IsHeld (place m)
 
 pub aligned : (context : Bool) → Aligned (λ m. item_of (place m)) (Coherent context) (rows context)
 aligned false = search rules
 aligned true = search rules
 
-pub kinds : (context : Bool) (m : Meaning) → Coherent context m → (place m).kind < 2 ^ 16
+pub kinds : (context : Bool) (m : Meaning) → Coherent context m → held_kind (place m) < 2 ^ 16
 kinds context (other x) c = c.proper.kind
 kinds context m c = omega arith
 
-pub short : (m : Meaning) → (place m).misfit ≡ None → length (place m).bytes ≤ 65531
-short (other x) fits = raw.fits_short x.kind x.value fits
-short m fits = (place m).codec.fits_short (place m).kind (place m).value fits
-
-pub back : (context : Bool) (m : Meaning) → Coherent context m → (place m).misfit ≡ None → ReadsAt other (rows context) (number_of (item_of (place m)).kind) (item_of (place m)) m
+pub back : (context : Bool) (m : Meaning) → Coherent context m → held_misfit (place m) ≡ None → ReadsAt other (rows context) (number_of (item_of (place m)).kind) (item_of (place m)) m
 back context (other x) c fits = other-back other (rows context) (number_of x.kind) x c.alone
 back false (narrow n) c fits = (n, (exactly le32).reads_back 30 n c.1 fits, refl)
 back true (narrow n) c fits = absurd cc
 back false (wide n) c fits = absurd cc
 back true (wide n) c fits = (n, (exactly le64).reads_back 30 n c.1 fits, refl)
-back context m c fits = ((place m).value, (place m).codec.reads_back (place m).kind (place m).value c fits, refl)
+back context m c fits = (held_value (place m), held-reads (place m) c fits, refl)
+
+-- how each is written, whatever the context
+abbrev pub writing : Writing Meaning
+writing = placed place
 
 -- the family
-abbrev pub attributes : Bool → Family Meaning
+abbrev pub attributes : Bool → Reading writing
 attributes context = flat (record {
   rows = rows context;
   other = other;
@@ -174,13 +174,12 @@ attributes context = flat (record {
   other_is = λ x. refl;
   other_coherent = λ x is. is;
   kinds = kinds context;
-  short = short;
   back = back context;
 })
 
--- the canonical bytes of a list, whatever the context, and the first cause why there are none
+-- the canonical bytes of a list, and the first cause why there are none
 abbrev pub list_bytes : List Meaning → List ℕ
-list_bytes xs = encodings (λ m. item_of (place m)) xs
+list_bytes xs = encodings writing.writes xs
 
 abbrev pub list_misfit : List Meaning → Option EmitError
-list_misfit xs = list_unfit (λ m. (place m).misfit) (λ m. item_of (place m)) xs
+list_misfit xs = list_unfit writing.misfit writing.writes xs

@@ -1,13 +1,13 @@
 -- The attributes of a list inside, by their table.
-use Rattle.std.specs.Prelude.{◌≡◌, ℕ, ◌+◌, ◌<◌, ◌≤◌, ◌^◌, List, [], ◌∷◌, length, None}
+use Rattle.std.specs.Prelude.{◌≡◌, ℕ, ◌+◌, ◌<◌, ◌^◌, List, [], ◌∷◌, None}
 use Rattle.std.specs.String.{string_bytes}
 use Rattle.npr_base.specs.declared.refusal.At.{At}
 use Rattle.npr_base.specs.declared.refusal.AttrFamily.TheVariants.{Metric}
 use Rattle.npr_base.specs.Framing.{Item, number_of}
 use Rattle.npr_base.specs.Layout.{le32}
-use Rattle.npr_base.specs.Codec.{exactly, raw}
+use Rattle.npr_base.specs.Codec.{exactly}
 use Rattle.npr_base.specs.Name.{name}
-use Rattle.npr_base.specs.Table.{Family, Row, row, Held, held, held_other, item_of, IsOther, Aligned, ReadsAt}
+use Rattle.npr_base.specs.Table.{Writing, Reading, Row, row, Held, held, held_other, held_kind, held_value, held_misfit, held-reads, IsHeld, item_of, placed, IsOther, Aligned, ReadsAt}
 use Rattle.npr_base.specs.TableLaws.{flat, other-back}
 use Rattle.npr_sample.specs.declared.inner.InnerAttribute.{InnerAttribute}
 use Rattle.npr_sample.specs.declared.inner.InnerAttribute.TheVariants.{Count, Label, Other}
@@ -40,25 +40,25 @@ place (other x) = held_other x
 -- what can be read
 abbrev pub Coherent : Meaning → Type 0
 Coherent (other x) = IsOther rows x
-Coherent m = (place m).IsHeld
+Coherent m = IsHeld (place m)
 
 pub aligned : Aligned (λ m. item_of (place m)) Coherent rows
 aligned = search rules
 
-pub kinds : (m : Meaning) → Coherent m → (place m).kind < 2 ^ 16
+pub kinds : (m : Meaning) → Coherent m → held_kind (place m) < 2 ^ 16
 kinds (other x) c = c.proper.kind
 kinds m c = omega arith
 
-pub short : (m : Meaning) → (place m).misfit ≡ None → length (place m).bytes ≤ 65531
-short (other x) fits = raw.fits_short x.kind x.value fits
-short m fits = (place m).codec.fits_short (place m).kind (place m).value fits
-
-pub back : (m : Meaning) → Coherent m → (place m).misfit ≡ None → ReadsAt other rows (number_of (item_of (place m)).kind) (item_of (place m)) m
+pub back : (m : Meaning) → Coherent m → held_misfit (place m) ≡ None → ReadsAt other rows (number_of (item_of (place m)).kind) (item_of (place m)) m
 back (other x) c fits = other-back other rows (number_of x.kind) x c.alone
-back m c fits = ((place m).value, (place m).codec.reads_back (place m).kind (place m).value c fits, refl)
+back m c fits = (held_value (place m), held-reads (place m) c fits, refl)
+
+-- how each is written
+abbrev pub writing : Writing Meaning
+writing = placed place
 
 -- the family
-abbrev pub attributes : Family Meaning
+abbrev pub attributes : Reading writing
 attributes = flat (record {
   rows = rows;
   other = other;
@@ -68,6 +68,5 @@ attributes = flat (record {
   other_is = λ x. refl;
   other_coherent = λ x is. is;
   kinds = kinds;
-  short = short;
   back = back;
 })

@@ -3,8 +3,8 @@
 ghost use Rattle.std.specs.Prelude.{◌≡◌, ◌≢◌, ◌≤◌, ◌<◌, ◌+◌, ◌*◌, ℕ, List, Option, None, true, length, IfOk, IfErr};
 ghost use Rattle.std.proofs.Common.{refl};
 ghost use Rattle.npr_base.specs.Family.{checked};
-ghost use Rattle.npr_base.specs.Table.{plain_item, item_of};
-ghost use Rattle.npr_sample.specs.Attribute.{Meaning, meaning_of, attributes, place, unfit_inside, short};
+ghost use Rattle.npr_base.specs.Table.{held_nested, held_bytes, plain_item};
+ghost use Rattle.npr_sample.specs.Attribute.{Meaning, meaning_of, place, writing, attributes, unfit_inside};
 
 use crate::colors::{Color, Marks};
 use crate::inner::InnerAttribute;
@@ -108,7 +108,7 @@ impl SampleAttribute {
 impl SampleAttribute {
     /// The length of the value, or the first cause why the list inside has none.
     fn len(&self) -> Result<usize, EmitError>
-        ensures { result ≡ checked (unfit_inside (meaning_of self.now)) (length (place (meaning_of self.now)).bytes) }
+        ensures { result ≡ checked (unfit_inside (meaning_of self.now)) (length (held_bytes (place (meaning_of self.now)))) }
     {
         Ok(match self {
             SampleAttribute::Octet(_) | SampleAttribute::Truth(_) | SampleAttribute::Painted(_) =>
@@ -146,11 +146,11 @@ const fn at(kind: u16) -> At
 impl Nla for SampleAttribute {
     ghost item = { λ a. plain_item (place (meaning_of a)) };
 
-    ghost nested = { λ a. (place (meaning_of a)).nested };
+    ghost nested = { λ a. held_nested (place (meaning_of a)) };
 
-    ghost unfit = { λ a. (place (meaning_of a)).misfit };
+    ghost unfit = { λ a. writing.misfit (meaning_of a) };
 
-    ghost fits_short = { λ a h. short (meaning_of a) h };
+    ghost fits_short = { λ a h. writing.short (meaning_of a) h };
 
     fn kind(&self) -> u16 {
         match self {
@@ -229,33 +229,13 @@ impl Attribute for SampleAttribute {
 
     ghost meaning = { meaning_of };
 
-    ghost writes = { λ m. item_of (place m) };
+    ghost writing = { writing };
 
-    ghost misfit = { λ m. (place m).misfit };
-
-    ghost reads = { λ context. (attributes context).Reads };
-
-    ghost faulty = { λ context. (attributes context).Faulty };
-
-    ghost coherent = { λ context. (attributes context).Coherent };
-
-    ghost members = { λ m. (place m).members };
+    ghost reading = { attributes };
 
     ghost item_is = { λ a. refl };
 
     ghost unfit_is = { λ a. refl };
-
-    ghost one_reading = { λ context. (attributes context).one_reading };
-
-    ghost no_fault = { λ context. (attributes context).no_fault };
-
-    ghost reads_coherent = { λ context. (attributes context).reads_coherent };
-
-    ghost fits_small = { λ context. (attributes context).fits_small };
-
-    ghost reads_back = { λ context. (attributes context).reads_back };
-
-    ghost grows = { λ context. (attributes context).grows };
 
     fn read(
         alloc: Global,

@@ -2,7 +2,7 @@
 
 ghost use Rattle.std.specs.Prelude.{◌≡◌, ◌≢◌, ◌≤◌, ◌<◌, ◌+◌, ◌*◌, ℕ, List, Option, None, false, length, IfOk, IfErr};
 ghost use Rattle.std.proofs.Common.{refl};
-ghost use Rattle.npr_sample.specs.Inner.{Meaning, meaning_of, attributes, short};
+ghost use Rattle.npr_sample.specs.Inner.{Meaning, meaning_of, writing, attributes};
 
 use npr_base::{
     At, AttrFamily, Attribute, DecodeError, DefaultNla, EmitError, Looks, NLA_F_NESTED, Nla,
@@ -49,13 +49,13 @@ const fn at(kind: u16) -> At
 }
 
 impl Nla for InnerAttribute {
-    ghost item = { λ a. attributes.writes (meaning_of a) };
+    ghost item = { λ a. writing.writes (meaning_of a) };
 
     ghost nested = { λ _. false };
 
-    ghost unfit = { λ a. attributes.misfit (meaning_of a) };
+    ghost unfit = { λ a. writing.misfit (meaning_of a) };
 
-    ghost fits_short = { λ a h. short (meaning_of a) h };
+    ghost fits_short = { λ a h. writing.short (meaning_of a) h };
 
     fn kind(&self) -> u16 {
         match self {
@@ -74,7 +74,7 @@ impl Nla for InnerAttribute {
     }
 
     fn value_len(&self) -> usize
-        ensures { result ≡ length (attributes.writes (meaning_of self.now)).value }
+        ensures { result ≡ length (writing.writes (meaning_of self.now)).value }
     {
         match self {
             InnerAttribute::Count(_) => 4,
@@ -99,33 +99,13 @@ impl Attribute for InnerAttribute {
 
     ghost meaning = { meaning_of };
 
-    ghost writes = { attributes.writes };
+    ghost writing = { writing };
 
-    ghost misfit = { attributes.misfit };
-
-    ghost reads = { λ _. attributes.Reads };
-
-    ghost faulty = { λ _. attributes.Faulty };
-
-    ghost coherent = { λ _. attributes.Coherent };
-
-    ghost members = { attributes.members };
+    ghost reading = { λ _. attributes };
 
     ghost item_is = { λ a. refl };
 
     ghost unfit_is = { λ a. refl };
-
-    ghost one_reading = { λ _. attributes.one_reading };
-
-    ghost no_fault = { λ _. attributes.no_fault };
-
-    ghost reads_coherent = { λ _. attributes.reads_coherent };
-
-    ghost fits_small = { λ _. attributes.fits_small };
-
-    ghost reads_back = { λ _. attributes.reads_back };
-
-    ghost grows = { λ _. attributes.grows };
 
     fn read(
         alloc: Global,

@@ -1,9 +1,9 @@
 -- Families in which an attribute is kept as it stands, besides those of numbers without a row, where one row's value means nothing.
 use Rattle.std.proofs.Common.{◌≡◌, ◌+◌, ◌*◌, ◌<◌, ◌≤◌, ◌^◌, ◌⊎◌, length, None, sym, ap, subst, ◌∙◌, inl, inr, arith}
 use Rattle.npr_base.specs.declared.refusal.DecodeError.{DecodeError}
-use Rattle.npr_base.specs.Framing.{Item, Proper, Small, framed, number_of}
+use Rattle.npr_base.specs.Framing.{Item, Proper, framed, number_of}
 use Rattle.npr_base.specs.CodecLaws.{framed-grows}
-use Rattle.npr_base.specs.Table.{Family, Row, Table, item_of}
+use Rattle.npr_base.specs.Table.{Reading, Row, Table, item_of, placed}
 use Rattle.npr_base.specs.TableLaws.{flat}
 
 -- the attribute has the row's number, and its value means nothing there
@@ -42,31 +42,28 @@ module _ {M : Type 0} (t : Table M) (r : Row M) where
   keeping-coherent x m proper (inl p) = inl ((flat t).reads_coherent x m proper p)
   keeping-coherent x m proper (inr p) = inr (x, proper, p)
 
-  pub keeping-small : (m : M) → CoherentOrKept t r m → (flat t).misfit m ≡ None → Small ((flat t).writes m)
-  keeping-small m (inl c) fits = (flat t).fits_small m c fits
-  keeping-small m (inr (x, proper, k)) fits = record { kind = subst (λ (y : Item). y.kind < 2 ^ 16) (sym (kept-is x m k.is)) proper.kind; value = t.short m fits }
+  pub keeping-kinds : (m : M) → CoherentOrKept t r m → ((placed t.place).writes m).kind < 2 ^ 16
+  keeping-kinds m (inl c) = (flat t).kinds m c
+  keeping-kinds m (inr (x, proper, k)) = subst (λ (y : Item). y.kind < 2 ^ 16) (sym (kept-is x m k.is)) proper.kind
 
-  pub keeping-back : (m : M) → CoherentOrKept t r m → (flat t).misfit m ≡ None → (flat t).Reads ((flat t).writes m) m ⊎ IsKept t.other r ((flat t).writes m) m
+  pub keeping-back : (m : M) → CoherentOrKept t r m → (placed t.place).misfit m ≡ None → (flat t).Reads ((placed t.place).writes m) m ⊎ IsKept t.other r ((placed t.place).writes m) m
   keeping-back m (inl c) fits = inl ((flat t).reads_back m c fits)
   keeping-back m (inr (x, proper, k)) fits = inr (subst (λ (y : Item). IsKept t.other r y m) (sym (kept-is x m k.is)) k)
 
-  pub keeping-grows : (x : Item) (m : M) → Proper x → (flat t).Reads x m ⊎ IsKept t.other r x m → 2 * framed (length ((flat t).writes m).value) ≤ 5 * (4 + length x.value)
+  pub keeping-grows : (x : Item) (m : M) → Proper x → (flat t).Reads x m ⊎ IsKept t.other r x m → 2 * framed (length ((placed t.place).writes m).value) ≤ 5 * (4 + length x.value)
   keeping-grows x m proper (inl p) = (flat t).grows x m proper p
-  keeping-grows x m proper (inr k) = framed-grows (length ((flat t).writes m).value) (length x.value) (omega (arith, ap (λ (y : Item). length y.value) (kept-is x m k.is)))
+  keeping-grows x m proper (inr k) = framed-grows (length ((placed t.place).writes m).value) (length x.value) (omega (arith, ap (λ (y : Item). length y.value) (kept-is x m k.is)))
 
 -- the family: `here` says that the row is the table's at its number
-abbrev pub keeping : {M : Type 0} (t : Table M) (r : Row M) → IsRowOf t r → Family M
+abbrev pub keeping : {M : Type 0} (t : Table M) (r : Row M) → IsRowOf t r → Reading (placed t.place)
 keeping t r here = record {
   Reads = λ x m. (flat t).Reads x m ⊎ IsKept t.other r x m;
   Faulty = λ x e. (flat t).Faulty x e × (IsUnreadable r x → ⊥);
-  writes = (flat t).writes;
-  misfit = (flat t).misfit;
   Coherent = CoherentOrKept t r;
-  members = (flat t).members;
   one_reading = keeping-one t r here;
   no_fault = keeping-sound t r;
   reads_coherent = keeping-coherent t r;
-  fits_small = keeping-small t r;
+  kinds = keeping-kinds t r;
   reads_back = keeping-back t r;
   grows = keeping-grows t r;
 }

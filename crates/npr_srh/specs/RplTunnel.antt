@@ -1,11 +1,10 @@
 -- The members of an RPL tunnel (linux/rpl_iptunnel.h, RPL_IPTUNNEL_*), by their table.
-use Rattle.std.specs.Prelude.{◌≡◌, ℕ, ◌<◌, ◌≤◌, ◌^◌, List, [], ◌∷◌, length, None}
+use Rattle.std.specs.Prelude.{◌≡◌, ℕ, ◌<◌, ◌^◌, List, [], ◌∷◌, None}
 use Rattle.npr_base.specs.declared.refusal.At.{At}
 use Rattle.npr_base.specs.declared.refusal.AttrFamily.TheVariants.{Rpl as OfRpl}
 use Rattle.npr_base.specs.Framing.{Item, number_of}
-use Rattle.npr_base.specs.Codec.{raw}
 use Rattle.npr_base.specs.DroppedCodec.{dropped}
-use Rattle.npr_base.specs.Table.{Family, Table, Row, row, Held, held, held_other, item_of, IsOther, Aligned, ReadsAt}
+use Rattle.npr_base.specs.Table.{Writing, Reading, Table, Row, row, Held, held, held_other, held_kind, held_value, held_misfit, held-reads, IsHeld, item_of, placed, IsOther, Aligned, ReadsAt}
 use Rattle.npr_base.specs.TableLaws.{other-back}
 use Rattle.npr_srh.specs.Keeping.{keeping, IsRowOf}
 use Rattle.npr_srh.specs.Rpl.{Rpl, rpl, rpl_of}
@@ -47,22 +46,18 @@ place (other x) = held_other x
 -- what can be read by it
 abbrev pub Coherent : Meaning → Type 0
 Coherent (other x) = IsOther rows x
-Coherent m = (place m).IsHeld
+Coherent m = IsHeld (place m)
 
 pub aligned : Aligned (λ m. item_of (place m)) Coherent rows
 aligned = search rules
 
-pub kinds : (m : Meaning) → Coherent m → (place m).kind < 2 ^ 16
+pub kinds : (m : Meaning) → Coherent m → held_kind (place m) < 2 ^ 16
 kinds (other x) c = c.proper.kind
 kinds m c = omega arith
 
-pub short : (m : Meaning) → (place m).misfit ≡ None → length (place m).bytes ≤ 65531
-short (other x) fits = raw.fits_short x.kind x.value fits
-short m fits = (place m).codec.fits_short (place m).kind (place m).value fits
-
-pub back : (m : Meaning) → Coherent m → (place m).misfit ≡ None → ReadsAt other rows (number_of (item_of (place m)).kind) (item_of (place m)) m
+pub back : (m : Meaning) → Coherent m → held_misfit (place m) ≡ None → ReadsAt other rows (number_of (item_of (place m)).kind) (item_of (place m)) m
 back (other x) c fits = other-back other rows (number_of x.kind) x c.alone
-back m c fits = ((place m).value, (place m).codec.reads_back (place m).kind (place m).value c fits, refl)
+back m c fits = (held_value (place m), held-reads (place m) c fits, refl)
 
 abbrev pub table_of_rows : Table Meaning
 table_of_rows = record {
@@ -74,13 +69,16 @@ table_of_rows = record {
   other_is = λ x. refl;
   other_coherent = λ x is. is;
   kinds = kinds;
-  short = short;
   back = back;
 }
 
 pub here : IsRowOf table_of_rows srh_row
 here x m e p = let q = rw e at p in (q.0, q.1)
 
+-- how each is written
+abbrev pub writing : Writing Meaning
+writing = placed place
+
 -- the family: where the routing header can't be read, the attribute is kept
-abbrev pub members : Family Meaning
+abbrev pub members : Reading writing
 members = keeping table_of_rows srh_row here

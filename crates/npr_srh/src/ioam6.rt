@@ -6,7 +6,7 @@ ghost use Rattle.npr_base.specs.declared.refusal.DecodeError.TheVariants.{OutOfM
 ghost use Rattle.npr_srh.specs.Ioam6Mode.{ioam6_mode_of, ioam6_mode_number};
 ghost use Rattle.npr_srh.specs.Trace.{trace, IsTrace, encode_trace};
 ghost use Rattle.npr_srh.specs.declared.ioam6.Ioam6TraceHdr.{Ioam6TraceHdr};
-ghost use Rattle.npr_srh.specs.Ioam6Tunnel.{Meaning, meaning_of, members, short, at as place_at};
+ghost use Rattle.npr_srh.specs.Ioam6Tunnel.{Meaning, meaning_of, writing, members, at as place_at};
 
 use crate::segments::read_v6;
 use npr_base::{
@@ -217,13 +217,13 @@ impl RouteIoam6Tunnel {
 }
 
 impl Nla for RouteIoam6Tunnel {
-    ghost item = { λ a. members.writes (meaning_of a) };
+    ghost item = { λ a. writing.writes (meaning_of a) };
 
     ghost nested = { λ _. false };
 
-    ghost unfit = { λ a. members.misfit (meaning_of a) };
+    ghost unfit = { λ a. writing.misfit (meaning_of a) };
 
-    ghost fits_short = { λ a h. short (meaning_of a) h };
+    ghost fits_short = { λ a h. writing.short (meaning_of a) h };
 
     fn kind(&self) -> u16 {
         match self {
@@ -247,7 +247,7 @@ impl Nla for RouteIoam6Tunnel {
     }
 
     fn value_len(&self) -> usize
-        ensures { result ≡ length (members.writes (meaning_of self.now)).value }
+        ensures { result ≡ length (writing.writes (meaning_of self.now)).value }
     {
         match self {
             RouteIoam6Tunnel::Unspecified => 0,
@@ -286,33 +286,13 @@ impl Attribute for RouteIoam6Tunnel {
 
     ghost meaning = { meaning_of };
 
-    ghost writes = { members.writes };
+    ghost writing = { writing };
 
-    ghost misfit = { members.misfit };
-
-    ghost reads = { λ _. members.Reads };
-
-    ghost faulty = { λ _. members.Faulty };
-
-    ghost coherent = { λ _. members.Coherent };
-
-    ghost members = { members.members };
+    ghost reading = { λ _. members };
 
     ghost item_is = { λ a. refl };
 
     ghost unfit_is = { λ a. refl };
-
-    ghost one_reading = { λ _. members.one_reading };
-
-    ghost no_fault = { λ _. members.no_fault };
-
-    ghost reads_coherent = { λ _. members.reads_coherent };
-
-    ghost fits_small = { λ _. members.fits_small };
-
-    ghost reads_back = { λ _. members.reads_back };
-
-    ghost grows = { λ _. members.grows };
 
     fn read(
         alloc: Global,

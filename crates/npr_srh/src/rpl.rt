@@ -6,7 +6,7 @@ ghost use Rattle.std.proofs.Common.{refl};
 ghost use Rattle.npr_base.specs.declared.refusal.DecodeError.TheVariants.{OutOfMemory};
 ghost use Rattle.npr_srh.specs.Headed.{IsUnread};
 ghost use Rattle.npr_srh.specs.Rpl.{rpl, rpl_of, rpl_front, encode_rpl};
-ghost use Rattle.npr_srh.specs.RplTunnel.{Meaning, meaning_of, members, short, at as place_at};
+ghost use Rattle.npr_srh.specs.RplTunnel.{Meaning, meaning_of, writing, members, at as place_at};
 
 use crate::segments::{check_header, has_header, write_segments};
 use npr_base::{
@@ -205,13 +205,13 @@ impl RouteRplIpTunnel {
 }
 
 impl Nla for RouteRplIpTunnel {
-    ghost item = { λ a. members.writes (meaning_of a) };
+    ghost item = { λ a. writing.writes (meaning_of a) };
 
     ghost nested = { λ _. false };
 
-    ghost unfit = { λ a. members.misfit (meaning_of a) };
+    ghost unfit = { λ a. writing.misfit (meaning_of a) };
 
-    ghost fits_short = { λ a h. short (meaning_of a) h };
+    ghost fits_short = { λ a h. writing.short (meaning_of a) h };
 
     fn kind(&self) -> u16 {
         match self {
@@ -233,7 +233,7 @@ impl Nla for RouteRplIpTunnel {
     }
 
     fn value_len(&self) -> usize
-        ensures { result ≡ length (members.writes (meaning_of self.now)).value }
+        ensures { result ≡ length (writing.writes (meaning_of self.now)).value }
     {
         match self {
             RouteRplIpTunnel::Unspecified => 0,
@@ -258,33 +258,13 @@ impl Attribute for RouteRplIpTunnel {
 
     ghost meaning = { meaning_of };
 
-    ghost writes = { members.writes };
+    ghost writing = { writing };
 
-    ghost misfit = { members.misfit };
-
-    ghost reads = { λ _. members.Reads };
-
-    ghost faulty = { λ _. members.Faulty };
-
-    ghost coherent = { λ _. members.Coherent };
-
-    ghost members = { members.members };
+    ghost reading = { λ _. members };
 
     ghost item_is = { λ a. refl };
 
     ghost unfit_is = { λ a. refl };
-
-    ghost one_reading = { λ _. members.one_reading };
-
-    ghost no_fault = { λ _. members.no_fault };
-
-    ghost reads_coherent = { λ _. members.reads_coherent };
-
-    ghost fits_small = { λ _. members.fits_small };
-
-    ghost reads_back = { λ _. members.reads_back };
-
-    ghost grows = { λ _. members.grows };
 
     fn read(
         alloc: Global,

@@ -2,7 +2,7 @@
 
 ghost use Rattle.std.specs.Prelude.{◌≡◌, false, length, IfOk};
 ghost use Rattle.std.proofs.Common.{refl};
-ghost use Rattle.npr_srh.specs.Seg6Tunnel.{Meaning, meaning_of, members, short};
+ghost use Rattle.npr_srh.specs.Seg6Tunnel.{Meaning, meaning_of, writing, members};
 
 use crate::seg6_header::Seg6Header;
 use crate::segments::read_v6;
@@ -52,13 +52,13 @@ const fn at(kind: u16) -> At
 }
 
 impl Nla for RouteSeg6IpTunnel {
-    ghost item = { λ a. members.writes (meaning_of a) };
+    ghost item = { λ a. writing.writes (meaning_of a) };
 
     ghost nested = { λ _. false };
 
-    ghost unfit = { λ a. members.misfit (meaning_of a) };
+    ghost unfit = { λ a. writing.misfit (meaning_of a) };
 
-    ghost fits_short = { λ a h. short (meaning_of a) h };
+    ghost fits_short = { λ a h. writing.short (meaning_of a) h };
 
     fn kind(&self) -> u16 {
         match self {
@@ -81,7 +81,7 @@ impl Nla for RouteSeg6IpTunnel {
     }
 
     fn value_len(&self) -> usize
-        ensures { result ≡ length (members.writes (meaning_of self.now)).value }
+        ensures { result ≡ length (writing.writes (meaning_of self.now)).value }
     {
         match self {
             RouteSeg6IpTunnel::Seg6(header) => header.value_len(),
@@ -108,33 +108,13 @@ impl Attribute for RouteSeg6IpTunnel {
 
     ghost meaning = { meaning_of };
 
-    ghost writes = { members.writes };
+    ghost writing = { writing };
 
-    ghost misfit = { members.misfit };
-
-    ghost reads = { λ _. members.Reads };
-
-    ghost faulty = { λ _. members.Faulty };
-
-    ghost coherent = { λ _. members.Coherent };
-
-    ghost members = { members.members };
+    ghost reading = { λ _. members };
 
     ghost item_is = { λ a. refl };
 
     ghost unfit_is = { λ a. refl };
-
-    ghost one_reading = { λ _. members.one_reading };
-
-    ghost no_fault = { λ _. members.no_fault };
-
-    ghost reads_coherent = { λ _. members.reads_coherent };
-
-    ghost fits_small = { λ _. members.fits_small };
-
-    ghost reads_back = { λ _. members.reads_back };
-
-    ghost grows = { λ _. members.grows };
 
     fn read(
         alloc: Global,

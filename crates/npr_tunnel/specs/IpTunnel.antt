@@ -1,18 +1,17 @@
 -- The members of a tunnel over IP (linux/lwtunnel.h, LWTUNNEL_IP_* and LWTUNNEL_IP6_*), by a table that is the same for
 -- both versions but for the width of an address.
-use Rattle.std.specs.Prelude.{◌≡◌, ℕ, ◌+◌, ◌<◌, ◌≤◌, ◌^◌, List, [], ◌∷◌, length, map, Option, None}
+use Rattle.std.specs.Prelude.{◌≡◌, ℕ, ◌+◌, ◌<◌, ◌^◌, List, [], ◌∷◌, map, Option, None}
 use Rattle.std.proofs.Common.{refl, arith, rules}
-use Rattle.npr_base.specs.declared.refusal.At.{At}
 use Rattle.npr_base.specs.declared.refusal.AttrFamily.{AttrFamily}
 use Rattle.npr_base.specs.declared.refusal.AttrFamily.TheVariants.{Ip as OfIp, Ip6 as OfIp6}
 use Rattle.npr_base.specs.declared.refusal.EmitError.{EmitError}
-use Rattle.npr_base.specs.Codec.{exactly, raw}
+use Rattle.npr_base.specs.Codec.{exactly}
 use Rattle.npr_base.specs.DroppedCodec.{dropped}
 use Rattle.npr_base.specs.Family.{list_unfit}
 use Rattle.npr_base.specs.Framing.{Item, number_of}
 use Rattle.npr_base.specs.Layout.{byte, be16, be64, octets}
 use Rattle.npr_base.specs.ListCodec.{list_of}
-use Rattle.npr_base.specs.Table.{Family, Row, row, Held, held, held_other, item_of, IsOther, Aligned, ReadsAt}
+use Rattle.npr_base.specs.Table.{Writing, Reading, Row, row, Held, held, held_other, held_kind, held_value, held_misfit, held-reads, IsHeld, item_of, placed, IsOther, Aligned, ReadsAt}
 use Rattle.npr_base.specs.TableLaws.{flat, other-back}
 use Rattle.npr_tunnel.specs.TunnelOptions as OfOption
 use Rattle.npr_tunnel.specs.declared.ip.RouteIpTunnel.{RouteIpTunnel}
@@ -81,30 +80,30 @@ place width (other x) = held_other x
 
 -- why the list inside can't be written, if so
 abbrev pub unfit_inside : Meaning → Option EmitError
-unfit_inside (options xs) = list_unfit OfOption.members.misfit OfOption.members.writes xs
+unfit_inside (options xs) = list_unfit OfOption.writing.misfit OfOption.writing.writes xs
 unfit_inside m = None
 
 -- what can be read
 abbrev pub Coherent : AttrFamily → ℕ → Meaning → Type 0
 Coherent family width (other x) = IsOther (rows family width) x
-Coherent family width m = (place width m).IsHeld
+Coherent family width m = IsHeld (place width m)
 
 pub aligned : (family : AttrFamily) (width : ℕ) → Aligned (λ m. item_of (place width m)) (Coherent family width) (rows family width)
 aligned family width = search rules
 
-pub kinds : (family : AttrFamily) (width : ℕ) (m : Meaning) → Coherent family width m → (place width m).kind < 2 ^ 16
+pub kinds : (family : AttrFamily) (width : ℕ) (m : Meaning) → Coherent family width m → held_kind (place width m) < 2 ^ 16
 kinds family width (other x) c = c.proper.kind
 kinds family width m c = omega arith
 
-pub short : (width : ℕ) (m : Meaning) → (place width m).misfit ≡ None → length (place width m).bytes ≤ 65531
-short width (other x) fits = raw.fits_short x.kind x.value fits
-short width m fits = (place width m).codec.fits_short (place width m).kind (place width m).value fits
-
-pub back : (family : AttrFamily) (width : ℕ) (m : Meaning) → Coherent family width m → (place width m).misfit ≡ None → ReadsAt other (rows family width) (number_of (item_of (place width m)).kind) (item_of (place width m)) m
+pub back : (family : AttrFamily) (width : ℕ) (m : Meaning) → Coherent family width m → held_misfit (place width m) ≡ None → ReadsAt other (rows family width) (number_of (item_of (place width m)).kind) (item_of (place width m)) m
 back family width (other x) c fits = other-back other (rows family width) (number_of x.kind) x c.alone
-back family width m c fits = ((place width m).value, (place width m).codec.reads_back (place width m).kind (place width m).value c fits, refl)
+back family width m c fits = (held_value (place width m), held-reads (place width m) c fits, refl)
 
-abbrev pub members_of : AttrFamily → ℕ → Family Meaning
+-- how each is written
+abbrev pub writing : ℕ → Writing Meaning
+writing width = placed (place width)
+
+abbrev pub members_of : AttrFamily → (width : ℕ) → Reading (writing width)
 members_of family width = flat (record {
   rows = rows family width;
   other = other;
@@ -114,13 +113,12 @@ members_of family width = flat (record {
   other_is = λ x. refl;
   other_coherent = λ x is. is;
   kinds = kinds family width;
-  short = short width;
   back = back family width;
 })
 
 -- the families
-abbrev pub members : Family Meaning
+abbrev pub members : Reading (writing 4)
 members = members_of OfIp 4
 
-abbrev pub members6 : Family Meaning
+abbrev pub members6 : Reading (writing 16)
 members6 = members_of OfIp6 16

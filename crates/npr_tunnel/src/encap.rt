@@ -3,7 +3,7 @@
 ghost use Rattle.std.specs.Prelude.{◌≡◌, ◌≢◌, ◌≤◌, ◌<◌, ◌+◌, ◌*◌, ℕ, List, Option, None, false, length, IfOk, IfErr};
 ghost use Rattle.std.proofs.Common.{refl};
 ghost use Rattle.npr_base.specs.Family.{checked};
-ghost use Rattle.npr_tunnel.specs.Encapsulation.{Meaning, meaning_of, encapsulation, writes, misfit, members_inside, short};
+ghost use Rattle.npr_tunnel.specs.Encapsulation.{Meaning, meaning_of, writing, encapsulation};
 
 use crate::encap_type::RouteLwEnCapType;
 use crate::ip::RouteIpTunnel;
@@ -63,13 +63,13 @@ impl RouteLwTunnelEncap {
 }
 
 impl Nla for RouteLwTunnelEncap {
-    ghost item = { λ a. writes (meaning_of a) };
+    ghost item = { λ a. writing.writes (meaning_of a) };
 
     ghost nested = { λ _. false };
 
-    ghost unfit = { λ a. misfit (meaning_of a) };
+    ghost unfit = { λ a. writing.misfit (meaning_of a) };
 
-    ghost fits_short = { λ a h. short (meaning_of a) h };
+    ghost fits_short = { λ a h. writing.short (meaning_of a) h };
 
     fn kind(&self) -> u16 {
         match self {
@@ -139,33 +139,13 @@ impl Attribute for RouteLwTunnelEncap {
 
     ghost meaning = { meaning_of };
 
-    ghost writes = { writes };
+    ghost writing = { writing };
 
-    ghost misfit = { misfit };
-
-    ghost reads = { λ kind. (encapsulation kind).Reads };
-
-    ghost faulty = { λ kind. (encapsulation kind).Faulty };
-
-    ghost coherent = { λ kind. (encapsulation kind).Coherent };
-
-    ghost members = { members_inside };
+    ghost reading = { encapsulation };
 
     ghost item_is = { λ a. refl };
 
     ghost unfit_is = { λ a. refl };
-
-    ghost one_reading = { λ kind. (encapsulation kind).one_reading };
-
-    ghost no_fault = { λ kind. (encapsulation kind).no_fault };
-
-    ghost reads_coherent = { λ kind. (encapsulation kind).reads_coherent };
-
-    ghost fits_small = { λ kind. (encapsulation kind).fits_small };
-
-    ghost reads_back = { λ kind. (encapsulation kind).reads_back };
-
-    ghost grows = { λ kind. (encapsulation kind).grows };
 
     fn read(
         alloc: Global,

@@ -3,7 +3,8 @@
 ghost use Rattle.std.specs.Prelude.{◌≡◌, ◌≢◌, ◌≤◌, ◌<◌, ◌+◌, ◌*◌, ℕ, List, Option, None, false, length, IfOk, IfErr};
 ghost use Rattle.std.proofs.Common.{refl};
 ghost use Rattle.npr_base.specs.Family.{checked};
-ghost use Rattle.npr_tunnel.specs.IpTunnel.{Meaning, meaning6_of, members6, place, short, unfit_inside};
+ghost use Rattle.npr_base.specs.Table.{held_bytes};
+ghost use Rattle.npr_tunnel.specs.IpTunnel.{Meaning, meaning6_of, writing, members6, place, unfit_inside};
 
 use crate::flags::RouteIp6TunnelFlags;
 use crate::tunnel_opts::RouteLwTunnelOpt;
@@ -62,7 +63,7 @@ impl RouteIp6Tunnel {
 
     /// The length of the value, or the first cause why the list inside has none.
     fn len(&self) -> Result<usize, EmitError>
-        ensures { result ≡ checked (unfit_inside (meaning6_of self.now)) (length (place 16 (meaning6_of self.now)).bytes) }
+        ensures { result ≡ checked (unfit_inside (meaning6_of self.now)) (length (held_bytes (place 16 (meaning6_of self.now)))) }
     {
         Ok(match self {
             RouteIp6Tunnel::Unspecified => 0,
@@ -86,13 +87,13 @@ const fn at(kind: u16) -> At
 }
 
 impl Nla for RouteIp6Tunnel {
-    ghost item = { λ a. members6.writes (meaning6_of a) };
+    ghost item = { λ a. (writing 16).writes (meaning6_of a) };
 
     ghost nested = { λ _. false };
 
-    ghost unfit = { λ a. members6.misfit (meaning6_of a) };
+    ghost unfit = { λ a. (writing 16).misfit (meaning6_of a) };
 
-    ghost fits_short = { λ a h. short 16 (meaning6_of a) h };
+    ghost fits_short = { λ a h. (writing 16).short (meaning6_of a) h };
 
     fn kind(&self) -> u16 {
         match self {
@@ -146,33 +147,13 @@ impl Attribute for RouteIp6Tunnel {
 
     ghost meaning = { meaning6_of };
 
-    ghost writes = { members6.writes };
+    ghost writing = { writing 16 };
 
-    ghost misfit = { members6.misfit };
-
-    ghost reads = { λ _. members6.Reads };
-
-    ghost faulty = { λ _. members6.Faulty };
-
-    ghost coherent = { λ _. members6.Coherent };
-
-    ghost members = { members6.members };
+    ghost reading = { λ _. members6 };
 
     ghost item_is = { λ a. refl };
 
     ghost unfit_is = { λ a. refl };
-
-    ghost one_reading = { λ _. members6.one_reading };
-
-    ghost no_fault = { λ _. members6.no_fault };
-
-    ghost reads_coherent = { λ _. members6.reads_coherent };
-
-    ghost fits_small = { λ _. members6.fits_small };
-
-    ghost reads_back = { λ _. members6.reads_back };
-
-    ghost grows = { λ _. members6.grows };
 
     fn read(
         alloc: Global,

@@ -3,7 +3,8 @@
 ghost use Rattle.std.specs.Prelude.{◌≡◌, ◌≢◌, ◌≤◌, ◌<◌, ◌+◌, ◌*◌, ℕ, List, Option, None, false, length, IfOk, IfErr};
 ghost use Rattle.std.proofs.Common.{refl};
 ghost use Rattle.npr_base.specs.Family.{checked};
-ghost use Rattle.npr_tunnel.specs.TunnelOptions.{Meaning, meaning_of, members, place, short, unfit_inside};
+ghost use Rattle.npr_base.specs.Table.{held_bytes};
+ghost use Rattle.npr_tunnel.specs.TunnelOptions.{Meaning, meaning_of, writing, members, place, unfit_inside};
 
 use crate::erspan::RouteErspanOpt;
 use crate::geneve::{RouteGeneveOpt, check_options, clone_options, read_options, write_options};
@@ -51,7 +52,7 @@ impl RouteLwTunnelOpt {
 
     /// The length of the value, or the first cause why the list inside has none.
     fn len(&self) -> Result<usize, EmitError>
-        ensures { result ≡ checked (unfit_inside (meaning_of self.now)) (length (place (meaning_of self.now)).bytes) }
+        ensures { result ≡ checked (unfit_inside (meaning_of self.now)) (length (held_bytes (place (meaning_of self.now)))) }
     {
         Ok(match self {
             RouteLwTunnelOpt::Geneve(v) => check_options(v.as_slice())?,
@@ -63,13 +64,13 @@ impl RouteLwTunnelOpt {
 }
 
 impl Nla for RouteLwTunnelOpt {
-    ghost item = { λ a. members.writes (meaning_of a) };
+    ghost item = { λ a. writing.writes (meaning_of a) };
 
     ghost nested = { λ _. false };
 
-    ghost unfit = { λ a. members.misfit (meaning_of a) };
+    ghost unfit = { λ a. writing.misfit (meaning_of a) };
 
-    ghost fits_short = { λ a h. short (meaning_of a) h };
+    ghost fits_short = { λ a h. writing.short (meaning_of a) h };
 
     fn kind(&self) -> u16 {
         match self {
@@ -112,33 +113,13 @@ impl Attribute for RouteLwTunnelOpt {
 
     ghost meaning = { meaning_of };
 
-    ghost writes = { members.writes };
+    ghost writing = { writing };
 
-    ghost misfit = { members.misfit };
-
-    ghost reads = { λ _. members.Reads };
-
-    ghost faulty = { λ _. members.Faulty };
-
-    ghost coherent = { λ _. members.Coherent };
-
-    ghost members = { members.members };
+    ghost reading = { λ _. members };
 
     ghost item_is = { λ a. refl };
 
     ghost unfit_is = { λ a. refl };
-
-    ghost one_reading = { λ _. members.one_reading };
-
-    ghost no_fault = { λ _. members.no_fault };
-
-    ghost reads_coherent = { λ _. members.reads_coherent };
-
-    ghost fits_small = { λ _. members.fits_small };
-
-    ghost reads_back = { λ _. members.reads_back };
-
-    ghost grows = { λ _. members.grows };
 
     fn read(
         alloc: Global,

@@ -3,7 +3,7 @@
 ghost use Rattle.std.specs.Prelude.{◌≡◌, ◌≢◌, ◌≤◌, ◌<◌, ◌+◌, ◌*◌, ℕ, List, Option, None, false, length, IfOk, IfErr};
 ghost use Rattle.std.proofs.Common.{refl};
 ghost use Rattle.npr_base.specs.Family.{checked};
-ghost use Rattle.npr_tunnel.specs.VxlanOptions.{Meaning, meaning_of, members, short};
+ghost use Rattle.npr_tunnel.specs.VxlanOptions.{Meaning, meaning_of, writing, members};
 
 use npr_base::{
     At, AttrFamily, Attribute, DecodeError, DefaultNla, EmitError, Looks, Nla, NlaBuffer,
@@ -45,13 +45,13 @@ const fn at(kind: u16) -> At
 }
 
 impl Nla for RouteVxlanOpt {
-    ghost item = { λ a. members.writes (meaning_of a) };
+    ghost item = { λ a. writing.writes (meaning_of a) };
 
     ghost nested = { λ _. false };
 
-    ghost unfit = { λ a. members.misfit (meaning_of a) };
+    ghost unfit = { λ a. writing.misfit (meaning_of a) };
 
-    ghost fits_short = { λ a h. short (meaning_of a) h };
+    ghost fits_short = { λ a h. writing.short (meaning_of a) h };
 
     fn kind(&self) -> u16 {
         match self {
@@ -69,7 +69,7 @@ impl Nla for RouteVxlanOpt {
     }
 
     fn value_len(&self) -> usize
-        ensures { result ≡ length (members.writes (meaning_of self.now)).value }
+        ensures { result ≡ length (writing.writes (meaning_of self.now)).value }
     {
         match self {
             RouteVxlanOpt::Gbp(_) => 4,
@@ -92,33 +92,13 @@ impl Attribute for RouteVxlanOpt {
 
     ghost meaning = { meaning_of };
 
-    ghost writes = { members.writes };
+    ghost writing = { writing };
 
-    ghost misfit = { members.misfit };
-
-    ghost reads = { λ _. members.Reads };
-
-    ghost faulty = { λ _. members.Faulty };
-
-    ghost coherent = { λ _. members.Coherent };
-
-    ghost members = { members.members };
+    ghost reading = { λ _. members };
 
     ghost item_is = { λ a. refl };
 
     ghost unfit_is = { λ a. refl };
-
-    ghost one_reading = { λ _. members.one_reading };
-
-    ghost no_fault = { λ _. members.no_fault };
-
-    ghost reads_coherent = { λ _. members.reads_coherent };
-
-    ghost fits_small = { λ _. members.fits_small };
-
-    ghost reads_back = { λ _. members.reads_back };
-
-    ghost grows = { λ _. members.grows };
 
     fn read(
         alloc: Global,

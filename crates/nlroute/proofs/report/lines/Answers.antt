@@ -1,4 +1,4 @@
-use Rattle.std.proofs.Common.{◌≡◌, ◌++◌, List, ℕ, ap, sym, ◌∙◌, append_assoc, length, map, take, string_bytes}
+use Rattle.std.proofs.Common.{◌++◌, List, ℕ, ap, sym, ◌∙◌, append_assoc, length, map, take, string_bytes}
 use Rattle.nlroute.specs.Report.{line_text, lines_text}
 use Rattle.nlroute.proofs.ReportLines.{lines-next, fits-next}
 use Rattle.nlroute.proofs.report.lines.Goals as goal
@@ -10,13 +10,13 @@ loop-attribute-preserved g c =
     let i = c.loop-attribute.attribute-index in
     let all = c.args.attributes.now in
     let past = c.loop-attribute.invariant in
-    let item = family.writes (family.meaning x) in
+    let item = family.writing.writes (family.meaning x) in
     let line = line_text item.kind (length item.value) in
-    let before = lines_text (map family.writes (map family.meaning (take i all))) in
+    let before = lines_text (map family.writing.writes (map family.meaning (take i all))) in
     record {
-      fit = (fits-next family.meaning family.misfit all i x c.loop-attribute-test.true c.attribute-item.is past.fit).1;
+      fit = (fits-next family.meaning family.writing.misfit all i x c.loop-attribute-test.true c.attribute-item.is past.fit).1;
       text =
           c.in_ok-attribute_line.ensures.ok ∙ ap (λ (t : List ℕ). t ++ line) past.text
           ∙ append_assoc (string_bytes c.args.out.now) before line
-          ∙ ap (λ (t : List ℕ). string_bytes c.args.out.now ++ t) (sym (lines-next family.meaning family.writes all i x c.loop-attribute-test.true c.attribute-item.is));
+          ∙ ap (λ (t : List ℕ). string_bytes c.args.out.now ++ t) (sym (lines-next family.meaning family.writing.writes all i x c.loop-attribute-test.true c.attribute-item.is));
     }

@@ -5,6 +5,6 @@ use Rattle.nlroute.proofs.report.lines.Given as goal
 
 abbrev pub invariant-loop-attribute : goal.invariant-loop-attribute
 invariant-loop-attribute g l = record {
-  fit : first_unfit g.A.Attribute.misfit (map g.A.Attribute.meaning (drop l.attribute-index l.attributes)) ≡ None;
-  text : string_bytes l.out ≡ string_bytes l.fn.out ++ lines_text (map g.A.Attribute.writes (map g.A.Attribute.meaning (take l.attribute-index l.attributes)));
+  fit : first_unfit g.A.Attribute.writing.misfit (map g.A.Attribute.meaning (drop l.attribute-index l.attributes)) ≡ None;
+  text : string_bytes l.out ≡ string_bytes l.fn.out ++ lines_text (map g.A.Attribute.writing.writes (map g.A.Attribute.meaning (take l.attribute-index l.attributes)));
 }

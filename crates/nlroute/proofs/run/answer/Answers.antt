@@ -1,14 +1,14 @@
--- a message that was read and does not fit; the search alone finds these at its limits
+-- the attributes of a message that can be written can be
+use Rattle.npr_address.specs.MessageLaws.{address_attributes_fit}
+use Rattle.npr_route.specs.MessageLaws.{route_attributes_fit}
+use Rattle.npr_rule.specs.MessageLaws.{rule_attributes_fit}
 use Rattle.nlroute.proofs.run.answer.Goals as goal
 
-pub returns-in_ok-message-in-Address-clause-unfit : goal.returns-in_ok-message-in-Address-clause-unfit
-returns-in_ok-message-in-Address-clause-unfit c = λ e is.
-    rw c.in-Address.is (_, c.in_ok-message-in-Address.ensures.ok, c.written.ensures.unfit e is)
+pub written-requires : goal.written-requires
+written-requires c = λ fits. rw c.as_slice.ensures.value (address_attributes_fit _ fits)
 
-pub returns-in_ok-message-in-Route-clause-unfit : goal.returns-in_ok-message-in-Route-clause-unfit
-returns-in_ok-message-in-Route-clause-unfit c = λ e is.
-    rw c.in-Route.is (_, c.in_ok-message-in-Route.ensures.ok, c.written-in-Route.ensures.unfit e is)
+pub written-requires-in-Route : goal.written-requires-in-Route
+written-requires-in-Route c = λ fits. rw c.as_slice-in-Route.ensures.value (route_attributes_fit _ fits)
 
-pub returns-in_ok-message-in-Rule-clause-unfit : goal.returns-in_ok-message-in-Rule-clause-unfit
-returns-in_ok-message-in-Rule-clause-unfit c = λ e is.
-    rw c.in-Rule.is (_, c.in_ok-message-in-Rule.ensures.ok, c.written-in-Rule.ensures.unfit e is)
+pub written-requires-in-Rule : goal.written-requires-in-Rule
+written-requires-in-Rule c = λ fits. rw c.as_slice-in-Rule.ensures.value (rule_attributes_fit _ fits)

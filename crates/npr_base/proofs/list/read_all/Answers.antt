@@ -11,12 +11,17 @@ use Rattle.npr_base.proofs.list.read_all.Goals as goal
 pub returns-in_err-attribute-clause-memory : goal.returns-in_err-attribute-clause-memory
 returns-in_err-attribute-clause-memory g c = λ h.
     let f : Front c.loop-next.walk c.in_ok-item.item c.next_counted.new.self = rw c.in_ok-item.was at c.in-Some.ensures.step in
-    begins_so (g.A.Attribute.reads c.args.context) c.args.bytes.now (map g.A.Attribute.meaning c.loop-next.found.items) c.loop-next.walk c.in_ok-item.item c.next_counted.new.self c.loop-next.invariant.read f
+    begins_so (g.A.Attribute.reading c.args.context).Reads c.args.bytes.now (map g.A.Attribute.meaning c.loop-next.found.items) c.loop-next.walk c.in_ok-item.item c.next_counted.new.self c.loop-next.invariant.read f
+
+pub returns-in_err-make_room-clause-memory : goal.returns-in_err-make_room-clause-memory
+returns-in_err-make_room-clause-memory g c = λ h.
+    let f : Front c.loop-next.walk c.in_ok-item.item c.next_counted.new.self = rw c.in_ok-item.was at c.in-Some.ensures.step in
+    begins_so (g.A.Attribute.reading c.args.context).Reads c.args.bytes.now (map g.A.Attribute.meaning c.loop-next.found.items) c.loop-next.walk c.in_ok-item.item c.next_counted.new.self c.loop-next.invariant.read f
 
 pub returns-in_err-push-clause-memory : goal.returns-in_err-push-clause-memory
 returns-in_err-push-clause-memory g c = λ h.
     let f : Front c.loop-next.walk c.in_ok-item.item c.next_counted.new.self = rw c.in_ok-item.was at c.in-Some.ensures.step in
-    begins_so (g.A.Attribute.reads c.args.context) c.args.bytes.now (map g.A.Attribute.meaning c.loop-next.found.items) c.loop-next.walk c.in_ok-item.item c.next_counted.new.self c.loop-next.invariant.read f
+    begins_so (g.A.Attribute.reading c.args.context).Reads c.args.bytes.now (map g.A.Attribute.meaning c.loop-next.found.items) c.loop-next.walk c.in_ok-item.item c.next_counted.new.self c.loop-next.invariant.read f
 
 pub loop-next-preserved : goal.loop-next-preserved
 loop-next-preserved g c =
@@ -30,14 +35,14 @@ loop-next-preserved g c =
     let f : Front c.loop-next.walk item rest = rw c.in_ok-item.was at c.in-Some.ensures.step in
     let took = Front-takes c.loop-next.walk item rest f in
     let look : c.next_counted.new.looks ≡ hit c.loop-next.looks = rw c.in_ok-item.was at c.in-Some.ensures.counted in
-    let e : map family.meaning c.push.new.self.items ≡ done ++ family.meaning a ∷ [] = rw c.in_ok-push.ensures.items (map_push _ c.loop-next.found.items a) in
+    let e : map family.meaning c.push.new.self.items ≡ done ++ family.meaning a ∷ [] = rw (c.in_ok-push.ensures.items, c.make_room.ensures) (map_push _ c.loop-next.found.items a) in
     let after = c.read.new.looks in
     let adds = subst (λ (k : Counts). AddsAtMost k after (length item.value)) look c.in_ok-attribute.ensures.bounded in
-    let saw = subst (λ (k : Counts). SawEach k after (family.members (family.meaning a))) look c.in_ok-attribute.ensures.counted in
+    let saw = subst (λ (k : Counts). SawEach k after (family.writing.members (family.meaning a))) look c.in_ok-attribute.ensures.counted in
     let fewer : (length bytes - length c.loop-next.walk) + (4 + length item.value) ≤ length bytes - length rest = omega (arith, took, past.left) in
-    let more = SoFar-more c.args.looks.now c.loop-next.looks after (length bytes - length c.loop-next.walk) (list_members family.members done) (length item.value) (length bytes - length rest) (family.members (family.meaning a)) past.looks adds saw fewer in
+    let more = SoFar-more c.args.looks.now c.loop-next.looks after (length bytes - length c.loop-next.walk) (list_members family.writing.members done) (length item.value) (length bytes - length rest) (family.writing.members (family.meaning a)) past.looks adds saw fewer in
     record {
-      read = rw e (ReadsTo-more (family.reads c.args.context) bytes done c.loop-next.walk item (family.meaning a) rest past.read f c.in_ok-attribute.ensures.ok);
+      read = rw e (ReadsTo-more (family.reading c.args.context).Reads bytes done c.loop-next.walk item (family.meaning a) rest past.read f c.in_ok-attribute.ensures.ok);
       left = omega (arith, took, past.left);
-      looks = rw (e, list_members-more family.members done (family.meaning a)) more;
+      looks = rw (e, list_members-more family.writing.members done (family.meaning a)) more;
     }

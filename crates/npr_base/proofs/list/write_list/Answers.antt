@@ -7,22 +7,22 @@ pub write_items-requires-clause-fits : goal.write_items-requires-clause-fits
 write_items-requires-clause-fits g c =
     let a = g.A.Attribute in
     let item = written_by g.A.Nla.nested g.A.Nla.item in
-    list-seen g.A.Nla.unfit a.misfit item a.writes a.meaning g.met.A.Attribute.unfit_is g.met.A.Attribute.item_is c.args.list.now ∙ c.requires.fits
+    list-seen g.A.Nla.unfit a.writing.misfit item a.writing.writes a.meaning g.met.A.Attribute.unfit_is g.met.A.Attribute.item_is c.args.list.now ∙ c.requires.fits
 
 pub write_items-requires-clause-room : goal.write_items-requires-clause-room
 write_items-requires-clause-room g c =
     let a = g.A.Attribute in
-    let e = encodings-seen (written_by g.A.Nla.nested g.A.Nla.item) a.writes a.meaning g.met.A.Attribute.item_is c.args.list.now in
+    let e = encodings-seen (written_by g.A.Nla.nested g.A.Nla.item) a.writing.writes a.meaning g.met.A.Attribute.item_is c.args.list.now in
     rw e c.requires.room
 
 pub returns-clause-len : goal.returns-clause-len
 returns-clause-len g c =
     let a = g.A.Attribute in
-    let e = encodings-seen (written_by g.A.Nla.nested g.A.Nla.item) a.writes a.meaning g.met.A.Attribute.item_is c.args.list.now in
+    let e = encodings-seen (written_by g.A.Nla.nested g.A.Nla.item) a.writing.writes a.meaning g.met.A.Attribute.item_is c.args.list.now in
     rw (← e) c.write_items.ensures.len
 
 pub returns-clause-after : goal.returns-clause-after
 returns-clause-after g c =
     let a = g.A.Attribute in
-    let e = encodings-seen (written_by g.A.Nla.nested g.A.Nla.item) a.writes a.meaning g.met.A.Attribute.item_is c.args.list.now in
+    let e = encodings-seen (written_by g.A.Nla.nested g.A.Nla.item) a.writing.writes a.meaning g.met.A.Attribute.item_is c.args.list.now in
     rw (← e) c.write_items.ensures.after

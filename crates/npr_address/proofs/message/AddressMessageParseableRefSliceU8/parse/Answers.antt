@@ -1,20 +1,25 @@
 use Rattle.std.proofs.Common.{arith}
 use Rattle.npr_base.proofs.Messages.{ok_one, ok_coherent, ok_again, ok_grows, refused_no_message}
 use Rattle.npr_address.specs.Header.{header}
-use Rattle.npr_address.specs.Message.{body, message_of}
+use Rattle.npr_address.specs.Message.{body, message_of, AddressFault, IsAddressMessage, IsCoherentAddress, address_bytes, address_misfit}
 use Rattle.npr_address.proofs.message.AddressMessageParseableRefSliceU8.parse.Goals as goal
 
 pub returns-clause-one : goal.returns-clause-one
+unfolding IsAddressMessage
 returns-clause-one c = ok_one header body message_of c.args.bytes.now c.read.result c.read.ensures.ok
 
 pub returns-clause-coherent : goal.returns-clause-coherent
+unfolding IsAddressMessage IsCoherentAddress
 returns-clause-coherent c = ok_coherent header body message_of c.args.bytes.now (λ i. omega (arith, c.type_inv.bytes i)) c.read.result c.read.ensures.ok
 
 pub returns-clause-none : goal.returns-clause-none
+unfolding IsAddressMessage AddressFault
 returns-clause-none c = refused_no_message header body c.args.bytes.now c.read.result c.read.ensures.refused
 
 pub returns-clause-again : goal.returns-clause-again
+unfolding IsAddressMessage IsCoherentAddress address_bytes address_misfit
 returns-clause-again c = ok_again header body message_of c.args.bytes.now c.read.result c.read.ensures.ok
 
 pub returns-clause-growth : goal.returns-clause-growth
+unfolding IsAddressMessage address_bytes
 returns-clause-growth c = ok_grows header body message_of c.args.bytes.now (λ i. omega (arith, c.type_inv.bytes i)) c.read.result c.read.ensures.ok
