@@ -5,18 +5,18 @@ use Rattle.npr_base.specs.Framing.{Item, encoding}
 use Rattle.std.proofs.lemmas.List.{append-nil, take_more, drop_more, take-append-drop}
 use Rattle.npr_base.specs.declared.refusal.EmitError.{EmitError}
 use Rattle.npr_base.specs.ListLaws.{none_both}
-use Rattle.npr_base.specs.Family.{encodings, held, first_unfit, option_or, checked, overlong, list_unfit}
+use Rattle.npr_base.specs.Family.{encodings, in_usize, first_unfit, option_or, checked, overlong, list_unfit}
 
-pub held-past : (n m : ℕ) → held n ≡ None → held (n + m) ≡ None
-held-past n m e = elim (cases_lt n (2 ^ 64)) [
-  | inl lt ↦ absurd (let h : held n ≡ Some n = rw (lt-ltb n (2 ^ 64) lt) refl in cc)
+pub in_usize-past : (n m : ℕ) → in_usize n ≡ None → in_usize (n + m) ≡ None
+in_usize-past n m e = elim (cases_lt n (2 ^ 64)) [
+  | inl lt ↦ absurd (let h : in_usize n ≡ Some n = rw (lt-ltb n (2 ^ 64) lt) refl in cc)
   | inr le ↦ rw (le-ltb (n + m) (2 ^ 64) (omega arith)) refl
 ]
 
-pub held-is : (n t : ℕ) → Some t ≡ held n → (t ≡ n) × (n < 2 ^ 64)
-held-is n t e = elim (cases_lt n (2 ^ 64)) [
-  | inl lt ↦ (let h : held n ≡ Some n = rw (lt-ltb n (2 ^ 64) lt) refl in let k : Some t ≡ Some n = e ∙ h in cc, lt)
-  | inr le ↦ absurd (let h : held n ≡ None = rw (le-ltb n (2 ^ 64) le) refl in cc)
+pub in_usize-is : (n t : ℕ) → Some t ≡ in_usize n → (t ≡ n) × (n < 2 ^ 64)
+in_usize-is n t e = elim (cases_lt n (2 ^ 64)) [
+  | inl lt ↦ (let h : in_usize n ≡ Some n = rw (lt-ltb n (2 ^ 64) lt) refl in let k : Some t ≡ Some n = e ∙ h in cc, lt)
+  | inr le ↦ absurd (let h : in_usize n ≡ None = rw (le-ltb n (2 ^ 64) le) refl in cc)
 ]
 
 pub none_first : {A : Type 0} (o p : Option A) → option_or o p ≡ None → o ≡ None

@@ -2,11 +2,31 @@
 use Rattle.std.specs.Prelude.{ℕ, List, [], ◌∷◌}
 use Rattle.npr_base.specs.Rows.{form_in}
 use Rattle.npr_base.specs.declared.address_family.AddressFamily.{AddressFamily}
-use Rattle.npr_base.specs.declared.address_family.AddressFamily.TheVariants.{Unspec, Unix, Inet, Ax25, Ipx, Appletalk, Netrom, Bridge, Atmpvc, X25, Inet6, Rose, Decnet, Netbeui, Security, Key, Netlink, Packet, Ash, Econet, Atmsvc, Rds, Sna, Irda, Pppox, Wanpipe, Llc, Ib, Mpls, Can, Tipc, Bluetooth, Iucv, Rxrpc, Isdn, Phonet, Ieee802154, Caif, Alg, Nfc, Vsock, Kcm, Qipcrtr, Smc, Xdp, Mctp, Local, Route, Other}
+use Rattle.npr_base.specs.declared.address_family.AddressFamily.TheVariants.{Unspec, Unix, Inet, Ax25, Ipx, Appletalk}
+use Rattle.npr_base.specs.declared.address_family.AddressFamily.TheVariants.{Netrom, Bridge, Atmpvc, X25, Inet6, Rose}
+use Rattle.npr_base.specs.declared.address_family.AddressFamily.TheVariants.{Decnet, Netbeui, Security, Key, Netlink}
+use Rattle.npr_base.specs.declared.address_family.AddressFamily.TheVariants.{Packet, Ash, Econet, Atmsvc, Rds, Sna}
+use Rattle.npr_base.specs.declared.address_family.AddressFamily.TheVariants.{Irda, Pppox, Wanpipe, Llc, Ib, Mpls, Can}
+use Rattle.npr_base.specs.declared.address_family.AddressFamily.TheVariants.{Tipc, Bluetooth, Iucv, Rxrpc, Isdn}
+use Rattle.npr_base.specs.declared.address_family.AddressFamily.TheVariants.{Phonet, Ieee802154, Caif, Alg, Nfc}
+use Rattle.npr_base.specs.declared.address_family.AddressFamily.TheVariants.{Vsock, Kcm, Qipcrtr, Smc, Xdp, Mctp}
+use Rattle.npr_base.specs.declared.address_family.AddressFamily.TheVariants.{Local, Route, Other}
 
 abbrev pub family_rows : List (ℕ × AddressFamily)
 family_rows =
-    (0, Unspec) ∷ (1, Unix) ∷ (2, Inet) ∷ (3, Ax25) ∷ (4, Ipx) ∷ (5, Appletalk) ∷ (6, Netrom) ∷ (7, Bridge) ∷ (8, Atmpvc) ∷ (9, X25) ∷ (10, Inet6) ∷ (11, Rose) ∷ (12, Decnet) ∷ (13, Netbeui) ∷ (14, Security) ∷ (15, Key) ∷ (16, Netlink) ∷ (17, Packet) ∷ (18, Ash) ∷ (19, Econet) ∷ (20, Atmsvc) ∷ (21, Rds) ∷ (22, Sna) ∷ (23, Irda) ∷ (24, Pppox) ∷ (25, Wanpipe) ∷ (26, Llc) ∷ (27, Ib) ∷ (28, Mpls) ∷ (29, Can) ∷ (30, Tipc) ∷ (31, Bluetooth) ∷ (32, Iucv) ∷ (33, Rxrpc) ∷ (34, Isdn) ∷ (35, Phonet) ∷ (36, Ieee802154) ∷ (37, Caif) ∷ (38, Alg) ∷ (39, Nfc) ∷ (40, Vsock) ∷ (41, Kcm) ∷ (42, Qipcrtr) ∷ (43, Smc) ∷ (44, Xdp) ∷ (45, Mctp) ∷ []
+    (0, Unspec) ∷ (1, Unix) ∷ (2, Inet) ∷ (3, Ax25) ∷ (4, Ipx) ∷ (5, Appletalk) ∷ (6, Netrom) ∷ (7, Bridge) ∷ (8, Atmpvc) ∷ (9, X25) ∷ (10, Inet6) ∷ (
+      11,
+      Rose,
+    ) ∷ (12, Decnet) ∷ (13, Netbeui) ∷ (14, Security) ∷ (15, Key) ∷ (16, Netlink) ∷ (17, Packet) ∷ (18, Ash) ∷ (19, Econet) ∷ (20, Atmsvc) ∷ (
+      21,
+      Rds,
+    ) ∷ (22, Sna) ∷ (23, Irda) ∷ (24, Pppox) ∷ (25, Wanpipe) ∷ (26, Llc) ∷ (27, Ib) ∷ (28, Mpls) ∷ (29, Can) ∷ (30, Tipc) ∷ (31, Bluetooth) ∷ (
+      32,
+      Iucv,
+    ) ∷ (33, Rxrpc) ∷ (34, Isdn) ∷ (35, Phonet) ∷ (36, Ieee802154) ∷ (37, Caif) ∷ (38, Alg) ∷ (39, Nfc) ∷ (40, Vsock) ∷ (41, Kcm) ∷ (
+      42,
+      Qipcrtr,
+    ) ∷ (43, Smc) ∷ (44, Xdp) ∷ (45, Mctp) ∷ []
 
 -- the family that a number reads as: never `Local` or `Route`, whose numbers are those of `Unix` and `Netlink`
 abbrev pub family_of : ℕ → AddressFamily

@@ -8,7 +8,9 @@ use Rattle.npr_base.specs.Framing.{IsBytes, framed}
 use Rattle.npr_base.specs.Family.{too_long}
 use Rattle.npr_base.specs.FitLaws.{too_long-short}
 use Rattle.npr_base.specs.Layout.{Layout}
-use Rattle.npr_base.specs.CodecLaws.{exactly-one, exactly-sound, exactly-holds, exactly-back, exactly-grows, leading-one, leading-sound, leading-holds, leading-back, leading-grows, raw-grows}
+use Rattle.npr_base.specs.CodecLaws.{exactly-one, exactly-sound, exactly-holds, exactly-back, exactly-grows}
+use Rattle.npr_base.specs.CodecLaws.{leading-one, leading-sound, leading-holds, leading-back, leading-grows}
+use Rattle.npr_base.specs.CodecLaws.{raw-grows}
 use Rattle.std.proofs.Common.{refl, sym, ◌∙◌, subst}
 
 pub record Codec (V : Type 0) : Type 1 where

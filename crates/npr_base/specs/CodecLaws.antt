@@ -18,7 +18,8 @@ module _ {V : Type 0} (L : Layout V) where
   pub exactly-one : (bytes : List ℕ) (x y : V) → (length bytes ≡ L.size) × (x ≡ L.decode bytes) → (length bytes ≡ L.size) × (y ≡ L.decode bytes) → x ≡ y
   exactly-one bytes x y p q = p.1 ∙ sym q.1
 
-  pub exactly-sound : (at : At) (bytes : List ℕ) (x : V) (e : DecodeError) → (length bytes ≡ L.size) × (x ≡ L.decode bytes) → (length bytes ≢ L.size) × (e ≡ ValueLength at (length bytes)) → ⊥
+  pub exactly-sound : (at : At) (bytes : List ℕ) (x : V) (e : DecodeError) → (length bytes ≡ L.size) × (x ≡ L.decode bytes)
+      → (length bytes ≢ L.size) × (e ≡ ValueLength at (length bytes)) → ⊥
   exactly-sound at bytes x e p q = q.0 p.0
 
   pub exactly-holds : (bytes : List ℕ) (x : V) → IsBytes bytes → (length bytes ≡ L.size) × (x ≡ L.decode bytes) → L.Holds x
@@ -27,24 +28,30 @@ module _ {V : Type 0} (L : Layout V) where
   pub exactly-back : (kind : ℕ) (x : V) → L.Holds x → too_long kind (length (L.encode x)) ≡ None → (length (L.encode x) ≡ L.size) × (x ≡ L.decode (L.encode x))
   exactly-back kind x h fits = (L.length-encode x h, sym (L.decode-encode x h))
 
-  pub exactly-grows : (bytes : List ℕ) (x : V) → IsBytes bytes → (length bytes ≡ L.size) × (x ≡ L.decode bytes) → 2 * framed (length (L.encode x)) ≤ 5 * (4 + length bytes)
+  pub exactly-grows : (bytes : List ℕ) (x : V) → IsBytes bytes → (length bytes ≡ L.size) × (x ≡ L.decode bytes)
+      → 2 * framed (length (L.encode x)) ≤ 5 * (4 + length bytes)
   exactly-grows bytes x is p = framed-grows (length (L.encode x)) (length bytes) (omega (arith, L.length-encode x (exactly-holds bytes x is p), p.0))
 
-  pub leading-one : (bytes : List ℕ) (x y : V) → (L.size ≤ length bytes) × (x ≡ L.decode (take L.size bytes)) → (L.size ≤ length bytes) × (y ≡ L.decode (take L.size bytes)) → x ≡ y
+  pub leading-one : (bytes : List ℕ) (x y : V) → (L.size ≤ length bytes) × (x ≡ L.decode (take L.size bytes))
+      → (L.size ≤ length bytes) × (y ≡ L.decode (take L.size bytes)) → x ≡ y
   leading-one bytes x y p q = p.1 ∙ sym q.1
 
-  pub leading-sound : (at : At) (bytes : List ℕ) (x : V) (e : DecodeError) → (L.size ≤ length bytes) × (x ≡ L.decode (take L.size bytes)) → (length bytes < L.size) × (e ≡ HeaderTooShort (length bytes) L.size) → ⊥
+  pub leading-sound : (at : At) (bytes : List ℕ) (x : V) (e : DecodeError) → (L.size ≤ length bytes) × (x ≡ L.decode (take L.size bytes))
+      → (length bytes < L.size) × (e ≡ HeaderTooShort (length bytes) L.size) → ⊥
   leading-sound at bytes x e p q = absurd (omega (arith, p.0, q.0))
 
   pub leading-holds : (bytes : List ℕ) (x : V) → IsBytes bytes → (L.size ≤ length bytes) × (x ≡ L.decode (take L.size bytes)) → L.Holds x
-  leading-holds bytes x is p = subst L.Holds (sym p.1) (L.Holds-decode (take L.size bytes) (IsBytes-take L.size bytes is) (omega (arith, p.0, length-take L.size bytes)))
+  leading-holds bytes x is p =
+      subst L.Holds (sym p.1) (L.Holds-decode (take L.size bytes) (IsBytes-take L.size bytes is) (omega (arith, p.0, length-take L.size bytes)))
 
-  pub leading-back : (kind : ℕ) (x : V) → L.Holds x → too_long kind (length (L.encode x)) ≡ None → (L.size ≤ length (L.encode x)) × (x ≡ L.decode (take L.size (L.encode x)))
+  pub leading-back : (kind : ℕ) (x : V) → L.Holds x → too_long kind (length (L.encode x)) ≡ None
+      → (L.size ≤ length (L.encode x)) × (x ≡ L.decode (take L.size (L.encode x)))
   leading-back kind x h fits =
       let len = L.length-encode x h in
       (omega (arith, len), sym (ap L.decode (take_all L.size (L.encode x) (omega (arith, len))) ∙ L.decode-encode x h))
 
-  pub leading-grows : (bytes : List ℕ) (x : V) → IsBytes bytes → (L.size ≤ length bytes) × (x ≡ L.decode (take L.size bytes)) → 2 * framed (length (L.encode x)) ≤ 5 * (4 + length bytes)
+  pub leading-grows : (bytes : List ℕ) (x : V) → IsBytes bytes → (L.size ≤ length bytes) × (x ≡ L.decode (take L.size bytes))
+      → 2 * framed (length (L.encode x)) ≤ 5 * (4 + length bytes)
   leading-grows bytes x is p = framed-grows (length (L.encode x)) (length bytes) (omega (arith, L.length-encode x (leading-holds bytes x is p), p.0))
 
 pub raw-grows : (bytes x : List ℕ) → IsBytes bytes → x ≡ bytes → 2 * framed (length x) ≤ 5 * (4 + length bytes)

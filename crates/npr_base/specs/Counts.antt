@@ -27,12 +27,21 @@ most_successful bytes = 2 * (bytes / 4)
 abbrev pub most_failed : ℕ → ℕ
 most_failed bytes = 1
 
--- no count falls, and neither grows by more than the bytes allow
-pub record AddsAtMost (old new : Counts) (bytes : ℕ) : Type 0 where
+-- what the reading of a value of so many bytes may add: no count falls, and neither grows by more than is allowed, the
+-- failed ones by what the value is allowed with the four bytes of its header
+pub record AddsAtMost (old new : Counts) (len : ℕ) : Type 0 where
+  pub kept : old.successful ≤ new.successful
+  pub successful : new.successful ≤ old.successful + most_successful len
+  pub failed_kept : old.failed ≤ new.failed
+  pub failed : new.failed ≤ old.failed + most_failed (4 + len)
+
+-- what a search through so many bytes and then their reading may add: together no more than the reading is allowed, and
+-- the one failed look at which a search ends
+pub record AddsAtMostTwice (old new : Counts) (bytes : ℕ) : Type 0 where
   pub kept : old.successful ≤ new.successful
   pub successful : new.successful ≤ old.successful + most_successful bytes
   pub failed_kept : old.failed ≤ new.failed
-  pub failed : new.failed ≤ old.failed + most_failed bytes
+  pub failed : new.failed ≤ old.failed + (1 + most_failed bytes)
 
 -- each member had its look, and none failed
 pub record SawEach (old new : Counts) (members : ℕ) : Type 0 where

@@ -27,13 +27,15 @@ on_left (inl x) = true
 on_left (inr y) = false
 
 -- the first variant, and the later ones
-first_or_later : {A B : Type 0} (test : A → A → Bool) (later : B → B → Bool) → IsEquality test → IsEquality later → (c d : A ⊎ B) → Decides (⊎_elim (λ x. ⊎_elim (λ y. test x y) (λ _. false) d) (λ x. ⊎_elim (λ _. false) (λ y. later x y) d) c) (c ≡ d)
+first_or_later : {A B : Type 0} (test : A → A → Bool) (later : B → B → Bool) → IsEquality test → IsEquality later → (c d : A ⊎ B)
+    → Decides (⊎_elim (λ x. ⊎_elim (λ y. test x y) (λ _. false) d) (λ x. ⊎_elim (λ _. false) (λ y. later x y) d) c) (c ≡ d)
 first_or_later test later h k (inl x) (inl y) = (λ e. ap inl ((h x y).0 e), λ e. (h x y).1 (ap (left_or x) e))
 first_or_later test later h k (inl x) (inr y) = (λ e. absurd (true≢false (sym e)), λ e. absurd (true≢false (ap on_left e)))
 first_or_later test later h k (inr x) (inl y) = (λ e. absurd (true≢false (sym e)), λ e. absurd (true≢false (sym (ap on_left e))))
 first_or_later test later h k (inr x) (inr y) = (λ e. ap inr ((k x y).0 e), λ e. (k x y).1 (ap (right_or x) e))
 
-choices_equality : (Fss : List (List Field)) (tests : Each Bool Fss) → bare_hold Fss tests ≡ true → FieldsDecide Fss tests → IsEquality (by false false Fss tests)
+choices_equality : (Fss : List (List Field)) (tests : Each Bool Fss) → bare_hold Fss tests ≡ true → FieldsDecide Fss tests
+    → IsEquality (by false false Fss tests)
 choices_equality [] tests bare all = λ c d. absurd c
 choices_equality ([] ∷ Fss) tests bare all =
     let here = first_so (tests.0 tt tt) (bare_hold Fss tests.1) bare in
@@ -42,7 +44,8 @@ choices_equality ([] ∷ Fss) tests bare all =
 choices_equality ((F ∷ Fs) ∷ Fss) tests bare all = first_or_later tests.0 (by false false Fss tests.1) all.0 (choices_equality Fss tests.1 bare all.1)
 
 -- N is `enum` of the type's module in `specs.contracts`
-pub enum_equality : (N : Record) (tests : Each Bool N.parts) → bare_hold N.parts tests ≡ true → FieldsDecide N.parts tests → (a b : N.D) → Decides (by false false N.parts tests (N.as_values a) (N.as_values b)) (a ≡ b)
+pub enum_equality : (N : Record) (tests : Each Bool N.parts) → bare_hold N.parts tests ≡ true → FieldsDecide N.parts tests → (a b : N.D)
+    → Decides (by false false N.parts tests (N.as_values a) (N.as_values b)) (a ≡ b)
 enum_equality N tests bare all a b =
     let h = choices_equality N.parts tests bare all (N.as_values a) (N.as_values b) in
     (λ e. values_one N a b (h.0 e), λ e. h.1 (ap N.as_values e))

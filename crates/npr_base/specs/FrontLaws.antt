@@ -1,5 +1,6 @@
 -- What stands in front of bytes is one attribute at most.
-use Rattle.std.proofs.Common.{◌≡◌, ℕ, ◌+◌, ◌-◌, ◌*◌, ◌/◌, ◌%◌, ◌^◌, ◌<◌, ◌≤◌, List, [], ◌∷◌, ◌++◌, length, get_or, take, drop, refl, sym, ap, subst, ◌∙◌, append_assoc, arith, inl, inr, length-append}
+use Rattle.std.proofs.Common.{◌≡◌, ℕ, ◌+◌, ◌-◌, ◌*◌, ◌/◌, ◌%◌, ◌^◌, ◌<◌, ◌≤◌, List, [], ◌∷◌, ◌++◌, length, get_or}
+use Rattle.std.proofs.Common.{take, drop, refl, sym, ap, subst, ◌∙◌, append_assoc, arith, inl, inr, length-append}
 use Rattle.std.proofs.lemmas.List.{take_at, drop_at, drop_all, drop-drop}
 use Rattle.std.specs.Int.{w16, from_le_bytes}
 use Rattle.npr_base.specs.declared.refusal.DecodeError.{DecodeError}
@@ -16,41 +17,46 @@ item_at bs = record { kind = get_or bs 2 0 + get_or bs 3 0 * 256; value = take (
 abbrev pub rest_at : List ℕ → List ℕ
 rest_at bs = drop (length_at bs + pad (length_at bs)) bs
 
-two : (n : ℕ) → n < 2 ^ 16 → n % 256 + n / 256 % 256 * 256 ≡ n
-two n h = omega arith
+-- a number of two bytes
+pub two_bytes : (n : ℕ) → n < 2 ^ 16 → n % 256 + n / 256 % 256 * 256 ≡ n
+two_bytes n h = omega arith
 
 -- padding of the same length may be longer, where nothing follows
-rest_is : (v p rest : List ℕ) (n : ℕ) → n ≡ length v + pad (length v) → length p ≤ pad (length v) → (0 < length rest → length p ≡ pad (length v)) → drop n ((v ++ p) ++ rest) ≡ rest
+rest_is : (v p rest : List ℕ) (n : ℕ) → n ≡ length v + pad (length v) → length p ≤ pad (length v) → (0 < length rest → length p ≡ pad (length v))
+    → drop n ((v ++ p) ++ rest) ≡ rest
 rest_is v p [] n size most whole = drop_all n ((v ++ p) ++ []) (omega (arith, length-append (v ++ p) [], length-append v p))
 rest_is v p (r ∷ rest) n size most whole = drop_at (v ++ p) (r ∷ rest) n (omega (arith, length-append v p, whole (omega arith)))
 
-same_item : (x : Item) (k : ℕ) (v : List ℕ) → x.kind ≡ k → x.value ≡ v → x ≡ record { kind = k; value = v }
-same_item x k v p q = ap (λ (m : ℕ). record { kind = m; value = x.value }) p ∙ ap (λ (w : List ℕ). record { kind = k; value = w }) q
+item_is : (x : Item) (k : ℕ) (v : List ℕ) → x.kind ≡ k → x.value ≡ v → x ≡ record { kind = k; value = v }
+item_is x k v p q = ap (λ (m : ℕ). record { kind = m; value = x.value }) p ∙ ap (λ (w : List ℕ). record { kind = k; value = w }) q
 
 -- what stands in front is one attribute with one rest
 pub Front-is : (bs : List ℕ) (x : Item) (rest : List ℕ) → Front bs x rest → (x ≡ item_at bs) × (rest ≡ rest_at bs)
 Front-is bs x rest f =
-    let l : length_at bs ≡ 4 + length x.value = ap length_at f.is ∙ two (4 + length x.value) (omega (arith, f.small.value)) in
-    let k : (item_at bs).kind ≡ x.kind = ap (λ (b : List ℕ). (item_at b).kind) f.is ∙ two x.kind f.small.kind in
+    let l : length_at bs ≡ 4 + length x.value = ap length_at f.is ∙ two_bytes (4 + length x.value) (omega (arith, f.small.value)) in
+    let k : (item_at bs).kind ≡ x.kind = ap (λ (b : List ℕ). (item_at b).kind) f.is ∙ two_bytes x.kind f.small.kind in
     let d : drop 4 bs ≡ (x.value ++ f.padding) ++ rest = ap (drop 4) f.is in
-    let v : (item_at bs).value ≡ x.value = ap (λ (m : ℕ). take (m - 4) (drop 4 bs)) l ∙ ap (take (4 + length x.value - 4)) d ∙ ap (take (4 + length x.value - 4)) (append_assoc x.value f.padding rest) ∙ take_at x.value (f.padding ++ rest) (4 + length x.value - 4) (omega arith) in
+    let v : (item_at bs).value ≡ x.value = ap (λ (m : ℕ). take (m - 4) (drop 4 bs)) l ∙ ap (take (4 + length x.value - 4)) d
+    ∙ ap (take (4 + length x.value - 4)) (append_assoc x.value f.padding rest)
+    ∙ take_at x.value (f.padding ++ rest) (4 + length x.value - 4) (omega arith) in
     let m : ℕ = length x.value + pad (length x.value) in
     let size : length_at bs + pad (length_at bs) ≡ 4 + m = omega (arith, l) in
-    let r : rest_at bs ≡ rest = ap (λ (n : ℕ). drop n bs) size ∙ sym (drop-drop m 4 bs) ∙ ap (drop m) d ∙ rest_is x.value f.padding rest m refl f.most f.whole in
-    (same_item x (item_at bs).kind (item_at bs).value (sym k) (sym v), sym r)
+    let r : rest_at bs ≡ rest = ap (λ (n : ℕ). drop n bs) size ∙ sym (drop-drop m 4 bs) ∙ ap (drop m) d
+    ∙ rest_is x.value f.padding rest m refl f.most f.whole in
+    (item_is x (item_at bs).kind (item_at bs).value (sym k) (sym v), sym r)
 
-take_two : (bs : List ℕ) → from_le_bytes w16 (take 2 bs) ≡ length_at bs
-take_two [] = refl
-take_two (a ∷ []) = refl
-take_two (a ∷ b ∷ bs) = refl
+pub length_at-is : (bs : List ℕ) → from_le_bytes w16 (take 2 bs) ≡ length_at bs
+length_at-is [] = refl
+length_at-is (a ∷ []) = refl
+length_at-is (a ∷ b ∷ bs) = refl
 
 -- where one stands in front there is no fault
 pub Front-sound : (bs : List ℕ) (x : Item) (rest : List ℕ) (e : DecodeError) → Front bs x rest → Fault bs e → ⊥
 Front-sound bs x rest (AttributeTooShort got) f bad = absurd (omega (arith, ap length f.is, bad.1))
 Front-sound bs x rest (AttributeLength l left) f bad =
-    let n : length_at bs ≡ 4 + length x.value = ap length_at f.is ∙ two (4 + length x.value) (omega (arith, f.small.value)) in
+    let n : length_at bs ≡ 4 + length x.value = ap length_at f.is ∙ two_bytes (4 + length x.value) (omega (arith, f.small.value)) in
     let le : 4 + length x.value ≤ length bs = omega (arith, ap length f.is, length-append (x.value ++ f.padding) rest, length-append x.value f.padding) in
-    let is : l ≡ length_at bs = bad.2 ∙ take_two bs in
+    let is : l ≡ length_at bs = bad.2 ∙ length_at-is bs in
     elim bad.3 [ inl low ↦ absurd (omega arith) | inr high ↦ absurd (omega arith) ]
 Front-sound bs x rest other f bad = bad
 

@@ -28,7 +28,8 @@ ip-one bytes (V6 x) (V6 y) p q = ap V6 (p.1 ∙ sym q.1)
 ip-one bytes (V4 x) (V6 y) p q = absurd (omega (arith, p.0, q.0))
 ip-one bytes (V6 x) (V4 y) p q = absurd (omega (arith, p.0, q.0))
 
-pub ip-sound : (at : At) (bytes : List ℕ) (a : IpAddr) (e : DecodeError) → IsIp bytes a → (length bytes ≢ 4) × (length bytes ≢ 16) × (e ≡ ValueLength at (length bytes)) → ⊥
+pub ip-sound : (at : At) (bytes : List ℕ) (a : IpAddr) (e : DecodeError) → IsIp bytes a
+    → (length bytes ≢ 4) × (length bytes ≢ 16) × (e ≡ ValueLength at (length bytes)) → ⊥
 ip-sound at bytes (V4 x) e p q = q.0 p.0
 ip-sound at bytes (V6 x) e p q = q.1 p.0
 

@@ -1,6 +1,7 @@
 pub mod Refusal
 pub mod Counts
 pub mod Framing
+pub mod Walk
 pub mod Family
 pub mod FitLaws
 pub mod FrontLaws
@@ -25,7 +26,7 @@ pub mod EqualityLaws
 pub mod MeaningLaws
 pub mod Ip
 pub mod IpCodec
-pub mod ItemEquality
+pub mod ViewEquality
 pub mod StructLaws
 pub mod Blocks
 pub mod BlocksLaws

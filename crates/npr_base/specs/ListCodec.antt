@@ -17,9 +17,13 @@ list_of {M} {w} f = record {
   one_reading = λ bytes xs ys p q. ReadsList-one f.Reads f.one_reading bytes xs ys p q;
   no_fault = λ at bytes xs e p q. FirstFault-excludes f.Reads f.Faulty f.no_fault bytes e xs q p;
   reads_holds = λ bytes xs is p. ReadsList-known f.Coherent f.Reads f.reads_coherent bytes xs is p;
-  fits_short = λ kind xs h. too_long-short kind (length (encodings w.writes xs)) (none_both (list_unfit w.misfit w.writes xs) (too_long kind (length (encodings w.writes xs))) h).1;
+  fits_short =
+      λ kind xs h.
+      let len = length (encodings w.writes xs) in
+      too_long-short kind len (none_both (list_unfit w.misfit w.writes xs) (too_long kind len) h).1;
   reads_back = λ kind xs all h.
-      encodings-read f.Coherent w.misfit w.writes f.Reads (fits-small f) f.reads_back xs all
-      (none_both (first_unfit w.misfit xs) (overlong (length (encodings w.writes xs))) (none_both (list_unfit w.misfit w.writes xs) (too_long kind (length (encodings w.writes xs))) h).0).0;
+      let len = length (encodings w.writes xs) in
+      let fits = none_both (list_unfit w.misfit w.writes xs) (too_long kind len) h in
+      encodings-read f.Coherent w.misfit w.writes f.Reads (fits-small f) f.reads_back xs all (none_both (first_unfit w.misfit xs) (overlong len) fits.0).0;
   grows = λ bytes xs is p. list-grows w.writes f.Reads f.grows bytes xs is p;
 }

@@ -1,4 +1,5 @@
--- What a derived `==` of an enum answers where its values mean something else, as a vector means the list of its items: one fact a variant, and none for a pair of variants.
+-- What a derived `==` of an enum answers where its values mean something else, as a vector means the list of its
+-- items: one fact a variant, and none for a pair of variants.
 --     enum_meaning       it answers whether two values mean the same; `place` numbers the meanings' variants in their order
 --     enum_meaning_at    the same of a type that holds itself
 --     one_meaning, one_meaning_by      the fact for a variant of one field
@@ -27,32 +28,41 @@ abbrev pub ◌also◌ : {A B : Type 0} → A → B → A × B
 x also y = (x, y)
 
 module _ {M : Type 0} (place : M → ℕ) (t : M) where
-  -- from the n-th variant on: what a variant means has the variant's place, and where it means t, the variant's answer is whether two values of it mean the same
+  -- from the n-th variant on: what a variant means has the variant's place, and where it means t, the variant's
+  -- answer is whether two values of it mean the same
   abbrev pub MeaningsDecide : (Fss : List (List Field)) → (Choice Fss → M) → Each Bool Fss → ℕ → Type 0
   MeaningsDecide [] meaning tests n = ⊤
-  MeaningsDecide (Fs ∷ Fss) meaning tests n = (((x : Values Fs) → place (meaning (inl x)) ≡ n) × ((x y : Values Fs) → meaning (inl x) ≡ t → Decides (tests.0 x y) (meaning (inl x) ≡ meaning (inl y)))) × MeaningsDecide Fss (λ c. meaning (inr c)) tests.1 (n + 1)
+  MeaningsDecide (Fs ∷ Fss) meaning tests n =
+      (((x : Values Fs) → place (meaning (inl x)) ≡ n)
+      × ((x y : Values Fs) → meaning (inl x) ≡ t
+      → Decides (tests.0 x y) (meaning (inl x) ≡ meaning (inl y)))) × MeaningsDecide Fss (λ c. meaning (inr c)) tests.1 (n + 1)
 
-  later_place : (Fss : List (List Field)) (meaning : Choice Fss → M) (tests : Each Bool Fss) (n : ℕ) → MeaningsDecide Fss meaning tests n → (c : Choice Fss) → n ≤ place (meaning c)
+  later_place : (Fss : List (List Field)) (meaning : Choice Fss → M) (tests : Each Bool Fss) (n : ℕ) → MeaningsDecide Fss meaning tests n → (c : Choice Fss)
+      → n ≤ place (meaning c)
   later_place [] meaning tests n all c = absurd c
   later_place (Fs ∷ Fss) meaning tests n all (inl x) = let e = all.0.0 x in omega arith
   later_place (Fs ∷ Fss) meaning tests n all (inr c) = let h = later_place Fss (λ d. meaning (inr d)) tests.1 (n + 1) all.1 c in omega arith
 
-  apart : (Fs : List Field) (Fss : List (List Field)) (meaning : Choice (Fs ∷ Fss) → M) (tests : Each Bool (Fs ∷ Fss)) (n : ℕ) → MeaningsDecide (Fs ∷ Fss) meaning tests n → (x : Values Fs) (c : Choice Fss) → meaning (inl x) ≡ meaning (inr c) → ⊥
+  apart : (Fs : List Field) (Fss : List (List Field)) (meaning : Choice (Fs ∷ Fss) → M) (tests : Each Bool (Fs ∷ Fss)) (n : ℕ)
+      → MeaningsDecide (Fs ∷ Fss) meaning tests n → (x : Values Fs) (c : Choice Fss) → meaning (inl x) ≡ meaning (inr c) → ⊥
   apart Fs Fss meaning tests n all x c e =
       let here = all.0.0 x in
       let later = later_place Fss (λ d. meaning (inr d)) tests.1 (n + 1) all.1 c in
       let same = ap place e in
       omega arith
 
-  choices_meaning : (Fss : List (List Field)) (meaning : Choice Fss → M) (tests : Each Bool Fss) (n : ℕ) → MeaningsDecide Fss meaning tests n → (c d : Choice Fss) → meaning c ≡ t → Decides (by false false Fss tests c d) (meaning c ≡ meaning d)
+  choices_meaning : (Fss : List (List Field)) (meaning : Choice Fss → M) (tests : Each Bool Fss) (n : ℕ) → MeaningsDecide Fss meaning tests n
+      → (c d : Choice Fss) → meaning c ≡ t → Decides (by false false Fss tests c d) (meaning c ≡ meaning d)
   choices_meaning [] meaning tests n all c d is = absurd c
   choices_meaning (Fs ∷ Fss) meaning tests n all (inl x) (inl y) is = all.0.1 x y is
   choices_meaning (Fs ∷ Fss) meaning tests n all (inl x) (inr y) is = (λ e. absurd (true≢false (sym e)), λ e. absurd (apart Fs Fss meaning tests n all x y e))
-  choices_meaning (Fs ∷ Fss) meaning tests n all (inr x) (inl y) is = (λ e. absurd (true≢false (sym e)), λ e. absurd (apart Fs Fss meaning tests n all y x (sym e)))
+  choices_meaning (Fs ∷ Fss) meaning tests n all (inr x) (inl y) is =
+      (λ e. absurd (true≢false (sym e)), λ e. absurd (apart Fs Fss meaning tests n all y x (sym e)))
   choices_meaning (Fs ∷ Fss) meaning tests n all (inr x) (inr y) is = choices_meaning Fss (λ d. meaning (inr d)) tests.1 (n + 1) all.1 x y is
 
   -- for a type that holds itself: t is what the recursion goes down
-  pub enum_meaning_at : (N : Record) (meaning : N.D → M) (tests : Each Bool N.parts) → MeaningsDecide N.parts (λ c. meaning (N.make c)) tests 0 → (a b : N.D) → meaning a ≡ t → Decides (by false false N.parts tests (N.as_values a) (N.as_values b)) (meaning a ≡ meaning b)
+  pub enum_meaning_at : (N : Record) (meaning : N.D → M) (tests : Each Bool N.parts) → MeaningsDecide N.parts (λ c. meaning (N.make c)) tests 0 → (a b : N.D)
+      → meaning a ≡ t → Decides (by false false N.parts tests (N.as_values a) (N.as_values b)) (meaning a ≡ meaning b)
   enum_meaning_at N meaning tests all a b is =
       let p = ap meaning (N.eta a) in
       let q = ap meaning (N.eta b) in
@@ -60,16 +70,21 @@ module _ {M : Type 0} (place : M → ℕ) (t : M) where
       (λ e. sym p ∙ h.0 e ∙ q, λ e. h.1 (p ∙ e ∙ sym q))
 
 -- N is `enum` of the type's module in `specs.contracts`
-pub enum_meaning : {M : Type 0} (place : M → ℕ) (N : Record) (meaning : N.D → M) (tests : Each Bool N.parts) → ((t : M) → MeaningsDecide place t N.parts (λ c. meaning (N.make c)) tests 0) → (a b : N.D) → Decides (by false false N.parts tests (N.as_values a) (N.as_values b)) (meaning a ≡ meaning b)
+pub enum_meaning : {M : Type 0} (place : M → ℕ) (N : Record) (meaning : N.D → M) (tests : Each Bool N.parts)
+    → ((t : M) → MeaningsDecide place t N.parts (λ c. meaning (N.make c)) tests 0) → (a b : N.D)
+    → Decides (by false false N.parts tests (N.as_values a) (N.as_values b)) (meaning a ≡ meaning b)
 enum_meaning place N meaning tests all a b = enum_meaning_at place (meaning a) N meaning tests (all (meaning a)) a b refl
 
 module _ {A B M : Type 0} {test : A → A → Bool} (view : A → B) (made : B → M) where
   -- a variant of one field, whose meaning is a constructor of the field's: `λ p q e. cc` shows that the constructor is one to one
-  pub one_meaning : IsEqualityOf view test → ((p q : B) → made p ≡ made q → p ≡ q) → {t : M} (x y : A × Unit {0}) → made (view x.0) ≡ t → Decides (test x.0 y.0) (made (view x.0) ≡ made (view y.0))
+  pub one_meaning : IsEqualityOf view test → ((p q : B) → made p ≡ made q → p ≡ q) → {t : M} (x y : A × Unit {0}) → made (view x.0) ≡ t
+      → Decides (test x.0 y.0) (made (view x.0) ≡ made (view y.0))
   one_meaning decides one x y is = (λ e. ap made ((decides x.0 y.0).0 e), λ e. (decides x.0 y.0).1 (one (view x.0) (view y.0) e))
 
   -- the same where that is proved, by `means_is`, and not computed
-  pub one_meaning_by : (means : A → M) → ((a : A) → means a ≡ made (view a)) → ((p q : B) → made p ≡ made q → p ≡ q) → {t : M} → ((a b : A) → made (view a) ≡ t → Decides (test a b) (view a ≡ view b)) → (x y : A × Unit {0}) → means x.0 ≡ t → Decides (test x.0 y.0) (means x.0 ≡ means y.0)
+  pub one_meaning_by : (means : A → M) → ((a : A) → means a ≡ made (view a)) → ((p q : B) → made p ≡ made q → p ≡ q) → {t : M}
+      → ((a b : A) → made (view a) ≡ t → Decides (test a b) (view a ≡ view b)) → (x y : A × Unit {0}) → means x.0 ≡ t
+      → Decides (test x.0 y.0) (means x.0 ≡ means y.0)
   one_meaning_by means means_is one decides x y is =
       let p = means_is x.0 in
       let q = means_is y.0 in

@@ -1,6 +1,7 @@
 -- Bytes without one final zero.
 use Rattle.std.specs.Prelude.{◌≢◌}
-use Rattle.std.proofs.Common.{◌≡◌, ℕ, zero, suc, ◌+◌, ◌-◌, ◌*◌, ◌≤◌, ◌⊎◌, List, [], ◌∷◌, ◌++◌, length, take, get_or, refl, sym, ap, ◌∙◌, arith, inl, inr, length-append}
+use Rattle.std.proofs.Common.{◌≡◌, ℕ, zero, suc, ◌+◌, ◌-◌, ◌*◌, ◌≤◌, ◌⊎◌, List, [], ◌∷◌, ◌++◌, length, take, get_or}
+use Rattle.std.proofs.Common.{refl, sym, ap, ◌∙◌, arith, inl, inr, length-append}
 use Rattle.npr_base.specs.Framing.{framed}
 use Rattle.npr_base.specs.CodecLaws.{framed-grows}
 
@@ -49,7 +50,12 @@ pub unterminated-zero : (s : List ℕ) → 1 ≤ length s → get_or s (length s
 unterminated-zero s h e = inl (last_split s (length s - 1) (omega arith) ∙ ap (λ (b : ℕ). take (length s - 1) s ++ b ∷ []) e)
 
 pub unterminated-other : (s : List ℕ) → 1 ≤ length s → get_or s (length s - 1) 0 ≢ 0 → IsUnterminated s s
-unterminated-other s h e = inr (refl, λ front p. e (ap (λ (w : List ℕ). get_or w (length s - 1) 0) p ∙ ap (λ (n : ℕ). get_or (front ++ 0 ∷ []) n 0) (omega (arith, ap length p, length-append front (0 ∷ []))) ∙ last_of front))
+unterminated-other s h e =
+    inr (
+      refl,
+      λ front p. e (ap (λ (w : List ℕ). get_or w (length s - 1) 0) p
+          ∙ ap (λ (n : ℕ). get_or (front ++ 0 ∷ []) n 0) (omega (arith, ap length p, length-append front (0 ∷ []))) ∙ last_of front),
+    )
 
 pub unterminated-nil : (s : List ℕ) → length s ≡ 0 → IsUnterminated s s
 unterminated-nil s h = inr (refl, λ front p. omega (arith, ap length p, length-append front (0 ∷ [])))

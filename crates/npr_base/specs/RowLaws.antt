@@ -14,17 +14,21 @@ module _ {K V : Type 0} (number : V → K) where
   number-if true x y d here later = here refl
   number-if false x y d here later = later
 
-  pub number-form_by : (same : K → K → Bool) → IsEquality same → (other : K → V) → ((d : K) → number (other d) ≡ d) → (rows : List (K × V)) → agrees_by same number rows ≡ true → (d : K) → number (form_by same other rows d) ≡ d
+  pub number-form_by : (same : K → K → Bool) → IsEquality same → (other : K → V) → ((d : K) → number (other d) ≡ d) → (rows : List (K × V))
+      → agrees_by same number rows ≡ true → (d : K) → number (form_by same other rows d) ≡ d
   number-form_by same decides other back [] h d = back d
   number-form_by same decides other back (row ∷ rows) h d =
       let here = (decides (number row.1) row.0).0 (first_so (same (number row.1) row.0) (agrees_by same number rows) h) in
       let later = second_so (same (number row.1) row.0) (agrees_by same number rows) h in
-      number-if (same d row.0) row.1 (form_by same other rows d) d (λ e. here ∙ sym ((decides d row.0).0 e)) (number-form_by same decides other back rows later d)
+      number-if (same d row.0) row.1 (form_by same other rows d) d (λ e. here
+      ∙ sym ((decides d row.0).0 e)) (number-form_by same decides other back rows later d)
 
-pub number-form : {V : Type 0} (number : V → ℕ) (other : ℕ → V) → ((d : ℕ) → number (other d) ≡ d) → (rows : List (ℕ × V)) → agrees number rows ≡ true → (d : ℕ) → number (form_in other rows d) ≡ d
+pub number-form : {V : Type 0} (number : V → ℕ) (other : ℕ → V) → ((d : ℕ) → number (other d) ≡ d) → (rows : List (ℕ × V)) → agrees number rows ≡ true
+    → (d : ℕ) → number (form_in other rows d) ≡ d
 number-form number = number-form_by number nat_eq unsigned_Decides
 
-pub signed_number-form : {V : Type 0} (number : V → ℤ) (other : ℤ → V) → ((d : ℤ) → number (other d) ≡ d) → (rows : List (ℤ × V)) → signed_agrees number rows ≡ true → (d : ℤ) → number (signed_form_in other rows d) ≡ d
+pub signed_number-form : {V : Type 0} (number : V → ℤ) (other : ℤ → V) → ((d : ℤ) → number (other d) ≡ d) → (rows : List (ℤ × V))
+    → signed_agrees number rows ≡ true → (d : ℤ) → number (signed_form_in other rows d) ≡ d
 signed_number-form number = number-form_by number int_eq signed_Decides
 
 pub form_IsFormed : {K V : Type 0} (form : K → V) (number : V → K) → ((d : K) → number (form d) ≡ d) → (d : K) → IsFormed form number (form d)

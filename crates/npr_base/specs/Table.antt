@@ -124,12 +124,19 @@ item_of h = record { kind = marked (held_nested h) (held_kind h); value = held_b
 
 -- meanings are written each from its place
 abbrev pub placed : {M : Type 0} → (M → Held) → Writing M
-placed place = record { writes = λ m. item_of (place m); misfit = λ m. held_misfit (place m); members = λ m. held_members (place m); short = λ m h. held-short (place m) h }
+placed place =
+    record {
+      writes = λ m. item_of (place m);
+      misfit = λ m. held_misfit (place m);
+      members = λ m. held_members (place m);
+      short = λ m h. held-short (place m) h;
+    }
 
 -- each row's variant is written by that row, and is coherent where the row can hold its value
 abbrev pub Aligned : {M : Type 0} → (M → Item) → (M → Type 0) → List (Row M) → Type 0
 Aligned writes Coherent [] = Unit {0}
-Aligned writes Coherent (r ∷ rows) = ((v : r.V) → ((writes (r.variant v)).value ≡ r.codec.writes v) × (r.codec.Holds v → Coherent (r.variant v))) × Aligned writes Coherent rows
+Aligned writes Coherent (r ∷ rows) =
+    ((v : r.V) → ((writes (r.variant v)).value ≡ r.codec.writes v) × (r.codec.Holds v → Coherent (r.variant v))) × Aligned writes Coherent rows
 
 -- a table: its rows, what an attribute of another number means, the place of each meaning, and which are coherent
 pub record Table (M : Type 0) : Type 1 where

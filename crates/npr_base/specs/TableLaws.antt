@@ -22,7 +22,8 @@ flat-one other (r ∷ rows) k x m n p q = both (k == r.at.kind)
     (λ a b. a.2 ∙ ap r.variant (r.codec.one_reading x.value a.0 b.0 a.1 b.1) ∙ sym b.2)
     (flat-one other rows k x m n) p q
 
-pub flat-sound : {M : Type 0} (other : Item → M) (rows : List (Row M)) (k : ℕ) (x : Item) (m : M) (e : DecodeError) → ReadsAt other rows k x m → WrongAt rows k x e → ⊥
+pub flat-sound : {M : Type 0} (other : Item → M) (rows : List (Row M)) (k : ℕ) (x : Item) (m : M) (e : DecodeError) → ReadsAt other rows k x m
+    → WrongAt rows k x e → ⊥
 flat-sound other [] k x m e p q = q
 flat-sound other (r ∷ rows) k x m e p q = both (k == r.at.kind) (λ a b. r.codec.no_fault r.at x.value a.0 e a.1 b) (flat-sound other rows k x m e) p q
 
@@ -33,9 +34,11 @@ flat-coherent other writes Coherent (r ∷ rows) aligned k x bytes alone m p = o
     (λ e a. subst Coherent (sym a.2) ((aligned.0 a.0).1 (r.codec.reads_holds x.value a.0 bytes a.1)))
     (λ e a. flat-coherent other writes Coherent rows aligned.1 k x bytes (λ h. alone (rw e h)) m a) p
 
-pub flat-grows : {M : Type 0} (other : Item → M) (writes : M → Item) (Coherent : M → Type 0) (rows : List (Row M)) → Aligned writes Coherent rows → ((x : Item) → writes (other x) ≡ x)
+pub flat-grows : {M : Type 0} (other : Item → M) (writes : M → Item) (Coherent : M → Type 0) (rows : List (Row M)) → Aligned writes Coherent rows
+    → ((x : Item) → writes (other x) ≡ x)
     → (k : ℕ) (x : Item) → IsBytes x.value → (m : M) → ReadsAt other rows k x m → 2 * framed (length (writes m).value) ≤ 5 * (4 + length x.value)
-flat-grows other writes Coherent [] aligned same k x bytes m p = framed-grows (length (writes m).value) (length x.value) (omega (arith, ap (λ n. length (writes n).value) p, ap (λ (y : Item). length y.value) (same x)))
+flat-grows other writes Coherent [] aligned same k x bytes m p =
+    framed-grows (length (writes m).value) (length x.value) (omega (arith, ap (λ n. length (writes n).value) p, ap (λ (y : Item). length y.value) (same x)))
 flat-grows other writes Coherent (r ∷ rows) aligned same k x bytes m p = one_of (k == r.at.kind)
     (λ e. λ (a : (v : r.V) × r.codec.Reads x.value v × (m ≡ r.variant v)).
     let v : length (writes m).value ≡ length (r.codec.writes a.0) = ap (λ n. length (writes n).value) a.2 ∙ ap length (aligned.0 a.0).0 in
@@ -62,7 +65,10 @@ flat t = record {
   Coherent = t.Coherent;
   one_reading = λ x m n p q. flat-one t.other t.rows (number_of x.kind) x m n p q;
   no_fault = λ x m e p q. flat-sound t.other t.rows (number_of x.kind) x m e p q;
-  reads_coherent = λ x m proper p. flat-coherent t.other (λ n. item_of (t.place n)) t.Coherent t.rows t.aligned (number_of x.kind) x proper.value (λ alone. t.other_coherent x (record { proper = proper; alone = alone })) m p;
+  reads_coherent =
+      λ x m proper p.
+      let alone = λ (a : has_row t.rows (number_of x.kind) ≡ false). t.other_coherent x (record { proper = proper; alone = a }) in
+      flat-coherent t.other (λ n. item_of (t.place n)) t.Coherent t.rows t.aligned (number_of x.kind) x proper.value alone m p;
   kinds = λ m c. marked-small (held_nested (t.place m)) (held_kind (t.place m)) (t.kinds m c);
   reads_back = λ m c h. t.back m c h;
   grows = λ x m proper p. flat-grows t.other (λ n. item_of (t.place n)) t.Coherent t.rows t.aligned t.other_is (number_of x.kind) x proper.value m p;

@@ -1,6 +1,6 @@
 -- A value that is one of several variants, read by the codec of one of them.
 use Rattle.std.specs.Prelude.{◌≡◌, ℕ, ◌+◌, ◌*◌, ◌≤◌, List, length, None}
-use Rattle.std.proofs.Common.{refl, sym, ap, subst, ◌∙◌, arith}
+use Rattle.std.proofs.Common.{sym, ap, subst, ◌∙◌}
 use Rattle.npr_base.specs.Family.{too_long}
 use Rattle.npr_base.specs.FitLaws.{too_long-short}
 use Rattle.npr_base.specs.Framing.{IsBytes, framed}
@@ -13,13 +13,15 @@ module _ {V W : Type 0} (C : Codec V) (made : V → W) (bytes_of : W → List �
   pub variant-one : (bytes : List ℕ) (x y : W) → (v : V) × C.Reads bytes v × (x ≡ made v) → (w : V) × C.Reads bytes w × (y ≡ made w) → x ≡ y
   variant-one bytes x y p q = p.2 ∙ ap made (C.one_reading bytes p.0 q.0 p.1 q.1) ∙ sym q.2
 
-  pub variant-back : (kind : ℕ) (x : W) → (v : V) × C.Holds v × (x ≡ made v) → too_long kind (length (bytes_of x)) ≡ None → (v : V) × C.Reads (bytes_of x) v × (x ≡ made v)
+  pub variant-back : (kind : ℕ) (x : W) → (v : V) × C.Holds v × (x ≡ made v) → too_long kind (length (bytes_of x)) ≡ None
+      → (v : V) × C.Reads (bytes_of x) v × (x ≡ made v)
   variant-back kind x p fits =
       let is : bytes_of x ≡ C.writes p.0 = ap bytes_of p.2 ∙ same p.0 in
       let small : too_long kind (length (C.writes p.0)) ≡ None = subst (λ (b : List ℕ). too_long kind (length b) ≡ None) is fits in
       (p.0, subst (λ (b : List ℕ). C.Reads b p.0) (sym is) (C.reads_back kind p.0 p.1 (plain kind p.0 small)), p.2)
 
-  pub variant-grows : (bytes : List ℕ) (x : W) → IsBytes bytes → (v : V) × C.Reads bytes v × (x ≡ made v) → 2 * framed (length (bytes_of x)) ≤ 5 * (4 + length bytes)
+  pub variant-grows : (bytes : List ℕ) (x : W) → IsBytes bytes → (v : V) × C.Reads bytes v × (x ≡ made v)
+      → 2 * framed (length (bytes_of x)) ≤ 5 * (4 + length bytes)
   variant-grows bytes x is p =
       let written : bytes_of x ≡ C.writes p.0 = ap bytes_of p.2 ∙ same p.0 in
       subst (λ (b : List ℕ). 2 * framed (length b) ≤ 5 * (4 + length bytes)) (sym written) (C.grows bytes p.0 is p.1)

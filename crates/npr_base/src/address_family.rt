@@ -174,8 +174,3 @@ impl From<AddressFamily> for u8 {
         }
     }
 }
-
-/// What a number reads as is written as that number.
-pub fn law_family_number()
-    ensures { (d : ℕ) → family_number (family_of d) ≡ d }
-{}

@@ -3,6 +3,8 @@
 ghost use Rattle.std.specs.Prelude.{◌≡◌, ◌+◌, ◌%◌, ◌/◌, ◌^◌, ◌≤◌, ◌↔◌, ◌++◌, ◌<◌, [], ◌∷◌, IsTrue, length, take, drop, replicate, List, ℕ, Ok, Err, Some, None};
 ghost use Rattle.std.specs.Int.{w16, to_le_bytes};
 ghost use Rattle.std.specs.Iterator.{at_most};
+ghost use Rattle.std.specs.Cmp.{decided, partial_equiv_from_equiv};
+ghost use Rattle.npr_base.specs.ViewEquality.{same_item, item_equality, same_bytes, bytes_equality};
 ghost use Rattle.npr_base.specs.Framing.{Item, Begins, Step, Writes, encoding, framed, looked, marked, number_of};
 
 use crate::looks::Looks;
@@ -112,6 +114,20 @@ impl<'a> NlaBuffer<'a> {
     }
 }
 
+impl<'a> PartialEq for NlaBuffer<'a> {
+    ghost eq = { same_item };
+
+    ghost laws = { partial_equiv_from_equiv (decided same_item item_equality) };
+
+    fn eq(&self, other: &NlaBuffer<'a>) -> bool {
+        self.kind == other.kind && self.value == other.value
+    }
+}
+
+impl<'a> Eq for NlaBuffer<'a> {
+    ghost laws = { decided same_item item_equality };
+}
+
 /// A walk over the attributes that stand one after the other. A fault is its last item. Contracts
 /// see the bytes that are left.
 #[derive(Debug, Drop)]
@@ -175,11 +191,26 @@ impl<'a> Iterator for NlasIterator<'a> {
 
     ghost next_gives = { λ s r t. Step s r t };
 
-    ghost remaining = { λ s. at_most (length s) };
+    // an attribute takes four bytes, and the bytes after the last leave room for one fault
+    ghost remaining = { λ s. at_most ((length s + 3) / 4) };
 
     fn next(&mut self) -> Option<Result<NlaBuffer<'a>, DecodeError>> {
         self.step()
     }
+}
+
+impl<'a> PartialEq for NlasIterator<'a> {
+    ghost eq = { same_bytes };
+
+    ghost laws = { partial_equiv_from_equiv (decided same_bytes bytes_equality) };
+
+    fn eq(&self, other: &NlasIterator<'a>) -> bool {
+        self.rest == other.rest
+    }
+}
+
+impl<'a> Eq for NlasIterator<'a> {
+    ghost laws = { decided same_bytes bytes_equality };
 }
 
 /// The kind, with NESTED where it is wanted.

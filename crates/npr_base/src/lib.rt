@@ -4,9 +4,9 @@
 mod address_family;
 mod attribute;
 mod default_nla;
-mod equality;
 mod framing;
 mod ip;
+pub mod laws;
 mod list;
 mod looks;
 mod refusal;
@@ -16,10 +16,9 @@ mod traits;
 mod v6_list;
 mod values;
 
-pub use address_family::{AddressFamily, law_family_number};
+pub use address_family::AddressFamily;
 pub use attribute::Attribute;
 pub use default_nla::{DefaultNla, check_len};
-pub use equality::law_equality;
 pub use framing::{
     NLA_ALIGNTO, NLA_F_NESTED, NLA_F_NET_BYTEORDER, NLA_HEADER_SIZE, NLA_TYPE_MASK, NlaBuffer,
     NlasIterator, marked_kind, write_bytes,

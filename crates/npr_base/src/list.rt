@@ -3,7 +3,8 @@
 ghost use Rattle.std.specs.Prelude.{◌≡◌, ◌≢◌, ◌≤◌, ◌<◌, ℕ, List, Option, None, length, map, ◌++◌, ◌+◌, IfOk, IfErr, IsErrOf};
 ghost use Rattle.npr_base.specs.Counts.{AddsAtMost, SawEach};
 ghost use Rattle.npr_base.specs.Framing.{Item, Front, Writes, written_by};
-ghost use Rattle.npr_base.specs.Family.{ReadsList, FirstFault, checked, list_unfit, list_members, encodings, held};
+ghost use Rattle.npr_base.specs.Walk.{Walked};
+ghost use Rattle.npr_base.specs.Family.{ReadsList, FirstFault, checked, list_unfit, list_members, encodings, in_usize};
 ghost use Rattle.npr_base.specs.declared.refusal.DecodeError.TheVariants.{OutOfMemory};
 
 use crate::attribute::Attribute;
@@ -31,6 +32,8 @@ pub fn parse_list<A: Attribute>(
     ensures none { IfErr result (λ e. e ≢ OutOfMemory → (xs : List A.Meaning) → ReadsList (A.reading context).Reads bytes.now xs → ⊥) }
     // Memory is taken behind a first whole attribute alone.
     ensures memory { IsErrOf result OutOfMemory → (x : Item) × (rest : List ℕ) × Front bytes.now x rest }
+    // The looks and the attributes passed are together at most what the bytes passed allow.
+    ensures walked { Walked bytes.now looks.old looks.new }
     ensures bounded { AddsAtMost looks.old looks.new (length bytes.now) }
     ensures counted { IfOk result (λ v. SawEach looks.old looks.new (list_members A.writing.members (map A.meaning v.items))) }
 {
@@ -58,7 +61,7 @@ fn read_all<A: Attribute>(
     ensures ok { IfOk result (λ v. ReadsList (A.reading context).Reads bytes.now (map A.meaning v.items)) }
     ensures refused { IfErr result (λ e. e ≢ OutOfMemory → FirstFault (A.reading context).Reads (A.reading context).Faulty bytes.now e) }
     ensures memory { IsErrOf result OutOfMemory → (x : Item) × (rest : List ℕ) × Front bytes.now x rest }
-    ensures bounded { AddsAtMost looks.old looks.new (length bytes.now) }
+    ensures walked { Walked bytes.now looks.old looks.new }
     ensures counted { IfOk result (λ v. SawEach looks.old looks.new (list_members A.writing.members (map A.meaning v.items))) }
 {
     let mut walk = NlasIterator::new(bytes);
@@ -74,7 +77,7 @@ fn read_all<A: Attribute>(
 
 /// The sum of a length and those before it, where a `usize` holds it.
 pub fn plus(total: Option<usize>, len: usize) -> Option<usize>
-    ensures { (n : ℕ) → total ≡ held n → result ≡ held (n + len) }
+    ensures { (n : ℕ) → total ≡ in_usize n → result ≡ in_usize (n + len) }
 {
     match total {
         Some(t) => t.checked_add(len),

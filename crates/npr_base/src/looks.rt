@@ -1,7 +1,9 @@
 //! Counts of looks at headers.
 
 ghost use Rattle.std.specs.Prelude.{◌≡◌};
+ghost use Rattle.std.specs.Cmp.{decided, partial_equiv_from_equiv};
 ghost use Rattle.npr_base.specs.Counts.{Counts, no_looks, hit, miss};
+ghost use Rattle.npr_base.specs.ViewEquality.{same_counts, counts_equality};
 
 use std::marker::Model;
 
@@ -57,4 +59,18 @@ impl Looks {
     {
         self.failed = self.failed.saturating_add(1);
     }
+}
+
+impl PartialEq for Looks {
+    ghost eq = { same_counts };
+
+    ghost laws = { partial_equiv_from_equiv (decided same_counts counts_equality) };
+
+    fn eq(&self, other: &Looks) -> bool {
+        self.successful == other.successful && self.failed == other.failed
+    }
+}
+
+impl Eq for Looks {
+    ghost laws = { decided same_counts counts_equality };
 }

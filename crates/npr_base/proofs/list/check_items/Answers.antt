@@ -1,6 +1,6 @@
 use Rattle.std.proofs.Common.{◌≡◌, ◌+◌, ap, sym, ◌∙◌, length, take}
 use Rattle.npr_base.specs.Framing.{framed, written_by}
-use Rattle.npr_base.specs.Family.{encodings, held}
+use Rattle.npr_base.specs.Family.{encodings, in_usize}
 use Rattle.npr_base.proofs.Checking.{checked-ok, first-past, encodings-more}
 use Rattle.npr_base.specs.ListLaws.{length-encoding}
 use Rattle.npr_base.proofs.list.check_items.Goals as goal
@@ -16,5 +16,5 @@ loop-x-preserved g c =
     ap (λ n. length (encodings item (take i all)) + n) (k.1 ∙ sym (length-encoding (item x))) ∙ sym (encodings-more item all i x c.loop-x-test.true c.x-item.is) in
     record {
       fits = c.loop-x.invariant.fits ∙ first-past g.A.Nla.unfit all i x c.loop-x-test.true c.x-item.is k.0;
-      sum = c.plus-total.ensures (length (encodings item (take i all))) c.loop-x.invariant.sum ∙ ap held size;
+      sum = c.plus-total.ensures (length (encodings item (take i all))) c.loop-x.invariant.sum ∙ ap in_usize size;
     }

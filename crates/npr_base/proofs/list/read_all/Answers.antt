@@ -1,11 +1,11 @@
 use Rattle.std.proofs.Common.{◌≡◌, ◌≤◌, ◌+◌, ◌-◌, ◌∷◌, [], ◌++◌, map, length, arith, subst}
-use Rattle.std.proofs.lemmas.List.{map_push}
-use Rattle.npr_base.specs.Counts.{Counts, AddsAtMost, SawEach, hit}
+use Rattle.std.proofs.lemmas.List.{map_push, length_push}
+use Rattle.npr_base.specs.Counts.{Counts, AddsAtMost, SawEach, hit, miss}
 use Rattle.npr_base.specs.Framing.{Front}
 use Rattle.npr_base.specs.Family.{list_members}
 use Rattle.npr_base.specs.FrontLaws.{Front-takes}
 use Rattle.npr_base.proofs.Lists.{begins_so, ReadsTo-more}
-use Rattle.npr_base.proofs.Looking.{SoFar-more, list_members-more}
+use Rattle.npr_base.proofs.Looking.{SoFar-more, Walked-so, Walked-miss, Walked-past, AddsAtMost-none, list_members-more}
 use Rattle.npr_base.proofs.list.read_all.Goals as goal
 
 pub returns-in_err-attribute-clause-memory : goal.returns-in_err-attribute-clause-memory
@@ -22,6 +22,66 @@ pub returns-in_err-push-clause-memory : goal.returns-in_err-push-clause-memory
 returns-in_err-push-clause-memory g c = λ h.
     let f : Front c.loop-next.walk c.in_ok-item.item c.next_counted.new.self = rw c.in_ok-item.was at c.in-Some.ensures.step in
     begins_so (g.A.Attribute.reading c.args.context).Reads c.args.bytes.now (map g.A.Attribute.meaning c.loop-next.found.items) c.loop-next.walk c.in_ok-item.item c.next_counted.new.self c.loop-next.invariant.read f
+
+-- ---- what was walked
+
+pub returns-clause-walked : goal.returns-clause-walked
+returns-clause-walked g c =
+    let family = g.A.Attribute in
+    let past = c.loop-next.invariant in
+    let done = map family.meaning c.loop-next.found.items in
+    let w = Walked-so (family.reading c.args.context).Reads c.args.bytes.now done c.loop-next.walk c.args.looks.now c.loop-next.looks (list_members family.writing.members done) past.read past.looks in
+    rw c.in_default.ensures.counted w
+
+pub returns-in_err-item-clause-walked : goal.returns-in_err-item-clause-walked
+returns-in_err-item-clause-walked g c =
+    let family = g.A.Attribute in
+    let past = c.loop-next.invariant in
+    let done = map family.meaning c.loop-next.found.items in
+    let look : c.next_counted.new.looks ≡ miss c.loop-next.looks = rw c.in_err-item.was at c.in-Some.ensures.counted in
+    let w = Walked-miss (family.reading c.args.context).Reads c.args.bytes.now done c.loop-next.walk c.args.looks.now c.loop-next.looks (list_members family.writing.members done) past.read past.looks in
+    rw look w
+
+pub returns-in_err-make_room-clause-walked : goal.returns-in_err-make_room-clause-walked
+returns-in_err-make_room-clause-walked g c =
+    let family = g.A.Attribute in
+    let past = c.loop-next.invariant in
+    let item = c.in_ok-item.item in
+    let rest = c.next_counted.new.self in
+    let done = map family.meaning c.loop-next.found.items in
+    let f : Front c.loop-next.walk item rest = rw c.in_ok-item.was at c.in-Some.ensures.step in
+    let look : c.next_counted.new.looks ≡ hit c.loop-next.looks = rw c.in_ok-item.was at c.in-Some.ensures.counted in
+    let w = Walked-past (family.reading c.args.context).Reads c.args.bytes.now done c.loop-next.walk c.args.looks.now c.loop-next.looks (list_members family.writing.members done)
+    item rest (hit c.loop-next.looks) past.read past.looks f (AddsAtMost-none (hit c.loop-next.looks) (length item.value)) past.left in
+    rw look w
+
+pub returns-in_err-attribute-clause-walked : goal.returns-in_err-attribute-clause-walked
+returns-in_err-attribute-clause-walked g c =
+    let family = g.A.Attribute in
+    let past = c.loop-next.invariant in
+    let item = c.in_ok-item.item in
+    let rest = c.next_counted.new.self in
+    let after = c.read.new.looks in
+    let done = map family.meaning c.loop-next.found.items in
+    let f : Front c.loop-next.walk item rest = rw c.in_ok-item.was at c.in-Some.ensures.step in
+    let look : c.next_counted.new.looks ≡ hit c.loop-next.looks = rw c.in_ok-item.was at c.in-Some.ensures.counted in
+    let adds = subst (λ (k : Counts). AddsAtMost k after (length item.value)) look c.read.ensures.bounded in
+    Walked-past (family.reading c.args.context).Reads c.args.bytes.now done c.loop-next.walk c.args.looks.now c.loop-next.looks (list_members family.writing.members done)
+    item rest after past.read past.looks f adds past.left
+
+pub returns-in_err-push-clause-walked : goal.returns-in_err-push-clause-walked
+returns-in_err-push-clause-walked g c =
+    let family = g.A.Attribute in
+    let past = c.loop-next.invariant in
+    let item = c.in_ok-item.item in
+    let rest = c.next_counted.new.self in
+    let after = c.read.new.looks in
+    let done = map family.meaning c.loop-next.found.items in
+    let f : Front c.loop-next.walk item rest = rw c.in_ok-item.was at c.in-Some.ensures.step in
+    let look : c.next_counted.new.looks ≡ hit c.loop-next.looks = rw c.in_ok-item.was at c.in-Some.ensures.counted in
+    let adds = subst (λ (k : Counts). AddsAtMost k after (length item.value)) look c.read.ensures.bounded in
+    Walked-past (family.reading c.args.context).Reads c.args.bytes.now done c.loop-next.walk c.args.looks.now c.loop-next.looks (list_members family.writing.members done)
+    item rest after past.read past.looks f adds past.left
 
 pub loop-next-preserved : goal.loop-next-preserved
 loop-next-preserved g c =
@@ -40,9 +100,9 @@ loop-next-preserved g c =
     let adds = subst (λ (k : Counts). AddsAtMost k after (length item.value)) look c.in_ok-attribute.ensures.bounded in
     let saw = subst (λ (k : Counts). SawEach k after (family.writing.members (family.meaning a))) look c.in_ok-attribute.ensures.counted in
     let fewer : (length bytes - length c.loop-next.walk) + (4 + length item.value) ≤ length bytes - length rest = omega (arith, took, past.left) in
-    let more = SoFar-more c.args.looks.now c.loop-next.looks after (length bytes - length c.loop-next.walk) (list_members family.writing.members done) (length item.value) (length bytes - length rest) (family.writing.members (family.meaning a)) past.looks adds saw fewer in
+    let more = SoFar-more c.args.looks.now c.loop-next.looks after (length bytes - length c.loop-next.walk) (length done) (list_members family.writing.members done) (length item.value) (length bytes - length rest) (family.writing.members (family.meaning a)) past.looks adds saw fewer in
     record {
       read = rw e (ReadsTo-more (family.reading c.args.context).Reads bytes done c.loop-next.walk item (family.meaning a) rest past.read f c.in_ok-attribute.ensures.ok);
       left = omega (arith, took, past.left);
-      looks = rw (e, list_members-more family.writing.members done (family.meaning a)) more;
+      looks = rw (e, length_push done (family.meaning a), list_members-more family.writing.members done (family.meaning a)) more;
     }

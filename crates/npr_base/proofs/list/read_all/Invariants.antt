@@ -7,7 +7,7 @@ abbrev pub invariant-loop-next : goal.invariant-loop-next
 invariant-loop-next g l = record {
   read : ReadsTo (g.A.Attribute.reading l.context).Reads l.bytes (map g.A.Attribute.meaning l.found.items) l.walk;
   left : length l.walk ≤ length l.bytes;
-  looks : SoFar l.fn.looks l.looks (length l.bytes - length l.walk) (list_members g.A.Attribute.writing.members (map g.A.Attribute.meaning l.found.items));
+  looks : SoFar l.fn.looks l.looks (length l.bytes - length l.walk) (length (map g.A.Attribute.meaning l.found.items)) (list_members g.A.Attribute.writing.members (map g.A.Attribute.meaning l.found.items));
 }
 
 abbrev pub decreases-loop-next : goal.decreases-loop-next

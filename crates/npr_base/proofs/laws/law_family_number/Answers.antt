@@ -1,5 +1,5 @@
 use Rattle.npr_base.specs.AddressFamilyLaws.{family_number-family_of}
-use Rattle.npr_base.proofs.address_family.law_family_number.Goals as goal
+use Rattle.npr_base.proofs.laws.law_family_number.Goals as goal
 
 pub returns : goal.returns
 returns c = family_number-family_of

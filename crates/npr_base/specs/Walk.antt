@@ -1,0 +1,30 @@
+-- Walks over the attributes that bytes are cut into: the steps, and the looks at headers.
+use Rattle.std.specs.Prelude.{◌≡◌, ℕ, ◌+◌, ◌-◌, ◌≤◌, ◌⊎◌, List, [], ◌∷◌, ◌++◌, length, map, Some, Result, Ok, Err}
+use Rattle.npr_base.specs.Counts.{Counts, most_successful, most_failed}
+use Rattle.npr_base.specs.Framing.{Item, Passes, Stops, Step}
+use Rattle.npr_base.specs.declared.refusal.DecodeError.{DecodeError}
+
+-- steps of a walk, one after the other, from the bytes to what is left of them
+abbrev pub Steps : List ℕ → List (Result Item DecodeError) → List ℕ → Type 0
+Steps bytes [] rest = bytes ≡ rest
+Steps bytes (s ∷ steps) rest = (more : List ℕ) × Step bytes (Some s) more × Steps more steps rest
+
+-- what a walk answers where it finds these attributes
+abbrev pub found : List Item → List (Result Item DecodeError)
+found items = map (λ x. Ok x) items
+
+-- the steps find attributes up to the rest, or all those before a stop and then the fault
+abbrev pub Finds : List ℕ → List (Result Item DecodeError) → List ℕ → List Item → Type 0
+Finds bytes steps rest items =
+    ((steps ≡ found items) × Passes bytes items rest) ⊎ ((e : DecodeError) × (steps ≡ found items ++ Err e ∷ []) × Stops bytes items e × (rest ≡ []))
+
+-- what a reading has passed of a list, and what it has added to the counts: the looks that found a header and the
+-- attributes that were passed are together at most what the bytes passed allow
+pub record Walked (bytes : List ℕ) (old new : Counts) : Type 0 where
+  pub passed : List Item
+  pub rest : List ℕ
+  pub passes : Passes bytes passed rest
+  pub kept : old.successful ≤ new.successful
+  pub successful : new.successful + length passed ≤ old.successful + most_successful (length bytes - length rest)
+  pub failed_kept : old.failed ≤ new.failed
+  pub failed : new.failed ≤ old.failed + most_failed (length bytes)

@@ -1,0 +1,73 @@
+//! The laws of this crate, over its definitions alone. Each function does nothing, and its contract
+//! is the law.
+
+ghost use Rattle.std.specs.Prelude.{◌≡◌, ◌≤◌, ◌+◌, ◌*◌, ◌%◌, ◌++◌, ◌∷◌, ◌↔◌, ℕ, List, [], Result, Err, length};
+ghost use Rattle.npr_base.specs.declared.refusal.DecodeError.{DecodeError};
+ghost use Rattle.npr_base.specs.AddressFamily.{family_of, family_number};
+ghost use Rattle.npr_base.specs.Equality.{IsEquality};
+ghost use Rattle.npr_base.specs.Family.{ReadsList};
+ghost use Rattle.npr_base.specs.Framing.{Item, Cut, Stops};
+ghost use Rattle.npr_base.specs.Walk.{Steps, found, Finds};
+
+use crate::attribute::Attribute;
+use crate::framing::{
+    NLA_ALIGNTO, NLA_F_NESTED, NLA_F_NET_BYTEORDER, NLA_HEADER_SIZE, NLA_TYPE_MASK,
+};
+use crate::{
+    AddressFamily, At, AttrFamily, DecodeError, DefaultNla, EmitError, IpAddr, Ipv4Addr, Ipv6Addr,
+    Looks, NlaBuffer, NlasIterator, Seg6Fault,
+};
+
+/// The steps of a walk: those that find attributes from the first byte to the last are the cut of
+/// the bytes, and those that find a fault are their stop. Any steps find attributes, each of which
+/// takes four bytes at least, and one fault after them at most.
+pub fn law_walk()
+    ensures cut { (bytes : List ℕ) (items : List Item) → Steps bytes (found items) [] ↔ Cut bytes items }
+    ensures stop { (bytes : List ℕ) (items : List Item) (e : DecodeError) → Steps bytes (found items ++ Err e ∷ []) [] ↔ Stops bytes items e }
+    ensures any { (bytes : List ℕ) (steps : List (Result Item DecodeError)) (rest : List ℕ) → Steps bytes steps rest
+        → (items : List Item) × Finds bytes steps rest items × (4 * length items ≤ length bytes) }
+{}
+
+/// A list whose beginning is a multiple of four bytes and is cut into attributes by itself is the
+/// list of that beginning and then that of the rest, in the same context.
+pub fn law_cut<A: Attribute>()
+    ensures { (context : A.Context) (first second : List ℕ) (items : List Item) (xs : List A.Meaning) → length first % 4 ≡ 0 → Cut first items
+        → ReadsList (A.reading context).Reads (first ++ second) xs → (ys : List A.Meaning) × (zs : List A.Meaning) × (xs ≡ ys ++ zs)
+        × ReadsList (A.reading context).Reads first ys × ReadsList (A.reading context).Reads second zs }
+{}
+
+/// What a number reads as is written as that number.
+pub fn law_family_number()
+    ensures { (d : ℕ) → family_number (family_of d) ≡ d }
+{}
+
+/// The constants of `linux/netlink.h`.
+pub fn law_constants()
+    ensures nested { NLA_F_NESTED ≡ 0x8000 }
+    ensures byte_order { NLA_F_NET_BYTEORDER ≡ 0x4000 }
+    ensures type_mask { NLA_TYPE_MASK ≡ 0x3fff }
+    ensures align_to { NLA_ALIGNTO ≡ 4 }
+    ensures header_size { NLA_HEADER_SIZE ≡ 4 }
+{}
+
+/// Which value is the default.
+pub fn law_default()
+    ensures { (x : AddressFamily) → ⟦<AddressFamily as Default>⟧.is_default x → x ≡ AddressFamily.Unspec }
+{}
+
+/// `==` answers whether two values are equal.
+pub fn law_equality()
+    ensures address_family { IsEquality ⟦<AddressFamily as PartialEq>⟧.eq }
+    ensures ipv4 { IsEquality ⟦<Ipv4Addr as PartialEq>⟧.eq }
+    ensures ipv6 { IsEquality ⟦<Ipv6Addr as PartialEq>⟧.eq }
+    ensures ip { IsEquality ⟦<IpAddr as PartialEq>⟧.eq }
+    ensures attr_family { IsEquality ⟦<AttrFamily as PartialEq>⟧.eq }
+    ensures at { IsEquality ⟦<At as PartialEq>⟧.eq }
+    ensures seg6_fault { IsEquality ⟦<Seg6Fault as PartialEq>⟧.eq }
+    ensures decode_error { IsEquality ⟦<DecodeError as PartialEq>⟧.eq }
+    ensures emit_error { IsEquality ⟦<EmitError as PartialEq>⟧.eq }
+    ensures default_nla { IsEquality ⟦<DefaultNla as PartialEq>⟧.eq }
+    ensures nla_buffer { IsEquality ⟦<NlaBuffer<'static> as PartialEq>⟧.eq }
+    ensures walk { IsEquality ⟦<NlasIterator<'static> as PartialEq>⟧.eq }
+    ensures looks { IsEquality ⟦<Looks as PartialEq>⟧.eq }
+{}
