@@ -6,3 +6,4 @@ pub mod Looking
 pub mod Names
 pub mod Messages
 pub mod Mapped
+pub mod V6Lists
