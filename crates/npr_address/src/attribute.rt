@@ -133,20 +133,20 @@ impl Nla for AddressAttribute {
 
     fn write_value(&self, out: &mut [u8]) -> usize {
         match self {
-            AddressAttribute::Address(ip) | AddressAttribute::Local(ip) => write_ip(out, ip),
-            AddressAttribute::Label(name) => write_name(out, name.as_str()),
+            AddressAttribute::Address(ip) | AddressAttribute::Local(ip) => write_ip(ip, out),
+            AddressAttribute::Label(name) => write_name(name.as_str(), out),
             AddressAttribute::CacheInfo(info) => {
-                write_bytes(out, &CacheInfoBuffer::from(info).to_bytes())
+                write_bytes(&CacheInfoBuffer::from(info).to_bytes(), out)
             }
-            AddressAttribute::Broadcast(ip) => write_bytes(out, &ip.octets()),
+            AddressAttribute::Broadcast(ip) => write_bytes(&ip.octets(), out),
             AddressAttribute::Anycast(ip) | AddressAttribute::Multicast(ip) => {
-                write_bytes(out, &ip.octets())
+                write_bytes(&ip.octets(), out)
             }
-            AddressAttribute::Flags(flags) => write_bytes(out, &flags.bits().to_le_bytes()),
-            AddressAttribute::RoutePriority(n) => write_bytes(out, &n.to_le_bytes()),
-            AddressAttribute::TargetNetNsId(n) => write_bytes(out, &n.to_le_bytes()),
-            AddressAttribute::Protocol(protocol) => write_bytes(out, &[u8::from(*protocol)]),
-            AddressAttribute::Other(nla) => write_bytes(out, nla.value()),
+            AddressAttribute::Flags(flags) => write_bytes(&flags.bits().to_le_bytes(), out),
+            AddressAttribute::RoutePriority(n) => write_bytes(&n.to_le_bytes(), out),
+            AddressAttribute::TargetNetNsId(n) => write_bytes(&n.to_le_bytes(), out),
+            AddressAttribute::Protocol(protocol) => write_bytes(&[u8::from(*protocol)], out),
+            AddressAttribute::Other(nla) => write_bytes(nla.value(), out),
         }
     }
 }

@@ -116,6 +116,6 @@ impl Emitable for CacheInfo {
     }
 
     fn emit(&self, out: &mut [u8]) {
-        write_bytes(out, &CacheInfoBuffer::from(self).to_bytes());
+        write_bytes(&CacheInfoBuffer::from(self).to_bytes(), out);
     }
 }

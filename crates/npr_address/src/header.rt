@@ -144,6 +144,6 @@ impl Emitable for AddressHeader {
     }
 
     fn emit(&self, out: &mut [u8]) {
-        write_bytes(out, &AddressMessageBuffer::from(self).to_bytes());
+        write_bytes(&AddressMessageBuffer::from(self).to_bytes(), out);
     }
 }

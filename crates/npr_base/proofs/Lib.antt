@@ -7,3 +7,4 @@ pub mod Names
 pub mod Messages
 pub mod Mapped
 pub mod WalkLaws
+pub mod V6Lists

@@ -3,7 +3,6 @@ use Rattle.std.specs.Prelude.{◌≡◌, ℕ, ◌+◌, ◌^◌, ◌<◌, Bool, t
 use Rattle.std.specs.Int.{w16, w32, w64, to_le_bytes, from_le_bytes, to_be_bytes, from_be_bytes, cast_signed, cast_unsigned}
 use Rattle.npr_base.specs.Framing.{IsBytes}
 use Rattle.npr_base.specs.Rows.{IsFormed}
-use Rattle.npr_base.specs.RowLaws.{form_IsFormed}
 use Rattle.npr_base.specs.LayoutLaws.{le16-holds, le32-holds, le64-holds, be16-holds, be32-holds, be64-holds, signed32-back, signed32-holds}
 use Rattle.std.proofs.Common.{arith, refl, sym, ap, subst, ◌∙◌}
 use Rattle.std.proofs.lemmas.Nat.{from_le_bytes-to_le_bytes_2, from_le_bytes-to_le_bytes_4, from_le_bytes-to_le_bytes_8, from_be_bytes-to_be_bytes_2, from_be_bytes-to_be_bytes_4, from_be_bytes-to_be_bytes_8}
@@ -20,85 +19,43 @@ pub record Layout (V : Type 0) : Type 1 where
   pub decode-encode : (x : V) → Holds x → decode (encode x) ≡ x
   pub Holds-decode : (bytes : List ℕ) → IsBytes bytes → length bytes ≡ size → Holds (decode bytes)
 
+-- a number in so many bytes, of so many bits
+abbrev pub number_in : (size bits : ℕ) (decode : List ℕ → ℕ) (encode : ℕ → List ℕ)
+    → ((n : ℕ) → n < 2 ^ bits → length (encode n) ≡ size) → ((n : ℕ) → n < 2 ^ bits → decode (encode n) ≡ n)
+    → ((bytes : List ℕ) → IsBytes bytes → length bytes ≡ size → decode bytes < 2 ^ bits) → Layout ℕ
+number_in size bits decode encode long back holds = record {
+  size = size;
+  decode = decode;
+  encode = encode;
+  Holds = λ n. n < 2 ^ bits;
+  length-encode = long;
+  decode-encode = back;
+  Holds-decode = holds;
+}
+
 -- a number in one byte
 abbrev pub byte : Layout ℕ
-byte = record {
-  size = 1;
-  decode = λ bytes. slice_index bytes 0;
-  encode = λ n. n ∷ [];
-  Holds = λ n. n < 2 ^ 8;
-  length-encode = λ n h. refl;
-  decode-encode = λ n h. refl;
-  Holds-decode = λ bytes is e. is 0;
-}
+byte = number_in 1 8 (λ bytes. slice_index bytes 0) (λ n. n ∷ []) (λ n h. refl) (λ n h. refl) (λ bytes is e. is 0)
 
 -- numbers in two, four and eight bytes, the lowest first
 abbrev pub le16 : Layout ℕ
-le16 = record {
-  size = 2;
-  decode = from_le_bytes w16;
-  encode = to_le_bytes w16;
-  Holds = λ n. n < 2 ^ 16;
-  length-encode = λ n h. refl;
-  decode-encode = from_le_bytes-to_le_bytes_2;
-  Holds-decode = le16-holds;
-}
+le16 = number_in 2 16 (from_le_bytes w16) (to_le_bytes w16) (λ n h. refl) from_le_bytes-to_le_bytes_2 le16-holds
 
 abbrev pub le32 : Layout ℕ
-le32 = record {
-  size = 4;
-  decode = from_le_bytes w32;
-  encode = to_le_bytes w32;
-  Holds = λ n. n < 2 ^ 32;
-  length-encode = λ n h. refl;
-  decode-encode = from_le_bytes-to_le_bytes_4;
-  Holds-decode = le32-holds;
-}
+le32 = number_in 4 32 (from_le_bytes w32) (to_le_bytes w32) (λ n h. refl) from_le_bytes-to_le_bytes_4 le32-holds
 
 abbrev pub le64 : Layout ℕ
-le64 = record {
-  size = 8;
-  decode = from_le_bytes w64;
-  encode = to_le_bytes w64;
-  Holds = λ n. n < 2 ^ 64;
-  length-encode = λ n h. refl;
-  decode-encode = from_le_bytes-to_le_bytes_8;
-  Holds-decode = le64-holds;
-}
+le64 = number_in 8 64 (from_le_bytes w64) (to_le_bytes w64) (λ n h. refl) from_le_bytes-to_le_bytes_8 le64-holds
 
 -- the same, the highest byte first
 abbrev pub be16 : Layout ℕ
-be16 = record {
-  size = 2;
-  decode = from_be_bytes w16;
-  encode = to_be_bytes w16;
-  Holds = λ n. n < 2 ^ 16;
-  length-encode = λ n h. refl;
-  decode-encode = from_be_bytes-to_be_bytes_2;
-  Holds-decode = be16-holds;
-}
+be16 = number_in 2 16 (from_be_bytes w16) (to_be_bytes w16) (λ n h. refl) from_be_bytes-to_be_bytes_2 be16-holds
 
 abbrev pub be32 : Layout ℕ
-be32 = record {
-  size = 4;
-  decode = from_be_bytes w32;
-  encode = to_be_bytes w32;
-  Holds = λ n. n < 2 ^ 32;
-  length-encode = λ n h. refl;
-  decode-encode = from_be_bytes-to_be_bytes_4;
-  Holds-decode = be32-holds;
-}
+be32 = number_in 4 32 (from_be_bytes w32) (to_be_bytes w32) (λ n h. refl) from_be_bytes-to_be_bytes_4 be32-holds
 
 abbrev pub be64 : Layout ℕ
-be64 = record {
-  size = 8;
-  decode = from_be_bytes w64;
-  encode = to_be_bytes w64;
-  Holds = λ n. n < 2 ^ 64;
-  length-encode = λ n h. refl;
-  decode-encode = from_be_bytes-to_be_bytes_8;
-  Holds-decode = be64-holds;
-}
+be64 = number_in 8 64 (from_be_bytes w64) (to_be_bytes w64) (λ n h. refl) from_be_bytes-to_be_bytes_8 be64-holds
 
 -- true for a byte above 0, written as 1 or 0
 abbrev pub truth_byte : Bool → ℕ
@@ -144,21 +101,10 @@ octets n = record {
   Holds-decode = λ bytes is e. (e, is);
 }
 
--- values with numbers, as enumerations and sets of flags: the number is written, and a value can be
--- held if it is the form of its number; likewise a struct of such fields over one of their numbers
-abbrev pub formed : {N V : Type 0} (L : Layout N) (form : N → V) (number : V → N) → ((d : N) → number (form d) ≡ d) → Layout V
-formed L form number same = record {
-  size = L.size;
-  decode = λ bytes. form (L.decode bytes);
-  encode = λ x. L.encode (number x);
-  Holds = λ x. L.Holds (number x) × IsFormed form number x;
-  length-encode = λ x h. L.length-encode (number x) h.0;
-  decode-encode = λ x h. ap form (L.decode-encode (number x) h.0) ∙ sym h.1;
-  Holds-decode = λ bytes is e. (subst L.Holds (sym (same (L.decode bytes))) (L.Holds-decode bytes is e), form_IsFormed form number same (L.decode bytes));
-}
-
--- the same where the form drops what is reserved
-abbrev pub reduced : {N V : Type 0} (L : Layout N) (form : N → V) (number : V → N) → ((d : N) → form (number (form d)) ≡ form d) → ((d : N) → L.Holds d → L.Holds (number (form d))) → Layout V
+-- values with numbers, as enumerations and sets of flags: the number is written, and a value can be held if it is the
+-- form of its number; the form may drop what is reserved
+abbrev pub reduced : {N V : Type 0} (L : Layout N) (form : N → V) (number : V → N) → ((d : N) → form (number (form d)) ≡ form d)
+    → ((d : N) → L.Holds d → L.Holds (number (form d))) → Layout V
 reduced L form number same holds = record {
   size = L.size;
   decode = λ bytes. form (L.decode bytes);
@@ -169,7 +115,11 @@ reduced L form number same holds = record {
   Holds-decode = λ bytes is e. (holds (L.decode bytes) (L.Holds-decode bytes is e), sym (same (L.decode bytes)));
 }
 
--- the numbers that stand at a place of a fixed layout
+-- the same where the form drops nothing; likewise a struct of such fields over one of their numbers
+abbrev pub formed : {N V : Type 0} (L : Layout N) (form : N → V) (number : V → N) → ((d : N) → number (form d) ≡ d) → Layout V
+formed L form number same = reduced L form number (λ d. ap form (same d)) (λ d h. subst L.Holds (sym (same d)) h)
+
+-- the numbers that stand at a place of a fixed layout, the lowest byte first
 abbrev pub le16_at : List ℕ → ℕ → ℕ
 le16_at b i = from_le_bytes w16 (slice_index b i ∷ slice_index b (i + 1) ∷ [])
 
@@ -177,13 +127,22 @@ abbrev pub le32_at : List ℕ → ℕ → ℕ
 le32_at b i = from_le_bytes w32 (slice_index b i ∷ slice_index b (i + 1) ∷ slice_index b (i + 2) ∷ slice_index b (i + 3) ∷ [])
 
 abbrev pub le64_at : List ℕ → ℕ → ℕ
-le64_at b i = from_le_bytes w64 (slice_index b i ∷ slice_index b (i + 1) ∷ slice_index b (i + 2) ∷ slice_index b (i + 3) ∷ slice_index b (i + 4) ∷ slice_index b (i + 5) ∷ slice_index b (i + 6) ∷ slice_index b (i + 7) ∷ [])
+le64_at b i =
+    from_le_bytes w64 (slice_index b i ∷ slice_index b (i + 1) ∷ slice_index b (i + 2) ∷ slice_index b (i + 3)
+    ∷ slice_index b (i + 4) ∷ slice_index b (i + 5) ∷ slice_index b (i + 6) ∷ slice_index b (i + 7) ∷ [])
 
-pub le64_at-holds : (b : List ℕ) (i : ℕ) → IsBytes b → le64_at b i < 2 ^ 64
-le64_at-holds b i is = omega (arith, is i, is (i + 1), is (i + 2), is (i + 3), is (i + 4), is (i + 5), is (i + 6), is (i + 7))
+-- the same, the highest byte first
+abbrev pub be16_at : List ℕ → ℕ → ℕ
+be16_at b i = from_be_bytes w16 (slice_index b i ∷ slice_index b (i + 1) ∷ [])
+
+abbrev pub be32_at : List ℕ → ℕ → ℕ
+be32_at b i = from_be_bytes w32 (slice_index b i ∷ slice_index b (i + 1) ∷ slice_index b (i + 2) ∷ slice_index b (i + 3) ∷ [])
 
 pub le16_at-holds : (b : List ℕ) (i : ℕ) → IsBytes b → le16_at b i < 2 ^ 16
 le16_at-holds b i is = omega (arith, is i, is (i + 1))
 
 pub le32_at-holds : (b : List ℕ) (i : ℕ) → IsBytes b → le32_at b i < 2 ^ 32
 le32_at-holds b i is = omega (arith, is i, is (i + 1), is (i + 2), is (i + 3))
+
+pub le64_at-holds : (b : List ℕ) (i : ℕ) → IsBytes b → le64_at b i < 2 ^ 64
+le64_at-holds b i is = omega (arith, is i, is (i + 1), is (i + 2), is (i + 3), is (i + 4), is (i + 5), is (i + 6), is (i + 7))

@@ -122,6 +122,6 @@ impl Nla for DefaultNla {
     }
 
     fn write_value(&self, out: &mut [u8]) -> usize {
-        write_bytes(out, self.value.as_slice())
+        write_bytes(self.value.as_slice(), out)
     }
 }

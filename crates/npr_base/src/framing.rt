@@ -225,7 +225,7 @@ pub fn marked_kind(kind: u16, nested: bool) -> u16
 }
 
 /// Copies the bytes to the front of the slice, leaves the rest, and answers their length.
-pub fn write_bytes(out: &mut [u8], bytes: &[u8]) -> usize
+pub fn write_bytes(bytes: &[u8], out: &mut [u8]) -> usize
     requires { length bytes.now ≤ length out.old }
     ensures len { result ≡ length bytes.now }
     ensures after { Writes out.old out.new bytes.now }
@@ -234,20 +234,20 @@ pub fn write_bytes(out: &mut [u8], bytes: &[u8]) -> usize
     bytes.len()
 }
 
-fn write_zeros(out: &mut [u8], count: usize)
+fn write_zeros(count: usize, out: &mut [u8])
     requires { count ≤ length out.old }
     ensures { Writes out.old out.new (replicate count 0) }
 {
     out[..count].fill(0);
 }
 
-fn write_header(out: &mut [u8], size: u16, kind: u16)
+fn write_header(size: u16, kind: u16, out: &mut [u8])
     requires { 4 ≤ length out.old }
     ensures { Writes out.old out.new (to_le_bytes w16 size ++ to_le_bytes w16 kind) }
 {
     let [a, b] = size.to_le_bytes();
     let [c, d] = kind.to_le_bytes();
-    write_bytes(out, &[a, b, c, d]);
+    write_bytes(&[a, b, c, d], out);
 }
 
 /// Writes the header in front of a value that stands already, and zeros after it to the next
@@ -260,7 +260,7 @@ pub(crate) fn frame(out: &mut [u8], kind: u16, len: usize) -> usize
 {
     let size = NLA_HEADER_SIZE + len;
     let end = size.next_multiple_of(NLA_ALIGNTO);
-    write_header(out, size as u16, kind);
-    write_zeros(&mut out[size..], end - size);
+    write_header(size as u16, kind, out);
+    write_zeros(end - size, &mut out[size..]);
     end
 }

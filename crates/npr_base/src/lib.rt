@@ -28,9 +28,9 @@ pub use list::{check_list, clone_list, emit_list, list_len, parse_list, plus, wr
 pub use looks::Looks;
 pub use refusal::{At, AttrFamily, DecodeError, EmitError, Seg6Fault};
 pub use traits::{Emitable, Nla, Parseable, ParseableParametrized};
-pub use v6_list::{emit_v6_list, read_v6_list, v6_list_len};
+pub use v6_list::{emit_v6_list, read_v6_list, v6_list_len, write_v6_list};
 pub use values::{
-    ip_len, read_4, read_8, read_16, read_bool, read_bytes, read_i32, read_ip, read_ipv4,
-    read_ipv6, read_name, read_u8, read_u16, read_u16_be, read_u32, read_u32_be, read_u64,
+    ip_len, leading_octets, read_bool, read_bytes, read_i32, read_ip, read_ipv4, read_ipv6,
+    read_name, read_octets, read_u8, read_u16, read_u16_be, read_u32, read_u32_be, read_u64,
     read_u64_be, write_ip, write_name,
 };

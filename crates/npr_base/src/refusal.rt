@@ -55,6 +55,15 @@ pub struct At {
     pub kind: u16,
 }
 
+impl AttrFamily {
+    /// The place of the attribute of this number in the family.
+    pub const fn at(self, kind: u16) -> At
+        ensures { result ≡ record { family = self; kind = kind } }
+    {
+        At { family: self, kind }
+    }
+}
+
 impl At {
     /// The place of a value that is read by itself: no family, and the number 0.
     pub const NO_PLACE: At = At {

@@ -1,10 +1,11 @@
 //! Lists of addresses of IP version 6, as routing headers have them (RFC 8754, RFC 6554): 16 bytes
 //! each, one after the other.
 
-ghost use Rattle.std.specs.Prelude.{◌≡◌, ◌*◌, ◌%◌, ◌^◌, ◌<◌, length, IfOk, IfErr};
+ghost use Rattle.std.specs.Prelude.{◌≡◌, ◌*◌, ◌%◌, ◌^◌, ◌<◌, ◌≤◌, ◌⊎◌, length, IfOk, IfErr};
 ghost use Rattle.std.specs.List.{concat};
 ghost use Rattle.npr_base.specs.declared.refusal.DecodeError.TheVariants.{OutOfMemory};
 ghost use Rattle.npr_base.specs.Family.{AllOf};
+ghost use Rattle.npr_base.specs.Framing.{Writes};
 ghost use Rattle.npr_base.specs.V6List.{IsV6List};
 
 use crate::framing::write_bytes;
@@ -46,14 +47,35 @@ pub fn v6_list_len(addresses: &[Ipv6Addr]) -> usize
     total
 }
 
+/// Writes the addresses into a slice that has room by their bytes, or 16 bytes for each.
+fn write_each(addresses: &[Ipv6Addr], out: &mut [u8]) -> usize
+    requires { (length (concat addresses.now) ≤ length out.old) ⊎ (16 * length addresses.now ≤ length out.old) }
+    ensures each { result ≡ 16 * length addresses.now }
+    ensures len { result ≡ length (concat addresses.now) }
+    ensures after { Writes out.old out.new (concat addresses.now) }
+{
+    let mut at = 0usize;
+    for address in addresses {
+        at += write_bytes(&address.octets(), &mut out[at..]);
+    }
+    at
+}
+
+/// Writes the addresses one after the other at the front of the slice, in the order of the list,
+/// leaves the rest, and answers their length.
+pub fn write_v6_list(addresses: &[Ipv6Addr], out: &mut [u8]) -> usize
+    requires { length (concat addresses.now) ≤ length out.old }
+    ensures len { result ≡ length (concat addresses.now) }
+    ensures after { Writes out.old out.new (concat addresses.now) }
+{
+    write_each(addresses, out)
+}
+
 /// Writes the addresses one after the other, in the order of the list, into a slice of exactly 16
 /// bytes for each.
 pub fn emit_v6_list(addresses: &[Ipv6Addr], out: &mut [u8])
     requires { length out.old ≡ 16 * length addresses.now }
     ensures { out.new ≡ concat addresses.now }
 {
-    let mut at = 0usize;
-    for address in addresses {
-        at += write_bytes(&mut out[at..], &address.octets());
-    }
+    write_each(addresses, out);
 }

@@ -5,17 +5,54 @@ ghost use Rattle.std.specs.String.{string_bytes};
 ghost use Rattle.npr_base.specs.declared.refusal.DecodeError.TheVariants.{OutOfMemory};
 ghost use Rattle.npr_base.specs.Framing.{Writes};
 ghost use Rattle.npr_base.specs.Layout.{byte, le16, le32, le64, be16, be32, be64, signed32, boolean, octets};
-ghost use Rattle.npr_base.specs.Codec.{exactly, raw};
+ghost use Rattle.npr_base.specs.Codec.{exactly, leading, raw};
 ghost use Rattle.npr_base.specs.Ip.{octets_of};
 ghost use Rattle.npr_base.specs.IpCodec.{ip};
 ghost use Rattle.npr_base.specs.Name.{name};
 ghost use Rattle.npr_base.specs.NameLaws.{IsUnterminated};
+ghost use Rattle.npr_base.specs.Refusal.{no_place};
 
 use crate::framing::write_bytes;
 use crate::ip::{IpAddr, Ipv4Addr, Ipv6Addr};
 use crate::refusal::{At, DecodeError};
 use std::alloc::{AllocError, Global};
 use std::str::from_utf8;
+
+/// So many bytes, as they stand.
+///
+/// # Errors
+/// `ValueLength` at another length.
+pub fn read_octets<const N: usize>(value: &[u8], at: At) -> Result<[u8; N], DecodeError>
+    ensures ok { IfOk result (λ x. (exactly (octets N)).Reads value.now x) }
+    ensures refused { IfErr result (λ e. (exactly (octets N)).Wrong at value.now e) }
+{
+    if value.len() != N {
+        return Err(DecodeError::ValueLength {
+            at,
+            got: value.len(),
+        });
+    }
+    let mut bytes = [0u8; N];
+    bytes.copy_from_slice(value);
+    Ok(bytes)
+}
+
+/// So many bytes in front; those behind them are not looked at.
+///
+/// # Errors
+/// `HeaderTooShort` below that length.
+pub fn leading_octets(bytes: &[u8], want: usize) -> Result<&[u8], DecodeError>
+    ensures ok { IfOk result (λ front. (leading (octets want)).Reads bytes.now front.now) }
+    ensures refused { IfErr result (λ e. (leading (octets want)).Wrong no_place bytes.now e) }
+{
+    if bytes.len() < want {
+        return Err(DecodeError::HeaderTooShort {
+            got: bytes.len(),
+            want,
+        });
+    }
+    Ok(&bytes[..want])
+}
 
 /// A number of one byte.
 ///
@@ -25,13 +62,8 @@ pub fn read_u8(value: &[u8], at: At) -> Result<u8, DecodeError>
     ensures ok { IfOk result (λ n. (exactly byte).Reads value.now n) }
     ensures refused { IfErr result (λ e. (exactly byte).Wrong at value.now e) }
 {
-    match value {
-        [a] => Ok(*a),
-        _ => Err(DecodeError::ValueLength {
-            at,
-            got: value.len(),
-        }),
-    }
+    let [n] = read_octets::<1>(value, at)?;
+    Ok(n)
 }
 
 /// A truth value of one byte: true above 0.
@@ -42,83 +74,7 @@ pub fn read_bool(value: &[u8], at: At) -> Result<bool, DecodeError>
     ensures ok { IfOk result (λ b. (exactly boolean).Reads value.now b) }
     ensures refused { IfErr result (λ e. (exactly boolean).Wrong at value.now e) }
 {
-    match value {
-        [a] => Ok(0 < *a),
-        _ => Err(DecodeError::ValueLength {
-            at,
-            got: value.len(),
-        }),
-    }
-}
-
-/// Two bytes.
-///
-/// # Errors
-/// `ValueLength` at another length.
-fn two(value: &[u8], at: At) -> Result<[u8; 2], DecodeError>
-    ensures ok { IfOk result (λ x. (exactly (octets 2)).Reads value.now x) }
-    ensures refused { IfErr result (λ e. (exactly (octets 2)).Wrong at value.now e) }
-{
-    match value {
-        [a, b] => Ok([*a, *b]),
-        _ => Err(DecodeError::ValueLength {
-            at,
-            got: value.len(),
-        }),
-    }
-}
-
-/// Four bytes, as they stand.
-///
-/// # Errors
-/// `ValueLength` at another length.
-pub fn read_4(value: &[u8], at: At) -> Result<[u8; 4], DecodeError>
-    ensures ok { IfOk result (λ x. (exactly (octets 4)).Reads value.now x) }
-    ensures refused { IfErr result (λ e. (exactly (octets 4)).Wrong at value.now e) }
-{
-    match value {
-        [a, b, c, d] => Ok([*a, *b, *c, *d]),
-        _ => Err(DecodeError::ValueLength {
-            at,
-            got: value.len(),
-        }),
-    }
-}
-
-/// Eight bytes, as they stand.
-///
-/// # Errors
-/// `ValueLength` at another length.
-pub fn read_8(value: &[u8], at: At) -> Result<[u8; 8], DecodeError>
-    ensures ok { IfOk result (λ x. (exactly (octets 8)).Reads value.now x) }
-    ensures refused { IfErr result (λ e. (exactly (octets 8)).Wrong at value.now e) }
-{
-    match value {
-        [a, b, c, d, e, f, g, h] => Ok([*a, *b, *c, *d, *e, *f, *g, *h]),
-        _ => Err(DecodeError::ValueLength {
-            at,
-            got: value.len(),
-        }),
-    }
-}
-
-/// Sixteen bytes, as they stand.
-///
-/// # Errors
-/// `ValueLength` at another length.
-pub fn read_16(value: &[u8], at: At) -> Result<[u8; 16], DecodeError>
-    ensures ok { IfOk result (λ x. (exactly (octets 16)).Reads value.now x) }
-    ensures refused { IfErr result (λ e. (exactly (octets 16)).Wrong at value.now e) }
-{
-    if value.len() != 16 {
-        return Err(DecodeError::ValueLength {
-            at,
-            got: value.len(),
-        });
-    }
-    let mut bytes = [0u8; 16];
-    bytes.copy_from_slice(value);
-    Ok(bytes)
+    Ok(0 < read_u8(value, at)?)
 }
 
 /// A number of two bytes, little endian.
@@ -129,7 +85,7 @@ pub fn read_u16(value: &[u8], at: At) -> Result<u16, DecodeError>
     ensures ok { IfOk result (λ n. (exactly le16).Reads value.now n) }
     ensures refused { IfErr result (λ e. (exactly le16).Wrong at value.now e) }
 {
-    Ok(u16::from_le_bytes(two(value, at)?))
+    Ok(u16::from_le_bytes(read_octets(value, at)?))
 }
 
 /// A number of two bytes, big endian.
@@ -140,7 +96,7 @@ pub fn read_u16_be(value: &[u8], at: At) -> Result<u16, DecodeError>
     ensures ok { IfOk result (λ n. (exactly be16).Reads value.now n) }
     ensures refused { IfErr result (λ e. (exactly be16).Wrong at value.now e) }
 {
-    Ok(u16::from_be_bytes(two(value, at)?))
+    Ok(u16::from_be_bytes(read_octets(value, at)?))
 }
 
 /// A number of four bytes, little endian.
@@ -151,7 +107,7 @@ pub fn read_u32(value: &[u8], at: At) -> Result<u32, DecodeError>
     ensures ok { IfOk result (λ n. (exactly le32).Reads value.now n) }
     ensures refused { IfErr result (λ e. (exactly le32).Wrong at value.now e) }
 {
-    Ok(u32::from_le_bytes(read_4(value, at)?))
+    Ok(u32::from_le_bytes(read_octets(value, at)?))
 }
 
 /// A number of four bytes, big endian.
@@ -162,7 +118,7 @@ pub fn read_u32_be(value: &[u8], at: At) -> Result<u32, DecodeError>
     ensures ok { IfOk result (λ n. (exactly be32).Reads value.now n) }
     ensures refused { IfErr result (λ e. (exactly be32).Wrong at value.now e) }
 {
-    Ok(u32::from_be_bytes(read_4(value, at)?))
+    Ok(u32::from_be_bytes(read_octets(value, at)?))
 }
 
 /// A signed number of four bytes, little endian.
@@ -173,7 +129,7 @@ pub fn read_i32(value: &[u8], at: At) -> Result<i32, DecodeError>
     ensures ok { IfOk result (λ n. (exactly signed32).Reads value.now n) }
     ensures refused { IfErr result (λ e. (exactly signed32).Wrong at value.now e) }
 {
-    Ok(i32::from_le_bytes(read_4(value, at)?))
+    Ok(i32::from_le_bytes(read_octets(value, at)?))
 }
 
 /// A number of eight bytes, little endian.
@@ -184,7 +140,7 @@ pub fn read_u64(value: &[u8], at: At) -> Result<u64, DecodeError>
     ensures ok { IfOk result (λ n. (exactly le64).Reads value.now n) }
     ensures refused { IfErr result (λ e. (exactly le64).Wrong at value.now e) }
 {
-    Ok(u64::from_le_bytes(read_8(value, at)?))
+    Ok(u64::from_le_bytes(read_octets(value, at)?))
 }
 
 /// A number of eight bytes, big endian.
@@ -195,7 +151,7 @@ pub fn read_u64_be(value: &[u8], at: At) -> Result<u64, DecodeError>
     ensures ok { IfOk result (λ n. (exactly be64).Reads value.now n) }
     ensures refused { IfErr result (λ e. (exactly be64).Wrong at value.now e) }
 {
-    Ok(u64::from_be_bytes(read_8(value, at)?))
+    Ok(u64::from_be_bytes(read_octets(value, at)?))
 }
 
 /// An address of version 4.
@@ -206,7 +162,7 @@ pub fn read_ipv4(value: &[u8], at: At) -> Result<Ipv4Addr, DecodeError>
     ensures ok { IfOk result (λ address. (exactly (octets 4)).Reads value.now address) }
     ensures refused { IfErr result (λ e. (exactly (octets 4)).Wrong at value.now e) }
 {
-    Ok(Ipv4Addr::from(read_4(value, at)?))
+    Ok(Ipv4Addr::from(read_octets(value, at)?))
 }
 
 /// An address of version 6.
@@ -217,7 +173,7 @@ pub fn read_ipv6(value: &[u8], at: At) -> Result<Ipv6Addr, DecodeError>
     ensures ok { IfOk result (λ address. (exactly (octets 16)).Reads value.now address) }
     ensures refused { IfErr result (λ e. (exactly (octets 16)).Wrong at value.now e) }
 {
-    Ok(Ipv6Addr::from(read_16(value, at)?))
+    Ok(Ipv6Addr::from(read_octets(value, at)?))
 }
 
 /// An address: of version 4 in 4 bytes, of version 6 in 16.
@@ -246,14 +202,14 @@ pub fn ip_len(address: &IpAddr) -> usize
 }
 
 /// Writes an address at the front of the slice, leaves the rest, and answers its length.
-pub fn write_ip(out: &mut [u8], address: &IpAddr) -> usize
+pub fn write_ip(address: &IpAddr, out: &mut [u8]) -> usize
     requires { length (octets_of address.now) ≤ length out.old }
     ensures len { result ≡ length (octets_of address.now) }
     ensures after { Writes out.old out.new (octets_of address.now) }
 {
     match address {
-        IpAddr::V4(v4) => write_bytes(out, &v4.octets()),
-        IpAddr::V6(v6) => write_bytes(out, &v6.octets()),
+        IpAddr::V4(v4) => write_bytes(&v4.octets(), out),
+        IpAddr::V6(v6) => write_bytes(&v6.octets(), out),
     }
 }
 
@@ -296,13 +252,13 @@ pub fn read_name(alloc: Global, value: &[u8], at: At) -> Result<String, DecodeEr
 }
 
 /// Writes a name and one zero at the front of the slice, leaves the rest, and answers their length.
-pub fn write_name(out: &mut [u8], text: &str) -> usize
+pub fn write_name(text: &str, out: &mut [u8]) -> usize
     requires { length text.now + 1 ≤ length out.old }
     ensures len { result ≡ length text.now + 1 }
     ensures after { Writes out.old out.new (name.writes text.now) }
 {
     let len = text.len();
     out[len] = 0;
-    write_bytes(out, text.as_bytes());
+    write_bytes(text.as_bytes(), out);
     len + 1
 }

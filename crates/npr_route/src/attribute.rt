@@ -261,7 +261,7 @@ impl Nla for RouteAttribute {
             Self::Via(x) => x.write(out),
             Self::Metrics(list) => write_list(list.as_slice(), out),
             Self::Encap(list) => write_list(list.as_slice(), out),
-            Self::NewDestination(labels) => write_labels(out, labels.as_slice()),
+            Self::NewDestination(labels) => write_labels(labels.as_slice(), out),
             Self::Iif(x)
             | Self::Oif(x)
             | Self::Priority(x)
@@ -269,18 +269,18 @@ impl Nla for RouteAttribute {
             | Self::Mark(x)
             | Self::Expires(x)
             | Self::Uid(x)
-            | Self::NhId(x) => write_bytes(out, &x.to_le_bytes()),
-            Self::MulticastExpires(x) => write_bytes(out, &x.to_le_bytes()),
-            Self::Sport(x) | Self::Dport(x) => write_bytes(out, &x.to_be_bytes()),
-            Self::Flowlabel(x) => write_bytes(out, &x.to_be_bytes()),
-            Self::IpProto(x) => write_bytes(out, &[*x]),
-            Self::Realm(x) => write_bytes(out, &u32::from(*x).to_le_bytes()),
-            Self::Preference(x) => write_bytes(out, &[u8::from(*x)]),
-            Self::TtlPropagate(x) => write_bytes(out, &[u8::from(*x)]),
-            Self::EncapType(x) => write_bytes(out, &u16::from(*x).to_le_bytes()),
-            Self::CacheInfo(x) => write_bytes(out, &RouteCacheInfoBuffer::from(x).to_bytes()),
-            Self::MfcStats(x) => write_bytes(out, &RouteMfcStatsBuffer::from(x).to_bytes()),
-            Self::Other(nla) => write_bytes(out, nla.value()),
+            | Self::NhId(x) => write_bytes(&x.to_le_bytes(), out),
+            Self::MulticastExpires(x) => write_bytes(&x.to_le_bytes(), out),
+            Self::Sport(x) | Self::Dport(x) => write_bytes(&x.to_be_bytes(), out),
+            Self::Flowlabel(x) => write_bytes(&x.to_be_bytes(), out),
+            Self::IpProto(x) => write_bytes(&[*x], out),
+            Self::Realm(x) => write_bytes(&u32::from(*x).to_le_bytes(), out),
+            Self::Preference(x) => write_bytes(&[u8::from(*x)], out),
+            Self::TtlPropagate(x) => write_bytes(&[u8::from(*x)], out),
+            Self::EncapType(x) => write_bytes(&u16::from(*x).to_le_bytes(), out),
+            Self::CacheInfo(x) => write_bytes(&RouteCacheInfoBuffer::from(x).to_bytes(), out),
+            Self::MfcStats(x) => write_bytes(&RouteMfcStatsBuffer::from(x).to_bytes(), out),
+            Self::Other(nla) => write_bytes(nla.value(), out),
         }
     }
 }

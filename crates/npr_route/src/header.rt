@@ -177,6 +177,6 @@ impl Emitable for RouteHeader {
     }
 
     fn emit(&self, out: &mut [u8]) {
-        write_bytes(out, &RouteMessageBuffer::from(self).to_bytes());
+        write_bytes(&RouteMessageBuffer::from(self).to_bytes(), out);
     }
 }

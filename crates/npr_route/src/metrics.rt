@@ -160,9 +160,9 @@ impl Nla for RouteMetric {
             | RouteMetric::RtoMin(n)
             | RouteMetric::InitRwnd(n)
             | RouteMetric::QuickAck(n)
-            | RouteMetric::FastopenNoCookie(n) => write_bytes(out, &n.to_le_bytes()),
-            RouteMetric::CcAlgo(name) => write_name(out, name.as_str()),
-            RouteMetric::Other(nla) => write_bytes(out, nla.value()),
+            | RouteMetric::FastopenNoCookie(n) => write_bytes(&n.to_le_bytes(), out),
+            RouteMetric::CcAlgo(name) => write_name(name.as_str(), out),
+            RouteMetric::Other(nla) => write_bytes(nla.value(), out),
         }
     }
 }

@@ -178,9 +178,9 @@ impl Nla for RuleAttribute {
 
     fn write_value(&self, out: &mut [u8]) -> usize {
         match self {
-            RuleAttribute::Destination(ip) | RuleAttribute::Source(ip) => write_ip(out, ip),
+            RuleAttribute::Destination(ip) | RuleAttribute::Source(ip) => write_ip(ip, out),
             RuleAttribute::Iifname(name) | RuleAttribute::Oifname(name) => {
-                write_name(out, name.as_str())
+                write_name(name.as_str(), out)
             }
             RuleAttribute::Goto(n)
             | RuleAttribute::Priority(n)
@@ -188,17 +188,17 @@ impl Nla for RuleAttribute {
             | RuleAttribute::SuppressIfGroup(n)
             | RuleAttribute::SuppressPrefixLen(n)
             | RuleAttribute::Table(n)
-            | RuleAttribute::FwMask(n) => write_bytes(out, &n.to_le_bytes()),
-            RuleAttribute::Realm(realm) => write_bytes(out, &u32::from(*realm).to_le_bytes()),
-            RuleAttribute::TunId(n) => write_bytes(out, &n.to_be_bytes()),
-            RuleAttribute::L3MDev(is) => write_bytes(out, &[u8::from(*is)]),
-            RuleAttribute::UidRange(range) => write_bytes(out, &range.to_bytes()),
-            RuleAttribute::Protocol(protocol) => write_bytes(out, &[u8::from(*protocol)]),
-            RuleAttribute::IpProtocol(protocol) => write_bytes(out, &[protocol_byte(*protocol)]),
+            | RuleAttribute::FwMask(n) => write_bytes(&n.to_le_bytes(), out),
+            RuleAttribute::Realm(realm) => write_bytes(&u32::from(*realm).to_le_bytes(), out),
+            RuleAttribute::TunId(n) => write_bytes(&n.to_be_bytes(), out),
+            RuleAttribute::L3MDev(is) => write_bytes(&[u8::from(*is)], out),
+            RuleAttribute::UidRange(range) => write_bytes(&range.to_bytes(), out),
+            RuleAttribute::Protocol(protocol) => write_bytes(&[u8::from(*protocol)], out),
+            RuleAttribute::IpProtocol(protocol) => write_bytes(&[protocol_byte(*protocol)], out),
             RuleAttribute::SourcePortRange(range) | RuleAttribute::DestinationPortRange(range) => {
-                write_bytes(out, &range.to_bytes())
+                write_bytes(&range.to_bytes(), out)
             }
-            RuleAttribute::Other(nla) => write_bytes(out, nla.value()),
+            RuleAttribute::Other(nla) => write_bytes(nla.value(), out),
         }
     }
 }

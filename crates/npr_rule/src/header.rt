@@ -166,6 +166,6 @@ impl Emitable for RuleHeader {
     }
 
     fn emit(&self, out: &mut [u8]) {
-        write_bytes(out, &RuleMessageBuffer::from(self).to_bytes());
+        write_bytes(&RuleMessageBuffer::from(self).to_bytes(), out);
     }
 }

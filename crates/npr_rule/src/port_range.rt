@@ -7,7 +7,7 @@ ghost use Rattle.npr_base.specs.Framing.{Writes};
 ghost use Rattle.npr_base.specs.Refusal.{no_place};
 ghost use Rattle.npr_rule.specs.PortRange.{port_range};
 
-use npr_base::{At, DecodeError, EmitError, Emitable, read_4, write_bytes};
+use npr_base::{At, DecodeError, EmitError, Emitable, read_octets, write_bytes};
 
 /// A range of ports, both ends included.
 ///
@@ -38,7 +38,7 @@ impl RulePortRange {
         ensures ok { IfOk result (λ range. (exactly port_range).Reads bytes.now range) }
         ensures refused { IfErr result (λ e. (exactly port_range).Wrong at bytes.now e) }
     {
-        let [a, b, c, d] = read_4(bytes, at)?;
+        let [a, b, c, d] = read_octets::<4>(bytes, at)?;
         Ok(RulePortRange {
             start: u16::from_le_bytes([a, b]),
             end: u16::from_le_bytes([c, d]),
@@ -69,6 +69,6 @@ impl Emitable for RulePortRange {
     }
 
     fn emit(&self, out: &mut [u8]) {
-        write_bytes(out, &self.to_bytes());
+        write_bytes(&self.to_bytes(), out);
     }
 }

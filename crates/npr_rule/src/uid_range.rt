@@ -7,7 +7,7 @@ ghost use Rattle.npr_base.specs.Framing.{Writes};
 ghost use Rattle.npr_base.specs.Refusal.{no_place};
 ghost use Rattle.npr_rule.specs.UidRange.{uid_range};
 
-use npr_base::{At, DecodeError, EmitError, Emitable, read_8, write_bytes};
+use npr_base::{At, DecodeError, EmitError, Emitable, read_octets, write_bytes};
 
 /// A range of users, both ends included.
 ///
@@ -38,7 +38,7 @@ impl RuleUidRange {
         ensures ok { IfOk result (λ range. (exactly uid_range).Reads bytes.now range) }
         ensures refused { IfErr result (λ e. (exactly uid_range).Wrong at bytes.now e) }
     {
-        let [a, b, c, d, e, f, g, h] = read_8(bytes, at)?;
+        let [a, b, c, d, e, f, g, h] = read_octets::<8>(bytes, at)?;
         Ok(RuleUidRange {
             start: u32::from_le_bytes([a, b, c, d]),
             end: u32::from_le_bytes([e, f, g, h]),
@@ -69,6 +69,6 @@ impl Emitable for RuleUidRange {
     }
 
     fn emit(&self, out: &mut [u8]) {
-        write_bytes(out, &self.to_bytes());
+        write_bytes(&self.to_bytes(), out);
     }
 }

@@ -10,9 +10,9 @@ use crate::colors::{Color, Marks};
 use crate::inner::InnerAttribute;
 use crate::pairs::Pair;
 use npr_base::{
-    At, AttrFamily, Attribute, DecodeError, DefaultNla, EmitError, IpAddr, Looks, Nla, NlaBuffer,
-    Parseable, check_len, check_list, clone_list, ip_len, parse_list, read_4, read_16, read_bool,
-    read_bytes, read_i32, read_ip, read_name, read_u8, read_u16, read_u16_be, read_u32,
+    AttrFamily, Attribute, DecodeError, DefaultNla, EmitError, IpAddr, Looks, Nla, NlaBuffer,
+    Parseable, check_len, check_list, clone_list, ip_len, parse_list, read_bool, read_bytes,
+    read_i32, read_ip, read_name, read_octets, read_u8, read_u16, read_u16_be, read_u32,
     read_u32_be, read_u64, read_u64_be, write_bytes, write_ip, write_list, write_name,
 };
 use std::alloc::{AllocError, Global};
@@ -134,14 +134,8 @@ impl SampleAttribute {
     }
 }
 
-const fn at(kind: u16) -> At
-    ensures { result ≡ record { family = AttrFamily.Value; kind = kind } }
-{
-    At {
-        family: AttrFamily::Value,
-        kind,
-    }
-}
+/// The family of these attributes.
+const FAMILY: AttrFamily = AttrFamily::Value;
 
 impl Nla for SampleAttribute {
     ghost item = { λ a. plain_item (place (meaning_of a)) };
@@ -195,29 +189,29 @@ impl Nla for SampleAttribute {
 
     fn write_value(&self, out: &mut [u8]) -> usize {
         match self {
-            SampleAttribute::Octet(n) => write_bytes(out, &[*n]),
-            SampleAttribute::Half(n) => write_bytes(out, &n.to_le_bytes()),
-            SampleAttribute::Word(n) => write_bytes(out, &n.to_le_bytes()),
-            SampleAttribute::Double(n) => write_bytes(out, &n.to_le_bytes()),
-            SampleAttribute::Signed(n) => write_bytes(out, &n.to_le_bytes()),
-            SampleAttribute::NetworkHalf(n) => write_bytes(out, &n.to_be_bytes()),
-            SampleAttribute::NetworkWord(n) => write_bytes(out, &n.to_be_bytes()),
-            SampleAttribute::NetworkDouble(n) => write_bytes(out, &n.to_be_bytes()),
-            SampleAttribute::Truth(b) => write_bytes(out, &[*b as u8]),
-            SampleAttribute::Label(name) => write_name(out, name.as_str()),
-            SampleAttribute::Address(ip) => write_ip(out, ip),
-            SampleAttribute::Four(b) => write_bytes(out, b),
-            SampleAttribute::Sixteen(b) => write_bytes(out, b),
-            SampleAttribute::Blob(v) => write_bytes(out, v.as_slice()),
+            SampleAttribute::Octet(n) => write_bytes(&[*n], out),
+            SampleAttribute::Half(n) => write_bytes(&n.to_le_bytes(), out),
+            SampleAttribute::Word(n) => write_bytes(&n.to_le_bytes(), out),
+            SampleAttribute::Double(n) => write_bytes(&n.to_le_bytes(), out),
+            SampleAttribute::Signed(n) => write_bytes(&n.to_le_bytes(), out),
+            SampleAttribute::NetworkHalf(n) => write_bytes(&n.to_be_bytes(), out),
+            SampleAttribute::NetworkWord(n) => write_bytes(&n.to_be_bytes(), out),
+            SampleAttribute::NetworkDouble(n) => write_bytes(&n.to_be_bytes(), out),
+            SampleAttribute::Truth(b) => write_bytes(&[*b as u8], out),
+            SampleAttribute::Label(name) => write_name(name.as_str(), out),
+            SampleAttribute::Address(ip) => write_ip(ip, out),
+            SampleAttribute::Four(b) => write_bytes(b, out),
+            SampleAttribute::Sixteen(b) => write_bytes(b, out),
+            SampleAttribute::Blob(v) => write_bytes(v.as_slice(), out),
             SampleAttribute::Whole(pair) | SampleAttribute::Prefix(pair) => {
-                write_bytes(out, &pair.to_bytes())
+                write_bytes(&pair.to_bytes(), out)
             }
-            SampleAttribute::Painted(color) => write_bytes(out, &[u8::from(*color)]),
-            SampleAttribute::Marked(marks) => write_bytes(out, &marks.0.to_le_bytes()),
+            SampleAttribute::Painted(color) => write_bytes(&[u8::from(*color)], out),
+            SampleAttribute::Marked(marks) => write_bytes(&marks.0.to_le_bytes(), out),
             SampleAttribute::Inside(list) => write_list(list.as_slice(), out),
-            SampleAttribute::Narrow(n) => write_bytes(out, &n.to_le_bytes()),
-            SampleAttribute::Wide(n) => write_bytes(out, &n.to_le_bytes()),
-            SampleAttribute::Other(nla) => write_bytes(out, nla.value()),
+            SampleAttribute::Narrow(n) => write_bytes(&n.to_le_bytes(), out),
+            SampleAttribute::Wide(n) => write_bytes(&n.to_le_bytes(), out),
+            SampleAttribute::Other(nla) => write_bytes(nla.value(), out),
         }
     }
 }
@@ -245,27 +239,27 @@ impl Attribute for SampleAttribute {
     ) -> Result<Self, DecodeError> {
         let value = item.value();
         match item.kind() {
-            1 => read_u8(value, at(1)).map(SampleAttribute::Octet),
-            2 => read_u16(value, at(2)).map(SampleAttribute::Half),
-            3 => read_u32(value, at(3)).map(SampleAttribute::Word),
-            4 => read_u64(value, at(4)).map(SampleAttribute::Double),
-            5 => read_i32(value, at(5)).map(SampleAttribute::Signed),
-            6 => read_u16_be(value, at(6)).map(SampleAttribute::NetworkHalf),
-            7 => read_u32_be(value, at(7)).map(SampleAttribute::NetworkWord),
-            8 => read_u64_be(value, at(8)).map(SampleAttribute::NetworkDouble),
-            9 => read_bool(value, at(9)).map(SampleAttribute::Truth),
-            10 => read_name(alloc, value, at(10)).map(SampleAttribute::Label),
-            11 => read_ip(value, at(11)).map(SampleAttribute::Address),
-            12 => read_4(value, at(12)).map(SampleAttribute::Four),
-            13 => read_16(value, at(13)).map(SampleAttribute::Sixteen),
+            1 => read_u8(value, FAMILY.at(1)).map(SampleAttribute::Octet),
+            2 => read_u16(value, FAMILY.at(2)).map(SampleAttribute::Half),
+            3 => read_u32(value, FAMILY.at(3)).map(SampleAttribute::Word),
+            4 => read_u64(value, FAMILY.at(4)).map(SampleAttribute::Double),
+            5 => read_i32(value, FAMILY.at(5)).map(SampleAttribute::Signed),
+            6 => read_u16_be(value, FAMILY.at(6)).map(SampleAttribute::NetworkHalf),
+            7 => read_u32_be(value, FAMILY.at(7)).map(SampleAttribute::NetworkWord),
+            8 => read_u64_be(value, FAMILY.at(8)).map(SampleAttribute::NetworkDouble),
+            9 => read_bool(value, FAMILY.at(9)).map(SampleAttribute::Truth),
+            10 => read_name(alloc, value, FAMILY.at(10)).map(SampleAttribute::Label),
+            11 => read_ip(value, FAMILY.at(11)).map(SampleAttribute::Address),
+            12 => read_octets(value, FAMILY.at(12)).map(SampleAttribute::Four),
+            13 => read_octets(value, FAMILY.at(13)).map(SampleAttribute::Sixteen),
             14 => Ok(SampleAttribute::Blob(read_bytes(alloc, value)?)),
-            15 => Pair::read(value, at(15)).map(SampleAttribute::Whole),
+            15 => Pair::read(value, FAMILY.at(15)).map(SampleAttribute::Whole),
             16 => Pair::parse(value).map(SampleAttribute::Prefix),
-            17 => read_u8(value, at(17)).map(|n| SampleAttribute::Painted(Color::from(n))),
-            18 => read_u32(value, at(18)).map(|bits| SampleAttribute::Marked(Marks(bits))),
+            17 => read_u8(value, FAMILY.at(17)).map(|n| SampleAttribute::Painted(Color::from(n))),
+            18 => read_u32(value, FAMILY.at(18)).map(|bits| SampleAttribute::Marked(Marks(bits))),
             19 => parse_list(alloc, (), value, looks).map(SampleAttribute::Inside),
-            30 if context => read_u64(value, at(30)).map(SampleAttribute::Wide),
-            30 => read_u32(value, at(30)).map(SampleAttribute::Narrow),
+            30 if context => read_u64(value, FAMILY.at(30)).map(SampleAttribute::Wide),
+            30 => read_u32(value, FAMILY.at(30)).map(SampleAttribute::Narrow),
             _ => DefaultNla::parse(alloc, item).map(SampleAttribute::Other),
         }
     }

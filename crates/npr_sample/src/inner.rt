@@ -5,8 +5,8 @@ ghost use Rattle.std.proofs.Common.{refl};
 ghost use Rattle.npr_sample.specs.Inner.{Meaning, meaning_of, writing, attributes};
 
 use npr_base::{
-    At, AttrFamily, Attribute, DecodeError, DefaultNla, EmitError, Looks, NLA_F_NESTED, Nla,
-    NlaBuffer, Parseable, check_len, read_name, read_u32, write_bytes, write_name,
+    AttrFamily, Attribute, DecodeError, DefaultNla, EmitError, Looks, NLA_F_NESTED, Nla, NlaBuffer,
+    Parseable, check_len, read_name, read_u32, write_bytes, write_name,
 };
 use std::alloc::{AllocError, Global};
 
@@ -39,14 +39,8 @@ impl InnerAttribute {
     }
 }
 
-const fn at(kind: u16) -> At
-    ensures { result ≡ record { family = AttrFamily.Metric; kind = kind } }
-{
-    At {
-        family: AttrFamily::Metric,
-        kind,
-    }
-}
+/// The family of these attributes.
+const FAMILY: AttrFamily = AttrFamily::Metric;
 
 impl Nla for InnerAttribute {
     ghost item = { λ a. writing.writes (meaning_of a) };
@@ -85,9 +79,9 @@ impl Nla for InnerAttribute {
 
     fn write_value(&self, out: &mut [u8]) -> usize {
         match self {
-            InnerAttribute::Count(count) => write_bytes(out, &count.to_le_bytes()),
-            InnerAttribute::Label(name) => write_name(out, name.as_str()),
-            InnerAttribute::Other(nla) => write_bytes(out, nla.value()),
+            InnerAttribute::Count(count) => write_bytes(&count.to_le_bytes(), out),
+            InnerAttribute::Label(name) => write_name(name.as_str(), out),
+            InnerAttribute::Other(nla) => write_bytes(nla.value(), out),
         }
     }
 }
@@ -115,8 +109,8 @@ impl Attribute for InnerAttribute {
     ) -> Result<Self, DecodeError> {
         let value = item.value();
         match item.kind() {
-            1 => read_u32(value, at(1)).map(InnerAttribute::Count),
-            2 => read_name(alloc, value, at(2)).map(InnerAttribute::Label),
+            1 => read_u32(value, FAMILY.at(1)).map(InnerAttribute::Count),
+            2 => read_name(alloc, value, FAMILY.at(2)).map(InnerAttribute::Label),
             _ => DefaultNla::parse(alloc, item).map(InnerAttribute::Other),
         }
     }

@@ -5,7 +5,7 @@ ghost use Rattle.npr_base.specs.Codec.{exactly, leading};
 ghost use Rattle.npr_base.specs.Refusal.{no_place};
 ghost use Rattle.npr_sample.specs.Pair.{pair};
 
-use npr_base::{At, DecodeError};
+use npr_base::{At, DecodeError, leading_octets, read_octets};
 
 /// A pair of numbers: one of 4 bytes and one of 2, little endian.
 #[derive(Clone, Copy, Debug, PartialEq, Eq)]
@@ -23,13 +23,7 @@ impl Pair {
         ensures ok { IfOk result (λ p. (leading pair).Reads bytes.now p) }
         ensures refused { IfErr result (λ e. (leading pair).Wrong no_place bytes.now e) }
     {
-        if bytes.len() < 6 {
-            return Err(DecodeError::HeaderTooShort {
-                got: bytes.len(),
-                want: 6,
-            });
-        }
-        let b = &bytes[..6];
+        let b = leading_octets(bytes, 6)?;
         Ok(Pair {
             first: u32::from_le_bytes([b[0], b[1], b[2], b[3]]),
             second: u16::from_le_bytes([b[4], b[5]]),
@@ -44,16 +38,11 @@ impl Pair {
         ensures ok { IfOk result (λ p. (exactly pair).Reads value.now p) }
         ensures refused { IfErr result (λ e. (exactly pair).Wrong at value.now e) }
     {
-        match value {
-            [a, b, c, d, e, f] => Ok(Pair {
-                first: u32::from_le_bytes([*a, *b, *c, *d]),
-                second: u16::from_le_bytes([*e, *f]),
-            }),
-            _ => Err(DecodeError::ValueLength {
-                at,
-                got: value.len(),
-            }),
-        }
+        let [a, b, c, d, e, f] = read_octets::<6>(value, at)?;
+        Ok(Pair {
+            first: u32::from_le_bytes([a, b, c, d]),
+            second: u16::from_le_bytes([e, f]),
+        })
     }
 
     /// The 6 bytes.

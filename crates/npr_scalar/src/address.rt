@@ -83,10 +83,10 @@ impl RouteAddress {
         ensures after { Writes out.old out.new (address_bytes (address_of self.now)) }
     {
         match self {
-            RouteAddress::Inet(ip) => write_bytes(out, &ip.octets()),
-            RouteAddress::Inet6(ip) => write_bytes(out, &ip.octets()),
-            RouteAddress::Mpls(label) => write_bytes(out, &u32::from(*label).to_be_bytes()),
-            RouteAddress::Other(bytes) => write_bytes(out, bytes.as_slice()),
+            RouteAddress::Inet(ip) => write_bytes(&ip.octets(), out),
+            RouteAddress::Inet6(ip) => write_bytes(&ip.octets(), out),
+            RouteAddress::Mpls(label) => write_bytes(&u32::from(*label).to_be_bytes(), out),
+            RouteAddress::Other(bytes) => write_bytes(bytes.as_slice(), out),
         }
     }
 

@@ -144,6 +144,6 @@ impl Emitable for RouteCacheInfo {
     }
 
     fn emit(&self, out: &mut [u8]) {
-        write_bytes(out, &RouteCacheInfoBuffer::from(self).to_bytes());
+        write_bytes(&RouteCacheInfoBuffer::from(self).to_bytes(), out);
     }
 }

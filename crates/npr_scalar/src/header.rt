@@ -137,7 +137,7 @@ impl Emitable for RouteProtocol {
     }
 
     fn emit(&self, out: &mut [u8]) {
-        write_bytes(out, &[u8::from(*self)]);
+        write_bytes(&[u8::from(*self)], out);
     }
 }
 

@@ -109,6 +109,6 @@ impl Emitable for RouteMfcStats {
     }
 
     fn emit(&self, out: &mut [u8]) {
-        write_bytes(out, &RouteMfcStatsBuffer::from(self).to_bytes());
+        write_bytes(&RouteMfcStatsBuffer::from(self).to_bytes(), out);
     }
 }

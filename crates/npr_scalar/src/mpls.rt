@@ -79,7 +79,7 @@ impl Emitable for MplsLabel {
     }
 
     fn emit(&self, out: &mut [u8]) {
-        write_bytes(out, &u32::from(*self).to_be_bytes());
+        write_bytes(&u32::from(*self).to_be_bytes(), out);
     }
 }
 
@@ -112,14 +112,14 @@ pub fn labels_len(labels: &[MplsLabel]) -> usize
 
 /// Writes the entries one after the other at the front of the slice, leaves the rest, and answers
 /// their length: four bytes an entry.
-pub fn write_labels(out: &mut [u8], labels: &[MplsLabel]) -> usize
+pub fn write_labels(labels: &[MplsLabel], out: &mut [u8]) -> usize
     requires { length (mpls_labels.writes labels.now) ≤ length out.old }
     ensures len { result ≡ length (mpls_labels.writes labels.now) }
     ensures after { Writes out.old out.new (mpls_labels.writes labels.now) }
 {
     let mut at = 0usize;
     for entry in labels {
-        at += write_bytes(&mut out[at..], &u32::from(*entry).to_be_bytes());
+        at += write_bytes(&u32::from(*entry).to_be_bytes(), &mut out[at..]);
     }
     at
 }
@@ -130,7 +130,7 @@ pub fn emit_labels(labels: &[MplsLabel], out: &mut [u8])
     requires { length out.old ≡ length (mpls_labels.writes labels.now) }
     ensures { out.new ≡ mpls_labels.writes labels.now }
 {
-    write_labels(out, labels);
+    write_labels(labels, out);
 }
 
 /// A number is an entry and is written as that number again; an entry is read again exactly where

@@ -65,7 +65,7 @@ impl Emitable for RouteRealm {
     }
 
     fn emit(&self, out: &mut [u8]) {
-        write_bytes(out, &u32::from(*self).to_le_bytes());
+        write_bytes(&u32::from(*self).to_le_bytes(), out);
     }
 }
 

@@ -142,12 +142,12 @@ impl RouteVia {
         ensures after { Writes out.old out.new (via_bytes (via_of self.now)) }
     {
         match self {
-            RouteVia::Inet(ip) => write_address(out, AddressFamily::Inet, &ip.octets()),
-            RouteVia::Inet6(ip) => write_address(out, AddressFamily::Inet6, &ip.octets()),
+            RouteVia::Inet(ip) => write_address(AddressFamily::Inet, &ip.octets(), out),
+            RouteVia::Inet6(ip) => write_address(AddressFamily::Inet6, &ip.octets(), out),
             RouteVia::Packet(address) => {
-                write_address(out, AddressFamily::Packet, address.as_slice())
+                write_address(AddressFamily::Packet, address.as_slice(), out)
             }
-            RouteVia::Other((family, address)) => write_address(out, *family, address.as_slice()),
+            RouteVia::Other((family, address)) => write_address(*family, address.as_slice(), out),
         }
     }
 
@@ -173,12 +173,12 @@ impl RouteVia {
 }
 
 /// Writes a family and an address, and answers their length.
-fn write_address(out: &mut [u8], family: AddressFamily, address: &[u8]) -> usize
+fn write_address(family: AddressFamily, address: &[u8], out: &mut [u8]) -> usize
     requires { 2 + length address.now ≤ length out.old }
     ensures len { result ≡ 2 + length address.now }
     ensures after { Writes out.old out.new (to_le_bytes w16 (family_number family) ++ address.now) }
 {
-    write_bytes(&mut out[2..], address);
+    write_bytes(address, &mut out[2..]);
     let [low, high] = u16::from(u8::from(family)).to_le_bytes();
     out[0] = low;
     out[1] = high;

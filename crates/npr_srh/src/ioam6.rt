@@ -150,7 +150,7 @@ impl Nla for Ioam6TraceHdr {
     }
 
     fn write_value(&self, out: &mut [u8]) -> usize {
-        write_bytes(out, &self.to_bytes())
+        write_bytes(&self.to_bytes(), out)
     }
 }
 
@@ -264,17 +264,17 @@ impl Nla for RouteIoam6Tunnel {
     fn write_value(&self, out: &mut [u8]) -> usize {
         match self {
             RouteIoam6Tunnel::Unspecified => 0,
-            RouteIoam6Tunnel::Mode(mode) => write_bytes(out, &[u8::from(*mode)]),
+            RouteIoam6Tunnel::Mode(mode) => write_bytes(&[u8::from(*mode)], out),
             RouteIoam6Tunnel::Dst(address) | RouteIoam6Tunnel::Src(address) => write_bytes(
-                out,
                 &address.octets(),
+                out,
             ),
             RouteIoam6Tunnel::Trace(trace) => trace.write_value(out),
             RouteIoam6Tunnel::FreqK(n) | RouteIoam6Tunnel::FreqN(n) => write_bytes(
-                out,
                 &n.to_le_bytes(),
+                out,
             ),
-            RouteIoam6Tunnel::Other(nla) => write_bytes(out, nla.value()),
+            RouteIoam6Tunnel::Other(nla) => write_bytes(nla.value(), out),
         }
     }
 }

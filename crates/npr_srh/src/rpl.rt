@@ -154,8 +154,8 @@ impl Nla for RplSrh {
     }
 
     fn write_value(&self, out: &mut [u8]) -> usize {
-        let front = write_bytes(out, &self.front());
-        front + write_segments(&mut out[front..], self.segments.as_slice())
+        let front = write_bytes(&self.front(), out);
+        front + write_segments(self.segments.as_slice(), &mut out[front..])
     }
 }
 
@@ -246,7 +246,7 @@ impl Nla for RouteRplIpTunnel {
         match self {
             RouteRplIpTunnel::Unspecified => 0,
             RouteRplIpTunnel::Srh(header) => header.write_value(out),
-            RouteRplIpTunnel::Other(nla) => write_bytes(out, nla.value()),
+            RouteRplIpTunnel::Other(nla) => write_bytes(nla.value(), out),
         }
     }
 }

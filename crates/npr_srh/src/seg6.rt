@@ -94,9 +94,9 @@ impl Nla for RouteSeg6IpTunnel {
     fn write_value(&self, out: &mut [u8]) -> usize {
         match self {
             RouteSeg6IpTunnel::Seg6(header) => header.write_value(out),
-            RouteSeg6IpTunnel::Src(address) => write_bytes(out, &address.octets()),
-            RouteSeg6IpTunnel::Table(table) => write_bytes(out, &table.to_le_bytes()),
-            RouteSeg6IpTunnel::Other(nla) => write_bytes(out, nla.value()),
+            RouteSeg6IpTunnel::Src(address) => write_bytes(&address.octets(), out),
+            RouteSeg6IpTunnel::Table(table) => write_bytes(&table.to_le_bytes(), out),
+            RouteSeg6IpTunnel::Other(nla) => write_bytes(nla.value(), out),
         }
     }
 }

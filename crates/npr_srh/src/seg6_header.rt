@@ -228,7 +228,7 @@ impl Seg6Header {
 
 /// Writes the addresses at the front of the slice, the last one first, leaves the rest, and answers
 /// their length.
-fn write_reversed(out: &mut [u8], segments: &[Ipv6Addr]) -> usize
+fn write_reversed(segments: &[Ipv6Addr], out: &mut [u8]) -> usize
     requires { length (concat (reverse segments.now)) ≤ length out.old }
     ensures len { result ≡ length (concat (reverse segments.now)) }
     ensures after { Writes out.old out.new (concat (reverse segments.now)) }
@@ -236,14 +236,14 @@ fn write_reversed(out: &mut [u8], segments: &[Ipv6Addr]) -> usize
     let count = segments.len();
     let mut at = 0usize;
     for i in 0..count {
-        at += write_bytes(&mut out[at..], &segments[count - 1 - i].octets());
+        at += write_bytes(&segments[count - 1 - i].octets(), &mut out[at..]);
     }
     at
 }
 
 /// Writes the HMAC of a key at the front of the slice, leaves the rest, and answers its length: type,
 /// length, flags, the key, and a code of zeros.
-fn write_key(out: &mut [u8], key: Option<u32>) -> usize
+fn write_key(key: Option<u32>, out: &mut [u8]) -> usize
     requires { length (key_bytes key) ≤ length out.old }
     ensures len { result ≡ length (key_bytes key) }
     ensures after { Writes out.old out.new (key_bytes key) }
@@ -259,7 +259,7 @@ fn write_key(out: &mut [u8], key: Option<u32>) -> usize
             hmac[5] = b;
             hmac[6] = c;
             hmac[7] = d;
-            write_bytes(out, &hmac)
+            write_bytes(&hmac, out)
         }
     }
 }
@@ -297,8 +297,8 @@ impl Nla for Seg6Header {
     }
 
     fn write_value(&self, out: &mut [u8]) -> usize {
-        let front = write_bytes(out, &self.front().to_bytes());
-        let end = front + write_reversed(&mut out[front..], self.segments.as_slice());
-        end + write_key(&mut out[end..], self.hmac)
+        let front = write_bytes(&self.front().to_bytes(), out);
+        let end = front + write_reversed(self.segments.as_slice(), &mut out[front..]);
+        end + write_key(self.hmac, &mut out[end..])
     }
 }

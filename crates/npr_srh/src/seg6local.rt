@@ -118,17 +118,17 @@ impl Nla for RouteSeg6LocalTunnel {
         match self {
             RouteSeg6LocalTunnel::Unspecified => 0,
             RouteSeg6LocalTunnel::Action(action) => write_bytes(
-                out,
                 &u32::from(*action).to_le_bytes(),
+                out,
             ),
             RouteSeg6LocalTunnel::Srh(header) => header.write_value(out),
-            RouteSeg6LocalTunnel::Nh4(address) => write_bytes(out, &address.octets()),
-            RouteSeg6LocalTunnel::Nh6(address) => write_bytes(out, &address.octets()),
+            RouteSeg6LocalTunnel::Nh4(address) => write_bytes(&address.octets(), out),
+            RouteSeg6LocalTunnel::Nh6(address) => write_bytes(&address.octets(), out),
             RouteSeg6LocalTunnel::Table(n)
             | RouteSeg6LocalTunnel::Iif(n)
             | RouteSeg6LocalTunnel::Oif(n)
-            | RouteSeg6LocalTunnel::VrfTable(n) => write_bytes(out, &n.to_le_bytes()),
-            RouteSeg6LocalTunnel::Other(nla) => write_bytes(out, nla.value()),
+            | RouteSeg6LocalTunnel::VrfTable(n) => write_bytes(&n.to_le_bytes(), out),
+            RouteSeg6LocalTunnel::Other(nla) => write_bytes(nla.value(), out),
         }
     }
 }

@@ -147,8 +147,8 @@ impl Nla for Seg6LocalSrh {
     }
 
     fn write_value(&self, out: &mut [u8]) -> usize {
-        let front = write_bytes(out, &self.front());
-        front + write_segments(&mut out[front..], self.segments.as_slice())
+        let front = write_bytes(&self.front(), out);
+        front + write_segments(self.segments.as_slice(), &mut out[front..])
     }
 }
 

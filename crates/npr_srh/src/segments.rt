@@ -44,7 +44,7 @@ pub(crate) fn has_header(value: &[u8]) -> bool
 
 /// Writes the addresses at the front of the slice, in the order of the list, leaves the rest, and
 /// answers their length.
-pub(crate) fn write_segments(out: &mut [u8], segments: &[Ipv6Addr]) -> usize
+pub(crate) fn write_segments(segments: &[Ipv6Addr], out: &mut [u8]) -> usize
     requires { length (concat segments.now) ≤ length out.old }
     ensures len { result ≡ length (concat segments.now) }
     ensures after { Writes out.old out.new (concat segments.now) }

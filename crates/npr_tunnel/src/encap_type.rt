@@ -94,6 +94,6 @@ impl Emitable for RouteLwEnCapType {
     }
 
     fn emit(&self, out: &mut [u8]) {
-        write_bytes(out, &u16::from(*self).to_le_bytes());
+        write_bytes(&u16::from(*self).to_le_bytes(), out);
     }
 }

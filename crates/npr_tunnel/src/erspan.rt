@@ -93,9 +93,9 @@ impl Nla for RouteErspanOpt {
     fn write_value(&self, out: &mut [u8]) -> usize {
         match self {
             RouteErspanOpt::Ver(x) | RouteErspanOpt::Dir(x) | RouteErspanOpt::Hwid(x) =>
-                write_bytes(out, &[*x]),
-            RouteErspanOpt::Index(x) => write_bytes(out, &x.to_be_bytes()),
-            RouteErspanOpt::Other(nla) => write_bytes(out, nla.value()),
+                write_bytes(&[*x], out),
+            RouteErspanOpt::Index(x) => write_bytes(&x.to_be_bytes(), out),
+            RouteErspanOpt::Other(nla) => write_bytes(nla.value(), out),
         }
     }
 }

@@ -215,7 +215,7 @@ impl<'a> Nla for Data<'a> {
     }
 
     fn write_value(&self, out: &mut [u8]) -> usize {
-        write_bytes(out, self.0)
+        write_bytes(self.0, out)
     }
 }
 
@@ -240,8 +240,8 @@ fn write_option(option: &RouteGeneveOpt, out: &mut [u8]) -> usize
     let [high, low] = option.class.to_be_bytes();
     let class = [6, 0, 1, 0, high, low, 0, 0];
     let typ = [5, 0, 2, 0, option.typ, 0, 0, 0];
-    write_bytes(out, &class);
-    write_bytes(&mut out[8..], &typ);
+    write_bytes(&class, out);
+    write_bytes(&typ, &mut out[8..]);
     16 + Data(option.opt_data.as_slice()).write(&mut out[16..])
 }
 

@@ -127,15 +127,15 @@ impl Nla for RouteIpTunnel {
     fn write_value(&self, out: &mut [u8]) -> usize {
         match self {
             RouteIpTunnel::Unspecified => 0,
-            RouteIpTunnel::Id(n) => write_bytes(out, &n.to_be_bytes()),
+            RouteIpTunnel::Id(n) => write_bytes(&n.to_be_bytes(), out),
             RouteIpTunnel::Destination(a) | RouteIpTunnel::Source(a) => write_bytes(
-                out,
                 &a.octets(),
+                out,
             ),
-            RouteIpTunnel::Ttl(n) | RouteIpTunnel::Tos(n) => write_bytes(out, &[*n]),
-            RouteIpTunnel::Flags(flags) => write_bytes(out, &flags.bits().to_be_bytes()),
+            RouteIpTunnel::Ttl(n) | RouteIpTunnel::Tos(n) => write_bytes(&[*n], out),
+            RouteIpTunnel::Flags(flags) => write_bytes(&flags.bits().to_be_bytes(), out),
             RouteIpTunnel::Opts(v) => write_list(v.as_slice(), out),
-            RouteIpTunnel::Other(nla) => write_bytes(out, nla.value()),
+            RouteIpTunnel::Other(nla) => write_bytes(nla.value(), out),
         }
     }
 }

@@ -127,15 +127,15 @@ impl Nla for RouteIp6Tunnel {
     fn write_value(&self, out: &mut [u8]) -> usize {
         match self {
             RouteIp6Tunnel::Unspecified => 0,
-            RouteIp6Tunnel::Id(n) => write_bytes(out, &n.to_be_bytes()),
+            RouteIp6Tunnel::Id(n) => write_bytes(&n.to_be_bytes(), out),
             RouteIp6Tunnel::Destination(a) | RouteIp6Tunnel::Source(a) => write_bytes(
-                out,
                 &a.octets(),
+                out,
             ),
-            RouteIp6Tunnel::Hoplimit(n) | RouteIp6Tunnel::Tc(n) => write_bytes(out, &[*n]),
-            RouteIp6Tunnel::Flags(flags) => write_bytes(out, &flags.bits().to_be_bytes()),
+            RouteIp6Tunnel::Hoplimit(n) | RouteIp6Tunnel::Tc(n) => write_bytes(&[*n], out),
+            RouteIp6Tunnel::Flags(flags) => write_bytes(&flags.bits().to_be_bytes(), out),
             RouteIp6Tunnel::Opts(v) => write_list(v.as_slice(), out),
-            RouteIp6Tunnel::Other(nla) => write_bytes(out, nla.value()),
+            RouteIp6Tunnel::Other(nla) => write_bytes(nla.value(), out),
         }
     }
 }

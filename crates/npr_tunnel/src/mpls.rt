@@ -87,9 +87,9 @@ impl Nla for RouteMplsIpTunnel {
 
     fn write_value(&self, out: &mut [u8]) -> usize {
         match self {
-            RouteMplsIpTunnel::Destination(x) => write_labels(out, x.as_slice()),
-            RouteMplsIpTunnel::Ttl(x) => write_bytes(out, &[*x]),
-            RouteMplsIpTunnel::Other(nla) => write_bytes(out, nla.value()),
+            RouteMplsIpTunnel::Destination(x) => write_labels(x.as_slice(), out),
+            RouteMplsIpTunnel::Ttl(x) => write_bytes(&[*x], out),
+            RouteMplsIpTunnel::Other(nla) => write_bytes(nla.value(), out),
         }
     }
 }

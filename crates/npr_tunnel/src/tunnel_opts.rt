@@ -101,7 +101,7 @@ impl Nla for RouteLwTunnelOpt {
             RouteLwTunnelOpt::Geneve(v) => write_options(v.as_slice(), out),
             RouteLwTunnelOpt::Vxlan(v) => write_list(v.as_slice(), out),
             RouteLwTunnelOpt::Erspan(v) => write_list(v.as_slice(), out),
-            RouteLwTunnelOpt::Other(nla) => write_bytes(out, nla.value()),
+            RouteLwTunnelOpt::Other(nla) => write_bytes(nla.value(), out),
         }
     }
 }

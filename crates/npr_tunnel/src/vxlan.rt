@@ -79,8 +79,8 @@ impl Nla for RouteVxlanOpt {
 
     fn write_value(&self, out: &mut [u8]) -> usize {
         match self {
-            RouteVxlanOpt::Gbp(x) => write_bytes(out, &x.to_le_bytes()),
-            RouteVxlanOpt::Other(nla) => write_bytes(out, nla.value()),
+            RouteVxlanOpt::Gbp(x) => write_bytes(&x.to_le_bytes(), out),
+            RouteVxlanOpt::Other(nla) => write_bytes(nla.value(), out),
         }
     }
 }

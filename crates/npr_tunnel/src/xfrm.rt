@@ -91,10 +91,10 @@ impl Nla for RouteXfrmTunnel {
         match self {
             RouteXfrmTunnel::Unspecified => 0,
             RouteXfrmTunnel::IfId(x) | RouteXfrmTunnel::Link(x) => write_bytes(
-                out,
                 &x.to_le_bytes(),
+                out,
             ),
-            RouteXfrmTunnel::Other(nla) => write_bytes(out, nla.value()),
+            RouteXfrmTunnel::Other(nla) => write_bytes(nla.value(), out),
         }
     }
 }

@@ -1,22 +1,10 @@
 use Rattle.std.specs.List.{concat}
-use Rattle.std.proofs.Common.{◌≡◌, ◌+◌, ◌++◌, List, ℕ, get_or, length, take, ap, ◌∙◌, arith, length-append}
-use Rattle.std.proofs.lemmas.List.{take_more}
-use Rattle.npr_base.specs.V6ListLaws.{concat-push}
-use Rattle.npr_base.proofs.Writing.{Writes-more}
+use Rattle.std.proofs.Common.{◌≡◌, ◌++◌, List, ℕ, length, drop, [], ap, ◌∙◌, arith}
+use Rattle.std.proofs.lemmas.List.{append-nil, drop_all}
 use Rattle.npr_base.proofs.v6_list.emit_v6_list.Goals as goal
 
-pub loop-address-preserved : goal.loop-address-preserved
-loop-address-preserved c =
-    let x = c.address-item.result in
-    let i = c.loop-address.address-index in
-    let all = c.args.addresses.now in
-    let past = c.loop-address.invariant in
-    let size : length c.octets.result ≡ 16 = omega (arith, c.octets.type_inv) in
-    let lt = c.loop-address-test.true in
-    let read : get_or all i x ≡ c.octets.result = cc in
-    let next : concat (take (i + 1) all) ≡ concat (take i all) ++ c.octets.result = ap concat (take_more all i x lt) ∙ concat-push (take i all) (get_or all i x) ∙ ap (λ (w : List ℕ). concat (take i all) ++ w) read in
-    record {
-      place = omega (arith, past.place, c.write_bytes-at.ensures.len, size);
-      len = omega (arith, past.len, c.write_bytes-at.ensures.len, ap length next, length-append (concat (take i all)) c.octets.result);
-      after = rw next (Writes-more c.args.out.now c.loop-address.out c.write_bytes-at.new.out (concat (take i all)) c.octets.result c.loop-address.at past.len (omega (arith, past.place, past.len, c.requires)) past.after c.write_bytes-at.ensures.after);
-    }
+pub returns : goal.returns
+returns c =
+    let whole = concat c.args.addresses.now in
+    let rest : drop (length whole) c.args.out.now ≡ [] = drop_all (length whole) c.args.out.now (omega (arith, c.write_each.ensures.each, c.write_each.ensures.len, c.requires)) in
+    c.write_each.ensures.after ∙ ap (λ (w : List ℕ). whole ++ w) rest ∙ append-nil whole

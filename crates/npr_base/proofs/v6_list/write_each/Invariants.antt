@@ -1,7 +1,7 @@
 use Rattle.std.proofs.Common.{◌≡◌, ◌*◌, length, take}
 use Rattle.std.specs.List.{concat}
 use Rattle.npr_base.specs.Framing.{Writes}
-use Rattle.npr_base.proofs.v6_list.emit_v6_list.Given as goal
+use Rattle.npr_base.proofs.v6_list.write_each.Given as goal
 
 abbrev pub invariant-loop-address : goal.invariant-loop-address
 invariant-loop-address l = record {
