@@ -6,7 +6,7 @@ pub mod Header
 pub mod Message
 pub mod MessageLaws
 pub mod Metric
-pub mod NextHopFronts
+pub mod NextHopFrontLaws
 pub mod NextHopHeader
 pub mod NextHopLaws
 pub mod NextHops

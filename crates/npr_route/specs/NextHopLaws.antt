@@ -17,7 +17,7 @@ use Rattle.npr_route.specs.Attribute as Flat
 use Rattle.npr_route.specs.Attribute.{Context, rows, other, is_multicast, new_destination_variant, NewDestinationValue, expires_variant}
 use Rattle.npr_route.specs.AttributeLaws as Flats
 use Rattle.npr_route.specs.NextHops.{HopHead, HoldsHead, hop_text, HopFront, Meaning, flat, multi_path, Attributes, no_more, attribute, Hops, no_hops, hop, Reads, AreAttributes, AreHops, Wrong, value_wrong, hops_wrong, AttributesWrong, none_in_front, first_wrong, later_wrong, HopsWrong, no_hop_in_front, first_hop_wrong, later_hop_wrong, writes, attributes_bytes, hops_bytes, hop_overlong, misfit, attributes_misfit, hops_misfit, Coherent, AttributesCoherent, HopsCoherent, members, depth, attributes_depth, hops_depth}
-use Rattle.npr_route.specs.NextHopFronts.{HopFront-same, HopFront-sound, HopFront-length, HopFront-proper}
+use Rattle.npr_route.specs.NextHopFrontLaws.{HopFront-same, HopFront-sound, HopFront-length, HopFront-proper}
 
 no_front : {A : Type 0} (bytes rest : List ℕ) (x : Item) → bytes ≡ [] → Front bytes x rest → A
 no_front bytes rest x is f = absurd (omega (arith, ap length is, Front-shrinks bytes x rest f))

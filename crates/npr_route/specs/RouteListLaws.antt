@@ -11,6 +11,7 @@ use Rattle.npr_base.specs.Table.{Reading, fits-small, Row, ReadsAt}
 use Rattle.npr_base.specs.TableLaws.{one_of}
 use Rattle.npr_scalar.specs.RouteAddress.{Form, four, sixteen, label, any, form_of}
 use Rattle.npr_tunnel.specs.declared.encap_type.RouteLwEnCapType.{RouteLwEnCapType}
+use Rattle.npr_tunnel.specs.declared.encap_type.RouteLwEnCapType.TheVariants.{None as NoEncapsulation}
 use Rattle.npr_route.specs.Attribute.{Context, Meaning, other, rows, is_multicast, new_destination_variant, NewDestinationValue, expires_variant}
 use Rattle.npr_route.specs.AttributeLaws.{attributes_in, attributes, writing}
 use Rattle.npr_route.specs.Governing.{told, Ends, Tells, Governs}
@@ -28,26 +29,26 @@ the_same o x y p q = cc
 none_told : {A B : Type 0} (o : Option A) (x : A) → o ≡ None → o ≡ Some x → B
 none_told o x p q = absurd cc
 
-tells-one : (rest : List ℕ) (a b : RouteLwEnCapType) → Tells rest a → Tells rest b → a ≡ b
-tells-one rest a b (inl (x, r, f, p)) (inl (y, s, g, q)) = the_same (told x) a b p (ap told (Front-same rest x y r s f g).0 ∙ q)
-tells-one rest a b (inl (x, r, f, p)) (inr (ends, q)) = absurd (ends_empty rest r x ends f)
-tells-one rest a b (inr (ends, p)) (inl (y, s, g, q)) = absurd (ends_empty rest s y ends g)
-tells-one rest a b (inr (ends, p)) (inr (also_ends, q)) = p ∙ sym q
+tells-one : (outer : RouteLwEnCapType) (rest : List ℕ) (a b : RouteLwEnCapType) → Tells outer rest a → Tells outer rest b → a ≡ b
+tells-one outer rest a b (inl (x, r, f, p)) (inl (y, s, g, q)) = the_same (told x) a b p (ap told (Front-same rest x y r s f g).0 ∙ q)
+tells-one outer rest a b (inl (x, r, f, p)) (inr (ends, q)) = absurd (ends_empty rest r x ends f)
+tells-one outer rest a b (inr (ends, p)) (inl (y, s, g, q)) = absurd (ends_empty rest s y ends g)
+tells-one outer rest a b (inr (ends, p)) (inr (also_ends, q)) = p ∙ sym q
 
 -- a list whose first attribute tells none is governed as what follows it
-tells-front : (rest more : List ℕ) (x : Item) (a : RouteLwEnCapType) → Tells rest a → Front rest x more → told x ≡ None → ⊥
-tells-front rest more x a (inl (y, s, g, q)) f none = none_told (told y) a (ap told (Front-same rest y x s more g f).0 ∙ none) q
-tells-front rest more x a (inr (ends, p)) f none = ends_empty rest more x ends f
+tells-front : (outer : RouteLwEnCapType) (rest more : List ℕ) (x : Item) (a : RouteLwEnCapType) → Tells outer rest a → Front rest x more → told x ≡ None → ⊥
+tells-front outer rest more x a (inl (y, s, g, q)) f none = none_told (told y) a (ap told (Front-same rest y x s more g f).0 ∙ none) q
+tells-front outer rest more x a (inr (ends, p)) f none = ends_empty rest more x ends f
 
-governs-step : (xs ys : List Item) (bytes r s : List ℕ) (a b : RouteLwEnCapType) → Passes bytes xs r → AllOf (λ x. told x ≡ None) xs → Tells r a → Passes bytes ys s → AllOf (λ x. told x ≡ None) ys → Tells s b → a ≡ b
-governs-step [] [] bytes r s a b p n t q m u = tells-one r a b t (subst (λ (w : List ℕ). Tells w b) (sym q ∙ p) u)
-governs-step [] (y ∷ ys) bytes r s a b p n t (w, g, q) m u = absurd (tells-front bytes w y a (subst (λ (v : List ℕ). Tells v a) (sym p) t) g m.0)
-governs-step (x ∷ xs) [] bytes r s a b (v, f, p) n t q m u = absurd (tells-front bytes v x b (subst (λ (w : List ℕ). Tells w b) (sym q) u) f n.0)
-governs-step (x ∷ xs) (y ∷ ys) bytes r s a b (v, f, p) n t (w, g, q) m u =
-    governs-step xs ys v r s a b p n.1 t (subst (λ (z : List ℕ). Passes z ys s) (Front-same bytes y x w v g f).1 q) m.1 u
+governs-step : (outer : RouteLwEnCapType) (xs ys : List Item) (bytes r s : List ℕ) (a b : RouteLwEnCapType) → Passes bytes xs r → AllOf (λ x. told x ≡ None) xs → Tells outer r a → Passes bytes ys s → AllOf (λ x. told x ≡ None) ys → Tells outer s b → a ≡ b
+governs-step outer [] [] bytes r s a b p n t q m u = tells-one outer r a b t (subst (λ (w : List ℕ). Tells outer w b) (sym q ∙ p) u)
+governs-step outer [] (y ∷ ys) bytes r s a b p n t (w, g, q) m u = absurd (tells-front outer bytes w y a (subst (λ (v : List ℕ). Tells outer v a) (sym p) t) g m.0)
+governs-step outer (x ∷ xs) [] bytes r s a b (v, f, p) n t q m u = absurd (tells-front outer bytes v x b (subst (λ (w : List ℕ). Tells outer w b) (sym q) u) f n.0)
+governs-step outer (x ∷ xs) (y ∷ ys) bytes r s a b (v, f, p) n t (w, g, q) m u =
+    governs-step outer xs ys v r s a b p n.1 t (subst (λ (z : List ℕ). Passes z ys s) (Front-same bytes y x w v g f).1 q) m.1 u
 
-pub governs-one : (bytes : List ℕ) (a b : RouteLwEnCapType) → Governs bytes a → Governs bytes b → a ≡ b
-governs-one bytes a b (xs, r, p, n, t) (ys, s, q, m, u) = governs-step xs ys bytes r s a b p n t q m u
+pub governs-one : (outer : RouteLwEnCapType) (bytes : List ℕ) (a b : RouteLwEnCapType) → Governs outer bytes a → Governs outer bytes b → a ≡ b
+governs-one outer bytes a b (xs, r, p, n, t) (ys, s, q, m, u) = governs-step outer xs ys bytes r s a b p n t q m u
 
 -- ---- which is the first that is held
 
@@ -91,34 +92,34 @@ alike form multicast type x m p = elim (cases_Bool (number_of x.kind == 21)) [
 ]
 
 -- the first of these attributes tells what the first meaning holds, or none does
-first_step : (o : Option RouteLwEnCapType) (x : Item) (more bytes : List ℕ) (next : RouteLwEnCapType) → told x ≡ o → Front bytes x more → Governs more next → Governs bytes (or_else o next)
-first_step (Some t) x more bytes next is f g = ([], bytes, refl, tt, inl (x, more, f, is))
-first_step None x more bytes next is f (before, rest, p, silent, tells) = (x ∷ before, rest, (more, f, p), (is, silent), tells)
+first_step : (outer : RouteLwEnCapType) (o : Option RouteLwEnCapType) (x : Item) (more bytes : List ℕ) (next : RouteLwEnCapType) → told x ≡ o → Front bytes x more → Governs outer more next → Governs outer bytes (or_else o next)
+first_step outer (Some t) x more bytes next is f g = ([], bytes, refl, tt, inl (x, more, f, is))
+first_step outer None x more bytes next is f (before, rest, p, silent, tells) = (x ∷ before, rest, (more, f, p), (is, silent), tells)
 
-first_governs : (items : List Item) (ms : List Meaning) (bytes : List ℕ) (R : Item → Meaning → Type 0) → ((x : Item) (m : Meaning) → R x m → told x ≡ type_held m) → Passes bytes items [] → Each R items ms → Governs bytes (first_type ms)
-first_governs [] [] bytes R tells p h = ([], bytes, refl, tt, inr (inl p, refl))
-first_governs [] (m ∷ ms) bytes R tells p h = absurd h
-first_governs (x ∷ xs) [] bytes R tells p h = absurd h
-first_governs (x ∷ xs) (m ∷ ms) bytes R tells (r, f, p) h = first_step (type_held m) x r bytes (first_type ms) (tells x m h.0) f (first_governs xs ms r R tells p h.1)
+first_governs : (outer : RouteLwEnCapType) (items : List Item) (ms : List Meaning) (bytes : List ℕ) (R : Item → Meaning → Type 0) → ((x : Item) (m : Meaning) → R x m → told x ≡ type_held m) → Passes bytes items [] → Each R items ms → Governs outer bytes (first_type outer ms)
+first_governs outer [] [] bytes R tells p h = ([], bytes, refl, tt, inr (inl p, refl))
+first_governs outer [] (m ∷ ms) bytes R tells p h = absurd h
+first_governs outer (x ∷ xs) [] bytes R tells p h = absurd h
+first_governs outer (x ∷ xs) (m ∷ ms) bytes R tells (r, f, p) h = first_step outer (type_held m) x r bytes (first_type outer ms) (tells x m h.0) f (first_governs outer xs ms r R tells p h.1)
 
 -- the first type that a list holds governs it
-pub list_governs : (context : Context) (bytes : List ℕ) (ms : List Meaning) → ReadsList (attributes context).Reads bytes ms → Governs bytes (first_type ms)
-list_governs context bytes ms (items, p, h) = first_governs items ms bytes (attributes context).Reads (alike (form_of context.0) (is_multicast context.1) context.2) p h
+pub list_governs : (outer : RouteLwEnCapType) (context : Context) (bytes : List ℕ) (ms : List Meaning) → ReadsList (attributes context).Reads bytes ms → Governs outer bytes (first_type outer ms)
+list_governs outer context bytes ms (items, p, h) = first_governs outer items ms bytes (attributes context).Reads (alike (form_of context.0) (is_multicast context.1) context.2) p h
 
-pub governs_first : (under : Under) (bytes : List ℕ) (ms : List Meaning) (p : IsRouteList under bytes ms) → p.0 ≡ first_type ms
-governs_first under bytes ms (type, g, p) = governs-one bytes type (first_type ms) g (list_governs (under.0, under.1, type) bytes ms p)
+pub governs_first : (under : Under) (bytes : List ℕ) (ms : List Meaning) (p : IsRouteList under bytes ms) → p.0 ≡ first_type NoEncapsulation ms
+governs_first under bytes ms (type, g, p) = governs-one NoEncapsulation bytes type (first_type NoEncapsulation ms) g (list_governs NoEncapsulation (under.0, under.1, type) bytes ms p)
 
 -- ---- the laws of a list
 
 pub route-list-one : (under : Under) (bytes : List ℕ) (xs ys : List Meaning) → IsRouteList under bytes xs → IsRouteList under bytes ys → xs ≡ ys
 route-list-one under bytes xs ys (a, g, p) (b, h, q) =
     let f : Reading writing = attributes (under.0, under.1, a) in
-    ReadsList-one f.Reads f.one_reading bytes xs ys p (subst (λ (t : RouteLwEnCapType). ReadsList (attributes (under.0, under.1, t)).Reads bytes ys) (governs-one bytes b a h g) q)
+    ReadsList-one f.Reads f.one_reading bytes xs ys p (subst (λ (t : RouteLwEnCapType). ReadsList (attributes (under.0, under.1, t)).Reads bytes ys) (governs-one NoEncapsulation bytes b a h g) q)
 
 pub route-list-sound : (under : Under) (bytes : List ℕ) (xs : List Meaning) (e : DecodeError) → IsRouteList under bytes xs → RouteListFault under bytes e → ⊥
 route-list-sound under bytes xs e (a, g, p) (b, h, q) =
     let f : Reading writing = attributes (under.0, under.1, b) in
-    FirstFault-excludes f.Reads f.Faulty f.no_fault bytes e xs q (subst (λ (t : RouteLwEnCapType). ReadsList (attributes (under.0, under.1, t)).Reads bytes xs) (governs-one bytes a b g h) p)
+    FirstFault-excludes f.Reads f.Faulty f.no_fault bytes e xs q (subst (λ (t : RouteLwEnCapType). ReadsList (attributes (under.0, under.1, t)).Reads bytes xs) (governs-one NoEncapsulation bytes a b g h) p)
 
 pub route-list-coherent : (under : Under) (bytes : List ℕ) (xs : List Meaning) → IsBytes bytes → IsRouteList under bytes xs → IsCoherentList under xs
 route-list-coherent under bytes xs is p =
@@ -127,10 +128,10 @@ route-list-coherent under bytes xs is p =
 
 pub route-list-back : (under : Under) (xs : List Meaning) → IsCoherentList under xs → first_unfit writing.misfit xs ≡ None → IsRouteList under (encodings writing.writes xs) xs
 route-list-back under xs all fits =
-    let context : Context = (under.0, under.1, first_type xs) in
+    let context : Context = (under.0, under.1, first_type NoEncapsulation xs) in
     let f : Reading writing = attributes context in
     let p : ReadsList f.Reads (encodings writing.writes xs) xs = encodings-read f.Coherent writing.misfit writing.writes f.Reads (fits-small f) f.reads_back xs all fits in
-    (first_type xs, list_governs context (encodings writing.writes xs) xs p, p)
+    (first_type NoEncapsulation xs, list_governs NoEncapsulation context (encodings writing.writes xs) xs p, p)
 
 pub route-list-grows : (under : Under) (bytes : List ℕ) (xs : List Meaning) → IsBytes bytes → IsRouteList under bytes xs → 2 * length (encodings writing.writes xs) ≤ 5 * length bytes
 route-list-grows under bytes xs is (type, g, p) =

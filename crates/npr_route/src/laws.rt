@@ -34,11 +34,11 @@ pub fn law_canonical()
     ensures { (m n : Route) → IsCoherentRoute m → route_misfit m ≡ None → IsCoherentRoute n → route_misfit n ≡ None → route_bytes m ≡ route_bytes n → m ≡ n }
 {}
 
-/// One type governs a list, whatever its bytes are; and where the bytes are a list, that is the
-/// first type that its attributes hold.
+/// One type governs a list, whatever its bytes are and whatever the outer type is; and where the
+/// bytes are a list, that is the first type that its attributes hold.
 pub fn law_governing_type()
-    ensures one { (bytes : List ℕ) (a b : RouteLwEnCapType) → Governs bytes a → Governs bytes b → a ≡ b }
-    ensures first { (under : Under) (bytes : List ℕ) (xs : List Meaning) → IsRouteList under bytes xs → Governs bytes (first_type xs) }
+    ensures one { (outer a b : RouteLwEnCapType) (bytes : List ℕ) → Governs outer bytes a → Governs outer bytes b → a ≡ b }
+    ensures first { (under : Under) (bytes : List ℕ) (xs : List Meaning) → IsRouteList under bytes xs → Governs RouteLwEnCapType.None bytes (first_type RouteLwEnCapType.None xs) }
 {}
 
 /// Next hops, over their definitions: bytes are one list of them at most, and none where there is

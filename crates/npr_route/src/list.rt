@@ -1,12 +1,13 @@
 //! Lists of route attributes: the type that governs them is found first, and then they are read.
 
-ghost use Rattle.std.specs.Prelude.{◌≡◌, ◌≢◌, ℕ, List, [], map, IfOk, IfErr, IsErrOf};
+ghost use Rattle.std.specs.Prelude.{◌≡◌, ◌≢◌, ℕ, List, length, map, IfOk, IfErr, IsErrOf};
 ghost use Rattle.npr_base.specs.declared.refusal.DecodeError.TheVariants.{OutOfMemory};
-ghost use Rattle.npr_base.specs.Counts.{SawEach};
-ghost use Rattle.npr_base.specs.Family.{AllOf, list_members};
-ghost use Rattle.npr_base.specs.Framing.{Item, Front, Passes};
-ghost use Rattle.npr_route.specs.Attribute.{Meaning, meaning_of, place};
-ghost use Rattle.npr_route.specs.Governing.{told, Governs};
+ghost use Rattle.npr_base.specs.Counts.{AddsAtMostTwice, SawEach};
+ghost use Rattle.npr_base.specs.Family.{list_members};
+ghost use Rattle.npr_base.specs.Framing.{Item, Front};
+ghost use Rattle.npr_route.specs.Attribute.{Meaning, meaning_of};
+ghost use Rattle.npr_route.specs.AttributeLaws.{writing};
+ghost use Rattle.npr_route.specs.Governing.{told, Governs, Searches};
 ghost use Rattle.npr_route.specs.RouteList.{IsRouteList, RouteListFault};
 
 use crate::attribute::RouteAttribute;
@@ -28,10 +29,15 @@ fn told_by(item: &NlaBuffer<'_>) -> Option<RouteLwEnCapType>
 }
 
 /// The type that governs the list in the bytes: that of its first `RTA_ENCAP_TYPE` of two bytes,
-/// wherever it stands, and `None` where there is none. A fault ends the search and no more: it is
-/// refused when the list is read.
-fn governing_type(bytes: &[u8], looks: &mut Looks) -> RouteLwEnCapType
-    ensures { Governs bytes.now result }
+/// wherever it stands, and the outer type where there is none. A fault ends the search and no more:
+/// it is refused when the list is read. Each look at a header is counted.
+fn governing_type(
+    bytes: &[u8],
+    outer: RouteLwEnCapType,
+    looks: &mut Looks,
+) -> RouteLwEnCapType
+    ensures governs { Governs outer bytes.now result }
+    ensures looks { Searches outer bytes.now result looks.old looks.new }
 {
     let mut walk = NlasIterator::new(bytes);
     while let Some(Ok(item)) = walk.next_counted(looks) {
@@ -39,7 +45,7 @@ fn governing_type(bytes: &[u8], looks: &mut Looks) -> RouteLwEnCapType
             return kind;
         }
     }
-    RouteLwEnCapType::None
+    outer
 }
 
 /// The attributes that the bytes are cut into, in their order, under the family and the type of a
@@ -62,7 +68,10 @@ pub fn read_route_list(
     ensures none { IfErr result (λ e. e ≢ OutOfMemory → (xs : List Meaning) → IsRouteList under bytes.now xs → ⊥) }
     // Memory is taken behind a first whole attribute alone.
     ensures memory { IsErrOf result OutOfMemory → (x : Item) × (rest : List ℕ) × Front bytes.now x rest }
+    // The search and the reading together look no more often than a reading may.
+    ensures bounded { AddsAtMostTwice looks.old looks.new (length bytes.now) }
+    ensures counted { IfOk result (λ v. SawEach looks.old looks.new (list_members writing.members (map meaning_of v.items))) }
 {
-    let kind = governing_type(bytes, looks);
+    let kind = governing_type(bytes, RouteLwEnCapType::None, looks);
     parse_list(alloc, (under.0, under.1, kind), bytes, looks)
 }

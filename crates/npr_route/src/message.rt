@@ -1,8 +1,11 @@
 //! Route messages: `RTM_NEWROUTE`, `RTM_DELROUTE` and `RTM_GETROUTE`, without the envelope.
 
-ghost use Rattle.std.specs.Prelude.{◌≡◌, ◌≢◌, ◌≤◌, ◌<◌, ◌*◌, ℕ, List, None, [], length, drop, IfOk, IfErr, IsErrOf};
+ghost use Rattle.std.specs.Prelude.{◌≡◌, ◌≢◌, ◌≤◌, ◌<◌, ◌*◌, ◌-◌, ℕ, List, None, [], length, drop, IfOk, IfErr, IsErrOf};
 ghost use Rattle.npr_base.specs.declared.refusal.DecodeError.TheVariants.{OutOfMemory};
+ghost use Rattle.npr_base.specs.Counts.{AddsAtMostTwice, SawEach};
+ghost use Rattle.npr_base.specs.Family.{list_members};
 ghost use Rattle.npr_base.specs.Framing.{Item, Front};
+ghost use Rattle.npr_route.specs.AttributeLaws.{writing};
 ghost use Rattle.npr_route.specs.Header.{default_header};
 ghost use Rattle.npr_route.specs.Message.{Route, message_of, IsRouteMessage, RouteFault, IsCoherentRoute, route_bytes, route_misfit};
 
@@ -48,6 +51,41 @@ impl RouteMessage {
             attributes: clone_list(alloc, self.attributes.as_slice())?,
         })
     }
+
+    /// `parse`, with each look at a header counted: those at the attributes of the list, once to
+    /// find the type of its encapsulations and once to read it, and at all inside them.
+    ///
+    /// # Errors
+    /// `OutOfMemory` where memory is refused, and else the first fault in reading order.
+    pub fn parse_counted(
+        alloc: Global,
+        bytes: &[u8],
+        looks: &mut Looks,
+    ) -> Result<Self, DecodeError>
+        // What is read is what the bytes mean.
+        ensures ok { IfOk result (λ m. IsRouteMessage bytes.now (message_of m)) }
+        // They mean nothing else.
+        ensures one { IfOk result (λ m. (n : Route) → IsRouteMessage bytes.now n → message_of m ≡ n) }
+        ensures coherent { IfOk result (λ m. IsCoherentRoute (message_of m)) }
+        // A refusal is the first fault.
+        ensures refused { IfErr result (λ e. e ≢ OutOfMemory → RouteFault bytes.now e) }
+        // Then the bytes mean nothing.
+        ensures none { IfErr result (λ e. e ≢ OutOfMemory → (n : Route) → IsRouteMessage bytes.now n → ⊥) }
+        // Canonical bytes give back their message.
+        ensures again { IfOk result (λ m. (n : Route) → IsCoherentRoute n → route_misfit n ≡ None → bytes.now ≡ route_bytes n → message_of m ≡ n) }
+        // Memory is taken behind a first whole attribute alone.
+        ensures memory { IsErrOf result OutOfMemory → (x : Item) × (rest : List ℕ) × Front (drop 12 bytes.now) x rest }
+        // Canonical bytes are at most five halves as long as what was read.
+        ensures growth { IfOk result (λ m. 2 * length (route_bytes (message_of m)) ≤ 5 * length bytes.now) }
+        // At most two looks for four bytes behind the header, and two that fail,
+        ensures bounded { AddsAtMostTwice looks.old looks.new (length bytes.now - 12) }
+        // and none where there is no whole header.
+        ensures short { length bytes.now < 12 → looks.new ≡ looks.old }
+        // Each attribute of a message, and each member inside one, had a look.
+        ensures counted { IfOk result (λ m. SawEach looks.old looks.new (list_members writing.members (message_of m).attributes)) }
+    {
+        read(alloc, bytes, looks)
+    }
 }
 
 impl<'a> Parseable<&'a [u8]> for RouteMessage {
@@ -76,15 +114,18 @@ impl<'a> Parseable<&'a [u8]> for RouteMessage {
         // Canonical bytes are at most five halves as long as what was read.
         ensures growth { IfOk result (λ m. 2 * length (route_bytes (message_of m)) ≤ 5 * length bytes.now) }
     {
-        read(alloc, bytes)
+        RouteMessage::parse_counted(alloc, bytes, &mut Looks::new())
     }
 }
 
 #[tactic(auto, unfolding(crate::specs::Message::RouteFault))]
-fn read(alloc: Global, bytes: &[u8]) -> Result<RouteMessage, DecodeError>
+fn read(alloc: Global, bytes: &[u8], looks: &mut Looks) -> Result<RouteMessage, DecodeError>
     ensures ok { IfOk result (λ m. IsRouteMessage bytes.now (message_of m)) }
     ensures refused { IfErr result (λ e. e ≢ OutOfMemory → RouteFault bytes.now e) }
     ensures memory { IsErrOf result OutOfMemory → (x : Item) × (rest : List ℕ) × Front (drop 12 bytes.now) x rest }
+    ensures bounded { AddsAtMostTwice looks.old looks.new (length bytes.now - 12) }
+    ensures short { length bytes.now < 12 → looks.new ≡ looks.old }
+    ensures counted { IfOk result (λ m. SawEach looks.old looks.new (list_members writing.members (message_of m).attributes)) }
 {
     if bytes.len() < 12 {
         return Err(DecodeError::HeaderTooShort {
@@ -94,7 +135,7 @@ fn read(alloc: Global, bytes: &[u8]) -> Result<RouteMessage, DecodeError>
     }
     let header = RouteHeader::in_front(bytes);
     let under = (header.address_family, header.kind);
-    let attributes = read_route_list(alloc, &bytes[12..], under, &mut Looks::new())?;
+    let attributes = read_route_list(alloc, &bytes[12..], under, looks)?;
     Ok(RouteMessage { header, attributes })
 }
 

@@ -10,7 +10,7 @@ ghost use Rattle.npr_srh.specs.Headed.{HasHeader};
 ghost use Rattle.npr_srh.specs.Segments.{too_many};
 
 use npr_base::{
-    At, DecodeError, EmitError, Ipv4Addr, Ipv6Addr, check_len, emit_v6_list, read_4, read_16,
+    At, DecodeError, EmitError, Ipv4Addr, Ipv6Addr, check_len, emit_v6_list, read_octets,
     v6_list_len,
 };
 
@@ -62,7 +62,7 @@ pub(crate) fn read_v4(value: &[u8], at: At) -> Result<Ipv4Addr, DecodeError>
     ensures ok { IfOk result (λ a. (exactly (octets 4)).Reads value.now a) }
     ensures refused { IfErr result (λ e. (exactly (octets 4)).Wrong at value.now e) }
 {
-    Ok(Ipv4Addr::from(read_4(value, at)?))
+    Ok(Ipv4Addr::from(read_octets(value, at)?))
 }
 
 /// An address of version 6.
@@ -73,5 +73,5 @@ pub(crate) fn read_v6(value: &[u8], at: At) -> Result<Ipv6Addr, DecodeError>
     ensures ok { IfOk result (λ a. (exactly (octets 16)).Reads value.now a) }
     ensures refused { IfErr result (λ e. (exactly (octets 16)).Wrong at value.now e) }
 {
-    Ok(Ipv6Addr::from(read_16(value, at)?))
+    Ok(Ipv6Addr::from(read_octets(value, at)?))
 }

@@ -1,6 +1,6 @@
 -- Options of Geneve that were read so far.
 use Rattle.std.proofs.Common.{◌≡◌, ℕ, ◌+◌, ◌-◌, ◌≤◌, Bool, true, false, List, [], ◌∷◌, ◌++◌, Option, Some, None, length, refl, sym, ap, subst, ◌∙◌, append_assoc, arith, inl, inr, length-append}
-use Rattle.std.proofs.lemmas.List.{append-nil}
+use Rattle.std.proofs.lemmas.List.{append-nil, length_push}
 use Rattle.npr_base.specs.declared.refusal.DecodeError.{DecodeError}
 use Rattle.npr_base.specs.Counts.{Counts, AddsAtMost, SawEach, hit}
 use Rattle.npr_base.specs.Family.{ReadsTo, IsWrong, list_members}
@@ -69,7 +69,7 @@ pub record SoFarRead (bytes : List ℕ) (start now : Counts) (options : List Gen
   pub groups : AreGroups children (options ++ listed current)
   pub begun : current ≡ None → options ≡ []
   pub left : length rest ≤ length bytes
-  pub looks : SoFar start now (length bytes - length rest) (list_members (λ (c : Child). 0) children)
+  pub looks : SoFar start now (length bytes - length rest) (length children) (list_members (λ (c : Child). 0) children)
 
 no-more : (n : ℕ) → n - n ≡ 0
 no-more n = omega arith
@@ -98,7 +98,7 @@ child_read bytes start now os before closed opened walk rest x c past f reads ch
       groups = groups-more os before c closed opened past.children past.groups change;
       begun = λ e. absurd cc;
       left = omega (arith, took, past.left);
-      looks = rw (list_members-more (λ (d : Child). 0) past.children c) (SoFar-more start now (hit now) (length bytes - length walk) (list_members (λ (d : Child). 0) past.children) (length x.value) (length bytes - length rest) 0 past.looks adds saw fewer);
+      looks = rw (length_push past.children c, list_members-more (λ (d : Child). 0) past.children c) (SoFar-more start now (hit now) (length bytes - length walk) (length past.children) (list_members (λ (d : Child). 0) past.children) (length x.value) (length bytes - length rest) 0 past.looks adds saw fewer);
     }
 
 open-last : (os : List Geneve) (o : Geneve) → is_open (os ++ o ∷ []) ≡ true

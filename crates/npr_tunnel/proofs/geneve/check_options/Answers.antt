@@ -1,5 +1,5 @@
 use Rattle.std.proofs.Common.{◌≡◌, ◌+◌, ◌∷◌, [], ap, sym, ◌∙◌, length, map, take, length-append}
-use Rattle.npr_base.specs.Family.{held}
+use Rattle.npr_base.specs.Family.{in_usize}
 use Rattle.npr_base.proofs.Checking.{checked-ok}
 use Rattle.npr_tunnel.specs.Geneve.{option_of, option_bytes, option_misfit}
 use Rattle.npr_tunnel.proofs.Options.{bytes-next, unfit-past}
@@ -16,5 +16,5 @@ loop-option-preserved c =
     let size : length done + c.in_ok-len.len ≡ length (option_bytes (map option_of (take (i + 1) all))) = ap (λ n. length done + n) k.1 ∙ sym (ap length (bytes-next option_of all i x c.loop-option-test.true c.option-item.is) ∙ length-append done one) in
     record {
       fits = c.loop-option.invariant.fits ∙ unfit-past option_of all i x c.loop-option-test.true c.option-item.is k.0;
-      sum = c.plus-total.ensures (length done) c.loop-option.invariant.sum ∙ ap held size;
+      sum = c.plus-total.ensures (length done) c.loop-option.invariant.sum ∙ ap in_usize size;
     }

@@ -8,18 +8,13 @@ use Rattle.npr_base.specs.declared.refusal.DecodeError.{DecodeError}
 use Rattle.npr_base.specs.declared.refusal.DecodeError.TheVariants.{NextHopTooShort, NextHopLength}
 use Rattle.npr_base.specs.Framing.{IsBytes}
 use Rattle.npr_base.specs.Layout.{le32_at}
+use Rattle.npr_base.specs.FrontLaws.{length_at, length_at-is, two_bytes}
 use Rattle.npr_base.specs.ListLaws.{IsBytes-left, IsBytes-right}
 use Rattle.npr_route.specs.NextHops.{HopHead, hop_text, HopFront, HopFault}
 
 -- what stands in front, computed
-abbrev length_at : List ℕ → ℕ
-length_at bs = slice_index bs 0 + slice_index bs 1 * 256
-
 abbrev head_at : List ℕ → HopHead
 head_at bs = record { flags = slice_index bs 2; hops = slice_index bs 3; interface_index = le32_at bs 4 }
-
-two : (n : ℕ) → n < 2 ^ 16 → n % 256 + n / 256 % 256 * 256 ≡ n
-two n h = omega arith
 
 head_back : (h : HopHead) (inside rest : List ℕ) → h.interface_index < 2 ^ 32 → head_at (hop_text h inside ++ rest) ≡ h
 head_back h inside rest fits = λ i. record { flags = h.flags; hops = h.hops; interface_index = from_le_bytes-to_le_bytes_4 h.interface_index fits i }
@@ -28,7 +23,7 @@ pub HopFront-length : (bs : List ℕ) (h : HopHead) (inside rest : List ℕ) →
 HopFront-length bs h inside rest f = omega (arith, ap length f.is, length-append inside rest)
 
 length_is : (bs : List ℕ) (h : HopHead) (inside rest : List ℕ) → HopFront bs h inside rest → length_at bs ≡ 8 + length inside
-length_is bs h inside rest f = ap length_at f.is ∙ two (8 + length inside) (omega (arith, f.short))
+length_is bs h inside rest f = ap length_at f.is ∙ two_bytes (8 + length inside) (omega (arith, f.short))
 
 pub HopFront-is : (bs : List ℕ) (h : HopHead) (inside rest : List ℕ) → HopFront bs h inside rest → (h ≡ head_at bs) × (inside ≡ take (length_at bs - 8) (drop 8 bs)) × (rest ≡ drop (length_at bs) bs)
 HopFront-is bs h inside rest f =
@@ -44,18 +39,13 @@ HopFront-same bs g h i j r s p q =
     let b = HopFront-is bs h j s q in
     (a.0 ∙ sym b.0, a.1 ∙ sym b.1, a.2 ∙ sym b.2)
 
-take_two : (bs : List ℕ) → from_le_bytes w16 (take 2 bs) ≡ length_at bs
-take_two [] = refl
-take_two (a ∷ []) = refl
-take_two (a ∷ b ∷ bs) = refl
-
 -- where one stands in front there is no fault
 pub HopFront-sound : (bs : List ℕ) (h : HopHead) (inside rest : List ℕ) (e : DecodeError) → HopFront bs h inside rest → HopFault bs e → ⊥
 HopFront-sound bs h inside rest (NextHopTooShort got) f bad = absurd (omega (arith, HopFront-length bs h inside rest f, bad.1))
 HopFront-sound bs h inside rest (NextHopLength l left) f bad =
     let n : length_at bs ≡ 8 + length inside = length_is bs h inside rest f in
     let le : 8 + length inside ≤ length bs = omega (arith, HopFront-length bs h inside rest f) in
-    let is : l ≡ length_at bs = bad.2 ∙ take_two bs in
+    let is : l ≡ length_at bs = bad.2 ∙ length_at-is bs in
     elim bad.3 [ inl low ↦ absurd (omega arith) | inr high ↦ absurd (omega arith) ]
 HopFront-sound bs h inside rest other f bad = bad
 

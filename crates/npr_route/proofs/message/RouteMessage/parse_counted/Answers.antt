@@ -2,7 +2,7 @@ use Rattle.std.proofs.Common.{arith}
 use Rattle.npr_base.proofs.Messages.{ok_one, ok_coherent, ok_again, ok_grows, refused_no_message}
 use Rattle.npr_route.specs.Header.{header}
 use Rattle.npr_route.specs.Message.{body, message_of, IsCoherentRoute, IsRouteMessage, RouteFault, route_bytes, route_misfit}
-use Rattle.npr_route.proofs.message.RouteMessageParseableRefSliceU8.parse.Goals as goal
+use Rattle.npr_route.proofs.message.RouteMessage.parse_counted.Goals as goal
 
 pub returns-clause-one : goal.returns-clause-one
 unfolding IsRouteMessage
