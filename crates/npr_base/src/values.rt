@@ -1,6 +1,6 @@
 //! Values of attributes: numbers, bytes and names.
 
-ghost use Rattle.std.specs.Prelude.{◌≡◌, ◌≢◌, ◌≤◌, ℕ, ◌+◌, ◌-◌, [], ◌∷◌, ◌++◌, length, IfOk, IfErr};
+ghost use Rattle.std.specs.Prelude.{◌≡◌, ◌≢◌, ◌≤◌, ◌+◌, length, IfOk, IfErr};
 ghost use Rattle.std.specs.String.{string_bytes};
 ghost use Rattle.npr_base.specs.declared.refusal.DecodeError.TheVariants.{OutOfMemory};
 ghost use Rattle.npr_base.specs.Framing.{Writes};
@@ -42,6 +42,7 @@ pub fn read_octets<const N: usize>(value: &[u8], at: At) -> Result<[u8; N], Deco
 /// # Errors
 /// `HeaderTooShort` below that length.
 pub fn leading_octets(bytes: &[u8], want: usize) -> Result<&[u8], DecodeError>
+    ensures len { IfOk result (λ front. length front.now ≡ want) }
     ensures ok { IfOk result (λ front. (leading (octets want)).Reads bytes.now front.now) }
     ensures refused { IfErr result (λ e. (leading (octets want)).Wrong no_place bytes.now e) }
 {

@@ -15,12 +15,12 @@ use Rattle.npr_scalar.specs.Realm.{route_realm}
 use Rattle.npr_scalar.specs.RouteAddress.{Address as AddressMeaning, address_of, address_bytes, address_in, Form, four, sixteen, label, any}
 use Rattle.npr_scalar.specs.RouteCacheInfo.{route_cache_info}
 use Rattle.npr_scalar.specs.RouteMfcStats.{route_mfc_stats}
-use Rattle.npr_scalar.specs.RoutePreferenceLaws.{route_preference}
+use Rattle.npr_scalar.specs.RoutePreference.{route_preference}
 use Rattle.npr_scalar.specs.RouteVia.{Via as ViaMeaning, via_of, via_value}
-use Rattle.npr_scalar.specs.TtlPropagationLaws.{ttl_propagation}
+use Rattle.npr_scalar.specs.TtlPropagation.{ttl_propagation}
 use Rattle.npr_scalar.specs.declared.cache_info.RouteCacheInfo.{RouteCacheInfo}
-use Rattle.npr_scalar.specs.declared.header.RouteType.{RouteType}
-use Rattle.npr_scalar.specs.declared.header.RouteType.TheVariants.{Multicast}
+use Rattle.npr_scalar.specs.declared.route_type.RouteType.{RouteType}
+use Rattle.npr_scalar.specs.declared.route_type.RouteType.TheVariants.{Multicast}
 use Rattle.npr_scalar.specs.declared.mfc_stats.RouteMfcStats.{RouteMfcStats}
 use Rattle.npr_scalar.specs.declared.mpls.MplsLabel.{MplsLabel}
 use Rattle.npr_scalar.specs.declared.preference.RouteMplsTtlPropagation.{RouteMplsTtlPropagation}

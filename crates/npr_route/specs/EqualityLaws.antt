@@ -8,14 +8,9 @@ use Rattle.npr_base.specs.Equality.{IsEquality, IsEqualityOf}
 use Rattle.npr_base.specs.ViewEquality.{item_equality}
 use Rattle.npr_base.specs.MeaningLaws.{enum_meaning, ◌also◌, one_meaning, text_equality, items_equality, items_meaning}
 use Rattle.npr_base.specs.StructLaws.{and_decides, decides_as}
-use Rattle.npr_scalar.specs.EqualityLaws.{address_equality, cache_info_equality, label_equality, mfc_stats_equality, realm_equality, route_flags_equality, via_equality}
+use Rattle.npr_scalar.specs.EqualityLaws.{address_equality, cache_info_equality, label_equality, mfc_stats_equality, realm_equality, route_flags_equality, via_equality, route_protocol_equality, route_scope_equality, route_type_equality, route_preference_equality, ttl_propagation_equality}
 use Rattle.npr_scalar.specs.RouteAddress.{address_of}
-use Rattle.npr_scalar.specs.RouteProtocolLaws.{route_protocol_equality}
-use Rattle.npr_scalar.specs.RouteScopeLaws.{route_scope_equality}
-use Rattle.npr_scalar.specs.RouteTypeLaws.{route_type_equality}
-use Rattle.npr_scalar.specs.RoutePreferenceLaws.{route_preference_equality}
 use Rattle.npr_scalar.specs.RouteVia.{via_of}
-use Rattle.npr_scalar.specs.TtlPropagationLaws.{ttl_propagation_equality}
 use Rattle.npr_tunnel.specs.Encapsulation as OfEncap
 use Rattle.npr_tunnel.specs.EqualityLaws.{encap_type_equality, encap_equality}
 use Rattle.npr_route.specs.Attribute as Routes

@@ -8,15 +8,12 @@ use Rattle.npr_base.specs.Layout.{Layout, formed, le32_at, le32_at-holds}
 use Rattle.npr_base.specs.AddressFamily.{family_of, family_number}
 use Rattle.npr_base.specs.AddressFamilyLaws.{family_number-family_of}
 use Rattle.npr_base.specs.declared.address_family.AddressFamily.TheVariants.{Unspec}
-use Rattle.npr_scalar.specs.RouteProtocol.{route_protocol_of, route_protocol_number}
-use Rattle.npr_scalar.specs.RouteProtocolLaws.{route_protocol_number-route_protocol_of}
-use Rattle.npr_scalar.specs.RouteScope.{route_scope_of, route_scope_number}
-use Rattle.npr_scalar.specs.RouteScopeLaws.{route_scope_number-route_scope_of}
-use Rattle.npr_scalar.specs.RouteType.{route_type_of, route_type_number}
-use Rattle.npr_scalar.specs.RouteTypeLaws.{route_type_number-route_type_of}
-use Rattle.npr_scalar.specs.declared.header.RouteProtocol.TheVariants.{Unspec as NoProtocol}
-use Rattle.npr_scalar.specs.declared.header.RouteScope.TheVariants.{Universe}
-use Rattle.npr_scalar.specs.declared.header.RouteType.TheVariants.{Unspec as NoType}
+use Rattle.npr_scalar.specs.RouteProtocol.{route_protocol_of, route_protocol_number, route_protocol_number-route_protocol_of}
+use Rattle.npr_scalar.specs.RouteScope.{route_scope_of, route_scope_number, route_scope_number-route_scope_of}
+use Rattle.npr_scalar.specs.RouteType.{route_type_of, route_type_number, route_type_number-route_type_of}
+use Rattle.npr_scalar.specs.declared.route_protocol.RouteProtocol.TheVariants.{Unspec as NoProtocol}
+use Rattle.npr_scalar.specs.declared.route_scope.RouteScope.TheVariants.{Universe}
+use Rattle.npr_scalar.specs.declared.route_type.RouteType.TheVariants.{Unspec as NoType}
 use Rattle.npr_route.specs.declared.header.RouteHeader.{RouteHeader}
 use Rattle.npr_route.specs.declared.header.RouteMessageBuffer.{RouteMessageBuffer}
 

@@ -13,9 +13,9 @@ use Rattle.npr_base.specs.Name.{name}
 use Rattle.npr_base.specs.Table.{Writing, Reading, Row, row, Held, held, held_other, held_kind, held_value, held_misfit, held-reads, IsHeld, item_of, placed, IsOther, Aligned, ReadsAt}
 use Rattle.npr_base.specs.TableLaws.{flat, other-back}
 use Rattle.npr_scalar.specs.Realm.{route_realm}
-use Rattle.npr_scalar.specs.RouteProtocolLaws.{route_protocol}
+use Rattle.npr_scalar.specs.RouteProtocol.{route_protocol}
 use Rattle.npr_scalar.specs.declared.realm.RouteRealm.{RouteRealm}
-use Rattle.npr_scalar.specs.declared.header.RouteProtocol.{RouteProtocol}
+use Rattle.npr_scalar.specs.declared.route_protocol.RouteProtocol.{RouteProtocol}
 use Rattle.npr_scalar.specs.declared.ip_protocol.IpProtocol.{IpProtocol}
 use Rattle.npr_rule.specs.IpProtocolByte.{ip_protocol_byte}
 use Rattle.npr_rule.specs.PortRange.{port_range}

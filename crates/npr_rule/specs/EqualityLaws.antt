@@ -9,9 +9,7 @@ use Rattle.npr_base.specs.ViewEquality.{item_equality}
 use Rattle.npr_base.specs.IpLaws.{ip_equality}
 use Rattle.npr_base.specs.MeaningLaws.{enum_meaning, ◌also◌, one_meaning, text_equality, items_meaning}
 use Rattle.npr_base.specs.StructLaws.{and_decides, decides_as}
-use Rattle.npr_scalar.specs.EqualityLaws.{realm_equality}
-use Rattle.npr_scalar.specs.IpProtocolLaws.{ip_protocol_equality}
-use Rattle.npr_scalar.specs.RouteProtocolLaws.{route_protocol_equality}
+use Rattle.npr_scalar.specs.EqualityLaws.{realm_equality, ip_protocol_equality, route_protocol_equality}
 use Rattle.npr_rule.specs.Attribute.{Meaning, destination, source, iifname, goto, priority, fw_mark, realm, tun_id, suppress_if_group, suppress_prefix_len, table, fw_mask, oifname, l3mdev, uid_range, protocol, ip_protocol, source_port_range, destination_port_range, other, meaning_of}
 use Rattle.npr_rule.specs.Message.{Rule, message_of}
 use Rattle.npr_rule.specs.contracts.action.RuleActionPartialEq.TheImpl as ActionEq

@@ -5,8 +5,7 @@ use Rattle.npr_base.specs.declared.refusal.EmitError.{EmitError}
 use Rattle.npr_base.specs.declared.refusal.EmitError.TheVariants.{IpProtocol as NoByte}
 use Rattle.npr_base.specs.Framing.{framed}
 use Rattle.npr_base.specs.Codec.{Codec, exactly}
-use Rattle.npr_scalar.specs.IpProtocol.{byte_of, ip_protocol_number}
-use Rattle.npr_scalar.specs.IpProtocolLaws.{ip_protocol}
+use Rattle.npr_scalar.specs.IpProtocol.{byte_of, ip_protocol_number, ip_protocol}
 use Rattle.npr_scalar.specs.declared.ip_protocol.IpProtocol.{IpProtocol}
 
 abbrev pub misfit_by : Option ℕ → EmitError → Option EmitError

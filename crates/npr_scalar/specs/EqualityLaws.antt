@@ -1,6 +1,6 @@
 -- What `==` answers of the values of routes: whether two are equal, or mean the same where they hold a vector.
 use Rattle.std.specs.Prelude.{◌≡◌, ℕ, List, ◌&&◌, nat_eq}
-use Rattle.std.specs.Cmp.{unsigned_Decides}
+use Rattle.std.specs.Cmp.{signed_Decides, unsigned_Decides}
 use Rattle.std.specs.Cmp.Lexicographic.{pointwise}
 use Rattle.std.specs.declared.alloc.Global.{Global}
 use Rattle.std.specs.declared.vec.Vec.{Vec}
@@ -8,6 +8,7 @@ use Rattle.std.proofs.Common.{refl, rules, ap}
 use Rattle.npr_base.specs.AddressFamilyLaws.{family_equality}
 use Rattle.npr_base.specs.declared.address_family.AddressFamily.{AddressFamily}
 use Rattle.npr_base.specs.Equality.{IsEquality, IsEqualityOf}
+use Rattle.npr_base.specs.EqualityLaws.{enum_equality, one_equality}
 use Rattle.npr_base.specs.IpLaws.{ipv4_equality, ipv6_equality}
 use Rattle.npr_base.specs.MeaningLaws.{enum_meaning, ◌also◌, one_meaning, items_equality}
 use Rattle.npr_base.specs.StructLaws.{and_decides, decides_as}
@@ -23,6 +24,36 @@ use Rattle.npr_scalar.specs.contracts.realm.RouteRealmPartialEq.TheImpl as Realm
 use Rattle.npr_scalar.specs.contracts.mpls.MplsLabelPartialEq.TheImpl as LabelEq
 use Rattle.npr_scalar.specs.contracts.via.RouteVia.{enum as via_enum}
 use Rattle.npr_scalar.specs.contracts.via.RouteViaPartialEq.TheImpl as ViaEq
+use Rattle.npr_scalar.specs.contracts.route_protocol.RouteProtocol.{enum as route_protocol_enum}
+use Rattle.npr_scalar.specs.contracts.route_protocol.RouteProtocolPartialEq.TheImpl as RouteProtocolEq
+use Rattle.npr_scalar.specs.contracts.route_scope.RouteScope.{enum as route_scope_enum}
+use Rattle.npr_scalar.specs.contracts.route_scope.RouteScopePartialEq.TheImpl as RouteScopeEq
+use Rattle.npr_scalar.specs.contracts.route_type.RouteType.{enum as route_type_enum}
+use Rattle.npr_scalar.specs.contracts.route_type.RouteTypePartialEq.TheImpl as RouteTypeEq
+use Rattle.npr_scalar.specs.contracts.preference.RoutePreference.{enum as route_preference_enum}
+use Rattle.npr_scalar.specs.contracts.preference.RoutePreferencePartialEq.TheImpl as RoutePreferenceEq
+use Rattle.npr_scalar.specs.contracts.preference.RouteMplsTtlPropagation.{enum as ttl_propagation_enum}
+use Rattle.npr_scalar.specs.contracts.preference.RouteMplsTtlPropagationPartialEq.TheImpl as RouteMplsTtlPropagationEq
+use Rattle.npr_scalar.specs.contracts.ip_protocol.IpProtocol.{enum as ip_protocol_enum}
+use Rattle.npr_scalar.specs.contracts.ip_protocol.IpProtocolPartialEq.TheImpl as IpProtocolEq
+
+pub route_protocol_equality : IsEquality RouteProtocolEq.ghosts.eq
+route_protocol_equality = enum_equality route_protocol_enum _ refl (one_equality unsigned_Decides, tt)
+
+pub route_scope_equality : IsEquality RouteScopeEq.ghosts.eq
+route_scope_equality = enum_equality route_scope_enum _ refl (one_equality unsigned_Decides, tt)
+
+pub route_type_equality : IsEquality RouteTypeEq.ghosts.eq
+route_type_equality = enum_equality route_type_enum _ refl (one_equality unsigned_Decides, tt)
+
+pub route_preference_equality : IsEquality RoutePreferenceEq.ghosts.eq
+route_preference_equality = enum_equality route_preference_enum _ refl (one_equality unsigned_Decides, tt)
+
+pub ttl_propagation_equality : IsEquality RouteMplsTtlPropagationEq.ghosts.eq
+ttl_propagation_equality = enum_equality ttl_propagation_enum _ refl (one_equality unsigned_Decides, tt)
+
+pub ip_protocol_equality : IsEquality IpProtocolEq.ghosts.eq
+ip_protocol_equality = enum_equality ip_protocol_enum _ refl (one_equality signed_Decides, tt)
 
 pub label_equality : IsEquality LabelEq.ghosts.eq
 label_equality = search rules

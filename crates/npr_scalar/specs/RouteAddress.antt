@@ -56,13 +56,15 @@ address_by sixteen = variant (exactly (octets 16)) inet6 address_bytes (λ v. re
 address_by label = variant (exactly mpls_label) mpls address_bytes (λ v. refl) (λ kind v h. h)
 address_by any = variant raw other address_bytes (λ v. refl) (λ kind v h. h)
 
-pub address-back : (form : Form) (kind : ℕ) (a : Address) → (address_by form).Holds a → too_long kind (length (address_bytes a)) ≡ None → (address_by form).Reads (address_bytes a) a
+pub address-back : (form : Form) (kind : ℕ) (a : Address) → (address_by form).Holds a → too_long kind (length (address_bytes a)) ≡ None
+    → (address_by form).Reads (address_bytes a) a
 address-back four kind a h fits = (address_by four).reads_back kind a h fits
 address-back sixteen kind a h fits = (address_by sixteen).reads_back kind a h fits
 address-back label kind a h fits = (address_by label).reads_back kind a h fits
 address-back any kind a h fits = (address_by any).reads_back kind a h fits
 
-pub address-grows : (form : Form) (bytes : List ℕ) (a : Address) → IsBytes bytes → (address_by form).Reads bytes a → 2 * framed (length (address_bytes a)) ≤ 5 * (4 + length bytes)
+pub address-grows : (form : Form) (bytes : List ℕ) (a : Address) → IsBytes bytes → (address_by form).Reads bytes a
+    → 2 * framed (length (address_bytes a)) ≤ 5 * (4 + length bytes)
 address-grows four bytes a is p = (address_by four).grows bytes a is p
 address-grows sixteen bytes a is p = (address_by sixteen).grows bytes a is p
 address-grows label bytes a is p = (address_by label).grows bytes a is p
@@ -89,6 +91,6 @@ abbrev pub route_address : AddressFamily → Codec Address
 route_address family = address_in (form_of family)
 
 -- the address of a route that an address of IP is
-abbrev pub of_ip : IpAddr → RouteAddress
-of_ip (V4 a) = AddressInet a
-of_ip (V6 a) = AddressInet6 a
+abbrev pub address_of_ip : IpAddr → RouteAddress
+address_of_ip (V4 a) = AddressInet a
+address_of_ip (V6 a) = AddressInet6 a

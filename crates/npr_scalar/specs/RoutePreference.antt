@@ -1,6 +1,9 @@
 -- Preferences of routers, by their table: `ICMPV6_ROUTER_PREF_*` of `linux/icmpv6.h`.
-use Rattle.std.specs.Prelude.{ℕ, List, [], ◌∷◌}
+use Rattle.std.specs.Prelude.{◌≡◌, ℕ, List, [], ◌∷◌}
+use Rattle.std.proofs.Common.{refl}
+use Rattle.npr_base.specs.Layout.{Layout, byte, formed}
 use Rattle.npr_base.specs.Rows.{form_in}
+use Rattle.npr_base.specs.RowLaws.{number-form}
 use Rattle.npr_scalar.specs.declared.preference.RoutePreference.{RoutePreference}
 use Rattle.npr_scalar.specs.declared.preference.RoutePreference.TheVariants.{Medium, High, Invalid, Low, Other}
 
@@ -18,3 +21,10 @@ route_preference_number High = 1
 route_preference_number Invalid = 2
 route_preference_number Low = 3
 route_preference_number (Other d) = d
+
+pub route_preference_number-route_preference_of : (d : ℕ) → route_preference_number (route_preference_of d) ≡ d
+route_preference_number-route_preference_of = number-form route_preference_number Other (λ d. refl) route_preference_rows refl
+
+-- how one is read from a byte and written as one
+abbrev pub route_preference : Layout RoutePreference
+route_preference = formed byte route_preference_of route_preference_number route_preference_number-route_preference_of

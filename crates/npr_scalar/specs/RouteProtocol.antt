@@ -1,12 +1,19 @@
 -- Who made a route, by the table: `RTPROT_*` of `linux/rtnetlink.h`.
-use Rattle.std.specs.Prelude.{ℕ, List, [], ◌∷◌}
+use Rattle.std.specs.Prelude.{◌≡◌, ℕ, List, [], ◌∷◌}
+use Rattle.std.proofs.Common.{refl}
+use Rattle.npr_base.specs.Layout.{Layout, byte, formed}
 use Rattle.npr_base.specs.Rows.{form_in}
-use Rattle.npr_scalar.specs.declared.header.RouteProtocol.{RouteProtocol}
-use Rattle.npr_scalar.specs.declared.header.RouteProtocol.TheVariants.{Unspec, IcmpRedirect, Kernel, Boot, Static, Gated, Ra, Mrt, Zebra, Bird, DnRouted, Xorp, Ntk, Dhcp, Mrouted, KeepAlived, Babel, Bgp, Isis, Ospf, Rip, Eigrp, Other}
+use Rattle.npr_base.specs.RowLaws.{number-form}
+use Rattle.npr_scalar.specs.declared.route_protocol.RouteProtocol.{RouteProtocol}
+use Rattle.npr_scalar.specs.declared.route_protocol.RouteProtocol.TheVariants.{Unspec, IcmpRedirect, Kernel, Boot, Static, Gated, Ra, Mrt, Zebra, Bird}
+use Rattle.npr_scalar.specs.declared.route_protocol.RouteProtocol.TheVariants.{DnRouted, Xorp, Ntk, Dhcp, Mrouted, KeepAlived, Babel, Bgp, Isis, Ospf, Rip}
+use Rattle.npr_scalar.specs.declared.route_protocol.RouteProtocol.TheVariants.{Eigrp, Other}
 
 abbrev pub route_protocol_rows : List (ℕ × RouteProtocol)
 route_protocol_rows =
-    (0, Unspec) ∷ (1, IcmpRedirect) ∷ (2, Kernel) ∷ (3, Boot) ∷ (4, Static) ∷ (8, Gated) ∷ (9, Ra) ∷ (10, Mrt) ∷ (11, Zebra) ∷ (12, Bird) ∷ (13, DnRouted) ∷ (14, Xorp) ∷ (15, Ntk) ∷ (16, Dhcp) ∷ (17, Mrouted) ∷ (18, KeepAlived) ∷ (42, Babel) ∷ (186, Bgp) ∷ (187, Isis) ∷ (188, Ospf) ∷ (189, Rip) ∷ (192, Eigrp) ∷ []
+    (0, Unspec) ∷ (1, IcmpRedirect) ∷ (2, Kernel) ∷ (3, Boot) ∷ (4, Static) ∷ (8, Gated) ∷ (9, Ra) ∷ (10, Mrt)
+    ∷ (11, Zebra) ∷ (12, Bird) ∷ (13, DnRouted) ∷ (14, Xorp) ∷ (15, Ntk) ∷ (16, Dhcp) ∷ (17, Mrouted) ∷ (18, KeepAlived)
+    ∷ (42, Babel) ∷ (186, Bgp) ∷ (187, Isis) ∷ (188, Ospf) ∷ (189, Rip) ∷ (192, Eigrp) ∷ []
 
 -- the protocol that a number reads as
 abbrev pub route_protocol_of : ℕ → RouteProtocol
@@ -37,3 +44,10 @@ route_protocol_number Ospf = 188
 route_protocol_number Rip = 189
 route_protocol_number Eigrp = 192
 route_protocol_number (Other d) = d
+
+pub route_protocol_number-route_protocol_of : (d : ℕ) → route_protocol_number (route_protocol_of d) ≡ d
+route_protocol_number-route_protocol_of = number-form route_protocol_number Other (λ d. refl) route_protocol_rows refl
+
+-- how one is read from a byte and written as one
+abbrev pub route_protocol : Layout RouteProtocol
+route_protocol = formed byte route_protocol_of route_protocol_number route_protocol_number-route_protocol_of

@@ -1,8 +1,11 @@
 -- Scopes of routes, by their table: `RT_SCOPE_*` of `linux/rtnetlink.h`.
-use Rattle.std.specs.Prelude.{ℕ, List, [], ◌∷◌}
+use Rattle.std.specs.Prelude.{◌≡◌, ℕ, List, [], ◌∷◌}
+use Rattle.std.proofs.Common.{refl}
+use Rattle.npr_base.specs.Layout.{Layout, byte, formed}
 use Rattle.npr_base.specs.Rows.{form_in}
-use Rattle.npr_scalar.specs.declared.header.RouteScope.{RouteScope}
-use Rattle.npr_scalar.specs.declared.header.RouteScope.TheVariants.{Universe, Site, Link, Host, NoWhere, Other}
+use Rattle.npr_base.specs.RowLaws.{number-form}
+use Rattle.npr_scalar.specs.declared.route_scope.RouteScope.{RouteScope}
+use Rattle.npr_scalar.specs.declared.route_scope.RouteScope.TheVariants.{Universe, Site, Link, Host, NoWhere, Other}
 
 abbrev pub route_scope_rows : List (ℕ × RouteScope)
 route_scope_rows = (0, Universe) ∷ (200, Site) ∷ (253, Link) ∷ (254, Host) ∷ (255, NoWhere) ∷ []
@@ -19,3 +22,10 @@ route_scope_number Link = 253
 route_scope_number Host = 254
 route_scope_number NoWhere = 255
 route_scope_number (Other d) = d
+
+pub route_scope_number-route_scope_of : (d : ℕ) → route_scope_number (route_scope_of d) ≡ d
+route_scope_number-route_scope_of = number-form route_scope_number Other (λ d. refl) route_scope_rows refl
+
+-- how one is read from a byte and written as one
+abbrev pub route_scope : Layout RouteScope
+route_scope = formed byte route_scope_of route_scope_number route_scope_number-route_scope_of

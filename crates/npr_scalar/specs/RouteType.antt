@@ -1,12 +1,18 @@
 -- Types of routes, by their table: `RTN_*` of `linux/rtnetlink.h`.
-use Rattle.std.specs.Prelude.{ℕ, List, [], ◌∷◌}
+use Rattle.std.specs.Prelude.{◌≡◌, ℕ, List, [], ◌∷◌}
+use Rattle.std.proofs.Common.{refl}
+use Rattle.npr_base.specs.Layout.{Layout, byte, formed}
 use Rattle.npr_base.specs.Rows.{form_in}
-use Rattle.npr_scalar.specs.declared.header.RouteType.{RouteType}
-use Rattle.npr_scalar.specs.declared.header.RouteType.TheVariants.{Unspec, Unicast, Local, Broadcast, Anycast, Multicast, BlackHole, Unreachable, Prohibit, Throw, Nat, ExternalResolve, Other}
+use Rattle.npr_base.specs.RowLaws.{number-form}
+use Rattle.npr_scalar.specs.declared.route_type.RouteType.{RouteType}
+use Rattle.npr_scalar.specs.declared.route_type.RouteType.TheVariants.{Unspec, Unicast, Local, Broadcast, Anycast, Multicast, BlackHole}
+use Rattle.npr_scalar.specs.declared.route_type.RouteType.TheVariants.{Unreachable, Prohibit, Throw, Nat, ExternalResolve, Other}
 
 abbrev pub route_type_rows : List (ℕ × RouteType)
 route_type_rows =
-    (0, Unspec) ∷ (1, Unicast) ∷ (2, Local) ∷ (3, Broadcast) ∷ (4, Anycast) ∷ (5, Multicast) ∷ (6, BlackHole) ∷ (7, Unreachable) ∷ (8, Prohibit) ∷ (9, Throw) ∷ (10, Nat) ∷ (11, ExternalResolve) ∷ []
+    (0, Unspec) ∷ (1, Unicast) ∷ (2, Local) ∷ (3, Broadcast) ∷ (4, Anycast) ∷ (5, Multicast)
+    ∷ (6, BlackHole) ∷ (7, Unreachable) ∷ (8, Prohibit) ∷ (9, Throw) ∷ (10, Nat) ∷ (11, ExternalResolve)
+    ∷ []
 
 -- the type that a number reads as
 abbrev pub route_type_of : ℕ → RouteType
@@ -27,3 +33,10 @@ route_type_number Throw = 9
 route_type_number Nat = 10
 route_type_number ExternalResolve = 11
 route_type_number (Other d) = d
+
+pub route_type_number-route_type_of : (d : ℕ) → route_type_number (route_type_of d) ≡ d
+route_type_number-route_type_of = number-form route_type_number Other (λ d. refl) route_type_rows refl
+
+-- how one is read from a byte and written as one
+abbrev pub route_type : Layout RouteType
+route_type = formed byte route_type_of route_type_number route_type_number-route_type_of

@@ -1,5 +1,5 @@
 -- A gateway of a family of its own (linux/rtnetlink.h, struct rtvia): two bytes of family, and an address.
-use Rattle.std.specs.Prelude.{◌≡◌, ◌≢◌, ℕ, ◌+◌, ◌*◌, ◌<◌, ◌≤◌, ◌^◌, ◌⊎◌, List, [], ◌∷◌, ◌++◌, length, drop, slice_index, None}
+use Rattle.std.specs.Prelude.{◌≡◌, ◌≢◌, ℕ, ◌+◌, ◌*◌, ◌<◌, ◌≤◌, ◌^◌, ◌⊎◌, List, ◌++◌, length, drop}
 use Rattle.std.specs.Int.{w16, to_le_bytes}
 use Rattle.std.proofs.Common.{refl, sym, ap, subst, ◌∙◌, arith, inl, inr, length-drop}
 use Rattle.std.proofs.lemmas.Nat.{from_le_bytes-to_le_bytes_2}
@@ -37,20 +37,20 @@ via_of (ViaPacket v) = packet v.items
 via_of (ViaOther p) = other p.0 p.1.items
 
 -- the families that have a variant of their own
-pub data Form : Type 0 where
-  four : Form
-  sixteen : Form
-  hardware : Form
-  any : Form
+pub data ViaForm : Type 0 where
+  four : ViaForm
+  sixteen : ViaForm
+  hardware : ViaForm
+  any : ViaForm
 
-abbrev pub form_of : AddressFamily → Form
-form_of Inet = four
-form_of Inet6 = sixteen
-form_of Packet = hardware
-form_of family = any
+abbrev pub via_form_of : AddressFamily → ViaForm
+via_form_of Inet = four
+via_form_of Inet6 = sixteen
+via_form_of Packet = hardware
+via_form_of family = any
 
 -- the address that follows the family
-abbrev pub IsAddress : AddressFamily → Form → List ℕ → Via → Type 0
+abbrev pub IsAddress : AddressFamily → ViaForm → List ℕ → Via → Type 0
 IsAddress family four bytes (inet a) = (length bytes ≡ 4) × (a ≡ bytes)
 IsAddress family sixteen bytes (inet6 a) = (length bytes ≡ 16) × (a ≡ bytes)
 IsAddress family hardware bytes (packet a) = a ≡ bytes
@@ -58,7 +58,7 @@ IsAddress family any bytes (other f a) = (f ≡ family) × (a ≡ bytes)
 IsAddress family form bytes via = ⊥
 
 -- why there is none: `got` is the length of the address
-abbrev pub NotAddress : Form → At → List ℕ → DecodeError → Type 0
+abbrev pub NotAddress : ViaForm → At → List ℕ → DecodeError → Type 0
 NotAddress four at bytes e = (length bytes ≢ 4) × (e ≡ ValueLength at (length bytes))
 NotAddress sixteen at bytes e = (length bytes ≢ 16) × (e ≡ ValueLength at (length bytes))
 NotAddress hardware at bytes e = ⊥
@@ -68,14 +68,14 @@ NotAddress any at bytes e = ⊥
 pub record IsVia (bytes : List ℕ) (via : Via) : Type 0 where
   pub long : 2 ≤ length bytes
   pub small : le16_at bytes 0 < 2 ^ 8
-  pub address : IsAddress (family_of (le16_at bytes 0)) (form_of (family_of (le16_at bytes 0))) (drop 2 bytes) via
+  pub address : IsAddress (family_of (le16_at bytes 0)) (via_form_of (family_of (le16_at bytes 0))) (drop 2 bytes) via
 
 -- why bytes are none: too few for the family, a family above 255, or an address of a wrong length
 abbrev pub NotVia : At → List ℕ → DecodeError → Type 0
 NotVia at bytes e =
     ((length bytes < 2) × (e ≡ HeaderTooShort (length bytes) 2))
     ⊎ ((2 ≤ length bytes) × (2 ^ 8 ≤ le16_at bytes 0) × (e ≡ ViaFamily (le16_at bytes 0)))
-    ⊎ ((2 ≤ length bytes) × (le16_at bytes 0 < 2 ^ 8) × NotAddress (form_of (family_of (le16_at bytes 0))) at (drop 2 bytes) e)
+    ⊎ ((2 ≤ length bytes) × (le16_at bytes 0 < 2 ^ 8) × NotAddress (via_form_of (family_of (le16_at bytes 0))) at (drop 2 bytes) e)
 
 -- the bytes that are written
 abbrev pub via_bytes : Via → List ℕ
@@ -88,7 +88,7 @@ via_bytes (other family a) = to_le_bytes w16 (family_number family) ++ a
 pub record IsOtherFamily (family : AddressFamily) : Type 0 where
   pub small : family_number family < 2 ^ 8
   pub formed : IsFormed family_of family_number family
-  pub alone : form_of family ≡ any
+  pub alone : via_form_of family ≡ any
 
 abbrev pub HoldsVia : Via → Type 0
 HoldsVia (inet a) = (length a ≡ 4) × IsBytes a
@@ -96,45 +96,53 @@ HoldsVia (inet6 a) = (length a ≡ 16) × IsBytes a
 HoldsVia (packet a) = IsBytes a
 HoldsVia (other family a) = IsOtherFamily family × IsBytes a
 
-pub address-one : (family : AddressFamily) (form : Form) (bytes : List ℕ) (v w : Via) → IsAddress family form bytes v → IsAddress family form bytes w → v ≡ w
-address-one family four bytes (inet a) (inet b) p q = ap inet (p.1 ∙ sym q.1)
-address-one family sixteen bytes (inet6 a) (inet6 b) p q = ap inet6 (p.1 ∙ sym q.1)
-address-one family hardware bytes (packet a) (packet b) p q = ap packet (p ∙ sym q)
-address-one family any bytes (other f a) (other g b) p q = λ i. other ((p.0 ∙ sym q.0) i) ((p.1 ∙ sym q.1) i)
-address-one family four bytes (inet a) w p q = absurd q
-address-one family sixteen bytes (inet6 a) w p q = absurd q
-address-one family hardware bytes (packet a) w p q = absurd q
-address-one family any bytes (other f a) w p q = absurd q
-address-one family form bytes v w p q = absurd p
+pub gateway-one : (family : AddressFamily) (form : ViaForm) (bytes : List ℕ) (v w : Via) → IsAddress family form bytes v → IsAddress family form bytes w → v ≡ w
+gateway-one family four bytes (inet a) (inet b) p q = ap inet (p.1 ∙ sym q.1)
+gateway-one family sixteen bytes (inet6 a) (inet6 b) p q = ap inet6 (p.1 ∙ sym q.1)
+gateway-one family hardware bytes (packet a) (packet b) p q = ap packet (p ∙ sym q)
+gateway-one family any bytes (other f a) (other g b) p q = λ i. other ((p.0 ∙ sym q.0) i) ((p.1 ∙ sym q.1) i)
+gateway-one family four bytes (inet a) w p q = absurd q
+gateway-one family sixteen bytes (inet6 a) w p q = absurd q
+gateway-one family hardware bytes (packet a) w p q = absurd q
+gateway-one family any bytes (other f a) w p q = absurd q
+gateway-one family form bytes v w p q = absurd p
 
-pub address-sound : (family : AddressFamily) (form : Form) (at : At) (bytes : List ℕ) (v : Via) (e : DecodeError) → IsAddress family form bytes v → NotAddress form at bytes e → ⊥
-address-sound family four at bytes (inet a) e p q = q.0 p.0
-address-sound family sixteen at bytes (inet6 a) e p q = q.0 p.0
-address-sound family hardware at bytes v e p q = q
-address-sound family any at bytes v e p q = q
-address-sound family form at bytes v e p q = absurd p
+pub gateway-sound : (family : AddressFamily) (form : ViaForm) (at : At) (bytes : List ℕ) (v : Via) (e : DecodeError) → IsAddress family form bytes v
+    → NotAddress form at bytes e → ⊥
+gateway-sound family four at bytes (inet a) e p q = q.0 p.0
+gateway-sound family sixteen at bytes (inet6 a) e p q = q.0 p.0
+gateway-sound family hardware at bytes v e p q = q
+gateway-sound family any at bytes v e p q = q
+gateway-sound family form at bytes v e p q = absurd p
 
-pub address-holds : (n : ℕ) (form : Form) → form ≡ form_of (family_of n) → n < 2 ^ 8 → (bytes : List ℕ) (v : Via) → IsBytes bytes → IsAddress (family_of n) form bytes v → HoldsVia v
-address-holds n four e lt bytes (inet a) is p = (ap length p.1 ∙ p.0, subst IsBytes (sym p.1) is)
-address-holds n sixteen e lt bytes (inet6 a) is p = (ap length p.1 ∙ p.0, subst IsBytes (sym p.1) is)
-address-holds n hardware e lt bytes (packet a) is p = subst IsBytes (sym p) is
-address-holds n any e lt bytes (other f a) is p = (subst IsOtherFamily (sym p.0) (record { small = omega (arith, family_number-family_of n); formed = family_of_IsFormed n; alone = sym e }), subst IsBytes (sym p.1) is)
-address-holds n form e lt bytes v is p = absurd p
+pub gateway-holds : (n : ℕ) (form : ViaForm) → form ≡ via_form_of (family_of n) → n < 2 ^ 8 → (bytes : List ℕ) (v : Via) → IsBytes bytes
+    → IsAddress (family_of n) form bytes v → HoldsVia v
+gateway-holds n four e lt bytes (inet a) is p = (ap length p.1 ∙ p.0, subst IsBytes (sym p.1) is)
+gateway-holds n sixteen e lt bytes (inet6 a) is p = (ap length p.1 ∙ p.0, subst IsBytes (sym p.1) is)
+gateway-holds n hardware e lt bytes (packet a) is p = subst IsBytes (sym p) is
+gateway-holds n any e lt bytes (other f a) is p =
+    let proper : IsOtherFamily (family_of n) = record { small = omega (arith, family_number-family_of n); formed = family_of_IsFormed n; alone = sym e } in
+    (subst IsOtherFamily (sym p.0) proper, subst IsBytes (sym p.1) is)
+gateway-holds n form e lt bytes v is p = absurd p
 
-pub address-grows : (family : AddressFamily) (form : Form) (bytes : List ℕ) (v : Via) → 2 ≤ length bytes → IsAddress family form (drop 2 bytes) v → length (via_bytes v) ≤ length bytes
-address-grows family four bytes (inet a) le p = omega (arith, ap length p.1, length-drop 2 bytes)
-address-grows family sixteen bytes (inet6 a) le p = omega (arith, ap length p.1, length-drop 2 bytes)
-address-grows family hardware bytes (packet a) le p = omega (arith, ap length p, length-drop 2 bytes)
-address-grows family any bytes (other f a) le p = omega (arith, ap length p.1, length-drop 2 bytes)
-address-grows family form bytes v le p = absurd p
+pub gateway-grows : (family : AddressFamily) (form : ViaForm) (bytes : List ℕ) (v : Via) → 2 ≤ length bytes → IsAddress family form (drop 2 bytes) v
+    → length (via_bytes v) ≤ length bytes
+gateway-grows family four bytes (inet a) le p = omega (arith, ap length p.1, length-drop 2 bytes)
+gateway-grows family sixteen bytes (inet6 a) le p = omega (arith, ap length p.1, length-drop 2 bytes)
+gateway-grows family hardware bytes (packet a) le p = omega (arith, ap length p, length-drop 2 bytes)
+gateway-grows family any bytes (other f a) le p = omega (arith, ap length p.1, length-drop 2 bytes)
+gateway-grows family form bytes v le p = absurd p
 
 pub via-grows : (bytes : List ℕ) (v : Via) → IsVia bytes v → 2 * framed (length (via_bytes v)) ≤ 5 * (4 + length bytes)
-via-grows bytes v p = framed-grows (length (via_bytes v)) (length bytes) (omega (arith, address-grows (family_of (le16_at bytes 0)) (form_of (family_of (le16_at bytes 0))) bytes v p.long p.address))
+via-grows bytes v p =
+    framed-grows (length (via_bytes v)) (length bytes)
+    (omega (arith, gateway-grows (family_of (le16_at bytes 0)) (via_form_of (family_of (le16_at bytes 0))) bytes v p.long p.address))
 
 pub via-sound : (at : At) (bytes : List ℕ) (v : Via) (e : DecodeError) → IsVia bytes v → NotVia at bytes e → ⊥
 via-sound at bytes v e p (inl q) = absurd (omega (arith, p.long, q.0))
 via-sound at bytes v e p (inr (inl q)) = absurd (omega (arith, p.small, q.1))
-via-sound at bytes v e p (inr (inr q)) = address-sound (family_of (le16_at bytes 0)) (form_of (family_of (le16_at bytes 0))) at (drop 2 bytes) v e p.address q.2
+via-sound at bytes v e p (inr (inr q)) =
+    gateway-sound (family_of (le16_at bytes 0)) (via_form_of (family_of (le16_at bytes 0))) at (drop 2 bytes) v e p.address q.2
 
 pub via-back : (v : Via) → HoldsVia v → IsVia (via_bytes v) v
 via-back (inet a) h = record { long = omega arith; small = omega arith; address = (h.0, refl) }
@@ -157,15 +165,17 @@ via_value = record {
   misfit = λ kind v. too_long kind (length (via_bytes v));
   Holds = HoldsVia;
   members = λ v. 0;
-  one_reading = λ bytes v w p q. address-one (family_of (le16_at bytes 0)) (form_of (family_of (le16_at bytes 0))) (drop 2 bytes) v w p.address q.address;
+  one_reading = λ bytes v w p q. gateway-one (family_of (le16_at bytes 0)) (via_form_of (family_of (le16_at bytes 0))) (drop 2 bytes) v w p.address q.address;
   no_fault = via-sound;
-  reads_holds = λ bytes v is p. address-holds (le16_at bytes 0) (form_of (family_of (le16_at bytes 0))) refl p.small (drop 2 bytes) v (IsBytes-drop 2 bytes is) p.address;
+  reads_holds =
+      λ bytes v is p. gateway-holds (le16_at bytes 0) (via_form_of (family_of (le16_at bytes 0))) refl p.small (drop 2 bytes) v
+      (IsBytes-drop 2 bytes is) p.address;
   fits_short = λ kind v h. too_long-short kind (length (via_bytes v)) h;
   reads_back = λ kind v h fits. via-back v h;
   grows = λ bytes v is p. via-grows bytes v p;
 }
 
 -- the gateway that an address of IP is
-abbrev pub of_ip : IpAddr → RouteVia
-of_ip (V4 a) = ViaInet a
-of_ip (V6 a) = ViaInet6 a
+abbrev pub via_of_ip : IpAddr → RouteVia
+via_of_ip (V4 a) = ViaInet a
+via_of_ip (V6 a) = ViaInet6 a

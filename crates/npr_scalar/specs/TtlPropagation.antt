@@ -1,6 +1,9 @@
 -- Whether a TTL goes on, by the table: the values of `RTA_TTL_PROPAGATE` of `linux/rtnetlink.h`.
-use Rattle.std.specs.Prelude.{ℕ, List, [], ◌∷◌}
+use Rattle.std.specs.Prelude.{◌≡◌, ℕ, List, [], ◌∷◌}
+use Rattle.std.proofs.Common.{refl}
+use Rattle.npr_base.specs.Layout.{Layout, byte, formed}
 use Rattle.npr_base.specs.Rows.{form_in}
+use Rattle.npr_base.specs.RowLaws.{number-form}
 use Rattle.npr_scalar.specs.declared.preference.RouteMplsTtlPropagation.{RouteMplsTtlPropagation}
 use Rattle.npr_scalar.specs.declared.preference.RouteMplsTtlPropagation.TheVariants.{Disabled, Enabled, Other}
 
@@ -16,3 +19,10 @@ abbrev pub ttl_propagation_number : RouteMplsTtlPropagation → ℕ
 ttl_propagation_number Disabled = 0
 ttl_propagation_number Enabled = 1
 ttl_propagation_number (Other d) = d
+
+pub ttl_propagation_number-ttl_propagation_of : (d : ℕ) → ttl_propagation_number (ttl_propagation_of d) ≡ d
+ttl_propagation_number-ttl_propagation_of = number-form ttl_propagation_number Other (λ d. refl) ttl_propagation_rows refl
+
+-- how one is read from a byte and written as one
+abbrev pub ttl_propagation : Layout RouteMplsTtlPropagation
+ttl_propagation = formed byte ttl_propagation_of ttl_propagation_number ttl_propagation_number-ttl_propagation_of

@@ -1,5 +1,4 @@
 -- The family of a gateway (linux/rtnetlink.h, struct rtvia): a number of two bytes.
-use Rattle.std.specs.Prelude.{ℕ}
 use Rattle.std.proofs.Common.{refl}
 use Rattle.npr_base.specs.Layout.{Layout, le16, formed}
 use Rattle.npr_scalar.specs.declared.via.RouteViaBuffer.{RouteViaBuffer}

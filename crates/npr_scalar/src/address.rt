@@ -1,11 +1,10 @@
 //! The addresses of routes.
 
-ghost use Rattle.std.specs.Prelude.{◌≡◌, ◌≢◌, ◌≤◌, ◌<◌, ℕ, None, length, IfOk, IfErr};
+ghost use Rattle.std.specs.Prelude.{◌≡◌, ◌≢◌, ◌≤◌, None, length, IfOk, IfErr};
 ghost use Rattle.npr_base.specs.declared.refusal.DecodeError.TheVariants.{OutOfMemory};
-ghost use Rattle.npr_base.specs.Family.{checked};
 ghost use Rattle.npr_base.specs.Framing.{Writes};
 ghost use Rattle.npr_base.specs.Refusal.{no_place};
-ghost use Rattle.npr_scalar.specs.RouteAddress.{address_of, address_bytes, of_ip, route_address};
+ghost use Rattle.npr_scalar.specs.RouteAddress.{address_of, address_bytes, address_of_ip, route_address};
 ghost use Rattle.npr_scalar.specs.declared.address.RouteAddress.TheVariants.{Inet, Inet6, Mpls};
 
 use crate::mpls::MplsLabel;
@@ -125,7 +124,7 @@ impl From<Ipv6Addr> for RouteAddress {
 }
 
 impl From<IpAddr> for RouteAddress {
-    ghost from_gives = { λ ip a. a ≡ of_ip ip };
+    ghost from_gives = { λ ip a. a ≡ address_of_ip ip };
 
     fn from(ip: IpAddr) -> RouteAddress {
         match ip {

@@ -1,13 +1,11 @@
 //! What the kernel remembers of a route: `struct rta_cacheinfo` of `linux/rtnetlink.h`.
 
-ghost use Rattle.std.specs.Prelude.{◌≡◌, ◌≤◌, ◌<◌, ℕ, None, length, IfOk, IfErr};
+ghost use Rattle.std.specs.Prelude.{◌≡◌, None, IfOk, IfErr};
 ghost use Rattle.npr_base.specs.Codec.{leading};
-ghost use Rattle.npr_base.specs.Family.{checked};
-ghost use Rattle.npr_base.specs.Framing.{Writes};
 ghost use Rattle.npr_base.specs.Refusal.{no_place};
-ghost use Rattle.npr_scalar.specs.RouteCacheInfo.{route_cache_info, route_cache_info_buffer, buffer_of};
+ghost use Rattle.npr_scalar.specs.RouteCacheInfo.{route_cache_info, route_cache_info_buffer, cache_info_buffer_of};
 
-use npr_base::{DecodeError, EmitError, Emitable, write_bytes};
+use npr_base::{DecodeError, EmitError, Emitable, leading_octets, write_bytes};
 
 /// What the kernel remembers of a route.
 #[derive(Clone, Copy, Debug, Default, PartialEq, Eq)]
@@ -52,13 +50,7 @@ impl RouteCacheInfoBuffer {
         ensures ok { IfOk result (λ b. (leading route_cache_info_buffer).Reads bytes.now b) }
         ensures refused { IfErr result (λ e. (leading route_cache_info_buffer).Wrong no_place bytes.now e) }
     {
-        if bytes.len() < 32 {
-            return Err(DecodeError::HeaderTooShort {
-                got: bytes.len(),
-                want: 32,
-            });
-        }
-        let b = &bytes[..32];
+        let b = leading_octets(bytes, 32)?;
         Ok(RouteCacheInfoBuffer {
             clntref: u32::from_le_bytes([b[0], b[1], b[2], b[3]]),
             last_use: u32::from_le_bytes([b[4], b[5], b[6], b[7]]),
@@ -91,7 +83,7 @@ impl RouteCacheInfoBuffer {
 }
 
 impl<'a> From<&'a RouteCacheInfo> for RouteCacheInfoBuffer {
-    ghost from_gives = { λ x b. b ≡ buffer_of x.now };
+    ghost from_gives = { λ x b. b ≡ cache_info_buffer_of x.now };
 
     fn from(x: &'a RouteCacheInfo) -> RouteCacheInfoBuffer {
         RouteCacheInfoBuffer {

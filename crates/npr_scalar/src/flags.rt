@@ -1,6 +1,7 @@
 //! The flags of routes and next hops: `RTNH_F_*` and `RTM_F_*` of `linux/rtnetlink.h`.
 
 ghost use Rattle.std.specs.Prelude.{⊤, [], ◌∷◌, codes};
+ghost use Rattle.npr_scalar.specs.RouteFlags.{route_flags_bits, next_hop_flags_bits};
 
 use bitflags::{Flag, Flags};
 
@@ -73,7 +74,7 @@ impl Flags for RouteNextHopFlags {
 
     ghost table = { (codes "Dead", 1) ∷ (codes "Pervasive", 2) ∷ (codes "Onlink", 4) ∷ (codes "Offload", 8) ∷ (codes "Linkdown", 16) ∷ (codes "Unresolved", 32) ∷ (codes "Trap", 64) ∷ ([], 255) ∷ [] };
 
-    ghost set_of = { λ flags. flags.0 };
+    ghost set_of = { next_hop_flags_bits };
 
     fn flags<'a>() -> &'a [Flag<RouteNextHopFlags>] {
         RouteNextHopFlags::FLAGS
@@ -220,7 +221,7 @@ impl Flags for RouteFlags {
 
     ghost table = { (codes "Dead", 1) ∷ (codes "Pervasive", 2) ∷ (codes "Onlink", 4) ∷ (codes "Offload", 8) ∷ (codes "Linkdown", 16) ∷ (codes "Unresolved", 32) ∷ (codes "Trap", 64) ∷ (codes "Notify", 256) ∷ (codes "Cloned", 512) ∷ (codes "Equalize", 1024) ∷ (codes "Prefix", 2048) ∷ (codes "LookupTable", 4096) ∷ (codes "FibMatch", 8192) ∷ (codes "RtOffload", 16384) ∷ (codes "RtTrap", 32768) ∷ (codes "OffloadFailed", 536870912) ∷ ([], 4294967295) ∷ [] };
 
-    ghost set_of = { λ flags. flags.0 };
+    ghost set_of = { route_flags_bits };
 
     fn flags<'a>() -> &'a [Flag<RouteFlags>] {
         RouteFlags::FLAGS

@@ -1,6 +1,6 @@
 //! Protocols over IP: `IPPROTO_*` of `linux/in.h`.
 
-ghost use Rattle.std.specs.Prelude.{◌≡◌, ℤ, pos};
+ghost use Rattle.std.specs.Prelude.{◌≡◌, pos};
 ghost use Rattle.npr_scalar.specs.IpProtocol.{ip_protocol_of, ip_protocol_number, byte_of};
 
 /// A protocol over IP: `IPPROTO_*` of `linux/in.h`, a signed number of 32 bits.
@@ -132,8 +132,3 @@ impl IpProtocol {
         u8::try_from(i32::from(*self)).ok()
     }
 }
-
-/// What a number reads as is written as that number.
-pub fn law_ip_protocol_number()
-    ensures { (d : ℤ) → ip_protocol_number (ip_protocol_of d) ≡ d }
-{}

@@ -1,13 +1,11 @@
 //! How much a multicast route forwarded: `struct rta_mfc_stats` of `linux/rtnetlink.h`.
 
-ghost use Rattle.std.specs.Prelude.{◌≡◌, ◌≤◌, ◌<◌, ℕ, None, length, IfOk, IfErr};
+ghost use Rattle.std.specs.Prelude.{◌≡◌, None, IfOk, IfErr};
 ghost use Rattle.npr_base.specs.Codec.{leading};
-ghost use Rattle.npr_base.specs.Family.{checked};
-ghost use Rattle.npr_base.specs.Framing.{Writes};
 ghost use Rattle.npr_base.specs.Refusal.{no_place};
-ghost use Rattle.npr_scalar.specs.RouteMfcStats.{route_mfc_stats, route_mfc_stats_buffer, buffer_of};
+ghost use Rattle.npr_scalar.specs.RouteMfcStats.{route_mfc_stats, route_mfc_stats_buffer, mfc_stats_buffer_of};
 
-use npr_base::{DecodeError, EmitError, Emitable, write_bytes};
+use npr_base::{DecodeError, EmitError, Emitable, leading_octets, write_bytes};
 
 /// How much a multicast route forwarded.
 #[derive(Clone, Copy, Debug, Default, PartialEq, Eq)]
@@ -37,13 +35,7 @@ impl RouteMfcStatsBuffer {
         ensures ok { IfOk result (λ b. (leading route_mfc_stats_buffer).Reads bytes.now b) }
         ensures refused { IfErr result (λ e. (leading route_mfc_stats_buffer).Wrong no_place bytes.now e) }
     {
-        if bytes.len() < 24 {
-            return Err(DecodeError::HeaderTooShort {
-                got: bytes.len(),
-                want: 24,
-            });
-        }
-        let b = &bytes[..24];
+        let b = leading_octets(bytes, 24)?;
         Ok(RouteMfcStatsBuffer {
             packets: u64::from_le_bytes([b[0], b[1], b[2], b[3], b[4], b[5], b[6], b[7]]),
             bytes: u64::from_le_bytes([b[8], b[9], b[10], b[11], b[12], b[13], b[14], b[15]]),
@@ -66,7 +58,7 @@ impl RouteMfcStatsBuffer {
 }
 
 impl<'a> From<&'a RouteMfcStats> for RouteMfcStatsBuffer {
-    ghost from_gives = { λ x b. b ≡ buffer_of x.now };
+    ghost from_gives = { λ x b. b ≡ mfc_stats_buffer_of x.now };
 
     fn from(x: &'a RouteMfcStats) -> RouteMfcStatsBuffer {
         RouteMfcStatsBuffer {

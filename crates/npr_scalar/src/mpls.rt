@@ -1,11 +1,11 @@
 //! Entries of a label stack of MPLS (RFC 3032, section 2.1).
 
-ghost use Rattle.std.specs.Prelude.{◌≡◌, ◌*◌, ◌≤◌, ◌<◌, ◌^◌, ◌↔◌, ℕ, List, None, length, IfOk, IfErr, IsErr};
+ghost use Rattle.std.specs.Prelude.{◌≡◌, ◌≤◌, None, length, IfOk, IfErr, IsErr};
 ghost use Rattle.npr_base.specs.Codec.{exactly};
 ghost use Rattle.npr_base.specs.Framing.{Writes};
 ghost use Rattle.npr_base.specs.Refusal.{no_place};
 ghost use Rattle.npr_base.specs.declared.refusal.DecodeError.TheVariants.{OutOfMemory};
-ghost use Rattle.npr_scalar.specs.Mpls.{label_of, label_number, IsInRange};
+ghost use Rattle.npr_scalar.specs.Mpls.{label_of, label_number};
 ghost use Rattle.npr_scalar.specs.MplsLaws.{mpls_label, mpls_labels};
 
 use npr_base::{At, DecodeError, EmitError, Emitable, read_u32_be, write_bytes};
@@ -132,15 +132,3 @@ pub fn emit_labels(labels: &[MplsLabel], out: &mut [u8])
 {
     write_labels(labels, out);
 }
-
-/// A number is an entry and is written as that number again; an entry is read again exactly where
-/// its label and its class have room.
-pub fn law_label_number()
-    ensures number { (d : ℕ) → d < 2 ^ 32 → label_number (label_of d) ≡ d }
-    ensures entry { (x : MplsLabel) → x.ttl < 2 ^ 8 → (label_of (label_number x) ≡ x) ↔ IsInRange x }
-{}
-
-/// What is written of a stack is four bytes an entry.
-pub fn law_labels_length()
-    ensures { (xs : List MplsLabel) → length (mpls_labels.writes xs) ≡ length xs * 4 }
-{}

@@ -1,6 +1,6 @@
 //! The preference of a router's route, and whether a TTL goes on through a label.
 
-ghost use Rattle.std.specs.Prelude.{◌≡◌, ℕ};
+ghost use Rattle.std.specs.Prelude.{◌≡◌};
 ghost use Rattle.npr_scalar.specs.RoutePreference.{route_preference_of, route_preference_number};
 ghost use Rattle.npr_scalar.specs.TtlPropagation.{ttl_propagation_of, ttl_propagation_number};
 
@@ -49,11 +49,6 @@ impl From<RoutePreference> for u8 {
     }
 }
 
-/// What a number reads as is written as that number.
-pub fn law_route_preference_number()
-    ensures { (d : ℕ) → route_preference_number (route_preference_of d) ≡ d }
-{}
-
 /// Whether the TTL of a popped label goes on into the packet: the values of `RTA_TTL_PROPAGATE` of
 /// `linux/rtnetlink.h`.
 #[derive(Clone, Copy, Debug, PartialEq, Eq)]
@@ -89,8 +84,3 @@ impl From<RouteMplsTtlPropagation> for u8 {
         }
     }
 }
-
-/// What a number reads as is written as that number.
-pub fn law_ttl_propagation_number()
-    ensures { (d : ℕ) → ttl_propagation_number (ttl_propagation_of d) ≡ d }
-{}

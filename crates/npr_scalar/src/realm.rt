@@ -1,6 +1,6 @@
 //! The realms of a route: the value of `RTA_FLOW` of `linux/rtnetlink.h`.
 
-ghost use Rattle.std.specs.Prelude.{◌≡◌, ◌<◌, ◌^◌, ℕ, None, IfOk, IfErr};
+ghost use Rattle.std.specs.Prelude.{◌≡◌, None, IfOk, IfErr};
 ghost use Rattle.npr_base.specs.Codec.{exactly};
 ghost use Rattle.npr_base.specs.Refusal.{no_place};
 ghost use Rattle.npr_scalar.specs.Realm.{realm_of, realm_number, route_realm};
@@ -68,10 +68,3 @@ impl Emitable for RouteRealm {
         write_bytes(&u32::from(*self).to_le_bytes(), out);
     }
 }
-
-/// A number is two realms and is written as that number again, and two realms of a program are
-/// read again.
-pub fn law_realm_number()
-    ensures number { (d : ℕ) → realm_number (realm_of d) ≡ d }
-    ensures realm { (x : RouteRealm) → x.destination < 2 ^ 16 → realm_of (realm_number x) ≡ x }
-{}

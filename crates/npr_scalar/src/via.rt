@@ -1,21 +1,19 @@
 //! Gateways of a family of their own: `struct rtvia` of `linux/rtnetlink.h`.
 
-ghost use Rattle.std.specs.Prelude.{◌≡◌, ◌≢◌, ◌≤◌, ◌<◌, ◌+◌, ◌∷◌, [], ℕ, None, length, IfOk, IfErr};
-ghost use Rattle.std.specs.Prelude.{◌++◌};
+ghost use Rattle.std.specs.Prelude.{◌≡◌, ◌≢◌, ◌≤◌, ◌+◌, None, length, ◌++◌, IfOk, IfErr};
 ghost use Rattle.std.specs.Int.{w16, to_le_bytes};
 ghost use Rattle.npr_base.specs.AddressFamily.{family_number};
 ghost use Rattle.npr_base.specs.declared.refusal.DecodeError.TheVariants.{OutOfMemory};
 ghost use Rattle.npr_base.specs.Codec.{leading};
-ghost use Rattle.npr_base.specs.Family.{checked};
 ghost use Rattle.npr_base.specs.Framing.{Writes};
 ghost use Rattle.npr_base.specs.Refusal.{no_place};
-ghost use Rattle.npr_scalar.specs.RouteVia.{via_of, via_bytes, via_value, of_ip, form_of, IsAddress, NotAddress};
+ghost use Rattle.npr_scalar.specs.RouteVia.{via_of, via_bytes, via_value, via_of_ip, via_form_of, IsAddress, NotAddress};
 ghost use Rattle.npr_scalar.specs.ViaBuffer.{via_buffer};
 ghost use Rattle.npr_scalar.specs.declared.via.RouteVia.TheVariants.{Inet, Inet6};
 
 use npr_base::{
-    AddressFamily, At, DecodeError, EmitError, Emitable, IpAddr, Ipv4Addr, Ipv6Addr, read_bytes,
-    read_ipv4, read_ipv6, write_bytes,
+    AddressFamily, At, DecodeError, EmitError, Emitable, IpAddr, Ipv4Addr, Ipv6Addr,
+    leading_octets, read_bytes, read_ipv4, read_ipv6, write_bytes,
 };
 use std::alloc::{AllocError, Global};
 
@@ -50,13 +48,7 @@ impl RouteViaBuffer {
         ensures ok { IfOk result (λ b. (leading via_buffer).Reads bytes.now b) }
         ensures refused { IfErr result (λ e. (leading via_buffer).Wrong no_place bytes.now e) }
     {
-        if bytes.len() < 2 {
-            return Err(DecodeError::HeaderTooShort {
-                got: bytes.len(),
-                want: 2,
-            });
-        }
-        let b = &bytes[..2];
+        let b = leading_octets(bytes, 2)?;
         Ok(RouteViaBuffer {
             address_family: u16::from_le_bytes([b[0], b[1]]),
         })
@@ -77,8 +69,8 @@ fn read_address(
     bytes: &[u8],
     at: At,
 ) -> Result<RouteVia, DecodeError>
-    ensures ok { IfOk result (λ via. IsAddress family (form_of family) bytes.now (via_of via)) }
-    ensures refused { IfErr result (λ e. e ≢ OutOfMemory → NotAddress (form_of family) at bytes.now e) }
+    ensures ok { IfOk result (λ via. IsAddress family (via_form_of family) bytes.now (via_of via)) }
+    ensures refused { IfErr result (λ e. e ≢ OutOfMemory → NotAddress (via_form_of family) at bytes.now e) }
 {
     match family {
         AddressFamily::Inet => read_ipv4(bytes, at).map(RouteVia::Inet),
@@ -110,13 +102,7 @@ impl RouteVia {
         ensures ok { IfOk result (λ via. via_value.Reads bytes.now (via_of via)) }
         ensures refused { IfErr result (λ e. e ≢ OutOfMemory → via_value.Wrong at bytes.now e) }
     {
-        if bytes.len() < 2 {
-            return Err(DecodeError::HeaderTooShort {
-                got: bytes.len(),
-                want: 2,
-            });
-        }
-        let number = u16::from_le_bytes([bytes[0], bytes[1]]);
+        let number = RouteViaBuffer::parse(bytes)?.address_family;
         if number > 255 {
             return Err(DecodeError::ViaFamily(number));
         }
@@ -202,7 +188,7 @@ impl From<Ipv6Addr> for RouteVia {
 }
 
 impl From<IpAddr> for RouteVia {
-    ghost from_gives = { λ ip via. via ≡ of_ip ip };
+    ghost from_gives = { λ ip via. via ≡ via_of_ip ip };
 
     fn from(ip: IpAddr) -> RouteVia {
         match ip {

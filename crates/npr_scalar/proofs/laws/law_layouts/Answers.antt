@@ -1,12 +1,12 @@
-use Rattle.npr_scalar.specs.IpProtocolLaws.{ip_protocol}
-use Rattle.npr_scalar.specs.RouteScopeLaws.{route_scope}
-use Rattle.npr_scalar.specs.RouteTypeLaws.{route_type}
-use Rattle.npr_scalar.specs.RoutePreferenceLaws.{route_preference}
-use Rattle.npr_scalar.specs.TtlPropagationLaws.{ttl_propagation}
+use Rattle.npr_scalar.specs.IpProtocol.{ip_protocol}
+use Rattle.npr_scalar.specs.RouteScope.{route_scope}
+use Rattle.npr_scalar.specs.RouteType.{route_type}
+use Rattle.npr_scalar.specs.RoutePreference.{route_preference}
+use Rattle.npr_scalar.specs.TtlPropagation.{ttl_propagation}
 use Rattle.npr_scalar.specs.RouteFlags.{route_flags, next_hop_flags}
 use Rattle.npr_scalar.specs.RouteCacheInfo.{route_cache_info}
 use Rattle.npr_scalar.specs.RouteMfcStats.{route_mfc_stats}
-use Rattle.npr_scalar.proofs.layouts.law_layouts.Goals as goal
+use Rattle.npr_scalar.proofs.laws.law_layouts.Goals as goal
 
 pub returns-clause-ip_protocol : goal.returns-clause-ip_protocol
 returns-clause-ip_protocol c = ip_protocol.decode-encode

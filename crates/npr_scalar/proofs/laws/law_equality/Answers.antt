@@ -1,6 +1,5 @@
-use Rattle.npr_scalar.specs.EqualityLaws.{address_equality, via_equality}
-use Rattle.npr_scalar.specs.IpProtocolLaws.{ip_protocol_equality}
-use Rattle.npr_scalar.proofs.equality.law_equality.Goals as goal
+use Rattle.npr_scalar.specs.EqualityLaws.{address_equality, via_equality, ip_protocol_equality}
+use Rattle.npr_scalar.proofs.laws.law_equality.Goals as goal
 
 pub returns-clause-ip_protocol : goal.returns-clause-ip_protocol
 returns-clause-ip_protocol c = ip_protocol_equality

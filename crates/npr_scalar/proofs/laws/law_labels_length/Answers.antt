@@ -1,5 +1,5 @@
 use Rattle.npr_scalar.specs.MplsLaws.{length-mpls_labels}
-use Rattle.npr_scalar.proofs.mpls.law_labels_length.Goals as goal
+use Rattle.npr_scalar.proofs.laws.law_labels_length.Goals as goal
 
 pub returns : goal.returns
 returns c = length-mpls_labels

@@ -3,7 +3,7 @@ use Rattle.std.proofs.Common.{sym, ap, ◌∙◌}
 use Rattle.npr_scalar.specs.MplsLaws.{mpls_label}
 use Rattle.npr_scalar.specs.RouteAddress.{Address, Form, four, sixteen, label, any, form_of, address_bytes, address_by}
 use Rattle.npr_scalar.specs.RouteVia.{via-back}
-use Rattle.npr_scalar.proofs.layouts.law_read_back.Goals as goal
+use Rattle.npr_scalar.proofs.laws.law_read_back.Goals as goal
 
 -- the bytes of what a form can hold are read as it
 back : (form : Form) (a : Address) → (address_by form).Holds a → (address_by form).Reads (address_bytes a) a
