@@ -9,6 +9,7 @@ use Rattle.npr_base.specs.AddressFamily.{family_of, family_number}
 use Rattle.npr_base.specs.AddressFamilyLaws.{family_number-family_of}
 use Rattle.npr_base.specs.declared.address_family.AddressFamily.TheVariants.{Unspec}
 use Rattle.npr_address.specs.declared.addr_scope.AddressScope.TheVariants.{Universe}
+use Rattle.npr_address.specs.AddressFlags.{header_flags_bits, header_flags_of}
 use Rattle.npr_address.specs.AddressScope.{scope_of, scope_number}
 use Rattle.npr_address.specs.AddressScopeLaws.{scope_number-scope_of}
 use Rattle.npr_address.specs.AddressFlags.{header_flags}
@@ -47,10 +48,10 @@ header_buffer = record {
 
 -- the header's fields are the forms of the layout's numbers
 abbrev pub header_of : AddressMessageBuffer → AddressHeader
-header_of b = record { family = family_of b.family; prefix_len = b.prefix_len; flags = record { 0 = b.flags }; scope = scope_of b.scope; index = b.index }
+header_of b = record { family = family_of b.family; prefix_len = b.prefix_len; flags = header_flags_of b.flags; scope = scope_of b.scope; index = b.index }
 
 abbrev pub buffer_of : AddressHeader → AddressMessageBuffer
-buffer_of h = record { family = family_number h.family; prefix_len = h.prefix_len; flags = h.flags.0; scope = scope_number h.scope; index = h.index }
+buffer_of h = record { family = family_number h.family; prefix_len = h.prefix_len; flags = header_flags_bits h.flags; scope = scope_number h.scope; index = h.index }
 
 pub buffer-header : (b : AddressMessageBuffer) → buffer_of (header_of b) ≡ b
 buffer-header b = λ i. record { family = family_number-family_of b.family i; prefix_len = b.prefix_len; flags = b.flags; scope = scope_number-scope_of b.scope i; index = b.index }
@@ -60,4 +61,4 @@ header = formed header_buffer header_of buffer_of buffer-header
 
 -- each field at its default
 abbrev pub default_header : AddressHeader
-default_header = record { family = Unspec; prefix_len = 0; flags = record { 0 = 0 }; scope = Universe; index = 0 }
+default_header = record { family = Unspec; prefix_len = 0; flags = header_flags_of 0; scope = Universe; index = 0 }

@@ -4,7 +4,6 @@ pub mod AddressScope
 pub mod AddressScopeLaws
 pub mod Attribute
 pub mod CacheInfo
-pub mod EqualityLaws
 pub mod Header
 pub mod Message
 pub mod MessageLaws

@@ -1,6 +1,7 @@
 //! The flags of an address: `IFA_F_*` of `linux/if_addr.h`. Every bit is kept.
 
 ghost use Rattle.std.specs.Prelude.{⊤, [], ◌∷◌, codes};
+ghost use Rattle.npr_address.specs.AddressFlags.{address_flags_bits, header_flags_bits};
 
 use bitflags::{Flag, Flags};
 
@@ -108,7 +109,7 @@ impl Flags for AddressFlags {
 
     ghost table = { (codes "Secondary", 1) ∷ (codes "Nodad", 2) ∷ (codes "Optimistic", 4) ∷ (codes "Dadfailed", 8) ∷ (codes "Homeaddress", 16) ∷ (codes "Deprecated", 32) ∷ (codes "Tentative", 64) ∷ (codes "Permanent", 128) ∷ (codes "Managetempaddr", 256) ∷ (codes "Noprefixroute", 512) ∷ (codes "Mcautojoin", 1024) ∷ (codes "StablePrivacy", 2048) ∷ ([], 4294967295) ∷ [] };
 
-    ghost set_of = { λ flags. flags.0 };
+    ghost set_of = { address_flags_bits };
 
     fn flags<'a>() -> &'a [Flag<AddressFlags>] {
         AddressFlags::FLAGS
@@ -199,7 +200,7 @@ impl Flags for AddressHeaderFlags {
 
     ghost table = { (codes "Secondary", 1) ∷ (codes "Nodad", 2) ∷ (codes "Optimistic", 4) ∷ (codes "Dadfailed", 8) ∷ (codes "Homeaddress", 16) ∷ (codes "Deprecated", 32) ∷ (codes "Tentative", 64) ∷ (codes "Permanent", 128) ∷ ([], 255) ∷ [] };
 
-    ghost set_of = { λ flags. flags.0 };
+    ghost set_of = { header_flags_bits };
 
     fn flags<'a>() -> &'a [Flag<AddressHeaderFlags>] {
         AddressHeaderFlags::FLAGS

@@ -41,8 +41,3 @@ impl From<AddressProtocol> for u8 {
         }
     }
 }
-
-/// What a number reads as is written as that number.
-pub fn law_protocol_number()
-    ensures { (d : ℕ) → protocol_number (protocol_of d) ≡ d }
-{}

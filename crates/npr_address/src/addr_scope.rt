@@ -50,8 +50,3 @@ impl From<AddressScope> for u8 {
         }
     }
 }
-
-/// What a number reads as is written as that number.
-pub fn law_scope_number()
-    ensures { (d : ℕ) → scope_number (scope_of d) ≡ d }
-{}

@@ -9,7 +9,7 @@ use crate::addr_protocol::AddressProtocol;
 use crate::cache_info::{CacheInfo, CacheInfoBuffer};
 use bitflags::Flags;
 use npr_base::{
-    At, AttrFamily, Attribute, DecodeError, DefaultNla, EmitError, IpAddr, Ipv4Addr, Ipv6Addr,
+    AttrFamily, Attribute, DecodeError, DefaultNla, EmitError, IpAddr, Ipv4Addr, Ipv6Addr,
     Looks, Nla, NlaBuffer, Parseable, check_len, ip_len, read_i32, read_ip, read_ipv4, read_ipv6,
     read_name, read_u8, read_u32, write_bytes, write_ip, write_name,
 };
@@ -68,15 +68,6 @@ impl AddressAttribute {
             AddressAttribute::Protocol(protocol) => Ok(AddressAttribute::Protocol(*protocol)),
             AddressAttribute::Other(nla) => nla.clone(alloc).map(AddressAttribute::Other),
         }
-    }
-}
-
-const fn at(kind: u16) -> At
-    ensures { result ≡ record { family = AttrFamily.Address; kind = kind } }
-{
-    At {
-        family: AttrFamily::Address,
-        kind,
     }
 }
 
@@ -174,17 +165,17 @@ impl Attribute for AddressAttribute {
     ) -> Result<Self, DecodeError> {
         let value = item.value();
         Ok(match item.kind() {
-            1 => AddressAttribute::Address(read_ip(value, at(1))?),
-            2 => AddressAttribute::Local(read_ip(value, at(2))?),
-            3 => AddressAttribute::Label(read_name(alloc, value, at(3))?),
-            4 => AddressAttribute::Broadcast(read_ipv4(value, at(4))?),
-            5 => AddressAttribute::Anycast(read_ipv6(value, at(5))?),
+            1 => AddressAttribute::Address(read_ip(value, AttrFamily::Address.at(1))?),
+            2 => AddressAttribute::Local(read_ip(value, AttrFamily::Address.at(2))?),
+            3 => AddressAttribute::Label(read_name(alloc, value, AttrFamily::Address.at(3))?),
+            4 => AddressAttribute::Broadcast(read_ipv4(value, AttrFamily::Address.at(4))?),
+            5 => AddressAttribute::Anycast(read_ipv6(value, AttrFamily::Address.at(5))?),
             6 => AddressAttribute::CacheInfo(CacheInfo::parse(value)?),
-            7 => AddressAttribute::Multicast(read_ipv6(value, at(7))?),
-            8 => AddressAttribute::Flags(AddressFlags::from_bits_retain(read_u32(value, at(8))?)),
-            9 => AddressAttribute::RoutePriority(read_u32(value, at(9))?),
-            10 => AddressAttribute::TargetNetNsId(read_i32(value, at(10))?),
-            11 => AddressAttribute::Protocol(AddressProtocol::from(read_u8(value, at(11))?)),
+            7 => AddressAttribute::Multicast(read_ipv6(value, AttrFamily::Address.at(7))?),
+            8 => AddressAttribute::Flags(AddressFlags::from_bits_retain(read_u32(value, AttrFamily::Address.at(8))?)),
+            9 => AddressAttribute::RoutePriority(read_u32(value, AttrFamily::Address.at(9))?),
+            10 => AddressAttribute::TargetNetNsId(read_i32(value, AttrFamily::Address.at(10))?),
+            11 => AddressAttribute::Protocol(AddressProtocol::from(read_u8(value, AttrFamily::Address.at(11))?)),
             _ => AddressAttribute::Other(DefaultNla::parse(alloc, item)?),
         })
     }

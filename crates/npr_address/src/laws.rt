@@ -1,9 +1,13 @@
 //! The laws of address messages, over their definitions alone. Each function does nothing, and its
 //! contract is the law.
 
-ghost use Rattle.std.specs.Prelude.{◌≡◌, ℕ, List, None};
+ghost use Rattle.std.specs.Prelude.{◌≡◌, ◌^◌, ℕ, List, None};
 ghost use Rattle.npr_base.specs.Equality.{IsEquality, IsEqualityOf};
+ghost use Rattle.npr_address.specs.AddressFlags.{address_flags_bits, header_flags_bits, header_flags_of};
+ghost use Rattle.npr_address.specs.AddressProtocol.{protocol_of, protocol_number};
+ghost use Rattle.npr_address.specs.AddressScope.{scope_of, scope_number};
 ghost use Rattle.npr_address.specs.Attribute.{meaning_of};
+ghost use Rattle.npr_address.specs.Header.{default_header};
 ghost use Rattle.npr_address.specs.Message.{Address, message_of, IsAddressMessage, IsCoherentAddress, address_bytes, address_misfit};
 
 use crate::addr_flags::{AddressFlags, AddressHeaderFlags};
@@ -27,6 +31,45 @@ pub fn law_read_back()
 /// Coherent messages that fit are equal where their canonical bytes are.
 pub fn law_canonical()
     ensures { (m n : Address) → IsCoherentAddress m → address_misfit m ≡ None → IsCoherentAddress n → address_misfit n ≡ None → address_bytes m ≡ address_bytes n → m ≡ n }
+{}
+
+/// What a number reads as is written as that number.
+pub fn law_numbers()
+    ensures protocol { (d : ℕ) → protocol_number (protocol_of d) ≡ d }
+    ensures scope { (d : ℕ) → scope_number (scope_of d) ≡ d }
+{}
+
+/// The named flags of an address, by their bits (`linux/if_addr.h`); those of a header are the first
+/// eight.
+pub fn law_address_flags()
+    ensures secondary { address_flags_bits AddressFlags.Secondary ≡ 2 ^ 0 }
+    ensures nodad { address_flags_bits AddressFlags.Nodad ≡ 2 ^ 1 }
+    ensures optimistic { address_flags_bits AddressFlags.Optimistic ≡ 2 ^ 2 }
+    ensures dadfailed { address_flags_bits AddressFlags.Dadfailed ≡ 2 ^ 3 }
+    ensures homeaddress { address_flags_bits AddressFlags.Homeaddress ≡ 2 ^ 4 }
+    ensures deprecated { address_flags_bits AddressFlags.Deprecated ≡ 2 ^ 5 }
+    ensures tentative { address_flags_bits AddressFlags.Tentative ≡ 2 ^ 6 }
+    ensures permanent { address_flags_bits AddressFlags.Permanent ≡ 2 ^ 7 }
+    ensures managetempaddr { address_flags_bits AddressFlags.Managetempaddr ≡ 2 ^ 8 }
+    ensures noprefixroute { address_flags_bits AddressFlags.Noprefixroute ≡ 2 ^ 9 }
+    ensures mcautojoin { address_flags_bits AddressFlags.Mcautojoin ≡ 2 ^ 10 }
+    ensures stable_privacy { address_flags_bits AddressFlags.StablePrivacy ≡ 2 ^ 11 }
+    ensures header_secondary { header_flags_bits AddressHeaderFlags.Secondary ≡ 2 ^ 0 }
+    ensures header_nodad { header_flags_bits AddressHeaderFlags.Nodad ≡ 2 ^ 1 }
+    ensures header_optimistic { header_flags_bits AddressHeaderFlags.Optimistic ≡ 2 ^ 2 }
+    ensures header_dadfailed { header_flags_bits AddressHeaderFlags.Dadfailed ≡ 2 ^ 3 }
+    ensures header_homeaddress { header_flags_bits AddressHeaderFlags.Homeaddress ≡ 2 ^ 4 }
+    ensures header_deprecated { header_flags_bits AddressHeaderFlags.Deprecated ≡ 2 ^ 5 }
+    ensures header_tentative { header_flags_bits AddressHeaderFlags.Tentative ≡ 2 ^ 6 }
+    ensures header_permanent { header_flags_bits AddressHeaderFlags.Permanent ≡ 2 ^ 7 }
+{}
+
+/// Which value is the default.
+pub fn law_default()
+    ensures scope { (x : AddressScope) → ⟦<AddressScope as Default>⟧.is_default x → x ≡ AddressScope.Universe }
+    ensures header_flags { (x : AddressHeaderFlags) → ⟦<AddressHeaderFlags as Default>⟧.is_default x → x ≡ header_flags_of 0 }
+    ensures cache_info { (x : CacheInfo) → ⟦<CacheInfo as Default>⟧.is_default x → x ≡ record { ifa_preferred = 0; ifa_valid = 0; cstamp = 0; tstamp = 0 } }
+    ensures header { (x : AddressHeader) → ⟦<AddressHeader as Default>⟧.is_default x → x ≡ default_header }
 {}
 
 /// `==` answers whether two values are equal, or mean the same where they hold a vector or a text.

@@ -13,8 +13,8 @@ mod message;
 mod tests;
 
 pub use addr_flags::{AddressFlags, AddressHeaderFlags};
-pub use addr_protocol::{AddressProtocol, law_protocol_number};
-pub use addr_scope::{AddressScope, law_scope_number};
+pub use addr_protocol::AddressProtocol;
+pub use addr_scope::AddressScope;
 pub use attribute::AddressAttribute;
 pub use cache_info::{CacheInfo, CacheInfoBuffer};
 pub use header::{AddressHeader, AddressMessageBuffer};

@@ -8,6 +8,7 @@ use Rattle.npr_base.specs.Layout.{Layout, formed, le32_at, le32_at-holds}
 use Rattle.npr_base.specs.AddressFamily.{family_of, family_number}
 use Rattle.npr_base.specs.AddressFamilyLaws.{family_number-family_of}
 use Rattle.npr_base.specs.declared.address_family.AddressFamily.TheVariants.{Unspec}
+use Rattle.npr_scalar.specs.RouteFlags.{route_flags_bits, route_flags_of}
 use Rattle.npr_scalar.specs.RouteProtocol.{route_protocol_of, route_protocol_number, route_protocol_number-route_protocol_of}
 use Rattle.npr_scalar.specs.RouteScope.{route_scope_of, route_scope_number, route_scope_number-route_scope_of}
 use Rattle.npr_scalar.specs.RouteType.{route_type_of, route_type_number, route_type_number-route_type_of}
@@ -53,10 +54,10 @@ header_buffer = record {
 
 -- the header's fields are the forms of the layout's numbers
 abbrev pub header_of : RouteMessageBuffer → RouteHeader
-header_of b = record { address_family = family_of b.address_family; destination_prefix_length = b.destination_prefix_length; source_prefix_length = b.source_prefix_length; tos = b.tos; table = b.table; protocol = route_protocol_of b.protocol; scope = route_scope_of b.scope; kind = route_type_of b.kind; flags = record { 0 = b.flags } }
+header_of b = record { address_family = family_of b.address_family; destination_prefix_length = b.destination_prefix_length; source_prefix_length = b.source_prefix_length; tos = b.tos; table = b.table; protocol = route_protocol_of b.protocol; scope = route_scope_of b.scope; kind = route_type_of b.kind; flags = route_flags_of b.flags }
 
 abbrev pub buffer_of : RouteHeader → RouteMessageBuffer
-buffer_of h = record { address_family = family_number h.address_family; destination_prefix_length = h.destination_prefix_length; source_prefix_length = h.source_prefix_length; tos = h.tos; table = h.table; protocol = route_protocol_number h.protocol; scope = route_scope_number h.scope; kind = route_type_number h.kind; flags = h.flags.0 }
+buffer_of h = record { address_family = family_number h.address_family; destination_prefix_length = h.destination_prefix_length; source_prefix_length = h.source_prefix_length; tos = h.tos; table = h.table; protocol = route_protocol_number h.protocol; scope = route_scope_number h.scope; kind = route_type_number h.kind; flags = route_flags_bits h.flags }
 
 pub buffer-header : (b : RouteMessageBuffer) → buffer_of (header_of b) ≡ b
 buffer-header b = λ i. record { address_family = family_number-family_of b.address_family i; destination_prefix_length = b.destination_prefix_length; source_prefix_length = b.source_prefix_length; tos = b.tos; table = b.table; protocol = route_protocol_number-route_protocol_of b.protocol i; scope = route_scope_number-route_scope_of b.scope i; kind = route_type_number-route_type_of b.kind i; flags = b.flags }
@@ -66,4 +67,4 @@ header = formed header_buffer header_of buffer_of buffer-header
 
 -- each field at its default
 abbrev pub default_header : RouteHeader
-default_header = record { address_family = Unspec; destination_prefix_length = 0; source_prefix_length = 0; tos = 0; table = 0; protocol = NoProtocol; scope = Universe; kind = NoType; flags = record { 0 = 0 } }
+default_header = record { address_family = Unspec; destination_prefix_length = 0; source_prefix_length = 0; tos = 0; table = 0; protocol = NoProtocol; scope = Universe; kind = NoType; flags = route_flags_of 0 }

@@ -1,6 +1,5 @@
 pub mod Attribute
 pub mod AttributeLaws
-pub mod EqualityLaws
 pub mod Governing
 pub mod Header
 pub mod Message

@@ -8,6 +8,7 @@ ghost use Rattle.npr_base.specs.declared.refusal.DecodeError.{DecodeError};
 ghost use Rattle.npr_base.specs.Framing.{IsBytes};
 ghost use Rattle.npr_route.specs.Attribute.{Context, Meaning, meaning_of};
 ghost use Rattle.npr_route.specs.Governing.{Governs};
+ghost use Rattle.npr_route.specs.Header.{default_header};
 ghost use Rattle.npr_route.specs.Metric.{metric_of};
 ghost use Rattle.npr_route.specs.Message.{Route, message_of, IsRouteMessage, IsCoherentRoute, route_bytes, route_misfit};
 ghost use Rattle.npr_route.specs.NextHops.{Hops, AreHops, HopsWrong, HopsCoherent, hops_bytes, hops_misfit, hops_depth};
@@ -51,6 +52,17 @@ pub fn law_next_hops()
     ensures back { (c : Context) (hs : Hops) → HopsCoherent c hs → hops_misfit hs ≡ None → AreHops c (hops_bytes hs) hs }
     ensures growth { (c : Context) (bytes : List ℕ) (hs : Hops) → IsBytes bytes → AreHops c bytes hs → 2 * length (hops_bytes hs) ≤ 5 * length bytes }
     ensures depth { (c : Context) (bytes : List ℕ) (hs : Hops) → AreHops c bytes hs → 12 * hops_depth hs ≤ 4 + length bytes }
+{}
+
+/// The tables that have a name (`linux/rtnetlink.h`).
+pub fn law_constants()
+    ensures main { RouteHeader.RT_TABLE_MAIN ≡ 254 }
+    ensures unspec { RouteHeader.RT_TABLE_UNSPEC ≡ 0 }
+{}
+
+/// Which value is the default.
+pub fn law_default()
+    ensures { (x : RouteHeader) → ⟦<RouteHeader as Default>⟧.is_default x → x ≡ default_header }
 {}
 
 /// `==` answers whether two values are equal, or mean the same where they hold a vector or a text.

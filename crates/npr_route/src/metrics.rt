@@ -5,7 +5,7 @@ ghost use Rattle.std.proofs.Common.{refl};
 ghost use Rattle.npr_route.specs.Metric.{Metric, metric_of, writing, metrics};
 
 use npr_base::{
-    At, AttrFamily, Attribute, DecodeError, DefaultNla, EmitError, Looks, Nla, NlaBuffer,
+    AttrFamily, Attribute, DecodeError, DefaultNla, EmitError, Looks, Nla, NlaBuffer,
     Parseable, check_len, read_name, read_u32, write_bytes, write_name,
 };
 use std::alloc::{AllocError, Global};
@@ -81,15 +81,6 @@ impl RouteMetric {
             RouteMetric::FastopenNoCookie(n) => Ok(RouteMetric::FastopenNoCookie(*n)),
             RouteMetric::Other(nla) => nla.clone(alloc).map(RouteMetric::Other),
         }
-    }
-}
-
-const fn at(kind: u16) -> At
-    ensures { result ≡ record { family = AttrFamily.Metric; kind = kind } }
-{
-    At {
-        family: AttrFamily::Metric,
-        kind,
     }
 }
 
@@ -190,23 +181,23 @@ impl Attribute for RouteMetric {
     ) -> Result<Self, DecodeError> {
         let value = item.value();
         match item.kind() {
-            1 => read_u32(value, at(1)).map(RouteMetric::Lock),
-            2 => read_u32(value, at(2)).map(RouteMetric::Mtu),
-            3 => read_u32(value, at(3)).map(RouteMetric::Window),
-            4 => read_u32(value, at(4)).map(RouteMetric::Rtt),
-            5 => read_u32(value, at(5)).map(RouteMetric::RttVar),
-            6 => read_u32(value, at(6)).map(RouteMetric::SsThresh),
-            7 => read_u32(value, at(7)).map(RouteMetric::Cwnd),
-            8 => read_u32(value, at(8)).map(RouteMetric::Advmss),
-            9 => read_u32(value, at(9)).map(RouteMetric::Reordering),
-            10 => read_u32(value, at(10)).map(RouteMetric::Hoplimit),
-            11 => read_u32(value, at(11)).map(RouteMetric::InitCwnd),
-            12 => read_u32(value, at(12)).map(RouteMetric::Features),
-            13 => read_u32(value, at(13)).map(RouteMetric::RtoMin),
-            14 => read_u32(value, at(14)).map(RouteMetric::InitRwnd),
-            15 => read_u32(value, at(15)).map(RouteMetric::QuickAck),
-            16 => read_name(alloc, value, at(16)).map(RouteMetric::CcAlgo),
-            17 => read_u32(value, at(17)).map(RouteMetric::FastopenNoCookie),
+            1 => read_u32(value, AttrFamily::Metric.at(1)).map(RouteMetric::Lock),
+            2 => read_u32(value, AttrFamily::Metric.at(2)).map(RouteMetric::Mtu),
+            3 => read_u32(value, AttrFamily::Metric.at(3)).map(RouteMetric::Window),
+            4 => read_u32(value, AttrFamily::Metric.at(4)).map(RouteMetric::Rtt),
+            5 => read_u32(value, AttrFamily::Metric.at(5)).map(RouteMetric::RttVar),
+            6 => read_u32(value, AttrFamily::Metric.at(6)).map(RouteMetric::SsThresh),
+            7 => read_u32(value, AttrFamily::Metric.at(7)).map(RouteMetric::Cwnd),
+            8 => read_u32(value, AttrFamily::Metric.at(8)).map(RouteMetric::Advmss),
+            9 => read_u32(value, AttrFamily::Metric.at(9)).map(RouteMetric::Reordering),
+            10 => read_u32(value, AttrFamily::Metric.at(10)).map(RouteMetric::Hoplimit),
+            11 => read_u32(value, AttrFamily::Metric.at(11)).map(RouteMetric::InitCwnd),
+            12 => read_u32(value, AttrFamily::Metric.at(12)).map(RouteMetric::Features),
+            13 => read_u32(value, AttrFamily::Metric.at(13)).map(RouteMetric::RtoMin),
+            14 => read_u32(value, AttrFamily::Metric.at(14)).map(RouteMetric::InitRwnd),
+            15 => read_u32(value, AttrFamily::Metric.at(15)).map(RouteMetric::QuickAck),
+            16 => read_name(alloc, value, AttrFamily::Metric.at(16)).map(RouteMetric::CcAlgo),
+            17 => read_u32(value, AttrFamily::Metric.at(17)).map(RouteMetric::FastopenNoCookie),
             _ => DefaultNla::parse(alloc, item).map(RouteMetric::Other),
         }
     }

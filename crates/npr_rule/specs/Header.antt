@@ -8,6 +8,7 @@ use Rattle.npr_base.specs.Layout.{Layout, reduced, le32_at, le32_at-holds}
 use Rattle.npr_base.specs.AddressFamily.{family_of, family_number}
 use Rattle.npr_base.specs.AddressFamilyLaws.{family_number-family_of}
 use Rattle.npr_base.specs.declared.address_family.AddressFamily.TheVariants.{Unspec}
+use Rattle.npr_rule.specs.Flags.{rule_flags_bits, rule_flags_of}
 use Rattle.npr_rule.specs.Action.{action_of, action_number, action_number-action_of}
 use Rattle.npr_rule.specs.declared.action.RuleAction.TheVariants.{Unspec as NoAction}
 use Rattle.npr_rule.specs.declared.header.RuleHeader.{RuleHeader}
@@ -49,13 +50,13 @@ header_buffer = record {
 
 -- the header's fields are the forms of the layout's numbers; the reserved bytes are dropped, and written 0
 abbrev pub header_of : RuleMessageBuffer → RuleHeader
-header_of b = record { family = family_of b.family; dst_len = b.dst_len; src_len = b.src_len; tos = b.tos; table = b.table; action = action_of b.action; flags = record { 0 = b.flags } }
+header_of b = record { family = family_of b.family; dst_len = b.dst_len; src_len = b.src_len; tos = b.tos; table = b.table; action = action_of b.action; flags = rule_flags_of b.flags }
 
 abbrev pub buffer_of : RuleHeader → RuleMessageBuffer
-buffer_of h = record { family = family_number h.family; dst_len = h.dst_len; src_len = h.src_len; tos = h.tos; table = h.table; reserve_1 = 0; reserve_2 = 0; action = action_number h.action; flags = h.flags.0 }
+buffer_of h = record { family = family_number h.family; dst_len = h.dst_len; src_len = h.src_len; tos = h.tos; table = h.table; reserve_1 = 0; reserve_2 = 0; action = action_number h.action; flags = rule_flags_bits h.flags }
 
 pub header-again : (b : RuleMessageBuffer) → header_of (buffer_of (header_of b)) ≡ header_of b
-header-again b = λ i. record { family = family_of (family_number-family_of b.family i); dst_len = b.dst_len; src_len = b.src_len; tos = b.tos; table = b.table; action = action_of (action_number-action_of b.action i); flags = record { 0 = b.flags } }
+header-again b = λ i. record { family = family_of (family_number-family_of b.family i); dst_len = b.dst_len; src_len = b.src_len; tos = b.tos; table = b.table; action = action_of (action_number-action_of b.action i); flags = rule_flags_of b.flags }
 
 pub header-holds : (b : RuleMessageBuffer) → HoldsBuffer b → HoldsBuffer (buffer_of (header_of b))
 header-holds b h = record {
@@ -75,4 +76,4 @@ header = reduced header_buffer header_of buffer_of header-again header-holds
 
 -- each field at its default
 abbrev pub default_header : RuleHeader
-default_header = record { family = Unspec; dst_len = 0; src_len = 0; tos = 0; table = 0; action = NoAction; flags = record { 0 = 0 } }
+default_header = record { family = Unspec; dst_len = 0; src_len = 0; tos = 0; table = 0; action = NoAction; flags = rule_flags_of 0 }

@@ -1,6 +1,6 @@
 pub mod Action
 pub mod Attribute
-pub mod EqualityLaws
+pub mod Flags
 pub mod Header
 pub mod IpProtocolByte
 pub mod Message

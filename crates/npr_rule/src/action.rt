@@ -58,8 +58,3 @@ impl From<RuleAction> for u8 {
         }
     }
 }
-
-/// What a number reads as is written as that number.
-pub fn law_action_number()
-    ensures { (d : ℕ) → action_number (action_of d) ≡ d }
-{}

@@ -10,7 +10,7 @@ ghost use Rattle.npr_rule.specs.Attribute.{Meaning, meaning_of, writing, attribu
 use crate::port_range::RulePortRange;
 use crate::uid_range::RuleUidRange;
 use npr_base::{
-    At, AttrFamily, Attribute, DecodeError, DefaultNla, EmitError, IpAddr, Looks, Nla, NlaBuffer,
+    AttrFamily, Attribute, DecodeError, DefaultNla, EmitError, IpAddr, Looks, Nla, NlaBuffer,
     Parseable, check_len, ip_len, read_bool, read_ip, read_name, read_u8, read_u32, read_u64_be,
     write_bytes, write_ip, write_name,
 };
@@ -96,15 +96,6 @@ impl RuleAttribute {
             RuleAttribute::DestinationPortRange(x) => Ok(RuleAttribute::DestinationPortRange(*x)),
             RuleAttribute::Other(nla) => nla.clone(alloc).map(RuleAttribute::Other),
         }
-    }
-}
-
-const fn at(kind: u16) -> At
-    ensures { result ≡ record { family = AttrFamily.Rule; kind = kind } }
-{
-    At {
-        family: AttrFamily::Rule,
-        kind,
     }
 }
 
@@ -252,25 +243,25 @@ impl Attribute for RuleAttribute {
     ) -> Result<Self, DecodeError> {
         let value = item.value();
         Ok(match item.kind() {
-            1 => RuleAttribute::Destination(read_ip(value, at(1))?),
-            2 => RuleAttribute::Source(read_ip(value, at(2))?),
-            3 => RuleAttribute::Iifname(read_name(alloc, value, at(3))?),
-            4 => RuleAttribute::Goto(read_u32(value, at(4))?),
-            6 => RuleAttribute::Priority(read_u32(value, at(6))?),
-            10 => RuleAttribute::FwMark(read_u32(value, at(10))?),
-            11 => RuleAttribute::Realm(RouteRealm::from(read_u32(value, at(11))?)),
-            12 => RuleAttribute::TunId(read_u64_be(value, at(12))?),
-            13 => RuleAttribute::SuppressIfGroup(read_u32(value, at(13))?),
-            14 => RuleAttribute::SuppressPrefixLen(read_u32(value, at(14))?),
-            15 => RuleAttribute::Table(read_u32(value, at(15))?),
-            16 => RuleAttribute::FwMask(read_u32(value, at(16))?),
-            17 => RuleAttribute::Oifname(read_name(alloc, value, at(17))?),
-            19 => RuleAttribute::L3MDev(read_bool(value, at(19))?),
-            20 => RuleAttribute::UidRange(RuleUidRange::read(value, at(20))?),
-            21 => RuleAttribute::Protocol(RouteProtocol::from(read_u8(value, at(21))?)),
-            22 => RuleAttribute::IpProtocol(IpProtocol::from(read_u8(value, at(22))?)),
-            23 => RuleAttribute::SourcePortRange(RulePortRange::read(value, at(23))?),
-            24 => RuleAttribute::DestinationPortRange(RulePortRange::read(value, at(24))?),
+            1 => RuleAttribute::Destination(read_ip(value, AttrFamily::Rule.at(1))?),
+            2 => RuleAttribute::Source(read_ip(value, AttrFamily::Rule.at(2))?),
+            3 => RuleAttribute::Iifname(read_name(alloc, value, AttrFamily::Rule.at(3))?),
+            4 => RuleAttribute::Goto(read_u32(value, AttrFamily::Rule.at(4))?),
+            6 => RuleAttribute::Priority(read_u32(value, AttrFamily::Rule.at(6))?),
+            10 => RuleAttribute::FwMark(read_u32(value, AttrFamily::Rule.at(10))?),
+            11 => RuleAttribute::Realm(RouteRealm::from(read_u32(value, AttrFamily::Rule.at(11))?)),
+            12 => RuleAttribute::TunId(read_u64_be(value, AttrFamily::Rule.at(12))?),
+            13 => RuleAttribute::SuppressIfGroup(read_u32(value, AttrFamily::Rule.at(13))?),
+            14 => RuleAttribute::SuppressPrefixLen(read_u32(value, AttrFamily::Rule.at(14))?),
+            15 => RuleAttribute::Table(read_u32(value, AttrFamily::Rule.at(15))?),
+            16 => RuleAttribute::FwMask(read_u32(value, AttrFamily::Rule.at(16))?),
+            17 => RuleAttribute::Oifname(read_name(alloc, value, AttrFamily::Rule.at(17))?),
+            19 => RuleAttribute::L3MDev(read_bool(value, AttrFamily::Rule.at(19))?),
+            20 => RuleAttribute::UidRange(RuleUidRange::read(value, AttrFamily::Rule.at(20))?),
+            21 => RuleAttribute::Protocol(RouteProtocol::from(read_u8(value, AttrFamily::Rule.at(21))?)),
+            22 => RuleAttribute::IpProtocol(IpProtocol::from(read_u8(value, AttrFamily::Rule.at(22))?)),
+            23 => RuleAttribute::SourcePortRange(RulePortRange::read(value, AttrFamily::Rule.at(23))?),
+            24 => RuleAttribute::DestinationPortRange(RulePortRange::read(value, AttrFamily::Rule.at(24))?),
             _ => RuleAttribute::Other(DefaultNla::parse(alloc, item)?),
         })
     }

@@ -1,6 +1,7 @@
 //! The flags of a rule: `FIB_RULE_*` of `linux/fib_rules.h`. Every bit is kept.
 
 ghost use Rattle.std.specs.Prelude.{⊤, [], ◌∷◌, codes};
+ghost use Rattle.npr_rule.specs.Flags.{rule_flags_bits};
 
 use bitflags::{Flag, Flags};
 
@@ -66,7 +67,7 @@ impl Flags for RuleFlags {
 
     ghost table = { (codes "Permanent", 1) ∷ (codes "Invert", 2) ∷ (codes "Unresolved", 4) ∷ (codes "IifDetached", 8) ∷ (codes "DevDetached", 8) ∷ (codes "OifDetached", 16) ∷ ([], 4294967295) ∷ [] };
 
-    ghost set_of = { λ flags. flags.0 };
+    ghost set_of = { rule_flags_bits };
 
     fn flags<'a>() -> &'a [Flag<RuleFlags>] {
         RuleFlags::FLAGS

@@ -1,9 +1,12 @@
 //! The laws of rule messages, over their definitions alone. Each function does nothing, and its
 //! contract is the law.
 
-ghost use Rattle.std.specs.Prelude.{◌≡◌, ℕ, List, None};
+ghost use Rattle.std.specs.Prelude.{◌≡◌, ◌^◌, ℕ, List, None};
 ghost use Rattle.npr_base.specs.Equality.{IsEquality, IsEqualityOf};
+ghost use Rattle.npr_rule.specs.Action.{action_of, action_number};
 ghost use Rattle.npr_rule.specs.Attribute.{meaning_of};
+ghost use Rattle.npr_rule.specs.Flags.{rule_flags_bits, rule_flags_of};
+ghost use Rattle.npr_rule.specs.Header.{default_header};
 ghost use Rattle.npr_rule.specs.Message.{Rule, message_of, IsRuleMessage, IsCoherentRule, rule_bytes, rule_misfit};
 
 use crate::action::RuleAction;
@@ -27,6 +30,28 @@ pub fn law_read_back()
 /// Coherent messages that fit are equal where their canonical bytes are.
 pub fn law_canonical()
     ensures { (m n : Rule) → IsCoherentRule m → rule_misfit m ≡ None → IsCoherentRule n → rule_misfit n ≡ None → rule_bytes m ≡ rule_bytes n → m ≡ n }
+{}
+
+/// What a number reads as is written as that number.
+pub fn law_numbers()
+    ensures { (d : ℕ) → action_number (action_of d) ≡ d }
+{}
+
+/// The named flags of a rule, by their bits (`linux/fib_rules.h`).
+pub fn law_rule_flags()
+    ensures permanent { rule_flags_bits RuleFlags.Permanent ≡ 2 ^ 0 }
+    ensures invert { rule_flags_bits RuleFlags.Invert ≡ 2 ^ 1 }
+    ensures unresolved { rule_flags_bits RuleFlags.Unresolved ≡ 2 ^ 2 }
+    ensures iif_detached { rule_flags_bits RuleFlags.IifDetached ≡ 2 ^ 3 }
+    ensures dev_detached { rule_flags_bits RuleFlags.DevDetached ≡ 2 ^ 3 }
+    ensures oif_detached { rule_flags_bits RuleFlags.OifDetached ≡ 2 ^ 4 }
+{}
+
+/// Which value is the default.
+pub fn law_default()
+    ensures action { (x : RuleAction) → ⟦<RuleAction as Default>⟧.is_default x → x ≡ RuleAction.Unspec }
+    ensures flags { (x : RuleFlags) → ⟦<RuleFlags as Default>⟧.is_default x → x ≡ rule_flags_of 0 }
+    ensures header { (x : RuleHeader) → ⟦<RuleHeader as Default>⟧.is_default x → x ≡ default_header }
 {}
 
 /// `==` answers whether two values are equal, or mean the same where they hold a vector or a text.

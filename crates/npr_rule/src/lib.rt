@@ -12,7 +12,7 @@ mod port_range;
 mod tests;
 mod uid_range;
 
-pub use action::{RuleAction, law_action_number};
+pub use action::RuleAction;
 pub use attribute::RuleAttribute;
 pub use flags::RuleFlags;
 pub use header::{RuleHeader, RuleMessageBuffer};

@@ -1,4 +1,4 @@
-use Rattle.npr_address.specs.EqualityLaws.{attribute_equality, header_equality, message_equality}
+use Rattle.npr_address.proofs.EqualityLaws.{attribute_equality, header_equality, message_equality}
 use Rattle.npr_address.proofs.laws.law_equality.Goals as goal
 
 pub returns-clause-header : goal.returns-clause-header

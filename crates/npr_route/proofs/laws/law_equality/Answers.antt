@@ -1,4 +1,4 @@
-use Rattle.npr_route.specs.EqualityLaws.{attribute_equality, header_equality, message_equality, metric_equality}
+use Rattle.npr_route.proofs.EqualityLaws.{attribute_equality, header_equality, message_equality, metric_equality}
 use Rattle.npr_route.proofs.laws.law_equality.Goals as goal
 
 pub returns-clause-header : goal.returns-clause-header
