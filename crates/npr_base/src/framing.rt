@@ -252,7 +252,7 @@ fn write_header(size: u16, kind: u16, out: &mut [u8])
 
 /// Writes the header in front of a value that stands already, and zeros after it to the next
 /// multiple of four. Answers the length of all.
-pub(crate) fn frame(out: &mut [u8], kind: u16, len: usize) -> usize
+pub fn frame(out: &mut [u8], kind: u16, len: usize) -> usize
     requires short { len ≤ 65531 }
     requires room { framed len ≤ length out.old }
     ensures len { result ≡ framed len }

@@ -21,7 +21,7 @@ pub use attribute::Attribute;
 pub use default_nla::{DefaultNla, check_len};
 pub use framing::{
     NLA_ALIGNTO, NLA_F_NESTED, NLA_F_NET_BYTEORDER, NLA_HEADER_SIZE, NLA_TYPE_MASK, NlaBuffer,
-    NlasIterator, marked_kind, write_bytes,
+    NlasIterator, frame, marked_kind, write_bytes,
 };
 pub use ip::{IpAddr, Ipv4Addr, Ipv6Addr};
 pub use list::{check_list, clone_list, emit_list, list_len, parse_list, plus, write_list};

@@ -5,7 +5,7 @@ use Rattle.npr_base.specs.declared.address_family.AddressFamily.TheVariants.{Ine
 use Rattle.npr_base.specs.declared.refusal.DecodeError.{DecodeError}
 use Rattle.npr_base.specs.Table.{ReadsBy, WrongBy}
 use Rattle.npr_scalar.specs.RouteAddress.{form_of, route_address, Address}
-use Rattle.npr_route.specs.Attribute.{at, new_destination_address, new_destination_row}
+use Rattle.npr_route.specs.FlatAttribute.{at, new_destination_address, new_destination_row}
 
 pub address_reads : (family : AddressFamily) → (family ≡ Mpls → ⊥) → (bytes : List ℕ) (a : Address) → (route_address family).Reads bytes a → ReadsBy (new_destination_row (form_of family)) bytes (new_destination_address a)
 address_reads Inet not bytes a p = (a, p, refl)

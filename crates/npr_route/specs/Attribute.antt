@@ -1,247 +1,184 @@
--- The attributes of a route message (linux/rtnetlink.h, RTA_*), by their table under the header.
-use Rattle.std.specs.Prelude.{◌≡◌, ◌≢◌, ℕ, ◌<◌, ◌^◌, Bool, true, false, List, [], ◌∷◌, map, Option, None, if◌then◌else◌}
-use Rattle.npr_base.specs.declared.refusal.At.{At}
-use Rattle.npr_base.specs.declared.refusal.AttrFamily.TheVariants.{Route as OfRoute}
+-- The attributes of a route message with next hops among them (linux/rtnetlink.h, RTA_*, struct rtnexthop): a next hop is
+-- a header of eight bytes and attributes, which may be next hops again.
+use Rattle.std.specs.Prelude.{◌≡◌, ◌≢◌, ℕ, ◌+◌, ◌<◌, ◌≤◌, ◌^◌, ◌⊎◌, Bool, false, List, [], ◌∷◌, ◌++◌, length, take, max, Option, Some, None, nat_lt, if◌then◌else◌}
+use Rattle.std.specs.Int.{w16, w32, to_le_bytes, from_le_bytes}
+use Rattle.npr_base.specs.declared.refusal.DecodeError.{DecodeError}
+use Rattle.npr_base.specs.declared.refusal.DecodeError.TheVariants.{NextHopTooShort, NextHopLength}
 use Rattle.npr_base.specs.declared.refusal.EmitError.{EmitError}
-use Rattle.npr_base.specs.declared.address_family.AddressFamily.{AddressFamily}
-use Rattle.npr_base.specs.Family.{list_unfit}
-use Rattle.npr_base.specs.Framing.{Item}
-use Rattle.npr_base.specs.Layout.{Layout, byte, le32, le64, be16, be32}
-use Rattle.npr_base.specs.Codec.{Codec, exactly, leading, raw}
-use Rattle.npr_base.specs.ListCodec.{list_of}
-use Rattle.npr_base.specs.Table.{Row, row, Held, held, held_marked, held_other, IsHeld, IsOther}
-use Rattle.npr_scalar.specs.MplsLaws.{mpls_labels}
-use Rattle.npr_scalar.specs.Realm.{route_realm}
-use Rattle.npr_scalar.specs.RouteAddress.{Address as AddressMeaning, address_of, address_bytes, address_in, Form, four, sixteen, label, any}
-use Rattle.npr_scalar.specs.RouteCacheInfo.{route_cache_info}
-use Rattle.npr_scalar.specs.RouteMfcStats.{route_mfc_stats}
-use Rattle.npr_scalar.specs.RoutePreference.{route_preference}
-use Rattle.npr_scalar.specs.RouteVia.{Via as ViaMeaning, via_of, via_value}
-use Rattle.npr_scalar.specs.TtlPropagation.{ttl_propagation}
-use Rattle.npr_scalar.specs.declared.cache_info.RouteCacheInfo.{RouteCacheInfo}
-use Rattle.npr_scalar.specs.declared.route_type.RouteType.{RouteType}
-use Rattle.npr_scalar.specs.declared.route_type.RouteType.TheVariants.{Multicast}
-use Rattle.npr_scalar.specs.declared.mfc_stats.RouteMfcStats.{RouteMfcStats}
-use Rattle.npr_scalar.specs.declared.mpls.MplsLabel.{MplsLabel}
-use Rattle.npr_scalar.specs.declared.preference.RouteMplsTtlPropagation.{RouteMplsTtlPropagation}
-use Rattle.npr_scalar.specs.declared.preference.RoutePreference.{RoutePreference}
-use Rattle.npr_scalar.specs.declared.realm.RouteRealm.{RouteRealm}
-use Rattle.npr_tunnel.specs.EncapType.{encap_type as encap_type_layout}
-use Rattle.npr_tunnel.specs.Encapsulation as OfEncap
-use Rattle.npr_tunnel.specs.IpTunnel as OfIp
-use Rattle.npr_tunnel.specs.declared.encap_type.RouteLwEnCapType.{RouteLwEnCapType}
-use Rattle.npr_tunnel.specs.declared.encap_type.RouteLwEnCapType.TheVariants.{None as NoEncapsulation}
-use Rattle.npr_route.specs.Metric.{Metric, metric_of, metrics as metric_family, writing as metric_writing}
-use Rattle.npr_route.specs.declared.attribute.RouteAttribute.{RouteAttribute}
-use Rattle.npr_route.specs.declared.attribute.RouteAttribute.TheVariants.{Destination, Source, Iif, Oif, Gateway, Priority, PrefSource, Metrics as HasMetrics, Realm, CacheInfo, Table as HasTable, Mark, MfcStats, Via as HasVia, NewDestination, NewDestinationAddress, Preference, EncapType, Encap, Expires, MulticastExpires, Uid, TtlPropagate, IpProto, Sport, Dport, NhId, Flowlabel, Other}
+use Rattle.npr_base.specs.declared.refusal.EmitError.TheVariants.{NextHopTooLong, Total}
+use Rattle.npr_base.specs.Family.{option_or, too_long, overlong}
+use Rattle.npr_base.specs.Table.{plain_item, held_nested}
+use Rattle.npr_base.specs.Framing.{Item, number_of, encoding, Front, Fault}
+use Rattle.npr_route.specs.FlatAttribute as Flat
+use Rattle.npr_route.specs.FlatAttribute.{Context}
+use Rattle.npr_route.specs.FlatAttributeLaws as Flats
 
--- what an attribute is, without where it lies in memory
-pub data Meaning : Type 0 where
-  destination : AddressMeaning → Meaning
-  source : AddressMeaning → Meaning
-  iif : ℕ → Meaning
-  oif : ℕ → Meaning
-  gateway : AddressMeaning → Meaning
-  priority : ℕ → Meaning
-  pref_source : AddressMeaning → Meaning
-  metrics : List Metric → Meaning
-  realm : RouteRealm → Meaning
-  cache_info : RouteCacheInfo → Meaning
-  table : ℕ → Meaning
-  mark : ℕ → Meaning
-  mfc_stats : RouteMfcStats → Meaning
-  via : ViaMeaning → Meaning
-  new_destination : List MplsLabel → Meaning
-  new_destination_address : AddressMeaning → Meaning
-  preference : RoutePreference → Meaning
-  encap_type : RouteLwEnCapType → Meaning
-  encap : List OfEncap.Meaning → Meaning
-  expires : ℕ → Meaning
-  multicast_expires : ℕ → Meaning
-  uid : ℕ → Meaning
-  ttl_propagate : RouteMplsTtlPropagation → Meaning
-  ip_proto : ℕ → Meaning
-  sport : ℕ → Meaning
-  dport : ℕ → Meaning
-  nh_id : ℕ → Meaning
-  flowlabel : ℕ → Meaning
-  other : Item → Meaning
+-- the header without its length, which counts its eight bytes and the attributes
+pub record HopHead : Type 0 where
+  pub flags : ℕ
+  pub hops : ℕ
+  pub interface_index : ℕ
 
-abbrev pub meaning_of : RouteAttribute → Meaning
-meaning_of (Destination a) = destination (address_of a)
-meaning_of (Source a) = source (address_of a)
-meaning_of (Iif a) = iif a
-meaning_of (Oif a) = oif a
-meaning_of (Gateway a) = gateway (address_of a)
-meaning_of (Priority a) = priority a
-meaning_of (PrefSource a) = pref_source (address_of a)
-meaning_of (HasMetrics a) = metrics (map metric_of a.items)
-meaning_of (Realm a) = realm a
-meaning_of (CacheInfo a) = cache_info a
-meaning_of (HasTable a) = table a
-meaning_of (Mark a) = mark a
-meaning_of (MfcStats a) = mfc_stats a
-meaning_of (HasVia a) = via (via_of a)
-meaning_of (NewDestination a) = new_destination a.items
-meaning_of (NewDestinationAddress a) = new_destination_address (address_of a)
-meaning_of (Preference a) = preference a
-meaning_of (EncapType a) = encap_type a
-meaning_of (Encap a) = encap (map OfEncap.meaning_of a.items)
-meaning_of (Expires a) = expires a
-meaning_of (MulticastExpires a) = multicast_expires a
-meaning_of (Uid a) = uid a
-meaning_of (TtlPropagate a) = ttl_propagate a
-meaning_of (IpProto a) = ip_proto a
-meaning_of (Sport a) = sport a
-meaning_of (Dport a) = dport a
-meaning_of (NhId a) = nh_id a
-meaning_of (Flowlabel a) = flowlabel a
-meaning_of (Other d) = other d
+pub record HoldsHead (h : HopHead) : Type 0 where
+  pub flags : h.flags < 2 ^ 8
+  pub hops : h.hops < 2 ^ 8
+  pub interface_index : h.interface_index < 2 ^ 32
 
-abbrev pub at : ℕ → At
-at number = record { family = OfRoute; kind = number }
+abbrev pub hop_text : HopHead → List ℕ → List ℕ
+hop_text h inside = to_le_bytes w16 (8 + length inside) ++ (h.flags ∷ h.hops ∷ to_le_bytes w32 h.interface_index ++ inside)
 
--- a route type counts by its variant
-abbrev pub is_multicast : RouteType → Bool
-is_multicast Multicast = true
-is_multicast kind = false
+-- the bytes are a next hop with these bytes of attributes, and then the rest; nothing is rounded
+pub record HopFront (bytes : List ℕ) (h : HopHead) (inside rest : List ℕ) : Type 0 where
+  pub is : bytes ≡ hop_text h inside ++ rest
+  pub holds : HoldsHead h
+  pub short : 8 + length inside ≤ 65535
 
--- what the reading of an attribute rests on besides its bytes: the family and the type of the
--- message's header, and the type that governs its encapsulation
-abbrev pub Context : Type 0
-Context = AddressFamily × RouteType × RouteLwEnCapType
+-- why no next hop stands in front
+abbrev pub HopFault : List ℕ → DecodeError → Type 0
+HopFault r (NextHopTooShort got) = (got ≡ length r) × (length r < 8)
+HopFault r (NextHopLength l left) = (left ≡ length r) × (8 ≤ length r) × (l ≡ from_le_bytes w16 (take 2 r)) × ((l < 8) ⊎ (length r < l))
+HopFault r _ = ⊥
 
--- number 19: labels for family mpls, else an address
-abbrev pub NewDestinationValue : Form → Type 0
-NewDestinationValue four = AddressMeaning
-NewDestinationValue sixteen = AddressMeaning
-NewDestinationValue label = List MplsLabel
-NewDestinationValue any = AddressMeaning
+-- an attribute: one without next hops, or a list of them
+mutual
+  pub data Meaning : Type 0 where
+    flat : Flat.Meaning → Meaning
+    multi_path : Hops → Meaning
 
-abbrev pub new_destination_codec : (form : Form) → Codec (NewDestinationValue form)
-new_destination_codec four = address_in four
-new_destination_codec sixteen = address_in sixteen
-new_destination_codec label = mpls_labels
-new_destination_codec any = address_in any
+  pub data Attributes : Type 0 where
+    no_more : Attributes
+    attribute : Meaning → Attributes → Attributes
 
-abbrev pub new_destination_variant : (form : Form) → NewDestinationValue form → Meaning
-new_destination_variant four a = new_destination_address a
-new_destination_variant sixteen a = new_destination_address a
-new_destination_variant label a = new_destination a
-new_destination_variant any a = new_destination_address a
+  pub data Hops : Type 0 where
+    no_hops : Hops
+    hop : HopHead → Attributes → Hops → Hops
 
-abbrev pub new_destination_row : Form → Row Meaning
-new_destination_row form = row (at 19) (new_destination_codec form) (new_destination_variant form)
+-- one next hop
+pub record Hop : Type 0 where
+  pub head : HopHead
+  pub attributes : Attributes
 
--- number 23: eight bytes of a multicast route, else four
-abbrev pub expires_layout : Bool → Layout ℕ
-expires_layout true = le64
-expires_layout false = le32
+abbrev mutual
+  -- what an attribute means: number 9 holds next hops
+  pub Reads : Context → Item → Meaning → Type 0
+  Reads c x (flat m) = (number_of x.kind ≢ 9) × (Flats.attributes c).Reads x m
+  Reads c x (multi_path hs) = (number_of x.kind ≡ 9) × AreHops c x.value hs
 
-abbrev pub expires_variant : Bool → ℕ → Meaning
-expires_variant true n = multicast_expires n
-expires_variant false n = expires n
+  pub AreAttributes : Context → List ℕ → Attributes → Type 0
+  AreAttributes c bytes no_more = bytes ≡ []
+  AreAttributes c bytes (attribute m ms) = (x : Item) × (rest : List ℕ) × Front bytes x rest × Reads c x m × AreAttributes c rest ms
 
-abbrev pub expires_row : Bool → Row Meaning
-expires_row multicast = row (at 23) (exactly (expires_layout multicast)) (expires_variant multicast)
+  -- next hops one after the other, whose attributes are read in the context outside
+  pub AreHops : Context → List ℕ → Hops → Type 0
+  AreHops c bytes no_hops = bytes ≡ []
+  AreHops c bytes (hop h ms hs) = (inside : List ℕ) × (rest : List ℕ) × HopFront bytes h inside rest × AreAttributes c inside ms × AreHops c rest hs
 
--- number 22: members of the family of the type
-abbrev pub encap_row : RouteLwEnCapType → Row Meaning
-encap_row type = row (at 22) (list_of (OfEncap.encapsulation type)) encap
+-- why it means nothing: the first fault, what stands inside before what follows
+mutual
+  pub data Wrong : Context → Item → DecodeError → Type 0 where
+    value_wrong : {c : Context} {x : Item} {e : DecodeError} → number_of x.kind ≢ 9 → (Flats.attributes c).Faulty x e → Wrong c x e
+    hops_wrong : {c : Context} {x : Item} {e : DecodeError} → number_of x.kind ≡ 9 → HopsWrong c x.value e → Wrong c x e
 
--- the members beside which it is written with NESTED
-abbrev pub marks : OfEncap.Meaning → Bool
-marks (OfEncap.seg6 m) = true
-marks (OfEncap.xfrm m) = true
-marks (OfEncap.rpl m) = true
-marks (OfEncap.ioam6 m) = true
-marks (OfEncap.ip (OfIp.options xs)) = true
-marks (OfEncap.ip6 (OfIp.options xs)) = true
-marks m = false
+  pub data AttributesWrong : Context → List ℕ → DecodeError → Type 0 where
+    none_in_front : {c : Context} {bytes : List ℕ} {e : DecodeError} → 0 < length bytes → Fault bytes e → AttributesWrong c bytes e
+    first_wrong : {c : Context} {bytes : List ℕ} {e : DecodeError} (x : Item) (rest : List ℕ) → Front bytes x rest → Wrong c x e → AttributesWrong c bytes e
+    later_wrong : {c : Context} {bytes : List ℕ} {e : DecodeError} (x : Item) (rest : List ℕ) (m : Meaning) → Front bytes x rest → Reads c x m → AttributesWrong c rest e → AttributesWrong c bytes e
 
-abbrev pub any_marks : List OfEncap.Meaning → Bool
-any_marks [] = false
-any_marks (m ∷ ms) = if marks m then true else any_marks ms
+  pub data HopsWrong : Context → List ℕ → DecodeError → Type 0 where
+    no_hop_in_front : {c : Context} {bytes : List ℕ} {e : DecodeError} → 0 < length bytes → HopFault bytes e → HopsWrong c bytes e
+    first_hop_wrong : {c : Context} {bytes : List ℕ} {e : DecodeError} (h : HopHead) (inside rest : List ℕ) → HopFront bytes h inside rest → AttributesWrong c inside e → HopsWrong c bytes e
+    later_hop_wrong : {c : Context} {bytes : List ℕ} {e : DecodeError} (h : HopHead) (inside rest : List ℕ) (ms : Attributes) → HopFront bytes h inside rest → AreAttributes c inside ms → HopsWrong c rest e → HopsWrong c bytes e
 
--- the table
-abbrev pub rows : Form → Bool → RouteLwEnCapType → List (Row Meaning)
-rows form multicast type =
-    row (at 1) (address_in form) destination
-    ∷ row (at 2) (address_in form) source
-    ∷ row (at 3) (exactly le32) iif
-    ∷ row (at 4) (exactly le32) oif
-    ∷ row (at 5) (address_in form) gateway
-    ∷ row (at 6) (exactly le32) priority
-    ∷ row (at 7) (address_in form) pref_source
-    ∷ row (at 8) (list_of metric_family) metrics
-    ∷ row (at 11) (exactly route_realm) realm
-    ∷ row (at 12) (leading route_cache_info) cache_info
-    ∷ row (at 15) (exactly le32) table
-    ∷ row (at 16) (exactly le32) mark
-    ∷ row (at 17) (leading route_mfc_stats) mfc_stats
-    ∷ row (at 18) via_value via
-    ∷ new_destination_row form
-    ∷ row (at 20) (exactly route_preference) preference
-    ∷ row (at 21) (exactly encap_type_layout) encap_type
-    ∷ encap_row type
-    ∷ expires_row multicast
-    ∷ row (at 25) (exactly le32) uid
-    ∷ row (at 26) (exactly ttl_propagation) ttl_propagate
-    ∷ row (at 27) (exactly byte) ip_proto
-    ∷ row (at 28) (exactly be16) sport
-    ∷ row (at 29) (exactly be16) dport
-    ∷ row (at 30) (exactly le32) nh_id
-    ∷ row (at 31) (exactly be32) flowlabel
-    ∷ []
+-- what is written: an attribute under its kind, and next hops with their lengths
+abbrev mutual
+  pub writes : Meaning → Item
+  writes (flat m) = Flats.writing.writes m
+  writes (multi_path hs) = record { kind = 9; value = hops_bytes hs }
 
--- how each meaning is written, whatever the context
-abbrev pub place : Meaning → Held
-place (destination a) = held 1 raw (address_bytes a)
-place (source a) = held 2 raw (address_bytes a)
-place (iif a) = held 3 (exactly le32) a
-place (oif a) = held 4 (exactly le32) a
-place (gateway a) = held 5 raw (address_bytes a)
-place (priority a) = held 6 (exactly le32) a
-place (pref_source a) = held 7 raw (address_bytes a)
-place (metrics a) = held 8 (list_of metric_family) a
-place (realm a) = held 11 (exactly route_realm) a
-place (cache_info a) = held 12 (leading route_cache_info) a
-place (table a) = held 15 (exactly le32) a
-place (mark a) = held 16 (exactly le32) a
-place (mfc_stats a) = held 17 (leading route_mfc_stats) a
-place (via a) = held 18 via_value a
-place (new_destination a) = held 19 mpls_labels a
-place (new_destination_address a) = held 19 raw (address_bytes a)
-place (preference a) = held 20 (exactly route_preference) a
-place (encap_type a) = held 21 (exactly encap_type_layout) a
-place (encap a) = held_marked (any_marks a) 22 (list_of (OfEncap.encapsulation NoEncapsulation)) a
-place (expires a) = held 23 (exactly le32) a
-place (multicast_expires a) = held 23 (exactly le64) a
-place (uid a) = held 25 (exactly le32) a
-place (ttl_propagate a) = held 26 (exactly ttl_propagation) a
-place (ip_proto a) = held 27 (exactly byte) a
-place (sport a) = held 28 (exactly be16) a
-place (dport a) = held 29 (exactly be16) a
-place (nh_id a) = held 30 (exactly le32) a
-place (flowlabel a) = held 31 (exactly be32) a
-place (other x) = held_other x
+  pub attributes_bytes : Attributes → List ℕ
+  attributes_bytes no_more = []
+  attributes_bytes (attribute m ms) = encoding (writes m) ++ attributes_bytes ms
 
--- why the list inside can't be written, if so
+  pub hops_bytes : Hops → List ℕ
+  hops_bytes no_hops = []
+  hops_bytes (hop h ms hs) = hop_text h (attributes_bytes ms) ++ hops_bytes hs
+
+-- a next hop that is too long, by the length in its header
+abbrev pub hop_overlong : ℕ → Option EmitError
+hop_overlong len = if nat_lt len 65536 then None else if nat_lt len (2 ^ 64) then Some (NextHopTooLong len) else Some Total
+
+-- why it can't be written, if so: what stands inside, and then its own length
+abbrev mutual
+  pub misfit : Meaning → Option EmitError
+  misfit (flat m) = Flats.writing.misfit m
+  misfit (multi_path hs) = option_or (option_or (hops_misfit hs) (overlong (length (hops_bytes hs)))) (too_long 9 (length (hops_bytes hs)))
+
+  pub attributes_misfit : Attributes → Option EmitError
+  attributes_misfit no_more = None
+  attributes_misfit (attribute m ms) = option_or (misfit m) (attributes_misfit ms)
+
+  pub hops_misfit : Hops → Option EmitError
+  hops_misfit no_hops = None
+  hops_misfit (hop h ms hs) = option_or (option_or (attributes_misfit ms) (hop_overlong (8 + length (attributes_bytes ms)))) (hops_misfit hs)
+
+-- one next hop, and the cause why it can't be written
+abbrev pub hop_bytes : Hop → List ℕ
+hop_bytes h = hop_text h.head (attributes_bytes h.attributes)
+
+abbrev pub hop_misfit : Hop → Option EmitError
+hop_misfit h = option_or (attributes_misfit h.attributes) (hop_overlong (8 + length (attributes_bytes h.attributes)))
+
+-- before NESTED is set in its kind, whether it is, and why the list inside can't be written, if so
+abbrev pub plain_of : Meaning → Item
+plain_of (flat m) = plain_item (Flat.place m)
+plain_of (multi_path hs) = record { kind = 9; value = hops_bytes hs }
+
+abbrev pub nested_of : Meaning → Bool
+nested_of (flat m) = held_nested (Flat.place m)
+nested_of (multi_path hs) = false
+
 abbrev pub unfit_inside : Meaning → Option EmitError
-unfit_inside (metrics xs) = list_unfit metric_writing.misfit metric_writing.writes xs
-unfit_inside (encap xs) = list_unfit OfEncap.writing.misfit OfEncap.writing.writes xs
-unfit_inside m = None
+unfit_inside (flat m) = Flat.unfit_inside m
+unfit_inside (multi_path hs) = option_or (hops_misfit hs) (overlong (length (hops_bytes hs)))
 
 -- what can be read
-abbrev pub Coherent : Form → Bool → RouteLwEnCapType → Meaning → Type 0
-Coherent form multicast type (destination a) = (address_in form).Holds a
-Coherent form multicast type (source a) = (address_in form).Holds a
-Coherent form multicast type (gateway a) = (address_in form).Holds a
-Coherent form multicast type (pref_source a) = (address_in form).Holds a
-Coherent form multicast type (new_destination a) = (form ≡ label) × mpls_labels.Holds a
-Coherent form multicast type (new_destination_address a) = (form ≢ label) × (address_in form).Holds a
-Coherent form multicast type (encap xs) = (list_of (OfEncap.encapsulation type)).Holds xs
-Coherent form multicast type (expires n) = (multicast ≡ false) × (n < 2 ^ 32)
-Coherent form multicast type (multicast_expires n) = (multicast ≡ true) × (n < 2 ^ 64)
-Coherent form multicast type (other x) = IsOther (rows form multicast type) x
-Coherent form multicast type m = IsHeld (place m)
+abbrev mutual
+  pub Coherent : Context → Meaning → Type 0
+  Coherent c (flat m) = (Flats.attributes c).Coherent m × (number_of (Flats.writing.writes m).kind ≢ 9)
+  Coherent c (multi_path hs) = HopsCoherent c hs
+
+  pub AttributesCoherent : Context → Attributes → Type 0
+  AttributesCoherent c no_more = Unit {0}
+  AttributesCoherent c (attribute m ms) = Coherent c m × AttributesCoherent c ms
+
+  pub HopsCoherent : Context → Hops → Type 0
+  HopsCoherent c no_hops = Unit {0}
+  HopsCoherent c (hop h ms hs) = HoldsHead h × AttributesCoherent c ms × HopsCoherent c hs
+
+-- how many attributes and next hops stand inside, at all depths
+abbrev mutual
+  pub members : Meaning → ℕ
+  members (flat m) = Flats.writing.members m
+  members (multi_path hs) = hops_members hs
+
+  pub attributes_members : Attributes → ℕ
+  attributes_members no_more = 0
+  attributes_members (attribute m ms) = 1 + members m + attributes_members ms
+
+  pub hops_members : Hops → ℕ
+  hops_members no_hops = 0
+  hops_members (hop h ms hs) = 1 + attributes_members ms + hops_members hs
+
+-- how deep next hops stand inside one another
+abbrev mutual
+  pub depth : Meaning → ℕ
+  depth (flat m) = 0
+  depth (multi_path hs) = hops_depth hs
+
+  pub attributes_depth : Attributes → ℕ
+  attributes_depth no_more = 0
+  attributes_depth (attribute m ms) = max (depth m) (attributes_depth ms)
+
+  pub hops_depth : Hops → ℕ
+  hops_depth no_hops = 0
+  hops_depth (hop h ms hs) = max (1 + attributes_depth ms) (hops_depth hs)

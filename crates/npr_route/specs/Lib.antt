@@ -1,5 +1,8 @@
 pub mod Attribute
 pub mod AttributeLaws
+pub mod AttributeView
+pub mod FlatAttribute
+pub mod FlatAttributeLaws
 pub mod Governing
 pub mod Header
 pub mod Message
@@ -7,7 +10,5 @@ pub mod MessageLaws
 pub mod Metric
 pub mod NextHopFrontLaws
 pub mod NextHopHeader
-pub mod NextHopLaws
-pub mod NextHops
 pub mod RouteList
 pub mod RouteListLaws

@@ -4,7 +4,8 @@ use Rattle.std.specs.Prelude.{ℕ, List, map, Option}
 use Rattle.npr_base.specs.declared.refusal.DecodeError.{DecodeError}
 use Rattle.npr_base.specs.declared.refusal.EmitError.{EmitError}
 use Rattle.npr_base.specs.Message.{Message, Body, IsMessage, MessageFault, IsCoherent, spelling, message_misfit}
-use Rattle.npr_route.specs.Attribute.{Meaning, meaning_of}
+use Rattle.npr_route.specs.Attribute.{Meaning}
+use Rattle.npr_route.specs.AttributeView.{meaning_of}
 use Rattle.npr_route.specs.AttributeLaws.{writing}
 use Rattle.npr_route.specs.Header.{header}
 use Rattle.npr_route.specs.RouteList.{Under, IsRouteList, RouteListFault, IsCoherentList}

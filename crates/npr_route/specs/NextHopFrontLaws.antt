@@ -10,7 +10,7 @@ use Rattle.npr_base.specs.Framing.{IsBytes}
 use Rattle.npr_base.specs.Layout.{le32_at}
 use Rattle.npr_base.specs.FrontLaws.{length_at, length_at-is, two_bytes}
 use Rattle.npr_base.specs.ListLaws.{IsBytes-left, IsBytes-right}
-use Rattle.npr_route.specs.NextHops.{HopHead, hop_text, HopFront, HopFault}
+use Rattle.npr_route.specs.Attribute.{HopHead, hop_text, HopFront, HopFault}
 
 -- what stands in front, computed
 abbrev head_at : List ℕ → HopHead

@@ -6,7 +6,8 @@ use Rattle.npr_base.specs.Family.{AllOf, ReadsList, FirstFault}
 use Rattle.npr_scalar.specs.declared.route_type.RouteType.{RouteType}
 use Rattle.npr_tunnel.specs.declared.encap_type.RouteLwEnCapType.{RouteLwEnCapType}
 use Rattle.npr_tunnel.specs.declared.encap_type.RouteLwEnCapType.TheVariants.{None as NoEncapsulation}
-use Rattle.npr_route.specs.Attribute.{Meaning, encap_type}
+use Rattle.npr_route.specs.Attribute.{Meaning, flat}
+use Rattle.npr_route.specs.FlatAttribute.{encap_type}
 use Rattle.npr_route.specs.AttributeLaws.{attributes}
 use Rattle.npr_route.specs.Governing.{Governs}
 
@@ -24,7 +25,7 @@ RouteListFault under bytes e = (type : RouteLwEnCapType) × Governs NoEncapsulat
 
 -- the type that an attribute holds, and the first of a list, or else the outer one
 abbrev pub type_held : Meaning → Option RouteLwEnCapType
-type_held (encap_type t) = Some t
+type_held (flat (encap_type t)) = Some t
 type_held m = None
 
 abbrev pub or_else : {A : Type 0} → Option A → A → A

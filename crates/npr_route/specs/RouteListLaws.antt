@@ -12,8 +12,11 @@ use Rattle.npr_base.specs.TableLaws.{one_of}
 use Rattle.npr_scalar.specs.RouteAddress.{Form, four, sixteen, label, any, form_of}
 use Rattle.npr_tunnel.specs.declared.encap_type.RouteLwEnCapType.{RouteLwEnCapType}
 use Rattle.npr_tunnel.specs.declared.encap_type.RouteLwEnCapType.TheVariants.{None as NoEncapsulation}
-use Rattle.npr_route.specs.Attribute.{Context, Meaning, other, rows, is_multicast, new_destination_variant, NewDestinationValue, expires_variant}
-use Rattle.npr_route.specs.AttributeLaws.{attributes_in, attributes, writing}
+use Rattle.npr_route.specs.Attribute.{Meaning, flat, multi_path}
+use Rattle.npr_route.specs.FlatAttribute as Flat
+use Rattle.npr_route.specs.FlatAttribute.{Context, other, rows, is_multicast, new_destination_variant, NewDestinationValue, expires_variant}
+use Rattle.npr_route.specs.FlatAttributeLaws as Flats
+use Rattle.npr_route.specs.AttributeLaws.{attributes, writing}
 use Rattle.npr_route.specs.Governing.{told, Ends, Tells, Governs}
 use Rattle.npr_route.specs.RouteList.{Under, IsRouteList, RouteListFault, type_held, or_else, first_type, IsCoherentList}
 
@@ -65,8 +68,8 @@ unless-reads P n kept (r ∷ rs) all too k x m not p = one_of (k == r.at.kind)
     (λ e a. unless-reads P n kept rs all.1 too k x m not a) p
 
 -- a type is held by number 21 alone
-abbrev HoldsNone : Meaning → Type 0
-HoldsNone m = type_held m ≡ None
+abbrev HoldsNone : Flat.Meaning → Type 0
+HoldsNone m = type_held (flat m) ≡ None
 
 destination_none : (form : Form) (v : NewDestinationValue form) → HoldsNone (new_destination_variant form v)
 destination_none four v = refl
@@ -81,15 +84,23 @@ expires_none false v = refl
 rows_none : (form : Form) (multicast : Bool) (type : RouteLwEnCapType) → Unless HoldsNone 21 (rows form multicast type)
 rows_none form multicast type = search (rules, destination_none form, expires_none multicast)
 
-alike_at : (form : Form) (multicast : Bool) (type : RouteLwEnCapType) (x : Item) (m : Meaning) → (number_of x.kind ≡ 21) → ReadsAt other (rows form multicast type) 21 x m → told x ≡ type_held m
-alike_at form multicast type x m is (v, (size, p), q) = rw (is, size) (ap Some (sym p) ∙ sym (ap type_held q))
+alike_at : (form : Form) (multicast : Bool) (type : RouteLwEnCapType) (x : Item) (m : Flat.Meaning) → (number_of x.kind ≡ 21)
+    → ReadsAt other (rows form multicast type) 21 x m → told x ≡ type_held (flat m)
+alike_at form multicast type x m is (v, (size, p), q) = rw (is, size) (ap Some (sym p) ∙ sym (ap (λ (n : Flat.Meaning). type_held (flat n)) q))
 
--- an attribute tells the type that its meaning holds
-pub alike : (form : Form) (multicast : Bool) (type : RouteLwEnCapType) (x : Item) (m : Meaning) → (attributes_in form multicast type).Reads x m → told x ≡ type_held m
-alike form multicast type x m p = elim (cases_Bool (number_of x.kind == 21)) [
-  | inl e ↦ let is : number_of x.kind ≡ 21 = eqb-true (number_of x.kind) 21 e in alike_at form multicast type x m is (subst (λ (k : ℕ). ReadsAt other (rows form multicast type) k x m) is p)
+flat-alike : (form : Form) (multicast : Bool) (type : RouteLwEnCapType) (x : Item) (m : Flat.Meaning)
+    → (Flats.attributes_in form multicast type).Reads x m → told x ≡ type_held (flat m)
+flat-alike form multicast type x m p = elim (cases_Bool (number_of x.kind == 21)) [
+  | inl e ↦
+      let is : number_of x.kind ≡ 21 = eqb-true (number_of x.kind) 21 e in
+      alike_at form multicast type x m is (subst (λ (k : ℕ). ReadsAt other (rows form multicast type) k x m) is p)
   | inr e ↦ rw e (sym (unless-reads HoldsNone 21 other (rows form multicast type) (rows_none form multicast type) (λ y. refl) (number_of x.kind) x m e p))
 ]
+
+-- an attribute tells the type that its meaning holds, and next hops tell none
+pub alike : (c : Context) (x : Item) (m : Meaning) → (attributes c).Reads x m → told x ≡ type_held m
+alike c x (flat m) p = flat-alike (form_of c.0) (is_multicast c.1) c.2 x m p.1
+alike c x (multi_path hs) p = rw p.0 refl
 
 -- the first of these attributes tells what the first meaning holds, or none does
 first_step : (outer : RouteLwEnCapType) (o : Option RouteLwEnCapType) (x : Item) (more bytes : List ℕ) (next : RouteLwEnCapType) → told x ≡ o → Front bytes x more → Governs outer more next → Governs outer bytes (or_else o next)
@@ -104,7 +115,7 @@ first_governs outer (x ∷ xs) (m ∷ ms) bytes R tells (r, f, p) h = first_step
 
 -- the first type that a list holds governs it
 pub list_governs : (outer : RouteLwEnCapType) (context : Context) (bytes : List ℕ) (ms : List Meaning) → ReadsList (attributes context).Reads bytes ms → Governs outer bytes (first_type outer ms)
-list_governs outer context bytes ms (items, p, h) = first_governs outer items ms bytes (attributes context).Reads (alike (form_of context.0) (is_multicast context.1) context.2) p h
+list_governs outer context bytes ms (items, p, h) = first_governs outer items ms bytes (attributes context).Reads (alike context) p h
 
 pub governs_first : (under : Under) (bytes : List ℕ) (ms : List Meaning) (p : IsRouteList under bytes ms) → p.0 ≡ first_type NoEncapsulation ms
 governs_first under bytes ms (type, g, p) = governs-one NoEncapsulation bytes type (first_type NoEncapsulation ms) g (list_governs NoEncapsulation (under.0, under.1, type) bytes ms p)

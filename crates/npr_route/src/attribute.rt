@@ -1,31 +1,49 @@
 //! The attributes of a route message: `RTA_*` of `linux/rtnetlink.h`.
 
-ghost use Rattle.std.specs.Prelude.{◌≡◌, ◌≢◌, ◌≤◌, ◌<◌, ◌+◌, ◌*◌, ℕ, List, Option, None, false, length, map, IfOk, IfErr};
+ghost use Rattle.std.specs.Prelude.{◌≡◌, ◌≢◌, ◌≤◌, ◌<◌, ◌+◌, ◌*◌, ℕ, List, Option, None, false, [], length, map, IfOk, IfErr};
 ghost use Rattle.std.proofs.Common.{refl};
-ghost use Rattle.npr_base.specs.Family.{checked};
-ghost use Rattle.npr_base.specs.Table.{ReadsBy, WrongBy, held_nested, held_bytes, plain_item};
+ghost use Rattle.npr_base.specs.Counts.{AddsAtMost, SawEach};
+ghost use Rattle.npr_base.specs.Framing.{number_of};
+ghost use Rattle.npr_base.specs.Table.{ReadsBy, WrongBy};
 ghost use Rattle.npr_base.specs.declared.refusal.DecodeError.TheVariants.{OutOfMemory};
 ghost use Rattle.npr_scalar.specs.RouteAddress.{form_of};
-ghost use Rattle.npr_route.specs.Attribute.{Meaning, meaning_of, place, unfit_inside, is_multicast, new_destination_row, expires_row, marks, any_marks};
+ghost use Rattle.npr_route.specs.Attribute.{Meaning, flat, plain_of, nested_of};
+ghost use Rattle.npr_route.specs.AttributeView.{meaning_of};
+ghost use Rattle.npr_route.specs.FlatAttribute.{Meaning as Flat, is_multicast, new_destination_row, expires_row, marks, any_marks};
 ghost use Rattle.npr_tunnel.specs.Encapsulation.{meaning_of as member_of};
-ghost use Rattle.npr_route.specs.AttributeLaws.{writing, attributes};
+ghost use Rattle.npr_route.specs.AttributeLaws.{writing, attributes, item-is};
 
 use crate::metrics::RouteMetric;
+use crate::next_hops::{RouteNextHop, check_attribute, clone_attribute, value_len, write_value};
+use crate::reader::read_next_hops;
 use npr_base::{
     AddressFamily, AttrFamily, Attribute, DecodeError, DefaultNla, EmitError, Looks, Nla,
-    NlaBuffer, Parseable, ParseableParametrized, check_len, check_list, clone_list, parse_list,
-    read_u8, read_u16, read_u16_be, read_u32, read_u32_be, read_u64, write_bytes, write_list,
+    NlaBuffer, Parseable, ParseableParametrized, parse_list, read_u8, read_u16, read_u16_be,
+    read_u32, read_u32_be, read_u64,
 };
 use npr_scalar::{
-    MplsLabel, RouteAddress, RouteCacheInfo, RouteCacheInfoBuffer, RouteMfcStats,
-    RouteMfcStatsBuffer, RouteMplsTtlPropagation, RoutePreference, RouteRealm, RouteType, RouteVia,
-    labels_len, read_labels, write_labels,
+    MplsLabel, RouteAddress, RouteCacheInfo, RouteMfcStats, RouteMplsTtlPropagation,
+    RoutePreference, RouteRealm, RouteType, RouteVia, read_labels,
 };
 use npr_tunnel::{RouteIp6Tunnel, RouteIpTunnel, RouteLwEnCapType, RouteLwTunnelEncap};
 use std::alloc::{AllocError, Global};
 
+/// The number of next hops, `RTA_MULTIPATH`.
+pub(crate) const RTA_MULTIPATH: u16 = 9;
+
+/// The number of the type of an encapsulation, `RTA_ENCAP_TYPE`.
+pub(crate) const RTA_ENCAP_TYPE: u16 = 21;
+
+/// The number of an encapsulation, `RTA_ENCAP`.
+pub(crate) const RTA_ENCAP: u16 = 22;
+
+/// What the meaning of an attribute rests on besides its bytes: the family and the type of the
+/// message's header, and the type that governs its encapsulation.
+pub(crate) type Context = (AddressFamily, RouteType, RouteLwEnCapType);
+
 /// An attribute of a route message. What it means rests on a context: the family and the type of
 /// the message's header, and the type of its encapsulation.
+#[cycle(route)]
 #[derive(Debug, Drop, PartialEq, Eq)]
 pub enum RouteAttribute {
     /// `RTA_DST`: the destination, a prefix.
@@ -44,6 +62,8 @@ pub enum RouteAttribute {
     PrefSource(RouteAddress),
     /// `RTA_METRICS`: the metrics.
     Metrics(Vec<RouteMetric>),
+    /// `RTA_MULTIPATH`: the next hops of a route by several paths.
+    MultiPath(Vec<RouteNextHop>),
     /// `RTA_FLOW`: the realms.
     Realm(RouteRealm),
     /// `RTA_CACHEINFO`: what the kernel remembers.
@@ -96,61 +116,7 @@ impl RouteAttribute {
     pub fn clone(&self, alloc: Global) -> Result<Self, AllocError>
         ensures { IfOk result (λ a. meaning_of a ≡ meaning_of self.now) }
     {
-        Ok(match self {
-            Self::Destination(x) => Self::Destination(x.clone(alloc)?),
-            Self::Source(x) => Self::Source(x.clone(alloc)?),
-            Self::Iif(x) => Self::Iif(*x),
-            Self::Oif(x) => Self::Oif(*x),
-            Self::Gateway(x) => Self::Gateway(x.clone(alloc)?),
-            Self::Priority(x) => Self::Priority(*x),
-            Self::PrefSource(x) => Self::PrefSource(x.clone(alloc)?),
-            Self::Metrics(x) => Self::Metrics(clone_list(alloc, x.as_slice())?),
-            Self::Realm(x) => Self::Realm(*x),
-            Self::CacheInfo(x) => Self::CacheInfo(*x),
-            Self::Table(x) => Self::Table(*x),
-            Self::Mark(x) => Self::Mark(*x),
-            Self::MfcStats(x) => Self::MfcStats(*x),
-            Self::Via(x) => Self::Via(x.clone(alloc)?),
-            Self::NewDestination(x) => Self::NewDestination(Vec::from_slice(alloc, x.as_slice())?),
-            Self::NewDestinationAddress(x) => Self::NewDestinationAddress(x.clone(alloc)?),
-            Self::Preference(x) => Self::Preference(*x),
-            Self::EncapType(x) => Self::EncapType(*x),
-            Self::Encap(x) => Self::Encap(clone_list(alloc, x.as_slice())?),
-            Self::Expires(x) => Self::Expires(*x),
-            Self::MulticastExpires(x) => Self::MulticastExpires(*x),
-            Self::Uid(x) => Self::Uid(*x),
-            Self::TtlPropagate(x) => Self::TtlPropagate(*x),
-            Self::IpProto(x) => Self::IpProto(*x),
-            Self::Sport(x) => Self::Sport(*x),
-            Self::Dport(x) => Self::Dport(*x),
-            Self::NhId(x) => Self::NhId(*x),
-            Self::Flowlabel(x) => Self::Flowlabel(*x),
-            Self::Other(nla) => Self::Other(nla.clone(alloc)?),
-        })
-    }
-
-    /// The length of the value, or the first cause why the list inside has none.
-    fn len(&self) -> Result<usize, EmitError>
-        ensures { result ≡ checked (unfit_inside (meaning_of self.now)) (length (held_bytes (place (meaning_of self.now)))) }
-    {
-        Ok(match self {
-            Self::Destination(x)
-            | Self::Source(x)
-            | Self::Gateway(x)
-            | Self::PrefSource(x)
-            | Self::NewDestinationAddress(x) => x.len(),
-            Self::Via(x) => x.len(),
-            Self::Metrics(list) => check_list(list.as_slice())?,
-            Self::Encap(list) => check_list(list.as_slice())?,
-            Self::NewDestination(labels) => labels_len(labels.as_slice()),
-            Self::Preference(_) | Self::TtlPropagate(_) | Self::IpProto(_) => 1,
-            Self::EncapType(_) | Self::Sport(_) | Self::Dport(_) => 2,
-            Self::MulticastExpires(_) => 8,
-            Self::MfcStats(_) => 24,
-            Self::CacheInfo(_) => 32,
-            Self::Other(nla) => nla.value().len(),
-            _ => 4,
-        })
+        clone_attribute(alloc, self)
     }
 }
 
@@ -169,7 +135,7 @@ const fn wants_nested(member: &RouteLwTunnelEncap) -> bool
     )
 }
 
-fn is_marked(members: &[RouteLwTunnelEncap]) -> bool
+pub(crate) fn is_marked(members: &[RouteLwTunnelEncap]) -> bool
     ensures { result ≡ any_marks (map member_of members.now) }
 {
     for member in members {
@@ -181,9 +147,9 @@ fn is_marked(members: &[RouteLwTunnelEncap]) -> bool
 }
 
 impl Nla for RouteAttribute {
-    ghost item = { λ a. plain_item (place (meaning_of a)) };
+    ghost item = { λ a. plain_of (meaning_of a) };
 
-    ghost nested = { λ a. held_nested (place (meaning_of a)) };
+    ghost nested = { λ a. nested_of (meaning_of a) };
 
     ghost unfit = { λ a. writing.misfit (meaning_of a) };
 
@@ -199,6 +165,7 @@ impl Nla for RouteAttribute {
             Self::Priority(_) => 6,
             Self::PrefSource(_) => 7,
             Self::Metrics(_) => 8,
+            Self::MultiPath(_) => RTA_MULTIPATH,
             Self::Realm(_) => 11,
             Self::CacheInfo(_) => 12,
             Self::Table(_) => 15,
@@ -208,8 +175,8 @@ impl Nla for RouteAttribute {
             Self::NewDestination(_) => 19,
             Self::NewDestinationAddress(_) => 19,
             Self::Preference(_) => 20,
-            Self::EncapType(_) => 21,
-            Self::Encap(_) => 22,
+            Self::EncapType(_) => RTA_ENCAP_TYPE,
+            Self::Encap(_) => RTA_ENCAP,
             Self::Expires(_) => 23,
             Self::MulticastExpires(_) => 23,
             Self::Uid(_) => 25,
@@ -227,52 +194,48 @@ impl Nla for RouteAttribute {
     fn is_nested(&self) -> bool {
         match self {
             Self::Encap(list) => is_marked(list.as_slice()),
-            _ => false,
+            Self::Destination(_)
+            | Self::Source(_)
+            | Self::Iif(_)
+            | Self::Oif(_)
+            | Self::Gateway(_)
+            | Self::Priority(_)
+            | Self::PrefSource(_)
+            | Self::Metrics(_)
+            | Self::MultiPath(_)
+            | Self::Realm(_)
+            | Self::CacheInfo(_)
+            | Self::Table(_)
+            | Self::Mark(_)
+            | Self::MfcStats(_)
+            | Self::Via(_)
+            | Self::NewDestination(_)
+            | Self::NewDestinationAddress(_)
+            | Self::Preference(_)
+            | Self::EncapType(_)
+            | Self::Expires(_)
+            | Self::MulticastExpires(_)
+            | Self::Uid(_)
+            | Self::TtlPropagate(_)
+            | Self::IpProto(_)
+            | Self::Sport(_)
+            | Self::Dport(_)
+            | Self::NhId(_)
+            | Self::Flowlabel(_)
+            | Self::Other(_) => false,
         }
     }
 
     fn check(&self) -> Result<usize, EmitError> {
-        check_len(self.kind(), self.len()?)
+        check_attribute(self)
     }
 
     fn value_len(&self) -> usize {
-        match self.len() {
-            Ok(len) => len,
-            Err(_) => unreachable!(),
-        }
+        value_len(self)
     }
 
     fn write_value(&self, out: &mut [u8]) -> usize {
-        match self {
-            Self::Destination(x)
-            | Self::Source(x)
-            | Self::Gateway(x)
-            | Self::PrefSource(x)
-            | Self::NewDestinationAddress(x) => x.write(out),
-            Self::Via(x) => x.write(out),
-            Self::Metrics(list) => write_list(list.as_slice(), out),
-            Self::Encap(list) => write_list(list.as_slice(), out),
-            Self::NewDestination(labels) => write_labels(labels.as_slice(), out),
-            Self::Iif(x)
-            | Self::Oif(x)
-            | Self::Priority(x)
-            | Self::Table(x)
-            | Self::Mark(x)
-            | Self::Expires(x)
-            | Self::Uid(x)
-            | Self::NhId(x) => write_bytes(&x.to_le_bytes(), out),
-            Self::MulticastExpires(x) => write_bytes(&x.to_le_bytes(), out),
-            Self::Sport(x) | Self::Dport(x) => write_bytes(&x.to_be_bytes(), out),
-            Self::Flowlabel(x) => write_bytes(&x.to_be_bytes(), out),
-            Self::IpProto(x) => write_bytes(&[*x], out),
-            Self::Realm(x) => write_bytes(&u32::from(*x).to_le_bytes(), out),
-            Self::Preference(x) => write_bytes(&[u8::from(*x)], out),
-            Self::TtlPropagate(x) => write_bytes(&[u8::from(*x)], out),
-            Self::EncapType(x) => write_bytes(&u16::from(*x).to_le_bytes(), out),
-            Self::CacheInfo(x) => write_bytes(&RouteCacheInfoBuffer::from(x).to_bytes(), out),
-            Self::MfcStats(x) => write_bytes(&RouteMfcStatsBuffer::from(x).to_bytes(), out),
-            Self::Other(nla) => write_bytes(nla.value(), out),
-        }
+        write_value(self, out)
     }
 }
 
@@ -282,7 +245,7 @@ fn read_new_destination(
     family: AddressFamily,
     value: &[u8],
 ) -> Result<RouteAttribute, DecodeError>
-    ensures ok { IfOk result (λ a. ReadsBy (new_destination_row (form_of family)) value.now (meaning_of a)) }
+    ensures ok { IfOk result (λ a. (m : Flat) × ReadsBy (new_destination_row (form_of family)) value.now m × (meaning_of a ≡ flat m)) }
     ensures refused { IfErr result (λ e. e ≢ OutOfMemory → WrongBy (new_destination_row (form_of family)) value.now e) }
 {
     match family {
@@ -295,17 +258,84 @@ fn read_new_destination(
 
 /// Number 23: eight bytes of a multicast route, else four.
 fn read_expires(kind: RouteType, value: &[u8]) -> Result<RouteAttribute, DecodeError>
-    ensures ok { IfOk result (λ a. ReadsBy (expires_row (is_multicast kind)) value.now (meaning_of a)) }
+    ensures ok { IfOk result (λ a. (m : Flat) × ReadsBy (expires_row (is_multicast kind)) value.now m × (meaning_of a ≡ flat m)) }
     ensures refused { IfErr result (λ e. WrongBy (expires_row (is_multicast kind)) value.now e) }
 {
     match kind {
-        RouteType::Multicast => read_u64(value, AttrFamily::Route.at(23)).map(RouteAttribute::MulticastExpires),
+        RouteType::Multicast => read_u64(value, AttrFamily::Route.at(23)).map(
+            RouteAttribute::MulticastExpires,
+        ),
         _ => read_u32(value, AttrFamily::Route.at(23)).map(RouteAttribute::Expires),
     }
 }
 
+/// What an attribute is that holds no next hops: one of another number, or an empty list of them.
+pub(crate) fn read_flat(
+    alloc: Global,
+    context: Context,
+    item: &NlaBuffer<'_>,
+    looks: &mut Looks,
+) -> Result<RouteAttribute, DecodeError>
+    requires { number_of (item.now).kind ≡ 9 → (item.now).value ≡ [] }
+    ensures ok { IfOk result (λ a. (attributes context).Reads item.now (meaning_of a)) }
+    ensures refused { IfErr result (λ e. e ≢ OutOfMemory → (attributes context).Faulty item.now e) }
+    ensures bounded { AddsAtMost looks.old looks.new (length (item.now).value) }
+    ensures counted { IfOk result (λ a. SawEach looks.old looks.new (writing.members (meaning_of a))) }
+{
+    let (family, kind, encapsulation) = context;
+    let value = item.value();
+    match item.kind() {
+        1 => RouteAddress::read(alloc, family, value, AttrFamily::Route.at(1)).map(
+            RouteAttribute::Destination,
+        ),
+        2 => RouteAddress::read(alloc, family, value, AttrFamily::Route.at(2)).map(
+            RouteAttribute::Source,
+        ),
+        3 => read_u32(value, AttrFamily::Route.at(3)).map(RouteAttribute::Iif),
+        4 => read_u32(value, AttrFamily::Route.at(4)).map(RouteAttribute::Oif),
+        5 => RouteAddress::read(alloc, family, value, AttrFamily::Route.at(5)).map(
+            RouteAttribute::Gateway,
+        ),
+        6 => read_u32(value, AttrFamily::Route.at(6)).map(RouteAttribute::Priority),
+        7 => RouteAddress::read(alloc, family, value, AttrFamily::Route.at(7)).map(
+            RouteAttribute::PrefSource,
+        ),
+        8 => parse_list(alloc, (), value, looks).map(RouteAttribute::Metrics),
+        RTA_MULTIPATH => Ok(RouteAttribute::MultiPath(Vec::new(alloc))),
+        11 => read_u32(value, AttrFamily::Route.at(11)).map(|number| RouteAttribute::Realm(
+            RouteRealm::from(number),
+        )),
+        12 => RouteCacheInfo::parse(value).map(RouteAttribute::CacheInfo),
+        15 => read_u32(value, AttrFamily::Route.at(15)).map(RouteAttribute::Table),
+        16 => read_u32(value, AttrFamily::Route.at(16)).map(RouteAttribute::Mark),
+        17 => RouteMfcStats::parse(value).map(RouteAttribute::MfcStats),
+        18 => RouteVia::read(alloc, value, AttrFamily::Route.at(18)).map(RouteAttribute::Via),
+        19 => read_new_destination(alloc, family, value),
+        20 => read_u8(value, AttrFamily::Route.at(20)).map(|n| RouteAttribute::Preference(
+            RoutePreference::from(n),
+        )),
+        RTA_ENCAP_TYPE => read_u16(value, AttrFamily::Route.at(RTA_ENCAP_TYPE)).map(
+            |n| RouteAttribute::EncapType(RouteLwEnCapType::from(n)),
+        ),
+        RTA_ENCAP => parse_list(alloc, encapsulation, value, looks).map(RouteAttribute::Encap),
+        23 => read_expires(kind, value),
+        25 => read_u32(value, AttrFamily::Route.at(25)).map(RouteAttribute::Uid),
+        26 => {
+            read_u8(value, AttrFamily::Route.at(26)).map(|n| RouteAttribute::TtlPropagate(
+                RouteMplsTtlPropagation::from(n),
+            ))
+        }
+        27 => read_u8(value, AttrFamily::Route.at(27)).map(RouteAttribute::IpProto),
+        28 => read_u16_be(value, AttrFamily::Route.at(28)).map(RouteAttribute::Sport),
+        29 => read_u16_be(value, AttrFamily::Route.at(29)).map(RouteAttribute::Dport),
+        30 => read_u32(value, AttrFamily::Route.at(30)).map(RouteAttribute::NhId),
+        31 => read_u32_be(value, AttrFamily::Route.at(31)).map(RouteAttribute::Flowlabel),
+        _ => DefaultNla::parse(alloc, item).map(RouteAttribute::Other),
+    }
+}
+
 impl Attribute for RouteAttribute {
-    type Context = (AddressFamily, RouteType, RouteLwEnCapType);
+    type Context = Context;
 
     ghost Meaning = { Meaning };
 
@@ -315,48 +345,20 @@ impl Attribute for RouteAttribute {
 
     ghost reading = { attributes };
 
-    ghost item_is = { λ a. refl };
+    ghost item_is = { λ a. item-is (meaning_of a) };
 
     ghost unfit_is = { λ a. refl };
 
     fn read(
         alloc: Global,
-        context: (AddressFamily, RouteType, RouteLwEnCapType),
+        context: Context,
         item: &NlaBuffer<'_>,
         looks: &mut Looks,
     ) -> Result<Self, DecodeError> {
-        let (family, kind, encapsulation) = context;
-        let value = item.value();
-        match item.kind() {
-            1 => RouteAddress::read(alloc, family, value, AttrFamily::Route.at(1)).map(Self::Destination),
-            2 => RouteAddress::read(alloc, family, value, AttrFamily::Route.at(2)).map(Self::Source),
-            3 => read_u32(value, AttrFamily::Route.at(3)).map(Self::Iif),
-            4 => read_u32(value, AttrFamily::Route.at(4)).map(Self::Oif),
-            5 => RouteAddress::read(alloc, family, value, AttrFamily::Route.at(5)).map(Self::Gateway),
-            6 => read_u32(value, AttrFamily::Route.at(6)).map(Self::Priority),
-            7 => RouteAddress::read(alloc, family, value, AttrFamily::Route.at(7)).map(Self::PrefSource),
-            8 => parse_list(alloc, (), value, looks).map(Self::Metrics),
-            11 => read_u32(value, AttrFamily::Route.at(11)).map(|number| Self::Realm(RouteRealm::from(number))),
-            12 => RouteCacheInfo::parse(value).map(Self::CacheInfo),
-            15 => read_u32(value, AttrFamily::Route.at(15)).map(Self::Table),
-            16 => read_u32(value, AttrFamily::Route.at(16)).map(Self::Mark),
-            17 => RouteMfcStats::parse(value).map(Self::MfcStats),
-            18 => RouteVia::read(alloc, value, AttrFamily::Route.at(18)).map(Self::Via),
-            19 => read_new_destination(alloc, family, value),
-            20 => read_u8(value, AttrFamily::Route.at(20)).map(|n| Self::Preference(RoutePreference::from(n))),
-            21 => read_u16(value, AttrFamily::Route.at(21)).map(|n| Self::EncapType(RouteLwEnCapType::from(n))),
-            22 => parse_list(alloc, encapsulation, value, looks).map(Self::Encap),
-            23 => read_expires(kind, value),
-            25 => read_u32(value, AttrFamily::Route.at(25)).map(Self::Uid),
-            26 => {
-                read_u8(value, AttrFamily::Route.at(26)).map(|n| Self::TtlPropagate(RouteMplsTtlPropagation::from(n)))
-            }
-            27 => read_u8(value, AttrFamily::Route.at(27)).map(Self::IpProto),
-            28 => read_u16_be(value, AttrFamily::Route.at(28)).map(Self::Sport),
-            29 => read_u16_be(value, AttrFamily::Route.at(29)).map(Self::Dport),
-            30 => read_u32(value, AttrFamily::Route.at(30)).map(Self::NhId),
-            31 => read_u32_be(value, AttrFamily::Route.at(31)).map(Self::Flowlabel),
-            _ => DefaultNla::parse(alloc, item).map(Self::Other),
+        if item.kind() == RTA_MULTIPATH {
+            read_next_hops(alloc, item.value(), context, looks).map(Self::MultiPath)
+        } else {
+            read_flat(alloc, context, item, looks)
         }
     }
 
@@ -365,8 +367,7 @@ impl Attribute for RouteAttribute {
     }
 }
 
-impl<'a> ParseableParametrized<&'a NlaBuffer<'a>, (AddressFamily, RouteType, RouteLwEnCapType)>
-    for RouteAttribute {
+impl<'a> ParseableParametrized<&'a NlaBuffer<'a>, Context> for RouteAttribute {
     ghost parses = { λ context input a. (attributes context).Reads input.now (meaning_of a) };
 
     ghost misparses = { λ context input e. (attributes context).Faulty input.now e };
@@ -378,7 +379,7 @@ impl<'a> ParseableParametrized<&'a NlaBuffer<'a>, (AddressFamily, RouteType, Rou
     fn parse_with_param(
         alloc: Global,
         input: &'a NlaBuffer<'a>,
-        context: (AddressFamily, RouteType, RouteLwEnCapType),
+        context: Context,
     ) -> Result<Self, DecodeError> {
         Self::read(alloc, context, input, &mut Looks::new())
     }

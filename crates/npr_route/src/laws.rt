@@ -6,12 +6,13 @@ ghost use Rattle.npr_base.specs.Equality.{IsEquality, IsEqualityOf};
 ghost use Rattle.npr_tunnel.specs.declared.encap_type.RouteLwEnCapType.{RouteLwEnCapType};
 ghost use Rattle.npr_base.specs.declared.refusal.DecodeError.{DecodeError};
 ghost use Rattle.npr_base.specs.Framing.{IsBytes};
-ghost use Rattle.npr_route.specs.Attribute.{Context, Meaning, meaning_of};
+ghost use Rattle.npr_route.specs.AttributeView.{meaning_of};
+ghost use Rattle.npr_route.specs.FlatAttribute.{Context};
 ghost use Rattle.npr_route.specs.Governing.{Governs};
 ghost use Rattle.npr_route.specs.Header.{default_header};
 ghost use Rattle.npr_route.specs.Metric.{metric_of};
 ghost use Rattle.npr_route.specs.Message.{Route, message_of, IsRouteMessage, IsCoherentRoute, route_bytes, route_misfit};
-ghost use Rattle.npr_route.specs.NextHops.{Hops, AreHops, HopsWrong, HopsCoherent, hops_bytes, hops_misfit, hops_depth};
+ghost use Rattle.npr_route.specs.Attribute.{Meaning, Hops, AreHops, HopsWrong, HopsCoherent, hops_bytes, hops_misfit, hops_depth};
 ghost use Rattle.npr_route.specs.RouteList.{Under, IsRouteList, first_type};
 
 use crate::attribute::RouteAttribute;

@@ -12,6 +12,7 @@ mod metrics;
 #[cfg(test)]
 mod next_hop_tests;
 mod next_hops;
+mod reader;
 #[cfg(test)]
 mod tests;
 
@@ -20,4 +21,5 @@ pub use header::{RouteHeader, RouteMessageBuffer};
 pub use list::read_route_list;
 pub use message::RouteMessage;
 pub use metrics::RouteMetric;
-pub use next_hops::RouteNextHopBuffer;
+pub use next_hops::{RouteNextHop, RouteNextHopBuffer};
+pub use reader::read_next_hops;

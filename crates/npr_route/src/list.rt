@@ -5,7 +5,8 @@ ghost use Rattle.npr_base.specs.declared.refusal.DecodeError.TheVariants.{OutOfM
 ghost use Rattle.npr_base.specs.Counts.{AddsAtMostTwice, SawEach};
 ghost use Rattle.npr_base.specs.Family.{list_members};
 ghost use Rattle.npr_base.specs.Framing.{Item, Front};
-ghost use Rattle.npr_route.specs.Attribute.{Meaning, meaning_of};
+ghost use Rattle.npr_route.specs.Attribute.{Meaning};
+ghost use Rattle.npr_route.specs.AttributeView.{meaning_of};
 ghost use Rattle.npr_route.specs.AttributeLaws.{writing};
 ghost use Rattle.npr_route.specs.Governing.{told, Governs, Searches};
 ghost use Rattle.npr_route.specs.RouteList.{IsRouteList, RouteListFault};
@@ -31,11 +32,7 @@ fn told_by(item: &NlaBuffer<'_>) -> Option<RouteLwEnCapType>
 /// The type that governs the list in the bytes: that of its first `RTA_ENCAP_TYPE` of two bytes,
 /// wherever it stands, and the outer type where there is none. A fault ends the search and no more:
 /// it is refused when the list is read. Each look at a header is counted.
-fn governing_type(
-    bytes: &[u8],
-    outer: RouteLwEnCapType,
-    looks: &mut Looks,
-) -> RouteLwEnCapType
+fn governing_type(bytes: &[u8], outer: RouteLwEnCapType, looks: &mut Looks) -> RouteLwEnCapType
     ensures governs { Governs outer bytes.now result }
     ensures looks { Searches outer bytes.now result looks.old looks.new }
 {

@@ -1,12 +1,40 @@
-//! The header of a next hop: `struct rtnexthop` of `linux/rtnetlink.h`.
+//! Next hops of a route by several paths: `struct rtnexthop` of `linux/rtnetlink.h`. They hold
+//! attributes, which may be next hops again: checking, writing and copying go down in plain
+//! functions.
 
-ghost use Rattle.std.specs.Prelude.{◌≡◌, IfOk, IfErr};
+ghost use Rattle.std.specs.Prelude.{◌≡◌, ◌≤◌, ◌<◌, ◌+◌, None, length, map, IfOk, IfErr};
 ghost use Rattle.npr_base.specs.Codec.{leading};
+ghost use Rattle.npr_base.specs.Family.{checked, option_or, overlong, first_unfit, list_unfit, encodings};
+ghost use Rattle.npr_base.specs.Framing.{Writes, encoding, framed};
 ghost use Rattle.npr_base.specs.Refusal.{no_place};
+ghost use Rattle.npr_route.specs.Attribute.{HopFault, plain_of, misfit, unfit_inside, hop_misfit, hop_bytes, hop_overlong};
+ghost use Rattle.npr_route.specs.AttributeView.{meaning_of, hop_of, attribute_item, attribute_misfit, next_hop_bytes, next_hop_misfit, joined};
 ghost use Rattle.npr_route.specs.NextHopHeader.{next_hop_buffer, IsChecked};
-ghost use Rattle.npr_route.specs.NextHops.{HopFault};
 
-use npr_base::DecodeError;
+use crate::attribute::RouteAttribute;
+use bitflags::Flags;
+use npr_base::{
+    DecodeError, EmitError, Nla, check_len, check_list, clone_list, frame, marked_kind, plus,
+    write_bytes, write_list,
+};
+use npr_scalar::{
+    RouteCacheInfoBuffer, RouteMfcStatsBuffer, RouteNextHopFlags, labels_len, write_labels,
+};
+use std::alloc::{AllocError, Global};
+
+/// A next hop of a route by several paths.
+#[cycle(route)]
+#[derive(Debug, Drop, PartialEq, Eq)]
+pub struct RouteNextHop {
+    /// The flags.
+    pub flags: RouteNextHopFlags,
+    /// Its weight less one.
+    pub hops: u8,
+    /// The index of its interface.
+    pub interface_index: u32,
+    /// The attributes, in their order.
+    pub attributes: Vec<RouteAttribute>,
+}
 
 /// The layout of a next hop's header: 8 bytes, little endian.
 #[derive(Clone, Copy, Debug, PartialEq, Eq)]
@@ -76,4 +104,305 @@ impl RouteNextHopBuffer {
         let [c, d, e, f] = self.interface_index.to_le_bytes();
         [a, b, self.flags, self.hops, c, d, e, f]
     }
+}
+
+/// The length of the value in bytes, or the first cause why the list inside has none.
+#[cycle(check)]
+fn check_inside(attribute: &RouteAttribute) -> Result<usize, EmitError>
+    ensures { result ≡ checked (unfit_inside (meaning_of attribute.now)) (length (plain_of (meaning_of attribute.now)).value) }
+{
+    Ok(match attribute {
+        RouteAttribute::Destination(x)
+        | RouteAttribute::Source(x)
+        | RouteAttribute::Gateway(x)
+        | RouteAttribute::PrefSource(x)
+        | RouteAttribute::NewDestinationAddress(x) => x.len(),
+        RouteAttribute::Via(x) => x.len(),
+        RouteAttribute::Metrics(list) => check_list(list.as_slice())?,
+        RouteAttribute::Encap(list) => check_list(list.as_slice())?,
+        RouteAttribute::MultiPath(hops) => check_hops(hops.as_slice())?,
+        RouteAttribute::NewDestination(labels) => labels_len(labels.as_slice()),
+        RouteAttribute::Preference(_)
+        | RouteAttribute::TtlPropagate(_)
+        | RouteAttribute::IpProto(_) => 1,
+        RouteAttribute::EncapType(_) | RouteAttribute::Sport(_) | RouteAttribute::Dport(_) => 2,
+        RouteAttribute::Iif(_)
+        | RouteAttribute::Oif(_)
+        | RouteAttribute::Priority(_)
+        | RouteAttribute::Realm(_)
+        | RouteAttribute::Table(_)
+        | RouteAttribute::Mark(_)
+        | RouteAttribute::Expires(_)
+        | RouteAttribute::Uid(_)
+        | RouteAttribute::NhId(_)
+        | RouteAttribute::Flowlabel(_) => 4,
+        RouteAttribute::MulticastExpires(_) => 8,
+        RouteAttribute::MfcStats(_) => 24,
+        RouteAttribute::CacheInfo(_) => 32,
+        RouteAttribute::Other(nla) => nla.value().len(),
+    })
+}
+
+/// The length of the encoding in bytes, or the first cause why there is none.
+#[cycle(check)]
+pub(crate) fn check_attribute(attribute: &RouteAttribute) -> Result<usize, EmitError>
+    ensures { result ≡ checked (misfit (meaning_of attribute.now)) (framed (length (plain_of (meaning_of attribute.now)).value)) }
+{
+    check_len(attribute.kind(), check_inside(attribute)?)
+}
+
+/// The length of all encodings in bytes, or the first cause why there are none.
+#[cycle(check)]
+fn check_attributes(list: &[RouteAttribute]) -> Result<usize, EmitError>
+    ensures { result ≡ checked (list_unfit attribute_misfit attribute_item list.now) (length (encodings attribute_item list.now)) }
+{
+    let mut total = Some(0usize);
+    for attribute in list {
+        let len = check_attribute(attribute)?;
+        total = plus(total, len);
+    }
+    total.ok_or(EmitError::Total)
+}
+
+/// The length of a next hop with so many bytes of attributes.
+///
+/// # Errors
+/// `NextHopTooLong` above 65,535 bytes, and `Total` where no `usize` holds the length.
+fn hop_len(inside: usize) -> Result<usize, EmitError>
+    ensures { result ≡ checked (hop_overlong (8 + inside)) (8 + inside) }
+{
+    let len = inside.checked_add(8).ok_or(EmitError::Total)?;
+    if len > 65535 {
+        return Err(EmitError::NextHopTooLong { len });
+    }
+    Ok(len)
+}
+
+/// The length of a next hop in bytes, its header included, or the first cause why it has none.
+#[cycle(check)]
+fn check_hop(hop: &RouteNextHop) -> Result<usize, EmitError>
+    ensures { result ≡ checked (hop_misfit (hop_of hop.now)) (length (hop_bytes (hop_of hop.now))) }
+{
+    let inside = check_attributes(hop.attributes.as_slice())?;
+    hop_len(inside)
+}
+
+/// The length of all next hops in bytes, or the first cause why they have none.
+#[cycle(check)]
+fn check_hops(hops: &[RouteNextHop]) -> Result<usize, EmitError>
+    ensures { result ≡ checked (option_or (first_unfit next_hop_misfit hops.now) (overlong (length (joined next_hop_bytes hops.now)))) (length (joined next_hop_bytes hops.now)) }
+{
+    let mut total = Some(0usize);
+    for hop in hops {
+        let len = check_hop(hop)?;
+        total = plus(total, len);
+    }
+    total.ok_or(EmitError::Total)
+}
+
+/// The length of the value, in bytes. Asks that `check_attribute` accepts.
+pub(crate) fn value_len(attribute: &RouteAttribute) -> usize
+    requires { misfit (meaning_of attribute.now) ≡ None }
+    ensures { result ≡ length (plain_of (meaning_of attribute.now)).value }
+{
+    match check_inside(attribute) {
+        Ok(len) => len,
+        Err(_) => unreachable!(),
+    }
+}
+
+/// Writes the value at the front of the slice, leaves the rest, and answers the value's length.
+#[cycle(write)]
+pub(crate) fn write_value(attribute: &RouteAttribute, out: &mut [u8]) -> usize
+    requires fits { misfit (meaning_of attribute.now) ≡ None }
+    requires room { length (plain_of (meaning_of attribute.now)).value ≤ length out.old }
+    ensures len { result ≡ length (plain_of (meaning_of attribute.now)).value }
+    ensures after { Writes out.old out.new (plain_of (meaning_of attribute.now)).value }
+{
+    match attribute {
+        RouteAttribute::Destination(x)
+        | RouteAttribute::Source(x)
+        | RouteAttribute::Gateway(x)
+        | RouteAttribute::PrefSource(x)
+        | RouteAttribute::NewDestinationAddress(x) => x.write(out),
+        RouteAttribute::Via(x) => x.write(out),
+        RouteAttribute::Metrics(list) => write_list(list.as_slice(), out),
+        RouteAttribute::Encap(list) => write_list(list.as_slice(), out),
+        RouteAttribute::MultiPath(hops) => write_hops(hops.as_slice(), out),
+        RouteAttribute::NewDestination(labels) => write_labels(labels.as_slice(), out),
+        RouteAttribute::Iif(x)
+        | RouteAttribute::Oif(x)
+        | RouteAttribute::Priority(x)
+        | RouteAttribute::Table(x)
+        | RouteAttribute::Mark(x)
+        | RouteAttribute::Expires(x)
+        | RouteAttribute::Uid(x)
+        | RouteAttribute::NhId(x) => write_bytes(&x.to_le_bytes(), out),
+        RouteAttribute::MulticastExpires(x) => write_bytes(&x.to_le_bytes(), out),
+        RouteAttribute::Sport(x) | RouteAttribute::Dport(x) => write_bytes(&x.to_be_bytes(), out),
+        RouteAttribute::Flowlabel(x) => write_bytes(&x.to_be_bytes(), out),
+        RouteAttribute::IpProto(x) => write_bytes(&[*x], out),
+        RouteAttribute::Realm(x) => write_bytes(&u32::from(*x).to_le_bytes(), out),
+        RouteAttribute::Preference(x) => write_bytes(&[u8::from(*x)], out),
+        RouteAttribute::TtlPropagate(x) => write_bytes(&[u8::from(*x)], out),
+        RouteAttribute::EncapType(x) => write_bytes(&u16::from(*x).to_le_bytes(), out),
+        RouteAttribute::CacheInfo(x) => write_bytes(&RouteCacheInfoBuffer::from(x).to_bytes(), out),
+        RouteAttribute::MfcStats(x) => write_bytes(&RouteMfcStatsBuffer::from(x).to_bytes(), out),
+        RouteAttribute::Other(nla) => write_bytes(nla.value(), out),
+    }
+}
+
+/// Writes the attribute: its value behind four bytes, and then header and padding.
+#[cycle(write)]
+fn write_attribute(attribute: &RouteAttribute, out: &mut [u8]) -> usize
+    requires fits { misfit (meaning_of attribute.now) ≡ None }
+    requires room { framed (length (plain_of (meaning_of attribute.now)).value) ≤ length out.old }
+    ensures len { result ≡ framed (length (plain_of (meaning_of attribute.now)).value) }
+    ensures after { Writes out.old out.new (encoding (attribute_item attribute.now)) }
+{
+    let len = write_value(attribute, &mut out[4..]);
+    frame(
+        out,
+        marked_kind(attribute.kind(), attribute.is_nested()),
+        len,
+    )
+}
+
+/// Writes the attributes one after the other.
+#[cycle(write)]
+fn write_attributes(list: &[RouteAttribute], out: &mut [u8]) -> usize
+    requires fits { first_unfit attribute_misfit list.now ≡ None }
+    requires room { length (encodings attribute_item list.now) ≤ length out.old }
+    ensures len { result ≡ length (encodings attribute_item list.now) }
+    ensures after { Writes out.old out.new (encodings attribute_item list.now) }
+{
+    let mut at = 0usize;
+    for attribute in list {
+        at += write_attribute(attribute, &mut out[at..]);
+    }
+    at
+}
+
+/// Writes a next hop: its attributes behind eight bytes, and then its header.
+#[cycle(write)]
+fn write_hop(hop: &RouteNextHop, out: &mut [u8]) -> usize
+    requires fits { next_hop_misfit hop.now ≡ None }
+    requires room { length (next_hop_bytes hop.now) ≤ length out.old }
+    ensures len { result ≡ length (next_hop_bytes hop.now) }
+    ensures after { Writes out.old out.new (next_hop_bytes hop.now) }
+{
+    let len = 8 + write_attributes(hop.attributes.as_slice(), &mut out[8..]);
+    let header = RouteNextHopBuffer {
+        length: len as u16,
+        flags: hop.flags.bits(),
+        hops: hop.hops,
+        interface_index: hop.interface_index,
+    };
+    write_bytes(&header.to_bytes(), out);
+    len
+}
+
+/// Writes the next hops one after the other.
+#[cycle(write)]
+fn write_hops(hops: &[RouteNextHop], out: &mut [u8]) -> usize
+    requires fits { first_unfit next_hop_misfit hops.now ≡ None }
+    requires room { length (joined next_hop_bytes hops.now) ≤ length out.old }
+    ensures len { result ≡ length (joined next_hop_bytes hops.now) }
+    ensures after { Writes out.old out.new (joined next_hop_bytes hops.now) }
+{
+    let mut at = 0usize;
+    for hop in hops {
+        at += write_hop(hop, &mut out[at..]);
+    }
+    at
+}
+
+/// An equal attribute.
+///
+/// # Errors
+/// `AllocError` where memory is refused.
+#[cycle(copy)]
+pub(crate) fn clone_attribute(
+    alloc: Global,
+    attribute: &RouteAttribute,
+) -> Result<RouteAttribute, AllocError>
+    ensures { IfOk result (λ a. meaning_of a ≡ meaning_of attribute.now) }
+{
+    Ok(match attribute {
+        RouteAttribute::Destination(x) => RouteAttribute::Destination(x.clone(alloc)?),
+        RouteAttribute::Source(x) => RouteAttribute::Source(x.clone(alloc)?),
+        RouteAttribute::Iif(x) => RouteAttribute::Iif(*x),
+        RouteAttribute::Oif(x) => RouteAttribute::Oif(*x),
+        RouteAttribute::Gateway(x) => RouteAttribute::Gateway(x.clone(alloc)?),
+        RouteAttribute::Priority(x) => RouteAttribute::Priority(*x),
+        RouteAttribute::PrefSource(x) => RouteAttribute::PrefSource(x.clone(alloc)?),
+        RouteAttribute::Metrics(x) => RouteAttribute::Metrics(clone_list(alloc, x.as_slice())?),
+        RouteAttribute::MultiPath(x) => RouteAttribute::MultiPath(clone_hops(alloc, x.as_slice())?),
+        RouteAttribute::Realm(x) => RouteAttribute::Realm(*x),
+        RouteAttribute::CacheInfo(x) => RouteAttribute::CacheInfo(*x),
+        RouteAttribute::Table(x) => RouteAttribute::Table(*x),
+        RouteAttribute::Mark(x) => RouteAttribute::Mark(*x),
+        RouteAttribute::MfcStats(x) => RouteAttribute::MfcStats(*x),
+        RouteAttribute::Via(x) => RouteAttribute::Via(x.clone(alloc)?),
+        RouteAttribute::NewDestination(x) => RouteAttribute::NewDestination(Vec::from_slice(
+            alloc,
+            x.as_slice(),
+        )?),
+        RouteAttribute::NewDestinationAddress(x) => RouteAttribute::NewDestinationAddress(x.clone(
+            alloc,
+        )?),
+        RouteAttribute::Preference(x) => RouteAttribute::Preference(*x),
+        RouteAttribute::EncapType(x) => RouteAttribute::EncapType(*x),
+        RouteAttribute::Encap(x) => RouteAttribute::Encap(clone_list(alloc, x.as_slice())?),
+        RouteAttribute::Expires(x) => RouteAttribute::Expires(*x),
+        RouteAttribute::MulticastExpires(x) => RouteAttribute::MulticastExpires(*x),
+        RouteAttribute::Uid(x) => RouteAttribute::Uid(*x),
+        RouteAttribute::TtlPropagate(x) => RouteAttribute::TtlPropagate(*x),
+        RouteAttribute::IpProto(x) => RouteAttribute::IpProto(*x),
+        RouteAttribute::Sport(x) => RouteAttribute::Sport(*x),
+        RouteAttribute::Dport(x) => RouteAttribute::Dport(*x),
+        RouteAttribute::NhId(x) => RouteAttribute::NhId(*x),
+        RouteAttribute::Flowlabel(x) => RouteAttribute::Flowlabel(*x),
+        RouteAttribute::Other(nla) => RouteAttribute::Other(nla.clone(alloc)?),
+    })
+}
+
+/// Equal attributes, in their order.
+#[cycle(copy)]
+fn clone_attributes(
+    alloc: Global,
+    list: &[RouteAttribute],
+) -> Result<Vec<RouteAttribute>, AllocError>
+    ensures { IfOk result (λ v. map meaning_of v.items ≡ map meaning_of list.now) }
+{
+    let mut copies = Vec::new(alloc);
+    for attribute in list {
+        copies.push(clone_attribute(alloc, attribute)?)?;
+    }
+    Ok(copies)
+}
+
+/// An equal next hop.
+#[cycle(copy)]
+fn clone_hop(alloc: Global, hop: &RouteNextHop) -> Result<RouteNextHop, AllocError>
+    ensures { IfOk result (λ h. hop_of h ≡ hop_of hop.now) }
+{
+    Ok(RouteNextHop {
+        flags: hop.flags,
+        hops: hop.hops,
+        interface_index: hop.interface_index,
+        attributes: clone_attributes(alloc, hop.attributes.as_slice())?,
+    })
+}
+
+/// Equal next hops, in their order.
+#[cycle(copy)]
+fn clone_hops(alloc: Global, hops: &[RouteNextHop]) -> Result<Vec<RouteNextHop>, AllocError>
+    ensures { IfOk result (λ v. map hop_of v.items ≡ map hop_of hops.now) }
+{
+    let mut copies = Vec::new(alloc);
+    for hop in hops {
+        copies.push(clone_hop(alloc, hop)?)?;
+    }
+    Ok(copies)
 }

@@ -1,6 +1,6 @@
 use Rattle.std.proofs.Common.{◌≡◌, map, drop}
 use Rattle.npr_tunnel.specs.Encapsulation.{meaning_of}
-use Rattle.npr_route.specs.Attribute.{any_marks}
+use Rattle.npr_route.specs.FlatAttribute.{any_marks}
 use Rattle.npr_route.proofs.attribute.is_marked.Given as goal
 
 -- what is left decides

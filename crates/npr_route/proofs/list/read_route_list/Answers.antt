@@ -1,7 +1,7 @@
 use Rattle.std.proofs.Common.{map}
 use Rattle.npr_base.specs.Family.{list_members}
 use Rattle.npr_tunnel.specs.declared.encap_type.RouteLwEnCapType.TheVariants.{None as NoEncapsulation}
-use Rattle.npr_route.specs.Attribute.{meaning_of}
+use Rattle.npr_route.specs.AttributeView.{meaning_of}
 use Rattle.npr_route.specs.AttributeLaws.{attributes, writing}
 use Rattle.npr_route.proofs.Refusals.{none_under}
 use Rattle.npr_route.proofs.Searching.{search_and_reading, saw_if_ok}
@@ -18,4 +18,4 @@ returns-clause-bounded c =
 pub returns-clause-counted : goal.returns-clause-counted
 returns-clause-counted c =
     saw_if_ok (λ v. map meaning_of v.items) (list_members writing.members) (attributes (c.args.under.0, c.args.under.1, c.governing_type-kind.result)).Reads NoEncapsulation c.args.bytes.now
-        c.governing_type-kind.result c.args.looks.now c.governing_type-kind.new.looks c.parse_list.new.looks c.governing_type-kind.ensures.looks c.parse_list.result c.parse_list.ensures.ok c.parse_list.ensures.counted
+    c.governing_type-kind.result c.args.looks.now c.governing_type-kind.new.looks c.parse_list.new.looks c.governing_type-kind.ensures.looks c.parse_list.result c.parse_list.ensures.ok c.parse_list.ensures.counted

@@ -4,7 +4,7 @@ use Rattle.std.proofs.lemmas.List.{take_rest}
 use Rattle.std.proofs.lemmas.Result.{err_from_is_err_and}
 use Rattle.npr_base.proofs.Messages.{message_read, fault_after}
 use Rattle.npr_route.specs.Header.{header}
-use Rattle.npr_route.specs.Attribute.{meaning_of}
+use Rattle.npr_route.specs.AttributeView.{meaning_of}
 use Rattle.npr_route.specs.Message.{body, IsRouteMessage, RouteFault}
 use Rattle.npr_route.proofs.message.read.Goals as goal
 

@@ -1,0 +1,128 @@
+-- What values of the program mean: a next hop by its fields, and lists of them member by member.
+use Rattle.std.specs.Prelude.{Option, Some, None}
+use Rattle.std.proofs.Common.{◌≡◌, ℕ, ◌+◌, ◌≤◌, ◌<◌, ◌^◌, List, [], ◌∷◌, ◌++◌, length, map, get_or, take, drop, Ok, Err, Result, refl, sym, ap, ◌∙◌, append_assoc, arith, inl, inr, length-append}
+use Rattle.std.proofs.lemmas.Bool.{cases_lt, lt-ltb, le-ltb}
+use Rattle.std.proofs.lemmas.List.{append-nil, take_more, take-append-drop}
+use Rattle.npr_base.specs.declared.refusal.EmitError.{EmitError}
+use Rattle.npr_base.specs.declared.refusal.EmitError.TheVariants.{Total}
+use Rattle.npr_base.specs.Framing.{Item, encoding}
+use Rattle.npr_base.specs.Family.{checked, option_or, overlong, first_unfit, list_unfit, encodings}
+use Rattle.npr_route.specs.Attribute.{HopHead, Meaning, flat, multi_path, Attributes, Hop, writes, plain_of, misfit, attributes_misfit, attributes_bytes, hops_misfit, hops_bytes, hop_misfit, hop_bytes, unfit_inside, hop_overlong}
+use Rattle.npr_route.specs.AttributeView.{attributes_of, hops_of, attribute_step, hop_step, meaning_of, hop_of, attribute_item, attribute_misfit, next_hop_bytes, next_hop_misfit, joined}
+use Rattle.npr_scalar.specs.RouteFlags.{next_hop_flags_bits}
+use Rattle.npr_route.specs.declared.attribute.RouteAttribute.{RouteAttribute}
+use Rattle.npr_route.specs.declared.attribute.RouteAttribute.TheFolds.{fold_out-RouteNextHop, fold-roll-RouteAttribute}
+use Rattle.npr_route.specs.declared.attribute.RouteAttribute.TheOpen as Open
+use Rattle.npr_route.specs.declared.attribute.RouteAttribute.TheVariants.{MultiPath, rolls-MultiPath}
+use Rattle.std.specs.declared.vec.Vec.{Vec}
+use Rattle.std.specs.declared.alloc.Global.{Global}
+use Rattle.npr_route.specs.declared.next_hops.RouteNextHop.{RouteNextHop}
+
+abbrev pub head_of : RouteNextHop → HopHead
+head_of h = record { flags = next_hop_flags_bits h.flags; hops = h.hops; interface_index = h.interface_index }
+
+-- a next hop is its fields, and what its attributes mean
+pub view_hop : (h : RouteNextHop) → hop_of h ≡ record { head = head_of h; attributes = attributes_of (map meaning_of h.attributes.items) }
+view_hop h = fold_out-RouteNextHop Meaning Hop attribute_step hop_step h
+
+-- and next hops are what each of them means
+pub view_multi_path : (v : Vec RouteNextHop Global) → meaning_of (MultiPath v) ≡ multi_path (hops_of (map hop_of v.items))
+view_multi_path v = ap meaning_of (sym (rolls-MultiPath v)) ∙ fold-roll-RouteAttribute Meaning Hop attribute_step hop_step (Open.MultiPath v)
+
+-- ---- lists of them
+
+pub attributes_fit : (xs : List RouteAttribute) → attributes_misfit (attributes_of (map meaning_of xs)) ≡ first_unfit attribute_misfit xs
+attributes_fit [] = refl
+attributes_fit (x ∷ xs) = ap (option_or (misfit (meaning_of x))) (attributes_fit xs)
+
+pub attributes_text : (xs : List RouteAttribute) → attributes_bytes (attributes_of (map meaning_of xs)) ≡ encodings attribute_item xs
+attributes_text [] = refl
+attributes_text (x ∷ xs) = ap (λ (w : List ℕ). encoding (attribute_item x) ++ w) (attributes_text xs)
+
+pub hops_fit : (xs : List RouteNextHop) → hops_misfit (hops_of (map hop_of xs)) ≡ first_unfit next_hop_misfit xs
+hops_fit [] = refl
+hops_fit (x ∷ xs) = ap (option_or (next_hop_misfit x)) (hops_fit xs)
+
+pub hops_text : (xs : List RouteNextHop) → hops_bytes (hops_of (map hop_of xs)) ≡ joined next_hop_bytes xs
+hops_text [] = refl
+hops_text (x ∷ xs) = ap (λ (w : List ℕ). next_hop_bytes x ++ w) (hops_text xs)
+
+-- NESTED changes no value
+pub plain_value : (m : Meaning) → (plain_of m).value ≡ (writes m).value
+plain_value (flat m) = refl
+plain_value (multi_path hs) = refl
+
+-- ---- texts one after the other
+
+module _ {A : Type 0} (text : A → List ℕ) where
+  joined-append : (xs ys : List A) → joined text (xs ++ ys) ≡ joined text xs ++ joined text ys
+  joined-append [] ys = refl
+  joined-append (x ∷ xs) ys = ap (λ (w : List ℕ). text x ++ w) (joined-append xs ys) ∙ sym (append_assoc (text x) (joined text xs) (joined text ys))
+
+  pub joined-next : (xs : List A) (i : ℕ) (x : A) → i < length xs → x ≡ get_or xs i x → joined text (take (i + 1) xs) ≡ joined text (take i xs) ++ text x
+  joined-next xs i x lt is =
+      let e : take (i + 1) xs ≡ take i xs ++ x ∷ [] = take_more xs i x lt ∙ ap (λ y. take i xs ++ y ∷ []) (sym is) in
+      ap (joined text) e ∙ joined-append (take i xs) (x ∷ []) ∙ ap (λ (w : List ℕ). joined text (take i xs) ++ w) (append-nil (text x))
+
+  pub joined-more : (xs : List A) (i : ℕ) (x : A) → i < length xs → x ≡ get_or xs i x → length (joined text (take (i + 1) xs)) ≡ length (joined text (take i xs)) + length (text x)
+  joined-more xs i x lt is = ap length (joined-next xs i x lt is) ∙ length-append (joined text (take i xs)) (text x)
+
+  pub joined-below : (xs : List A) (i : ℕ) → length (joined text (take i xs)) ≤ length (joined text xs)
+  joined-below xs i =
+      let e : joined text xs ≡ joined text (take i xs) ++ joined text (drop i xs) = ap (joined text) (sym (take-append-drop i xs)) ∙ joined-append (take i xs) (drop i xs) in
+      omega (arith, ap length e, length-append (joined text (take i xs)) (joined text (drop i xs)))
+
+-- ---- what a check answers
+
+-- the attributes of a next hop have a length, or the cause is that of the next hop
+pub inside_unfit : (u : Option EmitError) (n : ℕ) (e : EmitError) → Err e ≡ checked (option_or u (overlong n)) n → option_or u (hop_overlong (8 + n)) ≡ Some e
+inside_unfit (Some f) n e is = cc
+inside_unfit None n e is = elim (cases_lt n (2 ^ 64)) [
+  | inl lt ↦ absurd (let h : overlong n ≡ None = rw (lt-ltb n (2 ^ 64) lt) refl in let k : Err e ≡ Ok n = is ∙ ap (λ o. checked o n) h in cc)
+  | inr le ↦
+    let h : overlong n ≡ Some Total = rw (le-ltb n (2 ^ 64) le) refl in
+    let k : Err e ≡ checked (Some Total) n = is ∙ ap (λ o. checked o n) h in
+    let l : hop_overlong (8 + n) ≡ Some Total = rw (le-ltb (8 + n) 65536 (omega arith), le-ltb (8 + n) (2 ^ 64) (omega arith)) refl in
+    l ∙ (let m : Total ≡ e = cc in ap Some m)
+]
+
+pub inside_fits : (u : Option EmitError) (n m : ℕ) → Ok m ≡ checked (option_or u (overlong n)) n → (u ≡ None) × (m ≡ n)
+inside_fits (Some f) n m is = absurd cc
+inside_fits None n m is = elim (cases_lt n (2 ^ 64)) [
+  | inl lt ↦ (refl, let h : overlong n ≡ None = rw (lt-ltb n (2 ^ 64) lt) refl in let k : Ok m ≡ Ok n = is ∙ ap (λ o. checked o n) h in cc)
+  | inr le ↦ absurd (let h : overlong n ≡ Some Total = rw (le-ltb n (2 ^ 64) le) refl in let k : Ok m ≡ checked (Some Total) n = is ∙ ap (λ o. checked o n) h in cc)
+]
+
+-- why a next hop can't be written, by what its attributes are
+pub hop_misfit-is : (h : RouteNextHop) → hop_misfit (hop_of h) ≡ option_or (first_unfit attribute_misfit h.attributes.items) (hop_overlong (8 + length (encodings attribute_item h.attributes.items)))
+hop_misfit-is h =
+    let xs = h.attributes.items in
+    ap hop_misfit (view_hop h)
+    ∙ ap (λ (w : List ℕ). option_or (attributes_misfit (attributes_of (map meaning_of xs))) (hop_overlong (8 + length w))) (attributes_text xs)
+    ∙ ap (λ (o : Option EmitError). option_or o (hop_overlong (8 + length (encodings attribute_item xs)))) (attributes_fit xs)
+
+pub hop_bytes-length : (h : RouteNextHop) → length (next_hop_bytes h) ≡ 8 + length (encodings attribute_item h.attributes.items)
+hop_bytes-length h = omega (arith, ap (λ (k : Hop). length (hop_bytes k)) (view_hop h), ap length (attributes_text h.attributes.items))
+
+pub hop_unfit : (h : RouteNextHop) (e : EmitError) (n : ℕ) → Err e ≡ checked (list_unfit attribute_misfit attribute_item h.attributes.items) (length (encodings attribute_item h.attributes.items)) → Err e ≡ checked (hop_misfit (hop_of h)) n
+hop_unfit h e n is = let some = hop_misfit-is h ∙ inside_unfit (first_unfit attribute_misfit h.attributes.items) (length (encodings attribute_item h.attributes.items)) e is in sym (ap (λ (o : Option EmitError). checked o n) some)
+
+pub hop_checked : (h : RouteNextHop) (m : ℕ) → Ok m ≡ checked (list_unfit attribute_misfit attribute_item h.attributes.items) (length (encodings attribute_item h.attributes.items))
+    → checked (hop_overlong (8 + m)) (8 + m) ≡ checked (hop_misfit (hop_of h)) (length (next_hop_bytes h))
+hop_checked h m is =
+    let n = length (encodings attribute_item h.attributes.items) in
+    let k = inside_fits (first_unfit attribute_misfit h.attributes.items) n m is in
+    let fit : hop_misfit (hop_of h) ≡ hop_overlong (8 + n) = hop_misfit-is h ∙ ap (λ (o : Option EmitError). option_or o (hop_overlong (8 + n))) k.0 in
+    ap (λ (l : ℕ). checked (hop_overlong (8 + l)) (8 + l)) k.1 ∙ sym (ap (λ (o : Option EmitError). checked o (8 + n)) fit) ∙ sym (ap (checked (hop_misfit (hop_of h))) (hop_bytes-length h))
+
+-- a list of next hops as the value of an attribute
+pub multi_path-checked : (v : Vec RouteNextHop Global)
+    → checked (option_or (first_unfit next_hop_misfit v.items) (overlong (length (joined next_hop_bytes v.items)))) (length (joined next_hop_bytes v.items))
+    ≡ checked (unfit_inside (meaning_of (MultiPath v))) (length (plain_of (meaning_of (MultiPath v))).value)
+multi_path-checked v =
+    let m = view_multi_path v in
+    let both : (u : Option EmitError) (w : List ℕ) → hops_misfit (hops_of (map hop_of v.items)) ≡ u → hops_bytes (hops_of (map hop_of v.items)) ≡ w
+        → checked (option_or u (overlong (length w))) (length w) ≡ checked (unfit_inside (multi_path (hops_of (map hop_of v.items)))) (length (hops_bytes (hops_of (map hop_of v.items))))
+        = λ u w p q. rw (← p, ← q) refl in
+    both (first_unfit next_hop_misfit v.items) (joined next_hop_bytes v.items) (hops_fit v.items) (hops_text v.items)
+    ∙ sym (ap (λ (n : Meaning). checked (unfit_inside n) (length (plain_of n).value)) m)

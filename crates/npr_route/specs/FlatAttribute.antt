@@ -1,0 +1,214 @@
+-- The attributes of a route message but next hops (linux/rtnetlink.h, RTA_*), by their table under the header.
+use Rattle.std.specs.Prelude.{◌≡◌, ◌≢◌, ℕ, ◌<◌, ◌^◌, Bool, true, false, List, [], ◌∷◌, map, Option, None, if◌then◌else◌}
+use Rattle.npr_base.specs.declared.refusal.At.{At}
+use Rattle.npr_base.specs.declared.refusal.AttrFamily.TheVariants.{Route as OfRoute}
+use Rattle.npr_base.specs.declared.refusal.EmitError.{EmitError}
+use Rattle.npr_base.specs.declared.address_family.AddressFamily.{AddressFamily}
+use Rattle.npr_base.specs.Family.{list_unfit}
+use Rattle.npr_base.specs.Framing.{Item}
+use Rattle.npr_base.specs.Layout.{Layout, byte, le32, le64, be16, be32}
+use Rattle.npr_base.specs.Codec.{Codec, exactly, leading, raw}
+use Rattle.npr_base.specs.ListCodec.{list_of}
+use Rattle.npr_base.specs.Table.{Row, row, Held, held, held_marked, held_other, IsHeld, IsOther}
+use Rattle.npr_scalar.specs.MplsLaws.{mpls_labels}
+use Rattle.npr_scalar.specs.Realm.{route_realm}
+use Rattle.npr_scalar.specs.RouteAddress.{Address as AddressMeaning, address_of, address_bytes, address_in, Form, four, sixteen, label, any}
+use Rattle.npr_scalar.specs.RouteCacheInfo.{route_cache_info}
+use Rattle.npr_scalar.specs.RouteMfcStats.{route_mfc_stats}
+use Rattle.npr_scalar.specs.RoutePreference.{route_preference}
+use Rattle.npr_scalar.specs.RouteVia.{Via as ViaMeaning, via_of, via_value}
+use Rattle.npr_scalar.specs.TtlPropagation.{ttl_propagation}
+use Rattle.npr_scalar.specs.declared.cache_info.RouteCacheInfo.{RouteCacheInfo}
+use Rattle.npr_scalar.specs.declared.route_type.RouteType.{RouteType}
+use Rattle.npr_scalar.specs.declared.route_type.RouteType.TheVariants.{Multicast}
+use Rattle.npr_scalar.specs.declared.mfc_stats.RouteMfcStats.{RouteMfcStats}
+use Rattle.npr_scalar.specs.declared.mpls.MplsLabel.{MplsLabel}
+use Rattle.npr_scalar.specs.declared.preference.RouteMplsTtlPropagation.{RouteMplsTtlPropagation}
+use Rattle.npr_scalar.specs.declared.preference.RoutePreference.{RoutePreference}
+use Rattle.npr_scalar.specs.declared.realm.RouteRealm.{RouteRealm}
+use Rattle.npr_tunnel.specs.EncapType.{encap_type as encap_type_layout}
+use Rattle.npr_tunnel.specs.Encapsulation as OfEncap
+use Rattle.npr_tunnel.specs.IpTunnel as OfIp
+use Rattle.npr_tunnel.specs.declared.encap_type.RouteLwEnCapType.{RouteLwEnCapType}
+use Rattle.npr_tunnel.specs.declared.encap_type.RouteLwEnCapType.TheVariants.{None as NoEncapsulation}
+use Rattle.npr_route.specs.Metric.{Metric, metric_of, metrics as metric_family, writing as metric_writing}
+
+-- what an attribute without next hops is
+pub data Meaning : Type 0 where
+  destination : AddressMeaning → Meaning
+  source : AddressMeaning → Meaning
+  iif : ℕ → Meaning
+  oif : ℕ → Meaning
+  gateway : AddressMeaning → Meaning
+  priority : ℕ → Meaning
+  pref_source : AddressMeaning → Meaning
+  metrics : List Metric → Meaning
+  realm : RouteRealm → Meaning
+  cache_info : RouteCacheInfo → Meaning
+  table : ℕ → Meaning
+  mark : ℕ → Meaning
+  mfc_stats : RouteMfcStats → Meaning
+  via : ViaMeaning → Meaning
+  new_destination : List MplsLabel → Meaning
+  new_destination_address : AddressMeaning → Meaning
+  preference : RoutePreference → Meaning
+  encap_type : RouteLwEnCapType → Meaning
+  encap : List OfEncap.Meaning → Meaning
+  expires : ℕ → Meaning
+  multicast_expires : ℕ → Meaning
+  uid : ℕ → Meaning
+  ttl_propagate : RouteMplsTtlPropagation → Meaning
+  ip_proto : ℕ → Meaning
+  sport : ℕ → Meaning
+  dport : ℕ → Meaning
+  nh_id : ℕ → Meaning
+  flowlabel : ℕ → Meaning
+  other : Item → Meaning
+
+abbrev pub at : ℕ → At
+at number = record { family = OfRoute; kind = number }
+
+-- a route type counts by its variant
+abbrev pub is_multicast : RouteType → Bool
+is_multicast Multicast = true
+is_multicast kind = false
+
+-- what the reading of an attribute rests on besides its bytes: the family and the type of the
+-- message's header, and the type that governs its encapsulation
+abbrev pub Context : Type 0
+Context = AddressFamily × RouteType × RouteLwEnCapType
+
+-- number 19: labels for family mpls, else an address
+abbrev pub NewDestinationValue : Form → Type 0
+NewDestinationValue four = AddressMeaning
+NewDestinationValue sixteen = AddressMeaning
+NewDestinationValue label = List MplsLabel
+NewDestinationValue any = AddressMeaning
+
+abbrev pub new_destination_codec : (form : Form) → Codec (NewDestinationValue form)
+new_destination_codec four = address_in four
+new_destination_codec sixteen = address_in sixteen
+new_destination_codec label = mpls_labels
+new_destination_codec any = address_in any
+
+abbrev pub new_destination_variant : (form : Form) → NewDestinationValue form → Meaning
+new_destination_variant four a = new_destination_address a
+new_destination_variant sixteen a = new_destination_address a
+new_destination_variant label a = new_destination a
+new_destination_variant any a = new_destination_address a
+
+abbrev pub new_destination_row : Form → Row Meaning
+new_destination_row form = row (at 19) (new_destination_codec form) (new_destination_variant form)
+
+-- number 23: eight bytes of a multicast route, else four
+abbrev pub expires_layout : Bool → Layout ℕ
+expires_layout true = le64
+expires_layout false = le32
+
+abbrev pub expires_variant : Bool → ℕ → Meaning
+expires_variant true n = multicast_expires n
+expires_variant false n = expires n
+
+abbrev pub expires_row : Bool → Row Meaning
+expires_row multicast = row (at 23) (exactly (expires_layout multicast)) (expires_variant multicast)
+
+-- number 22: members of the family of the type
+abbrev pub encap_row : RouteLwEnCapType → Row Meaning
+encap_row type = row (at 22) (list_of (OfEncap.encapsulation type)) encap
+
+-- the members beside which it is written with NESTED
+abbrev pub marks : OfEncap.Meaning → Bool
+marks (OfEncap.seg6 m) = true
+marks (OfEncap.xfrm m) = true
+marks (OfEncap.rpl m) = true
+marks (OfEncap.ioam6 m) = true
+marks (OfEncap.ip (OfIp.options xs)) = true
+marks (OfEncap.ip6 (OfIp.options xs)) = true
+marks m = false
+
+abbrev pub any_marks : List OfEncap.Meaning → Bool
+any_marks [] = false
+any_marks (m ∷ ms) = if marks m then true else any_marks ms
+
+-- the table
+abbrev pub rows : Form → Bool → RouteLwEnCapType → List (Row Meaning)
+rows form multicast type =
+    row (at 1) (address_in form) destination
+    ∷ row (at 2) (address_in form) source
+    ∷ row (at 3) (exactly le32) iif
+    ∷ row (at 4) (exactly le32) oif
+    ∷ row (at 5) (address_in form) gateway
+    ∷ row (at 6) (exactly le32) priority
+    ∷ row (at 7) (address_in form) pref_source
+    ∷ row (at 8) (list_of metric_family) metrics
+    ∷ row (at 11) (exactly route_realm) realm
+    ∷ row (at 12) (leading route_cache_info) cache_info
+    ∷ row (at 15) (exactly le32) table
+    ∷ row (at 16) (exactly le32) mark
+    ∷ row (at 17) (leading route_mfc_stats) mfc_stats
+    ∷ row (at 18) via_value via
+    ∷ new_destination_row form
+    ∷ row (at 20) (exactly route_preference) preference
+    ∷ row (at 21) (exactly encap_type_layout) encap_type
+    ∷ encap_row type
+    ∷ expires_row multicast
+    ∷ row (at 25) (exactly le32) uid
+    ∷ row (at 26) (exactly ttl_propagation) ttl_propagate
+    ∷ row (at 27) (exactly byte) ip_proto
+    ∷ row (at 28) (exactly be16) sport
+    ∷ row (at 29) (exactly be16) dport
+    ∷ row (at 30) (exactly le32) nh_id
+    ∷ row (at 31) (exactly be32) flowlabel
+    ∷ []
+
+-- how each meaning is written, whatever the context
+abbrev pub place : Meaning → Held
+place (destination a) = held 1 raw (address_bytes a)
+place (source a) = held 2 raw (address_bytes a)
+place (iif a) = held 3 (exactly le32) a
+place (oif a) = held 4 (exactly le32) a
+place (gateway a) = held 5 raw (address_bytes a)
+place (priority a) = held 6 (exactly le32) a
+place (pref_source a) = held 7 raw (address_bytes a)
+place (metrics a) = held 8 (list_of metric_family) a
+place (realm a) = held 11 (exactly route_realm) a
+place (cache_info a) = held 12 (leading route_cache_info) a
+place (table a) = held 15 (exactly le32) a
+place (mark a) = held 16 (exactly le32) a
+place (mfc_stats a) = held 17 (leading route_mfc_stats) a
+place (via a) = held 18 via_value a
+place (new_destination a) = held 19 mpls_labels a
+place (new_destination_address a) = held 19 raw (address_bytes a)
+place (preference a) = held 20 (exactly route_preference) a
+place (encap_type a) = held 21 (exactly encap_type_layout) a
+place (encap a) = held_marked (any_marks a) 22 (list_of (OfEncap.encapsulation NoEncapsulation)) a
+place (expires a) = held 23 (exactly le32) a
+place (multicast_expires a) = held 23 (exactly le64) a
+place (uid a) = held 25 (exactly le32) a
+place (ttl_propagate a) = held 26 (exactly ttl_propagation) a
+place (ip_proto a) = held 27 (exactly byte) a
+place (sport a) = held 28 (exactly be16) a
+place (dport a) = held 29 (exactly be16) a
+place (nh_id a) = held 30 (exactly le32) a
+place (flowlabel a) = held 31 (exactly be32) a
+place (other x) = held_other x
+
+-- why the list inside can't be written, if so
+abbrev pub unfit_inside : Meaning → Option EmitError
+unfit_inside (metrics xs) = list_unfit metric_writing.misfit metric_writing.writes xs
+unfit_inside (encap xs) = list_unfit OfEncap.writing.misfit OfEncap.writing.writes xs
+unfit_inside m = None
+
+-- what can be read
+abbrev pub Coherent : Form → Bool → RouteLwEnCapType → Meaning → Type 0
+Coherent form multicast type (destination a) = (address_in form).Holds a
+Coherent form multicast type (source a) = (address_in form).Holds a
+Coherent form multicast type (gateway a) = (address_in form).Holds a
+Coherent form multicast type (pref_source a) = (address_in form).Holds a
+Coherent form multicast type (new_destination a) = (form ≡ label) × mpls_labels.Holds a
+Coherent form multicast type (new_destination_address a) = (form ≢ label) × (address_in form).Holds a
+Coherent form multicast type (encap xs) = (list_of (OfEncap.encapsulation type)).Holds xs
+Coherent form multicast type (expires n) = (multicast ≡ false) × (n < 2 ^ 32)
+Coherent form multicast type (multicast_expires n) = (multicast ≡ true) × (n < 2 ^ 64)
+Coherent form multicast type (other x) = IsOther (rows form multicast type) x
+Coherent form multicast type m = IsHeld (place m)
