@@ -80,10 +80,10 @@ inside_unfit (Some f) n e is = cc
 inside_unfit None n e is = elim (cases_lt n (2 ^ 64)) [
   | inl lt ↦ absurd (let h : overlong n ≡ None = rw (lt-ltb n (2 ^ 64) lt) refl in let k : Err e ≡ Ok n = is ∙ ap (λ o. checked o n) h in cc)
   | inr le ↦
-    let h : overlong n ≡ Some Total = rw (le-ltb n (2 ^ 64) le) refl in
-    let k : Err e ≡ checked (Some Total) n = is ∙ ap (λ o. checked o n) h in
-    let l : hop_overlong (8 + n) ≡ Some Total = rw (le-ltb (8 + n) 65536 (omega arith), le-ltb (8 + n) (2 ^ 64) (omega arith)) refl in
-    l ∙ (let m : Total ≡ e = cc in ap Some m)
+      let h : overlong n ≡ Some Total = rw (le-ltb n (2 ^ 64) le) refl in
+      let k : Err e ≡ checked (Some Total) n = is ∙ ap (λ o. checked o n) h in
+      let l : hop_overlong (8 + n) ≡ Some Total = rw (le-ltb (8 + n) 65536 (omega arith), le-ltb (8 + n) (2 ^ 64) (omega arith)) refl in
+      l ∙ (let m : Total ≡ e = cc in ap Some m)
 ]
 
 pub inside_fits : (u : Option EmitError) (n m : ℕ) → Ok m ≡ checked (option_or u (overlong n)) n → (u ≡ None) × (m ≡ n)
@@ -122,7 +122,7 @@ pub multi_path-checked : (v : Vec RouteNextHop Global)
 multi_path-checked v =
     let m = view_multi_path v in
     let both : (u : Option EmitError) (w : List ℕ) → hops_misfit (hops_of (map hop_of v.items)) ≡ u → hops_bytes (hops_of (map hop_of v.items)) ≡ w
-        → checked (option_or u (overlong (length w))) (length w) ≡ checked (unfit_inside (multi_path (hops_of (map hop_of v.items)))) (length (hops_bytes (hops_of (map hop_of v.items))))
-        = λ u w p q. rw (← p, ← q) refl in
+    → checked (option_or u (overlong (length w))) (length w) ≡ checked (unfit_inside (multi_path (hops_of (map hop_of v.items)))) (length (hops_bytes (hops_of (map hop_of v.items))))
+    = λ u w p q. rw (← p, ← q) refl in
     both (first_unfit next_hop_misfit v.items) (joined next_hop_bytes v.items) (hops_fit v.items) (hops_text v.items)
     ∙ sym (ap (λ (n : Meaning). checked (unfit_inside n) (length (plain_of n).value)) m)

@@ -10,5 +10,6 @@ pub mod MessageLaws
 pub mod Metric
 pub mod NextHopFrontLaws
 pub mod NextHopHeader
+pub mod Reader
 pub mod RouteList
 pub mod RouteListLaws

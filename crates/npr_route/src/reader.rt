@@ -1,15 +1,49 @@
-//! Reading of next hops, by a loop and a stack: next hops alone nest without bound.
+//! Reading of next hops, by a loop and a stack: they alone nest without bound.
 
-ghost use Rattle.std.specs.Prelude.{◌≡◌, ◌≢◌, ◌<◌, length, map, IfOk, IfErr, IsErrOf};
+ghost use Rattle.std.specs.Prelude.{◌≡◌, ◌≢◌, ◌<◌, ◌+◌, ℕ, List, [], length, map, IfOk, IfErr, OnOk, OnErr, IsErrOf};
 ghost use Rattle.npr_base.specs.declared.refusal.DecodeError.TheVariants.{OutOfMemory};
-ghost use Rattle.npr_base.specs.Counts.{AddsAtMost, SawEach};
-ghost use Rattle.npr_route.specs.Attribute.{AreHops, HopsWrong, hops_members};
+ghost use Rattle.npr_base.specs.Counts.{AddsAtMost, SawEach, hit, miss};
+ghost use Rattle.npr_route.specs.Attribute.{HopHead, HopFront, HopFault, Hops, AreHops, HopsWrong, hops_members};
 ghost use Rattle.npr_route.specs.AttributeView.{hop_of, hops_of};
+ghost use Rattle.npr_route.specs.Reader.{head_in, IsOpen, Tied, room, level_room, level_built, StepsOn, Ended};
 
-use crate::attribute::Context;
-use crate::next_hops::RouteNextHop;
-use npr_base::{DecodeError, Looks};
+use crate::attribute::{Context, RTA_MULTIPATH, RouteAttribute, read_flat};
+use crate::next_hops::{RouteNextHop, RouteNextHopBuffer};
+use bitflags::Flags;
+use npr_base::{DecodeError, Looks, NlasIterator};
+use npr_scalar::RouteNextHopFlags;
 use std::alloc::Global;
+
+/// A list of next hops of which one is open.
+#[derive(Drop)]
+struct Level<'a> {
+    /// What the attributes of the open one are read in.
+    context: Context,
+    /// The next hops before the open one.
+    next_hops: Vec<RouteNextHop>,
+    /// The header of the open one.
+    header: RouteNextHopBuffer,
+    /// Its attributes that were read.
+    attributes: Vec<RouteAttribute>,
+    /// Those that were not.
+    walk: NlasIterator<'a>,
+    /// The bytes behind the open one.
+    hops_rest: &'a [u8],
+}
+
+/// The open list, and those that wait for it, the outermost first: each at an attribute whose value
+/// is the list of the next.
+#[derive(Drop)]
+struct Reading<'a> {
+    level: Level<'a>,
+    stack: Vec<Level<'a>>,
+}
+
+#[derive(Drop)]
+enum Step<'a> {
+    More(Reading<'a>),
+    Done(Vec<RouteNextHop>),
+}
 
 /// The next hops that the bytes are, one after the other, in the context of the list that holds
 /// them. Each look at a header is counted.
@@ -22,10 +56,152 @@ pub fn read_next_hops(
     context: Context,
     looks: &mut Looks,
 ) -> Result<Vec<RouteNextHop>, DecodeError>
+    // What is read is what the bytes mean.
     ensures ok { IfOk result (λ v. AreHops context bytes.now (hops_of (map hop_of v.items))) }
+    // A refusal is the first fault.
     ensures refused { IfErr result (λ e. e ≢ OutOfMemory → HopsWrong context bytes.now e) }
+    // Then the bytes mean nothing.
+    ensures none { IfErr result (λ e. e ≢ OutOfMemory → (hs : Hops) → AreHops context bytes.now hs → ⊥) }
+    // Memory is taken behind a first whole header alone.
+    ensures memory { IsErrOf result OutOfMemory → (h : HopHead) × (inside : List ℕ) × (rest : List ℕ) × HopFront bytes.now h inside rest }
     ensures bounded { AddsAtMost looks.old looks.new (length bytes.now) }
     ensures counted { IfOk result (λ v. SawEach looks.old looks.new (hops_members (hops_of (map hop_of v.items)))) }
 {
-    Err(DecodeError::OutOfMemory)
+    if bytes.is_empty() {
+        return Ok(Vec::new(alloc));
+    }
+    let mut reading = Reading {
+        level: first_level(alloc, bytes, context, looks)?,
+        stack: Vec::new(alloc),
+    };
+    loop {
+        match advance(alloc, reading, looks)? {
+            Step::More(next) => reading = next,
+            Step::Done(hops) => return Ok(hops),
+        }
+    }
+}
+
+/// The header of the next hop in front, its attributes, and what follows it.
+fn open_hop<'a>(
+    bytes: &'a [u8],
+    looks: &mut Looks,
+) -> Result<(RouteNextHopBuffer, &'a [u8], &'a [u8]), DecodeError>
+    ensures ok { IfOk result (λ r. HopFront bytes.now (head_in r.0) r.1.now r.2.now) }
+    ensures hits { OnOk result (looks.new ≡ hit looks.old) }
+    ensures refused { IfErr result (λ e. (e ≢ OutOfMemory) × HopFault bytes.now e) }
+    ensures misses { OnErr result (looks.new ≡ miss looks.old) }
+{
+    match RouteNextHopBuffer::new_checked(bytes) {
+        Ok(header) => {
+            looks.hit();
+            let end = header.length as usize;
+            Ok((header, &bytes[8..end], &bytes[end..]))
+        }
+        Err(e) => {
+            looks.miss();
+            Err(e)
+        }
+    }
+}
+
+/// The list of these bytes, with its first next hop open.
+fn first_level<'a>(
+    alloc: Global,
+    bytes: &'a [u8],
+    context: Context,
+    looks: &mut Looks,
+) -> Result<Level<'a>, DecodeError>
+    requires { 0 < length bytes.now }
+    ensures ok { IfOk result (λ l. IsOpen context bytes.now l) }
+    ensures fresh { IfOk result (λ l. (l.next_hops.items ≡ []) × (l.attributes.items ≡ [])
+        × (8 + length l.walk + length l.hops_rest.now ≡ length bytes.now)) }
+    ensures hits { OnOk result (looks.new ≡ hit looks.old) }
+    ensures refused { IfErr result (λ e. (e ≢ OutOfMemory) × HopsWrong context bytes.now e) }
+    ensures misses { OnErr result (looks.new ≡ miss looks.old) }
+{
+    let (header, inside, hops_rest) = open_hop(bytes, looks)?;
+    Ok(Level {
+        context,
+        next_hops: Vec::new(alloc),
+        header,
+        attributes: Vec::new(alloc),
+        walk: NlasIterator::new(inside),
+        hops_rest,
+    })
+}
+
+/// Reads an attribute of the open next hop, opens the list that it holds, or closes the next hop.
+fn advance<'a>(
+    alloc: Global,
+    reading: Reading<'a>,
+    looks: &mut Looks,
+) -> Result<Step<'a>, DecodeError>
+    ensures ok { IfOk result (λ s. StepsOn reading.entry.level.context reading.entry s looks.old looks.new) }
+    ensures refused { IfErr result (λ e. e ≢ OutOfMemory → (bytes : List ℕ) → Tied reading.entry.level.context bytes reading.entry → HopsWrong reading.entry.level.context bytes e) }
+    ensures ended { OnErr result (Ended looks.old looks.new (room reading.entry)) }
+{
+    let Reading {
+        mut level,
+        mut stack,
+    } = reading;
+    let Some(next) = level.walk.next_counted(looks) else {
+        return close(alloc, Reading { level, stack }, looks);
+    };
+    let item = next?;
+    if item.kind() == RTA_MULTIPATH && !item.value().is_empty() {
+        let inner = first_level(alloc, item.value(), level.context, looks)?;
+        stack.push(level)?;
+        return Ok(Step::More(Reading {
+            level: inner,
+            stack,
+        }));
+    }
+    let attribute = read_flat(alloc, level.context, &item, looks)?;
+    level.attributes.push(attribute)?;
+    Ok(Step::More(Reading { level, stack }))
+}
+
+/// Closes the open next hop, all of whose attributes were read: the next one of its list is opened,
+/// or the list that waits goes on.
+fn close<'a>(
+    alloc: Global,
+    reading: Reading<'a>,
+    looks: &mut Looks,
+) -> Result<Step<'a>, DecodeError>
+    requires { reading.level.walk ≡ [] }
+    ensures ok { IfOk result (λ s. StepsOn reading.entry.level.context reading.entry s looks.old looks.new) }
+    ensures refused { IfErr result (λ e. e ≢ OutOfMemory → (bytes : List ℕ) → Tied reading.entry.level.context bytes reading.entry → HopsWrong reading.entry.level.context bytes e) }
+    ensures ended { OnErr result (Ended looks.old looks.new (room reading.entry)) }
+{
+    let Reading { level, mut stack } = reading;
+    let mut next_hops = level.next_hops;
+    next_hops.push(RouteNextHop {
+        flags: RouteNextHopFlags::from_bits_retain(level.header.flags),
+        hops: level.header.hops,
+        interface_index: level.header.interface_index,
+        attributes: level.attributes,
+    })?;
+    if level.hops_rest.is_empty() {
+        let Some(mut outer) = stack.pop() else {
+            return Ok(Step::Done(next_hops));
+        };
+        outer.attributes.push(RouteAttribute::MultiPath(next_hops))?;
+        return Ok(Step::More(Reading {
+            level: outer,
+            stack,
+        }));
+    }
+    let (header, inside, hops_rest) = open_hop(level.hops_rest, looks)?;
+    Ok(Step::More(Reading {
+        level: Level {
+            context: level.context,
+            next_hops,
+            header,
+            attributes: Vec::new(alloc),
+            walk: NlasIterator::new(inside),
+            hops_rest,
+        },
+        stack,
+    }))
 }

@@ -19,7 +19,7 @@ check_attributes-loop-attribute-preserved t c =
     let done = length (encodings attribute_item (take i all)) in
     let one : c.in_ok-len.len ≡ framed (length (attribute_item x).value) = k.1 ∙ ap (λ w. framed (length w)) (plain_value m) in
     let size : done + c.in_ok-len.len ≡ length (encodings attribute_item (take (i + 1) all)) =
-        ap (λ n. done + n) (one ∙ sym (length-encoding (attribute_item x))) ∙ sym (encodings-more attribute_item all i x c.loop-attribute-test.true c.attribute-item.is) in
+    ap (λ n. done + n) (one ∙ sym (length-encoding (attribute_item x))) ∙ sym (encodings-more attribute_item all i x c.loop-attribute-test.true c.attribute-item.is) in
     record {
       fits = c.loop-attribute.invariant.fits ∙ first-past attribute_misfit all i x c.loop-attribute-test.true c.attribute-item.is k.0;
       sum = c.plus-total.ensures done c.loop-attribute.invariant.sum ∙ ap in_usize size;
@@ -44,7 +44,7 @@ check_hops-loop-hop-preserved t c =
     let k = checked-ok (next_hop_misfit x) (length (next_hop_bytes x)) c.in_ok-len.len (sym c.in_ok-len.was ∙ c.check_hop.ensures) in
     let done = length (joined next_hop_bytes (take i all)) in
     let size : done + c.in_ok-len.len ≡ length (joined next_hop_bytes (take (i + 1) all)) =
-        ap (λ n. done + n) k.1 ∙ sym (joined-more next_hop_bytes all i x c.loop-hop-test.true c.hop-item.is) in
+    ap (λ n. done + n) k.1 ∙ sym (joined-more next_hop_bytes all i x c.loop-hop-test.true c.hop-item.is) in
     record {
       fits = c.loop-hop.invariant.fits ∙ first-past next_hop_misfit all i x c.loop-hop-test.true c.hop-item.is k.0;
       sum = c.plus-total.ensures done c.loop-hop.invariant.sum ∙ ap in_usize size;

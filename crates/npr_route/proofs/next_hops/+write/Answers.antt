@@ -38,8 +38,7 @@ write_attributes-write_attribute-at-requires t c =
     let same : length out ≡ length c.args.out.now = c.loop-attribute.auto.out in
     let size : framed (length (plain_of (meaning_of x)).value) ≡ length (encoding (attribute_item x)) = ap (λ w. framed (length w)) (plain_value (meaning_of x)) ∙ sym (length-encoding (attribute_item x)) in
     let need : at + framed (length (plain_of (meaning_of x)).value) ≤ length out =
-        omega (arith, encodings-more attribute_item all i x c.loop-attribute-test.true c.attribute-item.is, encodings-below attribute_item all (i + 1), size, past.len, c.requires.room, same) in
-    (
+    omega (arith, encodings-more attribute_item all i x c.loop-attribute-test.true c.attribute-item.is, encodings-below attribute_item all (i + 1), size, past.len, c.requires.room, same) in (
       search (rules, the_lemmas),
       ((first-none attribute_misfit all i x c.loop-attribute-test.true c.attribute-item.is past.fits).0, omega (arith, need, length-take (length out - at) (drop at out), length-drop at out)),
     )
@@ -63,8 +62,7 @@ pub write_hop-write_attributes-len-requires : goal.write_hop-write_attributes-le
 write_hop-write_attributes-len-requires t c =
     let h = c.args.hop.now in
     let out = c.args.out.now in
-    let fits = hop_fits h c.requires.fits in
-    (
+    let fits = hop_fits h c.requires.fits in (
       search (rules, the_lemmas),
       (rw c.as_slice.ensures.value fits.0, rw c.as_slice.ensures.value (omega (arith, c.requires.room, hop_bytes-length h, length-take (length out - 8) (drop 8 out), length-drop 8 out))),
     )
@@ -105,8 +103,7 @@ write_hops-write_hop-at-requires t c =
     let past = c.loop-hop.invariant in
     let same : length out ≡ length c.args.out.now = c.loop-hop.auto.out in
     let need : at + length (next_hop_bytes x) ≤ length out =
-        omega (arith, joined-more next_hop_bytes all i x c.loop-hop-test.true c.hop-item.is, joined-below next_hop_bytes all (i + 1), past.len, c.requires.room, same) in
-    (
+    omega (arith, joined-more next_hop_bytes all i x c.loop-hop-test.true c.hop-item.is, joined-below next_hop_bytes all (i + 1), past.len, c.requires.room, same) in (
       search (rules, the_lemmas),
       ((first-none next_hop_misfit all i x c.loop-hop-test.true c.hop-item.is past.fits).0, omega (arith, need, length-take (length out - at) (drop at out), length-drop at out)),
     )
@@ -129,8 +126,7 @@ pub write_value-write_hops-requires : goal.write_value-write_hops-requires
 write_value-write_hops-requires t c =
     let v = c.in-MultiPath.hops in
     let fits = rw c.in-MultiPath.is at c.requires.fits in
-    let room = rw c.in-MultiPath.is at c.requires.room in
-    (
+    let room = rw c.in-MultiPath.is at c.requires.room in (
       search (rules, the_lemmas),
       (rw c.as_slice-in-MultiPath.ensures.value (multi_path_fits v fits), rw c.as_slice-in-MultiPath.ensures.value (rw multi_path_value at room)),
     )

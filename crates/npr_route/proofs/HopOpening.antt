@@ -1,0 +1,59 @@
+-- A header whose length lies within the bytes opens a next hop.
+use Rattle.std.proofs.Common.{◌≡◌, ℕ, ◌+◌, ◌-◌, ◌*◌, ◌/◌, ◌%◌, ◌<◌, ◌≤◌, ◌^◌, List, [], ◌∷◌, ◌++◌, length, take, drop, refl, sym, ap, subst, ◌∙◌, arith, length-take, length-drop, append_assoc}
+use Rattle.std.proofs.lemmas.List.{take-append-drop, drop-drop}
+use Rattle.std.specs.Int.{w16, w32, to_le_bytes}
+use Rattle.npr_base.specs.Framing.{IsBytes}
+use Rattle.npr_base.specs.Layout.{le16_at, le32_at}
+use Rattle.npr_base.specs.ListLaws.{IsBytes-left}
+use Rattle.npr_route.specs.Attribute.{HopFront, HoldsHead, hop_text}
+use Rattle.npr_route.specs.NextHopHeader.{decode_buffer, encode_buffer, buffer-holds, IsChecked}
+use Rattle.npr_route.specs.Reader.{head_in}
+use Rattle.npr_route.specs.declared.next_hops.RouteNextHopBuffer.{RouteNextHopBuffer}
+
+low : (a b : ℕ) → a < 256 → b < 256 → ((a + b * 256) % 256 ≡ a) × ((a + b * 256) / 256 % 256 ≡ b)
+low a b p q = (omega arith, omega arith)
+
+wide : (a b c d : ℕ) → a < 256 → b < 256 → c < 256 → d < 256 → (n : ℕ) → n ≡ a + b * 256 + c * 65536 + d * 16777216
+    → (n % 256 ≡ a) × (n / 256 % 256 ≡ b) × (n / 65536 % 256 ≡ c) × (n / 16777216 % 256 ≡ d)
+wide a b c d p q r s n e = (omega arith, omega arith, omega arith, omega arith)
+
+-- eight bytes are what their header is written as
+written_again : (bs : List ℕ) → IsBytes bs → length bs ≡ 8 → encode_buffer (decode_buffer bs) ≡ bs
+written_again (a ∷ b ∷ c ∷ d ∷ e ∷ f ∷ g ∷ h ∷ []) is long =
+    let two = low a b (is 0) (is 1) in
+    let four = wide e f g h (is 4) (is 5) (is 6) (is 7) (le32_at (a ∷ b ∷ c ∷ d ∷ e ∷ f ∷ g ∷ h ∷ []) 4) (omega arith) in
+    rw (two.0, two.1, four.0, four.1, four.2, four.3) refl
+written_again (a ∷ b ∷ c ∷ d ∷ e ∷ f ∷ g ∷ h ∷ i ∷ t) is long = absurd (omega arith)
+written_again (a ∷ b ∷ c ∷ d ∷ e ∷ f ∷ g ∷ []) is long = absurd (omega arith)
+written_again (a ∷ b ∷ c ∷ d ∷ e ∷ f ∷ []) is long = absurd (omega arith)
+written_again (a ∷ b ∷ c ∷ d ∷ e ∷ []) is long = absurd (omega arith)
+written_again (a ∷ b ∷ c ∷ d ∷ []) is long = absurd (omega arith)
+written_again (a ∷ b ∷ c ∷ []) is long = absurd (omega arith)
+written_again (a ∷ b ∷ []) is long = absurd (omega arith)
+written_again (a ∷ []) is long = absurd (omega arith)
+written_again [] is long = absurd (omega arith)
+
+pub opens : (bs : List ℕ) (h : RouteNextHopBuffer) → IsBytes bs → IsChecked bs h → HopFront bs (head_in h) (take (h.length - 8) (drop 8 bs)) (drop h.length bs)
+opens bs h is (decoded, least, most) =
+    let inside : List ℕ = take (h.length - 8) (drop 8 bs) in
+    let first : List ℕ = take 8 bs in
+    let short : length first ≡ 8 = omega (arith, length-take 8 bs) in
+    let proper : IsBytes first = IsBytes-left first (drop 8 bs) (subst IsBytes (sym (take-append-drop 8 bs)) is) in
+    let held = buffer-holds first proper short in
+    let in_place : encode_buffer h ≡ first = ap encode_buffer decoded ∙ written_again first proper short in
+    let size : h.length ≡ 8 + length inside = omega (arith, length-take (h.length - 8) (drop 8 bs), length-drop 8 bs) in
+    let far : h.length - 8 + 8 ≡ h.length = omega arith in
+    let behind : drop (h.length - 8) (drop 8 bs) ≡ drop h.length bs = drop-drop (h.length - 8) 8 bs ∙ ap (λ (n : ℕ). drop n bs) (omega arith) in
+    let split : drop 8 bs ≡ inside ++ drop h.length bs = sym (take-append-drop (h.length - 8) (drop 8 bs)) ∙ ap (λ (w : List ℕ). inside ++ w) behind in
+    let whole : bs ≡ encode_buffer h ++ (inside ++ drop h.length bs) = sym (take-append-drop 8 bs) ∙ ap (λ (w : List ℕ). w ++ drop 8 bs) (sym in_place) ∙ ap (λ (w : List ℕ). encode_buffer h ++ w) split in
+    let headed : encode_buffer h ++ (inside ++ drop h.length bs) ≡ hop_text (head_in h) inside ++ drop h.length bs =
+        ap (λ (n : ℕ). to_le_bytes w16 n ++ (h.flags ∷ h.hops ∷ to_le_bytes w32 h.interface_index ++ (inside ++ drop h.length bs))) size in
+    record {
+      is = whole ∙ headed;
+      holds = record {
+        flags = omega (arith, held.flags, ap (λ (b : RouteNextHopBuffer). b.flags) decoded);
+        hops = omega (arith, held.hops, ap (λ (b : RouteNextHopBuffer). b.hops) decoded);
+        interface_index = omega (arith, held.interface_index, ap (λ (b : RouteNextHopBuffer). b.interface_index) decoded);
+      };
+      short = omega (arith, size, held.length, ap (λ (b : RouteNextHopBuffer). b.length) decoded);
+    }

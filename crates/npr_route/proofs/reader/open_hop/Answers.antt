@@ -1,0 +1,7 @@
+use Rattle.std.proofs.Common.{arith}
+use Rattle.std.proofs.lemmas.List.{take_rest}
+use Rattle.npr_route.proofs.HopOpening.{opens}
+use Rattle.npr_route.proofs.reader.open_hop.Goals as goal
+
+pub returns-in-Ok-clause-ok : goal.returns-in-Ok-clause-ok
+returns-in-Ok-clause-ok c = rw take_rest (opens c.args.bytes.now c.in-Ok.header (λ i. omega (arith, c.type_inv.bytes i)) c.in-Ok.ensures.ok)
