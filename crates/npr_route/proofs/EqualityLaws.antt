@@ -1,30 +1,44 @@
--- What `==` answers of metrics, attributes and messages: whether they mean the same.
-use Rattle.std.specs.Prelude.{ℕ, map}
+-- What `==` answers of metrics, attributes, next hops and messages: whether they mean the same.
+use Rattle.std.specs.Prelude.{◌≡◌, ℕ, Bool, List, [], ◌∷◌, map}
+use Rattle.std.specs.Bool.{Decides}
 use Rattle.std.specs.Cmp.{unsigned_Decides}
+use Rattle.std.specs.Cmp.Lexicographic.{pointwise}
+use Rattle.std.specs.declared.alloc.Global.{Global}
+use Rattle.std.specs.declared.vec.Vec.{Vec}
 use Rattle.std.specs.String.{string_bytes}
-use Rattle.std.proofs.Common.{refl, ap}
+use Rattle.std.proofs.Common.{refl, sym, ap, ◌∙◌}
 use Rattle.npr_base.specs.AddressFamilyLaws.{family_equality}
 use Rattle.npr_base.specs.Equality.{IsEquality, IsEqualityOf}
 use Rattle.npr_base.specs.ViewEquality.{item_equality}
-use Rattle.npr_base.specs.MeaningLaws.{enum_meaning, ◌also◌, one_meaning, text_equality, items_equality, items_meaning}
+use Rattle.npr_base.specs.MeaningLaws.{enum_meaning, enum_meaning_at, ◌also◌, one_meaning, one_meaning_by, text_equality, items_equality, items_meaning}
 use Rattle.npr_base.specs.StructLaws.{and_decides, decides_as}
 use Rattle.npr_scalar.specs.EqualityLaws.{address_equality, cache_info_equality, label_equality, mfc_stats_equality, realm_equality, route_flags_equality, via_equality, route_protocol_equality, route_scope_equality, route_type_equality, route_preference_equality, ttl_propagation_equality}
 use Rattle.npr_scalar.specs.RouteAddress.{address_of}
 use Rattle.npr_scalar.specs.RouteVia.{via_of}
 use Rattle.npr_tunnel.specs.Encapsulation as OfEncap
 use Rattle.npr_tunnel.specs.EqualityLaws.{encap_type_equality, encap_equality}
-use Rattle.npr_route.specs.Attribute as Routes
-use Rattle.npr_route.specs.Attribute.{meaning_of}
+use Rattle.npr_route.specs.Attribute.{Meaning, flat, multi_path, Attributes, no_more, attribute, Hops, no_hops, hop, Hop}
+use Rattle.npr_route.specs.AttributeView.{attributes_of, hops_of, attribute_step, hop_step, meaning_of, hop_of}
+use Rattle.npr_route.specs.FlatAttribute as Flat
 use Rattle.npr_route.specs.Metric as Metrics
 use Rattle.npr_route.specs.Metric.{metric_of}
 use Rattle.npr_route.specs.Message.{Route, message_of}
 use Rattle.npr_route.specs.contracts.attribute.RouteAttribute.{enum}
 use Rattle.npr_route.specs.contracts.attribute.RouteAttributePartialEq.TheImpl as AttributeEq
+use Rattle.npr_route.specs.contracts.attribute.RouteAttributePartialEq.TheImpl.Laws as AttributeLaws
 use Rattle.npr_route.specs.contracts.header.RouteHeaderPartialEq.TheImpl as HeaderEq
 use Rattle.npr_route.specs.contracts.message.RouteMessagePartialEq.TheImpl as MessageEq
 use Rattle.npr_route.specs.contracts.metrics.RouteMetric.{enum as metric_enum}
 use Rattle.npr_route.specs.contracts.metrics.RouteMetricPartialEq.TheImpl as MetricEq
+use Rattle.npr_route.specs.contracts.next_hops.RouteNextHopPartialEq.TheImpl as HopEq
+use Rattle.npr_route.specs.contracts.next_hops.RouteNextHopPartialEq.TheImpl.Laws as HopLaws
+use Rattle.npr_route.specs.declared.attribute.RouteAttribute.{RouteAttribute, out-RouteAttribute}
+use Rattle.npr_route.specs.declared.attribute.RouteAttribute.TheFolds.{map-RouteAttribute, fold_out-RouteAttribute}
+use Rattle.npr_route.specs.declared.attribute.RouteAttribute.TheVariants.{MultiPath}
 use Rattle.npr_route.specs.declared.header.RouteHeader.{RouteHeader}
+use Rattle.npr_route.specs.declared.next_hops.RouteNextHop.{RouteNextHop}
+use Rattle.npr_route.proofs.Views.{view_hop, view_multi_path}
+use denote.Hole.Carrier
 
 pub header_equality : IsEquality HeaderEq.ghosts.eq
 header_equality a b =
@@ -84,70 +98,153 @@ metric_equality =
     (λ x. refl, one_meaning (λ n. n) Metrics.fastopen_no_cookie unsigned_Decides (λ p q e. cc)) also
     (λ x. refl, one_meaning (λ d. d) Metrics.other item_equality (λ p q e. cc)) also tt)
 
-order : Routes.Meaning → ℕ
-order (Routes.destination a) = 0
-order (Routes.source a) = 1
-order (Routes.iif a) = 2
-order (Routes.oif a) = 3
-order (Routes.gateway a) = 4
-order (Routes.priority a) = 5
-order (Routes.pref_source a) = 6
-order (Routes.metrics a) = 7
-order (Routes.realm a) = 8
-order (Routes.cache_info a) = 9
-order (Routes.table a) = 10
-order (Routes.mark a) = 11
-order (Routes.mfc_stats a) = 12
-order (Routes.via a) = 13
-order (Routes.new_destination a) = 14
-order (Routes.new_destination_address a) = 15
-order (Routes.preference a) = 16
-order (Routes.encap_type a) = 17
-order (Routes.encap a) = 18
-order (Routes.expires a) = 19
-order (Routes.multicast_expires a) = 20
-order (Routes.uid a) = 21
-order (Routes.ttl_propagate a) = 22
-order (Routes.ip_proto a) = 23
-order (Routes.sport a) = 24
-order (Routes.dport a) = 25
-order (Routes.nh_id a) = 26
-order (Routes.flowlabel a) = 27
-order (Routes.other a) = 28
+-- the places of the variants of an attribute's meaning: next hops stand behind the metrics
+place : Meaning → ℕ
+place (flat (Flat.destination a)) = 0
+place (flat (Flat.source a)) = 1
+place (flat (Flat.iif a)) = 2
+place (flat (Flat.oif a)) = 3
+place (flat (Flat.gateway a)) = 4
+place (flat (Flat.priority a)) = 5
+place (flat (Flat.pref_source a)) = 6
+place (flat (Flat.metrics a)) = 7
+place (multi_path hs) = 8
+place (flat (Flat.realm a)) = 9
+place (flat (Flat.cache_info a)) = 10
+place (flat (Flat.table a)) = 11
+place (flat (Flat.mark a)) = 12
+place (flat (Flat.mfc_stats a)) = 13
+place (flat (Flat.via a)) = 14
+place (flat (Flat.new_destination a)) = 15
+place (flat (Flat.new_destination_address a)) = 16
+place (flat (Flat.preference a)) = 17
+place (flat (Flat.encap_type a)) = 18
+place (flat (Flat.encap a)) = 19
+place (flat (Flat.expires a)) = 20
+place (flat (Flat.multicast_expires a)) = 21
+place (flat (Flat.uid a)) = 22
+place (flat (Flat.ttl_propagate a)) = 23
+place (flat (Flat.ip_proto a)) = 24
+place (flat (Flat.sport a)) = 25
+place (flat (Flat.dport a)) = 26
+place (flat (Flat.nh_id a)) = 27
+place (flat (Flat.flowlabel a)) = 28
+place (flat (Flat.other a)) = 29
+
+abbrev same : RouteAttribute → RouteAttribute → Bool
+same = AttributeEq.ghosts.eq
+
+abbrev same_hop : RouteNextHop → RouteNextHop → Bool
+same_hop = HopEq.ghosts.eq
+
+abbrev attributes_in : List RouteAttribute → Attributes
+attributes_in xs = attributes_of (map meaning_of xs)
+
+abbrev hops_in : List RouteNextHop → Hops
+hops_in xs = hops_of (map hop_of xs)
+
+abbrev AttributesDecide : List RouteAttribute → List RouteAttribute → Type 0
+AttributesDecide xs ys = Decides (pointwise same xs ys) (attributes_in xs ≡ attributes_in ys)
+
+abbrev HopsDecide : List RouteNextHop → List RouteNextHop → Type 0
+HopsDecide xs ys = Decides (pointwise same_hop xs ys) (hops_in xs ≡ hops_in ys)
+
+-- what an attribute means, by its outermost layer
+abbrev outermost : RouteAttribute → Meaning
+outermost a = attribute_step (map-RouteAttribute RouteAttribute RouteNextHop Meaning Hop meaning_of hop_of (out-RouteAttribute a))
+
+outermost_is : (a : RouteAttribute) → meaning_of a ≡ outermost a
+outermost_is = fold_out-RouteAttribute Meaning Hop attribute_step hop_step
+
+outermost_multi_path : (v : Vec RouteNextHop Global) → outermost (MultiPath v) ≡ multi_path (hops_in v.items)
+outermost_multi_path v = sym (outermost_is (MultiPath v)) ∙ view_multi_path v
+
+-- `==` of two attributes, the first of which means t, from what it answers of next hops
+attribute_layer :
+    (t : Meaning) → ((v w : Vec RouteNextHop Global) → multi_path (hops_in v.items) ≡ t → HopsDecide v.items w.items) → (a b : RouteAttribute) → meaning_of a ≡ t
+    → Decides (same a b) (meaning_of a ≡ meaning_of b)
+unfolding place out-RouteAttribute Carrier.out
+attribute_layer t inside a b is =
+    let h = enum_meaning_at place t enum outermost _ (
+    (λ x. refl, one_meaning address_of (λ a. flat (Flat.destination a)) address_equality (λ p q e. cc)) also
+    (λ x. refl, one_meaning address_of (λ a. flat (Flat.source a)) address_equality (λ p q e. cc)) also
+    (λ x. refl, one_meaning (λ n. n) (λ a. flat (Flat.iif a)) unsigned_Decides (λ p q e. cc)) also
+    (λ x. refl, one_meaning (λ n. n) (λ a. flat (Flat.oif a)) unsigned_Decides (λ p q e. cc)) also
+    (λ x. refl, one_meaning address_of (λ a. flat (Flat.gateway a)) address_equality (λ p q e. cc)) also
+    (λ x. refl, one_meaning (λ n. n) (λ a. flat (Flat.priority a)) unsigned_Decides (λ p q e. cc)) also
+    (λ x. refl, one_meaning address_of (λ a. flat (Flat.pref_source a)) address_equality (λ p q e. cc)) also
+    (λ x. refl, one_meaning (λ v. map metric_of v.items) (λ a. flat (Flat.metrics a)) (items_meaning metric_of metric_equality) (λ p q e. cc)) also
+    (λ x. ap place (outermost_multi_path x.0), one_meaning_by (λ (v : Vec RouteNextHop Global). hops_in v.items) multi_path (λ v. outermost (MultiPath v)) outermost_multi_path (λ p q e. cc) inside) also
+    (λ x. refl, one_meaning (λ f. f) (λ a. flat (Flat.realm a)) realm_equality (λ p q e. cc)) also
+    (λ x. refl, one_meaning (λ f. f) (λ a. flat (Flat.cache_info a)) cache_info_equality (λ p q e. cc)) also
+    (λ x. refl, one_meaning (λ n. n) (λ a. flat (Flat.table a)) unsigned_Decides (λ p q e. cc)) also
+    (λ x. refl, one_meaning (λ n. n) (λ a. flat (Flat.mark a)) unsigned_Decides (λ p q e. cc)) also
+    (λ x. refl, one_meaning (λ f. f) (λ a. flat (Flat.mfc_stats a)) mfc_stats_equality (λ p q e. cc)) also
+    (λ x. refl, one_meaning via_of (λ a. flat (Flat.via a)) via_equality (λ p q e. cc)) also
+    (λ x. refl, one_meaning (λ v. v.items) (λ a. flat (Flat.new_destination a)) (items_equality label_equality) (λ p q e. cc)) also
+    (λ x. refl, one_meaning address_of (λ a. flat (Flat.new_destination_address a)) address_equality (λ p q e. cc)) also
+    (λ x. refl, one_meaning (λ f. f) (λ a. flat (Flat.preference a)) route_preference_equality (λ p q e. cc)) also
+    (λ x. refl, one_meaning (λ f. f) (λ a. flat (Flat.encap_type a)) encap_type_equality (λ p q e. cc)) also
+    (λ x. refl, one_meaning (λ v. map OfEncap.meaning_of v.items) (λ a. flat (Flat.encap a)) (items_meaning OfEncap.meaning_of encap_equality) (λ p q e. cc)) also
+    (λ x. refl, one_meaning (λ n. n) (λ a. flat (Flat.expires a)) unsigned_Decides (λ p q e. cc)) also
+    (λ x. refl, one_meaning (λ n. n) (λ a. flat (Flat.multicast_expires a)) unsigned_Decides (λ p q e. cc)) also
+    (λ x. refl, one_meaning (λ n. n) (λ a. flat (Flat.uid a)) unsigned_Decides (λ p q e. cc)) also
+    (λ x. refl, one_meaning (λ f. f) (λ a. flat (Flat.ttl_propagate a)) ttl_propagation_equality (λ p q e. cc)) also
+    (λ x. refl, one_meaning (λ n. n) (λ a. flat (Flat.ip_proto a)) unsigned_Decides (λ p q e. cc)) also
+    (λ x. refl, one_meaning (λ n. n) (λ a. flat (Flat.sport a)) unsigned_Decides (λ p q e. cc)) also
+    (λ x. refl, one_meaning (λ n. n) (λ a. flat (Flat.dport a)) unsigned_Decides (λ p q e. cc)) also
+    (λ x. refl, one_meaning (λ n. n) (λ a. flat (Flat.nh_id a)) unsigned_Decides (λ p q e. cc)) also
+    (λ x. refl, one_meaning (λ n. n) (λ a. flat (Flat.flowlabel a)) unsigned_Decides (λ p q e. cc)) also
+    (λ x. refl, one_meaning (λ d. d) (λ a. flat (Flat.other a)) item_equality (λ p q e. cc)) also tt) a b (sym (outermost_is a) ∙ is) in
+    let p = AttributeLaws.is a b in
+    let q = outermost_is a in
+    let r = outermost_is b in
+    (λ e. q ∙ h.0 (sym p ∙ e) ∙ sym r, λ e. p ∙ h.1 (sym q ∙ e ∙ r))
+
+-- `==` of two next hops, from what it answers of their attributes
+hop_layer : (g h : RouteNextHop) → AttributesDecide g.attributes.items h.attributes.items → Decides (same_hop g h) (hop_of g ≡ hop_of h)
+hop_layer g h inside =
+    let p = HopLaws.is g h in
+    let q = view_hop g in
+    let r = view_hop h in
+    let fields =
+    decides_as
+    (λ f. λ i. record { head = record { flags = f.0 i; hops = f.1.0 i; interface_index = f.1.1.0 i }; attributes = f.1.1.1 i })
+    (λ e. (ap (λ (k : Hop). k.head.flags) e, (ap (λ (k : Hop). k.head.hops) e, (ap (λ (k : Hop). k.head.interface_index) e, ap (λ (k : Hop). k.attributes) e))))
+    (and_decides (unsigned_Decides g.flags.0 h.flags.0)
+    (and_decides (unsigned_Decides g.hops h.hops) (and_decides (unsigned_Decides g.interface_index h.interface_index) inside))) in
+    (λ e. q ∙ fields.0 (sym p ∙ e) ∙ sym r, λ e. p ∙ fields.1 (sym q ∙ e ∙ r))
+
+-- the recursion goes down what the first of the two means
+mutual
+  attribute_at : (t : Meaning) (a b : RouteAttribute) → meaning_of a ≡ t → Decides (same a b) (meaning_of a ≡ meaning_of b)
+  attribute_at (flat m) = attribute_layer (flat m) (λ v w e. absurd cc)
+  attribute_at (multi_path hs) = attribute_layer (multi_path hs) (λ v w e. hops_at hs v.items w.items cc)
+
+  attributes_at : (ts : Attributes) (xs ys : List RouteAttribute) → attributes_in xs ≡ ts → AttributesDecide xs ys
+  attributes_at ts [] [] is = (λ e. refl, λ e. refl)
+  attributes_at ts [] (y ∷ ys) is = (λ e. absurd cc, λ e. absurd cc)
+  attributes_at ts (x ∷ xs) [] is = (λ e. absurd cc, λ e. absurd cc)
+  attributes_at no_more (x ∷ xs) (y ∷ ys) is = absurd cc
+  attributes_at (attribute t ts) (x ∷ xs) (y ∷ ys) is =
+      decides_as (λ e. λ i. attribute (e.0 i) (e.1 i)) (λ e. (cc, cc)) (and_decides (attribute_at t x y cc) (attributes_at ts xs ys cc))
+
+  hops_at : (ts : Hops) (xs ys : List RouteNextHop) → hops_in xs ≡ ts → HopsDecide xs ys
+  hops_at ts [] [] is = (λ e. refl, λ e. refl)
+  hops_at ts [] (y ∷ ys) is = (λ e. absurd cc, λ e. absurd cc)
+  hops_at ts (x ∷ xs) [] is = (λ e. absurd cc, λ e. absurd cc)
+  hops_at no_hops (x ∷ xs) (y ∷ ys) is = absurd cc
+  hops_at (hop head inside ts) (x ∷ xs) (y ∷ ys) is =
+      let p = view_hop x in
+      let q = view_hop y in
+      let r = attributes_at inside x.attributes.items y.attributes.items cc in
+      decides_as (λ e. λ i. hop (e.0 i).head (e.0 i).attributes (e.1 i)) (λ e. (cc, cc)) (and_decides (hop_layer x y r) (hops_at ts xs ys cc))
 
 pub attribute_equality : IsEqualityOf meaning_of AttributeEq.ghosts.eq
-unfolding order
-attribute_equality =
-    enum_meaning order enum meaning_of _ (λ t.
-    (λ x. refl, one_meaning address_of Routes.destination address_equality (λ p q e. cc)) also
-    (λ x. refl, one_meaning address_of Routes.source address_equality (λ p q e. cc)) also
-    (λ x. refl, one_meaning (λ n. n) Routes.iif unsigned_Decides (λ p q e. cc)) also
-    (λ x. refl, one_meaning (λ n. n) Routes.oif unsigned_Decides (λ p q e. cc)) also
-    (λ x. refl, one_meaning address_of Routes.gateway address_equality (λ p q e. cc)) also
-    (λ x. refl, one_meaning (λ n. n) Routes.priority unsigned_Decides (λ p q e. cc)) also
-    (λ x. refl, one_meaning address_of Routes.pref_source address_equality (λ p q e. cc)) also
-    (λ x. refl, one_meaning (λ v. map metric_of v.items) Routes.metrics (items_meaning metric_of metric_equality) (λ p q e. cc)) also
-    (λ x. refl, one_meaning (λ f. f) Routes.realm realm_equality (λ p q e. cc)) also
-    (λ x. refl, one_meaning (λ f. f) Routes.cache_info cache_info_equality (λ p q e. cc)) also
-    (λ x. refl, one_meaning (λ n. n) Routes.table unsigned_Decides (λ p q e. cc)) also
-    (λ x. refl, one_meaning (λ n. n) Routes.mark unsigned_Decides (λ p q e. cc)) also
-    (λ x. refl, one_meaning (λ f. f) Routes.mfc_stats mfc_stats_equality (λ p q e. cc)) also
-    (λ x. refl, one_meaning via_of Routes.via via_equality (λ p q e. cc)) also
-    (λ x. refl, one_meaning (λ v. v.items) Routes.new_destination (items_equality label_equality) (λ p q e. cc)) also
-    (λ x. refl, one_meaning address_of Routes.new_destination_address address_equality (λ p q e. cc)) also
-    (λ x. refl, one_meaning (λ f. f) Routes.preference route_preference_equality (λ p q e. cc)) also
-    (λ x. refl, one_meaning (λ f. f) Routes.encap_type encap_type_equality (λ p q e. cc)) also
-    (λ x. refl, one_meaning (λ v. map OfEncap.meaning_of v.items) Routes.encap (items_meaning OfEncap.meaning_of encap_equality) (λ p q e. cc)) also
-    (λ x. refl, one_meaning (λ n. n) Routes.expires unsigned_Decides (λ p q e. cc)) also
-    (λ x. refl, one_meaning (λ n. n) Routes.multicast_expires unsigned_Decides (λ p q e. cc)) also
-    (λ x. refl, one_meaning (λ n. n) Routes.uid unsigned_Decides (λ p q e. cc)) also
-    (λ x. refl, one_meaning (λ f. f) Routes.ttl_propagate ttl_propagation_equality (λ p q e. cc)) also
-    (λ x. refl, one_meaning (λ n. n) Routes.ip_proto unsigned_Decides (λ p q e. cc)) also
-    (λ x. refl, one_meaning (λ n. n) Routes.sport unsigned_Decides (λ p q e. cc)) also
-    (λ x. refl, one_meaning (λ n. n) Routes.dport unsigned_Decides (λ p q e. cc)) also
-    (λ x. refl, one_meaning (λ n. n) Routes.nh_id unsigned_Decides (λ p q e. cc)) also
-    (λ x. refl, one_meaning (λ n. n) Routes.flowlabel unsigned_Decides (λ p q e. cc)) also
-    (λ x. refl, one_meaning (λ d. d) Routes.other item_equality (λ p q e. cc)) also tt)
+attribute_equality a b = attribute_at (meaning_of a) a b refl
+
+pub next_hop_equality : IsEqualityOf hop_of HopEq.ghosts.eq
+next_hop_equality g h = hop_layer g h (attributes_at (attributes_in g.attributes.items) g.attributes.items h.attributes.items refl)
 
 pub message_equality : IsEqualityOf message_of MessageEq.ghosts.eq
 message_equality a b =

@@ -6,7 +6,7 @@ ghost use Rattle.npr_base.specs.Equality.{IsEquality, IsEqualityOf};
 ghost use Rattle.npr_tunnel.specs.declared.encap_type.RouteLwEnCapType.{RouteLwEnCapType};
 ghost use Rattle.npr_base.specs.declared.refusal.DecodeError.{DecodeError};
 ghost use Rattle.npr_base.specs.Framing.{IsBytes};
-ghost use Rattle.npr_route.specs.AttributeView.{meaning_of};
+ghost use Rattle.npr_route.specs.AttributeView.{meaning_of, hop_of};
 ghost use Rattle.npr_route.specs.FlatAttribute.{Context};
 ghost use Rattle.npr_route.specs.Governing.{Governs};
 ghost use Rattle.npr_route.specs.Header.{default_header};
@@ -19,7 +19,7 @@ use crate::attribute::RouteAttribute;
 use crate::header::{RouteHeader, RouteMessageBuffer};
 use crate::message::RouteMessage;
 use crate::metrics::RouteMetric;
-use crate::next_hops::RouteNextHopBuffer;
+use crate::next_hops::{RouteNextHop, RouteNextHopBuffer};
 
 /// Bytes are one message at most.
 pub fn law_one_reading()
@@ -73,5 +73,6 @@ pub fn law_equality()
     ensures next_hop_buffer { IsEquality ⟦<RouteNextHopBuffer as PartialEq>⟧.eq }
     ensures metric { IsEqualityOf metric_of ⟦<RouteMetric as PartialEq>⟧.eq }
     ensures attribute { IsEqualityOf meaning_of ⟦<RouteAttribute as PartialEq>⟧.eq }
+    ensures next_hop { IsEqualityOf hop_of ⟦<RouteNextHop as PartialEq>⟧.eq }
     ensures message { IsEqualityOf message_of ⟦<RouteMessage as PartialEq>⟧.eq }
 {}

@@ -1,4 +1,4 @@
-use Rattle.npr_route.proofs.EqualityLaws.{attribute_equality, header_equality, message_equality, metric_equality}
+use Rattle.npr_route.proofs.EqualityLaws.{attribute_equality, header_equality, message_equality, metric_equality, next_hop_equality}
 use Rattle.npr_route.proofs.laws.law_equality.Goals as goal
 
 pub returns-clause-header : goal.returns-clause-header
@@ -9,6 +9,9 @@ returns-clause-metric c = metric_equality
 
 pub returns-clause-attribute : goal.returns-clause-attribute
 returns-clause-attribute c = attribute_equality
+
+pub returns-clause-next_hop : goal.returns-clause-next_hop
+returns-clause-next_hop c = next_hop_equality
 
 pub returns-clause-message : goal.returns-clause-message
 returns-clause-message c = message_equality
