@@ -13,7 +13,12 @@ use Rattle.npr_route.specs.AttributeView.{attributes_of, hops_of, meaning_of, ho
 use Rattle.npr_route.specs.FlatAttribute.{Context}
 use Rattle.npr_route.specs.NextHopFrontLaws.{HopFront-length}
 use Rattle.npr_route.specs.Reader.{HopsTo, head_in, IsAt, IsOpen, Waits, Chain, level_weight, weight_of, level_room, room_of, hop_members, level_built, built_of, Added, Ended}
+use Rattle.npr_scalar.specs.RouteFlags.{next_hop_flags_bits}
+use Rattle.npr_scalar.specs.declared.flags.RouteNextHopFlags.{RouteNextHopFlags}
+use Rattle.npr_route.specs.declared.attribute.RouteAttribute.{RouteAttribute}
+use Rattle.npr_route.specs.declared.next_hops.RouteNextHop.{RouteNextHop, RouteNextHop-F, roll-RouteNextHop}
 use Rattle.npr_route.specs.declared.reader.Level.{Level}
+use Rattle.npr_route.proofs.Views.{view_hop_made}
 
 -- ---- lists and the trees of meanings
 
@@ -38,7 +43,7 @@ all_hops : (c : Context) (bytes : List ℕ) (hs : List Hop) → HopsTo c bytes h
 all_hops c bytes [] p = p
 all_hops c bytes (h ∷ hs) (inside, rest, f, a, p) = (inside, rest, f, a, all_hops c rest hs p)
 
-hops_wrong_behind : (c : Context) (bytes front : List ℕ) (hs : List Hop) (e : DecodeError) → HopsTo c bytes hs front → HopsWrong c front e → HopsWrong c bytes e
+pub hops_wrong_behind : (c : Context) (bytes front : List ℕ) (hs : List Hop) (e : DecodeError) → HopsTo c bytes hs front → HopsWrong c front e → HopsWrong c bytes e
 hops_wrong_behind c bytes front [] e p w = subst (λ (b : List ℕ). HopsWrong c b e) (sym p) w
 hops_wrong_behind c bytes front (h ∷ hs) e (inside, rest, f, a, p) w = later_hop_wrong h.head inside rest h.attributes f a (hops_wrong_behind c rest front hs e p w)
 
@@ -88,12 +93,19 @@ pub built_push : (fs : List Level) (f : Level) → built_of (fs ++ f ∷ []) ≡
 built_push [] f = omega arith
 built_push (g ∷ fs) f = omega (arith, built_push fs f)
 
+pub chain_none : (c : Context) (bytes : List ℕ) (fs : List Level) (value : List ℕ) → length fs ≡ 0 → Chain c bytes fs value → bytes ≡ value
+chain_none c bytes [] value n p = p
+chain_none c bytes (f ∷ fs) value n p = absurd (omega arith)
+
 -- ---- a next hop is whole
 
+abbrev pub closed_hop : Level → Hop
+closed_hop l = record { head = head_in l.header; attributes = attributes_of (map meaning_of l.attributes.items) }
+
 -- the open one, with all its attributes
-pub closes : (c : Context) (bytes : List ℕ) (l : Level) → IsAt c bytes l [] → HopsTo c bytes (map hop_of l.next_hops.items ++ record { head = head_in l.header; attributes = attributes_of (map meaning_of l.attributes.items) } ∷ []) l.hops_rest.now
+pub closes : (c : Context) (bytes : List ℕ) (l : Level) → IsAt c bytes l [] → HopsTo c bytes (map hop_of l.next_hops.items ++ closed_hop l ∷ []) l.hops_rest.now
 closes c bytes l at =
-    HopsTo-more c bytes (map hop_of l.next_hops.items) at.front at.inside l.hops_rest.now (record { head = head_in l.header; attributes = attributes_of (map meaning_of l.attributes.items) }) at.done at.is_open
+    HopsTo-more c bytes (map hop_of l.next_hops.items) at.front at.inside l.hops_rest.now (closed_hop l) at.done at.is_open
     (all_read c at.read.0 at.inside (map meaning_of l.attributes.items) at.read.1 at.read.2)
 
 -- and with it the list, where nothing follows
@@ -139,3 +151,56 @@ Ended-inside old mid new size rb is a r =
     let s = ap (λ (c : Counts). c.successful) is in
     let f = ap (λ (c : Counts). c.failed) is in
     record { kept = omega (arith, s, a.kept); most = omega (arith, s, a.successful, r); failed_kept = omega (arith, f, a.failed_kept); failed = omega (arith, f, a.failed) }
+
+-- how many looks a next hop that is whole has had with those before it
+pub closed_count : (l : Level) → list_members hop_members (map hop_of l.next_hops.items ++ closed_hop l ∷ []) ≡ level_built l
+closed_count l = omega (arith, list_members-more hop_members (map hop_of l.next_hops.items) (closed_hop l), attributes_count (map meaning_of l.attributes.items))
+
+-- the next hops of a level with the one that was open
+pub hops_closed : (l : Level) (flags : RouteNextHopFlags) (xs : List RouteNextHop) → next_hop_flags_bits flags ≡ l.header.flags
+    → xs ≡ l.next_hops.items ++ roll-RouteNextHop (record { flags = flags; hops = l.header.hops; interface_index = l.header.interface_index; attributes = l.attributes }) ∷ []
+    → map hop_of xs ≡ map hop_of l.next_hops.items ++ closed_hop l ∷ []
+hops_closed l flags xs bits is =
+    let x : RouteNextHop-F RouteAttribute RouteNextHop = record { flags = flags; hops = l.header.hops; interface_index = l.header.interface_index; attributes = l.attributes } in
+    let same : hop_of (roll-RouteNextHop x) ≡ closed_hop l =
+        view_hop_made x
+        ∙ ap (λ (f : ℕ). record { head = record { flags = f; hops = l.header.hops; interface_index = l.header.interface_index }; attributes = attributes_of (map meaning_of l.attributes.items) }) bits in
+    ap (map hop_of) is ∙ map_push hop_of l.next_hops.items (roll-RouteNextHop x) ∙ ap (λ (h : Hop). map hop_of l.next_hops.items ++ h ∷ []) same
+
+-- looks at an attribute and at the next hop in it
+pub Added-hits : (old mid new : Counts) (room_before room_after built_before built_after : ℕ) → mid ≡ hit old → new ≡ hit mid → room_after + 2 ≤ room_before → built_after ≤ built_before + 2
+    → Added old new room_before room_after built_before built_after
+Added-hits old mid new rb ra bb ba is so r b =
+    let s = ap (λ (c : Counts). c.successful) is in
+    let t = ap (λ (c : Counts). c.successful) so in
+    record {
+      kept = omega (arith, s, t);
+      most = omega (arith, s, t, r);
+      failed = ap (λ (c : Counts). c.failed) so ∙ ap (λ (c : Counts). c.failed) is;
+      each = λ below. omega (arith, s, t, b, below);
+    }
+
+-- steps one after the other
+pub Added-more : (start old new : Counts) (all room_before room_after built_before built_after : ℕ) → Added start old all room_before 0 built_before → Added old new room_before room_after built_before built_after
+    → Added start new all room_after 0 built_after
+Added-more start old new all rb ra bb ba p q = record {
+  kept = omega (arith, p.kept, q.kept);
+  most = omega (arith, p.most, q.most);
+  failed = q.failed ∙ p.failed;
+  each = λ below. omega (arith, q.each below, p.each (omega (arith, q.kept, below)));
+}
+
+-- what a whole reading adds
+pub Added-bounds : (start new : Counts) (len room_after built_after : ℕ) → Added start new (len / 4) room_after 0 built_after → AddsAtMost start new len
+Added-bounds start new len ra ba p = record { kept = p.kept; successful = omega (arith, p.most); failed_kept = omega (arith, p.failed); failed = omega (arith, p.failed) }
+
+pub Added-saw : (start new : Counts) (len room_after built_after : ℕ) → Added start new (len / 4) room_after 0 built_after → SawEach start new built_after
+Added-saw start new len ra ba p = record { failed = p.failed; each = λ below. omega (arith, p.each below) }
+
+pub Ended-bounds : (start old new : Counts) (len room_before built_before : ℕ) → Added start old (len / 4) room_before 0 built_before → Ended old new room_before → AddsAtMost start new len
+Ended-bounds start old new len rb bb p q = record {
+  kept = omega (arith, p.kept, q.kept);
+  successful = omega (arith, p.most, q.most);
+  failed_kept = omega (arith, p.failed, q.failed_kept);
+  failed = omega (arith, p.failed, q.failed);
+}

@@ -11,12 +11,16 @@ use Rattle.npr_route.specs.Attribute.{HopHead, Meaning, flat, multi_path, Attrib
 use Rattle.npr_route.specs.AttributeView.{attributes_of, hops_of, attribute_step, hop_step, meaning_of, hop_of, attribute_item, attribute_misfit, next_hop_bytes, next_hop_misfit, joined}
 use Rattle.npr_scalar.specs.RouteFlags.{next_hop_flags_bits}
 use Rattle.npr_route.specs.declared.attribute.RouteAttribute.{RouteAttribute}
-use Rattle.npr_route.specs.declared.attribute.RouteAttribute.TheFolds.{fold_out-RouteNextHop, fold-roll-RouteAttribute}
+use Rattle.npr_route.specs.declared.attribute.RouteAttribute.TheFolds.{fold_out-RouteNextHop, fold-roll-RouteNextHop, fold-roll-RouteAttribute}
 use Rattle.npr_route.specs.declared.attribute.RouteAttribute.TheOpen as Open
-use Rattle.npr_route.specs.declared.attribute.RouteAttribute.TheVariants.{MultiPath, rolls-MultiPath}
+use Rattle.npr_route.specs.declared.attribute.RouteAttribute.TheVariants.{MultiPath, rolls-MultiPath, NewDestination, rolls-NewDestination, NewDestinationAddress, rolls-NewDestinationAddress, Expires, rolls-Expires, MulticastExpires, rolls-MulticastExpires}
+use Rattle.npr_scalar.specs.RouteAddress.{address_of}
+use Rattle.npr_scalar.specs.declared.address.RouteAddress.{RouteAddress}
+use Rattle.npr_scalar.specs.declared.mpls.MplsLabel.{MplsLabel}
+use Rattle.npr_route.specs.FlatAttribute as Flat
 use Rattle.std.specs.declared.vec.Vec.{Vec}
 use Rattle.std.specs.declared.alloc.Global.{Global}
-use Rattle.npr_route.specs.declared.next_hops.RouteNextHop.{RouteNextHop}
+use Rattle.npr_route.specs.declared.next_hops.RouteNextHop.{RouteNextHop, RouteNextHop-F, roll-RouteNextHop}
 
 abbrev pub head_of : RouteNextHop → HopHead
 head_of h = record { flags = next_hop_flags_bits h.flags; hops = h.hops; interface_index = h.interface_index }
@@ -25,9 +29,26 @@ head_of h = record { flags = next_hop_flags_bits h.flags; hops = h.hops; interfa
 pub view_hop : (h : RouteNextHop) → hop_of h ≡ record { head = head_of h; attributes = attributes_of (map meaning_of h.attributes.items) }
 view_hop h = fold_out-RouteNextHop Meaning Hop attribute_step hop_step h
 
+-- the same of one that is made of its fields
+pub view_hop_made : (x : RouteNextHop-F RouteAttribute RouteNextHop) → hop_of (roll-RouteNextHop x)
+    ≡ record { head = record { flags = next_hop_flags_bits x.flags; hops = x.hops; interface_index = x.interface_index }; attributes = attributes_of (map meaning_of x.attributes.items) }
+view_hop_made = fold-roll-RouteNextHop Meaning Hop attribute_step hop_step
+
 -- and next hops are what each of them means
 pub view_multi_path : (v : Vec RouteNextHop Global) → meaning_of (MultiPath v) ≡ multi_path (hops_of (map hop_of v.items))
 view_multi_path v = ap meaning_of (sym (rolls-MultiPath v)) ∙ fold-roll-RouteAttribute Meaning Hop attribute_step hop_step (Open.MultiPath v)
+
+pub view_new_destination : (v : Vec MplsLabel Global) → meaning_of (NewDestination v) ≡ flat (Flat.new_destination v.items)
+view_new_destination v = ap meaning_of (sym (rolls-NewDestination v)) ∙ fold-roll-RouteAttribute Meaning Hop attribute_step hop_step (Open.NewDestination v)
+
+pub view_new_destination_address : (a : RouteAddress) → meaning_of (NewDestinationAddress a) ≡ flat (Flat.new_destination_address (address_of a))
+view_new_destination_address a = ap meaning_of (sym (rolls-NewDestinationAddress a)) ∙ fold-roll-RouteAttribute Meaning Hop attribute_step hop_step (Open.NewDestinationAddress a)
+
+pub view_expires : (n : ℕ) → meaning_of (Expires n) ≡ flat (Flat.expires n)
+view_expires n = ap meaning_of (sym (rolls-Expires n)) ∙ fold-roll-RouteAttribute Meaning Hop attribute_step hop_step (Open.Expires n)
+
+pub view_multicast_expires : (n : ℕ) → meaning_of (MulticastExpires n) ≡ flat (Flat.multicast_expires n)
+view_multicast_expires n = ap meaning_of (sym (rolls-MulticastExpires n)) ∙ fold-roll-RouteAttribute Meaning Hop attribute_step hop_step (Open.MulticastExpires n)
 
 -- ---- lists of them
 

@@ -1,6 +1,6 @@
 //! The attributes of a route message: `RTA_*` of `linux/rtnetlink.h`.
 
-ghost use Rattle.std.specs.Prelude.{◌≡◌, ◌≢◌, ◌≤◌, ◌<◌, ◌+◌, ◌*◌, ℕ, List, Option, None, false, [], length, map, IfOk, IfErr};
+ghost use Rattle.std.specs.Prelude.{◌≡◌, ◌≢◌, ◌≤◌, ◌<◌, ◌+◌, ◌*◌, ℕ, List, Option, None, false, [], length, map, IfOk, IfErr, IsOk};
 ghost use Rattle.std.proofs.Common.{refl};
 ghost use Rattle.npr_base.specs.Counts.{AddsAtMost, SawEach};
 ghost use Rattle.npr_base.specs.Framing.{number_of};
@@ -9,6 +9,7 @@ ghost use Rattle.npr_base.specs.declared.refusal.DecodeError.TheVariants.{OutOfM
 ghost use Rattle.npr_scalar.specs.RouteAddress.{form_of};
 ghost use Rattle.npr_route.specs.Attribute.{Meaning, flat, plain_of, nested_of};
 ghost use Rattle.npr_route.specs.AttributeView.{meaning_of};
+ghost use Rattle.npr_route.specs.FlatAttributeLaws.{attributes as flat_attributes};
 ghost use Rattle.npr_route.specs.FlatAttribute.{Meaning as Flat, is_multicast, new_destination_row, expires_row, marks, any_marks};
 ghost use Rattle.npr_tunnel.specs.Encapsulation.{meaning_of as member_of};
 ghost use Rattle.npr_route.specs.AttributeLaws.{writing, attributes, item-is};
@@ -249,10 +250,11 @@ fn read_new_destination(
     ensures refused { IfErr result (λ e. e ≢ OutOfMemory → WrongBy (new_destination_row (form_of family)) value.now e) }
 {
     match family {
-        AddressFamily::Mpls => read_labels(alloc, value).map(RouteAttribute::NewDestination),
-        _ => RouteAddress::read(alloc, family, value, AttrFamily::Route.at(19)).map(
-            RouteAttribute::NewDestinationAddress,
-        ),
+        AddressFamily::Mpls => Ok(RouteAttribute::NewDestination(read_labels(alloc, value)?)),
+        _ => {
+            let address = RouteAddress::read(alloc, family, value, AttrFamily::Route.at(19))?;
+            Ok(RouteAttribute::NewDestinationAddress(address))
+        }
     }
 }
 
@@ -261,11 +263,10 @@ fn read_expires(kind: RouteType, value: &[u8]) -> Result<RouteAttribute, DecodeE
     ensures ok { IfOk result (λ a. (m : Flat) × ReadsBy (expires_row (is_multicast kind)) value.now m × (meaning_of a ≡ flat m)) }
     ensures refused { IfErr result (λ e. WrongBy (expires_row (is_multicast kind)) value.now e) }
 {
+    let at = AttrFamily::Route.at(23);
     match kind {
-        RouteType::Multicast => read_u64(value, AttrFamily::Route.at(23)).map(
-            RouteAttribute::MulticastExpires,
-        ),
-        _ => read_u32(value, AttrFamily::Route.at(23)).map(RouteAttribute::Expires),
+        RouteType::Multicast => Ok(RouteAttribute::MulticastExpires(read_u64(value, at)?)),
+        _ => Ok(RouteAttribute::Expires(read_u32(value, at)?)),
     }
 }
 
@@ -278,7 +279,8 @@ pub(crate) fn read_flat(
 ) -> Result<RouteAttribute, DecodeError>
     requires { number_of (item.now).kind ≡ 9 → (item.now).value ≡ [] }
     ensures ok { IfOk result (λ a. (attributes context).Reads item.now (meaning_of a)) }
-    ensures refused { IfErr result (λ e. e ≢ OutOfMemory → (attributes context).Faulty item.now e) }
+    ensures refused { IfErr result (λ e. e ≢ OutOfMemory → (flat_attributes context).Faulty item.now e) }
+    ensures nine { number_of (item.now).kind ≡ 9 → IsOk result }
     ensures bounded { AddsAtMost looks.old looks.new (length (item.now).value) }
     ensures counted { IfOk result (λ a. SawEach looks.old looks.new (writing.members (meaning_of a))) }
 {

@@ -67,6 +67,21 @@ pub fn read_next_hops(
     ensures bounded { AddsAtMost looks.old looks.new (length bytes.now) }
     ensures counted { IfOk result (λ v. SawEach looks.old looks.new (hops_members (hops_of (map hop_of v.items)))) }
 {
+    read_levels(alloc, bytes, context, looks)
+}
+
+fn read_levels(
+    alloc: Global,
+    bytes: &[u8],
+    context: Context,
+    looks: &mut Looks,
+) -> Result<Vec<RouteNextHop>, DecodeError>
+    ensures ok { IfOk result (λ v. AreHops context bytes.now (hops_of (map hop_of v.items))) }
+    ensures refused { IfErr result (λ e. e ≢ OutOfMemory → HopsWrong context bytes.now e) }
+    ensures memory { IsErrOf result OutOfMemory → (h : HopHead) × (inside : List ℕ) × (rest : List ℕ) × HopFront bytes.now h inside rest }
+    ensures bounded { AddsAtMost looks.old looks.new (length bytes.now) }
+    ensures counted { IfOk result (λ v. SawEach looks.old looks.new (hops_members (hops_of (map hop_of v.items)))) }
+{
     if bytes.is_empty() {
         return Ok(Vec::new(alloc));
     }
