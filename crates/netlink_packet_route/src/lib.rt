@@ -14,5 +14,6 @@ pub mod rule;
 #[cfg(test)]
 mod tests;
 
+pub use bitflags::Flags;
 pub use npr_base::AddressFamily;
 pub use npr_scalar::IpProtocol;
