@@ -1,7 +1,7 @@
 //! A run, from the text that is read to the report that is written.
 
 ghost use Rattle.std.specs.Prelude.{◌≡◌, ◌≢◌, ◌⊎◌, None, Some, length, map, string_bytes, IfOk, IfErr, IfSome, OnOk, OnErr};
-ghost use Rattle.std.specs.Io.KnownBytes.{Keeps};
+ghost use Rattle.std.specs.Io.KnownBytes.{IsAtEnd, Keeps};
 ghost use Rattle.netlink_packet_route.specs.Family.{first_unfit};
 ghost use Rattle.netlink_packet_route.specs.declared.framing.DecodeError.{DecodeError};
 ghost use Rattle.netlink_packet_route.specs.declared.framing.DecodeError.TheVariants.{OutOfMemory};
@@ -38,6 +38,7 @@ pub fn run<R: Read, W: Write>(
     ensures ok { OnOk result (Reports which (R.remaining reader.old.inner)
         (W.contents writer.old.inner) (W.contents writer.new.inner)) }
     ensures bad { result ≡ Err BadHex → IfSome (R.remaining reader.old.inner) IsNoHexText }
+    ensures end { result ≢ Err ReadFailed → result ≢ Err Memory → IsAtEnd (R.remaining reader.new.inner) }
     ensures silent { OnErr result (result ≢ Err WriteFailed
         → Keeps (W.contents writer.old.inner) (W.contents writer.new.inner)) }
     ensures part { result ≡ Err WriteFailed → ReportsPart which (R.remaining reader.old.inner)
