@@ -1,6 +1,7 @@
 //! Address messages that are read, changed and built.
 
-ghost use Rattle.std.specs.Prelude.{◌≡◌, ◌≢◌, None, Some, IfOk, IfErr};
+ghost use Rattle.std.specs.Prelude.{◌≡◌, ◌≢◌, ◌==◌, None, Some, IfOk, IfErr};
+ghost use Rattle.std.specs.Int.RustNames.{bit_and};
 ghost use Rattle.examples.specs.Found.{IsFirst};
 ghost use Rattle.examples.specs.Addresses.{local_ipv4, loopback, loopback_written, with_priority};
 ghost use Rattle.examples.specs.declared.fault.Fault.TheVariants.{Refused, Unfit};
@@ -12,12 +13,12 @@ ghost use Rattle.netlink_packet_route.specs.declared.framing.DecodeError.TheVari
 ghost use Rattle.netlink_packet_route.specs.declared.framing.EmitError.{EmitError};
 
 use crate::fault::Fault;
-use netlink_packet_route::AddressFamily;
 use netlink_packet_route::address::{
     AddressAttribute, AddressHeader, AddressHeaderFlags, AddressMessage, AddressScope,
 };
 use netlink_packet_route::framing::{DecodeError, EmitError, Emitable, Parseable};
 use netlink_packet_route::net::{IpAddr, Ipv4Addr};
+use netlink_packet_route::{AddressFamily, Flags};
 use std::alloc::{AllocError, Global};
 
 /// The first local address of version 4 in the address message that the bytes are.
@@ -48,6 +49,13 @@ fn local_ipv4(attribute: &AddressAttribute) -> Option<Ipv4Addr>
         AddressAttribute::Local(IpAddr::V4(ip)) => Some(*ip),
         _ => None,
     }
+}
+
+/// Whether the header calls the address permanent (`IFA_F_PERMANENT`).
+pub fn is_permanent(message: &AddressMessage) -> bool
+    ensures { result ≡ (bit_and message.now.header.flags.0 0x80 == 0x80) }
+{
+    message.header.flags.contains(AddressHeaderFlags::Permanent)
 }
 
 /// The message that gives the loopback interface, which has the number 1, its address 127.0.0.1/8
