@@ -6,6 +6,31 @@ ghost use Rattle.npr_address.specs.Message.{Address, IsAddressMessage, IsCoheren
 ghost use Rattle.npr_route.specs.Message.{Route, IsRouteMessage, IsCoherentRoute, route_bytes, route_misfit};
 ghost use Rattle.npr_rule.specs.Message.{Rule, IsRuleMessage, IsCoherentRule, rule_bytes, rule_misfit};
 
+pub use npr_address::laws::law_equality as law_address_equality;
+pub use npr_address::{
+    law_protocol_number as law_address_protocol_number,
+    law_scope_number as law_address_scope_number,
+};
+pub use npr_base::{law_equality as law_framing_equality, law_family_number};
+pub use npr_route::laws::{law_equality as law_route_equality, law_governing_type, law_next_hops};
+pub use npr_rule::law_action_number as law_rule_action_number;
+pub use npr_rule::laws::law_equality as law_rule_equality;
+pub use npr_scalar::{
+    law_default as law_value_default, law_equality as law_value_equality, law_ip_protocol_number,
+    law_label_number, law_labels_length, law_layouts as law_value_layouts,
+    law_read_back as law_value_read_back, law_realm_number, law_route_preference_number,
+    law_route_protocol_number, law_route_scope_number, law_route_type_number,
+    law_ttl_propagation_number,
+};
+pub use npr_srh::laws::law_equality as law_routing_header_equality;
+pub use npr_srh::{
+    law_action_number as law_seg6_local_action_number, law_ioam6_mode_number,
+    law_mode_number as law_seg6_mode_number,
+};
+pub use npr_tunnel::{
+    law_default as law_tunnel_default, law_encap_type_number, law_equality as law_tunnel_equality,
+};
+
 /// Bytes are one message of each kind at most.
 pub fn law_one_reading()
     ensures address { (bytes : List ℕ) (m n : Address) → IsAddressMessage bytes m → IsAddressMessage bytes n → m ≡ n }
