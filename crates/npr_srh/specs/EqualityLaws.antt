@@ -66,8 +66,8 @@ local_header_equality a b =
     decides_as
     (λ p. cc)
     (λ e. let is : (get : LocalFront → ℕ) → get (local_of a).front ≡ get (local_of b).front = λ get. ap (λ (h : Local). get h.front) e in
-    let tail = ap (λ (h : Local). h.segments) e in
-    (is (λ f. f.next_header), (is (λ f. f.routing_type), (is (λ f. f.segments_left), (is (λ f. f.first_segment), (is (λ f. f.flags), (is (λ f. f.tag), tail)))))))
+    let s = ap (λ (h : Local). h.segments) e in
+    (is (λ f. f.next_header), (is (λ f. f.routing_type), (is (λ f. f.segments_left), (is (λ f. f.first_segment), (is (λ f. f.flags), (is (λ f. f.tag), s)))))))
     (and_decides (unsigned_Decides a.next_header b.next_header)
     (and_decides (unsigned_Decides a.routing_type b.routing_type)
     (and_decides (unsigned_Decides a.segments_left b.segments_left)
