@@ -1,5 +1,7 @@
--- The value of a SEG6 attribute (linux/seg6_iptunnel.h, struct seg6_iptunnel_encap): a mode of four bytes, and then a routing header of segments (RFC 8754, section 2; linux/seg6.h, struct ipv6_sr_hdr).
-use Rattle.std.specs.Prelude.{◌≡◌, ◌≢◌, ℕ, ◌+◌, ◌-◌, ◌*◌, ◌/◌, ◌%◌, ◌^◌, ◌<◌, ◌≤◌, List, [], ◌∷◌, ◌++◌, length, take, drop, slice_index, replicate, reverse, Option, Some, None}
+-- The value of a SEG6 attribute (linux/seg6_iptunnel.h, struct seg6_iptunnel_encap): a mode of four bytes, and then a
+-- routing header of segments (RFC 8754, section 2; linux/seg6.h, struct ipv6_sr_hdr).
+use Rattle.std.specs.Prelude.{◌≡◌, ◌≢◌, ℕ, ◌+◌, ◌-◌, ◌*◌, ◌/◌, ◌%◌, ◌^◌, ◌<◌, ◌≤◌, List, [], ◌∷◌, ◌++◌, length, take}
+use Rattle.std.specs.Prelude.{drop, slice_index, replicate, reverse, Option, Some, None}
 use Rattle.std.specs.Int.{w16, w32, to_le_bytes, to_be_bytes, from_be_bytes}
 use Rattle.std.specs.List.{concat}
 use Rattle.std.proofs.Common.{refl}
@@ -22,7 +24,16 @@ use Rattle.npr_srh.specs.declared.seg6_header.Seg6Header.{Seg6Header}
 -- ---- the first twelve bytes
 
 abbrev pub decode_message : List ℕ → Seg6MessageBuffer
-decode_message b = record { mode = le32_at b 0; nexthdr = slice_index b 4; hdrlen = slice_index b 5; seg_type = slice_index b 6; segments_left = slice_index b 7; first_segment = slice_index b 8; flags = slice_index b 9; tag = le16_at b 10 }
+decode_message b = record {
+  mode = le32_at b 0;
+  nexthdr = slice_index b 4;
+  hdrlen = slice_index b 5;
+  seg_type = slice_index b 6;
+  segments_left = slice_index b 7;
+  first_segment = slice_index b 8;
+  flags = slice_index b 9;
+  tag = le16_at b 10;
+}
 
 abbrev pub encode_message : Seg6MessageBuffer → List ℕ
 encode_message b = to_le_bytes w32 b.mode ++ b.nexthdr ∷ b.hdrlen ∷ b.seg_type ∷ b.segments_left ∷ b.first_segment ∷ b.flags ∷ to_le_bytes w16 b.tag
@@ -50,7 +61,16 @@ message-back b h = λ i. record {
 }
 
 pub message-holds : (b : List ℕ) → IsBytes b → length b ≡ 12 → HoldsMessage (decode_message b)
-message-holds b is e = record { mode = le32_at-holds b 0 is; nexthdr = is 4; hdrlen = is 5; seg_type = is 6; segments_left = is 7; first_segment = is 8; flags = is 9; tag = le16_at-holds b 10 is }
+message-holds b is e = record {
+  mode = le32_at-holds b 0 is;
+  nexthdr = is 4;
+  hdrlen = is 5;
+  seg_type = is 6;
+  segments_left = is 7;
+  first_segment = is 8;
+  flags = is 9;
+  tag = le16_at-holds b 10 is;
+}
 
 abbrev pub message : Layout Seg6MessageBuffer
 message = record {
@@ -115,7 +135,8 @@ abbrev pub Seg6Faulty : List ℕ → Seg6MessageBuffer → Seg6Fault → Type 0
 Seg6Faulty bytes b Short = length bytes < 12
 Seg6Faulty bytes b Length = (12 ≤ length bytes) × (length bytes < 4 + header_len b)
 Seg6Faulty bytes b Hmac = (12 ≤ length bytes) × (4 + header_len b ≤ length bytes) × (hmac_len b ≡ 40) × (header_len b < 48)
-Seg6Faulty bytes b Segments = (12 ≤ length bytes) × (4 + header_len b ≤ length bytes) × (8 + hmac_len b ≤ header_len b) × ((header_len b - (8 + hmac_len b)) % 16 ≢ 0)
+Seg6Faulty bytes b Segments =
+    (12 ≤ length bytes) × (4 + header_len b ≤ length bytes) × (8 + hmac_len b ≤ header_len b) × ((header_len b - (8 + hmac_len b)) % 16 ≢ 0)
 
 abbrev pub Seg6Wrong : List ℕ → DecodeError → Type 0
 Seg6Wrong bytes (Refused fault) = Seg6Faulty bytes (decode_message (take 12 bytes)) fault

@@ -8,7 +8,7 @@ mod flags;
 mod geneve;
 mod ip;
 mod ip6;
-mod laws;
+pub mod laws;
 mod mpls;
 #[cfg(test)]
 mod tests;
@@ -23,7 +23,6 @@ pub use flags::{RouteIp6TunnelFlags, RouteIpTunnelFlags};
 pub use geneve::RouteGeneveOpt;
 pub use ip::RouteIpTunnel;
 pub use ip6::RouteIp6Tunnel;
-pub use laws::{law_default, law_encap_type_number, law_equality};
 pub use mpls::RouteMplsIpTunnel;
 pub use tunnel_opts::RouteLwTunnelOpt;
 pub use vxlan::RouteVxlanOpt;
