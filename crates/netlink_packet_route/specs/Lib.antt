@@ -11,7 +11,7 @@ pub use Rattle.npr_base.specs.Family
 pub use Rattle.npr_base.specs.Framing
 pub use Rattle.npr_base.specs.Ip
 pub use Rattle.npr_base.specs.IpCodec
-pub use Rattle.npr_base.specs.ItemEquality
+pub use Rattle.npr_base.specs.ViewEquality
 pub use Rattle.npr_base.specs.Layout
 pub use Rattle.npr_base.specs.ListCodec
 pub use Rattle.npr_base.specs.ListLaws
@@ -23,9 +23,9 @@ pub use Rattle.npr_base.specs.Table
 pub use Rattle.npr_base.specs.TableLaws
 pub use Rattle.npr_base.specs.V6List
 pub use Rattle.npr_base.specs.VariantCodec
+pub use Rattle.npr_base.specs.Walk
 -- values
 pub use Rattle.npr_scalar.specs.IpProtocol
-pub use Rattle.npr_scalar.specs.IpProtocolLaws
 pub use Rattle.npr_scalar.specs.Mpls
 pub use Rattle.npr_scalar.specs.MplsLaws
 pub use Rattle.npr_scalar.specs.Realm as RouteRealm
@@ -34,16 +34,11 @@ pub use Rattle.npr_scalar.specs.RouteCacheInfo
 pub use Rattle.npr_scalar.specs.RouteFlags
 pub use Rattle.npr_scalar.specs.RouteMfcStats
 pub use Rattle.npr_scalar.specs.RoutePreference
-pub use Rattle.npr_scalar.specs.RoutePreferenceLaws
 pub use Rattle.npr_scalar.specs.RouteProtocol
-pub use Rattle.npr_scalar.specs.RouteProtocolLaws
 pub use Rattle.npr_scalar.specs.RouteScope
-pub use Rattle.npr_scalar.specs.RouteScopeLaws
 pub use Rattle.npr_scalar.specs.RouteType
-pub use Rattle.npr_scalar.specs.RouteTypeLaws
 pub use Rattle.npr_scalar.specs.RouteVia
 pub use Rattle.npr_scalar.specs.TtlPropagation
-pub use Rattle.npr_scalar.specs.TtlPropagationLaws
 pub use Rattle.npr_scalar.specs.ViaBuffer as RouteViaBuffer
 -- routing headers
 pub use Rattle.npr_srh.specs.Headed
@@ -84,6 +79,7 @@ pub use Rattle.npr_address.specs.MessageLaws as AddressMessageLaws
 -- rule messages
 pub use Rattle.npr_rule.specs.Action as RuleAction
 pub use Rattle.npr_rule.specs.Attribute as RuleAttribute
+pub use Rattle.npr_rule.specs.Flags as RuleFlags
 pub use Rattle.npr_rule.specs.Header as RuleHeader
 pub use Rattle.npr_rule.specs.IpProtocolByte
 pub mod RuleMessage

@@ -149,6 +149,13 @@ impl<'a> NlasIterator<'a> {
         NlasIterator { rest: bytes }
     }
 
+    /// The bytes that haven't been walked: none after the end or a fault.
+    pub fn rest(&self) -> &'a [u8]
+        ensures { result.now ≡ self.now }
+    {
+        self.rest
+    }
+
     fn step(&mut self) -> Option<Result<NlaBuffer<'a>, DecodeError>>
         ensures { Step self.old result self.new }
     {
