@@ -11,8 +11,6 @@ pub mod laws;
 pub mod net;
 pub mod route;
 pub mod rule;
-#[cfg(test)]
-mod tests;
 
 pub use npr_base::AddressFamily;
 pub use npr_scalar::IpProtocol;

@@ -12,10 +12,6 @@ mod mfc_stats;
 mod mpls;
 mod preference;
 mod realm;
-#[cfg(test)]
-mod route_tests;
-#[cfg(test)]
-mod tests;
 mod via;
 
 pub use address::RouteAddress;
