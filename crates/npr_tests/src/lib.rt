@@ -19,6 +19,8 @@ mod helpers;
 #[cfg(test)]
 mod lists;
 #[cfg(test)]
+mod lone;
+#[cfg(test)]
 mod next_hops;
 #[cfg(test)]
 mod route;
@@ -26,6 +28,8 @@ mod route;
 mod rule;
 #[cfg(test)]
 mod srh;
+#[cfg(test)]
+mod texts;
 #[cfg(test)]
 mod tunnel;
 #[cfg(test)]
