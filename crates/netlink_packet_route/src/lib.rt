@@ -12,8 +12,6 @@ pub mod net;
 pub mod numbers;
 pub mod route;
 pub mod rule;
-#[cfg(test)]
-mod tests;
 
 pub use bitflags::Flags;
 pub use npr_base::AddressFamily;

@@ -1,8 +1,6 @@
 //! Routing headers of lightweight tunnels: SEG6, SEG6 local, RPL and IOAM6.
 #![tactic(auto)]
 
-#[cfg(test)]
-mod header_tests;
 mod ioam6;
 pub mod laws;
 mod rpl;
@@ -13,8 +11,6 @@ mod seg6local;
 mod seg6local_action;
 mod seg6local_srh;
 mod segments;
-#[cfg(test)]
-mod tests;
 
 pub use ioam6::{Ioam6Mode, Ioam6TraceHdr, RouteIoam6Tunnel};
 pub use rpl::{RouteRplIpTunnel, RplSrh};

@@ -10,8 +10,6 @@ mod ip;
 mod ip6;
 pub mod laws;
 mod mpls;
-#[cfg(test)]
-mod tests;
 mod tunnel_opts;
 mod vxlan;
 mod xfrm;
