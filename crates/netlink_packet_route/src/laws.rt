@@ -11,18 +11,22 @@ ghost use Rattle.npr_address.specs.Message.{Address, IsAddressMessage, IsCoheren
 ghost use Rattle.npr_route.specs.Message.{Route, IsRouteMessage, IsCoherentRoute, route_bytes, route_misfit};
 ghost use Rattle.npr_rule.specs.Message.{Rule, IsRuleMessage, IsCoherentRule, rule_bytes, rule_misfit};
 
+use npr_address::AddressAttribute;
 pub use npr_address::laws::{
     law_address_flags, law_default as law_address_default, law_equality as law_address_equality,
     law_numbers as law_address_numbers,
 };
+use npr_base::laws::law_cut as law_cut_in_two;
 pub use npr_base::laws::{
     law_constants as law_framing_constants, law_default as law_family_default,
     law_equality as law_framing_equality, law_family_number, law_walk,
 };
+use npr_route::RouteAttribute;
 pub use npr_route::laws::{
     law_constants as law_route_constants, law_default as law_route_default,
     law_equality as law_route_equality, law_governing_type, law_next_hops,
 };
+use npr_rule::RuleAttribute;
 pub use npr_rule::laws::{
     law_default as law_rule_default, law_equality as law_rule_equality,
     law_numbers as law_rule_numbers, law_rule_flags,
@@ -39,13 +43,8 @@ pub use npr_srh::laws::{
 };
 pub use npr_tunnel::laws::{
     law_default as law_tunnel_default, law_encap_type_number, law_equality as law_tunnel_equality,
-    law_ip6_flags, law_ip_flags,
+    law_ip_flags, law_ip6_flags,
 };
-
-use npr_address::AddressAttribute;
-use npr_base::laws::law_cut as law_cut_in_two;
-use npr_route::RouteAttribute;
-use npr_rule::RuleAttribute;
 
 /// Bytes are one message of each kind at most.
 pub fn law_one_reading()

@@ -9,8 +9,8 @@ use crate::addr_protocol::AddressProtocol;
 use crate::cache_info::{CacheInfo, CacheInfoBuffer};
 use bitflags::Flags;
 use npr_base::{
-    AttrFamily, Attribute, DecodeError, DefaultNla, EmitError, IpAddr, Ipv4Addr, Ipv6Addr,
-    Looks, Nla, NlaBuffer, Parseable, check_len, ip_len, read_i32, read_ip, read_ipv4, read_ipv6,
+    AttrFamily, Attribute, DecodeError, DefaultNla, EmitError, IpAddr, Ipv4Addr, Ipv6Addr, Looks,
+    Nla, NlaBuffer, Parseable, check_len, ip_len, read_i32, read_ip, read_ipv4, read_ipv6,
     read_name, read_u8, read_u32, write_bytes, write_ip, write_name,
 };
 use std::alloc::{AllocError, Global};
@@ -172,10 +172,16 @@ impl Attribute for AddressAttribute {
             5 => AddressAttribute::Anycast(read_ipv6(value, AttrFamily::Address.at(5))?),
             6 => AddressAttribute::CacheInfo(CacheInfo::parse(value)?),
             7 => AddressAttribute::Multicast(read_ipv6(value, AttrFamily::Address.at(7))?),
-            8 => AddressAttribute::Flags(AddressFlags::from_bits_retain(read_u32(value, AttrFamily::Address.at(8))?)),
+            8 => AddressAttribute::Flags(AddressFlags::from_bits_retain(read_u32(
+                value,
+                AttrFamily::Address.at(8),
+            )?)),
             9 => AddressAttribute::RoutePriority(read_u32(value, AttrFamily::Address.at(9))?),
             10 => AddressAttribute::TargetNetNsId(read_i32(value, AttrFamily::Address.at(10))?),
-            11 => AddressAttribute::Protocol(AddressProtocol::from(read_u8(value, AttrFamily::Address.at(11))?)),
+            11 => AddressAttribute::Protocol(AddressProtocol::from(read_u8(
+                value,
+                AttrFamily::Address.at(11),
+            )?)),
             _ => AddressAttribute::Other(DefaultNla::parse(alloc, item)?),
         })
     }

@@ -299,7 +299,9 @@ fn read_expires(kind: RouteType, value: &[u8]) -> Result<RouteAttribute, DecodeE
     ensures refused { IfErr result (λ e. WrongBy (expires_row (is_multicast kind)) value.now e) }
 {
     match kind {
-        RouteType::Multicast => read_u64(value, AttrFamily::Route.at(23)).map(RouteAttribute::MulticastExpires),
+        RouteType::Multicast => read_u64(value, AttrFamily::Route.at(23)).map(
+            RouteAttribute::MulticastExpires,
+        ),
         _ => read_u32(value, AttrFamily::Route.at(23)).map(RouteAttribute::Expires),
     }
 }
@@ -328,28 +330,44 @@ impl Attribute for RouteAttribute {
         let (family, kind, encapsulation) = context;
         let value = item.value();
         match item.kind() {
-            1 => RouteAddress::read(alloc, family, value, AttrFamily::Route.at(1)).map(Self::Destination),
-            2 => RouteAddress::read(alloc, family, value, AttrFamily::Route.at(2)).map(Self::Source),
+            1 => RouteAddress::read(alloc, family, value, AttrFamily::Route.at(1)).map(
+                Self::Destination,
+            ),
+            2 => RouteAddress::read(alloc, family, value, AttrFamily::Route.at(2)).map(
+                Self::Source,
+            ),
             3 => read_u32(value, AttrFamily::Route.at(3)).map(Self::Iif),
             4 => read_u32(value, AttrFamily::Route.at(4)).map(Self::Oif),
-            5 => RouteAddress::read(alloc, family, value, AttrFamily::Route.at(5)).map(Self::Gateway),
+            5 => RouteAddress::read(alloc, family, value, AttrFamily::Route.at(5)).map(
+                Self::Gateway,
+            ),
             6 => read_u32(value, AttrFamily::Route.at(6)).map(Self::Priority),
-            7 => RouteAddress::read(alloc, family, value, AttrFamily::Route.at(7)).map(Self::PrefSource),
+            7 => RouteAddress::read(alloc, family, value, AttrFamily::Route.at(7)).map(
+                Self::PrefSource,
+            ),
             8 => parse_list(alloc, (), value, looks).map(Self::Metrics),
-            11 => read_u32(value, AttrFamily::Route.at(11)).map(|number| Self::Realm(RouteRealm::from(number))),
+            11 => read_u32(value, AttrFamily::Route.at(11)).map(|number| Self::Realm(
+                RouteRealm::from(number),
+            )),
             12 => RouteCacheInfo::parse(value).map(Self::CacheInfo),
             15 => read_u32(value, AttrFamily::Route.at(15)).map(Self::Table),
             16 => read_u32(value, AttrFamily::Route.at(16)).map(Self::Mark),
             17 => RouteMfcStats::parse(value).map(Self::MfcStats),
             18 => RouteVia::read(alloc, value, AttrFamily::Route.at(18)).map(Self::Via),
             19 => read_new_destination(alloc, family, value),
-            20 => read_u8(value, AttrFamily::Route.at(20)).map(|n| Self::Preference(RoutePreference::from(n))),
-            21 => read_u16(value, AttrFamily::Route.at(21)).map(|n| Self::EncapType(RouteLwEnCapType::from(n))),
+            20 => read_u8(value, AttrFamily::Route.at(20)).map(|n| Self::Preference(
+                RoutePreference::from(n),
+            )),
+            21 => read_u16(value, AttrFamily::Route.at(21)).map(|n| Self::EncapType(
+                RouteLwEnCapType::from(n),
+            )),
             22 => parse_list(alloc, encapsulation, value, looks).map(Self::Encap),
             23 => read_expires(kind, value),
             25 => read_u32(value, AttrFamily::Route.at(25)).map(Self::Uid),
             26 => {
-                read_u8(value, AttrFamily::Route.at(26)).map(|n| Self::TtlPropagate(RouteMplsTtlPropagation::from(n)))
+                read_u8(value, AttrFamily::Route.at(26)).map(|n| Self::TtlPropagate(
+                    RouteMplsTtlPropagation::from(n),
+                ))
             }
             27 => read_u8(value, AttrFamily::Route.at(27)).map(Self::IpProto),
             28 => read_u16_be(value, AttrFamily::Route.at(28)).map(Self::Sport),

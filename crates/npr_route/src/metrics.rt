@@ -5,8 +5,8 @@ ghost use Rattle.std.proofs.Common.{refl};
 ghost use Rattle.npr_route.specs.Metric.{Metric, metric_of, writing, metrics};
 
 use npr_base::{
-    AttrFamily, Attribute, DecodeError, DefaultNla, EmitError, Looks, Nla, NlaBuffer,
-    Parseable, check_len, read_name, read_u32, write_bytes, write_name,
+    AttrFamily, Attribute, DecodeError, DefaultNla, EmitError, Looks, Nla, NlaBuffer, Parseable,
+    check_len, read_name, read_u32, write_bytes, write_name,
 };
 use std::alloc::{AllocError, Global};
 

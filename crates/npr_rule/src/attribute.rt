@@ -258,10 +258,22 @@ impl Attribute for RuleAttribute {
             17 => RuleAttribute::Oifname(read_name(alloc, value, AttrFamily::Rule.at(17))?),
             19 => RuleAttribute::L3MDev(read_bool(value, AttrFamily::Rule.at(19))?),
             20 => RuleAttribute::UidRange(RuleUidRange::read(value, AttrFamily::Rule.at(20))?),
-            21 => RuleAttribute::Protocol(RouteProtocol::from(read_u8(value, AttrFamily::Rule.at(21))?)),
-            22 => RuleAttribute::IpProtocol(IpProtocol::from(read_u8(value, AttrFamily::Rule.at(22))?)),
-            23 => RuleAttribute::SourcePortRange(RulePortRange::read(value, AttrFamily::Rule.at(23))?),
-            24 => RuleAttribute::DestinationPortRange(RulePortRange::read(value, AttrFamily::Rule.at(24))?),
+            21 => RuleAttribute::Protocol(RouteProtocol::from(read_u8(
+                value,
+                AttrFamily::Rule.at(21),
+            )?)),
+            22 => RuleAttribute::IpProtocol(IpProtocol::from(read_u8(
+                value,
+                AttrFamily::Rule.at(22),
+            )?)),
+            23 => RuleAttribute::SourcePortRange(RulePortRange::read(
+                value,
+                AttrFamily::Rule.at(23),
+            )?),
+            24 => RuleAttribute::DestinationPortRange(RulePortRange::read(
+                value,
+                AttrFamily::Rule.at(24),
+            )?),
             _ => RuleAttribute::Other(DefaultNla::parse(alloc, item)?),
         })
     }
