@@ -1,7 +1,7 @@
 -- What `==` of a struct answers, from what it answers of the fields.
 --     and_decides      two tests answer two facts
 --     decides_as       the same fact in other words
-use Rattle.std.specs.Prelude.{◌≡◌, Bool, true, false, ◌&&◌}
+use Rattle.std.specs.Prelude.{Bool, true, false, ◌&&◌}
 use Rattle.std.specs.Bool.{Decides}
 use Rattle.std.proofs.Common.{refl, sym, true≢false}
 

@@ -1,6 +1,6 @@
 -- A value that is one of several variants, read by the codec of one of them.
 use Rattle.std.specs.Prelude.{◌≡◌, ℕ, ◌+◌, ◌*◌, ◌≤◌, List, length, None}
-use Rattle.std.proofs.Common.{refl, sym, ap, subst, ◌∙◌, arith}
+use Rattle.std.proofs.Common.{sym, ap, subst, ◌∙◌}
 use Rattle.npr_base.specs.Family.{too_long}
 use Rattle.npr_base.specs.FitLaws.{too_long-short}
 use Rattle.npr_base.specs.Framing.{IsBytes, framed}
