@@ -1,7 +1,6 @@
 //! The attributes of the sample.
 
-ghost use Rattle.std.specs.Prelude.{◌≡◌, ◌≢◌, ◌≤◌, ◌<◌, ◌+◌, ◌*◌, ℕ, List, Option, None, true, length, IfOk, IfErr};
-ghost use Rattle.std.proofs.Common.{refl};
+ghost use Rattle.std.specs.Prelude.{◌≡◌, length, IfOk, refl};
 ghost use Rattle.npr_base.specs.Family.{checked};
 ghost use Rattle.npr_base.specs.Table.{held_nested, held_bytes, plain_item};
 ghost use Rattle.npr_sample.specs.Attribute.{Meaning, meaning_of, place, writing, attributes, unfit_inside};

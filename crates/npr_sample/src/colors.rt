@@ -1,6 +1,6 @@
 //! Colors, and a set of flags.
 
-ghost use Rattle.std.specs.Prelude.{◌≡◌, ℕ};
+ghost use Rattle.std.specs.Prelude.{◌≡◌};
 ghost use Rattle.npr_sample.specs.Color.{color_of, color_number};
 
 /// A color, by its number.

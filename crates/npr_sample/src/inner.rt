@@ -1,7 +1,6 @@
 //! The attributes of a list inside an attribute: two rows.
 
-ghost use Rattle.std.specs.Prelude.{◌≡◌, ◌≢◌, ◌≤◌, ◌<◌, ◌+◌, ◌*◌, ℕ, List, Option, None, false, length, IfOk, IfErr};
-ghost use Rattle.std.proofs.Common.{refl};
+ghost use Rattle.std.specs.Prelude.{◌≡◌, false, length, IfOk, refl};
 ghost use Rattle.npr_sample.specs.Inner.{Meaning, meaning_of, writing, attributes};
 
 use npr_base::{

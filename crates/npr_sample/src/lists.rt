@@ -1,6 +1,6 @@
 //! Lists of the sample's attributes, as bytes.
 
-ghost use Rattle.std.specs.Prelude.{◌≡◌, ◌≢◌, ◌≤◌, ℕ, map, length, IfOk, IfErr};
+ghost use Rattle.std.specs.Prelude.{map};
 ghost use Rattle.npr_base.specs.Family.{ReadsList, FirstFault};
 ghost use Rattle.npr_sample.specs.Attribute.{meaning_of, attributes, list_bytes, list_misfit};
 
