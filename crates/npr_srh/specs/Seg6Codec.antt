@@ -22,8 +22,8 @@ use Rattle.npr_base.specs.Codec.{Codec}
 use Rattle.npr_srh.specs.Seg6Mode.{mode_of, mode_number, mode_number-mode_of}
 use Rattle.npr_srh.specs.declared.seg6_header.Seg6MessageBuffer.{Seg6MessageBuffer}
 use Rattle.npr_srh.specs.Segments.{too_many, few}
-use Rattle.npr_srh.specs.Seg6.{Seg6, IsSeg6, IsKey, Seg6Wrong, Seg6Faulty, HoldsSeg6, HoldsKey, HoldsMessage, decode_message, encode_message, message-back}
-use Rattle.npr_srh.specs.Seg6.{message-holds, header_len, hmac_len, front_of, seg6_bytes, key_bytes, key_eights, key_flags, most_segments, seg6_misfit}
+use Rattle.npr_srh.specs.Seg6.{Seg6, IsSeg6, IsKey, Seg6Wrong, Seg6Faulty, HoldsSeg6, HoldsKey, message, decode_message, encode_message}
+use Rattle.npr_srh.specs.Seg6.{header_len, hmac_len, front_of, seg6_bytes, key_bytes, key_eights, key_flags, most_segments, seg6_misfit}
 
 -- ---- one reading
 
@@ -95,11 +95,11 @@ pub seg6-holds : (bytes : List ℕ) (h : Seg6) → IsBytes bytes → IsSeg6 byte
 seg6-holds bytes h is p =
     let all : IsBytes (p.front ++ (concat p.wire ++ (p.hmac ++ p.rest))) = subst IsBytes p.is is in
     let tail = IsBytes-right p.front (concat p.wire ++ (p.hmac ++ p.rest)) all in
-    let front = message-holds p.front (IsBytes-left p.front (concat p.wire ++ (p.hmac ++ p.rest)) all) p.size in
+    let front = message.Holds-decode p.front (IsBytes-left p.front (concat p.wire ++ (p.hmac ++ p.rest)) all) p.size in
     let wire = v6_list-bytes p.wire (IsBytes-left (concat p.wire) (p.hmac ++ p.rest) tail) in
     let hmac = IsBytes-left p.hmac p.rest (IsBytes-right (concat p.wire) (p.hmac ++ p.rest) tail) in
     record {
-      mode = subst (λ (n : ℕ). n < 2 ^ 32) (sym (ap mode_number p.mode ∙ mode_number-mode_of (decode_message p.front).mode)) front.mode;
+      mode = subst (λ (n : ℕ). n < 2 ^ 32) (sym (ap mode_number p.mode ∙ mode_number-mode_of (decode_message p.front).mode)) front.0.0;
       formed = subst (IsFormed mode_of mode_number) (sym p.mode) (form_IsFormed mode_of mode_number mode_number-mode_of (decode_message p.front).mode);
       whole = subst (AllOf (λ (a : List ℕ). length a ≡ 16)) (sym p.segments) (AllOf-reverse (λ (a : List ℕ). length a ≡ 16) p.wire p.whole);
       segments = subst (AllOf IsBytes) (sym p.segments) (AllOf-reverse IsBytes p.wire wire);
@@ -130,17 +130,9 @@ seg6-back kind h holds fits =
     (none_both (too_long kind (length (seg6_bytes h))) (too_many (most_segments h.hmac) (length h.segments)) fits).1 in
     let room = key-room h.hmac (length h.segments) count in
     let wire = AllOf-reverse (λ (a : List ℕ). length a ≡ 16) h.segments holds.whole in
-    let front : HoldsMessage (front_of h) = record {
-      mode = holds.mode;
-      nexthdr = omega arith;
-      hdrlen = room.0;
-      seg_type = omega arith;
-      segments_left = omega (arith, room.0);
-      first_segment = omega (arith, room.0);
-      flags = room.1;
-      tag = omega arith;
-    } in
-    let back : decode_message (encode_message (front_of h)) ≡ front_of h = message-back (front_of h) front in
+    let low : length h.segments - 1 < 2 ^ 8 = omega (arith, room.0) in
+    let front : message.Holds (front_of h) = ((holds.mode, (omega arith, (room.0, (omega arith, (low, (low, (room.1, omega arith))))))), refl) in
+    let back : decode_message (encode_message (front_of h)) ≡ front_of h = message.decode-encode (front_of h) front in
     record {
       front = encode_message (front_of h);
       wire = reverse h.segments;
