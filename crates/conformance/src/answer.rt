@@ -4,10 +4,10 @@ ghost use Rattle.std.specs.Prelude.{◌≡◌, ◌≢◌, IfSome, IsNone};
 ghost use Rattle.conformance.specs.declared.answer.Word.{Word};
 ghost use Rattle.conformance.specs.Word.{word_name};
 
-use npr_address::AddressMessage;
-use npr_base::{DecodeError, Emitable, Parseable};
-use npr_route::RouteMessage;
-use npr_rule::RuleMessage;
+use netlink_packet_route::address::AddressMessage;
+use netlink_packet_route::framing::{DecodeError, Emitable, Parseable};
+use netlink_packet_route::route::RouteMessage;
+use netlink_packet_route::rule::RuleMessage;
 use std::alloc::{AllocError, Global};
 
 /// A kind of message.

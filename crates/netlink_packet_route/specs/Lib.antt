@@ -1,18 +1,99 @@
-pub use Rattle.npr_base.specs.Framing
-pub use Rattle.npr_base.specs.Refusal
-pub use Rattle.npr_base.specs.Message as Messages
+-- sets of flags
+pub use Rattle.bitflags.specs.Sets as FlagSets
+-- the base layer
+pub use Rattle.npr_base.specs.AddressFamily
+pub use Rattle.npr_base.specs.Blocks
+pub use Rattle.npr_base.specs.Codec
+pub use Rattle.npr_base.specs.Counts
+pub use Rattle.npr_base.specs.DroppedCodec
+pub use Rattle.npr_base.specs.Equality
 pub use Rattle.npr_base.specs.Family
-pub use Rattle.npr_address.specs.Attribute as AddressAttribute
-pub use Rattle.npr_address.specs.Header as AddressHeader
-pub use Rattle.npr_address.specs.Message as AddressMessage
-pub use Rattle.npr_address.specs.MessageLaws as AddressMessageLaws
+pub use Rattle.npr_base.specs.Framing
+pub use Rattle.npr_base.specs.Ip
+pub use Rattle.npr_base.specs.IpCodec
+pub use Rattle.npr_base.specs.ViewEquality
+pub use Rattle.npr_base.specs.Layout
+pub use Rattle.npr_base.specs.ListCodec
+pub use Rattle.npr_base.specs.ListLaws
+pub use Rattle.npr_base.specs.Message as Messages
+pub use Rattle.npr_base.specs.Name
+pub use Rattle.npr_base.specs.Refusal
+pub use Rattle.npr_base.specs.Rows
+pub use Rattle.npr_base.specs.Table
+pub use Rattle.npr_base.specs.TableLaws
+pub use Rattle.npr_base.specs.V6List
+pub use Rattle.npr_base.specs.VariantCodec
+pub use Rattle.npr_base.specs.Walk
+-- values
+pub use Rattle.npr_scalar.specs.IpProtocol
+pub use Rattle.npr_scalar.specs.Mpls
+pub use Rattle.npr_scalar.specs.MplsLaws
+pub use Rattle.npr_scalar.specs.Realm as RouteRealm
 pub use Rattle.npr_scalar.specs.RouteAddress
+pub use Rattle.npr_scalar.specs.RouteCacheInfo
+pub use Rattle.npr_scalar.specs.RouteFlags
+pub use Rattle.npr_scalar.specs.RouteMfcStats
+pub use Rattle.npr_scalar.specs.RoutePreference
+pub use Rattle.npr_scalar.specs.RouteProtocol
+pub use Rattle.npr_scalar.specs.RouteScope
+pub use Rattle.npr_scalar.specs.RouteType
+pub use Rattle.npr_scalar.specs.RouteVia
+pub use Rattle.npr_scalar.specs.TtlPropagation
+pub use Rattle.npr_scalar.specs.ViaBuffer as RouteViaBuffer
+-- routing headers
+pub use Rattle.npr_srh.specs.Headed
+pub use Rattle.npr_srh.specs.Ioam6Mode
+pub use Rattle.npr_srh.specs.Ioam6Tunnel
+pub use Rattle.npr_srh.specs.Keeping
+pub use Rattle.npr_srh.specs.Rpl
+pub use Rattle.npr_srh.specs.RplTunnel
+pub use Rattle.npr_srh.specs.Seg6
+pub use Rattle.npr_srh.specs.Seg6Codec
+pub use Rattle.npr_srh.specs.Seg6Local
+pub use Rattle.npr_srh.specs.Seg6LocalAction
+pub use Rattle.npr_srh.specs.Seg6LocalTunnel
+pub use Rattle.npr_srh.specs.Seg6Mode
+pub use Rattle.npr_srh.specs.Seg6Tunnel
+pub use Rattle.npr_srh.specs.Segments
+pub use Rattle.npr_srh.specs.Trace
+-- tunnels
+pub use Rattle.npr_tunnel.specs.EncapType
+pub use Rattle.npr_tunnel.specs.Encapsulation
+pub use Rattle.npr_tunnel.specs.ErspanOptions
+pub use Rattle.npr_tunnel.specs.Geneve
+pub use Rattle.npr_tunnel.specs.IpTunnel
+pub use Rattle.npr_tunnel.specs.MplsTunnel
+pub use Rattle.npr_tunnel.specs.TunnelOptions
+pub use Rattle.npr_tunnel.specs.VxlanOptions
+pub use Rattle.npr_tunnel.specs.Wrapped
+pub use Rattle.npr_tunnel.specs.XfrmTunnel
+-- address messages
+pub use Rattle.npr_address.specs.AddressFlags
+pub use Rattle.npr_address.specs.AddressProtocol
+pub use Rattle.npr_address.specs.AddressScope
+pub use Rattle.npr_address.specs.Attribute as AddressAttribute
+pub use Rattle.npr_address.specs.CacheInfo
+pub use Rattle.npr_address.specs.Header as AddressHeader
+pub mod AddressMessage
+pub use Rattle.npr_address.specs.MessageLaws as AddressMessageLaws
+-- rule messages
+pub use Rattle.npr_rule.specs.Action as RuleAction
+pub use Rattle.npr_rule.specs.Attribute as RuleAttribute
+pub use Rattle.npr_rule.specs.Flags as RuleFlags
+pub use Rattle.npr_rule.specs.Header as RuleHeader
+pub use Rattle.npr_rule.specs.IpProtocolByte
+pub mod RuleMessage
+pub use Rattle.npr_rule.specs.MessageLaws as RuleMessageLaws
+pub use Rattle.npr_rule.specs.PortRange as RulePortRange
+pub use Rattle.npr_rule.specs.UidRange as RuleUidRange
+-- route messages
 pub use Rattle.npr_route.specs.Attribute as RouteAttribute
 pub use Rattle.npr_route.specs.AttributeLaws as RouteAttributeLaws
+pub use Rattle.npr_route.specs.Governing
 pub use Rattle.npr_route.specs.Header as RouteHeader
-pub use Rattle.npr_route.specs.Message as RouteMessage
+pub mod RouteMessage
 pub use Rattle.npr_route.specs.MessageLaws as RouteMessageLaws
-pub use Rattle.npr_rule.specs.Attribute as RuleAttribute
-pub use Rattle.npr_rule.specs.Header as RuleHeader
-pub use Rattle.npr_rule.specs.Message as RuleMessage
-pub use Rattle.npr_rule.specs.MessageLaws as RuleMessageLaws
+pub use Rattle.npr_route.specs.Metric as RouteMetric
+pub use Rattle.npr_route.specs.NextHopHeader
+pub use Rattle.npr_route.specs.NextHops
+pub use Rattle.npr_route.specs.RouteList

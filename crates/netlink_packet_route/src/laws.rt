@@ -2,9 +2,49 @@
 //! its contract is the law.
 
 ghost use Rattle.std.specs.Prelude.{◌≡◌, ℕ, List, None};
+ghost use Rattle.npr_base.specs.Walk.{CutsInTwo};
+ghost use Rattle.npr_address.specs.Attribute.{attributes as address_attributes};
+ghost use Rattle.npr_route.specs.Attribute.{Context};
+ghost use Rattle.npr_route.specs.AttributeLaws.{attributes as route_attributes};
+ghost use Rattle.npr_rule.specs.Attribute.{attributes as rule_attributes};
 ghost use Rattle.npr_address.specs.Message.{Address, IsAddressMessage, IsCoherentAddress, address_bytes, address_misfit};
 ghost use Rattle.npr_route.specs.Message.{Route, IsRouteMessage, IsCoherentRoute, route_bytes, route_misfit};
 ghost use Rattle.npr_rule.specs.Message.{Rule, IsRuleMessage, IsCoherentRule, rule_bytes, rule_misfit};
+
+use npr_address::AddressAttribute;
+pub use npr_address::laws::{
+    law_address_flags, law_default as law_address_default, law_equality as law_address_equality,
+    law_numbers as law_address_numbers,
+};
+use npr_base::laws::law_cut as law_cut_in_two;
+pub use npr_base::laws::{
+    law_constants as law_framing_constants, law_default as law_family_default,
+    law_equality as law_framing_equality, law_family_number, law_walk,
+};
+use npr_route::RouteAttribute;
+pub use npr_route::laws::{
+    law_constants as law_route_constants, law_default as law_route_default,
+    law_equality as law_route_equality, law_governing_type, law_next_hops,
+};
+use npr_rule::RuleAttribute;
+pub use npr_rule::laws::{
+    law_default as law_rule_default, law_equality as law_rule_equality,
+    law_numbers as law_rule_numbers, law_rule_flags,
+};
+pub use npr_scalar::laws::{
+    law_default as law_value_default, law_equality as law_value_equality, law_label_number,
+    law_labels_length, law_layouts as law_value_layouts, law_next_hop_flags,
+    law_numbers as law_value_numbers, law_read_back as law_value_read_back, law_realm_number,
+    law_route_flags,
+};
+pub use npr_srh::laws::{
+    law_default as law_routing_header_default, law_equality as law_routing_header_equality,
+    law_numbers as law_routing_header_numbers,
+};
+pub use npr_tunnel::laws::{
+    law_default as law_tunnel_default, law_encap_type_number, law_equality as law_tunnel_equality,
+    law_ip_flags, law_ip6_flags,
+};
 
 /// Bytes are one message of each kind at most.
 pub fn law_one_reading()
@@ -37,4 +77,16 @@ pub fn law_canonical()
     npr_address::laws::law_canonical();
     npr_route::laws::law_canonical();
     npr_rule::laws::law_canonical();
+}
+
+/// A list whose beginning is a multiple of four bytes, and is cut into attributes by itself, is the
+/// list of that beginning and then the list of the rest, in the same context.
+pub fn law_cut()
+    ensures address { CutsInTwo address_attributes.Reads }
+    ensures route { (context : Context) → CutsInTwo (route_attributes context).Reads }
+    ensures rule { CutsInTwo rule_attributes.Reads }
+{
+    law_cut_in_two::<AddressAttribute>();
+    law_cut_in_two::<RouteAttribute>();
+    law_cut_in_two::<RuleAttribute>();
 }

@@ -2,17 +2,17 @@
 //!
 //! A message is read by `parse` and written by `emit`, once `check` accepts it. Names and paths are
 //! those of the Rust crate `netlink-packet-route`; what that crate takes from others stands in
-//! `framing` and `net`, and the laws of all messages in `laws`.
+//! `framing` and `net`, the numbers of values in `numbers`, and all laws in `laws`.
 #![tactic(auto)]
 
 pub mod address;
 pub mod framing;
 pub mod laws;
 pub mod net;
+pub mod numbers;
 pub mod route;
 pub mod rule;
-#[cfg(test)]
-mod tests;
 
+pub use bitflags::Flags;
 pub use npr_base::AddressFamily;
 pub use npr_scalar::IpProtocol;

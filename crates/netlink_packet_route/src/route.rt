@@ -9,7 +9,7 @@ pub use npr_scalar::{
     MplsLabel, RouteAddress, RouteCacheInfo, RouteCacheInfoBuffer, RouteFlags, RouteMfcStats,
     RouteMfcStatsBuffer, RouteMplsTtlPropagation, RouteNextHopFlags, RoutePreference,
     RouteProtocol, RouteRealm, RouteScope, RouteType, RouteVia, RouteViaBuffer, emit_labels,
-    read_labels,
+    labels_len, read_labels, write_labels,
 };
 pub use npr_srh::{
     Ioam6Mode, Ioam6TraceHdr, RouteIoam6Tunnel, RouteRplIpTunnel, RouteSeg6IpTunnel,

@@ -1,4 +1,3 @@
 pub mod HexText
 pub mod KnownBytes
 pub mod ReportLines
-pub mod Reported

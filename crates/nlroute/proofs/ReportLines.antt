@@ -1,10 +1,10 @@
 -- The lines of a report, one after another.
-use Rattle.std.proofs.Common.{◌≡◌, ℕ, ◌+◌, ◌<◌, Option, None, List, [], ◌∷◌, ◌++◌, length, map, take, drop, get_or, append-nil, append_assoc, ap, sym, refl, ◌∙◌}
+use Rattle.std.proofs.Common.{◌≡◌, ℕ, ◌+◌, ◌<◌, Option, None, List, [], ◌∷◌, ◌++◌, length, map, take, drop, get_or, append-nil, append_assoc, ap, sym, ◌∙◌}
 use Rattle.std.proofs.lemmas.List.{take_more, drop_more, map_push}
-use Rattle.npr_base.specs.declared.refusal.EmitError.{EmitError}
-use Rattle.npr_base.specs.Framing.{Item}
-use Rattle.npr_base.specs.Family.{first_unfit}
-use Rattle.npr_base.specs.ListLaws.{none_both}
+use Rattle.netlink_packet_route.specs.declared.framing.EmitError.{EmitError}
+use Rattle.netlink_packet_route.specs.Framing.{Item}
+use Rattle.netlink_packet_route.specs.Family.{first_unfit}
+use Rattle.netlink_packet_route.specs.ListLaws.{none_both}
 use Rattle.nlroute.specs.Report.{line_text, lines_text}
 
 lines_text-append : (xs : List Item) (x : Item) → lines_text (xs ++ x ∷ []) ≡ lines_text xs ++ line_text x.kind (length x.value)

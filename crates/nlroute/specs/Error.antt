@@ -1,8 +1,8 @@
 -- The status and the line on standard error of a run that prints no report.
 use Rattle.std.specs.Prelude.{ℕ, List, codes, ◌++◌}
-use Rattle.npr_base.specs.declared.refusal.DecodeError.{DecodeError}
-use Rattle.npr_base.specs.declared.refusal.DecodeError.TheVariants.{OutOfMemory}
-use Rattle.npr_base.specs.Refusal.{decode_name, emit_name}
+use Rattle.netlink_packet_route.specs.declared.framing.DecodeError.{DecodeError}
+use Rattle.netlink_packet_route.specs.declared.framing.DecodeError.TheVariants.{OutOfMemory}
+use Rattle.netlink_packet_route.specs.Refusal.{decode_name, emit_name}
 use Rattle.nlroute.specs.declared.error.RunError.{RunError}
 use Rattle.nlroute.specs.declared.error.RunError.TheVariants.{BadHex, Refused, Unfit, Memory, Read, Write}
 

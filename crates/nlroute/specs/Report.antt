@@ -1,6 +1,6 @@
 -- The text of a report: a heading, a line for each attribute, and the canonical form.
 use Rattle.std.specs.Prelude.{ℕ, List, [], ◌∷◌, ◌++◌, codes, decimal, length}
-use Rattle.npr_base.specs.Framing.{Item}
+use Rattle.netlink_packet_route.specs.Framing.{Item}
 use Rattle.hex.specs.Hex.{encode_lower}
 
 -- the end of a line

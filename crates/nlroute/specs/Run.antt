@@ -1,15 +1,15 @@
 -- What a run has read, answered and written.
 use Rattle.std.specs.Prelude.{◌≡◌, ◌≢◌, ℕ, ◌≤◌, List, length, map, take, Option, Some, None, IfSome}
 use Rattle.std.specs.Io.KnownBytes.{Appends}
-use Rattle.npr_base.specs.declared.refusal.DecodeError.{DecodeError}
-use Rattle.npr_base.specs.declared.refusal.DecodeError.TheVariants.{OutOfMemory}
-use Rattle.npr_base.specs.declared.refusal.EmitError.{EmitError}
-use Rattle.npr_address.specs.Attribute.{writing as address_writing}
-use Rattle.npr_address.specs.Message.{Address as AddressMeaning, IsAddressMessage, AddressFault, address_bytes, address_misfit}
-use Rattle.npr_route.specs.AttributeLaws.{writing as route_writing}
-use Rattle.npr_route.specs.Message.{Route as RouteMeaning, IsRouteMessage, RouteFault, route_bytes, route_misfit}
-use Rattle.npr_rule.specs.Attribute.{writing as rule_writing}
-use Rattle.npr_rule.specs.Message.{Rule as RuleMeaning, IsRuleMessage, RuleFault, rule_bytes, rule_misfit}
+use Rattle.netlink_packet_route.specs.declared.framing.DecodeError.{DecodeError}
+use Rattle.netlink_packet_route.specs.declared.framing.DecodeError.TheVariants.{OutOfMemory}
+use Rattle.netlink_packet_route.specs.declared.framing.EmitError.{EmitError}
+use Rattle.netlink_packet_route.specs.AddressAttribute.{writing as address_writing}
+use Rattle.netlink_packet_route.specs.AddressMessage.{Address as AddressMeaning, IsAddressMessage, AddressFault, address_bytes, address_misfit}
+use Rattle.netlink_packet_route.specs.RouteAttributeLaws.{writing as route_writing}
+use Rattle.netlink_packet_route.specs.RouteMessage.{Route as RouteMeaning, IsRouteMessage, RouteFault, route_bytes, route_misfit}
+use Rattle.netlink_packet_route.specs.RuleAttribute.{writing as rule_writing}
+use Rattle.netlink_packet_route.specs.RuleMessage.{Rule as RuleMeaning, IsRuleMessage, RuleFault, rule_bytes, rule_misfit}
 use Rattle.nlroute.specs.HexText.{IsHexText}
 use Rattle.nlroute.specs.Report.{report}
 use Rattle.nlroute.specs.Which.{which_name}

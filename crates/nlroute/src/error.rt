@@ -4,7 +4,7 @@ ghost use Rattle.std.specs.Prelude.{◌≡◌, ◌++◌};
 ghost use Rattle.nlroute.specs.declared.error.RunError.TheVariants.{Memory, Unfit};
 ghost use Rattle.nlroute.specs.Error.{line_of, refusal_of, status_of};
 
-use npr_base::{DecodeError, EmitError};
+use netlink_packet_route::framing::{DecodeError, EmitError};
 use std::alloc::{AllocError, AllocFailed};
 
 /// Why a run prints no report.

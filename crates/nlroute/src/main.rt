@@ -20,7 +20,6 @@ mod which;
 use counted::Counted;
 use error::RunError;
 use output::finish;
-use std::io::ErrorKind;
 use std::process::ExitCode;
 use std::rt::Env;
 use std::{env, io};
@@ -43,8 +42,7 @@ fn chosen(rt: &(impl Env + AllocGlobal)) -> Result<Option<Which>, RunError>
 {
     match words(rt) {
         Ok(words) => Ok(Which::of(words.as_slice())),
-        // A word that is no text is no known word.
-        Err(fault) if fault.kind() == ErrorKind::InvalidData => Ok(None),
+        // Also where a word is no UTF-8.
         Err(_) => Err(RunError::Memory),
     }
 }

@@ -1,12 +1,12 @@
 //! The report on a message that was read.
 
 ghost use Rattle.std.specs.Prelude.{◌≡◌, ◌++◌, None, length, map, string_bytes, IfErr, IfOk, OnOk};
-ghost use Rattle.npr_base.specs.Family.{first_unfit};
+ghost use Rattle.netlink_packet_route.specs.Family.{first_unfit};
 ghost use Rattle.nlroute.specs.Report.{closing_text, heading_text, line_text, lines_text, report};
 ghost use Rattle.nlroute.specs.declared.error.RunError.TheVariants.{Memory};
 
 use crate::error::RunError;
-use npr_base::{Attribute, marked_kind};
+use netlink_packet_route::framing::{Attribute, marked_kind};
 use std::alloc::Global;
 
 /// The report on a message of `bytes` bytes, given its attributes, which can be written, and its

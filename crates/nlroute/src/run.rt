@@ -1,11 +1,11 @@
 //! A run, from the text that is read to the report that is written.
 
 ghost use Rattle.std.specs.Prelude.{◌≡◌, ◌≢◌, ◌⊎◌, None, Some, length, map, string_bytes, IfOk, IfErr, IfSome, OnOk, OnErr};
-ghost use Rattle.std.specs.Io.KnownBytes.{Keeps};
-ghost use Rattle.npr_base.specs.Family.{first_unfit};
-ghost use Rattle.npr_base.specs.declared.refusal.DecodeError.{DecodeError};
-ghost use Rattle.npr_base.specs.declared.refusal.DecodeError.TheVariants.{OutOfMemory};
-ghost use Rattle.npr_base.specs.declared.refusal.EmitError.{EmitError};
+ghost use Rattle.std.specs.Io.KnownBytes.{IsAtEnd, Keeps};
+ghost use Rattle.netlink_packet_route.specs.Family.{first_unfit};
+ghost use Rattle.netlink_packet_route.specs.declared.framing.DecodeError.{DecodeError};
+ghost use Rattle.netlink_packet_route.specs.declared.framing.DecodeError.TheVariants.{OutOfMemory};
+ghost use Rattle.netlink_packet_route.specs.declared.framing.EmitError.{EmitError};
 ghost use Rattle.nlroute.specs.Counted.{raised};
 ghost use Rattle.nlroute.specs.Error.{IsOfMessage};
 ghost use Rattle.nlroute.specs.HexText.{IsNoHexText};
@@ -21,10 +21,10 @@ use crate::input::read_all;
 use crate::output::write_text;
 use crate::report::whole;
 use crate::which::Which;
-use npr_address::AddressMessage;
-use npr_base::{Attribute, Emitable, Parseable};
-use npr_route::RouteMessage;
-use npr_rule::RuleMessage;
+use netlink_packet_route::address::AddressMessage;
+use netlink_packet_route::framing::{Attribute, Emitable, Parseable};
+use netlink_packet_route::route::RouteMessage;
+use netlink_packet_route::rule::RuleMessage;
 use std::alloc::Global;
 use std::io::{Read, Write};
 
@@ -38,6 +38,7 @@ pub fn run<R: Read, W: Write>(
     ensures ok { OnOk result (Reports which (R.remaining reader.old.inner)
         (W.contents writer.old.inner) (W.contents writer.new.inner)) }
     ensures bad { result ≡ Err BadHex → IfSome (R.remaining reader.old.inner) IsNoHexText }
+    ensures end { result ≢ Err ReadFailed → result ≢ Err Memory → IsAtEnd (R.remaining reader.new.inner) }
     ensures silent { OnErr result (result ≢ Err WriteFailed
         → Keeps (W.contents writer.old.inner) (W.contents writer.new.inner)) }
     ensures part { result ≡ Err WriteFailed → ReportsPart which (R.remaining reader.old.inner)

@@ -7,7 +7,7 @@ use crate::input::read_all;
 use crate::output::{finish, write_text};
 use crate::run::run;
 use crate::which::Which;
-use npr_base::{DecodeError, EmitError};
+use netlink_packet_route::framing::{DecodeError, EmitError};
 use std::alloc::{AllocError, Global};
 use std::io;
 use std::io::{ErrorKind, Read, Write};

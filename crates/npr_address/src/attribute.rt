@@ -9,8 +9,8 @@ use crate::addr_protocol::AddressProtocol;
 use crate::cache_info::{CacheInfo, CacheInfoBuffer};
 use bitflags::Flags;
 use npr_base::{
-    AttrFamily, Attribute, DecodeError, DefaultNla, EmitError, IpAddr, Ipv4Addr, Ipv6Addr,
-    Looks, Nla, NlaBuffer, Parseable, check_len, ip_len, read_i32, read_ip, read_ipv4, read_ipv6,
+    AttrFamily, Attribute, DecodeError, DefaultNla, EmitError, IpAddr, Ipv4Addr, Ipv6Addr, Looks,
+    Nla, NlaBuffer, Parseable, check_len, ip_len, read_i32, read_ip, read_ipv4, read_ipv6,
     read_name, read_u8, read_u32, write_bytes, write_ip, write_name,
 };
 use std::alloc::{AllocError, Global};
@@ -70,6 +70,8 @@ impl AddressAttribute {
         }
     }
 }
+
+const FAMILY: AttrFamily = AttrFamily::Address;
 
 impl Nla for AddressAttribute {
     ghost item = { λ a. writing.writes (meaning_of a) };
@@ -165,17 +167,23 @@ impl Attribute for AddressAttribute {
     ) -> Result<Self, DecodeError> {
         let value = item.value();
         Ok(match item.kind() {
-            1 => AddressAttribute::Address(read_ip(value, AttrFamily::Address.at(1))?),
-            2 => AddressAttribute::Local(read_ip(value, AttrFamily::Address.at(2))?),
-            3 => AddressAttribute::Label(read_name(alloc, value, AttrFamily::Address.at(3))?),
-            4 => AddressAttribute::Broadcast(read_ipv4(value, AttrFamily::Address.at(4))?),
-            5 => AddressAttribute::Anycast(read_ipv6(value, AttrFamily::Address.at(5))?),
+            1 => AddressAttribute::Address(read_ip(value, FAMILY.at(1))?),
+            2 => AddressAttribute::Local(read_ip(value, FAMILY.at(2))?),
+            3 => AddressAttribute::Label(read_name(alloc, value, FAMILY.at(3))?),
+            4 => AddressAttribute::Broadcast(read_ipv4(value, FAMILY.at(4))?),
+            5 => AddressAttribute::Anycast(read_ipv6(value, FAMILY.at(5))?),
             6 => AddressAttribute::CacheInfo(CacheInfo::parse(value)?),
-            7 => AddressAttribute::Multicast(read_ipv6(value, AttrFamily::Address.at(7))?),
-            8 => AddressAttribute::Flags(AddressFlags::from_bits_retain(read_u32(value, AttrFamily::Address.at(8))?)),
-            9 => AddressAttribute::RoutePriority(read_u32(value, AttrFamily::Address.at(9))?),
-            10 => AddressAttribute::TargetNetNsId(read_i32(value, AttrFamily::Address.at(10))?),
-            11 => AddressAttribute::Protocol(AddressProtocol::from(read_u8(value, AttrFamily::Address.at(11))?)),
+            7 => AddressAttribute::Multicast(read_ipv6(value, FAMILY.at(7))?),
+            8 => AddressAttribute::Flags(AddressFlags::from_bits_retain(read_u32(
+                value,
+                FAMILY.at(8),
+            )?)),
+            9 => AddressAttribute::RoutePriority(read_u32(value, FAMILY.at(9))?),
+            10 => AddressAttribute::TargetNetNsId(read_i32(value, FAMILY.at(10))?),
+            11 => AddressAttribute::Protocol(AddressProtocol::from(read_u8(
+                value,
+                FAMILY.at(11),
+            )?)),
             _ => AddressAttribute::Other(DefaultNla::parse(alloc, item)?),
         })
     }

@@ -9,8 +9,6 @@ mod cache_info;
 mod header;
 pub mod laws;
 mod message;
-#[cfg(test)]
-mod tests;
 
 pub use addr_flags::{AddressFlags, AddressHeaderFlags};
 pub use addr_protocol::AddressProtocol;

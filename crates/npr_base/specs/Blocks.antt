@@ -41,7 +41,8 @@ module _ {V : Type 0} (L : Layout V) where
   IsBytes-drop n bytes is = IsBytes-right (take n bytes) (drop n bytes) (subst IsBytes (sym (take-append-drop n bytes)) is)
 
   pub block-holds : (bytes : List ℕ) (x : V) → IsBytes bytes → IsBlock L bytes x → L.Holds x
-  block-holds bytes x is p = subst L.Holds (sym p.is) (L.Holds-decode (take L.size bytes) (IsBytes-take L.size bytes is) (omega (arith, p.long, length-take L.size bytes)))
+  block-holds bytes x is p =
+      subst L.Holds (sym p.is) (L.Holds-decode (take L.size bytes) (IsBytes-take L.size bytes is) (omega (arith, p.long, length-take L.size bytes)))
 
   pub blocks-hold : (bytes : List ℕ) (xs : List V) → IsBytes bytes → AreBlocks L bytes xs → AllOf L.Holds xs
   blocks-hold bytes [] is p = tt

@@ -15,6 +15,7 @@ pub mod LayoutLaws
 pub mod CodecLaws
 pub mod Codec
 pub mod Layout
+pub mod Fields
 pub mod Message
 pub mod Rows
 pub mod RowLaws

@@ -3,7 +3,9 @@ use Rattle.std.specs.Prelude.{ℕ, List, codes}
 use Rattle.npr_base.specs.declared.refusal.At.{At}
 use Rattle.npr_base.specs.declared.refusal.AttrFamily.TheVariants.{Value}
 use Rattle.npr_base.specs.declared.refusal.DecodeError.{DecodeError}
-use Rattle.npr_base.specs.declared.refusal.DecodeError.TheVariants.{OutOfMemory, HeaderTooShort, AttributeTooShort, AttributeLength, NextHopTooShort, NextHopLength, ValueLength, NotUtf8, Seg6Header, GeneveOrder, GeneveChild, ViaFamily, Unsupported}
+use Rattle.npr_base.specs.declared.refusal.DecodeError.TheVariants.{OutOfMemory, HeaderTooShort, AttributeTooShort, AttributeLength, NextHopTooShort}
+use Rattle.npr_base.specs.declared.refusal.DecodeError.TheVariants.{NextHopLength, ValueLength, NotUtf8, Seg6Header, GeneveOrder, GeneveChild, ViaFamily}
+use Rattle.npr_base.specs.declared.refusal.DecodeError.TheVariants.{Unsupported}
 use Rattle.npr_base.specs.declared.refusal.EmitError.{EmitError}
 use Rattle.npr_base.specs.declared.refusal.EmitError.TheVariants.{TooLong, NextHopTooLong, TooManySegments, IpProtocol, Total}
 

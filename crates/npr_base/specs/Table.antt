@@ -149,3 +149,20 @@ pub record Table (M : Type 0) : Type 1 where
   pub other_coherent : (x : Item) → IsOther rows x → Coherent (other x)
   pub kinds : (m : M) → Coherent m → held_kind (place m) < 2 ^ 16
   pub back : (m : M) → Coherent m → held_misfit (place m) ≡ None → ReadsAt other rows (number_of (item_of (place m)).kind) (item_of (place m)) m
+
+-- a table from its parts; where `place` says how what other attributes mean is written, the two laws of `other` hold by themselves
+abbrev pub table_of : {M : Type 0} (rows : List (Row M)) (other : Item → M) (place : M → Held) (Coherent : M → Type 0)
+    → Aligned (λ m. item_of (place m)) Coherent rows → ((x : Item) → item_of (place (other x)) ≡ x) → ((x : Item) → IsOther rows x → Coherent (other x))
+    → ((m : M) → Coherent m → held_kind (place m) < 2 ^ 16)
+    → ((m : M) → Coherent m → held_misfit (place m) ≡ None → ReadsAt other rows (number_of (item_of (place m)).kind) (item_of (place m)) m) → Table M
+table_of rows other place Coherent aligned other_is other_coherent kinds back = record {
+  rows = rows;
+  other = other;
+  place = place;
+  Coherent = Coherent;
+  aligned = aligned;
+  other_is = other_is;
+  other_coherent = other_coherent;
+  kinds = kinds;
+  back = back;
+}

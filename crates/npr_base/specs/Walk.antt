@@ -1,7 +1,8 @@
 -- Walks over the attributes that bytes are cut into: the steps, and the looks at headers.
-use Rattle.std.specs.Prelude.{◌≡◌, ℕ, ◌+◌, ◌-◌, ◌≤◌, ◌⊎◌, List, [], ◌∷◌, ◌++◌, length, map, Some, Result, Ok, Err}
+use Rattle.std.specs.Prelude.{◌≡◌, ℕ, ◌+◌, ◌-◌, ◌%◌, ◌≤◌, ◌⊎◌, List, [], ◌∷◌, ◌++◌, length, map, Some, Result, Ok, Err}
 use Rattle.npr_base.specs.Counts.{Counts, most_successful, most_failed}
-use Rattle.npr_base.specs.Framing.{Item, Passes, Stops, Step}
+use Rattle.npr_base.specs.Family.{ReadsList}
+use Rattle.npr_base.specs.Framing.{Item, Passes, Cut, Stops, Step}
 use Rattle.npr_base.specs.declared.refusal.DecodeError.{DecodeError}
 
 -- steps of a walk, one after the other, from the bytes to what is left of them
@@ -28,3 +29,10 @@ pub record Walked (bytes : List ℕ) (old new : Counts) : Type 0 where
   pub successful : new.successful + length passed ≤ old.successful + most_successful (length bytes - length rest)
   pub failed_kept : old.failed ≤ new.failed
   pub failed : new.failed ≤ old.failed + most_failed (length bytes)
+
+-- a list whose beginning is a multiple of four bytes, and is cut into attributes by itself, is the list of that beginning
+-- and then the list of the rest
+abbrev pub CutsInTwo : {M : Type 0} → (Item → M → Type 0) → Type 0
+CutsInTwo {M} reads =
+    (first second : List ℕ) (items : List Item) (xs : List M) → length first % 4 ≡ 0 → Cut first items → ReadsList reads (first ++ second) xs
+    → (ys : List M) × (zs : List M) × (xs ≡ ys ++ zs) × ReadsList reads first ys × ReadsList reads second zs

@@ -5,9 +5,8 @@ ghost use Rattle.std.specs.Prelude.{◌≡◌, ◌≤◌, ◌+◌, ◌*◌, ◌%
 ghost use Rattle.npr_base.specs.declared.refusal.DecodeError.{DecodeError};
 ghost use Rattle.npr_base.specs.AddressFamily.{family_of, family_number};
 ghost use Rattle.npr_base.specs.Equality.{IsEquality};
-ghost use Rattle.npr_base.specs.Family.{ReadsList};
 ghost use Rattle.npr_base.specs.Framing.{Item, Cut, Stops};
-ghost use Rattle.npr_base.specs.Walk.{Steps, found, Finds};
+ghost use Rattle.npr_base.specs.Walk.{Steps, found, Finds, CutsInTwo};
 
 use crate::attribute::Attribute;
 use crate::framing::{
@@ -31,9 +30,7 @@ pub fn law_walk()
 /// A list whose beginning is a multiple of four bytes and is cut into attributes by itself is the
 /// list of that beginning and then that of the rest, in the same context.
 pub fn law_cut<A: Attribute>()
-    ensures { (context : A.Context) (first second : List ℕ) (items : List Item) (xs : List A.Meaning) → length first % 4 ≡ 0 → Cut first items
-        → ReadsList (A.reading context).Reads (first ++ second) xs → (ys : List A.Meaning) × (zs : List A.Meaning) × (xs ≡ ys ++ zs)
-        × ReadsList (A.reading context).Reads first ys × ReadsList (A.reading context).Reads second zs }
+    ensures { (context : A.Context) → CutsInTwo (A.reading context).Reads }
 {}
 
 /// What a number reads as is written as that number.

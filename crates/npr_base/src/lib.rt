@@ -10,8 +10,6 @@ pub mod laws;
 mod list;
 mod looks;
 mod refusal;
-#[cfg(test)]
-mod tests;
 mod traits;
 mod v6_list;
 mod values;

@@ -29,6 +29,8 @@ use npr_scalar::{
 use npr_tunnel::{RouteIp6Tunnel, RouteIpTunnel, RouteLwEnCapType, RouteLwTunnelEncap};
 use std::alloc::{AllocError, Global};
 
+const FAMILY: AttrFamily = AttrFamily::Route;
+
 /// The number of next hops, `RTA_MULTIPATH`.
 pub(crate) const RTA_MULTIPATH: u16 = 9;
 
@@ -252,7 +254,7 @@ fn read_new_destination(
     match family {
         AddressFamily::Mpls => Ok(RouteAttribute::NewDestination(read_labels(alloc, value)?)),
         _ => {
-            let address = RouteAddress::read(alloc, family, value, AttrFamily::Route.at(19))?;
+            let address = RouteAddress::read(alloc, family, value, FAMILY.at(19))?;
             Ok(RouteAttribute::NewDestinationAddress(address))
         }
     }
@@ -263,7 +265,7 @@ fn read_expires(kind: RouteType, value: &[u8]) -> Result<RouteAttribute, DecodeE
     ensures ok { IfOk result (λ a. (m : Flat) × ReadsBy (expires_row (is_multicast kind)) value.now m × (meaning_of a ≡ flat m)) }
     ensures refused { IfErr result (λ e. WrongBy (expires_row (is_multicast kind)) value.now e) }
 {
-    let at = AttrFamily::Route.at(23);
+    let at = FAMILY.at(23);
     match kind {
         RouteType::Multicast => Ok(RouteAttribute::MulticastExpires(read_u64(value, at)?)),
         _ => Ok(RouteAttribute::Expires(read_u32(value, at)?)),
@@ -287,51 +289,51 @@ pub(crate) fn read_flat(
     let (family, kind, encapsulation) = context;
     let value = item.value();
     match item.kind() {
-        1 => RouteAddress::read(alloc, family, value, AttrFamily::Route.at(1)).map(
+        1 => RouteAddress::read(alloc, family, value, FAMILY.at(1)).map(
             RouteAttribute::Destination,
         ),
-        2 => RouteAddress::read(alloc, family, value, AttrFamily::Route.at(2)).map(
+        2 => RouteAddress::read(alloc, family, value, FAMILY.at(2)).map(
             RouteAttribute::Source,
         ),
-        3 => read_u32(value, AttrFamily::Route.at(3)).map(RouteAttribute::Iif),
-        4 => read_u32(value, AttrFamily::Route.at(4)).map(RouteAttribute::Oif),
-        5 => RouteAddress::read(alloc, family, value, AttrFamily::Route.at(5)).map(
+        3 => read_u32(value, FAMILY.at(3)).map(RouteAttribute::Iif),
+        4 => read_u32(value, FAMILY.at(4)).map(RouteAttribute::Oif),
+        5 => RouteAddress::read(alloc, family, value, FAMILY.at(5)).map(
             RouteAttribute::Gateway,
         ),
-        6 => read_u32(value, AttrFamily::Route.at(6)).map(RouteAttribute::Priority),
-        7 => RouteAddress::read(alloc, family, value, AttrFamily::Route.at(7)).map(
+        6 => read_u32(value, FAMILY.at(6)).map(RouteAttribute::Priority),
+        7 => RouteAddress::read(alloc, family, value, FAMILY.at(7)).map(
             RouteAttribute::PrefSource,
         ),
         8 => parse_list(alloc, (), value, looks).map(RouteAttribute::Metrics),
         RTA_MULTIPATH => Ok(RouteAttribute::MultiPath(Vec::new(alloc))),
-        11 => read_u32(value, AttrFamily::Route.at(11)).map(|number| RouteAttribute::Realm(
+        11 => read_u32(value, FAMILY.at(11)).map(|number| RouteAttribute::Realm(
             RouteRealm::from(number),
         )),
         12 => RouteCacheInfo::parse(value).map(RouteAttribute::CacheInfo),
-        15 => read_u32(value, AttrFamily::Route.at(15)).map(RouteAttribute::Table),
-        16 => read_u32(value, AttrFamily::Route.at(16)).map(RouteAttribute::Mark),
+        15 => read_u32(value, FAMILY.at(15)).map(RouteAttribute::Table),
+        16 => read_u32(value, FAMILY.at(16)).map(RouteAttribute::Mark),
         17 => RouteMfcStats::parse(value).map(RouteAttribute::MfcStats),
-        18 => RouteVia::read(alloc, value, AttrFamily::Route.at(18)).map(RouteAttribute::Via),
+        18 => RouteVia::read(alloc, value, FAMILY.at(18)).map(RouteAttribute::Via),
         19 => read_new_destination(alloc, family, value),
-        20 => read_u8(value, AttrFamily::Route.at(20)).map(|n| RouteAttribute::Preference(
+        20 => read_u8(value, FAMILY.at(20)).map(|n| RouteAttribute::Preference(
             RoutePreference::from(n),
         )),
-        RTA_ENCAP_TYPE => read_u16(value, AttrFamily::Route.at(RTA_ENCAP_TYPE)).map(
+        RTA_ENCAP_TYPE => read_u16(value, FAMILY.at(RTA_ENCAP_TYPE)).map(
             |n| RouteAttribute::EncapType(RouteLwEnCapType::from(n)),
         ),
         RTA_ENCAP => parse_list(alloc, encapsulation, value, looks).map(RouteAttribute::Encap),
         23 => read_expires(kind, value),
-        25 => read_u32(value, AttrFamily::Route.at(25)).map(RouteAttribute::Uid),
+        25 => read_u32(value, FAMILY.at(25)).map(RouteAttribute::Uid),
         26 => {
-            read_u8(value, AttrFamily::Route.at(26)).map(|n| RouteAttribute::TtlPropagate(
+            read_u8(value, FAMILY.at(26)).map(|n| RouteAttribute::TtlPropagate(
                 RouteMplsTtlPropagation::from(n),
             ))
         }
-        27 => read_u8(value, AttrFamily::Route.at(27)).map(RouteAttribute::IpProto),
-        28 => read_u16_be(value, AttrFamily::Route.at(28)).map(RouteAttribute::Sport),
-        29 => read_u16_be(value, AttrFamily::Route.at(29)).map(RouteAttribute::Dport),
-        30 => read_u32(value, AttrFamily::Route.at(30)).map(RouteAttribute::NhId),
-        31 => read_u32_be(value, AttrFamily::Route.at(31)).map(RouteAttribute::Flowlabel),
+        27 => read_u8(value, FAMILY.at(27)).map(RouteAttribute::IpProto),
+        28 => read_u16_be(value, FAMILY.at(28)).map(RouteAttribute::Sport),
+        29 => read_u16_be(value, FAMILY.at(29)).map(RouteAttribute::Dport),
+        30 => read_u32(value, FAMILY.at(30)).map(RouteAttribute::NhId),
+        31 => read_u32_be(value, FAMILY.at(31)).map(RouteAttribute::Flowlabel),
         _ => DefaultNla::parse(alloc, item).map(RouteAttribute::Other),
     }
 }

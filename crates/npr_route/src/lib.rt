@@ -2,19 +2,13 @@
 #![tactic(auto)]
 
 mod attribute;
-#[cfg(test)]
-mod encap_tests;
 mod header;
 pub mod laws;
 mod list;
 mod message;
 mod metrics;
-#[cfg(test)]
-mod next_hop_tests;
 mod next_hops;
 mod reader;
-#[cfg(test)]
-mod tests;
 
 pub use attribute::RouteAttribute;
 pub use header::{RouteHeader, RouteMessageBuffer};

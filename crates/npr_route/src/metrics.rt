@@ -84,6 +84,8 @@ impl RouteMetric {
     }
 }
 
+const FAMILY: AttrFamily = AttrFamily::Metric;
+
 impl Nla for RouteMetric {
     ghost item = { λ a. writing.writes (metric_of a) };
 
@@ -181,23 +183,23 @@ impl Attribute for RouteMetric {
     ) -> Result<Self, DecodeError> {
         let value = item.value();
         match item.kind() {
-            1 => read_u32(value, AttrFamily::Metric.at(1)).map(RouteMetric::Lock),
-            2 => read_u32(value, AttrFamily::Metric.at(2)).map(RouteMetric::Mtu),
-            3 => read_u32(value, AttrFamily::Metric.at(3)).map(RouteMetric::Window),
-            4 => read_u32(value, AttrFamily::Metric.at(4)).map(RouteMetric::Rtt),
-            5 => read_u32(value, AttrFamily::Metric.at(5)).map(RouteMetric::RttVar),
-            6 => read_u32(value, AttrFamily::Metric.at(6)).map(RouteMetric::SsThresh),
-            7 => read_u32(value, AttrFamily::Metric.at(7)).map(RouteMetric::Cwnd),
-            8 => read_u32(value, AttrFamily::Metric.at(8)).map(RouteMetric::Advmss),
-            9 => read_u32(value, AttrFamily::Metric.at(9)).map(RouteMetric::Reordering),
-            10 => read_u32(value, AttrFamily::Metric.at(10)).map(RouteMetric::Hoplimit),
-            11 => read_u32(value, AttrFamily::Metric.at(11)).map(RouteMetric::InitCwnd),
-            12 => read_u32(value, AttrFamily::Metric.at(12)).map(RouteMetric::Features),
-            13 => read_u32(value, AttrFamily::Metric.at(13)).map(RouteMetric::RtoMin),
-            14 => read_u32(value, AttrFamily::Metric.at(14)).map(RouteMetric::InitRwnd),
-            15 => read_u32(value, AttrFamily::Metric.at(15)).map(RouteMetric::QuickAck),
-            16 => read_name(alloc, value, AttrFamily::Metric.at(16)).map(RouteMetric::CcAlgo),
-            17 => read_u32(value, AttrFamily::Metric.at(17)).map(RouteMetric::FastopenNoCookie),
+            1 => read_u32(value, FAMILY.at(1)).map(RouteMetric::Lock),
+            2 => read_u32(value, FAMILY.at(2)).map(RouteMetric::Mtu),
+            3 => read_u32(value, FAMILY.at(3)).map(RouteMetric::Window),
+            4 => read_u32(value, FAMILY.at(4)).map(RouteMetric::Rtt),
+            5 => read_u32(value, FAMILY.at(5)).map(RouteMetric::RttVar),
+            6 => read_u32(value, FAMILY.at(6)).map(RouteMetric::SsThresh),
+            7 => read_u32(value, FAMILY.at(7)).map(RouteMetric::Cwnd),
+            8 => read_u32(value, FAMILY.at(8)).map(RouteMetric::Advmss),
+            9 => read_u32(value, FAMILY.at(9)).map(RouteMetric::Reordering),
+            10 => read_u32(value, FAMILY.at(10)).map(RouteMetric::Hoplimit),
+            11 => read_u32(value, FAMILY.at(11)).map(RouteMetric::InitCwnd),
+            12 => read_u32(value, FAMILY.at(12)).map(RouteMetric::Features),
+            13 => read_u32(value, FAMILY.at(13)).map(RouteMetric::RtoMin),
+            14 => read_u32(value, FAMILY.at(14)).map(RouteMetric::InitRwnd),
+            15 => read_u32(value, FAMILY.at(15)).map(RouteMetric::QuickAck),
+            16 => read_name(alloc, value, FAMILY.at(16)).map(RouteMetric::CcAlgo),
+            17 => read_u32(value, FAMILY.at(17)).map(RouteMetric::FastopenNoCookie),
             _ => DefaultNla::parse(alloc, item).map(RouteMetric::Other),
         }
     }

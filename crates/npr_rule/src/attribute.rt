@@ -99,6 +99,8 @@ impl RuleAttribute {
     }
 }
 
+const FAMILY: AttrFamily = AttrFamily::Rule;
+
 impl Nla for RuleAttribute {
     ghost item = { λ a. writing.writes (meaning_of a) };
 
@@ -243,25 +245,37 @@ impl Attribute for RuleAttribute {
     ) -> Result<Self, DecodeError> {
         let value = item.value();
         Ok(match item.kind() {
-            1 => RuleAttribute::Destination(read_ip(value, AttrFamily::Rule.at(1))?),
-            2 => RuleAttribute::Source(read_ip(value, AttrFamily::Rule.at(2))?),
-            3 => RuleAttribute::Iifname(read_name(alloc, value, AttrFamily::Rule.at(3))?),
-            4 => RuleAttribute::Goto(read_u32(value, AttrFamily::Rule.at(4))?),
-            6 => RuleAttribute::Priority(read_u32(value, AttrFamily::Rule.at(6))?),
-            10 => RuleAttribute::FwMark(read_u32(value, AttrFamily::Rule.at(10))?),
-            11 => RuleAttribute::Realm(RouteRealm::from(read_u32(value, AttrFamily::Rule.at(11))?)),
-            12 => RuleAttribute::TunId(read_u64_be(value, AttrFamily::Rule.at(12))?),
-            13 => RuleAttribute::SuppressIfGroup(read_u32(value, AttrFamily::Rule.at(13))?),
-            14 => RuleAttribute::SuppressPrefixLen(read_u32(value, AttrFamily::Rule.at(14))?),
-            15 => RuleAttribute::Table(read_u32(value, AttrFamily::Rule.at(15))?),
-            16 => RuleAttribute::FwMask(read_u32(value, AttrFamily::Rule.at(16))?),
-            17 => RuleAttribute::Oifname(read_name(alloc, value, AttrFamily::Rule.at(17))?),
-            19 => RuleAttribute::L3MDev(read_bool(value, AttrFamily::Rule.at(19))?),
-            20 => RuleAttribute::UidRange(RuleUidRange::read(value, AttrFamily::Rule.at(20))?),
-            21 => RuleAttribute::Protocol(RouteProtocol::from(read_u8(value, AttrFamily::Rule.at(21))?)),
-            22 => RuleAttribute::IpProtocol(IpProtocol::from(read_u8(value, AttrFamily::Rule.at(22))?)),
-            23 => RuleAttribute::SourcePortRange(RulePortRange::read(value, AttrFamily::Rule.at(23))?),
-            24 => RuleAttribute::DestinationPortRange(RulePortRange::read(value, AttrFamily::Rule.at(24))?),
+            1 => RuleAttribute::Destination(read_ip(value, FAMILY.at(1))?),
+            2 => RuleAttribute::Source(read_ip(value, FAMILY.at(2))?),
+            3 => RuleAttribute::Iifname(read_name(alloc, value, FAMILY.at(3))?),
+            4 => RuleAttribute::Goto(read_u32(value, FAMILY.at(4))?),
+            6 => RuleAttribute::Priority(read_u32(value, FAMILY.at(6))?),
+            10 => RuleAttribute::FwMark(read_u32(value, FAMILY.at(10))?),
+            11 => RuleAttribute::Realm(RouteRealm::from(read_u32(value, FAMILY.at(11))?)),
+            12 => RuleAttribute::TunId(read_u64_be(value, FAMILY.at(12))?),
+            13 => RuleAttribute::SuppressIfGroup(read_u32(value, FAMILY.at(13))?),
+            14 => RuleAttribute::SuppressPrefixLen(read_u32(value, FAMILY.at(14))?),
+            15 => RuleAttribute::Table(read_u32(value, FAMILY.at(15))?),
+            16 => RuleAttribute::FwMask(read_u32(value, FAMILY.at(16))?),
+            17 => RuleAttribute::Oifname(read_name(alloc, value, FAMILY.at(17))?),
+            19 => RuleAttribute::L3MDev(read_bool(value, FAMILY.at(19))?),
+            20 => RuleAttribute::UidRange(RuleUidRange::read(value, FAMILY.at(20))?),
+            21 => RuleAttribute::Protocol(RouteProtocol::from(read_u8(
+                value,
+                FAMILY.at(21),
+            )?)),
+            22 => RuleAttribute::IpProtocol(IpProtocol::from(read_u8(
+                value,
+                FAMILY.at(22),
+            )?)),
+            23 => RuleAttribute::SourcePortRange(RulePortRange::read(
+                value,
+                FAMILY.at(23),
+            )?),
+            24 => RuleAttribute::DestinationPortRange(RulePortRange::read(
+                value,
+                FAMILY.at(24),
+            )?),
             _ => RuleAttribute::Other(DefaultNla::parse(alloc, item)?),
         })
     }

@@ -8,8 +8,6 @@ mod header;
 pub mod laws;
 mod message;
 mod port_range;
-#[cfg(test)]
-mod tests;
 mod uid_range;
 
 pub use action::RuleAction;

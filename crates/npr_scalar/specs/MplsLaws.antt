@@ -1,12 +1,11 @@
 -- What holds of entries of a label stack.
---     label_number-label_of      what a number of 32 bits reads as is written as that number
---     label_of-label_number      an entry is read again exactly where its label and its class have room
+--     label_of-in, label_of-range      an entry is read again where its label and its class have room, as those of a number do
 --     mpls_label                 how an entry is read from four bytes and written as four
 --     mpls_labels                and how a stack of entries is
 --     length-mpls_labels         which has four bytes an entry
-use Rattle.std.specs.Prelude.{◌≡◌, ℕ, ◌*◌, ◌/◌, ◌%◌, ◌^◌, ◌<◌, ◌↔◌, ◌==◌, Bool, true, false, List, [], ◌∷◌, length}
+use Rattle.std.specs.Prelude.{◌≡◌, ℕ, ◌*◌, ◌/◌, ◌%◌, ◌^◌, ◌<◌, ◌==◌, Bool, true, false, List, [], ◌∷◌, length}
 use Rattle.std.specs.Int.{w32, to_be_bytes, from_be_bytes}
-use Rattle.std.proofs.Common.{zero, suc, refl, ap, subst, ◌∙◌, arith, length-append, lit<}
+use Rattle.std.proofs.Common.{refl, ap, ◌∙◌, arith, length-append, lit<}
 use Rattle.std.proofs.lemmas.Nat.{from_be_bytes-to_be_bytes_4}
 use Rattle.npr_base.specs.Framing.{IsBytes}
 use Rattle.npr_base.specs.Layout.{Layout, truth_byte}
@@ -15,15 +14,6 @@ use Rattle.npr_base.specs.Codec.{Codec}
 use Rattle.npr_base.specs.Blocks.{blocks}
 use Rattle.npr_scalar.specs.declared.mpls.MplsLabel.{MplsLabel}
 use Rattle.npr_scalar.specs.Mpls.{label_of, label_number, IsInRange}
-
--- a bit, by its number
-bit-back : (n : ℕ) → n < 2 → truth_byte (n == 1) ≡ n
-bit-back zero lt = refl
-bit-back (suc zero) lt = refl
-bit-back (suc (suc n)) lt = absurd (omega arith)
-
-pub label_number-label_of : (d : ℕ) → d < 2 ^ 32 → label_number (label_of d) ≡ d
-label_number-label_of d lt = let b = bit-back (d / 2 ^ 8 % 2) (omega arith) in omega (arith, b)
 
 truth-bit : (b : Bool) → truth_byte b < 2
 truth-bit true = omega arith
@@ -48,9 +38,6 @@ label_of-in x ttl h =
 
 pub label_of-range : (d : ℕ) → d < 2 ^ 32 → IsInRange (label_of d)
 label_of-range d lt = record { label = omega arith; traffic_class = omega arith }
-
-pub label_of-label_number : (x : MplsLabel) → x.ttl < 2 ^ 8 → (label_of (label_number x) ≡ x) ↔ IsInRange x
-label_of-label_number x ttl = (λ e. subst IsInRange e (label_of-range (label_number x) (label_number-below x ttl)), label_of-in x ttl)
 
 -- what four bytes can hold
 pub record HoldsLabel (x : MplsLabel) : Type 0 where

@@ -1,5 +1,5 @@
 -- The realms of a route (linux/rtnetlink.h, RTA_FLOW): a number whose low half is the destination, and whose high half the source.
-use Rattle.std.specs.Prelude.{◌≡◌, ℕ, ◌+◌, ◌*◌, ◌/◌, ◌%◌, ◌^◌, ◌<◌}
+use Rattle.std.specs.Prelude.{◌≡◌, ℕ, ◌+◌, ◌*◌, ◌/◌, ◌%◌, ◌^◌}
 use Rattle.std.proofs.Common.{arith}
 use Rattle.npr_base.specs.Layout.{Layout, le32, formed}
 use Rattle.npr_scalar.specs.declared.realm.RouteRealm.{RouteRealm}
@@ -14,12 +14,6 @@ realm_number x = x.source * 2 ^ 16 + x.destination
 
 pub realm_number-realm_of : (d : ℕ) → realm_number (realm_of d) ≡ d
 realm_number-realm_of d = omega arith
-
-pub realm_of-realm_number : (x : RouteRealm) → x.destination < 2 ^ 16 → realm_of (realm_number x) ≡ x
-realm_of-realm_number x h =
-    let high : realm_number x / 2 ^ 16 ≡ x.source = omega arith in
-    let low : realm_number x % 2 ^ 16 ≡ x.destination = omega arith in
-    λ i. record { source = high i; destination = low i }
 
 abbrev pub route_realm : Layout RouteRealm
 route_realm = formed le32 realm_of realm_number realm_number-realm_of

@@ -1,74 +1,25 @@
 -- What the kernel remembers of a route (linux/rtnetlink.h, struct rta_cacheinfo): 8 numbers of 4 bytes.
-use Rattle.std.specs.Prelude.{◌≡◌, ℕ, ◌<◌, ◌^◌, List, ◌++◌, length}
-use Rattle.std.specs.Int.{w32, to_le_bytes}
 use Rattle.std.proofs.Common.{refl}
-use Rattle.std.proofs.lemmas.Nat.{from_le_bytes-to_le_bytes_4}
-use Rattle.npr_base.specs.Framing.{IsBytes}
-use Rattle.npr_base.specs.Layout.{Layout, le32_at, le32_at-holds, formed}
+use Rattle.npr_base.specs.Fields.{le_four, ◌then◌, fields}
+use Rattle.npr_base.specs.Layout.{Layout, formed}
 use Rattle.npr_scalar.specs.declared.cache_info.RouteCacheInfo.{RouteCacheInfo}
 use Rattle.npr_scalar.specs.declared.cache_info.RouteCacheInfoBuffer.{RouteCacheInfoBuffer}
 
-abbrev pub decode_cache_info : List ℕ → RouteCacheInfo
-decode_cache_info b = record {
-  clntref = le32_at b 0;
-  last_use = le32_at b 4;
-  expires = le32_at b 8;
-  error = le32_at b 12;
-  used = le32_at b 16;
-  id = le32_at b 20;
-  ts = le32_at b 24;
-  ts_age = le32_at b 28;
-}
-
-abbrev pub encode_cache_info : RouteCacheInfo → List ℕ
-encode_cache_info x =
-    to_le_bytes w32 x.clntref ++ to_le_bytes w32 x.last_use ++ to_le_bytes w32 x.expires ++ to_le_bytes w32 x.error
-    ++ to_le_bytes w32 x.used ++ to_le_bytes w32 x.id ++ to_le_bytes w32 x.ts ++ to_le_bytes w32 x.ts_age
-
-pub record HoldsRouteCacheInfo (x : RouteCacheInfo) : Type 0 where
-  pub clntref : x.clntref < 2 ^ 32
-  pub last_use : x.last_use < 2 ^ 32
-  pub expires : x.expires < 2 ^ 32
-  pub error : x.error < 2 ^ 32
-  pub used : x.used < 2 ^ 32
-  pub id : x.id < 2 ^ 32
-  pub ts : x.ts < 2 ^ 32
-  pub ts_age : x.ts_age < 2 ^ 32
-
-pub route_cache_info-back : (x : RouteCacheInfo) → HoldsRouteCacheInfo x → decode_cache_info (encode_cache_info x) ≡ x
-route_cache_info-back x h = λ i. record {
-  clntref = from_le_bytes-to_le_bytes_4 x.clntref h.clntref i;
-  last_use = from_le_bytes-to_le_bytes_4 x.last_use h.last_use i;
-  expires = from_le_bytes-to_le_bytes_4 x.expires h.expires i;
-  error = from_le_bytes-to_le_bytes_4 x.error h.error i;
-  used = from_le_bytes-to_le_bytes_4 x.used h.used i;
-  id = from_le_bytes-to_le_bytes_4 x.id h.id i;
-  ts = from_le_bytes-to_le_bytes_4 x.ts h.ts i;
-  ts_age = from_le_bytes-to_le_bytes_4 x.ts_age h.ts_age i;
-}
-
-pub route_cache_info-holds : (b : List ℕ) → IsBytes b → length b ≡ 32 → HoldsRouteCacheInfo (decode_cache_info b)
-route_cache_info-holds b is e = record {
-  clntref = le32_at-holds b 0 is;
-  last_use = le32_at-holds b 4 is;
-  expires = le32_at-holds b 8 is;
-  error = le32_at-holds b 12 is;
-  used = le32_at-holds b 16 is;
-  id = le32_at-holds b 20 is;
-  ts = le32_at-holds b 24 is;
-  ts_age = le32_at-holds b 28 is;
-}
-
+-- in this order, little endian
 abbrev pub route_cache_info : Layout RouteCacheInfo
-route_cache_info = record {
-  size = 32;
-  decode = decode_cache_info;
-  encode = encode_cache_info;
-  Holds = HoldsRouteCacheInfo;
-  length-encode = λ x h. refl;
-  decode-encode = route_cache_info-back;
-  Holds-decode = route_cache_info-holds;
-}
+route_cache_info =
+    formed (fields (le_four then le_four then le_four then le_four then le_four then le_four then le_four then le_four))
+    (λ p. record {
+      clntref = p.0;
+      last_use = p.1.0;
+      expires = p.1.1.0;
+      error = p.1.1.1.0;
+      used = p.1.1.1.1.0;
+      id = p.1.1.1.1.1.0;
+      ts = p.1.1.1.1.1.1.0;
+      ts_age = p.1.1.1.1.1.1.1;
+    })
+    (λ x. (x.clntref, (x.last_use, (x.expires, (x.error, (x.used, (x.id, (x.ts, x.ts_age)))))))) (λ p. refl)
 
 -- the layout has the same fields
 abbrev pub cache_info_buffer_of : RouteCacheInfo → RouteCacheInfoBuffer

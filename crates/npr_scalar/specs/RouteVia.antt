@@ -96,7 +96,8 @@ HoldsVia (inet6 a) = (length a ≡ 16) × IsBytes a
 HoldsVia (packet a) = IsBytes a
 HoldsVia (other family a) = IsOtherFamily family × IsBytes a
 
-pub gateway-one : (family : AddressFamily) (form : ViaForm) (bytes : List ℕ) (v w : Via) → IsAddress family form bytes v → IsAddress family form bytes w → v ≡ w
+pub gateway-one : (family : AddressFamily) (form : ViaForm) (bytes : List ℕ) (v w : Via) → IsAddress family form bytes v → IsAddress family form bytes w
+    → v ≡ w
 gateway-one family four bytes (inet a) (inet b) p q = ap inet (p.1 ∙ sym q.1)
 gateway-one family sixteen bytes (inet6 a) (inet6 b) p q = ap inet6 (p.1 ∙ sym q.1)
 gateway-one family hardware bytes (packet a) (packet b) p q = ap packet (p ∙ sym q)

@@ -12,11 +12,7 @@ mod preference;
 mod realm;
 mod route_protocol;
 mod route_scope;
-#[cfg(test)]
-mod route_tests;
 mod route_type;
-#[cfg(test)]
-mod tests;
 mod via;
 
 pub use address::RouteAddress;

@@ -2,7 +2,6 @@
 use Rattle.std.specs.List.{concat}
 use Rattle.std.proofs.Common.{◌≡◌, ℕ, ◌+◌, ◌-◌, ◌≤◌, List, ◌++◌, length, take, drop, reverse, sym, ap, ◌∙◌, arith, length-append, length-take, length-drop, append_assoc}
 use Rattle.std.proofs.lemmas.List.{take-append-drop, drop-drop}
-use Rattle.std.proofs.lemmas.List.Folds.{concat-append}
 use borrow.Rule.Slice.PartMut.{put_mid}
 use Rattle.npr_base.specs.Framing.{Writes}
 use Rattle.npr_base.specs.V6List.{IsV6List}
@@ -10,10 +9,6 @@ use Rattle.npr_base.proofs.Writing.{Writes-more}
 use Rattle.npr_srh.specs.declared.seg6_header.Seg6MessageBuffer.{Seg6MessageBuffer}
 use Rattle.npr_srh.specs.Seg6Mode.{mode_of}
 use Rattle.npr_srh.specs.Seg6.{Seg6, IsSeg6, IsKey, HasFront, hmac_len, header_len}
-
--- the first so many are no longer than all
-pub concat-below : (xs : List (List ℕ)) (n : ℕ) → length (concat (take n xs)) ≤ length (concat xs)
-concat-below xs n = omega (arith, ap length (ap concat (sym (take-append-drop n xs)) ∙ concat-append (take n xs) (drop n xs)), length-append (concat (take n xs)) (concat (drop n xs)))
 
 -- three parts, written one behind the other
 pub Writes-three : (old one two three a b c : List ℕ) (at end : ℕ) → at ≡ length a → end ≡ at + length b → length a + length b ≤ length old → Writes old one a

@@ -11,9 +11,9 @@ use Rattle.npr_base.specs.MeaningLaws.{enum_meaning, ◌also◌, one_meaning, it
 use Rattle.npr_base.specs.StructLaws.{and_decides, decides_as}
 use Rattle.npr_srh.specs.Seg6.{Seg6, seg6_of}
 use Rattle.npr_srh.specs.Seg6Tunnel as OfSeg6
-use Rattle.npr_srh.specs.Seg6Local.{Local, local_of}
+use Rattle.npr_srh.specs.Seg6Local.{Local, LocalFront, local_of}
 use Rattle.npr_srh.specs.Seg6LocalTunnel as OfLocal
-use Rattle.npr_srh.specs.Rpl.{Rpl, rpl_of}
+use Rattle.npr_srh.specs.Rpl.{Rpl, RplFront, rpl_of}
 use Rattle.npr_srh.specs.RplTunnel as OfRpl
 use Rattle.npr_srh.specs.Ioam6Tunnel as OfIoam6
 use Rattle.npr_srh.specs.contracts.seg6_mode.Seg6ModePartialEq.TheImpl as ModeEq
@@ -57,15 +57,17 @@ key_equality (Some x) (Some y) = let h = unsigned_Decides x y in (λ e. ap Some 
 pub seg6_header_equality : IsEqualityOf seg6_of HeaderEq.ghosts.eq
 seg6_header_equality a b =
     decides_as
-    (λ p. λ i. record { mode = p.0 i; segments = p.1.0 i; hmac = p.1.1 i })
+    (λ p. cc)
     (λ e. (ap (λ (h : Seg6). h.mode) e, (ap (λ (h : Seg6). h.segments) e, ap (λ (h : Seg6). h.hmac) e)))
     (and_decides (mode_equality a.mode b.mode) (and_decides (items_equality ipv6_equality a.segments b.segments) (key_equality a.hmac b.hmac)))
 
 pub local_header_equality : IsEqualityOf local_of LocalHeaderEq.ghosts.eq
 local_header_equality a b =
     decides_as
-    (λ p. λ i. record { front = record { next_header = p.0 i; routing_type = p.1.0 i; segments_left = p.1.1.0 i; first_segment = p.1.1.1.0 i; flags = p.1.1.1.1.0 i; tag = p.1.1.1.1.1.0 i }; segments = p.1.1.1.1.1.1 i })
-    (λ e. (ap (λ (h : Local). h.front.next_header) e, (ap (λ (h : Local). h.front.routing_type) e, (ap (λ (h : Local). h.front.segments_left) e, (ap (λ (h : Local). h.front.first_segment) e, (ap (λ (h : Local). h.front.flags) e, (ap (λ (h : Local). h.front.tag) e, ap (λ (h : Local). h.segments) e)))))))
+    (λ p. cc)
+    (λ e. let is : (get : LocalFront → ℕ) → get (local_of a).front ≡ get (local_of b).front = λ get. ap (λ (h : Local). get h.front) e in
+    let s = ap (λ (h : Local). h.segments) e in
+    (is (λ f. f.next_header), (is (λ f. f.routing_type), (is (λ f. f.segments_left), (is (λ f. f.first_segment), (is (λ f. f.flags), (is (λ f. f.tag), s)))))))
     (and_decides (unsigned_Decides a.next_header b.next_header)
     (and_decides (unsigned_Decides a.routing_type b.routing_type)
     (and_decides (unsigned_Decides a.segments_left b.segments_left)
@@ -76,8 +78,10 @@ local_header_equality a b =
 pub rpl_header_equality : IsEqualityOf rpl_of RplHeaderEq.ghosts.eq
 rpl_header_equality a b =
     decides_as
-    (λ p. λ i. record { front = record { next_header = p.0 i; routing_type = p.1.0 i; segments_left = p.1.1.0 i; cmpri = p.1.1.1.0 i; cmpre = p.1.1.1.1.0 i; pad = p.1.1.1.1.1.0 i }; segments = p.1.1.1.1.1.1 i })
-    (λ e. (ap (λ (h : Rpl). h.front.next_header) e, (ap (λ (h : Rpl). h.front.routing_type) e, (ap (λ (h : Rpl). h.front.segments_left) e, (ap (λ (h : Rpl). h.front.cmpri) e, (ap (λ (h : Rpl). h.front.cmpre) e, (ap (λ (h : Rpl). h.front.pad) e, ap (λ (h : Rpl). h.segments) e)))))))
+    (λ p. cc)
+    (λ e. let is : (get : RplFront → ℕ) → get (rpl_of a).front ≡ get (rpl_of b).front = λ get. ap (λ (h : Rpl). get h.front) e in
+    let segments = ap (λ (h : Rpl). h.segments) e in
+    (is (λ f. f.next_header), (is (λ f. f.routing_type), (is (λ f. f.segments_left), (is (λ f. f.cmpri), (is (λ f. f.cmpre), (is (λ f. f.pad), segments)))))))
     (and_decides (unsigned_Decides a.next_header b.next_header)
     (and_decides (unsigned_Decides a.routing_type b.routing_type)
     (and_decides (unsigned_Decides a.segments_left b.segments_left)

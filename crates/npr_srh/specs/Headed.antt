@@ -1,10 +1,12 @@
--- A header of eight bytes, the second of which counts the eights behind it, and addresses to the end of the value in the order of the wire: the form that SEG6 local and RPL share.
+-- A header of eight bytes, the second of which counts the eights behind it, and addresses to the end of the value in
+-- the order of the wire: the form that SEG6 local and RPL share.
 --     Fixed          how the eight bytes are read and written
 --     IsHeaded       what a value means
 --     HasHeader      the lengths without which it means nothing
 --     headed         the values, with their laws
 use Rattle.std.specs.List.{concat}
-use Rattle.std.proofs.Common.{◌≡◌, ℕ, ◌+◌, ◌-◌, ◌*◌, ◌%◌, ◌≤◌, List, ◌++◌, length, take, drop, slice_index, Option, refl, sym, ap, subst, ◌∙◌, arith, length-append, length-take}
+use Rattle.std.proofs.Common.{◌≡◌, ℕ, ◌+◌, ◌-◌, ◌*◌, ◌%◌, ◌≤◌, List, ◌++◌, length, take, drop, slice_index, Option}
+use Rattle.std.proofs.Common.{refl, sym, ap, subst, ◌∙◌, arith, length-append, length-take}
 use Rattle.std.proofs.lemmas.List.{get_or_append_left, get_or-take, take-append-drop}
 use Rattle.npr_base.specs.declared.refusal.DecodeError.TheVariants.{Unsupported}
 use Rattle.npr_base.specs.declared.refusal.EmitError.{EmitError}
@@ -80,7 +82,8 @@ module _ {F : Type 0} (L : Fixed F) where
   -- a value that means something has the lengths
   pub headed-sizes : (bytes : List ℕ) (h : Headed F) → IsHeaded L bytes h → HasHeader bytes
   headed-sizes bytes h p =
-      let one : slice_index bytes 1 ≡ slice_index p.head 1 = ap (λ (b : List ℕ). slice_index b 1) p.is ∙ get_or_append_left p.head (concat h.segments) 0 1 (omega (arith, p.size)) in
+      let one : slice_index bytes 1 ≡ slice_index p.head 1 = ap (λ (b : List ℕ). slice_index b 1) p.is
+      ∙ get_or_append_left p.head (concat h.segments) 0 1 (omega (arith, p.size)) in
       let all = ap length p.is in
       let parts = length-append p.head (concat h.segments) in
       record {
@@ -90,7 +93,8 @@ module _ {F : Type 0} (L : Fixed F) where
       }
 
   -- and with them it means what its parts mean
-  pub headed-is : (bytes : List ℕ) (h : Headed F) → HasHeader bytes → IsV6List (drop 8 bytes) h.segments → h.front ≡ L.decode (take 8 bytes) → L.Readable h.front → IsHeaded L bytes h
+  pub headed-is : (bytes : List ℕ) (h : Headed F) → HasHeader bytes → IsV6List (drop 8 bytes) h.segments → h.front ≡ L.decode (take 8 bytes)
+      → L.Readable h.front → IsHeaded L bytes h
   headed-is bytes h has list front readable =
       let one : slice_index (take 8 bytes) 1 ≡ slice_index bytes 1 = get_or-take 8 bytes 1 0 (omega arith) in
       record {
@@ -114,7 +118,9 @@ module _ {F : Type 0} (L : Fixed F) where
       }
 
   pub headed-len : (h : Headed F) → AllOf (λ a. length a ≡ 16) h.segments → length (headed_bytes L h) ≡ 8 + 16 * length h.segments
-  headed-len h whole = omega (arith, length-append (L.encode (2 * length h.segments) h.front) (concat h.segments), L.length-encode (2 * length h.segments) h.front, length-concat h.segments whole)
+  headed-len h whole =
+      let eights = 2 * length h.segments in
+      omega (arith, length-append (L.encode eights h.front) (concat h.segments), L.length-encode eights h.front, length-concat h.segments whole)
 
   pub headed-back : (h : Headed F) → HoldsHeaded L h → IsHeaded L (headed_bytes L h) h
   headed-back h holds = record {
@@ -128,7 +134,9 @@ module _ {F : Type 0} (L : Fixed F) where
   }
 
   pub headed-grows : (bytes : List ℕ) (h : Headed F) → IsBytes bytes → IsHeaded L bytes h → 2 * framed (length (headed_bytes L h)) ≤ 5 * (4 + length bytes)
-  headed-grows bytes h is p = framed-grows (length (headed_bytes L h)) (length bytes) (omega (arith, headed-len h p.whole, ap length p.is, length-append p.head (concat h.segments), length-concat h.segments p.whole, p.size))
+  headed-grows bytes h is p =
+      framed-grows (length (headed_bytes L h)) (length bytes)
+      (omega (arith, headed-len h p.whole, ap length p.is, length-append p.head (concat h.segments), length-concat h.segments p.whole, p.size))
 
 abbrev pub headed : {F : Type 0} → Fixed F → Codec (Headed F)
 headed L = record {
@@ -141,7 +149,9 @@ headed L = record {
   one_reading = headed-one L;
   no_fault = λ at bytes h e p q. q.0 h p;
   reads_holds = headed-holds L;
-  fits_short = λ kind h fits. too_long-short kind (length (headed_bytes L h)) (none_both (too_long kind (length (headed_bytes L h))) (too_many 127 (length h.segments)) fits).0;
+  fits_short =
+      λ kind h fits. too_long-short kind (length (headed_bytes L h))
+      (none_both (too_long kind (length (headed_bytes L h))) (too_many 127 (length h.segments)) fits).0;
   reads_back = λ kind h holds fits. headed-back L h holds;
   grows = headed-grows L;
 }

@@ -6,10 +6,11 @@ use Rattle.npr_base.specs.Framing.{Item, number_of}
 use Rattle.npr_base.specs.Codec.{exactly}
 use Rattle.npr_base.specs.DroppedCodec.{dropped}
 use Rattle.npr_base.specs.Layout.{le32, octets}
-use Rattle.npr_base.specs.Table.{Writing, Reading, Table, Row, row, Held, held, held_other, held_kind, held_value, held_misfit, held-reads, IsHeld, item_of, placed, IsOther, Aligned, ReadsAt}
+use Rattle.npr_base.specs.Table.{Writing, Reading, Table, table_of, Row, row, Held, held, held_other, held_kind, held_value}
+use Rattle.npr_base.specs.Table.{held_misfit, held-reads, IsHeld, item_of, placed, IsOther, Aligned, ReadsAt}
 use Rattle.npr_base.specs.TableLaws.{other-back}
 use Rattle.npr_srh.specs.Keeping.{keeping, IsRowOf}
-use Rattle.npr_srh.specs.Ioam6ModeLaws.{ioam6_mode}
+use Rattle.npr_srh.specs.Ioam6Mode.{ioam6_mode}
 use Rattle.npr_srh.specs.Trace.{trace}
 use Rattle.npr_srh.specs.declared.ioam6.Ioam6Mode.{Ioam6Mode}
 use Rattle.npr_srh.specs.declared.ioam6.Ioam6TraceHdr.{Ioam6TraceHdr}
@@ -85,17 +86,7 @@ back (other x) c fits = other-back other rows (number_of x.kind) x c.alone
 back m c fits = (held_value (place m), held-reads (place m) c fits, refl)
 
 abbrev pub table_of_rows : Table Meaning
-table_of_rows = record {
-  rows = rows;
-  other = other;
-  place = place;
-  Coherent = Coherent;
-  aligned = aligned;
-  other_is = λ x. refl;
-  other_coherent = λ x is. is;
-  kinds = kinds;
-  back = back;
-}
+table_of_rows = table_of rows other place Coherent aligned (λ x. refl) (λ x is. is) kinds back
 
 pub here : IsRowOf table_of_rows trace_row
 here x m e p = let q = rw e at p in (q.0, q.1)

@@ -46,13 +46,16 @@ module _ {M : Type 0} (t : Table M) (r : Row M) where
   keeping-kinds m (inl c) = (flat t).kinds m c
   keeping-kinds m (inr (x, proper, k)) = subst (λ (y : Item). y.kind < 2 ^ 16) (sym (kept-is x m k.is)) proper.kind
 
-  pub keeping-back : (m : M) → CoherentOrKept t r m → (placed t.place).misfit m ≡ None → (flat t).Reads ((placed t.place).writes m) m ⊎ IsKept t.other r ((placed t.place).writes m) m
+  pub keeping-back : (m : M) → CoherentOrKept t r m → (placed t.place).misfit m ≡ None
+      → (flat t).Reads ((placed t.place).writes m) m ⊎ IsKept t.other r ((placed t.place).writes m) m
   keeping-back m (inl c) fits = inl ((flat t).reads_back m c fits)
   keeping-back m (inr (x, proper, k)) fits = inr (subst (λ (y : Item). IsKept t.other r y m) (sym (kept-is x m k.is)) k)
 
-  pub keeping-grows : (x : Item) (m : M) → Proper x → (flat t).Reads x m ⊎ IsKept t.other r x m → 2 * framed (length ((placed t.place).writes m).value) ≤ 5 * (4 + length x.value)
+  pub keeping-grows : (x : Item) (m : M) → Proper x → (flat t).Reads x m ⊎ IsKept t.other r x m
+      → 2 * framed (length ((placed t.place).writes m).value) ≤ 5 * (4 + length x.value)
   keeping-grows x m proper (inl p) = (flat t).grows x m proper p
-  keeping-grows x m proper (inr k) = framed-grows (length ((placed t.place).writes m).value) (length x.value) (omega (arith, ap (λ (y : Item). length y.value) (kept-is x m k.is)))
+  keeping-grows x m proper (inr k) =
+      framed-grows (length ((placed t.place).writes m).value) (length x.value) (omega (arith, ap (λ (y : Item). length y.value) (kept-is x m k.is)))
 
 -- the family: `here` says that the row is the table's at its number
 abbrev pub keeping : {M : Type 0} (t : Table M) (r : Row M) → IsRowOf t r → Reading (placed t.place)

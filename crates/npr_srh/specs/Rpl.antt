@@ -18,9 +18,17 @@ pub record RplFront : Type 0 where
   pub cmpre : ℕ
   pub pad : ℕ
 
--- the last four bytes are a number, little endian: in bits 0 to 3 how much of the last address is left out, in bits 4 to 7 how much of each other, in bits 12 to 15 the padding at the end; other bits are dropped
+-- the last four bytes are a number, little endian: in bits 0 to 3 how much of the last address is left out, in bits 4
+-- to 7 how much of each other, in bits 12 to 15 the padding at the end; other bits are dropped
 abbrev pub decode_rpl : List ℕ → RplFront
-decode_rpl b = record { next_header = slice_index b 0; routing_type = slice_index b 2; segments_left = slice_index b 3; cmpri = le32_at b 4 / 2 ^ 4 % 16; cmpre = le32_at b 4 % 16; pad = le32_at b 4 / 2 ^ 12 % 16 }
+decode_rpl b = record {
+  next_header = slice_index b 0;
+  routing_type = slice_index b 2;
+  segments_left = slice_index b 3;
+  cmpri = le32_at b 4 / 2 ^ 4 % 16;
+  cmpre = le32_at b 4 % 16;
+  pad = le32_at b 4 / 2 ^ 12 % 16;
+}
 
 -- fields of four bits are written modulo 16
 abbrev pub rpl_word : RplFront → ℕ
@@ -76,7 +84,11 @@ abbrev pub Rpl : Type 0
 Rpl = Headed RplFront
 
 abbrev pub rpl_of : RplSrh → Rpl
-rpl_of h = record { front = record { next_header = h.next_header; routing_type = h.routing_type; segments_left = h.segments_left; cmpri = h.cmpri; cmpre = h.cmpre; pad = h.pad }; segments = h.segments.items }
+rpl_of h = record {
+  front =
+      record { next_header = h.next_header; routing_type = h.routing_type; segments_left = h.segments_left; cmpri = h.cmpri; cmpre = h.cmpre; pad = h.pad };
+  segments = h.segments.items;
+}
 
 abbrev pub rpl : Codec Rpl
 rpl = headed rpl_front

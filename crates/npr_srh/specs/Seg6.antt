@@ -1,9 +1,10 @@
--- The value of a SEG6 attribute (linux/seg6_iptunnel.h, struct seg6_iptunnel_encap): a mode of four bytes, and then a routing header of segments (RFC 8754, section 2; linux/seg6.h, struct ipv6_sr_hdr).
-use Rattle.std.specs.Prelude.{◌≡◌, ◌≢◌, ℕ, ◌+◌, ◌-◌, ◌*◌, ◌/◌, ◌%◌, ◌^◌, ◌<◌, ◌≤◌, List, [], ◌∷◌, ◌++◌, length, take, drop, slice_index, replicate, reverse, Option, Some, None}
-use Rattle.std.specs.Int.{w16, w32, to_le_bytes, to_be_bytes, from_be_bytes}
+-- The value of a SEG6 attribute (linux/seg6_iptunnel.h, struct seg6_iptunnel_encap): a mode of four bytes, and then a
+-- routing header of segments (RFC 8754, section 2; linux/seg6.h, struct ipv6_sr_hdr).
+use Rattle.std.specs.Prelude.{◌≡◌, ◌≢◌, ℕ, ◌+◌, ◌-◌, ◌*◌, ◌/◌, ◌%◌, ◌^◌, ◌<◌, ◌≤◌, List, [], ◌∷◌, ◌++◌, length, take}
+use Rattle.std.specs.Prelude.{drop, replicate, reverse, Option, Some, None}
+use Rattle.std.specs.Int.{w32, to_be_bytes, from_be_bytes}
 use Rattle.std.specs.List.{concat}
 use Rattle.std.proofs.Common.{refl}
-use Rattle.std.proofs.lemmas.Nat.{from_le_bytes-to_le_bytes_2, from_le_bytes-to_le_bytes_4}
 use Rattle.npr_base.specs.declared.refusal.DecodeError.{DecodeError}
 use Rattle.npr_base.specs.declared.refusal.DecodeError.TheVariants.{Seg6Header as Refused}
 use Rattle.npr_base.specs.declared.refusal.EmitError.{EmitError}
@@ -11,7 +12,8 @@ use Rattle.npr_base.specs.declared.refusal.Seg6Fault.{Seg6Fault}
 use Rattle.npr_base.specs.declared.refusal.Seg6Fault.TheVariants.{Short, Length, Hmac, Segments}
 use Rattle.npr_base.specs.Framing.{IsBytes}
 use Rattle.npr_base.specs.Family.{AllOf, option_or, too_long}
-use Rattle.npr_base.specs.Layout.{Layout, le16_at, le32_at, le16_at-holds, le32_at-holds}
+use Rattle.npr_base.specs.Fields.{one_byte, le_two, le_four, ◌then◌, fields}
+use Rattle.npr_base.specs.Layout.{Layout, formed}
 use Rattle.npr_base.specs.Rows.{IsFormed}
 use Rattle.npr_srh.specs.Segments.{too_many}
 use Rattle.npr_srh.specs.Seg6Mode.{mode_of, mode_number}
@@ -21,47 +23,26 @@ use Rattle.npr_srh.specs.declared.seg6_header.Seg6Header.{Seg6Header}
 
 -- ---- the first twelve bytes
 
+abbrev pub message : Layout Seg6MessageBuffer
+message =
+    formed (fields (le_four then one_byte then one_byte then one_byte then one_byte then one_byte then one_byte then le_two))
+    (λ p. record {
+      mode = p.0;
+      nexthdr = p.1.0;
+      hdrlen = p.1.1.0;
+      seg_type = p.1.1.1.0;
+      segments_left = p.1.1.1.1.0;
+      first_segment = p.1.1.1.1.1.0;
+      flags = p.1.1.1.1.1.1.0;
+      tag = p.1.1.1.1.1.1.1;
+    })
+    (λ b. (b.mode, (b.nexthdr, (b.hdrlen, (b.seg_type, (b.segments_left, (b.first_segment, (b.flags, b.tag)))))))) (λ p. refl)
+
 abbrev pub decode_message : List ℕ → Seg6MessageBuffer
-decode_message b = record { mode = le32_at b 0; nexthdr = slice_index b 4; hdrlen = slice_index b 5; seg_type = slice_index b 6; segments_left = slice_index b 7; first_segment = slice_index b 8; flags = slice_index b 9; tag = le16_at b 10 }
+decode_message = message.decode
 
 abbrev pub encode_message : Seg6MessageBuffer → List ℕ
-encode_message b = to_le_bytes w32 b.mode ++ b.nexthdr ∷ b.hdrlen ∷ b.seg_type ∷ b.segments_left ∷ b.first_segment ∷ b.flags ∷ to_le_bytes w16 b.tag
-
-pub record HoldsMessage (b : Seg6MessageBuffer) : Type 0 where
-  pub mode : b.mode < 2 ^ 32
-  pub nexthdr : b.nexthdr < 2 ^ 8
-  pub hdrlen : b.hdrlen < 2 ^ 8
-  pub seg_type : b.seg_type < 2 ^ 8
-  pub segments_left : b.segments_left < 2 ^ 8
-  pub first_segment : b.first_segment < 2 ^ 8
-  pub flags : b.flags < 2 ^ 8
-  pub tag : b.tag < 2 ^ 16
-
-pub message-back : (b : Seg6MessageBuffer) → HoldsMessage b → decode_message (encode_message b) ≡ b
-message-back b h = λ i. record {
-  mode = from_le_bytes-to_le_bytes_4 b.mode h.mode i;
-  nexthdr = b.nexthdr;
-  hdrlen = b.hdrlen;
-  seg_type = b.seg_type;
-  segments_left = b.segments_left;
-  first_segment = b.first_segment;
-  flags = b.flags;
-  tag = from_le_bytes-to_le_bytes_2 b.tag h.tag i;
-}
-
-pub message-holds : (b : List ℕ) → IsBytes b → length b ≡ 12 → HoldsMessage (decode_message b)
-message-holds b is e = record { mode = le32_at-holds b 0 is; nexthdr = is 4; hdrlen = is 5; seg_type = is 6; segments_left = is 7; first_segment = is 8; flags = is 9; tag = le16_at-holds b 10 is }
-
-abbrev pub message : Layout Seg6MessageBuffer
-message = record {
-  size = 12;
-  decode = decode_message;
-  encode = encode_message;
-  Holds = HoldsMessage;
-  length-encode = λ b h. refl;
-  decode-encode = message-back;
-  Holds-decode = message-holds;
-}
+encode_message = message.encode
 
 -- ---- what the value means
 
@@ -115,7 +96,8 @@ abbrev pub Seg6Faulty : List ℕ → Seg6MessageBuffer → Seg6Fault → Type 0
 Seg6Faulty bytes b Short = length bytes < 12
 Seg6Faulty bytes b Length = (12 ≤ length bytes) × (length bytes < 4 + header_len b)
 Seg6Faulty bytes b Hmac = (12 ≤ length bytes) × (4 + header_len b ≤ length bytes) × (hmac_len b ≡ 40) × (header_len b < 48)
-Seg6Faulty bytes b Segments = (12 ≤ length bytes) × (4 + header_len b ≤ length bytes) × (8 + hmac_len b ≤ header_len b) × ((header_len b - (8 + hmac_len b)) % 16 ≢ 0)
+Seg6Faulty bytes b Segments =
+    (12 ≤ length bytes) × (4 + header_len b ≤ length bytes) × (8 + hmac_len b ≤ header_len b) × ((header_len b - (8 + hmac_len b)) % 16 ≢ 0)
 
 abbrev pub Seg6Wrong : List ℕ → DecodeError → Type 0
 Seg6Wrong bytes (Refused fault) = Seg6Faulty bytes (decode_message (take 12 bytes)) fault

@@ -1,6 +1,7 @@
 -- A SEG6 header as a value, with its laws.
 use Rattle.std.specs.List.{concat}
-use Rattle.std.proofs.Common.{◌≡◌, ℕ, ◌+◌, ◌-◌, ◌*◌, ◌/◌, ◌%◌, ◌^◌, ◌<◌, ◌≤◌, List, [], ◌++◌, length, take, drop, reverse, Option, Some, None, refl, sym, ap, subst, ◌∙◌, arith, length-append, length-take, length-drop}
+use Rattle.std.proofs.Common.{◌≡◌, ℕ, ◌+◌, ◌-◌, ◌*◌, ◌/◌, ◌%◌, ◌^◌, ◌<◌, ◌≤◌, List, [], ◌++◌, length, take, drop, reverse, Option, Some}
+use Rattle.std.proofs.Common.{None, refl, sym, ap, subst, ◌∙◌, arith, length-append, length-take, length-drop}
 use Rattle.std.proofs.lemmas.List.{append-nil, take_at, take-append-drop, reverse-reverse, length-reverse}
 use Rattle.std.proofs.lemmas.Nat.{from_be_bytes-to_be_bytes_4}
 use Rattle.npr_base.specs.declared.refusal.At.{At}
@@ -18,11 +19,11 @@ use Rattle.npr_base.specs.V6ListLaws.{same_parts, AllOf-reverse, length-concat, 
 use Rattle.npr_base.specs.RowLaws.{form_IsFormed}
 use Rattle.npr_base.specs.Rows.{IsFormed}
 use Rattle.npr_base.specs.Codec.{Codec}
-use Rattle.npr_srh.specs.Seg6Mode.{mode_of, mode_number}
-use Rattle.npr_srh.specs.Seg6ModeLaws.{mode_number-mode_of}
+use Rattle.npr_srh.specs.Seg6Mode.{mode_of, mode_number, mode_number-mode_of}
 use Rattle.npr_srh.specs.declared.seg6_header.Seg6MessageBuffer.{Seg6MessageBuffer}
 use Rattle.npr_srh.specs.Segments.{too_many, few}
-use Rattle.npr_srh.specs.Seg6.{Seg6, IsSeg6, IsKey, Seg6Wrong, Seg6Faulty, HoldsSeg6, HoldsKey, HoldsMessage, decode_message, encode_message, message-back, message-holds, header_len, hmac_len, front_of, seg6_bytes, key_bytes, key_eights, key_flags, most_segments, seg6_misfit}
+use Rattle.npr_srh.specs.Seg6.{Seg6, IsSeg6, IsKey, Seg6Wrong, Seg6Faulty, HoldsSeg6, HoldsKey, message, decode_message, encode_message}
+use Rattle.npr_srh.specs.Seg6.{header_len, hmac_len, front_of, seg6_bytes, key_bytes, key_eights, key_flags, most_segments, seg6_misfit}
 
 -- ---- one reading
 
@@ -94,11 +95,11 @@ pub seg6-holds : (bytes : List ℕ) (h : Seg6) → IsBytes bytes → IsSeg6 byte
 seg6-holds bytes h is p =
     let all : IsBytes (p.front ++ (concat p.wire ++ (p.hmac ++ p.rest))) = subst IsBytes p.is is in
     let tail = IsBytes-right p.front (concat p.wire ++ (p.hmac ++ p.rest)) all in
-    let front = message-holds p.front (IsBytes-left p.front (concat p.wire ++ (p.hmac ++ p.rest)) all) p.size in
+    let front = message.Holds-decode p.front (IsBytes-left p.front (concat p.wire ++ (p.hmac ++ p.rest)) all) p.size in
     let wire = v6_list-bytes p.wire (IsBytes-left (concat p.wire) (p.hmac ++ p.rest) tail) in
     let hmac = IsBytes-left p.hmac p.rest (IsBytes-right (concat p.wire) (p.hmac ++ p.rest) tail) in
     record {
-      mode = subst (λ (n : ℕ). n < 2 ^ 32) (sym (ap mode_number p.mode ∙ mode_number-mode_of (decode_message p.front).mode)) front.mode;
+      mode = subst (λ (n : ℕ). n < 2 ^ 32) (sym (ap mode_number p.mode ∙ mode_number-mode_of (decode_message p.front).mode)) front.0.0;
       formed = subst (IsFormed mode_of mode_number) (sym p.mode) (form_IsFormed mode_of mode_number mode_number-mode_of (decode_message p.front).mode);
       whole = subst (AllOf (λ (a : List ℕ). length a ≡ 16)) (sym p.segments) (AllOf-reverse (λ (a : List ℕ). length a ≡ 16) p.wire p.whole);
       segments = subst (AllOf IsBytes) (sym p.segments) (AllOf-reverse IsBytes p.wire wire);
@@ -125,11 +126,13 @@ key-room (Some k) count le = (omega arith, omega arith)
 
 pub seg6-back : (kind : ℕ) (h : Seg6) → HoldsSeg6 h → seg6_misfit kind h ≡ None → IsSeg6 (seg6_bytes h) h
 seg6-back kind h holds fits =
-    let count = few (most_segments h.hmac) (length h.segments) (none_both (too_long kind (length (seg6_bytes h))) (too_many (most_segments h.hmac) (length h.segments)) fits).1 in
+    let count = few (most_segments h.hmac) (length h.segments)
+    (none_both (too_long kind (length (seg6_bytes h))) (too_many (most_segments h.hmac) (length h.segments)) fits).1 in
     let room = key-room h.hmac (length h.segments) count in
     let wire = AllOf-reverse (λ (a : List ℕ). length a ≡ 16) h.segments holds.whole in
-    let front : HoldsMessage (front_of h) = record { mode = holds.mode; nexthdr = omega arith; hdrlen = room.0; seg_type = omega arith; segments_left = omega (arith, room.0); first_segment = omega (arith, room.0); flags = room.1; tag = omega arith } in
-    let back : decode_message (encode_message (front_of h)) ≡ front_of h = message-back (front_of h) front in
+    let low : length h.segments - 1 < 2 ^ 8 = omega (arith, room.0) in
+    let front : message.Holds (front_of h) = ((holds.mode, (omega arith, (room.0, (omega arith, (low, (low, (room.1, omega arith))))))), refl) in
+    let back : decode_message (encode_message (front_of h)) ≡ front_of h = message.decode-encode (front_of h) front in
     record {
       front = encode_message (front_of h);
       wire = reverse h.segments;
@@ -149,7 +152,9 @@ seg6-back kind h holds fits =
 
 pub seg6-len : (h : Seg6) → AllOf (λ a. length a ≡ 16) h.segments → length (seg6_bytes h) ≡ 12 + 16 * length h.segments + 8 * key_eights h.hmac
 seg6-len h whole =
-    omega (arith, length-append (concat (reverse h.segments)) (key_bytes h.hmac), length-concat (reverse h.segments) (AllOf-reverse (λ (a : List ℕ). length a ≡ 16) h.segments whole), length-reverse h.segments, key-len h.hmac)
+    let wire = AllOf-reverse (λ (a : List ℕ). length a ≡ 16) h.segments whole in
+    let parts = length-append (concat (reverse h.segments)) (key_bytes h.hmac) in
+    omega (arith, parts, length-concat (reverse h.segments) wire, length-reverse h.segments, key-len h.hmac)
 
 key-as-long : (hmac : List ℕ) (key : Option ℕ) → IsKey hmac key → length hmac ≡ 8 * key_eights key
 key-as-long hmac None p = p
@@ -160,7 +165,13 @@ seg6-grows bytes h is p =
     let holds = seg6-holds bytes h is p in
     let count : length h.segments ≡ length p.wire = ap length p.segments ∙ length-reverse p.wire in
     let tail : List ℕ = concat p.wire ++ (p.hmac ++ p.rest) in
-    framed-grows (length (seg6_bytes h)) (length bytes) (omega (arith, seg6-len h holds.whole, count, ap length p.is, length-append p.front tail, length-append (concat p.wire) (p.hmac ++ p.rest), length-append p.hmac p.rest, length-concat p.wire p.whole, key-as-long p.hmac h.hmac p.key, p.size))
+    let parts = length-append p.front tail in
+    let more = length-append (concat p.wire) (p.hmac ++ p.rest) in
+    let last = length-append p.hmac p.rest in
+    let key = key-as-long p.hmac h.hmac p.key in
+    let wire = length-concat p.wire p.whole in
+    let all = ap length p.is in
+    framed-grows (length (seg6_bytes h)) (length bytes) (omega (arith, seg6-len h holds.whole, count, parts, more, last, key, wire, all, p.size))
 
 abbrev pub seg6 : Codec Seg6
 seg6 = record {
@@ -173,7 +184,9 @@ seg6 = record {
   one_reading = seg6-one;
   no_fault = seg6-sound;
   reads_holds = seg6-holds;
-  fits_short = λ kind h fits. too_long-short kind (length (seg6_bytes h)) (none_both (too_long kind (length (seg6_bytes h))) (too_many (most_segments h.hmac) (length h.segments)) fits).0;
+  fits_short =
+      λ kind h fits. too_long-short kind (length (seg6_bytes h))
+      (none_both (too_long kind (length (seg6_bytes h))) (too_many (most_segments h.hmac) (length h.segments)) fits).0;
   reads_back = seg6-back;
   grows = seg6-grows;
 }

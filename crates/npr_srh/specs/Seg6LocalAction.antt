@@ -1,11 +1,17 @@
 -- What is done at a local segment (linux/seg6_local.h, SEG6_LOCAL_ACTION_*), by its table.
-use Rattle.std.specs.Prelude.{ℕ, List, [], ◌∷◌}
+use Rattle.std.specs.Prelude.{◌≡◌, ℕ, List, [], ◌∷◌}
+use Rattle.std.proofs.Common.{refl}
+use Rattle.npr_base.specs.Layout.{Layout, le32, formed}
 use Rattle.npr_base.specs.Rows.{form_in}
+use Rattle.npr_base.specs.RowLaws.{number-form}
 use Rattle.npr_srh.specs.declared.seg6local_action.Seg6LocalAction.{Seg6LocalAction}
-use Rattle.npr_srh.specs.declared.seg6local_action.Seg6LocalAction.TheVariants.{End, EndX, EndT, EndDx2, EndDx6, EndDx4, EndDt6, EndDt4, EndB6, EndB6Encap, EndBm, EndS, EndAs, EndAm, EndBpf, EndDt46, Unspec, Other}
+use Rattle.npr_srh.specs.declared.seg6local_action.Seg6LocalAction.TheVariants.{End, EndX, EndT, EndDx2, EndDx6, EndDx4, EndDt6, EndDt4, EndB6, EndB6Encap}
+use Rattle.npr_srh.specs.declared.seg6local_action.Seg6LocalAction.TheVariants.{EndBm, EndS, EndAs, EndAm, EndBpf, EndDt46, Unspec, Other}
 
 abbrev pub action_rows : List (ℕ × Seg6LocalAction)
-action_rows = (1, End) ∷ (2, EndX) ∷ (3, EndT) ∷ (4, EndDx2) ∷ (5, EndDx6) ∷ (6, EndDx4) ∷ (7, EndDt6) ∷ (8, EndDt4) ∷ (9, EndB6) ∷ (10, EndB6Encap) ∷ (11, EndBm) ∷ (12, EndS) ∷ (13, EndAs) ∷ (14, EndAm) ∷ (15, EndBpf) ∷ (16, EndDt46) ∷ []
+action_rows =
+    (1, End) ∷ (2, EndX) ∷ (3, EndT) ∷ (4, EndDx2) ∷ (5, EndDx6) ∷ (6, EndDx4) ∷ (7, EndDt6) ∷ (8, EndDt4) ∷ (9, EndB6) ∷ (10, EndB6Encap) ∷ (11, EndBm)
+    ∷ (12, EndS) ∷ (13, EndAs) ∷ (14, EndAm) ∷ (15, EndBpf) ∷ (16, EndDt46) ∷ []
 
 -- the action that a number reads as: never `Unspec`, whose number reads as `Other`
 abbrev pub action_of : ℕ → Seg6LocalAction
@@ -31,3 +37,10 @@ action_number EndBpf = 15
 action_number EndDt46 = 16
 action_number Unspec = 0
 action_number (Other d) = d
+
+pub action_number-action_of : (d : ℕ) → action_number (action_of d) ≡ d
+action_number-action_of = number-form action_number Other (λ d. refl) action_rows refl
+
+-- how one is read and written
+abbrev pub action : Layout Seg6LocalAction
+action = formed le32 action_of action_number action_number-action_of

@@ -6,14 +6,16 @@ use Rattle.npr_base.specs.Framing.{Item, number_of}
 use Rattle.npr_base.specs.Codec.{exactly}
 use Rattle.npr_base.specs.DroppedCodec.{dropped}
 use Rattle.npr_base.specs.Layout.{le32, octets}
-use Rattle.npr_base.specs.Table.{Writing, Reading, Table, Row, row, Held, held, held_other, held_kind, held_value, held_misfit, held-reads, IsHeld, item_of, placed, IsOther, Aligned, ReadsAt}
+use Rattle.npr_base.specs.Table.{Writing, Reading, Table, table_of, Row, row, Held, held, held_other, held_kind, held_value}
+use Rattle.npr_base.specs.Table.{held_misfit, held-reads, IsHeld, item_of, placed, IsOther, Aligned, ReadsAt}
 use Rattle.npr_base.specs.TableLaws.{other-back}
 use Rattle.npr_srh.specs.Keeping.{keeping, IsRowOf}
-use Rattle.npr_srh.specs.Seg6LocalActionLaws.{action}
+use Rattle.npr_srh.specs.Seg6LocalAction.{action}
 use Rattle.npr_srh.specs.Seg6Local.{Local, local, local_of}
 use Rattle.npr_srh.specs.declared.seg6local_action.Seg6LocalAction.{Seg6LocalAction}
 use Rattle.npr_srh.specs.declared.seg6local.RouteSeg6LocalTunnel.{RouteSeg6LocalTunnel}
-use Rattle.npr_srh.specs.declared.seg6local.RouteSeg6LocalTunnel.TheVariants.{Unspecified, Action, Srh, Table as RouteTable, Nh4, Nh6, Iif, Oif, VrfTable, Other}
+use Rattle.npr_srh.specs.declared.seg6local.RouteSeg6LocalTunnel.TheVariants.{Unspecified, Action, Srh, Table as RouteTable, Nh4, Nh6}
+use Rattle.npr_srh.specs.declared.seg6local.RouteSeg6LocalTunnel.TheVariants.{Iif, Oif, VrfTable, Other}
 use Rattle.std.proofs.Common.{refl, arith, rules}
 
 -- what a member is, without where it lies in memory
@@ -92,17 +94,7 @@ back (other x) c fits = other-back other rows (number_of x.kind) x c.alone
 back m c fits = (held_value (place m), held-reads (place m) c fits, refl)
 
 abbrev pub table_of_rows : Table Meaning
-table_of_rows = record {
-  rows = rows;
-  other = other;
-  place = place;
-  Coherent = Coherent;
-  aligned = aligned;
-  other_is = λ x. refl;
-  other_coherent = λ x is. is;
-  kinds = kinds;
-  back = back;
-}
+table_of_rows = table_of rows other place Coherent aligned (λ x. refl) (λ x is. is) kinds back
 
 pub here : IsRowOf table_of_rows srh_row
 here x m e p = let q = rw e at p in (q.0, q.1)

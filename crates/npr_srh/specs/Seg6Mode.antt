@@ -1,6 +1,8 @@
 -- How a SEG6 header is put in (linux/seg6_iptunnel.h, SEG6_IPTUN_MODE_*), by its table.
-use Rattle.std.specs.Prelude.{ℕ, List, [], ◌∷◌}
+use Rattle.std.specs.Prelude.{◌≡◌, ℕ, List, [], ◌∷◌}
+use Rattle.std.proofs.Common.{refl}
 use Rattle.npr_base.specs.Rows.{form_in}
+use Rattle.npr_base.specs.RowLaws.{number-form}
 use Rattle.npr_srh.specs.declared.seg6_mode.Seg6Mode.{Seg6Mode}
 use Rattle.npr_srh.specs.declared.seg6_mode.Seg6Mode.TheVariants.{Inline, Encap, Other}
 
@@ -16,3 +18,6 @@ abbrev pub mode_number : Seg6Mode → ℕ
 mode_number Inline = 0
 mode_number Encap = 1
 mode_number (Other d) = d
+
+pub mode_number-mode_of : (d : ℕ) → mode_number (mode_of d) ≡ d
+mode_number-mode_of = number-form mode_number Other (λ d. refl) mode_rows refl

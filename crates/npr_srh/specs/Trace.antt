@@ -7,19 +7,27 @@ use Rattle.npr_base.specs.declared.refusal.DecodeError.TheVariants.{Unsupported}
 use Rattle.npr_base.specs.Framing.{IsBytes}
 use Rattle.npr_base.specs.Family.{too_long}
 use Rattle.npr_base.specs.FitLaws.{too_long-short}
-use Rattle.npr_base.specs.Layout.{Layout, truth_byte}
+use Rattle.npr_base.specs.Layout.{Layout, be16_at, be32_at, truth_byte}
 use Rattle.npr_base.specs.CodecLaws.{exactly-one, exactly-holds, exactly-back, exactly-grows}
 use Rattle.npr_base.specs.Codec.{Codec}
-use Rattle.npr_srh.specs.Places.{be16_at, be32_at}
 use Rattle.npr_srh.specs.declared.ioam6.Ioam6TraceHdr.{Ioam6TraceHdr}
 
--- big endian: the number of the namespace; five bits of the length of a node's data, and one that says that no room was left; seven bits of the room that is left; and the type in the high 24 bits of four bytes. Other bits are dropped
+-- big endian: the number of the namespace; five bits of the length of a node's data, and one that says that no room was
+-- left; seven bits of the room that is left; and the type in the high 24 bits of four bytes. Other bits are dropped
 abbrev pub decode_trace : List ℕ → Ioam6TraceHdr
-decode_trace b = record { namespace_id = be16_at b 0; nodelen = slice_index b 2 / 2 ^ 3; overflow = slice_index b 2 / 2 ^ 2 % 2 == 1; remlen = slice_index b 3 % 2 ^ 7; trace_type = be32_at b 4 / 2 ^ 8 }
+decode_trace b = record {
+  namespace_id = be16_at b 0;
+  nodelen = slice_index b 2 / 2 ^ 3;
+  overflow = slice_index b 2 / 2 ^ 2 % 2 == 1;
+  remlen = slice_index b 3 % 2 ^ 7;
+  trace_type = be32_at b 4 / 2 ^ 8;
+}
 
 -- each field is written modulo its bits
 abbrev pub encode_trace : Ioam6TraceHdr → List ℕ
-encode_trace t = to_be_bytes w16 t.namespace_id ++ (2 ^ 3 * (t.nodelen % 2 ^ 5) + 2 ^ 2 * truth_byte t.overflow) ∷ (t.remlen % 2 ^ 7) ∷ to_be_bytes w32 (2 ^ 8 * (t.trace_type % 2 ^ 24))
+encode_trace t =
+    to_be_bytes w16 t.namespace_id ++ (2 ^ 3 * (t.nodelen % 2 ^ 5) + 2 ^ 2 * truth_byte t.overflow) ∷ (t.remlen % 2 ^ 7)
+    ∷ to_be_bytes w32 (2 ^ 8 * (t.trace_type % 2 ^ 24))
 
 pub record HoldsTrace (t : Ioam6TraceHdr) : Type 0 where
   pub namespace_id : t.namespace_id < 2 ^ 16
@@ -41,10 +49,18 @@ trace-back t h =
     let word = from_be_bytes-to_be_bytes_4 (2 ^ 8 * (t.trace_type % 2 ^ 24)) (omega arith) in
     let kind : 2 ^ 8 * (t.trace_type % 2 ^ 24) / 2 ^ 8 ≡ t.trace_type = omega (arith, h.trace_type) in
     let bits = ap (λ (n : ℕ). n / 2 ^ 8) word ∙ kind in
-    λ i. record { namespace_id = from_be_bytes-to_be_bytes_2 t.namespace_id h.namespace_id i; nodelen = node-back t.nodelen t.overflow h.nodelen i; overflow = truth-back t.nodelen t.overflow h.nodelen i; remlen = rem i; trace_type = bits i }
+    let node = node-back t.nodelen t.overflow h.nodelen in
+    let full = truth-back t.nodelen t.overflow h.nodelen in
+    let space = from_be_bytes-to_be_bytes_2 t.namespace_id h.namespace_id in
+    λ i. record { namespace_id = space i; nodelen = node i; overflow = full i; remlen = rem i; trace_type = bits i }
 
 pub trace-holds : (b : List ℕ) → IsBytes b → length b ≡ 8 → HoldsTrace (decode_trace b)
-trace-holds b is e = record { namespace_id = omega (arith, is 0, is 1); nodelen = omega (arith, is 2); remlen = omega arith; trace_type = omega (arith, is 4, is 5, is 6, is 7) }
+trace-holds b is e = record {
+  namespace_id = omega (arith, is 0, is 1);
+  nodelen = omega (arith, is 2);
+  remlen = omega arith;
+  trace_type = omega (arith, is 4, is 5, is 6, is 7);
+}
 
 abbrev pub trace_layout : Layout Ioam6TraceHdr
 trace_layout = record {

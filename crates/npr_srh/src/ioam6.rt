@@ -1,17 +1,15 @@
 //! IOAM6: traces in packets (RFC 9197; `linux/ioam6.h` and `linux/ioam6_iptunnel.h`).
 
-ghost use Rattle.std.specs.Prelude.{◌≡◌, ◌≢◌, ◌≤◌, ◌<◌, ◌+◌, ◌*◌, ℕ, List, Option, None, false, length, IfOk, IfErr, IfSome, IfNone};
-ghost use Rattle.std.proofs.Common.{refl};
+ghost use Rattle.std.specs.Prelude.{◌≡◌, ◌≢◌, ℕ, false, length, IfOk, IfErr, IfSome, IfNone, refl};
 ghost use Rattle.npr_base.specs.declared.refusal.DecodeError.TheVariants.{OutOfMemory};
 ghost use Rattle.npr_srh.specs.Ioam6Mode.{ioam6_mode_of, ioam6_mode_number};
 ghost use Rattle.npr_srh.specs.Trace.{trace, IsTrace, encode_trace};
 ghost use Rattle.npr_srh.specs.declared.ioam6.Ioam6TraceHdr.{Ioam6TraceHdr};
 ghost use Rattle.npr_srh.specs.Ioam6Tunnel.{Meaning, meaning_of, writing, members, at as place_at};
 
-use crate::segments::read_v6;
 use npr_base::{
-    At, AttrFamily, Attribute, DecodeError, DefaultNla, EmitError, Ipv6Addr, Looks, Nla, NlaBuffer,
-    Parseable, check_len, read_u8, read_u32, write_bytes,
+    AttrFamily, Attribute, DecodeError, DefaultNla, EmitError, Ipv6Addr, Looks, Nla, NlaBuffer,
+    Parseable, check_len, read_ipv6, read_u8, read_u32, write_bytes,
 };
 use std::alloc::{AllocError, Global};
 
@@ -55,11 +53,6 @@ impl From<Ioam6Mode> for u8 {
     }
 }
 
-/// What a number reads as is written as that number.
-pub fn law_ioam6_mode_number()
-    ensures { (d : ℕ) → ioam6_mode_number (ioam6_mode_of d) ≡ d }
-{}
-
 /// The header of a trace whose room is there from the start (RFC 9197, section 4.4.1).
 #[derive(Clone, Copy, Debug, Default, PartialEq, Eq)]
 pub struct Ioam6TraceHdr {
@@ -75,14 +68,11 @@ pub struct Ioam6TraceHdr {
     pub trace_type: u32,
 }
 
-const fn at(kind: u16) -> At
-    ensures { result ≡ record { family = AttrFamily.Ioam6; kind = kind } }
-{
-    At {
-        family: AttrFamily::Ioam6,
-        kind,
-    }
-}
+/// The family of these attributes.
+const FAMILY: AttrFamily = AttrFamily::Ioam6;
+
+/// `IOAM6_IPTUNNEL_TRACE` of `linux/ioam6_iptunnel.h`.
+const IOAM6_IPTUNNEL_TRACE: u16 = 3;
 
 impl Ioam6TraceHdr {
     /// The header that a value is: exactly 8 bytes.
@@ -132,7 +122,7 @@ impl Nla for Ioam6TraceHdr {
     ghost fits_short = { λ t fits. trace.fits_short 3 t fits };
 
     fn kind(&self) -> u16 {
-        3
+        IOAM6_IPTUNNEL_TRACE
     }
 
     fn is_nested(&self) -> bool {
@@ -140,7 +130,7 @@ impl Nla for Ioam6TraceHdr {
     }
 
     fn check(&self) -> Result<usize, EmitError> {
-        check_len(3, self.value_len())
+        check_len(IOAM6_IPTUNNEL_TRACE, self.value_len())
     }
 
     fn value_len(&self) -> usize
@@ -169,7 +159,9 @@ impl<'a> Parseable<&'a NlaBuffer<'a>> for Ioam6TraceHdr {
         // It takes no memory.
         ensures memory { IfErr result (λ e. e ≢ OutOfMemory) }
     {
-        Ioam6TraceHdr::read(input.value()).ok_or(DecodeError::Unsupported { at: at(3) })
+        Ioam6TraceHdr::read(input.value()).ok_or(DecodeError::Unsupported {
+            at: FAMILY.at(IOAM6_IPTUNNEL_TRACE),
+        })
     }
 }
 
@@ -230,7 +222,7 @@ impl Nla for RouteIoam6Tunnel {
             RouteIoam6Tunnel::Unspecified => 0,
             RouteIoam6Tunnel::Mode(_) => 1,
             RouteIoam6Tunnel::Dst(_) => 2,
-            RouteIoam6Tunnel::Trace(_) => 3,
+            RouteIoam6Tunnel::Trace(trace) => trace.kind(),
             RouteIoam6Tunnel::FreqK(_) => 4,
             RouteIoam6Tunnel::FreqN(_) => 5,
             RouteIoam6Tunnel::Src(_) => 6,
@@ -303,15 +295,15 @@ impl Attribute for RouteIoam6Tunnel {
         let value = item.value();
         match item.kind() {
             0 => Ok(RouteIoam6Tunnel::Unspecified),
-            1 => read_u8(value, at(1)).map(|n| RouteIoam6Tunnel::Mode(Ioam6Mode::from(n))),
-            2 => read_v6(value, at(2)).map(RouteIoam6Tunnel::Dst),
+            1 => read_u8(value, FAMILY.at(1)).map(|n| RouteIoam6Tunnel::Mode(Ioam6Mode::from(n))),
+            2 => read_ipv6(value, FAMILY.at(2)).map(RouteIoam6Tunnel::Dst),
             3 => match Ioam6TraceHdr::read(value) {
                 Some(trace) => Ok(RouteIoam6Tunnel::Trace(trace)),
                 None => Ok(RouteIoam6Tunnel::Other(DefaultNla::parse(alloc, item)?)),
             },
-            4 => read_u32(value, at(4)).map(RouteIoam6Tunnel::FreqK),
-            5 => read_u32(value, at(5)).map(RouteIoam6Tunnel::FreqN),
-            6 => read_v6(value, at(6)).map(RouteIoam6Tunnel::Src),
+            4 => read_u32(value, FAMILY.at(4)).map(RouteIoam6Tunnel::FreqK),
+            5 => read_u32(value, FAMILY.at(5)).map(RouteIoam6Tunnel::FreqN),
+            6 => read_ipv6(value, FAMILY.at(6)).map(RouteIoam6Tunnel::Src),
             _ => DefaultNla::parse(alloc, item).map(RouteIoam6Tunnel::Other),
         }
     }

@@ -1,8 +1,11 @@
-//! What `==` answers at the types of this crate. The function does nothing, and its contract is the
-//! law.
+//! The laws of this crate. Each function does nothing, and its contract is the law.
 
+ghost use Rattle.std.specs.Prelude.{◌≡◌, ℕ, false};
 ghost use Rattle.npr_base.specs.Equality.{IsEquality, IsEqualityOf};
+ghost use Rattle.npr_srh.specs.Ioam6Mode.{ioam6_mode_of, ioam6_mode_number};
 ghost use Rattle.npr_srh.specs.Seg6.{seg6_of};
+ghost use Rattle.npr_srh.specs.Seg6LocalAction.{action_of, action_number};
+ghost use Rattle.npr_srh.specs.Seg6Mode.{mode_of, mode_number};
 ghost use Rattle.npr_srh.specs.Seg6Tunnel.{meaning_of as seg6_member};
 ghost use Rattle.npr_srh.specs.Seg6Local.{local_of};
 ghost use Rattle.npr_srh.specs.Seg6LocalTunnel.{meaning_of as local_member};
@@ -19,6 +22,13 @@ use crate::seg6local::RouteSeg6LocalTunnel;
 use crate::seg6local_action::Seg6LocalAction;
 use crate::seg6local_srh::Seg6LocalSrh;
 
+/// What a number reads as is written as that number.
+pub fn law_numbers()
+    ensures seg6_mode { (d : ℕ) → mode_number (mode_of d) ≡ d }
+    ensures action { (d : ℕ) → action_number (action_of d) ≡ d }
+    ensures ioam6_mode { (d : ℕ) → ioam6_mode_number (ioam6_mode_of d) ≡ d }
+{}
+
 /// `==` answers whether two values are equal, or mean the same where they hold a vector.
 pub fn law_equality()
     ensures seg6_mode { IsEquality ⟦<Seg6Mode as PartialEq>⟧.eq }
@@ -33,4 +43,15 @@ pub fn law_equality()
     ensures local { IsEqualityOf local_member ⟦<RouteSeg6LocalTunnel as PartialEq>⟧.eq }
     ensures rpl { IsEqualityOf rpl_member ⟦<RouteRplIpTunnel as PartialEq>⟧.eq }
     ensures ioam6 { IsEqualityOf ioam6_member ⟦<RouteIoam6Tunnel as PartialEq>⟧.eq }
+{}
+
+/// Which value is the default.
+pub fn law_default()
+    ensures seg6_mode { (x : Seg6Mode) → ⟦<Seg6Mode as Default>⟧.is_default x → x ≡ Seg6Mode.Inline }
+    ensures action { (x : Seg6LocalAction) → ⟦<Seg6LocalAction as Default>⟧.is_default x → x ≡ Seg6LocalAction.Unspec }
+    ensures ioam6_mode { (x : Ioam6Mode) → ⟦<Ioam6Mode as Default>⟧.is_default x → x ≡ Ioam6Mode.Inline }
+    ensures trace { (x : Ioam6TraceHdr) → ⟦<Ioam6TraceHdr as Default>⟧.is_default x → x ≡ record { namespace_id = 0; nodelen = 0; overflow = false; remlen = 0; trace_type = 0 } }
+    ensures local { (x : RouteSeg6LocalTunnel) → ⟦<RouteSeg6LocalTunnel as Default>⟧.is_default x → x ≡ RouteSeg6LocalTunnel.Unspecified }
+    ensures rpl { (x : RouteRplIpTunnel) → ⟦<RouteRplIpTunnel as Default>⟧.is_default x → x ≡ RouteRplIpTunnel.Unspecified }
+    ensures ioam6 { (x : RouteIoam6Tunnel) → ⟦<RouteIoam6Tunnel as Default>⟧.is_default x → x ≡ RouteIoam6Tunnel.Unspecified }
 {}

@@ -1,8 +1,6 @@
 //! Routing headers of lightweight tunnels: SEG6, SEG6 local, RPL and IOAM6.
 #![tactic(auto)]
 
-#[cfg(test)]
-mod header_tests;
 mod ioam6;
 pub mod laws;
 mod rpl;
@@ -13,14 +11,12 @@ mod seg6local;
 mod seg6local_action;
 mod seg6local_srh;
 mod segments;
-#[cfg(test)]
-mod tests;
 
-pub use ioam6::{Ioam6Mode, Ioam6TraceHdr, RouteIoam6Tunnel, law_ioam6_mode_number};
+pub use ioam6::{Ioam6Mode, Ioam6TraceHdr, RouteIoam6Tunnel};
 pub use rpl::{RouteRplIpTunnel, RplSrh};
 pub use seg6::RouteSeg6IpTunnel;
 pub use seg6_header::{Seg6Header, Seg6MessageBuffer};
-pub use seg6_mode::{Seg6Mode, law_mode_number};
+pub use seg6_mode::Seg6Mode;
 pub use seg6local::RouteSeg6LocalTunnel;
-pub use seg6local_action::{Seg6LocalAction, law_action_number};
+pub use seg6local_action::Seg6LocalAction;
 pub use seg6local_srh::Seg6LocalSrh;

@@ -1,17 +1,16 @@
 //! RPL: source routes of a network of low power (RFC 6554; `linux/rpl.h` and
 //! `linux/rpl_iptunnel.h`).
 
-ghost use Rattle.std.specs.Prelude.{◌≡◌, ◌≢◌, ◌≤◌, ◌<◌, ◌+◌, ◌*◌, ℕ, List, Option, None, false, length, [], IfOk, IfErr, IfSome, IfNone};
-ghost use Rattle.std.proofs.Common.{refl};
+ghost use Rattle.std.specs.Prelude.{◌≡◌, ◌≤◌, ◌*◌, false, length, [], IfOk, IfErr, IfSome, IfNone, refl};
 ghost use Rattle.npr_base.specs.declared.refusal.DecodeError.TheVariants.{OutOfMemory};
 ghost use Rattle.npr_srh.specs.Headed.{IsUnread};
 ghost use Rattle.npr_srh.specs.Rpl.{rpl, rpl_of, rpl_front, encode_rpl};
 ghost use Rattle.npr_srh.specs.RplTunnel.{Meaning, meaning_of, writing, members, at as place_at};
 
-use crate::segments::{check_header, has_header, write_segments};
+use crate::segments::{check_header, has_header};
 use npr_base::{
-    At, AttrFamily, Attribute, DecodeError, DefaultNla, EmitError, Ipv6Addr, Looks, Nla, NlaBuffer,
-    Parseable, check_len, read_v6_list, v6_list_len, write_bytes,
+    AttrFamily, Attribute, DecodeError, DefaultNla, EmitError, Ipv6Addr, Looks, Nla, NlaBuffer,
+    Parseable, check_len, read_v6_list, v6_list_len, write_bytes, write_v6_list,
 };
 use std::alloc::{AllocError, Global};
 
@@ -34,14 +33,8 @@ pub struct RplSrh {
     pub segments: Vec<Ipv6Addr>,
 }
 
-const fn at(kind: u16) -> At
-    ensures { result ≡ record { family = AttrFamily.Rpl; kind = kind } }
-{
-    At {
-        family: AttrFamily::Rpl,
-        kind,
-    }
-}
+/// `RPL_IPTUNNEL_SRH` of `linux/rpl_iptunnel.h`.
+const RPL_IPTUNNEL_SRH: u16 = 1;
 
 impl RplSrh {
     /// A header with each field 0 and no segments. It takes no memory.
@@ -136,7 +129,7 @@ impl Nla for RplSrh {
     ghost fits_short = { λ h fits. rpl.fits_short 1 (rpl_of h) fits };
 
     fn kind(&self) -> u16 {
-        1
+        RPL_IPTUNNEL_SRH
     }
 
     fn is_nested(&self) -> bool {
@@ -144,7 +137,7 @@ impl Nla for RplSrh {
     }
 
     fn check(&self) -> Result<usize, EmitError> {
-        check_header(1, self.value_len(), self.segments.len(), 127)
+        check_header(RPL_IPTUNNEL_SRH, self.value_len(), self.segments.len(), 127)
     }
 
     fn value_len(&self) -> usize
@@ -155,7 +148,7 @@ impl Nla for RplSrh {
 
     fn write_value(&self, out: &mut [u8]) -> usize {
         let front = write_bytes(&self.front(), out);
-        front + write_segments(self.segments.as_slice(), &mut out[front..])
+        front + write_v6_list(self.segments.as_slice(), &mut out[front..])
     }
 }
 
@@ -171,7 +164,9 @@ impl<'a> Parseable<&'a NlaBuffer<'a>> for RplSrh {
     fn parse(alloc: Global, input: &'a NlaBuffer<'a>) -> Result<Self, DecodeError> {
         match RplSrh::read(alloc, input.value())? {
             Some(header) => Ok(header),
-            None => Err(DecodeError::Unsupported { at: at(1) }),
+            None => Err(DecodeError::Unsupported {
+                at: AttrFamily::Rpl.at(RPL_IPTUNNEL_SRH),
+            }),
         }
     }
 }
@@ -216,7 +211,7 @@ impl Nla for RouteRplIpTunnel {
     fn kind(&self) -> u16 {
         match self {
             RouteRplIpTunnel::Unspecified => 0,
-            RouteRplIpTunnel::Srh(_) => 1,
+            RouteRplIpTunnel::Srh(header) => header.kind(),
             RouteRplIpTunnel::Other(nla) => nla.kind(),
         }
     }

@@ -1,14 +1,12 @@
 //! SEG6: members of its tunnel (RFC 8754; `linux/seg6_iptunnel.h`).
 
-ghost use Rattle.std.specs.Prelude.{◌≡◌, false, length, IfOk};
-ghost use Rattle.std.proofs.Common.{refl};
+ghost use Rattle.std.specs.Prelude.{◌≡◌, false, length, IfOk, refl};
 ghost use Rattle.npr_srh.specs.Seg6Tunnel.{Meaning, meaning_of, writing, members};
 
 use crate::seg6_header::Seg6Header;
-use crate::segments::read_v6;
 use npr_base::{
-    At, AttrFamily, Attribute, DecodeError, DefaultNla, EmitError, Ipv6Addr, Looks, Nla, NlaBuffer,
-    Parseable, check_len, read_u32, write_bytes,
+    AttrFamily, Attribute, DecodeError, DefaultNla, EmitError, Ipv6Addr, Looks, Nla, NlaBuffer,
+    Parseable, check_len, read_ipv6, read_u32, write_bytes,
 };
 use std::alloc::{AllocError, Global};
 
@@ -42,14 +40,8 @@ impl RouteSeg6IpTunnel {
     }
 }
 
-const fn at(kind: u16) -> At
-    ensures { result ≡ record { family = AttrFamily.Seg6; kind = kind } }
-{
-    At {
-        family: AttrFamily::Seg6,
-        kind,
-    }
-}
+/// The family of these attributes.
+const FAMILY: AttrFamily = AttrFamily::Seg6;
 
 impl Nla for RouteSeg6IpTunnel {
     ghost item = { λ a. writing.writes (meaning_of a) };
@@ -62,7 +54,7 @@ impl Nla for RouteSeg6IpTunnel {
 
     fn kind(&self) -> u16 {
         match self {
-            RouteSeg6IpTunnel::Seg6(_) => 1,
+            RouteSeg6IpTunnel::Seg6(header) => header.kind(),
             RouteSeg6IpTunnel::Src(_) => 2,
             RouteSeg6IpTunnel::Table(_) => 3,
             RouteSeg6IpTunnel::Other(nla) => nla.kind(),
@@ -125,8 +117,8 @@ impl Attribute for RouteSeg6IpTunnel {
         let value = item.value();
         match item.kind() {
             1 => Seg6Header::read(alloc, value).map(RouteSeg6IpTunnel::Seg6),
-            2 => read_v6(value, at(2)).map(RouteSeg6IpTunnel::Src),
-            3 => read_u32(value, at(3)).map(RouteSeg6IpTunnel::Table),
+            2 => read_ipv6(value, FAMILY.at(2)).map(RouteSeg6IpTunnel::Src),
+            3 => read_u32(value, FAMILY.at(3)).map(RouteSeg6IpTunnel::Table),
             _ => DefaultNla::parse(alloc, item).map(RouteSeg6IpTunnel::Other),
         }
     }

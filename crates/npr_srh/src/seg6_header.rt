@@ -12,7 +12,8 @@ ghost use Rattle.npr_base.specs.declared.refusal.DecodeError.TheVariants.{OutOfM
 use crate::seg6_mode::Seg6Mode;
 use crate::segments::check_header;
 use npr_base::{
-    DecodeError, EmitError, Ipv6Addr, Nla, Seg6Fault, read_v6_list, v6_list_len, write_bytes,
+    DecodeError, EmitError, Ipv6Addr, Nla, Seg6Fault, leading_octets, read_v6_list, v6_list_len,
+    write_bytes,
 };
 use std::alloc::{AllocError, Global};
 
@@ -40,13 +41,7 @@ impl Seg6MessageBuffer {
         ensures ok { IfOk result (λ b. (leading message).Reads bytes.now b) }
         ensures refused { IfErr result (λ e. (leading message).Wrong no_place bytes.now e) }
     {
-        if bytes.len() < 12 {
-            return Err(DecodeError::HeaderTooShort {
-                got: bytes.len(),
-                want: 12,
-            });
-        }
-        let b = &bytes[..12];
+        let b = leading_octets(bytes, 12)?;
         Ok(Seg6MessageBuffer {
             mode: u32::from_le_bytes([b[0], b[1], b[2], b[3]]),
             nexthdr: b[4],
@@ -81,6 +76,9 @@ impl Seg6MessageBuffer {
         ]
     }
 }
+
+/// `SEG6_IPTUNNEL_SRH` of `linux/seg6_iptunnel.h`.
+const SEG6_IPTUNNEL_SRH: u16 = 1;
 
 /// A SEG6 header (RFC 8754): how it is put in, and the segments in the order in which they are
 /// visited, the reverse of the wire.
@@ -274,7 +272,7 @@ impl Nla for Seg6Header {
     ghost fits_short = { λ h fits. seg6.fits_short 1 (seg6_of h) fits };
 
     fn kind(&self) -> u16 {
-        1
+        SEG6_IPTUNNEL_SRH
     }
 
     fn is_nested(&self) -> bool {
@@ -283,7 +281,7 @@ impl Nla for Seg6Header {
 
     fn check(&self) -> Result<usize, EmitError> {
         check_header(
-            1,
+            SEG6_IPTUNNEL_SRH,
             self.value_len(),
             self.segments.len(),
             self.most_segments(),

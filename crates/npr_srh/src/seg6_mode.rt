@@ -1,6 +1,6 @@
 //! How a SEG6 header is put in, and its numbers (`linux/seg6_iptunnel.h`).
 
-ghost use Rattle.std.specs.Prelude.{◌≡◌, ℕ};
+ghost use Rattle.std.specs.Prelude.{◌≡◌};
 ghost use Rattle.npr_srh.specs.Seg6Mode.{mode_of, mode_number};
 
 /// How a SEG6 header is put in: `SEG6_IPTUN_MODE_*` of `linux/seg6_iptunnel.h`.
@@ -38,8 +38,3 @@ impl From<Seg6Mode> for u32 {
         }
     }
 }
-
-/// What a number reads as is written as that number.
-pub fn law_mode_number()
-    ensures { (d : ℕ) → mode_number (mode_of d) ≡ d }
-{}

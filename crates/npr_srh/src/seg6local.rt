@@ -1,15 +1,13 @@
 //! SEG6 local: members of its tunnel (RFC 8986; `linux/seg6_local.h`).
 
-ghost use Rattle.std.specs.Prelude.{◌≡◌, false, length, IfOk};
-ghost use Rattle.std.proofs.Common.{refl};
+ghost use Rattle.std.specs.Prelude.{◌≡◌, false, length, IfOk, refl};
 ghost use Rattle.npr_srh.specs.Seg6LocalTunnel.{Meaning, meaning_of, writing, members};
 
 use crate::seg6local_action::Seg6LocalAction;
-use crate::seg6local_srh::{Seg6LocalSrh, at};
-use crate::segments::{read_v4, read_v6};
+use crate::seg6local_srh::Seg6LocalSrh;
 use npr_base::{
-    Attribute, DecodeError, DefaultNla, EmitError, Ipv4Addr, Ipv6Addr, Looks, Nla, NlaBuffer,
-    Parseable, check_len, read_u32, write_bytes,
+    AttrFamily, Attribute, DecodeError, DefaultNla, EmitError, Ipv4Addr, Ipv6Addr, Looks, Nla,
+    NlaBuffer, Parseable, check_len, read_ipv4, read_ipv6, read_u32, write_bytes,
 };
 use std::alloc::{AllocError, Global};
 
@@ -62,6 +60,9 @@ impl RouteSeg6LocalTunnel {
     }
 }
 
+/// The family of these attributes.
+const FAMILY: AttrFamily = AttrFamily::Seg6Local;
+
 impl Nla for RouteSeg6LocalTunnel {
     ghost item = { λ a. writing.writes (meaning_of a) };
 
@@ -75,7 +76,7 @@ impl Nla for RouteSeg6LocalTunnel {
         match self {
             RouteSeg6LocalTunnel::Unspecified => 0,
             RouteSeg6LocalTunnel::Action(_) => 1,
-            RouteSeg6LocalTunnel::Srh(_) => 2,
+            RouteSeg6LocalTunnel::Srh(header) => header.kind(),
             RouteSeg6LocalTunnel::Table(_) => 3,
             RouteSeg6LocalTunnel::Nh4(_) => 4,
             RouteSeg6LocalTunnel::Nh6(_) => 5,
@@ -157,19 +158,19 @@ impl Attribute for RouteSeg6LocalTunnel {
         let value = item.value();
         match item.kind() {
             0 => Ok(RouteSeg6LocalTunnel::Unspecified),
-            1 => read_u32(value, at(1)).map(|n| RouteSeg6LocalTunnel::Action(Seg6LocalAction::from(
-                n,
-            ))),
+            1 => read_u32(value, FAMILY.at(1)).map(|n| RouteSeg6LocalTunnel::Action(
+                Seg6LocalAction::from(n),
+            )),
             2 => match Seg6LocalSrh::read(alloc, value)? {
                 Some(header) => Ok(RouteSeg6LocalTunnel::Srh(header)),
                 None => Ok(RouteSeg6LocalTunnel::Other(DefaultNla::parse(alloc, item)?)),
             },
-            3 => read_u32(value, at(3)).map(RouteSeg6LocalTunnel::Table),
-            4 => read_v4(value, at(4)).map(RouteSeg6LocalTunnel::Nh4),
-            5 => read_v6(value, at(5)).map(RouteSeg6LocalTunnel::Nh6),
-            6 => read_u32(value, at(6)).map(RouteSeg6LocalTunnel::Iif),
-            7 => read_u32(value, at(7)).map(RouteSeg6LocalTunnel::Oif),
-            9 => read_u32(value, at(9)).map(RouteSeg6LocalTunnel::VrfTable),
+            3 => read_u32(value, FAMILY.at(3)).map(RouteSeg6LocalTunnel::Table),
+            4 => read_ipv4(value, FAMILY.at(4)).map(RouteSeg6LocalTunnel::Nh4),
+            5 => read_ipv6(value, FAMILY.at(5)).map(RouteSeg6LocalTunnel::Nh6),
+            6 => read_u32(value, FAMILY.at(6)).map(RouteSeg6LocalTunnel::Iif),
+            7 => read_u32(value, FAMILY.at(7)).map(RouteSeg6LocalTunnel::Oif),
+            9 => read_u32(value, FAMILY.at(9)).map(RouteSeg6LocalTunnel::VrfTable),
             _ => DefaultNla::parse(alloc, item).map(RouteSeg6LocalTunnel::Other),
         }
     }

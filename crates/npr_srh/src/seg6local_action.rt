@@ -1,6 +1,6 @@
 //! What is done at a segment, and its numbers (RFC 8986; `linux/seg6_local.h`).
 
-ghost use Rattle.std.specs.Prelude.{◌≡◌, ℕ};
+ghost use Rattle.std.specs.Prelude.{◌≡◌};
 ghost use Rattle.npr_srh.specs.Seg6LocalAction.{action_of, action_number};
 
 /// What is done at a local segment: `SEG6_LOCAL_ACTION_*` of `linux/seg6_local.h`.
@@ -97,8 +97,3 @@ impl From<Seg6LocalAction> for u32 {
         }
     }
 }
-
-/// What a number reads as is written as that number.
-pub fn law_action_number()
-    ensures { (d : ℕ) → action_number (action_of d) ≡ d }
-{}

@@ -6,10 +6,10 @@ ghost use Rattle.npr_srh.specs.Headed.{IsUnread};
 ghost use Rattle.npr_srh.specs.Seg6Local.{local, local_of, local_front, encode_local};
 ghost use Rattle.npr_srh.specs.Seg6LocalTunnel.{at as place_at};
 
-use crate::segments::{check_header, has_header, write_segments};
+use crate::segments::{check_header, has_header};
 use npr_base::{
-    At, AttrFamily, DecodeError, EmitError, Ipv6Addr, Nla, NlaBuffer, Parseable, read_v6_list,
-    v6_list_len, write_bytes,
+    AttrFamily, DecodeError, EmitError, Ipv6Addr, Nla, NlaBuffer, Parseable, read_v6_list,
+    v6_list_len, write_bytes, write_v6_list,
 };
 use std::alloc::{AllocError, Global};
 
@@ -32,15 +32,8 @@ pub struct Seg6LocalSrh {
     pub segments: Vec<Ipv6Addr>,
 }
 
-/// The place of a member of this number in a SEG6 local tunnel.
-pub(crate) const fn at(kind: u16) -> At
-    ensures { result ≡ record { family = AttrFamily.Seg6Local; kind = kind } }
-{
-    At {
-        family: AttrFamily::Seg6Local,
-        kind,
-    }
-}
+/// `SEG6_LOCAL_SRH` of `linux/seg6_local.h`.
+const SEG6_LOCAL_SRH: u16 = 2;
 
 impl Seg6LocalSrh {
     /// A header with each field 0 and no segments. It takes no memory.
@@ -129,7 +122,7 @@ impl Nla for Seg6LocalSrh {
     ghost fits_short = { λ h fits. local.fits_short 2 (local_of h) fits };
 
     fn kind(&self) -> u16 {
-        2
+        SEG6_LOCAL_SRH
     }
 
     fn is_nested(&self) -> bool {
@@ -137,7 +130,7 @@ impl Nla for Seg6LocalSrh {
     }
 
     fn check(&self) -> Result<usize, EmitError> {
-        check_header(2, self.value_len(), self.segments.len(), 127)
+        check_header(SEG6_LOCAL_SRH, self.value_len(), self.segments.len(), 127)
     }
 
     fn value_len(&self) -> usize
@@ -148,7 +141,7 @@ impl Nla for Seg6LocalSrh {
 
     fn write_value(&self, out: &mut [u8]) -> usize {
         let front = write_bytes(&self.front(), out);
-        front + write_segments(self.segments.as_slice(), &mut out[front..])
+        front + write_v6_list(self.segments.as_slice(), &mut out[front..])
     }
 }
 
@@ -164,7 +157,9 @@ impl<'a> Parseable<&'a NlaBuffer<'a>> for Seg6LocalSrh {
     fn parse(alloc: Global, input: &'a NlaBuffer<'a>) -> Result<Self, DecodeError> {
         match Seg6LocalSrh::read(alloc, input.value())? {
             Some(header) => Ok(header),
-            None => Err(DecodeError::Unsupported { at: at(2) }),
+            None => Err(DecodeError::Unsupported {
+                at: AttrFamily::Seg6Local.at(SEG6_LOCAL_SRH),
+            }),
         }
     }
 }

@@ -1,10 +1,10 @@
 -- Options of Geneve that were read so far.
-use Rattle.std.proofs.Common.{◌≡◌, ℕ, ◌+◌, ◌-◌, ◌≤◌, Bool, true, false, List, [], ◌∷◌, ◌++◌, Option, Some, None, length, refl, sym, ap, subst, ◌∙◌, append_assoc, arith, inl, inr, length-append}
+use Rattle.std.proofs.Common.{◌≡◌, ℕ, ◌+◌, ◌-◌, ◌≤◌, Bool, true, List, [], ◌∷◌, ◌++◌, Option, Some, None, length, refl, sym, ap, subst, ◌∙◌, append_assoc, arith, length-append}
 use Rattle.std.proofs.lemmas.List.{append-nil, length_push}
 use Rattle.npr_base.specs.declared.refusal.DecodeError.{DecodeError}
 use Rattle.npr_base.specs.Counts.{Counts, AddsAtMost, SawEach, hit}
 use Rattle.npr_base.specs.Family.{ReadsTo, IsWrong, list_members}
-use Rattle.npr_base.specs.Framing.{Item, Front, Fault}
+use Rattle.npr_base.specs.Framing.{Item, Front}
 use Rattle.npr_base.specs.FrontLaws.{Front-takes}
 use Rattle.npr_base.proofs.Lists.{ReadsTo-none, ReadsTo-more}
 use Rattle.npr_base.proofs.Looking.{SoFar, SoFar-none, SoFar-more, list_members-more}

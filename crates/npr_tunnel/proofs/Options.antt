@@ -1,7 +1,6 @@
 -- Options of Geneve, written one after the other.
-use Rattle.std.proofs.Common.{◌≡◌, ℕ, ◌+◌, ◌<◌, ◌≤◌, Option, Some, None, List, [], ◌∷◌, ◌++◌, length, map, get_or, take, drop, refl, sym, ap, ◌∙◌, append_assoc, arith, length-append}
-use Rattle.std.proofs.lemmas.List.{append-nil, take_more, drop_more, take-append-drop}
-use Rattle.npr_base.specs.declared.refusal.EmitError.{EmitError}
+use Rattle.std.proofs.Common.{◌≡◌, ℕ, ◌+◌, ◌<◌, ◌≤◌, None, List, [], ◌∷◌, ◌++◌, length, map, get_or, take, drop, refl, sym, ap, ◌∙◌, arith, length-append}
+use Rattle.std.proofs.lemmas.List.{take_more, drop_more, take-append-drop}
 use Rattle.npr_base.specs.Family.{encodings, first_unfit, option_or}
 use Rattle.npr_base.specs.ListLaws.{none_both}
 use Rattle.npr_base.proofs.Checking.{encodings-append}

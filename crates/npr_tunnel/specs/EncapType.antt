@@ -5,7 +5,8 @@ use Rattle.npr_base.specs.Layout.{Layout, le16, formed}
 use Rattle.npr_base.specs.Rows.{form_in}
 use Rattle.npr_base.specs.RowLaws.{number-form}
 use Rattle.npr_tunnel.specs.declared.encap_type.RouteLwEnCapType.{RouteLwEnCapType}
-use Rattle.npr_tunnel.specs.declared.encap_type.RouteLwEnCapType.TheVariants.{None as NoEncap, Mpls, Ip, Ila, Ip6, Seg6, Bpf, Seg6Local, Rpl, Ioam6, Xfrm, Other}
+use Rattle.npr_tunnel.specs.declared.encap_type.RouteLwEnCapType.TheVariants.{None as NoEncap, Mpls, Ip, Ila, Ip6, Seg6, Bpf}
+use Rattle.npr_tunnel.specs.declared.encap_type.RouteLwEnCapType.TheVariants.{Seg6Local, Rpl, Ioam6, Xfrm, Other}
 
 abbrev pub encap_type_rows : List (ℕ × RouteLwEnCapType)
 encap_type_rows = (0, NoEncap) ∷ (1, Mpls) ∷ (2, Ip) ∷ (3, Ila) ∷ (4, Ip6) ∷ (5, Seg6) ∷ (6, Bpf) ∷ (7, Seg6Local) ∷ (8, Rpl) ∷ (9, Ioam6) ∷ (10, Xfrm) ∷ []

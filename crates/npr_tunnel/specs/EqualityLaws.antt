@@ -1,5 +1,5 @@
 -- What `==` answers of tunnels and their options: whether they mean the same.
-use Rattle.std.specs.Prelude.{◌≡◌, ℕ, map}
+use Rattle.std.specs.Prelude.{ℕ, map}
 use Rattle.std.specs.Cmp.{unsigned_Decides}
 use Rattle.std.proofs.Common.{refl, rules, ap}
 use Rattle.npr_base.specs.Equality.{IsEquality, IsEqualityOf}
@@ -18,8 +18,7 @@ use Rattle.npr_tunnel.specs.contracts.encap_type.RouteLwEnCapTypePartialEq.TheIm
 use Rattle.npr_tunnel.specs.contracts.flags.RouteIp6TunnelFlagsPartialEq.TheImpl as Ip6FlagsEq
 use Rattle.npr_tunnel.specs.contracts.flags.RouteIpTunnelFlagsPartialEq.TheImpl as IpFlagsEq
 use Rattle.npr_tunnel.specs.contracts.geneve.RouteGeneveOptPartialEq.TheImpl as GeneveEq
-use Rattle.npr_tunnel.specs.declared.flags.RouteIp6TunnelFlags.{RouteIp6TunnelFlags}
-use Rattle.npr_tunnel.specs.declared.flags.RouteIpTunnelFlags.{RouteIpTunnelFlags}
+use Rattle.npr_tunnel.specs.TunnelFlags.{ip_flags_bits, ip6_flags_bits}
 use Rattle.npr_tunnel.specs.XfrmTunnel as OfXfrm
 use Rattle.npr_tunnel.specs.MplsTunnel as OfMpls
 use Rattle.npr_tunnel.specs.VxlanOptions as OfVxlan
@@ -49,10 +48,10 @@ use Rattle.npr_tunnel.specs.contracts.encap.RouteLwTunnelEncapPartialEq.TheImpl 
 pub encap_type_equality : IsEquality TypeEq.ghosts.eq
 encap_type_equality = search rules
 
-ip_flags_equality : IsEqualityOf (λ (f : RouteIpTunnelFlags). f.0) IpFlagsEq.ghosts.eq
+ip_flags_equality : IsEqualityOf ip_flags_bits IpFlagsEq.ghosts.eq
 ip_flags_equality a b = unsigned_Decides a.0 b.0
 
-ip6_flags_equality : IsEqualityOf (λ (f : RouteIp6TunnelFlags). f.0) Ip6FlagsEq.ghosts.eq
+ip6_flags_equality : IsEqualityOf ip6_flags_bits Ip6FlagsEq.ghosts.eq
 ip6_flags_equality a b = unsigned_Decides a.0 b.0
 
 pub geneve_equality : IsEqualityOf option_of GeneveEq.ghosts.eq
@@ -157,7 +156,7 @@ ip_equality =
     (λ x. refl, one_meaning (λ a. a) OfIp.source ipv4_equality (λ p q e. cc)) also
     (λ x. refl, one_meaning (λ n. n) OfIp.hops unsigned_Decides (λ p q e. cc)) also
     (λ x. refl, one_meaning (λ n. n) OfIp.service unsigned_Decides (λ p q e. cc)) also
-    (λ x. refl, one_meaning (λ (f : RouteIpTunnelFlags). f.0) OfIp.flags ip_flags_equality (λ p q e. cc)) also
+    (λ x. refl, one_meaning ip_flags_bits OfIp.flags ip_flags_equality (λ p q e. cc)) also
     (λ x. refl, one_meaning (λ v. map OfOption.meaning_of v.items) OfIp.options (items_meaning OfOption.meaning_of tunnel_option_equality) (λ p q e. cc)) also
     (λ x. refl, one_meaning (λ d. d) OfIp.other item_equality (λ p q e. cc)) also tt)
 
@@ -171,7 +170,7 @@ ip6_equality =
     (λ x. refl, one_meaning (λ a. a) OfIp.source ipv6_equality (λ p q e. cc)) also
     (λ x. refl, one_meaning (λ n. n) OfIp.hops unsigned_Decides (λ p q e. cc)) also
     (λ x. refl, one_meaning (λ n. n) OfIp.service unsigned_Decides (λ p q e. cc)) also
-    (λ x. refl, one_meaning (λ (f : RouteIp6TunnelFlags). f.0) OfIp.flags ip6_flags_equality (λ p q e. cc)) also
+    (λ x. refl, one_meaning ip6_flags_bits OfIp.flags ip6_flags_equality (λ p q e. cc)) also
     (λ x. refl, one_meaning (λ v. map OfOption.meaning_of v.items) OfIp.options (items_meaning OfOption.meaning_of tunnel_option_equality) (λ p q e. cc)) also
     (λ x. refl, one_meaning (λ d. d) OfIp.other item_equality (λ p q e. cc)) also tt)
 

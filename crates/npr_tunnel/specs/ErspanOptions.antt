@@ -6,7 +6,8 @@ use Rattle.npr_base.specs.declared.refusal.AttrFamily.TheVariants.{Erspan as OfE
 use Rattle.npr_base.specs.Framing.{Item, number_of}
 use Rattle.npr_base.specs.Layout.{be32, byte}
 use Rattle.npr_base.specs.Codec.{exactly}
-use Rattle.npr_base.specs.Table.{Writing, Reading, Row, row, Held, held, held_other, held_kind, held_value, held_misfit, held-reads, IsHeld, item_of, placed, IsOther, Aligned, ReadsAt}
+use Rattle.npr_base.specs.Table.{Writing, Reading, table_of, Row, row, Held, held, held_other, held_kind, held_value}
+use Rattle.npr_base.specs.Table.{held_misfit, held-reads, IsHeld, item_of, placed, IsOther, Aligned, ReadsAt}
 use Rattle.npr_base.specs.TableLaws.{flat, other-back}
 use Rattle.npr_tunnel.specs.declared.erspan.RouteErspanOpt.{RouteErspanOpt}
 use Rattle.npr_tunnel.specs.declared.erspan.RouteErspanOpt.TheVariants.{Ver, Index, Dir, Hwid, Other}
@@ -68,14 +69,4 @@ writing = placed place
 
 -- the family
 abbrev pub members : Reading writing
-members = flat (record {
-  rows = rows;
-  other = other;
-  place = place;
-  Coherent = Coherent;
-  aligned = aligned;
-  other_is = λ x. refl;
-  other_coherent = λ x is. is;
-  kinds = kinds;
-  back = back;
-})
+members = flat (table_of rows other place Coherent aligned (λ x. refl) (λ x is. is) kinds back)

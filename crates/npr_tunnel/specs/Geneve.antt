@@ -7,7 +7,7 @@ use Rattle.npr_base.specs.declared.refusal.DecodeError.{DecodeError}
 use Rattle.npr_base.specs.declared.refusal.DecodeError.TheVariants.{GeneveOrder, GeneveChild}
 use Rattle.npr_base.specs.declared.refusal.EmitError.{EmitError}
 use Rattle.npr_base.specs.Codec.{exactly, raw}
-use Rattle.npr_base.specs.Family.{ReadsList, ReadsTo, IsWrong, encodings, list_unfit, option_or, too_long}
+use Rattle.npr_base.specs.Family.{ReadsList, ReadsTo, IsWrong, encodings, list_unfit}
 use Rattle.npr_base.specs.Framing.{Item, IsBytes, number_of}
 use Rattle.npr_base.specs.Layout.{byte, be16}
 use Rattle.npr_tunnel.specs.declared.geneve.RouteGeneveOpt.{RouteGeneveOpt}
@@ -87,7 +87,9 @@ is_open (o ∷ os) = true
 
 -- the first fault of bytes that are none: groups that read, and then what is wrong
 abbrev pub OptionsFault : List ℕ → DecodeError → Type 0
-OptionsFault bytes e = (children : List Child) × (os : List Geneve) × (rest : List ℕ) × ReadsTo ReadsChild bytes children rest × AreGroups children os × IsWrong (WrongChild (is_open os)) rest e
+OptionsFault bytes e =
+    (children : List Child) × (os : List Geneve) × (rest : List ℕ) × ReadsTo ReadsChild bytes children rest
+    × AreGroups children os × IsWrong (WrongChild (is_open os)) rest e
 
 -- each option is written as its class, its type and its data
 abbrev pub children_of : List Geneve → List Child

@@ -1,15 +1,18 @@
 -- Options of Geneve as a value, with the laws of both directions.
-use Rattle.std.specs.Prelude.{Option, None}
-use Rattle.std.proofs.Common.{◌≡◌, ℕ, ◌+◌, ◌*◌, ◌%◌, ◌^◌, ◌<◌, ◌≤◌, Bool, true, false, List, [], ◌∷◌, ◌++◌, length, refl, sym, ap, subst, ◌∙◌, append_assoc, arith, inl, inr, length-append, true≢false}
+use Rattle.std.specs.Prelude.{None}
+use Rattle.std.proofs.Common.{◌≡◌, ℕ, ◌+◌, ◌*◌, ◌%◌, ◌^◌, ◌<◌, ◌≤◌, true, false, List, [], ◌∷◌, ◌++◌, length, refl, sym}
+use Rattle.std.proofs.Common.{ap, subst, ◌∙◌, arith, inl, inr, length-append, true≢false}
 use Rattle.npr_base.specs.declared.refusal.DecodeError.{DecodeError}
 use Rattle.npr_base.specs.Codec.{Codec, exactly, raw}
-use Rattle.npr_base.specs.Family.{Each, AllOf, ReadsList, ReadsTo, IsWrong, FirstFault, encodings, first_unfit, list_unfit, option_or, overlong, too_long}
+use Rattle.npr_base.specs.Family.{Each, AllOf, ReadsList, ReadsTo, first_unfit, option_or, overlong, too_long}
 use Rattle.npr_base.specs.FitLaws.{too_long-short}
-use Rattle.npr_base.specs.Framing.{Item, Small, Proper, IsBytes, Front, Passes, Fault, framed, number_of, encoding, pad}
-use Rattle.npr_base.specs.FrontLaws.{Front-same, Front-sound, Front-shrinks, Front-takes}
+use Rattle.npr_base.specs.Framing.{Item, Small, Proper, IsBytes, Front, Passes, framed, number_of, encoding, pad}
+use Rattle.npr_base.specs.FrontLaws.{Front-same, Front-shrinks, Front-takes}
 use Rattle.npr_base.specs.Layout.{byte, be16}
 use Rattle.npr_base.specs.ListLaws.{none_both, ReadsList-one, FirstFault-excludes, ReadsList-known, encodings-read, length-encoding}
-use Rattle.npr_tunnel.specs.Geneve.{at, Geneve, Child, class_child, type_child, data_child, ReadsChild, WrongChild, class_length, type_length, order, child, Plain, last_type, last_data, IsGroup, AreGroups, AreOptions, is_open, OptionsFault, children_of, child_item, child_misfit, option_bytes, options_unfit, IsOption}
+use Rattle.npr_tunnel.specs.Geneve.{at, Geneve, Child, class_child, type_child, data_child, ReadsChild, WrongChild, class_length, type_length}
+use Rattle.npr_tunnel.specs.Geneve.{order, child, Plain, last_type, last_data, AreGroups, AreOptions, OptionsFault}
+use Rattle.npr_tunnel.specs.Geneve.{children_of, child_item, child_misfit, option_bytes, options_unfit, IsOption}
 
 -- ---- groups are one list of options at most
 
@@ -23,7 +26,8 @@ walked o (class_child n ∷ cs) = o ∷ walked (fresh n) cs
 walked o (type_child n ∷ cs) = walked (record { class = o.class; typ = n; opt_data = o.opt_data }) cs
 walked o (data_child d ∷ cs) = walked (record { class = o.class; typ = o.typ; opt_data = d }) cs
 
-walked-plain : (rest : List Child) → Plain rest → (o : Geneve) (more : List Child) → walked o (rest ++ more) ≡ walked (record { class = o.class; typ = last_type o.typ rest; opt_data = last_data o.opt_data rest }) more
+walked-plain : (rest : List Child) → Plain rest → (o : Geneve) (more : List Child)
+    → walked o (rest ++ more) ≡ walked (record { class = o.class; typ = last_type o.typ rest; opt_data = last_data o.opt_data rest }) more
 unfolding walked
 walked-plain [] plain o more = refl
 walked-plain (class_child n ∷ cs) plain o more = absurd plain
@@ -38,7 +42,8 @@ unfolding walked
 walked-groups [] children p o = ap (walked o) p
 walked-groups (g ∷ os) children (group, more, is, one, later) o =
     let all : children ≡ class_child g.class ∷ (one.rest ++ more) = is ∙ ap (λ (c : List Child). c ++ more) one.is in
-    let step : walked (fresh g.class) (one.rest ++ more) ≡ walked g more = walked-plain one.rest one.plain (fresh g.class) more ∙ ap (λ (x : Geneve). walked x more) (same_option g (last_type 0 one.rest) (last_data [] one.rest) one.typ one.opt_data) in
+    let step : walked (fresh g.class) (one.rest ++ more) ≡ walked g more = walked-plain one.rest one.plain (fresh g.class) more
+    ∙ ap (λ (x : Geneve). walked x more) (same_option g (last_type 0 one.rest) (last_data [] one.rest) one.typ one.opt_data) in
     ap (walked o) all ∙ ap (λ (xs : List Geneve). o ∷ xs) (step ∙ walked-groups os more later g)
 
 tail_same : (o : Geneve) (xs ys : List Geneve) → o ∷ xs ≡ o ∷ ys → xs ≡ ys
@@ -59,7 +64,8 @@ child-one x (data_child n) (class_child m) p q = absurd (omega (arith, p.0, q.0)
 child-one x (data_child n) (type_child m) p q = absurd (omega (arith, p.0, q.0))
 
 pub options-one : (bytes : List ℕ) (os ps : List Geneve) → AreOptions bytes os → AreOptions bytes ps → os ≡ ps
-options-one bytes os ps (cs, p, g) (ds, q, h) = groups-one cs os ps g (subst (λ (c : List Child). AreGroups c ps) (sym (ReadsList-one ReadsChild child-one bytes cs ds p q)) h)
+options-one bytes os ps (cs, p, g) (ds, q, h) =
+    groups-one cs os ps g (subst (λ (c : List Child). AreGroups c ps) (sym (ReadsList-one ReadsChild child-one bytes cs ds p q)) h)
 
 -- ---- what is wrong is no list of options
 
@@ -78,7 +84,8 @@ child-sound x (data_child n) f p (order o k) = absurd (true≢false o)
 child-sound x (data_child n) f p (child i j k) = k p.0
 
 -- the first attribute is the first child
-first-child : (bytes : List ℕ) (x : Item) (more : List ℕ) → Front bytes x more → (children : List Child) → ReadsList ReadsChild bytes children → (c : Child) × (later : List Child) × (children ≡ c ∷ later) × ReadsChild x c
+first-child : (bytes : List ℕ) (x : Item) (more : List ℕ) → Front bytes x more → (children : List Child) → ReadsList ReadsChild bytes children
+    → (c : Child) × (later : List Child) × (children ≡ c ∷ later) × ReadsChild x c
 first-child bytes x more f [] ([], p, each) = absurd (omega (arith, ap length p, Front-shrinks bytes x more f))
 first-child bytes x more f [] (y ∷ ys, p, each) = absurd each
 first-child bytes x more f (c ∷ cs) ([], p, each) = absurd each
@@ -91,7 +98,8 @@ groups-begin c cs (o ∷ os) (group, more, is, one, later) =
     let all : c ∷ cs ≡ class_child o.class ∷ (one.rest ++ more) = is ∙ ap (λ (g : List Child). g ++ more) one.is in
     (o.class, cc)
 
-class-first : (bytes : List ℕ) (x : Item) (more : List ℕ) → Front bytes x more → (children : List Child) (os : List Geneve) → ReadsList ReadsChild bytes children → AreGroups children os → number_of x.kind ≡ 1
+class-first : (bytes : List ℕ) (x : Item) (more : List ℕ) → Front bytes x more → (children : List Child) (os : List Geneve)
+    → ReadsList ReadsChild bytes children → AreGroups children os → number_of x.kind ≡ 1
 class-first bytes x more f children os p g =
     let (c, later, is, reads) = first-child bytes x more f children p in
     let (n, class) = groups-begin c later os (subst (λ (cs : List Child). AreGroups cs os) is g) in
@@ -112,8 +120,10 @@ wrong-first x f one (order o (inr k)) = absurd (omega (arith, one, k))
 wrong-first x f one (child i j k) = absurd (i one)
 
 pub options-sound : (bytes : List ℕ) (os : List Geneve) (e : DecodeError) → AreOptions bytes os → OptionsFault bytes e → ⊥
-options-sound bytes os e (cs, p, g) (ds, ps, rest, q, h, inl stop) = FirstFault-excludes ReadsChild (WrongChild true) child-sound bytes e cs (ds, rest, q, inl stop) p
-options-sound bytes os e (cs, p, g) (ds, o ∷ ps, rest, q, h, inr bad) = FirstFault-excludes ReadsChild (WrongChild true) child-sound bytes e cs (ds, rest, q, inr bad) p
+options-sound bytes os e (cs, p, g) (ds, ps, rest, q, h, inl stop) =
+    FirstFault-excludes ReadsChild (WrongChild true) child-sound bytes e cs (ds, rest, q, inl stop) p
+options-sound bytes os e (cs, p, g) (ds, o ∷ ps, rest, q, h, inr bad) =
+    FirstFault-excludes ReadsChild (WrongChild true) child-sound bytes e cs (ds, rest, q, inr bad) p
 options-sound bytes os e (cs, p, g) (ds, [], rest, q, h, inr (x, more, f, w)) =
     let is = whole bytes rest ds h q in
     let one = class-first bytes x more (subst (λ (b : List ℕ). Front b x more) (sym is) f) cs os p g in
@@ -163,7 +173,9 @@ groups-known [] children h g = tt
 groups-known (o ∷ os) children h (group, more, is, one, later) =
     let all : AllOf IsChild (class_child o.class ∷ (one.rest ++ more)) = subst (AllOf IsChild) (is ∙ ap (λ (c : List Child). c ++ more) one.is) h in
     let rest = all-left one.rest more all.1 in
-    (record { class = all.0; typ = subst (λ (t : ℕ). t < 2 ^ 8) (sym one.typ) (type-known one.rest rest 0 (omega arith)); opt_data = subst IsBytes (sym one.opt_data) (data-known one.rest rest [] no_bytes) }, groups-known os more (all-right one.rest more all.1) later)
+    let typ = subst (λ (t : ℕ). t < 2 ^ 8) (sym one.typ) (type-known one.rest rest 0 (omega arith)) in
+    let opt_data = subst IsBytes (sym one.opt_data) (data-known one.rest rest [] no_bytes) in
+    (record { class = all.0; typ = typ; opt_data = opt_data }, groups-known os more (all-right one.rest more all.1) later)
 
 pub options-known : (bytes : List ℕ) (os : List Geneve) → IsBytes bytes → AreOptions bytes os → AllOf IsOption os
 options-known bytes os is (cs, p, g) = groups-known os cs (ReadsList-known IsChild ReadsChild child-known bytes cs is p) g
@@ -188,12 +200,15 @@ children-known (o ∷ os) h = (h.0.class, (h.0.typ, (h.0.opt_data, children-know
 
 children-groups : (os : List Geneve) → AreGroups (children_of os) os
 children-groups [] = refl
-children-groups (o ∷ os) = (class_child o.class ∷ type_child o.typ ∷ data_child o.opt_data ∷ [], children_of os, refl, record { rest = type_child o.typ ∷ data_child o.opt_data ∷ []; is = refl; plain = tt; typ = refl; opt_data = refl }, children-groups os)
+children-groups (o ∷ os) =
+    let rest : List Child = type_child o.typ ∷ data_child o.opt_data ∷ [] in
+    (class_child o.class ∷ rest, children_of os, refl, record { rest = rest; is = refl; plain = tt; typ = refl; opt_data = refl }, children-groups os)
 
 pub options-back : (os : List Geneve) → AllOf IsOption os → options_unfit os ≡ None → AreOptions (option_bytes os) os
 options-back os h fits =
     let each = (none_both (first_unfit child_misfit (children_of os)) (overlong (length (option_bytes os))) fits).0 in
-    (children_of os, encodings-read IsChild child_misfit child_item ReadsChild child-small child-back (children_of os) (children-known os h) each, children-groups os)
+    let read = encodings-read IsChild child_misfit child_item ReadsChild child-small child-back (children_of os) (children-known os h) each in
+    (children_of os, read, children-groups os)
 
 -- ---- an option is written as twenty bytes and its data at most
 
@@ -219,7 +234,8 @@ last-room (class_child n ∷ cs) v = omega (arith, last-room cs v)
 last-room (type_child n ∷ cs) v = omega (arith, last-room cs v)
 last-room (data_child d ∷ cs) v = omega (arith, last-room cs d)
 
-option-length : (o : Geneve) (os : List Geneve) → length (option_bytes (o ∷ os)) ≡ 20 + (length o.opt_data + pad (length o.opt_data)) + length (option_bytes os)
+option-length : (o : Geneve) (os : List Geneve)
+    → length (option_bytes (o ∷ os)) ≡ 20 + (length o.opt_data + pad (length o.opt_data)) + length (option_bytes os)
 option-length o os =
     let class = child_item (class_child o.class) in
     let type = child_item (type_child o.typ) in
@@ -238,7 +254,8 @@ groups-room : (os : List Geneve) (children : List Child) → AreGroups children 
 unfolding rooms room
 groups-room [] children g = omega arith
 groups-room (o ∷ os) children (group, more, is, one, later) =
-    let all : rooms children ≡ 20 + (rooms one.rest + rooms more) = ap rooms (is ∙ ap (λ (c : List Child). c ++ more) one.is) ∙ ap (λ (n : ℕ). 20 + n) (rooms-append one.rest more) in
+    let all : rooms children ≡ 20 + (rooms one.rest + rooms more) = ap rooms (is ∙ ap (λ (c : List Child). c ++ more) one.is)
+    ∙ ap (λ (n : ℕ). 20 + n) (rooms-append one.rest more) in
     let payload : length o.opt_data + pad (length o.opt_data) ≤ rooms one.rest = rw one.opt_data (omega (arith, last-room one.rest [])) in
     omega (arith, all, payload, groups-room os more later, option-length o os)
 
@@ -269,7 +286,8 @@ rooms-read [] [] bytes p h = omega arith
 rooms-read [] (c ∷ cs) bytes p h = absurd h
 rooms-read (x ∷ xs) [] bytes p h = absurd h
 rooms-read (x ∷ xs) (c ∷ cs) bytes ([], f, p) h = omega (arith, child-room x c h.0, Front-takes bytes x [] f, ap rooms (no-more xs cs p h.1))
-rooms-read (x ∷ xs) (c ∷ cs) bytes (r ∷ rest, f, p) h = omega (arith, child-room-whole x c h.0, front-length bytes x (r ∷ rest) f (omega arith), rooms-read xs cs (r ∷ rest) p h.1)
+rooms-read (x ∷ xs) (c ∷ cs) bytes (r ∷ rest, f, p) h =
+    omega (arith, child-room-whole x c h.0, front-length bytes x (r ∷ rest) f (omega arith), rooms-read xs cs (r ∷ rest) p h.1)
 
 framed-options : (os : List Geneve) → length (option_bytes os) % 4 ≡ 0
 framed-options [] = refl

@@ -1,5 +1,5 @@
 -- Options of Geneve, child by child.
-use Rattle.std.specs.Prelude.{◌≡◌, ℕ, Bool, true, false, List, [], ◌∷◌, Option, Some, None}
+use Rattle.std.specs.Prelude.{◌≡◌, Bool, true, false, List, [], ◌∷◌, Option, Some, None}
 use Rattle.npr_tunnel.specs.Geneve.{Geneve, Child, class_child, type_child, data_child, option_of}
 use Rattle.npr_tunnel.specs.declared.geneve.RouteGeneveOpt.{RouteGeneveOpt}
 

@@ -11,13 +11,16 @@ use Rattle.npr_base.specs.Family.{list_unfit}
 use Rattle.npr_base.specs.Framing.{Item, number_of}
 use Rattle.npr_base.specs.Layout.{byte, be16, be64, octets}
 use Rattle.npr_base.specs.ListCodec.{list_of}
-use Rattle.npr_base.specs.Table.{Writing, Reading, Row, row, Held, held, held_other, held_kind, held_value, held_misfit, held-reads, IsHeld, item_of, placed, IsOther, Aligned, ReadsAt}
+use Rattle.npr_base.specs.Table.{Writing, Reading, table_of, Row, row, Held, held, held_other, held_kind, held_value}
+use Rattle.npr_base.specs.Table.{held_misfit, held-reads, IsHeld, item_of, placed, IsOther, Aligned, ReadsAt}
 use Rattle.npr_base.specs.TableLaws.{flat, other-back}
+use Rattle.npr_tunnel.specs.TunnelFlags.{ip_flags_bits, ip6_flags_bits}
 use Rattle.npr_tunnel.specs.TunnelOptions as OfOption
 use Rattle.npr_tunnel.specs.declared.ip.RouteIpTunnel.{RouteIpTunnel}
 use Rattle.npr_tunnel.specs.declared.ip.RouteIpTunnel.TheVariants.{Unspecified, Id, Destination, Source, Ttl, Tos, Flags, Opts, Other}
 use Rattle.npr_tunnel.specs.declared.ip6.RouteIp6Tunnel.{RouteIp6Tunnel}
-use Rattle.npr_tunnel.specs.declared.ip6.RouteIp6Tunnel.TheVariants.{Unspecified as Unspecified6, Id as Id6, Destination as Destination6, Source as Source6, Hoplimit, Tc, Flags as Flags6, Opts as Opts6, Other as Other6}
+use Rattle.npr_tunnel.specs.declared.ip6.RouteIp6Tunnel.TheVariants.{Unspecified as Unspecified6, Id as Id6, Destination as Destination6, Source as Source6}
+use Rattle.npr_tunnel.specs.declared.ip6.RouteIp6Tunnel.TheVariants.{Hoplimit, Tc, Flags as Flags6, Opts as Opts6, Other as Other6}
 
 -- what a member is, without where it lies in memory
 pub data Meaning : Type 0 where
@@ -38,7 +41,7 @@ meaning_of (Destination a) = destination a
 meaning_of (Source a) = source a
 meaning_of (Ttl n) = hops n
 meaning_of (Tos n) = service n
-meaning_of (Flags f) = flags f.0
+meaning_of (Flags f) = flags (ip_flags_bits f)
 meaning_of (Opts v) = options (map OfOption.meaning_of v.items)
 meaning_of (Other d) = other d
 
@@ -49,7 +52,7 @@ meaning6_of (Destination6 a) = destination a
 meaning6_of (Source6 a) = source a
 meaning6_of (Hoplimit n) = hops n
 meaning6_of (Tc n) = service n
-meaning6_of (Flags6 f) = flags f.0
+meaning6_of (Flags6 f) = flags (ip6_flags_bits f)
 meaning6_of (Opts6 v) = options (map OfOption.meaning_of v.items)
 meaning6_of (Other6 d) = other d
 
@@ -95,7 +98,8 @@ pub kinds : (family : AttrFamily) (width : ℕ) (m : Meaning) → Coherent famil
 kinds family width (other x) c = c.proper.kind
 kinds family width m c = omega arith
 
-pub back : (family : AttrFamily) (width : ℕ) (m : Meaning) → Coherent family width m → held_misfit (place width m) ≡ None → ReadsAt other (rows family width) (number_of (item_of (place width m)).kind) (item_of (place width m)) m
+pub back : (family : AttrFamily) (width : ℕ) (m : Meaning) → Coherent family width m → held_misfit (place width m) ≡ None
+    → ReadsAt other (rows family width) (number_of (item_of (place width m)).kind) (item_of (place width m)) m
 back family width (other x) c fits = other-back other (rows family width) (number_of x.kind) x c.alone
 back family width m c fits = (held_value (place width m), held-reads (place width m) c fits, refl)
 
@@ -104,17 +108,9 @@ abbrev pub writing : ℕ → Writing Meaning
 writing width = placed (place width)
 
 abbrev pub members_of : AttrFamily → (width : ℕ) → Reading (writing width)
-members_of family width = flat (record {
-  rows = rows family width;
-  other = other;
-  place = place width;
-  Coherent = Coherent family width;
-  aligned = aligned family width;
-  other_is = λ x. refl;
-  other_coherent = λ x is. is;
-  kinds = kinds family width;
-  back = back family width;
-})
+members_of family width =
+    flat (table_of (rows family width) other (place width) (Coherent family width) (aligned family width) (λ x. refl) (λ x is. is) (kinds family width)
+    (back family width))
 
 -- the families
 abbrev pub members : Reading (writing 4)

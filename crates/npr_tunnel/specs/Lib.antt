@@ -1,3 +1,4 @@
+pub mod TunnelFlags
 pub mod EncapType
 pub mod XfrmTunnel
 pub mod MplsTunnel

@@ -24,7 +24,8 @@ module _ {M W : Type 0} {v : Writing M} (F : Reading v) (made : M → W) (w : Wr
     reads_coherent = λ x n proper p. (p.0, F.reads_coherent x p.0 proper p.1, p.2);
     kinds = λ n c. subst (λ (x : Item). x.kind < 2 ^ 16) (sym (written-is n c.0 c.2)) (F.kinds c.0 c.1);
     reads_back = λ n c h. (c.0, subst (λ (x : Item). F.Reads x c.0) (sym (written-is n c.0 c.2)) (F.reads_back c.0 c.1 (fits-is n c.0 c.2 h)), c.2);
-    grows = λ x n proper p. subst (λ (y : Item). 2 * framed (length y.value) ≤ 5 * (4 + length x.value)) (sym (written-is n p.0 p.2)) (F.grows x p.0 proper p.1);
+    grows =
+        λ x n proper p. subst (λ (y : Item). 2 * framed (length y.value) ≤ 5 * (4 + length x.value)) (sym (written-is n p.0 p.2)) (F.grows x p.0 proper p.1);
   }
 
 abbrev pub kept : Reading (placed held_other)

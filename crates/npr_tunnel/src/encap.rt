@@ -1,8 +1,6 @@
 //! The members of an encapsulation, by its type.
 
-ghost use Rattle.std.specs.Prelude.{◌≡◌, ◌≢◌, ◌≤◌, ◌<◌, ◌+◌, ◌*◌, ℕ, List, Option, None, false, length, IfOk, IfErr};
-ghost use Rattle.std.proofs.Common.{refl};
-ghost use Rattle.npr_base.specs.Family.{checked};
+ghost use Rattle.std.specs.Prelude.{◌≡◌, false, IfOk, refl};
 ghost use Rattle.npr_tunnel.specs.Encapsulation.{Meaning, meaning_of, writing, encapsulation};
 
 use crate::encap_type::RouteLwEnCapType;

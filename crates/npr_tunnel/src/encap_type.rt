@@ -1,8 +1,6 @@
 //! Types of encapsulation: `LWTUNNEL_ENCAP_*` of `linux/lwtunnel.h`.
 
-ghost use Rattle.std.specs.Prelude.{◌≡◌, ◌≤◌, ◌<◌, ℕ, None, length};
-ghost use Rattle.npr_base.specs.Family.{checked};
-ghost use Rattle.npr_base.specs.Framing.{Writes};
+ghost use Rattle.std.specs.Prelude.{◌≡◌, None};
 ghost use Rattle.npr_tunnel.specs.EncapType.{encap_type, encap_type_of, encap_type_number};
 
 use npr_base::{EmitError, Emitable, write_bytes};

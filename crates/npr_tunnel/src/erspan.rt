@@ -1,13 +1,11 @@
 //! Options of ERSPAN: `LWTUNNEL_IP_OPT_ERSPAN_*` of `linux/lwtunnel.h`.
 
-ghost use Rattle.std.specs.Prelude.{◌≡◌, ◌≢◌, ◌≤◌, ◌<◌, ◌+◌, ◌*◌, ℕ, List, Option, None, false, length, IfOk, IfErr};
-ghost use Rattle.std.proofs.Common.{refl};
-ghost use Rattle.npr_base.specs.Family.{checked};
+ghost use Rattle.std.specs.Prelude.{◌≡◌, false, length, IfOk, refl};
 ghost use Rattle.npr_tunnel.specs.ErspanOptions.{Meaning, meaning_of, writing, members};
 
 use npr_base::{
-    At, AttrFamily, Attribute, DecodeError, DefaultNla, EmitError, Looks, Nla, NlaBuffer,
-    Parseable, check_len, read_u8, read_u32_be, write_bytes,
+    AttrFamily, Attribute, DecodeError, DefaultNla, EmitError, Looks, Nla, NlaBuffer, Parseable,
+    check_len, read_u8, read_u32_be, write_bytes,
 };
 use std::alloc::{AllocError, Global};
 
@@ -44,14 +42,8 @@ impl RouteErspanOpt {
     }
 }
 
-const fn at(kind: u16) -> At
-    ensures { result ≡ record { family = AttrFamily.Erspan; kind = kind } }
-{
-    At {
-        family: AttrFamily::Erspan,
-        kind,
-    }
-}
+/// The family of these attributes.
+const FAMILY: AttrFamily = AttrFamily::Erspan;
 
 impl Nla for RouteErspanOpt {
     ghost item = { λ a. writing.writes (meaning_of a) };
@@ -123,10 +115,10 @@ impl Attribute for RouteErspanOpt {
     ) -> Result<Self, DecodeError> {
         let value = item.value();
         match item.kind() {
-            1 => read_u8(value, at(1)).map(RouteErspanOpt::Ver),
-            2 => read_u32_be(value, at(2)).map(RouteErspanOpt::Index),
-            3 => read_u8(value, at(3)).map(RouteErspanOpt::Dir),
-            4 => read_u8(value, at(4)).map(RouteErspanOpt::Hwid),
+            1 => read_u8(value, FAMILY.at(1)).map(RouteErspanOpt::Ver),
+            2 => read_u32_be(value, FAMILY.at(2)).map(RouteErspanOpt::Index),
+            3 => read_u8(value, FAMILY.at(3)).map(RouteErspanOpt::Dir),
+            4 => read_u8(value, FAMILY.at(4)).map(RouteErspanOpt::Hwid),
             _ => DefaultNla::parse(alloc, item).map(RouteErspanOpt::Other),
         }
     }

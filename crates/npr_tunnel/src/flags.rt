@@ -1,6 +1,7 @@
 //! The flags of tunnels over IP: `TUNNEL_*` of `linux/if_tunnel.h`.
 
 ghost use Rattle.std.specs.Prelude.{⊤, [], ◌∷◌, codes};
+ghost use Rattle.npr_tunnel.specs.TunnelFlags.{ip_flags_bits, ip6_flags_bits};
 
 use bitflags::{Flag, Flags};
 
@@ -45,7 +46,7 @@ impl Flags for RouteIpTunnelFlags {
 
     ghost table = { (codes "Checksum", 1) ∷ (codes "Key", 4) ∷ (codes "Sequence", 8) ∷ ([], 65535) ∷ [] };
 
-    ghost set_of = { λ flags. flags.0 };
+    ghost set_of = { ip_flags_bits };
 
     fn flags<'a>() -> &'a [Flag<RouteIpTunnelFlags>] {
         RouteIpTunnelFlags::FLAGS
@@ -101,7 +102,7 @@ impl Flags for RouteIp6TunnelFlags {
 
     ghost table = { (codes "Checksum", 1) ∷ (codes "Key", 4) ∷ (codes "Sequence", 8) ∷ ([], 65535) ∷ [] };
 
-    ghost set_of = { λ flags. flags.0 };
+    ghost set_of = { ip6_flags_bits };
 
     fn flags<'a>() -> &'a [Flag<RouteIp6TunnelFlags>] {
         RouteIp6TunnelFlags::FLAGS

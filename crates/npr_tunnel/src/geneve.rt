@@ -4,14 +4,14 @@ ghost use Rattle.std.specs.Prelude.{◌≡◌, ◌≢◌, ◌≤◌, ◌⊎◌, 
 ghost use Rattle.npr_base.specs.Codec.{exactly, raw};
 ghost use Rattle.npr_base.specs.Family.{checked};
 ghost use Rattle.npr_base.specs.Counts.{AddsAtMost, SawEach};
-ghost use Rattle.npr_base.specs.Framing.{Writes, framed, number_of};
+ghost use Rattle.npr_base.specs.Framing.{Writes, number_of};
 ghost use Rattle.npr_base.specs.Layout.{byte, be16};
 ghost use Rattle.npr_base.specs.declared.refusal.DecodeError.TheVariants.{OutOfMemory};
 ghost use Rattle.npr_tunnel.specs.Geneve.{at, Child, child_item, child_misfit, option_bytes, option_misfit, options_unfit, class_child, type_child, data_child, option_of, ReadsChild, WrongChild, AreOptions, OptionsFault};
 ghost use Rattle.npr_tunnel.specs.GeneveSteps.{seen, listed, is_some, Changes};
 
 use npr_base::{
-    At, AttrFamily, DecodeError, EmitError, Looks, Nla, NlaBuffer, NlasIterator, check_len, plus,
+    AttrFamily, DecodeError, EmitError, Looks, Nla, NlaBuffer, NlasIterator, check_len, plus,
     read_bytes, read_u8, read_u16_be, write_bytes,
 };
 use std::alloc::{AllocError, Global};
@@ -55,14 +55,17 @@ impl RouteGeneveOpt {
     }
 }
 
-const fn at(kind: u16) -> At
-    ensures { result ≡ record { family = AttrFamily.Geneve; kind = kind } }
-{
-    At {
-        family: AttrFamily::Geneve,
-        kind,
-    }
-}
+/// The family of these attributes.
+const FAMILY: AttrFamily = AttrFamily::Geneve;
+
+/// The class, which opens an option (`linux/lwtunnel.h`).
+const LWTUNNEL_IP_OPT_GENEVE_CLASS: u16 = 1;
+
+/// The type (`linux/lwtunnel.h`).
+const LWTUNNEL_IP_OPT_GENEVE_TYPE: u16 = 2;
+
+/// The data (`linux/lwtunnel.h`).
+const LWTUNNEL_IP_OPT_GENEVE_DATA: u16 = 3;
 
 /// A class closes the option that is open, and opens another.
 fn read_class(
@@ -73,7 +76,7 @@ fn read_class(
     ensures ok { IfOk result (λ p. (n : ℕ) × (exactly be16).Reads value.now n × Changes (seen current) (class_child n) (seen p.0) (option_of p.1)) }
     ensures refused { IfErr result (λ e. (exactly be16).Wrong (at 1) value.now e) }
 {
-    let class = read_u16_be(value, at(1))?;
+    let class = read_u16_be(value, FAMILY.at(LWTUNNEL_IP_OPT_GENEVE_CLASS))?;
     let opened = RouteGeneveOpt {
         class,
         ..RouteGeneveOpt::new(alloc)
@@ -86,7 +89,7 @@ fn read_type(option: RouteGeneveOpt, value: &[u8]) -> Result<RouteGeneveOpt, Dec
     ensures ok { IfOk result (λ o. (n : ℕ) × (exactly byte).Reads value.now n × Changes (Some (option_of option)) (type_child n) None (option_of o)) }
     ensures refused { IfErr result (λ e. (exactly byte).Wrong (at 2) value.now e) }
 {
-    let typ = read_u8(value, at(2))?;
+    let typ = read_u8(value, FAMILY.at(LWTUNNEL_IP_OPT_GENEVE_TYPE))?;
     Ok(RouteGeneveOpt { typ, ..option })
 }
 
@@ -113,7 +116,7 @@ fn change(
     ensures ok { IfOk result (λ o. (c : Child) × ReadsChild child.now c × Changes (Some (option_of option)) c None (option_of o)) }
     ensures refused { IfErr result (λ e. e ≢ OutOfMemory → WrongChild true child.now e) }
 {
-    if child.kind() == 2 {
+    if child.kind() == LWTUNNEL_IP_OPT_GENEVE_TYPE {
         read_type(option, child.value())
     } else {
         read_data(alloc, option, child.value())
@@ -130,10 +133,10 @@ fn read_child(
     ensures refused { IfErr result (λ e. e ≢ OutOfMemory → WrongChild (is_some current) child.now e) }
 {
     let kind = child.kind();
-    if kind == 1 {
+    if kind == LWTUNNEL_IP_OPT_GENEVE_CLASS {
         return read_class(alloc, current, child.value());
     }
-    if kind != 2 && kind != 3 {
+    if kind != LWTUNNEL_IP_OPT_GENEVE_TYPE && kind != LWTUNNEL_IP_OPT_GENEVE_DATA {
         return Err(DecodeError::GeneveChild { kind });
     }
     match current {
@@ -199,7 +202,7 @@ impl<'a> Nla for Data<'a> {
     ghost fits_short = { λ d h. raw.fits_short 3 d.0.now h };
 
     fn kind(&self) -> u16 {
-        3
+        LWTUNNEL_IP_OPT_GENEVE_DATA
     }
 
     fn is_nested(&self) -> bool {
@@ -207,7 +210,7 @@ impl<'a> Nla for Data<'a> {
     }
 
     fn check(&self) -> Result<usize, EmitError> {
-        check_len(3, self.0.len())
+        check_len(LWTUNNEL_IP_OPT_GENEVE_DATA, self.0.len())
     }
 
     fn value_len(&self) -> usize {

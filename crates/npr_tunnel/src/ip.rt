@@ -1,7 +1,6 @@
 //! Tunnels over IP version 4: `LWTUNNEL_IP_*` of `linux/lwtunnel.h`.
 
-ghost use Rattle.std.specs.Prelude.{◌≡◌, ◌≢◌, ◌≤◌, ◌<◌, ◌+◌, ◌*◌, ℕ, List, Option, None, false, length, IfOk, IfErr};
-ghost use Rattle.std.proofs.Common.{refl};
+ghost use Rattle.std.specs.Prelude.{◌≡◌, false, length, IfOk, refl};
 ghost use Rattle.npr_base.specs.Family.{checked};
 ghost use Rattle.npr_base.specs.Table.{held_bytes};
 ghost use Rattle.npr_tunnel.specs.IpTunnel.{Meaning, meaning_of, writing, members, place, unfit_inside};
@@ -10,8 +9,8 @@ use crate::flags::RouteIpTunnelFlags;
 use crate::tunnel_opts::RouteLwTunnelOpt;
 use bitflags::Flags;
 use npr_base::{
-    At, AttrFamily, Attribute, DecodeError, DefaultNla, EmitError, Ipv4Addr, Looks, NLA_F_NESTED,
-    Nla, NlaBuffer, Parseable, check_len, check_list, clone_list, parse_list, read_ipv4, read_u8,
+    AttrFamily, Attribute, DecodeError, DefaultNla, EmitError, Ipv4Addr, Looks, NLA_F_NESTED, Nla,
+    NlaBuffer, Parseable, check_len, check_list, clone_list, parse_list, read_ipv4, read_u8,
     read_u16_be, read_u64_be, write_bytes, write_list,
 };
 use std::alloc::{AllocError, Global};
@@ -77,14 +76,8 @@ impl RouteIpTunnel {
     }
 }
 
-const fn at(kind: u16) -> At
-    ensures { result ≡ record { family = AttrFamily.Ip; kind = kind } }
-{
-    At {
-        family: AttrFamily::Ip,
-        kind,
-    }
-}
+/// The family of these attributes.
+const FAMILY: AttrFamily = AttrFamily::Ip;
 
 impl Nla for RouteIpTunnel {
     ghost item = { λ a. (writing 4).writes (meaning_of a) };
@@ -164,12 +157,12 @@ impl Attribute for RouteIpTunnel {
         let value = item.value();
         match item.kind() {
             0 => Ok(RouteIpTunnel::Unspecified),
-            1 => read_u64_be(value, at(1)).map(RouteIpTunnel::Id),
-            2 => read_ipv4(value, at(2)).map(RouteIpTunnel::Destination),
-            3 => read_ipv4(value, at(3)).map(RouteIpTunnel::Source),
-            4 => read_u8(value, at(4)).map(RouteIpTunnel::Ttl),
-            5 => read_u8(value, at(5)).map(RouteIpTunnel::Tos),
-            6 => read_u16_be(value, at(6)).map(|bits| RouteIpTunnel::Flags(
+            1 => read_u64_be(value, FAMILY.at(1)).map(RouteIpTunnel::Id),
+            2 => read_ipv4(value, FAMILY.at(2)).map(RouteIpTunnel::Destination),
+            3 => read_ipv4(value, FAMILY.at(3)).map(RouteIpTunnel::Source),
+            4 => read_u8(value, FAMILY.at(4)).map(RouteIpTunnel::Ttl),
+            5 => read_u8(value, FAMILY.at(5)).map(RouteIpTunnel::Tos),
+            6 => read_u16_be(value, FAMILY.at(6)).map(|bits| RouteIpTunnel::Flags(
                 RouteIpTunnelFlags::from_bits_retain(bits),
             )),
             8 => parse_list(alloc, (), value, looks).map(RouteIpTunnel::Opts),

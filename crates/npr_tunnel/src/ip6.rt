@@ -1,7 +1,6 @@
 //! Tunnels over IP version 6: `LWTUNNEL_IP6_*` of `linux/lwtunnel.h`.
 
-ghost use Rattle.std.specs.Prelude.{◌≡◌, ◌≢◌, ◌≤◌, ◌<◌, ◌+◌, ◌*◌, ℕ, List, Option, None, false, length, IfOk, IfErr};
-ghost use Rattle.std.proofs.Common.{refl};
+ghost use Rattle.std.specs.Prelude.{◌≡◌, false, length, IfOk, refl};
 ghost use Rattle.npr_base.specs.Family.{checked};
 ghost use Rattle.npr_base.specs.Table.{held_bytes};
 ghost use Rattle.npr_tunnel.specs.IpTunnel.{Meaning, meaning6_of, writing, members6, place, unfit_inside};
@@ -10,8 +9,8 @@ use crate::flags::RouteIp6TunnelFlags;
 use crate::tunnel_opts::RouteLwTunnelOpt;
 use bitflags::Flags;
 use npr_base::{
-    At, AttrFamily, Attribute, DecodeError, DefaultNla, EmitError, Ipv6Addr, Looks, NLA_F_NESTED,
-    Nla, NlaBuffer, Parseable, check_len, check_list, clone_list, parse_list, read_ipv6, read_u8,
+    AttrFamily, Attribute, DecodeError, DefaultNla, EmitError, Ipv6Addr, Looks, NLA_F_NESTED, Nla,
+    NlaBuffer, Parseable, check_len, check_list, clone_list, parse_list, read_ipv6, read_u8,
     read_u16_be, read_u64_be, write_bytes, write_list,
 };
 use std::alloc::{AllocError, Global};
@@ -77,14 +76,8 @@ impl RouteIp6Tunnel {
     }
 }
 
-const fn at(kind: u16) -> At
-    ensures { result ≡ record { family = AttrFamily.Ip6; kind = kind } }
-{
-    At {
-        family: AttrFamily::Ip6,
-        kind,
-    }
-}
+/// The family of these attributes.
+const FAMILY: AttrFamily = AttrFamily::Ip6;
 
 impl Nla for RouteIp6Tunnel {
     ghost item = { λ a. (writing 16).writes (meaning6_of a) };
@@ -164,12 +157,12 @@ impl Attribute for RouteIp6Tunnel {
         let value = item.value();
         match item.kind() {
             0 => Ok(RouteIp6Tunnel::Unspecified),
-            1 => read_u64_be(value, at(1)).map(RouteIp6Tunnel::Id),
-            2 => read_ipv6(value, at(2)).map(RouteIp6Tunnel::Destination),
-            3 => read_ipv6(value, at(3)).map(RouteIp6Tunnel::Source),
-            4 => read_u8(value, at(4)).map(RouteIp6Tunnel::Hoplimit),
-            5 => read_u8(value, at(5)).map(RouteIp6Tunnel::Tc),
-            6 => read_u16_be(value, at(6)).map(|bits| RouteIp6Tunnel::Flags(
+            1 => read_u64_be(value, FAMILY.at(1)).map(RouteIp6Tunnel::Id),
+            2 => read_ipv6(value, FAMILY.at(2)).map(RouteIp6Tunnel::Destination),
+            3 => read_ipv6(value, FAMILY.at(3)).map(RouteIp6Tunnel::Source),
+            4 => read_u8(value, FAMILY.at(4)).map(RouteIp6Tunnel::Hoplimit),
+            5 => read_u8(value, FAMILY.at(5)).map(RouteIp6Tunnel::Tc),
+            6 => read_u16_be(value, FAMILY.at(6)).map(|bits| RouteIp6Tunnel::Flags(
                 RouteIp6TunnelFlags::from_bits_retain(bits),
             )),
             8 => parse_list(alloc, (), value, looks).map(RouteIp6Tunnel::Opts),

@@ -1,6 +1,6 @@
 //! The laws of this crate. Each function does nothing, and its contract is the law.
 
-ghost use Rattle.std.specs.Prelude.{◌≡◌, ℕ};
+ghost use Rattle.std.specs.Prelude.{◌≡◌, ◌^◌, ℕ};
 ghost use Rattle.npr_base.specs.Equality.{IsEquality, IsEqualityOf};
 ghost use Rattle.npr_tunnel.specs.EncapType.{encap_type_of, encap_type_number};
 ghost use Rattle.npr_tunnel.specs.Encapsulation.{meaning_of as encap_member};
@@ -8,6 +8,7 @@ ghost use Rattle.npr_tunnel.specs.ErspanOptions.{meaning_of as erspan_option};
 ghost use Rattle.npr_tunnel.specs.Geneve.{option_of};
 ghost use Rattle.npr_tunnel.specs.IpTunnel.{meaning_of as ip_member, meaning6_of as ip6_member};
 ghost use Rattle.npr_tunnel.specs.MplsTunnel.{meaning_of as mpls_member};
+ghost use Rattle.npr_tunnel.specs.TunnelFlags.{ip_flags_bits, ip_flags_of, ip6_flags_bits, ip6_flags_of};
 ghost use Rattle.npr_tunnel.specs.TunnelOptions.{meaning_of as tunnel_option};
 ghost use Rattle.npr_tunnel.specs.VxlanOptions.{meaning_of as vxlan_option};
 ghost use Rattle.npr_tunnel.specs.XfrmTunnel.{meaning_of as xfrm_member};
@@ -29,6 +30,20 @@ pub fn law_encap_type_number()
     ensures { (d : ℕ) → encap_type_number (encap_type_of d) ≡ d }
 {}
 
+/// The named flags of a tunnel over IP version 4, by their bits (`linux/if_tunnel.h`).
+pub fn law_ip_flags()
+    ensures checksum { ip_flags_bits RouteIpTunnelFlags.Checksum ≡ 2 ^ 0 }
+    ensures key { ip_flags_bits RouteIpTunnelFlags.Key ≡ 2 ^ 2 }
+    ensures sequence { ip_flags_bits RouteIpTunnelFlags.Sequence ≡ 2 ^ 3 }
+{}
+
+/// The named flags of a tunnel over IP version 6, by their bits (`linux/if_tunnel.h`).
+pub fn law_ip6_flags()
+    ensures checksum { ip6_flags_bits RouteIp6TunnelFlags.Checksum ≡ 2 ^ 0 }
+    ensures key { ip6_flags_bits RouteIp6TunnelFlags.Key ≡ 2 ^ 2 }
+    ensures sequence { ip6_flags_bits RouteIp6TunnelFlags.Sequence ≡ 2 ^ 3 }
+{}
+
 /// `==` answers whether two values are equal, or mean the same where they hold a vector.
 pub fn law_equality()
     ensures encap_type { IsEquality ⟦<RouteLwEnCapType as PartialEq>⟧.eq }
@@ -48,8 +63,8 @@ pub fn law_equality()
 /// Which value is the default.
 pub fn law_default()
     ensures encap_type { (x : RouteLwEnCapType) → ⟦<RouteLwEnCapType as Default>⟧.is_default x → x ≡ RouteLwEnCapType.None }
-    ensures ip_flags { (x : RouteIpTunnelFlags) → ⟦<RouteIpTunnelFlags as Default>⟧.is_default x → x ≡ record { 0 = 0 } }
-    ensures ip6_flags { (x : RouteIp6TunnelFlags) → ⟦<RouteIp6TunnelFlags as Default>⟧.is_default x → x ≡ record { 0 = 0 } }
+    ensures ip_flags { (x : RouteIpTunnelFlags) → ⟦<RouteIpTunnelFlags as Default>⟧.is_default x → x ≡ ip_flags_of 0 }
+    ensures ip6_flags { (x : RouteIp6TunnelFlags) → ⟦<RouteIp6TunnelFlags as Default>⟧.is_default x → x ≡ ip6_flags_of 0 }
     ensures ip { (x : RouteIpTunnel) → ⟦<RouteIpTunnel as Default>⟧.is_default x → x ≡ RouteIpTunnel.Unspecified }
     ensures ip6 { (x : RouteIp6Tunnel) → ⟦<RouteIp6Tunnel as Default>⟧.is_default x → x ≡ RouteIp6Tunnel.Unspecified }
     ensures xfrm { (x : RouteXfrmTunnel) → ⟦<RouteXfrmTunnel as Default>⟧.is_default x → x ≡ RouteXfrmTunnel.Unspecified }

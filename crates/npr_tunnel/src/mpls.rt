@@ -1,13 +1,11 @@
 //! The tunnel of MPLS: `MPLS_IPTUNNEL_*` of `linux/mpls_iptunnel.h`.
 
-ghost use Rattle.std.specs.Prelude.{◌≡◌, ◌≢◌, ◌≤◌, ◌<◌, ◌+◌, ◌*◌, ℕ, List, Option, None, false, length, IfOk, IfErr};
-ghost use Rattle.std.proofs.Common.{refl};
-ghost use Rattle.npr_base.specs.Family.{checked};
+ghost use Rattle.std.specs.Prelude.{◌≡◌, false, length, IfOk, refl};
 ghost use Rattle.npr_tunnel.specs.MplsTunnel.{Meaning, meaning_of, writing, members};
 
 use npr_base::{
-    At, AttrFamily, Attribute, DecodeError, DefaultNla, EmitError, Looks, Nla, NlaBuffer,
-    Parseable, check_len, read_u8, write_bytes,
+    AttrFamily, Attribute, DecodeError, DefaultNla, EmitError, Looks, Nla, NlaBuffer, Parseable,
+    check_len, read_u8, write_bytes,
 };
 use npr_scalar::{MplsLabel, labels_len, read_labels, write_labels};
 use std::alloc::{AllocError, Global};
@@ -41,14 +39,8 @@ impl RouteMplsIpTunnel {
     }
 }
 
-const fn at(kind: u16) -> At
-    ensures { result ≡ record { family = AttrFamily.Mpls; kind = kind } }
-{
-    At {
-        family: AttrFamily::Mpls,
-        kind,
-    }
-}
+/// The family of these attributes.
+const FAMILY: AttrFamily = AttrFamily::Mpls;
 
 impl Nla for RouteMplsIpTunnel {
     ghost item = { λ a. writing.writes (meaning_of a) };
@@ -118,7 +110,7 @@ impl Attribute for RouteMplsIpTunnel {
         let value = item.value();
         match item.kind() {
             1 => read_labels(alloc, value).map(RouteMplsIpTunnel::Destination),
-            2 => read_u8(value, at(2)).map(RouteMplsIpTunnel::Ttl),
+            2 => read_u8(value, FAMILY.at(2)).map(RouteMplsIpTunnel::Ttl),
             _ => DefaultNla::parse(alloc, item).map(RouteMplsIpTunnel::Other),
         }
     }

@@ -1,13 +1,11 @@
 //! Options of VXLAN: `LWTUNNEL_IP_OPT_VXLAN_*` of `linux/lwtunnel.h`.
 
-ghost use Rattle.std.specs.Prelude.{◌≡◌, ◌≢◌, ◌≤◌, ◌<◌, ◌+◌, ◌*◌, ℕ, List, Option, None, false, length, IfOk, IfErr};
-ghost use Rattle.std.proofs.Common.{refl};
-ghost use Rattle.npr_base.specs.Family.{checked};
+ghost use Rattle.std.specs.Prelude.{◌≡◌, false, length, IfOk, refl};
 ghost use Rattle.npr_tunnel.specs.VxlanOptions.{Meaning, meaning_of, writing, members};
 
 use npr_base::{
-    At, AttrFamily, Attribute, DecodeError, DefaultNla, EmitError, Looks, Nla, NlaBuffer,
-    Parseable, check_len, read_u32, write_bytes,
+    AttrFamily, Attribute, DecodeError, DefaultNla, EmitError, Looks, Nla, NlaBuffer, Parseable,
+    check_len, read_u32, write_bytes,
 };
 use std::alloc::{AllocError, Global};
 
@@ -35,14 +33,8 @@ impl RouteVxlanOpt {
     }
 }
 
-const fn at(kind: u16) -> At
-    ensures { result ≡ record { family = AttrFamily.Vxlan; kind = kind } }
-{
-    At {
-        family: AttrFamily::Vxlan,
-        kind,
-    }
-}
+/// The family of these attributes.
+const FAMILY: AttrFamily = AttrFamily::Vxlan;
 
 impl Nla for RouteVxlanOpt {
     ghost item = { λ a. writing.writes (meaning_of a) };
@@ -108,7 +100,7 @@ impl Attribute for RouteVxlanOpt {
     ) -> Result<Self, DecodeError> {
         let value = item.value();
         match item.kind() {
-            1 => read_u32(value, at(1)).map(RouteVxlanOpt::Gbp),
+            1 => read_u32(value, FAMILY.at(1)).map(RouteVxlanOpt::Gbp),
             _ => DefaultNla::parse(alloc, item).map(RouteVxlanOpt::Other),
         }
     }

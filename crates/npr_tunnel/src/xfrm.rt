@@ -1,13 +1,11 @@
 //! The tunnel of an IPsec interface: `LWT_XFRM_*` of `linux/lwtunnel.h`.
 
-ghost use Rattle.std.specs.Prelude.{◌≡◌, ◌≢◌, ◌≤◌, ◌<◌, ◌+◌, ◌*◌, ℕ, List, Option, None, false, length, IfOk, IfErr};
-ghost use Rattle.std.proofs.Common.{refl};
-ghost use Rattle.npr_base.specs.Family.{checked};
+ghost use Rattle.std.specs.Prelude.{◌≡◌, false, length, IfOk, refl};
 ghost use Rattle.npr_tunnel.specs.XfrmTunnel.{Meaning, meaning_of, writing, members};
 
 use npr_base::{
-    At, AttrFamily, Attribute, DecodeError, DefaultNla, EmitError, Looks, Nla, NlaBuffer,
-    Parseable, check_len, read_u32, write_bytes,
+    AttrFamily, Attribute, DecodeError, DefaultNla, EmitError, Looks, Nla, NlaBuffer, Parseable,
+    check_len, read_u32, write_bytes,
 };
 use std::alloc::{AllocError, Global};
 
@@ -42,14 +40,8 @@ impl RouteXfrmTunnel {
     }
 }
 
-const fn at(kind: u16) -> At
-    ensures { result ≡ record { family = AttrFamily.Xfrm; kind = kind } }
-{
-    At {
-        family: AttrFamily::Xfrm,
-        kind,
-    }
-}
+/// The family of these attributes.
+const FAMILY: AttrFamily = AttrFamily::Xfrm;
 
 impl Nla for RouteXfrmTunnel {
     ghost item = { λ a. writing.writes (meaning_of a) };
@@ -123,8 +115,8 @@ impl Attribute for RouteXfrmTunnel {
         let value = item.value();
         match item.kind() {
             0 => Ok(RouteXfrmTunnel::Unspecified),
-            1 => read_u32(value, at(1)).map(RouteXfrmTunnel::IfId),
-            2 => read_u32(value, at(2)).map(RouteXfrmTunnel::Link),
+            1 => read_u32(value, FAMILY.at(1)).map(RouteXfrmTunnel::IfId),
+            2 => read_u32(value, FAMILY.at(2)).map(RouteXfrmTunnel::Link),
             _ => DefaultNla::parse(alloc, item).map(RouteXfrmTunnel::Other),
         }
     }

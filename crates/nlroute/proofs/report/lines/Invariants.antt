@@ -1,5 +1,5 @@
 use Rattle.std.proofs.Common.{◌≡◌, ◌++◌, map, take, drop, None, string_bytes}
-use Rattle.npr_base.specs.Family.{first_unfit}
+use Rattle.netlink_packet_route.specs.Family.{first_unfit}
 use Rattle.nlroute.specs.Report.{lines_text}
 use Rattle.nlroute.proofs.report.lines.Given as goal
 

@@ -1,7 +1,7 @@
 -- the attributes of a message that can be written can be
-use Rattle.npr_address.specs.MessageLaws.{address_attributes_fit}
-use Rattle.npr_route.specs.MessageLaws.{route_attributes_fit}
-use Rattle.npr_rule.specs.MessageLaws.{rule_attributes_fit}
+use Rattle.netlink_packet_route.specs.AddressMessageLaws.{address_attributes_fit}
+use Rattle.netlink_packet_route.specs.RouteMessageLaws.{route_attributes_fit}
+use Rattle.netlink_packet_route.specs.RuleMessageLaws.{rule_attributes_fit}
 use Rattle.nlroute.proofs.run.answer.Goals as goal
 
 pub written-requires : goal.written-requires

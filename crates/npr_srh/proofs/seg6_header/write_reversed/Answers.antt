@@ -3,7 +3,7 @@ use Rattle.std.proofs.Common.{◌≡◌, ◌+◌, ◌-◌, ◌++◌, List, ℕ, 
 use Rattle.std.proofs.lemmas.List.{take_more, get_or-reverse, length-reverse}
 use Rattle.npr_base.specs.V6ListLaws.{concat-push}
 use Rattle.npr_base.proofs.Writing.{Writes-more}
-use Rattle.npr_srh.proofs.Headers.{concat-below}
+use Rattle.npr_base.proofs.V6Lists.{concat-below}
 use Rattle.npr_srh.proofs.seg6_header.write_reversed.Goals as goal
 
 pub write_bytes-at-requires : goal.write_bytes-at-requires

@@ -1,4 +1,4 @@
-use Rattle.std.proofs.Common.{◌≡◌, ◌+◌, ◌-◌, ◌≤◌, ◌∷◌, [], ap, length, map, take, drop, arith, length-append, length-take, length-drop}
+use Rattle.std.proofs.Common.{◌+◌, ◌-◌, ◌≤◌, ◌∷◌, [], ap, length, map, take, drop, arith, length-append, length-take, length-drop}
 use Rattle.npr_tunnel.specs.Geneve.{option_of, option_bytes}
 use Rattle.npr_base.proofs.Writing.{Writes-more}
 use Rattle.npr_tunnel.proofs.Options.{bytes-next, bytes-below, unfit-none}

@@ -1,0 +1,49 @@
+//! Why no bytes come out.
+
+ghost use Rattle.std.specs.Prelude.{◌≡◌};
+ghost use Rattle.examples.specs.declared.fault.Fault.TheVariants.{Refused, Unfit};
+ghost use Rattle.netlink_packet_route.specs.declared.framing.DecodeError.TheVariants.{OutOfMemory};
+
+use netlink_packet_route::framing::{DecodeError, EmitError};
+use std::alloc::{AllocError, AllocFailed};
+
+/// Why no bytes come out.
+#[derive(Clone, Copy, Debug, PartialEq, Eq)]
+pub enum Fault {
+    /// The bytes are no message, or memory was refused.
+    Refused(DecodeError),
+    /// The message can't be written.
+    Unfit(EmitError),
+}
+
+impl From<DecodeError> for Fault {
+    ghost from_gives = { λ fault e. e ≡ Refused fault };
+
+    fn from(fault: DecodeError) -> Fault {
+        Fault::Refused(fault)
+    }
+}
+
+impl From<EmitError> for Fault {
+    ghost from_gives = { λ cause e. e ≡ Unfit cause };
+
+    fn from(cause: EmitError) -> Fault {
+        Fault::Unfit(cause)
+    }
+}
+
+impl From<AllocError> for Fault {
+    ghost from_gives = { λ _ e. e ≡ Refused OutOfMemory };
+
+    fn from(_e: AllocError) -> Fault {
+        Fault::Refused(DecodeError::OutOfMemory)
+    }
+}
+
+impl<T: Drop> From<AllocFailed<T>> for Fault {
+    ghost from_gives = { λ _ e. e ≡ Refused OutOfMemory };
+
+    fn from(_e: AllocFailed<T>) -> Fault {
+        Fault::Refused(DecodeError::OutOfMemory)
+    }
+}

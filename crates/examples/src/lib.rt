@@ -1,0 +1,8 @@
+//! Callers of `netlink_packet_route`, to be copied: each has a contract that says what it does, and
+//! none needs a proof of its own.
+#![tactic(auto)]
+
+pub mod addresses;
+pub mod again;
+pub mod fault;
+pub mod routes;

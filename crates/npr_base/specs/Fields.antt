@@ -1,0 +1,120 @@
+-- Structs of numbers, one behind the other: a field is read at its place, and fields are joined to a layout.
+--     Field            a value at a place of a fixed layout
+--     one_byte, le_two, le_four, le_eight      numbers, the lowest byte first
+--     then             a field behind another
+--     fields           all of them as a layout
+use Rattle.std.specs.Prelude.{◌≡◌, ℕ, ◌+◌, ◌^◌, ◌<◌, List, [], ◌∷◌, ◌++◌, length, slice_index}
+use Rattle.std.specs.Int.{w16, w32, w64, to_le_bytes, from_le_bytes}
+use Rattle.std.proofs.Common.{refl, sym, ap, ◌∙◌, append_assoc, length-append}
+use Rattle.std.proofs.lemmas.List.{append-nil, get_or-append-add}
+use Rattle.std.proofs.lemmas.Nat.{from_le_bytes-to_le_bytes_2, from_le_bytes-to_le_bytes_4, from_le_bytes-to_le_bytes_8}
+use Rattle.npr_base.specs.Framing.{IsBytes}
+use Rattle.npr_base.specs.Layout.{Layout, le16_at, le32_at, le64_at, le16_at-holds, le32_at-holds, le64_at-holds}
+
+pub record Field (V : Type 0) : Type 1 where
+  pub width : ℕ
+  pub at : List ℕ → ℕ → V
+  pub encode : V → List ℕ
+  -- the values that it can hold
+  pub Holds : V → Type 0
+  -- what it can hold is written in so many bytes, and read back wherever they stand
+  pub length-encode : (x : V) → length (encode x) ≡ width
+  pub at-encode : (front more : List ℕ) (x : V) → Holds x → at (front ++ (encode x ++ more)) (length front) ≡ x
+  pub Holds-at : (bytes : List ℕ) (i : ℕ) → IsBytes bytes → Holds (at bytes i)
+
+-- what stands behind other bytes
+pub byte-behind : (front rest : List ℕ) → slice_index (front ++ rest) (length front) ≡ slice_index rest 0
+byte-behind [] rest = refl
+byte-behind (x ∷ front) rest = byte-behind front rest
+
+pub le16-behind : (front rest : List ℕ) → le16_at (front ++ rest) (length front) ≡ le16_at rest 0
+le16-behind front rest = let f = λ (k : ℕ). get_or-append-add front rest k 0 in λ i. from_le_bytes w16 (byte-behind front rest i ∷ f 1 i ∷ [])
+
+pub le32-behind : (front rest : List ℕ) → le32_at (front ++ rest) (length front) ≡ le32_at rest 0
+le32-behind front rest = let f = λ (k : ℕ). get_or-append-add front rest k 0 in λ i. from_le_bytes w32 (byte-behind front rest i ∷ f 1 i ∷ f 2 i ∷ f 3 i ∷ [])
+
+pub le64-behind : (front rest : List ℕ) → le64_at (front ++ rest) (length front) ≡ le64_at rest 0
+le64-behind front rest =
+    let f = λ (k : ℕ). get_or-append-add front rest k 0 in
+    λ i. from_le_bytes w64 (byte-behind front rest i ∷ f 1 i ∷ f 2 i ∷ f 3 i ∷ f 4 i ∷ f 5 i ∷ f 6 i ∷ f 7 i ∷ [])
+
+abbrev pub one_byte : Field ℕ
+one_byte = record {
+  width = 1;
+  at = slice_index;
+  encode = λ n. n ∷ [];
+  Holds = λ n. n < 2 ^ 8;
+  length-encode = λ n. refl;
+  at-encode = λ front more n h. byte-behind front (n ∷ more);
+  Holds-at = λ bytes i is. is i;
+}
+
+abbrev pub le_two : Field ℕ
+le_two = record {
+  width = 2;
+  at = le16_at;
+  encode = to_le_bytes w16;
+  Holds = λ n. n < 2 ^ 16;
+  length-encode = λ n. refl;
+  at-encode = λ front more n h. le16-behind front (to_le_bytes w16 n ++ more) ∙ from_le_bytes-to_le_bytes_2 n h;
+  Holds-at = le16_at-holds;
+}
+
+abbrev pub le_four : Field ℕ
+le_four = record {
+  width = 4;
+  at = le32_at;
+  encode = to_le_bytes w32;
+  Holds = λ n. n < 2 ^ 32;
+  length-encode = λ n. refl;
+  at-encode = λ front more n h. le32-behind front (to_le_bytes w32 n ++ more) ∙ from_le_bytes-to_le_bytes_4 n h;
+  Holds-at = le32_at-holds;
+}
+
+abbrev pub le_eight : Field ℕ
+le_eight = record {
+  width = 8;
+  at = le64_at;
+  encode = to_le_bytes w64;
+  Holds = λ n. n < 2 ^ 64;
+  length-encode = λ n. refl;
+  at-encode = λ front more n h. le64-behind front (to_le_bytes w64 n ++ more) ∙ from_le_bytes-to_le_bytes_8 n h;
+  Holds-at = le64_at-holds;
+}
+
+module _ {A B : Type 0} (F : Field A) (G : Field B) where
+  pub second-back : (front more : List ℕ) (x : A) (y : B) → G.Holds y → G.at (front ++ ((F.encode x ++ G.encode y) ++ more)) (length front + F.width) ≡ y
+  second-back front more x y h =
+      let place : length (front ++ F.encode x) ≡ length front + F.width = length-append front (F.encode x) ∙ ap (λ n. length front + n) (F.length-encode x) in
+      let inner = ap (λ (w : List ℕ). front ++ w) (append_assoc (F.encode x) (G.encode y) more) in
+      let bytes = inner ∙ sym (append_assoc front (F.encode x) (G.encode y ++ more)) in
+      ap (λ (w : List ℕ). G.at w (length front + F.width)) bytes
+      ∙ ap (G.at ((front ++ F.encode x) ++ (G.encode y ++ more))) (sym place) ∙ G.at-encode (front ++ F.encode x) more y h
+
+  pub first-back : (front more : List ℕ) (x : A) (y : B) → F.Holds x → F.at (front ++ ((F.encode x ++ G.encode y) ++ more)) (length front) ≡ x
+  first-back front more x y h =
+      let inner = ap (λ (w : List ℕ). front ++ w) (append_assoc (F.encode x) (G.encode y) more) in
+      ap (λ (w : List ℕ). F.at w (length front)) inner ∙ F.at-encode front (G.encode y ++ more) x h
+
+  abbrev pub ◌then◌ : Field (A × B)
+  ◌then◌ = record {
+    width = F.width + G.width;
+    at = λ bytes i. (F.at bytes i, G.at bytes (i + F.width));
+    encode = λ p. F.encode p.0 ++ G.encode p.1;
+    Holds = λ p. F.Holds p.0 × G.Holds p.1;
+    length-encode = λ p. length-append (F.encode p.0) (G.encode p.1) ∙ (λ i. F.length-encode p.0 i + G.length-encode p.1 i);
+    at-encode = λ front more p h. λ j. (first-back front more p.0 p.1 h.0 j, second-back front more p.0 p.1 h.1 j);
+    Holds-at = λ bytes i is. (F.Holds-at bytes i is, G.Holds-at bytes (i + F.width) is);
+  }
+
+infixr 4 ◌then◌
+abbrev pub fields : {V : Type 0} → Field V → Layout V
+fields F = record {
+  size = F.width;
+  decode = λ bytes. F.at bytes 0;
+  encode = F.encode;
+  Holds = F.Holds;
+  length-encode = λ x h. F.length-encode x;
+  decode-encode = λ x h. ap (λ (w : List ℕ). F.at w 0) (sym (append-nil (F.encode x))) ∙ F.at-encode [] [] x h;
+  Holds-decode = λ bytes is e. F.Holds-at bytes 0 is;
+}

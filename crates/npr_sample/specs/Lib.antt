@@ -1,4 +1,0 @@
-pub mod Pair
-pub mod Color
-pub mod Inner
-pub mod Attribute

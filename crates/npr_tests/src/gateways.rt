@@ -1,0 +1,194 @@
+//! Addresses and gateways of routes, each by its family.
+
+use crate::helpers::{LABEL, bytes_of, same, writes};
+use netlink_packet_route::AddressFamily;
+use netlink_packet_route::framing::{At, AttrFamily, DecodeError};
+use netlink_packet_route::net::{IpAddr, Ipv4Addr, Ipv6Addr};
+use netlink_packet_route::route::{RouteAddress, RouteVia, RouteViaBuffer};
+use std::process::Abort;
+use std::test::Fail;
+
+/// The destination of a route.
+const PLACE: At = At {
+    family: AttrFamily::Route,
+    kind: 1,
+};
+
+const FOUR: [u8; 4] = [0x0a, 0x00, 0x00, 0x01];
+
+/// `2001:db8::1`.
+const SIXTEEN: [u8; 16] = [0x20, 0x01, 0x0d, 0xb8, 0, 0, 0, 0, 0, 0, 0, 0, 0, 0, 0, 1];
+
+const SIXTEEN_TEXT: &str = "20010db8000000000000000000000001";
+
+/// The bytes are this address of the family, and are what is written of it.
+fn is_address(
+    rt: &(impl Abort + AllocGlobal),
+    family: AddressFamily,
+    text: &str,
+    wanted: RouteAddress,
+) -> Result<(), Fail> {
+    let bytes = bytes_of(rt, &[text])?;
+    let found = RouteAddress::parse(rt.alloc(), family, bytes.as_slice())?;
+    same(rt, found.len(), bytes.len());
+    same(rt, found.clone(rt.alloc())?, wanted);
+    writes(rt, found, &[text])
+}
+
+#[test]
+fn addresses_by_family(rt: HostRuntime) -> Result<(), Fail> {
+    let inet = RouteAddress::from(IpAddr::from(FOUR));
+    is_address(&rt, AddressFamily::Inet, "0a000001", inet)?;
+    let inet6 = RouteAddress::from(IpAddr::from(SIXTEEN));
+    is_address(&rt, AddressFamily::Inet6, SIXTEEN_TEXT, inet6)?;
+    let mpls = RouteAddress::from(LABEL);
+    is_address(&rt, AddressFamily::Mpls, "000641ff", mpls)
+}
+
+/// A family that is inet by its number alone counts as another one.
+#[test]
+fn addresses_of_other_families(rt: HostRuntime) -> Result<(), Fail> {
+    let other = RouteAddress::Other(FOUR.to_vec(rt.alloc())?);
+    is_address(&rt, AddressFamily::Other(2), "0a000001", other)?;
+    let bridge = RouteAddress::Other([1, 2, 3].to_vec(rt.alloc())?);
+    is_address(&rt, AddressFamily::Bridge, "010203", bridge)
+}
+
+#[test]
+fn addresses_of_another_length(rt: HostRuntime) {
+    for (family, got) in [
+        (AddressFamily::Inet, 3usize),
+        (AddressFamily::Inet, 16),
+        (AddressFamily::Inet6, 4),
+        (AddressFamily::Inet6, 15),
+        (AddressFamily::Mpls, 3),
+        (AddressFamily::Mpls, 8),
+    ] {
+        let bytes = &SIXTEEN[..got.min(16)];
+        let found = RouteAddress::read(rt.alloc(), family, bytes, PLACE).err();
+        same(
+            &rt,
+            found,
+            Some(DecodeError::ValueLength { at: PLACE, got }),
+        );
+    }
+}
+
+#[test]
+fn addresses_of_no_place(rt: HostRuntime) {
+    let at = At::NO_PLACE;
+    let found = RouteAddress::parse(rt.alloc(), AddressFamily::Inet, &[0; 3]).err();
+    same(&rt, found, Some(DecodeError::ValueLength { at, got: 3 }));
+}
+
+#[test]
+fn addresses_from_others(rt: HostRuntime) {
+    let four = Ipv4Addr::new(10, 0, 0, 1);
+    let sixteen = Ipv6Addr::from(SIXTEEN);
+    same(&rt, RouteAddress::from(four), RouteAddress::Inet(four));
+    same(
+        &rt,
+        RouteAddress::from(sixteen),
+        RouteAddress::Inet6(sixteen),
+    );
+    same(
+        &rt,
+        RouteAddress::from(IpAddr::from(FOUR)),
+        RouteAddress::Inet(four),
+    );
+    same(
+        &rt,
+        RouteAddress::from(IpAddr::from(SIXTEEN)),
+        RouteAddress::Inet6(sixteen),
+    );
+    same(&rt, RouteAddress::from(LABEL), RouteAddress::Mpls(LABEL));
+}
+
+#[test]
+fn gateways_from_others(rt: HostRuntime) {
+    let four = Ipv4Addr::new(10, 0, 0, 1);
+    let sixteen = Ipv6Addr::from(SIXTEEN);
+    same(&rt, RouteVia::from(four), RouteVia::Inet(four));
+    same(&rt, RouteVia::from(sixteen), RouteVia::Inet6(sixteen));
+    same(
+        &rt,
+        RouteVia::from(IpAddr::from(FOUR)),
+        RouteVia::Inet(four),
+    );
+    same(
+        &rt,
+        RouteVia::from(IpAddr::from(SIXTEEN)),
+        RouteVia::Inet6(sixteen),
+    );
+}
+
+/// The bytes are this gateway, and are what is written of it.
+fn is_gateway(
+    rt: &(impl Abort + AllocGlobal),
+    texts: &[&str],
+    wanted: RouteVia,
+) -> Result<(), Fail> {
+    let bytes = bytes_of(rt, texts)?;
+    let found = RouteVia::parse(rt.alloc(), bytes.as_slice())?;
+    same(rt, found.len(), bytes.len());
+    same(rt, found.clone(rt.alloc())?, wanted);
+    writes(rt, found, texts)
+}
+
+#[test]
+fn gateways_by_family(rt: HostRuntime) -> Result<(), Fail> {
+    let inet = RouteVia::from(IpAddr::from(FOUR));
+    is_gateway(&rt, &["0200", "0a000001"], inet)?;
+    let inet6 = RouteVia::from(IpAddr::from(SIXTEEN));
+    is_gateway(&rt, &["0a00", SIXTEEN_TEXT], inet6)?;
+    let packet = RouteVia::Packet([2, 0, 0x5e, 0x10, 0, 1].to_vec(rt.alloc())?);
+    is_gateway(&rt, &["1100", "02005e100001"], packet)
+}
+
+#[test]
+fn gateways_of_other_families(rt: HostRuntime) -> Result<(), Fail> {
+    let mpls = RouteVia::Other((AddressFamily::Mpls, [0, 6, 0x41, 0xff].to_vec(rt.alloc())?));
+    is_gateway(&rt, &["1c00", "000641ff"], mpls)?;
+    let unknown = RouteVia::Other((AddressFamily::Other(200), Vec::new(rt.alloc())));
+    is_gateway(&rt, &["c800"], unknown)
+}
+
+/// The bytes are no gateway, for this cause.
+fn is_none(rt: &(impl Abort + AllocGlobal), bytes: &[u8], fault: DecodeError) {
+    same(
+        rt,
+        RouteVia::read(rt.alloc(), bytes, PLACE).err(),
+        Some(fault),
+    );
+}
+
+#[test]
+fn what_is_no_gateway(rt: HostRuntime) {
+    is_none(&rt, &[2], DecodeError::HeaderTooShort { got: 1, want: 2 });
+    is_none(&rt, &[2, 1, 10, 0, 0, 1], DecodeError::ViaFamily(258));
+    let at = PLACE;
+    is_none(
+        &rt,
+        &[2, 0, 10, 0, 0],
+        DecodeError::ValueLength { at, got: 3 },
+    );
+    is_none(
+        &rt,
+        &[10, 0, 10, 0, 0, 1],
+        DecodeError::ValueLength { at, got: 4 },
+    );
+    let at = At::NO_PLACE;
+    let alone = RouteVia::parse(rt.alloc(), &[2, 0]).err();
+    same(&rt, alone, Some(DecodeError::ValueLength { at, got: 0 }));
+}
+
+#[test]
+fn family_of_a_gateway(rt: HostRuntime) -> Result<(), Fail> {
+    let address_family = 258;
+    let family = RouteViaBuffer { address_family };
+    same(&rt, RouteViaBuffer::parse(&[0x02, 0x01, 0xee])?, family);
+    same(&rt, family.to_bytes(), [0x02, 0x01]);
+    let short = DecodeError::HeaderTooShort { got: 1, want: 2 };
+    same(&rt, RouteViaBuffer::parse(&[0x02]).err(), Some(short));
+    Ok(())
+}

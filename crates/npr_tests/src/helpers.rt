@@ -1,0 +1,265 @@
+//! What all tests share: bytes as text, and what is asked of messages and attributes.
+//!
+//! Each helper takes what is wanted by value, since a test is proved sooner the less it holds.
+
+ghost use Rattle.std.specs.Prelude.{◌≤◌, length, IfOk};
+
+use netlink_packet_route::address::{AddressAttribute, AddressMessage};
+use netlink_packet_route::framing::{
+    Attribute, DecodeError, EmitError, Emitable, Looks, Nla, NlaBuffer, Parseable,
+};
+use netlink_packet_route::route::{MplsLabel, RouteAttribute, RouteMessage};
+use netlink_packet_route::rule::{RuleAttribute, RuleMessage};
+use std::alloc::{AllocError, Global};
+use std::fmt::Debug;
+use std::process::Abort;
+use std::test::Fail;
+
+/// A route header: family inet, the table main, unicast.
+pub(crate) const INET: &str = "02000000fe03000100000000";
+
+/// The entry `000641ff`: label 100, class 0, the bottom of its stack, TTL 255.
+pub(crate) const LABEL: MplsLabel = MplsLabel {
+    label: 100,
+    traffic_class: 0,
+    bottom_of_stack: true,
+    ttl: 255,
+};
+
+/// `fc00::1` and `fc00::2`.
+pub(crate) const F1: [u8; 16] = [0xfc, 0, 0, 0, 0, 0, 0, 0, 0, 0, 0, 0, 0, 0, 0, 1];
+
+pub(crate) const F2: [u8; 16] = [0xfc, 0, 0, 0, 0, 0, 0, 0, 0, 0, 0, 0, 0, 0, 0, 2];
+
+/// A message of any kind.
+pub(crate) trait Message: Emitable + PartialEq + Drop + Sized {
+    type Attribute: PartialEq + Drop;
+
+    fn of(alloc: Global, bytes: &[u8]) -> Result<Self, DecodeError>;
+
+    fn copy(&self, alloc: Global) -> Result<Self, AllocError>;
+
+    fn attributes(&self) -> &[Self::Attribute];
+}
+
+impl Message for AddressMessage {
+    type Attribute = AddressAttribute;
+
+    fn of(alloc: Global, bytes: &[u8]) -> Result<Self, DecodeError> {
+        AddressMessage::parse(alloc, bytes)
+    }
+
+    fn copy(&self, alloc: Global) -> Result<Self, AllocError> {
+        self.clone(alloc)
+    }
+
+    fn attributes(&self) -> &[AddressAttribute] {
+        self.attributes.as_slice()
+    }
+}
+
+impl Message for RouteMessage {
+    type Attribute = RouteAttribute;
+
+    fn of(alloc: Global, bytes: &[u8]) -> Result<Self, DecodeError> {
+        RouteMessage::parse(alloc, bytes)
+    }
+
+    fn copy(&self, alloc: Global) -> Result<Self, AllocError> {
+        self.clone(alloc)
+    }
+
+    fn attributes(&self) -> &[RouteAttribute] {
+        self.attributes.as_slice()
+    }
+}
+
+impl Message for RuleMessage {
+    type Attribute = RuleAttribute;
+
+    fn of(alloc: Global, bytes: &[u8]) -> Result<Self, DecodeError> {
+        RuleMessage::parse(alloc, bytes)
+    }
+
+    fn copy(&self, alloc: Global) -> Result<Self, AllocError> {
+        self.clone(alloc)
+    }
+
+    fn attributes(&self) -> &[RuleAttribute] {
+        self.attributes.as_slice()
+    }
+}
+
+/// Both are equal.
+pub(crate) fn same<T: PartialEq + Debug + Drop>(rt: &impl Abort, left: T, right: T) {
+    assert_eq!(rt; left, right);
+}
+
+/// It holds.
+pub(crate) fn holds(rt: &impl Abort, truth: bool) {
+    assert!(rt; truth);
+}
+
+/// The bytes of these texts, one after the other; spaces may stand between digits.
+pub(crate) fn bytes_of(rt: &impl AllocGlobal, texts: &[&str]) -> Result<Vec<u8>, Fail> {
+    let mut bytes = Vec::new(rt.alloc());
+    for text in texts {
+        for word in text.split_whitespace() {
+            bytes.extend_from_slice(hex::decode(rt.alloc(), word)?.as_slice())?;
+        }
+    }
+    Ok(bytes)
+}
+
+/// So many bytes of ones, and seven more.
+fn ones(alloc: Global, count: usize) -> Result<Vec<u8>, Fail>
+    ensures { IfOk result (λ v. count ≤ length v.items) }
+{
+    let mut out = vec![in alloc; 0xffu8; count]?;
+    out.extend_from_slice(&[0xff; 7])?;
+    Ok(out)
+}
+
+/// What was written over ones is the bytes of the texts, and the rest stayed.
+fn is_written(rt: &(impl Abort + AllocGlobal), out: Vec<u8>, texts: &[&str]) -> Result<(), Fail> {
+    let mut wanted = bytes_of(rt, texts)?;
+    wanted.extend_from_slice(&[0xff; 7])?;
+    same(rt, out, wanted);
+    Ok(())
+}
+
+/// The value is written as these bytes into a longer buffer of ones, whose rest stays.
+pub(crate) fn writes<T: Emitable + Drop>(
+    rt: &(impl Abort + AllocGlobal),
+    value: T,
+    texts: &[&str],
+) -> Result<(), Fail> {
+    let count = value.check()?;
+    same(rt, value.buffer_len(), count);
+    let mut out = ones(rt.alloc(), count)?;
+    value.emit(out.as_mut_slice());
+    is_written(rt, out, texts)
+}
+
+/// `writes`, of an attribute.
+pub(crate) fn frames<A: Nla + Drop>(
+    rt: &(impl Abort + AllocGlobal),
+    value: A,
+    texts: &[&str],
+) -> Result<(), Fail> {
+    let count = value.check()?;
+    same(rt, value.buffer_len(), count);
+    let mut out = ones(rt.alloc(), count)?;
+    value.emit(out.as_mut_slice());
+    is_written(rt, out, texts)
+}
+
+/// The bytes are a message, whose canonical bytes are these.
+pub(crate) fn rewrites<M: Message>(
+    rt: &(impl Abort + AllocGlobal),
+    texts: &[&str],
+    canonical: &[&str],
+) -> Result<(), Fail> {
+    let bytes = bytes_of(rt, texts)?;
+    let message = M::of(rt.alloc(), bytes.as_slice())?;
+    writes(rt, message, canonical)
+}
+
+/// Each line is a message behind the header. Behind an arrow stands what is written of it, where
+/// that is another way, and behind `#` a remark.
+pub(crate) fn rewrites_lines<M: Message>(
+    rt: &(impl Abort + AllocGlobal),
+    header: &str,
+    lines: &str,
+) -> Result<(), Fail> {
+    for line in lines.lines() {
+        let (line, _) = line.split_once('#').unwrap_or((line, ""));
+        let (read, written) = line.split_once("->").unwrap_or((line, line));
+        rewrites::<M>(rt, &[header, read], &[header, written])?;
+    }
+    Ok(())
+}
+
+/// The bytes are a message of these attributes, and so is its copy.
+pub(crate) fn reads<M: Message, const N: usize>(
+    rt: &(impl Abort + AllocGlobal),
+    texts: &[&str],
+    attributes: [M::Attribute; N],
+) -> Result<(), Fail> {
+    let bytes = bytes_of(rt, texts)?;
+    let message = M::of(rt.alloc(), bytes.as_slice())?;
+    holds(rt, message.attributes() == attributes.as_slice());
+    holds(rt, message.copy(rt.alloc())? == message);
+    Ok(())
+}
+
+/// The bytes are no message, for this cause.
+pub(crate) fn refuses<M: Message>(
+    rt: &(impl Abort + AllocGlobal),
+    texts: &[&str],
+    fault: DecodeError,
+) -> Result<(), Fail> {
+    let bytes = bytes_of(rt, texts)?;
+    same(rt, M::of(rt.alloc(), bytes.as_slice()).err(), Some(fault));
+    Ok(())
+}
+
+/// What `check` answers of a message that ends in so many letters.
+pub(crate) fn check_of<M: Message>(
+    rt: &impl AllocGlobal,
+    texts: &[&str],
+    letters: u32,
+) -> Result<Result<usize, EmitError>, Fail> {
+    let mut bytes = bytes_of(rt, texts)?;
+    for _ in 0..letters {
+        bytes.push(b'a')?;
+    }
+    let message = M::of(rt.alloc(), bytes.as_slice())?;
+    Ok(message.check())
+}
+
+/// What an attribute is in a family.
+fn member_of<A: Attribute + PartialEq + Drop>(
+    rt: &(impl Abort + AllocGlobal),
+    context: A::Context,
+    texts: &[&str],
+) -> Result<Result<A, DecodeError>, Fail> {
+    let bytes = bytes_of(rt, texts)?;
+    let item = NlaBuffer::new_checked(bytes.as_slice())?;
+    Ok(A::read(rt.alloc(), context, &item, &mut Looks::new()))
+}
+
+/// The attribute is this member of a family, and so is its copy; it is written as `canonical`.
+pub(crate) fn is_member<A: Attribute + PartialEq + Drop>(
+    rt: &(impl Abort + AllocGlobal),
+    context: A::Context,
+    texts: &[&str],
+    wanted: A,
+    canonical: &[&str],
+) -> Result<(), Fail> {
+    let found = member_of::<A>(rt, context, texts)??;
+    holds(rt, found == wanted);
+    holds(rt, found.try_clone(rt.alloc())? == wanted);
+    frames(rt, found, canonical)
+}
+
+/// The attribute is no member of a family, for this cause.
+pub(crate) fn is_refused<A: Attribute + PartialEq + Drop>(
+    rt: &(impl Abort + AllocGlobal),
+    context: A::Context,
+    texts: &[&str],
+    fault: DecodeError,
+) -> Result<(), Fail> {
+    same(rt, member_of::<A>(rt, context, texts)?.err(), Some(fault));
+    Ok(())
+}
+
+/// The attribute by itself is this value.
+pub(crate) fn is_alone<'a, A: Parseable<&'a NlaBuffer<'a>> + PartialEq + Drop>(
+    rt: &(impl Abort + AllocGlobal),
+    item: &'a NlaBuffer<'a>,
+    wanted: A,
+) -> Result<(), Fail> {
+    holds(rt, A::parse(rt.alloc(), item)? == wanted);
+    Ok(())
+}

@@ -1,0 +1,36 @@
+//! Tests of the libraries, which call them by the names that a user has.
+//!
+//! Bytes stand as hexadecimal text, as a dump shows them. What a clause proves has no test but an
+//! example of the format.
+#![tactic(auto)]
+
+#[cfg(test)]
+mod address;
+#[cfg(test)]
+mod encap;
+#[cfg(test)]
+mod framing;
+#[cfg(test)]
+mod gateways;
+#[cfg(test)]
+mod headers;
+#[cfg(test)]
+mod helpers;
+#[cfg(test)]
+mod lists;
+#[cfg(test)]
+mod lone;
+#[cfg(test)]
+mod next_hops;
+#[cfg(test)]
+mod route;
+#[cfg(test)]
+mod rule;
+#[cfg(test)]
+mod srh;
+#[cfg(test)]
+mod texts;
+#[cfg(test)]
+mod tunnel;
+#[cfg(test)]
+mod values;

@@ -1,0 +1,168 @@
+//! Labels, realms, numbers and structures of routes: entries of RFC 3032, and layouts of
+//! `linux/rtnetlink.h`.
+
+use crate::helpers::{LABEL, bytes_of, holds, same, writes};
+use bitflags::Flags;
+use netlink_packet_route::IpProtocol;
+use netlink_packet_route::framing::{At, DecodeError};
+use netlink_packet_route::route::{
+    MplsLabel, RouteCacheInfo, RouteCacheInfoBuffer, RouteFlags, RouteMfcStats,
+    RouteMfcStatsBuffer, RouteNextHopFlags, RouteProtocol, RouteRealm, emit_labels, read_labels,
+};
+use std::test::Fail;
+
+#[test]
+fn label_and_number(rt: HostRuntime) {
+    same(&rt, MplsLabel::from(0x0006_41ff), LABEL);
+    same(&rt, u32::from(LABEL), 0x0006_41ff);
+    // A class of 9 is written as 1, and a label of 2^20 + 100 as 100.
+    let wide = MplsLabel {
+        traffic_class: 9,
+        ..LABEL
+    };
+    same(&rt, u32::from(wide), 0x0006_43ff);
+    let far = MplsLabel {
+        label: 0x10_0064,
+        ..LABEL
+    };
+    same(&rt, u32::from(far), 0x0006_41ff);
+}
+
+/// Labels 100 and 200, of which the second is the bottom of its stack, with TTL 64.
+const STACK: [MplsLabel; 2] = [
+    MplsLabel {
+        bottom_of_stack: false,
+        ..LABEL
+    },
+    MplsLabel {
+        label: 200,
+        ttl: 64,
+        ..LABEL
+    },
+];
+
+/// A byte behind the last whole entry is dropped.
+#[test]
+fn label_stack(rt: HostRuntime) -> Result<(), Fail> {
+    let bytes = bytes_of(&rt, &["000640ff 000c8140 07"])?;
+    let labels = read_labels(rt.alloc(), bytes.as_slice())?;
+    holds(&rt, labels.as_slice() == STACK.as_slice());
+    let mut out = [0xffu8; 8];
+    emit_labels(&STACK, &mut out);
+    same(&rt, out, [0x00, 0x06, 0x40, 0xff, 0x00, 0x0c, 0x81, 0x40]);
+    Ok(())
+}
+
+#[test]
+fn one_label(rt: HostRuntime) -> Result<(), Fail> {
+    same(&rt, MplsLabel::parse(&[0x00, 0x06, 0x41, 0xff])?, LABEL);
+    writes(&rt, LABEL, &["000641ff"])
+}
+
+#[test]
+fn realms(rt: HostRuntime) -> Result<(), Fail> {
+    let bytes = [0xfe, 0x00, 0xfa, 0x00];
+    let realm = RouteRealm {
+        source: 250,
+        destination: 254,
+    };
+    same(&rt, RouteRealm::parse(&bytes)?, realm);
+    for got in 0..4 {
+        let at = At::NO_PLACE;
+        let refusal = DecodeError::ValueLength { at, got };
+        same(&rt, RouteRealm::parse(&bytes[..got]).err(), Some(refusal));
+    }
+    writes(&rt, realm, &["fe00fa00"])
+}
+
+#[test]
+fn numbers(rt: HostRuntime) -> Result<(), Fail> {
+    same(&rt, IpProtocol::from(6i32), IpProtocol::Tcp);
+    same(&rt, IpProtocol::from(6u8).as_u8(), Some(6));
+    same(&rt, IpProtocol::Mptcp.as_u8(), None);
+    same(&rt, IpProtocol::from(-1i32).as_u8(), None);
+    same(&rt, RouteProtocol::parse(&[186])?, RouteProtocol::Bgp);
+    Ok(())
+}
+
+#[test]
+fn cache_info(rt: HostRuntime) -> Result<(), Fail> {
+    let wanted = RouteCacheInfo {
+        clntref: 1,
+        last_use: 0x0102_0304,
+        expires: 300,
+        error: 0xffff_ffa3,
+        used: 5,
+        id: 0x8000_0006,
+        ts: 0x0700,
+        ts_age: 0x0008_0000,
+    };
+    let texts = ["01000000 04030201 2c010000 a3ffffff 05000000 06000080 00070000 00000800"];
+    let bytes = bytes_of(&rt, &texts)?;
+    same(&rt, RouteCacheInfo::parse(bytes.as_slice())?, wanted);
+    let layout = RouteCacheInfoBuffer::parse(bytes.as_slice())?;
+    holds(&rt, layout.to_bytes().as_slice() == bytes.as_slice());
+    same(&rt, RouteCacheInfoBuffer::from(&wanted), layout);
+    writes(&rt, wanted, &texts)
+}
+
+#[test]
+fn mfc_stats(rt: HostRuntime) -> Result<(), Fail> {
+    let wanted = RouteMfcStats {
+        packets: 10,
+        bytes: 0x7060_5040_3020_1000,
+        wrong_if: 0x8000_0000_0000_0001,
+    };
+    let texts = ["0a00000000000000 0010203040506070 0100000000000080"];
+    let bytes = bytes_of(&rt, &texts)?;
+    same(&rt, RouteMfcStats::parse(bytes.as_slice())?, wanted);
+    let layout = RouteMfcStatsBuffer::parse(bytes.as_slice())?;
+    holds(&rt, layout.to_bytes().as_slice() == bytes.as_slice());
+    same(&rt, RouteMfcStatsBuffer::from(&wanted), layout);
+    writes(&rt, wanted, &texts)
+}
+
+/// More bytes than a structure has are not looked at, and fewer are refused.
+#[test]
+fn structures_at_the_front(rt: HostRuntime) -> Result<(), Fail> {
+    let zeros = [0u8; 33];
+    same(
+        &rt,
+        RouteCacheInfo::parse(&zeros)?,
+        RouteCacheInfo::default(),
+    );
+    same(&rt, RouteMfcStats::parse(&zeros)?, RouteMfcStats::default());
+    let short = Some(DecodeError::HeaderTooShort { got: 31, want: 32 });
+    same(&rt, RouteCacheInfo::parse(&[0; 31]).err(), short);
+    same(&rt, RouteCacheInfoBuffer::parse(&[0; 31]).err(), short);
+    let short = Some(DecodeError::HeaderTooShort { got: 23, want: 24 });
+    same(&rt, RouteMfcStats::parse(&[0; 23]).err(), short);
+    same(&rt, RouteMfcStatsBuffer::parse(&[0; 23]).err(), short);
+    Ok(())
+}
+
+#[test]
+fn flags_of_next_hops(rt: HostRuntime) {
+    same(&rt, RouteNextHopFlags::Dead.bits(), 1);
+    same(&rt, RouteNextHopFlags::Onlink.bits(), 4);
+    same(&rt, RouteNextHopFlags::Trap.bits(), 64);
+    same(&rt, RouteNextHopFlags::from_bits_retain(0xff).bits(), 0xff);
+    same(&rt, RouteNextHopFlags::default().bits(), 0);
+}
+
+#[test]
+fn flags_of_routes(rt: HostRuntime) {
+    same(&rt, RouteFlags::Onlink.bits(), 4);
+    same(&rt, RouteFlags::Notify.bits(), 0x100);
+    same(&rt, RouteFlags::Cloned.bits(), 0x200);
+    same(&rt, RouteFlags::OffloadFailed.bits(), 0x2000_0000);
+    same(
+        &rt,
+        RouteFlags::from_bits_retain(0xdead_beef).bits(),
+        0xdead_beef,
+    );
+    let both = RouteFlags::from_bits_retain(0x4001);
+    holds(&rt, both.contains(RouteFlags::Dead));
+    holds(&rt, both.contains(RouteFlags::RtOffload));
+    holds(&rt, !both.contains(RouteFlags::RtTrap));
+}
