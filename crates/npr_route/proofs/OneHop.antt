@@ -60,7 +60,7 @@ hop-sound c bytes h e (inside, rest, f, a) (inr (k, i, r, g, w)) =
 pub sized : (bytes : List ℕ) (h : RouteNextHopBuffer) → IsChecked bytes h → h.length ≡ 8 + length (take (h.length - 8) (drop 8 bytes))
 sized bytes h (decoded, least, most) = omega (arith, length-take (h.length - 8) (drop 8 bytes), length-drop 8 bytes)
 
-first_of : Hop → List Hop → Hop
+abbrev first_of : Hop → List Hop → Hop
 first_of other [] = other
 first_of other (h ∷ hs) = h
 

@@ -1,24 +1,24 @@
-use Rattle.std.proofs.Common.{rules, ◌≡◌, ◌≢◌, ◌≤◌, ◌<◌, ◌+◌, ◌*◌, ℕ, List, Option, None, false, [], length, map, IfOk, IfErr, IsOk, refl, ◌-◌, ◌/◌, ◌%◌, Bool, true, nat_eq, nat_lt, ◌∷◌, ◌++◌, slice_index_or, slice_set, bit_and, bit_or, Fits, w8, w32, w64, Bor, MutBor}
-use Rattle.npr_base.specs.Counts.{AddsAtMost, SawEach}
-use Rattle.npr_base.specs.Framing.{number_of}
-use Rattle.npr_base.specs.Table.{ReadsBy, WrongBy}
+use Rattle.std.proofs.Common.{◌≡◌, ◌≢◌, sym, ap, ◌∙◌}
+use Rattle.std.proofs.lemmas.Result.{IfErr-weaker}
+use Rattle.npr_base.specs.declared.refusal.DecodeError.{DecodeError}
 use Rattle.npr_base.specs.declared.refusal.DecodeError.TheVariants.{OutOfMemory}
-use Rattle.npr_scalar.specs.RouteAddress.{form_of}
-use Rattle.npr_route.specs.Attribute.{Meaning, flat, plain_of, nested_of}
-use Rattle.npr_route.specs.AttributeView.{meaning_of}
-use Rattle.npr_route.specs.FlatAttributeLaws.{attributes as flat_attributes}
-use Rattle.npr_route.specs.FlatAttribute.{Meaning as Flat}
-use Rattle.npr_route.specs.FlatAttribute.{is_multicast, new_destination_row, expires_row, marks, any_marks}
-use Rattle.npr_tunnel.specs.Encapsulation.{meaning_of as member_of}
-use Rattle.npr_route.specs.AttributeLaws.{writing, attributes, item-is, plain-short}
+use Rattle.npr_base.specs.Framing.{number_of}
+use Rattle.npr_base.proofs.Mapped.{IfErr-mapped}
+use Rattle.npr_route.specs.Attribute.{Wrong, HopsWrong, value_wrong, hops_wrong}
+use Rattle.npr_route.specs.FlatAttributeLaws as Flats
 use Rattle.npr_route.proofs.attribute.RouteAttributeAttribute.read.Goals as goal
 
--- src/attribute.rt:350:5
-pub returns-then-kind-eq-RTA_MULTIPATH-clause-refused :
-    goal.returns-then-kind-eq-RTA_MULTIPATH-clause-refused
-returns-then-kind-eq-RTA_MULTIPATH-clause-refused c = ?
+pub returns-then-kind-eq-RTA_MULTIPATH-clause-refused : goal.returns-then-kind-eq-RTA_MULTIPATH-clause-refused
+returns-then-kind-eq-RTA_MULTIPATH-clause-refused c =
+    let x = c.args.item.now in
+    let nine : number_of x.kind ≡ 9 = sym c.kind.ensures ∙ c.if-kind-eq-RTA_MULTIPATH.true in
+    let refused = rw c.value.ensures at c.read_next_hops.ensures.refused in
+    IfErr-mapped _ (λ e. e ≢ OutOfMemory → Wrong c.args.context x e) c.read_next_hops.result c.map.result c.map.ensures.cases
+        (IfErr-weaker c.read_next_hops.result (λ e. e ≢ OutOfMemory → HopsWrong c.args.context x.value e) (λ e. e ≢ OutOfMemory → Wrong c.args.context x e) (λ e p other. hops_wrong nine (p other)) refused)
 
--- src/attribute.rt:350:5
-pub returns-else-kind-eq-RTA_MULTIPATH-clause-refused :
-    goal.returns-else-kind-eq-RTA_MULTIPATH-clause-refused
-returns-else-kind-eq-RTA_MULTIPATH-clause-refused c = ?
+pub returns-else-kind-eq-RTA_MULTIPATH-clause-refused : goal.returns-else-kind-eq-RTA_MULTIPATH-clause-refused
+returns-else-kind-eq-RTA_MULTIPATH-clause-refused c =
+    let x = c.args.item.now in
+    let not_nine : number_of x.kind ≢ 9 = λ nine. c.if-kind-eq-RTA_MULTIPATH.false (c.kind.ensures ∙ nine) in
+    IfErr-weaker c.read_flat.result (λ e. e ≢ OutOfMemory → (Flats.attributes c.args.context).Faulty x e) (λ e. e ≢ OutOfMemory → Wrong c.args.context x e)
+        (λ e p other. value_wrong not_nine (p other)) c.read_flat.ensures.refused
