@@ -7,7 +7,7 @@ use Rattle.npr_base.specs.Layout.{le16_at, le32_at}
 use Rattle.npr_base.specs.ListLaws.{IsBytes-left}
 use Rattle.npr_route.specs.Attribute.{HopFront, HoldsHead, hop_text}
 use Rattle.npr_route.specs.NextHopHeader.{decode_buffer, encode_buffer, buffer-holds, IsChecked}
-use Rattle.npr_route.specs.Reader.{head_in}
+use Rattle.npr_route.specs.NextHopHeader.{head_in}
 use Rattle.npr_route.specs.declared.next_hops.RouteNextHopBuffer.{RouteNextHopBuffer}
 
 low : (a b : ℕ) → a < 256 → b < 256 → ((a + b * 256) % 256 ≡ a) × ((a + b * 256) / 256 % 256 ≡ b)
@@ -47,7 +47,7 @@ opens bs h is (decoded, least, most) =
     let split : drop 8 bs ≡ inside ++ drop h.length bs = sym (take-append-drop (h.length - 8) (drop 8 bs)) ∙ ap (λ (w : List ℕ). inside ++ w) behind in
     let whole : bs ≡ encode_buffer h ++ (inside ++ drop h.length bs) = sym (take-append-drop 8 bs) ∙ ap (λ (w : List ℕ). w ++ drop 8 bs) (sym in_place) ∙ ap (λ (w : List ℕ). encode_buffer h ++ w) split in
     let headed : encode_buffer h ++ (inside ++ drop h.length bs) ≡ hop_text (head_in h) inside ++ drop h.length bs =
-        ap (λ (n : ℕ). to_le_bytes w16 n ++ (h.flags ∷ h.hops ∷ to_le_bytes w32 h.interface_index ++ (inside ++ drop h.length bs))) size in
+    ap (λ (n : ℕ). to_le_bytes w16 n ++ (h.flags ∷ h.hops ∷ to_le_bytes w32 h.interface_index ++ (inside ++ drop h.length bs))) size in
     record {
       is = whole ∙ headed;
       holds = record {

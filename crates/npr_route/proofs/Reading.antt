@@ -12,7 +12,8 @@ use Rattle.npr_route.specs.Attribute.{HopHead, HopFront, HopFault, Meaning, mult
 use Rattle.npr_route.specs.AttributeView.{attributes_of, hops_of, meaning_of, hop_of}
 use Rattle.npr_route.specs.FlatAttribute.{Context}
 use Rattle.npr_route.specs.NextHopFrontLaws.{HopFront-length}
-use Rattle.npr_route.specs.Reader.{HopsTo, head_in, IsAt, IsOpen, Waits, Chain, level_weight, weight_of, level_room, room_of, hop_members, level_built, built_of, Added, Ended}
+use Rattle.npr_route.specs.NextHopHeader.{head_in}
+use Rattle.npr_route.specs.Reader.{HopsTo, IsAt, IsOpen, Waits, Chain, level_weight, weight_of, level_room, room_of, hop_members, level_built, built_of, Added, Ended}
 use Rattle.npr_scalar.specs.RouteFlags.{next_hop_flags_bits}
 use Rattle.npr_scalar.specs.declared.flags.RouteNextHopFlags.{RouteNextHopFlags}
 use Rattle.npr_route.specs.declared.attribute.RouteAttribute.{RouteAttribute}
@@ -163,8 +164,8 @@ pub hops_closed : (l : Level) (flags : RouteNextHopFlags) (xs : List RouteNextHo
 hops_closed l flags xs bits is =
     let x : RouteNextHop-F RouteAttribute RouteNextHop = record { flags = flags; hops = l.header.hops; interface_index = l.header.interface_index; attributes = l.attributes } in
     let same : hop_of (roll-RouteNextHop x) ≡ closed_hop l =
-        view_hop_made x
-        ∙ ap (λ (f : ℕ). record { head = record { flags = f; hops = l.header.hops; interface_index = l.header.interface_index }; attributes = attributes_of (map meaning_of l.attributes.items) }) bits in
+    view_hop_made x
+    ∙ ap (λ (f : ℕ). record { head = record { flags = f; hops = l.header.hops; interface_index = l.header.interface_index }; attributes = attributes_of (map meaning_of l.attributes.items) }) bits in
     ap (map hop_of) is ∙ map_push hop_of l.next_hops.items (roll-RouteNextHop x) ∙ ap (λ (h : Hop). map hop_of l.next_hops.items ++ h ∷ []) same
 
 -- looks at an attribute and at the next hop in it

@@ -89,6 +89,18 @@ mutual
     first_hop_wrong : {c : Context} {bytes : List ℕ} {e : DecodeError} (h : HopHead) (inside rest : List ℕ) → HopFront bytes h inside rest → AttributesWrong c inside e → HopsWrong c bytes e
     later_hop_wrong : {c : Context} {bytes : List ℕ} {e : DecodeError} (h : HopHead) (inside rest : List ℕ) (ms : Attributes) → HopFront bytes h inside rest → AreAttributes c inside ms → HopsWrong c rest e → HopsWrong c bytes e
 
+-- one next hop in front, whatever follows it, and why there is none
+abbrev pub IsHop : Context → List ℕ → Hop → Type 0
+IsHop c bytes h = (inside : List ℕ) × (rest : List ℕ) × HopFront bytes h.head inside rest × AreAttributes c inside h.attributes
+
+abbrev pub HopWrong : Context → List ℕ → DecodeError → Type 0
+HopWrong c bytes e =
+    HopFault bytes e ⊎ ((h : HopHead) × (inside : List ℕ) × (rest : List ℕ) × HopFront bytes h inside rest × AttributesWrong c inside e)
+
+-- a next hop with each field at its default
+abbrev pub default_hop : Hop
+default_hop = record { head = record { flags = 0; hops = 0; interface_index = 0 }; attributes = no_more }
+
 -- what is written: an attribute under its kind, and next hops with their lengths
 abbrev mutual
   pub writes : Meaning → Item

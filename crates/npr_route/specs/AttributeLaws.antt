@@ -222,6 +222,10 @@ mutual
   hops-depth c bytes (hop h ms hs) (i, r, f, p, ps) = omega (arith, attributes-depth c i ms p, hops-depth c r hs ps, HopFront-length bytes h i r f)
 
 -- NESTED is set in the kind besides
+pub plain-short : (m : Meaning) → misfit m ≡ None → length (plain_of m).value ≤ 65531
+plain-short (flat m) h = short (flat m) h
+plain-short (multi_path hs) h = short (multi_path hs) h
+
 pub item-is : (m : Meaning) → written (nested_of m) (plain_of m) ≡ writes m
 item-is (flat m) = refl
 item-is (multi_path hs) = refl

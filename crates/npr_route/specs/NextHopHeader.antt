@@ -5,6 +5,7 @@ use Rattle.std.proofs.Common.{refl}
 use Rattle.std.proofs.lemmas.Nat.{from_le_bytes-to_le_bytes_2, from_le_bytes-to_le_bytes_4}
 use Rattle.npr_base.specs.Framing.{IsBytes}
 use Rattle.npr_base.specs.Layout.{Layout, le16_at, le16_at-holds, le32_at, le32_at-holds}
+use Rattle.npr_route.specs.Attribute.{HopHead}
 use Rattle.npr_route.specs.declared.next_hops.RouteNextHopBuffer.{RouteNextHopBuffer}
 
 abbrev pub decode_buffer : List ℕ → RouteNextHopBuffer
@@ -39,3 +40,7 @@ next_hop_buffer = record {
 -- the header in front, whose length lies within the bytes
 abbrev pub IsChecked : List ℕ → RouteNextHopBuffer → Type 0
 IsChecked bytes h = (h ≡ decode_buffer (take 8 bytes)) × (8 ≤ h.length) × (h.length ≤ length bytes)
+
+-- the fields of a header but its length
+abbrev pub head_in : RouteNextHopBuffer → HopHead
+head_in b = record { flags = b.flags; hops = b.hops; interface_index = b.interface_index }

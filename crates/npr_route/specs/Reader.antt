@@ -6,7 +6,7 @@ use Rattle.npr_base.specs.Framing.{Item, Front, number_of}
 use Rattle.npr_route.specs.Attribute.{HopHead, HopFront, Meaning, Hop, Reads, AreAttributes, AreHops, members, attributes_members}
 use Rattle.npr_route.specs.AttributeView.{meaning_of, hop_of, hops_of}
 use Rattle.npr_route.specs.FlatAttribute.{Context}
-use Rattle.npr_route.specs.declared.next_hops.RouteNextHopBuffer.{RouteNextHopBuffer}
+use Rattle.npr_route.specs.NextHopHeader.{head_in}
 use Rattle.npr_route.specs.declared.reader.Level.{Level}
 use Rattle.npr_route.specs.declared.reader.Reading.{Reading}
 use Rattle.npr_route.specs.declared.reader.Step.{Step}
@@ -17,9 +17,6 @@ abbrev pub HopsTo : Context → List ℕ → List Hop → List ℕ → Type 0
 HopsTo c bytes [] rest = bytes ≡ rest
 HopsTo c bytes (h ∷ hs) rest =
     (inside : List ℕ) × (more : List ℕ) × HopFront bytes h.head inside more × AreAttributes c inside h.attributes × HopsTo c more hs rest
-
-abbrev pub head_in : RouteNextHopBuffer → HopHead
-head_in b = record { flags = b.flags; hops = b.hops; interface_index = b.interface_index }
 
 -- of the bytes the level has read next hops, and of the open one attributes up to a place
 pub record IsAt (c : Context) (bytes : List ℕ) (l : Level) (place : List ℕ) : Type 0 where

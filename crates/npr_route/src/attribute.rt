@@ -12,7 +12,7 @@ ghost use Rattle.npr_route.specs.AttributeView.{meaning_of};
 ghost use Rattle.npr_route.specs.FlatAttributeLaws.{attributes as flat_attributes};
 ghost use Rattle.npr_route.specs.FlatAttribute.{Meaning as Flat, is_multicast, new_destination_row, expires_row, marks, any_marks};
 ghost use Rattle.npr_tunnel.specs.Encapsulation.{meaning_of as member_of};
-ghost use Rattle.npr_route.specs.AttributeLaws.{writing, attributes, item-is};
+ghost use Rattle.npr_route.specs.AttributeLaws.{writing, attributes, item-is, plain-short};
 
 use crate::metrics::RouteMetric;
 use crate::next_hops::{RouteNextHop, check_attribute, clone_attribute, value_len, write_value};
@@ -156,7 +156,7 @@ impl Nla for RouteAttribute {
 
     ghost unfit = { λ a. writing.misfit (meaning_of a) };
 
-    ghost fits_short = { λ a h. writing.short (meaning_of a) h };
+    ghost fits_short = { λ a h. plain-short (meaning_of a) h };
 
     fn kind(&self) -> u16 {
         match self {
@@ -292,23 +292,17 @@ pub(crate) fn read_flat(
         1 => RouteAddress::read(alloc, family, value, FAMILY.at(1)).map(
             RouteAttribute::Destination,
         ),
-        2 => RouteAddress::read(alloc, family, value, FAMILY.at(2)).map(
-            RouteAttribute::Source,
-        ),
+        2 => RouteAddress::read(alloc, family, value, FAMILY.at(2)).map(RouteAttribute::Source),
         3 => read_u32(value, FAMILY.at(3)).map(RouteAttribute::Iif),
         4 => read_u32(value, FAMILY.at(4)).map(RouteAttribute::Oif),
-        5 => RouteAddress::read(alloc, family, value, FAMILY.at(5)).map(
-            RouteAttribute::Gateway,
-        ),
+        5 => RouteAddress::read(alloc, family, value, FAMILY.at(5)).map(RouteAttribute::Gateway),
         6 => read_u32(value, FAMILY.at(6)).map(RouteAttribute::Priority),
-        7 => RouteAddress::read(alloc, family, value, FAMILY.at(7)).map(
-            RouteAttribute::PrefSource,
-        ),
+        7 => RouteAddress::read(alloc, family, value, FAMILY.at(7)).map(RouteAttribute::PrefSource),
         8 => parse_list(alloc, (), value, looks).map(RouteAttribute::Metrics),
         RTA_MULTIPATH => Ok(RouteAttribute::MultiPath(Vec::new(alloc))),
-        11 => read_u32(value, FAMILY.at(11)).map(|number| RouteAttribute::Realm(
-            RouteRealm::from(number),
-        )),
+        11 => read_u32(value, FAMILY.at(11)).map(|number| RouteAttribute::Realm(RouteRealm::from(
+            number,
+        ))),
         12 => RouteCacheInfo::parse(value).map(RouteAttribute::CacheInfo),
         15 => read_u32(value, FAMILY.at(15)).map(RouteAttribute::Table),
         16 => read_u32(value, FAMILY.at(16)).map(RouteAttribute::Mark),

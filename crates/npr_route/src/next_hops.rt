@@ -2,20 +2,22 @@
 //! attributes, which may be next hops again: checking, writing and copying go down in plain
 //! functions.
 
-ghost use Rattle.std.specs.Prelude.{◌≡◌, ◌≤◌, ◌<◌, ◌+◌, None, length, map, IfOk, IfErr};
+ghost use Rattle.std.specs.Prelude.{◌≡◌, ◌≢◌, ◌≤◌, ◌<◌, ◌+◌, ℕ, List, None, length, map, IfOk, IfErr, IsErrOf};
+ghost use Rattle.npr_base.specs.declared.refusal.DecodeError.TheVariants.{OutOfMemory};
 ghost use Rattle.npr_base.specs.Codec.{leading};
 ghost use Rattle.npr_base.specs.Family.{checked, option_or, overlong, first_unfit, list_unfit, encodings};
 ghost use Rattle.npr_base.specs.Framing.{Writes, encoding, framed};
 ghost use Rattle.npr_base.specs.Refusal.{no_place};
-ghost use Rattle.npr_route.specs.Attribute.{HopFault, plain_of, misfit, unfit_inside, hop_misfit, hop_bytes, hop_overlong};
+ghost use Rattle.npr_route.specs.Attribute.{HopHead, HopFront, HopFault, Hop, IsHop, HopWrong, default_hop, plain_of, misfit, unfit_inside, hop_misfit, hop_bytes, hop_overlong};
 ghost use Rattle.npr_route.specs.AttributeView.{meaning_of, hop_of, attribute_item, attribute_misfit, next_hop_bytes, next_hop_misfit, joined};
-ghost use Rattle.npr_route.specs.NextHopHeader.{next_hop_buffer, IsChecked};
+ghost use Rattle.npr_route.specs.NextHopHeader.{next_hop_buffer, head_in, IsChecked};
 
-use crate::attribute::RouteAttribute;
+use crate::attribute::{Context, RouteAttribute};
+use crate::reader::read_next_hops;
 use bitflags::Flags;
 use npr_base::{
-    DecodeError, EmitError, Nla, check_len, check_list, clone_list, frame, marked_kind, plus,
-    write_bytes, write_list,
+    DecodeError, EmitError, Emitable, Looks, Nla, ParseableParametrized, check_len, check_list,
+    clone_list, frame, marked_kind, plus, write_bytes, write_list,
 };
 use npr_scalar::{
     RouteCacheInfoBuffer, RouteMfcStatsBuffer, RouteNextHopFlags, labels_len, write_labels,
@@ -36,6 +38,92 @@ pub struct RouteNextHop {
     pub attributes: Vec<RouteAttribute>,
 }
 
+impl RouteNextHop {
+    /// A next hop with each field at its default, and no attributes. It takes no memory.
+    pub fn new(alloc: Global) -> Self
+        ensures { hop_of result ≡ default_hop }
+    {
+        RouteNextHop {
+            flags: RouteNextHopFlags::default(),
+            hops: 0,
+            interface_index: 0,
+            attributes: Vec::new(alloc),
+        }
+    }
+
+    /// An equal next hop.
+    ///
+    /// # Errors
+    /// `AllocError` where memory is refused.
+    pub fn clone(&self, alloc: Global) -> Result<Self, AllocError>
+        ensures { IfOk result (λ h. hop_of h ≡ hop_of self.now) }
+    {
+        clone_hop(alloc, self)
+    }
+}
+
+impl<'a> ParseableParametrized<&'a [u8], Context> for RouteNextHop {
+    ghost parses = { λ context bytes h. IsHop context bytes.now (hop_of h) };
+
+    ghost misparses = { λ context bytes e. HopWrong context bytes.now e };
+
+    /// The next hop in the first bytes, as many as its length says; what follows isn't looked at.
+    ///
+    /// # Errors
+    /// `OutOfMemory` where memory is refused, and else the first fault in reading order.
+    fn parse_with_param(
+        alloc: Global,
+        bytes: &'a [u8],
+        context: Context,
+    ) -> Result<Self, DecodeError>
+        // What is read is what the bytes mean.
+        ensures ok { IfOk result (λ h. IsHop context bytes.now (hop_of h)) }
+        // A refusal is the first fault.
+        ensures refused { IfErr result (λ e. e ≢ OutOfMemory → HopWrong context bytes.now e) }
+        // Then the bytes mean nothing.
+        ensures none { IfErr result (λ e. e ≢ OutOfMemory → (h : Hop) → IsHop context bytes.now h → ⊥) }
+        // Memory is taken behind a whole header alone.
+        ensures memory { IsErrOf result OutOfMemory → (h : HopHead) × (inside : List ℕ) × (rest : List ℕ) × HopFront bytes.now h inside rest }
+    {
+        read_hop(alloc, bytes, context)
+    }
+}
+
+fn read_hop(alloc: Global, bytes: &[u8], context: Context) -> Result<RouteNextHop, DecodeError>
+    ensures ok { IfOk result (λ h. IsHop context bytes.now (hop_of h)) }
+    ensures refused { IfErr result (λ e. e ≢ OutOfMemory → HopWrong context bytes.now e) }
+    ensures memory { IsErrOf result OutOfMemory → (h : HopHead) × (inside : List ℕ) × (rest : List ℕ) × HopFront bytes.now h inside rest }
+{
+    let header = RouteNextHopBuffer::new_checked(bytes)?;
+    let whole = &bytes[..header.length as usize];
+    let mut hops = read_next_hops(alloc, whole, context, &mut Looks::new())?;
+    match hops.pop() {
+        Some(hop) => Ok(hop),
+        None => unreachable!(),
+    }
+}
+
+impl Emitable for RouteNextHop {
+    ghost bytes = { next_hop_bytes };
+
+    ghost unfit = { next_hop_misfit };
+
+    fn check(&self) -> Result<usize, EmitError> {
+        check_hop(self)
+    }
+
+    fn buffer_len(&self) -> usize {
+        match check_hop(self) {
+            Ok(len) => len,
+            Err(_) => unreachable!(),
+        }
+    }
+
+    fn emit(&self, out: &mut [u8]) {
+        write_hop(self, out);
+    }
+}
+
 /// The layout of a next hop's header: 8 bytes, little endian.
 #[derive(Clone, Copy, Debug, PartialEq, Eq)]
 pub struct RouteNextHopBuffer {
@@ -50,6 +138,21 @@ pub struct RouteNextHopBuffer {
 }
 
 impl RouteNextHopBuffer {
+    /// The header of a next hop, with the length that it is written with. Asks that `check`
+    /// accepts.
+    pub fn of(hop: &RouteNextHop) -> Self
+        requires { next_hop_misfit hop.now ≡ None }
+        ensures length { result.length ≡ length (next_hop_bytes hop.now) }
+        ensures head { head_in result ≡ (hop_of hop.now).head }
+    {
+        RouteNextHopBuffer {
+            length: hop.buffer_len() as u16,
+            flags: hop.flags.bits(),
+            hops: hop.hops,
+            interface_index: hop.interface_index,
+        }
+    }
+
     /// The header in the first 8 bytes, where its length lies within the bytes that are there.
     ///
     /// # Errors

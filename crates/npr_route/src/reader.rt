@@ -5,7 +5,8 @@ ghost use Rattle.npr_base.specs.declared.refusal.DecodeError.TheVariants.{OutOfM
 ghost use Rattle.npr_base.specs.Counts.{AddsAtMost, SawEach, hit, miss};
 ghost use Rattle.npr_route.specs.Attribute.{HopHead, HopFront, HopFault, Hops, AreHops, HopsWrong, hops_members};
 ghost use Rattle.npr_route.specs.AttributeView.{hop_of, hops_of};
-ghost use Rattle.npr_route.specs.Reader.{head_in, IsOpen, Tied, room, level_room, level_built, StepsOn, Ended};
+ghost use Rattle.npr_route.specs.NextHopHeader.{head_in};
+ghost use Rattle.npr_route.specs.Reader.{IsOpen, Tied, room, level_room, level_built, StepsOn, Ended};
 
 use crate::attribute::{Context, RTA_MULTIPATH, RouteAttribute, read_flat};
 use crate::next_hops::{RouteNextHop, RouteNextHopBuffer};

@@ -87,16 +87,15 @@ returns-then-not-is_empty-clause-ok c =
     let fresh = c.in_ok-inner.ensures.fresh in
     let size : 8 + length inner.walk + length inner.hops_rest.now ≡ length item.value = fresh.2 ∙ ap length value_is in
     let no_hops : list_members hop_members (map hop_of inner.next_hops.items) ≡ 0 = ap (λ xs. list_members hop_members (map hop_of xs)) fresh.0 in
-    let no_attributes : list_members members (map meaning_of inner.attributes.items) ≡ 0 = ap (λ xs. list_members members (map meaning_of xs)) fresh.1 in
-    (
+    let no_attributes : list_members members (map meaning_of inner.attributes.items) ≡ 0 = ap (λ xs. list_members members (map meaning_of xs)) fresh.1 in (
       λ bytes t.
           let at : IsAt l.context t.0 outer l.walk = record { own = t.1.own; front = t.1.front; inside = t.1.inside; done = t.1.done; is_open = t.1.is_open; read = t.1.read } in
           let waits : Waits l.context t.0 outer value = record { place = l.walk; item = item; at = at; begins = f; is_nine = nine; value_is = sym value_is } in
           (value, c.in_ok-inner.ensures.ok, rw items (chain_push l.context bytes fs outer t.0 value t.2 waits)),
       omega (arith, ap weight_of items, weight_push fs outer, took, size),
       Added-hits c.args.looks.now c.next_counted.new.looks c.first_level.new.looks _ _ _ _ look c.in_ok-inner.ensures.hits
-      (omega (arith, ap room_of items, room_push fs outer, took, size))
-      (omega (arith, ap built_of items, built_push fs outer, no_hops, no_attributes)),
+          (omega (arith, ap room_of items, room_push fs outer, took, size))
+          (omega (arith, ap built_of items, built_push fs outer, no_hops, no_attributes)),
     )
 
 pub returns-clause-ok : goal.returns-clause-ok
@@ -108,13 +107,12 @@ returns-clause-ok c =
     let f : Front l.walk item rest = rw c.in_ok-item.was at c.in-Some.ensures.step in
     let look : c.next_counted.new.looks ≡ hit c.args.looks.now = rw c.in_ok-item.was at c.in-Some.ensures.counted in
     let took = Front-takes l.walk item rest f in
-    let more : map meaning_of c.push-2.new.self.items ≡ map meaning_of l.attributes.items ++ meaning_of a ∷ [] = ap (map meaning_of) c.in_ok-push-2.ensures.items ∙ map_push meaning_of l.attributes.items a in
-    (
+    let more : map meaning_of c.push-2.new.self.items ≡ map meaning_of l.attributes.items ++ meaning_of a ∷ [] = ap (map meaning_of) c.in_ok-push-2.ensures.items ∙ map_push meaning_of l.attributes.items a in (
       λ bytes t.
           let read = ReadsTo-more (Reads l.context) t.1.inside (map meaning_of l.attributes.items) l.walk item (meaning_of a) rest t.1.read f c.in_ok-attribute.ensures.ok in
           (t.0, record { own = t.1.own; front = t.1.front; inside = t.1.inside; done = t.1.done; is_open = t.1.is_open; read = rw more read }, t.2),
       omega (arith, took),
       Added-read c.args.looks.now c.next_counted.new.looks c.read_flat.new.looks (length item.value) (members (meaning_of a)) _ _ _ _ look c.read_flat.ensures.bounded c.in_ok-attribute.ensures.counted
-      (omega (arith, took))
-      (omega (arith, ap (list_members members) more, list_members-more members (map meaning_of l.attributes.items) (meaning_of a))),
+          (omega (arith, took))
+          (omega (arith, ap (list_members members) more, list_members-more members (map meaning_of l.attributes.items) (meaning_of a))),
     )
