@@ -217,12 +217,12 @@ fn nested(rt: &impl AllocGlobal, levels: u16, inside: &[u8]) -> Result<Vec<u8>, 
 /// take room on the stack for each.
 fn depth(attributes: Vec<RouteAttribute>) -> u16 {
     let mut attributes = attributes;
-    for depth in 0..u16::MAX {
+    for levels in 0..u16::MAX {
         let Some(RouteAttribute::MultiPath(mut hops)) = attributes.pop() else {
-            return depth;
+            return levels;
         };
         let Some(hop) = hops.pop() else {
-            return depth;
+            return levels;
         };
         attributes = hop.attributes;
     }
