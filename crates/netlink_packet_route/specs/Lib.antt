@@ -89,11 +89,14 @@ pub use Rattle.npr_rule.specs.UidRange as RuleUidRange
 -- route messages
 pub use Rattle.npr_route.specs.Attribute as RouteAttribute
 pub use Rattle.npr_route.specs.AttributeLaws as RouteAttributeLaws
+pub use Rattle.npr_route.specs.AttributeView as RouteAttributeView
+pub use Rattle.npr_route.specs.FlatAttribute as FlatRouteAttribute
+pub use Rattle.npr_route.specs.FlatAttributeLaws as FlatRouteAttributeLaws
 pub use Rattle.npr_route.specs.Governing
 pub use Rattle.npr_route.specs.Header as RouteHeader
 pub mod RouteMessage
 pub use Rattle.npr_route.specs.MessageLaws as RouteMessageLaws
 pub use Rattle.npr_route.specs.Metric as RouteMetric
+pub use Rattle.npr_route.specs.NextHopFrontLaws
 pub use Rattle.npr_route.specs.NextHopHeader
-pub use Rattle.npr_route.specs.NextHops
 pub use Rattle.npr_route.specs.RouteList

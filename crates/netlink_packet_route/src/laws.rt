@@ -4,7 +4,7 @@
 ghost use Rattle.std.specs.Prelude.{◌≡◌, ℕ, List, None};
 ghost use Rattle.npr_base.specs.Walk.{CutsInTwo};
 ghost use Rattle.npr_address.specs.Attribute.{attributes as address_attributes};
-ghost use Rattle.npr_route.specs.Attribute.{Context};
+ghost use Rattle.npr_route.specs.FlatAttribute.{Context};
 ghost use Rattle.npr_route.specs.AttributeLaws.{attributes as route_attributes};
 ghost use Rattle.npr_rule.specs.Attribute.{attributes as rule_attributes};
 ghost use Rattle.npr_address.specs.Message.{Address, IsAddressMessage, IsCoherentAddress, address_bytes, address_misfit};

@@ -2,8 +2,8 @@
 //! headers that stand in them.
 
 pub use npr_route::{
-    RouteAttribute, RouteHeader, RouteMessage, RouteMessageBuffer, RouteMetric, RouteNextHopBuffer,
-    read_route_list,
+    RouteAttribute, RouteHeader, RouteMessage, RouteMessageBuffer, RouteMetric, RouteNextHop,
+    RouteNextHopBuffer, read_next_hops, read_route_list,
 };
 pub use npr_scalar::{
     MplsLabel, RouteAddress, RouteCacheInfo, RouteCacheInfoBuffer, RouteFlags, RouteMfcStats,

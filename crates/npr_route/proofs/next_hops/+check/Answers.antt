@@ -1,11 +1,11 @@
-use Rattle.std.proofs.Common.{◌≡◌, ◌+◌, ap, sym, ◌∙◌, length, take, Ok, Err}
+use Rattle.std.proofs.Common.{◌≡◌, ◌+◌, ap, sym, ◌∙◌, length, take, Err}
 use Rattle.std.proofs.lemmas.Result.{err_from_is_err_and}
 use Rattle.npr_base.specs.Framing.{framed}
-use Rattle.npr_base.specs.Family.{encodings, in_usize, checked}
+use Rattle.npr_base.specs.Family.{encodings, in_usize}
 use Rattle.npr_base.proofs.Checking.{checked-ok, first-past, encodings-more}
 use Rattle.npr_base.specs.ListLaws.{length-encoding}
-use Rattle.npr_route.specs.Attribute.{misfit, plain_of, hop_misfit}
-use Rattle.npr_route.specs.AttributeView.{meaning_of, hop_of, attribute_item, attribute_misfit, next_hop_bytes, next_hop_misfit, joined}
+use Rattle.npr_route.specs.Attribute.{misfit, plain_of}
+use Rattle.npr_route.specs.AttributeView.{meaning_of, attribute_item, attribute_misfit, next_hop_bytes, next_hop_misfit, joined}
 use Rattle.npr_route.proofs.Views.{plain_value, joined-more, hop_unfit, hop_checked, multi_path-checked}
 use Rattle.npr_route.proofs.next_hops.+check.Goals as goal
 

@@ -1,12 +1,12 @@
 use Rattle.std.specs.Int.{w16, w32, to_le_bytes}
 use Rattle.std.proofs.Common.{rules, ◌≡◌, ◌∷◌, ◌++◌, ℕ, ◌+◌, ◌-◌, ◌≤◌, ap, sym, ◌∙◌, subst, refl, arith, length, take, drop, length-take, length-drop}
 use borrow.Rule.Slice.PartMut.{put_mid}
-use Rattle.npr_base.specs.Framing.{Item, Writes, encoding, framed, marked, written}
+use Rattle.npr_base.specs.Framing.{Item, Writes, encoding, framed, marked}
 use Rattle.npr_base.specs.Family.{encodings}
 use Rattle.npr_base.proofs.Checking.{first-none, encodings-more, encodings-next, encodings-below}
 use Rattle.npr_base.proofs.Writing.{Writes-more, Writes-encoding}
 use Rattle.npr_base.specs.ListLaws.{length-encoding}
-use Rattle.npr_route.specs.Attribute.{writes, plain_of, nested_of}
+use Rattle.npr_route.specs.Attribute.{plain_of, nested_of}
 use Rattle.npr_route.specs.AttributeLaws.{item-is}
 use Rattle.npr_route.specs.AttributeView.{meaning_of, attribute_item, attribute_misfit, next_hop_bytes, next_hop_misfit, joined}
 use Rattle.npr_route.specs.declared.attribute.RouteAttribute.TheViews.{the_lemmas}

@@ -1,15 +1,15 @@
-use Rattle.std.proofs.Common.{◌≡◌, ◌≢◌, ◌+◌, ◌≤◌, ◌<◌, ℕ, List, [], ◌∷◌, ◌++◌, map, length, ap, sym, ◌∙◌, subst, refl, arith}
+use Rattle.std.proofs.Common.{◌≡◌, ◌≢◌, ◌+◌, ◌<◌, [], ◌∷◌, ◌++◌, map, length, ap, sym, ◌∙◌, arith}
 use Rattle.std.proofs.lemmas.List.{map_push}
 use Rattle.std.proofs.lemmas.Result.{err_from_is_err_and}
-use Rattle.npr_base.specs.Counts.{Counts, AddsAtMost, SawEach, hit}
+use Rattle.npr_base.specs.Counts.{hit}
 use Rattle.npr_base.specs.Family.{list_members}
 use Rattle.npr_base.specs.Framing.{Front, Fault, number_of}
 use Rattle.npr_base.specs.FrontLaws.{Front-takes}
 use Rattle.npr_base.proofs.Lists.{ReadsTo-more}
 use Rattle.npr_base.proofs.Looking.{list_members-more}
-use Rattle.npr_route.specs.Attribute.{Meaning, Reads, members, none_in_front, first_wrong, hops_wrong, value_wrong}
+use Rattle.npr_route.specs.Attribute.{Reads, members, none_in_front, first_wrong, hops_wrong, value_wrong}
 use Rattle.npr_route.specs.AttributeView.{meaning_of, hop_of}
-use Rattle.npr_route.specs.Reader.{IsAt, IsOpen, Waits, hop_members, weight_of, room_of, built_of}
+use Rattle.npr_route.specs.Reader.{IsAt, Waits, hop_members, weight_of, room_of, built_of}
 use Rattle.npr_route.specs.declared.reader.Level.{Level}
 use Rattle.npr_route.proofs.Reading.{wrong_at, chain_wrong, chain_push, weight_push, room_push, built_push, Added-hits, Added-read, Ended-inside}
 use Rattle.npr_route.proofs.reader.advance.Goals as goal

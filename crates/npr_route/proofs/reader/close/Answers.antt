@@ -1,14 +1,14 @@
-use Rattle.std.proofs.Common.{◌≡◌, ◌+◌, ◌≤◌, ◌<◌, ℕ, List, [], ◌∷◌, ◌++◌, map, length, ap, sym, ◌∙◌, subst, refl, arith}
+use Rattle.std.proofs.Common.{◌≡◌, ◌<◌, [], ◌∷◌, ◌++◌, map, length, ap, sym, ◌∙◌, subst, refl, arith}
 use Rattle.std.proofs.lemmas.Bool.Decides.{nat_tests}
 use Rattle.std.proofs.lemmas.List.{map_push, nil_from_length}
 use Rattle.std.proofs.lemmas.Result.{err_from_is_err_and}
-use Rattle.npr_base.specs.Family.{ReadsTo, list_members}
+use Rattle.npr_base.specs.Family.{list_members}
 use Rattle.npr_base.proofs.Lists.{ReadsTo-none, ReadsTo-more}
 use Rattle.npr_base.proofs.Looking.{list_members-more}
-use Rattle.npr_route.specs.Attribute.{Hop, Meaning, Reads, AreHops, multi_path, no_hop_in_front, members, hops_members}
+use Rattle.npr_route.specs.Attribute.{Meaning, Reads, AreHops, multi_path, no_hop_in_front, members, hops_members}
 use Rattle.npr_route.specs.AttributeView.{meaning_of, hop_of, hops_of}
 use Rattle.npr_route.specs.NextHopFrontLaws.{HopFront-length}
-use Rattle.npr_route.specs.Reader.{HopsTo, IsAt, Chain, hop_members, weight_of, room_of, built_of, level_built}
+use Rattle.npr_route.specs.Reader.{IsAt, Chain, hop_members, weight_of, room_of, built_of, level_built}
 use Rattle.npr_route.specs.declared.attribute.RouteAttribute.TheVariants.{MultiPath}
 use Rattle.npr_route.proofs.Views.{view_multi_path}
 use Rattle.npr_route.proofs.Reading.{closes, closed_hop, closed_count, hops_closed, whole, chain_none, chain_pop, chain_wrong, hops_wrong_behind, hops_count, weight_push, room_push, built_push, Added-none, Added-hit}
