@@ -3,7 +3,7 @@
 ghost use Rattle.std.specs.Prelude.{◌≡◌, ◌≢◌, IfOk, IfErr};
 ghost use Rattle.examples.specs.Found.{IsFirst};
 ghost use Rattle.examples.specs.Routes.{gateway_ip};
-ghost use Rattle.netlink_packet_route.specs.RouteAttribute.{meaning_of};
+ghost use Rattle.netlink_packet_route.specs.RouteAttributeView.{meaning_of};
 ghost use Rattle.netlink_packet_route.specs.RouteMessage.{IsRouteMessage, RouteFault, message_of};
 ghost use Rattle.netlink_packet_route.specs.declared.framing.DecodeError.TheVariants.{OutOfMemory};
 ghost use Rattle.netlink_packet_route.specs.declared.route.RouteMessage.{RouteMessage};
