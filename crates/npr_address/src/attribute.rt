@@ -180,10 +180,7 @@ impl Attribute for AddressAttribute {
             )?)),
             9 => AddressAttribute::RoutePriority(read_u32(value, FAMILY.at(9))?),
             10 => AddressAttribute::TargetNetNsId(read_i32(value, FAMILY.at(10))?),
-            11 => AddressAttribute::Protocol(AddressProtocol::from(read_u8(
-                value,
-                FAMILY.at(11),
-            )?)),
+            11 => AddressAttribute::Protocol(AddressProtocol::from(read_u8(value, FAMILY.at(11))?)),
             _ => AddressAttribute::Other(DefaultNla::parse(alloc, item)?),
         })
     }

@@ -260,22 +260,10 @@ impl Attribute for RuleAttribute {
             17 => RuleAttribute::Oifname(read_name(alloc, value, FAMILY.at(17))?),
             19 => RuleAttribute::L3MDev(read_bool(value, FAMILY.at(19))?),
             20 => RuleAttribute::UidRange(RuleUidRange::read(value, FAMILY.at(20))?),
-            21 => RuleAttribute::Protocol(RouteProtocol::from(read_u8(
-                value,
-                FAMILY.at(21),
-            )?)),
-            22 => RuleAttribute::IpProtocol(IpProtocol::from(read_u8(
-                value,
-                FAMILY.at(22),
-            )?)),
-            23 => RuleAttribute::SourcePortRange(RulePortRange::read(
-                value,
-                FAMILY.at(23),
-            )?),
-            24 => RuleAttribute::DestinationPortRange(RulePortRange::read(
-                value,
-                FAMILY.at(24),
-            )?),
+            21 => RuleAttribute::Protocol(RouteProtocol::from(read_u8(value, FAMILY.at(21))?)),
+            22 => RuleAttribute::IpProtocol(IpProtocol::from(read_u8(value, FAMILY.at(22))?)),
+            23 => RuleAttribute::SourcePortRange(RulePortRange::read(value, FAMILY.at(23))?),
+            24 => RuleAttribute::DestinationPortRange(RulePortRange::read(value, FAMILY.at(24))?),
             _ => RuleAttribute::Other(DefaultNla::parse(alloc, item)?),
         })
     }

@@ -13,11 +13,11 @@ returns-then-kind-eq-RTA_MULTIPATH-clause-refused c =
     let nine : number_of x.kind ≡ 9 = sym c.kind.ensures ∙ c.if-kind-eq-RTA_MULTIPATH.true in
     let refused = rw c.value.ensures at c.read_next_hops.ensures.refused in
     IfErr-mapped _ (λ e. e ≢ OutOfMemory → Wrong c.args.context x e) c.read_next_hops.result c.map.result c.map.ensures.cases
-        (IfErr-weaker c.read_next_hops.result (λ e. e ≢ OutOfMemory → HopsWrong c.args.context x.value e) (λ e. e ≢ OutOfMemory → Wrong c.args.context x e) (λ e p other. hops_wrong nine (p other)) refused)
+    (IfErr-weaker c.read_next_hops.result (λ e. e ≢ OutOfMemory → HopsWrong c.args.context x.value e) (λ e. e ≢ OutOfMemory → Wrong c.args.context x e) (λ e p other. hops_wrong nine (p other)) refused)
 
 pub returns-else-kind-eq-RTA_MULTIPATH-clause-refused : goal.returns-else-kind-eq-RTA_MULTIPATH-clause-refused
 returns-else-kind-eq-RTA_MULTIPATH-clause-refused c =
     let x = c.args.item.now in
     let not_nine : number_of x.kind ≢ 9 = λ nine. c.if-kind-eq-RTA_MULTIPATH.false (c.kind.ensures ∙ nine) in
     IfErr-weaker c.read_flat.result (λ e. e ≢ OutOfMemory → (Flats.attributes c.args.context).Faulty x e) (λ e. e ≢ OutOfMemory → Wrong c.args.context x e)
-        (λ e p other. value_wrong not_nine (p other)) c.read_flat.ensures.refused
+    (λ e p other. value_wrong not_nine (p other)) c.read_flat.ensures.refused

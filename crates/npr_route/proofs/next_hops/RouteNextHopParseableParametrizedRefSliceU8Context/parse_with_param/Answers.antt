@@ -10,4 +10,4 @@ returns-clause-none c =
     let k = c.args.context in
     let bytes = c.args.bytes.now in
     IfErr-weaker c.read_hop.result (λ e. e ≢ OutOfMemory → HopWrong k bytes e) (λ e. e ≢ OutOfMemory → (h : Hop) → IsHop k bytes h → ⊥)
-        (λ e p other h is. hop-sound k bytes h e is (p other)) c.read_hop.ensures.refused
+    (λ e p other h is. hop-sound k bytes h e is (p other)) c.read_hop.ensures.refused
