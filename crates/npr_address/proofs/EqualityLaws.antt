@@ -1,5 +1,5 @@
 -- What `==` answers of attributes and messages: whether they mean the same.
-use Rattle.std.specs.Prelude.{◌≡◌, ℕ, List, map}
+use Rattle.std.specs.Prelude.{ℕ}
 use Rattle.std.specs.String.{string_bytes}
 use Rattle.std.proofs.Common.{refl, rules, ap}
 use Rattle.npr_base.specs.Equality.{IsEquality, IsEqualityOf}

@@ -1,10 +1,10 @@
 -- The header of an address message (linux/if_addr.h, struct ifaddrmsg): four bytes and a number of four.
-use Rattle.std.specs.Prelude.{◌≡◌, ℕ, ◌+◌, ◌<◌, ◌^◌, List, [], ◌∷◌, ◌++◌, length, slice_index}
+use Rattle.std.specs.Prelude.{◌≡◌, ℕ, ◌<◌, ◌^◌, List, ◌∷◌, length, slice_index}
 use Rattle.std.specs.Int.{w32, to_le_bytes}
-use Rattle.std.proofs.Common.{refl, sym, subst}
+use Rattle.std.proofs.Common.{refl}
 use Rattle.std.proofs.lemmas.Nat.{from_le_bytes-to_le_bytes_4}
 use Rattle.npr_base.specs.Framing.{IsBytes}
-use Rattle.npr_base.specs.Layout.{Layout, byte, formed, le32_at, le32_at-holds}
+use Rattle.npr_base.specs.Layout.{Layout, formed, le32_at, le32_at-holds}
 use Rattle.npr_base.specs.AddressFamily.{family_of, family_number}
 use Rattle.npr_base.specs.AddressFamilyLaws.{family_number-family_of}
 use Rattle.npr_base.specs.declared.address_family.AddressFamily.TheVariants.{Unspec}
@@ -12,7 +12,6 @@ use Rattle.npr_address.specs.declared.addr_scope.AddressScope.TheVariants.{Unive
 use Rattle.npr_address.specs.AddressFlags.{header_flags_bits, header_flags_of}
 use Rattle.npr_address.specs.AddressScope.{scope_of, scope_number}
 use Rattle.npr_address.specs.AddressScopeLaws.{scope_number-scope_of}
-use Rattle.npr_address.specs.AddressFlags.{header_flags}
 use Rattle.npr_address.specs.declared.header.AddressHeader.{AddressHeader}
 use Rattle.npr_address.specs.declared.header.AddressMessageBuffer.{AddressMessageBuffer}
 

@@ -1,11 +1,11 @@
 -- A header whose length lies within the bytes opens a next hop.
-use Rattle.std.proofs.Common.{◌≡◌, ℕ, ◌+◌, ◌-◌, ◌*◌, ◌/◌, ◌%◌, ◌<◌, ◌≤◌, ◌^◌, List, [], ◌∷◌, ◌++◌, length, take, drop, refl, sym, ap, subst, ◌∙◌, arith, length-take, length-drop, append_assoc}
+use Rattle.std.proofs.Common.{◌≡◌, ℕ, ◌+◌, ◌-◌, ◌*◌, ◌/◌, ◌%◌, ◌<◌, List, [], ◌∷◌, ◌++◌, length, take, drop, refl, sym, ap, subst, ◌∙◌, arith, length-take, length-drop}
 use Rattle.std.proofs.lemmas.List.{take-append-drop, drop-drop}
 use Rattle.std.specs.Int.{w16, w32, to_le_bytes}
 use Rattle.npr_base.specs.Framing.{IsBytes}
-use Rattle.npr_base.specs.Layout.{le16_at, le32_at}
+use Rattle.npr_base.specs.Layout.{le32_at}
 use Rattle.npr_base.specs.ListLaws.{IsBytes-left}
-use Rattle.npr_route.specs.Attribute.{HopFront, HoldsHead, hop_text}
+use Rattle.npr_route.specs.Attribute.{HopFront, hop_text}
 use Rattle.npr_route.specs.NextHopHeader.{decode_buffer, encode_buffer, buffer-holds, IsChecked}
 use Rattle.npr_route.specs.NextHopHeader.{head_in}
 use Rattle.npr_route.specs.declared.next_hops.RouteNextHopBuffer.{RouteNextHopBuffer}

@@ -1,15 +1,14 @@
 -- A next hop that is written: its attributes first, and its header before them.
-use Rattle.std.proofs.Common.{◌≡◌, ℕ, ◌+◌, ◌-◌, ◌<◌, ◌≤◌, ◌^◌, List, [], ◌∷◌, ◌++◌, length, map, take, drop, Option, None, refl, sym, ap, ◌∙◌, arith, subst, length-append, length-take, length-drop, append_assoc}
-use Rattle.std.specs.Int.{w16, w32, to_le_bytes}
-use Rattle.std.proofs.lemmas.List.{take-append-drop, take_at, drop_at, drop-drop}
+use Rattle.std.proofs.Common.{◌≡◌, ℕ, ◌+◌, ◌-◌, ◌≤◌, List, ◌++◌, length, map, take, drop, None, sym, ap, ◌∙◌, arith, length-append, length-take, append_assoc}
+use Rattle.std.proofs.lemmas.List.{take-append-drop, drop_at}
 use Rattle.std.specs.declared.vec.Vec.{Vec}
 use Rattle.std.specs.declared.alloc.Global.{Global}
 use borrow.Rule.Slice.PartMut.{put_mid}
 use Rattle.npr_base.specs.Framing.{Writes}
-use Rattle.npr_base.specs.Family.{first_unfit, encodings, overlong, option_or, too_long}
+use Rattle.npr_base.specs.Family.{first_unfit, encodings}
 use Rattle.npr_base.specs.ListLaws.{none_both}
 use Rattle.npr_base.proofs.Writing.{Writes-more}
-use Rattle.npr_route.specs.Attribute.{multi_path, Meaning, Hop, plain_of, misfit, hop_misfit, hops_misfit, hops_bytes, hop_bytes, hop_text, hop_overlong}
+use Rattle.npr_route.specs.Attribute.{Meaning, plain_of, misfit, hop_bytes, hop_text, hop_overlong}
 use Rattle.npr_route.specs.AttributeLaws.{hop-short, fits-inside}
 use Rattle.npr_route.specs.AttributeView.{meaning_of, hop_of, hops_of, attribute_item, attribute_misfit, next_hop_bytes, next_hop_misfit, joined}
 use Rattle.npr_route.specs.declared.attribute.RouteAttribute.TheVariants.{MultiPath}

@@ -1,13 +1,13 @@
 -- Bytes as long as a next hop's header says are that one next hop.
-use Rattle.std.proofs.Common.{◌≡◌, ℕ, ◌+◌, ◌-◌, ◌<◌, ◌≤◌, List, [], ◌∷◌, ◌++◌, length, map, take, drop, refl, sym, ap, subst, ◌∙◌, arith, inl, inr, length-take, length-drop}
+use Rattle.std.proofs.Common.{◌≡◌, ℕ, ◌+◌, ◌-◌, List, [], ◌∷◌, ◌++◌, length, take, drop, refl, sym, ap, subst, ◌∙◌, arith, inl, inr, length-take, length-drop}
 use Rattle.std.proofs.lemmas.List.{append-nil, take_at, length_push}
 use Rattle.npr_base.specs.declared.refusal.DecodeError.{DecodeError}
-use Rattle.npr_route.specs.Attribute.{HopHead, HopFront, HopFault, hop_text, Hop, Hops, no_hops, hop, AreHops, AreAttributes, AttributesWrong, HopsWrong, no_hop_in_front, first_hop_wrong, later_hop_wrong, IsHop, HopWrong}
+use Rattle.npr_route.specs.Attribute.{HopHead, HopFront, hop_text, Hop, AreHops, AttributesWrong, HopsWrong, no_hop_in_front, first_hop_wrong, later_hop_wrong, IsHop, HopWrong}
 use Rattle.npr_route.specs.AttributeLaws.{attributes-sound}
 use Rattle.npr_route.specs.AttributeView.{hops_of}
 use Rattle.npr_route.specs.FlatAttribute.{Context}
 use Rattle.npr_route.specs.NextHopFrontLaws.{HopFront-same, HopFront-sound, HopFront-length}
-use Rattle.npr_route.specs.NextHopHeader.{IsChecked, head_in}
+use Rattle.npr_route.specs.NextHopHeader.{IsChecked}
 use Rattle.npr_route.specs.declared.next_hops.RouteNextHopBuffer.{RouteNextHopBuffer}
 
 -- a next hop that stands in front, with what follows it cut off

@@ -1,19 +1,16 @@
 -- Steps of the reader of next hops, and what they have looked at.
-use Rattle.std.proofs.Common.{◌≡◌, ℕ, ◌+◌, ◌-◌, ◌*◌, ◌/◌, ◌<◌, ◌≤◌, ◌^◌, List, [], ◌∷◌, ◌++◌, length, map, refl, sym, ap, subst, ◌∙◌, arith, inl, inr}
+use Rattle.std.proofs.Common.{◌≡◌, ℕ, ◌+◌, ◌/◌, ◌≤◌, List, [], ◌∷◌, ◌++◌, length, map, refl, sym, ap, subst, ◌∙◌, arith}
 use Rattle.std.proofs.lemmas.List.{map_push}
 use Rattle.npr_base.specs.declared.refusal.DecodeError.{DecodeError}
 use Rattle.npr_base.specs.Counts.{Counts, AddsAtMost, SawEach, hit, miss}
-use Rattle.npr_base.specs.Framing.{Item, Front, Passes, Fault, number_of}
-use Rattle.npr_base.specs.Family.{Each, ReadsTo, IsWrong, list_members}
-use Rattle.npr_base.specs.FrontLaws.{Front-takes}
-use Rattle.npr_base.proofs.Lists.{ReadsTo-none, ReadsTo-more}
+use Rattle.npr_base.specs.Framing.{Item, Passes}
+use Rattle.npr_base.specs.Family.{Each, list_members}
 use Rattle.npr_base.proofs.Looking.{list_members-more}
-use Rattle.npr_route.specs.Attribute.{HopHead, HopFront, HopFault, Meaning, multi_path, Attributes, Hops, Hop, Reads, AreAttributes, AreHops, Wrong, hops_wrong, AttributesWrong, none_in_front, first_wrong, later_wrong, HopsWrong, no_hop_in_front, first_hop_wrong, later_hop_wrong, members, attributes_members, hops_members}
+use Rattle.npr_route.specs.Attribute.{HopFront, Meaning, Hop, Reads, AreAttributes, AreHops, hops_wrong, AttributesWrong, first_wrong, later_wrong, HopsWrong, first_hop_wrong, later_hop_wrong, members, attributes_members, hops_members}
 use Rattle.npr_route.specs.AttributeView.{attributes_of, hops_of, meaning_of, hop_of}
 use Rattle.npr_route.specs.FlatAttribute.{Context}
-use Rattle.npr_route.specs.NextHopFrontLaws.{HopFront-length}
 use Rattle.npr_route.specs.NextHopHeader.{head_in}
-use Rattle.npr_route.specs.Reader.{HopsTo, IsAt, IsOpen, Waits, Chain, level_weight, weight_of, level_room, room_of, hop_members, level_built, built_of, Added, Ended}
+use Rattle.npr_route.specs.Reader.{HopsTo, IsAt, Waits, Chain, level_weight, weight_of, level_room, room_of, hop_members, level_built, built_of, Added, Ended}
 use Rattle.npr_scalar.specs.RouteFlags.{next_hop_flags_bits}
 use Rattle.npr_scalar.specs.declared.flags.RouteNextHopFlags.{RouteNextHopFlags}
 use Rattle.npr_route.specs.declared.attribute.RouteAttribute.{RouteAttribute}

@@ -1,16 +1,16 @@
 -- What a search for the type of a list has looked at, and what the search and the reading have together.
 use Rattle.std.specs.Prelude.{IfOk}
-use Rattle.std.proofs.Common.{◌≡◌, ℕ, ◌+◌, ◌-◌, ◌*◌, ◌^◌, ◌<◌, ◌≤◌, List, [], ◌∷◌, ◌++◌, length, map, Option, Some, None, Result, Ok, Err, refl, sym, ap, subst, ◌∙◌, arith, inl, inr}
+use Rattle.std.proofs.Common.{◌≡◌, ℕ, ◌+◌, ◌≤◌, List, [], ◌∷◌, ◌++◌, length, Option, Some, None, Result, Ok, Err, refl, ap, ◌∙◌, arith}
 use Rattle.std.proofs.lemmas.List.{length_push}
 use Rattle.npr_base.specs.declared.refusal.DecodeError.{DecodeError}
 use Rattle.npr_base.specs.Counts.{Counts, hit, AddsAtMostTwice, SawEach}
-use Rattle.npr_base.specs.Framing.{Item, Front, Passes, Cut, Fault, Step, looked}
+use Rattle.npr_base.specs.Framing.{Item, Passes, Cut, Step, looked}
 use Rattle.npr_base.specs.Family.{AllOf, ReadsList}
-use Rattle.npr_base.specs.FrontLaws.{Front-shrinks, Passes-more, Cut-stops}
+use Rattle.npr_base.specs.FrontLaws.{Passes-more, Cut-stops}
 use Rattle.npr_base.specs.Walk.{Walked}
 use Rattle.npr_base.proofs.WalkLaws.{Passes-ahead, Passes-length}
 use Rattle.npr_tunnel.specs.declared.encap_type.RouteLwEnCapType.{RouteLwEnCapType}
-use Rattle.npr_route.specs.Governing.{told, Tells, Governs, EndsSearch, hit_each, Searches}
+use Rattle.npr_route.specs.Governing.{EndsSearch, hit_each, Searches}
 
 -- one more of them
 pub AllOf-more : {A : Type 0} (P : A → Type 0) (xs : List A) (x : A) → AllOf P xs → P x → AllOf P (xs ++ x ∷ [])

@@ -1,5 +1,5 @@
 -- The attributes of a route message but next hops (linux/rtnetlink.h, RTA_*), by their table under the header.
-use Rattle.std.specs.Prelude.{◌≡◌, ◌≢◌, ℕ, ◌<◌, ◌^◌, Bool, true, false, List, [], ◌∷◌, map, Option, None, if◌then◌else◌}
+use Rattle.std.specs.Prelude.{◌≡◌, ◌≢◌, ℕ, ◌<◌, ◌^◌, Bool, true, false, List, [], ◌∷◌, Option, None, if◌then◌else◌}
 use Rattle.npr_base.specs.declared.refusal.At.{At}
 use Rattle.npr_base.specs.declared.refusal.AttrFamily.TheVariants.{Route as OfRoute}
 use Rattle.npr_base.specs.declared.refusal.EmitError.{EmitError}
@@ -12,11 +12,11 @@ use Rattle.npr_base.specs.ListCodec.{list_of}
 use Rattle.npr_base.specs.Table.{Row, row, Held, held, held_marked, held_other, IsHeld, IsOther}
 use Rattle.npr_scalar.specs.MplsLaws.{mpls_labels}
 use Rattle.npr_scalar.specs.Realm.{route_realm}
-use Rattle.npr_scalar.specs.RouteAddress.{Address as AddressMeaning, address_of, address_bytes, address_in, Form, four, sixteen, label, any}
+use Rattle.npr_scalar.specs.RouteAddress.{Address as AddressMeaning, address_bytes, address_in, Form, four, sixteen, label, any}
 use Rattle.npr_scalar.specs.RouteCacheInfo.{route_cache_info}
 use Rattle.npr_scalar.specs.RouteMfcStats.{route_mfc_stats}
 use Rattle.npr_scalar.specs.RoutePreference.{route_preference}
-use Rattle.npr_scalar.specs.RouteVia.{Via as ViaMeaning, via_of, via_value}
+use Rattle.npr_scalar.specs.RouteVia.{Via as ViaMeaning, via_value}
 use Rattle.npr_scalar.specs.TtlPropagation.{ttl_propagation}
 use Rattle.npr_scalar.specs.declared.cache_info.RouteCacheInfo.{RouteCacheInfo}
 use Rattle.npr_scalar.specs.declared.route_type.RouteType.{RouteType}
@@ -31,7 +31,7 @@ use Rattle.npr_tunnel.specs.Encapsulation as OfEncap
 use Rattle.npr_tunnel.specs.IpTunnel as OfIp
 use Rattle.npr_tunnel.specs.declared.encap_type.RouteLwEnCapType.{RouteLwEnCapType}
 use Rattle.npr_tunnel.specs.declared.encap_type.RouteLwEnCapType.TheVariants.{None as NoEncapsulation}
-use Rattle.npr_route.specs.Metric.{Metric, metric_of, metrics as metric_family, writing as metric_writing}
+use Rattle.npr_route.specs.Metric.{Metric, metrics as metric_family, writing as metric_writing}
 
 -- what an attribute without next hops is
 pub data Meaning : Type 0 where

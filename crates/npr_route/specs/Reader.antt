@@ -3,7 +3,7 @@ use Rattle.std.specs.Prelude.{◌≡◌, ℕ, ◌+◌, ◌-◌, ◌*◌, ◌/◌
 use Rattle.npr_base.specs.Counts.{Counts}
 use Rattle.npr_base.specs.Family.{ReadsTo, list_members}
 use Rattle.npr_base.specs.Framing.{Item, Front, number_of}
-use Rattle.npr_route.specs.Attribute.{HopHead, HopFront, Meaning, Hop, Reads, AreAttributes, AreHops, members, attributes_members}
+use Rattle.npr_route.specs.Attribute.{HopFront, Hop, Reads, AreAttributes, AreHops, members, attributes_members}
 use Rattle.npr_route.specs.AttributeView.{meaning_of, hop_of, hops_of}
 use Rattle.npr_route.specs.FlatAttribute.{Context}
 use Rattle.npr_route.specs.NextHopHeader.{head_in}

@@ -1,9 +1,8 @@
 -- A protocol over IP as a value of one byte. A number that no byte holds can't be written.
-use Rattle.std.specs.Prelude.{◌≡◌, ℕ, ◌+◌, ◌*◌, ◌≤◌, List, [], ◌∷◌, length, Option, Some, None}
+use Rattle.std.specs.Prelude.{ℕ, Option, Some, None}
 use Rattle.std.proofs.Common.{refl, arith}
 use Rattle.npr_base.specs.declared.refusal.EmitError.{EmitError}
 use Rattle.npr_base.specs.declared.refusal.EmitError.TheVariants.{IpProtocol as NoByte}
-use Rattle.npr_base.specs.Framing.{framed}
 use Rattle.npr_base.specs.Codec.{Codec, exactly}
 use Rattle.npr_scalar.specs.IpProtocol.{byte_of, ip_protocol_number, ip_protocol}
 use Rattle.npr_scalar.specs.declared.ip_protocol.IpProtocol.{IpProtocol}

@@ -1,9 +1,8 @@
 -- A range of users (linux/fib_rules.h, struct fib_rule_uid_range): start and end, 4 bytes each.
-use Rattle.std.specs.Prelude.{◌≡◌, ℕ, ◌+◌, ◌<◌, ◌^◌, List, [], ◌∷◌, ◌++◌, length, slice_index}
+use Rattle.std.specs.Prelude.{◌≡◌, ◌<◌, ◌^◌, ◌++◌}
 use Rattle.std.specs.Int.{w32, to_le_bytes}
 use Rattle.std.proofs.Common.{refl}
 use Rattle.std.proofs.lemmas.Nat.{from_le_bytes-to_le_bytes_4}
-use Rattle.npr_base.specs.Framing.{IsBytes}
 use Rattle.npr_base.specs.Layout.{Layout, le32_at, le32_at-holds}
 use Rattle.npr_rule.specs.declared.uid_range.RuleUidRange.{RuleUidRange}
 
