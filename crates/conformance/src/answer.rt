@@ -1,8 +1,7 @@
 //! The answer of a parser to bytes, as a line of text.
 
 ghost use Rattle.std.specs.Prelude.{◌≡◌, ◌≢◌, IfSome, IsNone};
-ghost use Rattle.conformance.specs.declared.answer.Word.{Word};
-ghost use Rattle.conformance.specs.Word.{word_name};
+ghost use Rattle.conformance.specs.{declared.answer.Word.{Word}, Word.{word_name}};
 
 use netlink_packet_route::address::AddressMessage;
 use netlink_packet_route::framing::{DecodeError, Emitable, Parseable};

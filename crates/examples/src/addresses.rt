@@ -1,16 +1,22 @@
 //! Address messages that are read, changed and built.
 
-ghost use Rattle.std.specs.Prelude.{◌≡◌, ◌≢◌, ◌==◌, None, Some, IfOk, IfErr};
-ghost use Rattle.std.specs.Int.RustNames.{bit_and};
-ghost use Rattle.examples.specs.Found.{IsFirst};
-ghost use Rattle.examples.specs.Addresses.{local_ipv4, loopback, loopback_written, with_priority};
-ghost use Rattle.examples.specs.declared.fault.Fault.TheVariants.{Refused, Unfit};
-ghost use Rattle.netlink_packet_route.specs.AddressAttribute.{meaning_of};
-ghost use Rattle.netlink_packet_route.specs.AddressMessage.{Address, IsAddressMessage, AddressFault, address_bytes, address_misfit, message_of};
-ghost use Rattle.netlink_packet_route.specs.declared.address.AddressMessage.{AddressMessage};
-ghost use Rattle.netlink_packet_route.specs.declared.framing.DecodeError.{DecodeError};
-ghost use Rattle.netlink_packet_route.specs.declared.framing.DecodeError.TheVariants.{OutOfMemory};
-ghost use Rattle.netlink_packet_route.specs.declared.framing.EmitError.{EmitError};
+ghost use Rattle.std.specs.{
+  Prelude.{◌≡◌, ◌≢◌, ◌==◌, None, Some, IfOk, IfErr},
+  Int.RustNames.{bit_and},
+};
+ghost use Rattle.examples.specs.{
+  Found.{IsFirst},
+  Addresses.{local_ipv4, loopback, loopback_written, with_priority},
+  declared.fault.Fault.TheVariants.{Refused, Unfit},
+};
+ghost use Rattle.netlink_packet_route.specs.{
+  AddressAttribute.{meaning_of},
+  AddressMessage.{Address, IsAddressMessage, AddressFault, address_bytes, address_misfit, message_of},
+  declared.address.AddressMessage.{AddressMessage},
+  declared.framing.DecodeError.{DecodeError},
+  declared.framing.DecodeError.TheVariants.{OutOfMemory},
+  declared.framing.EmitError.{EmitError},
+};
 
 use crate::fault::Fault;
 use netlink_packet_route::address::{

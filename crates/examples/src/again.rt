@@ -2,12 +2,14 @@
 
 ghost use Rattle.std.specs.Prelude.{◌≡◌, ◌≢◌, None, Some, IfOk};
 ghost use Rattle.examples.specs.declared.fault.Fault.TheVariants.{Refused, Unfit};
-ghost use Rattle.netlink_packet_route.specs.AddressMessage.{Address, IsAddressMessage, AddressFault, address_bytes, address_misfit};
-ghost use Rattle.netlink_packet_route.specs.RouteMessage.{Route, IsRouteMessage, RouteFault, route_bytes, route_misfit};
-ghost use Rattle.netlink_packet_route.specs.RuleMessage.{Rule, IsRuleMessage, RuleFault, rule_bytes, rule_misfit};
-ghost use Rattle.netlink_packet_route.specs.declared.framing.DecodeError.{DecodeError};
-ghost use Rattle.netlink_packet_route.specs.declared.framing.DecodeError.TheVariants.{OutOfMemory};
-ghost use Rattle.netlink_packet_route.specs.declared.framing.EmitError.{EmitError};
+ghost use Rattle.netlink_packet_route.specs.{
+  AddressMessage.{Address, IsAddressMessage, AddressFault, address_bytes, address_misfit},
+  RouteMessage.{Route, IsRouteMessage, RouteFault, route_bytes, route_misfit},
+  RuleMessage.{Rule, IsRuleMessage, RuleFault, rule_bytes, rule_misfit},
+  declared.framing.DecodeError.{DecodeError},
+  declared.framing.DecodeError.TheVariants.{OutOfMemory},
+  declared.framing.EmitError.{EmitError},
+};
 
 use crate::fault::Fault;
 use netlink_packet_route::address::AddressMessage;

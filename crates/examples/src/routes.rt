@@ -1,12 +1,13 @@
 //! Routes that are read.
 
 ghost use Rattle.std.specs.Prelude.{◌≡◌, ◌≢◌, IfOk, IfErr};
-ghost use Rattle.examples.specs.Found.{IsFirst};
-ghost use Rattle.examples.specs.Routes.{gateway_ip};
-ghost use Rattle.netlink_packet_route.specs.RouteAttributeView.{meaning_of};
-ghost use Rattle.netlink_packet_route.specs.RouteMessage.{IsRouteMessage, RouteFault, message_of};
-ghost use Rattle.netlink_packet_route.specs.declared.framing.DecodeError.TheVariants.{OutOfMemory};
-ghost use Rattle.netlink_packet_route.specs.declared.route.RouteMessage.{RouteMessage};
+ghost use Rattle.examples.specs.{Found.{IsFirst}, Routes.{gateway_ip}};
+ghost use Rattle.netlink_packet_route.specs.{
+  RouteAttributeView.{meaning_of},
+  RouteMessage.{IsRouteMessage, RouteFault, message_of},
+  declared.framing.DecodeError.TheVariants.{OutOfMemory},
+  declared.route.RouteMessage.{RouteMessage},
+};
 
 use netlink_packet_route::framing::{DecodeError, Parseable};
 use netlink_packet_route::net::IpAddr;

@@ -3,13 +3,19 @@
 
 ghost use Rattle.std.specs.Prelude.{◌≡◌, ℕ, List, None};
 ghost use Rattle.npr_base.specs.Walk.{CutsInTwo};
-ghost use Rattle.npr_address.specs.Attribute.{attributes as address_attributes};
-ghost use Rattle.npr_route.specs.FlatAttribute.{Context};
-ghost use Rattle.npr_route.specs.AttributeLaws.{attributes as route_attributes};
-ghost use Rattle.npr_rule.specs.Attribute.{attributes as rule_attributes};
-ghost use Rattle.npr_address.specs.Message.{Address, IsAddressMessage, IsCoherentAddress, address_bytes, address_misfit};
-ghost use Rattle.npr_route.specs.Message.{Route, IsRouteMessage, IsCoherentRoute, route_bytes, route_misfit};
-ghost use Rattle.npr_rule.specs.Message.{Rule, IsRuleMessage, IsCoherentRule, rule_bytes, rule_misfit};
+ghost use Rattle.npr_address.specs.{
+  Attribute.{attributes as address_attributes},
+  Message.{Address, IsAddressMessage, IsCoherentAddress, address_bytes, address_misfit},
+};
+ghost use Rattle.npr_route.specs.{
+  FlatAttribute.{Context},
+  AttributeLaws.{attributes as route_attributes},
+  Message.{Route, IsRouteMessage, IsCoherentRoute, route_bytes, route_misfit},
+};
+ghost use Rattle.npr_rule.specs.{
+  Attribute.{attributes as rule_attributes},
+  Message.{Rule, IsRuleMessage, IsCoherentRule, rule_bytes, rule_misfit},
+};
 
 use npr_address::AddressAttribute;
 pub use npr_address::laws::{

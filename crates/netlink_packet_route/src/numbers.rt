@@ -2,21 +2,27 @@
 //! their like are found only by a crate that names the one which has them.
 
 ghost use Rattle.std.specs.Prelude.{◌≡◌};
-ghost use Rattle.npr_address.specs.AddressProtocol.{protocol_number as address_protocol_number};
-ghost use Rattle.npr_address.specs.AddressScope.{scope_number as address_scope_number};
+ghost use Rattle.npr_address.specs.{
+  AddressProtocol.{protocol_number as address_protocol_number},
+  AddressScope.{scope_number as address_scope_number},
+};
 ghost use Rattle.npr_base.specs.AddressFamily.{family_number};
 ghost use Rattle.npr_rule.specs.Action.{action_number as rule_action_number};
-ghost use Rattle.npr_scalar.specs.IpProtocol.{ip_protocol_number};
-ghost use Rattle.npr_scalar.specs.Mpls.{label_number};
-ghost use Rattle.npr_scalar.specs.Realm.{realm_number};
-ghost use Rattle.npr_scalar.specs.RoutePreference.{route_preference_number};
-ghost use Rattle.npr_scalar.specs.RouteProtocol.{route_protocol_number};
-ghost use Rattle.npr_scalar.specs.RouteScope.{route_scope_number};
-ghost use Rattle.npr_scalar.specs.RouteType.{route_type_number};
-ghost use Rattle.npr_scalar.specs.TtlPropagation.{ttl_propagation_number};
-ghost use Rattle.npr_srh.specs.Ioam6Mode.{ioam6_mode_number};
-ghost use Rattle.npr_srh.specs.Seg6LocalAction.{action_number as seg6_local_action_number};
-ghost use Rattle.npr_srh.specs.Seg6Mode.{mode_number as seg6_mode_number};
+ghost use Rattle.npr_scalar.specs.{
+  IpProtocol.{ip_protocol_number},
+  Mpls.{label_number},
+  Realm.{realm_number},
+  RoutePreference.{route_preference_number},
+  RouteProtocol.{route_protocol_number},
+  RouteScope.{route_scope_number},
+  RouteType.{route_type_number},
+  TtlPropagation.{ttl_propagation_number},
+};
+ghost use Rattle.npr_srh.specs.{
+  Ioam6Mode.{ioam6_mode_number},
+  Seg6LocalAction.{action_number as seg6_local_action_number},
+  Seg6Mode.{mode_number as seg6_mode_number},
+};
 ghost use Rattle.npr_tunnel.specs.EncapType.{encap_type_number};
 
 use npr_address::{AddressProtocol, AddressScope};

@@ -1,8 +1,10 @@
 //! A reader or a writer whose failed calls are counted.
 
-ghost use Rattle.std.specs.Prelude.{◌≡◌, ◌<◌, IfOk, length};
-ghost use Rattle.std.specs.Io.{ReadsAtMost, WritesAtMost};
-ghost use Rattle.std.specs.Io.KnownBytes.{Keeps, ReadConsumes, WriteAppends};
+ghost use Rattle.std.specs.{
+  Prelude.{◌≡◌, ◌<◌, IfOk, length},
+  Io.{ReadsAtMost, WritesAtMost},
+  Io.KnownBytes.{Keeps, ReadConsumes, WriteAppends},
+};
 ghost use Rattle.nlroute.specs.Counted.{failures_after};
 
 use std::io;

@@ -1,8 +1,10 @@
 //! How a run ends that does not print a report.
 
 ghost use Rattle.std.specs.Prelude.{◌≡◌, ◌++◌};
-ghost use Rattle.nlroute.specs.declared.error.RunError.TheVariants.{Memory, Unfit};
-ghost use Rattle.nlroute.specs.Error.{line_of, refusal_of, status_of};
+ghost use Rattle.nlroute.specs.{
+  declared.error.RunError.TheVariants.{Memory, Unfit},
+  Error.{line_of, refusal_of, status_of},
+};
 
 use netlink_packet_route::framing::{DecodeError, EmitError};
 use std::alloc::{AllocError, AllocFailed};

@@ -2,8 +2,10 @@
 
 ghost use Rattle.std.specs.Prelude.{◌≡◌, ◌⊎◌, ◌↔◌, ℕ, List, IfOk, IfErr};
 ghost use Rattle.hex.specs.Hex.{decode_of};
-ghost use Rattle.nlroute.specs.HexText.{HasOneReading, IsHexText, IsNoHexText, is_blank};
-ghost use Rattle.nlroute.specs.declared.error.RunError.TheVariants.{BadHex, Memory};
+ghost use Rattle.nlroute.specs.{
+  HexText.{HasOneReading, IsHexText, IsNoHexText, is_blank},
+  declared.error.RunError.TheVariants.{BadHex, Memory},
+};
 
 use crate::error::RunError;
 use hex::FromHexError;

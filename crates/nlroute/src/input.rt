@@ -1,9 +1,13 @@
 //! Reading a reader to its end.
 
-ghost use Rattle.std.specs.Prelude.{◌≡◌, ◌≢◌, ◌⊎◌, ◌<◌, ◌++◌, List, ℕ, length, IfOk, IfErr, IfSome, OnOk};
-ghost use Rattle.std.specs.Io.KnownBytes.{Consumes, IsAtEnd};
-ghost use Rattle.nlroute.specs.Counted.{raised};
-ghost use Rattle.nlroute.specs.declared.error.RunError.TheVariants.{Memory, Read as ReadFailed};
+ghost use Rattle.std.specs.{
+  Prelude.{◌≡◌, ◌≢◌, ◌⊎◌, ◌<◌, ◌++◌, List, ℕ, length, IfOk, IfErr, IfSome, OnOk},
+  Io.KnownBytes.{Consumes, IsAtEnd},
+};
+ghost use Rattle.nlroute.specs.{
+  Counted.{raised},
+  declared.error.RunError.TheVariants.{Memory, Read as ReadFailed},
+};
 
 use crate::counted::Counted;
 use crate::error::RunError;

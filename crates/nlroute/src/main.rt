@@ -1,10 +1,8 @@
 //! Reads a message of rtnetlink as hexadecimal text, and reports on it.
 #![tactic(auto)]
 
-ghost use Rattle.std.specs.Prelude.{◌≡◌, IfErr};
-ghost use Rattle.std.specs.Process.{exit_status};
-ghost use Rattle.nlroute.specs.Error.{status_of};
-ghost use Rattle.nlroute.specs.declared.error.RunError.TheVariants.{Memory};
+ghost use Rattle.std.specs.{Prelude.{◌≡◌, IfErr}, Process.{exit_status}};
+ghost use Rattle.nlroute.specs.{Error.{status_of}, declared.error.RunError.TheVariants.{Memory}};
 
 mod counted;
 mod error;

@@ -1,9 +1,13 @@
 //! Writing a whole text.
 
-ghost use Rattle.std.specs.Prelude.{◌≡◌, ◌<◌, ℕ, length, take, IfErr, OnOk, OnErr};
-ghost use Rattle.std.specs.Io.KnownBytes.{Appends, Keeps};
-ghost use Rattle.nlroute.specs.Counted.{raised};
-ghost use Rattle.nlroute.specs.declared.error.RunError.TheVariants.{Write as WriteFailed};
+ghost use Rattle.std.specs.{
+  Prelude.{◌≡◌, ◌<◌, ℕ, length, take, IfErr, OnOk, OnErr},
+  Io.KnownBytes.{Appends, Keeps},
+};
+ghost use Rattle.nlroute.specs.{
+  Counted.{raised},
+  declared.error.RunError.TheVariants.{Write as WriteFailed},
+};
 
 use crate::counted::Counted;
 use crate::error::RunError;

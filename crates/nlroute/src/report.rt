@@ -2,8 +2,10 @@
 
 ghost use Rattle.std.specs.Prelude.{◌≡◌, ◌++◌, None, length, map, string_bytes, IfErr, IfOk, OnOk};
 ghost use Rattle.netlink_packet_route.specs.Family.{first_unfit};
-ghost use Rattle.nlroute.specs.Report.{closing_text, heading_text, line_text, lines_text, report};
-ghost use Rattle.nlroute.specs.declared.error.RunError.TheVariants.{Memory};
+ghost use Rattle.nlroute.specs.{
+  Report.{closing_text, heading_text, line_text, lines_text, report},
+  declared.error.RunError.TheVariants.{Memory},
+};
 
 use crate::error::RunError;
 use netlink_packet_route::framing::{Attribute, marked_kind};

@@ -1,18 +1,24 @@
 //! A run, from the text that is read to the report that is written.
 
-ghost use Rattle.std.specs.Prelude.{◌≡◌, ◌≢◌, ◌⊎◌, None, Some, length, map, string_bytes, IfOk, IfErr, IfSome, OnOk, OnErr};
-ghost use Rattle.std.specs.Io.KnownBytes.{IsAtEnd, Keeps};
-ghost use Rattle.netlink_packet_route.specs.Family.{first_unfit};
-ghost use Rattle.netlink_packet_route.specs.declared.framing.DecodeError.{DecodeError};
-ghost use Rattle.netlink_packet_route.specs.declared.framing.DecodeError.TheVariants.{OutOfMemory};
-ghost use Rattle.netlink_packet_route.specs.declared.framing.EmitError.{EmitError};
-ghost use Rattle.nlroute.specs.Counted.{raised};
-ghost use Rattle.nlroute.specs.Error.{IsOfMessage};
-ghost use Rattle.nlroute.specs.HexText.{IsNoHexText};
-ghost use Rattle.nlroute.specs.Report.{report};
-ghost use Rattle.nlroute.specs.Run.{IsReport, IsRefused, IsUnfit, OfText, Reports, ReportsPart};
-ghost use Rattle.nlroute.specs.Which.{which_name};
-ghost use Rattle.nlroute.specs.declared.error.RunError.TheVariants.{BadHex, Memory, Refused, Unfit, Read as ReadFailed, Write as WriteFailed};
+ghost use Rattle.std.specs.{
+  Prelude.{◌≡◌, ◌≢◌, ◌⊎◌, None, Some, length, map, string_bytes, IfOk, IfErr, IfSome, OnOk, OnErr},
+  Io.KnownBytes.{IsAtEnd, Keeps},
+};
+ghost use Rattle.netlink_packet_route.specs.{
+  Family.{first_unfit},
+  declared.framing.DecodeError.{DecodeError},
+  declared.framing.DecodeError.TheVariants.{OutOfMemory},
+  declared.framing.EmitError.{EmitError},
+};
+ghost use Rattle.nlroute.specs.{
+  Counted.{raised},
+  Error.{IsOfMessage},
+  HexText.{IsNoHexText},
+  Report.{report},
+  Run.{IsReport, IsRefused, IsUnfit, OfText, Reports, ReportsPart},
+  Which.{which_name},
+  declared.error.RunError.TheVariants.{BadHex, Memory, Refused, Unfit, Read as ReadFailed, Write as WriteFailed},
+};
 
 use crate::counted::Counted;
 use crate::error::RunError;

@@ -1,8 +1,7 @@
 //! The kind of message that a run reads, as the command line names it.
 
 ghost use Rattle.std.specs.Prelude.{◌≡◌, ◌≢◌, [], ◌∷◌, map, string_bytes, IfSome, IsNone};
-ghost use Rattle.nlroute.specs.declared.which.Which.{Which};
-ghost use Rattle.nlroute.specs.Which.{which_name};
+ghost use Rattle.nlroute.specs.{declared.which.Which.{Which}, Which.{which_name}};
 
 /// The line for a command line that names no kind.
 pub const USAGE: &str = "usage: nlroute address|route|rule";

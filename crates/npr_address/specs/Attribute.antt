@@ -9,7 +9,8 @@ use Rattle.npr_base.specs.Layout.{le32, octets, signed32}
 use Rattle.npr_base.specs.Codec.{exactly, leading}
 use Rattle.npr_base.specs.IpCodec.{ip}
 use Rattle.npr_base.specs.Name.{name}
-use Rattle.npr_base.specs.Table.{Writing, Reading, Row, row, Held, held, held_other, held_kind, held_value, held_misfit, held-reads, IsHeld, item_of, placed, IsOther, Aligned, ReadsAt}
+use Rattle.npr_base.specs.Table.{Writing, Reading, Row, row, Held, held, held_other, held_kind, held_value, held_misfit, held-reads, IsHeld}
+use Rattle.npr_base.specs.Table.{item_of, placed, IsOther, Aligned, ReadsAt}
 use Rattle.npr_base.specs.TableLaws.{flat, other-back}
 use Rattle.npr_address.specs.AddressFlags.{address_flags}
 use Rattle.npr_address.specs.AddressProtocol.{protocol as address_protocol}
@@ -18,7 +19,9 @@ use Rattle.npr_address.specs.declared.addr_flags.AddressFlags.{AddressFlags}
 use Rattle.npr_address.specs.declared.addr_protocol.AddressProtocol.{AddressProtocol}
 use Rattle.npr_address.specs.declared.cache_info.CacheInfo.{CacheInfo}
 use Rattle.npr_address.specs.declared.attribute.AddressAttribute.{AddressAttribute}
-use Rattle.npr_address.specs.declared.attribute.AddressAttribute.TheVariants.{Address, Local, Label, Broadcast, Anycast, CacheInfo as Info, Multicast, Flags, RoutePriority, TargetNetNsId, Protocol, Other}
+use Rattle.npr_address.specs.declared.attribute.AddressAttribute.TheVariants.{Address, Local, Label, Broadcast, Anycast, CacheInfo as Info}
+use Rattle.npr_address.specs.declared.attribute.AddressAttribute.TheVariants.{Multicast, Flags, RoutePriority, TargetNetNsId, Protocol}
+use Rattle.npr_address.specs.declared.attribute.AddressAttribute.TheVariants.{Other}
 use Rattle.std.proofs.Common.{refl, arith, rules}
 
 -- what an attribute is, without where it lies in memory

@@ -29,7 +29,12 @@ info-back c h = λ i. record {
 }
 
 pub info-holds : (b : List ℕ) → IsBytes b → length b ≡ 16 → HoldsInfo (decode_info b)
-info-holds b is e = record { ifa_preferred = le32_at-holds b 0 is; ifa_valid = le32_at-holds b 4 is; cstamp = le32_at-holds b 8 is; tstamp = le32_at-holds b 12 is }
+info-holds b is e = record {
+  ifa_preferred = le32_at-holds b 0 is;
+  ifa_valid = le32_at-holds b 4 is;
+  cstamp = le32_at-holds b 8 is;
+  tstamp = le32_at-holds b 12 is;
+}
 
 abbrev pub cache_info : Layout CacheInfo
 cache_info = record {

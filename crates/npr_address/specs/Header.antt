@@ -29,7 +29,13 @@ pub record HoldsBuffer (h : AddressMessageBuffer) : Type 0 where
   pub index : h.index < 2 ^ 32
 
 pub buffer-back : (h : AddressMessageBuffer) → HoldsBuffer h → decode_buffer (encode_buffer h) ≡ h
-buffer-back h k = λ i. record { family = h.family; prefix_len = h.prefix_len; flags = h.flags; scope = h.scope; index = from_le_bytes-to_le_bytes_4 h.index k.index i }
+buffer-back h k = λ i. record {
+  family = h.family;
+  prefix_len = h.prefix_len;
+  flags = h.flags;
+  scope = h.scope;
+  index = from_le_bytes-to_le_bytes_4 h.index k.index i;
+}
 
 pub buffer-holds : (b : List ℕ) → IsBytes b → length b ≡ 8 → HoldsBuffer (decode_buffer b)
 buffer-holds b is e = record { family = is 0; prefix_len = is 1; flags = is 2; scope = is 3; index = le32_at-holds b 4 is }
@@ -50,10 +56,22 @@ abbrev pub header_of : AddressMessageBuffer → AddressHeader
 header_of b = record { family = family_of b.family; prefix_len = b.prefix_len; flags = header_flags_of b.flags; scope = scope_of b.scope; index = b.index }
 
 abbrev pub buffer_of : AddressHeader → AddressMessageBuffer
-buffer_of h = record { family = family_number h.family; prefix_len = h.prefix_len; flags = header_flags_bits h.flags; scope = scope_number h.scope; index = h.index }
+buffer_of h = record {
+  family = family_number h.family;
+  prefix_len = h.prefix_len;
+  flags = header_flags_bits h.flags;
+  scope = scope_number h.scope;
+  index = h.index;
+}
 
 pub buffer-header : (b : AddressMessageBuffer) → buffer_of (header_of b) ≡ b
-buffer-header b = λ i. record { family = family_number-family_of b.family i; prefix_len = b.prefix_len; flags = b.flags; scope = scope_number-scope_of b.scope i; index = b.index }
+buffer-header b = λ i. record {
+  family = family_number-family_of b.family i;
+  prefix_len = b.prefix_len;
+  flags = b.flags;
+  scope = scope_number-scope_of b.scope i;
+  index = b.index;
+}
 
 abbrev pub header : Layout AddressHeader
 header = formed header_buffer header_of buffer_of buffer-header

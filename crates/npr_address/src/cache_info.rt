@@ -1,11 +1,13 @@
 //! How long an address is preferred and valid: `struct ifa_cacheinfo` of `linux/if_addr.h`.
 
 ghost use Rattle.std.specs.Prelude.{◌≡◌, ◌≤◌, ◌<◌, ℕ, None, length, IfOk, IfErr};
-ghost use Rattle.npr_base.specs.Codec.{leading};
-ghost use Rattle.npr_base.specs.Family.{checked};
-ghost use Rattle.npr_base.specs.Framing.{Writes};
+ghost use Rattle.npr_base.specs.{
+  Codec.{leading},
+  Family.{checked},
+  Framing.{Writes},
+  Refusal.{no_place},
+};
 ghost use Rattle.npr_address.specs.CacheInfo.{cache_info, cache_info_buffer, buffer_of};
-ghost use Rattle.npr_base.specs.Refusal.{no_place};
 
 use npr_base::{DecodeError, EmitError, Emitable, write_bytes};
 

@@ -3,12 +3,14 @@
 
 ghost use Rattle.std.specs.Prelude.{◌≡◌, ◌^◌, ℕ, List, None};
 ghost use Rattle.npr_base.specs.Equality.{IsEquality, IsEqualityOf};
-ghost use Rattle.npr_address.specs.AddressFlags.{address_flags_bits, header_flags_bits, header_flags_of};
-ghost use Rattle.npr_address.specs.AddressProtocol.{protocol_of, protocol_number};
-ghost use Rattle.npr_address.specs.AddressScope.{scope_of, scope_number};
-ghost use Rattle.npr_address.specs.Attribute.{meaning_of};
-ghost use Rattle.npr_address.specs.Header.{default_header};
-ghost use Rattle.npr_address.specs.Message.{Address, message_of, IsAddressMessage, IsCoherentAddress, address_bytes, address_misfit};
+ghost use Rattle.npr_address.specs.{
+  AddressFlags.{address_flags_bits, header_flags_bits, header_flags_of},
+  AddressProtocol.{protocol_of, protocol_number},
+  AddressScope.{scope_of, scope_number},
+  Attribute.{meaning_of},
+  Header.{default_header},
+  Message.{Address, message_of, IsAddressMessage, IsCoherentAddress, address_bytes, address_misfit},
+};
 
 use crate::addr_flags::{AddressFlags, AddressHeaderFlags};
 use crate::addr_protocol::AddressProtocol;

@@ -1,10 +1,14 @@
 //! Address messages: `RTM_NEWADDR`, `RTM_DELADDR` and `RTM_GETADDR`, without the envelope.
 
 ghost use Rattle.std.specs.Prelude.{◌≡◌, ◌≢◌, ◌≤◌, ◌<◌, ◌*◌, ℕ, List, None, [], length, drop, IfOk, IfErr, IsErrOf};
-ghost use Rattle.npr_base.specs.declared.refusal.DecodeError.TheVariants.{OutOfMemory};
-ghost use Rattle.npr_base.specs.Framing.{Item, Front};
-ghost use Rattle.npr_address.specs.Header.{default_header};
-ghost use Rattle.npr_address.specs.Message.{Address, message_of, IsAddressMessage, AddressFault, IsCoherentAddress, address_bytes, address_misfit};
+ghost use Rattle.npr_base.specs.{
+  declared.refusal.DecodeError.TheVariants.{OutOfMemory},
+  Framing.{Item, Front},
+};
+ghost use Rattle.npr_address.specs.{
+  Header.{default_header},
+  Message.{Address, message_of, IsAddressMessage, AddressFault, IsCoherentAddress, address_bytes, address_misfit},
+};
 
 use crate::attribute::AddressAttribute;
 use crate::header::AddressHeader;

@@ -1,10 +1,12 @@
 //! A family of attributes, with its laws.
 
 ghost use Rattle.std.specs.Prelude.{◌≡◌, ◌≢◌, length, IfOk, IfErr};
-ghost use Rattle.npr_base.specs.declared.refusal.DecodeError.TheVariants.{OutOfMemory};
-ghost use Rattle.npr_base.specs.Counts.{AddsAtMost, SawEach};
-ghost use Rattle.npr_base.specs.Framing.{written};
-ghost use Rattle.npr_base.specs.Table.{Writing, Reading};
+ghost use Rattle.npr_base.specs.{
+  declared.refusal.DecodeError.TheVariants.{OutOfMemory},
+  Counts.{AddsAtMost, SawEach},
+  Framing.{written},
+  Table.{Writing, Reading},
+};
 
 use crate::framing::NlaBuffer;
 use crate::looks::Looks;

@@ -1,12 +1,16 @@
 //! An attribute that is kept as it stands.
 
-ghost use Rattle.std.specs.Prelude.{◌≡◌, ◌≢◌, ℕ, ◌+◌, false, length, IfOk, IfErr};
-ghost use Rattle.std.specs.Cmp.{decided, partial_equiv_from_equiv};
-ghost use Rattle.npr_base.specs.declared.refusal.DecodeError.TheVariants.{OutOfMemory};
-ghost use Rattle.npr_base.specs.Framing.{Item, framed};
-ghost use Rattle.npr_base.specs.Family.{checked, too_long};
-ghost use Rattle.npr_base.specs.ViewEquality.{same_item, item_equality};
-ghost use Rattle.npr_base.specs.FitLaws.{too_long-short};
+ghost use Rattle.std.specs.{
+  Prelude.{◌≡◌, ◌≢◌, ℕ, ◌+◌, false, length, IfOk, IfErr},
+  Cmp.{decided, partial_equiv_from_equiv},
+};
+ghost use Rattle.npr_base.specs.{
+  declared.refusal.DecodeError.TheVariants.{OutOfMemory},
+  Framing.{Item, framed},
+  Family.{checked, too_long},
+  ViewEquality.{same_item, item_equality},
+  FitLaws.{too_long-short},
+};
 
 use crate::framing::{NLA_HEADER_SIZE, NlaBuffer, write_bytes};
 use crate::refusal::{DecodeError, EmitError};

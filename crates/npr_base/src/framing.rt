@@ -1,11 +1,15 @@
 //! The framing of attributes: four bytes of header, a value, and padding to a multiple of four.
 
-ghost use Rattle.std.specs.Prelude.{◌≡◌, ◌+◌, ◌%◌, ◌/◌, ◌^◌, ◌≤◌, ◌↔◌, ◌++◌, ◌<◌, [], ◌∷◌, IsTrue, length, take, drop, replicate, List, ℕ, Ok, Err, Some, None};
-ghost use Rattle.std.specs.Int.{w16, to_le_bytes};
-ghost use Rattle.std.specs.Iterator.{at_most};
-ghost use Rattle.std.specs.Cmp.{decided, partial_equiv_from_equiv};
-ghost use Rattle.npr_base.specs.ViewEquality.{same_item, item_equality, same_bytes, bytes_equality};
-ghost use Rattle.npr_base.specs.Framing.{Item, Begins, Step, Writes, encoding, framed, looked, marked, number_of};
+ghost use Rattle.std.specs.{
+  Prelude.{◌≡◌, ◌+◌, ◌%◌, ◌/◌, ◌^◌, ◌≤◌, ◌↔◌, ◌++◌, ◌<◌, [], ◌∷◌, IsTrue, length, take, drop, replicate, List, ℕ, Ok, Err, Some, None},
+  Int.{w16, to_le_bytes},
+  Iterator.{at_most},
+  Cmp.{decided, partial_equiv_from_equiv},
+};
+ghost use Rattle.npr_base.specs.{
+  ViewEquality.{same_item, item_equality, same_bytes, bytes_equality},
+  Framing.{Item, Begins, Step, Writes, encoding, framed, looked, marked, number_of},
+};
 
 use crate::looks::Looks;
 use crate::refusal::DecodeError;

@@ -1,8 +1,7 @@
 //! Addresses of IP, by their bytes in the order of the network.
 
 ghost use Rattle.std.specs.Prelude.{◌≡◌, ◌∷◌, [], IsTrue, ◌↔◌};
-ghost use Rattle.npr_base.specs.declared.ip.IpAddr.TheVariants.{V4, V6};
-ghost use Rattle.npr_base.specs.Ip.{IsIpv4, IsIpv6};
+ghost use Rattle.npr_base.specs.{declared.ip.IpAddr.TheVariants.{V4, V6}, Ip.{IsIpv4, IsIpv6}};
 
 use std::marker::Model;
 

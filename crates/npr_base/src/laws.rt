@@ -2,11 +2,13 @@
 //! is the law.
 
 ghost use Rattle.std.specs.Prelude.{◌≡◌, ◌≤◌, ◌+◌, ◌*◌, ◌%◌, ◌++◌, ◌∷◌, ◌↔◌, ℕ, List, [], Result, Err, length};
-ghost use Rattle.npr_base.specs.declared.refusal.DecodeError.{DecodeError};
-ghost use Rattle.npr_base.specs.AddressFamily.{family_of, family_number};
-ghost use Rattle.npr_base.specs.Equality.{IsEquality};
-ghost use Rattle.npr_base.specs.Framing.{Item, Cut, Stops};
-ghost use Rattle.npr_base.specs.Walk.{Steps, found, Finds, CutsInTwo};
+ghost use Rattle.npr_base.specs.{
+  declared.refusal.DecodeError.{DecodeError},
+  AddressFamily.{family_of, family_number},
+  Equality.{IsEquality},
+  Framing.{Item, Cut, Stops},
+  Walk.{Steps, found, Finds, CutsInTwo},
+};
 
 use crate::attribute::Attribute;
 use crate::framing::{

@@ -1,11 +1,13 @@
 //! Lists of attributes, for any family.
 
 ghost use Rattle.std.specs.Prelude.{◌≡◌, ◌≢◌, ◌≤◌, ◌<◌, ℕ, List, Option, None, length, map, ◌++◌, ◌+◌, IfOk, IfErr, IsErrOf};
-ghost use Rattle.npr_base.specs.Counts.{AddsAtMost, SawEach};
-ghost use Rattle.npr_base.specs.Framing.{Item, Front, Writes, written_by};
-ghost use Rattle.npr_base.specs.Walk.{Walked};
-ghost use Rattle.npr_base.specs.Family.{ReadsList, FirstFault, checked, list_unfit, list_members, encodings, in_usize};
-ghost use Rattle.npr_base.specs.declared.refusal.DecodeError.TheVariants.{OutOfMemory};
+ghost use Rattle.npr_base.specs.{
+  Counts.{AddsAtMost, SawEach},
+  Framing.{Item, Front, Writes, written_by},
+  Walk.{Walked},
+  Family.{ReadsList, FirstFault, checked, list_unfit, list_members, encodings, in_usize},
+  declared.refusal.DecodeError.TheVariants.{OutOfMemory},
+};
 
 use crate::attribute::Attribute;
 use crate::framing::NlasIterator;

@@ -1,11 +1,13 @@
 //! What is parsed and what is emitted.
 
 ghost use Rattle.std.specs.Prelude.{◌≡◌, ◌≢◌, ◌≤◌, Bool, ℕ, List, Option, None, length, IfOk, IfErr};
-ghost use Rattle.npr_base.specs.declared.refusal.EmitError.{EmitError};
-ghost use Rattle.npr_base.specs.declared.refusal.DecodeError.{DecodeError};
-ghost use Rattle.npr_base.specs.declared.refusal.DecodeError.TheVariants.{OutOfMemory};
-ghost use Rattle.npr_base.specs.Framing.{Item, Writes, encoding, framed, marked, written};
-ghost use Rattle.npr_base.specs.Family.{checked};
+ghost use Rattle.npr_base.specs.{
+  declared.refusal.EmitError.{EmitError},
+  declared.refusal.DecodeError.{DecodeError},
+  declared.refusal.DecodeError.TheVariants.{OutOfMemory},
+  Framing.{Item, Writes, encoding, framed, marked, written},
+  Family.{checked},
+};
 
 use crate::framing::{NLA_HEADER_SIZE, frame, marked_kind};
 use crate::refusal::{DecodeError, EmitError};

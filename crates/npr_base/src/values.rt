@@ -1,16 +1,20 @@
 //! Values of attributes: numbers, bytes and names.
 
-ghost use Rattle.std.specs.Prelude.{◌≡◌, ◌≢◌, ◌≤◌, ◌+◌, length, IfOk, IfErr};
-ghost use Rattle.std.specs.String.{string_bytes};
-ghost use Rattle.npr_base.specs.declared.refusal.DecodeError.TheVariants.{OutOfMemory};
-ghost use Rattle.npr_base.specs.Framing.{Writes};
-ghost use Rattle.npr_base.specs.Layout.{byte, le16, le32, le64, be16, be32, be64, signed32, boolean, octets};
-ghost use Rattle.npr_base.specs.Codec.{exactly, leading, raw};
-ghost use Rattle.npr_base.specs.Ip.{octets_of};
-ghost use Rattle.npr_base.specs.IpCodec.{ip};
-ghost use Rattle.npr_base.specs.Name.{name};
-ghost use Rattle.npr_base.specs.NameLaws.{IsUnterminated};
-ghost use Rattle.npr_base.specs.Refusal.{no_place};
+ghost use Rattle.std.specs.{
+  Prelude.{◌≡◌, ◌≢◌, ◌≤◌, ◌+◌, length, IfOk, IfErr},
+  String.{string_bytes},
+};
+ghost use Rattle.npr_base.specs.{
+  declared.refusal.DecodeError.TheVariants.{OutOfMemory},
+  Framing.{Writes},
+  Layout.{byte, le16, le32, le64, be16, be32, be64, signed32, boolean, octets},
+  Codec.{exactly, leading, raw},
+  Ip.{octets_of},
+  IpCodec.{ip},
+  Name.{name},
+  NameLaws.{IsUnterminated},
+  Refusal.{no_place},
+};
 
 use crate::framing::write_bytes;
 use crate::ip::{IpAddr, Ipv4Addr, Ipv6Addr};

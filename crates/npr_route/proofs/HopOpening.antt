@@ -8,7 +8,7 @@ use Rattle.npr_base.specs.ListLaws.{IsBytes-left}
 use Rattle.npr_route.specs.Attribute.{HopFront, hop_text}
 use Rattle.npr_route.specs.NextHopHeader.{decode_buffer, encode_buffer, buffer-holds, IsChecked}
 use Rattle.npr_route.specs.NextHopHeader.{head_in}
-use Rattle.npr_route.specs.declared.next_hops.RouteNextHopBuffer.{RouteNextHopBuffer}
+use Rattle.npr_route.specs.declared.next_hop_buffer.RouteNextHopBuffer.{RouteNextHopBuffer}
 
 low : (a b : ℕ) → a < 256 → b < 256 → ((a + b * 256) % 256 ≡ a) × ((a + b * 256) / 256 % 256 ≡ b)
 low a b p q = (omega arith, omega arith)

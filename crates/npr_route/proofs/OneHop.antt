@@ -8,7 +8,7 @@ use Rattle.npr_route.specs.AttributeView.{hops_of}
 use Rattle.npr_route.specs.FlatAttribute.{Context}
 use Rattle.npr_route.specs.NextHopFrontLaws.{HopFront-same, HopFront-sound, HopFront-length}
 use Rattle.npr_route.specs.NextHopHeader.{IsChecked}
-use Rattle.npr_route.specs.declared.next_hops.RouteNextHopBuffer.{RouteNextHopBuffer}
+use Rattle.npr_route.specs.declared.next_hop_buffer.RouteNextHopBuffer.{RouteNextHopBuffer}
 
 -- a next hop that stands in front, with what follows it cut off
 cut_off : (bytes : List ℕ) (h : HopHead) (inside rest : List ℕ) → HopFront bytes h inside rest → HopFront (hop_text h inside) h inside []

@@ -1,6 +1,7 @@
 -- The attributes of a route message with next hops among them (linux/rtnetlink.h, RTA_*, struct rtnexthop): a next hop is
 -- a header of eight bytes and attributes, which may be next hops again.
-use Rattle.std.specs.Prelude.{◌≡◌, ◌≢◌, ℕ, ◌+◌, ◌<◌, ◌≤◌, ◌^◌, ◌⊎◌, Bool, false, List, [], ◌∷◌, ◌++◌, length, take, max, Option, Some, None, nat_lt, if◌then◌else◌}
+use Rattle.std.specs.Prelude.{◌≡◌, ◌≢◌, ℕ, ◌+◌, ◌<◌, ◌≤◌, ◌^◌, ◌⊎◌, Bool, false, List, [], ◌∷◌, ◌++◌, length, take, max, Option, Some, None}
+use Rattle.std.specs.Prelude.{nat_lt, if◌then◌else◌}
 use Rattle.std.specs.Int.{w16, w32, to_le_bytes, from_le_bytes}
 use Rattle.npr_base.specs.declared.refusal.DecodeError.{DecodeError}
 use Rattle.npr_base.specs.declared.refusal.DecodeError.TheVariants.{NextHopTooShort, NextHopLength}
@@ -82,12 +83,15 @@ mutual
   pub data AttributesWrong : Context → List ℕ → DecodeError → Type 0 where
     none_in_front : {c : Context} {bytes : List ℕ} {e : DecodeError} → 0 < length bytes → Fault bytes e → AttributesWrong c bytes e
     first_wrong : {c : Context} {bytes : List ℕ} {e : DecodeError} (x : Item) (rest : List ℕ) → Front bytes x rest → Wrong c x e → AttributesWrong c bytes e
-    later_wrong : {c : Context} {bytes : List ℕ} {e : DecodeError} (x : Item) (rest : List ℕ) (m : Meaning) → Front bytes x rest → Reads c x m → AttributesWrong c rest e → AttributesWrong c bytes e
+    later_wrong : {c : Context} {bytes : List ℕ} {e : DecodeError} (x : Item) (rest : List ℕ) (m : Meaning) → Front bytes x rest
+        → Reads c x m → AttributesWrong c rest e → AttributesWrong c bytes e
 
   pub data HopsWrong : Context → List ℕ → DecodeError → Type 0 where
     no_hop_in_front : {c : Context} {bytes : List ℕ} {e : DecodeError} → 0 < length bytes → HopFault bytes e → HopsWrong c bytes e
-    first_hop_wrong : {c : Context} {bytes : List ℕ} {e : DecodeError} (h : HopHead) (inside rest : List ℕ) → HopFront bytes h inside rest → AttributesWrong c inside e → HopsWrong c bytes e
-    later_hop_wrong : {c : Context} {bytes : List ℕ} {e : DecodeError} (h : HopHead) (inside rest : List ℕ) (ms : Attributes) → HopFront bytes h inside rest → AreAttributes c inside ms → HopsWrong c rest e → HopsWrong c bytes e
+    first_hop_wrong : {c : Context} {bytes : List ℕ} {e : DecodeError} (h : HopHead) (inside rest : List ℕ)
+        → HopFront bytes h inside rest → AttributesWrong c inside e → HopsWrong c bytes e
+    later_hop_wrong : {c : Context} {bytes : List ℕ} {e : DecodeError} (h : HopHead) (inside rest : List ℕ) (ms : Attributes)
+        → HopFront bytes h inside rest → AreAttributes c inside ms → HopsWrong c rest e → HopsWrong c bytes e
 
 -- one next hop in front, whatever follows it, and why there is none
 abbrev pub IsHop : Context → List ℕ → Hop → Type 0

@@ -1,7 +1,8 @@
 -- The family of the attributes of a route message: bytes are one list of them at most, what is wrong with them is none,
 -- and what is written is read again; likewise of next hops.
 use Rattle.std.specs.Prelude.{◌==◌}
-use Rattle.std.proofs.Common.{◌≡◌, ℕ, ◌+◌, ◌*◌, ◌<◌, ◌≤◌, ◌^◌, Bool, true, false, List, [], ◌∷◌, ◌++◌, length, Some, None, refl, sym, ap, subst, ◌∙◌, arith, rules, inl, inr, length-append}
+use Rattle.std.proofs.Common.{◌≡◌, ℕ, ◌+◌, ◌*◌, ◌<◌, ◌≤◌, ◌^◌, Bool, true, false, List, [], ◌∷◌, ◌++◌, length, Some, None, refl, sym, ap}
+use Rattle.std.proofs.Common.{subst, ◌∙◌, arith, rules, inl, inr, length-append}
 use Rattle.std.proofs.lemmas.Bool.{eqb-true, cases_lt, lt-ltb, le-ltb}
 use Rattle.npr_base.specs.declared.refusal.DecodeError.{DecodeError}
 use Rattle.npr_base.specs.declared.refusal.EmitError.TheVariants.{NextHopTooLong, Total}
@@ -17,7 +18,11 @@ use Rattle.npr_tunnel.specs.declared.encap_type.RouteLwEnCapType.{RouteLwEnCapTy
 use Rattle.npr_route.specs.FlatAttribute as Flat
 use Rattle.npr_route.specs.FlatAttribute.{Context, rows, other, is_multicast, new_destination_variant, NewDestinationValue, expires_variant}
 use Rattle.npr_route.specs.FlatAttributeLaws as Flats
-use Rattle.npr_route.specs.Attribute.{HopHead, HoldsHead, hop_text, HopFront, Meaning, flat, multi_path, Attributes, no_more, attribute, Hops, no_hops, hop, Reads, AreAttributes, AreHops, Wrong, value_wrong, hops_wrong, AttributesWrong, none_in_front, first_wrong, later_wrong, HopsWrong, no_hop_in_front, first_hop_wrong, later_hop_wrong, plain_of, nested_of, writes, attributes_bytes, hops_bytes, hop_overlong, misfit, attributes_misfit, hops_misfit, Coherent, AttributesCoherent, HopsCoherent, members, depth, attributes_depth, hops_depth}
+use Rattle.npr_route.specs.Attribute.{HopHead, HoldsHead, hop_text, HopFront, Meaning, flat, multi_path, Attributes, no_more, attribute}
+use Rattle.npr_route.specs.Attribute.{Hops, no_hops, hop, Reads, AreAttributes, AreHops, Wrong, value_wrong, hops_wrong, AttributesWrong}
+use Rattle.npr_route.specs.Attribute.{none_in_front, first_wrong, later_wrong, HopsWrong, no_hop_in_front, first_hop_wrong, later_hop_wrong}
+use Rattle.npr_route.specs.Attribute.{plain_of, nested_of, writes, attributes_bytes, hops_bytes, hop_overlong, misfit, attributes_misfit}
+use Rattle.npr_route.specs.Attribute.{hops_misfit, Coherent, AttributesCoherent, HopsCoherent, members, depth, attributes_depth, hops_depth}
 use Rattle.npr_route.specs.NextHopFrontLaws.{HopFront-same, HopFront-sound, HopFront-length, HopFront-proper}
 
 no_front : {A : Type 0} (bytes rest : List ℕ) (x : Item) → bytes ≡ [] → Front bytes x rest → A
@@ -91,7 +96,9 @@ abbrev Numbered : {M : Type 0} → (M → ℕ) → List (Row M) → Type 0
 Numbered number [] = Unit {0}
 Numbered number (r ∷ rs) = ((v : r.V) → number (r.variant v) ≡ r.at.kind) × Numbered number rs
 
-numbered-reads : {M : Type 0} (number : M → ℕ) (kept : Item → M) → ((x : Item) → number (kept x) ≡ number_of x.kind) → (rs : List (Row M)) → Numbered number rs → (k : ℕ) (x : Item) (m : M) → number_of x.kind ≡ k → ReadsAt kept rs k x m → number m ≡ k
+numbered-reads : {M : Type 0} (number : M → ℕ) (kept : Item → M) → ((x : Item) → number (kept x) ≡ number_of x.kind)
+    → (rs : List (Row M)) → Numbered number rs → (k : ℕ) (x : Item) (m : M) → number_of x.kind ≡ k → ReadsAt kept rs k x m
+    → number m ≡ k
 numbered-reads number kept same [] all k x m is p = ap number p ∙ same x ∙ is
 numbered-reads number kept same (r ∷ rs) all k x m is p = one_of (k == r.at.kind)
     (λ e a. ap number a.2 ∙ all.0 a.0 ∙ sym (eqb-true k r.at.kind e))
@@ -119,7 +126,9 @@ numbered : (form : Form) (multicast : Bool) (type : RouteLwEnCapType) → Number
 numbered form multicast type = search (rules, destination_numbered form, expires_numbered multicast, number_marked)
 
 number-kept : (c : Context) (x : Item) (m : Flat.Meaning) → (Flats.attributes c).Reads x m → written_number m ≡ number_of x.kind
-number-kept c x m p = numbered-reads written_number other (λ y. refl) (rows (form_of c.0) (is_multicast c.1) c.2) (numbered (form_of c.0) (is_multicast c.1) c.2) (number_of x.kind) x m refl p
+number-kept c x m p =
+    numbered-reads written_number other (λ y. refl) (rows (form_of c.0) (is_multicast c.1) c.2)
+    (numbered (form_of c.0) (is_multicast c.1) c.2) (number_of x.kind) x m refl p
 
 -- ---- what is read is coherent
 
@@ -152,7 +161,9 @@ hop-short len e = elim (cases_lt len 65536) [
 ]
 
 pub fits-inside : (hs : Hops) → misfit (multi_path hs) ≡ None → hops_misfit hs ≡ None
-fits-inside hs h = (none_both (hops_misfit hs) (overlong (length (hops_bytes hs))) (none_both (option_or (hops_misfit hs) (overlong (length (hops_bytes hs)))) (too_long 9 (length (hops_bytes hs))) h).0).0
+fits-inside hs h =
+    let len : ℕ = length (hops_bytes hs) in
+    (none_both (hops_misfit hs) (overlong len) (none_both (option_or (hops_misfit hs) (overlong len)) (too_long 9 len) h).0).0
 
 pub kinds : (c : Context) (m : Meaning) → Coherent c m → (writes m).kind < 2 ^ 16
 kinds c (flat m) k = (Flats.attributes c).kinds m k.0
@@ -160,7 +171,9 @@ kinds c (multi_path hs) k = omega arith
 
 pub short : (m : Meaning) → misfit m ≡ None → length (writes m).value ≤ 65531
 short (flat m) h = Flats.writing.short m h
-short (multi_path hs) h = too_long-short 9 (length (hops_bytes hs)) (none_both (option_or (hops_misfit hs) (overlong (length (hops_bytes hs)))) (too_long 9 (length (hops_bytes hs))) h).1
+short (multi_path hs) h =
+    let len : ℕ = length (hops_bytes hs) in
+    too_long-short 9 len (none_both (option_or (hops_misfit hs) (overlong len)) (too_long 9 len) h).1
 
 small : (c : Context) (m : Meaning) → Coherent c m → misfit m ≡ None → Small (writes m)
 small c m k h = record { kind = kinds c m k; value = short m h }
@@ -177,7 +190,8 @@ mutual
   attributes-back c no_more k h = refl
   attributes-back c (attribute m ms) k h =
       let f = none_both (misfit m) (attributes_misfit ms) h in
-      (writes m, attributes_bytes ms, encoding-front (writes m) (attributes_bytes ms) (small c m k.0 f.0), reads-back c m k.0 f.0, attributes-back c ms k.1 f.1)
+      let front = encoding-front (writes m) (attributes_bytes ms) (small c m k.0 f.0) in
+      (writes m, attributes_bytes ms, front, reads-back c m k.0 f.0, attributes-back c ms k.1 f.1)
 
   pub hops-back : (c : Context) (hs : Hops) → HopsCoherent c hs → hops_misfit hs ≡ None → AreHops c (hops_bytes hs) hs
   hops-back c no_hops k h = refl
@@ -185,7 +199,8 @@ mutual
       let len : ℕ = 8 + length (attributes_bytes ms) in
       let f = none_both (option_or (attributes_misfit ms) (hop_overlong len)) (hops_misfit hs) h in
       let i = none_both (attributes_misfit ms) (hop_overlong len) f.0 in
-      (attributes_bytes ms, hops_bytes hs, hop-front g (attributes_bytes ms) (hops_bytes hs) k.0 (hop-short len i.1), attributes-back c ms k.1 i.0, hops-back c hs k.2 f.1)
+      let front = hop-front g (attributes_bytes ms) (hops_bytes hs) k.0 (hop-short len i.1) in
+      (attributes_bytes ms, hops_bytes hs, front, attributes-back c ms k.1 i.0, hops-back c hs k.2 f.1)
 
 -- ---- lengths
 
@@ -194,11 +209,13 @@ mutual
   reads-grow c x (flat m) proper p = (Flats.attributes c).grows x m proper p.1
   reads-grow c x (multi_path hs) proper p = omega (arith, hops-grow c x.value hs proper.value p.1)
 
-  pub attributes-grow : (c : Context) (bytes : List ℕ) (ms : Attributes) → IsBytes bytes → AreAttributes c bytes ms → 2 * length (attributes_bytes ms) ≤ 5 * length bytes
+  pub attributes-grow : (c : Context) (bytes : List ℕ) (ms : Attributes) → IsBytes bytes → AreAttributes c bytes ms
+      → 2 * length (attributes_bytes ms) ≤ 5 * length bytes
   attributes-grow c bytes no_more is p = omega arith
   attributes-grow c bytes (attribute m ms) is (x, r, f, p, ps) =
       let k = Front-proper bytes x r is f in
-      omega (arith, reads-grow c x m k.0 p, attributes-grow c r ms k.1 ps, Front-takes bytes x r f, length-encoding (writes m), length-append (encoding (writes m)) (attributes_bytes ms))
+      let joined = length-append (encoding (writes m)) (attributes_bytes ms) in
+      omega (arith, reads-grow c x m k.0 p, attributes-grow c r ms k.1 ps, Front-takes bytes x r f, length-encoding (writes m), joined)
 
   pub hops-grow : (c : Context) (bytes : List ℕ) (hs : Hops) → IsBytes bytes → AreHops c bytes hs → 2 * length (hops_bytes hs) ≤ 5 * length bytes
   hops-grow c bytes no_hops is p = omega arith

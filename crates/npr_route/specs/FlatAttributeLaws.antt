@@ -11,19 +11,27 @@ use Rattle.npr_scalar.specs.MplsLaws.{mpls_labels}
 use Rattle.npr_scalar.specs.RouteAddress.{address_in, Form, four, sixteen, label, any, form_of}
 use Rattle.npr_tunnel.specs.Encapsulation.{encapsulation}
 use Rattle.npr_tunnel.specs.declared.encap_type.RouteLwEnCapType.{RouteLwEnCapType}
-use Rattle.npr_route.specs.FlatAttribute.{Context, Meaning, destination, source, gateway, pref_source, new_destination, new_destination_address, encap, any_marks, expires, multicast_expires, other, rows, new_destination_codec, new_destination_variant, NewDestinationValue, expires_layout, expires_variant, place, Coherent, is_multicast}
+use Rattle.npr_route.specs.FlatAttribute.{Context, Meaning, destination, source, gateway, pref_source, new_destination}
+use Rattle.npr_route.specs.FlatAttribute.{new_destination_address, encap, any_marks, expires, multicast_expires, other, rows}
+use Rattle.npr_route.specs.FlatAttribute.{new_destination_codec, new_destination_variant, NewDestinationValue, expires_layout}
+use Rattle.npr_route.specs.FlatAttribute.{expires_variant, place, Coherent, is_multicast}
 
-new_destination-aligned : (form : Form) (multicast : Bool) (type : RouteLwEnCapType) (v : NewDestinationValue form) → ((item_of (place (new_destination_variant form v))).value ≡ (new_destination_codec form).writes v) × ((new_destination_codec form).Holds v → Coherent form multicast type (new_destination_variant form v))
+new_destination-aligned : (form : Form) (multicast : Bool) (type : RouteLwEnCapType) (v : NewDestinationValue form)
+    → ((item_of (place (new_destination_variant form v))).value ≡ (new_destination_codec form).writes v) ×
+    ((new_destination_codec form).Holds v → Coherent form multicast type (new_destination_variant form v))
 new_destination-aligned four multicast type v = (refl, λ h. (λ e. cc, h))
 new_destination-aligned sixteen multicast type v = (refl, λ h. (λ e. cc, h))
 new_destination-aligned label multicast type v = (refl, λ h. (refl, h))
 new_destination-aligned any multicast type v = (refl, λ h. (λ e. cc, h))
 
-expires-aligned : (form : Form) (multicast : Bool) (type : RouteLwEnCapType) (v : ℕ) → ((item_of (place (expires_variant multicast v))).value ≡ (exactly (expires_layout multicast)).writes v) × ((exactly (expires_layout multicast)).Holds v → Coherent form multicast type (expires_variant multicast v))
+expires-aligned : (form : Form) (multicast : Bool) (type : RouteLwEnCapType) (v : ℕ)
+    → ((item_of (place (expires_variant multicast v))).value ≡ (exactly (expires_layout multicast)).writes v) ×
+    ((exactly (expires_layout multicast)).Holds v → Coherent form multicast type (expires_variant multicast v))
 expires-aligned form true type v = (refl, λ h. (refl, h))
 expires-aligned form false type v = (refl, λ h. (refl, h))
 
-pub aligned : (form : Form) (multicast : Bool) (type : RouteLwEnCapType) → Aligned (λ m. item_of (place m)) (Coherent form multicast type) (rows form multicast type)
+pub aligned : (form : Form) (multicast : Bool) (type : RouteLwEnCapType)
+    → Aligned (λ m. item_of (place m)) (Coherent form multicast type) (rows form multicast type)
 aligned form multicast type = search (rules, new_destination-aligned form multicast type, expires-aligned form multicast type)
 
 pub kinds : (form : Form) (multicast : Bool) (type : RouteLwEnCapType) (m : Meaning) → Coherent form multicast type m → held_kind (place m) < 2 ^ 16
@@ -34,7 +42,9 @@ encap-number : (nested : Bool) → number_of (marked nested 22) ≡ 22
 encap-number true = refl
 encap-number false = refl
 
-pub back : (form : Form) (multicast : Bool) (type : RouteLwEnCapType) (m : Meaning) → Coherent form multicast type m → held_misfit (place m) ≡ None → ReadsAt other (rows form multicast type) (number_of (item_of (place m)).kind) (item_of (place m)) m
+pub back : (form : Form) (multicast : Bool) (type : RouteLwEnCapType) (m : Meaning) → Coherent form multicast type m
+    → held_misfit (place m) ≡ None
+    → ReadsAt other (rows form multicast type) (number_of (item_of (place m)).kind) (item_of (place m)) m
 back form multicast type (other x) c fits = other-back other (rows form multicast type) (number_of x.kind) x c.alone
 back form multicast type (destination a) c fits = (a, (address_in form).reads_back 1 a c fits, refl)
 back form multicast type (source a) c fits = (a, (address_in form).reads_back 2 a c fits, refl)

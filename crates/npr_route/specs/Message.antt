@@ -4,8 +4,8 @@ use Rattle.std.specs.Prelude.{ℕ, List, map, Option}
 use Rattle.npr_base.specs.declared.refusal.DecodeError.{DecodeError}
 use Rattle.npr_base.specs.declared.refusal.EmitError.{EmitError}
 use Rattle.npr_base.specs.Message.{Message, Body, IsMessage, MessageFault, IsCoherent, spelling, message_misfit}
-use Rattle.npr_route.specs.Attribute.{Meaning}
-use Rattle.npr_route.specs.AttributeView.{meaning_of}
+use Rattle.npr_route.specs.Attribute.{Meaning, attributes_depth}
+use Rattle.npr_route.specs.AttributeView.{meaning_of, attributes_of}
 use Rattle.npr_route.specs.AttributeLaws.{writing}
 use Rattle.npr_route.specs.Header.{header}
 use Rattle.npr_route.specs.RouteList.{Under, IsRouteList, RouteListFault, IsCoherentList}
@@ -55,3 +55,7 @@ route_bytes m = spelling header writing m
 -- the first cause why there are none
 unfoldable pub route_misfit : Route → Option EmitError
 route_misfit m = message_misfit header writing m
+
+-- how deep next hops stand inside one another
+abbrev pub route_depth : Route → ℕ
+route_depth m = attributes_depth (attributes_of m.attributes)

@@ -8,10 +8,13 @@ use Rattle.npr_base.specs.Framing.{Item, number_of}
 use Rattle.npr_base.specs.Layout.{le32}
 use Rattle.npr_base.specs.Codec.{exactly}
 use Rattle.npr_base.specs.Name.{name}
-use Rattle.npr_base.specs.Table.{Writing, Reading, Row, row, Held, held, held_other, held_kind, held_value, held_misfit, held-reads, IsHeld, item_of, placed, IsOther, Aligned, ReadsAt}
+use Rattle.npr_base.specs.Table.{Writing, Reading, Row, row, Held, held, held_other, held_kind, held_value, held_misfit, held-reads, IsHeld}
+use Rattle.npr_base.specs.Table.{item_of, placed, IsOther, Aligned, ReadsAt}
 use Rattle.npr_base.specs.TableLaws.{flat, other-back}
 use Rattle.npr_route.specs.declared.metrics.RouteMetric.{RouteMetric}
-use Rattle.npr_route.specs.declared.metrics.RouteMetric.TheVariants.{Lock, Mtu, Window, Rtt, RttVar, SsThresh, Cwnd, Advmss, Reordering, Hoplimit, InitCwnd, Features, RtoMin, InitRwnd, QuickAck, CcAlgo, FastopenNoCookie, Other}
+use Rattle.npr_route.specs.declared.metrics.RouteMetric.TheVariants.{Lock, Mtu, Window, Rtt, RttVar, SsThresh, Cwnd, Advmss, Reordering}
+use Rattle.npr_route.specs.declared.metrics.RouteMetric.TheVariants.{Hoplimit, InitCwnd, Features, RtoMin, InitRwnd, QuickAck, CcAlgo}
+use Rattle.npr_route.specs.declared.metrics.RouteMetric.TheVariants.{FastopenNoCookie, Other}
 
 -- what a metric is, without where it lies in memory
 pub data Metric : Type 0 where

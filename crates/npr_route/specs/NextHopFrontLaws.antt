@@ -24,12 +24,15 @@ HopFront-length bs h inside rest f = omega (arith, ap length f.is, length-append
 length_is : (bs : List ℕ) (h : HopHead) (inside rest : List ℕ) → HopFront bs h inside rest → length_at bs ≡ 8 + length inside
 length_is bs h inside rest f = ap length_at f.is ∙ two_bytes (8 + length inside) (omega (arith, f.short))
 
-pub HopFront-is : (bs : List ℕ) (h : HopHead) (inside rest : List ℕ) → HopFront bs h inside rest → (h ≡ head_at bs) × (inside ≡ take (length_at bs - 8) (drop 8 bs)) × (rest ≡ drop (length_at bs) bs)
+pub HopFront-is : (bs : List ℕ) (h : HopHead) (inside rest : List ℕ) → HopFront bs h inside rest
+    → (h ≡ head_at bs) × (inside ≡ take (length_at bs - 8) (drop 8 bs)) × (rest ≡ drop (length_at bs) bs)
 HopFront-is bs h inside rest f =
     let l : length_at bs ≡ 8 + length inside = length_is bs h inside rest f in
     let d : drop 8 bs ≡ inside ++ rest = ap (drop 8) f.is in
-    let i : take (length_at bs - 8) (drop 8 bs) ≡ inside = ap (λ (n : ℕ). take (n - 8) (drop 8 bs)) l ∙ ap (take (8 + length inside - 8)) d ∙ take_at inside rest (8 + length inside - 8) (omega arith) in
-    let r : drop (length_at bs) bs ≡ rest = ap (λ (n : ℕ). drop n bs) l ∙ sym (drop-drop (length inside) 8 bs) ∙ ap (drop (length inside)) d ∙ drop_at inside rest (length inside) refl in
+    let i : take (length_at bs - 8) (drop 8 bs) ≡ inside =
+    ap (λ (n : ℕ). take (n - 8) (drop 8 bs)) l ∙ ap (take (8 + length inside - 8)) d ∙ take_at inside rest (8 + length inside - 8) (omega arith) in
+    let r : drop (length_at bs) bs ≡ rest =
+    ap (λ (n : ℕ). drop n bs) l ∙ sym (drop-drop (length inside) 8 bs) ∙ ap (drop (length inside)) d ∙ drop_at inside rest (length inside) refl in
     (sym (ap head_at f.is ∙ head_back h inside rest f.holds.interface_index), sym i, sym r)
 
 pub HopFront-same : (bs : List ℕ) (g h : HopHead) (i j r s : List ℕ) → HopFront bs g i r → HopFront bs h j s → (g ≡ h) × (i ≡ j) × (r ≡ s)

@@ -6,7 +6,7 @@ use Rattle.std.proofs.lemmas.Nat.{from_le_bytes-to_le_bytes_2, from_le_bytes-to_
 use Rattle.npr_base.specs.Framing.{IsBytes}
 use Rattle.npr_base.specs.Layout.{Layout, le16_at, le16_at-holds, le32_at, le32_at-holds}
 use Rattle.npr_route.specs.Attribute.{HopHead}
-use Rattle.npr_route.specs.declared.next_hops.RouteNextHopBuffer.{RouteNextHopBuffer}
+use Rattle.npr_route.specs.declared.next_hop_buffer.RouteNextHopBuffer.{RouteNextHopBuffer}
 
 abbrev pub decode_buffer : List ℕ → RouteNextHopBuffer
 decode_buffer b = record { length = le16_at b 0; flags = slice_index b 2; hops = slice_index b 3; interface_index = le32_at b 4 }
@@ -21,7 +21,12 @@ pub record HoldsBuffer (h : RouteNextHopBuffer) : Type 0 where
   pub interface_index : h.interface_index < 2 ^ 32
 
 pub buffer-back : (h : RouteNextHopBuffer) → HoldsBuffer h → decode_buffer (encode_buffer h) ≡ h
-buffer-back h k = λ i. record { length = from_le_bytes-to_le_bytes_2 h.length k.length i; flags = h.flags; hops = h.hops; interface_index = from_le_bytes-to_le_bytes_4 h.interface_index k.interface_index i }
+buffer-back h k = λ i. record {
+  length = from_le_bytes-to_le_bytes_2 h.length k.length i;
+  flags = h.flags;
+  hops = h.hops;
+  interface_index = from_le_bytes-to_le_bytes_4 h.interface_index k.interface_index i;
+}
 
 pub buffer-holds : (b : List ℕ) → IsBytes b → length b ≡ 8 → HoldsBuffer (decode_buffer b)
 buffer-holds b is e = record { length = le16_at-holds b 0 is; flags = is 2; hops = is 3; interface_index = le32_at-holds b 4 is }

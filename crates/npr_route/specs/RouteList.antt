@@ -21,7 +21,9 @@ IsRouteList under bytes xs = (type : RouteLwEnCapType) × Governs NoEncapsulatio
 
 -- the first fault of bytes that are none
 abbrev pub RouteListFault : Under → List ℕ → DecodeError → Type 0
-RouteListFault under bytes e = (type : RouteLwEnCapType) × Governs NoEncapsulation bytes type × FirstFault (attributes (under.0, under.1, type)).Reads (attributes (under.0, under.1, type)).Faulty bytes e
+RouteListFault under bytes e =
+    (type : RouteLwEnCapType) × Governs NoEncapsulation bytes type
+    × FirstFault (attributes (under.0, under.1, type)).Reads (attributes (under.0, under.1, type)).Faulty bytes e
 
 -- the type that an attribute holds, and the first of a list, or else the outer one
 abbrev pub type_held : Meaning → Option RouteLwEnCapType

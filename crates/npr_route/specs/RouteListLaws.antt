@@ -1,6 +1,7 @@
 -- The type that governs a list is one, and is the first that its attributes hold.
 use Rattle.std.specs.Prelude.{◌==◌}
-use Rattle.std.proofs.Common.{◌≡◌, ℕ, ◌*◌, ◌≤◌, Bool, true, false, List, [], ◌∷◌, length, Option, Some, None, refl, sym, ap, subst, ◌∙◌, arith, rules, inl, inr}
+use Rattle.std.proofs.Common.{◌≡◌, ℕ, ◌*◌, ◌≤◌, Bool, true, false, List, [], ◌∷◌, length, Option, Some, None, refl, sym, ap, subst, ◌∙◌}
+use Rattle.std.proofs.Common.{arith, rules, inl, inr}
 use Rattle.std.proofs.lemmas.Bool.{eqb-true, cases_Bool}
 use Rattle.npr_base.specs.declared.refusal.DecodeError.{DecodeError}
 use Rattle.npr_base.specs.Framing.{Item, IsBytes, number_of, Front, Passes}
@@ -43,10 +44,13 @@ tells-front : (outer : RouteLwEnCapType) (rest more : List ℕ) (x : Item) (a : 
 tells-front outer rest more x a (inl (y, s, g, q)) f none = none_told (told y) a (ap told (Front-same rest y x s more g f).0 ∙ none) q
 tells-front outer rest more x a (inr (ends, p)) f none = ends_empty rest more x ends f
 
-governs-step : (outer : RouteLwEnCapType) (xs ys : List Item) (bytes r s : List ℕ) (a b : RouteLwEnCapType) → Passes bytes xs r → AllOf (λ x. told x ≡ None) xs → Tells outer r a → Passes bytes ys s → AllOf (λ x. told x ≡ None) ys → Tells outer s b → a ≡ b
+governs-step : (outer : RouteLwEnCapType) (xs ys : List Item) (bytes r s : List ℕ) (a b : RouteLwEnCapType) → Passes bytes xs r
+    → AllOf (λ x. told x ≡ None) xs → Tells outer r a → Passes bytes ys s → AllOf (λ x. told x ≡ None) ys → Tells outer s b → a ≡ b
 governs-step outer [] [] bytes r s a b p n t q m u = tells-one outer r a b t (subst (λ (w : List ℕ). Tells outer w b) (sym q ∙ p) u)
-governs-step outer [] (y ∷ ys) bytes r s a b p n t (w, g, q) m u = absurd (tells-front outer bytes w y a (subst (λ (v : List ℕ). Tells outer v a) (sym p) t) g m.0)
-governs-step outer (x ∷ xs) [] bytes r s a b (v, f, p) n t q m u = absurd (tells-front outer bytes v x b (subst (λ (w : List ℕ). Tells outer w b) (sym q) u) f n.0)
+governs-step outer [] (y ∷ ys) bytes r s a b p n t (w, g, q) m u =
+    absurd (tells-front outer bytes w y a (subst (λ (v : List ℕ). Tells outer v a) (sym p) t) g m.0)
+governs-step outer (x ∷ xs) [] bytes r s a b (v, f, p) n t q m u =
+    absurd (tells-front outer bytes v x b (subst (λ (w : List ℕ). Tells outer w b) (sym q) u) f n.0)
 governs-step outer (x ∷ xs) (y ∷ ys) bytes r s a b (v, f, p) n t (w, g, q) m u =
     governs-step outer xs ys v r s a b p n.1 t (subst (λ (z : List ℕ). Passes z ys s) (Front-same bytes y x w v g f).1 q) m.1 u
 
@@ -61,7 +65,8 @@ Unless P n [] = Unit {0}
 Unless P n (r ∷ rs) = ((r.at.kind == n) ≡ false → (v : r.V) → P (r.variant v)) × Unless P n rs
 
 -- holds of what another number reads as
-unless-reads : {M : Type 0} (P : M → Type 0) (n : ℕ) (kept : Item → M) (rs : List (Row M)) → Unless P n rs → ((x : Item) → P (kept x)) → (k : ℕ) (x : Item) (m : M) → (k == n) ≡ false → ReadsAt kept rs k x m → P m
+unless-reads : {M : Type 0} (P : M → Type 0) (n : ℕ) (kept : Item → M) (rs : List (Row M)) → Unless P n rs
+    → ((x : Item) → P (kept x)) → (k : ℕ) (x : Item) (m : M) → (k == n) ≡ false → ReadsAt kept rs k x m → P m
 unless-reads P n kept [] all too k x m not p = subst P (sym p) (too x)
 unless-reads P n kept (r ∷ rs) all too k x m not p = one_of (k == r.at.kind)
     (λ e a. subst P (sym a.2) (all.0 (subst (λ (z : ℕ). (z == n) ≡ false) (eqb-true k r.at.kind e) not) a.0))
@@ -103,48 +108,60 @@ alike c x (flat m) p = flat-alike (form_of c.0) (is_multicast c.1) c.2 x m p.1
 alike c x (multi_path hs) p = rw p.0 refl
 
 -- the first of these attributes tells what the first meaning holds, or none does
-first_step : (outer : RouteLwEnCapType) (o : Option RouteLwEnCapType) (x : Item) (more bytes : List ℕ) (next : RouteLwEnCapType) → told x ≡ o → Front bytes x more → Governs outer more next → Governs outer bytes (or_else o next)
+first_step : (outer : RouteLwEnCapType) (o : Option RouteLwEnCapType) (x : Item) (more bytes : List ℕ) (next : RouteLwEnCapType)
+    → told x ≡ o → Front bytes x more → Governs outer more next → Governs outer bytes (or_else o next)
 first_step outer (Some t) x more bytes next is f g = ([], bytes, refl, tt, inl (x, more, f, is))
 first_step outer None x more bytes next is f (before, rest, p, silent, tells) = (x ∷ before, rest, (more, f, p), (is, silent), tells)
 
-first_governs : (outer : RouteLwEnCapType) (items : List Item) (ms : List Meaning) (bytes : List ℕ) (R : Item → Meaning → Type 0) → ((x : Item) (m : Meaning) → R x m → told x ≡ type_held m) → Passes bytes items [] → Each R items ms → Governs outer bytes (first_type outer ms)
+first_governs : (outer : RouteLwEnCapType) (items : List Item) (ms : List Meaning) (bytes : List ℕ) (R : Item → Meaning → Type 0)
+    → ((x : Item) (m : Meaning) → R x m → told x ≡ type_held m) → Passes bytes items [] → Each R items ms
+    → Governs outer bytes (first_type outer ms)
 first_governs outer [] [] bytes R tells p h = ([], bytes, refl, tt, inr (inl p, refl))
 first_governs outer [] (m ∷ ms) bytes R tells p h = absurd h
 first_governs outer (x ∷ xs) [] bytes R tells p h = absurd h
-first_governs outer (x ∷ xs) (m ∷ ms) bytes R tells (r, f, p) h = first_step outer (type_held m) x r bytes (first_type outer ms) (tells x m h.0) f (first_governs outer xs ms r R tells p h.1)
+first_governs outer (x ∷ xs) (m ∷ ms) bytes R tells (r, f, p) h =
+    first_step outer (type_held m) x r bytes (first_type outer ms) (tells x m h.0) f (first_governs outer xs ms r R tells p h.1)
 
 -- the first type that a list holds governs it
-pub list_governs : (outer : RouteLwEnCapType) (context : Context) (bytes : List ℕ) (ms : List Meaning) → ReadsList (attributes context).Reads bytes ms → Governs outer bytes (first_type outer ms)
+pub list_governs : (outer : RouteLwEnCapType) (context : Context) (bytes : List ℕ) (ms : List Meaning)
+    → ReadsList (attributes context).Reads bytes ms → Governs outer bytes (first_type outer ms)
 list_governs outer context bytes ms (items, p, h) = first_governs outer items ms bytes (attributes context).Reads (alike context) p h
 
 pub governs_first : (under : Under) (bytes : List ℕ) (ms : List Meaning) (p : IsRouteList under bytes ms) → p.0 ≡ first_type NoEncapsulation ms
-governs_first under bytes ms (type, g, p) = governs-one NoEncapsulation bytes type (first_type NoEncapsulation ms) g (list_governs NoEncapsulation (under.0, under.1, type) bytes ms p)
+governs_first under bytes ms (type, g, p) =
+    governs-one NoEncapsulation bytes type (first_type NoEncapsulation ms) g (list_governs NoEncapsulation (under.0, under.1, type) bytes ms p)
 
 -- ---- the laws of a list
 
 pub route-list-one : (under : Under) (bytes : List ℕ) (xs ys : List Meaning) → IsRouteList under bytes xs → IsRouteList under bytes ys → xs ≡ ys
 route-list-one under bytes xs ys (a, g, p) (b, h, q) =
     let f : Reading writing = attributes (under.0, under.1, a) in
-    ReadsList-one f.Reads f.one_reading bytes xs ys p (subst (λ (t : RouteLwEnCapType). ReadsList (attributes (under.0, under.1, t)).Reads bytes ys) (governs-one NoEncapsulation bytes b a h g) q)
+    ReadsList-one f.Reads f.one_reading bytes xs ys p
+    (subst (λ (t : RouteLwEnCapType). ReadsList (attributes (under.0, under.1, t)).Reads bytes ys) (governs-one NoEncapsulation bytes b a h g) q)
 
 pub route-list-sound : (under : Under) (bytes : List ℕ) (xs : List Meaning) (e : DecodeError) → IsRouteList under bytes xs → RouteListFault under bytes e → ⊥
 route-list-sound under bytes xs e (a, g, p) (b, h, q) =
     let f : Reading writing = attributes (under.0, under.1, b) in
-    FirstFault-excludes f.Reads f.Faulty f.no_fault bytes e xs q (subst (λ (t : RouteLwEnCapType). ReadsList (attributes (under.0, under.1, t)).Reads bytes xs) (governs-one NoEncapsulation bytes a b g h) p)
+    FirstFault-excludes f.Reads f.Faulty f.no_fault bytes e xs q
+    (subst (λ (t : RouteLwEnCapType). ReadsList (attributes (under.0, under.1, t)).Reads bytes xs) (governs-one NoEncapsulation bytes a b g h) p)
 
 pub route-list-coherent : (under : Under) (bytes : List ℕ) (xs : List Meaning) → IsBytes bytes → IsRouteList under bytes xs → IsCoherentList under xs
 route-list-coherent under bytes xs is p =
     let f : Reading writing = attributes (under.0, under.1, p.0) in
-    subst (λ (t : RouteLwEnCapType). AllOf (attributes (under.0, under.1, t)).Coherent xs) (governs_first under bytes xs p) (ReadsList-known f.Coherent f.Reads f.reads_coherent bytes xs is p.2)
+    subst (λ (t : RouteLwEnCapType). AllOf (attributes (under.0, under.1, t)).Coherent xs) (governs_first under bytes xs p)
+    (ReadsList-known f.Coherent f.Reads f.reads_coherent bytes xs is p.2)
 
-pub route-list-back : (under : Under) (xs : List Meaning) → IsCoherentList under xs → first_unfit writing.misfit xs ≡ None → IsRouteList under (encodings writing.writes xs) xs
+pub route-list-back : (under : Under) (xs : List Meaning) → IsCoherentList under xs → first_unfit writing.misfit xs ≡ None
+    → IsRouteList under (encodings writing.writes xs) xs
 route-list-back under xs all fits =
     let context : Context = (under.0, under.1, first_type NoEncapsulation xs) in
     let f : Reading writing = attributes context in
-    let p : ReadsList f.Reads (encodings writing.writes xs) xs = encodings-read f.Coherent writing.misfit writing.writes f.Reads (fits-small f) f.reads_back xs all fits in
+    let p : ReadsList f.Reads (encodings writing.writes xs) xs =
+    encodings-read f.Coherent writing.misfit writing.writes f.Reads (fits-small f) f.reads_back xs all fits in
     (first_type NoEncapsulation xs, list_governs NoEncapsulation context (encodings writing.writes xs) xs p, p)
 
-pub route-list-grows : (under : Under) (bytes : List ℕ) (xs : List Meaning) → IsBytes bytes → IsRouteList under bytes xs → 2 * length (encodings writing.writes xs) ≤ 5 * length bytes
+pub route-list-grows : (under : Under) (bytes : List ℕ) (xs : List Meaning) → IsBytes bytes → IsRouteList under bytes xs
+    → 2 * length (encodings writing.writes xs) ≤ 5 * length bytes
 route-list-grows under bytes xs is (type, g, p) =
     let f : Reading writing = attributes (under.0, under.1, type) in
     ReadsList-grows writing.writes f.Reads f.grows bytes xs is p

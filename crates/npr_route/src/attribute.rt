@@ -2,17 +2,21 @@
 
 ghost use Rattle.std.specs.Prelude.{◌≡◌, ◌≢◌, ◌≤◌, ◌<◌, ◌+◌, ◌*◌, ℕ, List, Option, None, false, [], length, map, IfOk, IfErr, IsOk};
 ghost use Rattle.std.proofs.Common.{refl};
-ghost use Rattle.npr_base.specs.Counts.{AddsAtMost, SawEach};
-ghost use Rattle.npr_base.specs.Framing.{number_of};
-ghost use Rattle.npr_base.specs.Table.{ReadsBy, WrongBy};
-ghost use Rattle.npr_base.specs.declared.refusal.DecodeError.TheVariants.{OutOfMemory};
+ghost use Rattle.npr_base.specs.{
+  Counts.{AddsAtMost, SawEach},
+  Framing.{number_of},
+  Table.{ReadsBy, WrongBy},
+  declared.refusal.DecodeError.TheVariants.{OutOfMemory},
+};
 ghost use Rattle.npr_scalar.specs.RouteAddress.{form_of};
-ghost use Rattle.npr_route.specs.Attribute.{Meaning, flat, plain_of, nested_of};
-ghost use Rattle.npr_route.specs.AttributeView.{meaning_of};
-ghost use Rattle.npr_route.specs.FlatAttributeLaws.{attributes as flat_attributes};
-ghost use Rattle.npr_route.specs.FlatAttribute.{Meaning as Flat, is_multicast, new_destination_row, expires_row, marks, any_marks};
+ghost use Rattle.npr_route.specs.{
+  Attribute.{Meaning, flat, plain_of, nested_of},
+  AttributeView.{meaning_of},
+  FlatAttributeLaws.{attributes as flat_attributes},
+  FlatAttribute.{Meaning as Flat, is_multicast, new_destination_row, expires_row, marks, any_marks},
+  AttributeLaws.{writing, attributes, item-is, plain-short},
+};
 ghost use Rattle.npr_tunnel.specs.Encapsulation.{meaning_of as member_of};
-ghost use Rattle.npr_route.specs.AttributeLaws.{writing, attributes, item-is, plain-short};
 
 use crate::metrics::RouteMetric;
 use crate::next_hops::{RouteNextHop, check_attribute, clone_attribute, value_len, write_value};

@@ -2,24 +2,29 @@
 //! contract is the law.
 
 ghost use Rattle.std.specs.Prelude.{◌≡◌, ◌≤◌, ◌+◌, ◌*◌, ℕ, List, None, length};
-ghost use Rattle.npr_base.specs.Equality.{IsEquality, IsEqualityOf};
+ghost use Rattle.npr_base.specs.{
+  Equality.{IsEquality, IsEqualityOf},
+  declared.refusal.DecodeError.{DecodeError},
+  Framing.{IsBytes},
+};
 ghost use Rattle.npr_tunnel.specs.declared.encap_type.RouteLwEnCapType.{RouteLwEnCapType};
-ghost use Rattle.npr_base.specs.declared.refusal.DecodeError.{DecodeError};
-ghost use Rattle.npr_base.specs.Framing.{IsBytes};
-ghost use Rattle.npr_route.specs.AttributeView.{meaning_of, hop_of};
-ghost use Rattle.npr_route.specs.FlatAttribute.{Context};
-ghost use Rattle.npr_route.specs.Governing.{Governs};
-ghost use Rattle.npr_route.specs.Header.{default_header};
-ghost use Rattle.npr_route.specs.Metric.{metric_of};
-ghost use Rattle.npr_route.specs.Message.{Route, message_of, IsRouteMessage, IsCoherentRoute, route_bytes, route_misfit};
-ghost use Rattle.npr_route.specs.Attribute.{Meaning, Hops, AreHops, HopsWrong, HopsCoherent, hops_bytes, hops_misfit, hops_depth};
-ghost use Rattle.npr_route.specs.RouteList.{Under, IsRouteList, first_type};
+ghost use Rattle.npr_route.specs.{
+  AttributeView.{meaning_of, hop_of},
+  FlatAttribute.{Context},
+  Governing.{Governs},
+  Header.{default_header},
+  Metric.{metric_of},
+  Message.{Route, message_of, IsRouteMessage, IsCoherentRoute, route_bytes, route_misfit},
+  Attribute.{Meaning, Hops, AreHops, HopsWrong, HopsCoherent, hops_bytes, hops_misfit, hops_depth},
+  RouteList.{Under, IsRouteList, first_type},
+};
 
 use crate::attribute::RouteAttribute;
 use crate::header::{RouteHeader, RouteMessageBuffer};
 use crate::message::RouteMessage;
 use crate::metrics::RouteMetric;
-use crate::next_hops::{RouteNextHop, RouteNextHopBuffer};
+use crate::next_hop_buffer::RouteNextHopBuffer;
+use crate::next_hops::RouteNextHop;
 
 /// Bytes are one message at most.
 pub fn law_one_reading()

@@ -7,6 +7,7 @@ pub mod laws;
 mod list;
 mod message;
 mod metrics;
+mod next_hop_buffer;
 mod next_hops;
 mod reader;
 
@@ -15,5 +16,6 @@ pub use header::{RouteHeader, RouteMessageBuffer};
 pub use list::read_route_list;
 pub use message::RouteMessage;
 pub use metrics::RouteMetric;
-pub use next_hops::{RouteNextHop, RouteNextHopBuffer};
+pub use next_hop_buffer::RouteNextHopBuffer;
+pub use next_hops::RouteNextHop;
 pub use reader::read_next_hops;

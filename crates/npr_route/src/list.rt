@@ -1,15 +1,19 @@
 //! Lists of route attributes: the type that governs them is found first, and then they are read.
 
 ghost use Rattle.std.specs.Prelude.{◌≡◌, ◌≢◌, ℕ, List, length, map, IfOk, IfErr, IsErrOf};
-ghost use Rattle.npr_base.specs.declared.refusal.DecodeError.TheVariants.{OutOfMemory};
-ghost use Rattle.npr_base.specs.Counts.{AddsAtMostTwice, SawEach};
-ghost use Rattle.npr_base.specs.Family.{list_members};
-ghost use Rattle.npr_base.specs.Framing.{Item, Front};
-ghost use Rattle.npr_route.specs.Attribute.{Meaning};
-ghost use Rattle.npr_route.specs.AttributeView.{meaning_of};
-ghost use Rattle.npr_route.specs.AttributeLaws.{writing};
-ghost use Rattle.npr_route.specs.Governing.{told, Governs, Searches};
-ghost use Rattle.npr_route.specs.RouteList.{IsRouteList, RouteListFault};
+ghost use Rattle.npr_base.specs.{
+  declared.refusal.DecodeError.TheVariants.{OutOfMemory},
+  Counts.{AddsAtMostTwice, SawEach},
+  Family.{list_members},
+  Framing.{Item, Front},
+};
+ghost use Rattle.npr_route.specs.{
+  Attribute.{Meaning},
+  AttributeView.{meaning_of},
+  AttributeLaws.{writing},
+  Governing.{told, Governs, Searches},
+  RouteList.{IsRouteList, RouteListFault},
+};
 
 use crate::attribute::RouteAttribute;
 use npr_base::{AddressFamily, DecodeError, Looks, NlaBuffer, NlasIterator, parse_list};

@@ -1,13 +1,17 @@
 //! Route messages: `RTM_NEWROUTE`, `RTM_DELROUTE` and `RTM_GETROUTE`, without the envelope.
 
 ghost use Rattle.std.specs.Prelude.{◌≡◌, ◌≢◌, ◌≤◌, ◌<◌, ◌*◌, ◌-◌, ℕ, List, None, [], length, drop, IfOk, IfErr, IsErrOf};
-ghost use Rattle.npr_base.specs.declared.refusal.DecodeError.TheVariants.{OutOfMemory};
-ghost use Rattle.npr_base.specs.Counts.{AddsAtMostTwice, SawEach};
-ghost use Rattle.npr_base.specs.Family.{list_members};
-ghost use Rattle.npr_base.specs.Framing.{Item, Front};
-ghost use Rattle.npr_route.specs.AttributeLaws.{writing};
-ghost use Rattle.npr_route.specs.Header.{default_header};
-ghost use Rattle.npr_route.specs.Message.{Route, message_of, IsRouteMessage, RouteFault, IsCoherentRoute, route_bytes, route_misfit};
+ghost use Rattle.npr_base.specs.{
+  declared.refusal.DecodeError.TheVariants.{OutOfMemory},
+  Counts.{AddsAtMostTwice, SawEach},
+  Family.{list_members},
+  Framing.{Item, Front},
+};
+ghost use Rattle.npr_route.specs.{
+  AttributeLaws.{writing},
+  Header.{default_header},
+  Message.{Route, message_of, IsRouteMessage, RouteFault, IsCoherentRoute, route_bytes, route_misfit, route_depth},
+};
 
 use crate::attribute::RouteAttribute;
 use crate::header::RouteHeader;
@@ -77,6 +81,8 @@ impl RouteMessage {
         ensures memory { IsErrOf result OutOfMemory → (x : Item) × (rest : List ℕ) × Front (drop 12 bytes.now) x rest }
         // Canonical bytes are at most five halves as long as what was read.
         ensures growth { IfOk result (λ m. 2 * length (route_bytes (message_of m)) ≤ 5 * length bytes.now) }
+        // Each level of next hops takes 12 bytes behind the header.
+        ensures depth { IfOk result (λ m. 12 * route_depth (message_of m) ≤ length bytes.now - 12) }
         // At most two looks for four bytes behind the header, and two that fail,
         ensures bounded { AddsAtMostTwice looks.old looks.new (length bytes.now - 12) }
         // and none where there is no whole header.
@@ -113,6 +119,8 @@ impl<'a> Parseable<&'a [u8]> for RouteMessage {
         ensures memory { IsErrOf result OutOfMemory → (x : Item) × (rest : List ℕ) × Front (drop 12 bytes.now) x rest }
         // Canonical bytes are at most five halves as long as what was read.
         ensures growth { IfOk result (λ m. 2 * length (route_bytes (message_of m)) ≤ 5 * length bytes.now) }
+        // Each level of next hops takes 12 bytes behind the header.
+        ensures depth { IfOk result (λ m. 12 * route_depth (message_of m) ≤ length bytes.now - 12) }
     {
         RouteMessage::parse_counted(alloc, bytes, &mut Looks::new())
     }

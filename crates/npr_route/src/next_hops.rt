@@ -3,21 +3,25 @@
 //! functions.
 
 ghost use Rattle.std.specs.Prelude.{◌≡◌, ◌≢◌, ◌≤◌, ◌<◌, ◌+◌, ℕ, List, None, length, map, IfOk, IfErr, IsErrOf};
-ghost use Rattle.npr_base.specs.declared.refusal.DecodeError.TheVariants.{OutOfMemory};
-ghost use Rattle.npr_base.specs.Codec.{leading};
-ghost use Rattle.npr_base.specs.Family.{checked, option_or, overlong, first_unfit, list_unfit, encodings};
-ghost use Rattle.npr_base.specs.Framing.{Writes, encoding, framed};
-ghost use Rattle.npr_base.specs.Refusal.{no_place};
-ghost use Rattle.npr_route.specs.Attribute.{HopHead, HopFront, HopFault, Hop, IsHop, HopWrong, default_hop, plain_of, misfit, unfit_inside, hop_misfit, hop_bytes, hop_overlong};
-ghost use Rattle.npr_route.specs.AttributeView.{meaning_of, hop_of, attribute_item, attribute_misfit, next_hop_bytes, next_hop_misfit, joined};
-ghost use Rattle.npr_route.specs.NextHopHeader.{next_hop_buffer, head_in, IsChecked};
+ghost use Rattle.npr_base.specs.{
+  declared.refusal.DecodeError.TheVariants.{OutOfMemory},
+  Codec.{leading},
+  Family.{checked, option_or, overlong, first_unfit, list_unfit, encodings},
+  Framing.{Writes, encoding, framed},
+  Refusal.{no_place},
+};
+ghost use Rattle.npr_route.specs.{
+  Attribute.{HopHead, HopFront, HopFault, Hop, IsHop, HopWrong, default_hop, plain_of, misfit, unfit_inside, hop_misfit, hop_bytes, hop_overlong},
+  AttributeView.{meaning_of, hop_of, attribute_item, attribute_misfit, next_hop_bytes, next_hop_misfit, joined},
+  NextHopHeader.{next_hop_buffer, head_in, IsChecked},
+};
 
-use crate::attribute::{Context, RouteAttribute};
-use crate::reader::read_next_hops;
+use crate::attribute::RouteAttribute;
+use crate::next_hop_buffer::RouteNextHopBuffer;
 use bitflags::Flags;
 use npr_base::{
-    DecodeError, EmitError, Emitable, Looks, Nla, ParseableParametrized, check_len, check_list,
-    clone_list, frame, marked_kind, plus, write_bytes, write_list,
+    EmitError, Emitable, Nla, check_len, check_list, clone_list, frame, marked_kind, plus,
+    write_bytes, write_list,
 };
 use npr_scalar::{
     RouteCacheInfoBuffer, RouteMfcStatsBuffer, RouteNextHopFlags, labels_len, write_labels,
@@ -62,47 +66,6 @@ impl RouteNextHop {
     }
 }
 
-impl<'a> ParseableParametrized<&'a [u8], Context> for RouteNextHop {
-    ghost parses = { λ context bytes h. IsHop context bytes.now (hop_of h) };
-
-    ghost misparses = { λ context bytes e. HopWrong context bytes.now e };
-
-    /// The next hop in the first bytes, as many as its length says; what follows isn't looked at.
-    ///
-    /// # Errors
-    /// `OutOfMemory` where memory is refused, and else the first fault in reading order.
-    fn parse_with_param(
-        alloc: Global,
-        bytes: &'a [u8],
-        context: Context,
-    ) -> Result<Self, DecodeError>
-        // What is read is what the bytes mean.
-        ensures ok { IfOk result (λ h. IsHop context bytes.now (hop_of h)) }
-        // A refusal is the first fault.
-        ensures refused { IfErr result (λ e. e ≢ OutOfMemory → HopWrong context bytes.now e) }
-        // Then the bytes mean nothing.
-        ensures none { IfErr result (λ e. e ≢ OutOfMemory → (h : Hop) → IsHop context bytes.now h → ⊥) }
-        // Memory is taken behind a whole header alone.
-        ensures memory { IsErrOf result OutOfMemory → (h : HopHead) × (inside : List ℕ) × (rest : List ℕ) × HopFront bytes.now h inside rest }
-    {
-        read_hop(alloc, bytes, context)
-    }
-}
-
-fn read_hop(alloc: Global, bytes: &[u8], context: Context) -> Result<RouteNextHop, DecodeError>
-    ensures ok { IfOk result (λ h. IsHop context bytes.now (hop_of h)) }
-    ensures refused { IfErr result (λ e. e ≢ OutOfMemory → HopWrong context bytes.now e) }
-    ensures memory { IsErrOf result OutOfMemory → (h : HopHead) × (inside : List ℕ) × (rest : List ℕ) × HopFront bytes.now h inside rest }
-{
-    let header = RouteNextHopBuffer::new_checked(bytes)?;
-    let whole = &bytes[..header.length as usize];
-    let mut hops = read_next_hops(alloc, whole, context, &mut Looks::new())?;
-    match hops.pop() {
-        Some(hop) => Ok(hop),
-        None => unreachable!(),
-    }
-}
-
 impl Emitable for RouteNextHop {
     ghost bytes = { next_hop_bytes };
 
@@ -121,91 +84,6 @@ impl Emitable for RouteNextHop {
 
     fn emit(&self, out: &mut [u8]) {
         write_hop(self, out);
-    }
-}
-
-/// The layout of a next hop's header: 8 bytes, little endian.
-#[derive(Clone, Copy, Debug, PartialEq, Eq)]
-pub struct RouteNextHopBuffer {
-    /// The length of the next hop in bytes: these 8 and its attributes.
-    pub length: u16,
-    /// `RTNH_F_*`.
-    pub flags: u8,
-    /// Its weight less one.
-    pub hops: u8,
-    /// The index of its interface.
-    pub interface_index: u32,
-}
-
-impl RouteNextHopBuffer {
-    /// The header of a next hop, with the length that it is written with. Asks that `check`
-    /// accepts.
-    pub fn of(hop: &RouteNextHop) -> Self
-        requires { next_hop_misfit hop.now ≡ None }
-        ensures length { result.length ≡ length (next_hop_bytes hop.now) }
-        ensures head { head_in result ≡ (hop_of hop.now).head }
-    {
-        RouteNextHopBuffer {
-            length: hop.buffer_len() as u16,
-            flags: hop.flags.bits(),
-            hops: hop.hops,
-            interface_index: hop.interface_index,
-        }
-    }
-
-    /// The header in the first 8 bytes, where its length lies within the bytes that are there.
-    ///
-    /// # Errors
-    /// `NextHopTooShort` below 8 bytes, and else `NextHopLength` where the length is below 8 or
-    /// above what is there.
-    pub fn new_checked(bytes: &[u8]) -> Result<Self, DecodeError>
-        ensures ok { IfOk result (λ b. IsChecked bytes.now b) }
-        ensures refused { IfErr result (λ e. HopFault bytes.now e) }
-    {
-        let left = bytes.len();
-        match Self::parse(bytes) {
-            Err(_) => Err(DecodeError::NextHopTooShort { got: left }),
-            Ok(header) => {
-                let length = header.length;
-                if length < 8 || (length as usize) > left {
-                    Err(DecodeError::NextHopLength { length, left })
-                } else {
-                    Ok(header)
-                }
-            }
-        }
-    }
-
-    /// The layout in the first 8 bytes; more are not looked at, nor is the length.
-    ///
-    /// # Errors
-    /// `HeaderTooShort` below 8 bytes.
-    pub fn parse(bytes: &[u8]) -> Result<Self, DecodeError>
-        ensures ok { IfOk result (λ b. (leading next_hop_buffer).Reads bytes.now b) }
-        ensures refused { IfErr result (λ e. (leading next_hop_buffer).Wrong no_place bytes.now e) }
-    {
-        if bytes.len() < 8 {
-            return Err(DecodeError::HeaderTooShort {
-                got: bytes.len(),
-                want: 8,
-            });
-        }
-        let b = &bytes[..8];
-        Ok(RouteNextHopBuffer {
-            length: u16::from_le_bytes([b[0], b[1]]),
-            flags: b[2],
-            hops: b[3],
-            interface_index: u32::from_le_bytes([b[4], b[5], b[6], b[7]]),
-        })
-    }
-
-    /// The 8 bytes of the layout.
-    pub fn to_bytes(&self) -> [u8; 8]
-        ensures { result ≡ next_hop_buffer.encode self.now }
-    {
-        let [a, b] = self.length.to_le_bytes();
-        let [c, d, e, f] = self.interface_index.to_le_bytes();
-        [a, b, self.flags, self.hops, c, d, e, f]
     }
 }
 

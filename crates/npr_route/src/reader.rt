@@ -1,17 +1,22 @@
 //! Reading of next hops, by a loop and a stack: they alone nest without bound.
 
 ghost use Rattle.std.specs.Prelude.{◌≡◌, ◌≢◌, ◌<◌, ◌+◌, ℕ, List, [], length, map, IfOk, IfErr, OnOk, OnErr, IsErrOf};
-ghost use Rattle.npr_base.specs.declared.refusal.DecodeError.TheVariants.{OutOfMemory};
-ghost use Rattle.npr_base.specs.Counts.{AddsAtMost, SawEach, hit, miss};
-ghost use Rattle.npr_route.specs.Attribute.{HopHead, HopFront, HopFault, Hops, AreHops, HopsWrong, hops_members};
-ghost use Rattle.npr_route.specs.AttributeView.{hop_of, hops_of};
-ghost use Rattle.npr_route.specs.NextHopHeader.{head_in};
-ghost use Rattle.npr_route.specs.Reader.{IsOpen, Tied, room, level_room, level_built, StepsOn, Ended};
+ghost use Rattle.npr_base.specs.{
+  declared.refusal.DecodeError.TheVariants.{OutOfMemory},
+  Counts.{AddsAtMost, SawEach, hit, miss},
+};
+ghost use Rattle.npr_route.specs.{
+  Attribute.{HopHead, HopFront, HopFault, Hop, IsHop, HopWrong, Hops, AreHops, HopsWrong, hops_members},
+  AttributeView.{hop_of, hops_of},
+  NextHopHeader.{head_in},
+  Reader.{IsOpen, Tied, room, level_room, level_built, StepsOn, Ended},
+};
 
 use crate::attribute::{Context, RTA_MULTIPATH, RouteAttribute, read_flat};
-use crate::next_hops::{RouteNextHop, RouteNextHopBuffer};
+use crate::next_hop_buffer::RouteNextHopBuffer;
+use crate::next_hops::RouteNextHop;
 use bitflags::Flags;
-use npr_base::{DecodeError, Looks, NlasIterator};
+use npr_base::{DecodeError, Looks, NlasIterator, ParseableParametrized};
 use npr_scalar::RouteNextHopFlags;
 use std::alloc::Global;
 
@@ -220,4 +225,45 @@ fn close<'a>(
         },
         stack,
     }))
+}
+
+impl<'a> ParseableParametrized<&'a [u8], Context> for RouteNextHop {
+    ghost parses = { λ context bytes h. IsHop context bytes.now (hop_of h) };
+
+    ghost misparses = { λ context bytes e. HopWrong context bytes.now e };
+
+    /// The next hop in the first bytes, as many as its length says; what follows isn't looked at.
+    ///
+    /// # Errors
+    /// `OutOfMemory` where memory is refused, and else the first fault in reading order.
+    fn parse_with_param(
+        alloc: Global,
+        bytes: &'a [u8],
+        context: Context,
+    ) -> Result<Self, DecodeError>
+        // What is read is what the bytes mean.
+        ensures ok { IfOk result (λ h. IsHop context bytes.now (hop_of h)) }
+        // A refusal is the first fault.
+        ensures refused { IfErr result (λ e. e ≢ OutOfMemory → HopWrong context bytes.now e) }
+        // Then the bytes mean nothing.
+        ensures none { IfErr result (λ e. e ≢ OutOfMemory → (h : Hop) → IsHop context bytes.now h → ⊥) }
+        // Memory is taken behind a whole header alone.
+        ensures memory { IsErrOf result OutOfMemory → (h : HopHead) × (inside : List ℕ) × (rest : List ℕ) × HopFront bytes.now h inside rest }
+    {
+        read_hop(alloc, bytes, context)
+    }
+}
+
+fn read_hop(alloc: Global, bytes: &[u8], context: Context) -> Result<RouteNextHop, DecodeError>
+    ensures ok { IfOk result (λ h. IsHop context bytes.now (hop_of h)) }
+    ensures refused { IfErr result (λ e. e ≢ OutOfMemory → HopWrong context bytes.now e) }
+    ensures memory { IsErrOf result OutOfMemory → (h : HopHead) × (inside : List ℕ) × (rest : List ℕ) × HopFront bytes.now h inside rest }
+{
+    let header = RouteNextHopBuffer::new_checked(bytes)?;
+    let whole = &bytes[..header.length as usize];
+    let mut hops = read_next_hops(alloc, whole, context, &mut Looks::new())?;
+    match hops.pop() {
+        Some(hop) => Ok(hop),
+        None => unreachable!(),
+    }
 }

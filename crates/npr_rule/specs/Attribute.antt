@@ -10,7 +10,8 @@ use Rattle.npr_base.specs.Layout.{le32, be64, boolean}
 use Rattle.npr_base.specs.Codec.{exactly}
 use Rattle.npr_base.specs.IpCodec.{ip}
 use Rattle.npr_base.specs.Name.{name}
-use Rattle.npr_base.specs.Table.{Writing, Reading, Row, row, Held, held, held_other, held_kind, held_value, held_misfit, held-reads, IsHeld, item_of, placed, IsOther, Aligned, ReadsAt}
+use Rattle.npr_base.specs.Table.{Writing, Reading, Row, row, Held, held, held_other, held_kind, held_value, held_misfit, held-reads, IsHeld}
+use Rattle.npr_base.specs.Table.{item_of, placed, IsOther, Aligned, ReadsAt}
 use Rattle.npr_base.specs.TableLaws.{flat, other-back}
 use Rattle.npr_scalar.specs.Realm.{route_realm}
 use Rattle.npr_scalar.specs.RouteProtocol.{route_protocol}
@@ -23,7 +24,10 @@ use Rattle.npr_rule.specs.UidRange.{uid_range as uid_range_layout}
 use Rattle.npr_rule.specs.declared.port_range.RulePortRange.{RulePortRange}
 use Rattle.npr_rule.specs.declared.uid_range.RuleUidRange.{RuleUidRange}
 use Rattle.npr_rule.specs.declared.attribute.RuleAttribute.{RuleAttribute}
-use Rattle.npr_rule.specs.declared.attribute.RuleAttribute.TheVariants.{Destination, Source, Iifname, Goto, Priority, FwMark, Realm, TunId, SuppressIfGroup, SuppressPrefixLen, Table as InTable, FwMask, Oifname, L3MDev, UidRange, Protocol, IpProtocol as OverIp, SourcePortRange, DestinationPortRange, Other}
+use Rattle.npr_rule.specs.declared.attribute.RuleAttribute.TheVariants.{Destination, Source, Iifname, Goto, Priority, FwMark, Realm, TunId}
+use Rattle.npr_rule.specs.declared.attribute.RuleAttribute.TheVariants.{SuppressIfGroup, SuppressPrefixLen, Table as InTable, FwMask}
+use Rattle.npr_rule.specs.declared.attribute.RuleAttribute.TheVariants.{Oifname, L3MDev, UidRange, Protocol, IpProtocol as OverIp}
+use Rattle.npr_rule.specs.declared.attribute.RuleAttribute.TheVariants.{SourcePortRange, DestinationPortRange, Other}
 
 -- what an attribute is, without where it lies in memory
 pub data Meaning : Type 0 where

@@ -10,7 +10,8 @@ pub record HoldsPortRange (r : RulePortRange) : Type 0 where
   pub start : r.start < 2 ^ 16
   pub end : r.end < 2 ^ 16
 
-pub port_range-back : (r : RulePortRange) → HoldsPortRange r → record { start = le16_at (to_le_bytes w16 r.start ++ to_le_bytes w16 r.end) 0; end = le16_at (to_le_bytes w16 r.start ++ to_le_bytes w16 r.end) 2 } ≡ r
+pub port_range-back : (r : RulePortRange) → HoldsPortRange r
+    → record { start = le16_at (to_le_bytes w16 r.start ++ to_le_bytes w16 r.end) 0; end = le16_at (to_le_bytes w16 r.start ++ to_le_bytes w16 r.end) 2 } ≡ r
 port_range-back r h = λ i. record { start = from_le_bytes-to_le_bytes_2 r.start h.start i; end = from_le_bytes-to_le_bytes_2 r.end h.end i }
 
 abbrev pub port_range : Layout RulePortRange

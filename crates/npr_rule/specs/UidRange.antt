@@ -10,7 +10,8 @@ pub record HoldsUidRange (r : RuleUidRange) : Type 0 where
   pub start : r.start < 2 ^ 32
   pub end : r.end < 2 ^ 32
 
-pub uid_range-back : (r : RuleUidRange) → HoldsUidRange r → record { start = le32_at (to_le_bytes w32 r.start ++ to_le_bytes w32 r.end) 0; end = le32_at (to_le_bytes w32 r.start ++ to_le_bytes w32 r.end) 4 } ≡ r
+pub uid_range-back : (r : RuleUidRange) → HoldsUidRange r
+    → record { start = le32_at (to_le_bytes w32 r.start ++ to_le_bytes w32 r.end) 0; end = le32_at (to_le_bytes w32 r.start ++ to_le_bytes w32 r.end) 4 } ≡ r
 uid_range-back r h = λ i. record { start = from_le_bytes-to_le_bytes_4 r.start h.start i; end = from_le_bytes-to_le_bytes_4 r.end h.end i }
 
 abbrev pub uid_range : Layout RuleUidRange

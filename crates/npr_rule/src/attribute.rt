@@ -4,8 +4,10 @@ ghost use Rattle.std.specs.Prelude.{◌≡◌, ◌≢◌, ◌≤◌, ◌<◌, �
 ghost use Rattle.std.proofs.Common.{refl};
 ghost use Rattle.npr_base.specs.Family.{checked};
 ghost use Rattle.npr_scalar.specs.IpProtocol.{above_zero, ip_protocol_number};
-ghost use Rattle.npr_rule.specs.IpProtocolByte.{protocol_misfit};
-ghost use Rattle.npr_rule.specs.Attribute.{Meaning, meaning_of, writing, attributes};
+ghost use Rattle.npr_rule.specs.{
+  IpProtocolByte.{protocol_misfit},
+  Attribute.{Meaning, meaning_of, writing, attributes},
+};
 
 use crate::port_range::RulePortRange;
 use crate::uid_range::RuleUidRange;

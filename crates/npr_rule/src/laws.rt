@@ -3,11 +3,13 @@
 
 ghost use Rattle.std.specs.Prelude.{◌≡◌, ◌^◌, ℕ, List, None};
 ghost use Rattle.npr_base.specs.Equality.{IsEquality, IsEqualityOf};
-ghost use Rattle.npr_rule.specs.Action.{action_of, action_number};
-ghost use Rattle.npr_rule.specs.Attribute.{meaning_of};
-ghost use Rattle.npr_rule.specs.Flags.{rule_flags_bits, rule_flags_of};
-ghost use Rattle.npr_rule.specs.Header.{default_header};
-ghost use Rattle.npr_rule.specs.Message.{Rule, message_of, IsRuleMessage, IsCoherentRule, rule_bytes, rule_misfit};
+ghost use Rattle.npr_rule.specs.{
+  Action.{action_of, action_number},
+  Attribute.{meaning_of},
+  Flags.{rule_flags_bits, rule_flags_of},
+  Header.{default_header},
+  Message.{Rule, message_of, IsRuleMessage, IsCoherentRule, rule_bytes, rule_misfit},
+};
 
 use crate::action::RuleAction;
 use crate::attribute::RuleAttribute;

@@ -1,10 +1,14 @@
 //! Rule messages: `RTM_NEWRULE`, `RTM_DELRULE` and `RTM_GETRULE`, without the envelope.
 
 ghost use Rattle.std.specs.Prelude.{◌≡◌, ◌≢◌, ◌≤◌, ◌<◌, ◌*◌, ℕ, List, None, [], length, drop, IfOk, IfErr, IsErrOf};
-ghost use Rattle.npr_base.specs.declared.refusal.DecodeError.TheVariants.{OutOfMemory};
-ghost use Rattle.npr_base.specs.Framing.{Item, Front};
-ghost use Rattle.npr_rule.specs.Header.{default_header};
-ghost use Rattle.npr_rule.specs.Message.{Rule, message_of, IsRuleMessage, RuleFault, IsCoherentRule, rule_bytes, rule_misfit};
+ghost use Rattle.npr_base.specs.{
+  declared.refusal.DecodeError.TheVariants.{OutOfMemory},
+  Framing.{Item, Front},
+};
+ghost use Rattle.npr_rule.specs.{
+  Header.{default_header},
+  Message.{Rule, message_of, IsRuleMessage, RuleFault, IsCoherentRule, rule_bytes, rule_misfit},
+};
 
 use crate::attribute::RuleAttribute;
 use crate::header::RuleHeader;

@@ -1,10 +1,12 @@
 //! A range of users: `struct fib_rule_uid_range` of `linux/fib_rules.h`.
 
 ghost use Rattle.std.specs.Prelude.{◌≡◌, ◌≤◌, ◌<◌, ℕ, None, length, IfOk, IfErr};
-ghost use Rattle.npr_base.specs.Codec.{exactly};
-ghost use Rattle.npr_base.specs.Family.{checked};
-ghost use Rattle.npr_base.specs.Framing.{Writes};
-ghost use Rattle.npr_base.specs.Refusal.{no_place};
+ghost use Rattle.npr_base.specs.{
+  Codec.{exactly},
+  Family.{checked},
+  Framing.{Writes},
+  Refusal.{no_place},
+};
 ghost use Rattle.npr_rule.specs.UidRange.{uid_range};
 
 use npr_base::{At, DecodeError, EmitError, Emitable, read_octets, write_bytes};

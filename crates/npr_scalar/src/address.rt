@@ -1,11 +1,15 @@
 //! The addresses of routes.
 
 ghost use Rattle.std.specs.Prelude.{◌≡◌, ◌≢◌, ◌≤◌, None, length, IfOk, IfErr};
-ghost use Rattle.npr_base.specs.declared.refusal.DecodeError.TheVariants.{OutOfMemory};
-ghost use Rattle.npr_base.specs.Framing.{Writes};
-ghost use Rattle.npr_base.specs.Refusal.{no_place};
-ghost use Rattle.npr_scalar.specs.RouteAddress.{address_of, address_bytes, address_of_ip, route_address};
-ghost use Rattle.npr_scalar.specs.declared.address.RouteAddress.TheVariants.{Inet, Inet6, Mpls};
+ghost use Rattle.npr_base.specs.{
+  declared.refusal.DecodeError.TheVariants.{OutOfMemory},
+  Framing.{Writes},
+  Refusal.{no_place},
+};
+ghost use Rattle.npr_scalar.specs.{
+  RouteAddress.{address_of, address_bytes, address_of_ip, route_address},
+  declared.address.RouteAddress.TheVariants.{Inet, Inet6, Mpls},
+};
 
 use crate::mpls::MplsLabel;
 use npr_base::{

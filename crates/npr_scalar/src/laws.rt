@@ -2,20 +2,22 @@
 
 ghost use Rattle.std.specs.Prelude.{◌≡◌, ◌*◌, ◌<◌, ◌^◌, ◌↔◌, ℕ, ℤ, List, length};
 ghost use Rattle.npr_base.specs.Equality.{IsEquality, IsEqualityOf};
-ghost use Rattle.npr_scalar.specs.IpProtocol.{ip_protocol, ip_protocol_of, ip_protocol_number};
-ghost use Rattle.npr_scalar.specs.Mpls.{label_of, label_number, IsInRange};
-ghost use Rattle.npr_scalar.specs.MplsLaws.{mpls_labels};
-ghost use Rattle.npr_scalar.specs.Realm.{realm_of, realm_number};
-ghost use Rattle.npr_scalar.specs.RouteAddress.{Address, address_of, route_address};
-ghost use Rattle.npr_scalar.specs.RouteCacheInfo.{route_cache_info};
-ghost use Rattle.npr_scalar.specs.RouteFlags.{route_flags, route_flags_bits, route_flags_of, next_hop_flags, next_hop_flags_bits, next_hop_flags_of};
-ghost use Rattle.npr_scalar.specs.RouteMfcStats.{route_mfc_stats};
-ghost use Rattle.npr_scalar.specs.RoutePreference.{route_preference, route_preference_of, route_preference_number};
-ghost use Rattle.npr_scalar.specs.RouteProtocol.{route_protocol_of, route_protocol_number};
-ghost use Rattle.npr_scalar.specs.RouteScope.{route_scope, route_scope_of, route_scope_number};
-ghost use Rattle.npr_scalar.specs.RouteType.{route_type, route_type_of, route_type_number};
-ghost use Rattle.npr_scalar.specs.RouteVia.{Via, via_of, via_value};
-ghost use Rattle.npr_scalar.specs.TtlPropagation.{ttl_propagation, ttl_propagation_of, ttl_propagation_number};
+ghost use Rattle.npr_scalar.specs.{
+  IpProtocol.{ip_protocol, ip_protocol_of, ip_protocol_number},
+  Mpls.{label_of, label_number, IsInRange},
+  MplsLaws.{mpls_labels},
+  Realm.{realm_of, realm_number},
+  RouteAddress.{Address, address_of, route_address},
+  RouteCacheInfo.{route_cache_info},
+  RouteFlags.{route_flags, route_flags_bits, route_flags_of, next_hop_flags, next_hop_flags_bits, next_hop_flags_of},
+  RouteMfcStats.{route_mfc_stats},
+  RoutePreference.{route_preference, route_preference_of, route_preference_number},
+  RouteProtocol.{route_protocol_of, route_protocol_number},
+  RouteScope.{route_scope, route_scope_of, route_scope_number},
+  RouteType.{route_type, route_type_of, route_type_number},
+  RouteVia.{Via, via_of, via_value},
+  TtlPropagation.{ttl_propagation, ttl_propagation_of, ttl_propagation_number},
+};
 
 use crate::{
     IpProtocol, MplsLabel, RouteAddress, RouteCacheInfo, RouteCacheInfoBuffer, RouteFlags,

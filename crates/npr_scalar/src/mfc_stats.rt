@@ -1,8 +1,7 @@
 //! How much a multicast route forwarded: `struct rta_mfc_stats` of `linux/rtnetlink.h`.
 
 ghost use Rattle.std.specs.Prelude.{◌≡◌, None, IfOk, IfErr};
-ghost use Rattle.npr_base.specs.Codec.{leading};
-ghost use Rattle.npr_base.specs.Refusal.{no_place};
+ghost use Rattle.npr_base.specs.{Codec.{leading}, Refusal.{no_place}};
 ghost use Rattle.npr_scalar.specs.RouteMfcStats.{route_mfc_stats, route_mfc_stats_buffer, mfc_stats_buffer_of};
 
 use npr_base::{DecodeError, EmitError, Emitable, leading_octets, write_bytes};

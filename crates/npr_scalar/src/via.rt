@@ -1,15 +1,21 @@
 //! Gateways of a family of their own: `struct rtvia` of `linux/rtnetlink.h`.
 
-ghost use Rattle.std.specs.Prelude.{◌≡◌, ◌≢◌, ◌≤◌, ◌+◌, None, length, ◌++◌, IfOk, IfErr};
-ghost use Rattle.std.specs.Int.{w16, to_le_bytes};
-ghost use Rattle.npr_base.specs.AddressFamily.{family_number};
-ghost use Rattle.npr_base.specs.declared.refusal.DecodeError.TheVariants.{OutOfMemory};
-ghost use Rattle.npr_base.specs.Codec.{leading};
-ghost use Rattle.npr_base.specs.Framing.{Writes};
-ghost use Rattle.npr_base.specs.Refusal.{no_place};
-ghost use Rattle.npr_scalar.specs.RouteVia.{via_of, via_bytes, via_value, via_of_ip, via_form_of, IsAddress, NotAddress};
-ghost use Rattle.npr_scalar.specs.ViaBuffer.{via_buffer};
-ghost use Rattle.npr_scalar.specs.declared.via.RouteVia.TheVariants.{Inet, Inet6};
+ghost use Rattle.std.specs.{
+  Prelude.{◌≡◌, ◌≢◌, ◌≤◌, ◌+◌, None, length, ◌++◌, IfOk, IfErr},
+  Int.{w16, to_le_bytes},
+};
+ghost use Rattle.npr_base.specs.{
+  AddressFamily.{family_number},
+  declared.refusal.DecodeError.TheVariants.{OutOfMemory},
+  Codec.{leading},
+  Framing.{Writes},
+  Refusal.{no_place},
+};
+ghost use Rattle.npr_scalar.specs.{
+  RouteVia.{via_of, via_bytes, via_value, via_of_ip, via_form_of, IsAddress, NotAddress},
+  ViaBuffer.{via_buffer},
+  declared.via.RouteVia.TheVariants.{Inet, Inet6},
+};
 
 use npr_base::{
     AddressFamily, At, DecodeError, EmitError, Emitable, IpAddr, Ipv4Addr, Ipv6Addr,

@@ -2,10 +2,12 @@
 
 ghost use Rattle.std.specs.Prelude.{◌≡◌, ◌≢◌, ℕ, false, length, IfOk, IfErr, IfSome, IfNone, refl};
 ghost use Rattle.npr_base.specs.declared.refusal.DecodeError.TheVariants.{OutOfMemory};
-ghost use Rattle.npr_srh.specs.Ioam6Mode.{ioam6_mode_of, ioam6_mode_number};
-ghost use Rattle.npr_srh.specs.Trace.{trace, IsTrace, encode_trace};
-ghost use Rattle.npr_srh.specs.declared.ioam6.Ioam6TraceHdr.{Ioam6TraceHdr};
-ghost use Rattle.npr_srh.specs.Ioam6Tunnel.{Meaning, meaning_of, writing, members, at as place_at};
+ghost use Rattle.npr_srh.specs.{
+  Ioam6Mode.{ioam6_mode_of, ioam6_mode_number},
+  Trace.{trace, IsTrace, encode_trace},
+  declared.ioam6.Ioam6TraceHdr.{Ioam6TraceHdr},
+  Ioam6Tunnel.{Meaning, meaning_of, writing, members, at as place_at},
+};
 
 use npr_base::{
     AttrFamily, Attribute, DecodeError, DefaultNla, EmitError, Ipv6Addr, Looks, Nla, NlaBuffer,

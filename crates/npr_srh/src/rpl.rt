@@ -3,9 +3,11 @@
 
 ghost use Rattle.std.specs.Prelude.{◌≡◌, ◌≤◌, ◌*◌, false, length, [], IfOk, IfErr, IfSome, IfNone, refl};
 ghost use Rattle.npr_base.specs.declared.refusal.DecodeError.TheVariants.{OutOfMemory};
-ghost use Rattle.npr_srh.specs.Headed.{IsUnread};
-ghost use Rattle.npr_srh.specs.Rpl.{rpl, rpl_of, rpl_front, encode_rpl};
-ghost use Rattle.npr_srh.specs.RplTunnel.{Meaning, meaning_of, writing, members, at as place_at};
+ghost use Rattle.npr_srh.specs.{
+  Headed.{IsUnread},
+  Rpl.{rpl, rpl_of, rpl_front, encode_rpl},
+  RplTunnel.{Meaning, meaning_of, writing, members, at as place_at},
+};
 
 use crate::segments::{check_header, has_header};
 use npr_base::{

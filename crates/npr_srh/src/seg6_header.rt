@@ -1,13 +1,19 @@
 //! SEG6's routing header of segments, behind its mode (RFC 8754; `linux/seg6.h`).
 
-ghost use Rattle.std.specs.Prelude.{◌≡◌, ◌≢◌, ◌≤◌, ◌*◌, ◌/◌, ◌%◌, None, false, length, take, reverse, [], Err, IfOk, IfErr};
-ghost use Rattle.std.specs.List.{concat};
-ghost use Rattle.npr_base.specs.Codec.{leading};
-ghost use Rattle.npr_base.specs.Framing.{Writes};
-ghost use Rattle.npr_base.specs.Refusal.{no_place};
-ghost use Rattle.npr_srh.specs.Seg6.{message, seg6_of, IsSeg6, IsKey, HasFront, Seg6Wrong, front_of, key_bytes, key_eights, most_segments};
-ghost use Rattle.npr_srh.specs.Seg6Codec.{seg6};
-ghost use Rattle.npr_base.specs.declared.refusal.DecodeError.TheVariants.{OutOfMemory, Seg6Header as Refused};
+ghost use Rattle.std.specs.{
+  Prelude.{◌≡◌, ◌≢◌, ◌≤◌, ◌*◌, ◌/◌, ◌%◌, None, false, length, take, reverse, [], Err, IfOk, IfErr},
+  List.{concat},
+};
+ghost use Rattle.npr_base.specs.{
+  Codec.{leading},
+  Framing.{Writes},
+  Refusal.{no_place},
+  declared.refusal.DecodeError.TheVariants.{OutOfMemory, Seg6Header as Refused},
+};
+ghost use Rattle.npr_srh.specs.{
+  Seg6.{message, seg6_of, IsSeg6, IsKey, HasFront, Seg6Wrong, front_of, key_bytes, key_eights, most_segments},
+  Seg6Codec.{seg6},
+};
 
 use crate::seg6_mode::Seg6Mode;
 use crate::segments::check_header;

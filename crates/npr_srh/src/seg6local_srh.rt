@@ -2,9 +2,11 @@
 
 ghost use Rattle.std.specs.Prelude.{◌≡◌, ◌≤◌, ◌*◌, false, length, [], IfOk, IfErr, IfSome, IfNone};
 ghost use Rattle.npr_base.specs.declared.refusal.DecodeError.TheVariants.{OutOfMemory};
-ghost use Rattle.npr_srh.specs.Headed.{IsUnread};
-ghost use Rattle.npr_srh.specs.Seg6Local.{local, local_of, local_front, encode_local};
-ghost use Rattle.npr_srh.specs.Seg6LocalTunnel.{at as place_at};
+ghost use Rattle.npr_srh.specs.{
+  Headed.{IsUnread},
+  Seg6Local.{local, local_of, local_front, encode_local},
+  Seg6LocalTunnel.{at as place_at},
+};
 
 use crate::segments::{check_header, has_header};
 use npr_base::{

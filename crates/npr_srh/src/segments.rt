@@ -1,10 +1,8 @@
 //! What the families of routing headers share: their lengths.
 
 ghost use Rattle.std.specs.Prelude.{◌≡◌, ◌↔◌, IsTrue};
-ghost use Rattle.npr_base.specs.Family.{checked, option_or, too_long};
-ghost use Rattle.npr_base.specs.Framing.{framed};
-ghost use Rattle.npr_srh.specs.Headed.{HasHeader};
-ghost use Rattle.npr_srh.specs.Segments.{too_many};
+ghost use Rattle.npr_base.specs.{Family.{checked, option_or, too_long}, Framing.{framed}};
+ghost use Rattle.npr_srh.specs.{Headed.{HasHeader}, Segments.{too_many}};
 
 use npr_base::{EmitError, check_len};
 

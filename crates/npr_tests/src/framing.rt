@@ -1,6 +1,6 @@
 //! The framing of attributes, addresses of IP and address families.
 
-use crate::helpers::{F1, frames, holds, same};
+use crate::helpers::{FIRST, frames, holds, same};
 use netlink_packet_route::AddressFamily;
 use netlink_packet_route::framing::{
     DecodeError, DefaultNla, EmitError, Looks, Nla, NlaBuffer, NlasIterator, Parseable,
@@ -65,24 +65,24 @@ fn makes_addresses(rt: HostRuntime) {
     same(&rt, loopback.octets(), [127, 0, 0, 1]);
     same(&rt, IpAddr::from(loopback), IpAddr::from([127, 0, 0, 1]));
     holds(&rt, IpAddr::from(loopback).is_ipv4());
-    let address = Ipv6Addr::from(F1);
-    same(&rt, address.octets(), F1);
-    same(&rt, IpAddr::from(address), IpAddr::from(F1));
+    let address = Ipv6Addr::from(FIRST);
+    same(&rt, address.octets(), FIRST);
+    same(&rt, IpAddr::from(address), IpAddr::from(FIRST));
     holds(&rt, IpAddr::from(address).is_ipv6());
 }
 
 #[test]
 fn reads_a_list_of_addresses(rt: HostRuntime) -> Result<(), Fail> {
-    let list = read_v6_list(rt.alloc(), &F1)?;
-    holds(&rt, list.as_slice() == [Ipv6Addr::from(F1)].as_slice());
+    let list = read_v6_list(rt.alloc(), &FIRST)?;
+    holds(&rt, list.as_slice() == [Ipv6Addr::from(FIRST)].as_slice());
     Ok(())
 }
 
 #[test]
 fn writes_a_list_of_addresses(rt: HostRuntime) {
     let mut out = [0xffu8; 16];
-    emit_v6_list(&[Ipv6Addr::from(F1)], &mut out);
-    same(&rt, out, F1);
+    emit_v6_list(&[Ipv6Addr::from(FIRST)], &mut out);
+    same(&rt, out, FIRST);
 }
 
 #[test]

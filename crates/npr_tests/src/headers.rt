@@ -1,6 +1,8 @@
 //! Routing headers and traces, read and written, and what is refused.
 
-use crate::helpers::{F1, F2, bytes_of, frames, holds, is_alone, is_member, is_refused, same};
+use crate::helpers::{
+    FIRST, SECOND, bytes_of, frames, holds, is_alone, is_member, is_refused, same,
+};
 use netlink_packet_route::framing::{
     At, AttrFamily, DecodeError, DefaultNla, EmitError, Nla, NlaBuffer, Parseable, Seg6Fault,
 };
@@ -13,10 +15,10 @@ use std::alloc::{AllocError, Global};
 use std::process::Abort;
 use std::test::Fail;
 
-/// `F1` and `F2` as texts.
-const T1: &str = "fc000000000000000000000000000001";
+/// `FIRST` and `SECOND` as texts.
+const FIRST_TEXT: &str = "fc000000000000000000000000000001";
 
-const T2: &str = "fc000000000000000000000000000002";
+const SECOND_TEXT: &str = "fc000000000000000000000000000002";
 
 /// Eight zeros.
 const ZEROS: &str = "0000000000000000";
@@ -38,18 +40,30 @@ fn seg6(
 
 #[test]
 fn seg6_segments_stand_in_reverse(rt: HostRuntime) -> Result<(), Fail> {
-    let both = [Ipv6Addr::from(F1), Ipv6Addr::from(F2)];
+    let both = [Ipv6Addr::from(FIRST), Ipv6Addr::from(SECOND)];
     let wanted = seg6(rt.alloc(), Seg6Mode::Encap, &both, None)?;
-    let texts = ["30000100 01000000 00040401 01000000", T2, T1];
+    let texts = [
+        "30000100 01000000 00040401 01000000",
+        SECOND_TEXT,
+        FIRST_TEXT,
+    ];
     is_member(&rt, (), &texts, wanted, &texts)
 }
 
 #[test]
 fn seg6_key(rt: HostRuntime) -> Result<(), Fail> {
-    let one = [Ipv6Addr::from(F1)];
+    let one = [Ipv6Addr::from(FIRST)];
     let wanted = seg6(rt.alloc(), Seg6Mode::Inline, &one, Some(7))?;
     let front = "48000100 00000000 00070400 00080000";
-    let texts = [front, T1, "0526000000000007", ZEROS, ZEROS, ZEROS, ZEROS];
+    let texts = [
+        front,
+        FIRST_TEXT,
+        "0526000000000007",
+        ZEROS,
+        ZEROS,
+        ZEROS,
+        ZEROS,
+    ];
     is_member(&rt, (), &texts, wanted, &texts)
 }
 
@@ -114,7 +128,7 @@ fn seg6_layout(rt: HostRuntime) -> Result<(), Fail> {
 fn segments(alloc: Global, count: usize) -> Result<Vec<Ipv6Addr>, AllocError> {
     let mut list = Vec::new(alloc);
     for _ in 0..count {
-        list.push(Ipv6Addr::from(F1))?;
+        list.push(Ipv6Addr::from(FIRST))?;
     }
     Ok(list)
 }
@@ -200,8 +214,8 @@ fn too_many_segments_of_others(rt: HostRuntime) -> Result<(), Fail> {
     Ok(())
 }
 
-/// A SEG6 local member with the address `F1`.
-const LOCAL: [&str; 2] = ["1c000200 29020400 0000002a", T1];
+/// A SEG6 local member with the address `FIRST`.
+const LOCAL: [&str; 2] = ["1c000200 29020400 0000002a", FIRST_TEXT];
 
 /// The header that `LOCAL` is.
 fn local(alloc: Global) -> Result<Seg6LocalSrh, AllocError> {
@@ -237,7 +251,7 @@ fn is_unsupported(rt: &impl Abort, fault: Option<DecodeError>, family: AttrFamil
 /// A header whose length byte says 3 is kept by its tunnel.
 #[test]
 fn unreadable_local_headers(rt: HostRuntime) -> Result<(), Fail> {
-    let texts = ["1c000200 29030400 0000002a", T1];
+    let texts = ["1c000200 29030400 0000002a", FIRST_TEXT];
     let bytes = bytes_of(&rt, &texts)?;
     let item = NlaBuffer::new_checked(bytes.as_slice())?;
     let fault = Seg6LocalSrh::parse(rt.alloc(), &item).err();
@@ -246,8 +260,8 @@ fn unreadable_local_headers(rt: HostRuntime) -> Result<(), Fail> {
     is_member(&rt, (), &texts, RouteSeg6LocalTunnel::Other(kept), &texts)
 }
 
-/// An RPL member with the address `F1`.
-const RPL: [&str; 2] = ["1c000100 00020301 00000000", T1];
+/// An RPL member with the address `FIRST`.
+const RPL: [&str; 2] = ["1c000100 00020301 00000000", FIRST_TEXT];
 
 /// The header that `RPL` is.
 fn rpl(alloc: Global) -> Result<RplSrh, AllocError> {
@@ -274,7 +288,7 @@ fn rpl_nibbles(rt: HostRuntime) -> Result<(), Fail> {
     let mut header = rpl(rt.alloc())?;
     header.pad = 0x1f;
     header.cmpri = 0x20;
-    frames(&rt, header, &["1c000100 00020301 00f00000", T1])
+    frames(&rt, header, &["1c000100 00020301 00f00000", FIRST_TEXT])
 }
 
 /// What the tunnel keeps of a header that is not read.
@@ -291,7 +305,7 @@ fn kept_rpl(rt: &(impl Abort + AllocGlobal), texts: &[&str]) -> Result<RouteRplI
 fn unreadable_rpl_headers(rt: HostRuntime) -> Result<(), Fail> {
     let nine = ["0d000100 00000000 00000000 00000000"];
     is_member(&rt, (), &nine, kept_rpl(&rt, &nine)?, &nine)?;
-    let compressed = ["1c000100 00020301 01000000", T1];
+    let compressed = ["1c000100 00020301 01000000", FIRST_TEXT];
     is_member(
         &rt,
         (),

@@ -27,9 +27,9 @@ pub(crate) const LABEL: MplsLabel = MplsLabel {
 };
 
 /// `fc00::1` and `fc00::2`.
-pub(crate) const F1: [u8; 16] = [0xfc, 0, 0, 0, 0, 0, 0, 0, 0, 0, 0, 0, 0, 0, 0, 1];
+pub(crate) const FIRST: [u8; 16] = [0xfc, 0, 0, 0, 0, 0, 0, 0, 0, 0, 0, 0, 0, 0, 0, 1];
 
-pub(crate) const F2: [u8; 16] = [0xfc, 0, 0, 0, 0, 0, 0, 0, 0, 0, 0, 0, 0, 0, 0, 2];
+pub(crate) const SECOND: [u8; 16] = [0xfc, 0, 0, 0, 0, 0, 0, 0, 0, 0, 0, 0, 0, 0, 0, 2];
 
 /// A message of any kind.
 pub(crate) trait Message: Emitable + PartialEq + Drop + Sized {

@@ -1,6 +1,6 @@
 //! Members of the tunnels SEG6, SEG6 local, RPL and IOAM6 beside their headers.
 
-use crate::helpers::{F1, F2, is_member, same};
+use crate::helpers::{FIRST, SECOND, is_member, same};
 use netlink_packet_route::framing::DefaultNla;
 use netlink_packet_route::net::{Ipv4Addr, Ipv6Addr};
 use netlink_packet_route::route::{
@@ -16,7 +16,7 @@ const TO_F2: &str = "fc000000000000000000000000000002";
 #[test]
 fn members_of_seg6(rt: HostRuntime) -> Result<(), Fail> {
     let text = ["14000200", TO_F2];
-    let source = RouteSeg6IpTunnel::Src(Ipv6Addr::from(F2));
+    let source = RouteSeg6IpTunnel::Src(Ipv6Addr::from(SECOND));
     is_member(&rt, (), &text, source, &text)?;
     let text = ["08000300 01020304"];
     is_member(&rt, (), &text, RouteSeg6IpTunnel::Table(0x0403_0201), &text)?;
@@ -31,7 +31,7 @@ fn addresses_of_seg6_local(rt: HostRuntime) -> Result<(), Fail> {
     let four = RouteSeg6LocalTunnel::Nh4(Ipv4Addr::new(1, 2, 3, 4));
     is_member(&rt, (), &text, four, &text)?;
     let text = ["14000500", TO_F1];
-    let six = RouteSeg6LocalTunnel::Nh6(Ipv6Addr::from(F1));
+    let six = RouteSeg6LocalTunnel::Nh6(Ipv6Addr::from(FIRST));
     is_member(&rt, (), &text, six, &text)
 }
 
@@ -89,7 +89,7 @@ fn members_of_ioam6(rt: HostRuntime) -> Result<(), Fail> {
         &rt,
         (),
         &text,
-        RouteIoam6Tunnel::Dst(Ipv6Addr::from(F1)),
+        RouteIoam6Tunnel::Dst(Ipv6Addr::from(FIRST)),
         &text,
     )?;
     let text = ["08000400 01020304"];
@@ -101,7 +101,7 @@ fn members_of_ioam6(rt: HostRuntime) -> Result<(), Fail> {
         &rt,
         (),
         &text,
-        RouteIoam6Tunnel::Src(Ipv6Addr::from(F2)),
+        RouteIoam6Tunnel::Src(Ipv6Addr::from(SECOND)),
         &text,
     )
 }

@@ -1,6 +1,6 @@
 //! Members of encapsulations, as `ip` writes them, and damaged ones.
 
-use crate::helpers::{F1, LABEL, is_member, is_refused, same, writes};
+use crate::helpers::{FIRST, LABEL, is_member, is_refused, same, writes};
 use bitflags::Flags;
 use netlink_packet_route::framing::{DecodeError, DefaultNla, EmitError, Nla};
 use netlink_packet_route::net::Ipv6Addr;
@@ -148,7 +148,7 @@ fn tunnels_of_ip(rt: HostRuntime) -> Result<(), Fail> {
 fn tunnels_of_ip6(rt: HostRuntime) -> Result<(), Fail> {
     let kind = RouteLwEnCapType::Ip6;
     let text = ["14000200 fc000000000000000000000000000001"];
-    let address = RouteIp6Tunnel::Destination(Ipv6Addr::from(F1));
+    let address = RouteIp6Tunnel::Destination(Ipv6Addr::from(FIRST));
     is_member(&rt, kind, &text, RouteLwTunnelEncap::Ip6(address), &text)?;
     let text = ["06000600 000c0000"];
     let flags = RouteIp6TunnelFlags::Key.union(RouteIp6TunnelFlags::Sequence);

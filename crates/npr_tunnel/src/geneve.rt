@@ -1,14 +1,18 @@
 //! Options of Geneve: `LWTUNNEL_IP_OPT_GENEVE_*` of `linux/lwtunnel.h`.
 
 ghost use Rattle.std.specs.Prelude.{◌≡◌, ◌≢◌, ◌≤◌, ◌⊎◌, ◌+◌, ◌∷◌, ◌++◌, true, false, [], ℕ, Some, None, length, map, IfOk, IfErr, OnOk};
-ghost use Rattle.npr_base.specs.Codec.{exactly, raw};
-ghost use Rattle.npr_base.specs.Family.{checked};
-ghost use Rattle.npr_base.specs.Counts.{AddsAtMost, SawEach};
-ghost use Rattle.npr_base.specs.Framing.{Writes, number_of};
-ghost use Rattle.npr_base.specs.Layout.{byte, be16};
-ghost use Rattle.npr_base.specs.declared.refusal.DecodeError.TheVariants.{OutOfMemory};
-ghost use Rattle.npr_tunnel.specs.Geneve.{at, Child, child_item, child_misfit, option_bytes, option_misfit, options_unfit, class_child, type_child, data_child, option_of, ReadsChild, WrongChild, AreOptions, OptionsFault};
-ghost use Rattle.npr_tunnel.specs.GeneveSteps.{seen, listed, is_some, Changes};
+ghost use Rattle.npr_base.specs.{
+  Codec.{exactly, raw},
+  Family.{checked},
+  Counts.{AddsAtMost, SawEach},
+  Framing.{Writes, number_of},
+  Layout.{byte, be16},
+  declared.refusal.DecodeError.TheVariants.{OutOfMemory},
+};
+ghost use Rattle.npr_tunnel.specs.{
+  Geneve.{at, Child, child_item, child_misfit, option_bytes, option_misfit, options_unfit, class_child, type_child, data_child, option_of, ReadsChild, WrongChild, AreOptions, OptionsFault},
+  GeneveSteps.{seen, listed, is_some, Changes},
+};
 
 use npr_base::{
     AttrFamily, DecodeError, EmitError, Looks, Nla, NlaBuffer, NlasIterator, check_len, plus,

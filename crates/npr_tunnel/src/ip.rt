@@ -1,8 +1,7 @@
 //! Tunnels over IP version 4: `LWTUNNEL_IP_*` of `linux/lwtunnel.h`.
 
 ghost use Rattle.std.specs.Prelude.{◌≡◌, false, length, IfOk, refl};
-ghost use Rattle.npr_base.specs.Family.{checked};
-ghost use Rattle.npr_base.specs.Table.{held_bytes};
+ghost use Rattle.npr_base.specs.{Family.{checked}, Table.{held_bytes}};
 ghost use Rattle.npr_tunnel.specs.IpTunnel.{Meaning, meaning_of, writing, members, place, unfit_inside};
 
 use crate::flags::RouteIpTunnelFlags;

@@ -1,8 +1,7 @@
 //! Tunnels over IP version 6: `LWTUNNEL_IP6_*` of `linux/lwtunnel.h`.
 
 ghost use Rattle.std.specs.Prelude.{◌≡◌, false, length, IfOk, refl};
-ghost use Rattle.npr_base.specs.Family.{checked};
-ghost use Rattle.npr_base.specs.Table.{held_bytes};
+ghost use Rattle.npr_base.specs.{Family.{checked}, Table.{held_bytes}};
 ghost use Rattle.npr_tunnel.specs.IpTunnel.{Meaning, meaning6_of, writing, members6, place, unfit_inside};
 
 use crate::flags::RouteIp6TunnelFlags;

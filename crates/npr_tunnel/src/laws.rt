@@ -2,16 +2,18 @@
 
 ghost use Rattle.std.specs.Prelude.{◌≡◌, ◌^◌, ℕ};
 ghost use Rattle.npr_base.specs.Equality.{IsEquality, IsEqualityOf};
-ghost use Rattle.npr_tunnel.specs.EncapType.{encap_type_of, encap_type_number};
-ghost use Rattle.npr_tunnel.specs.Encapsulation.{meaning_of as encap_member};
-ghost use Rattle.npr_tunnel.specs.ErspanOptions.{meaning_of as erspan_option};
-ghost use Rattle.npr_tunnel.specs.Geneve.{option_of};
-ghost use Rattle.npr_tunnel.specs.IpTunnel.{meaning_of as ip_member, meaning6_of as ip6_member};
-ghost use Rattle.npr_tunnel.specs.MplsTunnel.{meaning_of as mpls_member};
-ghost use Rattle.npr_tunnel.specs.TunnelFlags.{ip_flags_bits, ip_flags_of, ip6_flags_bits, ip6_flags_of};
-ghost use Rattle.npr_tunnel.specs.TunnelOptions.{meaning_of as tunnel_option};
-ghost use Rattle.npr_tunnel.specs.VxlanOptions.{meaning_of as vxlan_option};
-ghost use Rattle.npr_tunnel.specs.XfrmTunnel.{meaning_of as xfrm_member};
+ghost use Rattle.npr_tunnel.specs.{
+  EncapType.{encap_type_of, encap_type_number},
+  Encapsulation.{meaning_of as encap_member},
+  ErspanOptions.{meaning_of as erspan_option},
+  Geneve.{option_of},
+  IpTunnel.{meaning_of as ip_member, meaning6_of as ip6_member},
+  MplsTunnel.{meaning_of as mpls_member},
+  TunnelFlags.{ip_flags_bits, ip_flags_of, ip6_flags_bits, ip6_flags_of},
+  TunnelOptions.{meaning_of as tunnel_option},
+  VxlanOptions.{meaning_of as vxlan_option},
+  XfrmTunnel.{meaning_of as xfrm_member},
+};
 
 use crate::encap::RouteLwTunnelEncap;
 use crate::encap_type::RouteLwEnCapType;

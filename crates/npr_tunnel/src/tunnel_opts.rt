@@ -1,8 +1,7 @@
 //! Options of tunnels over IP: `LWTUNNEL_IP_OPTS_*` of `linux/lwtunnel.h`.
 
 ghost use Rattle.std.specs.Prelude.{◌≡◌, false, length, IfOk, refl};
-ghost use Rattle.npr_base.specs.Family.{checked};
-ghost use Rattle.npr_base.specs.Table.{held_bytes};
+ghost use Rattle.npr_base.specs.{Family.{checked}, Table.{held_bytes}};
 ghost use Rattle.npr_tunnel.specs.TunnelOptions.{Meaning, meaning_of, writing, members, place, unfit_inside};
 
 use crate::erspan::RouteErspanOpt;

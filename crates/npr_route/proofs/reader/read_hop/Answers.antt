@@ -6,7 +6,7 @@ use Rattle.npr_route.specs.Attribute.{Hop, IsHop}
 use Rattle.npr_route.specs.AttributeView.{hop_of}
 use Rattle.npr_route.proofs.HopOpening.{opens}
 use Rattle.npr_route.proofs.OneHop.{one_hop, one_hop_wrong, sized, only}
-use Rattle.npr_route.proofs.next_hops.read_hop.Goals as goal
+use Rattle.npr_route.proofs.reader.read_hop.Goals as goal
 
 pub returns-in_err-hops-clause-refused : goal.returns-in_err-hops-clause-refused
 returns-in_err-hops-clause-refused c =

@@ -3,7 +3,7 @@ use Rattle.std.proofs.lemmas.Result.{IfErr-weaker}
 use Rattle.npr_base.specs.declared.refusal.DecodeError.TheVariants.{OutOfMemory}
 use Rattle.npr_route.specs.Attribute.{Hop, IsHop, HopWrong}
 use Rattle.npr_route.proofs.OneHop.{hop-sound}
-use Rattle.npr_route.proofs.next_hops.RouteNextHopParseableParametrizedRefSliceU8Context.parse_with_param.Goals as goal
+use Rattle.npr_route.proofs.reader.RouteNextHopParseableParametrizedRefSliceU8Context.parse_with_param.Goals as goal
 
 pub returns-clause-none : goal.returns-clause-none
 returns-clause-none c =
