@@ -21,6 +21,7 @@ pub use Rattle.npr_base.specs.Refusal
 pub use Rattle.npr_base.specs.Rows
 pub use Rattle.npr_base.specs.Table
 pub use Rattle.npr_base.specs.TableLaws
+pub use Rattle.npr_base.specs.Text
 pub use Rattle.npr_base.specs.V6List
 pub use Rattle.npr_base.specs.VariantCodec
 pub use Rattle.npr_base.specs.Walk

@@ -1,5 +1,5 @@
 -- What made an address, by its table: `IFAPROT_*` of `linux/if_addr.h`.
-use Rattle.std.specs.Prelude.{◌≡◌, ℕ, List, [], ◌∷◌}
+use Rattle.std.specs.Prelude.{◌≡◌, ℕ, List, [], ◌∷◌, codes, decimal}
 use Rattle.std.proofs.Common.{refl}
 use Rattle.npr_base.specs.Layout.{Layout, byte, formed}
 use Rattle.npr_base.specs.Rows.{form_in}
@@ -26,3 +26,10 @@ protocol_number-protocol_of = number-form protocol_number Other (λ d. refl) pro
 
 abbrev pub protocol : Layout AddressProtocol
 protocol = formed byte protocol_of protocol_number protocol_number-protocol_of
+
+-- the text of a protocol
+abbrev pub protocol_text : AddressProtocol → List ℕ
+protocol_text Loopback = codes "kernel_lo"
+protocol_text RouterAnnouncement = codes "kernel_ra"
+protocol_text LinkLocal = codes "kernel_ll"
+protocol_text (Other d) = decimal d

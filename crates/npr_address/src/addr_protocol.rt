@@ -1,7 +1,9 @@
 //! What made an address: `IFAPROT_*` of `linux/if_addr.h`.
 
-ghost use Rattle.std.specs.Prelude.{◌≡◌, ℕ};
-ghost use Rattle.npr_address.specs.AddressProtocol.{protocol_of, protocol_number};
+ghost use Rattle.std.specs.Prelude.{◌≡◌, ℕ, Some};
+ghost use Rattle.npr_address.specs.AddressProtocol.{protocol_of, protocol_number, protocol_text};
+
+use std::fmt;
 
 /// What made an address: `IFAPROT_*` of `linux/if_addr.h`.
 #[derive(Clone, Copy, Debug, PartialEq, Eq)]
@@ -39,5 +41,19 @@ impl From<AddressProtocol> for u8 {
             AddressProtocol::LinkLocal => 3,
             AddressProtocol::Other(number) => number,
         }
+    }
+}
+
+/// The name, as `ip` prints it, and of any other protocol its number.
+impl fmt::Display for AddressProtocol {
+    ghost output = { λ protocol. Some (protocol_text protocol) };
+
+    fn fmt<W: fmt::Write>(&self, f: &mut fmt::Formatter<W>) -> fmt::Result {
+        f.write_str(match self {
+            AddressProtocol::Loopback => "kernel_lo",
+            AddressProtocol::RouterAnnouncement => "kernel_ra",
+            AddressProtocol::LinkLocal => "kernel_ll",
+            AddressProtocol::Other(number) => return write!(f, "{number}"),
+        })
     }
 }

@@ -1,7 +1,9 @@
 //! The scope of an address: `RT_SCOPE_*` of `linux/rtnetlink.h`.
 
-ghost use Rattle.std.specs.Prelude.{◌≡◌, ℕ};
-ghost use Rattle.npr_address.specs.AddressScope.{scope_of, scope_number};
+ghost use Rattle.std.specs.Prelude.{◌≡◌, ℕ, Some};
+ghost use Rattle.npr_address.specs.AddressScope.{scope_of, scope_number, scope_text};
+
+use std::fmt;
 
 /// The scope of an address: `RT_SCOPE_*` of `linux/rtnetlink.h`.
 #[derive(Clone, Copy, Debug, Default, PartialEq, Eq)]
@@ -48,5 +50,21 @@ impl From<AddressScope> for u8 {
             AddressScope::Nowhere => 255,
             AddressScope::Other(number) => number,
         }
+    }
+}
+
+/// The name, and of any other scope its number.
+impl fmt::Display for AddressScope {
+    ghost output = { λ scope. Some (scope_text scope) };
+
+    fn fmt<W: fmt::Write>(&self, f: &mut fmt::Formatter<W>) -> fmt::Result {
+        f.write_str(match self {
+            AddressScope::Universe => "universe",
+            AddressScope::Site => "site",
+            AddressScope::Link => "link",
+            AddressScope::Host => "host",
+            AddressScope::Nowhere => "nowhere",
+            AddressScope::Other(number) => return write!(f, "{number}"),
+        })
     }
 }

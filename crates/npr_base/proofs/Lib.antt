@@ -8,3 +8,4 @@ pub mod Messages
 pub mod Mapped
 pub mod WalkLaws
 pub mod V6Lists
+pub mod Texts

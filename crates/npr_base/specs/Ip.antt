@@ -1,5 +1,7 @@
 -- Addresses of IP, by their bytes.
 use Rattle.std.specs.Prelude.{ℕ, List}
+use Rattle.std.specs.Net.Text.{ipv4_text, ipv6_text}
+use Rattle.std.specs.Net.Addr.{segments_of}
 use Rattle.npr_base.specs.declared.ip.IpAddr.{IpAddr}
 use Rattle.npr_base.specs.declared.ip.IpAddr.TheVariants.{V4, V6}
 
@@ -15,3 +17,8 @@ IsIpv4 (V6 address) = ⊥
 abbrev pub IsIpv6 : IpAddr → Type 0
 IsIpv6 (V4 address) = ⊥
 IsIpv6 (V6 address) = Unit {0}
+
+-- the text of an address: four decimal numbers with dots between them, or by RFC 5952 (section 4, and 5 for a mapped one)
+abbrev pub ip_text : IpAddr → List ℕ
+ip_text (V4 address) = ipv4_text address
+ip_text (V6 address) = ipv6_text (segments_of address)

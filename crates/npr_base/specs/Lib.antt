@@ -35,3 +35,4 @@ pub mod VariantCodec
 pub mod DroppedCodec
 pub mod V6List
 pub mod V6ListLaws
+pub mod Text

@@ -1,7 +1,9 @@
 //! Address families: `AF_*` of `linux/socket.h`.
 
-ghost use Rattle.std.specs.Prelude.{◌≡◌, ℕ};
-ghost use Rattle.npr_base.specs.AddressFamily.{family_of, family_number};
+ghost use Rattle.std.specs.Prelude.{◌≡◌, ℕ, Some};
+ghost use Rattle.npr_base.specs.AddressFamily.{family_of, family_number, family_text};
+
+use std::fmt;
 
 /// An address family: `AF_*` of `linux/socket.h`.
 #[derive(Clone, Copy, Debug, Default, PartialEq, Eq)]
@@ -172,5 +174,64 @@ impl From<AddressFamily> for u8 {
             AddressFamily::Route => 16,
             AddressFamily::Other(number) => number,
         }
+    }
+}
+
+/// The name in lower case, and of any other family its number.
+impl fmt::Display for AddressFamily {
+    ghost output = { λ family. Some (family_text family) };
+
+    fn fmt<W: fmt::Write>(&self, f: &mut fmt::Formatter<W>) -> fmt::Result {
+        f.write_str(match self {
+            AddressFamily::Unspec => "unspec",
+            AddressFamily::Unix => "unix",
+            AddressFamily::Inet => "inet",
+            AddressFamily::Ax25 => "ax25",
+            AddressFamily::Ipx => "ipx",
+            AddressFamily::Appletalk => "appletalk",
+            AddressFamily::Netrom => "netrom",
+            AddressFamily::Bridge => "bridge",
+            AddressFamily::Atmpvc => "atmpvc",
+            AddressFamily::X25 => "x25",
+            AddressFamily::Inet6 => "inet6",
+            AddressFamily::Rose => "rose",
+            AddressFamily::Decnet => "decnet",
+            AddressFamily::Netbeui => "netbeui",
+            AddressFamily::Security => "security",
+            AddressFamily::Key => "key",
+            AddressFamily::Netlink => "netlink",
+            AddressFamily::Packet => "packet",
+            AddressFamily::Ash => "ash",
+            AddressFamily::Econet => "econet",
+            AddressFamily::Atmsvc => "atmsvc",
+            AddressFamily::Rds => "rds",
+            AddressFamily::Sna => "sna",
+            AddressFamily::Irda => "irda",
+            AddressFamily::Pppox => "pppox",
+            AddressFamily::Wanpipe => "wanpipe",
+            AddressFamily::Llc => "llc",
+            AddressFamily::Ib => "ib",
+            AddressFamily::Mpls => "mpls",
+            AddressFamily::Can => "can",
+            AddressFamily::Tipc => "tipc",
+            AddressFamily::Bluetooth => "bluetooth",
+            AddressFamily::Iucv => "iucv",
+            AddressFamily::Rxrpc => "rxrpc",
+            AddressFamily::Isdn => "isdn",
+            AddressFamily::Phonet => "phonet",
+            AddressFamily::Ieee802154 => "ieee802154",
+            AddressFamily::Caif => "caif",
+            AddressFamily::Alg => "alg",
+            AddressFamily::Nfc => "nfc",
+            AddressFamily::Vsock => "vsock",
+            AddressFamily::Kcm => "kcm",
+            AddressFamily::Qipcrtr => "qipcrtr",
+            AddressFamily::Smc => "smc",
+            AddressFamily::Xdp => "xdp",
+            AddressFamily::Mctp => "mctp",
+            AddressFamily::Local => "local",
+            AddressFamily::Route => "route",
+            AddressFamily::Other(number) => return write!(f, "{number}"),
+        })
     }
 }

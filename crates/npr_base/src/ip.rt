@@ -1,9 +1,14 @@
 //! Addresses of IP, by their bytes in the order of the network.
 
-ghost use Rattle.std.specs.Prelude.{◌≡◌, ◌∷◌, [], IsTrue, ◌↔◌};
-ghost use Rattle.npr_base.specs.{declared.ip.IpAddr.TheVariants.{V4, V6}, Ip.{IsIpv4, IsIpv6}};
+ghost use Rattle.std.specs.{
+  Prelude.{◌≡◌, ◌∷◌, [], IsTrue, ◌↔◌, Some},
+  Net.Addr.{segments_of},
+  Net.Text.{ipv4_text, ipv6_text},
+};
+ghost use Rattle.npr_base.specs.{declared.ip.IpAddr.TheVariants.{V4, V6}, Ip.{IsIpv4, IsIpv6, ip_text}};
 
 use std::marker::Model;
+use std::{fmt, net};
 
 /// An address of IP version 4 (RFC 791). A contract sees the list of its four bytes.
 #[derive(Clone, Copy, Debug, PartialEq, Eq)]
@@ -134,5 +139,35 @@ impl IpAddr {
         ensures { IsTrue result ↔ IsIpv6 self.now }
     {
         matches!(self, IpAddr::V6(_))
+    }
+}
+
+/// Four decimal numbers with dots between them.
+impl fmt::Display for Ipv4Addr {
+    ghost output = { λ address. Some (ipv4_text address) };
+
+    fn fmt<W: fmt::Write>(&self, f: &mut fmt::Formatter<W>) -> fmt::Result {
+        fmt::Display::fmt(&net::Ipv4Addr::from(self.octets), f)
+    }
+}
+
+/// The text of RFC 5952, sections 4 and 5: a mapped address ends in its IPv4 address.
+impl fmt::Display for Ipv6Addr {
+    ghost output = { λ address. Some (ipv6_text (segments_of address)) };
+
+    fn fmt<W: fmt::Write>(&self, f: &mut fmt::Formatter<W>) -> fmt::Result {
+        fmt::Display::fmt(&net::Ipv6Addr::from(self.octets), f)
+    }
+}
+
+/// The text of the address of its version.
+impl fmt::Display for IpAddr {
+    ghost output = { λ address. Some (ip_text address) };
+
+    fn fmt<W: fmt::Write>(&self, f: &mut fmt::Formatter<W>) -> fmt::Result {
+        match self {
+            IpAddr::V4(address) => fmt::Display::fmt(address, f),
+            IpAddr::V6(address) => fmt::Display::fmt(address, f),
+        }
     }
 }

@@ -10,6 +10,7 @@ pub mod laws;
 mod list;
 mod looks;
 mod refusal;
+mod text;
 mod traits;
 mod v6_list;
 mod values;
@@ -25,6 +26,7 @@ pub use ip::{IpAddr, Ipv4Addr, Ipv6Addr};
 pub use list::{check_list, clone_list, emit_list, list_len, parse_list, plus, write_list};
 pub use looks::Looks;
 pub use refusal::{At, AttrFamily, DecodeError, EmitError, Seg6Fault};
+pub use text::{write_hex, write_joined, write_six_hex_digits};
 pub use traits::{Emitable, Nla, Parseable, ParseableParametrized};
 pub use v6_list::{emit_v6_list, read_v6_list, v6_list_len, write_v6_list};
 pub use values::{

@@ -1,7 +1,8 @@
 -- Sets of flags of routes and next hops: every bit is kept.
-use Rattle.std.specs.Prelude.{ℕ}
+use Rattle.std.specs.Prelude.{ℕ, Bool, true, false, List, [], ◌∷◌, Option, Some, codes, bit_and, ◌==◌}
 use Rattle.std.proofs.Common.{refl}
 use Rattle.npr_base.specs.Layout.{Layout, byte, le32, formed}
+use Rattle.npr_base.specs.Text.{joined_by}
 use Rattle.npr_scalar.specs.declared.flags.RouteFlags.{RouteFlags}
 use Rattle.npr_scalar.specs.declared.flags.RouteNextHopFlags.{RouteNextHopFlags}
 
@@ -24,3 +25,24 @@ route_flags = formed le32 route_flags_of route_flags_bits (λ bits. refl)
 
 abbrev pub next_hop_flags : Layout RouteNextHopFlags
 next_hop_flags = formed byte next_hop_flags_of next_hop_flags_bits (λ bits. refl)
+
+-- whether a bit is set
+abbrev pub is_set : ℕ → ℕ → Bool
+is_set bits bit = bit_and bits bit == bit
+
+-- the names of next hops' flags in the order in which they are printed, and whether each is set
+abbrev pub next_hop_names : ℕ → List (Bool × List ℕ)
+next_hop_names bits =
+    (is_set bits 1, codes "dead") ∷ (is_set bits 4, codes "onlink") ∷ (is_set bits 2, codes "pervasive")
+    ∷ (is_set bits 8, codes "offload") ∷ (is_set bits 16, codes "linkdown") ∷ (is_set bits 32, codes "unresolved")
+    ∷ (is_set bits 64, codes "trap") ∷ []
+
+-- those that are
+abbrev pub names_set : List (Bool × List ℕ) → List (List ℕ)
+names_set [] = []
+names_set ((true, name) ∷ names) = name ∷ names_set names
+names_set ((false, name) ∷ names) = names_set names
+
+-- the text of a set: the names that are set, one space between them
+abbrev pub next_hop_flags_text : RouteNextHopFlags → Option (List ℕ)
+next_hop_flags_text flags = joined_by (codes " ") Some (names_set (next_hop_names (next_hop_flags_bits flags)))

@@ -1,5 +1,5 @@
 -- Who made a route, by the table: `RTPROT_*` of `linux/rtnetlink.h`.
-use Rattle.std.specs.Prelude.{◌≡◌, ℕ, List, [], ◌∷◌}
+use Rattle.std.specs.Prelude.{◌≡◌, ℕ, List, [], ◌∷◌, ◌++◌, codes, decimal}
 use Rattle.std.proofs.Common.{refl}
 use Rattle.npr_base.specs.Layout.{Layout, byte, formed}
 use Rattle.npr_base.specs.Rows.{form_in}
@@ -51,3 +51,29 @@ route_protocol_number-route_protocol_of = number-form route_protocol_number Othe
 -- how one is read from a byte and written as one
 abbrev pub route_protocol : Layout RouteProtocol
 route_protocol = formed byte route_protocol_of route_protocol_number route_protocol_number-route_protocol_of
+
+-- the text of a protocol
+abbrev pub route_protocol_text : RouteProtocol → List ℕ
+route_protocol_text Unspec = codes "unspec"
+route_protocol_text IcmpRedirect = codes "icmp_redirect"
+route_protocol_text Kernel = codes "kernel"
+route_protocol_text Boot = codes "boot"
+route_protocol_text Static = codes "static"
+route_protocol_text Gated = codes "gated"
+route_protocol_text Ra = codes "ra"
+route_protocol_text Mrt = codes "merit_mrt"
+route_protocol_text Zebra = codes "zebra"
+route_protocol_text Bird = codes "bird"
+route_protocol_text DnRouted = codes "decnet_routing_daemon"
+route_protocol_text Xorp = codes "xorp"
+route_protocol_text Ntk = codes "netsukuku"
+route_protocol_text Dhcp = codes "Dhcp"
+route_protocol_text Mrouted = codes "multicast_daemon"
+route_protocol_text KeepAlived = codes "keepalived_daemon"
+route_protocol_text Babel = codes "babel"
+route_protocol_text Bgp = codes "bgp"
+route_protocol_text Isis = codes "isis"
+route_protocol_text Ospf = codes "ospf"
+route_protocol_text Rip = codes "rip"
+route_protocol_text Eigrp = codes "eigrp"
+route_protocol_text (Other d) = codes "other(" ++ decimal d ++ codes ")"

@@ -1,5 +1,5 @@
 -- Scopes of routes, by their table: `RT_SCOPE_*` of `linux/rtnetlink.h`.
-use Rattle.std.specs.Prelude.{◌≡◌, ℕ, List, [], ◌∷◌}
+use Rattle.std.specs.Prelude.{◌≡◌, ℕ, List, [], ◌∷◌, ◌++◌, codes, decimal}
 use Rattle.std.proofs.Common.{refl}
 use Rattle.npr_base.specs.Layout.{Layout, byte, formed}
 use Rattle.npr_base.specs.Rows.{form_in}
@@ -29,3 +29,12 @@ route_scope_number-route_scope_of = number-form route_scope_number Other (λ d. 
 -- how one is read from a byte and written as one
 abbrev pub route_scope : Layout RouteScope
 route_scope = formed byte route_scope_of route_scope_number route_scope_number-route_scope_of
+
+-- the text of a scope
+abbrev pub route_scope_text : RouteScope → List ℕ
+route_scope_text Universe = codes "universe"
+route_scope_text Site = codes "site"
+route_scope_text Link = codes "link"
+route_scope_text Host = codes "host"
+route_scope_text NoWhere = codes "no_where"
+route_scope_text (Other d) = codes "other(" ++ decimal d ++ codes ")"

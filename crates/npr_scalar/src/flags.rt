@@ -1,9 +1,19 @@
 //! The flags of routes and next hops: `RTNH_F_*` and `RTM_F_*` of `linux/rtnetlink.h`.
 
-ghost use Rattle.std.specs.Prelude.{⊤, [], ◌∷◌, codes};
-ghost use Rattle.npr_scalar.specs.RouteFlags.{route_flags_bits, next_hop_flags_bits};
+ghost use Rattle.std.specs.{
+  Prelude.{⊤, [], ◌∷◌, ◌++◌, codes, map, Some, if◌then◌else◌},
+  Fmt.{DisplaysOnOk, WritesOnOk},
+};
+ghost use Rattle.npr_base.specs.Text.{joined_by};
+ghost use Rattle.npr_scalar.specs.RouteFlags.{
+  route_flags_bits,
+  next_hop_flags_bits,
+  next_hop_flags_text,
+  names_set,
+};
 
 use bitflags::{Flag, Flags};
+use std::fmt;
 
 /// The flags of a next hop: `RTNH_F_*` of `linux/rtnetlink.h`. Every bit is kept.
 #[derive(Clone, Copy, Debug, Default, PartialEq, Eq)]
@@ -234,4 +244,46 @@ impl Flags for RouteFlags {
     fn from_bits_retain(bits: u32) -> RouteFlags {
         RouteFlags(bits)
     }
+}
+
+/// The names of the flags that are set, one space between them.
+impl fmt::Display for RouteNextHopFlags {
+    ghost output = { λ flags. next_hop_flags_text flags };
+
+    fn fmt<W: fmt::Write>(&self, f: &mut fmt::Formatter<W>) -> fmt::Result {
+        let names = [
+            (self.contains(RouteNextHopFlags::Dead), "dead"),
+            (self.contains(RouteNextHopFlags::Onlink), "onlink"),
+            (self.contains(RouteNextHopFlags::Pervasive), "pervasive"),
+            (self.contains(RouteNextHopFlags::Offload), "offload"),
+            (self.contains(RouteNextHopFlags::Linkdown), "linkdown"),
+            (self.contains(RouteNextHopFlags::Unresolved), "unresolved"),
+            (self.contains(RouteNextHopFlags::Trap), "trap"),
+        ];
+        write_names(f, &names)
+    }
+}
+
+/// Writes the names that are set, one space between them.
+fn write_names<W: fmt::Write>(f: &mut fmt::Formatter<W>, names: &[(bool, &str)]) -> fmt::Result
+    ensures { DisplaysOnOk W.write_str_gives f.old result (joined_by (codes " ") Some (names_set (map (λ n. (n.0, n.1.now)) names.now))) f.new }
+{
+    let mut started = false;
+    for (is_set, name) in names {
+        if *is_set {
+            write_next(f, started, name)?;
+            started = true;
+        }
+    }
+    Ok(())
+}
+
+/// Writes a name, behind a space where others stand before it.
+fn write_next<W: fmt::Write>(f: &mut fmt::Formatter<W>, started: bool, name: &str) -> fmt::Result
+    ensures { WritesOnOk W.write_str_gives f.old result ((if started then codes " " else []) ++ name.now) f.new }
+{
+    if started {
+        f.write_str(" ")?;
+    }
+    f.write_str(name)
 }

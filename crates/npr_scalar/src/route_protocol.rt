@@ -1,10 +1,11 @@
 //! Who made a route, and the numbers of that (`linux/rtnetlink.h`).
 
-ghost use Rattle.std.specs.Prelude.{◌≡◌, None, IfOk, IfErr};
+ghost use Rattle.std.specs.Prelude.{◌≡◌, Some, None, IfOk, IfErr};
 ghost use Rattle.npr_base.specs.{Codec.{exactly}, Refusal.{no_place}};
-ghost use Rattle.npr_scalar.specs.RouteProtocol.{route_protocol, route_protocol_of, route_protocol_number};
+ghost use Rattle.npr_scalar.specs.RouteProtocol.{route_protocol, route_protocol_of, route_protocol_number, route_protocol_text};
 
 use npr_base::{At, DecodeError, EmitError, Emitable, read_u8, write_bytes};
+use std::fmt;
 
 /// Who made a route: `RTPROT_*` of `linux/rtnetlink.h`.
 #[derive(Clone, Copy, Debug, Default, PartialEq, Eq)]
@@ -133,5 +134,38 @@ impl Emitable for RouteProtocol {
 
     fn emit(&self, out: &mut [u8]) {
         write_bytes(&[u8::from(*self)], out);
+    }
+}
+
+/// The name, and of any other protocol its number.
+impl fmt::Display for RouteProtocol {
+    ghost output = { λ protocol. Some (route_protocol_text protocol) };
+
+    fn fmt<W: fmt::Write>(&self, f: &mut fmt::Formatter<W>) -> fmt::Result {
+        f.write_str(match self {
+            RouteProtocol::Unspec => "unspec",
+            RouteProtocol::IcmpRedirect => "icmp_redirect",
+            RouteProtocol::Kernel => "kernel",
+            RouteProtocol::Boot => "boot",
+            RouteProtocol::Static => "static",
+            RouteProtocol::Gated => "gated",
+            RouteProtocol::Ra => "ra",
+            RouteProtocol::Mrt => "merit_mrt",
+            RouteProtocol::Zebra => "zebra",
+            RouteProtocol::Bird => "bird",
+            RouteProtocol::DnRouted => "decnet_routing_daemon",
+            RouteProtocol::Xorp => "xorp",
+            RouteProtocol::Ntk => "netsukuku",
+            RouteProtocol::Dhcp => "Dhcp",
+            RouteProtocol::Mrouted => "multicast_daemon",
+            RouteProtocol::KeepAlived => "keepalived_daemon",
+            RouteProtocol::Babel => "babel",
+            RouteProtocol::Bgp => "bgp",
+            RouteProtocol::Isis => "isis",
+            RouteProtocol::Ospf => "ospf",
+            RouteProtocol::Rip => "rip",
+            RouteProtocol::Eigrp => "eigrp",
+            RouteProtocol::Other(number) => return write!(f, "other({number})"),
+        })
     }
 }

@@ -1,7 +1,9 @@
 //! How far the destination of a route is, and the numbers of that (`linux/rtnetlink.h`).
 
-ghost use Rattle.std.specs.Prelude.{◌≡◌};
-ghost use Rattle.npr_scalar.specs.RouteScope.{route_scope_of, route_scope_number};
+ghost use Rattle.std.specs.Prelude.{◌≡◌, Some};
+ghost use Rattle.npr_scalar.specs.RouteScope.{route_scope_of, route_scope_number, route_scope_text};
+
+use std::fmt;
 
 /// How far the destination of a route is: `RT_SCOPE_*` of `linux/rtnetlink.h`.
 #[derive(Clone, Copy, Debug, Default, PartialEq, Eq)]
@@ -48,5 +50,21 @@ impl From<RouteScope> for u8 {
             RouteScope::NoWhere => 255,
             RouteScope::Other(number) => number,
         }
+    }
+}
+
+/// The name, and of any other scope its number.
+impl fmt::Display for RouteScope {
+    ghost output = { λ scope. Some (route_scope_text scope) };
+
+    fn fmt<W: fmt::Write>(&self, f: &mut fmt::Formatter<W>) -> fmt::Result {
+        f.write_str(match self {
+            RouteScope::Universe => "universe",
+            RouteScope::Site => "site",
+            RouteScope::Link => "link",
+            RouteScope::Host => "host",
+            RouteScope::NoWhere => "no_where",
+            RouteScope::Other(number) => return write!(f, "other({number})"),
+        })
     }
 }

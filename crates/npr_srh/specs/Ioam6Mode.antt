@@ -1,5 +1,5 @@
 -- How an IOAM trace is put in (linux/ioam6_iptunnel.h, IOAM6_IPTUNNEL_MODE_*), by its table.
-use Rattle.std.specs.Prelude.{◌≡◌, ℕ, List, [], ◌∷◌}
+use Rattle.std.specs.Prelude.{◌≡◌, ℕ, List, [], ◌∷◌, ◌++◌, codes, decimal}
 use Rattle.std.proofs.Common.{refl}
 use Rattle.npr_base.specs.Layout.{Layout, byte, formed}
 use Rattle.npr_base.specs.Rows.{form_in}
@@ -27,3 +27,10 @@ ioam6_mode_number-ioam6_mode_of = number-form ioam6_mode_number Other (λ d. ref
 -- how one is read and written
 abbrev pub ioam6_mode : Layout Ioam6Mode
 ioam6_mode = formed byte ioam6_mode_of ioam6_mode_number ioam6_mode_number-ioam6_mode_of
+
+-- the text of a mode
+abbrev pub ioam6_mode_text : Ioam6Mode → List ℕ
+ioam6_mode_text Inline = codes "inline"
+ioam6_mode_text Encap = codes "encap"
+ioam6_mode_text Auto = codes "auto"
+ioam6_mode_text (Other d) = codes "other(" ++ decimal d ++ codes ")"

@@ -1,5 +1,7 @@
 -- The members of an IOAM6 tunnel (linux/ioam6_iptunnel.h, IOAM6_IPTUNNEL_*), by their table.
-use Rattle.std.specs.Prelude.{◌≡◌, ℕ, ◌<◌, ◌^◌, List, [], ◌∷◌, None}
+use Rattle.std.specs.Prelude.{◌≡◌, ℕ, ◌<◌, ◌^◌, List, [], ◌∷◌, None, ◌++◌, Option, Some, codes, decimal}
+use Rattle.std.specs.Net.Addr.{segments_of}
+use Rattle.std.specs.Net.Text.{ipv6_text}
 use Rattle.npr_base.specs.declared.refusal.At.{At}
 use Rattle.npr_base.specs.declared.refusal.AttrFamily.TheVariants.{Ioam6 as OfIoam6}
 use Rattle.npr_base.specs.Framing.{Item, number_of}
@@ -10,8 +12,8 @@ use Rattle.npr_base.specs.Table.{Writing, Reading, Table, table_of, Row, row, He
 use Rattle.npr_base.specs.Table.{held_misfit, held-reads, IsHeld, item_of, placed, IsOther, Aligned, ReadsAt}
 use Rattle.npr_base.specs.TableLaws.{other-back}
 use Rattle.npr_srh.specs.Keeping.{keeping, IsRowOf}
-use Rattle.npr_srh.specs.Ioam6Mode.{ioam6_mode}
-use Rattle.npr_srh.specs.Trace.{trace}
+use Rattle.npr_srh.specs.Ioam6Mode.{ioam6_mode, ioam6_mode_text}
+use Rattle.npr_srh.specs.Trace.{trace, trace_text}
 use Rattle.npr_srh.specs.declared.ioam6.Ioam6Mode.{Ioam6Mode}
 use Rattle.npr_srh.specs.declared.ioam6.Ioam6TraceHdr.{Ioam6TraceHdr}
 use Rattle.npr_srh.specs.declared.ioam6.RouteIoam6Tunnel.{RouteIoam6Tunnel}
@@ -98,3 +100,14 @@ writing = placed place
 -- the family: where the routing header can't be read, the attribute is kept
 abbrev pub members : Reading writing
 members = keeping table_of_rows trace_row here
+
+-- the text of a member; none is claimed for an unknown one
+abbrev pub ioam6_text : Meaning → Option (List ℕ)
+ioam6_text unspecified = Some (codes "unspecified")
+ioam6_text (mode m) = Some (codes "mode " ++ ioam6_mode_text m)
+ioam6_text (dst a) = Some (codes "tundst " ++ ipv6_text (segments_of a))
+ioam6_text (traced t) = Some (trace_text t)
+ioam6_text (freq_k n) = Some (codes "freq " ++ decimal n)
+ioam6_text (freq_n n) = Some (codes "/" ++ decimal n)
+ioam6_text (src a) = Some (codes "tunsrc " ++ ipv6_text (segments_of a))
+ioam6_text (other x) = None

@@ -1,5 +1,6 @@
 -- The members of an RPL tunnel (linux/rpl_iptunnel.h, RPL_IPTUNNEL_*), by their table.
-use Rattle.std.specs.Prelude.{◌≡◌, ℕ, ◌<◌, ◌^◌, List, [], ◌∷◌, None}
+use Rattle.std.specs.Prelude.{◌≡◌, ℕ, ◌<◌, ◌^◌, List, [], ◌∷◌, None, ◌++◌, Option, Some, codes, decimal}
+use Rattle.std.specs.Fmt.{◌++?◌}
 use Rattle.npr_base.specs.declared.refusal.At.{At}
 use Rattle.npr_base.specs.declared.refusal.AttrFamily.TheVariants.{Rpl as OfRpl}
 use Rattle.npr_base.specs.Framing.{Item, number_of}
@@ -9,6 +10,7 @@ use Rattle.npr_base.specs.Table.{held_misfit, held-reads, IsHeld, item_of, place
 use Rattle.npr_base.specs.TableLaws.{other-back}
 use Rattle.npr_srh.specs.Keeping.{keeping, IsRowOf}
 use Rattle.npr_srh.specs.Rpl.{Rpl, rpl, rpl_of}
+use Rattle.npr_srh.specs.Segments.{segments_text}
 use Rattle.npr_srh.specs.declared.rpl.RouteRplIpTunnel.{RouteRplIpTunnel}
 use Rattle.npr_srh.specs.declared.rpl.RouteRplIpTunnel.TheVariants.{Unspecified, Srh, Other}
 use Rattle.std.proofs.Common.{refl, arith, rules}
@@ -73,3 +75,9 @@ writing = placed place
 -- the family: where the routing header can't be read, the attribute is kept
 abbrev pub members : Reading writing
 members = keeping table_of_rows srh_row here
+
+-- the text of a member; none is claimed for an unknown one
+abbrev pub rpl_text : Meaning → Option (List ℕ)
+rpl_text unspecified = Some (codes "unspecified")
+rpl_text (srh h) = Some (codes "srh segs " ++ decimal h.front.segments_left ++ codes " [ ") ++? segments_text h.segments ++? Some (codes " ]")
+rpl_text (other x) = None

@@ -1,5 +1,5 @@
 -- What is done at a local segment (linux/seg6_local.h, SEG6_LOCAL_ACTION_*), by its table.
-use Rattle.std.specs.Prelude.{◌≡◌, ℕ, List, [], ◌∷◌}
+use Rattle.std.specs.Prelude.{◌≡◌, ℕ, List, [], ◌∷◌, ◌++◌, codes, decimal}
 use Rattle.std.proofs.Common.{refl}
 use Rattle.npr_base.specs.Layout.{Layout, le32, formed}
 use Rattle.npr_base.specs.Rows.{form_in}
@@ -44,3 +44,24 @@ action_number-action_of = number-form action_number Other (λ d. refl) action_ro
 -- how one is read and written
 abbrev pub action : Layout Seg6LocalAction
 action = formed le32 action_of action_number action_number-action_of
+
+-- the text of an action, as RFC 8986 names it
+abbrev pub action_text : Seg6LocalAction → List ℕ
+action_text Unspec = codes "unspec"
+action_text End = codes "End"
+action_text EndX = codes "End.X"
+action_text EndT = codes "End.T"
+action_text EndDx2 = codes "End.DX2"
+action_text EndDx6 = codes "End.DX6"
+action_text EndDx4 = codes "End.DX4"
+action_text EndDt6 = codes "End.DT6"
+action_text EndDt4 = codes "End.DT4"
+action_text EndB6 = codes "End.B6"
+action_text EndB6Encap = codes "End.B6.Encaps"
+action_text EndBm = codes "End.BM"
+action_text EndS = codes "End.S"
+action_text EndAs = codes "End.AS"
+action_text EndAm = codes "End.AM"
+action_text EndBpf = codes "End.BPF"
+action_text EndDt46 = codes "End.DT46"
+action_text (Other d) = codes "other(" ++ decimal d ++ codes ")"

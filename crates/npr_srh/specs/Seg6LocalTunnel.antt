@@ -1,5 +1,8 @@
 -- The members of a SEG6 local tunnel (linux/seg6_local.h, SEG6_LOCAL_*), by their table.
-use Rattle.std.specs.Prelude.{◌≡◌, ℕ, ◌<◌, ◌^◌, List, [], ◌∷◌, None}
+use Rattle.std.specs.Prelude.{◌≡◌, ℕ, ◌<◌, ◌^◌, List, [], ◌∷◌, None, ◌+◌, ◌++◌, Option, Some, codes, decimal}
+use Rattle.std.specs.Fmt.{◌++?◌}
+use Rattle.std.specs.Net.Addr.{segments_of}
+use Rattle.std.specs.Net.Text.{ipv4_text, ipv6_text}
 use Rattle.npr_base.specs.declared.refusal.At.{At}
 use Rattle.npr_base.specs.declared.refusal.AttrFamily.TheVariants.{Seg6Local as OfSeg6Local}
 use Rattle.npr_base.specs.Framing.{Item, number_of}
@@ -10,8 +13,9 @@ use Rattle.npr_base.specs.Table.{Writing, Reading, Table, table_of, Row, row, He
 use Rattle.npr_base.specs.Table.{held_misfit, held-reads, IsHeld, item_of, placed, IsOther, Aligned, ReadsAt}
 use Rattle.npr_base.specs.TableLaws.{other-back}
 use Rattle.npr_srh.specs.Keeping.{keeping, IsRowOf}
-use Rattle.npr_srh.specs.Seg6LocalAction.{action}
+use Rattle.npr_srh.specs.Seg6LocalAction.{action, action_text}
 use Rattle.npr_srh.specs.Seg6Local.{Local, local, local_of}
+use Rattle.npr_srh.specs.Segments.{segments_text}
 use Rattle.npr_srh.specs.declared.seg6local_action.Seg6LocalAction.{Seg6LocalAction}
 use Rattle.npr_srh.specs.declared.seg6local.RouteSeg6LocalTunnel.{RouteSeg6LocalTunnel}
 use Rattle.npr_srh.specs.declared.seg6local.RouteSeg6LocalTunnel.TheVariants.{Unspecified, Action, Srh, Table as RouteTable, Nh4, Nh6}
@@ -106,3 +110,16 @@ writing = placed place
 -- the family: where the routing header can't be read, the attribute is kept
 abbrev pub members : Reading writing
 members = keeping table_of_rows srh_row here
+
+-- the text of a member; none is claimed for an unknown one
+abbrev pub local_text : Meaning → Option (List ℕ)
+local_text unspecified = Some (codes "unspecified")
+local_text (act a) = Some (codes "action " ++ action_text a)
+local_text (srh h) = Some (codes "srh segs " ++ decimal (h.front.first_segment + 1) ++ codes " [ ") ++? segments_text h.segments ++? Some (codes " ]")
+local_text (table n) = Some (codes "table " ++ decimal n)
+local_text (nh4 a) = Some (codes "nh4 " ++ ipv4_text a)
+local_text (nh6 a) = Some (codes "nh6 " ++ ipv6_text (segments_of a))
+local_text (iif n) = Some (codes "iif " ++ decimal n)
+local_text (oif n) = Some (codes "oif " ++ decimal n)
+local_text (vrf_table n) = Some (codes "vrftable " ++ decimal n)
+local_text (other x) = None

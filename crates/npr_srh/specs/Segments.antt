@@ -1,9 +1,12 @@
--- How many segments a routing header can say.
-use Rattle.std.specs.Prelude.{◌≡◌, ℕ, ◌≤◌, Option, Some, None, nat_lt, if◌then◌else◌}
+-- How many segments a routing header can say, and how segments are printed.
+use Rattle.std.specs.Prelude.{◌≡◌, ℕ, ◌≤◌, Option, Some, None, nat_lt, if◌then◌else◌, List, reverse, codes}
+use Rattle.std.specs.Net.Addr.{segments_of}
+use Rattle.std.specs.Net.Text.{ipv6_text}
 use Rattle.std.proofs.Common.{refl, inl, inr}
 use Rattle.std.proofs.lemmas.Bool.{cases_lt, lt-ltb}
 use Rattle.npr_base.specs.declared.refusal.EmitError.{EmitError}
 use Rattle.npr_base.specs.declared.refusal.EmitError.TheVariants.{TooManySegments}
+use Rattle.npr_base.specs.Text.{joined_by}
 
 -- more segments than that
 abbrev pub too_many : ℕ → ℕ → Option EmitError
@@ -14,3 +17,7 @@ few most count e = elim (cases_lt most count) [
   | inl lt ↦ absurd (let h : too_many most count ≡ Some (TooManySegments count) = rw (lt-ltb most count lt) refl in cc)
   | inr le ↦ le
 ]
+
+-- the text of segments: the addresses, the last one first, one space between them
+abbrev pub segments_text : List (List ℕ) → Option (List ℕ)
+segments_text segments = joined_by (codes " ") (λ a. Some (ipv6_text (segments_of a))) (reverse segments)

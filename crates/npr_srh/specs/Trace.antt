@@ -1,5 +1,5 @@
 -- The header of an IOAM trace (RFC 9197, section 4.4.1; linux/ioam6.h, struct ioam6_trace_hdr): eight bytes.
-use Rattle.std.specs.Prelude.{◌≡◌, ℕ, ◌+◌, ◌*◌, ◌/◌, ◌%◌, ◌<◌, ◌^◌, ◌==◌, Bool, true, false, List, ◌∷◌, ◌++◌, length, slice_index}
+use Rattle.std.specs.Prelude.{◌≡◌, ℕ, ◌+◌, ◌*◌, ◌/◌, ◌%◌, ◌<◌, ◌^◌, ◌==◌, Bool, true, false, List, ◌∷◌, ◌++◌, length, slice_index, codes, decimal}
 use Rattle.std.specs.Int.{w16, w32, to_be_bytes}
 use Rattle.std.proofs.Common.{refl, ap, ◌∙◌, arith}
 use Rattle.std.proofs.lemmas.Nat.{from_be_bytes-to_be_bytes_2, from_be_bytes-to_be_bytes_4}
@@ -10,6 +10,7 @@ use Rattle.npr_base.specs.FitLaws.{too_long-short}
 use Rattle.npr_base.specs.Layout.{Layout, be16_at, be32_at, truth_byte}
 use Rattle.npr_base.specs.CodecLaws.{exactly-one, exactly-holds, exactly-back, exactly-grows}
 use Rattle.npr_base.specs.Codec.{Codec}
+use Rattle.npr_base.specs.Text.{padded_hex_text}
 use Rattle.npr_srh.specs.declared.ioam6.Ioam6TraceHdr.{Ioam6TraceHdr}
 
 -- big endian: the number of the namespace; five bits of the length of a node's data, and one that says that no room was
@@ -92,3 +93,9 @@ trace = record {
   reads_back = exactly-back trace_layout;
   grows = exactly-grows trace_layout;
 }
+
+-- the text of a trace; its room is printed in bytes
+abbrev pub trace_text : Ioam6TraceHdr → List ℕ
+trace_text t =
+    codes "trace prealloc type 0x" ++ padded_hex_text 6 t.trace_type ++ codes " ns " ++ decimal t.namespace_id
+    ++ codes " size " ++ decimal (4 * t.remlen)

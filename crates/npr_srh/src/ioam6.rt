@@ -1,19 +1,23 @@
 //! IOAM6: traces in packets (RFC 9197; `linux/ioam6.h` and `linux/ioam6_iptunnel.h`).
 
-ghost use Rattle.std.specs.Prelude.{◌≡◌, ◌≢◌, ℕ, false, length, IfOk, IfErr, IfSome, IfNone, refl};
+ghost use Rattle.std.specs.{
+  Prelude.{◌≡◌, ◌≢◌, ℕ, false, length, IfOk, IfErr, IfSome, IfNone, refl, Some},
+  Fmt.{WritesOnOk},
+};
 ghost use Rattle.npr_base.specs.declared.refusal.DecodeError.TheVariants.{OutOfMemory};
 ghost use Rattle.npr_srh.specs.{
-  Ioam6Mode.{ioam6_mode_of, ioam6_mode_number},
-  Trace.{trace, IsTrace, encode_trace},
+  Ioam6Mode.{ioam6_mode_of, ioam6_mode_number, ioam6_mode_text},
+  Trace.{trace, IsTrace, encode_trace, trace_text},
   declared.ioam6.Ioam6TraceHdr.{Ioam6TraceHdr},
-  Ioam6Tunnel.{Meaning, meaning_of, writing, members, at as place_at},
+  Ioam6Tunnel.{Meaning, meaning_of, writing, members, ioam6_text, at as place_at},
 };
 
 use npr_base::{
     AttrFamily, Attribute, DecodeError, DefaultNla, EmitError, Ipv6Addr, Looks, Nla, NlaBuffer,
-    Parseable, check_len, read_ipv6, read_u8, read_u32, write_bytes,
+    Parseable, check_len, read_ipv6, read_u8, read_u32, write_bytes, write_six_hex_digits,
 };
 use std::alloc::{AllocError, Global};
+use std::fmt;
 
 /// How a trace is put in: `IOAM6_IPTUNNEL_MODE_*` of `linux/ioam6_iptunnel.h`.
 #[derive(Clone, Copy, Debug, Default, PartialEq, Eq)]
@@ -327,4 +331,47 @@ impl<'a> Parseable<&'a NlaBuffer<'a>> for RouteIoam6Tunnel {
     fn parse(alloc: Global, input: &'a NlaBuffer<'a>) -> Result<Self, DecodeError> {
         RouteIoam6Tunnel::read(alloc, (), input, &mut Looks::new())
     }
+}
+
+/// The name, and of any other mode its number.
+impl fmt::Display for Ioam6Mode {
+    ghost output = { λ mode. Some (ioam6_mode_text mode) };
+
+    fn fmt<W: fmt::Write>(&self, f: &mut fmt::Formatter<W>) -> fmt::Result {
+        f.write_str(match self {
+            Ioam6Mode::Inline => "inline",
+            Ioam6Mode::Encap => "encap",
+            Ioam6Mode::Auto => "auto",
+            Ioam6Mode::Other(number) => return write!(f, "other({number})"),
+        })
+    }
+}
+
+/// The words of `ip`: a trace with its type, its namespace and its room in bytes.
+impl fmt::Display for RouteIoam6Tunnel {
+    ghost output = { λ member. ioam6_text (meaning_of member) };
+
+    fn fmt<W: fmt::Write>(&self, f: &mut fmt::Formatter<W>) -> fmt::Result {
+        match self {
+            RouteIoam6Tunnel::Unspecified => f.write_str("unspecified"),
+            RouteIoam6Tunnel::Mode(mode) => write!(f, "mode {mode}"),
+            RouteIoam6Tunnel::Dst(address) => write!(f, "tundst {address}"),
+            RouteIoam6Tunnel::Trace(header) => write_trace(f, header),
+            RouteIoam6Tunnel::FreqK(number) => write!(f, "freq {number}"),
+            RouteIoam6Tunnel::FreqN(number) => write!(f, "/{number}"),
+            RouteIoam6Tunnel::Src(address) => write!(f, "tunsrc {address}"),
+            RouteIoam6Tunnel::Other(nla) => fmt::Debug::fmt(nla, f),
+        }
+    }
+}
+
+/// Writes the text of a trace.
+fn write_trace<W: fmt::Write>(f: &mut fmt::Formatter<W>, header: &Ioam6TraceHdr) -> fmt::Result
+    ensures { WritesOnOk W.write_str_gives f.old result (trace_text header.now) f.new }
+{
+    f.write_str("trace prealloc type 0x")?;
+    write_six_hex_digits(f, header.trace_type)?;
+    let namespace = header.namespace_id;
+    let size = 4 * u16::from(header.remlen);
+    write!(f, " ns {namespace} size {size}")
 }

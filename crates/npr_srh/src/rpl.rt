@@ -6,15 +6,16 @@ ghost use Rattle.npr_base.specs.declared.refusal.DecodeError.TheVariants.{OutOfM
 ghost use Rattle.npr_srh.specs.{
   Headed.{IsUnread},
   Rpl.{rpl, rpl_of, rpl_front, encode_rpl},
-  RplTunnel.{Meaning, meaning_of, writing, members, at as place_at},
+  RplTunnel.{Meaning, meaning_of, writing, members, rpl_text, at as place_at},
 };
 
-use crate::segments::{check_header, has_header};
+use crate::segments::{Segments, check_header, has_header};
 use npr_base::{
     AttrFamily, Attribute, DecodeError, DefaultNla, EmitError, Ipv6Addr, Looks, Nla, NlaBuffer,
     Parseable, check_len, read_v6_list, v6_list_len, write_bytes, write_v6_list,
 };
 use std::alloc::{AllocError, Global};
+use std::fmt;
 
 /// An RPL source routing header (RFC 6554, section 3).
 #[derive(Debug, Drop, PartialEq, Eq)]
@@ -296,5 +297,22 @@ impl<'a> Parseable<&'a NlaBuffer<'a>> for RouteRplIpTunnel {
     /// `OutOfMemory` where memory is refused, and else what is wrong with the value.
     fn parse(alloc: Global, input: &'a NlaBuffer<'a>) -> Result<Self, DecodeError> {
         RouteRplIpTunnel::read(alloc, (), input, &mut Looks::new())
+    }
+}
+
+/// The words of `ip`: how many segments are still to visit, and all of them, the last one first.
+impl fmt::Display for RouteRplIpTunnel {
+    ghost output = { λ member. rpl_text (meaning_of member) };
+
+    fn fmt<W: fmt::Write>(&self, f: &mut fmt::Formatter<W>) -> fmt::Result {
+        match self {
+            RouteRplIpTunnel::Unspecified => f.write_str("unspecified"),
+            RouteRplIpTunnel::Srh(header) => {
+                let left = header.segments_left;
+                let segments = Segments(header.segments.as_slice());
+                write!(f, "srh segs {left} [ {segments} ]")
+            }
+            RouteRplIpTunnel::Other(nla) => fmt::Debug::fmt(nla, f),
+        }
     }
 }

@@ -1,15 +1,17 @@
 //! SEG6 local: members of its tunnel (RFC 8986; `linux/seg6_local.h`).
 
 ghost use Rattle.std.specs.Prelude.{◌≡◌, false, length, IfOk, refl};
-ghost use Rattle.npr_srh.specs.Seg6LocalTunnel.{Meaning, meaning_of, writing, members};
+ghost use Rattle.npr_srh.specs.Seg6LocalTunnel.{Meaning, meaning_of, writing, members, local_text};
 
 use crate::seg6local_action::Seg6LocalAction;
 use crate::seg6local_srh::Seg6LocalSrh;
+use crate::segments::Segments;
 use npr_base::{
     AttrFamily, Attribute, DecodeError, DefaultNla, EmitError, Ipv4Addr, Ipv6Addr, Looks, Nla,
     NlaBuffer, Parseable, check_len, read_ipv4, read_ipv6, read_u32, write_bytes,
 };
 use std::alloc::{AllocError, Global};
+use std::fmt;
 
 /// A member of a SEG6 local tunnel: `SEG6_LOCAL_*` of `linux/seg6_local.h`.
 #[derive(Debug, Default, Drop, PartialEq, Eq)]
@@ -191,5 +193,29 @@ impl<'a> Parseable<&'a NlaBuffer<'a>> for RouteSeg6LocalTunnel {
     /// `OutOfMemory` where memory is refused, and else what is wrong with the value.
     fn parse(alloc: Global, input: &'a NlaBuffer<'a>) -> Result<Self, DecodeError> {
         RouteSeg6LocalTunnel::read(alloc, (), input, &mut Looks::new())
+    }
+}
+
+/// The words of `ip`: of a routing header the number of its segments, and these, the last one first.
+impl fmt::Display for RouteSeg6LocalTunnel {
+    ghost output = { λ member. local_text (meaning_of member) };
+
+    fn fmt<W: fmt::Write>(&self, f: &mut fmt::Formatter<W>) -> fmt::Result {
+        match self {
+            RouteSeg6LocalTunnel::Unspecified => f.write_str("unspecified"),
+            RouteSeg6LocalTunnel::Action(action) => write!(f, "action {action}"),
+            RouteSeg6LocalTunnel::Srh(header) => {
+                let count = u16::from(header.first_segment) + 1;
+                let segments = Segments(header.segments.as_slice());
+                write!(f, "srh segs {count} [ {segments} ]")
+            }
+            RouteSeg6LocalTunnel::Table(table) => write!(f, "table {table}"),
+            RouteSeg6LocalTunnel::Nh4(address) => write!(f, "nh4 {address}"),
+            RouteSeg6LocalTunnel::Nh6(address) => write!(f, "nh6 {address}"),
+            RouteSeg6LocalTunnel::Iif(index) => write!(f, "iif {index}"),
+            RouteSeg6LocalTunnel::Oif(index) => write!(f, "oif {index}"),
+            RouteSeg6LocalTunnel::VrfTable(table) => write!(f, "vrftable {table}"),
+            RouteSeg6LocalTunnel::Other(nla) => fmt::Debug::fmt(nla, f),
+        }
     }
 }

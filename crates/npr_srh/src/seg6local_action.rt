@@ -1,7 +1,9 @@
 //! What is done at a segment, and its numbers (RFC 8986; `linux/seg6_local.h`).
 
-ghost use Rattle.std.specs.Prelude.{◌≡◌};
-ghost use Rattle.npr_srh.specs.Seg6LocalAction.{action_of, action_number};
+ghost use Rattle.std.specs.Prelude.{◌≡◌, Some};
+ghost use Rattle.npr_srh.specs.Seg6LocalAction.{action_of, action_number, action_text};
+
+use std::fmt;
 
 /// What is done at a local segment: `SEG6_LOCAL_ACTION_*` of `linux/seg6_local.h`.
 #[derive(Clone, Copy, Debug, Default, PartialEq, Eq)]
@@ -95,5 +97,33 @@ impl From<Seg6LocalAction> for u32 {
             Seg6LocalAction::EndDt46 => 16,
             Seg6LocalAction::Other(number) => number,
         }
+    }
+}
+
+/// The name of RFC 8986, and of any other action its number.
+impl fmt::Display for Seg6LocalAction {
+    ghost output = { λ action. Some (action_text action) };
+
+    fn fmt<W: fmt::Write>(&self, f: &mut fmt::Formatter<W>) -> fmt::Result {
+        f.write_str(match self {
+            Seg6LocalAction::Unspec => "unspec",
+            Seg6LocalAction::End => "End",
+            Seg6LocalAction::EndX => "End.X",
+            Seg6LocalAction::EndT => "End.T",
+            Seg6LocalAction::EndDx2 => "End.DX2",
+            Seg6LocalAction::EndDx6 => "End.DX6",
+            Seg6LocalAction::EndDx4 => "End.DX4",
+            Seg6LocalAction::EndDt6 => "End.DT6",
+            Seg6LocalAction::EndDt4 => "End.DT4",
+            Seg6LocalAction::EndB6 => "End.B6",
+            Seg6LocalAction::EndB6Encap => "End.B6.Encaps",
+            Seg6LocalAction::EndBm => "End.BM",
+            Seg6LocalAction::EndS => "End.S",
+            Seg6LocalAction::EndAs => "End.AS",
+            Seg6LocalAction::EndAm => "End.AM",
+            Seg6LocalAction::EndBpf => "End.BPF",
+            Seg6LocalAction::EndDt46 => "End.DT46",
+            Seg6LocalAction::Other(number) => return write!(f, "other({number})"),
+        })
     }
 }

@@ -11,7 +11,7 @@ use netlink_packet_route::framing::{
 use netlink_packet_route::route::{MplsLabel, RouteAttribute, RouteMessage};
 use netlink_packet_route::rule::{RuleAttribute, RuleMessage};
 use std::alloc::{AllocError, Global};
-use std::fmt::Debug;
+use std::fmt::{Debug, Display};
 use std::process::Abort;
 use std::test::Fail;
 
@@ -98,6 +98,17 @@ pub(crate) fn same<T: PartialEq + Debug + Drop>(rt: &impl Abort, left: T, right:
 /// It holds.
 pub(crate) fn holds(rt: &impl Abort, truth: bool) {
     assert!(rt; truth);
+}
+
+/// The value is printed so.
+pub(crate) fn says<T: Display + Drop>(
+    rt: &(impl Abort + AllocGlobal),
+    value: T,
+    text: &str,
+) -> Result<(), Fail> {
+    let found = format!(in rt.alloc(); "{value}")?;
+    same(rt, found.as_str(), text);
+    Ok(())
 }
 
 /// The bytes of these texts, one after the other; spaces may stand between digits.

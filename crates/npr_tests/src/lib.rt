@@ -7,6 +7,8 @@
 #[cfg(test)]
 mod address;
 #[cfg(test)]
+mod displays;
+#[cfg(test)]
 mod encap;
 #[cfg(test)]
 mod framing;

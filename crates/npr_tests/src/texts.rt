@@ -1,9 +1,7 @@
 //! The texts of refusals.
 
-use crate::helpers::same;
+use crate::helpers::says;
 use netlink_packet_route::framing::{At, AttrFamily, DecodeError, EmitError, Seg6Fault};
-use std::fmt::Display;
-use std::process::Abort;
 use std::test::Fail;
 
 /// The second attribute of a route.
@@ -11,16 +9,6 @@ const PLACE: At = At {
     family: AttrFamily::Route,
     kind: 2,
 };
-
-fn says<T: Display + Drop>(
-    rt: &(impl Abort + AllocGlobal),
-    value: T,
-    text: &str,
-) -> Result<(), Fail> {
-    let found = format!(in rt.alloc(); "{value}")?;
-    same(rt, found.as_str(), text);
-    Ok(())
-}
 
 #[test]
 fn of_framing(rt: HostRuntime) -> Result<(), Fail> {

@@ -1,5 +1,5 @@
 -- Types of encapsulation, by the table: `LWTUNNEL_ENCAP_*` of `linux/lwtunnel.h`.
-use Rattle.std.specs.Prelude.{◌≡◌, ℕ, List, [], ◌∷◌}
+use Rattle.std.specs.Prelude.{◌≡◌, ℕ, List, [], ◌∷◌, ◌++◌, codes, decimal}
 use Rattle.std.proofs.Common.{refl}
 use Rattle.npr_base.specs.Layout.{Layout, le16, formed}
 use Rattle.npr_base.specs.Rows.{form_in}
@@ -35,3 +35,18 @@ encap_type_number-encap_type_of = number-form encap_type_number Other (λ d. ref
 
 abbrev pub encap_type : Layout RouteLwEnCapType
 encap_type = formed le16 encap_type_of encap_type_number encap_type_number-encap_type_of
+
+-- the text of a type: its name, and of any other its number
+abbrev pub encap_type_text : RouteLwEnCapType → List ℕ
+encap_type_text NoEncap = codes "none"
+encap_type_text Mpls = codes "mpls"
+encap_type_text Ip = codes "ip"
+encap_type_text Ila = codes "ila"
+encap_type_text Ip6 = codes "ip6"
+encap_type_text Seg6 = codes "seg6"
+encap_type_text Bpf = codes "bpf"
+encap_type_text Seg6Local = codes "seg6local"
+encap_type_text Rpl = codes "rpl"
+encap_type_text Ioam6 = codes "ioam6"
+encap_type_text Xfrm = codes "xfrm"
+encap_type_text (Other d) = codes "other(" ++ decimal d ++ codes ")"

@@ -1,5 +1,7 @@
 -- The options of ERSPAN (linux/lwtunnel.h, LWTUNNEL_IP_OPT_ERSPAN_*), by their table.
-use Rattle.std.specs.Prelude.{◌≡◌, ℕ, ◌<◌, ◌^◌, List, [], ◌∷◌, None}
+use Rattle.std.specs.Prelude.{◌≡◌, ◌==◌, if◌then◌else◌, ℕ, ◌<◌, ◌^◌, List, [], ◌∷◌, ◌++◌, Option, Some, None, codes, decimal}
+use Rattle.std.specs.Prelude.{unwrap_or, filter_map}
+use Rattle.std.specs.List.{last_or}
 use Rattle.std.proofs.Common.{refl, arith, rules}
 use Rattle.npr_base.specs.declared.refusal.At.{At}
 use Rattle.npr_base.specs.declared.refusal.AttrFamily.TheVariants.{Erspan as OfErspan}
@@ -70,3 +72,31 @@ writing = placed place
 -- the family
 abbrev pub members : Reading writing
 members = flat (table_of rows other place Coherent aligned (λ x. refl) (λ x is. is) kinds back)
+
+-- the value of an option, where it is of one kind
+abbrev pub version_of : Meaning → Option ℕ
+version_of (version n) = Some n
+version_of m = None
+
+abbrev pub index_of : Meaning → Option ℕ
+index_of (index n) = Some n
+index_of m = None
+
+abbrev pub direction_of : Meaning → Option ℕ
+direction_of (direction n) = Some n
+direction_of m = None
+
+abbrev pub hardware_id_of : Meaning → Option ℕ
+hardware_id_of (hardware_id n) = Some n
+hardware_id_of m = None
+
+-- the last value of a kind in a list, or 0 where there is none
+abbrev pub last_of : (Meaning → Option ℕ) → List Meaning → ℕ
+last_of value ms = unwrap_or (last_or None (filter_map value ms)) 0
+
+-- the text of a list: version 1 has an index, and every other a direction and an id of the hardware
+abbrev pub erspan_text : List Meaning → List ℕ
+erspan_text ms =
+    codes "erspan_opts " ++ (if last_of version_of ms == 1
+    then codes "1:" ++ decimal (last_of index_of ms) ++ codes ":0:0"
+    else decimal (last_of version_of ms) ++ codes ":0:" ++ decimal (last_of direction_of ms) ++ codes ":" ++ decimal (last_of hardware_id_of ms))

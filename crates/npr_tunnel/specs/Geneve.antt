@@ -1,6 +1,6 @@
 -- The options of Geneve (linux/lwtunnel.h, LWTUNNEL_IP_OPT_GENEVE_*): attributes, of which a class opens an option, and
 -- types and data that follow it stand in that option.
-use Rattle.std.specs.Prelude.{◌≡◌, ◌≢◌, ◌⊎◌, ℕ, ◌^◌, ◌<◌, Bool, true, false, List, [], ◌∷◌, ◌++◌, Option}
+use Rattle.std.specs.Prelude.{◌≡◌, ◌≢◌, ◌⊎◌, ℕ, ◌^◌, ◌<◌, Bool, true, false, List, [], ◌∷◌, ◌++◌, Option, codes, decimal}
 use Rattle.npr_base.specs.declared.refusal.At.{At}
 use Rattle.npr_base.specs.declared.refusal.AttrFamily.TheVariants.{Geneve as OfGeneve}
 use Rattle.npr_base.specs.declared.refusal.DecodeError.{DecodeError}
@@ -10,6 +10,7 @@ use Rattle.npr_base.specs.Codec.{exactly, raw}
 use Rattle.npr_base.specs.Family.{ReadsList, ReadsTo, IsWrong, encodings, list_unfit}
 use Rattle.npr_base.specs.Framing.{Item, IsBytes, number_of}
 use Rattle.npr_base.specs.Layout.{byte, be16}
+use Rattle.npr_base.specs.Text.{hex_text}
 use Rattle.npr_tunnel.specs.declared.geneve.RouteGeneveOpt.{RouteGeneveOpt}
 
 -- an option, without where it lies in memory
@@ -122,3 +123,7 @@ pub record IsOption (o : Geneve) : Type 0 where
   pub class : o.class < 2 ^ 16
   pub typ : o.typ < 2 ^ 8
   pub opt_data : IsBytes o.opt_data
+
+-- the text of an option
+abbrev pub geneve_text : Geneve → List ℕ
+geneve_text o = codes "geneve_opts " ++ decimal o.class ++ codes ":" ++ decimal o.typ ++ codes ":" ++ hex_text o.opt_data

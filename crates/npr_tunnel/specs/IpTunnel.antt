@@ -1,6 +1,8 @@
 -- The members of a tunnel over IP (linux/lwtunnel.h, LWTUNNEL_IP_* and LWTUNNEL_IP6_*), by a table that is the same for
 -- both versions but for the width of an address.
-use Rattle.std.specs.Prelude.{◌≡◌, ℕ, ◌+◌, ◌<◌, ◌^◌, List, [], ◌∷◌, map, Option, None}
+use Rattle.std.specs.Prelude.{◌≡◌, ℕ, ◌+◌, ◌<◌, ◌^◌, List, [], ◌∷◌, ◌++◌, map, Option, Some, None, codes, decimal}
+use Rattle.std.specs.Net.Addr.{segments_of}
+use Rattle.std.specs.Net.Text.{ipv4_text, ipv6_text}
 use Rattle.std.proofs.Common.{refl, arith, rules}
 use Rattle.npr_base.specs.declared.refusal.AttrFamily.{AttrFamily}
 use Rattle.npr_base.specs.declared.refusal.AttrFamily.TheVariants.{Ip as OfIp, Ip6 as OfIp6}
@@ -14,7 +16,8 @@ use Rattle.npr_base.specs.ListCodec.{list_of}
 use Rattle.npr_base.specs.Table.{Writing, Reading, table_of, Row, row, Held, held, held_other, held_kind, held_value}
 use Rattle.npr_base.specs.Table.{held_misfit, held-reads, IsHeld, item_of, placed, IsOther, Aligned, ReadsAt}
 use Rattle.npr_base.specs.TableLaws.{flat, other-back}
-use Rattle.npr_tunnel.specs.TunnelFlags.{ip_flags_bits, ip6_flags_bits}
+use Rattle.npr_base.specs.Text.{joined_by}
+use Rattle.npr_tunnel.specs.TunnelFlags.{ip_flags_bits, ip6_flags_bits, flags_text}
 use Rattle.npr_tunnel.specs.TunnelOptions as OfOption
 use Rattle.npr_tunnel.specs.declared.ip.RouteIpTunnel.{RouteIpTunnel}
 use Rattle.npr_tunnel.specs.declared.ip.RouteIpTunnel.TheVariants.{Unspecified, Id, Destination, Source, Ttl, Tos, Flags, Opts, Other}
@@ -118,3 +121,27 @@ members = members_of OfIp 4
 
 abbrev pub members6 : Reading (writing 16)
 members6 = members_of OfIp6 16
+
+-- the text of a member over version 4; of an unknown one none is claimed
+abbrev pub ip_tunnel_text : Meaning → Option (List ℕ)
+ip_tunnel_text unspecified = Some (codes "unspecified")
+ip_tunnel_text (id n) = Some (codes "id " ++ decimal n)
+ip_tunnel_text (destination a) = Some (codes "dst " ++ ipv4_text a)
+ip_tunnel_text (source a) = Some (codes "src " ++ ipv4_text a)
+ip_tunnel_text (hops n) = Some (codes "ttl " ++ decimal n)
+ip_tunnel_text (service n) = Some (codes "tos " ++ decimal n)
+ip_tunnel_text (flags bits) = Some (flags_text bits)
+ip_tunnel_text (options xs) = joined_by (codes ", ") OfOption.tunnel_option_text xs
+ip_tunnel_text (other x) = None
+
+-- and over version 6, where `src` has a comma behind it
+abbrev pub ip6_tunnel_text : Meaning → Option (List ℕ)
+ip6_tunnel_text unspecified = Some (codes "unspecified")
+ip6_tunnel_text (id n) = Some (codes "id " ++ decimal n)
+ip6_tunnel_text (destination a) = Some (codes "dst " ++ ipv6_text (segments_of a))
+ip6_tunnel_text (source a) = Some (codes "src, " ++ ipv6_text (segments_of a))
+ip6_tunnel_text (hops n) = Some (codes "hoplimit " ++ decimal n)
+ip6_tunnel_text (service n) = Some (codes "tc " ++ decimal n)
+ip6_tunnel_text (flags bits) = Some (flags_text bits)
+ip6_tunnel_text (options xs) = joined_by (codes ", ") OfOption.tunnel_option_text xs
+ip6_tunnel_text (other x) = None

@@ -1,6 +1,6 @@
 -- The options of a tunnel over IP (linux/lwtunnel.h, LWTUNNEL_IP_OPTS_*), by their table. Each is written with NESTED,
 -- which is bit 15 of its kind.
-use Rattle.std.specs.Prelude.{◌≡◌, ℕ, ◌+◌, ◌<◌, ◌^◌, List, [], ◌∷◌, map, Option, None}
+use Rattle.std.specs.Prelude.{◌≡◌, ℕ, ◌+◌, ◌<◌, ◌^◌, List, [], ◌∷◌, map, Option, Some, None, codes}
 use Rattle.std.proofs.Common.{refl, arith, rules}
 use Rattle.npr_base.specs.declared.refusal.At.{At}
 use Rattle.npr_base.specs.declared.refusal.AttrFamily.TheVariants.{Opt as OfOption}
@@ -11,8 +11,9 @@ use Rattle.npr_base.specs.ListCodec.{list_of}
 use Rattle.npr_base.specs.Table.{Writing, Reading, table_of, Row, row, Held, held, held_other, held_kind, held_value}
 use Rattle.npr_base.specs.Table.{held_misfit, held-reads, IsHeld, item_of, placed, IsOther, Aligned, ReadsAt}
 use Rattle.npr_base.specs.TableLaws.{flat, other-back}
+use Rattle.npr_base.specs.Text.{joined_by}
 use Rattle.npr_tunnel.specs.ErspanOptions as OfErspan
-use Rattle.npr_tunnel.specs.Geneve.{Geneve as GeneveOption, option_of, options_unfit}
+use Rattle.npr_tunnel.specs.Geneve.{Geneve as GeneveOption, option_of, options_unfit, geneve_text}
 use Rattle.npr_tunnel.specs.GeneveLaws.{geneve_options}
 use Rattle.npr_tunnel.specs.VxlanOptions as OfVxlan
 use Rattle.npr_tunnel.specs.declared.tunnel_opts.RouteLwTunnelOpt.{RouteLwTunnelOpt}
@@ -79,3 +80,10 @@ writing = placed place
 -- the family
 abbrev pub members : Reading writing
 members = flat (table_of rows other place Coherent aligned (λ x. refl) (λ x is. is) kinds back)
+
+-- the text of an option; of an unknown one, and of options of VXLAN of which one is unknown, none is claimed
+abbrev pub tunnel_option_text : Meaning → Option (List ℕ)
+tunnel_option_text (geneve os) = joined_by (codes ",") (λ o. Some (geneve_text o)) os
+tunnel_option_text (vxlan xs) = joined_by (codes ",") OfVxlan.vxlan_text xs
+tunnel_option_text (erspan xs) = Some (OfErspan.erspan_text xs)
+tunnel_option_text (other x) = None

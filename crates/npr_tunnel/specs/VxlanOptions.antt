@@ -1,5 +1,5 @@
 -- The options of VXLAN (linux/lwtunnel.h, LWTUNNEL_IP_OPT_VXLAN_*), by their table.
-use Rattle.std.specs.Prelude.{◌≡◌, ℕ, ◌<◌, ◌^◌, List, [], ◌∷◌, None}
+use Rattle.std.specs.Prelude.{◌≡◌, ℕ, ◌<◌, ◌^◌, List, [], ◌∷◌, ◌++◌, Option, Some, None, codes, decimal}
 use Rattle.std.proofs.Common.{refl, arith, rules}
 use Rattle.npr_base.specs.declared.refusal.At.{At}
 use Rattle.npr_base.specs.declared.refusal.AttrFamily.TheVariants.{Vxlan as OfVxlan}
@@ -58,3 +58,8 @@ writing = placed place
 -- the family
 abbrev pub members : Reading writing
 members = flat (table_of rows other place Coherent aligned (λ x. refl) (λ x is. is) kinds back)
+
+-- the text of an option; of an unknown one none is claimed
+abbrev pub vxlan_text : Meaning → Option (List ℕ)
+vxlan_text (gbp n) = Some (codes "vxlan_opts " ++ decimal n)
+vxlan_text (other x) = None

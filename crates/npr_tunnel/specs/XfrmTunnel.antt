@@ -1,5 +1,5 @@
 -- The members of an XFRM tunnel (linux/lwtunnel.h, LWT_XFRM_*), by their table.
-use Rattle.std.specs.Prelude.{◌≡◌, ℕ, ◌<◌, ◌^◌, List, [], ◌∷◌, None}
+use Rattle.std.specs.Prelude.{◌≡◌, ℕ, ◌<◌, ◌^◌, List, [], ◌∷◌, ◌++◌, Option, Some, None, codes, decimal}
 use Rattle.std.proofs.Common.{refl, arith, rules}
 use Rattle.npr_base.specs.declared.refusal.At.{At}
 use Rattle.npr_base.specs.declared.refusal.AttrFamily.TheVariants.{Xfrm as OfXfrm}
@@ -67,3 +67,10 @@ writing = placed place
 -- the family
 abbrev pub members : Reading writing
 members = flat (table_of rows other place Coherent aligned (λ x. refl) (λ x is. is) kinds back)
+
+-- the text of a member; of an unknown one none is claimed
+abbrev pub xfrm_text : Meaning → Option (List ℕ)
+xfrm_text unspecified = Some (codes "unspecified")
+xfrm_text (if_id n) = Some (codes "if_id " ++ decimal n)
+xfrm_text (link n) = Some (codes "link_dev " ++ decimal n)
+xfrm_text (other x) = None

@@ -1,9 +1,10 @@
 //! Types of encapsulation: `LWTUNNEL_ENCAP_*` of `linux/lwtunnel.h`.
 
-ghost use Rattle.std.specs.Prelude.{◌≡◌, None};
-ghost use Rattle.npr_tunnel.specs.EncapType.{encap_type, encap_type_of, encap_type_number};
+ghost use Rattle.std.specs.Prelude.{◌≡◌, Some, None};
+ghost use Rattle.npr_tunnel.specs.EncapType.{encap_type, encap_type_of, encap_type_number, encap_type_text};
 
 use npr_base::{EmitError, Emitable, write_bytes};
+use std::fmt;
 
 /// The type of an encapsulation: `LWTUNNEL_ENCAP_*` of `linux/lwtunnel.h`. It is written as 2
 /// bytes, little endian.
@@ -93,5 +94,27 @@ impl Emitable for RouteLwEnCapType {
 
     fn emit(&self, out: &mut [u8]) {
         write_bytes(&u16::from(*self).to_le_bytes(), out);
+    }
+}
+
+/// The name, and of any other type its number.
+impl fmt::Display for RouteLwEnCapType {
+    ghost output = { λ kind. Some (encap_type_text kind) };
+
+    fn fmt<W: fmt::Write>(&self, f: &mut fmt::Formatter<W>) -> fmt::Result {
+        f.write_str(match self {
+            RouteLwEnCapType::None => "none",
+            RouteLwEnCapType::Mpls => "mpls",
+            RouteLwEnCapType::Ip => "ip",
+            RouteLwEnCapType::Ila => "ila",
+            RouteLwEnCapType::Ip6 => "ip6",
+            RouteLwEnCapType::Seg6 => "seg6",
+            RouteLwEnCapType::Bpf => "bpf",
+            RouteLwEnCapType::Seg6Local => "seg6local",
+            RouteLwEnCapType::Rpl => "rpl",
+            RouteLwEnCapType::Ioam6 => "ioam6",
+            RouteLwEnCapType::Xfrm => "xfrm",
+            RouteLwEnCapType::Other(number) => return write!(f, "other({number})"),
+        })
     }
 }

@@ -1,13 +1,14 @@
 //! Options of ERSPAN: `LWTUNNEL_IP_OPT_ERSPAN_*` of `linux/lwtunnel.h`.
 
-ghost use Rattle.std.specs.Prelude.{◌≡◌, false, length, IfOk, refl};
-ghost use Rattle.npr_tunnel.specs.ErspanOptions.{Meaning, meaning_of, writing, members};
+ghost use Rattle.std.specs.{Prelude.{◌≡◌, false, length, map, IfOk, refl}, Fmt.{WritesOnOk}};
+ghost use Rattle.npr_tunnel.specs.ErspanOptions.{Meaning, meaning_of, writing, members, erspan_text};
 
 use npr_base::{
     AttrFamily, Attribute, DecodeError, DefaultNla, EmitError, Looks, Nla, NlaBuffer, Parseable,
     check_len, read_u8, read_u32_be, write_bytes,
 };
 use std::alloc::{AllocError, Global};
+use std::fmt;
 
 /// An option of ERSPAN.
 #[derive(Debug, Drop, PartialEq, Eq)]
@@ -139,5 +140,33 @@ impl<'a> Parseable<&'a NlaBuffer<'a>> for RouteErspanOpt {
     /// `OutOfMemory` where memory is refused, and else what is wrong with the value.
     fn parse(alloc: Global, input: &'a NlaBuffer<'a>) -> Result<Self, DecodeError> {
         RouteErspanOpt::read(alloc, (), input, &mut Looks::new())
+    }
+}
+
+/// Writes a list of options: the last value of each kind, or 0 where there is none. Version 1 has
+/// an index, and every other a direction and an id of the hardware.
+pub(crate) fn write_erspan<W: fmt::Write>(
+    f: &mut fmt::Formatter<W>,
+    options: &[RouteErspanOpt],
+) -> fmt::Result
+    ensures { WritesOnOk W.write_str_gives f.old result (erspan_text (map meaning_of options.now)) f.new }
+{
+    let mut version = 0;
+    let mut index = 0;
+    let mut direction = 0;
+    let mut hardware_id = 0;
+    for option in options {
+        match option {
+            RouteErspanOpt::Ver(x) => version = *x,
+            RouteErspanOpt::Index(x) => index = *x,
+            RouteErspanOpt::Dir(x) => direction = *x,
+            RouteErspanOpt::Hwid(x) => hardware_id = *x,
+            RouteErspanOpt::Other(_) => {}
+        }
+    }
+    if version == 1 {
+        write!(f, "erspan_opts 1:{index}:0:0")
+    } else {
+        write!(f, "erspan_opts {version}:0:{direction}:{hardware_id}")
     }
 }

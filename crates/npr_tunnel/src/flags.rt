@@ -1,9 +1,10 @@
 //! The flags of tunnels over IP: `TUNNEL_*` of `linux/if_tunnel.h`.
 
-ghost use Rattle.std.specs.Prelude.{⊤, [], ◌∷◌, codes};
-ghost use Rattle.npr_tunnel.specs.TunnelFlags.{ip_flags_bits, ip6_flags_bits};
+ghost use Rattle.std.specs.{Prelude.{⊤, [], ◌∷◌, codes}, Fmt.{WritesOnOk}};
+ghost use Rattle.npr_tunnel.specs.TunnelFlags.{ip_flags_bits, ip6_flags_bits, flag_text, flags_text};
 
 use bitflags::{Flag, Flags};
+use std::fmt;
 
 /// The flags of a tunnel over IP version 4: `TUNNEL_*` of `linux/if_tunnel.h`. Every bit is kept.
 #[derive(Clone, Copy, Debug, Default, PartialEq, Eq)]
@@ -115,4 +116,30 @@ impl Flags for RouteIp6TunnelFlags {
     fn from_bits_retain(bits: u16) -> RouteIp6TunnelFlags {
         RouteIp6TunnelFlags(bits)
     }
+}
+
+/// Writes the names of the flags that are set, with a space behind each. The bits are the same for
+/// both versions.
+pub(crate) fn write_flags<W: fmt::Write>(f: &mut fmt::Formatter<W>, bits: u16) -> fmt::Result
+    ensures { WritesOnOk W.write_str_gives f.old result (flags_text bits) f.new }
+{
+    let flags = RouteIpTunnelFlags(bits);
+    write_flag(f, flags, RouteIpTunnelFlags::Key, "key")?;
+    write_flag(f, flags, RouteIpTunnelFlags::Checksum, "csum")?;
+    write_flag(f, flags, RouteIpTunnelFlags::Sequence, "seq")
+}
+
+/// Writes the name and a space, where the flag is set.
+fn write_flag<W: fmt::Write>(
+    f: &mut fmt::Formatter<W>,
+    flags: RouteIpTunnelFlags,
+    flag: RouteIpTunnelFlags,
+    name: &str,
+) -> fmt::Result
+    ensures { WritesOnOk W.write_str_gives f.old result (flag_text (ip_flags_bits flags) (ip_flags_bits flag) name.now) f.new }
+{
+    if flags.contains(flag) {
+        write!(f, "{name} ")?;
+    }
+    Ok(())
 }

@@ -10,15 +10,16 @@ ghost use Rattle.npr_base.specs.{
   declared.refusal.DecodeError.TheVariants.{OutOfMemory},
 };
 ghost use Rattle.npr_tunnel.specs.{
-  Geneve.{at, Child, child_item, child_misfit, option_bytes, option_misfit, options_unfit, class_child, type_child, data_child, option_of, ReadsChild, WrongChild, AreOptions, OptionsFault},
+  Geneve.{at, Child, child_item, child_misfit, option_bytes, option_misfit, options_unfit, class_child, type_child, data_child, option_of, ReadsChild, WrongChild, AreOptions, OptionsFault, geneve_text},
   GeneveSteps.{seen, listed, is_some, Changes},
 };
 
 use npr_base::{
     AttrFamily, DecodeError, EmitError, Looks, Nla, NlaBuffer, NlasIterator, check_len, plus,
-    read_bytes, read_u8, read_u16_be, write_bytes,
+    read_bytes, read_u8, read_u16_be, write_bytes, write_hex,
 };
 use std::alloc::{AllocError, Global};
+use std::fmt;
 
 /// An option of Geneve. A list of them is attributes: a class opens an option, and a type or data
 /// that follow it stand in that option.
@@ -294,4 +295,14 @@ pub(crate) fn clone_options(
         copies.push(option.clone(alloc)?)?;
     }
     Ok(copies)
+}
+
+/// The class, the type and the data in lower-case hexadecimal digits.
+impl fmt::Display for RouteGeneveOpt {
+    ghost output = { λ o. Some (geneve_text (option_of o)) };
+
+    fn fmt<W: fmt::Write>(&self, f: &mut fmt::Formatter<W>) -> fmt::Result {
+        write!(f, "geneve_opts {}:{}:", self.class, self.typ)?;
+        write_hex(f, self.opt_data.as_slice())
+    }
 }

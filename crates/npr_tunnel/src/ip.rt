@@ -2,17 +2,18 @@
 
 ghost use Rattle.std.specs.Prelude.{◌≡◌, false, length, IfOk, refl};
 ghost use Rattle.npr_base.specs.{Family.{checked}, Table.{held_bytes}};
-ghost use Rattle.npr_tunnel.specs.IpTunnel.{Meaning, meaning_of, writing, members, place, unfit_inside};
+ghost use Rattle.npr_tunnel.specs.IpTunnel.{Meaning, meaning_of, writing, members, place, unfit_inside, ip_tunnel_text};
 
-use crate::flags::RouteIpTunnelFlags;
+use crate::flags::{RouteIpTunnelFlags, write_flags};
 use crate::tunnel_opts::RouteLwTunnelOpt;
 use bitflags::Flags;
 use npr_base::{
     AttrFamily, Attribute, DecodeError, DefaultNla, EmitError, Ipv4Addr, Looks, NLA_F_NESTED, Nla,
     NlaBuffer, Parseable, check_len, check_list, clone_list, parse_list, read_ipv4, read_u8,
-    read_u16_be, read_u64_be, write_bytes, write_list,
+    read_u16_be, read_u64_be, write_bytes, write_joined, write_list,
 };
 use std::alloc::{AllocError, Global};
+use std::fmt;
 
 /// A member of a tunnel over IP version 4.
 #[derive(Debug, Default, Drop, PartialEq, Eq)]
@@ -185,5 +186,24 @@ impl<'a> Parseable<&'a NlaBuffer<'a>> for RouteIpTunnel {
     /// `OutOfMemory` where memory is refused, and else what is wrong with the value.
     fn parse(alloc: Global, input: &'a NlaBuffer<'a>) -> Result<Self, DecodeError> {
         RouteIpTunnel::read(alloc, (), input, &mut Looks::new())
+    }
+}
+
+/// The name of what stands there, and its value; of flags and options their names alone.
+impl fmt::Display for RouteIpTunnel {
+    ghost output = { λ a. ip_tunnel_text (meaning_of a) };
+
+    fn fmt<W: fmt::Write>(&self, f: &mut fmt::Formatter<W>) -> fmt::Result {
+        match self {
+            RouteIpTunnel::Unspecified => f.write_str("unspecified"),
+            RouteIpTunnel::Id(id) => write!(f, "id {id}"),
+            RouteIpTunnel::Destination(address) => write!(f, "dst {address}"),
+            RouteIpTunnel::Source(address) => write!(f, "src {address}"),
+            RouteIpTunnel::Ttl(hops) => write!(f, "ttl {hops}"),
+            RouteIpTunnel::Tos(service) => write!(f, "tos {service}"),
+            RouteIpTunnel::Flags(flags) => write_flags(f, flags.bits()),
+            RouteIpTunnel::Opts(options) => write_joined(f, options.as_slice(), ", "),
+            RouteIpTunnel::Other(nla) => fmt::Debug::fmt(nla, f),
+        }
     }
 }

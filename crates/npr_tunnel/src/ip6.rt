@@ -2,17 +2,18 @@
 
 ghost use Rattle.std.specs.Prelude.{◌≡◌, false, length, IfOk, refl};
 ghost use Rattle.npr_base.specs.{Family.{checked}, Table.{held_bytes}};
-ghost use Rattle.npr_tunnel.specs.IpTunnel.{Meaning, meaning6_of, writing, members6, place, unfit_inside};
+ghost use Rattle.npr_tunnel.specs.IpTunnel.{Meaning, meaning6_of, writing, members6, place, unfit_inside, ip6_tunnel_text};
 
-use crate::flags::RouteIp6TunnelFlags;
+use crate::flags::{RouteIp6TunnelFlags, write_flags};
 use crate::tunnel_opts::RouteLwTunnelOpt;
 use bitflags::Flags;
 use npr_base::{
     AttrFamily, Attribute, DecodeError, DefaultNla, EmitError, Ipv6Addr, Looks, NLA_F_NESTED, Nla,
     NlaBuffer, Parseable, check_len, check_list, clone_list, parse_list, read_ipv6, read_u8,
-    read_u16_be, read_u64_be, write_bytes, write_list,
+    read_u16_be, read_u64_be, write_bytes, write_joined, write_list,
 };
 use std::alloc::{AllocError, Global};
+use std::fmt;
 
 /// A member of a tunnel over IP version 6.
 #[derive(Debug, Default, Drop, PartialEq, Eq)]
@@ -185,5 +186,24 @@ impl<'a> Parseable<&'a NlaBuffer<'a>> for RouteIp6Tunnel {
     /// `OutOfMemory` where memory is refused, and else what is wrong with the value.
     fn parse(alloc: Global, input: &'a NlaBuffer<'a>) -> Result<Self, DecodeError> {
         RouteIp6Tunnel::read(alloc, (), input, &mut Looks::new())
+    }
+}
+
+/// The name of what stands there, and its value; of flags and options their names alone.
+impl fmt::Display for RouteIp6Tunnel {
+    ghost output = { λ a. ip6_tunnel_text (meaning6_of a) };
+
+    fn fmt<W: fmt::Write>(&self, f: &mut fmt::Formatter<W>) -> fmt::Result {
+        match self {
+            RouteIp6Tunnel::Unspecified => f.write_str("unspecified"),
+            RouteIp6Tunnel::Id(id) => write!(f, "id {id}"),
+            RouteIp6Tunnel::Destination(address) => write!(f, "dst {address}"),
+            RouteIp6Tunnel::Source(address) => write!(f, "src, {address}"),
+            RouteIp6Tunnel::Hoplimit(hops) => write!(f, "hoplimit {hops}"),
+            RouteIp6Tunnel::Tc(class) => write!(f, "tc {class}"),
+            RouteIp6Tunnel::Flags(flags) => write_flags(f, flags.bits()),
+            RouteIp6Tunnel::Opts(options) => write_joined(f, options.as_slice(), ", "),
+            RouteIp6Tunnel::Other(nla) => fmt::Debug::fmt(nla, f),
+        }
     }
 }

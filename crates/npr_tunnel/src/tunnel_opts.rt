@@ -2,16 +2,17 @@
 
 ghost use Rattle.std.specs.Prelude.{◌≡◌, false, length, IfOk, refl};
 ghost use Rattle.npr_base.specs.{Family.{checked}, Table.{held_bytes}};
-ghost use Rattle.npr_tunnel.specs.TunnelOptions.{Meaning, meaning_of, writing, members, place, unfit_inside};
+ghost use Rattle.npr_tunnel.specs.TunnelOptions.{Meaning, meaning_of, writing, members, place, unfit_inside, tunnel_option_text};
 
-use crate::erspan::RouteErspanOpt;
+use crate::erspan::{RouteErspanOpt, write_erspan};
 use crate::geneve::{RouteGeneveOpt, check_options, clone_options, read_options, write_options};
 use crate::vxlan::RouteVxlanOpt;
 use npr_base::{
     Attribute, DecodeError, DefaultNla, EmitError, Looks, NLA_F_NESTED, Nla, NlaBuffer, Parseable,
-    check_len, check_list, clone_list, parse_list, write_bytes, write_list,
+    check_len, check_list, clone_list, parse_list, write_bytes, write_joined, write_list,
 };
 use std::alloc::{AllocError, Global};
+use std::fmt;
 
 /// An option of a tunnel over IP. Each is written with NESTED.
 #[derive(Debug, Drop, PartialEq, Eq)]
@@ -150,5 +151,19 @@ impl<'a> Parseable<&'a NlaBuffer<'a>> for RouteLwTunnelOpt {
     /// `OutOfMemory` where memory is refused, and else what is wrong with the value.
     fn parse(alloc: Global, input: &'a NlaBuffer<'a>) -> Result<Self, DecodeError> {
         RouteLwTunnelOpt::read(alloc, (), input, &mut Looks::new())
+    }
+}
+
+/// The options of Geneve or of VXLAN with a comma between them, and those of ERSPAN as one.
+impl fmt::Display for RouteLwTunnelOpt {
+    ghost output = { λ a. tunnel_option_text (meaning_of a) };
+
+    fn fmt<W: fmt::Write>(&self, f: &mut fmt::Formatter<W>) -> fmt::Result {
+        match self {
+            RouteLwTunnelOpt::Geneve(options) => write_joined(f, options.as_slice(), ","),
+            RouteLwTunnelOpt::Vxlan(options) => write_joined(f, options.as_slice(), ","),
+            RouteLwTunnelOpt::Erspan(options) => write_erspan(f, options.as_slice()),
+            RouteLwTunnelOpt::Other(nla) => fmt::Debug::fmt(nla, f),
+        }
     }
 }

@@ -1,13 +1,14 @@
 //! Options of VXLAN: `LWTUNNEL_IP_OPT_VXLAN_*` of `linux/lwtunnel.h`.
 
 ghost use Rattle.std.specs.Prelude.{◌≡◌, false, length, IfOk, refl};
-ghost use Rattle.npr_tunnel.specs.VxlanOptions.{Meaning, meaning_of, writing, members};
+ghost use Rattle.npr_tunnel.specs.VxlanOptions.{Meaning, meaning_of, writing, members, vxlan_text};
 
 use npr_base::{
     AttrFamily, Attribute, DecodeError, DefaultNla, EmitError, Looks, Nla, NlaBuffer, Parseable,
     check_len, read_u32, write_bytes,
 };
 use std::alloc::{AllocError, Global};
+use std::fmt;
 
 /// An option of VXLAN.
 #[derive(Debug, Drop, PartialEq, Eq)]
@@ -121,5 +122,17 @@ impl<'a> Parseable<&'a NlaBuffer<'a>> for RouteVxlanOpt {
     /// `OutOfMemory` where memory is refused, and else what is wrong with the value.
     fn parse(alloc: Global, input: &'a NlaBuffer<'a>) -> Result<Self, DecodeError> {
         RouteVxlanOpt::read(alloc, (), input, &mut Looks::new())
+    }
+}
+
+/// The name of the options of VXLAN, and the value of this one.
+impl fmt::Display for RouteVxlanOpt {
+    ghost output = { λ a. vxlan_text (meaning_of a) };
+
+    fn fmt<W: fmt::Write>(&self, f: &mut fmt::Formatter<W>) -> fmt::Result {
+        match self {
+            RouteVxlanOpt::Gbp(policy) => write!(f, "vxlan_opts {policy}"),
+            RouteVxlanOpt::Other(nla) => fmt::Debug::fmt(nla, f),
+        }
     }
 }

@@ -1,13 +1,14 @@
 //! The tunnel of an IPsec interface: `LWT_XFRM_*` of `linux/lwtunnel.h`.
 
 ghost use Rattle.std.specs.Prelude.{◌≡◌, false, length, IfOk, refl};
-ghost use Rattle.npr_tunnel.specs.XfrmTunnel.{Meaning, meaning_of, writing, members};
+ghost use Rattle.npr_tunnel.specs.XfrmTunnel.{Meaning, meaning_of, writing, members, xfrm_text};
 
 use npr_base::{
     AttrFamily, Attribute, DecodeError, DefaultNla, EmitError, Looks, Nla, NlaBuffer, Parseable,
     check_len, read_u32, write_bytes,
 };
 use std::alloc::{AllocError, Global};
+use std::fmt;
 
 /// A member of the tunnel of an IPsec interface.
 #[derive(Debug, Default, Drop, PartialEq, Eq)]
@@ -137,5 +138,19 @@ impl<'a> Parseable<&'a NlaBuffer<'a>> for RouteXfrmTunnel {
     /// `OutOfMemory` where memory is refused, and else what is wrong with the value.
     fn parse(alloc: Global, input: &'a NlaBuffer<'a>) -> Result<Self, DecodeError> {
         RouteXfrmTunnel::read(alloc, (), input, &mut Looks::new())
+    }
+}
+
+/// The name of what stands there, and its value.
+impl fmt::Display for RouteXfrmTunnel {
+    ghost output = { λ a. xfrm_text (meaning_of a) };
+
+    fn fmt<W: fmt::Write>(&self, f: &mut fmt::Formatter<W>) -> fmt::Result {
+        match self {
+            RouteXfrmTunnel::Unspecified => f.write_str("unspecified"),
+            RouteXfrmTunnel::IfId(id) => write!(f, "if_id {id}"),
+            RouteXfrmTunnel::Link(index) => write!(f, "link_dev {index}"),
+            RouteXfrmTunnel::Other(nla) => fmt::Debug::fmt(nla, f),
+        }
     }
 }

@@ -1,0 +1,24 @@
+-- Words of printed texts: parts with a separator between them, and bytes and numbers in hexadecimal.
+use Rattle.std.specs.Prelude.{ℕ, Option, Some, false, ◌/◌, ◌%◌, ◌-◌, List, [], ◌∷◌, ◌++◌, length, replicate, flat_map}
+use Rattle.std.specs.Fmt.{digits, digit_glyph, option_append}
+
+-- each part, with the separator before it; no text is known where that of a part is not
+abbrev pub each_after : {A : Type 0} → List ℕ → (A → Option (List ℕ)) → List A → Option (List ℕ)
+each_after separator text [] = Some []
+each_after separator text (x ∷ xs) = option_append (option_append (Some separator) (text x)) (each_after separator text xs)
+
+-- the parts, with the separator between them
+abbrev pub joined_by : {A : Type 0} → List ℕ → (A → Option (List ℕ)) → List A → Option (List ℕ)
+joined_by separator text [] = Some []
+joined_by separator text (x ∷ xs) = option_append (text x) (each_after separator text xs)
+
+-- two lower-case digits a byte
+abbrev pub hex_of_byte : ℕ → List ℕ
+hex_of_byte b = digit_glyph false (b / 16) ∷ digit_glyph false (b % 16) ∷ []
+
+abbrev pub hex_text : List ℕ → List ℕ
+hex_text bytes = flat_map hex_of_byte bytes
+
+-- the lower-case digits of a number, behind zeros where there are fewer than so many
+abbrev pub padded_hex_text : ℕ → ℕ → List ℕ
+padded_hex_text width n = replicate (width - length (digits 16 false n)) 48 ++ digits 16 false n

@@ -1,0 +1,46 @@
+-- The texts of lists: by what an element means, and the last value of a kind.
+use Rattle.std.proofs.Common.{◌≡◌, ℕ, ◌+◌, ◌<◌, Option, Some, None, unwrap_or, List, [], ◌∷◌, ◌++◌, length, map, get_or, take, refl, sym, ap, ◌∙◌}
+use Rattle.std.specs.Prelude.{filter_map}
+use Rattle.std.specs.List.{last_or, cons_option}
+use Rattle.std.specs.Fmt.{option_append}
+use Rattle.std.proofs.lemmas.List.{take_more, append-nil, map-append}
+use Rattle.std.proofs.lemmas.List.Elements.{filter_map-append}
+use Rattle.npr_base.specs.Text.{each_after, joined_by}
+use Rattle.npr_tunnel.specs.ErspanOptions.{Meaning, meaning_of, last_of}
+use Rattle.npr_tunnel.specs.declared.erspan.RouteErspanOpt.{RouteErspanOpt}
+
+-- A is how a part lies in memory, and M what it means
+module _ {A M : Type 0} (separator : List ℕ) (text : M → Option (List ℕ)) (view : A → M) where
+  each_after-map : (xs : List A) → each_after separator (λ x. text (view x)) xs ≡ each_after separator text (map view xs)
+  each_after-map [] = refl
+  each_after-map (x ∷ xs) = ap (option_append (option_append (Some separator) (text (view x)))) (each_after-map xs)
+
+  joined_by-map : (xs : List A) → joined_by separator (λ x. text (view x)) xs ≡ joined_by separator text (map view xs)
+  joined_by-map [] = refl
+  joined_by-map (x ∷ xs) = ap (option_append (text (view x))) (each_after-map xs)
+
+  -- ys is what a slice shows of xs
+  pub joined_by-view : (xs ys : List A) → ys ≡ xs → joined_by separator (λ x. text (view x)) ys ≡ joined_by separator text (map view xs)
+  joined_by-view xs ys is = ap (joined_by separator (λ x. text (view x))) is ∙ joined_by-map xs
+
+-- ---- the last value
+
+last_or-push : (o : Option ℕ) (ns : List ℕ) (n : ℕ) → last_or o (ns ++ n ∷ []) ≡ Some n
+last_or-push o [] n = refl
+last_or-push o (x ∷ ns) n = last_or-push (Some x) ns n
+
+last_or-cons_option : (o : Option ℕ) (ns : List ℕ) → unwrap_or (last_or None (ns ++ cons_option o [])) 0 ≡ unwrap_or o (unwrap_or (last_or None ns) 0)
+last_or-cons_option None ns = ap (λ l. unwrap_or (last_or None l) 0) (append-nil ns)
+last_or-cons_option (Some n) ns = ap (λ o. unwrap_or o 0) (last_or-push None ns n)
+
+last_of-push : (value : Meaning → Option ℕ) (ms : List Meaning) (m : Meaning) → last_of value (ms ++ m ∷ []) ≡ unwrap_or (value m) (last_of value ms)
+last_of-push value ms m = ap (λ ns. unwrap_or (last_or None ns) 0) (filter_map-append value ms (m ∷ [])) ∙ last_or-cons_option (value m) (filter_map value ms)
+
+-- one option more
+pub last_of-more : (xs : List RouteErspanOpt) (i : ℕ) (x : RouteErspanOpt) → i < length xs → x ≡ get_or xs i x → (m : Meaning) → meaning_of x ≡ m → (value : Meaning → Option ℕ)
+    → last_of value (map meaning_of (take (i + 1) xs)) ≡ unwrap_or (value m) (last_of value (map meaning_of (take i xs)))
+last_of-more xs i x inside is m means value =
+    let before = take i xs in
+    let one_more : take (i + 1) xs ≡ before ++ x ∷ [] = take_more xs i x inside ∙ ap (λ y. before ++ y ∷ []) (sym is) in
+    let meant : map meaning_of (before ++ x ∷ []) ≡ map meaning_of before ++ m ∷ [] = map-append meaning_of before (x ∷ []) ∙ ap (λ y. map meaning_of before ++ y ∷ []) means in
+    ap (λ ys. last_of value (map meaning_of ys)) one_more ∙ ap (last_of value) meant ∙ last_of-push value (map meaning_of before) m
