@@ -19,6 +19,8 @@ mod headers;
 #[cfg(test)]
 mod helpers;
 #[cfg(test)]
+mod hostile;
+#[cfg(test)]
 mod lists;
 #[cfg(test)]
 mod lone;
