@@ -11,6 +11,7 @@ ghost use Rattle.examples.specs.{
 };
 ghost use Rattle.netlink_packet_route.specs.{
   AddressAttribute.{meaning_of},
+  AddressFlags.{header_flags_bits},
   AddressMessage.{Address, IsAddressMessage, AddressFault, address_bytes, address_misfit, message_of},
   declared.address.AddressMessage.{AddressMessage},
   declared.framing.DecodeError.{DecodeError},
@@ -59,7 +60,7 @@ fn local_ipv4(attribute: &AddressAttribute) -> Option<Ipv4Addr>
 
 /// Whether the header calls the address permanent (`IFA_F_PERMANENT`).
 pub fn is_permanent(message: &AddressMessage) -> bool
-    ensures { result ≡ (bit_and message.now.header.flags.0 0x80 == 0x80) }
+    ensures { result ≡ (bit_and (header_flags_bits message.now.header.flags) 0x80 == 0x80) }
 {
     message.header.flags.contains(AddressHeaderFlags::Permanent)
 }

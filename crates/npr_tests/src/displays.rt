@@ -17,7 +17,7 @@ use std::fmt::Write;
 use std::process::Abort;
 use std::test::Fail;
 
-/// The text of each number up to the last of these.
+/// What a number stands for is printed as the text beside it.
 fn says_each<T: From<u8> + fmt::Display + Drop>(
     rt: &(impl Abort + AllocGlobal),
     rows: &[(u8, &str)],
@@ -308,7 +308,8 @@ fn options_of_vxlan(rt: HostRuntime) -> Result<(), Fail> {
         "vxlan_opts 1,vxlan_opts 2",
     )?;
     let list = vec![in alloc; RouteVxlanOpt::Other(unknown(&rt)?)]?;
-    says(&rt, RouteLwTunnelOpt::Vxlan(list), UNKNOWN)
+    says(&rt, RouteLwTunnelOpt::Vxlan(list), UNKNOWN)?;
+    says(&rt, RouteLwTunnelOpt::Other(unknown(&rt)?), UNKNOWN)
 }
 
 #[test]
@@ -324,6 +325,7 @@ fn options_of_erspan(rt: HostRuntime) -> Result<(), Fail> {
     says(&rt, RouteLwTunnelOpt::Erspan(list), "erspan_opts 2:0:1:3")?;
     let list = vec![in alloc;
         RouteErspanOpt::Ver(2),
+        RouteErspanOpt::Other(unknown(&rt)?),
         RouteErspanOpt::Ver(1),
         RouteErspanOpt::Index(5),
         RouteErspanOpt::Index(6),
@@ -418,9 +420,10 @@ impl fmt::Write for Narrow {
 }
 
 /// Printing to a writer that fails is answered as that, and it got a beginning of the text.
-#[test]
-fn to_a_writer_that_fails(rt: HostRuntime) -> Result<(), Fail> {
-    let value = trace(0xf0_0000, 1, 127);
+fn is_passed_on<T: fmt::Display + Drop>(
+    rt: &(impl Abort + AllocGlobal),
+    value: T,
+) -> Result<(), Fail> {
     let whole = format!(in rt.alloc(); "{value}")?;
     for room in 0..whole.len() {
         let mut writer = Narrow {
@@ -428,8 +431,28 @@ fn to_a_writer_that_fails(rt: HostRuntime) -> Result<(), Fail> {
             room,
         };
         let answer = write!(writer, "{value}");
-        holds(&rt, answer.is_err());
-        holds(&rt, whole.as_str().starts_with(writer.text.as_str()));
+        holds(rt, answer.is_err());
+        holds(rt, whole.as_str().starts_with(writer.text.as_str()));
     }
     Ok(())
+}
+
+#[test]
+fn to_a_writer_that_fails(rt: HostRuntime) -> Result<(), Fail> {
+    let alloc = rt.alloc();
+    is_passed_on(&rt, trace(0xf0_0000, 1, 127))?;
+    is_passed_on(&rt, RouteNextHopFlags::from_bits_retain(0xff))?;
+    is_passed_on(&rt, of_groups([1, 0, 0, 2, 3, 0, 0, 4]))?;
+    is_passed_on(&rt, RouteScope::Other(7))?;
+    let flags = RouteIpTunnelFlags::from_bits_retain(0xff);
+    is_passed_on(&rt, RouteIpTunnel::Flags(flags))?;
+    let mut option = RouteGeneveOpt::new(alloc);
+    option.opt_data = [0xab, 0xcd].to_vec(alloc)?;
+    let geneve = RouteLwTunnelOpt::Geneve(vec![in alloc; option]?);
+    let erspan = RouteLwTunnelOpt::Erspan(Vec::new(alloc));
+    let options = RouteIp6Tunnel::Opts(vec![in alloc; geneve, erspan]?);
+    is_passed_on(&rt, options)?;
+    let mut header = Seg6LocalSrh::new(alloc);
+    header.segments = vec![in alloc; Ipv6Addr::from(FIRST), Ipv6Addr::from(SECOND)]?;
+    is_passed_on(&rt, RouteSeg6LocalTunnel::Srh(header))
 }

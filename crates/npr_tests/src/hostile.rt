@@ -89,7 +89,7 @@ fn is_answered<M: Message>(rt: &(impl Abort + AllocGlobal), bytes: &[u8]) -> Res
             if let Ok(count) = message.check() {
                 let mut out = vec![in rt.alloc(); 0u8; count]?;
                 message.emit(out.as_mut_slice());
-                holds(rt, 2 * count <= 5 * bytes.len());
+                holds(rt, count.saturating_mul(2) <= bytes.len().saturating_mul(5));
                 holds(rt, M::of(rt.alloc(), out.as_slice())? == message);
             }
         }
