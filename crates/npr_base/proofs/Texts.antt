@@ -1,5 +1,5 @@
 -- What a loop has written of parts, and the next one.
-use Rattle.std.proofs.Common.{ℕ, ◌≡◌, ◌≤◌, ◌<◌, ◌+◌, ◌-◌, ◌^◌, false, Option, Some, None, List, [], ◌∷◌, ◌++◌, length, take, drop, get_or, flat_map, replicate, refl, sym, ap, ◌∙◌, arith}
+use Rattle.std.proofs.Common.{ℕ, ◌≡◌, ◌≤◌, ◌<◌, ◌+◌, ◌-◌, ◌^◌, false, Option, Some, None, List, [], ◌∷◌, ◌++◌, length, take, drop, get_or, flat_map, map, replicate, refl, sym, ap, ◌∙◌, arith}
 use Rattle.std.specs.Fmt.{padded_integral, format_spec, char_count, option_append}
 use Rattle.std.proofs.Output.{then_text_assoc}
 use Rattle.std.proofs.lemmas.List.{take_more, take_all, flat_map_more, append-nil}
@@ -44,3 +44,19 @@ pub joined_by-push : {X : Type 0} (separator : List ℕ) (text : X → Option (L
 joined_by-push separator text [] x some = absurd (omega (arith, some))
 joined_by-push separator text (y ∷ ys) x some =
     then_text_assoc (text y) (each_after separator text ys) (option_append (Some separator) (text x)) ∙ ap (option_append (text y)) (each_after-push separator text ys x)
+
+-- ---- by what a part means
+
+-- A is how a part lies in memory, and M what it means
+module _ {A M : Type 0} (separator : List ℕ) (text : M → Option (List ℕ)) (view : A → M) where
+  each_after-map : (xs : List A) → each_after separator (λ x. text (view x)) xs ≡ each_after separator text (map view xs)
+  each_after-map [] = refl
+  each_after-map (x ∷ xs) = ap (option_append (option_append (Some separator) (text (view x)))) (each_after-map xs)
+
+  joined_by-map : (xs : List A) → joined_by separator (λ x. text (view x)) xs ≡ joined_by separator text (map view xs)
+  joined_by-map [] = refl
+  joined_by-map (x ∷ xs) = ap (option_append (text (view x))) (each_after-map xs)
+
+  -- ys is what a slice shows of xs
+  pub joined_by-view : (xs ys : List A) → ys ≡ xs → joined_by separator (λ x. text (view x)) ys ≡ joined_by separator text (map view xs)
+  joined_by-view xs ys is = ap (joined_by separator (λ x. text (view x))) is ∙ joined_by-map xs

@@ -1,5 +1,5 @@
--- Words of printed texts: parts with a separator between them, and bytes and numbers in hexadecimal.
-use Rattle.std.specs.Prelude.{ℕ, Option, Some, false, ◌/◌, ◌%◌, ◌-◌, List, [], ◌∷◌, ◌++◌, length, replicate, flat_map}
+-- Words of printed texts: parts with a separator between them, bytes and numbers in hexadecimal, and flags that are set.
+use Rattle.std.specs.Prelude.{ℕ, Bool, Option, Some, false, ◌/◌, ◌%◌, ◌-◌, ◌==◌, bit_and, List, [], ◌∷◌, ◌++◌, length, replicate, flat_map}
 use Rattle.std.specs.Fmt.{digits, digit_glyph, option_append}
 
 -- each part, with the separator before it; no text is known where that of a part is not
@@ -22,3 +22,7 @@ hex_text bytes = flat_map hex_of_byte bytes
 -- the lower-case digits of a number, behind zeros where there are fewer than so many
 abbrev pub padded_hex_text : ℕ → ℕ → List ℕ
 padded_hex_text width n = replicate (width - length (digits 16 false n)) 48 ++ digits 16 false n
+
+-- whether a set of flags holds one, of one bit or of several
+abbrev pub is_set : ℕ → ℕ → Bool
+is_set bits flag = bit_and bits flag == flag

@@ -1,11 +1,10 @@
 -- Names that are set, and one more.
-use Rattle.std.proofs.Common.{ℕ, ◌≡◌, Bool, true, false, Some, List, [], ◌∷◌, ◌++◌, refl, sym, ap, ◌∙◌}
+use Rattle.std.proofs.Common.{ℕ, ◌≡◌, Bool, true, false, Some, List, [], ◌∷◌, ◌++◌, refl, sym, ap, arith}
 use Rattle.std.specs.Prelude.{if◌then◌else◌}
 use Rattle.std.specs.Fmt.{option_append}
-use Rattle.std.proofs.Output.{then_text_assoc}
 use Rattle.std.proofs.lemmas.List.{append-nil}
-use Rattle.npr_base.specs.Text.{each_after, joined_by}
-use Rattle.npr_base.proofs.Texts.{each_after-push}
+use Rattle.npr_base.specs.Text.{joined_by}
+use Rattle.npr_base.proofs.Texts.{joined_by-push}
 use Rattle.npr_scalar.specs.RouteFlags.{names_set}
 
 abbrev pub any_of : List (List ℕ) → Bool
@@ -27,5 +26,4 @@ any_of-push (m ∷ ns) n = refl
 pub joined_push : (separator : List ℕ) (ns : List (List ℕ)) (n : List ℕ)
     → option_append (joined_by separator Some ns) (Some ((if any_of ns then separator else []) ++ n)) ≡ joined_by separator Some (ns ++ n ∷ [])
 joined_push separator [] n = ap Some (sym (append-nil n))
-joined_push separator (m ∷ ns) n =
-    then_text_assoc (Some m) (each_after separator Some ns) (Some (separator ++ n)) ∙ ap (option_append (Some m)) (each_after-push separator Some ns n)
+joined_push separator (m ∷ ns) n = joined_by-push separator Some (m ∷ ns) n (omega arith)

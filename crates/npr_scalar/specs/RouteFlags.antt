@@ -1,8 +1,8 @@
 -- Sets of flags of routes and next hops: every bit is kept.
-use Rattle.std.specs.Prelude.{ℕ, Bool, true, false, List, [], ◌∷◌, Option, Some, codes, bit_and, ◌==◌}
+use Rattle.std.specs.Prelude.{ℕ, Bool, true, false, List, [], ◌∷◌, Option, Some, codes}
 use Rattle.std.proofs.Common.{refl}
 use Rattle.npr_base.specs.Layout.{Layout, byte, le32, formed}
-use Rattle.npr_base.specs.Text.{joined_by}
+use Rattle.npr_base.specs.Text.{is_set, joined_by}
 use Rattle.npr_scalar.specs.declared.flags.RouteFlags.{RouteFlags}
 use Rattle.npr_scalar.specs.declared.flags.RouteNextHopFlags.{RouteNextHopFlags}
 
@@ -25,10 +25,6 @@ route_flags = formed le32 route_flags_of route_flags_bits (λ bits. refl)
 
 abbrev pub next_hop_flags : Layout RouteNextHopFlags
 next_hop_flags = formed byte next_hop_flags_of next_hop_flags_bits (λ bits. refl)
-
--- whether a bit is set
-abbrev pub is_set : ℕ → ℕ → Bool
-is_set bits bit = bit_and bits bit == bit
 
 -- the names of next hops' flags in the order in which they are printed, and whether each is set
 abbrev pub next_hop_names : ℕ → List (Bool × List ℕ)

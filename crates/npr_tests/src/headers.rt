@@ -1,7 +1,8 @@
 //! Routing headers and traces, read and written, and what is refused.
 
 use crate::helpers::{
-    FIRST, SECOND, bytes_of, frames, holds, is_alone, is_member, is_refused, same,
+    FIRST, FIRST_TEXT, SECOND, SECOND_TEXT, bytes_of, frames, holds, is_alone, is_member,
+    is_refused, same,
 };
 use netlink_packet_route::framing::{
     At, AttrFamily, DecodeError, DefaultNla, EmitError, Nla, NlaBuffer, Parseable, Seg6Fault,
@@ -14,11 +15,6 @@ use netlink_packet_route::route::{
 use std::alloc::{AllocError, Global};
 use std::process::Abort;
 use std::test::Fail;
-
-/// `FIRST` and `SECOND` as texts.
-const FIRST_TEXT: &str = "fc000000000000000000000000000001";
-
-const SECOND_TEXT: &str = "fc000000000000000000000000000002";
 
 /// Eight zeros.
 const ZEROS: &str = "0000000000000000";

@@ -31,6 +31,11 @@ pub(crate) const FIRST: [u8; 16] = [0xfc, 0, 0, 0, 0, 0, 0, 0, 0, 0, 0, 0, 0, 0,
 
 pub(crate) const SECOND: [u8; 16] = [0xfc, 0, 0, 0, 0, 0, 0, 0, 0, 0, 0, 0, 0, 0, 0, 2];
 
+/// Both as text.
+pub(crate) const FIRST_TEXT: &str = "fc000000000000000000000000000001";
+
+pub(crate) const SECOND_TEXT: &str = "fc000000000000000000000000000002";
+
 /// A message of any kind.
 pub(crate) trait Message: Emitable + PartialEq + Drop + Sized {
     type Attribute: PartialEq + Drop;

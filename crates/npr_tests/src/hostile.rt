@@ -98,7 +98,7 @@ fn is_answered<M: Message>(rt: &(impl Abort + AllocGlobal), bytes: &[u8]) -> Res
     Ok(())
 }
 
-/// Looks at headers are no more than the length of the message allows.
+/// A route that is read of the bytes costs no more looks at headers than their length allows.
 fn is_bounded(rt: &(impl Abort + AllocGlobal), bytes: &[u8]) {
     let mut looks = Looks::new();
     let _ = RouteMessage::parse_counted(rt.alloc(), bytes, &mut looks);

@@ -37,4 +37,6 @@ mod texts;
 #[cfg(test)]
 mod tunnel;
 #[cfg(test)]
+mod tunnel_displays;
+#[cfg(test)]
 mod values;

@@ -1,29 +1,11 @@
--- The texts of lists: by what an element means, and the last value of a kind.
+-- The last value of a kind in a list.
 use Rattle.std.proofs.Common.{◌≡◌, ℕ, ◌+◌, ◌<◌, Option, Some, None, unwrap_or, List, [], ◌∷◌, ◌++◌, length, map, get_or, take, refl, sym, ap, ◌∙◌}
 use Rattle.std.specs.Prelude.{filter_map}
 use Rattle.std.specs.List.{last_or, cons_option}
-use Rattle.std.specs.Fmt.{option_append}
 use Rattle.std.proofs.lemmas.List.{take_more, append-nil, map-append}
 use Rattle.std.proofs.lemmas.List.Elements.{filter_map-append}
-use Rattle.npr_base.specs.Text.{each_after, joined_by}
 use Rattle.npr_tunnel.specs.ErspanOptions.{Meaning, meaning_of, last_of}
 use Rattle.npr_tunnel.specs.declared.erspan.RouteErspanOpt.{RouteErspanOpt}
-
--- A is how a part lies in memory, and M what it means
-module _ {A M : Type 0} (separator : List ℕ) (text : M → Option (List ℕ)) (view : A → M) where
-  each_after-map : (xs : List A) → each_after separator (λ x. text (view x)) xs ≡ each_after separator text (map view xs)
-  each_after-map [] = refl
-  each_after-map (x ∷ xs) = ap (option_append (option_append (Some separator) (text (view x)))) (each_after-map xs)
-
-  joined_by-map : (xs : List A) → joined_by separator (λ x. text (view x)) xs ≡ joined_by separator text (map view xs)
-  joined_by-map [] = refl
-  joined_by-map (x ∷ xs) = ap (option_append (text (view x))) (each_after-map xs)
-
-  -- ys is what a slice shows of xs
-  pub joined_by-view : (xs ys : List A) → ys ≡ xs → joined_by separator (λ x. text (view x)) ys ≡ joined_by separator text (map view xs)
-  joined_by-view xs ys is = ap (joined_by separator (λ x. text (view x))) is ∙ joined_by-map xs
-
--- ---- the last value
 
 last_or-push : (o : Option ℕ) (ns : List ℕ) (n : ℕ) → last_or o (ns ++ n ∷ []) ≡ Some n
 last_or-push o [] n = refl

@@ -1,6 +1,6 @@
 -- Sets of flags of tunnels over IP: every bit is kept.
-use Rattle.std.specs.Prelude.{ℕ, List, [], ◌++◌, ◌==◌, if◌then◌else◌, codes}
-use Rattle.std.specs.Int.RustNames.{bit_and}
+use Rattle.std.specs.Prelude.{ℕ, List, [], ◌++◌, if◌then◌else◌, codes}
+use Rattle.npr_base.specs.Text.{is_set}
 use Rattle.npr_tunnel.specs.declared.flags.RouteIpTunnelFlags.{RouteIpTunnelFlags}
 use Rattle.npr_tunnel.specs.declared.flags.RouteIp6TunnelFlags.{RouteIp6TunnelFlags}
 
@@ -19,7 +19,7 @@ ip6_flags_of bits = record { 0 = bits }
 
 -- the name of a flag and a space, where its bit is set
 abbrev pub flag_text : ℕ → ℕ → List ℕ → List ℕ
-flag_text bits flag name = if bit_and bits flag == flag then name ++ codes " " else []
+flag_text bits flag name = if is_set bits flag then name ++ codes " " else []
 
 -- the text of a set: `TUNNEL_KEY`, `TUNNEL_CSUM` and `TUNNEL_SEQ` of linux/if_tunnel.h, in this order
 abbrev pub flags_text : ℕ → List ℕ

@@ -2,7 +2,7 @@ use Rattle.std.proofs.Common.{codes, sym, ap, ◌∙◌}
 use Rattle.std.proofs.Output.{displays_on_ok_of_eq}
 use Rattle.npr_tunnel.specs.IpTunnel.{meaning6_of, ip6_tunnel_text}
 use Rattle.npr_tunnel.specs.TunnelOptions as OfOption
-use Rattle.npr_tunnel.proofs.Texts.{joined_by-view}
+use Rattle.npr_base.proofs.Texts.{joined_by-view}
 use Rattle.npr_tunnel.proofs.ip6.RouteIp6TunnelDisplay.fmt.Goals as goal
 
 pub returns-in-Opts-clause-writes : goal.returns-in-Opts-clause-writes

@@ -3,7 +3,7 @@ use Rattle.std.proofs.Output.{displays_on_ok_of_eq}
 use Rattle.npr_tunnel.specs.Geneve.{option_of, geneve_text}
 use Rattle.npr_tunnel.specs.TunnelOptions.{meaning_of, tunnel_option_text}
 use Rattle.npr_tunnel.specs.VxlanOptions as OfVxlan
-use Rattle.npr_tunnel.proofs.Texts.{joined_by-view}
+use Rattle.npr_base.proofs.Texts.{joined_by-view}
 use Rattle.npr_tunnel.proofs.tunnel_opts.RouteLwTunnelOptDisplay.fmt.Goals as goal
 
 pub returns-in-Geneve-clause-writes : goal.returns-in-Geneve-clause-writes
