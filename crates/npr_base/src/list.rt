@@ -1,6 +1,6 @@
 //! Lists of attributes, for any family.
 
-ghost use Rattle.std.specs.Prelude.{◌≡◌, ◌≢◌, ◌≤◌, ◌<◌, ℕ, List, Option, None, length, map, ◌++◌, ◌+◌, IfOk, IfErr, IsErrOf};
+ghost use Rattle.std.specs.Prelude.{◌≡◌, ◌≢◌, ◌≤◌, ◌<◌, ℕ, List, Option, None, length, map, ◌++◌, ◌+◌, IfOk, IfErr, IsErrOf, OnErr};
 ghost use Rattle.npr_base.specs.{
   Counts.{AddsAtMost, SawEach},
   Framing.{Item, Front, Writes, written_by},
@@ -160,9 +160,10 @@ pub fn emit_list<A: Attribute>(list: &[A], out: &mut [u8])
 /// Equal values, in their order.
 ///
 /// # Errors
-/// `AllocError` where memory is refused.
+/// `AllocError` where memory is refused; an empty list takes none.
 pub fn clone_list<A: Attribute>(alloc: Global, list: &[A]) -> Result<Vec<A>, AllocError>
-    ensures { IfOk result (λ v. map A.meaning v.items ≡ map A.meaning list.now) }
+    ensures ok { IfOk result (λ v. map A.meaning v.items ≡ map A.meaning list.now) }
+    ensures memory { OnErr result (0 < length list.now) }
 {
     let mut copies = Vec::new(alloc);
     for x in list {

@@ -1,6 +1,6 @@
 //! Route messages: `RTM_NEWROUTE`, `RTM_DELROUTE` and `RTM_GETROUTE`, without the envelope.
 
-ghost use Rattle.std.specs.Prelude.{◌≡◌, ◌≢◌, ◌≤◌, ◌<◌, ◌*◌, ◌-◌, ℕ, List, None, [], length, drop, IfOk, IfErr, IsErrOf};
+ghost use Rattle.std.specs.Prelude.{◌≡◌, ◌≢◌, ◌≤◌, ◌<◌, ◌*◌, ◌-◌, ℕ, List, None, [], length, drop, IfOk, IfErr, IsErrOf, OnErr};
 ghost use Rattle.npr_base.specs.{
   declared.refusal.DecodeError.TheVariants.{OutOfMemory},
   Counts.{AddsAtMostTwice, SawEach},
@@ -46,9 +46,10 @@ impl RouteMessage {
     /// An equal message.
     ///
     /// # Errors
-    /// `AllocError` where memory is refused.
+    /// `AllocError` where memory is refused; without attributes none is taken.
     pub fn clone(&self, alloc: Global) -> Result<Self, AllocError>
-        ensures { IfOk result (λ m. message_of m ≡ message_of self.now) }
+        ensures ok { IfOk result (λ m. message_of m ≡ message_of self.now) }
+        ensures memory { OnErr result (0 < length self.now.attributes.items) }
     {
         Ok(RouteMessage {
             header: self.header,

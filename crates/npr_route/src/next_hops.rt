@@ -2,7 +2,7 @@
 //! attributes, which may be next hops again: checking, writing and copying go down in plain
 //! functions.
 
-ghost use Rattle.std.specs.Prelude.{◌≡◌, ◌≢◌, ◌≤◌, ◌<◌, ◌+◌, ℕ, List, None, length, map, IfOk, IfErr, IsErrOf};
+ghost use Rattle.std.specs.Prelude.{◌≡◌, ◌≢◌, ◌≤◌, ◌<◌, ◌+◌, ℕ, List, None, length, map, IfOk, IfErr, IsErrOf, OnErr};
 ghost use Rattle.npr_base.specs.{
   declared.refusal.DecodeError.TheVariants.{OutOfMemory},
   Codec.{leading},
@@ -58,9 +58,10 @@ impl RouteNextHop {
     /// An equal next hop.
     ///
     /// # Errors
-    /// `AllocError` where memory is refused.
+    /// `AllocError` where memory is refused; without attributes none is taken.
     pub fn clone(&self, alloc: Global) -> Result<Self, AllocError>
-        ensures { IfOk result (λ h. hop_of h ≡ hop_of self.now) }
+        ensures ok { IfOk result (λ h. hop_of h ≡ hop_of self.now) }
+        ensures memory { OnErr result (0 < length self.now.attributes.items) }
     {
         clone_hop(alloc, self)
     }
@@ -354,7 +355,8 @@ fn clone_attributes(
     alloc: Global,
     list: &[RouteAttribute],
 ) -> Result<Vec<RouteAttribute>, AllocError>
-    ensures { IfOk result (λ v. map meaning_of v.items ≡ map meaning_of list.now) }
+    ensures ok { IfOk result (λ v. map meaning_of v.items ≡ map meaning_of list.now) }
+    ensures memory { OnErr result (0 < length list.now) }
 {
     let mut copies = Vec::new(alloc);
     for attribute in list {
@@ -366,7 +368,8 @@ fn clone_attributes(
 /// An equal next hop.
 #[cycle(copy)]
 fn clone_hop(alloc: Global, hop: &RouteNextHop) -> Result<RouteNextHop, AllocError>
-    ensures { IfOk result (λ h. hop_of h ≡ hop_of hop.now) }
+    ensures ok { IfOk result (λ h. hop_of h ≡ hop_of hop.now) }
+    ensures memory { OnErr result (0 < length hop.now.attributes.items) }
 {
     Ok(RouteNextHop {
         flags: hop.flags,

@@ -1,6 +1,6 @@
 //! Rule messages: `RTM_NEWRULE`, `RTM_DELRULE` and `RTM_GETRULE`, without the envelope.
 
-ghost use Rattle.std.specs.Prelude.{◌≡◌, ◌≢◌, ◌≤◌, ◌<◌, ◌*◌, ℕ, List, None, [], length, drop, IfOk, IfErr, IsErrOf};
+ghost use Rattle.std.specs.Prelude.{◌≡◌, ◌≢◌, ◌≤◌, ◌<◌, ◌*◌, ℕ, List, None, [], length, drop, IfOk, IfErr, IsErrOf, OnErr};
 ghost use Rattle.npr_base.specs.{
   declared.refusal.DecodeError.TheVariants.{OutOfMemory},
   Framing.{Item, Front},
@@ -42,9 +42,10 @@ impl RuleMessage {
     /// An equal message.
     ///
     /// # Errors
-    /// `AllocError` where memory is refused.
+    /// `AllocError` where memory is refused; without attributes none is taken.
     pub fn clone(&self, alloc: Global) -> Result<Self, AllocError>
-        ensures { IfOk result (λ m. message_of m ≡ message_of self.now) }
+        ensures ok { IfOk result (λ m. message_of m ≡ message_of self.now) }
+        ensures memory { OnErr result (0 < length self.now.attributes.items) }
     {
         Ok(RuleMessage {
             header: self.header,
