@@ -1,0 +1,67 @@
+//! Makes messages at random, and asks of each answer what the library promises.
+//!
+//! `fuzz SEED COUNT` makes so many messages of each kind, and prints how many there were and how many
+//! answers are broken; on standard error, how many got which answer. Ends with status 1 where one is
+//! broken; the first of them are printed.
+#![tactic(auto)]
+
+mod asking;
+mod kind;
+mod making;
+mod random;
+mod tally;
+
+use kind::Kind;
+use std::process::ExitCode;
+use std::{env, io};
+use tally::Tally;
+
+const USAGE: &str = "usage: fuzz SEED COUNT";
+
+fn main(rt: HostRuntime) -> ExitCode {
+    match numbers(&rt) {
+        Ok(Some((seed, count))) => match all(&rt, seed, count) {
+            Ok(0) => ExitCode::SUCCESS,
+            Ok(_) => ExitCode::from(1),
+            Err(fault) => fail(&rt, fault),
+        },
+        Ok(None) => {
+            let _ = rt.eprintln(USAGE);
+            ExitCode::from(2)
+        }
+        Err(fault) => fail(&rt, fault),
+    }
+}
+
+fn fail(rt: &impl Eprint, fault: io::Error) -> ExitCode {
+    let _ = rt.eprintln(fault);
+    ExitCode::from(2)
+}
+
+/// The two numbers of the command line, if it has them.
+fn numbers(rt: &HostRuntime) -> io::Result<Option<(u64, u64)>> {
+    let words = env::args(rt)?.skip(1).collect::<Vec<String>>(rt.alloc())?;
+    let [seed, count] = words.as_slice() else {
+        return Ok(None);
+    };
+    let (Ok(seed), Ok(count)) = (seed.as_str().parse::<u64>(), count.as_str().parse::<u64>()) else {
+        return Ok(None);
+    };
+    Ok(Some((seed, count)))
+}
+
+/// Makes messages of each kind, prints the counts, and answers how many were broken.
+fn all(rt: &HostRuntime, seed: u64, count: u64) -> io::Result<u64> {
+    let mut made = 0u64;
+    let mut broken = 0u64;
+    for (kind, name) in Kind::ALL {
+        let mut tally = Tally::new(rt.alloc());
+        tally.ask(rt, kind, seed, count)?;
+        eprintln!(rt; "{name}: {count} messages")?;
+        tally.print(rt)?;
+        made = made.saturating_add(count);
+        broken = broken.saturating_add(tally.broken);
+    }
+    println!(rt; "{made} messages, {broken} broken")?;
+    Ok(broken)
+}

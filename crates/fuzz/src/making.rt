@@ -1,0 +1,264 @@
+//! Messages that are made at random: attributes of known numbers, mostly with a length that fits,
+//! lists inside lists, and bytes that are changed behind.
+
+use crate::kind::Kind;
+use crate::random::Random;
+use std::alloc::{AllocError, Global};
+use std::mem;
+
+const NESTED: u16 = 0x8000;
+
+/// Any length.
+const ANY: u8 = 255;
+
+/// The length of an address of the family.
+const OF_FAMILY: u8 = 254;
+
+/// The lengths of values that fit, by the number of the attribute.
+const ADDRESS: [u8; 12] = [ANY, OF_FAMILY, OF_FAMILY, ANY, 4, 16, 16, 16, 4, 4, ANY, 1];
+
+const ROUTE: [u8; 32] = [
+    ANY, OF_FAMILY, OF_FAMILY, 4, 4, OF_FAMILY, 4, OF_FAMILY, 0, 0, ANY, 4, 32, ANY, ANY, 4, 4, 24,
+    6, OF_FAMILY, 1, 2, 0, 4, ANY, 4, 1, 1, 2, 2, 4, 4,
+];
+
+const RULE: [u8; 25] = [
+    ANY, OF_FAMILY, OF_FAMILY, ANY, 4, ANY, 4, ANY, ANY, ANY, 4, 4, 8, 4, 4, 4, 4, ANY, ANY, 1, 8,
+    1, 1, 4, 4,
+];
+
+/// Members of encapsulations, of whichever type.
+const MEMBERS: [u8; 10] = [ANY, 8, 4, 4, 1, 1, 2, ANY, 0, 4];
+
+/// Metrics, and options of tunnels.
+const NUMBERS: [u8; 18] = [ANY, 4, 4, 4, 4, 4, 4, 4, 4, 4, 4, 4, 4, 4, 4, 4, ANY, 4];
+
+const OPTIONS: [u8; 5] = [ANY, 2, 1, ANY, 4];
+
+/// A maker of messages.
+#[derive(Drop)]
+pub struct Maker {
+    random: Random,
+    /// The list that is made.
+    list: Vec<u8>,
+    /// The list that stands inside it.
+    inside: Vec<u8>,
+    family: u8,
+}
+
+impl Maker {
+    /// The maker of this seed.
+    pub fn new(alloc: Global, seed: u64) -> Maker {
+        Maker {
+            random: Random::new(seed),
+            list: Vec::new(alloc),
+            inside: Vec::new(alloc),
+            family: 0,
+        }
+    }
+
+    /// The next message of this kind.
+    ///
+    /// # Errors
+    /// `AllocError` where memory is refused.
+    pub fn message(&mut self, kind: Kind, out: &mut Vec<u8>) -> Result<(), AllocError> {
+        out.clear();
+        self.list.clear();
+        self.family = self.random.one_of(&[2, 2, 10, 10, 28, 7, 17], 0);
+        match kind {
+            Kind::Address => self.leaves(&ADDRESS)?,
+            Kind::Rule => self.leaves(&RULE)?,
+            Kind::Route => self.route()?,
+        }
+        self.header(kind, out)?;
+        out.extend_from_slice(self.list.as_slice())?;
+        if self.random.once_in(2) {
+            self.change(out)?;
+        }
+        Ok(())
+    }
+
+    /// The header: with a family, for routes mostly a type, and else what comes.
+    fn header(&mut self, kind: Kind, out: &mut Vec<u8>) -> Result<(), AllocError> {
+        let [a, b, c, d, e, f, g, _] = self.random.number().to_le_bytes();
+        let route_type = self.random.one_of(&[1, 1, 1, 5], g);
+        out.extend_from_slice(&[self.family, a, b, c, d, e, f, route_type])?;
+        if kind != Kind::Address {
+            let [a, b, c, d, ..] = self.random.number().to_le_bytes();
+            out.extend_from_slice(&[a, b, c, d])?;
+        }
+        Ok(())
+    }
+
+    /// Up to four attributes that hold no list, of numbers that the table has.
+    fn leaves(&mut self, lengths: &[u8]) -> Result<(), AllocError> {
+        for _ in 0..self.random.below(5) {
+            self.leaf(lengths)?;
+        }
+        Ok(())
+    }
+
+    fn leaf(&mut self, lengths: &[u8]) -> Result<(), AllocError> {
+        let number = self.random.below(lengths.len());
+        let count = self.count(lengths.get(number).copied().unwrap_or(ANY));
+        let kind = u16::try_from(number).unwrap_or(0);
+        self.front(kind, count)?;
+        let is_small = self.random.once_in(2);
+        for index in 0..count {
+            let byte = self.random.byte();
+            let byte = if is_small && index > 0 { 0 } else { byte };
+            let byte = if is_small { byte % 16 } else { byte };
+            self.list.push(byte)?;
+        }
+        self.pad()
+    }
+
+    /// A length of a value: mostly that of the table.
+    fn count(&mut self, length: u8) -> usize {
+        if self.random.once_in(32) {
+            return self.random.below(40);
+        }
+        match length {
+            ANY => self.random.below(24),
+            OF_FAMILY => match self.family {
+                10 => 16,
+                _ => 4,
+            },
+            _ => usize::from(length),
+        }
+    }
+
+    /// The header of an attribute whose value has so many bytes.
+    fn front(&mut self, kind: u16, count: usize) -> Result<(), AllocError> {
+        let length = u16::try_from(count.saturating_add(4)).unwrap_or(u16::MAX);
+        self.list.extend_from_slice(&length.to_le_bytes())?;
+        self.list.extend_from_slice(&kind.to_le_bytes())
+    }
+
+    /// Zeros up to a multiple of four bytes.
+    fn pad(&mut self) -> Result<(), AllocError> {
+        for _ in 0..3 {
+            if self.list.len() % 4 != 0 {
+                self.list.push(0)?;
+            }
+        }
+        Ok(())
+    }
+
+    /// What was made becomes the value of an attribute of a new list, behind these bytes.
+    fn wrap(&mut self, kind: u16, before: &[u8]) -> Result<(), AllocError> {
+        mem::swap(&mut self.list, &mut self.inside);
+        self.list.clear();
+        let count = self.inside.len().saturating_add(before.len());
+        self.front(kind, count)?;
+        self.list.extend_from_slice(before)?;
+        self.list.extend_from_slice(self.inside.as_slice())?;
+        self.pad()
+    }
+
+    /// The list of a route: with an encapsulation, metrics or next hops, or with none of them.
+    fn route(&mut self) -> Result<(), AllocError> {
+        match self.random.below(6) {
+            0 => self.encapsulation()?,
+            1 => self.options()?,
+            2 => self.routing_header()?,
+            3 => {
+                self.leaves(&NUMBERS)?;
+                self.wrap(8, &[])?;
+            }
+            _ => {}
+        }
+        self.leaves(&ROUTE)?;
+        for _ in 0..self.random.below(4) {
+            self.next_hop()?;
+        }
+        Ok(())
+    }
+
+    /// Members of a type, or of one that they don't belong to.
+    fn encapsulation(&mut self) -> Result<(), AllocError> {
+        self.leaves(&MEMBERS)?;
+        self.wrap(22, &[])?;
+        let number = self.random.below(12);
+        self.told(u8::try_from(number).unwrap_or(0))
+    }
+
+    /// An encapsulation over IP of either version with options.
+    fn options(&mut self) -> Result<(), AllocError> {
+        self.leaves(&OPTIONS)?;
+        let kind = self.random.one_of(&[1, 2, 3], 0);
+        self.wrap(kind | NESTED, &[])?;
+        self.wrap(8 | NESTED, &[])?;
+        self.leaves(&MEMBERS)?;
+        self.wrap(22 | NESTED, &[])?;
+        let number = self.random.one_of(&[2, 4], 0);
+        self.told(number)
+    }
+
+    /// An encapsulation with a routing header of a few segments.
+    fn routing_header(&mut self) -> Result<(), AllocError> {
+        let segments = self.random.below(4);
+        let count = u8::try_from(segments).unwrap_or(0);
+        let (number, kind, routing) = self
+            .random
+            .one_of(&[(5, 1, 4), (7, 2, 4), (8, 1, 3)], (9, 3, 0));
+        if number == 5 {
+            self.list.extend_from_slice(&[1, 0, 0, 0])?;
+        }
+        let last = count.saturating_sub(1);
+        self.list.extend_from_slice(&[0, count.saturating_mul(2), routing, last, last, 0, 0, 0])?;
+        for _ in 0..segments.saturating_mul(16) {
+            self.list.push(self.random.byte())?;
+        }
+        self.wrap(kind, &[])?;
+        self.leaves(&MEMBERS)?;
+        self.wrap(22, &[])?;
+        self.told(number)
+    }
+
+    /// The type of encapsulation with this number.
+    fn told(&mut self, number: u8) -> Result<(), AllocError> {
+        self.front(21, 2)?;
+        self.list.extend_from_slice(&[number, 0, 0, 0])
+    }
+
+    /// What was made becomes the attributes of a next hop in a new list, perhaps with another one
+    /// behind it.
+    fn next_hop(&mut self) -> Result<(), AllocError> {
+        let count = self.list.len().saturating_add(8);
+        let [a, b] = u16::try_from(count).unwrap_or(u16::MAX).to_le_bytes();
+        if self.random.once_in(2) {
+            let flags = self.random.byte();
+            let hops = self.random.byte();
+            self.list
+                .extend_from_slice(&[8, 0, flags, hops, 3, 0, 0, 0])?;
+        }
+        self.wrap(9, &[a, b, 0, 0, 2, 0, 0, 0])?;
+        self.leaves(&ROUTE)
+    }
+
+    /// Changes a byte or two, cuts the end off, or adds bytes.
+    fn change(&mut self, out: &mut Vec<u8>) -> Result<(), AllocError> {
+        for _ in 0..self.random.below(3) {
+            let index = self.random.below(out.len());
+            let byte = self.random.byte();
+            if let Some(place) = out.get_mut(index) {
+                *place = match self.random.below(3) {
+                    0 => byte,
+                    1 => place.wrapping_add(byte % 4),
+                    _ => *place ^ (1 << (byte % 8)),
+                };
+            }
+        }
+        if self.random.once_in(8) {
+            let count = self.random.below(out.len());
+            out.truncate(count);
+        }
+        if self.random.once_in(8) {
+            for _ in 0..self.random.below(9) {
+                out.push(self.random.byte())?;
+            }
+        }
+        Ok(())
+    }
+}

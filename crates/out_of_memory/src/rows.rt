@@ -1,0 +1,90 @@
+//! The messages.
+
+/// What is parsed.
+#[derive(Clone, Copy, Debug, PartialEq, Eq)]
+pub enum Kind {
+    /// An address message.
+    Address,
+    /// A route message.
+    Route,
+    /// A rule message.
+    Rule,
+    /// A next hop by itself.
+    NextHop,
+    /// A route message with next hops inside next hops, as many as a length of two bytes lets stand.
+    Levels,
+}
+
+/// A message as hexadecimal text, and its canonical bytes.
+#[derive(Clone, Copy, Debug)]
+pub struct Row {
+    /// What is parsed.
+    pub kind: Kind,
+    /// Its bytes.
+    pub text: &'static str,
+    /// The bytes that are written of it.
+    pub canonical: &'static str,
+}
+
+/// The address of the loopback interface.
+const LOOPBACK: &str =
+    "020880fe01000000080001007f000001080002007f000001070003006c6f0000080008008000000014000600ffffffffffffffff9c0000009c000000";
+
+/// A route by an object of a next hop.
+const BY_NEXT_HOP: &str = "02100000fe03000100000000080001000a06000008001e002a000000";
+
+/// A route to a network of version 6.
+const VERSION_6: &str =
+    "0a400000fe030001000000001400010020010db800010000000000000000000008001700b80b00000800040002000000";
+
+/// A route with two next hops; an attribute of the first one has no padding.
+const TWO_NEXT_HOPS: &str =
+    "02000000fe03000100000000190009000d0000000200000005001400010800000003000000000000";
+
+const TWO_NEXT_HOPS_CANONICAL: &str =
+    "02000000fe030001000000001c000900100000000200000005001400010000000800000003000000";
+
+/// A route with an option of Geneve.
+const GENEVE: &str =
+    "02000000fe0300010000000014001680100008800c00018006000100010200000600150002000000";
+
+const GENEVE_CANONICAL: &str =
+    "02000000fe03000100000000200016801c0008801800018006000100010200000500020000000000040003000600150002000000";
+
+/// A rule with the name of an interface, which has no zero at its end.
+const NAME: &str = "02000000fe000001000000000800030065746830";
+
+const NAME_CANONICAL: &str = "02000000fe00000100000000090003006574683000000000";
+
+/// A route with an RPL header.
+const RPL: &str =
+    "02000000fe03000100000000200016001c0001000002030100000000fc0000000000000000000000000000010600150008000000";
+
+const RPL_CANONICAL: &str =
+    "02000000fe03000100000000200016801c0001000002030100000000fc0000000000000000000000000000010600150008000000";
+
+/// A next hop, its attributes two addresses.
+const NEXT_HOP: &str = "1800000002000000080005000a000001080001000a000002";
+
+impl Row {
+    /// The row of this name.
+    pub fn of(name: &str) -> Option<Row> {
+        let (kind, text, canonical) = match name {
+            "loopback" => (Kind::Address, LOOPBACK, LOOPBACK),
+            "by_next_hop" => (Kind::Route, BY_NEXT_HOP, BY_NEXT_HOP),
+            "version_6" => (Kind::Route, VERSION_6, VERSION_6),
+            "two_next_hops" => (Kind::Route, TWO_NEXT_HOPS, TWO_NEXT_HOPS_CANONICAL),
+            "geneve" => (Kind::Route, GENEVE, GENEVE_CANONICAL),
+            "name" => (Kind::Rule, NAME, NAME_CANONICAL),
+            "rpl" => (Kind::Route, RPL, RPL_CANONICAL),
+            "next_hop" => (Kind::NextHop, NEXT_HOP, NEXT_HOP),
+            "levels" => (Kind::Levels, "", ""),
+            _ => return None,
+        };
+        Some(Row {
+            kind,
+            text,
+            canonical,
+        })
+    }
+}

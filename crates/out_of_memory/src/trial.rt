@@ -1,0 +1,183 @@
+//! Parsing and cloning one message.
+
+use hex::decode_to_slice;
+use netlink_packet_route::AddressFamily;
+use netlink_packet_route::address::AddressMessage;
+use netlink_packet_route::framing::{DecodeError, Emitable, Parseable, ParseableParametrized};
+use netlink_packet_route::route::{RouteLwEnCapType, RouteMessage, RouteNextHop, RouteType};
+use netlink_packet_route::rule::RuleMessage;
+use std::alloc::{AllocError, Global};
+
+/// How a call ended.
+#[derive(Clone, Copy, Debug, PartialEq, Eq)]
+pub enum Ending {
+    /// As it should, where there is memory.
+    Done,
+    /// With want of memory.
+    OutOfMemory,
+    /// Otherwise, which is wrong.
+    Wrong,
+    /// There was nothing to call it on.
+    NotCalled,
+}
+
+impl Ending {
+    /// A name to be printed.
+    pub fn name(self) -> &'static str {
+        match self {
+            Ending::Done => "done",
+            Ending::OutOfMemory => "out of memory",
+            Ending::Wrong => "WRONG",
+            Ending::NotCalled => "not called",
+        }
+    }
+}
+
+/// A value that is parsed from bytes, and cloned.
+pub trait Sample: Emitable + PartialEq + Drop + Sized {
+    /// The value of the bytes.
+    ///
+    /// # Errors
+    /// `OutOfMemory` where memory is refused, and else the first fault.
+    fn of(alloc: Global, bytes: &[u8]) -> Result<Self, DecodeError>;
+
+    /// An equal value.
+    ///
+    /// # Errors
+    /// `AllocError` where memory is refused.
+    fn copy(&self, alloc: Global) -> Result<Self, AllocError>;
+}
+
+impl Sample for AddressMessage {
+    fn of(alloc: Global, bytes: &[u8]) -> Result<Self, DecodeError> {
+        AddressMessage::parse(alloc, bytes)
+    }
+
+    fn copy(&self, alloc: Global) -> Result<Self, AllocError> {
+        self.clone(alloc)
+    }
+}
+
+impl Sample for RouteMessage {
+    fn of(alloc: Global, bytes: &[u8]) -> Result<Self, DecodeError> {
+        RouteMessage::parse(alloc, bytes)
+    }
+
+    fn copy(&self, alloc: Global) -> Result<Self, AllocError> {
+        self.clone(alloc)
+    }
+}
+
+impl Sample for RuleMessage {
+    fn of(alloc: Global, bytes: &[u8]) -> Result<Self, DecodeError> {
+        RuleMessage::parse(alloc, bytes)
+    }
+
+    fn copy(&self, alloc: Global) -> Result<Self, AllocError> {
+        self.clone(alloc)
+    }
+}
+
+impl Sample for RouteNextHop {
+    fn of(alloc: Global, bytes: &[u8]) -> Result<Self, DecodeError> {
+        let context = (
+            AddressFamily::Inet,
+            RouteType::Unicast,
+            RouteLwEnCapType::None,
+        );
+        RouteNextHop::parse_with_param(alloc, bytes, context)
+    }
+
+    fn copy(&self, alloc: Global) -> Result<Self, AllocError> {
+        self.clone(alloc)
+    }
+}
+
+/// The most bytes of a message that stands as text.
+const ROOM: usize = 128;
+
+/// How parsing the bytes of a text and then cloning what was read ended.
+pub fn parse_and_clone<S: Sample>(alloc: Global, text: &str, canonical: &str) -> (Ending, Ending) {
+    let mut bytes = [0u8; ROOM];
+    let mut wanted = [0u8; ROOM];
+    let (Some(bytes), Some(wanted)) = (decoded(text, &mut bytes), decoded(canonical, &mut wanted))
+    else {
+        return (Ending::Wrong, Ending::NotCalled);
+    };
+    ended::<S>(alloc, bytes, wanted, &mut [0u8; ROOM])
+}
+
+/// The bytes of hexadecimal text, at the beginning of the room.
+fn decoded<'a>(text: &str, room: &'a mut [u8]) -> Option<&'a [u8]> {
+    let count = text.len() / 2;
+    let bytes = room.get_mut(..count)?;
+    decode_to_slice(text, bytes).ok()?;
+    Some(bytes)
+}
+
+/// Next hops in one another, as many as a length of two bytes lets stand.
+const LEVELS: u16 = 5_461;
+
+/// The bytes of a message that holds them: a header, and twelve bytes for each.
+const LEVELS_ROOM: usize = 65_544;
+
+/// The same of a route of next hops inside next hops.
+pub fn parse_and_clone_levels(alloc: Global) -> (Ending, Ending) {
+    let mut bytes = [0u8; LEVELS_ROOM];
+    write_levels(&mut bytes);
+    ended::<RouteMessage>(alloc, &bytes, &bytes, &mut [0u8; LEVELS_ROOM])
+}
+
+fn write_levels(bytes: &mut [u8]) {
+    let header = [2, 0, 0, 0, 254, 3, 0, 1, 0, 0, 0, 0];
+    let mut left = LEVELS.saturating_mul(12);
+    for (index, level) in bytes.chunks_exact_mut(12).enumerate() {
+        if index == 0 {
+            level.copy_from_slice(&header);
+            continue;
+        }
+        let [a, b] = left.to_le_bytes();
+        let [c, d] = left.saturating_sub(4).to_le_bytes();
+        level.copy_from_slice(&[a, b, 9, 0, c, d, 0, 0, 1, 0, 0, 0]);
+        left = left.saturating_sub(12);
+    }
+}
+
+/// How parsing the bytes and then cloning what was read ended.
+fn ended<S: Sample>(
+    alloc: Global,
+    bytes: &[u8],
+    canonical: &[u8],
+    room: &mut [u8],
+) -> (Ending, Ending) {
+    let sample = match S::of(alloc, bytes) {
+        Ok(sample) => sample,
+        Err(DecodeError::OutOfMemory) => return (Ending::OutOfMemory, Ending::NotCalled),
+        Err(_) => return (Ending::Wrong, Ending::NotCalled),
+    };
+    if !is_written(&sample, canonical, room) {
+        return (Ending::Wrong, Ending::NotCalled);
+    }
+    let cloned = match sample.copy(alloc) {
+        Ok(copy) if copy == sample => Ending::Done,
+        Ok(_) => Ending::Wrong,
+        Err(AllocError) => Ending::OutOfMemory,
+    };
+    // The value that was cloned is what it was.
+    if !is_written(&sample, canonical, room) {
+        return (Ending::Done, Ending::Wrong);
+    }
+    (Ending::Done, cloned)
+}
+
+/// The value is written as these bytes, into the room, without memory.
+fn is_written<S: Sample>(sample: &S, canonical: &[u8], room: &mut [u8]) -> bool {
+    let Ok(count) = sample.check() else {
+        return false;
+    };
+    let Some(out) = room.get_mut(..count) else {
+        return false;
+    };
+    sample.emit(out);
+    *out == *canonical
+}
