@@ -4,7 +4,7 @@ ghost use Rattle.std.specs.Prelude.{◌≡◌, ◌≢◌, IfSome, IsNone};
 ghost use Rattle.conformance.specs.{declared.answer.Word.{Word}, Word.{word_name}};
 
 use netlink_packet_route::address::AddressMessage;
-use netlink_packet_route::framing::{DecodeError, Emitable, Parseable};
+use netlink_packet_route::framing::{DecodeError, Emitable, Parseable, WriteError, to_vec};
 use netlink_packet_route::route::RouteMessage;
 use netlink_packet_route::rule::RuleMessage;
 use std::alloc::{AllocError, Global};
@@ -57,14 +57,13 @@ fn written<M: Emitable + Drop>(
             return format!(in alloc; "refused {name}");
         }
     };
-    match message.check() {
-        Ok(length) => {
-            let mut bytes = vec![in alloc; 0u8; length]?;
-            message.emit(bytes.as_mut_slice());
-            let digits = hex::encode(alloc, bytes.as_slice())?;
+    match to_vec(alloc, &message) {
+        Ok(bytes) => {
+            let digits = hex::encode(alloc, bytes)?;
             format!(in alloc; "canonical {digits}")
         }
-        Err(cause) => {
+        Err(WriteError::OutOfMemory) => Err(AllocError),
+        Err(WriteError::Unfit(cause)) => {
             let name = cause.name();
             format!(in alloc; "unfit {name}")
         }

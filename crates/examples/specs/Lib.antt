@@ -1,3 +1,4 @@
 pub mod Addresses
+pub mod Fault
 pub mod Found
 pub mod Routes

@@ -23,7 +23,7 @@ use crate::fault::Fault;
 use netlink_packet_route::address::{
     AddressAttribute, AddressHeader, AddressHeaderFlags, AddressMessage, AddressScope,
 };
-use netlink_packet_route::framing::{DecodeError, EmitError, Emitable, Parseable};
+use netlink_packet_route::framing::{DecodeError, EmitError, Parseable, to_vec};
 use netlink_packet_route::net::{IpAddr, Ipv4Addr};
 use netlink_packet_route::{AddressFamily, Flags};
 use std::alloc::{AllocError, Global};
@@ -101,9 +101,7 @@ pub fn loopback_bytes(alloc: Global) -> Result<Vec<u8>, Fault>
     ensures memory { IfErr result (λ e. e ≡ Refused OutOfMemory) }
 {
     let message = loopback(alloc)?;
-    let mut out = vec![in alloc; 0u8; message.check()?]?;
-    message.emit(out.as_mut_slice());
-    Ok(out)
+    Ok(to_vec(alloc, &message)?)
 }
 
 /// The bytes of the address message that the bytes are, with a metric for its route besides.
@@ -120,7 +118,5 @@ pub fn with_priority(alloc: Global, bytes: &[u8], priority: u32) -> Result<Vec<u
     let mut message = AddressMessage::parse(alloc, bytes)?;
     let attribute = AddressAttribute::RoutePriority(priority);
     message.attributes.push(attribute)?;
-    let mut out = vec![in alloc; 0u8; message.check()?]?;
-    message.emit(out.as_mut_slice());
-    Ok(out)
+    Ok(to_vec(alloc, &message)?)
 }

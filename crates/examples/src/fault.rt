@@ -1,10 +1,10 @@
 //! Why no bytes come out.
 
 ghost use Rattle.std.specs.Prelude.{◌≡◌};
-ghost use Rattle.examples.specs.declared.fault.Fault.TheVariants.{Refused, Unfit};
+ghost use Rattle.examples.specs.{Fault.{unwritten}, declared.fault.Fault.TheVariants.{Refused}};
 ghost use Rattle.netlink_packet_route.specs.declared.framing.DecodeError.TheVariants.{OutOfMemory};
 
-use netlink_packet_route::framing::{DecodeError, EmitError};
+use netlink_packet_route::framing::{DecodeError, EmitError, WriteError};
 use std::alloc::{AllocError, AllocFailed};
 
 /// Why no bytes come out.
@@ -24,11 +24,14 @@ impl From<DecodeError> for Fault {
     }
 }
 
-impl From<EmitError> for Fault {
-    ghost from_gives = { λ cause e. e ≡ Unfit cause };
+impl From<WriteError> for Fault {
+    ghost from_gives = { λ fault e. e ≡ unwritten fault };
 
-    fn from(cause: EmitError) -> Fault {
-        Fault::Unfit(cause)
+    fn from(fault: WriteError) -> Fault {
+        match fault {
+            WriteError::OutOfMemory => Fault::Refused(DecodeError::OutOfMemory),
+            WriteError::Unfit(cause) => Fault::Unfit(cause),
+        }
     }
 }
 

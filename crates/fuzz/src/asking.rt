@@ -3,7 +3,7 @@
 
 use crate::kind::Kind;
 use netlink_packet_route::address::AddressMessage;
-use netlink_packet_route::framing::{DecodeError, Emitable, Looks, Parseable};
+use netlink_packet_route::framing::{DecodeError, Emitable, Looks, Parseable, WriteError, to_vec};
 use netlink_packet_route::route::RouteMessage;
 use netlink_packet_route::rule::RuleMessage;
 use std::alloc::{AllocError, Global};
@@ -69,13 +69,14 @@ fn written<M: Emitable + Drop>(
         Err(DecodeError::OutOfMemory) => return Err(AllocError),
         Err(fault) => return Ok((Answer::Refused(fault.name()), None, Vec::new(alloc))),
     };
-    let count = match message.check() {
-        Ok(count) => count,
-        Err(cause) => return Ok((Answer::Unfit(cause.name()), None, Vec::new(alloc))),
+    let out = match to_vec(alloc, &message) {
+        Ok(out) => out,
+        Err(WriteError::OutOfMemory) => return Err(AllocError),
+        Err(WriteError::Unfit(cause)) => {
+            return Ok((Answer::Unfit(cause.name()), None, Vec::new(alloc)));
+        }
     };
-    let mut out = vec![in alloc; 0u8; count]?;
-    message.emit(out.as_mut_slice());
-    let is_short = count.saturating_mul(2) <= length.saturating_mul(5);
+    let is_short = out.len().saturating_mul(2) <= length.saturating_mul(5);
     let answer = if is_short {
         Answer::Canonical
     } else {

@@ -2,6 +2,8 @@
 use Rattle.std.specs.Prelude.{ℕ, List, codes, ◌++◌}
 use Rattle.netlink_packet_route.specs.declared.framing.DecodeError.{DecodeError}
 use Rattle.netlink_packet_route.specs.declared.framing.DecodeError.TheVariants.{OutOfMemory}
+use Rattle.netlink_packet_route.specs.declared.framing.WriteError.{WriteError}
+use Rattle.netlink_packet_route.specs.declared.framing.WriteError.TheVariants as Unwritten
 use Rattle.netlink_packet_route.specs.Refusal.{decode_name, emit_name}
 use Rattle.nlroute.specs.declared.error.RunError.{RunError}
 use Rattle.nlroute.specs.declared.error.RunError.TheVariants.{BadHex, Refused, Unfit, Memory, Read, Write}
@@ -26,6 +28,11 @@ line_of Write = codes "write failed"
 abbrev pub refusal_of : DecodeError → RunError
 refusal_of OutOfMemory = Memory
 refusal_of e = Refused e
+
+-- how a run ends where a message is not written
+abbrev pub unwritten : WriteError → RunError
+unwritten Unwritten.OutOfMemory = Memory
+unwritten (Unwritten.Unfit cause) = Unfit cause
 
 -- how a run can end by the message alone, or for want of memory
 abbrev pub IsOfMessage : RunError → Type 0

@@ -2,11 +2,11 @@
 
 ghost use Rattle.std.specs.Prelude.{◌≡◌, ◌++◌};
 ghost use Rattle.nlroute.specs.{
-  declared.error.RunError.TheVariants.{Memory, Unfit},
-  Error.{line_of, refusal_of, status_of},
+  declared.error.RunError.TheVariants.{Memory},
+  Error.{line_of, refusal_of, status_of, unwritten},
 };
 
-use netlink_packet_route::framing::{DecodeError, EmitError};
+use netlink_packet_route::framing::{DecodeError, EmitError, WriteError};
 use std::alloc::{AllocError, AllocFailed};
 
 /// Why a run prints no report.
@@ -66,11 +66,14 @@ impl From<DecodeError> for RunError {
     }
 }
 
-impl From<EmitError> for RunError {
-    ghost from_gives = { λ cause e. e ≡ Unfit cause };
+impl From<WriteError> for RunError {
+    ghost from_gives = { λ fault e. e ≡ unwritten fault };
 
-    fn from(cause: EmitError) -> RunError {
-        RunError::Unfit(cause)
+    fn from(fault: WriteError) -> RunError {
+        match fault {
+            WriteError::OutOfMemory => RunError::Memory,
+            WriteError::Unfit(cause) => RunError::Unfit(cause),
+        }
     }
 }
 

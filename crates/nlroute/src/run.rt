@@ -28,7 +28,7 @@ use crate::output::write_text;
 use crate::report::whole;
 use crate::which::Which;
 use netlink_packet_route::address::AddressMessage;
-use netlink_packet_route::framing::{Attribute, Emitable, Parseable};
+use netlink_packet_route::framing::{Attribute, Emitable, Parseable, to_vec};
 use netlink_packet_route::route::RouteMessage;
 use netlink_packet_route::rule::RuleMessage;
 use std::alloc::Global;
@@ -108,8 +108,7 @@ fn written<M: Emitable, A: Attribute>(
     ensures unfit { (e : EmitError) → result ≡ Err (Unfit e) → M.unfit message.now ≡ Some e }
     ensures errors { IfErr result (λ e. (e ≡ Memory) ⊎ ((cause : EmitError) × (e ≡ Unfit cause))) }
 {
-    let mut canonical = vec![in alloc; 0u8; message.check()?]?;
-    message.emit(canonical.as_mut_slice());
+    let canonical = to_vec(alloc, message)?;
     whole(
         alloc,
         which.name(),

@@ -4,6 +4,7 @@
 mod address_family;
 mod attribute;
 mod default_nla;
+mod emit;
 mod framing;
 mod ip;
 pub mod laws;
@@ -18,6 +19,7 @@ mod values;
 pub use address_family::AddressFamily;
 pub use attribute::Attribute;
 pub use default_nla::{DefaultNla, check_len};
+pub use emit::{WriteError, to_vec};
 pub use framing::{
     NLA_ALIGNTO, NLA_F_NESTED, NLA_F_NET_BYTEORDER, NLA_HEADER_SIZE, NLA_TYPE_MASK, NlaBuffer,
     NlasIterator, frame, marked_kind, write_bytes,

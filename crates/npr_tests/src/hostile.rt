@@ -30,15 +30,55 @@ const TWO_NEXT_HOPS: &str = "02000000fe03000100000000 19000900 0d00000002000000 
 const GENEVE: &str = "02000000fe03000100000000 14001680 10000880 0c000180 0600010001020000
     0600150002000000";
 
-/// Other routes: labels of MPLS, an interface of IPsec, next hops inside a next hop, an address that
-/// the packets get, times, an unknown attribute.
-const ROUTES: [&str; 6] = [
+/// Routes with labels of MPLS, under several types.
+const LABELS: [&str; 5] = [
     "02000000fe03000100000000 0c001600 08000100000641ff 0600150001000000",
-    "02000000fe03000100000000 0c001600 0800010007000000 06001500 0a000000",
-    "02000000fe03000100000000 18000900 1400000001000000 0c000900 0800000001000000",
+    "02000000fe03000100000000 0c001600 08000100000641ff 0600150001000000
+        0600150002000000",
+    "02000000fe03000100000000 0c001600 08000100000641ff 060015c001000000",
+    "02000000fe03000100000000 0c001600 08000100000641ff",
     "1c000000fe03000100000000 09001300000641ff07000000",
+];
+
+/// Routes with an interface of IPsec, an option of VXLAN, an RPL header, a SEG6 header.
+const ENCAPSULATIONS: [&str; 4] = [
+    "02000000fe03000100000000 0c001600 0800010007000000 06001500 0a000000",
+    "02000000fe03000100000000 14001680 10000880 0c000280 080001002a000000
+        0600150002000000",
+    "02000000fe03000100000000 20001600 1c000100 0002030100000000
+        fc000000000000000000000000000001 0600150008000000",
+    "02000000fe03000100000000 14001600 10000100 000000000000040000000000
+        0600150005000000",
+];
+
+/// Routes with next hops, also inside one another.
+const NEXT_HOPS: [&str; 4] = [
+    "02000000fe03000100000000 04000900",
+    "02000000fe03000100000000 18000900 1400000001000000 0c000900 0800000001000000",
+    "02000000fe03000100000000 18000900 1400000002000000 0c001600 08000100000641ff
+        0600150001000000",
+    "02000000fe03000100000000 20000900 1c00000002000000 0c001600 08000100000641ff
+        0600150001000000",
+];
+
+/// Routes with numbers, times and an unknown attribute.
+const VALUES: [&str; 4] = [
+    "02000000fe03000100000000 0500140001",
+    "02000000fe03000100000000 08000b00fe00fa00",
     "02000000fe03000500000000 0c001700b80b000000000000",
     "02000000fe03000100000000 080063c0deadbeef",
+];
+
+/// Routes that are refused as they stand.
+const REFUSED: [&str; 8] = [
+    "02000000fe03000100000000 0800040001000000 0000",
+    "02000000fe03000100000000 03000100",
+    "02000000fe03000100000000 080001",
+    "02000000fe03000100000000 10001680 0c000880 08000180 04000400 0600150002000000",
+    "02000000fe03000100000000 0500150001000000 0600150001000000",
+    "02000000fe03000100000000 08001600 03000100",
+    "02000000fe03000100000000 0a00120002010a0000010000",
+    "02000000fe03000500000000 08001700b80b0000",
 ];
 
 /// The beginnings of these lengths are messages; each other is refused, and not for want of memory.
@@ -128,16 +168,29 @@ fn is_answered_changed<M: Message>(
 #[test]
 fn addresses_and_rules_changed(rt: HostRuntime) -> Result<(), Fail> {
     is_answered_changed::<AddressMessage>(&rt, LOOPBACK)?;
+    is_answered_changed::<AddressMessage>(&rt, "020880fe01000000 04000300")?;
+    is_answered_changed::<RuleMessage>(&rt, "02000000fe00000100000000 0800030065746830")?;
     is_answered_changed::<RuleMessage>(&rt, RULE)
 }
 
 #[test]
 fn routes_changed(rt: HostRuntime) -> Result<(), Fail> {
-    for text in [BY_NEXT_HOP, OF_VERSION_6, TWO_NEXT_HOPS, GENEVE] {
-        is_answered_changed::<RouteMessage>(&rt, text)?;
-    }
-    for text in ROUTES {
-        is_answered_changed::<RouteMessage>(&rt, text)?;
+    are_answered_changed(&rt, &[BY_NEXT_HOP, OF_VERSION_6, TWO_NEXT_HOPS, GENEVE])
+}
+
+/// The same of each message.
+fn are_answered_changed(rt: &(impl Abort + AllocGlobal), texts: &[&str]) -> Result<(), Fail> {
+    for text in texts {
+        is_answered_changed::<RouteMessage>(rt, text)?;
     }
     Ok(())
+}
+
+#[test]
+fn attributes_of_routes_changed(rt: HostRuntime) -> Result<(), Fail> {
+    are_answered_changed(&rt, &LABELS)?;
+    are_answered_changed(&rt, &ENCAPSULATIONS)?;
+    are_answered_changed(&rt, &NEXT_HOPS)?;
+    are_answered_changed(&rt, &VALUES)?;
+    are_answered_changed(&rt, &REFUSED)
 }

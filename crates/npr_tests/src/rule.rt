@@ -5,7 +5,7 @@ use crate::helpers::{
 };
 use bitflags::Flags;
 use netlink_packet_route::framing::{
-    At, AttrFamily, DecodeError, EmitError, Emitable, Nla, Parseable,
+    At, AttrFamily, DecodeError, EmitError, Emitable, Nla, Parseable, WriteError, to_vec,
 };
 use netlink_packet_route::net::IpAddr;
 use netlink_packet_route::route::{RouteProtocol, RouteRealm};
@@ -125,4 +125,17 @@ fn ranges(rt: HostRuntime) -> Result<(), Fail> {
     let users = RuleUidRange::parse(&[1, 0, 0, 0, 0, 1, 0, 0])?;
     same(&rt, users, RuleUidRange { start: 1, end: 256 });
     writes(&rt, users, &["01000000 00010000"])
+}
+
+#[test]
+fn becomes_bytes_of_its_own(rt: HostRuntime) -> Result<(), Fail> {
+    let alloc = rt.alloc();
+    let bytes = bytes_of(&rt, &[HEADER, "08000600 00800000"])?;
+    let mut message = RuleMessage::parse(alloc, bytes.as_slice())?;
+    same(&rt, to_vec(alloc, &message), Ok(bytes));
+    let multipath = RuleAttribute::IpProtocol(IpProtocol::Mptcp);
+    message.attributes.push(multipath)?;
+    let cause = EmitError::IpProtocol { number: 262 };
+    same(&rt, to_vec(alloc, &message), Err(WriteError::Unfit(cause)));
+    Ok(())
 }

@@ -1,7 +1,9 @@
 //! The texts of refusals.
 
 use crate::helpers::says;
-use netlink_packet_route::framing::{At, AttrFamily, DecodeError, EmitError, Seg6Fault};
+use netlink_packet_route::framing::{
+    At, AttrFamily, DecodeError, EmitError, Seg6Fault, WriteError,
+};
 use std::test::Fail;
 
 /// The second attribute of a route.
@@ -72,4 +74,11 @@ fn of_what_is_written(rt: HostRuntime) -> Result<(), Fail> {
         "IP protocol 262",
     )?;
     says(&rt, EmitError::Total, "too many bytes in all")
+}
+
+#[test]
+fn of_writing(rt: HostRuntime) -> Result<(), Fail> {
+    says(&rt, WriteError::OutOfMemory, "out of memory")?;
+    let cause = EmitError::TooManySegments { count: 128 };
+    says(&rt, WriteError::from(cause), "128 segments")
 }
