@@ -1,4 +1,5 @@
 pub mod Addresses
 pub mod Fault
 pub mod Found
+pub mod Links
 pub mod Routes

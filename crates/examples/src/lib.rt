@@ -5,4 +5,5 @@
 pub mod addresses;
 pub mod again;
 pub mod fault;
+pub mod link;
 pub mod routes;
