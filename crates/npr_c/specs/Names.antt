@@ -1,0 +1,27 @@
+-- The names of refusals and causes by their numbers, as texts for C.
+use Rattle.std.specs.Prelude.{◌≡◌, ◌⊎◌, ◌<◌, ◌≤◌, ℕ, List, [], ◌∷◌, ◌++◌, length, codes, slice_get, unwrap_or}
+use Rattle.netlink_packet_route.specs.Framing.{Writes}
+
+-- the number 0 is that of none
+abbrev pub refusal_names : List (List ℕ)
+refusal_names =
+    [] ∷ codes "OutOfMemory" ∷ codes "HeaderTooShort" ∷ codes "AttributeTooShort" ∷ codes "AttributeLength"
+    ∷ codes "NextHopTooShort" ∷ codes "NextHopLength" ∷ codes "ValueLength" ∷ codes "NotUtf8" ∷ codes "Seg6Header"
+    ∷ codes "GeneveOrder" ∷ codes "GeneveChild" ∷ codes "ViaFamily" ∷ codes "Unsupported" ∷ []
+
+abbrev pub cause_names : List (List ℕ)
+cause_names =
+    [] ∷ codes "TooLong" ∷ codes "NextHopTooLong" ∷ codes "TooManySegments" ∷ codes "IpProtocol" ∷ codes "Total" ∷ []
+
+-- the name at a number, and for another number an empty text
+abbrev pub refusal_name : ℕ → List ℕ
+refusal_name number = unwrap_or (slice_get refusal_names number) []
+
+abbrev pub cause_name : ℕ → List ℕ
+cause_name number = unwrap_or (slice_get cause_names number) []
+
+-- the text and a zero stand at the front of the buffer, and the rest is as it was; or they have no room, and all is
+abbrev pub Puts : List ℕ → List ℕ → List ℕ → Type 0
+Puts old new name =
+    ((length name < length old) × Writes old new (name ++ 0 ∷ []))
+    ⊎ ((length old ≤ length name) × (new ≡ old))
