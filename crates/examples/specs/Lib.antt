@@ -3,3 +3,4 @@ pub mod Fault
 pub mod Found
 pub mod Links
 pub mod Routes
+pub mod Walk

@@ -1,7 +1,7 @@
 //! Why no bytes come out.
 
 ghost use Rattle.std.specs.Prelude.{◌≡◌};
-ghost use Rattle.examples.specs.{Fault.{unwritten}, declared.fault.Fault.TheVariants.{Refused}};
+ghost use Rattle.examples.specs.{Fault.{unwritten}, declared.fault.Fault.TheVariants.{Refused, Unfit}};
 ghost use Rattle.netlink_packet_route.specs.declared.framing.DecodeError.TheVariants.{OutOfMemory};
 
 use netlink_packet_route::framing::{DecodeError, EmitError, WriteError};
@@ -21,6 +21,14 @@ impl From<DecodeError> for Fault {
 
     fn from(fault: DecodeError) -> Fault {
         Fault::Refused(fault)
+    }
+}
+
+impl From<EmitError> for Fault {
+    ghost from_gives = { λ cause e. e ≡ Unfit cause };
+
+    fn from(cause: EmitError) -> Fault {
+        Fault::Unfit(cause)
     }
 }
 

@@ -1,5 +1,5 @@
 //! Callers of `netlink_packet_route`, to be copied: each has a contract that says what it does, and
-//! none needs a proof of its own.
+//! none but the walk by hand needs a proof of its own.
 #![tactic(auto)]
 
 pub mod addresses;
@@ -7,3 +7,4 @@ pub mod again;
 pub mod fault;
 pub mod link;
 pub mod routes;
+pub mod walk;

@@ -16,11 +16,13 @@ ghost use Rattle.netlink_packet_route.specs.{
 };
 
 use crate::fault::Fault;
+use netlink_packet_route::family::{
+    check_len, read_bytes, read_name, read_u32, write_bytes, write_name,
+};
 use netlink_packet_route::framing::{
     AttrFamily, Attribute, DecodeError, DefaultNla, EmitError, Looks, Nla, NlaBuffer, Parseable,
     check_list, emit_list, parse_list,
 };
-use npr_base::{check_len, read_bytes, read_name, read_u32, write_bytes, write_name};
 use std::alloc::{AllocError, Global};
 
 /// An attribute of a link message.

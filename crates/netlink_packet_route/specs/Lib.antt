@@ -9,6 +9,7 @@ pub use Rattle.npr_base.specs.DroppedCodec
 pub use Rattle.npr_base.specs.Equality
 pub use Rattle.npr_base.specs.Family
 pub use Rattle.npr_base.specs.Framing
+pub use Rattle.npr_base.specs.FrontLaws
 pub use Rattle.npr_base.specs.Ip
 pub use Rattle.npr_base.specs.IpCodec
 pub use Rattle.npr_base.specs.ViewEquality

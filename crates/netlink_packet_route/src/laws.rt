@@ -22,9 +22,8 @@ pub use npr_address::laws::{
     law_address_flags, law_default as law_address_default, law_equality as law_address_equality,
     law_numbers as law_address_numbers,
 };
-use npr_base::laws::law_cut as law_cut_in_two;
 pub use npr_base::laws::{
-    law_constants as law_framing_constants, law_default as law_family_default,
+    law_constants as law_framing_constants, law_cut as law_cut_in_two, law_default as law_family_default,
     law_equality as law_framing_equality, law_family_number, law_walk,
 };
 use npr_route::RouteAttribute;

@@ -2,10 +2,12 @@
 //!
 //! A message is read by `parse` and written by `emit`, once `check` accepts it. Names and paths are
 //! those of the Rust crate `netlink-packet-route`; what that crate takes from others stands in
-//! `framing` and `net`, the numbers of values in `numbers`, and all laws in `laws`.
+//! `framing` and `net`, what a family of one's own is made of in `family`, the numbers of values in
+//! `numbers`, and all laws in `laws`.
 #![tactic(auto)]
 
 pub mod address;
+pub mod family;
 pub mod framing;
 pub mod laws;
 pub mod net;
