@@ -11,7 +11,7 @@ ghost use Rattle.netlink_packet_route.specs.{
 
 use netlink_packet_route::framing::{DecodeError, Parseable};
 use netlink_packet_route::net::IpAddr;
-use netlink_packet_route::route::{RouteAddress, RouteAttribute, RouteMessage};
+use netlink_packet_route::route::{RouteAddress, RouteAttribute, RouteMessage, RouteNextHop};
 use std::alloc::Global;
 
 /// The first gateway of IP in the route message that the bytes are.
@@ -32,6 +32,13 @@ pub fn first_gateway(message: &RouteMessage) -> Option<IpAddr>
     ensures { IsFirst (λ a. gateway_ip (meaning_of a)) message.now.attributes.items result }
 {
     message.attributes.iter().find_map(gateway_ip)
+}
+
+/// The first gateway of IP of a next hop, which is a member of `RouteAttribute::MultiPath`.
+pub fn hop_gateway(hop: &RouteNextHop) -> Option<IpAddr>
+    ensures { IsFirst (λ a. gateway_ip (meaning_of a)) hop.now.attributes.items result }
+{
+    hop.attributes.iter().find_map(gateway_ip)
 }
 
 /// The address of a gateway of IP.
