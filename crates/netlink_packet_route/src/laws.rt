@@ -23,8 +23,9 @@ pub use npr_address::laws::{
     law_numbers as law_address_numbers,
 };
 pub use npr_base::laws::{
-    law_constants as law_framing_constants, law_cut as law_cut_in_two, law_default as law_family_default,
-    law_equality as law_framing_equality, law_family_number, law_walk,
+    law_constants as law_framing_constants, law_cut as law_cut_in_two,
+    law_default as law_family_default, law_equality as law_framing_equality, law_family_number,
+    law_walk,
 };
 use npr_route::RouteAttribute;
 pub use npr_route::laws::{

@@ -1,5 +1,5 @@
 -- What a run has read, answered and written.
-use Rattle.std.specs.Prelude.{◌≡◌, ◌≢◌, ℕ, ◌≤◌, List, length, map, take, Option, Some, None, IfSome}
+use Rattle.std.specs.Prelude.{◌≡◌, ◌≢◌, ℕ, ◌<◌, ◌≤◌, List, length, map, take, Option, Some, None, IfSome}
 use Rattle.std.specs.Io.KnownBytes.{Appends}
 use Rattle.netlink_packet_route.specs.declared.framing.DecodeError.{DecodeError}
 use Rattle.netlink_packet_route.specs.declared.framing.DecodeError.TheVariants.{OutOfMemory}
@@ -52,3 +52,7 @@ Reports which remaining before after = OfText remaining (λ bytes. (text : List 
 abbrev pub ReportsPart : Which → Option (List ℕ) → Option (List ℕ) → Option (List ℕ) → Type 0
 ReportsPart which remaining before after = OfText remaining (λ bytes.
     (text : List ℕ) × IsReport which bytes text × (n : ℕ) × (n ≤ length text) × Appends before after (take n text))
+
+-- there is something left to read
+abbrev pub SomethingLeft : Option (List ℕ) → Type 0
+SomethingLeft remaining = IfSome remaining (λ left. 0 < length left)

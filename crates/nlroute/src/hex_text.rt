@@ -1,6 +1,6 @@
 //! Hexadecimal text, as standard input brings it.
 
-ghost use Rattle.std.specs.Prelude.{◌≡◌, ◌⊎◌, ◌↔◌, ℕ, List, IfOk, IfErr};
+ghost use Rattle.std.specs.Prelude.{◌≡◌, ◌⊎◌, ◌↔◌, ◌<◌, ℕ, List, length, IfOk, IfErr};
 ghost use Rattle.hex.specs.Hex.{decode_of};
 ghost use Rattle.nlroute.specs.{
   HexText.{HasOneReading, IsHexText, IsNoHexText, is_blank},
@@ -16,8 +16,14 @@ pub fn bytes_of(alloc: Global, text: &[u8]) -> Result<Vec<u8>, RunError>
     ensures ok { IfOk result (λ bytes. IsHexText text.now bytes.items) }
     ensures one_reading { HasOneReading text.now }
     ensures bad { result ≡ Err BadHex → IsNoHexText text.now }
+    // No text takes no memory, and has no bytes.
+    ensures memory { result ≡ Err Memory → 0 < length text.now }
+    ensures some { IfOk result (λ bytes. 0 < length bytes.items → 0 < length text.now) }
     ensures errors { IfErr result (λ e. (e ≡ BadHex) ⊎ (e ≡ Memory)) }
 {
+    if text.is_empty() {
+        return Ok(Vec::new(alloc));
+    }
     let digits = digits_of(alloc, text)?;
     match hex::decode(alloc, digits.as_slice()) {
         Ok(bytes) => Ok(bytes),

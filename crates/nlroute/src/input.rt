@@ -6,6 +6,7 @@ ghost use Rattle.std.specs.{
 };
 ghost use Rattle.nlroute.specs.{
   Counted.{raised},
+  Run.{SomethingLeft},
   declared.error.RunError.TheVariants.{Memory, Read as ReadFailed},
 };
 
@@ -22,6 +23,7 @@ pub fn read_all<R: Read>(alloc: Global, reader: &mut Counted<R>) -> Result<Vec<u
     ensures end { OnOk result (IsAtEnd (R.remaining reader.new.inner)) }
     ensures read { result ≡ Err ReadFailed → reader.new.failures ≡ raised reader.old.failures }
     ensures kept { result ≢ Err ReadFailed → reader.new.failures ≡ reader.old.failures }
+    ensures memory { result ≡ Err Memory → SomethingLeft (R.remaining reader.old.inner) }
     ensures errors { IfErr result (λ e. (e ≡ ReadFailed) ⊎ (e ≡ Memory)) }
 {
     let mut bytes = Vec::new(alloc);
@@ -47,9 +49,11 @@ fn read_some<R: Read>(
     ensures end { result ≡ Ok 0 → IsAtEnd (R.remaining reader.new.inner) }
     ensures read { result ≡ Err ReadFailed → reader.new.failures ≡ raised reader.old.failures }
     ensures kept { result ≢ Err ReadFailed → reader.new.failures ≡ reader.old.failures }
+    ensures memory { result ≡ Err Memory → SomethingLeft (R.remaining reader.old.inner) }
     ensures errors { IfErr result (λ e. (e ≡ ReadFailed) ⊎ (e ≡ Memory)) }
 {
     match reader.read(chunk) {
+        Ok(0) => Ok(0),
         Ok(count) => {
             bytes.extend_from_slice(&chunk[..count])?;
             Ok(count)

@@ -1,7 +1,7 @@
 //! A run, from the text that is read to the report that is written.
 
 ghost use Rattle.std.specs.{
-  Prelude.{◌≡◌, ◌≢◌, ◌⊎◌, None, Some, length, map, string_bytes, IfOk, IfErr, IfSome, OnOk, OnErr},
+  Prelude.{◌≡◌, ◌≢◌, ◌⊎◌, ◌<◌, None, Some, length, map, string_bytes, IfOk, IfErr, IfSome, OnOk, OnErr},
   Io.KnownBytes.{IsAtEnd, Keeps},
 };
 ghost use Rattle.netlink_packet_route.specs.{
@@ -15,7 +15,7 @@ ghost use Rattle.nlroute.specs.{
   Error.{IsOfMessage},
   HexText.{IsNoHexText},
   Report.{report},
-  Run.{IsReport, IsRefused, IsUnfit, OfText, Reports, ReportsPart},
+  Run.{IsReport, IsRefused, IsUnfit, OfText, Reports, ReportsPart, SomethingLeft},
   Which.{which_name},
   declared.error.RunError.TheVariants.{BadHex, Memory, Refused, Unfit, Read as ReadFailed, Write as WriteFailed},
 };
@@ -45,6 +45,7 @@ pub fn run<R: Read, W: Write>(
         (W.contents writer.old.inner) (W.contents writer.new.inner)) }
     ensures bad { result ≡ Err BadHex → IfSome (R.remaining reader.old.inner) IsNoHexText }
     ensures end { result ≢ Err ReadFailed → result ≢ Err Memory → IsAtEnd (R.remaining reader.new.inner) }
+    ensures memory { result ≡ Err Memory → SomethingLeft (R.remaining reader.old.inner) }
     ensures silent { OnErr result (result ≢ Err WriteFailed
         → Keeps (W.contents writer.old.inner) (W.contents writer.new.inner)) }
     ensures part { result ≡ Err WriteFailed → ReportsPart which (R.remaining reader.old.inner)
@@ -67,31 +68,23 @@ fn answer(alloc: Global, which: Which, bytes: &[u8]) -> Result<String, RunError>
     ensures ok { IfOk result (λ text. IsReport which bytes.now (string_bytes text)) }
     ensures refused { (e : DecodeError) → result ≡ Err (Refused e) → IsRefused which bytes.now e }
     ensures unfit { (e : EmitError) → result ≡ Err (Unfit e) → IsUnfit which bytes.now e }
+    ensures memory { result ≡ Err Memory → 0 < length bytes.now }
     ensures errors { IfErr result IsOfMessage }
 {
     match which {
         Which::Address => {
-            let message: AddressMessage = parsed(alloc, bytes)?;
+            let message = AddressMessage::parse(alloc, bytes)?;
             written(alloc, which, bytes, &message, message.attributes.as_slice())
         }
         Which::Route => {
-            let message: RouteMessage = parsed(alloc, bytes)?;
+            let message = RouteMessage::parse(alloc, bytes)?;
             written(alloc, which, bytes, &message, message.attributes.as_slice())
         }
         Which::Rule => {
-            let message: RuleMessage = parsed(alloc, bytes)?;
+            let message = RuleMessage::parse(alloc, bytes)?;
             written(alloc, which, bytes, &message, message.attributes.as_slice())
         }
     }
-}
-
-/// The message that the bytes are.
-fn parsed<'a, M: Parseable<&'a [u8]>>(alloc: Global, bytes: &'a [u8]) -> Result<M, RunError>
-    ensures ok { IfOk result (λ m. M.parses bytes.entry m) }
-    ensures refused { (e : DecodeError) → result ≡ Err (Refused e) → (e ≢ OutOfMemory) × M.misparses bytes.entry e }
-    ensures errors { IfErr result (λ e. (e ≡ Memory) ⊎ ((fault : DecodeError) × (e ≡ Refused fault))) }
-{
-    Ok(M::parse(alloc, bytes)?)
 }
 
 /// The report on a message that was read from these bytes.
