@@ -1,6 +1,8 @@
 pub mod Addresses
 pub mod Fault
 pub mod Found
+pub mod LinkHeader
+pub mod LinkMessage
 pub mod Links
 pub mod Routes
 pub mod Walk

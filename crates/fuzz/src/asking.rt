@@ -55,7 +55,7 @@ pub fn answer_to(alloc: Global, kind: Kind, bytes: &[u8]) -> Result<Answer, Allo
 /// Looks at the headers of a route of so many bytes are at most those that its length allows.
 fn is_bounded(looks: &Looks, length: usize) -> bool {
     let behind = length.saturating_sub(12) as u64;
-    looks.successful() <= behind / 4 * 2 && looks.failed() <= 2
+    looks.successful() <= behind / 4 * 2 && looks.failed() <= behind / 12 + 2
 }
 
 /// What was answered, the message and its canonical bytes, where there are some.

@@ -1,8 +1,9 @@
-//! Makes messages at random, and asks of each answer what the library promises.
+//! Changes each byte of worked messages to each value, makes messages at random, and asks of each
+//! answer what the library promises.
 //!
-//! `fuzz SEED COUNT` makes so many messages of each kind, and prints how many there were and how many
-//! answers are broken; on standard error, how many got which answer. Ends with status 1 where one is
-//! broken; the first of them are printed.
+//! `fuzz SEED COUNT` makes so many messages of each kind, and prints how many were changed and made
+//! and how many answers are broken; on standard error, how many got which answer. Ends with status 1
+//! where one is broken; the first of them are printed.
 #![tactic(auto)]
 
 mod asking;
@@ -10,6 +11,7 @@ mod kind;
 mod making;
 mod random;
 mod tally;
+mod worked;
 
 use kind::Kind;
 use std::process::ExitCode;
@@ -50,18 +52,21 @@ fn numbers(rt: &HostRuntime) -> io::Result<Option<(u64, u64)>> {
     Ok(Some((seed, count)))
 }
 
-/// Makes messages of each kind, prints the counts, and answers how many were broken.
+/// Asks about messages of each kind, prints the counts, and answers how many were broken.
 fn all(rt: &HostRuntime, seed: u64, count: u64) -> io::Result<u64> {
+    let mut changed = 0u64;
     let mut made = 0u64;
     let mut broken = 0u64;
     for (kind, name) in Kind::ALL {
         let mut tally = Tally::new(rt.alloc());
-        tally.ask(rt, kind, seed, count)?;
-        eprintln!(rt; "{name}: {count} messages")?;
-        tally.print(rt)?;
+        tally.ask_changed(rt, kind)?;
+        changed = changed.saturating_add(tally.asked);
+        tally.ask_made(rt, kind, seed, count)?;
         made = made.saturating_add(count);
+        eprintln!(rt; "{name}: {} messages", tally.asked)?;
+        tally.print(rt)?;
         broken = broken.saturating_add(tally.broken);
     }
-    println!(rt; "{made} messages, {broken} broken")?;
+    println!(rt; "{changed} changed messages, {made} made messages, {broken} broken")?;
     Ok(broken)
 }

@@ -3,6 +3,7 @@
 use crate::asking::{Answer, answer_to};
 use crate::kind::Kind;
 use crate::making::Maker;
+use crate::worked::messages;
 use std::alloc::{AllocError, Global};
 use std::collections::BTreeMap;
 use std::io;
@@ -14,7 +15,9 @@ const PRINTED: u64 = 10;
 #[derive(Drop)]
 pub struct Tally {
     counts: BTreeMap<Answer, u64>,
-    /// The messages whose answer is none that is promised.
+    /// The messages that were asked about.
+    pub asked: u64,
+    /// Those whose answer is none that is promised.
     pub broken: u64,
 }
 
@@ -23,6 +26,7 @@ impl Tally {
     pub fn new(alloc: Global) -> Tally {
         Tally {
             counts: BTreeMap::new(alloc),
+            asked: 0,
             broken: 0,
         }
     }
@@ -31,27 +35,59 @@ impl Tally {
     ///
     /// # Errors
     /// Where memory is refused, or a broken message can't be printed.
-    pub fn ask(&mut self, rt: &HostRuntime, kind: Kind, seed: u64, count: u64) -> io::Result<()> {
+    pub fn ask_made(
+        &mut self,
+        rt: &HostRuntime,
+        kind: Kind,
+        seed: u64,
+        count: u64,
+    ) -> io::Result<()> {
         let mut maker = Maker::new(rt.alloc(), seed);
         let mut bytes = Vec::new(rt.alloc());
         for _ in 0..count {
             maker.message(kind, &mut bytes)?;
-            let answered = answer_to(rt.alloc(), kind, bytes.as_slice())?;
-            self.add(answered)?;
-            if let Answer::Broken(promise) = answered {
+            self.ask(rt, kind, bytes.as_slice())?;
+        }
+        Ok(())
+    }
+
+    /// Changes each byte of each worked message of this kind to each value, and counts the answers.
+    ///
+    /// # Errors
+    /// Where memory is refused, or a broken message can't be printed.
+    pub fn ask_changed(&mut self, rt: &HostRuntime, kind: Kind) -> io::Result<()> {
+        for text in messages(kind) {
+            let mut bytes = Vec::new(rt.alloc());
+            bytes.resize(text.len() / 2, 0u8)?;
+            if hex::decode_to_slice(*text, bytes.as_mut_slice()).is_err() {
                 self.broken = self.broken.saturating_add(1);
-                if self.broken <= PRINTED {
-                    let digits = hex::encode(rt.alloc(), bytes.as_slice())?;
-                    println!(rt; "broken: {promise}: {digits}")?;
+                println!(rt; "broken: no hexadecimal text: {text}")?;
+            }
+            for place in 0..bytes.len() {
+                let kept = bytes[place];
+                for value in 0..=u8::MAX {
+                    bytes[place] = value;
+                    self.ask(rt, kind, bytes.as_slice())?;
                 }
+                bytes[place] = kept;
             }
         }
         Ok(())
     }
 
-    fn add(&mut self, answered: Answer) -> Result<(), AllocError> {
+    /// Counts the answer to the bytes, and prints them where it is none that is promised.
+    fn ask(&mut self, rt: &HostRuntime, kind: Kind, bytes: &[u8]) -> io::Result<()> {
+        let answered = answer_to(rt.alloc(), kind, bytes)?;
+        self.asked = self.asked.saturating_add(1);
         let count = self.counts.entry(answered)?.or_insert(0);
         *count = count.saturating_add(1);
+        if let Answer::Broken(promise) = answered {
+            self.broken = self.broken.saturating_add(1);
+            if self.broken <= PRINTED {
+                let digits = hex::encode(rt.alloc(), bytes)?;
+                println!(rt; "broken: {promise}: {digits}")?;
+            }
+        }
         Ok(())
     }
 

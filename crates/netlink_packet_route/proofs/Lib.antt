@@ -1,0 +1,2 @@
+-- the laws of messages, for a message of one's own
+pub use Rattle.npr_base.proofs.Messages

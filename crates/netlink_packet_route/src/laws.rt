@@ -30,7 +30,7 @@ pub use npr_base::laws::{
 use npr_route::RouteAttribute;
 pub use npr_route::laws::{
     law_constants as law_route_constants, law_default as law_route_default,
-    law_equality as law_route_equality, law_governing_type, law_next_hops,
+    law_equality as law_route_equality, law_governing_type, law_newer, law_next_hops,
 };
 use npr_rule::RuleAttribute;
 pub use npr_rule::laws::{

@@ -9,3 +9,4 @@ pub mod Mapped
 pub mod WalkLaws
 pub mod V6Lists
 pub mod Texts
+pub mod RenewLaws

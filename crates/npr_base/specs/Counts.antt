@@ -23,9 +23,10 @@ miss c = record { successful = c.successful; failed = one_more c.failed }
 abbrev pub most_successful : ℕ → ℕ
 most_successful bytes = 2 * (bytes / 4)
 
--- and the failed ones: a walk ends at its first
+-- and the failed ones: a reading ends at its first; before it, the search through a list of next hops' attributes may have
+-- failed at each of the lists that are open, and each level of next hops takes twelve bytes
 abbrev pub most_failed : ℕ → ℕ
-most_failed bytes = 1
+most_failed bytes = 1 + bytes / 12
 
 -- what the reading of a value of so many bytes may add: no count falls, and neither grows by more than is allowed, the
 -- failed ones by what the value is allowed with the four bytes of its header
@@ -36,7 +37,7 @@ pub record AddsAtMost (old new : Counts) (len : ℕ) : Type 0 where
   pub failed : new.failed ≤ old.failed + most_failed (4 + len)
 
 -- what a search through so many bytes and then their reading may add: together no more than the reading is allowed, and
--- the one failed look at which a search ends
+-- the one failed look at which the search ends
 pub record AddsAtMostTwice (old new : Counts) (bytes : ℕ) : Type 0 where
   pub kept : old.successful ≤ new.successful
   pub successful : new.successful ≤ old.successful + most_successful bytes

@@ -22,7 +22,7 @@ pub two_bytes : (n : ℕ) → n < 2 ^ 16 → n % 256 + n / 256 % 256 * 256 ≡ n
 two_bytes n h = omega arith
 
 -- padding of the same length may be longer, where nothing follows
-rest_is : (v p rest : List ℕ) (n : ℕ) → n ≡ length v + pad (length v) → length p ≤ pad (length v) → (0 < length rest → length p ≡ pad (length v))
+pub rest_is : (v p rest : List ℕ) (n : ℕ) → n ≡ length v + pad (length v) → length p ≤ pad (length v) → (0 < length rest → length p ≡ pad (length v))
     → drop n ((v ++ p) ++ rest) ≡ rest
 rest_is v p [] n size most whole = drop_all n ((v ++ p) ++ []) (omega (arith, length-append (v ++ p) [], length-append v p))
 rest_is v p (r ∷ rest) n size most whole = drop_at (v ++ p) (r ∷ rest) n (omega (arith, length-append v p, whole (omega arith)))

@@ -39,13 +39,16 @@ attributes_of {H} {M} {w} f = record {
 }
 
 -- the bytes are the message: a header, and then its attributes
-pub record IsMessage {H M : Type 0} {w : Writing M} (L : Layout H) (B : Body H w) (bytes : List ℕ) (m : Message H M) : Type 0 where
+pub record IsMessageOf {H M : Type 0} (L : Layout H) (Reads : H → List ℕ → List M → Type 0) (bytes : List ℕ) (m : Message H M) : Type 0 where
   pub front : List ℕ
   pub rest : List ℕ
   pub is : bytes ≡ front ++ rest
   pub size : length front ≡ L.size
   pub header : m.header ≡ L.decode front
-  pub attributes : B.Reads m.header rest m.attributes
+  pub attributes : Reads m.header rest m.attributes
+
+abbrev pub IsMessage : {H M : Type 0} {w : Writing M} → Layout H → Body H w → List ℕ → Message H M → Type 0
+IsMessage L B bytes m = IsMessageOf L B.Reads bytes m
 
 -- the first fault of bytes that are no message: too few for the header, or a fault after it
 abbrev pub MessageFault : {H M : Type 0} {w : Writing M} → Layout H → Body H w → List ℕ → DecodeError → Type 0
@@ -53,9 +56,12 @@ MessageFault L B bytes e =
     ((length bytes < L.size) × (e ≡ HeaderTooShort (length bytes) L.size))
     ⊎ ((front : List ℕ) × (rest : List ℕ) × (bytes ≡ front ++ rest) × (length front ≡ L.size) × B.Faulty (L.decode front) rest e)
 
-pub record IsCoherent {H M : Type 0} {w : Writing M} (L : Layout H) (B : Body H w) (m : Message H M) : Type 0 where
+pub record IsCoherentOf {H M : Type 0} (L : Layout H) (Coherent : H → List M → Type 0) (m : Message H M) : Type 0 where
   pub header : L.Holds m.header
-  pub attributes : B.Coherent m.header m.attributes
+  pub attributes : Coherent m.header m.attributes
+
+abbrev pub IsCoherent : {H M : Type 0} {w : Writing M} → Layout H → Body H w → Message H M → Type 0
+IsCoherent L B m = IsCoherentOf L B.Coherent m
 
 -- the canonical bytes
 abbrev pub spelling : {H M : Type 0} → Layout H → Writing M → Message H M → List ℕ

@@ -17,8 +17,8 @@ use Rattle.npr_scalar.specs.RouteAddress.{address_of}
 use Rattle.npr_scalar.specs.RouteVia.{via_of}
 use Rattle.npr_tunnel.specs.Encapsulation as OfEncap
 use Rattle.npr_tunnel.specs.EqualityLaws.{encap_type_equality, encap_equality}
-use Rattle.npr_route.specs.Attribute.{Meaning, flat, multi_path, Attributes, no_more, attribute, Hops, no_hops, hop, Hop}
-use Rattle.npr_route.specs.AttributeView.{attributes_of, hops_of, attribute_step, hop_step, meaning_of, hop_of}
+use Rattle.npr_route.specs.Attribute.{Meaning, flat, multi_path, Attributes, no_more, attribute, Hops, no_hops, hop, Hop, attributes_of}
+use Rattle.npr_route.specs.AttributeView.{hops_of, attribute_step, hop_step, meaning_of, hop_of}
 use Rattle.npr_route.specs.FlatAttribute as Flat
 use Rattle.npr_route.specs.Metric as Metrics
 use Rattle.npr_route.specs.Metric.{metric_of}

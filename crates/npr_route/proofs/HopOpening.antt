@@ -1,8 +1,8 @@
 -- A header whose length lies within the bytes opens a next hop.
-use Rattle.std.proofs.Common.{◌≡◌, ℕ, ◌+◌, ◌-◌, ◌*◌, ◌/◌, ◌%◌, ◌<◌, List, [], ◌∷◌, ◌++◌, length, take, drop, refl, sym, ap, subst, ◌∙◌, arith, length-take, length-drop}
-use Rattle.std.proofs.lemmas.List.{take-append-drop, drop-drop}
+use Rattle.std.proofs.Common.{◌≡◌, ℕ, min, ◌+◌, ◌-◌, ◌*◌, ◌/◌, ◌%◌, ◌<◌, List, [], ◌∷◌, ◌++◌, length, take, drop, refl, sym, ap, subst, ◌∙◌, arith, length-take, length-drop}
+use Rattle.std.proofs.lemmas.List.{take-append-drop, drop-drop, drop_min}
 use Rattle.std.specs.Int.{w16, w32, to_le_bytes}
-use Rattle.npr_base.specs.Framing.{IsBytes}
+use Rattle.npr_base.specs.Framing.{IsBytes, pad}
 use Rattle.npr_base.specs.Layout.{le32_at}
 use Rattle.npr_base.specs.ListLaws.{IsBytes-left}
 use Rattle.npr_route.specs.Attribute.{HopFront, hop_text}
@@ -33,27 +33,39 @@ written_again (a ∷ b ∷ []) is long = absurd (omega arith)
 written_again (a ∷ []) is long = absurd (omega arith)
 written_again [] is long = absurd (omega arith)
 
-pub opens : (bs : List ℕ) (h : RouteNextHopBuffer) → IsBytes bs → IsChecked bs h → HopFront bs (head_in h) (take (h.length - 8) (drop 8 bs)) (drop h.length bs)
-opens bs h is (decoded, least, most) =
+-- the padding behind a next hop ends at a multiple of four, or with the bytes
+pub opens : (bs : List ℕ) (h : RouteNextHopBuffer) (next : ℕ) → IsBytes bs → IsChecked bs h → next ≡ min (h.length + pad h.length) (length bs)
+    → HopFront bs (head_in h) (take (h.length - 8) (drop 8 bs)) (drop next bs)
+opens bs h next is (decoded, least, most) at =
     let inside : List ℕ = take (h.length - 8) (drop 8 bs) in
+    let behind : List ℕ = drop h.length bs in
+    let padding : List ℕ = take (pad h.length) behind in
     let first : List ℕ = take 8 bs in
     let short : length first ≡ 8 = omega (arith, length-take 8 bs) in
     let proper : IsBytes first = IsBytes-left first (drop 8 bs) (subst IsBytes (sym (take-append-drop 8 bs)) is) in
     let held = buffer-holds first proper short in
     let in_place : encode_buffer h ≡ first = ap encode_buffer decoded ∙ written_again first proper short in
     let size : h.length ≡ 8 + length inside = omega (arith, length-take (h.length - 8) (drop 8 bs), length-drop 8 bs) in
-    let far : h.length - 8 + 8 ≡ h.length = omega arith in
-    let behind : drop (h.length - 8) (drop 8 bs) ≡ drop h.length bs = drop-drop (h.length - 8) 8 bs ∙ ap (λ (n : ℕ). drop n bs) (omega arith) in
-    let split : drop 8 bs ≡ inside ++ drop h.length bs = sym (take-append-drop (h.length - 8) (drop 8 bs)) ∙ ap (λ (w : List ℕ). inside ++ w) behind in
-    let whole : bs ≡ encode_buffer h ++ (inside ++ drop h.length bs) = sym (take-append-drop 8 bs) ∙ ap (λ (w : List ℕ). w ++ drop 8 bs) (sym in_place) ∙ ap (λ (w : List ℕ). encode_buffer h ++ w) split in
-    let headed : encode_buffer h ++ (inside ++ drop h.length bs) ≡ hop_text (head_in h) inside ++ drop h.length bs =
-    ap (λ (n : ℕ). to_le_bytes w16 n ++ (h.flags ∷ h.hops ∷ to_le_bytes w32 h.interface_index ++ (inside ++ drop h.length bs))) size in
+    let cut : drop (h.length - 8) (drop 8 bs) ≡ behind = drop-drop (h.length - 8) 8 bs ∙ ap (λ (n : ℕ). drop n bs) (omega arith) in
+    let split : drop 8 bs ≡ inside ++ behind = sym (take-append-drop (h.length - 8) (drop 8 bs)) ∙ ap (λ (w : List ℕ). inside ++ w) cut in
+    let rest : drop (pad h.length) behind ≡ drop next bs = drop-drop (pad h.length) h.length bs ∙ ap (λ (n : ℕ). drop n bs) (omega arith)
+    ∙ sym (drop_min (h.length + pad h.length) bs) ∙ ap (λ (n : ℕ). drop n bs) (sym at) in
+    let padded : behind ≡ padding ++ drop next bs = sym (take-append-drop (pad h.length) behind) ∙ ap (λ (w : List ℕ). padding ++ w) rest in
+    let whole : bs ≡ encode_buffer h ++ (inside ++ behind) = sym (take-append-drop 8 bs) ∙ ap (λ (w : List ℕ). w ++ drop 8 bs) (sym in_place)
+    ∙ ap (λ (w : List ℕ). encode_buffer h ++ w) split in
+    let headed : encode_buffer h ++ (inside ++ behind) ≡ hop_text (head_in h) inside ++ behind =
+    ap (λ (n : ℕ). to_le_bytes w16 n ++ (h.flags ∷ h.hops ∷ to_le_bytes w32 h.interface_index ++ (inside ++ behind))) size in
+    let left : length (drop next bs) ≡ length bs - next = length-drop next bs in
+    let taken = length-take (pad h.length) behind in
     record {
-      is = whole ∙ headed;
+      padding = padding;
+      is = whole ∙ headed ∙ ap (λ (w : List ℕ). hop_text (head_in h) inside ++ w) padded;
       holds = record {
         flags = omega (arith, held.flags, ap (λ (b : RouteNextHopBuffer). b.flags) decoded);
         hops = omega (arith, held.hops, ap (λ (b : RouteNextHopBuffer). b.hops) decoded);
         interface_index = omega (arith, held.interface_index, ap (λ (b : RouteNextHopBuffer). b.interface_index) decoded);
       };
       short = omega (arith, size, held.length, ap (λ (b : RouteNextHopBuffer). b.length) decoded);
+      most = omega (arith, size, taken);
+      whole = λ more. omega (arith, size, taken, left, more, at, length-drop h.length bs);
     }

@@ -2,8 +2,8 @@
 use Rattle.std.proofs.Common.{◌≡◌, ℕ, ◌+◌, ◌-◌, List, [], ◌∷◌, ◌++◌, length, take, drop, refl, sym, ap, subst, ◌∙◌, arith, inl, inr, length-take, length-drop}
 use Rattle.std.proofs.lemmas.List.{append-nil, take_at, length_push}
 use Rattle.npr_base.specs.declared.refusal.DecodeError.{DecodeError}
-use Rattle.npr_route.specs.Attribute.{HopHead, HopFront, hop_text, Hop, AreHops, AttributesWrong, HopsWrong, no_hop_in_front, first_hop_wrong, later_hop_wrong, IsHop, HopWrong}
-use Rattle.npr_route.specs.AttributeLaws.{attributes-sound}
+use Rattle.npr_route.specs.Attribute.{HopHead, HopFront, hop_text, Hop, AreHops, GovernedWrong, HopsWrong, no_hop_in_front, first_hop_wrong, later_hop_wrong, IsHop, HopWrong}
+use Rattle.npr_route.specs.AttributeLaws.{governed-sound}
 use Rattle.npr_route.specs.AttributeView.{hops_of}
 use Rattle.npr_route.specs.FlatAttribute.{Context}
 use Rattle.npr_route.specs.NextHopFrontLaws.{HopFront-same, HopFront-sound, HopFront-length}
@@ -12,7 +12,14 @@ use Rattle.npr_route.specs.declared.next_hop_buffer.RouteNextHopBuffer.{RouteNex
 
 -- a next hop that stands in front, with what follows it cut off
 cut_off : (bytes : List ℕ) (h : HopHead) (inside rest : List ℕ) → HopFront bytes h inside rest → HopFront (hop_text h inside) h inside []
-cut_off bytes h inside rest f = record { is = sym (append-nil (hop_text h inside)); holds = f.holds; short = f.short }
+cut_off bytes h inside rest f = record {
+  padding = [];
+  is = sym (append-nil (hop_text h inside));
+  holds = f.holds;
+  short = f.short;
+  most = omega arith;
+  whole = λ more. absurd (omega arith);
+}
 
 no_hops_left : (c : Context) (bytes : List ℕ) (hs : List Hop) → bytes ≡ [] → AreHops c bytes (hops_of hs) → hs ≡ []
 no_hops_left c bytes [] is p = refl
@@ -36,12 +43,12 @@ nothing_wrong_with_none c bytes e is (later_hop_wrong h inside rest ms f p w) = 
 wrong : (c : Context) (bytes first : List ℕ) (h : HopHead) (inside rest : List ℕ) (e : DecodeError) → HopFront bytes h inside rest → HopFront first h inside [] → HopsWrong c first e → HopWrong c bytes e
 wrong c bytes first h inside rest e f cut (no_hop_in_front left bad) = absurd (HopFront-sound first h inside [] e cut bad)
 wrong c bytes first h inside rest e f cut (first_hop_wrong k i r g w) =
-    inr (h, inside, rest, f, subst (λ (j : List ℕ). AttributesWrong c j e) (HopFront-same first k h i inside r [] g cut).1 w)
+    inr (h, inside, rest, f, subst (λ (j : List ℕ). GovernedWrong c j e) (HopFront-same first k h i inside r [] g cut).1 w)
 wrong c bytes first h inside rest e f cut (later_hop_wrong k i r ms g p w) = absurd (nothing_wrong_with_none c r e (HopFront-same first k h i inside r [] g cut).2 w)
 
 -- the text that a header opens is as many bytes as it says
 pub text_of : (bytes : List ℕ) (h : HopHead) (inside rest : List ℕ) (n : ℕ) → HopFront bytes h inside rest → n ≡ 8 + length inside → take n bytes ≡ hop_text h inside
-text_of bytes h inside rest n f size = ap (take n) f.is ∙ take_at (hop_text h inside) rest n (omega arith)
+text_of bytes h inside rest n f size = ap (take n) f.is ∙ take_at (hop_text h inside) (f.padding ++ rest) n (omega arith)
 
 pub one_hop : (c : Context) (bytes : List ℕ) (h : HopHead) (inside rest : List ℕ) (n : ℕ) → HopFront bytes h inside rest → n ≡ 8 + length inside → (hs : List Hop) → AreHops c (take n bytes) (hops_of hs) → (k : Hop) × (hs ≡ k ∷ []) × IsHop c bytes k
 one_hop c bytes h inside rest n f size hs p = one c bytes (take n bytes) h inside rest f (text_of bytes h inside rest n f size) hs p
@@ -54,7 +61,7 @@ one_hop_wrong c bytes h inside rest n e f size w =
 pub hop-sound : (c : Context) (bytes : List ℕ) (h : Hop) (e : DecodeError) → IsHop c bytes h → HopWrong c bytes e → ⊥
 hop-sound c bytes h e (inside, rest, f, a) (inl bad) = HopFront-sound bytes h.head inside rest e f bad
 hop-sound c bytes h e (inside, rest, f, a) (inr (k, i, r, g, w)) =
-    attributes-sound c inside h.attributes e a (subst (λ (j : List ℕ). AttributesWrong c j e) (HopFront-same bytes k h.head i inside r rest g f).1 w)
+    governed-sound c inside h.attributes e a (subst (λ (j : List ℕ). GovernedWrong c j e) (HopFront-same bytes k h.head i inside r rest g f).1 w)
 
 -- a checked header says how many bytes it opens
 pub sized : (bytes : List ℕ) (h : RouteNextHopBuffer) → IsChecked bytes h → h.length ≡ 8 + length (take (h.length - 8) (drop 8 bytes))

@@ -11,7 +11,7 @@ use Rattle.npr_route.specs.FlatAttribute.{Context}
 use Rattle.npr_route.specs.AttributeLaws.{attributes, hops-sound}
 use Rattle.npr_route.specs.Governing.{Governs}
 use Rattle.npr_route.specs.RouteList.{Under, IsRouteList}
-use Rattle.npr_route.specs.RouteListLaws.{governs-one}
+use Rattle.npr_route.specs.GoverningLaws.{governs-one}
 
 pub none_under : {V : Type 0} (under : Under) (type : RouteLwEnCapType) (bytes : List ℕ) → Governs NoEncapsulation bytes type → (r : Result V DecodeError)
     → IfErr r (λ e. e ≢ OutOfMemory → (xs : List Meaning) → ReadsList (attributes (under.0, under.1, type)).Reads bytes xs → ⊥)

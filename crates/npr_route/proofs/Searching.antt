@@ -22,12 +22,12 @@ hit_each-more [] x c = refl
 hit_each-more (y ∷ ys) x c = hit_each-more ys x (hit c)
 
 -- so many looks are counted, below the greatest u64
-record Hits (old new : Counts) (n : ℕ) : Type 0 where
-  kept : old.successful ≤ new.successful
-  most : new.successful ≤ old.successful + n
-  failed : new.failed ≡ old.failed
+pub record Hits (old new : Counts) (n : ℕ) : Type 0 where
+  pub kept : old.successful ≤ new.successful
+  pub most : new.successful ≤ old.successful + n
+  pub failed : new.failed ≡ old.failed
 
-hit_each-counts : (xs : List Item) (c : Counts) → Hits c (hit_each xs c) (length xs)
+pub hit_each-counts : (xs : List Item) (c : Counts) → Hits c (hit_each xs c) (length xs)
 hit_each-counts [] c = record { kept = omega arith; most = omega arith; failed = refl }
 hit_each-counts (x ∷ xs) c =
     let h = hit_each-counts xs (hit c) in
@@ -49,16 +49,16 @@ ends_so outer (Some (Ok x)) h = absurd h
 -- ---- what was looked at
 
 -- a search passes attributes, adds a look at each, and one more at its last step
-record Passed (bytes : List ℕ) (old new : Counts) : Type 0 where
-  items : List Item
-  rest : List ℕ
-  passes : Passes bytes items rest
-  kept : old.successful ≤ new.successful
-  most : new.successful ≤ old.successful + length items
-  failed_kept : old.failed ≤ new.failed
-  failed : new.failed ≤ old.failed + 1
+pub record Passed (bytes : List ℕ) (old new : Counts) : Type 0 where
+  pub items : List Item
+  pub rest : List ℕ
+  pub passes : Passes bytes items rest
+  pub kept : old.successful ≤ new.successful
+  pub most : new.successful ≤ old.successful + length items
+  pub failed_kept : old.failed ≤ new.failed
+  pub failed : new.failed ≤ old.failed + 1
 
-search_passed : (bytes : List ℕ) (old : Counts) (before : List Item) (rest left : List ℕ) (last : Option (Result Item DecodeError)) (new : Counts) → Passes bytes before rest → Step rest last left
+pub search_passed : (bytes : List ℕ) (old : Counts) (before : List Item) (rest left : List ℕ) (last : Option (Result Item DecodeError)) (new : Counts) → Passes bytes before rest → Step rest last left
     → new ≡ looked last (hit_each before old) → Passed bytes old new
 search_passed bytes old before rest left None new p step is =
     let h = hit_each-counts before old in

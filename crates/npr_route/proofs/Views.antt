@@ -7,8 +7,8 @@ use Rattle.npr_base.specs.declared.refusal.EmitError.{EmitError}
 use Rattle.npr_base.specs.declared.refusal.EmitError.TheVariants.{Total}
 use Rattle.npr_base.specs.Framing.{encoding}
 use Rattle.npr_base.specs.Family.{checked, option_or, overlong, first_unfit, list_unfit, encodings}
-use Rattle.npr_route.specs.Attribute.{HopHead, Meaning, flat, multi_path, Hop, writes, plain_of, misfit, attributes_misfit, attributes_bytes, hops_misfit, hops_bytes, hop_misfit, hop_bytes, unfit_inside, hop_overlong}
-use Rattle.npr_route.specs.AttributeView.{attributes_of, hops_of, attribute_step, hop_step, meaning_of, hop_of, attribute_item, attribute_misfit, next_hop_bytes, next_hop_misfit, joined}
+use Rattle.npr_route.specs.Attribute.{HopHead, Meaning, flat, multi_path, Hop, writes, plain_of, misfit, attributes_misfit, attributes_bytes, hops_misfit, hops_bytes, hop_misfit, hop_bytes, unfit_inside, hop_overlong, attributes_of}
+use Rattle.npr_route.specs.AttributeView.{hops_of, attribute_step, hop_step, meaning_of, hop_of, attribute_item, attribute_misfit, next_hop_bytes, next_hop_misfit, joined}
 use Rattle.npr_scalar.specs.RouteFlags.{next_hop_flags_bits}
 use Rattle.npr_route.specs.declared.attribute.RouteAttribute.{RouteAttribute}
 use Rattle.npr_route.specs.declared.attribute.RouteAttribute.TheFolds.{fold_out-RouteNextHop, fold-roll-RouteNextHop, fold-roll-RouteAttribute}

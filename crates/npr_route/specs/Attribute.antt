@@ -9,10 +9,13 @@ use Rattle.npr_base.specs.declared.refusal.EmitError.{EmitError}
 use Rattle.npr_base.specs.declared.refusal.EmitError.TheVariants.{NextHopTooLong, Total}
 use Rattle.npr_base.specs.Family.{option_or, too_long, overlong}
 use Rattle.npr_base.specs.Table.{plain_item, held_nested}
-use Rattle.npr_base.specs.Framing.{Item, number_of, encoding, Front, Fault}
+use Rattle.npr_base.specs.Framing.{Item, number_of, encoding, Front, Fault, pad}
 use Rattle.npr_route.specs.FlatAttribute as Flat
 use Rattle.npr_route.specs.FlatAttribute.{Context}
 use Rattle.npr_route.specs.FlatAttributeLaws as Flats
+use Rattle.npr_route.specs.Governing.{Governs}
+use Rattle.npr_srh.specs.Seg6Mode.{ModeTable, modes}
+use Rattle.npr_tunnel.specs.declared.encap_type.RouteLwEnCapType.{RouteLwEnCapType}
 
 -- the header without its length, which counts its eight bytes and the attributes
 pub record HopHead : Type 0 where
@@ -28,11 +31,15 @@ pub record HoldsHead (h : HopHead) : Type 0 where
 abbrev pub hop_text : HopHead → List ℕ → List ℕ
 hop_text h inside = to_le_bytes w16 (8 + length inside) ++ (h.flags ∷ h.hops ∷ to_le_bytes w32 h.interface_index ++ inside)
 
--- the bytes are a next hop with these bytes of attributes, and then the rest; nothing is rounded
+-- the bytes are a next hop with these bytes of attributes and some padding, and then the rest (linux/rtnetlink.h,
+-- RTNH_NEXT, RTNH_ALIGN); padding is whole where anything follows
 pub record HopFront (bytes : List ℕ) (h : HopHead) (inside rest : List ℕ) : Type 0 where
-  pub is : bytes ≡ hop_text h inside ++ rest
+  pub padding : List ℕ
+  pub is : bytes ≡ hop_text h inside ++ (padding ++ rest)
   pub holds : HoldsHead h
   pub short : 8 + length inside ≤ 65535
+  pub most : length padding ≤ pad (8 + length inside)
+  pub whole : 0 < length rest → length padding ≡ pad (8 + length inside)
 
 -- why no next hop stands in front
 abbrev pub HopFault : List ℕ → DecodeError → Type 0
@@ -59,20 +66,58 @@ pub record Hop : Type 0 where
   pub head : HopHead
   pub attributes : Attributes
 
+abbrev pub attributes_of : List Meaning → Attributes
+attributes_of [] = no_more
+attributes_of (m ∷ ms) = attribute m (attributes_of ms)
+
+-- the type that an attribute holds, and the first of a list, or else the outer one
+abbrev pub type_held : Meaning → Option RouteLwEnCapType
+type_held (flat (Flat.encap_type t)) = Some t
+type_held m = None
+
+abbrev pub or_else : {A : Type 0} → Option A → A → A
+or_else (Some x) y = x
+or_else None y = y
+
+abbrev pub first_type : RouteLwEnCapType → Attributes → RouteLwEnCapType
+first_type outer no_more = outer
+first_type outer (attribute m ms) = or_else (type_held m) (first_type outer ms)
+
+-- the context of a list that this type governs, in a list of that context
+abbrev pub typed : Context → RouteLwEnCapType → Context
+typed c type = (c.0, c.1, type)
+
 abbrev mutual
-  -- what an attribute means: number 9 holds next hops
-  pub Reads : Context → Item → Meaning → Type 0
-  Reads c x (flat m) = (number_of x.kind ≢ 9) × (Flats.attributes c).Reads x m
-  Reads c x (multi_path hs) = (number_of x.kind ≡ 9) × AreHops c x.value hs
+  -- what an attribute means, by a table of SEG6 modes: number 9 holds next hops
+  pub ReadsBy : ModeTable → Context → Item → Meaning → Type 0
+  ReadsBy by c x (flat m) = (number_of x.kind ≢ 9) × (Flats.attributes_by by c).Reads x m
+  ReadsBy by c x (multi_path hs) = (number_of x.kind ≡ 9) × AreHopsBy by c x.value hs
 
-  pub AreAttributes : Context → List ℕ → Attributes → Type 0
-  AreAttributes c bytes no_more = bytes ≡ []
-  AreAttributes c bytes (attribute m ms) = (x : Item) × (rest : List ℕ) × Front bytes x rest × Reads c x m × AreAttributes c rest ms
+  pub AreAttributesBy : ModeTable → Context → List ℕ → Attributes → Type 0
+  AreAttributesBy by c bytes no_more = bytes ≡ []
+  AreAttributesBy by c bytes (attribute m ms) =
+      (x : Item) × (rest : List ℕ) × Front bytes x rest × ReadsBy by c x m × AreAttributesBy by c rest ms
 
-  -- next hops one after the other, whose attributes are read in the context outside
-  pub AreHops : Context → List ℕ → Hops → Type 0
-  AreHops c bytes no_hops = bytes ≡ []
-  AreHops c bytes (hop h ms hs) = (inside : List ℕ) × (rest : List ℕ) × HopFront bytes h inside rest × AreAttributes c inside ms × AreHops c rest hs
+  -- next hops one after the other, the attributes of each under the type that governs them
+  pub AreHopsBy : ModeTable → Context → List ℕ → Hops → Type 0
+  AreHopsBy by c bytes no_hops = bytes ≡ []
+  AreHopsBy by c bytes (hop h ms hs) =
+      (inside : List ℕ) × (rest : List ℕ) × HopFront bytes h inside rest
+      × ((type : RouteLwEnCapType) × Governs c.2 inside type × AreAttributesBy by (typed c type) inside ms) × AreHopsBy by c rest hs
+
+-- by the table of today
+abbrev pub Reads : Context → Item → Meaning → Type 0
+Reads c x m = ReadsBy modes c x m
+
+abbrev pub AreAttributes : Context → List ℕ → Attributes → Type 0
+AreAttributes c bytes ms = AreAttributesBy modes c bytes ms
+
+abbrev pub AreHops : Context → List ℕ → Hops → Type 0
+AreHops c bytes hs = AreHopsBy modes c bytes hs
+
+-- a list inside a list of this context, under the type that governs it
+abbrev pub AreGoverned : Context → List ℕ → Attributes → Type 0
+AreGoverned c bytes ms = (type : RouteLwEnCapType) × Governs c.2 bytes type × AreAttributes (typed c type) bytes ms
 
 -- why it means nothing: the first fault, what stands inside before what follows
 mutual
@@ -86,20 +131,24 @@ mutual
     later_wrong : {c : Context} {bytes : List ℕ} {e : DecodeError} (x : Item) (rest : List ℕ) (m : Meaning) → Front bytes x rest
         → Reads c x m → AttributesWrong c rest e → AttributesWrong c bytes e
 
+  pub data GovernedWrong : Context → List ℕ → DecodeError → Type 0 where
+    governed_wrong : {c : Context} {bytes : List ℕ} {e : DecodeError} (type : RouteLwEnCapType)
+        → Governs c.2 bytes type → AttributesWrong (typed c type) bytes e → GovernedWrong c bytes e
+
   pub data HopsWrong : Context → List ℕ → DecodeError → Type 0 where
     no_hop_in_front : {c : Context} {bytes : List ℕ} {e : DecodeError} → 0 < length bytes → HopFault bytes e → HopsWrong c bytes e
     first_hop_wrong : {c : Context} {bytes : List ℕ} {e : DecodeError} (h : HopHead) (inside rest : List ℕ)
-        → HopFront bytes h inside rest → AttributesWrong c inside e → HopsWrong c bytes e
+        → HopFront bytes h inside rest → GovernedWrong c inside e → HopsWrong c bytes e
     later_hop_wrong : {c : Context} {bytes : List ℕ} {e : DecodeError} (h : HopHead) (inside rest : List ℕ) (ms : Attributes)
-        → HopFront bytes h inside rest → AreAttributes c inside ms → HopsWrong c rest e → HopsWrong c bytes e
+        → HopFront bytes h inside rest → AreGoverned c inside ms → HopsWrong c rest e → HopsWrong c bytes e
 
 -- one next hop in front, whatever follows it, and why there is none
 abbrev pub IsHop : Context → List ℕ → Hop → Type 0
-IsHop c bytes h = (inside : List ℕ) × (rest : List ℕ) × HopFront bytes h.head inside rest × AreAttributes c inside h.attributes
+IsHop c bytes h = (inside : List ℕ) × (rest : List ℕ) × HopFront bytes h.head inside rest × AreGoverned c inside h.attributes
 
 abbrev pub HopWrong : Context → List ℕ → DecodeError → Type 0
 HopWrong c bytes e =
-    HopFault bytes e ⊎ ((h : HopHead) × (inside : List ℕ) × (rest : List ℕ) × HopFront bytes h inside rest × AttributesWrong c inside e)
+    HopFault bytes e ⊎ ((h : HopHead) × (inside : List ℕ) × (rest : List ℕ) × HopFront bytes h inside rest × GovernedWrong c inside e)
 
 -- a next hop with each field at its default
 abbrev pub default_hop : Hop
@@ -157,19 +206,45 @@ abbrev pub unfit_inside : Meaning → Option EmitError
 unfit_inside (flat m) = Flat.unfit_inside m
 unfit_inside (multi_path hs) = option_or (hops_misfit hs) (overlong (length (hops_bytes hs)))
 
--- what can be read
+-- what can be read, the attributes of a next hop under the first type among them
 abbrev mutual
-  pub Coherent : Context → Meaning → Type 0
-  Coherent c (flat m) = (Flats.attributes c).Coherent m × (number_of (Flats.writing.writes m).kind ≢ 9)
-  Coherent c (multi_path hs) = HopsCoherent c hs
+  pub CoherentBy : ModeTable → Context → Meaning → Type 0
+  CoherentBy by c (flat m) = (Flats.attributes_by by c).Coherent m × (number_of (Flats.writing.writes m).kind ≢ 9)
+  CoherentBy by c (multi_path hs) = HopsCoherentBy by c hs
 
-  pub AttributesCoherent : Context → Attributes → Type 0
-  AttributesCoherent c no_more = Unit {0}
-  AttributesCoherent c (attribute m ms) = Coherent c m × AttributesCoherent c ms
+  pub AttributesCoherentBy : ModeTable → Context → Attributes → Type 0
+  AttributesCoherentBy by c no_more = Unit {0}
+  AttributesCoherentBy by c (attribute m ms) = CoherentBy by c m × AttributesCoherentBy by c ms
 
-  pub HopsCoherent : Context → Hops → Type 0
-  HopsCoherent c no_hops = Unit {0}
-  HopsCoherent c (hop h ms hs) = HoldsHead h × AttributesCoherent c ms × HopsCoherent c hs
+  pub HopsCoherentBy : ModeTable → Context → Hops → Type 0
+  HopsCoherentBy by c no_hops = Unit {0}
+  HopsCoherentBy by c (hop h ms hs) = HoldsHead h × AttributesCoherentBy by (typed c (first_type c.2 ms)) ms × HopsCoherentBy by c hs
+
+abbrev pub Coherent : Context → Meaning → Type 0
+Coherent c m = CoherentBy modes c m
+
+abbrev pub AttributesCoherent : Context → Attributes → Type 0
+AttributesCoherent c ms = AttributesCoherentBy modes c ms
+
+abbrev pub HopsCoherent : Context → Hops → Type 0
+HopsCoherent c hs = HopsCoherentBy modes c hs
+
+-- an attribute with each SEG6 header in it brought up to the table of today
+abbrev mutual
+  pub newer : Meaning → Meaning
+  newer (flat m) = flat (Flat.newer m)
+  newer (multi_path hs) = multi_path (hops_newer hs)
+
+  pub attributes_newer : Attributes → Attributes
+  attributes_newer no_more = no_more
+  attributes_newer (attribute m ms) = attribute (newer m) (attributes_newer ms)
+
+  pub hops_newer : Hops → Hops
+  hops_newer no_hops = no_hops
+  hops_newer (hop h ms hs) = hop h (attributes_newer ms) (hops_newer hs)
+
+abbrev pub newer_hop : Hop → Hop
+newer_hop h = record { head = h.head; attributes = attributes_newer h.attributes }
 
 -- how many attributes and next hops stand inside, at all depths
 abbrev mutual

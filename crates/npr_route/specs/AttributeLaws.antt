@@ -1,7 +1,7 @@
 -- The family of the attributes of a route message: bytes are one list of them at most, what is wrong with them is none,
 -- and what is written is read again; likewise of next hops.
 use Rattle.std.specs.Prelude.{◌==◌}
-use Rattle.std.proofs.Common.{◌≡◌, ℕ, ◌+◌, ◌*◌, ◌<◌, ◌≤◌, ◌^◌, Bool, true, false, List, [], ◌∷◌, ◌++◌, length, Some, None, refl, sym, ap}
+use Rattle.std.proofs.Common.{◌≡◌, ℕ, ◌+◌, ◌*◌, ◌%◌, ◌<◌, ◌≤◌, ◌^◌, Bool, true, false, List, [], ◌∷◌, ◌++◌, length, Some, None, refl, sym, ap}
 use Rattle.std.proofs.Common.{subst, ◌∙◌, arith, rules, inl, inr, length-append}
 use Rattle.std.proofs.lemmas.Bool.{eqb-true, cases_lt, lt-ltb, le-ltb}
 use Rattle.npr_base.specs.declared.refusal.DecodeError.{DecodeError}
@@ -14,15 +14,19 @@ use Rattle.npr_base.specs.ListLaws.{none_both, encoding-front, Front-proper, len
 use Rattle.npr_base.specs.Table.{Writing, Reading, Row, ReadsAt}
 use Rattle.npr_base.specs.TableLaws.{one_of}
 use Rattle.npr_scalar.specs.RouteAddress.{Form, four, sixteen, label, any, form_of}
+use Rattle.npr_tunnel.specs.Encapsulation as OfEncap
 use Rattle.npr_tunnel.specs.declared.encap_type.RouteLwEnCapType.{RouteLwEnCapType}
 use Rattle.npr_route.specs.FlatAttribute as Flat
 use Rattle.npr_route.specs.FlatAttribute.{Context, rows, other, is_multicast, new_destination_variant, NewDestinationValue, expires_variant}
 use Rattle.npr_route.specs.FlatAttributeLaws as Flats
 use Rattle.npr_route.specs.Attribute.{HopHead, HoldsHead, hop_text, HopFront, Meaning, flat, multi_path, Attributes, no_more, attribute}
-use Rattle.npr_route.specs.Attribute.{Hops, no_hops, hop, Reads, AreAttributes, AreHops, Wrong, value_wrong, hops_wrong, AttributesWrong}
+use Rattle.npr_route.specs.Attribute.{Hops, no_hops, hop, typed, first_type, Reads, AreAttributes, AreGoverned, AreHops}
+use Rattle.npr_route.specs.Attribute.{Wrong, value_wrong, hops_wrong, AttributesWrong, GovernedWrong, governed_wrong}
 use Rattle.npr_route.specs.Attribute.{none_in_front, first_wrong, later_wrong, HopsWrong, no_hop_in_front, first_hop_wrong, later_hop_wrong}
 use Rattle.npr_route.specs.Attribute.{plain_of, nested_of, writes, attributes_bytes, hops_bytes, hop_overlong, misfit, attributes_misfit}
 use Rattle.npr_route.specs.Attribute.{hops_misfit, Coherent, AttributesCoherent, HopsCoherent, members, depth, attributes_depth, hops_depth}
+use Rattle.npr_route.specs.Governing.{Governs}
+use Rattle.npr_route.specs.GoverningLaws.{governs-one, first_governs, governs_first}
 use Rattle.npr_route.specs.NextHopFrontLaws.{HopFront-same, HopFront-sound, HopFront-length, HopFront-proper}
 
 no_front : {A : Type 0} (bytes rest : List ℕ) (x : Item) → bytes ≡ [] → Front bytes x rest → A
@@ -30,6 +34,16 @@ no_front bytes rest x is f = absurd (omega (arith, ap length is, Front-shrinks b
 
 no_hop : {A : Type 0} (bytes inside rest : List ℕ) (h : HopHead) → bytes ≡ [] → HopFront bytes h inside rest → A
 no_hop bytes inside rest h is f = absurd (omega (arith, ap length is, HopFront-length bytes h inside rest f))
+
+-- what is read, or is wrong, under the type that governs is so under this one
+under-it : (c : Context) (bytes : List ℕ) (type : RouteLwEnCapType) (ms : Attributes) → Governs c.2 bytes type → AreGoverned c bytes ms
+    → AreAttributes (typed c type) bytes ms
+under-it c bytes a ms g (b, h, p) = subst (λ (t : RouteLwEnCapType). AreAttributes (typed c t) bytes ms) (governs-one c.2 bytes b a h g) p
+
+wrong-under-it : (c : Context) (bytes : List ℕ) (type : RouteLwEnCapType) (e : DecodeError) → Governs c.2 bytes type → GovernedWrong c bytes e
+    → AttributesWrong (typed c type) bytes e
+wrong-under-it c bytes a e g (governed_wrong b h w) =
+    subst (λ (t : RouteLwEnCapType). AttributesWrong (typed c t) bytes e) (governs-one c.2 bytes b a h g) w
 
 -- ---- one reading
 
@@ -56,7 +70,7 @@ mutual
   hops-one c bytes (hop h ms gs) no_hops (i, r, f, p, ps) q = no_hop bytes i r h q f
   hops-one c bytes (hop h ms gs) (hop k ns hs) (i, r, f, p, ps) (j, s, g, q, qs) =
       let e = HopFront-same bytes h k i j r s f g in
-      let inside : ms ≡ ns = attributes-one c i ms ns p (subst (λ (z : List ℕ). AreAttributes c z ns) (sym e.1) q) in
+      let inside : ms ≡ ns = attributes-one (typed c p.0) i ms ns p.2 (under-it c i p.0 ns p.1 (subst (λ (z : List ℕ). AreGoverned c z ns) (sym e.1) q)) in
       let tail : gs ≡ hs = hops-one c r gs hs ps (subst (λ (z : List ℕ). AreHops c z hs) (sym e.2) qs) in
       ap (λ (z : HopHead). hop z ms gs) e.0 ∙ ap (λ (z : Attributes). hop k z gs) inside ∙ ap (λ (z : Hops). hop k ns z) tail
 
@@ -85,9 +99,13 @@ mutual
   hops-sound c bytes no_hops e p (later_hop_wrong k j s ns g q bad) = no_hop bytes j s k p g
   hops-sound c bytes (hop h ms hs) e (i, r, f, p, ps) (no_hop_in_front left bad) = HopFront-sound bytes h i r e f bad
   hops-sound c bytes (hop h ms hs) e (i, r, f, p, ps) (first_hop_wrong k j s g bad) =
-      attributes-sound c i ms e p (subst (λ (z : List ℕ). AttributesWrong c z e) (HopFront-same bytes k h j i s r g f).1 bad)
+      let inside = subst (λ (z : List ℕ). GovernedWrong c z e) (HopFront-same bytes k h j i s r g f).1 bad in
+      attributes-sound (typed c p.0) i ms e p.2 (wrong-under-it c i p.0 e p.1 inside)
   hops-sound c bytes (hop h ms hs) e (i, r, f, p, ps) (later_hop_wrong k j s ns g q bad) =
       hops-sound c r hs e ps (subst (λ (z : List ℕ). HopsWrong c z e) (HopFront-same bytes k h j i s r g f).2 bad)
+
+pub governed-sound : (c : Context) (bytes : List ℕ) (ms : Attributes) (e : DecodeError) → AreGoverned c bytes ms → GovernedWrong c bytes e → ⊥
+governed-sound c bytes ms e p bad = attributes-sound (typed c p.0) bytes ms e p.2 (wrong-under-it c bytes p.0 e p.1 bad)
 
 -- ---- an attribute is written under the number that it was read of
 
@@ -122,13 +140,13 @@ expires_numbered : (multicast : Bool) (v : ℕ) → written_number (expires_vari
 expires_numbered true v = refl
 expires_numbered false v = refl
 
-numbered : (form : Form) (multicast : Bool) (type : RouteLwEnCapType) → Numbered written_number (rows form multicast type)
-numbered form multicast type = search (rules, destination_numbered form, expires_numbered multicast, number_marked)
+numbered : (form : Form) (multicast : Bool) (family : Reading OfEncap.writing) → Numbered written_number (rows form multicast family)
+numbered form multicast family = search (rules, destination_numbered form, expires_numbered multicast, number_marked)
 
 number-kept : (c : Context) (x : Item) (m : Flat.Meaning) → (Flats.attributes c).Reads x m → written_number m ≡ number_of x.kind
 number-kept c x m p =
-    numbered-reads written_number other (λ y. refl) (rows (form_of c.0) (is_multicast c.1) c.2)
-    (numbered (form_of c.0) (is_multicast c.1) c.2) (number_of x.kind) x m refl p
+    numbered-reads written_number other (λ y. refl) (rows (form_of c.0) (is_multicast c.1) (OfEncap.encapsulation c.2))
+    (numbered (form_of c.0) (is_multicast c.1) (OfEncap.encapsulation c.2)) (number_of x.kind) x m refl p
 
 -- ---- what is read is coherent
 
@@ -147,7 +165,9 @@ mutual
   hops-coherent c bytes no_hops is p = tt
   hops-coherent c bytes (hop h ms hs) is (i, r, f, p, ps) =
       let k = HopFront-proper bytes h i r is f in
-      (f.holds, attributes-coherent c i ms k.0 p, hops-coherent c r hs k.1 ps)
+      let first : p.0 ≡ first_type c.2 ms = governs_first c.2 p.0 (typed c p.0) i ms p.1 p.2 in
+      let inside = subst (λ (t : RouteLwEnCapType). AttributesCoherent (typed c t) ms) first (attributes-coherent (typed c p.0) i ms k.0 p.2) in
+      (f.holds, inside, hops-coherent c r hs k.1 ps)
 
 -- ---- what is written is read again
 
@@ -178,8 +198,22 @@ short (multi_path hs) h =
 small : (c : Context) (m : Meaning) → Coherent c m → misfit m ≡ None → Small (writes m)
 small c m k h = record { kind = kinds c m k; value = short m h }
 
-hop-front : (h : HopHead) (inside rest : List ℕ) → HoldsHead h → 8 + length inside ≤ 65535 → HopFront (hop_text h inside ++ rest) h inside rest
-hop-front h inside rest holds short = record { is = refl; holds = holds; short = short }
+-- what is written of a next hop needs no padding
+hop-front : (h : HopHead) (inside rest : List ℕ) → HoldsHead h → 8 + length inside ≤ 65535 → length inside % 4 ≡ 0
+    → HopFront (hop_text h inside ++ rest) h inside rest
+hop-front h inside rest holds short whole = record {
+  padding = [];
+  is = refl;
+  holds = holds;
+  short = short;
+  most = omega arith;
+  whole = λ more. omega (arith, whole);
+}
+
+attributes-whole : (ms : Attributes) → length (attributes_bytes ms) % 4 ≡ 0
+attributes-whole no_more = refl
+attributes-whole (attribute m ms) =
+    omega (arith, length-append (encoding (writes m)) (attributes_bytes ms), length-encoding (writes m), attributes-whole ms)
 
 mutual
   pub reads-back : (c : Context) (m : Meaning) → Coherent c m → misfit m ≡ None → Reads c (writes m) m
@@ -199,8 +233,11 @@ mutual
       let len : ℕ = 8 + length (attributes_bytes ms) in
       let f = none_both (option_or (attributes_misfit ms) (hop_overlong len)) (hops_misfit hs) h in
       let i = none_both (attributes_misfit ms) (hop_overlong len) f.0 in
-      let front = hop-front g (attributes_bytes ms) (hops_bytes hs) k.0 (hop-short len i.1) in
-      (attributes_bytes ms, hops_bytes hs, front, attributes-back c ms k.1 i.0, hops-back c hs k.2 f.1)
+      let front = hop-front g (attributes_bytes ms) (hops_bytes hs) k.0 (hop-short len i.1) (attributes-whole ms) in
+      let type : RouteLwEnCapType = first_type c.2 ms in
+      let inside : AreAttributes (typed c type) (attributes_bytes ms) ms = attributes-back (typed c type) ms k.1 i.0 in
+      let governed : AreGoverned c (attributes_bytes ms) ms = (type, first_governs c.2 (typed c type) (attributes_bytes ms) ms inside, inside) in
+      (attributes_bytes ms, hops_bytes hs, front, governed, hops-back c hs k.2 f.1)
 
 -- ---- lengths
 
@@ -221,7 +258,8 @@ mutual
   hops-grow c bytes no_hops is p = omega arith
   hops-grow c bytes (hop h ms hs) is (i, r, f, p, ps) =
       let k = HopFront-proper bytes h i r is f in
-      omega (arith, attributes-grow c i ms k.0 p, hops-grow c r hs k.1 ps, HopFront-length bytes h i r f, length-append (attributes_bytes ms) (hops_bytes hs))
+      let inside = attributes-grow (typed c p.0) i ms k.0 p.2 in
+      omega (arith, inside, hops-grow c r hs k.1 ps, HopFront-length bytes h i r f, length-append (attributes_bytes ms) (hops_bytes hs))
 
 -- ---- a level takes twelve bytes, and the outermost eight
 
@@ -236,7 +274,8 @@ mutual
 
   pub hops-depth : (c : Context) (bytes : List ℕ) (hs : Hops) → AreHops c bytes hs → 12 * hops_depth hs ≤ 4 + length bytes
   hops-depth c bytes no_hops p = omega arith
-  hops-depth c bytes (hop h ms hs) (i, r, f, p, ps) = omega (arith, attributes-depth c i ms p, hops-depth c r hs ps, HopFront-length bytes h i r f)
+  hops-depth c bytes (hop h ms hs) (i, r, f, p, ps) =
+      omega (arith, attributes-depth (typed c p.0) i ms p.2, hops-depth c r hs ps, HopFront-length bytes h i r f)
 
 -- NESTED is set in the kind besides
 pub plain-short : (m : Meaning) → misfit m ≡ None → length (plain_of m).value ≤ 65531

@@ -8,15 +8,11 @@ use Rattle.npr_scalar.specs.RouteVia.{via_of}
 use Rattle.npr_tunnel.specs.Encapsulation as OfEncap
 use Rattle.npr_route.specs.Metric.{metric_of}
 use Rattle.npr_route.specs.FlatAttribute as Flat
-use Rattle.npr_route.specs.Attribute.{Meaning, flat, multi_path, Attributes, no_more, attribute, Hops, no_hops, hop, Hop, writes, misfit}
+use Rattle.npr_route.specs.Attribute.{Meaning, flat, multi_path, attributes_of, Hops, no_hops, hop, Hop, writes, misfit}
 use Rattle.npr_route.specs.Attribute.{hop_bytes, hop_misfit}
 use Rattle.npr_route.specs.declared.attribute.RouteAttribute.{RouteAttribute, fold-RouteAttribute}
 use Rattle.npr_route.specs.declared.attribute.RouteAttribute.TheOpen as Open
 use Rattle.npr_route.specs.declared.next_hops.RouteNextHop.{RouteNextHop, RouteNextHop-F, fold-RouteNextHop}
-
-abbrev pub attributes_of : List Meaning → Attributes
-attributes_of [] = no_more
-attributes_of (m ∷ ms) = attribute m (attributes_of ms)
 
 abbrev pub hops_of : List Hop → Hops
 hops_of [] = no_hops

@@ -1,5 +1,5 @@
 -- The attributes of a route message but next hops (linux/rtnetlink.h, RTA_*), by their table under the header.
-use Rattle.std.specs.Prelude.{◌≡◌, ◌≢◌, ℕ, ◌<◌, ◌^◌, Bool, true, false, List, [], ◌∷◌, Option, None, if◌then◌else◌}
+use Rattle.std.specs.Prelude.{◌≡◌, ◌≢◌, ℕ, ◌<◌, ◌^◌, Bool, true, false, List, [], ◌∷◌, map, Option, None, if◌then◌else◌}
 use Rattle.npr_base.specs.declared.refusal.At.{At}
 use Rattle.npr_base.specs.declared.refusal.AttrFamily.TheVariants.{Route as OfRoute}
 use Rattle.npr_base.specs.declared.refusal.EmitError.{EmitError}
@@ -9,7 +9,7 @@ use Rattle.npr_base.specs.Framing.{Item}
 use Rattle.npr_base.specs.Layout.{Layout, byte, le32, le64, be16, be32}
 use Rattle.npr_base.specs.Codec.{Codec, exactly, leading, raw}
 use Rattle.npr_base.specs.ListCodec.{list_of}
-use Rattle.npr_base.specs.Table.{Row, row, Held, held, held_marked, held_other, IsHeld, IsOther}
+use Rattle.npr_base.specs.Table.{Reading, Row, row, Held, held, held_marked, held_other, IsHeld, IsOther}
 use Rattle.npr_scalar.specs.MplsLaws.{mpls_labels}
 use Rattle.npr_scalar.specs.Realm.{route_realm}
 use Rattle.npr_scalar.specs.RouteAddress.{Address as AddressMeaning, address_bytes, address_in, Form, four, sixteen, label, any}
@@ -112,9 +112,9 @@ expires_variant false n = expires n
 abbrev pub expires_row : Bool → Row Meaning
 expires_row multicast = row (at 23) (exactly (expires_layout multicast)) (expires_variant multicast)
 
--- number 22: members of the family of the type
-abbrev pub encap_row : RouteLwEnCapType → Row Meaning
-encap_row type = row (at 22) (list_of (OfEncap.encapsulation type)) encap
+-- number 22: members of the family of the type that governs
+abbrev pub encap_row : Reading OfEncap.writing → Row Meaning
+encap_row family = row (at 22) (list_of family) encap
 
 -- the members beside which it is written with NESTED
 abbrev pub marks : OfEncap.Meaning → Bool
@@ -131,8 +131,8 @@ any_marks [] = false
 any_marks (m ∷ ms) = if marks m then true else any_marks ms
 
 -- the table
-abbrev pub rows : Form → Bool → RouteLwEnCapType → List (Row Meaning)
-rows form multicast type =
+abbrev pub rows : Form → Bool → Reading OfEncap.writing → List (Row Meaning)
+rows form multicast family =
     row (at 1) (address_in form) destination
     ∷ row (at 2) (address_in form) source
     ∷ row (at 3) (exactly le32) iif
@@ -150,7 +150,7 @@ rows form multicast type =
     ∷ new_destination_row form
     ∷ row (at 20) (exactly route_preference) preference
     ∷ row (at 21) (exactly encap_type_layout) encap_type
-    ∷ encap_row type
+    ∷ encap_row family
     ∷ expires_row multicast
     ∷ row (at 25) (exactly le32) uid
     ∷ row (at 26) (exactly ttl_propagation) ttl_propagate
@@ -200,15 +200,20 @@ unfit_inside (encap xs) = list_unfit OfEncap.writing.misfit OfEncap.writing.writ
 unfit_inside m = None
 
 -- what can be read
-abbrev pub Coherent : Form → Bool → RouteLwEnCapType → Meaning → Type 0
-Coherent form multicast type (destination a) = (address_in form).Holds a
-Coherent form multicast type (source a) = (address_in form).Holds a
-Coherent form multicast type (gateway a) = (address_in form).Holds a
-Coherent form multicast type (pref_source a) = (address_in form).Holds a
-Coherent form multicast type (new_destination a) = (form ≡ label) × mpls_labels.Holds a
-Coherent form multicast type (new_destination_address a) = (form ≢ label) × (address_in form).Holds a
-Coherent form multicast type (encap xs) = (list_of (OfEncap.encapsulation type)).Holds xs
-Coherent form multicast type (expires n) = (multicast ≡ false) × (n < 2 ^ 32)
-Coherent form multicast type (multicast_expires n) = (multicast ≡ true) × (n < 2 ^ 64)
-Coherent form multicast type (other x) = IsOther (rows form multicast type) x
-Coherent form multicast type m = IsHeld (place m)
+abbrev pub Coherent : Form → Bool → Reading OfEncap.writing → Meaning → Type 0
+Coherent form multicast family (destination a) = (address_in form).Holds a
+Coherent form multicast family (source a) = (address_in form).Holds a
+Coherent form multicast family (gateway a) = (address_in form).Holds a
+Coherent form multicast family (pref_source a) = (address_in form).Holds a
+Coherent form multicast family (new_destination a) = (form ≡ label) × mpls_labels.Holds a
+Coherent form multicast family (new_destination_address a) = (form ≢ label) × (address_in form).Holds a
+Coherent form multicast family (encap xs) = (list_of family).Holds xs
+Coherent form multicast family (expires n) = (multicast ≡ false) × (n < 2 ^ 32)
+Coherent form multicast family (multicast_expires n) = (multicast ≡ true) × (n < 2 ^ 64)
+Coherent form multicast family (other x) = IsOther (rows form multicast family) x
+Coherent form multicast family m = IsHeld (place m)
+
+-- the attribute with each SEG6 header of its encapsulation brought up to the table of modes of today
+abbrev pub newer : Meaning → Meaning
+newer (encap xs) = encap (map OfEncap.newer xs)
+newer m = m

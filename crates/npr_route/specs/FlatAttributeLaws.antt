@@ -9,80 +9,84 @@ use Rattle.npr_base.specs.Table.{Writing, Reading, held_kind, held_value, held_m
 use Rattle.npr_base.specs.TableLaws.{flat, other-back}
 use Rattle.npr_scalar.specs.MplsLaws.{mpls_labels}
 use Rattle.npr_scalar.specs.RouteAddress.{address_in, Form, four, sixteen, label, any, form_of}
-use Rattle.npr_tunnel.specs.Encapsulation.{encapsulation}
-use Rattle.npr_tunnel.specs.declared.encap_type.RouteLwEnCapType.{RouteLwEnCapType}
+use Rattle.npr_srh.specs.Seg6Mode.{ModeTable, modes}
+use Rattle.npr_tunnel.specs.Encapsulation as OfEncap
 use Rattle.npr_route.specs.FlatAttribute.{Context, Meaning, destination, source, gateway, pref_source, new_destination}
 use Rattle.npr_route.specs.FlatAttribute.{new_destination_address, encap, any_marks, expires, multicast_expires, other, rows}
 use Rattle.npr_route.specs.FlatAttribute.{new_destination_codec, new_destination_variant, NewDestinationValue, expires_layout}
 use Rattle.npr_route.specs.FlatAttribute.{expires_variant, place, Coherent, is_multicast}
 
-new_destination-aligned : (form : Form) (multicast : Bool) (type : RouteLwEnCapType) (v : NewDestinationValue form)
+new_destination-aligned : (form : Form) (multicast : Bool) (family : Reading OfEncap.writing) (v : NewDestinationValue form)
     → ((item_of (place (new_destination_variant form v))).value ≡ (new_destination_codec form).writes v) ×
-    ((new_destination_codec form).Holds v → Coherent form multicast type (new_destination_variant form v))
-new_destination-aligned four multicast type v = (refl, λ h. (λ e. cc, h))
-new_destination-aligned sixteen multicast type v = (refl, λ h. (λ e. cc, h))
-new_destination-aligned label multicast type v = (refl, λ h. (refl, h))
-new_destination-aligned any multicast type v = (refl, λ h. (λ e. cc, h))
+    ((new_destination_codec form).Holds v → Coherent form multicast family (new_destination_variant form v))
+new_destination-aligned four multicast family v = (refl, λ h. (λ e. cc, h))
+new_destination-aligned sixteen multicast family v = (refl, λ h. (λ e. cc, h))
+new_destination-aligned label multicast family v = (refl, λ h. (refl, h))
+new_destination-aligned any multicast family v = (refl, λ h. (λ e. cc, h))
 
-expires-aligned : (form : Form) (multicast : Bool) (type : RouteLwEnCapType) (v : ℕ)
+expires-aligned : (form : Form) (multicast : Bool) (family : Reading OfEncap.writing) (v : ℕ)
     → ((item_of (place (expires_variant multicast v))).value ≡ (exactly (expires_layout multicast)).writes v) ×
-    ((exactly (expires_layout multicast)).Holds v → Coherent form multicast type (expires_variant multicast v))
-expires-aligned form true type v = (refl, λ h. (refl, h))
-expires-aligned form false type v = (refl, λ h. (refl, h))
+    ((exactly (expires_layout multicast)).Holds v → Coherent form multicast family (expires_variant multicast v))
+expires-aligned form true family v = (refl, λ h. (refl, h))
+expires-aligned form false family v = (refl, λ h. (refl, h))
 
-pub aligned : (form : Form) (multicast : Bool) (type : RouteLwEnCapType)
-    → Aligned (λ m. item_of (place m)) (Coherent form multicast type) (rows form multicast type)
-aligned form multicast type = search (rules, new_destination-aligned form multicast type, expires-aligned form multicast type)
+pub aligned : (form : Form) (multicast : Bool) (family : Reading OfEncap.writing)
+    → Aligned (λ m. item_of (place m)) (Coherent form multicast family) (rows form multicast family)
+aligned form multicast family = search (rules, new_destination-aligned form multicast family, expires-aligned form multicast family)
 
-pub kinds : (form : Form) (multicast : Bool) (type : RouteLwEnCapType) (m : Meaning) → Coherent form multicast type m → held_kind (place m) < 2 ^ 16
-kinds form multicast type (other x) c = c.proper.kind
-kinds form multicast type m c = omega arith
+pub kinds : (form : Form) (multicast : Bool) (family : Reading OfEncap.writing) (m : Meaning) → Coherent form multicast family m → held_kind (place m) < 2 ^ 16
+kinds form multicast family (other x) c = c.proper.kind
+kinds form multicast family m c = omega arith
 
 encap-number : (nested : Bool) → number_of (marked nested 22) ≡ 22
 encap-number true = refl
 encap-number false = refl
 
-pub back : (form : Form) (multicast : Bool) (type : RouteLwEnCapType) (m : Meaning) → Coherent form multicast type m
+pub back : (form : Form) (multicast : Bool) (family : Reading OfEncap.writing) (m : Meaning) → Coherent form multicast family m
     → held_misfit (place m) ≡ None
-    → ReadsAt other (rows form multicast type) (number_of (item_of (place m)).kind) (item_of (place m)) m
-back form multicast type (other x) c fits = other-back other (rows form multicast type) (number_of x.kind) x c.alone
-back form multicast type (destination a) c fits = (a, (address_in form).reads_back 1 a c fits, refl)
-back form multicast type (source a) c fits = (a, (address_in form).reads_back 2 a c fits, refl)
-back form multicast type (gateway a) c fits = (a, (address_in form).reads_back 5 a c fits, refl)
-back form multicast type (pref_source a) c fits = (a, (address_in form).reads_back 7 a c fits, refl)
-back label multicast type (new_destination a) c fits = (a, mpls_labels.reads_back 19 a c.1 fits, refl)
-back four multicast type (new_destination a) c fits = absurd (let e = c.0 in cc)
-back sixteen multicast type (new_destination a) c fits = absurd (let e = c.0 in cc)
-back any multicast type (new_destination a) c fits = absurd (let e = c.0 in cc)
-back label multicast type (new_destination_address a) c fits = absurd (c.0 refl)
-back four multicast type (new_destination_address a) c fits = (a, (address_in four).reads_back 19 a c.1 fits, refl)
-back sixteen multicast type (new_destination_address a) c fits = (a, (address_in sixteen).reads_back 19 a c.1 fits, refl)
-back any multicast type (new_destination_address a) c fits = (a, (address_in any).reads_back 19 a c.1 fits, refl)
-back form multicast type (encap a) c fits = rw (encap-number (any_marks a)) (a, (list_of (encapsulation type)).reads_back 22 a c fits, refl)
-back form false type (expires n) c fits = (n, (exactly le32).reads_back 23 n c.1 fits, refl)
-back form true type (expires n) c fits = absurd (let e = c.0 in cc)
-back form true type (multicast_expires n) c fits = (n, (exactly le64).reads_back 23 n c.1 fits, refl)
-back form false type (multicast_expires n) c fits = absurd (let e = c.0 in cc)
-back form multicast type m c fits = (held_value (place m), held-reads (place m) c fits, refl)
+    → ReadsAt other (rows form multicast family) (number_of (item_of (place m)).kind) (item_of (place m)) m
+back form multicast family (other x) c fits = other-back other (rows form multicast family) (number_of x.kind) x c.alone
+back form multicast family (destination a) c fits = (a, (address_in form).reads_back 1 a c fits, refl)
+back form multicast family (source a) c fits = (a, (address_in form).reads_back 2 a c fits, refl)
+back form multicast family (gateway a) c fits = (a, (address_in form).reads_back 5 a c fits, refl)
+back form multicast family (pref_source a) c fits = (a, (address_in form).reads_back 7 a c fits, refl)
+back label multicast family (new_destination a) c fits = (a, mpls_labels.reads_back 19 a c.1 fits, refl)
+back four multicast family (new_destination a) c fits = absurd (let e = c.0 in cc)
+back sixteen multicast family (new_destination a) c fits = absurd (let e = c.0 in cc)
+back any multicast family (new_destination a) c fits = absurd (let e = c.0 in cc)
+back label multicast family (new_destination_address a) c fits = absurd (c.0 refl)
+back four multicast family (new_destination_address a) c fits = (a, (address_in four).reads_back 19 a c.1 fits, refl)
+back sixteen multicast family (new_destination_address a) c fits = (a, (address_in sixteen).reads_back 19 a c.1 fits, refl)
+back any multicast family (new_destination_address a) c fits = (a, (address_in any).reads_back 19 a c.1 fits, refl)
+back form multicast family (encap a) c fits = rw (encap-number (any_marks a)) (a, (list_of family).reads_back 22 a c fits, refl)
+back form false family (expires n) c fits = (n, (exactly le32).reads_back 23 n c.1 fits, refl)
+back form true family (expires n) c fits = absurd (let e = c.0 in cc)
+back form true family (multicast_expires n) c fits = (n, (exactly le64).reads_back 23 n c.1 fits, refl)
+back form false family (multicast_expires n) c fits = absurd (let e = c.0 in cc)
+back form multicast family m c fits = (held_value (place m), held-reads (place m) c fits, refl)
 
 -- how each is written, whatever the context
 abbrev pub writing : Writing Meaning
 writing = placed place
 
--- the family under a form of addresses, for multicast routes or others, and under a type of encapsulation
-abbrev pub attributes_in : Form → Bool → RouteLwEnCapType → Reading writing
-attributes_in form multicast type = flat (record {
-  rows = rows form multicast type;
+-- the family under a form of addresses, for multicast routes or others, and over a family of members
+abbrev pub attributes_in : Form → Bool → Reading OfEncap.writing → Reading writing
+attributes_in form multicast family = flat (record {
+  rows = rows form multicast family;
   other = other;
   place = place;
-  Coherent = Coherent form multicast type;
-  aligned = aligned form multicast type;
+  Coherent = Coherent form multicast family;
+  aligned = aligned form multicast family;
   other_is = λ x. refl;
   other_coherent = λ x is. is;
-  kinds = kinds form multicast type;
-  back = back form multicast type;
+  kinds = kinds form multicast family;
+  back = back form multicast family;
 })
 
--- the family under a context
+-- the family under a context, by a table of SEG6 modes
+abbrev pub attributes_by : ModeTable → Context → Reading writing
+attributes_by by context = attributes_in (form_of context.0) (is_multicast context.1) (OfEncap.encapsulation_by by context.2)
+
+-- and by that of today
 abbrev pub attributes : Context → Reading writing
-attributes context = attributes_in (form_of context.0) (is_multicast context.1) context.2
+attributes context = attributes_by modes context

@@ -4,6 +4,7 @@ pub mod AttributeView
 pub mod FlatAttribute
 pub mod FlatAttributeLaws
 pub mod Governing
+pub mod GoverningLaws
 pub mod Header
 pub mod Message
 pub mod MessageLaws

@@ -3,12 +3,13 @@
 use Rattle.std.specs.Prelude.{ℕ, List, map, Option}
 use Rattle.npr_base.specs.declared.refusal.DecodeError.{DecodeError}
 use Rattle.npr_base.specs.declared.refusal.EmitError.{EmitError}
-use Rattle.npr_base.specs.Message.{Message, Body, IsMessage, MessageFault, IsCoherent, spelling, message_misfit}
-use Rattle.npr_route.specs.Attribute.{Meaning, attributes_depth}
-use Rattle.npr_route.specs.AttributeView.{meaning_of, attributes_of}
+use Rattle.npr_base.specs.Message.{Message, Body, IsMessage, IsMessageOf, MessageFault, IsCoherent, IsCoherentOf, spelling, message_misfit}
+use Rattle.npr_srh.specs.Seg6Mode.{ModeTable}
+use Rattle.npr_route.specs.Attribute.{Meaning, newer, attributes_depth, attributes_of}
+use Rattle.npr_route.specs.AttributeView.{meaning_of}
 use Rattle.npr_route.specs.AttributeLaws.{writing}
 use Rattle.npr_route.specs.Header.{header}
-use Rattle.npr_route.specs.RouteList.{Under, IsRouteList, RouteListFault, IsCoherentList}
+use Rattle.npr_route.specs.RouteList.{Under, IsRouteList, IsRouteListBy, RouteListFault, IsCoherentList, IsCoherentListBy}
 use Rattle.npr_route.specs.RouteListLaws.{route-list-one, route-list-sound, route-list-coherent, route-list-back, route-list-grows}
 use Rattle.npr_route.specs.declared.header.RouteHeader.{RouteHeader}
 use Rattle.npr_route.specs.declared.message.RouteMessage.{RouteMessage}
@@ -36,7 +37,18 @@ body = record {
   grows = λ h bytes xs is p. route-list-grows (under h) bytes xs is p;
 }
 
--- the bytes are the message
+-- the message with each SEG6 header in it brought up to the table of modes of today
+abbrev pub newer_route : Route → Route
+newer_route m = record { header = m.header; attributes = map newer m.attributes }
+
+-- the bytes are the message, and the message can be read, by a table of SEG6 modes
+unfoldable pub IsRouteMessageBy : ModeTable → List ℕ → Route → Type 0
+IsRouteMessageBy by bytes m = IsMessageOf header (λ h. IsRouteListBy by (under h)) bytes m
+
+unfoldable pub IsCoherentRouteBy : ModeTable → Route → Type 0
+IsCoherentRouteBy by m = IsCoherentOf header (λ h. IsCoherentListBy by (under h)) m
+
+-- by the table of today the bytes are the message
 unfoldable pub IsRouteMessage : List ℕ → Route → Type 0
 IsRouteMessage bytes m = IsMessage header body bytes m
 

@@ -1,13 +1,14 @@
 -- What stands in front of bytes is one next hop at most.
 use Rattle.std.specs.Prelude.{slice_index}
-use Rattle.std.proofs.Common.{◌≡◌, ℕ, suc, ◌+◌, ◌-◌, ◌^◌, ◌<◌, ◌≤◌, List, ◌++◌, length, take, drop, refl, sym, ap, subst, ◌∙◌, arith, inl, inr, length-append}
-use Rattle.std.proofs.lemmas.List.{take_at, drop_at, drop-drop}
+use Rattle.std.proofs.Common.{◌≡◌, ℕ, suc, ◌+◌, ◌-◌, ◌^◌, ◌<◌, ◌≤◌, List, ◌++◌, length, take, drop}
+use Rattle.std.proofs.Common.{refl, sym, ap, subst, ◌∙◌, append_assoc, arith, inl, inr, length-append}
+use Rattle.std.proofs.lemmas.List.{take_at, drop-drop}
 use Rattle.std.proofs.lemmas.Nat.{from_le_bytes-to_le_bytes_4}
 use Rattle.npr_base.specs.declared.refusal.DecodeError.{DecodeError}
 use Rattle.npr_base.specs.declared.refusal.DecodeError.TheVariants.{NextHopTooShort, NextHopLength}
-use Rattle.npr_base.specs.Framing.{IsBytes}
+use Rattle.npr_base.specs.Framing.{IsBytes, pad}
 use Rattle.npr_base.specs.Layout.{le32_at}
-use Rattle.npr_base.specs.FrontLaws.{length_at, length_at-is, two_bytes}
+use Rattle.npr_base.specs.FrontLaws.{length_at, length_at-is, rest_at, rest_is, two_bytes}
 use Rattle.npr_base.specs.ListLaws.{IsBytes-left, IsBytes-right}
 use Rattle.npr_route.specs.Attribute.{HopHead, hop_text, HopFront, HopFault}
 
@@ -18,22 +19,27 @@ head_at bs = record { flags = slice_index bs 2; hops = slice_index bs 3; interfa
 head_back : (h : HopHead) (inside rest : List ℕ) → h.interface_index < 2 ^ 32 → head_at (hop_text h inside ++ rest) ≡ h
 head_back h inside rest fits = λ i. record { flags = h.flags; hops = h.hops; interface_index = from_le_bytes-to_le_bytes_4 h.interface_index fits i }
 
-pub HopFront-length : (bs : List ℕ) (h : HopHead) (inside rest : List ℕ) → HopFront bs h inside rest → length bs ≡ 8 + length inside + length rest
-HopFront-length bs h inside rest f = omega (arith, ap length f.is, length-append inside rest)
+pub HopFront-length : (bs : List ℕ) (h : HopHead) (inside rest : List ℕ) (f : HopFront bs h inside rest)
+    → length bs ≡ 8 + length inside + length f.padding + length rest
+HopFront-length bs h inside rest f = omega (arith, ap length f.is, length-append inside (f.padding ++ rest), length-append f.padding rest)
 
 length_is : (bs : List ℕ) (h : HopHead) (inside rest : List ℕ) → HopFront bs h inside rest → length_at bs ≡ 8 + length inside
 length_is bs h inside rest f = ap length_at f.is ∙ two_bytes (8 + length inside) (omega (arith, f.short))
 
 pub HopFront-is : (bs : List ℕ) (h : HopHead) (inside rest : List ℕ) → HopFront bs h inside rest
-    → (h ≡ head_at bs) × (inside ≡ take (length_at bs - 8) (drop 8 bs)) × (rest ≡ drop (length_at bs) bs)
+    → (h ≡ head_at bs) × (inside ≡ take (length_at bs - 8) (drop 8 bs)) × (rest ≡ rest_at bs)
 HopFront-is bs h inside rest f =
     let l : length_at bs ≡ 8 + length inside = length_is bs h inside rest f in
-    let d : drop 8 bs ≡ inside ++ rest = ap (drop 8) f.is in
+    let behind : List ℕ = f.padding ++ rest in
+    let d : drop 8 bs ≡ inside ++ behind = ap (drop 8) f.is in
     let i : take (length_at bs - 8) (drop 8 bs) ≡ inside =
-    ap (λ (n : ℕ). take (n - 8) (drop 8 bs)) l ∙ ap (take (8 + length inside - 8)) d ∙ take_at inside rest (8 + length inside - 8) (omega arith) in
-    let r : drop (length_at bs) bs ≡ rest =
-    ap (λ (n : ℕ). drop n bs) l ∙ sym (drop-drop (length inside) 8 bs) ∙ ap (drop (length inside)) d ∙ drop_at inside rest (length inside) refl in
-    (sym (ap head_at f.is ∙ head_back h inside rest f.holds.interface_index), sym i, sym r)
+    ap (λ (n : ℕ). take (n - 8) (drop 8 bs)) l ∙ ap (take (8 + length inside - 8)) d ∙ take_at inside behind (8 + length inside - 8) (omega arith) in
+    let m : ℕ = length inside + pad (length inside) in
+    let size : length_at bs + pad (length_at bs) ≡ 8 + m = omega (arith, l) in
+    let r : rest_at bs ≡ rest = ap (λ (n : ℕ). drop n bs) size ∙ sym (drop-drop m 8 bs) ∙ ap (drop m) d
+    ∙ ap (drop m) (sym (append_assoc inside f.padding rest))
+    ∙ rest_is inside f.padding rest m refl (omega (arith, f.most)) (λ more. omega (arith, f.whole more)) in
+    (sym (ap head_at f.is ∙ head_back h inside behind f.holds.interface_index), sym i, sym r)
 
 pub HopFront-same : (bs : List ℕ) (g h : HopHead) (i j r s : List ℕ) → HopFront bs g i r → HopFront bs h j s → (g ≡ h) × (i ≡ j) × (r ≡ s)
 HopFront-same bs g h i j r s p q =
@@ -54,6 +60,7 @@ HopFront-sound bs h inside rest other f bad = bad
 -- parts of a program's bytes are a program's
 pub HopFront-proper : (bs : List ℕ) (h : HopHead) (inside rest : List ℕ) → IsBytes bs → HopFront bs h inside rest → IsBytes inside × IsBytes rest
 HopFront-proper bs h inside rest bytes f =
-    let all : IsBytes (hop_text h inside ++ rest) = subst IsBytes f.is bytes in
-    let tail : IsBytes (inside ++ rest) = λ i. all (suc (suc (suc (suc (suc (suc (suc (suc i)))))))) in
-    (IsBytes-left inside rest tail, IsBytes-right inside rest tail)
+    let behind : List ℕ = f.padding ++ rest in
+    let all : IsBytes (hop_text h inside ++ behind) = subst IsBytes f.is bytes in
+    let tail : IsBytes (inside ++ behind) = λ i. all (suc (suc (suc (suc (suc (suc (suc (suc i)))))))) in
+    (IsBytes-left inside behind tail, IsBytes-right f.padding rest (IsBytes-right inside behind tail))

@@ -1,12 +1,16 @@
 -- What a stack of half-read lists of next hops means.
-use Rattle.std.specs.Prelude.{◌≡◌, ℕ, ◌+◌, ◌-◌, ◌*◌, ◌/◌, ◌<◌, ◌≤◌, ◌^◌, List, [], ◌∷◌, length, map}
+use Rattle.std.specs.Prelude.{◌≡◌, ℕ, zero, suc, ◌+◌, ◌-◌, ◌*◌, ◌/◌, ◌<◌, ◌≤◌, ◌^◌, Bool, true, false, List, [], ◌∷◌, length, map, min}
+use Rattle.std.specs.Prelude.{nat_lt, if◌then◌else◌}
 use Rattle.npr_base.specs.Counts.{Counts}
 use Rattle.npr_base.specs.Family.{ReadsTo, list_members}
 use Rattle.npr_base.specs.Framing.{Item, Front, number_of}
-use Rattle.npr_route.specs.Attribute.{HopFront, Hop, Reads, AreAttributes, AreHops, members, attributes_members}
+use Rattle.npr_base.specs.FrontLaws.{length_at, rest_at}
+use Rattle.npr_route.specs.Attribute.{HopFront, Hop, typed, Reads, AreGoverned, AreHops, members, attributes_members}
 use Rattle.npr_route.specs.AttributeView.{meaning_of, hop_of, hops_of}
 use Rattle.npr_route.specs.FlatAttribute.{Context}
+use Rattle.npr_route.specs.Governing.{Governs}
 use Rattle.npr_route.specs.NextHopHeader.{head_in}
+use Rattle.npr_route.specs.declared.next_hops.RouteNextHop.{RouteNextHop}
 use Rattle.npr_route.specs.declared.reader.Level.{Level}
 use Rattle.npr_route.specs.declared.reader.Reading.{Reading}
 use Rattle.npr_route.specs.declared.reader.Step.{Step}
@@ -16,37 +20,49 @@ use Rattle.npr_route.specs.declared.reader.Step.TheVariants.{More, Done}
 abbrev pub HopsTo : Context → List ℕ → List Hop → List ℕ → Type 0
 HopsTo c bytes [] rest = bytes ≡ rest
 HopsTo c bytes (h ∷ hs) rest =
-    (inside : List ℕ) × (more : List ℕ) × HopFront bytes h.head inside more × AreAttributes c inside h.attributes × HopsTo c more hs rest
+    (inside : List ℕ) × (more : List ℕ) × HopFront bytes h.head inside more × AreGoverned c inside h.attributes × HopsTo c more hs rest
+
+-- what the attributes of the open next hop are read in
+abbrev pub context_inside : Level → Context
+context_inside l = typed l.context l.encap_type
 
 -- of the bytes the level has read next hops, and of the open one attributes up to a place
-pub record IsAt (c : Context) (bytes : List ℕ) (l : Level) (place : List ℕ) : Type 0 where
-  pub own : l.context ≡ c
+pub record IsAt (bytes : List ℕ) (l : Level) (place : List ℕ) : Type 0 where
   pub front : List ℕ
   pub inside : List ℕ
-  pub done : HopsTo c bytes (map hop_of l.next_hops.items) front
+  pub done : HopsTo l.context bytes (map hop_of l.next_hops.items) front
   pub is_open : HopFront front (head_in l.header) inside l.hops_rest.now
-  pub read : ReadsTo (Reads c) inside (map meaning_of l.attributes.items) place
+  pub governs : Governs l.context.2 inside l.encap_type
+  pub read : ReadsTo (Reads (context_inside l)) inside (map meaning_of l.attributes.items) place
 
 -- up to what hasn't been walked
-abbrev pub IsOpen : Context → List ℕ → Level → Type 0
-IsOpen c bytes l = IsAt c bytes l l.walk
+abbrev pub IsOpen : List ℕ → Level → Type 0
+IsOpen bytes l = IsAt bytes l l.walk
 
 -- up to an attribute that holds the next hops in these bytes, behind which it goes on
-pub record Waits (c : Context) (bytes : List ℕ) (l : Level) (value : List ℕ) : Type 0 where
+pub record Waits (bytes : List ℕ) (l : Level) (value : List ℕ) : Type 0 where
   pub place : List ℕ
   pub item : Item
-  pub at : IsAt c bytes l place
+  pub at : IsAt bytes l place
   pub begins : Front place item l.walk
   pub is_nine : number_of item.kind ≡ 9
   pub value_is : item.value ≡ value
 
--- the levels that wait for one another, the outermost first
-abbrev pub Chain : Context → List ℕ → List Level → List ℕ → Type 0
-Chain c bytes [] value = bytes ≡ value
-Chain c bytes (f ∷ fs) value = (inner : List ℕ) × Waits c bytes f inner × Chain c inner fs value
+-- the levels that wait for one another, the outermost first, from bytes in one context to the value inside in another
+abbrev pub Chain : Context → List ℕ → List Level → Context → List ℕ → Type 0
+Chain c bytes [] d value = (c ≡ d) × (bytes ≡ value)
+Chain c bytes (f ∷ fs) d value = (c ≡ f.context) × (inner : List ℕ) × Waits bytes f inner × Chain (context_inside f) inner fs d value
 
 abbrev pub Tied : Context → List ℕ → Reading → Type 0
-Tied c bytes r = (value : List ℕ) × IsOpen c value r.level × Chain c bytes r.stack.items value
+Tied c bytes r = (value : List ℕ) × IsOpen value r.level × Chain c bytes r.stack.items r.level.context value
+
+-- a next hop has been opened behind others
+pub record Opens (c : Context) (bytes : List ℕ) (before : List RouteNextHop) (l : Level) : Type 0 where
+  pub context : l.context ≡ c
+  pub next_hops : l.next_hops.items ≡ before
+  pub attributes : l.attributes.items ≡ []
+  pub front : HopFront bytes (head_in l.header) l.walk l.hops_rest.now
+  pub governs : Governs c.2 l.walk l.encap_type
 
 -- what is left to do
 abbrev pub level_weight : Level → ℕ
@@ -59,16 +75,48 @@ weight_of (l ∷ ls) = level_weight l + weight_of ls
 abbrev pub weight : Reading → ℕ
 weight r = level_weight r.level + weight_of r.stack.items
 
--- the looks for which there is room, and those that what was built has had
-abbrev pub level_room : Level → ℕ
-level_room l = length l.walk / 4 + length l.hops_rest.now / 4
+-- ---- attributes ahead
 
-abbrev pub room_of : List Level → ℕ
-room_of [] = 0
-room_of (l ∷ ls) = level_room l + room_of ls
+-- an attribute stands in front of the bytes
+abbrev pub stands : List ℕ → Bool
+stands bs =
+    if nat_lt (length bs) 4 then false
+    else if nat_lt (length_at bs) 4 then false
+    else if nat_lt (length bs) (length_at bs) then false
+    else true
 
-abbrev pub room : Reading → ℕ
-room r = level_room r.level + room_of r.stack.items
+-- a step for each attribute of those that stand one after the other, from what is told of the bytes behind them
+abbrev pub along : {A : Type 0} → (A → A) → (List ℕ → A) → ℕ → List ℕ → A
+along step behind zero bs = behind bs
+along step behind (suc n) bs = if stands bs then step (along step behind n (rest_at bs)) else behind bs
+
+-- how many they are
+abbrev pub ahead : List ℕ → ℕ
+ahead bs = along suc (λ rest. 0) (length bs) bs
+
+-- and 1 where a fault ends them
+abbrev pub stopped : List ℕ → ℕ
+stopped bs = along (λ n. n) (λ rest. min 1 (length rest)) (length bs) bs
+
+-- ---- looks
+
+-- looks at the header of a next hop, and through its attributes for their type
+pub record SoughtIn (inside : List ℕ) (old new : Counts) : Type 0 where
+  pub kept : old.successful ≤ new.successful
+  pub most : new.successful ≤ old.successful + (1 + ahead inside)
+  pub failed_kept : old.failed ≤ new.failed
+  pub failed : new.failed ≤ old.failed + stopped inside
+  pub header : new.successful < 2 ^ 64 - 1 → old.successful + 1 ≤ new.successful
+
+-- the successful looks for which a reading has room, where each attribute ahead had one already; the failed ones that its
+-- searches have had, at most one in each open list; and the looks that what is built has had
+pub record Account : Type 0 where
+  pub room : ℕ
+  pub stops : ℕ
+  pub built : ℕ
+
+abbrev pub walk_room : List ℕ → ℕ
+walk_room walk = 2 * (length walk / 4) - ahead walk
 
 abbrev pub hop_members : Hop → ℕ
 hop_members h = attributes_members h.attributes
@@ -76,31 +124,52 @@ hop_members h = attributes_members h.attributes
 abbrev pub level_built : Level → ℕ
 level_built l = 1 + list_members members (map meaning_of l.attributes.items) + list_members hop_members (map hop_of l.next_hops.items)
 
-abbrev pub built_of : List Level → ℕ
-built_of [] = 0
-built_of (l ∷ ls) = 1 + level_built l + built_of ls
+abbrev pub level_account : Level → Account
+level_account l = record { room = walk_room l.walk + 2 * (length l.hops_rest.now / 4); stops = stopped l.walk; built = level_built l }
 
-abbrev pub built : Reading → ℕ
-built r = level_built r.level + built_of r.stack.items
+abbrev pub account_of : List Level → Account
+account_of [] = record { room = 0; stops = 0; built = 0 }
+account_of (l ∷ ls) = record {
+  room = (level_account l).room + (account_of ls).room;
+  stops = (level_account l).stops + (account_of ls).stops;
+  built = 1 + (level_account l).built + (account_of ls).built;
+}
 
--- looks that a step adds: where there was room before there is as much less after, and what is built had its look
-pub record Added (old new : Counts) (room_before room_after built_before built_after : ℕ) : Type 0 where
+abbrev pub account : Reading → Account
+account r = record {
+  room = (level_account r.level).room + (account_of r.stack.items).room;
+  stops = (level_account r.level).stops + (account_of r.stack.items).stops;
+  built = (level_account r.level).built + (account_of r.stack.items).built;
+}
+
+-- of so many bytes nothing has been read, and all next hops have been
+abbrev pub unread : ℕ → Account
+unread len = record { room = 2 * (len / 4); stops = 0; built = 0 }
+
+abbrev pub all_built : List Hop → Account
+all_built hops = record { room = 0; stops = 0; built = list_members hop_members hops }
+
+-- looks that a step adds: where there was room before there is as much less after, those that fail are a search's, and what
+-- is built had its look
+pub record Added (old new : Counts) (before after : Account) : Type 0 where
   pub kept : old.successful ≤ new.successful
-  pub most : new.successful + 2 * room_after ≤ old.successful + 2 * room_before
-  pub failed : new.failed ≡ old.failed
-  pub each : new.successful < 2 ^ 64 - 1 → old.successful + built_after ≤ new.successful + built_before
-
--- looks of a step that ends in a refusal
-pub record Ended (old new : Counts) (room_before : ℕ) : Type 0 where
-  pub kept : old.successful ≤ new.successful
-  pub most : new.successful ≤ old.successful + 2 * room_before
+  pub most : new.successful + after.room ≤ old.successful + before.room
   pub failed_kept : old.failed ≤ new.failed
-  pub failed : new.failed ≤ old.failed + 1
+  pub failed : new.failed + before.stops ≤ old.failed + after.stops
+  pub each : new.successful < 2 ^ 64 - 1 → old.successful + after.built ≤ new.successful + before.built
+
+-- looks of a step that ends in a refusal, with so many bytes of attributes left
+pub record Ended (old new : Counts) (before : Account) (walk : ℕ) : Type 0 where
+  pub kept : old.successful ≤ new.successful
+  pub most : new.successful ≤ old.successful + before.room
+  pub failed_kept : old.failed ≤ new.failed
+  pub failed : new.failed ≤ old.failed + (1 + walk / 12)
 
 -- a step goes on, or ends with the next hops
-abbrev pub StepsOn : Context → Reading → Step → Counts → Counts → Type 0
-StepsOn c r (More next) old new =
-    ((bytes : List ℕ) → Tied c bytes r → Tied c bytes next) × (weight next < weight r) × Added old new (room r) (room next) (built r) (built next)
-StepsOn c r (Done hops) old new =
-    ((bytes : List ℕ) → Tied c bytes r → AreHops c bytes (hops_of (map hop_of hops.items)))
-    × Added old new (room r) 0 (built r) (list_members hop_members (map hop_of hops.items))
+abbrev pub StepsOn : Reading → Step → Counts → Counts → Type 0
+StepsOn r (More next) old new =
+    ((c : Context) (bytes : List ℕ) → Tied c bytes r → Tied c bytes next) × (weight next < weight r)
+    × Added old new (account r) (account next)
+StepsOn r (Done hops) old new =
+    ((c : Context) (bytes : List ℕ) → Tied c bytes r → AreHops c bytes (hops_of (map hop_of hops.items)))
+    × Added old new (account r) (all_built (map hop_of hops.items))

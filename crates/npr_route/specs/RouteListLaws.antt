@@ -1,137 +1,17 @@
--- The type that governs a list is one, and is the first that its attributes hold.
-use Rattle.std.specs.Prelude.{◌==◌}
-use Rattle.std.proofs.Common.{◌≡◌, ℕ, ◌*◌, ◌≤◌, Bool, true, false, List, [], ◌∷◌, length, Option, Some, None, refl, sym, ap, subst, ◌∙◌}
-use Rattle.std.proofs.Common.{arith, rules, inl, inr}
-use Rattle.std.proofs.lemmas.Bool.{eqb-true, cases_Bool}
+-- A list of route attributes has one meaning at most, which is coherent and is read again from what is written.
+use Rattle.std.proofs.Common.{◌≡◌, ℕ, ◌*◌, ◌≤◌, List, length, None, subst}
 use Rattle.npr_base.specs.declared.refusal.DecodeError.{DecodeError}
-use Rattle.npr_base.specs.Framing.{Item, IsBytes, number_of, Front, Passes}
-use Rattle.npr_base.specs.Family.{Each, AllOf, ReadsList, encodings, first_unfit}
-use Rattle.npr_base.specs.FrontLaws.{Front-same, Front-shrinks, Front-sound}
+use Rattle.npr_base.specs.Framing.{IsBytes}
+use Rattle.npr_base.specs.Family.{AllOf, ReadsList, encodings, first_unfit}
 use Rattle.npr_base.specs.ListLaws.{ReadsList-one, FirstFault-excludes, ReadsList-known, encodings-read, ReadsList-grows}
-use Rattle.npr_base.specs.Table.{Reading, fits-small, Row, ReadsAt}
-use Rattle.npr_base.specs.TableLaws.{one_of}
-use Rattle.npr_scalar.specs.RouteAddress.{Form, four, sixteen, label, any, form_of}
+use Rattle.npr_base.specs.Table.{Reading, fits-small}
 use Rattle.npr_tunnel.specs.declared.encap_type.RouteLwEnCapType.{RouteLwEnCapType}
 use Rattle.npr_tunnel.specs.declared.encap_type.RouteLwEnCapType.TheVariants.{None as NoEncapsulation}
-use Rattle.npr_route.specs.Attribute.{Meaning, flat, multi_path}
-use Rattle.npr_route.specs.FlatAttribute as Flat
-use Rattle.npr_route.specs.FlatAttribute.{Context, other, rows, is_multicast, new_destination_variant, NewDestinationValue, expires_variant}
-use Rattle.npr_route.specs.FlatAttributeLaws as Flats
+use Rattle.npr_route.specs.Attribute.{Meaning, attributes_of, first_type}
+use Rattle.npr_route.specs.FlatAttribute.{Context}
 use Rattle.npr_route.specs.AttributeLaws.{attributes, writing}
-use Rattle.npr_route.specs.Governing.{told, Ends, Tells, Governs}
-use Rattle.npr_route.specs.RouteList.{Under, IsRouteList, RouteListFault, type_held, or_else, first_type, IsCoherentList}
-
--- ---- one type
-
-ends_empty : (rest more : List ℕ) (x : Item) → Ends rest → Front rest x more → ⊥
-ends_empty rest more x (inl is) f = absurd (omega (arith, ap length is, Front-shrinks rest x more f))
-ends_empty rest more x (inr (e, left, bad)) f = Front-sound rest x more e f bad
-
-the_same : {A : Type 0} (o : Option A) (x y : A) → o ≡ Some x → o ≡ Some y → x ≡ y
-the_same o x y p q = cc
-
-none_told : {A B : Type 0} (o : Option A) (x : A) → o ≡ None → o ≡ Some x → B
-none_told o x p q = absurd cc
-
-tells-one : (outer : RouteLwEnCapType) (rest : List ℕ) (a b : RouteLwEnCapType) → Tells outer rest a → Tells outer rest b → a ≡ b
-tells-one outer rest a b (inl (x, r, f, p)) (inl (y, s, g, q)) = the_same (told x) a b p (ap told (Front-same rest x y r s f g).0 ∙ q)
-tells-one outer rest a b (inl (x, r, f, p)) (inr (ends, q)) = absurd (ends_empty rest r x ends f)
-tells-one outer rest a b (inr (ends, p)) (inl (y, s, g, q)) = absurd (ends_empty rest s y ends g)
-tells-one outer rest a b (inr (ends, p)) (inr (also_ends, q)) = p ∙ sym q
-
--- a list whose first attribute tells none is governed as what follows it
-tells-front : (outer : RouteLwEnCapType) (rest more : List ℕ) (x : Item) (a : RouteLwEnCapType) → Tells outer rest a → Front rest x more → told x ≡ None → ⊥
-tells-front outer rest more x a (inl (y, s, g, q)) f none = none_told (told y) a (ap told (Front-same rest y x s more g f).0 ∙ none) q
-tells-front outer rest more x a (inr (ends, p)) f none = ends_empty rest more x ends f
-
-governs-step : (outer : RouteLwEnCapType) (xs ys : List Item) (bytes r s : List ℕ) (a b : RouteLwEnCapType) → Passes bytes xs r
-    → AllOf (λ x. told x ≡ None) xs → Tells outer r a → Passes bytes ys s → AllOf (λ x. told x ≡ None) ys → Tells outer s b → a ≡ b
-governs-step outer [] [] bytes r s a b p n t q m u = tells-one outer r a b t (subst (λ (w : List ℕ). Tells outer w b) (sym q ∙ p) u)
-governs-step outer [] (y ∷ ys) bytes r s a b p n t (w, g, q) m u =
-    absurd (tells-front outer bytes w y a (subst (λ (v : List ℕ). Tells outer v a) (sym p) t) g m.0)
-governs-step outer (x ∷ xs) [] bytes r s a b (v, f, p) n t q m u =
-    absurd (tells-front outer bytes v x b (subst (λ (w : List ℕ). Tells outer w b) (sym q) u) f n.0)
-governs-step outer (x ∷ xs) (y ∷ ys) bytes r s a b (v, f, p) n t (w, g, q) m u =
-    governs-step outer xs ys v r s a b p n.1 t (subst (λ (z : List ℕ). Passes z ys s) (Front-same bytes y x w v g f).1 q) m.1 u
-
-pub governs-one : (outer : RouteLwEnCapType) (bytes : List ℕ) (a b : RouteLwEnCapType) → Governs outer bytes a → Governs outer bytes b → a ≡ b
-governs-one outer bytes a b (xs, r, p, n, t) (ys, s, q, m, u) = governs-step outer xs ys bytes r s a b p n t q m u
-
--- ---- which is the first that is held
-
--- what holds of the variants of all rows but those of one number
-abbrev Unless : {M : Type 0} → (M → Type 0) → ℕ → List (Row M) → Type 0
-Unless P n [] = Unit {0}
-Unless P n (r ∷ rs) = ((r.at.kind == n) ≡ false → (v : r.V) → P (r.variant v)) × Unless P n rs
-
--- holds of what another number reads as
-unless-reads : {M : Type 0} (P : M → Type 0) (n : ℕ) (kept : Item → M) (rs : List (Row M)) → Unless P n rs
-    → ((x : Item) → P (kept x)) → (k : ℕ) (x : Item) (m : M) → (k == n) ≡ false → ReadsAt kept rs k x m → P m
-unless-reads P n kept [] all too k x m not p = subst P (sym p) (too x)
-unless-reads P n kept (r ∷ rs) all too k x m not p = one_of (k == r.at.kind)
-    (λ e a. subst P (sym a.2) (all.0 (subst (λ (z : ℕ). (z == n) ≡ false) (eqb-true k r.at.kind e) not) a.0))
-    (λ e a. unless-reads P n kept rs all.1 too k x m not a) p
-
--- a type is held by number 21 alone
-abbrev HoldsNone : Flat.Meaning → Type 0
-HoldsNone m = type_held (flat m) ≡ None
-
-destination_none : (form : Form) (v : NewDestinationValue form) → HoldsNone (new_destination_variant form v)
-destination_none four v = refl
-destination_none sixteen v = refl
-destination_none label v = refl
-destination_none any v = refl
-
-expires_none : (multicast : Bool) (v : ℕ) → HoldsNone (expires_variant multicast v)
-expires_none true v = refl
-expires_none false v = refl
-
-rows_none : (form : Form) (multicast : Bool) (type : RouteLwEnCapType) → Unless HoldsNone 21 (rows form multicast type)
-rows_none form multicast type = search (rules, destination_none form, expires_none multicast)
-
-alike_at : (form : Form) (multicast : Bool) (type : RouteLwEnCapType) (x : Item) (m : Flat.Meaning) → (number_of x.kind ≡ 21)
-    → ReadsAt other (rows form multicast type) 21 x m → told x ≡ type_held (flat m)
-alike_at form multicast type x m is (v, (size, p), q) = rw (is, size) (ap Some (sym p) ∙ sym (ap (λ (n : Flat.Meaning). type_held (flat n)) q))
-
-flat-alike : (form : Form) (multicast : Bool) (type : RouteLwEnCapType) (x : Item) (m : Flat.Meaning)
-    → (Flats.attributes_in form multicast type).Reads x m → told x ≡ type_held (flat m)
-flat-alike form multicast type x m p = elim (cases_Bool (number_of x.kind == 21)) [
-  | inl e ↦
-      let is : number_of x.kind ≡ 21 = eqb-true (number_of x.kind) 21 e in
-      alike_at form multicast type x m is (subst (λ (k : ℕ). ReadsAt other (rows form multicast type) k x m) is p)
-  | inr e ↦ rw e (sym (unless-reads HoldsNone 21 other (rows form multicast type) (rows_none form multicast type) (λ y. refl) (number_of x.kind) x m e p))
-]
-
--- an attribute tells the type that its meaning holds, and next hops tell none
-pub alike : (c : Context) (x : Item) (m : Meaning) → (attributes c).Reads x m → told x ≡ type_held m
-alike c x (flat m) p = flat-alike (form_of c.0) (is_multicast c.1) c.2 x m p.1
-alike c x (multi_path hs) p = rw p.0 refl
-
--- the first of these attributes tells what the first meaning holds, or none does
-first_step : (outer : RouteLwEnCapType) (o : Option RouteLwEnCapType) (x : Item) (more bytes : List ℕ) (next : RouteLwEnCapType)
-    → told x ≡ o → Front bytes x more → Governs outer more next → Governs outer bytes (or_else o next)
-first_step outer (Some t) x more bytes next is f g = ([], bytes, refl, tt, inl (x, more, f, is))
-first_step outer None x more bytes next is f (before, rest, p, silent, tells) = (x ∷ before, rest, (more, f, p), (is, silent), tells)
-
-first_governs : (outer : RouteLwEnCapType) (items : List Item) (ms : List Meaning) (bytes : List ℕ) (R : Item → Meaning → Type 0)
-    → ((x : Item) (m : Meaning) → R x m → told x ≡ type_held m) → Passes bytes items [] → Each R items ms
-    → Governs outer bytes (first_type outer ms)
-first_governs outer [] [] bytes R tells p h = ([], bytes, refl, tt, inr (inl p, refl))
-first_governs outer [] (m ∷ ms) bytes R tells p h = absurd h
-first_governs outer (x ∷ xs) [] bytes R tells p h = absurd h
-first_governs outer (x ∷ xs) (m ∷ ms) bytes R tells (r, f, p) h =
-    first_step outer (type_held m) x r bytes (first_type outer ms) (tells x m h.0) f (first_governs outer xs ms r R tells p h.1)
-
--- the first type that a list holds governs it
-pub list_governs : (outer : RouteLwEnCapType) (context : Context) (bytes : List ℕ) (ms : List Meaning)
-    → ReadsList (attributes context).Reads bytes ms → Governs outer bytes (first_type outer ms)
-list_governs outer context bytes ms (items, p, h) = first_governs outer items ms bytes (attributes context).Reads (alike context) p h
-
-pub governs_first : (under : Under) (bytes : List ℕ) (ms : List Meaning) (p : IsRouteList under bytes ms) → p.0 ≡ first_type NoEncapsulation ms
-governs_first under bytes ms (type, g, p) =
-    governs-one NoEncapsulation bytes type (first_type NoEncapsulation ms) g (list_governs NoEncapsulation (under.0, under.1, type) bytes ms p)
-
--- ---- the laws of a list
+use Rattle.npr_route.specs.GoverningLaws.{governs-one, first_governs, governs_first, all_read}
+use Rattle.npr_route.specs.RouteList.{Under, IsRouteList, RouteListFault, IsCoherentList}
 
 pub route-list-one : (under : Under) (bytes : List ℕ) (xs ys : List Meaning) → IsRouteList under bytes xs → IsRouteList under bytes ys → xs ≡ ys
 route-list-one under bytes xs ys (a, g, p) (b, h, q) =
@@ -147,18 +27,23 @@ route-list-sound under bytes xs e (a, g, p) (b, h, q) =
 
 pub route-list-coherent : (under : Under) (bytes : List ℕ) (xs : List Meaning) → IsBytes bytes → IsRouteList under bytes xs → IsCoherentList under xs
 route-list-coherent under bytes xs is p =
-    let f : Reading writing = attributes (under.0, under.1, p.0) in
-    subst (λ (t : RouteLwEnCapType). AllOf (attributes (under.0, under.1, t)).Coherent xs) (governs_first under bytes xs p)
+    let context : Context = (under.0, under.1, p.0) in
+    let f : Reading writing = attributes context in
+    let first : p.0 ≡ first_type NoEncapsulation (attributes_of xs) =
+    governs_first NoEncapsulation p.0 context bytes (attributes_of xs) p.1 (all_read context bytes xs p.2) in
+    subst (λ (t : RouteLwEnCapType). AllOf (attributes (under.0, under.1, t)).Coherent xs) first
     (ReadsList-known f.Coherent f.Reads f.reads_coherent bytes xs is p.2)
 
 pub route-list-back : (under : Under) (xs : List Meaning) → IsCoherentList under xs → first_unfit writing.misfit xs ≡ None
     → IsRouteList under (encodings writing.writes xs) xs
 route-list-back under xs all fits =
-    let context : Context = (under.0, under.1, first_type NoEncapsulation xs) in
+    let type : RouteLwEnCapType = first_type NoEncapsulation (attributes_of xs) in
+    let context : Context = (under.0, under.1, type) in
     let f : Reading writing = attributes context in
     let p : ReadsList f.Reads (encodings writing.writes xs) xs =
     encodings-read f.Coherent writing.misfit writing.writes f.Reads (fits-small f) f.reads_back xs all fits in
-    (first_type NoEncapsulation xs, list_governs NoEncapsulation context (encodings writing.writes xs) xs p, p)
+    let all = all_read context (encodings writing.writes xs) xs p in
+    (type, first_governs NoEncapsulation context (encodings writing.writes xs) (attributes_of xs) all, p)
 
 pub route-list-grows : (under : Under) (bytes : List ℕ) (xs : List Meaning) → IsBytes bytes → IsRouteList under bytes xs
     → 2 * length (encodings writing.writes xs) ≤ 5 * length bytes

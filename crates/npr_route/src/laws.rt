@@ -7,6 +7,7 @@ ghost use Rattle.npr_base.specs.{
   declared.refusal.DecodeError.{DecodeError},
   Framing.{IsBytes},
 };
+ghost use Rattle.npr_srh.specs.Seg6Mode.{first_modes};
 ghost use Rattle.npr_tunnel.specs.declared.encap_type.RouteLwEnCapType.{RouteLwEnCapType};
 ghost use Rattle.npr_route.specs.{
   AttributeView.{meaning_of, hop_of},
@@ -14,9 +15,9 @@ ghost use Rattle.npr_route.specs.{
   Governing.{Governs},
   Header.{default_header},
   Metric.{metric_of},
-  Message.{Route, message_of, IsRouteMessage, IsCoherentRoute, route_bytes, route_misfit},
-  Attribute.{Meaning, Hops, AreHops, HopsWrong, HopsCoherent, hops_bytes, hops_misfit, hops_depth},
-  RouteList.{Under, IsRouteList, first_type},
+  Message.{Route, message_of, newer_route, IsRouteMessage, IsRouteMessageBy, IsCoherentRoute, IsCoherentRouteBy, route_bytes, route_misfit},
+  Attribute.{Meaning, Attributes, attributes_of, first_type, AreGoverned, Hops, AreHops, HopsWrong, HopsCoherent, hops_bytes, hops_misfit, hops_depth},
+  RouteList.{Under, IsRouteList},
 };
 
 use crate::attribute::RouteAttribute;
@@ -42,10 +43,12 @@ pub fn law_canonical()
 {}
 
 /// One type governs a list, whatever its bytes are and whatever the outer type is; and where the
-/// bytes are a list, that is the first type that its attributes hold.
+/// bytes are a list, that is the first type that its attributes hold, or else the outer one: `None`
+/// for the list of a message, and for that of a next hop the type of the list that holds it.
 pub fn law_governing_type()
     ensures one { (outer a b : RouteLwEnCapType) (bytes : List ℕ) → Governs outer bytes a → Governs outer bytes b → a ≡ b }
-    ensures first { (under : Under) (bytes : List ℕ) (xs : List Meaning) → IsRouteList under bytes xs → Governs RouteLwEnCapType.None bytes (first_type RouteLwEnCapType.None xs) }
+    ensures first { (under : Under) (bytes : List ℕ) (xs : List Meaning) → IsRouteList under bytes xs → Governs RouteLwEnCapType.None bytes (first_type RouteLwEnCapType.None (attributes_of xs)) }
+    ensures inside { (c : Context) (bytes : List ℕ) (ms : Attributes) → AreGoverned c bytes ms → Governs c.2 bytes (first_type c.2 ms) }
 {}
 
 /// Next hops, over their definitions: bytes are one list of them at most, and none where there is
@@ -58,6 +61,20 @@ pub fn law_next_hops()
     ensures back { (c : Context) (hs : Hops) → HopsCoherent c hs → hops_misfit hs ≡ None → AreHops c (hops_bytes hs) hs }
     ensures growth { (c : Context) (bytes : List ℕ) (hs : Hops) → IsBytes bytes → AreHops c bytes hs → 2 * length (hops_bytes hs) ≤ 5 * length bytes }
     ensures depth { (c : Context) (bytes : List ℕ) (hs : Hops) → AreHops c bytes hs → 12 * hops_depth hs ≤ 4 + length bytes }
+{}
+
+/// A message of the first table of SEG6 modes, brought up to the table of today as `normalize` does.
+pub fn law_newer()
+    // It is written by the same bytes,
+    ensures bytes { (m : Route) → route_bytes (newer_route m) ≡ route_bytes m }
+    // and where it can't be written, for the same cause.
+    ensures fits { (m : Route) → route_misfit (newer_route m) ≡ route_misfit m }
+    // Once is enough.
+    ensures again { (m : Route) → newer_route (newer_route m) ≡ newer_route m }
+    // What could be read then can be read now,
+    ensures coherent { (m : Route) → IsCoherentRouteBy first_modes m → IsCoherentRoute (newer_route m) }
+    // and what bytes meant then, they mean now brought up.
+    ensures read { (bytes : List ℕ) (m : Route) → IsRouteMessageBy first_modes bytes m → IsRouteMessage bytes (newer_route m) }
 {}
 
 /// The tables that have a name (`linux/rtnetlink.h`).

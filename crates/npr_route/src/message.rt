@@ -57,8 +57,9 @@ impl RouteMessage {
         })
     }
 
-    /// `parse`, with each look at a header counted: those at the attributes of the list, once to
-    /// find the type of its encapsulations and once to read it, and at all inside them.
+    /// `parse`, with each look at a header counted: those at the attributes of a list, the message's
+    /// or a next hop's, up to the type of its encapsulations to find it and then to read the list,
+    /// and at all inside them.
     ///
     /// # Errors
     /// `OutOfMemory` where memory is refused, and else the first fault in reading order.
@@ -84,7 +85,7 @@ impl RouteMessage {
         ensures growth { IfOk result (λ m. 2 * length (route_bytes (message_of m)) ≤ 5 * length bytes.now) }
         // Each level of next hops takes 12 bytes behind the header.
         ensures depth { IfOk result (λ m. 12 * route_depth (message_of m) ≤ length bytes.now - 12) }
-        // At most two looks for four bytes behind the header, and two that fail,
+        // At most two looks for four bytes behind the header, and one for twelve and two that fail,
         ensures bounded { AddsAtMostTwice looks.old looks.new (length bytes.now - 12) }
         // and none where there is no whole header.
         ensures short { length bytes.now < 12 → looks.new ≡ looks.old }

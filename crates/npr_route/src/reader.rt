@@ -8,32 +8,41 @@ ghost use Rattle.npr_base.specs.{
 ghost use Rattle.npr_route.specs.{
   Attribute.{HopHead, HopFront, HopFault, Hop, IsHop, HopWrong, Hops, AreHops, HopsWrong, hops_members},
   AttributeView.{hop_of, hops_of},
+  FlatAttribute.{Context},
   NextHopHeader.{head_in},
-  Reader.{IsOpen, Tied, room, level_room, level_built, StepsOn, Ended},
+  Reader.{Tied, Opens, SoughtIn, account, StepsOn, Ended},
 };
 
 use crate::attribute::{Context, RTA_MULTIPATH, RouteAttribute, read_flat};
+use crate::list::governing_type;
 use crate::next_hop_buffer::RouteNextHopBuffer;
 use crate::next_hops::RouteNextHop;
 use bitflags::Flags;
 use npr_base::{DecodeError, Looks, NlasIterator, ParseableParametrized};
 use npr_scalar::RouteNextHopFlags;
+use npr_tunnel::RouteLwEnCapType;
 use std::alloc::Global;
+
+/// The next hop behind one begins at a multiple of so many bytes (`linux/rtnetlink.h`,
+/// `RTNH_ALIGNTO`).
+const RTNH_ALIGNTO: usize = 4;
 
 /// A list of next hops of which one is open.
 #[derive(Drop)]
 struct Level<'a> {
-    /// What the attributes of the open one are read in.
+    /// The context of the list that holds the next hops.
     context: Context,
     /// The next hops before the open one.
     next_hops: Vec<RouteNextHop>,
     /// The header of the open one.
     header: RouteNextHopBuffer,
+    /// The type that governs its attributes.
+    encap_type: RouteLwEnCapType,
     /// Its attributes that were read.
     attributes: Vec<RouteAttribute>,
     /// Those that were not.
     walk: NlasIterator<'a>,
-    /// The bytes behind the open one.
+    /// The bytes behind the open one and its padding.
     hops_rest: &'a [u8],
 }
 
@@ -51,8 +60,9 @@ enum Step<'a> {
     Done(Vec<RouteNextHop>),
 }
 
-/// The next hops that the bytes are, one after the other, in the context of the list that holds
-/// them. Each look at a header is counted.
+/// The next hops that the bytes are, one after the other, each at a multiple of four bytes, in the
+/// context of the list that holds them: the attributes of each are read under the first type among
+/// them, or else under that of the context. Each look at a header is counted.
 ///
 /// # Errors
 /// `OutOfMemory` where memory is refused, and else the first fault in reading order.
@@ -91,8 +101,9 @@ fn read_levels(
     if bytes.is_empty() {
         return Ok(Vec::new(alloc));
     }
+    let level = open(alloc, bytes, context, Vec::new(alloc), looks)?;
     let mut reading = Reading {
-        level: first_level(alloc, bytes, context, looks)?,
+        level,
         stack: Vec::new(alloc),
     };
     loop {
@@ -103,7 +114,7 @@ fn read_levels(
     }
 }
 
-/// The header of the next hop in front, its attributes, and what follows it.
+/// The header of the next hop in front, its attributes, and what follows it and its padding.
 fn open_hop<'a>(
     bytes: &'a [u8],
     looks: &mut Looks,
@@ -117,7 +128,8 @@ fn open_hop<'a>(
         Ok(header) => {
             looks.hit();
             let end = header.length as usize;
-            Ok((header, &bytes[8..end], &bytes[end..]))
+            let next = end.next_multiple_of(RTNH_ALIGNTO).min(bytes.len());
+            Ok((header, &bytes[8..end], &bytes[next..]))
         }
         Err(e) => {
             looks.miss();
@@ -126,26 +138,26 @@ fn open_hop<'a>(
     }
 }
 
-/// The list of these bytes, with its first next hop open.
-fn first_level<'a>(
+/// The list with these next hops before the one in front of the bytes, which is opened: its
+/// attributes are looked through for the type that governs them.
+fn open<'a>(
     alloc: Global,
     bytes: &'a [u8],
     context: Context,
+    next_hops: Vec<RouteNextHop>,
     looks: &mut Looks,
 ) -> Result<Level<'a>, DecodeError>
-    requires { 0 < length bytes.now }
-    ensures ok { IfOk result (λ l. IsOpen context bytes.now l) }
-    ensures fresh { IfOk result (λ l. (l.next_hops.items ≡ []) × (l.attributes.items ≡ [])
-        × (8 + length l.walk + length l.hops_rest.now ≡ length bytes.now)) }
-    ensures hits { OnOk result (looks.new ≡ hit looks.old) }
-    ensures refused { IfErr result (λ e. (e ≢ OutOfMemory) × HopsWrong context bytes.now e) }
+    ensures ok { IfOk result (λ l. Opens context bytes.now next_hops.items l) }
+    ensures sought { IfOk result (λ l. SoughtIn l.walk looks.old looks.new) }
+    ensures refused { IfErr result (λ e. (e ≢ OutOfMemory) × HopFault bytes.now e) }
     ensures misses { OnErr result (looks.new ≡ miss looks.old) }
 {
     let (header, inside, hops_rest) = open_hop(bytes, looks)?;
     Ok(Level {
         context,
-        next_hops: Vec::new(alloc),
+        next_hops,
         header,
+        encap_type: governing_type(inside, context.2, looks),
         attributes: Vec::new(alloc),
         walk: NlasIterator::new(inside),
         hops_rest,
@@ -158,9 +170,9 @@ fn advance<'a>(
     reading: Reading<'a>,
     looks: &mut Looks,
 ) -> Result<Step<'a>, DecodeError>
-    ensures ok { IfOk result (λ s. StepsOn reading.entry.level.context reading.entry s looks.old looks.new) }
-    ensures refused { IfErr result (λ e. e ≢ OutOfMemory → (bytes : List ℕ) → Tied reading.entry.level.context bytes reading.entry → HopsWrong reading.entry.level.context bytes e) }
-    ensures ended { OnErr result (Ended looks.old looks.new (room reading.entry)) }
+    ensures ok { IfOk result (λ s. StepsOn reading.entry s looks.old looks.new) }
+    ensures refused { IfErr result (λ e. e ≢ OutOfMemory → (c : Context) (bytes : List ℕ) → Tied c bytes reading.entry → HopsWrong c bytes e) }
+    ensures ended { OnErr result (Ended looks.old looks.new (account reading.entry) (length reading.entry.level.walk)) }
 {
     let Reading {
         mut level,
@@ -170,15 +182,16 @@ fn advance<'a>(
         return close(alloc, Reading { level, stack }, looks);
     };
     let item = next?;
+    let inside = (level.context.0, level.context.1, level.encap_type);
     if item.kind() == RTA_MULTIPATH && !item.value().is_empty() {
-        let inner = first_level(alloc, item.value(), level.context, looks)?;
+        let inner = open(alloc, item.value(), inside, Vec::new(alloc), looks)?;
         stack.push(level)?;
         return Ok(Step::More(Reading {
             level: inner,
             stack,
         }));
     }
-    let attribute = read_flat(alloc, level.context, &item, looks)?;
+    let attribute = read_flat(alloc, inside, &item, looks)?;
     level.attributes.push(attribute)?;
     Ok(Step::More(Reading { level, stack }))
 }
@@ -191,9 +204,9 @@ fn close<'a>(
     looks: &mut Looks,
 ) -> Result<Step<'a>, DecodeError>
     requires { reading.level.walk ≡ [] }
-    ensures ok { IfOk result (λ s. StepsOn reading.entry.level.context reading.entry s looks.old looks.new) }
-    ensures refused { IfErr result (λ e. e ≢ OutOfMemory → (bytes : List ℕ) → Tied reading.entry.level.context bytes reading.entry → HopsWrong reading.entry.level.context bytes e) }
-    ensures ended { OnErr result (Ended looks.old looks.new (room reading.entry)) }
+    ensures ok { IfOk result (λ s. StepsOn reading.entry s looks.old looks.new) }
+    ensures refused { IfErr result (λ e. e ≢ OutOfMemory → (c : Context) (bytes : List ℕ) → Tied c bytes reading.entry → HopsWrong c bytes e) }
+    ensures ended { OnErr result (Ended looks.old looks.new (account reading.entry) (length reading.entry.level.walk)) }
 {
     let Reading { level, mut stack } = reading;
     let mut next_hops = level.next_hops;
@@ -213,18 +226,8 @@ fn close<'a>(
             stack,
         }));
     }
-    let (header, inside, hops_rest) = open_hop(level.hops_rest, looks)?;
-    Ok(Step::More(Reading {
-        level: Level {
-            context: level.context,
-            next_hops,
-            header,
-            attributes: Vec::new(alloc),
-            walk: NlasIterator::new(inside),
-            hops_rest,
-        },
-        stack,
-    }))
+    let next = open(alloc, level.hops_rest, level.context, next_hops, looks)?;
+    Ok(Step::More(Reading { level: next, stack }))
 }
 
 impl<'a> ParseableParametrized<&'a [u8], Context> for RouteNextHop {

@@ -1,2 +1,3 @@
 pub mod Headers
 mod SegmentTexts
+pub mod Seg6NewerLaws

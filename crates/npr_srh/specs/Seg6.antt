@@ -16,7 +16,7 @@ use Rattle.npr_base.specs.Fields.{one_byte, le_two, le_four, ◌then◌, fields}
 use Rattle.npr_base.specs.Layout.{Layout, formed}
 use Rattle.npr_base.specs.Rows.{IsFormed}
 use Rattle.npr_srh.specs.Segments.{too_many}
-use Rattle.npr_srh.specs.Seg6Mode.{mode_of, mode_number}
+use Rattle.npr_srh.specs.Seg6Mode.{ModeTable, modes, mode_in, mode_of, mode_number}
 use Rattle.npr_srh.specs.declared.seg6_mode.Seg6Mode.{Seg6Mode}
 use Rattle.npr_srh.specs.declared.seg6_header.Seg6MessageBuffer.{Seg6MessageBuffer}
 use Rattle.npr_srh.specs.declared.seg6_header.Seg6Header.{Seg6Header}
@@ -55,6 +55,10 @@ pub record Seg6 : Type 0 where
 abbrev pub seg6_of : Seg6Header → Seg6
 seg6_of h = record { mode = h.mode; segments = h.segments.items; hmac = h.hmac }
 
+-- the header with the mode that its number has in the table of today
+abbrev pub newer : Seg6 → Seg6
+newer h = record { mode = mode_of (mode_number h.mode); segments = h.segments; hmac = h.hmac }
+
 -- the bytes of the routing header: its length byte counts eights, the first one left out
 abbrev pub header_len : Seg6MessageBuffer → ℕ
 header_len b = 8 * (b.hdrlen + 1)
@@ -68,8 +72,9 @@ abbrev pub IsKey : List ℕ → Option ℕ → Type 0
 IsKey hmac None = length hmac ≡ 0
 IsKey hmac (Some key) = (length hmac ≡ 40) × (key ≡ from_be_bytes w32 (take 4 (drop 4 hmac)))
 
--- twelve bytes, the addresses on the wire, the HMAC, and bytes that are not looked at; the segments are the reverse of the wire
-pub record IsSeg6 (bytes : List ℕ) (h : Seg6) : Type 0 where
+-- twelve bytes, the addresses on the wire, the HMAC, and bytes that are not looked at; the segments are the reverse of the
+-- wire, and the mode is that of a table
+pub record IsSeg6By (table : ModeTable) (bytes : List ℕ) (h : Seg6) : Type 0 where
   pub front : List ℕ
   pub wire : List (List ℕ)
   pub hmac : List ℕ
@@ -79,9 +84,13 @@ pub record IsSeg6 (bytes : List ℕ) (h : Seg6) : Type 0 where
   pub whole : AllOf (λ a. length a ≡ 16) wire
   pub len : 8 + (length (concat wire) + length hmac) ≡ header_len (decode_message front)
   pub hmac_size : length hmac ≡ hmac_len (decode_message front)
-  pub mode : h.mode ≡ mode_of (decode_message front).mode
+  pub mode : h.mode ≡ mode_in table (decode_message front).mode
   pub segments : h.segments ≡ reverse wire
   pub key : IsKey hmac h.hmac
+
+-- by the table of today
+abbrev pub IsSeg6 : List ℕ → Seg6 → Type 0
+IsSeg6 bytes h = IsSeg6By modes bytes h
 
 -- the layout in front, behind which so many bytes of addresses have room, and then the HMAC
 pub record HasFront (bytes : List ℕ) (b : Seg6MessageBuffer) (len : ℕ) : Type 0 where
@@ -148,9 +157,9 @@ abbrev pub HoldsKey : Option ℕ → Type 0
 HoldsKey None = Unit {0}
 HoldsKey (Some key) = key < 2 ^ 32
 
-pub record HoldsSeg6 (h : Seg6) : Type 0 where
+pub record HoldsSeg6By (table : ModeTable) (h : Seg6) : Type 0 where
   pub mode : mode_number h.mode < 2 ^ 32
-  pub formed : IsFormed mode_of mode_number h.mode
+  pub formed : IsFormed (mode_in table) mode_number h.mode
   pub whole : AllOf (λ a. length a ≡ 16) h.segments
   pub segments : AllOf IsBytes h.segments
   pub key : HoldsKey h.hmac

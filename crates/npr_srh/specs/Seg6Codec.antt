@@ -19,10 +19,10 @@ use Rattle.npr_base.specs.V6ListLaws.{same_parts, AllOf-reverse, length-concat, 
 use Rattle.npr_base.specs.RowLaws.{form_IsFormed}
 use Rattle.npr_base.specs.Rows.{IsFormed}
 use Rattle.npr_base.specs.Codec.{Codec}
-use Rattle.npr_srh.specs.Seg6Mode.{mode_of, mode_number, mode_number-mode_of}
+use Rattle.npr_srh.specs.Seg6Mode.{ModeTable, modes, mode_in, mode_number, mode_number-mode_in}
 use Rattle.npr_srh.specs.declared.seg6_header.Seg6MessageBuffer.{Seg6MessageBuffer}
 use Rattle.npr_srh.specs.Segments.{too_many, few}
-use Rattle.npr_srh.specs.Seg6.{Seg6, IsSeg6, IsKey, Seg6Wrong, Seg6Faulty, HoldsSeg6, HoldsKey, message, decode_message, encode_message}
+use Rattle.npr_srh.specs.Seg6.{Seg6, IsSeg6By, IsKey, Seg6Wrong, Seg6Faulty, HoldsSeg6By, HoldsKey, message, decode_message, encode_message}
 use Rattle.npr_srh.specs.Seg6.{header_len, hmac_len, front_of, seg6_bytes, key_bytes, key_eights, key_flags, most_segments, seg6_misfit}
 
 -- ---- one reading
@@ -33,8 +33,8 @@ key-one hmac None (Some k) p q = absurd (omega (arith, p, q.0))
 key-one hmac (Some k) None p q = absurd (omega (arith, p.0, q))
 key-one hmac (Some k) (Some l) p q = ap Some (p.1 ∙ sym q.1)
 
-pub seg6-one : (bytes : List ℕ) (h k : Seg6) → IsSeg6 bytes h → IsSeg6 bytes k → h ≡ k
-seg6-one bytes h k p q =
+pub seg6-one : (table : ModeTable) (bytes : List ℕ) (h k : Seg6) → IsSeg6By table bytes h → IsSeg6By table bytes k → h ≡ k
+seg6-one table bytes h k p q =
     let f = same_parts p.front (concat p.wire ++ (p.hmac ++ p.rest)) q.front (concat q.wire ++ (q.hmac ++ q.rest)) (p.size ∙ sym q.size) (sym p.is ∙ q.is) in
     let b : decode_message p.front ≡ decode_message q.front = ap decode_message f.0 in
     let size : header_len (decode_message p.front) ≡ header_len (decode_message q.front) = ap header_len b in
@@ -43,7 +43,7 @@ seg6-one bytes h k p q =
     let t = same_parts p.hmac p.rest q.hmac q.rest tail w.1 in
     let wire : p.wire ≡ q.wire = v6_list-one p.wire q.wire p.whole q.whole w.0 in
     let key : h.hmac ≡ k.hmac = key-one q.hmac h.hmac k.hmac (subst (λ (b : List ℕ). IsKey b h.hmac) t.0 p.key) q.key in
-    let mode : h.mode ≡ k.mode = p.mode ∙ ap (λ (b : Seg6MessageBuffer). mode_of b.mode) b ∙ sym q.mode in
+    let mode : h.mode ≡ k.mode = p.mode ∙ ap (λ (b : Seg6MessageBuffer). mode_in table b.mode) b ∙ sym q.mode in
     let segments : h.segments ≡ k.segments = p.segments ∙ ap reverse wire ∙ sym q.segments in
     λ i. record { mode = mode i; segments = segments i; hmac = key i }
 
@@ -55,8 +55,8 @@ record Sizes (bytes : List ℕ) (b : Seg6MessageBuffer) : Type 0 where
   hmac : 8 + hmac_len b ≤ header_len b
   whole : (header_len b - (8 + hmac_len b)) % 16 ≡ 0
 
-sizes : (bytes : List ℕ) (h : Seg6) → IsSeg6 bytes h → Sizes bytes (decode_message (take 12 bytes))
-sizes bytes h p =
+sizes : (table : ModeTable) (bytes : List ℕ) (h : Seg6) → IsSeg6By table bytes h → Sizes bytes (decode_message (take 12 bytes))
+sizes table bytes h p =
     let tail : List ℕ = concat p.wire ++ (p.hmac ++ p.rest) in
     let same : decode_message (take 12 bytes) ≡ decode_message p.front = ap decode_message (ap (take 12) p.is ∙ take_at p.front tail 12 p.size) in
     let len : header_len (decode_message (take 12 bytes)) ≡ header_len (decode_message p.front) = ap header_len same in
@@ -79,9 +79,9 @@ fault-sound bytes b Length s q = omega (arith, s.room, q.1)
 fault-sound bytes b Hmac s q = omega (arith, s.hmac, q.2, q.3)
 fault-sound bytes b Segments s q = q.3 s.whole
 
-pub seg6-sound : (at : At) (bytes : List ℕ) (h : Seg6) (e : DecodeError) → IsSeg6 bytes h → Seg6Wrong bytes e → ⊥
-seg6-sound at bytes h (Refused fault) p q = fault-sound bytes (decode_message (take 12 bytes)) fault (sizes bytes h p) q
-seg6-sound at bytes h _ p q = q
+pub seg6-sound : (table : ModeTable) (at : At) (bytes : List ℕ) (h : Seg6) (e : DecodeError) → IsSeg6By table bytes h → Seg6Wrong bytes e → ⊥
+seg6-sound table at bytes h (Refused fault) p q = fault-sound bytes (decode_message (take 12 bytes)) fault (sizes table bytes h p) q
+seg6-sound table at bytes h _ p q = q
 
 -- ---- what is read can be held
 
@@ -91,16 +91,17 @@ key-holds hmac (Some k) is p =
     let four = IsBytes-take 4 (drop 4 hmac) (IsBytes-right (take 4 hmac) (drop 4 hmac) (subst IsBytes (sym (take-append-drop 4 hmac)) is)) in
     subst (λ (n : ℕ). n < 2 ^ 32) (sym p.1) (be32-holds (take 4 (drop 4 hmac)) four (omega (arith, p.0, length-take 4 (drop 4 hmac), length-drop 4 hmac)))
 
-pub seg6-holds : (bytes : List ℕ) (h : Seg6) → IsBytes bytes → IsSeg6 bytes h → HoldsSeg6 h
-seg6-holds bytes h is p =
+pub seg6-holds : (table : ModeTable) (bytes : List ℕ) (h : Seg6) → IsBytes bytes → IsSeg6By table bytes h → HoldsSeg6By table h
+seg6-holds table bytes h is p =
     let all : IsBytes (p.front ++ (concat p.wire ++ (p.hmac ++ p.rest))) = subst IsBytes p.is is in
     let tail = IsBytes-right p.front (concat p.wire ++ (p.hmac ++ p.rest)) all in
     let front = message.Holds-decode p.front (IsBytes-left p.front (concat p.wire ++ (p.hmac ++ p.rest)) all) p.size in
     let wire = v6_list-bytes p.wire (IsBytes-left (concat p.wire) (p.hmac ++ p.rest) tail) in
     let hmac = IsBytes-left p.hmac p.rest (IsBytes-right (concat p.wire) (p.hmac ++ p.rest) tail) in
     record {
-      mode = subst (λ (n : ℕ). n < 2 ^ 32) (sym (ap mode_number p.mode ∙ mode_number-mode_of (decode_message p.front).mode)) front.0.0;
-      formed = subst (IsFormed mode_of mode_number) (sym p.mode) (form_IsFormed mode_of mode_number mode_number-mode_of (decode_message p.front).mode);
+      mode = subst (λ (n : ℕ). n < 2 ^ 32) (sym (ap mode_number p.mode ∙ mode_number-mode_in table (decode_message p.front).mode)) front.0.0;
+      formed = subst (IsFormed (mode_in table) mode_number) (sym p.mode)
+          (form_IsFormed (mode_in table) mode_number (mode_number-mode_in table) (decode_message p.front).mode);
       whole = subst (AllOf (λ (a : List ℕ). length a ≡ 16)) (sym p.segments) (AllOf-reverse (λ (a : List ℕ). length a ≡ 16) p.wire p.whole);
       segments = subst (AllOf IsBytes) (sym p.segments) (AllOf-reverse IsBytes p.wire wire);
       key = key-holds p.hmac h.hmac hmac p.key;
@@ -124,8 +125,8 @@ key-room : (key : Option ℕ) (count : ℕ) → count ≤ most_segments key → 
 key-room None count le = (omega arith, omega arith)
 key-room (Some k) count le = (omega arith, omega arith)
 
-pub seg6-back : (kind : ℕ) (h : Seg6) → HoldsSeg6 h → seg6_misfit kind h ≡ None → IsSeg6 (seg6_bytes h) h
-seg6-back kind h holds fits =
+pub seg6-back : (table : ModeTable) (kind : ℕ) (h : Seg6) → HoldsSeg6By table h → seg6_misfit kind h ≡ None → IsSeg6By table (seg6_bytes h) h
+seg6-back table kind h holds fits =
     let count = few (most_segments h.hmac) (length h.segments)
     (none_both (too_long kind (length (seg6_bytes h))) (too_many (most_segments h.hmac) (length h.segments)) fits).1 in
     let room = key-room h.hmac (length h.segments) count in
@@ -143,7 +144,7 @@ seg6-back kind h holds fits =
       whole = wire;
       len = omega (arith, length-concat (reverse h.segments) wire, length-reverse h.segments, key-len h.hmac);
       hmac_size = key-flag h.hmac;
-      mode = holds.formed ∙ ap (λ (b : Seg6MessageBuffer). mode_of b.mode) (sym back);
+      mode = holds.formed ∙ ap (λ (b : Seg6MessageBuffer). mode_in table b.mode) (sym back);
       segments = sym (reverse-reverse h.segments);
       key = key-back h.hmac holds.key;
     }
@@ -160,9 +161,10 @@ key-as-long : (hmac : List ℕ) (key : Option ℕ) → IsKey hmac key → length
 key-as-long hmac None p = p
 key-as-long hmac (Some k) p = p.0
 
-pub seg6-grows : (bytes : List ℕ) (h : Seg6) → IsBytes bytes → IsSeg6 bytes h → 2 * framed (length (seg6_bytes h)) ≤ 5 * (4 + length bytes)
-seg6-grows bytes h is p =
-    let holds = seg6-holds bytes h is p in
+pub seg6-grows : (table : ModeTable) (bytes : List ℕ) (h : Seg6) → IsBytes bytes → IsSeg6By table bytes h
+    → 2 * framed (length (seg6_bytes h)) ≤ 5 * (4 + length bytes)
+seg6-grows table bytes h is p =
+    let holds = seg6-holds table bytes h is p in
     let count : length h.segments ≡ length p.wire = ap length p.segments ∙ length-reverse p.wire in
     let tail : List ℕ = concat p.wire ++ (p.hmac ++ p.rest) in
     let parts = length-append p.front tail in
@@ -173,20 +175,23 @@ seg6-grows bytes h is p =
     let all = ap length p.is in
     framed-grows (length (seg6_bytes h)) (length bytes) (omega (arith, seg6-len h holds.whole, count, parts, more, last, key, wire, all, p.size))
 
-abbrev pub seg6 : Codec Seg6
-seg6 = record {
-  Reads = IsSeg6;
+abbrev pub seg6_by : ModeTable → Codec Seg6
+seg6_by table = record {
+  Reads = IsSeg6By table;
   Wrong = λ at bytes e. Seg6Wrong bytes e;
   writes = seg6_bytes;
   misfit = seg6_misfit;
-  Holds = HoldsSeg6;
+  Holds = HoldsSeg6By table;
   members = λ h. 0;
-  one_reading = seg6-one;
-  no_fault = seg6-sound;
-  reads_holds = seg6-holds;
+  one_reading = seg6-one table;
+  no_fault = seg6-sound table;
+  reads_holds = seg6-holds table;
   fits_short =
       λ kind h fits. too_long-short kind (length (seg6_bytes h))
       (none_both (too_long kind (length (seg6_bytes h))) (too_many (most_segments h.hmac) (length h.segments)) fits).0;
-  reads_back = seg6-back;
-  grows = seg6-grows;
+  reads_back = seg6-back table;
+  grows = seg6-grows table;
 }
+
+abbrev pub seg6 : Codec Seg6
+seg6 = seg6_by modes

@@ -8,8 +8,9 @@ use Rattle.npr_base.specs.Layout.{le32, octets}
 use Rattle.npr_base.specs.Table.{Writing, Reading, table_of, Row, row, Held, held, held_other, held_kind, held_value}
 use Rattle.npr_base.specs.Table.{held_misfit, held-reads, IsHeld, item_of, placed, IsOther, Aligned, ReadsAt}
 use Rattle.npr_base.specs.TableLaws.{flat, other-back}
-use Rattle.npr_srh.specs.Seg6.{Seg6 as Header, seg6_of}
-use Rattle.npr_srh.specs.Seg6Codec.{seg6}
+use Rattle.npr_srh.specs.Seg6.{Seg6 as Header, seg6_of, newer as newer_header}
+use Rattle.npr_srh.specs.Seg6Codec.{seg6, seg6_by}
+use Rattle.npr_srh.specs.Seg6Mode.{ModeTable, modes}
 use Rattle.npr_srh.specs.declared.seg6.RouteSeg6IpTunnel.{RouteSeg6IpTunnel}
 use Rattle.npr_srh.specs.declared.seg6.RouteSeg6IpTunnel.TheVariants.{Seg6, Src, Table as RouteTable, Other}
 use Rattle.std.proofs.Common.{refl, arith, rules}
@@ -27,13 +28,18 @@ meaning_of (Src a) = src a
 meaning_of (RouteTable n) = table n
 meaning_of (Other d) = other d
 
+-- the member with its header brought up to the table of today
+abbrev pub newer : Meaning → Meaning
+newer (header h) = header (newer_header h)
+newer m = m
+
 abbrev pub at : ℕ → At
 at number = record { family = OfSeg6; kind = number }
 
--- the table
-abbrev pub rows : List (Row Meaning)
-rows =
-    row (at 1) seg6 header
+-- the table, by a table of modes
+abbrev pub rows : ModeTable → List (Row Meaning)
+rows by =
+    row (at 1) (seg6_by by) header
     ∷ row (at 2) (exactly (octets 16)) src
     ∷ row (at 3) (exactly le32) table
     ∷ []
@@ -46,25 +52,31 @@ place (table n) = held 3 (exactly le32) n
 place (other x) = held_other x
 
 -- what can be read
-abbrev pub Coherent : Meaning → Type 0
-Coherent (other x) = IsOther rows x
-Coherent m = IsHeld (place m)
+abbrev pub Coherent : ModeTable → Meaning → Type 0
+Coherent by (header h) = (seg6_by by).Holds h
+Coherent by (other x) = IsOther (rows by) x
+Coherent by m = IsHeld (place m)
 
-pub aligned : Aligned (λ m. item_of (place m)) Coherent rows
-aligned = search rules
+pub aligned : (by : ModeTable) → Aligned (λ m. item_of (place m)) (Coherent by) (rows by)
+aligned by = search rules
 
-pub kinds : (m : Meaning) → Coherent m → held_kind (place m) < 2 ^ 16
-kinds (other x) c = c.proper.kind
-kinds m c = omega arith
+pub kinds : (by : ModeTable) (m : Meaning) → Coherent by m → held_kind (place m) < 2 ^ 16
+kinds by (other x) c = c.proper.kind
+kinds by m c = omega arith
 
-pub back : (m : Meaning) → Coherent m → held_misfit (place m) ≡ None → ReadsAt other rows (number_of (item_of (place m)).kind) (item_of (place m)) m
-back (other x) c fits = other-back other rows (number_of x.kind) x c.alone
-back m c fits = (held_value (place m), held-reads (place m) c fits, refl)
+pub back : (by : ModeTable) (m : Meaning) → Coherent by m → held_misfit (place m) ≡ None
+    → ReadsAt other (rows by) (number_of (item_of (place m)).kind) (item_of (place m)) m
+back by (other x) c fits = other-back other (rows by) (number_of x.kind) x c.alone
+back by (header h) c fits = (h, (seg6_by by).reads_back 1 h c fits, refl)
+back by m c fits = (held_value (place m), held-reads (place m) c fits, refl)
 
 -- how each is written
 abbrev pub writing : Writing Meaning
 writing = placed place
 
--- the family
+-- the family, by a table of modes and by that of today
+abbrev pub members_by : ModeTable → Reading writing
+members_by by = flat (table_of (rows by) other place (Coherent by) (aligned by) (λ x. refl) (λ x is. is) (kinds by) (back by))
+
 abbrev pub members : Reading writing
-members = flat (table_of rows other place Coherent aligned (λ x. refl) (λ x is. is) kinds back)
+members = members_by modes

@@ -11,6 +11,12 @@ pub enum Seg6Mode {
     Inline,
     /// With a header of IP around the packet.
     Encap,
+    /// With a header of IP around the frame of Ethernet.
+    L2Encap,
+    /// As `Encap`, without the first segment in the routing header.
+    EncapRed,
+    /// As `L2Encap`, without the first segment in the routing header.
+    L2EncapRed,
     /// Any other number.
     Other(u32),
 }
@@ -22,6 +28,9 @@ impl From<u32> for Seg6Mode {
         match number {
             0 => Seg6Mode::Inline,
             1 => Seg6Mode::Encap,
+            2 => Seg6Mode::L2Encap,
+            3 => Seg6Mode::EncapRed,
+            4 => Seg6Mode::L2EncapRed,
             _ => Seg6Mode::Other(number),
         }
     }
@@ -34,6 +43,9 @@ impl From<Seg6Mode> for u32 {
         match mode {
             Seg6Mode::Inline => 0,
             Seg6Mode::Encap => 1,
+            Seg6Mode::L2Encap => 2,
+            Seg6Mode::EncapRed => 3,
+            Seg6Mode::L2EncapRed => 4,
             Seg6Mode::Other(number) => number,
         }
     }

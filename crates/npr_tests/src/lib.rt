@@ -25,6 +25,7 @@ mod lists;
 #[cfg(test)]
 mod lone;
 #[cfg(test)]
+mod modes;
 mod next_hops;
 #[cfg(test)]
 mod route;

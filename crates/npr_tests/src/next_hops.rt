@@ -81,7 +81,13 @@ fn one(alloc: Global, attribute: RouteAttribute) -> Result<RouteAttribute, Alloc
 }
 
 /// Two next hops, by the interfaces 2 and 3; the first has a preference.
-const TWO: &str = "19000900 0d000000 02000000 05001400 01 08000000 03000000 000000";
+const TWO: &str = "1c000900 0d000000 02000000 05001400 01aabbcc 08000000 03000000";
+
+/// The same without padding behind the first, so that none begins where the second should.
+const UNPADDED: &str = "19000900 0d000000 02000000 05001400 01 08000000 03000000 000000";
+
+/// Nine bytes of a next hop, the last of which is no attribute, and what would be its padding.
+const A_BYTE_INSIDE: &str = "0d000900 09000000 01000000 00 00000000";
 
 fn two(alloc: Global) -> Result<Vec<RouteNextHop>, AllocError> {
     let preference = vec![in alloc; RouteAttribute::Preference(RoutePreference::High)]?;
@@ -104,8 +110,10 @@ const INSIDE: &str = "18000900 14000000 01000000 0c000900 08000000 01000000";
 fn rewrites_next_hops(rt: HostRuntime) -> Result<(), Fail> {
     let lines = "
         04000900
-        19000900 0d000000 02000000 05001400 01 08000000 03000000 000000 -> \
-            1c000900 10000000 02000000 05001400 01000000 08000000 03000000 # Nothing is rounded.
+        1c000900 0d000000 02000000 05001400 01aabbcc 08000000 03000000 -> \
+            1c000900 10000000 02000000 05001400 01000000 08000000 03000000 # By a multiple of four.
+        11000900 0d000000 02000000 05001400 01 -> \
+            14000900 10000000 02000000 05001400 01000000 # The last may have no padding.
         21000900 10000000 02000000 05001400 01aabbcc 0d00ff07 03000000 05001400 01000000 -> \
             24000900 10000000 02000000 05001400 01000000 1000ff07 03000000 05001400 01000000";
     rewrites_lines::<RouteMessage>(&rt, INET, lines)?;
@@ -145,7 +153,7 @@ fn encapsulating<const N: usize>(
     Ok(RouteAttribute::MultiPath(vec![in alloc; hop]?))
 }
 
-/// The type of the message's own list governs its next hops.
+/// The type of the message's own list governs a next hop that has none.
 #[test]
 fn the_type_outside_governs(rt: HostRuntime) -> Result<(), Fail> {
     let stack = RouteMplsIpTunnel::Destination([LABEL].to_vec(rt.alloc())?);
@@ -153,13 +161,41 @@ fn the_type_outside_governs(rt: HostRuntime) -> Result<(), Fail> {
     reads::<RouteMessage, _>(&rt, &[INET, TYPE_OUTSIDE], [hops, OF_MPLS])
 }
 
-/// A type inside a next hop governs nothing.
+/// A type inside a next hop governs it.
 #[test]
-fn the_type_inside_governs_nothing(rt: HostRuntime) -> Result<(), Fail> {
-    let kept = DefaultNla::new(1, [0, 6, 0x41, 0xff].to_vec(rt.alloc())?);
-    let member = RouteLwTunnelEncap::Other(kept);
-    let hops = encapsulating(rt.alloc(), member, [OF_MPLS])?;
+fn the_type_inside_governs(rt: HostRuntime) -> Result<(), Fail> {
+    let stack = RouteMplsIpTunnel::Destination([LABEL].to_vec(rt.alloc())?);
+    let hops = encapsulating(rt.alloc(), RouteLwTunnelEncap::Mpls(stack), [OF_MPLS])?;
     reads::<RouteMessage, _>(&rt, &[INET, TYPE_INSIDE], [hops])
+}
+
+/// It governs neither what stands beside the list nor the next hop behind it.
+#[test]
+fn the_type_inside_governs_no_other(rt: HostRuntime) -> Result<(), Fail> {
+    let kept = DefaultNla::new(1, [0, 6, 0x41, 0xff].to_vec(rt.alloc())?);
+    let encap = RouteAttribute::Encap(vec![in rt.alloc(); RouteLwTunnelEncap::Other(kept)]?);
+    let first = by(rt.alloc(), 1, vec![in rt.alloc(); OF_MPLS]?);
+    let second = by(
+        rt.alloc(),
+        2,
+        vec![in rt.alloc(); encap.clone(rt.alloc())?]?,
+    );
+    let hops = RouteAttribute::MultiPath(vec![in rt.alloc(); first, second]?);
+    let list = "28000900 10000000 01000000 06001500 01000000 14000000 02000000";
+    let member = "0c001600 08000100 000641ff";
+    reads::<RouteMessage, _>(&rt, &[INET, list, member, member], [hops, encap])
+}
+
+/// It governs the next hops inside, where they have none.
+#[test]
+fn the_type_inside_governs_what_it_holds(rt: HostRuntime) -> Result<(), Fail> {
+    let stack = RouteMplsIpTunnel::Destination([LABEL].to_vec(rt.alloc())?);
+    let inner = encapsulating(rt.alloc(), RouteLwTunnelEncap::Mpls(stack), [])?;
+    let hop = by(rt.alloc(), 1, vec![in rt.alloc(); inner, OF_MPLS]?);
+    let outer = RouteAttribute::MultiPath(vec![in rt.alloc(); hop]?);
+    let text = "2c000900 28000000 01000000 18000900 14000000 02000000
+        0c001600 08000100 000641ff 06001500 01000000";
+    reads::<RouteMessage, _>(&rt, &[INET, text], [outer])
 }
 
 #[test]
@@ -168,11 +204,11 @@ fn refuses_lists(rt: HostRuntime) -> Result<(), Fail> {
     refuses::<RouteMessage>(&rt, &[INET, "0c000900 07000000 01000000"], fault)?;
     let fault = DecodeError::NextHopTooShort { got: 7 };
     refuses::<RouteMessage>(&rt, &[INET, "0b000900 08000000 01000000"], fault)?;
-    // The second begins behind 13 bytes, with what would be padding.
-    let length = 0xbbaa;
-    let fault = DecodeError::NextHopLength { length, left: 11 };
-    let text = "1c000900 0d000000 02000000 05001400 01aabbcc 08000000 03000000";
-    refuses::<RouteMessage>(&rt, &[INET, text], fault)
+    // The first has 13 bytes, and the second should begin behind three more.
+    let fault = DecodeError::NextHopTooShort { got: 5 };
+    refuses::<RouteMessage>(&rt, &[INET, UNPADDED], fault)?;
+    let fault = DecodeError::AttributeTooShort { got: 1 };
+    refuses::<RouteMessage>(&rt, &[INET, A_BYTE_INSIDE], fault)
 }
 
 /// The looks at headers that the reading of a route takes, those that found one and those that
@@ -184,15 +220,18 @@ fn looks_at(rt: &impl AllocGlobal, texts: &[&str]) -> Result<(u64, u64), Fail> {
     Ok((looks.successful(), looks.failed()))
 }
 
-/// Each attribute of a message is looked at twice, and what stands inside it once.
+/// Each attribute of a message or of a next hop is looked at twice, up to the type that governs it
+/// or to a fault, and all else once.
 #[test]
 fn counts_looks(rt: HostRuntime) -> Result<(), Fail> {
     same(&rt, looks_at(&rt, &[INET])?, (0, 0));
     same(&rt, looks_at(&rt, &[INET, "080001"])?, (0, 2));
     let encapsulation = "0c001600 08000100 000641ff 06001500 01000000";
     same(&rt, looks_at(&rt, &[INET, encapsulation])?, (5, 0));
-    same(&rt, looks_at(&rt, &[INET, TWO])?, (5, 0));
-    same(&rt, looks_at(&rt, &[INET, INSIDE])?, (5, 0));
+    same(&rt, looks_at(&rt, &[INET, TWO])?, (6, 0));
+    same(&rt, looks_at(&rt, &[INET, UNPADDED])?, (5, 1));
+    same(&rt, looks_at(&rt, &[INET, A_BYTE_INSIDE])?, (3, 3));
+    same(&rt, looks_at(&rt, &[INET, INSIDE])?, (6, 0));
     Ok(())
 }
 
@@ -235,7 +274,7 @@ fn reads_to_the_depth(rt: HostRuntime) -> Result<(), Fail> {
     let bytes = nested(&rt, 5_461, &[])?;
     let mut looks = Looks::new();
     let message = RouteMessage::parse_counted(rt.alloc(), bytes.as_slice(), &mut looks)?;
-    same(&rt, (looks.successful(), looks.failed()), (10_923, 0));
+    same(&rt, (looks.successful(), looks.failed()), (16_383, 0));
     same(&rt, depth(message.attributes), 5_461);
     Ok(())
 }
@@ -247,7 +286,7 @@ fn refuses_in_the_depth(rt: HostRuntime) -> Result<(), Fail> {
     let message = RouteMessage::parse_counted(rt.alloc(), bytes.as_slice(), &mut looks);
     let fault = DecodeError::AttributeLength { length: 3, left: 4 };
     same(&rt, message.err(), Some(fault));
-    same(&rt, (looks.successful(), looks.failed()), (10_001, 1));
+    same(&rt, (looks.successful(), looks.failed()), (15_000, 2));
     Ok(())
 }
 
@@ -256,7 +295,7 @@ fn rewrites_a_hundred_levels(rt: HostRuntime) -> Result<(), Fail> {
     let bytes = nested(&rt, 100, &[])?;
     let mut looks = Looks::new();
     let message = RouteMessage::parse_counted(rt.alloc(), bytes.as_slice(), &mut looks)?;
-    same(&rt, (looks.successful(), looks.failed()), (201, 0));
+    same(&rt, (looks.successful(), looks.failed()), (300, 0));
     holds(
         &rt,
         message == RouteMessage::parse(rt.alloc(), bytes.as_slice())?,
@@ -297,10 +336,13 @@ const CONTEXT: (AddressFamily, RouteType, RouteLwEnCapType) = (
 
 #[test]
 fn a_list_by_itself(rt: HostRuntime) -> Result<(), Fail> {
-    let bytes = bytes_of(&rt, &["0d000000 02000000 05001400 01 08000000 03000000"])?;
+    let bytes = bytes_of(
+        &rt,
+        &["0d000000 02000000 05001400 01aabbcc 08000000 03000000"],
+    )?;
     let mut looks = Looks::new();
     let hops = read_next_hops(rt.alloc(), bytes.as_slice(), CONTEXT, &mut looks)?;
-    same(&rt, (looks.successful(), looks.failed()), (3, 0));
+    same(&rt, (looks.successful(), looks.failed()), (4, 0));
     holds(&rt, hops == two(rt.alloc())?);
     Ok(())
 }

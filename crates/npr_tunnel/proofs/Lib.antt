@@ -1,3 +1,4 @@
 pub mod Groups
 pub mod Options
 pub mod Texts
+pub mod EncapsulationNewerLaws

@@ -6,6 +6,7 @@ use Rattle.npr_base.specs.Table.{Writing, Reading, Held, held_other, placed}
 use Rattle.npr_srh.specs.Ioam6Tunnel as OfIoam6
 use Rattle.npr_srh.specs.RplTunnel as OfRpl
 use Rattle.npr_srh.specs.Seg6LocalTunnel as OfSeg6Local
+use Rattle.npr_srh.specs.Seg6Mode.{ModeTable, modes}
 use Rattle.npr_srh.specs.Seg6Tunnel as OfSeg6
 use Rattle.npr_tunnel.specs.IpTunnel as OfIp
 use Rattle.npr_tunnel.specs.MplsTunnel as OfMpls
@@ -56,14 +57,23 @@ place (other x) = held_other x
 abbrev pub writing : Writing Meaning
 writing = placed place
 
--- the family of a type
+-- the family of a type, by a table of SEG6 modes
+abbrev pub encapsulation_by : ModeTable → RouteLwEnCapType → Reading writing
+encapsulation_by by Mpls = wrapped OfMpls.members mpls writing (λ m. refl) (λ m. refl)
+encapsulation_by by Seg6 = wrapped (OfSeg6.members_by by) seg6 writing (λ m. refl) (λ m. refl)
+encapsulation_by by Ip = wrapped OfIp.members ip writing (λ m. refl) (λ m. refl)
+encapsulation_by by Ip6 = wrapped OfIp.members6 ip6 writing (λ m. refl) (λ m. refl)
+encapsulation_by by Ioam6 = wrapped OfIoam6.members ioam6 writing (λ m. refl) (λ m. refl)
+encapsulation_by by Rpl = wrapped OfRpl.members rpl writing (λ m. refl) (λ m. refl)
+encapsulation_by by Seg6Local = wrapped OfSeg6Local.members seg6_local writing (λ m. refl) (λ m. refl)
+encapsulation_by by Xfrm = wrapped OfXfrm.members xfrm writing (λ m. refl) (λ m. refl)
+encapsulation_by by type = wrapped kept other writing (λ x. refl) (λ x. refl)
+
+-- and by that of today
 abbrev pub encapsulation : RouteLwEnCapType → Reading writing
-encapsulation Mpls = wrapped OfMpls.members mpls writing (λ m. refl) (λ m. refl)
-encapsulation Seg6 = wrapped OfSeg6.members seg6 writing (λ m. refl) (λ m. refl)
-encapsulation Ip = wrapped OfIp.members ip writing (λ m. refl) (λ m. refl)
-encapsulation Ip6 = wrapped OfIp.members6 ip6 writing (λ m. refl) (λ m. refl)
-encapsulation Ioam6 = wrapped OfIoam6.members ioam6 writing (λ m. refl) (λ m. refl)
-encapsulation Rpl = wrapped OfRpl.members rpl writing (λ m. refl) (λ m. refl)
-encapsulation Seg6Local = wrapped OfSeg6Local.members seg6_local writing (λ m. refl) (λ m. refl)
-encapsulation Xfrm = wrapped OfXfrm.members xfrm writing (λ m. refl) (λ m. refl)
-encapsulation type = wrapped kept other writing (λ x. refl) (λ x. refl)
+encapsulation type = encapsulation_by modes type
+
+-- the member with its header, if it is a SEG6 one, brought up to the table of today
+abbrev pub newer : Meaning → Meaning
+newer (seg6 m) = seg6 (OfSeg6.newer m)
+newer m = m

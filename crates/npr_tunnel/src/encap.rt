@@ -1,7 +1,7 @@
 //! The members of an encapsulation, by its type.
 
 ghost use Rattle.std.specs.Prelude.{◌≡◌, false, IfOk, refl};
-ghost use Rattle.npr_tunnel.specs.Encapsulation.{Meaning, meaning_of, writing, encapsulation};
+ghost use Rattle.npr_tunnel.specs.Encapsulation.{Meaning, meaning_of, newer, writing, encapsulation};
 
 use crate::encap_type::RouteLwEnCapType;
 use crate::ip::RouteIpTunnel;
@@ -56,6 +56,15 @@ impl RouteLwTunnelEncap {
             RouteLwTunnelEncap::Seg6Local(x) => x.clone(alloc).map(RouteLwTunnelEncap::Seg6Local),
             RouteLwTunnelEncap::Xfrm(x) => x.clone(alloc).map(RouteLwTunnelEncap::Xfrm),
             RouteLwTunnelEncap::Other(x) => x.clone(alloc).map(RouteLwTunnelEncap::Other),
+        }
+    }
+
+    /// Gives the mode of a SEG6 header the name that its number has today: `Seg6Header::normalize`.
+    pub fn normalize(&mut self)
+        ensures { meaning_of self.new ≡ newer (meaning_of self.old) }
+    {
+        if let RouteLwTunnelEncap::Seg6(RouteSeg6IpTunnel::Seg6(header)) = self {
+            header.normalize();
         }
     }
 }

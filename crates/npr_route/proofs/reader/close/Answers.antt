@@ -1,17 +1,18 @@
-use Rattle.std.proofs.Common.{◌≡◌, ◌<◌, [], ◌∷◌, ◌++◌, map, length, ap, sym, ◌∙◌, subst, refl, arith}
+use Rattle.std.proofs.Common.{◌≡◌, ◌<◌, [], ◌∷◌, ◌++◌, map, length, ap, ◌∙◌, subst, arith}
 use Rattle.std.proofs.lemmas.Bool.Decides.{nat_tests}
 use Rattle.std.proofs.lemmas.List.{map_push, nil_from_length}
 use Rattle.std.proofs.lemmas.Result.{err_from_is_err_and}
 use Rattle.npr_base.specs.Family.{list_members}
-use Rattle.npr_base.proofs.Lists.{ReadsTo-none, ReadsTo-more}
+use Rattle.npr_base.proofs.Lists.{ReadsTo-more}
 use Rattle.npr_base.proofs.Looking.{list_members-more}
 use Rattle.npr_route.specs.Attribute.{Meaning, Reads, AreHops, multi_path, no_hop_in_front, members, hops_members}
 use Rattle.npr_route.specs.AttributeView.{meaning_of, hop_of, hops_of}
 use Rattle.npr_route.specs.NextHopFrontLaws.{HopFront-length}
-use Rattle.npr_route.specs.Reader.{IsAt, Chain, hop_members, weight_of, room_of, built_of, level_built}
+use Rattle.npr_route.specs.NextHopHeader.{head_in}
+use Rattle.npr_route.specs.Reader.{IsAt, Chain, Opens, context_inside, account_of, hop_members, weight_of, level_built, stopped}
 use Rattle.npr_route.specs.declared.attribute.RouteAttribute.TheVariants.{MultiPath}
 use Rattle.npr_route.proofs.Views.{view_multi_path}
-use Rattle.npr_route.proofs.Reading.{closes, closed_hop, closed_count, hops_closed, whole, chain_none, chain_pop, chain_wrong, hops_wrong_behind, hops_count, weight_push, room_push, built_push, Added-none, Added-hit}
+use Rattle.npr_route.proofs.Reading.{closes, closed_hop, closed_count, hops_closed, whole, chain_none, chain_pop, chain_wrong, hops_wrong_behind, hops_count, weight_push, account_push, opened_at, room_open, built_open, Added-none, Added-open}
 use Rattle.npr_route.proofs.reader.close.Goals as goal
 
 pub returns-in_default-clause-ok : goal.returns-in_default-clause-ok
@@ -20,12 +21,14 @@ returns-in_default-clause-ok c =
     let fs = c.args.reading.stack.items in
     let hops = hops_closed l c.from_bits_retain.result c.push.new.self.items (c.from_bits_retain.ensures tt) c.in_ok-push.ensures.items in
     let nil : l.hops_rest.now ≡ [] = nil_from_length _ (grind (arith, nat_tests)) in
-    let none : length fs ≡ 0 = omega (arith, c.args.reading.stack.ok.0, c.in_default.ensures.cases) in (
-      λ bytes t.
-          let done = closes l.context t.0 l (subst (λ w. IsAt l.context t.0 l w) c.requires t.1) in
+    let none : length fs ≡ 0 = omega (arith, c.args.reading.stack.ok.0, c.in_default.ensures.cases) in
+    let empty : fs ≡ [] = nil_from_length fs none in (
+      λ d bytes t.
+          let done = closes t.0 l (subst (λ w. IsAt t.0 l w) c.requires t.1) in
           let all = whole l.context t.0 l.hops_rest.now _ nil done in
-          rw hops (subst (λ b. AreHops l.context b (hops_of (map hop_of l.next_hops.items ++ closed_hop l ∷ []))) (sym (chain_none l.context bytes fs t.0 none t.2)) all),
-      Added-none c.args.looks.now _ 0 _ _ (omega arith) (rw hops (omega (arith, closed_count l))),
+          let here = chain_none d bytes fs l.context t.0 none t.2 in
+          rw (hops, here.0, here.1) all,
+      rw hops (Added-none c.args.looks.now _ _ (omega arith) (omega (arith, ap stopped c.requires, ap (λ z. (account_of z).stops) empty)) (omega (arith, closed_count l))),
     )
 
 pub returns-then-is_empty-clause-ok : goal.returns-then-is_empty-clause-ok
@@ -38,43 +41,47 @@ returns-then-is_empty-clause-ok c =
     let nil : l.hops_rest.now ≡ [] = nil_from_length _ (grind (arith, nat_tests)) in
     let more : map meaning_of c.push-then-is_empty.new.self.items ≡ map meaning_of f.attributes.items ++ multi_path (hops_of (map hop_of v.items)) ∷ [] =
     ap (map meaning_of) c.in_ok-push-2.ensures.items ∙ map_push meaning_of f.attributes.items (MultiPath v) ∙ ap (λ (m : Meaning). map meaning_of f.attributes.items ++ m ∷ []) (view_multi_path v) in
-    let held : hops_members (hops_of (map hop_of v.items)) ≡ level_built l = hops_count (map hop_of v.items) ∙ ap (list_members hop_members) hops ∙ closed_count l in (
-      λ bytes t.
-          let p = chain_pop l.context bytes fs f t.0 (subst (λ z. Chain l.context bytes z t.0) c.in-Some.ensures.items t.2) in
-          let done = closes l.context t.0 l (subst (λ w. IsAt l.context t.0 l w) c.requires t.1) in
+    let held : hops_members (hops_of (map hop_of v.items)) ≡ level_built l = hops_count (map hop_of v.items) ∙ ap (list_members hop_members) hops ∙ closed_count l in
+    let pushed = account_push fs f in
+    let popped = c.in-Some.ensures.items in (
+      λ d bytes t.
+          let p = chain_pop d bytes fs f l.context t.0 (subst (λ z. Chain d bytes z l.context t.0) popped t.2) in
+          let done = closes t.0 l (subst (λ w. IsAt t.0 l w) c.requires t.1) in
           let all : AreHops l.context t.0 (hops_of (map hop_of v.items)) = rw hops (whole l.context t.0 l.hops_rest.now _ nil done) in
           let w = p.2 in
-          let inner = subst (λ b. AreHops l.context b (hops_of (map hop_of v.items))) (sym w.value_is) all in
-          let read = ReadsTo-more (Reads l.context) w.at.inside (map meaning_of f.attributes.items) w.place w.item (multi_path (hops_of (map hop_of v.items))) f.walk w.at.read w.begins (w.is_nine, inner) in
-          (p.0, record { own = w.at.own; front = w.at.front; inside = w.at.inside; done = w.at.done; is_open = w.at.is_open; read = rw more read }, p.1),
-      omega (arith, ap weight_of c.in-Some.ensures.items, weight_push fs f),
-      Added-none c.args.looks.now _ _ _ _ (omega (arith, ap room_of c.in-Some.ensures.items, room_push fs f))
-          (omega (arith, ap built_of c.in-Some.ensures.items, built_push fs f, ap (list_members members) more, list_members-more members (map meaning_of f.attributes.items) (multi_path (hops_of (map hop_of v.items))), held)),
+          let inner : AreHops (context_inside f) w.item.value (hops_of (map hop_of v.items)) = rw (w.value_is, p.3) all in
+          let read = ReadsTo-more (Reads (context_inside f)) w.at.inside (map meaning_of f.attributes.items) w.place w.item (multi_path (hops_of (map hop_of v.items))) f.walk w.at.read w.begins (w.is_nine, inner) in
+          (p.0, record { front = w.at.front; inside = w.at.inside; done = w.at.done; is_open = w.at.is_open; governs = w.at.governs; read = rw more read }, p.1),
+      omega (arith, ap weight_of popped, weight_push fs f),
+      rw popped (Added-none c.args.looks.now _ _ (omega (arith, pushed.room)) (omega (arith, pushed.stops, ap stopped c.requires))
+          (omega (arith, pushed.built, ap (list_members members) more, list_members-more members (map meaning_of f.attributes.items) (multi_path (hops_of (map hop_of v.items))), held))),
     )
 
-pub returns-in_err-header-clause-refused : goal.returns-in_err-header-clause-refused
-returns-in_err-header-clause-refused c =
+pub returns-in_err-next-clause-refused : goal.returns-in_err-next-clause-refused
+returns-in_err-next-clause-refused c =
     let l = c.args.reading.level in
-    let p = err_from_is_err_and c.from_residual-in_err-header.result c.from_residual-in_err-header.ensures.1 in
+    let p = err_from_is_err_and c.from_residual-in_err-next.result c.from_residual-in_err-next.ensures.1 in
     let left : 0 < length l.hops_rest.now = grind (arith, nat_tests) in
-    rw (p.1, p.2) (λ other bytes t.
-    let done = closes l.context t.0 l (subst (λ w. IsAt l.context t.0 l w) c.requires t.1) in
-    chain_wrong l.context bytes c.args.reading.stack.items t.0 _ t.2
-    (hops_wrong_behind l.context t.0 l.hops_rest.now (map hop_of l.next_hops.items ++ closed_hop l ∷ []) _ done (no_hop_in_front left c.in_err-header.ensures.refused.1)))
+    rw (p.1, p.2) (λ other d bytes t.
+    let done = closes t.0 l (subst (λ w. IsAt t.0 l w) c.requires t.1) in
+    chain_wrong d bytes c.args.reading.stack.items l.context t.0 _ t.2
+    (hops_wrong_behind l.context t.0 l.hops_rest.now (map hop_of l.next_hops.items ++ closed_hop l ∷ []) _ done (no_hop_in_front left c.in_err-next.ensures.refused.1)))
 
 pub returns-clause-ok : goal.returns-clause-ok
 returns-clause-ok c =
     let l = c.args.reading.level in
-    let o = c.in_ok-header in
+    let o = c.in_ok-next in
+    let next = o.next in
     let hops = hops_closed l c.from_bits_retain.result c.push.new.self.items (c.from_bits_retain.ensures tt) c.in_ok-push.ensures.items in
-    let size = HopFront-length l.hops_rest.now _ o.inside.now o.hops_rest.now o.ensures.ok in
-    let walk : length c.new-2.result ≡ length o.inside.now = ap length c.new-2.ensures in
+    let opens : Opens l.context l.hops_rest.now c.push.new.self.items next = o.ensures.ok in
+    let front = HopFront-length l.hops_rest.now (head_in next.header) next.walk next.hops_rest.now opens.front in
     let none : length l.walk ≡ 0 = ap length c.requires in (
-      λ bytes t.
-          let done = closes l.context t.0 l (subst (λ w. IsAt l.context t.0 l w) c.requires t.1) in
-          let read = ReadsTo-none (Reads l.context) o.inside.now in
-          (t.0, record { own = refl; front = l.hops_rest.now; inside = o.inside.now; done = rw hops done; is_open = o.ensures.ok; read = rw (c.new.ensures.items, c.new-2.ensures) read }, t.2),
-      omega (arith, size, walk, none),
-      Added-hit c.args.looks.now c.open_hop.new.looks _ _ _ _ o.ensures.hits (omega (arith, size, walk, none))
-          (rw (hops, c.new.ensures.items) (omega (arith, closed_count l))),
+      λ d bytes t.
+          let done = closes t.0 l (subst (λ w. IsAt t.0 l w) c.requires t.1) in
+          (t.0, opened_at l.context t.0 l.hops_rest.now next c.push.new.self.items opens (rw hops done), rw opens.context t.2),
+      omega (arith, front, none),
+      Added-open next.walk c.args.looks.now c.open.new.looks _ _ o.ensures.sought
+          (omega (arith, room_open l.context l.hops_rest.now c.push.new.self.items next opens))
+          (omega (arith, ap stopped c.requires))
+          (omega (arith, built_open l.context l.hops_rest.now c.push.new.self.items next opens, ap (list_members hop_members) hops, closed_count l)),
     )

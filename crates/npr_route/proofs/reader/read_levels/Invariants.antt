@@ -1,12 +1,12 @@
-use Rattle.std.proofs.Common.{◌/◌, length, List, ℕ}
+use Rattle.std.proofs.Common.{length, List, ℕ}
 use Rattle.npr_route.specs.Attribute.{HopHead, HopFront}
-use Rattle.npr_route.specs.Reader.{Tied, room, built, weight, Added}
+use Rattle.npr_route.specs.Reader.{Tied, account, unread, weight, Added}
 use Rattle.npr_route.proofs.reader.read_levels.Given as goal
 
 abbrev pub invariant-loop-next : goal.invariant-loop-next
 invariant-loop-next l = record {
   tied : Tied l.fn.context l.bytes l.reading;
-  looks : Added l.fn.looks l.looks (length l.bytes / 4) (room l.reading) 0 (built l.reading);
+  looks : Added l.fn.looks l.looks (unread (length l.bytes)) (account l.reading);
   begun : (h : HopHead) × (inside : List ℕ) × (rest : List ℕ) × HopFront l.bytes h inside rest;
 }
 

@@ -1,4 +1,4 @@
-use Rattle.std.proofs.Common.{rules, arith, ◌++◌, ◌∷◌, [], Some, Ok, refl, sym, ap, ◌∙◌, append_assoc, List, ℕ}
+use Rattle.std.proofs.Common.{rules, arith, ◌++◌, ◌∷◌, [], Ok, refl, sym, ap, ◌∙◌, append_assoc, List, ℕ}
 use Rattle.std.proofs.Output.{displays_on_IsOk_append, displays_on_ok_of_eq, displays_on_ok_weaken}
 use Rattle.std.specs.Iterator.Adapters.{rev_source}
 use Rattle.std.specs.Slice.Iter.{iter_rest}

@@ -1,0 +1,16 @@
+//! A route that a program has stored as a value, and that an older version of the library made.
+
+ghost use Rattle.std.specs.Prelude.{◌≡◌};
+ghost use Rattle.netlink_packet_route.specs.RouteMessage.{message_of, newer_route};
+
+use netlink_packet_route::route::{RouteMessage, normalize};
+
+/// The route as a parser of today gives it: each mode of a SEG6 header has the name that its number
+/// has now. Its canonical bytes are what they were.
+pub fn restored(stored: RouteMessage) -> RouteMessage
+    ensures { message_of result ≡ newer_route (message_of stored) }
+{
+    let mut route = stored;
+    normalize(&mut route);
+    route
+}

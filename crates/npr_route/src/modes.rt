@@ -1,0 +1,111 @@
+//! Values of an older table of SEG6 modes, brought up to the table of today. It goes down as
+//! checking and writing do, and takes no memory.
+
+ghost use Rattle.std.specs.Prelude.{◌≡◌, map, Vec};
+ghost use Rattle.npr_tunnel.specs.Encapsulation.{meaning_of as member_of, newer as newer_member};
+ghost use Rattle.npr_route.specs.{
+  Attribute.{newer, newer_hop},
+  AttributeView.{meaning_of, hop_of},
+  Message.{message_of, newer_route},
+};
+
+use crate::attribute::RouteAttribute;
+use crate::message::RouteMessage;
+use crate::next_hops::RouteNextHop;
+use npr_tunnel::RouteLwTunnelEncap;
+use std::alloc::Global;
+use std::mem;
+
+/// Gives the mode of each SEG6 header in the message, at any depth, the name that its number has
+/// today, where the message is of a time in which it had none (`docs/CHANGES.md`). What is written
+/// stays the same.
+pub fn normalize(message: &mut RouteMessage)
+    // Each header is brought up, and all else is as it was.
+    ensures { message_of message.new ≡ newer_route (message_of message.old) }
+{
+    normalize_attributes(message.attributes.as_mut_slice());
+}
+
+fn normalize_members(members: &mut [RouteLwTunnelEncap])
+    ensures { map member_of members.new ≡ map newer_member (map member_of members.old) }
+{
+    for member in members.iter_mut() {
+        member.normalize();
+    }
+}
+
+#[cycle(normalize)]
+fn normalize_attribute(attribute: &mut RouteAttribute)
+    ensures { meaning_of attribute.new ≡ newer (meaning_of attribute.old) }
+{
+    match attribute {
+        RouteAttribute::Encap(members) => normalize_members(members.as_mut_slice()),
+        RouteAttribute::MultiPath(_) => normalize_multi_path(attribute),
+        RouteAttribute::Destination(_)
+        | RouteAttribute::Source(_)
+        | RouteAttribute::Iif(_)
+        | RouteAttribute::Oif(_)
+        | RouteAttribute::Gateway(_)
+        | RouteAttribute::Priority(_)
+        | RouteAttribute::PrefSource(_)
+        | RouteAttribute::Metrics(_)
+        | RouteAttribute::Realm(_)
+        | RouteAttribute::CacheInfo(_)
+        | RouteAttribute::Table(_)
+        | RouteAttribute::Mark(_)
+        | RouteAttribute::MfcStats(_)
+        | RouteAttribute::Via(_)
+        | RouteAttribute::NewDestination(_)
+        | RouteAttribute::NewDestinationAddress(_)
+        | RouteAttribute::Preference(_)
+        | RouteAttribute::EncapType(_)
+        | RouteAttribute::Expires(_)
+        | RouteAttribute::MulticastExpires(_)
+        | RouteAttribute::Uid(_)
+        | RouteAttribute::TtlPropagate(_)
+        | RouteAttribute::IpProto(_)
+        | RouteAttribute::Sport(_)
+        | RouteAttribute::Dport(_)
+        | RouteAttribute::NhId(_)
+        | RouteAttribute::Flowlabel(_)
+        | RouteAttribute::Other(_) => {}
+    }
+}
+
+/// The list is taken out, and put in again.
+#[cycle(normalize)]
+fn normalize_multi_path(attribute: &mut RouteAttribute)
+    requires { (v : Vec RouteNextHop Global) × (attribute.now ≡ RouteAttribute.MultiPath v) }
+    ensures { meaning_of attribute.new ≡ newer (meaning_of attribute.old) }
+{
+    let taken = mem::replace(attribute, RouteAttribute::Uid(0));
+    if let RouteAttribute::MultiPath(mut hops) = taken {
+        normalize_hops(hops.as_mut_slice());
+        *attribute = RouteAttribute::MultiPath(hops);
+    }
+}
+
+#[cycle(normalize)]
+fn normalize_attributes(attributes: &mut [RouteAttribute])
+    ensures { map meaning_of attributes.new ≡ map newer (map meaning_of attributes.old) }
+{
+    for attribute in attributes.iter_mut() {
+        normalize_attribute(attribute);
+    }
+}
+
+#[cycle(normalize)]
+fn normalize_hop(hop: &mut RouteNextHop)
+    ensures { hop_of hop.new ≡ newer_hop (hop_of hop.old) }
+{
+    normalize_attributes(hop.attributes.as_mut_slice());
+}
+
+#[cycle(normalize)]
+fn normalize_hops(hops: &mut [RouteNextHop])
+    ensures { map hop_of hops.new ≡ map newer_hop (map hop_of hops.old) }
+{
+    for hop in hops.iter_mut() {
+        normalize_hop(hop);
+    }
+}
