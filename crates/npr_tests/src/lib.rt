@@ -26,6 +26,7 @@ mod lists;
 mod lone;
 #[cfg(test)]
 mod modes;
+#[cfg(test)]
 mod next_hops;
 #[cfg(test)]
 mod route;
