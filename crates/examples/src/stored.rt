@@ -5,8 +5,8 @@ ghost use Rattle.netlink_packet_route.specs.RouteMessage.{message_of, newer_rout
 
 use netlink_packet_route::route::{RouteMessage, normalize};
 
-/// The route as a parser of today gives it: each mode of a SEG6 header has the name that its number
-/// has now. Its canonical bytes are what they were.
+/// The route with each mode of a SEG6 header under the name that its number has now, and all else as
+/// it was. Its canonical bytes are what they were.
 pub fn restored(stored: RouteMessage) -> RouteMessage
     ensures { message_of result ≡ newer_route (message_of stored) }
 {
