@@ -1,8 +1,9 @@
 -- What one table of rows has read is read by another, once it is brought up to it.
 use Rattle.std.specs.Prelude.{◌==◌}
-use Rattle.std.proofs.Common.{◌≡◌, ℕ, List, [], ◌∷◌, refl, sym, ap, subst, ◌∙◌}
-use Rattle.npr_base.specs.Framing.{Item}
-use Rattle.npr_base.specs.Family.{Each, ReadsList}
+use Rattle.std.proofs.Common.{◌≡◌, ℕ, List, [], ◌∷◌, ◌++◌, Option, refl, sym, ap, subst, ◌∙◌}
+use Rattle.npr_base.specs.declared.refusal.EmitError.{EmitError}
+use Rattle.npr_base.specs.Framing.{Item, encoding}
+use Rattle.npr_base.specs.Family.{AllOf, Each, ReadsList, option_or, first_unfit, encodings}
 use Rattle.npr_base.specs.Table.{Row, ReadsBy, ReadsAt, has_row}
 use Rattle.npr_base.specs.TableLaws.{one_of}
 use Rattle.std.specs.Prelude.{map}
@@ -42,3 +43,30 @@ each-renewed newer R S h (x ∷ items) (m ∷ ms) e = (h x m e.0, each-renewed n
 pub list-renewed : {M : Type 0} (newer : M → M) (R S : Item → M → Type 0) → ((x : Item) (m : M) → R x m → S x (newer m))
     → (bytes : List ℕ) (ms : List M) → ReadsList R bytes ms → ReadsList S bytes (map newer ms)
 list-renewed newer R S h bytes ms (items, p, e) = (items, p, each-renewed newer R S h items ms e)
+
+-- ---- what holds of each member that is brought up holds of the list
+
+pub encodings-renewed : {M : Type 0} (newer : M → M) (writes : M → Item) → ((m : M) → writes (newer m) ≡ writes m)
+    → (ms : List M) → encodings writes (map newer ms) ≡ encodings writes ms
+encodings-renewed newer writes same [] = refl
+encodings-renewed newer writes same (m ∷ ms) =
+    ap (λ (i : Item). encoding i ++ encodings writes (map newer ms)) (same m)
+    ∙ ap (λ (w : List ℕ). encoding (writes m) ++ w) (encodings-renewed newer writes same ms)
+
+pub unfit-renewed : {M : Type 0} (newer : M → M) (misfit : M → Option EmitError) → ((m : M) → misfit (newer m) ≡ misfit m)
+    → (ms : List M) → first_unfit misfit (map newer ms) ≡ first_unfit misfit ms
+unfit-renewed newer misfit same [] = refl
+unfit-renewed newer misfit same (m ∷ ms) =
+    ap (λ (o : Option EmitError). option_or o (first_unfit misfit (map newer ms))) (same m)
+    ∙ ap (option_or (misfit m)) (unfit-renewed newer misfit same ms)
+
+pub again-renewed : {M : Type 0} (newer : M → M) → ((m : M) → newer (newer m) ≡ newer m)
+    → (ms : List M) → map newer (map newer ms) ≡ map newer ms
+again-renewed newer same [] = refl
+again-renewed newer same (m ∷ ms) =
+    ap (λ n. n ∷ map newer (map newer ms)) (same m) ∙ ap (λ ns. newer m ∷ ns) (again-renewed newer same ms)
+
+pub all-renewed : {M : Type 0} (newer : M → M) (R S : M → Type 0) → ((m : M) → R m → S (newer m))
+    → (ms : List M) → AllOf R ms → AllOf S (map newer ms)
+all-renewed newer R S h [] all = tt
+all-renewed newer R S h (m ∷ ms) all = (h m all.0, all-renewed newer R S h ms all.1)

@@ -5,7 +5,7 @@ use Rattle.std.proofs.Common.{◌≡◌, ℕ, ◌+◌, Bool, true, false, List, 
 use Rattle.npr_base.specs.declared.refusal.EmitError.{EmitError}
 use Rattle.npr_base.specs.Family.{AllOf, option_or, overlong, too_long, first_unfit, encodings}
 use Rattle.npr_base.specs.Framing.{Item, number_of, encoding, marked}
-use Rattle.npr_base.proofs.RenewLaws.{Renews, renewed, has_row-renewed, list-renewed}
+use Rattle.npr_base.proofs.RenewLaws.{Renews, renewed, has_row-renewed, list-renewed, encodings-renewed, unfit-renewed, again-renewed, all-renewed}
 use Rattle.npr_scalar.specs.RouteAddress.{Form, four, sixteen, label, any, form_of}
 use Rattle.npr_srh.specs.Seg6Mode.{ModeTable}
 use Rattle.npr_tunnel.specs.Encapsulation as OfEncap
@@ -21,29 +21,12 @@ use Rattle.npr_route.specs.FlatAttribute.{NewDestinationValue, new_destination_r
 use Rattle.npr_route.specs.FlatAttributeLaws as Flats
 use Rattle.npr_route.specs.AttributeLaws.{writing}
 use Rattle.npr_route.specs.Header.{header}
+use Rattle.npr_route.proofs.Renewing.{attributes_of-newer}
 use Rattle.npr_route.specs.Message.{Route, under, newer_route, IsRouteMessage, IsRouteMessageBy, IsCoherentRoute, IsCoherentRouteBy, route_bytes, route_misfit}
 use Rattle.npr_tunnel.specs.declared.encap_type.RouteLwEnCapType.TheVariants.{None as NoEncapsulation}
 use Rattle.npr_base.specs.Table.{ReadsBy as ReadsByRow}
 
 -- ---- members of an encapsulation
-
-members-bytes : (xs : List OfEncap.Meaning) → encodings OfEncap.writing.writes (map OfEncap.newer xs) ≡ encodings OfEncap.writing.writes xs
-members-bytes [] = refl
-members-bytes (x ∷ xs) =
-    ap (λ (i : Item). encoding i ++ encodings OfEncap.writing.writes (map OfEncap.newer xs)) (OfEncapLaws.member-writes x)
-    ∙ ap (λ (w : List ℕ). encoding (OfEncap.writing.writes x) ++ w) (members-bytes xs)
-
-members-misfit : (xs : List OfEncap.Meaning) → first_unfit OfEncap.writing.misfit (map OfEncap.newer xs) ≡ first_unfit OfEncap.writing.misfit xs
-members-misfit [] = refl
-members-misfit (x ∷ xs) =
-    ap (λ (o : Option EmitError). option_or o (first_unfit OfEncap.writing.misfit (map OfEncap.newer xs))) (OfEncapLaws.member-misfit x)
-    ∙ ap (option_or (OfEncap.writing.misfit x)) (members-misfit xs)
-
-members-again : (xs : List OfEncap.Meaning) → map OfEncap.newer (map OfEncap.newer xs) ≡ map OfEncap.newer xs
-members-again [] = refl
-members-again (x ∷ xs) =
-    ap (λ (m : OfEncap.Meaning). m ∷ map OfEncap.newer (map OfEncap.newer xs)) (OfEncapLaws.member-again x)
-    ∙ ap (λ (ms : List OfEncap.Meaning). OfEncap.newer x ∷ ms) (members-again xs)
 
 member-marks : (x : OfEncap.Meaning) → marks (OfEncap.newer x) ≡ marks x
 member-marks (OfEncap.seg6 m) = refl
@@ -53,17 +36,12 @@ members-marks : (xs : List OfEncap.Meaning) → any_marks (map OfEncap.newer xs)
 members-marks [] = refl
 members-marks (x ∷ xs) = rw (member-marks x, members-marks xs) refl
 
-members-coherent : (by : ModeTable) (type : RouteLwEnCapType) (xs : List OfEncap.Meaning) → AllOf (OfEncap.encapsulation_by by type).Coherent xs
-    → AllOf (OfEncap.encapsulation type).Coherent (map OfEncap.newer xs)
-members-coherent by type [] all = tt
-members-coherent by type (x ∷ xs) all = (OfEncapLaws.member-coherent by type x all.0, members-coherent by type xs all.1)
-
 -- ---- an attribute without next hops
 
 encap-item : (xs : List OfEncap.Meaning) → Flats.writing.writes (Flat.encap (map OfEncap.newer xs)) ≡ Flats.writing.writes (Flat.encap xs)
 encap-item xs =
     ap (λ (b : Bool). record { kind = marked b 22; value = encodings OfEncap.writing.writes (map OfEncap.newer xs) }) (members-marks xs)
-    ∙ ap (λ (w : List ℕ). record { kind = marked (any_marks xs) 22; value = w }) (members-bytes xs)
+    ∙ ap (λ (w : List ℕ). record { kind = marked (any_marks xs) 22; value = w }) (encodings-renewed OfEncap.newer OfEncap.writing.writes OfEncapLaws.member-writes xs)
 
 pub flat-writes : (m : Flat.Meaning) → Flats.writing.writes (Flat.newer m) ≡ Flats.writing.writes m
 flat-writes (Flat.encap xs) = encap-item xs
@@ -75,12 +53,12 @@ list-misfit u w = option_or (option_or u (overlong (length w))) (too_long 22 (le
 pub flat-misfit : (m : Flat.Meaning) → Flats.writing.misfit (Flat.newer m) ≡ Flats.writing.misfit m
 unfolding list-misfit
 flat-misfit (Flat.encap xs) =
-    ap (λ (o : Option EmitError). list-misfit o (encodings OfEncap.writing.writes (map OfEncap.newer xs))) (members-misfit xs)
-    ∙ ap (list-misfit (first_unfit OfEncap.writing.misfit xs)) (members-bytes xs)
+    ap (λ (o : Option EmitError). list-misfit o (encodings OfEncap.writing.writes (map OfEncap.newer xs))) (unfit-renewed OfEncap.newer OfEncap.writing.misfit OfEncapLaws.member-misfit xs)
+    ∙ ap (list-misfit (first_unfit OfEncap.writing.misfit xs)) (encodings-renewed OfEncap.newer OfEncap.writing.writes OfEncapLaws.member-writes xs)
 flat-misfit m = refl
 
 pub flat-again : (m : Flat.Meaning) → Flat.newer (Flat.newer m) ≡ Flat.newer m
-flat-again (Flat.encap xs) = ap Flat.encap (members-again xs)
+flat-again (Flat.encap xs) = ap Flat.encap (again-renewed OfEncap.newer OfEncapLaws.member-again xs)
 flat-again m = refl
 
 destination-newer : (form : Form) (v : NewDestinationValue form) → Flat.newer (new_destination_variant form v) ≡ new_destination_variant form v
@@ -110,7 +88,8 @@ flat-read by c x m p =
 
 coherent-in : (by : ModeTable) (form : Form) (multicast : Bool) (type : RouteLwEnCapType) (m : Flat.Meaning)
     → Flat.Coherent form multicast (OfEncap.encapsulation_by by type) m → Flat.Coherent form multicast (OfEncap.encapsulation type) (Flat.newer m)
-coherent-in by form multicast type (Flat.encap xs) k = members-coherent by type xs k
+coherent-in by form multicast type (Flat.encap xs) k =
+    all-renewed OfEncap.newer (OfEncap.encapsulation_by by type).Coherent (OfEncap.encapsulation type).Coherent (OfEncapLaws.member-coherent by type) xs k
 coherent-in by form multicast type (Flat.other x) k = record {
   proper = k.proper;
   alone = sym (has_row-renewed Flat.newer (rows form multicast (OfEncap.encapsulation_by by type)) (rows form multicast (OfEncap.encapsulation type)) (renews by form multicast type) (number_of x.kind)) ∙ k.alone;
@@ -217,50 +196,28 @@ mutual
 
 -- ---- lists and messages
 
-list_bytes-newer : (xs : List Meaning) → encodings writing.writes (map newer xs) ≡ encodings writing.writes xs
-list_bytes-newer [] = refl
-list_bytes-newer (x ∷ xs) =
-    ap (λ (i : Item). encoding i ++ encodings writing.writes (map newer xs)) (writes-newer x)
-    ∙ ap (λ (w : List ℕ). encoding (writes x) ++ w) (list_bytes-newer xs)
-
-list_misfit-newer : (xs : List Meaning) → first_unfit writing.misfit (map newer xs) ≡ first_unfit writing.misfit xs
-list_misfit-newer [] = refl
-list_misfit-newer (x ∷ xs) =
-    ap (λ (o : Option EmitError). option_or o (first_unfit writing.misfit (map newer xs))) (misfit-newer x)
-    ∙ ap (option_or (misfit x)) (list_misfit-newer xs)
-
-list-again : (xs : List Meaning) → map newer (map newer xs) ≡ map newer xs
-list-again [] = refl
-list-again (x ∷ xs) =
-    ap (λ (m : Meaning). m ∷ map newer (map newer xs)) (newer-again x) ∙ ap (λ (ms : List Meaning). newer x ∷ ms) (list-again xs)
-
-all_coherent : (by : ModeTable) (c : Context) (xs : List Meaning) → AllOf (CoherentBy by c) xs → AllOf (Coherent c) (map newer xs)
-all_coherent by c [] all = tt
-all_coherent by c (x ∷ xs) all = (coherent-newer by c x all.0, all_coherent by c xs all.1)
-
 first_in_list : (outer : RouteLwEnCapType) (xs : List Meaning) → first_type outer (attributes_of (map newer xs)) ≡ first_type outer (attributes_of xs)
-first_in_list outer [] = refl
-first_in_list outer (x ∷ xs) = rw (held-newer x, first_in_list outer xs) refl
+first_in_list outer xs = ap (first_type outer) (attributes_of-newer xs) ∙ first_type-newer outer (attributes_of xs)
 
 pub message-bytes : (m : Route) → route_bytes (newer_route m) ≡ route_bytes m
 unfolding route_bytes
-message-bytes m = ap (λ (w : List ℕ). header.encode m.header ++ w) (list_bytes-newer m.attributes)
+message-bytes m = ap (λ (w : List ℕ). header.encode m.header ++ w) (encodings-renewed newer writing.writes writes-newer m.attributes)
 
 pub message-misfit : (m : Route) → route_misfit (newer_route m) ≡ route_misfit m
 unfolding route_bytes route_misfit
 message-misfit m =
-    ap (λ (o : Option EmitError). option_or o (overlong (length (route_bytes (newer_route m))))) (list_misfit-newer m.attributes)
+    ap (λ (o : Option EmitError). option_or o (overlong (length (route_bytes (newer_route m))))) (unfit-renewed newer writing.misfit misfit-newer m.attributes)
     ∙ ap (λ (w : List ℕ). option_or (first_unfit writing.misfit m.attributes) (overlong (length w))) (message-bytes m)
 
 pub message-again : (m : Route) → newer_route (newer_route m) ≡ newer_route m
-message-again m = ap (λ (xs : List Meaning). record { header = m.header; attributes = xs }) (list-again m.attributes)
+message-again m = ap (λ (xs : List Meaning). record { header = m.header; attributes = xs }) (again-renewed newer newer-again m.attributes)
 
 pub message-coherent : (by : ModeTable) (m : Route) → IsCoherentRouteBy by m → IsCoherentRoute (newer_route m)
 unfolding IsCoherentRouteBy IsCoherentRoute
 message-coherent by m k =
     let (family, kind) = under m.header in
     let type : RouteLwEnCapType = first_type NoEncapsulation (attributes_of m.attributes) in
-    let all = all_coherent by (family, kind, type) m.attributes k.attributes in
+    let all = all-renewed newer (CoherentBy by (family, kind, type)) (Coherent (family, kind, type)) (coherent-newer by (family, kind, type)) m.attributes k.attributes in
     let first : first_type NoEncapsulation (attributes_of (map newer m.attributes)) ≡ type = first_in_list NoEncapsulation m.attributes in
     record {
       header = k.header;

@@ -15,7 +15,7 @@ ghost use Rattle.npr_route.specs.{
   RouteList.{IsRouteList, RouteListFault},
 };
 
-use crate::attribute::RouteAttribute;
+use crate::attribute::{RTA_ENCAP_TYPE, RouteAttribute};
 use npr_base::{AddressFamily, DecodeError, Looks, NlaBuffer, NlasIterator, parse_list};
 use npr_scalar::RouteType;
 use npr_tunnel::RouteLwEnCapType;
@@ -26,7 +26,7 @@ fn told_by(item: &NlaBuffer<'_>) -> Option<RouteLwEnCapType>
     ensures { result ≡ told item.now }
 {
     match item.value() {
-        [low, high] if item.kind() == 21 => {
+        [low, high] if item.kind() == RTA_ENCAP_TYPE => {
             Some(RouteLwEnCapType::from(u16::from_le_bytes([*low, *high])))
         }
         _ => None,

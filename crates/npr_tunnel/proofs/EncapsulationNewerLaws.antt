@@ -7,7 +7,7 @@ use Rattle.npr_srh.proofs.Seg6NewerLaws as OfSeg6Laws
 use Rattle.npr_tunnel.specs.Encapsulation.{Meaning, seg6}
 use Rattle.npr_tunnel.specs.Encapsulation.{encapsulation, encapsulation_by, newer, writing}
 use Rattle.npr_tunnel.specs.declared.encap_type.RouteLwEnCapType.{RouteLwEnCapType}
-use Rattle.npr_tunnel.specs.declared.encap_type.RouteLwEnCapType.TheVariants.{Mpls, Seg6, Ip, Ip6, Ioam6, Rpl, Seg6Local, Xfrm}
+use Rattle.npr_tunnel.specs.declared.encap_type.RouteLwEnCapType.TheVariants.{Seg6}
 
 pub member-writes : (m : Meaning) → writing.writes (newer m) ≡ writing.writes m
 member-writes (seg6 m) = OfSeg6Laws.member-item m
@@ -24,23 +24,9 @@ member-again m = refl
 pub member-read : (by : ModeTable) (type : RouteLwEnCapType) (x : Item) (m : Meaning) → (encapsulation_by by type).Reads x m
     → (encapsulation type).Reads x (newer m)
 member-read by Seg6 x m p = (OfSeg6.newer p.0, OfSeg6Laws.member-read by x p.0 p.1, ap newer p.2)
-member-read by Mpls x m p = (p.0, p.1, ap newer p.2)
-member-read by Ip x m p = (p.0, p.1, ap newer p.2)
-member-read by Ip6 x m p = (p.0, p.1, ap newer p.2)
-member-read by Ioam6 x m p = (p.0, p.1, ap newer p.2)
-member-read by Rpl x m p = (p.0, p.1, ap newer p.2)
-member-read by Seg6Local x m p = (p.0, p.1, ap newer p.2)
-member-read by Xfrm x m p = (p.0, p.1, ap newer p.2)
 member-read by type x m p = (p.0, p.1, ap newer p.2)
 
 pub member-coherent : (by : ModeTable) (type : RouteLwEnCapType) (m : Meaning) → (encapsulation_by by type).Coherent m
     → (encapsulation type).Coherent (newer m)
 member-coherent by Seg6 m c = (OfSeg6.newer c.0, OfSeg6Laws.member-coherent by c.0 c.1, ap newer c.2)
-member-coherent by Mpls m c = (c.0, c.1, ap newer c.2)
-member-coherent by Ip m c = (c.0, c.1, ap newer c.2)
-member-coherent by Ip6 m c = (c.0, c.1, ap newer c.2)
-member-coherent by Ioam6 m c = (c.0, c.1, ap newer c.2)
-member-coherent by Rpl m c = (c.0, c.1, ap newer c.2)
-member-coherent by Seg6Local m c = (c.0, c.1, ap newer c.2)
-member-coherent by Xfrm m c = (c.0, c.1, ap newer c.2)
 member-coherent by type m c = (c.0, c.1, ap newer c.2)
