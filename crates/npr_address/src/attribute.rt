@@ -2,7 +2,10 @@
 
 ghost use Rattle.std.specs.Prelude.{◌≡◌, ◌≢◌, ◌≤◌, ◌<◌, ◌+◌, ◌*◌, ℕ, List, Option, None, false, length, IfOk, IfErr};
 ghost use Rattle.std.proofs.Common.{refl};
-ghost use Rattle.npr_address.specs.Attribute.{Meaning, meaning_of, writing, attributes};
+ghost use Rattle.npr_base.specs.declared.refusal.DecodeError.TheVariants.{OutOfMemory};
+ghost use Rattle.npr_address.specs.{
+  Attribute.{Meaning, meaning_of, writing, attributes},
+};
 
 use crate::addr_flags::AddressFlags;
 use crate::addr_protocol::AddressProtocol;
@@ -144,6 +147,39 @@ impl Nla for AddressAttribute {
     }
 }
 
+/// Puts what the attribute is into a place, whose own value goes.
+fn read_into(
+    place: &mut AddressAttribute,
+    alloc: Global,
+    item: &NlaBuffer<'_>,
+) -> Result<(), DecodeError>
+    ensures ok { IfOk result (λ _. attributes.Reads item.now (meaning_of place.new)) }
+    ensures refused { IfErr result (λ e. e ≢ OutOfMemory → attributes.Faulty item.now e) }
+{
+    let value = item.value();
+    match item.kind() {
+        1 => *place = AddressAttribute::Address(read_ip(value, FAMILY.at(1))?),
+        2 => *place = AddressAttribute::Local(read_ip(value, FAMILY.at(2))?),
+        3 => *place = AddressAttribute::Label(read_name(alloc, value, FAMILY.at(3))?),
+        4 => *place = AddressAttribute::Broadcast(read_ipv4(value, FAMILY.at(4))?),
+        5 => *place = AddressAttribute::Anycast(read_ipv6(value, FAMILY.at(5))?),
+        6 => *place = AddressAttribute::CacheInfo(CacheInfo::parse(value)?),
+        7 => *place = AddressAttribute::Multicast(read_ipv6(value, FAMILY.at(7))?),
+        8 => *place = AddressAttribute::Flags(AddressFlags::from_bits_retain(read_u32(
+            value,
+            FAMILY.at(8),
+        )?)),
+        9 => *place = AddressAttribute::RoutePriority(read_u32(value, FAMILY.at(9))?),
+        10 => *place = AddressAttribute::TargetNetNsId(read_i32(value, FAMILY.at(10))?),
+        11 => *place = AddressAttribute::Protocol(AddressProtocol::from(read_u8(
+            value,
+            FAMILY.at(11),
+        )?)),
+        _ => *place = AddressAttribute::Other(DefaultNla::parse(alloc, item)?),
+    }
+    Ok(())
+}
+
 impl Attribute for AddressAttribute {
     type Context = ();
 
@@ -165,24 +201,22 @@ impl Attribute for AddressAttribute {
         item: &NlaBuffer<'_>,
         _looks: &mut Looks,
     ) -> Result<Self, DecodeError> {
-        let value = item.value();
-        Ok(match item.kind() {
-            1 => AddressAttribute::Address(read_ip(value, FAMILY.at(1))?),
-            2 => AddressAttribute::Local(read_ip(value, FAMILY.at(2))?),
-            3 => AddressAttribute::Label(read_name(alloc, value, FAMILY.at(3))?),
-            4 => AddressAttribute::Broadcast(read_ipv4(value, FAMILY.at(4))?),
-            5 => AddressAttribute::Anycast(read_ipv6(value, FAMILY.at(5))?),
-            6 => AddressAttribute::CacheInfo(CacheInfo::parse(value)?),
-            7 => AddressAttribute::Multicast(read_ipv6(value, FAMILY.at(7))?),
-            8 => AddressAttribute::Flags(AddressFlags::from_bits_retain(read_u32(
-                value,
-                FAMILY.at(8),
-            )?)),
-            9 => AddressAttribute::RoutePriority(read_u32(value, FAMILY.at(9))?),
-            10 => AddressAttribute::TargetNetNsId(read_i32(value, FAMILY.at(10))?),
-            11 => AddressAttribute::Protocol(AddressProtocol::from(read_u8(value, FAMILY.at(11))?)),
-            _ => AddressAttribute::Other(DefaultNla::parse(alloc, item)?),
-        })
+        let mut place = AddressAttribute::RoutePriority(0);
+        read_into(&mut place, alloc, item)?;
+        Ok(place)
+    }
+
+    fn read_onto(
+        list: &mut Vec<Self>,
+        alloc: Global,
+        _context: (),
+        item: &NlaBuffer<'_>,
+        _looks: &mut Looks,
+    ) -> Result<(), DecodeError> {
+        list.push(AddressAttribute::RoutePriority(0))?;
+        let last = list.len() - 1;
+        read_into(&mut list[last], alloc, item)?;
+        Ok(())
     }
 
     fn try_clone(&self, alloc: Global) -> Result<Self, AllocError> {

@@ -1,6 +1,6 @@
 //! A family of attributes, with its laws.
 
-ghost use Rattle.std.specs.Prelude.{◌≡◌, ◌≢◌, length, IfOk, IfErr};
+ghost use Rattle.std.specs.Prelude.{◌≡◌, ◌≢◌, [], ◌∷◌, ◌++◌, length, IfOk, IfErr};
 ghost use Rattle.npr_base.specs.{
   declared.refusal.DecodeError.TheVariants.{OutOfMemory},
   Counts.{AddsAtMost, SawEach},
@@ -48,6 +48,28 @@ pub trait Attribute: Nla + Drop {
         ensures refused { IfErr result (λ e. e ≢ OutOfMemory → (reading context).Faulty item.now e) }
         ensures bounded { AddsAtMost looks.old looks.new (length (item.now).value) }
         ensures counted { IfOk result (λ a. SawEach looks.old looks.new (writing.members (meaning a))) };
+
+    /// What `read` gives, put behind the attributes of a list. A family with large values makes each
+    /// in its place, which moves it less often.
+    ///
+    /// # Errors
+    /// `OutOfMemory` where memory is refused, and else the first fault in reading order.
+    fn read_onto(
+        list: &mut Vec<Self>,
+        alloc: Global,
+        context: Self::Context,
+        item: &NlaBuffer<'_>,
+        looks: &mut Looks,
+    ) -> Result<(), DecodeError>
+        ensures ok { IfOk result (λ _. (a : Self) × (list.new.items ≡ list.old.items ++ a ∷ []) × (reading context).Reads item.now (meaning a)
+            × SawEach looks.old looks.new (writing.members (meaning a))) }
+        ensures refused { IfErr result (λ e. e ≢ OutOfMemory → (reading context).Faulty item.now e) }
+        ensures bounded { AddsAtMost looks.old looks.new (length (item.now).value) }
+    {
+        let attribute = Self::read(alloc, context, item, looks)?;
+        list.push(attribute)?;
+        Ok(())
+    }
 
     /// An equal value, as the type's own `clone` makes it.
     ///

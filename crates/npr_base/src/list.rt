@@ -71,8 +71,7 @@ fn read_all<A: Attribute>(
     while let Some(next) = walk.next_counted(looks) {
         let item = next?;
         make_room(&mut found, bytes.len())?;
-        let attribute = A::read(alloc, context, &item, looks)?;
-        found.push(attribute)?;
+        A::read_onto(&mut found, alloc, context, &item, looks)?;
     }
     Ok(found)
 }

@@ -1,6 +1,6 @@
 //! The attributes of a route message: `RTA_*` of `linux/rtnetlink.h`.
 
-ghost use Rattle.std.specs.Prelude.{◌≡◌, ◌≢◌, ◌≤◌, ◌<◌, ◌+◌, ◌*◌, ℕ, List, Option, None, false, [], length, map, IfOk, IfErr, IsOk};
+ghost use Rattle.std.specs.Prelude.{◌≡◌, ◌≢◌, ◌≤◌, ◌<◌, ◌+◌, ◌*◌, ℕ, List, Option, None, false, [], ◌∷◌, ◌++◌, length, map, IfOk, IfErr, IsOk};
 ghost use Rattle.std.proofs.Common.{refl};
 ghost use Rattle.npr_base.specs.{
   Counts.{AddsAtMost, SawEach},
@@ -12,6 +12,7 @@ ghost use Rattle.npr_scalar.specs.RouteAddress.{form_of};
 ghost use Rattle.npr_route.specs.{
   Attribute.{Meaning, flat, plain_of, nested_of},
   AttributeView.{meaning_of},
+  declared.attribute.RouteAttribute.{RouteAttribute},
   FlatAttributeLaws.{attributes as flat_attributes},
   FlatAttribute.{Meaning as Flat, is_multicast, new_destination_row, expires_row, marks, any_marks},
   AttributeLaws.{writing, attributes, item-is, plain-short},
@@ -32,6 +33,7 @@ use npr_scalar::{
 };
 use npr_tunnel::{RouteIp6Tunnel, RouteIpTunnel, RouteLwEnCapType, RouteLwTunnelEncap};
 use std::alloc::{AllocError, Global};
+use std::mem;
 
 const FAMILY: AttrFamily = AttrFamily::Route;
 
@@ -276,64 +278,150 @@ fn read_expires(kind: RouteType, value: &[u8]) -> Result<RouteAttribute, DecodeE
     }
 }
 
-/// What an attribute is that holds no next hops: one of another number, or an empty list of them.
-pub(crate) fn read_flat(
+/// Puts a value into a place that holds a blank, which has nothing to free.
+fn put(place: &mut RouteAttribute, value: RouteAttribute)
+    requires { place.old ≡ RouteAttribute.Uid 0 }
+    ensures { place.new ≡ value }
+{
+    mem::forget(mem::replace(place, value));
+}
+
+/// Puts into a place that holds a blank what an attribute is that holds no next hops: one of another
+/// number, or an empty list of them.
+fn read_flat(
+    place: &mut RouteAttribute,
     alloc: Global,
     context: Context,
     item: &NlaBuffer<'_>,
     looks: &mut Looks,
-) -> Result<RouteAttribute, DecodeError>
-    requires { number_of (item.now).kind ≡ 9 → (item.now).value ≡ [] }
-    ensures ok { IfOk result (λ a. (attributes context).Reads item.now (meaning_of a)) }
+) -> Result<(), DecodeError>
+    requires blank { place.old ≡ RouteAttribute.Uid 0 }
+    requires hops { number_of (item.now).kind ≡ 9 → (item.now).value ≡ [] }
+    ensures ok { IfOk result (λ _. (attributes context).Reads item.now (meaning_of place.new)) }
     ensures refused { IfErr result (λ e. e ≢ OutOfMemory → (flat_attributes context).Faulty item.now e) }
     ensures nine { number_of (item.now).kind ≡ 9 → IsOk result }
     ensures bounded { AddsAtMost looks.old looks.new (length (item.now).value) }
-    ensures counted { IfOk result (λ a. SawEach looks.old looks.new (writing.members (meaning_of a))) }
+    ensures counted { IfOk result (λ _. SawEach looks.old looks.new (writing.members (meaning_of place.new))) }
 {
     let (family, kind, encapsulation) = context;
     let value = item.value();
     match item.kind() {
-        1 => RouteAddress::read(alloc, family, value, FAMILY.at(1)).map(
-            RouteAttribute::Destination,
+        1 => put(
+            place,
+            RouteAttribute::Destination(RouteAddress::read(alloc, family, value, FAMILY.at(1))?),
         ),
-        2 => RouteAddress::read(alloc, family, value, FAMILY.at(2)).map(RouteAttribute::Source),
-        3 => read_u32(value, FAMILY.at(3)).map(RouteAttribute::Iif),
-        4 => read_u32(value, FAMILY.at(4)).map(RouteAttribute::Oif),
-        5 => RouteAddress::read(alloc, family, value, FAMILY.at(5)).map(RouteAttribute::Gateway),
-        6 => read_u32(value, FAMILY.at(6)).map(RouteAttribute::Priority),
-        7 => RouteAddress::read(alloc, family, value, FAMILY.at(7)).map(RouteAttribute::PrefSource),
-        8 => parse_list(alloc, (), value, looks).map(RouteAttribute::Metrics),
-        RTA_MULTIPATH => Ok(RouteAttribute::MultiPath(Vec::new(alloc))),
-        11 => read_u32(value, FAMILY.at(11)).map(|number| RouteAttribute::Realm(RouteRealm::from(
-            number,
-        ))),
-        12 => RouteCacheInfo::parse(value).map(RouteAttribute::CacheInfo),
-        15 => read_u32(value, FAMILY.at(15)).map(RouteAttribute::Table),
-        16 => read_u32(value, FAMILY.at(16)).map(RouteAttribute::Mark),
-        17 => RouteMfcStats::parse(value).map(RouteAttribute::MfcStats),
-        18 => RouteVia::read(alloc, value, FAMILY.at(18)).map(RouteAttribute::Via),
-        19 => read_new_destination(alloc, family, value),
-        20 => read_u8(value, FAMILY.at(20)).map(|n| RouteAttribute::Preference(
-            RoutePreference::from(n),
-        )),
-        RTA_ENCAP_TYPE => read_u16(value, FAMILY.at(RTA_ENCAP_TYPE)).map(
-            |n| RouteAttribute::EncapType(RouteLwEnCapType::from(n)),
+        2 => put(
+            place,
+            RouteAttribute::Source(RouteAddress::read(alloc, family, value, FAMILY.at(2))?),
         ),
-        RTA_ENCAP => parse_list(alloc, encapsulation, value, looks).map(RouteAttribute::Encap),
-        23 => read_expires(kind, value),
-        25 => read_u32(value, FAMILY.at(25)).map(RouteAttribute::Uid),
-        26 => {
-            read_u8(value, FAMILY.at(26)).map(|n| RouteAttribute::TtlPropagate(
-                RouteMplsTtlPropagation::from(n),
-            ))
-        }
-        27 => read_u8(value, FAMILY.at(27)).map(RouteAttribute::IpProto),
-        28 => read_u16_be(value, FAMILY.at(28)).map(RouteAttribute::Sport),
-        29 => read_u16_be(value, FAMILY.at(29)).map(RouteAttribute::Dport),
-        30 => read_u32(value, FAMILY.at(30)).map(RouteAttribute::NhId),
-        31 => read_u32_be(value, FAMILY.at(31)).map(RouteAttribute::Flowlabel),
-        _ => DefaultNla::parse(alloc, item).map(RouteAttribute::Other),
+        3 => put(place, RouteAttribute::Iif(read_u32(value, FAMILY.at(3))?)),
+        4 => put(place, RouteAttribute::Oif(read_u32(value, FAMILY.at(4))?)),
+        5 => put(
+            place,
+            RouteAttribute::Gateway(RouteAddress::read(alloc, family, value, FAMILY.at(5))?),
+        ),
+        6 => put(
+            place,
+            RouteAttribute::Priority(read_u32(value, FAMILY.at(6))?),
+        ),
+        7 => put(
+            place,
+            RouteAttribute::PrefSource(RouteAddress::read(alloc, family, value, FAMILY.at(7))?),
+        ),
+        8 => put(
+            place,
+            RouteAttribute::Metrics(parse_list(alloc, (), value, looks)?),
+        ),
+        RTA_MULTIPATH => put(place, RouteAttribute::MultiPath(Vec::new(alloc))),
+        11 => put(
+            place,
+            RouteAttribute::Realm(RouteRealm::from(read_u32(value, FAMILY.at(11))?)),
+        ),
+        12 => put(
+            place,
+            RouteAttribute::CacheInfo(RouteCacheInfo::parse(value)?),
+        ),
+        15 => put(
+            place,
+            RouteAttribute::Table(read_u32(value, FAMILY.at(15))?),
+        ),
+        16 => put(place, RouteAttribute::Mark(read_u32(value, FAMILY.at(16))?)),
+        17 => put(
+            place,
+            RouteAttribute::MfcStats(RouteMfcStats::parse(value)?),
+        ),
+        18 => put(
+            place,
+            RouteAttribute::Via(RouteVia::read(alloc, value, FAMILY.at(18))?),
+        ),
+        19 => put(place, read_new_destination(alloc, family, value)?),
+        20 => put(
+            place,
+            RouteAttribute::Preference(RoutePreference::from(read_u8(value, FAMILY.at(20))?)),
+        ),
+        RTA_ENCAP_TYPE => put(
+            place,
+            RouteAttribute::EncapType(RouteLwEnCapType::from(read_u16(
+                value,
+                FAMILY.at(RTA_ENCAP_TYPE),
+            )?)),
+        ),
+        RTA_ENCAP => put(
+            place,
+            RouteAttribute::Encap(parse_list(alloc, encapsulation, value, looks)?),
+        ),
+        23 => put(place, read_expires(kind, value)?),
+        25 => put(place, RouteAttribute::Uid(read_u32(value, FAMILY.at(25))?)),
+        26 => put(
+            place,
+            RouteAttribute::TtlPropagate(RouteMplsTtlPropagation::from(read_u8(
+                value,
+                FAMILY.at(26),
+            )?)),
+        ),
+        27 => put(
+            place,
+            RouteAttribute::IpProto(read_u8(value, FAMILY.at(27))?),
+        ),
+        28 => put(
+            place,
+            RouteAttribute::Sport(read_u16_be(value, FAMILY.at(28))?),
+        ),
+        29 => put(
+            place,
+            RouteAttribute::Dport(read_u16_be(value, FAMILY.at(29))?),
+        ),
+        30 => put(place, RouteAttribute::NhId(read_u32(value, FAMILY.at(30))?)),
+        31 => put(
+            place,
+            RouteAttribute::Flowlabel(read_u32_be(value, FAMILY.at(31))?),
+        ),
+        _ => put(
+            place,
+            RouteAttribute::Other(DefaultNla::parse(alloc, item)?),
+        ),
     }
+    Ok(())
+}
+
+/// `read_flat` into a new place behind the attributes of a list.
+pub(crate) fn push_flat(
+    list: &mut Vec<RouteAttribute>,
+    alloc: Global,
+    context: Context,
+    item: &NlaBuffer<'_>,
+    looks: &mut Looks,
+) -> Result<(), DecodeError>
+    requires { number_of (item.now).kind ≡ 9 → (item.now).value ≡ [] }
+    ensures ok { IfOk result (λ _. (a : RouteAttribute) × (list.new.items ≡ list.old.items ++ a ∷ []) × (attributes context).Reads item.now (meaning_of a)
+        × SawEach looks.old looks.new (writing.members (meaning_of a))) }
+    ensures refused { IfErr result (λ e. e ≢ OutOfMemory → (number_of (item.now).kind ≢ 9) × (flat_attributes context).Faulty item.now e) }
+    ensures bounded { AddsAtMost looks.old looks.new (length (item.now).value) }
+{
+    list.push(RouteAttribute::Uid(0))?;
+    let last = list.len() - 1;
+    read_flat(&mut list[last], alloc, context, item, looks)?;
+    Ok(())
 }
 
 impl Attribute for RouteAttribute {
@@ -358,9 +446,26 @@ impl Attribute for RouteAttribute {
         looks: &mut Looks,
     ) -> Result<Self, DecodeError> {
         if item.kind() == RTA_MULTIPATH {
-            read_next_hops(alloc, item.value(), context, looks).map(Self::MultiPath)
+            return read_next_hops(alloc, item.value(), context, looks).map(Self::MultiPath);
+        }
+        let mut place = Self::Uid(0);
+        read_flat(&mut place, alloc, context, item, looks)?;
+        Ok(place)
+    }
+
+    fn read_onto(
+        list: &mut Vec<Self>,
+        alloc: Global,
+        context: Context,
+        item: &NlaBuffer<'_>,
+        looks: &mut Looks,
+    ) -> Result<(), DecodeError> {
+        if item.kind() == RTA_MULTIPATH {
+            let next_hops = read_next_hops(alloc, item.value(), context, looks)?;
+            list.push(Self::MultiPath(next_hops))?;
+            Ok(())
         } else {
-            read_flat(alloc, context, item, looks)
+            push_flat(list, alloc, context, item, looks)
         }
     }
 

@@ -13,7 +13,7 @@ ghost use Rattle.npr_route.specs.{
   Reader.{Tied, Opens, SoughtIn, account, StepsOn, Ended},
 };
 
-use crate::attribute::{Context, RTA_MULTIPATH, RouteAttribute, read_flat};
+use crate::attribute::{Context, RTA_MULTIPATH, RouteAttribute, push_flat};
 use crate::list::governing_type;
 use crate::next_hop_buffer::RouteNextHopBuffer;
 use crate::next_hops::RouteNextHop;
@@ -191,8 +191,7 @@ fn advance<'a>(
             stack,
         }));
     }
-    let attribute = read_flat(alloc, inside, &item, looks)?;
-    level.attributes.push(attribute)?;
+    push_flat(&mut level.attributes, alloc, inside, &item, looks)?;
     Ok(Step::More(Reading { level, stack }))
 }
 

@@ -2,7 +2,10 @@
 
 ghost use Rattle.std.specs.Prelude.{◌≡◌, ◌≢◌, ◌≤◌, ◌<◌, ◌+◌, ◌*◌, ℕ, List, Option, None, false, length, IfOk, IfErr};
 ghost use Rattle.std.proofs.Common.{refl};
-ghost use Rattle.npr_base.specs.Family.{checked};
+ghost use Rattle.npr_base.specs.{
+  Family.{checked},
+  declared.refusal.DecodeError.TheVariants.{OutOfMemory},
+};
 ghost use Rattle.npr_scalar.specs.IpProtocol.{above_zero, ip_protocol_number};
 ghost use Rattle.npr_rule.specs.{
   IpProtocolByte.{protocol_misfit},
@@ -224,6 +227,44 @@ fn protocol_byte(protocol: IpProtocol) -> u8
     }
 }
 
+/// Puts what the attribute is into a place, whose own value goes.
+fn read_into(
+    place: &mut RuleAttribute,
+    alloc: Global,
+    item: &NlaBuffer<'_>,
+) -> Result<(), DecodeError>
+    ensures ok { IfOk result (λ _. attributes.Reads item.now (meaning_of place.new)) }
+    ensures refused { IfErr result (λ e. e ≢ OutOfMemory → attributes.Faulty item.now e) }
+{
+    let value = item.value();
+    match item.kind() {
+        1 => *place = RuleAttribute::Destination(read_ip(value, FAMILY.at(1))?),
+        2 => *place = RuleAttribute::Source(read_ip(value, FAMILY.at(2))?),
+        3 => *place = RuleAttribute::Iifname(read_name(alloc, value, FAMILY.at(3))?),
+        4 => *place = RuleAttribute::Goto(read_u32(value, FAMILY.at(4))?),
+        6 => *place = RuleAttribute::Priority(read_u32(value, FAMILY.at(6))?),
+        10 => *place = RuleAttribute::FwMark(read_u32(value, FAMILY.at(10))?),
+        11 => *place = RuleAttribute::Realm(RouteRealm::from(read_u32(value, FAMILY.at(11))?)),
+        12 => *place = RuleAttribute::TunId(read_u64_be(value, FAMILY.at(12))?),
+        13 => *place = RuleAttribute::SuppressIfGroup(read_u32(value, FAMILY.at(13))?),
+        14 => *place = RuleAttribute::SuppressPrefixLen(read_u32(value, FAMILY.at(14))?),
+        15 => *place = RuleAttribute::Table(read_u32(value, FAMILY.at(15))?),
+        16 => *place = RuleAttribute::FwMask(read_u32(value, FAMILY.at(16))?),
+        17 => *place = RuleAttribute::Oifname(read_name(alloc, value, FAMILY.at(17))?),
+        19 => *place = RuleAttribute::L3MDev(read_bool(value, FAMILY.at(19))?),
+        20 => *place = RuleAttribute::UidRange(RuleUidRange::read(value, FAMILY.at(20))?),
+        21 => *place = RuleAttribute::Protocol(RouteProtocol::from(read_u8(value, FAMILY.at(21))?)),
+        22 => *place = RuleAttribute::IpProtocol(IpProtocol::from(read_u8(value, FAMILY.at(22))?)),
+        23 => *place = RuleAttribute::SourcePortRange(RulePortRange::read(value, FAMILY.at(23))?),
+        24 => *place = RuleAttribute::DestinationPortRange(RulePortRange::read(
+            value,
+            FAMILY.at(24),
+        )?),
+        _ => *place = RuleAttribute::Other(DefaultNla::parse(alloc, item)?),
+    }
+    Ok(())
+}
+
 impl Attribute for RuleAttribute {
     type Context = ();
 
@@ -245,29 +286,22 @@ impl Attribute for RuleAttribute {
         item: &NlaBuffer<'_>,
         _looks: &mut Looks,
     ) -> Result<Self, DecodeError> {
-        let value = item.value();
-        Ok(match item.kind() {
-            1 => RuleAttribute::Destination(read_ip(value, FAMILY.at(1))?),
-            2 => RuleAttribute::Source(read_ip(value, FAMILY.at(2))?),
-            3 => RuleAttribute::Iifname(read_name(alloc, value, FAMILY.at(3))?),
-            4 => RuleAttribute::Goto(read_u32(value, FAMILY.at(4))?),
-            6 => RuleAttribute::Priority(read_u32(value, FAMILY.at(6))?),
-            10 => RuleAttribute::FwMark(read_u32(value, FAMILY.at(10))?),
-            11 => RuleAttribute::Realm(RouteRealm::from(read_u32(value, FAMILY.at(11))?)),
-            12 => RuleAttribute::TunId(read_u64_be(value, FAMILY.at(12))?),
-            13 => RuleAttribute::SuppressIfGroup(read_u32(value, FAMILY.at(13))?),
-            14 => RuleAttribute::SuppressPrefixLen(read_u32(value, FAMILY.at(14))?),
-            15 => RuleAttribute::Table(read_u32(value, FAMILY.at(15))?),
-            16 => RuleAttribute::FwMask(read_u32(value, FAMILY.at(16))?),
-            17 => RuleAttribute::Oifname(read_name(alloc, value, FAMILY.at(17))?),
-            19 => RuleAttribute::L3MDev(read_bool(value, FAMILY.at(19))?),
-            20 => RuleAttribute::UidRange(RuleUidRange::read(value, FAMILY.at(20))?),
-            21 => RuleAttribute::Protocol(RouteProtocol::from(read_u8(value, FAMILY.at(21))?)),
-            22 => RuleAttribute::IpProtocol(IpProtocol::from(read_u8(value, FAMILY.at(22))?)),
-            23 => RuleAttribute::SourcePortRange(RulePortRange::read(value, FAMILY.at(23))?),
-            24 => RuleAttribute::DestinationPortRange(RulePortRange::read(value, FAMILY.at(24))?),
-            _ => RuleAttribute::Other(DefaultNla::parse(alloc, item)?),
-        })
+        let mut place = RuleAttribute::Priority(0);
+        read_into(&mut place, alloc, item)?;
+        Ok(place)
+    }
+
+    fn read_onto(
+        list: &mut Vec<Self>,
+        alloc: Global,
+        _context: (),
+        item: &NlaBuffer<'_>,
+        _looks: &mut Looks,
+    ) -> Result<(), DecodeError> {
+        list.push(RuleAttribute::Priority(0))?;
+        let last = list.len() - 1;
+        read_into(&mut list[last], alloc, item)?;
+        Ok(())
     }
 
     fn try_clone(&self, alloc: Global) -> Result<Self, AllocError> {

@@ -8,18 +8,13 @@ use Rattle.npr_base.proofs.Lists.{begins_so, ReadsTo-more}
 use Rattle.npr_base.proofs.Looking.{SoFar-more, Walked-so, Walked-miss, Walked-past, AddsAtMost-none, list_members-more}
 use Rattle.npr_base.proofs.list.read_all.Goals as goal
 
-pub returns-in_err-attribute-clause-memory : goal.returns-in_err-attribute-clause-memory
-returns-in_err-attribute-clause-memory g c = λ h.
+pub returns-in_err-read_onto-clause-memory : goal.returns-in_err-read_onto-clause-memory
+returns-in_err-read_onto-clause-memory g c = λ h.
     let f : Front c.loop-next.walk c.in_ok-item.item c.next_counted.new.self = rw c.in_ok-item.was at c.in-Some.ensures.step in
     begins_so (g.A.Attribute.reading c.args.context).Reads c.args.bytes.now (map g.A.Attribute.meaning c.loop-next.found.items) c.loop-next.walk c.in_ok-item.item c.next_counted.new.self c.loop-next.invariant.read f
 
 pub returns-in_err-make_room-clause-memory : goal.returns-in_err-make_room-clause-memory
 returns-in_err-make_room-clause-memory g c = λ h.
-    let f : Front c.loop-next.walk c.in_ok-item.item c.next_counted.new.self = rw c.in_ok-item.was at c.in-Some.ensures.step in
-    begins_so (g.A.Attribute.reading c.args.context).Reads c.args.bytes.now (map g.A.Attribute.meaning c.loop-next.found.items) c.loop-next.walk c.in_ok-item.item c.next_counted.new.self c.loop-next.invariant.read f
-
-pub returns-in_err-push-clause-memory : goal.returns-in_err-push-clause-memory
-returns-in_err-push-clause-memory g c = λ h.
     let f : Front c.loop-next.walk c.in_ok-item.item c.next_counted.new.self = rw c.in_ok-item.was at c.in-Some.ensures.step in
     begins_so (g.A.Attribute.reading c.args.context).Reads c.args.bytes.now (map g.A.Attribute.meaning c.loop-next.found.items) c.loop-next.walk c.in_ok-item.item c.next_counted.new.self c.loop-next.invariant.read f
 
@@ -55,38 +50,24 @@ returns-in_err-make_room-clause-walked g c =
     item rest (hit c.loop-next.looks) past.read past.looks f (AddsAtMost-none (hit c.loop-next.looks) (length item.value)) past.left in
     rw look w
 
-pub returns-in_err-attribute-clause-walked : goal.returns-in_err-attribute-clause-walked
-returns-in_err-attribute-clause-walked g c =
+pub returns-in_err-read_onto-clause-walked : goal.returns-in_err-read_onto-clause-walked
+returns-in_err-read_onto-clause-walked g c =
     let family = g.A.Attribute in
     let past = c.loop-next.invariant in
     let item = c.in_ok-item.item in
     let rest = c.next_counted.new.self in
-    let after = c.read.new.looks in
+    let after = c.read_onto.new.looks in
     let done = map family.meaning c.loop-next.found.items in
     let f : Front c.loop-next.walk item rest = rw c.in_ok-item.was at c.in-Some.ensures.step in
     let look : c.next_counted.new.looks ≡ hit c.loop-next.looks = rw c.in_ok-item.was at c.in-Some.ensures.counted in
-    let adds = subst (λ (k : Counts). AddsAtMost k after (length item.value)) look c.read.ensures.bounded in
-    Walked-past (family.reading c.args.context).Reads c.args.bytes.now done c.loop-next.walk c.args.looks.now c.loop-next.looks (list_members family.writing.members done)
-    item rest after past.read past.looks f adds past.left
-
-pub returns-in_err-push-clause-walked : goal.returns-in_err-push-clause-walked
-returns-in_err-push-clause-walked g c =
-    let family = g.A.Attribute in
-    let past = c.loop-next.invariant in
-    let item = c.in_ok-item.item in
-    let rest = c.next_counted.new.self in
-    let after = c.read.new.looks in
-    let done = map family.meaning c.loop-next.found.items in
-    let f : Front c.loop-next.walk item rest = rw c.in_ok-item.was at c.in-Some.ensures.step in
-    let look : c.next_counted.new.looks ≡ hit c.loop-next.looks = rw c.in_ok-item.was at c.in-Some.ensures.counted in
-    let adds = subst (λ (k : Counts). AddsAtMost k after (length item.value)) look c.read.ensures.bounded in
+    let adds = subst (λ (k : Counts). AddsAtMost k after (length item.value)) look c.read_onto.ensures.bounded in
     Walked-past (family.reading c.args.context).Reads c.args.bytes.now done c.loop-next.walk c.args.looks.now c.loop-next.looks (list_members family.writing.members done)
     item rest after past.read past.looks f adds past.left
 
 pub loop-next-preserved : goal.loop-next-preserved
 loop-next-preserved g c =
     let family = g.A.Attribute in
-    let a = c.in_ok-attribute.attribute in
+    let (a, pushed, read, counted) = c.in_ok-read_onto.ensures.ok in
     let item = c.in_ok-item.item in
     let past = c.loop-next.invariant in
     let bytes = c.args.bytes.now in
@@ -95,14 +76,14 @@ loop-next-preserved g c =
     let f : Front c.loop-next.walk item rest = rw c.in_ok-item.was at c.in-Some.ensures.step in
     let took = Front-takes c.loop-next.walk item rest f in
     let look : c.next_counted.new.looks ≡ hit c.loop-next.looks = rw c.in_ok-item.was at c.in-Some.ensures.counted in
-    let e : map family.meaning c.push.new.self.items ≡ done ++ family.meaning a ∷ [] = rw (c.in_ok-push.ensures.items, c.make_room.ensures) (map_push _ c.loop-next.found.items a) in
-    let after = c.read.new.looks in
-    let adds = subst (λ (k : Counts). AddsAtMost k after (length item.value)) look c.in_ok-attribute.ensures.bounded in
-    let saw = subst (λ (k : Counts). SawEach k after (family.writing.members (family.meaning a))) look c.in_ok-attribute.ensures.counted in
+    let e : map family.meaning c.read_onto.new.list.items ≡ done ++ family.meaning a ∷ [] = rw (pushed, c.make_room.ensures) (map_push _ c.loop-next.found.items a) in
+    let after = c.read_onto.new.looks in
+    let adds = subst (λ (k : Counts). AddsAtMost k after (length item.value)) look c.read_onto.ensures.bounded in
+    let saw = subst (λ (k : Counts). SawEach k after (family.writing.members (family.meaning a))) look counted in
     let fewer : (length bytes - length c.loop-next.walk) + (4 + length item.value) ≤ length bytes - length rest = omega (arith, took, past.left) in
     let more = SoFar-more c.args.looks.now c.loop-next.looks after (length bytes - length c.loop-next.walk) (length done) (list_members family.writing.members done) (length item.value) (length bytes - length rest) (family.writing.members (family.meaning a)) past.looks adds saw fewer in
     record {
-      read = rw e (ReadsTo-more (family.reading c.args.context).Reads bytes done c.loop-next.walk item (family.meaning a) rest past.read f c.in_ok-attribute.ensures.ok);
+      read = rw e (ReadsTo-more (family.reading c.args.context).Reads bytes done c.loop-next.walk item (family.meaning a) rest past.read f read);
       left = omega (arith, took, past.left);
       looks = rw (e, length_push done (family.meaning a), list_members-more family.writing.members done (family.meaning a)) more;
     }

@@ -42,40 +42,29 @@ returns-in_err-inner-clause-refused c =
     rw (p.1, p.2)
     (λ other d bytes t. chain_wrong d bytes r.stack.items l.context t.0 e t.2 (wrong_at t.0 l l.walk e t.1 (first_wrong item rest f (hops_wrong nine (no_hop_in_front left inside)))))
 
-pub returns-in_err-attribute-clause-refused : goal.returns-in_err-attribute-clause-refused
-returns-in_err-attribute-clause-refused c =
+pub returns-in_err-push_flat-clause-refused : goal.returns-in_err-push_flat-clause-refused
+returns-in_err-push_flat-clause-refused c =
     let r = c.args.reading in
     let l = r.level in
     let item = c.in_ok-item.item in
     let rest = c.next_counted.new.self in
-    let p = err_from_is_err_and c.from_residual-in_err-attribute.result c.from_residual-in_err-attribute.ensures.1 in
-    let e = c.in_err-attribute.field-0.0 in
+    let p = err_from_is_err_and c.from_residual-in_err-push_flat.result c.from_residual-in_err-push_flat.ensures.1 in
+    let e = c.in_err-push_flat.field-0.0 in
     let f : Front l.walk item rest = rw c.in_ok-item.was at c.in-Some.ensures.step in
-    let refused = rw c.in_err-attribute.was at c.read_flat.ensures.nine in
-    let other_number : number_of item.kind ≢ 9 = λ n. let ok = refused n in absurd cc in
     rw (p.1, p.2)
-    (λ other d bytes t. chain_wrong d bytes r.stack.items l.context t.0 e t.2 (wrong_at t.0 l l.walk e t.1 (first_wrong item rest f (value_wrong other_number (c.in_err-attribute.ensures.refused other)))))
+    (λ other d bytes t.
+    let wrong = c.in_err-push_flat.ensures.refused other in
+    chain_wrong d bytes r.stack.items l.context t.0 e t.2 (wrong_at t.0 l l.walk e t.1 (first_wrong item rest f (value_wrong wrong.0 wrong.1))))
 
-pub returns-in_err-attribute-clause-ended : goal.returns-in_err-attribute-clause-ended
-returns-in_err-attribute-clause-ended c =
+pub returns-in_err-push_flat-clause-ended : goal.returns-in_err-push_flat-clause-ended
+returns-in_err-push_flat-clause-ended c =
     let l = c.args.reading.level in
     let item = c.in_ok-item.item in
     let rest = c.next_counted.new.self in
     let f : Front l.walk item rest = rw c.in_ok-item.was at c.in-Some.ensures.step in
     let look : c.next_counted.new.looks ≡ hit c.args.looks.now = rw c.in_ok-item.was at c.in-Some.ensures.counted in
-    let p = err_from_is_err_and c.from_residual-in_err-attribute.result c.from_residual-in_err-attribute.ensures.1 in
-    rw p.1 (Ended-inside c.args.looks.now c.next_counted.new.looks c.read_flat.new.looks (length item.value) _ _ look c.read_flat.ensures.bounded
-    (omega (arith, room_front l.walk item rest f)) (omega (arith, Front-takes l.walk item rest f)))
-
-pub returns-in_err-push-2-clause-ended : goal.returns-in_err-push-2-clause-ended
-returns-in_err-push-2-clause-ended c =
-    let l = c.args.reading.level in
-    let item = c.in_ok-item.item in
-    let rest = c.next_counted.new.self in
-    let f : Front l.walk item rest = rw c.in_ok-item.was at c.in-Some.ensures.step in
-    let look : c.next_counted.new.looks ≡ hit c.args.looks.now = rw c.in_ok-item.was at c.in-Some.ensures.counted in
-    let p = err_from_is_err_and c.from_residual-in_err-push-2.result c.from_residual-in_err-push-2.ensures.1 in
-    rw p.1 (Ended-inside c.args.looks.now c.next_counted.new.looks c.read_flat.new.looks (length item.value) _ _ look c.read_flat.ensures.bounded
+    let p = err_from_is_err_and c.from_residual-in_err-push_flat.result c.from_residual-in_err-push_flat.ensures.1 in
+    rw p.1 (Ended-inside c.args.looks.now c.next_counted.new.looks c.push_flat.new.looks (length item.value) _ _ look c.push_flat.ensures.bounded
     (omega (arith, room_front l.walk item rest f)) (omega (arith, Front-takes l.walk item rest f)))
 
 pub returns-then-not-is_empty-clause-ok : goal.returns-then-not-is_empty-clause-ok
@@ -138,16 +127,16 @@ returns-clause-ok c =
     let l = c.args.reading.level in
     let item = c.in_ok-item.item in
     let rest = c.next_counted.new.self in
-    let a = c.in_ok-attribute.attribute in
+    let (a, pushed, reads, counted) = c.in_ok-push_flat.ensures.ok in
     let f : Front l.walk item rest = rw c.in_ok-item.was at c.in-Some.ensures.step in
     let look : c.next_counted.new.looks ≡ hit c.args.looks.now = rw c.in_ok-item.was at c.in-Some.ensures.counted in
     let took = Front-takes l.walk item rest f in
-    let more : map meaning_of c.push-2.new.self.items ≡ map meaning_of l.attributes.items ++ meaning_of a ∷ [] = ap (map meaning_of) c.in_ok-push-2.ensures.items ∙ map_push meaning_of l.attributes.items a in (
+    let more : map meaning_of c.push_flat.new.list.items ≡ map meaning_of l.attributes.items ++ meaning_of a ∷ [] = ap (map meaning_of) pushed ∙ map_push meaning_of l.attributes.items a in (
       λ d bytes t.
-          let read = ReadsTo-more (Reads (context_inside l)) t.1.inside (map meaning_of l.attributes.items) l.walk item (meaning_of a) rest t.1.read f c.in_ok-attribute.ensures.ok in
+          let read = ReadsTo-more (Reads (context_inside l)) t.1.inside (map meaning_of l.attributes.items) l.walk item (meaning_of a) rest t.1.read f reads in
           (t.0, record { front = t.1.front; inside = t.1.inside; done = t.1.done; is_open = t.1.is_open; governs = t.1.governs; read = rw more read }, t.2),
       omega (arith, took),
-      Added-read c.args.looks.now c.next_counted.new.looks c.read_flat.new.looks (length item.value) (members (meaning_of a)) _ _ look c.read_flat.ensures.bounded c.in_ok-attribute.ensures.counted
+      Added-read c.args.looks.now c.next_counted.new.looks c.push_flat.new.looks (length item.value) (members (meaning_of a)) _ _ look c.push_flat.ensures.bounded counted
           (omega (arith, room_front l.walk item rest f))
           (omega (arith, stopped_front l.walk item rest f))
           (omega (arith, ap (list_members members) more, list_members-more members (map meaning_of l.attributes.items) (meaning_of a))),

@@ -1,10 +1,9 @@
 use Rattle.std.proofs.Common.{◌≡◌, ◌≢◌, sym, ◌∙◌}
-use Rattle.std.proofs.lemmas.Result.{IfErr-weaker}
+use Rattle.std.proofs.lemmas.Result.{IfErr-weaker, err_from_is_err_and}
 use Rattle.npr_base.specs.declared.refusal.DecodeError.TheVariants.{OutOfMemory}
 use Rattle.npr_base.specs.Framing.{number_of}
 use Rattle.npr_base.proofs.Mapped.{IfErr-mapped}
 use Rattle.npr_route.specs.Attribute.{Wrong, HopsWrong, value_wrong, hops_wrong}
-use Rattle.npr_route.specs.FlatAttributeLaws as Flats
 use Rattle.npr_route.proofs.attribute.RouteAttributeAttribute.read.Goals as goal
 
 pub returns-then-kind-eq-RTA_MULTIPATH-clause-refused : goal.returns-then-kind-eq-RTA_MULTIPATH-clause-refused
@@ -15,9 +14,9 @@ returns-then-kind-eq-RTA_MULTIPATH-clause-refused c =
     IfErr-mapped _ (λ e. e ≢ OutOfMemory → Wrong c.args.context x e) c.read_next_hops.result c.map.result c.map.ensures.cases
     (IfErr-weaker c.read_next_hops.result (λ e. e ≢ OutOfMemory → HopsWrong c.args.context x.value e) (λ e. e ≢ OutOfMemory → Wrong c.args.context x e) (λ e p other. hops_wrong nine (p other)) refused)
 
-pub returns-else-kind-eq-RTA_MULTIPATH-clause-refused : goal.returns-else-kind-eq-RTA_MULTIPATH-clause-refused
-returns-else-kind-eq-RTA_MULTIPATH-clause-refused c =
+pub returns-in_err-read_flat-clause-refused : goal.returns-in_err-read_flat-clause-refused
+returns-in_err-read_flat-clause-refused c =
     let x = c.args.item.now in
+    let p = err_from_is_err_and c.from_residual.result c.from_residual.ensures.1 in
     let not_nine : number_of x.kind ≢ 9 = λ nine. c.if-kind-eq-RTA_MULTIPATH.false (c.kind.ensures ∙ nine) in
-    IfErr-weaker c.read_flat.result (λ e. e ≢ OutOfMemory → (Flats.attributes c.args.context).Faulty x e) (λ e. e ≢ OutOfMemory → Wrong c.args.context x e)
-    (λ e p other. value_wrong not_nine (p other)) c.read_flat.ensures.refused
+    rw (p.1, p.2) (λ other. value_wrong not_nine (c.in_err-read_flat.ensures.refused other))
