@@ -13,8 +13,6 @@ use Rattle.npr_route.specs.NextHopHeader.{head_in}
 use Rattle.npr_route.specs.declared.next_hops.RouteNextHop.{RouteNextHop}
 use Rattle.npr_route.specs.declared.reader.Level.{Level}
 use Rattle.npr_route.specs.declared.reader.Reading.{Reading}
-use Rattle.npr_route.specs.declared.reader.Step.{Step}
-use Rattle.npr_route.specs.declared.reader.Step.TheVariants.{More, Done}
 
 -- a front of the bytes is these next hops, and then the rest follows
 abbrev pub HopsTo : Context → List ℕ → List Hop → List ℕ → Type 0
@@ -165,11 +163,13 @@ pub record Ended (old new : Counts) (before : Account) (walk : ℕ) : Type 0 whe
   pub failed_kept : old.failed ≤ new.failed
   pub failed : new.failed ≤ old.failed + (1 + walk / 12)
 
--- a step goes on, or ends with the next hops
-abbrev pub StepsOn : Reading → Step → Counts → Counts → Type 0
-StepsOn r (More next) old new =
-    ((c : Context) (bytes : List ℕ) → Tied c bytes r → Tied c bytes next) × (weight next < weight r)
-    × Added old new (account r) (account next)
-StepsOn r (Done hops) old new =
-    ((c : Context) (bytes : List ℕ) → Tied c bytes r → AreHops c bytes (hops_of (map hop_of hops.items)))
-    × Added old new (account r) (all_built (map hop_of hops.items))
+-- a step after which the reading goes on
+abbrev pub GoesOn : Reading → Reading → Counts → Counts → Type 0
+GoesOn r next old new =
+    ((c : Context) (bytes : List ℕ) → Tied c bytes r → Tied c bytes next) × (weight next < weight r) × Added old new (account r) (account next)
+
+-- and one that ends it with the next hops
+abbrev pub Ends : Reading → List RouteNextHop → Counts → Counts → Type 0
+Ends r hops old new =
+    ((c : Context) (bytes : List ℕ) → Tied c bytes r → AreHops c bytes (hops_of (map hop_of hops)))
+    × Added old new (account r) (all_built (map hop_of hops))

@@ -1,6 +1,6 @@
 //! Reading of next hops, by a loop and a stack: they alone nest without bound.
 
-ghost use Rattle.std.specs.Prelude.{◌≡◌, ◌≢◌, ◌<◌, ◌+◌, ℕ, List, [], length, map, IfOk, IfErr, OnOk, OnErr, IsErrOf};
+ghost use Rattle.std.specs.Prelude.{◌≡◌, ◌≢◌, ◌<◌, ◌+◌, ℕ, List, [], length, map, IfOk, IfErr, OnOk, OnErr, IsErrOf, MatchOption};
 ghost use Rattle.npr_base.specs.{
   declared.refusal.DecodeError.TheVariants.{OutOfMemory},
   Counts.{AddsAtMost, SawEach, hit, miss},
@@ -10,7 +10,7 @@ ghost use Rattle.npr_route.specs.{
   AttributeView.{hop_of, hops_of},
   FlatAttribute.{Context},
   NextHopHeader.{head_in},
-  Reader.{Tied, Opens, SoughtIn, account, StepsOn, Ended},
+  Reader.{Tied, Opens, SoughtIn, account, GoesOn, Ends, Ended},
 };
 
 use crate::attribute::{Context, RTA_MULTIPATH, RouteAttribute, push_flat};
@@ -22,6 +22,7 @@ use npr_base::{DecodeError, Looks, NlasIterator, ParseableParametrized};
 use npr_scalar::RouteNextHopFlags;
 use npr_tunnel::RouteLwEnCapType;
 use std::alloc::Global;
+use std::mem;
 
 /// The next hop behind one begins at a multiple of so many bytes (`linux/rtnetlink.h`,
 /// `RTNH_ALIGNTO`).
@@ -52,12 +53,6 @@ struct Level<'a> {
 struct Reading<'a> {
     level: Level<'a>,
     stack: Vec<Level<'a>>,
-}
-
-#[derive(Drop)]
-enum Step<'a> {
-    More(Reading<'a>),
-    Done(Vec<RouteNextHop>),
 }
 
 /// The next hops that the bytes are, one after the other, each at a multiple of four bytes, in the
@@ -101,15 +96,14 @@ fn read_levels(
     if bytes.is_empty() {
         return Ok(Vec::new(alloc));
     }
-    let level = open(alloc, bytes, context, Vec::new(alloc), looks)?;
+    let level = open(alloc, bytes, context, looks)?;
     let mut reading = Reading {
         level,
         stack: Vec::new(alloc),
     };
     loop {
-        match advance(alloc, reading, looks)? {
-            Step::More(next) => reading = next,
-            Step::Done(hops) => return Ok(hops),
+        if let Some(next_hops) = advance(alloc, &mut reading, looks)? {
+            return Ok(next_hops);
         }
     }
 }
@@ -138,95 +132,114 @@ fn open_hop<'a>(
     }
 }
 
-/// The list with these next hops before the one in front of the bytes, which is opened: its
-/// attributes are looked through for the type that governs them.
+/// The list in the bytes, with its first next hop open.
 fn open<'a>(
     alloc: Global,
     bytes: &'a [u8],
     context: Context,
-    next_hops: Vec<RouteNextHop>,
     looks: &mut Looks,
 ) -> Result<Level<'a>, DecodeError>
-    ensures ok { IfOk result (λ l. Opens context bytes.now next_hops.items l) }
+    ensures ok { IfOk result (λ l. Opens context bytes.now [] l) }
     ensures sought { IfOk result (λ l. SoughtIn l.walk looks.old looks.new) }
     ensures refused { IfErr result (λ e. (e ≢ OutOfMemory) × HopFault bytes.now e) }
     ensures misses { OnErr result (looks.new ≡ miss looks.old) }
 {
-    let (header, inside, hops_rest) = open_hop(bytes, looks)?;
-    Ok(Level {
+    let mut level = Level {
         context,
-        next_hops,
-        header,
-        encap_type: governing_type(inside, context.2, looks),
+        next_hops: Vec::new(alloc),
+        header: RouteNextHopBuffer {
+            length: 0,
+            flags: 0,
+            hops: 0,
+            interface_index: 0,
+        },
+        encap_type: context.2,
         attributes: Vec::new(alloc),
-        walk: NlasIterator::new(inside),
-        hops_rest,
-    })
+        walk: NlasIterator::new(&[]),
+        hops_rest: bytes,
+    };
+    open_next(&mut level, looks)?;
+    Ok(level)
 }
 
-/// Reads an attribute of the open next hop, opens the list that it holds, or closes the next hop.
+/// Opens the next hop in front of the rest, behind those that were read: its attributes are looked
+/// through for the type that governs them.
+fn open_next(level: &mut Level<'_>, looks: &mut Looks) -> Result<(), DecodeError>
+    requires { level.old.attributes.items ≡ [] }
+    ensures ok { IfOk result (λ _. Opens level.old.context level.old.hops_rest.now level.old.next_hops.items level.new) }
+    ensures sought { IfOk result (λ _. SoughtIn level.new.walk looks.old looks.new) }
+    ensures refused { IfErr result (λ e. (e ≢ OutOfMemory) × HopFault level.old.hops_rest.now e) }
+    ensures misses { OnErr result (looks.new ≡ miss looks.old) }
+{
+    let (header, inside, hops_rest) = open_hop(level.hops_rest, looks)?;
+    level.header = header;
+    level.encap_type = governing_type(inside, level.context.2, looks);
+    level.walk = NlasIterator::new(inside);
+    level.hops_rest = hops_rest;
+    Ok(())
+}
+
+/// Reads an attribute of the open next hop, opens the list that it holds, or closes the next hop: the
+/// next hops of the outermost list, once all of them were read.
 fn advance<'a>(
     alloc: Global,
-    reading: Reading<'a>,
+    reading: &mut Reading<'a>,
     looks: &mut Looks,
-) -> Result<Step<'a>, DecodeError>
-    ensures ok { IfOk result (λ s. StepsOn reading.entry s looks.old looks.new) }
-    ensures refused { IfErr result (λ e. e ≢ OutOfMemory → (c : Context) (bytes : List ℕ) → Tied c bytes reading.entry → HopsWrong c bytes e) }
-    ensures ended { OnErr result (Ended looks.old looks.new (account reading.entry) (length reading.entry.level.walk)) }
+) -> Result<Option<Vec<RouteNextHop>>, DecodeError>
+    ensures ok { IfOk result (λ done. MatchOption done (GoesOn reading.old reading.new looks.old looks.new) (λ v. Ends reading.old v.items looks.old looks.new)) }
+    ensures refused { IfErr result (λ e. e ≢ OutOfMemory → (c : Context) (bytes : List ℕ) → Tied c bytes reading.old → HopsWrong c bytes e) }
+    ensures ended { OnErr result (Ended looks.old looks.new (account reading.old) (length reading.old.level.walk)) }
 {
-    let Reading {
-        mut level,
-        mut stack,
-    } = reading;
-    let Some(next) = level.walk.next_counted(looks) else {
-        return close(alloc, Reading { level, stack }, looks);
+    let Some(next) = reading.level.walk.next_counted(looks) else {
+        return close(alloc, reading, looks);
     };
     let item = next?;
+    let level = &mut reading.level;
     let inside = (level.context.0, level.context.1, level.encap_type);
     if item.kind() == RTA_MULTIPATH && !item.value().is_empty() {
-        let inner = open(alloc, item.value(), inside, Vec::new(alloc), looks)?;
-        stack.push(level)?;
-        return Ok(Step::More(Reading {
-            level: inner,
-            stack,
-        }));
+        let inner = open(alloc, item.value(), inside, looks)?;
+        let outer = mem::replace(level, inner);
+        reading.stack.push(outer)?;
+        return Ok(None);
     }
     push_flat(&mut level.attributes, alloc, inside, &item, looks)?;
-    Ok(Step::More(Reading { level, stack }))
+    Ok(None)
 }
 
 /// Closes the open next hop, all of whose attributes were read: the next one of its list is opened,
 /// or the list that waits goes on.
 fn close<'a>(
     alloc: Global,
-    reading: Reading<'a>,
+    reading: &mut Reading<'a>,
     looks: &mut Looks,
-) -> Result<Step<'a>, DecodeError>
-    requires { reading.level.walk ≡ [] }
-    ensures ok { IfOk result (λ s. StepsOn reading.entry s looks.old looks.new) }
-    ensures refused { IfErr result (λ e. e ≢ OutOfMemory → (c : Context) (bytes : List ℕ) → Tied c bytes reading.entry → HopsWrong c bytes e) }
-    ensures ended { OnErr result (Ended looks.old looks.new (account reading.entry) (length reading.entry.level.walk)) }
+) -> Result<Option<Vec<RouteNextHop>>, DecodeError>
+    requires { reading.old.level.walk ≡ [] }
+    ensures ok { IfOk result (λ done. MatchOption done (GoesOn reading.old reading.new looks.old looks.new) (λ v. Ends reading.old v.items looks.old looks.new)) }
+    ensures refused { IfErr result (λ e. e ≢ OutOfMemory → (c : Context) (bytes : List ℕ) → Tied c bytes reading.old → HopsWrong c bytes e) }
+    ensures ended { OnErr result (Ended looks.old looks.new (account reading.old) (length reading.old.level.walk)) }
 {
-    let Reading { level, mut stack } = reading;
-    let mut next_hops = level.next_hops;
-    next_hops.push(RouteNextHop {
+    let level = &mut reading.level;
+    let attributes = mem::replace(&mut level.attributes, Vec::new(alloc));
+    level.next_hops.push(RouteNextHop {
         flags: RouteNextHopFlags::from_bits_retain(level.header.flags),
         hops: level.header.hops,
         interface_index: level.header.interface_index,
-        attributes: level.attributes,
+        attributes,
     })?;
-    if level.hops_rest.is_empty() {
-        let Some(mut outer) = stack.pop() else {
-            return Ok(Step::Done(next_hops));
-        };
-        outer.attributes.push(RouteAttribute::MultiPath(next_hops))?;
-        return Ok(Step::More(Reading {
-            level: outer,
-            stack,
-        }));
+    if !level.hops_rest.is_empty() {
+        open_next(level, looks)?;
+        return Ok(None);
     }
-    let next = open(alloc, level.hops_rest, level.context, next_hops, looks)?;
-    Ok(Step::More(Reading { level: next, stack }))
+    let next_hops = mem::replace(&mut level.next_hops, Vec::new(alloc));
+    let Some(outer) = reading.stack.pop() else {
+        return Ok(Some(next_hops));
+    };
+    reading.level = outer;
+    reading
+        .level
+        .attributes
+        .push(RouteAttribute::MultiPath(next_hops))?;
+    Ok(None)
 }
 
 impl<'a> ParseableParametrized<&'a [u8], Context> for RouteNextHop {

@@ -1,4 +1,4 @@
-use Rattle.std.proofs.Common.{◌≡◌, ◌≢◌, ◌<◌, [], ◌∷◌, ◌++◌, map, length, ap, sym, ◌∙◌, arith}
+use Rattle.std.proofs.Common.{◌≡◌, ◌≢◌, ◌<◌, [], ◌∷◌, ◌++◌, map, length, ap, sym, subst, ◌∙◌, arith}
 use Rattle.std.proofs.lemmas.Bool.Decides.{nat_tests}
 use Rattle.std.proofs.lemmas.List.{map_push}
 use Rattle.std.proofs.lemmas.Result.{err_from_is_err_and}
@@ -10,7 +10,7 @@ use Rattle.npr_base.proofs.Lists.{ReadsTo-more}
 use Rattle.npr_base.proofs.Looking.{list_members-more}
 use Rattle.npr_route.specs.Attribute.{Reads, members, none_in_front, first_wrong, hops_wrong, value_wrong, HopFault, no_hop_in_front}
 use Rattle.npr_route.specs.AttributeView.{meaning_of}
-use Rattle.npr_route.specs.Reader.{IsAt, Waits, Opens, context_inside, weight_of}
+use Rattle.npr_route.specs.Reader.{IsAt, Waits, Opens, SoughtIn, context_inside, weight_of}
 use Rattle.npr_route.specs.NextHopFrontLaws.{HopFront-length}
 use Rattle.npr_route.specs.NextHopHeader.{head_in}
 use Rattle.npr_route.specs.declared.reader.Level.{Level}
@@ -20,7 +20,7 @@ use Rattle.npr_route.proofs.reader.advance.Goals as goal
 
 pub returns-in_err-item-clause-refused : goal.returns-in_err-item-clause-refused
 returns-in_err-item-clause-refused c =
-    let r = c.args.reading in
+    let r = c.args.reading.now in
     let l = r.level in
     let p = err_from_is_err_and c.from_residual.result c.from_residual.ensures.1 in
     let e = c.in_err-item.field-0.0 in
@@ -29,7 +29,7 @@ returns-in_err-item-clause-refused c =
 
 pub returns-in_err-inner-clause-refused : goal.returns-in_err-inner-clause-refused
 returns-in_err-inner-clause-refused c =
-    let r = c.args.reading in
+    let r = c.args.reading.now in
     let l = r.level in
     let item = c.in_ok-item.item in
     let rest = c.next_counted.new.self in
@@ -44,7 +44,7 @@ returns-in_err-inner-clause-refused c =
 
 pub returns-in_err-push_flat-clause-refused : goal.returns-in_err-push_flat-clause-refused
 returns-in_err-push_flat-clause-refused c =
-    let r = c.args.reading in
+    let r = c.args.reading.now in
     let l = r.level in
     let item = c.in_ok-item.item in
     let rest = c.next_counted.new.self in
@@ -58,7 +58,7 @@ returns-in_err-push_flat-clause-refused c =
 
 pub returns-in_err-push_flat-clause-ended : goal.returns-in_err-push_flat-clause-ended
 returns-in_err-push_flat-clause-ended c =
-    let l = c.args.reading.level in
+    let l = c.args.reading.now.level in
     let item = c.in_ok-item.item in
     let rest = c.next_counted.new.self in
     let f : Front l.walk item rest = rw c.in_ok-item.was at c.in-Some.ensures.step in
@@ -69,20 +69,22 @@ returns-in_err-push_flat-clause-ended c =
 
 pub returns-then-not-is_empty-clause-ok : goal.returns-then-not-is_empty-clause-ok
 returns-then-not-is_empty-clause-ok c =
-    let l = c.args.reading.level in
-    let fs = c.args.reading.stack.items in
+    let l = c.args.reading.now.level in
+    let fs = c.args.reading.now.stack.items in
     let item = c.in_ok-item.item in
     let rest = c.next_counted.new.self in
     let value = c.value-then-not-is_empty.result.now in
     let value_is : value ≡ item.value = c.value-then-not-is_empty.ensures in
-    let inner = c.in_ok-inner.inner in
+    let inner = c.replace-outer.new.dest in
+    let same : c.in_ok-inner.inner ≡ inner = sym c.replace-outer.ensures.after in
     let outer : Level =
     record { context = l.context; next_hops = l.next_hops; header = l.header; encap_type = l.encap_type; attributes = l.attributes; walk = rest; hops_rest = l.hops_rest } in
     let f : Front l.walk item rest = rw c.in_ok-item.was at c.in-Some.ensures.step in
     let look : c.next_counted.new.looks ≡ hit c.args.looks.now = rw c.in_ok-item.was at c.in-Some.ensures.counted in
     let nine : number_of item.kind ≡ 9 = omega arith in
-    let items : c.push.new.self.items ≡ fs ++ outer ∷ [] = c.in_ok-push.ensures.items in
-    let opens : Opens (context_inside l) value [] inner = rw c.new.ensures.items at c.in_ok-inner.ensures.ok in
+    let items : c.push.new.self.items ≡ fs ++ outer ∷ [] = rw c.replace-outer.ensures.value at c.in_ok-push.ensures.items in
+    let opens = subst (λ (k : Level). Opens (context_inside l) value [] k) same c.in_ok-inner.ensures.ok in
+    let sought = subst (λ (k : Level). SoughtIn k.walk c.next_counted.new.looks c.open.new.looks) same c.in_ok-inner.ensures.sought in
     let front = HopFront-length value (head_in inner.header) inner.walk inner.hops_rest.now opens.front in
     let size : length value ≡ length item.value = ap length value_is in
     let took = Front-takes l.walk item rest f in
@@ -92,7 +94,7 @@ returns-then-not-is_empty-clause-ok c =
           let waits : Waits t.0 outer value = record { place = l.walk; item = item; at = at; begins = f; is_nine = nine; value_is = sym value_is } in
           (value, opened_first (context_inside l) value inner opens, rw (items, opens.context) (chain_push d bytes fs outer t.0 value t.2 waits)),
       omega (arith, ap weight_of items, weight_push fs outer, took, size, front),
-      Added-inner inner.walk c.args.looks.now c.next_counted.new.looks c.open.new.looks _ _ look c.in_ok-inner.ensures.sought
+      Added-inner inner.walk c.args.looks.now c.next_counted.new.looks c.open.new.looks _ _ look sought
           (rw items (omega (arith, pushed.room, room_open (context_inside l) value [] inner opens, room_front l.walk item rest f, size)))
           (rw items (omega (arith, pushed.stops, stopped_front l.walk item rest f)))
           (rw items (omega (arith, pushed.built, built_open (context_inside l) value [] inner opens))),
@@ -100,7 +102,7 @@ returns-then-not-is_empty-clause-ok c =
 
 pub returns-in_err-inner-clause-ended : goal.returns-in_err-inner-clause-ended
 returns-in_err-inner-clause-ended c =
-    let l = c.args.reading.level in
+    let l = c.args.reading.now.level in
     let item = c.in_ok-item.item in
     let rest = c.next_counted.new.self in
     let f : Front l.walk item rest = rw c.in_ok-item.was at c.in-Some.ensures.step in
@@ -110,21 +112,21 @@ returns-in_err-inner-clause-ended c =
 
 pub returns-in_err-push-clause-ended : goal.returns-in_err-push-clause-ended
 returns-in_err-push-clause-ended c =
-    let l = c.args.reading.level in
+    let l = c.args.reading.now.level in
     let item = c.in_ok-item.item in
     let rest = c.next_counted.new.self in
     let value = c.value-then-not-is_empty.result.now in
     let inner = c.in_ok-inner.inner in
     let f : Front l.walk item rest = rw c.in_ok-item.was at c.in-Some.ensures.step in
     let look : c.next_counted.new.looks ≡ hit c.args.looks.now = rw c.in_ok-item.was at c.in-Some.ensures.counted in
-    let opens : Opens (context_inside l) value [] inner = rw c.new.ensures.items at c.in_ok-inner.ensures.ok in
+    let opens : Opens (context_inside l) value [] inner = c.in_ok-inner.ensures.ok in
     let p = err_from_is_err_and c.from_residual-in_err-push.result c.from_residual-in_err-push.ensures.1 in
     rw p.1 (Ended-inner inner.walk c.args.looks.now c.next_counted.new.looks c.open.new.looks _ _ look c.in_ok-inner.ensures.sought
     (omega (arith, room_open (context_inside l) value [] inner opens, room_front l.walk item rest f, ap length c.value-then-not-is_empty.ensures)))
 
 pub returns-clause-ok : goal.returns-clause-ok
 returns-clause-ok c =
-    let l = c.args.reading.level in
+    let l = c.args.reading.now.level in
     let item = c.in_ok-item.item in
     let rest = c.next_counted.new.self in
     let (a, pushed, reads, counted) = c.in_ok-push_flat.ensures.ok in

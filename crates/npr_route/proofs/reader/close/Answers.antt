@@ -17,11 +17,11 @@ use Rattle.npr_route.proofs.reader.close.Goals as goal
 
 pub returns-in_default-clause-ok : goal.returns-in_default-clause-ok
 returns-in_default-clause-ok c =
-    let l = c.args.reading.level in
-    let fs = c.args.reading.stack.items in
-    let hops = hops_closed l c.from_bits_retain.result c.push.new.self.items (c.from_bits_retain.ensures tt) c.in_ok-push.ensures.items in
+    let l = c.args.reading.now.level in
+    let fs = c.args.reading.now.stack.items in
+    let hops : map hop_of c.replace-next_hops.result.items ≡ map hop_of l.next_hops.items ++ closed_hop l ∷ [] = rw c.replace-next_hops.ensures.value (hops_closed l c.from_bits_retain.result c.push.new.self.items (c.from_bits_retain.ensures tt) (rw c.replace-attributes.ensures.value at c.in_ok-push.ensures.items)) in
     let nil : l.hops_rest.now ≡ [] = nil_from_length _ (grind (arith, nat_tests)) in
-    let none : length fs ≡ 0 = omega (arith, c.args.reading.stack.ok.0, c.in_default.ensures.cases) in
+    let none : length fs ≡ 0 = omega (arith, c.args.reading.now.stack.ok.0, c.in_default.ensures.cases) in
     let empty : fs ≡ [] = nil_from_length fs none in (
       λ d bytes t.
           let done = closes t.0 l (subst (λ w. IsAt t.0 l w) c.requires t.1) in
@@ -31,15 +31,15 @@ returns-in_default-clause-ok c =
       rw hops (Added-none c.args.looks.now _ _ (omega arith) (omega (arith, ap stopped c.requires, ap (λ z. (account_of z).stops) empty)) (omega (arith, closed_count l))),
     )
 
-pub returns-then-is_empty-clause-ok : goal.returns-then-is_empty-clause-ok
-returns-then-is_empty-clause-ok c =
-    let l = c.args.reading.level in
+pub returns-clause-ok : goal.returns-clause-ok
+returns-clause-ok c =
+    let l = c.args.reading.now.level in
     let f = c.in-Some.outer in
     let fs = c.pop.new.self.items in
-    let v = c.push.new.self in
-    let hops = hops_closed l c.from_bits_retain.result v.items (c.from_bits_retain.ensures tt) c.in_ok-push.ensures.items in
+    let v = c.replace-next_hops.result in
+    let hops : map hop_of v.items ≡ map hop_of l.next_hops.items ++ closed_hop l ∷ [] = rw c.replace-next_hops.ensures.value (hops_closed l c.from_bits_retain.result c.push.new.self.items (c.from_bits_retain.ensures tt) (rw c.replace-attributes.ensures.value at c.in_ok-push.ensures.items)) in
     let nil : l.hops_rest.now ≡ [] = nil_from_length _ (grind (arith, nat_tests)) in
-    let more : map meaning_of c.push-then-is_empty.new.self.items ≡ map meaning_of f.attributes.items ++ multi_path (hops_of (map hop_of v.items)) ∷ [] =
+    let more : map meaning_of c.push-2.new.self.items ≡ map meaning_of f.attributes.items ++ multi_path (hops_of (map hop_of v.items)) ∷ [] =
     ap (map meaning_of) c.in_ok-push-2.ensures.items ∙ map_push meaning_of f.attributes.items (MultiPath v) ∙ ap (λ (m : Meaning). map meaning_of f.attributes.items ++ m ∷ []) (view_multi_path v) in
     let held : hops_members (hops_of (map hop_of v.items)) ≡ level_built l = hops_count (map hop_of v.items) ∙ ap (list_members hop_members) hops ∙ closed_count l in
     let pushed = account_push fs f in
@@ -57,22 +57,22 @@ returns-then-is_empty-clause-ok c =
           (omega (arith, pushed.built, ap (list_members members) more, list_members-more members (map meaning_of f.attributes.items) (multi_path (hops_of (map hop_of v.items))), held))),
     )
 
-pub returns-in_err-next-clause-refused : goal.returns-in_err-next-clause-refused
-returns-in_err-next-clause-refused c =
-    let l = c.args.reading.level in
-    let p = err_from_is_err_and c.from_residual-in_err-next.result c.from_residual-in_err-next.ensures.1 in
+pub returns-in_err-open_next-clause-refused : goal.returns-in_err-open_next-clause-refused
+returns-in_err-open_next-clause-refused c =
+    let l = c.args.reading.now.level in
+    let p = err_from_is_err_and c.from_residual-in_err-open_next.result c.from_residual-in_err-open_next.ensures.1 in
     let left : 0 < length l.hops_rest.now = grind (arith, nat_tests) in
     rw (p.1, p.2) (λ other d bytes t.
     let done = closes t.0 l (subst (λ w. IsAt t.0 l w) c.requires t.1) in
-    chain_wrong d bytes c.args.reading.stack.items l.context t.0 _ t.2
-    (hops_wrong_behind l.context t.0 l.hops_rest.now (map hop_of l.next_hops.items ++ closed_hop l ∷ []) _ done (no_hop_in_front left c.in_err-next.ensures.refused.1)))
+    chain_wrong d bytes c.args.reading.now.stack.items l.context t.0 _ t.2
+    (hops_wrong_behind l.context t.0 l.hops_rest.now (map hop_of l.next_hops.items ++ closed_hop l ∷ []) _ done (no_hop_in_front left c.in_err-open_next.ensures.refused.1)))
 
-pub returns-clause-ok : goal.returns-clause-ok
-returns-clause-ok c =
-    let l = c.args.reading.level in
-    let o = c.in_ok-next in
-    let next = o.next in
-    let hops = hops_closed l c.from_bits_retain.result c.push.new.self.items (c.from_bits_retain.ensures tt) c.in_ok-push.ensures.items in
+pub returns-then-not-is_empty-clause-ok : goal.returns-then-not-is_empty-clause-ok
+returns-then-not-is_empty-clause-ok c =
+    let l = c.args.reading.now.level in
+    let o = c.in_ok-open_next in
+    let next = c.open_next.new.level in
+    let hops = hops_closed l c.from_bits_retain.result c.push.new.self.items (c.from_bits_retain.ensures tt) (rw c.replace-attributes.ensures.value at c.in_ok-push.ensures.items) in
     let opens : Opens l.context l.hops_rest.now c.push.new.self.items next = o.ensures.ok in
     let front = HopFront-length l.hops_rest.now (head_in next.header) next.walk next.hops_rest.now opens.front in
     let none : length l.walk ≡ 0 = ap length c.requires in (
@@ -80,7 +80,7 @@ returns-clause-ok c =
           let done = closes t.0 l (subst (λ w. IsAt t.0 l w) c.requires t.1) in
           (t.0, opened_at l.context t.0 l.hops_rest.now next c.push.new.self.items opens (rw hops done), rw opens.context t.2),
       omega (arith, front, none),
-      Added-open next.walk c.args.looks.now c.open.new.looks _ _ o.ensures.sought
+      Added-open next.walk c.args.looks.now c.open_next.new.looks _ _ o.ensures.sought
           (omega (arith, room_open l.context l.hops_rest.now c.push.new.self.items next opens))
           (omega (arith, ap stopped c.requires))
           (omega (arith, built_open l.context l.hops_rest.now c.push.new.self.items next opens, ap (list_members hop_members) hops, closed_count l)),

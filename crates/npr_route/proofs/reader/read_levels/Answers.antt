@@ -4,32 +4,32 @@ use Rattle.std.proofs.lemmas.Result.{err_from_is_err_and}
 use Rattle.npr_route.specs.Attribute.{no_hop_in_front}
 use Rattle.npr_route.specs.AttributeView.{hop_of}
 use Rattle.npr_route.specs.NextHopHeader.{head_in}
-use Rattle.npr_route.specs.Reader.{Opens, StepsOn, account, unread, all_built}
+use Rattle.npr_route.specs.Reader.{Opens, account, unread, all_built}
 use Rattle.npr_route.proofs.Reading.{opened_first, room_open, built_open, Added-open, Added-more, Added-saw, Ended-bounds, hops_count}
 use Rattle.npr_route.proofs.reader.read_levels.Goals as goal
 
-pub loop-next-preserved : goal.loop-next-preserved
-loop-next-preserved c =
-    let past = c.loop-next.invariant in
-    let r = c.loop-next.reading in
-    let next = c.in-More.next in
-    let step = subst (λ s. StepsOn r s c.loop-next.looks c.advance.new.looks) c.in-More.is c.in_ok-next.ensures.ok in
+pub loop-reading-preserved : goal.loop-reading-preserved
+loop-reading-preserved c =
+    let past = c.loop-reading.invariant in
+    let r = c.loop-reading.reading in
+    let next = c.advance.new.reading in
+    let step = rw c.in_default.is at c.in_ok-next_hops.ensures.ok in
     record {
       tied = step.0 c.args.context c.args.bytes.now past.tied;
-      looks = Added-more c.args.looks.now c.loop-next.looks c.advance.new.looks (unread (length c.args.bytes.now)) (account r) (account next) past.looks step.2;
+      looks = Added-more c.args.looks.now c.loop-reading.looks c.advance.new.looks (unread (length c.args.bytes.now)) (account r) (account next) past.looks step.2;
       begun = past.begun;
     }
 
-pub loop-next-init : goal.loop-next-init
-loop-next-init c =
+pub loop-reading-init : goal.loop-reading-init
+loop-reading-init c =
     let k = c.args.context in
     let bytes = c.args.bytes.now in
     let l = c.in_ok-level.level in
-    let opens : Opens k bytes [] l = rw c.new-2.ensures.items at c.in_ok-level.ensures.ok in
+    let opens : Opens k bytes [] l = c.in_ok-level.ensures.ok in
     let built = built_open k bytes [] l opens in
     record {
-      tied = (bytes, opened_first k bytes l opens, rw c.new-3.ensures.items (sym opens.context, refl));
-      looks = rw c.new-3.ensures.items
+      tied = (bytes, opened_first k bytes l opens, rw c.new-2.ensures.items (sym opens.context, refl));
+      looks = rw c.new-2.ensures.items
           (Added-open l.walk c.args.looks.now c.open.new.looks _ _ c.in_ok-level.ensures.sought (omega (arith, room_open k bytes [] l opens)) (omega arith) (omega (arith, built)));
       begun = (head_in l.header, l.walk, l.hops_rest.now, opens.front);
     }
@@ -40,22 +40,22 @@ returns-in_err-level-clause-refused c =
     let left : 0 < length c.args.bytes.now = grind (arith, nat_tests) in
     rw (p.1, p.2) (λ other. no_hop_in_front left c.in_err-level.ensures.refused.1)
 
-pub returns-in_err-next-clause-refused : goal.returns-in_err-next-clause-refused
-returns-in_err-next-clause-refused c =
-    let p = err_from_is_err_and c.from_residual-in_err-next.result c.from_residual-in_err-next.ensures.1 in
-    rw (p.1, p.2) (λ other. c.in_err-next.ensures.refused other c.args.context c.args.bytes.now c.loop-next.invariant.tied)
+pub returns-in_err-next_hops-clause-refused : goal.returns-in_err-next_hops-clause-refused
+returns-in_err-next_hops-clause-refused c =
+    let p = err_from_is_err_and c.from_residual-in_err-next_hops.result c.from_residual-in_err-next_hops.ensures.1 in
+    rw (p.1, p.2) (λ other. c.in_err-next_hops.ensures.refused other c.args.context c.args.bytes.now c.loop-reading.invariant.tied)
 
-pub returns-in_err-next-clause-bounded : goal.returns-in_err-next-clause-bounded
-returns-in_err-next-clause-bounded c =
-    let past = c.loop-next.invariant in
-    Ended-bounds c.args.context c.args.bytes.now c.loop-next.reading c.args.looks.now c.loop-next.looks c.advance.new.looks past.tied past.looks c.in_err-next.ensures.ended
+pub returns-in_err-next_hops-clause-bounded : goal.returns-in_err-next_hops-clause-bounded
+returns-in_err-next_hops-clause-bounded c =
+    let past = c.loop-reading.invariant in
+    Ended-bounds c.args.context c.args.bytes.now c.loop-reading.reading c.args.looks.now c.loop-reading.looks c.advance.new.looks past.tied past.looks c.in_err-next_hops.ensures.ended
 
-pub returns-in-Done-clause-counted : goal.returns-in-Done-clause-counted
-returns-in-Done-clause-counted c =
-    let past = c.loop-next.invariant in
-    let r = c.loop-next.reading in
+pub returns-in-Some-clause-counted : goal.returns-in-Some-clause-counted
+returns-in-Some-clause-counted c =
+    let past = c.loop-reading.invariant in
+    let r = c.loop-reading.reading in
     let bytes = c.args.bytes.now in
-    let hops = map hop_of c.in-Done.hops.items in
-    let step = subst (λ s. StepsOn r s c.loop-next.looks c.advance.new.looks) c.in-Done.is c.in_ok-next.ensures.ok in
-    let all = Added-more c.args.looks.now c.loop-next.looks c.advance.new.looks (unread (length bytes)) (account r) (all_built hops) past.looks step.1 in
+    let hops = map hop_of c.in-Some.next_hops.items in
+    let step = rw c.in-Some.is at c.in_ok-next_hops.ensures.ok in
+    let all = Added-more c.args.looks.now c.loop-reading.looks c.advance.new.looks (unread (length bytes)) (account r) (all_built hops) past.looks step.1 in
     rw hops_count (Added-saw c.args.looks.now c.advance.new.looks (length bytes) hops all)
