@@ -10,7 +10,7 @@ ghost use Rattle.npr_base.specs.{
 };
 ghost use Rattle.npr_scalar.specs.RouteAddress.{form_of};
 ghost use Rattle.npr_route.specs.{
-  Attribute.{Meaning, flat, plain_of, nested_of},
+  Attribute.{Meaning, flat, typed, plain_of, nested_of},
   AttributeView.{meaning_of},
   declared.attribute.RouteAttribute.{RouteAttribute},
   FlatAttributeLaws.{attributes as flat_attributes},
@@ -287,23 +287,24 @@ fn put(place: &mut RouteAttribute, value: RouteAttribute)
 }
 
 /// Puts into a place that holds a blank what an attribute is that holds no next hops: one of another
-/// number, or an empty list of them.
+/// number, or an empty list of them. Encapsulations are read under the type beside the context.
 fn read_flat(
     place: &mut RouteAttribute,
     alloc: Global,
     context: Context,
+    encap_type: RouteLwEnCapType,
     item: &NlaBuffer<'_>,
     looks: &mut Looks,
 ) -> Result<(), DecodeError>
     requires blank { place.old ≡ RouteAttribute.Uid 0 }
     requires hops { number_of (item.now).kind ≡ 9 → (item.now).value ≡ [] }
-    ensures ok { IfOk result (λ _. (attributes context).Reads item.now (meaning_of place.new)) }
-    ensures refused { IfErr result (λ e. e ≢ OutOfMemory → (flat_attributes context).Faulty item.now e) }
+    ensures ok { IfOk result (λ _. (attributes (typed context encap_type)).Reads item.now (meaning_of place.new)) }
+    ensures refused { IfErr result (λ e. e ≢ OutOfMemory → (flat_attributes (typed context encap_type)).Faulty item.now e) }
     ensures nine { number_of (item.now).kind ≡ 9 → IsOk result }
     ensures bounded { AddsAtMost looks.old looks.new (length (item.now).value) }
     ensures counted { IfOk result (λ _. SawEach looks.old looks.new (writing.members (meaning_of place.new))) }
 {
-    let (family, kind, encapsulation) = context;
+    let (family, kind, _) = context;
     let value = item.value();
     match item.kind() {
         1 => put(
@@ -368,7 +369,7 @@ fn read_flat(
         ),
         RTA_ENCAP => put(
             place,
-            RouteAttribute::Encap(parse_list(alloc, encapsulation, value, looks)?),
+            RouteAttribute::Encap(parse_list(alloc, encap_type, value, looks)?),
         ),
         23 => put(place, read_expires(kind, value)?),
         25 => put(place, RouteAttribute::Uid(read_u32(value, FAMILY.at(25))?)),
@@ -409,18 +410,19 @@ pub(crate) fn push_flat(
     list: &mut Vec<RouteAttribute>,
     alloc: Global,
     context: Context,
+    encap_type: RouteLwEnCapType,
     item: &NlaBuffer<'_>,
     looks: &mut Looks,
 ) -> Result<(), DecodeError>
     requires { number_of (item.now).kind ≡ 9 → (item.now).value ≡ [] }
-    ensures ok { IfOk result (λ _. (a : RouteAttribute) × (list.new.items ≡ list.old.items ++ a ∷ []) × (attributes context).Reads item.now (meaning_of a)
+    ensures ok { IfOk result (λ _. (a : RouteAttribute) × (list.new.items ≡ list.old.items ++ a ∷ []) × (attributes (typed context encap_type)).Reads item.now (meaning_of a)
         × SawEach looks.old looks.new (writing.members (meaning_of a))) }
-    ensures refused { IfErr result (λ e. e ≢ OutOfMemory → (number_of (item.now).kind ≢ 9) × (flat_attributes context).Faulty item.now e) }
+    ensures refused { IfErr result (λ e. e ≢ OutOfMemory → (number_of (item.now).kind ≢ 9) × (flat_attributes (typed context encap_type)).Faulty item.now e) }
     ensures bounded { AddsAtMost looks.old looks.new (length (item.now).value) }
 {
     list.push(RouteAttribute::Uid(0))?;
     let last = list.len() - 1;
-    read_flat(&mut list[last], alloc, context, item, looks)?;
+    read_flat(&mut list[last], alloc, context, encap_type, item, looks)?;
     Ok(())
 }
 
@@ -449,7 +451,7 @@ impl Attribute for RouteAttribute {
             return read_next_hops(alloc, item.value(), context, looks).map(Self::MultiPath);
         }
         let mut place = Self::Uid(0);
-        read_flat(&mut place, alloc, context, item, looks)?;
+        read_flat(&mut place, alloc, context, context.2, item, looks)?;
         Ok(place)
     }
 
@@ -465,7 +467,7 @@ impl Attribute for RouteAttribute {
             list.push(Self::MultiPath(next_hops))?;
             Ok(())
         } else {
-            push_flat(list, alloc, context, item, looks)
+            push_flat(list, alloc, context, context.2, item, looks)
         }
     }
 

@@ -1,6 +1,6 @@
 //! The header of a next hop: `struct rtnexthop` of `linux/rtnetlink.h`.
 
-ghost use Rattle.std.specs.Prelude.{◌≡◌, None, length, IfOk, IfErr};
+ghost use Rattle.std.specs.Prelude.{◌≡◌, ◌≤◌, None, length, IfOk, IfErr};
 ghost use Rattle.npr_base.specs.{Codec.{leading}, Refusal.{no_place}};
 ghost use Rattle.npr_route.specs.{
   Attribute.{HopFault},
@@ -51,16 +51,29 @@ impl RouteNextHopBuffer {
         ensures refused { IfErr result (λ e. HopFault bytes.now e) }
     {
         let left = bytes.len();
-        match Self::parse(bytes) {
-            Err(_) => Err(DecodeError::NextHopTooShort { got: left }),
-            Ok(header) => {
-                let length = header.length;
-                if length < 8 || (length as usize) > left {
-                    Err(DecodeError::NextHopLength { length, left })
-                } else {
-                    Ok(header)
-                }
-            }
+        if left < 8 {
+            return Err(DecodeError::NextHopTooShort { got: left });
+        }
+        let header = Self::in_front(bytes);
+        let length = header.length;
+        if length < 8 || (length as usize) > left {
+            Err(DecodeError::NextHopLength { length, left })
+        } else {
+            Ok(header)
+        }
+    }
+
+    /// The layout in the first 8 bytes. Asks for so many.
+    pub(crate) fn in_front(bytes: &[u8]) -> Self
+        requires { 8 ≤ length bytes.now }
+        ensures { (leading next_hop_buffer).Reads bytes.now result }
+    {
+        let b = &bytes[..8];
+        RouteNextHopBuffer {
+            length: u16::from_le_bytes([b[0], b[1]]),
+            flags: b[2],
+            hops: b[3],
+            interface_index: u32::from_le_bytes([b[4], b[5], b[6], b[7]]),
         }
     }
 
@@ -78,13 +91,7 @@ impl RouteNextHopBuffer {
                 want: 8,
             });
         }
-        let b = &bytes[..8];
-        Ok(RouteNextHopBuffer {
-            length: u16::from_le_bytes([b[0], b[1]]),
-            flags: b[2],
-            hops: b[3],
-            interface_index: u32::from_le_bytes([b[4], b[5], b[6], b[7]]),
-        })
+        Ok(Self::in_front(bytes))
     }
 
     /// The 8 bytes of the layout.

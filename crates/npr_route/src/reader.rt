@@ -118,18 +118,15 @@ fn open_hop<'a>(
     ensures refused { IfErr result (λ e. (e ≢ OutOfMemory) × HopFault bytes.now e) }
     ensures misses { OnErr result (looks.new ≡ miss looks.old) }
 {
-    match RouteNextHopBuffer::new_checked(bytes) {
-        Ok(header) => {
-            looks.hit();
-            let end = header.length as usize;
-            let next = end.next_multiple_of(RTNH_ALIGNTO).min(bytes.len());
-            Ok((header, &bytes[8..end], &bytes[next..]))
-        }
-        Err(e) => {
-            looks.miss();
-            Err(e)
-        }
+    if let Err(fault) = RouteNextHopBuffer::new_checked(bytes) {
+        looks.miss();
+        return Err(fault);
     }
+    let header = RouteNextHopBuffer::in_front(bytes);
+    looks.hit();
+    let end = header.length as usize;
+    let next = end.next_multiple_of(RTNH_ALIGNTO).min(bytes.len());
+    Ok((header, &bytes[8..end], &bytes[next..]))
 }
 
 /// The list in the bytes, with its first next hop open.
@@ -195,14 +192,21 @@ fn advance<'a>(
     };
     let item = next?;
     let level = &mut reading.level;
-    let inside = (level.context.0, level.context.1, level.encap_type);
     if item.kind() == RTA_MULTIPATH && !item.value().is_empty() {
+        let inside = (level.context.0, level.context.1, level.encap_type);
         let inner = open(alloc, item.value(), inside, looks)?;
         let outer = mem::replace(level, inner);
         reading.stack.push(outer)?;
         return Ok(None);
     }
-    push_flat(&mut level.attributes, alloc, inside, &item, looks)?;
+    push_flat(
+        &mut level.attributes,
+        alloc,
+        level.context,
+        level.encap_type,
+        &item,
+        looks,
+    )?;
     Ok(None)
 }
 

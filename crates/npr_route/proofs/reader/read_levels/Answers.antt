@@ -1,4 +1,4 @@
-use Rattle.std.proofs.Common.{◌<◌, [], refl, sym, length, map, subst, arith}
+use Rattle.std.proofs.Common.{◌<◌, [], refl, sym, length, map, arith}
 use Rattle.std.proofs.lemmas.Bool.Decides.{nat_tests}
 use Rattle.std.proofs.lemmas.Result.{err_from_is_err_and}
 use Rattle.npr_route.specs.Attribute.{no_hop_in_front}
