@@ -25,7 +25,9 @@ pub use framing::{
     NlasIterator, frame, marked_kind, write_bytes,
 };
 pub use ip::{IpAddr, Ipv4Addr, Ipv6Addr};
-pub use list::{check_list, clone_list, emit_list, list_len, parse_list, plus, write_list};
+pub use list::{
+    check_list, clone_list, emit_list, list_len, make_room, parse_list, plus, write_list,
+};
 pub use looks::Looks;
 pub use refusal::{At, AttrFamily, DecodeError, EmitError, Seg6Fault};
 pub use text::{write_hex, write_joined, write_six_hex_digits};

@@ -42,9 +42,12 @@ pub fn parse_list<A: Attribute>(
     read_all(alloc, context, bytes, looks)
 }
 
-/// Before the first attribute of a list of so many bytes: room for as many as the bytes hold of the
-/// shortest, and for 16 at most, so that a list of a real message takes memory once.
-fn make_room<A: Drop>(found: &mut Vec<A>, len: usize) -> Result<(), AllocError>
+/// Before the first item of a list of so many bytes: room for as many as the bytes hold of those of 8
+/// bytes, and for 16 at most, so that a list of a real message takes memory once.
+///
+/// # Errors
+/// `AllocError` where memory is refused.
+pub fn make_room<A: Drop>(found: &mut Vec<A>, len: usize) -> Result<(), AllocError>
     ensures { found.new.items ≡ found.old.items }
 {
     if found.is_empty() {

@@ -18,7 +18,7 @@ use crate::list::governing_type;
 use crate::next_hop_buffer::RouteNextHopBuffer;
 use crate::next_hops::RouteNextHop;
 use bitflags::Flags;
-use npr_base::{DecodeError, Looks, NlasIterator, ParseableParametrized};
+use npr_base::{DecodeError, Looks, NlasIterator, ParseableParametrized, make_room};
 use npr_scalar::RouteNextHopFlags;
 use npr_tunnel::RouteLwEnCapType;
 use std::alloc::Global;
@@ -223,6 +223,10 @@ fn close<'a>(
     ensures ended { OnErr result (Ended looks.old looks.new (account reading.old) (length reading.old.level.walk)) }
 {
     let level = &mut reading.level;
+    make_room(
+        &mut level.next_hops,
+        level.hops_rest.len().saturating_add(8),
+    )?;
     let attributes = mem::replace(&mut level.attributes, Vec::new(alloc));
     level.next_hops.push(RouteNextHop {
         flags: RouteNextHopFlags::from_bits_retain(level.header.flags),
