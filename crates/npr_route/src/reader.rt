@@ -199,6 +199,10 @@ fn advance<'a>(
         reading.stack.push(outer)?;
         return Ok(None);
     }
+    make_room(
+        &mut level.attributes,
+        level.walk.rest().len().saturating_add(8),
+    )?;
     push_flat(
         &mut level.attributes,
         alloc,

@@ -7,7 +7,7 @@ use Rattle.npr_base.specs.Family.{list_members}
 use Rattle.npr_base.specs.Framing.{Front, Fault, number_of}
 use Rattle.npr_base.specs.FrontLaws.{Front-takes}
 use Rattle.npr_base.proofs.Lists.{ReadsTo-more}
-use Rattle.npr_base.proofs.Looking.{list_members-more}
+use Rattle.npr_base.proofs.Looking.{AddsAtMost-none, list_members-more}
 use Rattle.npr_route.specs.Attribute.{Reads, members, none_in_front, first_wrong, hops_wrong, value_wrong, HopFault, no_hop_in_front}
 use Rattle.npr_route.specs.AttributeView.{meaning_of}
 use Rattle.npr_route.specs.Reader.{IsAt, Waits, Opens, SoughtIn, context_inside, weight_of}
@@ -55,6 +55,17 @@ returns-in_err-push_flat-clause-refused c =
     (λ other d bytes t.
     let wrong = c.in_err-push_flat.ensures.refused other in
     chain_wrong d bytes r.stack.items l.context t.0 e t.2 (wrong_at t.0 l l.walk e t.1 (first_wrong item rest f (value_wrong wrong.0 wrong.1))))
+
+pub returns-in_err-make_room-clause-ended : goal.returns-in_err-make_room-clause-ended
+returns-in_err-make_room-clause-ended c =
+    let l = c.args.reading.now.level in
+    let item = c.in_ok-item.item in
+    let rest = c.next_counted.new.self in
+    let f : Front l.walk item rest = rw c.in_ok-item.was at c.in-Some.ensures.step in
+    let look : c.next_counted.new.looks ≡ hit c.args.looks.now = rw c.in_ok-item.was at c.in-Some.ensures.counted in
+    let p = err_from_is_err_and c.from_residual-in_err-make_room.result c.from_residual-in_err-make_room.ensures.1 in
+    rw p.1 (Ended-inside c.args.looks.now c.next_counted.new.looks c.next_counted.new.looks (length item.value) _ _ look (AddsAtMost-none c.next_counted.new.looks (length item.value))
+    (omega (arith, room_front l.walk item rest f)) (omega (arith, Front-takes l.walk item rest f)))
 
 pub returns-in_err-push_flat-clause-ended : goal.returns-in_err-push_flat-clause-ended
 returns-in_err-push_flat-clause-ended c =
@@ -133,7 +144,7 @@ returns-clause-ok c =
     let f : Front l.walk item rest = rw c.in_ok-item.was at c.in-Some.ensures.step in
     let look : c.next_counted.new.looks ≡ hit c.args.looks.now = rw c.in_ok-item.was at c.in-Some.ensures.counted in
     let took = Front-takes l.walk item rest f in
-    let more : map meaning_of c.push_flat.new.list.items ≡ map meaning_of l.attributes.items ++ meaning_of a ∷ [] = ap (map meaning_of) pushed ∙ map_push meaning_of l.attributes.items a in (
+    let more : map meaning_of c.push_flat.new.list.items ≡ map meaning_of l.attributes.items ++ meaning_of a ∷ [] = ap (map meaning_of) (rw c.make_room.ensures at pushed) ∙ map_push meaning_of l.attributes.items a in (
       λ d bytes t.
           let read = ReadsTo-more (Reads (context_inside l)) t.1.inside (map meaning_of l.attributes.items) l.walk item (meaning_of a) rest t.1.read f reads in
           (t.0, record { front = t.1.front; inside = t.1.inside; done = t.1.done; is_open = t.1.is_open; governs = t.1.governs; read = rw more read }, t.2),
