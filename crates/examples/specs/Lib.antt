@@ -4,5 +4,4 @@ pub mod Found
 pub mod LinkHeader
 pub mod LinkMessage
 pub mod Links
-pub mod Routes
 pub mod Walk

@@ -95,6 +95,7 @@ pub use Rattle.npr_route.specs.AttributeLaws as RouteAttributeLaws
 pub use Rattle.npr_route.specs.AttributeView as RouteAttributeView
 pub use Rattle.npr_route.specs.FlatAttribute as FlatRouteAttribute
 pub use Rattle.npr_route.specs.FlatAttributeLaws as FlatRouteAttributeLaws
+pub use Rattle.npr_route.specs.Gateway as RouteGateway
 pub use Rattle.npr_route.specs.Governing
 pub use Rattle.npr_route.specs.Header as RouteHeader
 pub mod RouteMessage

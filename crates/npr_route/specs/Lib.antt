@@ -3,6 +3,7 @@ pub mod AttributeLaws
 pub mod AttributeView
 pub mod FlatAttribute
 pub mod FlatAttributeLaws
+pub mod Gateway
 pub mod Governing
 pub mod GoverningLaws
 pub mod Header

@@ -1,41 +1,29 @@
 //! The attributes of a route message: `RTA_*` of `linux/rtnetlink.h`.
 
-ghost use Rattle.std.specs.Prelude.{◌≡◌, ◌≢◌, ◌≤◌, ◌<◌, ◌+◌, ◌*◌, ℕ, List, Option, None, false, [], ◌∷◌, ◌++◌, length, map, IfOk, IfErr, IsOk};
+ghost use Rattle.std.specs.Prelude.{◌≡◌, ◌≢◌, ◌≤◌, ◌<◌, ◌+◌, ◌*◌, ℕ, List, Option, None, false, length, map, IfOk, IfErr};
 ghost use Rattle.std.proofs.Common.{refl};
-ghost use Rattle.npr_base.specs.{
-  Counts.{AddsAtMost, SawEach},
-  Framing.{number_of},
-  Table.{ReadsBy, WrongBy},
-  declared.refusal.DecodeError.TheVariants.{OutOfMemory},
-};
-ghost use Rattle.npr_scalar.specs.RouteAddress.{form_of};
 ghost use Rattle.npr_route.specs.{
-  Attribute.{Meaning, flat, typed, plain_of, nested_of},
+  Attribute.{Meaning, plain_of, nested_of},
   AttributeView.{meaning_of},
-  declared.attribute.RouteAttribute.{RouteAttribute},
-  FlatAttributeLaws.{attributes as flat_attributes},
-  FlatAttribute.{Meaning as Flat, is_multicast, new_destination_row, expires_row, marks, any_marks},
+  FlatAttribute.{marks, any_marks},
   AttributeLaws.{writing, attributes, item-is, plain-short},
 };
 ghost use Rattle.npr_tunnel.specs.Encapsulation.{meaning_of as member_of};
 
+use crate::flat::{push_flat, read_flat};
 use crate::metrics::RouteMetric;
 use crate::next_hops::{RouteNextHop, check_attribute, clone_attribute, value_len, write_value};
 use crate::reader::read_next_hops;
 use npr_base::{
-    AddressFamily, AttrFamily, Attribute, DecodeError, DefaultNla, EmitError, Looks, Nla,
-    NlaBuffer, Parseable, ParseableParametrized, parse_list, read_u8, read_u16, read_u16_be,
-    read_u32, read_u32_be, read_u64,
+    AddressFamily, Attribute, DecodeError, DefaultNla, EmitError, Looks, Nla, NlaBuffer,
+    ParseableParametrized,
 };
 use npr_scalar::{
     MplsLabel, RouteAddress, RouteCacheInfo, RouteMfcStats, RouteMplsTtlPropagation,
-    RoutePreference, RouteRealm, RouteType, RouteVia, read_labels,
+    RoutePreference, RouteRealm, RouteType, RouteVia,
 };
 use npr_tunnel::{RouteIp6Tunnel, RouteIpTunnel, RouteLwEnCapType, RouteLwTunnelEncap};
 use std::alloc::{AllocError, Global};
-use std::mem;
-
-const FAMILY: AttrFamily = AttrFamily::Route;
 
 /// The number of next hops, `RTA_MULTIPATH`.
 pub(crate) const RTA_MULTIPATH: u16 = 9;
@@ -246,184 +234,6 @@ impl Nla for RouteAttribute {
     fn write_value(&self, out: &mut [u8]) -> usize {
         write_value(self, out)
     }
-}
-
-/// Number 19: labels for family mpls, else an address.
-fn read_new_destination(
-    alloc: Global,
-    family: AddressFamily,
-    value: &[u8],
-) -> Result<RouteAttribute, DecodeError>
-    ensures ok { IfOk result (λ a. (m : Flat) × ReadsBy (new_destination_row (form_of family)) value.now m × (meaning_of a ≡ flat m)) }
-    ensures refused { IfErr result (λ e. e ≢ OutOfMemory → WrongBy (new_destination_row (form_of family)) value.now e) }
-{
-    match family {
-        AddressFamily::Mpls => Ok(RouteAttribute::NewDestination(read_labels(alloc, value)?)),
-        _ => {
-            let address = RouteAddress::read(alloc, family, value, FAMILY.at(19))?;
-            Ok(RouteAttribute::NewDestinationAddress(address))
-        }
-    }
-}
-
-/// Number 23: eight bytes of a multicast route, else four.
-fn read_expires(kind: RouteType, value: &[u8]) -> Result<RouteAttribute, DecodeError>
-    ensures ok { IfOk result (λ a. (m : Flat) × ReadsBy (expires_row (is_multicast kind)) value.now m × (meaning_of a ≡ flat m)) }
-    ensures refused { IfErr result (λ e. WrongBy (expires_row (is_multicast kind)) value.now e) }
-{
-    let at = FAMILY.at(23);
-    match kind {
-        RouteType::Multicast => Ok(RouteAttribute::MulticastExpires(read_u64(value, at)?)),
-        _ => Ok(RouteAttribute::Expires(read_u32(value, at)?)),
-    }
-}
-
-/// Puts a value into a place that holds a blank, which has nothing to free.
-fn put(place: &mut RouteAttribute, value: RouteAttribute)
-    requires { place.old ≡ RouteAttribute.Uid 0 }
-    ensures { place.new ≡ value }
-{
-    mem::forget(mem::replace(place, value));
-}
-
-/// Puts into a place that holds a blank what an attribute is that holds no next hops: one of another
-/// number, or an empty list of them. Encapsulations are read under the type beside the context.
-fn read_flat(
-    place: &mut RouteAttribute,
-    alloc: Global,
-    context: Context,
-    encap_type: RouteLwEnCapType,
-    item: &NlaBuffer<'_>,
-    looks: &mut Looks,
-) -> Result<(), DecodeError>
-    requires blank { place.old ≡ RouteAttribute.Uid 0 }
-    requires hops { number_of (item.now).kind ≡ 9 → (item.now).value ≡ [] }
-    ensures ok { IfOk result (λ _. (attributes (typed context encap_type)).Reads item.now (meaning_of place.new)) }
-    ensures refused { IfErr result (λ e. e ≢ OutOfMemory → (flat_attributes (typed context encap_type)).Faulty item.now e) }
-    ensures nine { number_of (item.now).kind ≡ 9 → IsOk result }
-    ensures bounded { AddsAtMost looks.old looks.new (length (item.now).value) }
-    ensures counted { IfOk result (λ _. SawEach looks.old looks.new (writing.members (meaning_of place.new))) }
-{
-    let (family, kind, _) = context;
-    let value = item.value();
-    match item.kind() {
-        1 => put(
-            place,
-            RouteAttribute::Destination(RouteAddress::read(alloc, family, value, FAMILY.at(1))?),
-        ),
-        2 => put(
-            place,
-            RouteAttribute::Source(RouteAddress::read(alloc, family, value, FAMILY.at(2))?),
-        ),
-        3 => put(place, RouteAttribute::Iif(read_u32(value, FAMILY.at(3))?)),
-        4 => put(place, RouteAttribute::Oif(read_u32(value, FAMILY.at(4))?)),
-        5 => put(
-            place,
-            RouteAttribute::Gateway(RouteAddress::read(alloc, family, value, FAMILY.at(5))?),
-        ),
-        6 => put(
-            place,
-            RouteAttribute::Priority(read_u32(value, FAMILY.at(6))?),
-        ),
-        7 => put(
-            place,
-            RouteAttribute::PrefSource(RouteAddress::read(alloc, family, value, FAMILY.at(7))?),
-        ),
-        8 => put(
-            place,
-            RouteAttribute::Metrics(parse_list(alloc, (), value, looks)?),
-        ),
-        RTA_MULTIPATH => put(place, RouteAttribute::MultiPath(Vec::new(alloc))),
-        11 => put(
-            place,
-            RouteAttribute::Realm(RouteRealm::from(read_u32(value, FAMILY.at(11))?)),
-        ),
-        12 => put(
-            place,
-            RouteAttribute::CacheInfo(RouteCacheInfo::parse(value)?),
-        ),
-        15 => put(
-            place,
-            RouteAttribute::Table(read_u32(value, FAMILY.at(15))?),
-        ),
-        16 => put(place, RouteAttribute::Mark(read_u32(value, FAMILY.at(16))?)),
-        17 => put(
-            place,
-            RouteAttribute::MfcStats(RouteMfcStats::parse(value)?),
-        ),
-        18 => put(
-            place,
-            RouteAttribute::Via(RouteVia::read(alloc, value, FAMILY.at(18))?),
-        ),
-        19 => put(place, read_new_destination(alloc, family, value)?),
-        20 => put(
-            place,
-            RouteAttribute::Preference(RoutePreference::from(read_u8(value, FAMILY.at(20))?)),
-        ),
-        RTA_ENCAP_TYPE => put(
-            place,
-            RouteAttribute::EncapType(RouteLwEnCapType::from(read_u16(
-                value,
-                FAMILY.at(RTA_ENCAP_TYPE),
-            )?)),
-        ),
-        RTA_ENCAP => put(
-            place,
-            RouteAttribute::Encap(parse_list(alloc, encap_type, value, looks)?),
-        ),
-        23 => put(place, read_expires(kind, value)?),
-        25 => put(place, RouteAttribute::Uid(read_u32(value, FAMILY.at(25))?)),
-        26 => put(
-            place,
-            RouteAttribute::TtlPropagate(RouteMplsTtlPropagation::from(read_u8(
-                value,
-                FAMILY.at(26),
-            )?)),
-        ),
-        27 => put(
-            place,
-            RouteAttribute::IpProto(read_u8(value, FAMILY.at(27))?),
-        ),
-        28 => put(
-            place,
-            RouteAttribute::Sport(read_u16_be(value, FAMILY.at(28))?),
-        ),
-        29 => put(
-            place,
-            RouteAttribute::Dport(read_u16_be(value, FAMILY.at(29))?),
-        ),
-        30 => put(place, RouteAttribute::NhId(read_u32(value, FAMILY.at(30))?)),
-        31 => put(
-            place,
-            RouteAttribute::Flowlabel(read_u32_be(value, FAMILY.at(31))?),
-        ),
-        _ => put(
-            place,
-            RouteAttribute::Other(DefaultNla::parse(alloc, item)?),
-        ),
-    }
-    Ok(())
-}
-
-/// `read_flat` into a new place behind the attributes of a list.
-pub(crate) fn push_flat(
-    list: &mut Vec<RouteAttribute>,
-    alloc: Global,
-    context: Context,
-    encap_type: RouteLwEnCapType,
-    item: &NlaBuffer<'_>,
-    looks: &mut Looks,
-) -> Result<(), DecodeError>
-    requires { number_of (item.now).kind ≡ 9 → (item.now).value ≡ [] }
-    ensures ok { IfOk result (λ _. (a : RouteAttribute) × (list.new.items ≡ list.old.items ++ a ∷ []) × (attributes (typed context encap_type)).Reads item.now (meaning_of a)
-        × SawEach looks.old looks.new (writing.members (meaning_of a))) }
-    ensures refused { IfErr result (λ e. e ≢ OutOfMemory → (number_of (item.now).kind ≢ 9) × (flat_attributes (typed context encap_type)).Faulty item.now e) }
-    ensures bounded { AddsAtMost looks.old looks.new (length (item.now).value) }
-{
-    list.push(RouteAttribute::Uid(0))?;
-    let last = list.len() - 1;
-    read_flat(&mut list[last], alloc, context, encap_type, item, looks)?;
-    Ok(())
 }
 
 impl Attribute for RouteAttribute {

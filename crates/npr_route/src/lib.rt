@@ -2,6 +2,8 @@
 #![tactic(auto)]
 
 mod attribute;
+mod flat;
+mod gateway;
 mod header;
 pub mod laws;
 mod list;

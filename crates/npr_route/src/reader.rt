@@ -13,7 +13,8 @@ ghost use Rattle.npr_route.specs.{
   Reader.{Tied, Opens, SoughtIn, account, GoesOn, Ends, Ended},
 };
 
-use crate::attribute::{Context, RTA_MULTIPATH, RouteAttribute, push_flat};
+use crate::attribute::{Context, RTA_MULTIPATH, RouteAttribute};
+use crate::flat::push_flat;
 use crate::list::governing_type;
 use crate::next_hop_buffer::RouteNextHopBuffer;
 use crate::next_hops::RouteNextHop;

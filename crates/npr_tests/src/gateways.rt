@@ -1,10 +1,12 @@
 //! Addresses and gateways of routes, each by its family.
 
-use crate::helpers::{LABEL, bytes_of, same, writes};
+use crate::helpers::{INET, LABEL, bytes_of, same, writes};
 use netlink_packet_route::AddressFamily;
-use netlink_packet_route::framing::{At, AttrFamily, DecodeError};
+use netlink_packet_route::framing::{At, AttrFamily, DecodeError, Looks, Parseable};
 use netlink_packet_route::net::{IpAddr, Ipv4Addr, Ipv6Addr};
-use netlink_packet_route::route::{RouteAddress, RouteVia, RouteViaBuffer};
+use netlink_packet_route::route::{
+    RouteAddress, RouteMessage, RouteNextHop, RouteType, RouteVia, RouteViaBuffer, read_route_list,
+};
 use std::process::Abort;
 use std::test::Fail;
 
@@ -190,5 +192,43 @@ fn family_of_a_gateway(rt: HostRuntime) -> Result<(), Fail> {
     same(&rt, family.to_bytes(), [0x02, 0x01]);
     let short = DecodeError::HeaderTooShort { got: 1, want: 2 };
     same(&rt, RouteViaBuffer::parse(&[0x02]).err(), Some(short));
+    Ok(())
+}
+
+/// The messages of these texts have this gateway of IP.
+fn has_gateway(
+    rt: &(impl Abort + AllocGlobal),
+    texts: &[&str],
+    wanted: Option<IpAddr>,
+) -> Result<(), Fail> {
+    let bytes = bytes_of(rt, texts)?;
+    let message = RouteMessage::parse(rt.alloc(), bytes.as_slice())?;
+    same(rt, message.gateway(), wanted);
+    Ok(())
+}
+
+#[test]
+fn gateways_of_routes(rt: HostRuntime) -> Result<(), Fail> {
+    let four = Some(IpAddr::from(FOUR));
+    let two = "08000400 02000000 08000500 0a000001 08000500 0a000002";
+    has_gateway(&rt, &[INET, two], four)?;
+    let inet6 = "0a000000fe03000100000000";
+    let sixteen = Some(IpAddr::from(SIXTEEN));
+    has_gateway(&rt, &[inet6, "14000500", SIXTEEN_TEXT], sixteen)?;
+    let others = "08000100 0a000001 08000700 0a000001 0a001200 02000a00 00010000";
+    has_gateway(&rt, &[INET, others], None)
+}
+
+/// A gateway of a next hop is none of the route.
+#[test]
+fn gateways_of_next_hops(rt: HostRuntime) -> Result<(), Fail> {
+    let hops = "14000900 10000000 02000000 08000500 0a000001";
+    has_gateway(&rt, &[INET, hops], None)?;
+    let bytes = bytes_of(&rt, &["08000500 0a000001"])?;
+    let mut hop = RouteNextHop::new(rt.alloc());
+    same(&rt, hop.gateway(), None);
+    let under = (AddressFamily::Inet, RouteType::Unicast);
+    hop.attributes = read_route_list(rt.alloc(), bytes.as_slice(), under, &mut Looks::new())?;
+    same(&rt, hop.gateway(), Some(IpAddr::from(FOUR)));
     Ok(())
 }

@@ -4,7 +4,7 @@ use Rattle.npr_scalar.specs.RouteAddress.{address_of}
 use Rattle.npr_route.specs.FlatAttribute as Flat
 use Rattle.npr_route.proofs.Rows.{address_reads, address_wrong}
 use Rattle.npr_route.proofs.Views.{view_new_destination, view_new_destination_address}
-use Rattle.npr_route.proofs.attribute.read_new_destination.Goals as goal
+use Rattle.npr_route.proofs.flat.read_new_destination.Goals as goal
 
 pub returns-in_ok-read_labels-in-Mpls-clause-ok : goal.returns-in_ok-read_labels-in-Mpls-clause-ok
 returns-in_ok-read_labels-in-Mpls-clause-ok c =

@@ -1,9 +1,8 @@
-use Rattle.std.proofs.Common.{◌≡◌, ◌≢◌, ◌+◌, ◌-◌, ◌∙◌, length, ap, arith}
-use Rattle.std.proofs.lemmas.List.{length_push}
+use Rattle.std.proofs.Common.{◌≡◌, ◌≢◌, arith}
 use Rattle.std.proofs.lemmas.Result.{err_from_is_err_and}
 use Rattle.npr_base.specs.Framing.{number_of}
-use Rattle.npr_base.proofs.Lists.{set_last}
-use Rattle.npr_route.proofs.attribute.push_flat.Goals as goal
+use Rattle.npr_base.proofs.Lists.{set_pushed}
+use Rattle.npr_route.proofs.flat.push_flat.Goals as goal
 
 pub returns-in_err-read_flat-clause-refused : goal.returns-in_err-read_flat-clause-refused
 returns-in_err-read_flat-clause-refused c =
@@ -14,8 +13,6 @@ returns-in_err-read_flat-clause-refused c =
 
 pub returns-clause-ok : goal.returns-clause-ok
 returns-clause-ok c =
-    let list = c.args.list.now.items in
     let place = c.read_flat.new.place in
-    let grown : length c.push.new.self.items ≡ length list + 1 = ap length c.in_ok-push.ensures.items ∙ length_push list _ in
-    let last : c.len-last.result - 1 ≡ length list = omega (arith, grown) in
-    (place, rw (c.in_ok-push.ensures.items, last) (set_last list _ place), c.in_ok-read_flat.ensures.ok, c.in_ok-read_flat.ensures.counted)
+    let pushed = set_pushed c.args.list.now.items c.push.new.self.items _ place c.len-last.result c.in_ok-push.ensures.items (omega arith) in
+    (place, pushed, c.in_ok-read_flat.ensures.ok, c.in_ok-read_flat.ensures.counted)

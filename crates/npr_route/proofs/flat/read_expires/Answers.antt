@@ -2,7 +2,7 @@ use Rattle.std.proofs.Common.{refl}
 use Rattle.npr_route.specs.FlatAttribute as Flat
 use Rattle.npr_route.proofs.Rows.{expires_reads}
 use Rattle.npr_route.proofs.Views.{view_expires, view_multicast_expires}
-use Rattle.npr_route.proofs.attribute.read_expires.Goals as goal
+use Rattle.npr_route.proofs.flat.read_expires.Goals as goal
 
 pub returns-in_ok-read_u64-in-Multicast-clause-ok : goal.returns-in_ok-read_u64-in-Multicast-clause-ok
 returns-in_ok-read_u64-in-Multicast-clause-ok c =

@@ -1,6 +1,6 @@
 use Rattle.std.proofs.Common.{sym, ◌∙◌}
 use Rattle.std.proofs.lemmas.Result.{err_from_is_err_and}
-use Rattle.npr_route.proofs.attribute.read_flat.Goals as goal
+use Rattle.npr_route.proofs.flat.read_flat.Goals as goal
 
 pub returns-in_err-parse_list-in-8-clause-refused : goal.returns-in_err-parse_list-in-8-clause-refused
 returns-in_err-parse_list-in-8-clause-refused c =
