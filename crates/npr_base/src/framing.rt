@@ -245,11 +245,24 @@ pub fn write_bytes(bytes: &[u8], out: &mut [u8]) -> usize
     bytes.len()
 }
 
+/// Writes so many zeros. They are three at most, and cost less one by one than a call to fill them.
 fn write_zeros(count: usize, out: &mut [u8])
-    requires { count ≤ length out.old }
+    requires few { count < NLA_ALIGNTO }
+    requires room { count ≤ length out.old }
     ensures { Writes out.old out.new (replicate count 0) }
 {
-    out[..count].fill(0);
+    match count {
+        0 => {}
+        1 => {
+            write_bytes(&[0], out);
+        }
+        2 => {
+            write_bytes(&[0, 0], out);
+        }
+        _ => {
+            write_bytes(&[0, 0, 0], out);
+        }
+    }
 }
 
 fn write_header(size: u16, kind: u16, out: &mut [u8])

@@ -42,8 +42,9 @@ pub fn parse_list<A: Attribute>(
     read_all(alloc, context, bytes, looks)
 }
 
-/// Before the first item of a list of so many bytes: room for as many as the bytes hold of those of 8
-/// bytes, and for 16 at most, so that a list of a real message takes memory once.
+/// Before the first item of a list of so many bytes: room for just as many as the bytes hold of those
+/// of 8 bytes, and for 16 at most, so that a list of a real message takes memory once, and no more
+/// than it needs.
 ///
 /// # Errors
 /// `AllocError` where memory is refused.
@@ -51,7 +52,7 @@ pub fn make_room<A: Drop>(found: &mut Vec<A>, len: usize) -> Result<(), AllocErr
     ensures { found.new.items ≡ found.old.items }
 {
     if found.is_empty() {
-        found.reserve((len / 8).min(16))
+        found.reserve_exact((len / 8).min(16))
     } else {
         Ok(())
     }
@@ -140,6 +141,7 @@ pub fn list_len<A: Attribute>(list: &[A]) -> usize
 }
 
 /// `emit_list`, with the length of what is written.
+#[inline(never)]
 pub fn write_list<A: Attribute>(list: &[A], out: &mut [u8]) -> usize
     requires fits { list_unfit A.writing.misfit A.writing.writes (map A.meaning list.now) ≡ None }
     requires room { length (encodings A.writing.writes (map A.meaning list.now)) ≤ length out.old }

@@ -248,6 +248,7 @@ fn without_zero(bytes: &[u8]) -> &[u8]
 ///
 /// # Errors
 /// `NotUtf8`, and `OutOfMemory` where memory is refused.
+#[inline(always)]
 pub fn read_name(alloc: Global, value: &[u8], at: At) -> Result<String, DecodeError>
     ensures ok { IfOk result (λ s. name.Reads value.now (string_bytes s)) }
     ensures refused { IfErr result (λ e. e ≢ OutOfMemory → name.Wrong at value.now e) }

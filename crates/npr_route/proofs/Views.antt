@@ -13,10 +13,14 @@ use Rattle.npr_scalar.specs.RouteFlags.{next_hop_flags_bits}
 use Rattle.npr_route.specs.declared.attribute.RouteAttribute.{RouteAttribute}
 use Rattle.npr_route.specs.declared.attribute.RouteAttribute.TheFolds.{fold_out-RouteNextHop, fold-roll-RouteNextHop, fold-roll-RouteAttribute}
 use Rattle.npr_route.specs.declared.attribute.RouteAttribute.TheOpen as Open
-use Rattle.npr_route.specs.declared.attribute.RouteAttribute.TheVariants.{MultiPath, rolls-MultiPath, NewDestination, rolls-NewDestination, NewDestinationAddress, rolls-NewDestinationAddress, Expires, rolls-Expires, MulticastExpires, rolls-MulticastExpires}
+use Rattle.npr_route.specs.declared.attribute.RouteAttribute.TheVariants.{Metrics, rolls-Metrics, MultiPath, rolls-MultiPath, Encap, rolls-Encap, NewDestination, rolls-NewDestination, NewDestinationAddress, rolls-NewDestinationAddress, Expires, rolls-Expires, MulticastExpires, rolls-MulticastExpires}
 use Rattle.npr_scalar.specs.RouteAddress.{address_of}
 use Rattle.npr_scalar.specs.declared.address.RouteAddress.{RouteAddress}
 use Rattle.npr_scalar.specs.declared.mpls.MplsLabel.{MplsLabel}
+use Rattle.npr_tunnel.specs.Encapsulation.{meaning_of as member_of}
+use Rattle.npr_tunnel.specs.declared.encap.RouteLwTunnelEncap.{RouteLwTunnelEncap}
+use Rattle.npr_route.specs.Metric.{metric_of}
+use Rattle.npr_route.specs.declared.metrics.RouteMetric.{RouteMetric}
 use Rattle.npr_route.specs.FlatAttribute as Flat
 use Rattle.std.specs.declared.vec.Vec.{Vec}
 use Rattle.std.specs.declared.alloc.Global.{Global}
@@ -37,6 +41,12 @@ view_hop_made = fold-roll-RouteNextHop Meaning Hop attribute_step hop_step
 -- and next hops are what each of them means
 pub view_multi_path : (v : Vec RouteNextHop Global) → meaning_of (MultiPath v) ≡ multi_path (hops_of (map hop_of v.items))
 view_multi_path v = ap meaning_of (sym (rolls-MultiPath v)) ∙ fold-roll-RouteAttribute Meaning Hop attribute_step hop_step (Open.MultiPath v)
+
+pub view_metrics : (v : Vec RouteMetric Global) → meaning_of (Metrics v) ≡ flat (Flat.metrics (map metric_of v.items))
+view_metrics v = ap meaning_of (sym (rolls-Metrics v)) ∙ fold-roll-RouteAttribute Meaning Hop attribute_step hop_step (Open.Metrics v)
+
+pub view_encapsulation : (v : Vec RouteLwTunnelEncap Global) → meaning_of (Encap v) ≡ flat (Flat.encap (map member_of v.items))
+view_encapsulation v = ap meaning_of (sym (rolls-Encap v)) ∙ fold-roll-RouteAttribute Meaning Hop attribute_step hop_step (Open.Encap v)
 
 pub view_new_destination : (v : Vec MplsLabel Global) → meaning_of (NewDestination v) ≡ flat (Flat.new_destination v.items)
 view_new_destination v = ap meaning_of (sym (rolls-NewDestination v)) ∙ fold-roll-RouteAttribute Meaning Hop attribute_step hop_step (Open.NewDestination v)

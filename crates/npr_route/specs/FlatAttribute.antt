@@ -78,6 +78,10 @@ is_multicast kind = false
 abbrev pub Context : Type 0
 Context = AddressFamily × RouteType × RouteLwEnCapType
 
+-- number 8: metrics
+abbrev pub metrics_row : Row Meaning
+metrics_row = row (at 8) (list_of metric_family) metrics
+
 -- number 19: labels for family mpls, else an address
 abbrev pub NewDestinationValue : Form → Type 0
 NewDestinationValue four = AddressMeaning
@@ -140,7 +144,7 @@ rows form multicast family =
     ∷ row (at 5) (address_in form) gateway
     ∷ row (at 6) (exactly le32) priority
     ∷ row (at 7) (address_in form) pref_source
-    ∷ row (at 8) (list_of metric_family) metrics
+    ∷ metrics_row
     ∷ row (at 11) (exactly route_realm) realm
     ∷ row (at 12) (leading route_cache_info) cache_info
     ∷ row (at 15) (exactly le32) table

@@ -8,12 +8,13 @@ ghost use Rattle.npr_base.specs.{
   declared.refusal.DecodeError.TheVariants.{OutOfMemory},
 };
 ghost use Rattle.npr_scalar.specs.RouteAddress.{form_of};
+ghost use Rattle.npr_tunnel.specs.Encapsulation.{encapsulation};
 ghost use Rattle.npr_route.specs.{
   Attribute.{flat, typed},
   AttributeView.{meaning_of},
   declared.attribute.RouteAttribute.{RouteAttribute},
   FlatAttributeLaws.{attributes as flat_attributes},
-  FlatAttribute.{Meaning as Flat, is_multicast, new_destination_row, expires_row},
+  FlatAttribute.{Meaning as Flat, is_multicast, metrics_row, new_destination_row, encap_row, expires_row},
   AttributeLaws.{writing, attributes},
 };
 
@@ -70,6 +71,46 @@ fn put(place: &mut RouteAttribute, value: RouteAttribute)
     mem::forget(mem::replace(place, value));
 }
 
+/// Puts the metrics of number 8. It and `put_encapsulation` are functions of their own, for what a
+/// function keeps on the stack is cleared at its entry, for each attribute.
+#[inline(never)]
+fn put_metrics(
+    place: &mut RouteAttribute,
+    alloc: Global,
+    value: &[u8],
+    looks: &mut Looks,
+) -> Result<(), DecodeError>
+    requires { place.old ≡ RouteAttribute.Uid 0 }
+    ensures ok { IfOk result (λ _. (m : Flat) × ReadsBy metrics_row value.now m × (meaning_of place.new ≡ flat m)) }
+    ensures refused { IfErr result (λ e. e ≢ OutOfMemory → WrongBy metrics_row value.now e) }
+    ensures bounded { AddsAtMost looks.old looks.new (length value.now) }
+    ensures counted { IfOk result (λ _. SawEach looks.old looks.new (writing.members (meaning_of place.new))) }
+{
+    let metrics = parse_list(alloc, (), value, looks)?;
+    put(place, RouteAttribute::Metrics(metrics));
+    Ok(())
+}
+
+/// Puts the members of number 22, read under this type.
+#[inline(never)]
+fn put_encapsulation(
+    place: &mut RouteAttribute,
+    alloc: Global,
+    encap_type: RouteLwEnCapType,
+    value: &[u8],
+    looks: &mut Looks,
+) -> Result<(), DecodeError>
+    requires { place.old ≡ RouteAttribute.Uid 0 }
+    ensures ok { IfOk result (λ _. (m : Flat) × ReadsBy (encap_row (encapsulation encap_type)) value.now m × (meaning_of place.new ≡ flat m)) }
+    ensures refused { IfErr result (λ e. e ≢ OutOfMemory → WrongBy (encap_row (encapsulation encap_type)) value.now e) }
+    ensures bounded { AddsAtMost looks.old looks.new (length value.now) }
+    ensures counted { IfOk result (λ _. SawEach looks.old looks.new (writing.members (meaning_of place.new))) }
+{
+    let members = parse_list(alloc, encap_type, value, looks)?;
+    put(place, RouteAttribute::Encap(members));
+    Ok(())
+}
+
 /// Puts into a place that holds a blank what an attribute is that holds no next hops: one of another
 /// number, or an empty list of them. Encapsulations are read under the type beside the context.
 pub(crate) fn read_flat(
@@ -113,10 +154,7 @@ pub(crate) fn read_flat(
             place,
             RouteAttribute::PrefSource(RouteAddress::read(alloc, family, value, FAMILY.at(7))?),
         ),
-        8 => put(
-            place,
-            RouteAttribute::Metrics(parse_list(alloc, (), value, looks)?),
-        ),
+        8 => return put_metrics(place, alloc, value, looks),
         RTA_MULTIPATH => put(place, RouteAttribute::MultiPath(Vec::new(alloc))),
         11 => put(
             place,
@@ -151,10 +189,7 @@ pub(crate) fn read_flat(
                 FAMILY.at(RTA_ENCAP_TYPE),
             )?)),
         ),
-        RTA_ENCAP => put(
-            place,
-            RouteAttribute::Encap(parse_list(alloc, encap_type, value, looks)?),
-        ),
+        RTA_ENCAP => return put_encapsulation(place, alloc, encap_type, value, looks),
         23 => put(place, read_expires(kind, value)?),
         25 => put(place, RouteAttribute::Uid(read_u32(value, FAMILY.at(25))?)),
         26 => put(
@@ -206,6 +241,5 @@ pub(crate) fn push_flat(
 {
     list.push(RouteAttribute::Uid(0))?;
     let last = list.len() - 1;
-    read_flat(&mut list[last], alloc, context, encap_type, item, looks)?;
-    Ok(())
+    read_flat(&mut list[last], alloc, context, encap_type, item, looks)
 }

@@ -1,6 +1,6 @@
 //! Reading of next hops, by a loop and a stack: they alone nest without bound.
 
-ghost use Rattle.std.specs.Prelude.{◌≡◌, ◌≢◌, ◌<◌, ◌+◌, ℕ, List, [], length, map, IfOk, IfErr, OnOk, OnErr, IsErrOf, MatchOption};
+ghost use Rattle.std.specs.Prelude.{◌≡◌, ◌≢◌, ◌<◌, ◌+◌, ◌++◌, ℕ, List, [], ◌∷◌, false, IsTrue, length, map, IfOk, IfErr, OnOk, OnErr, IsErrOf, MatchOption};
 ghost use Rattle.npr_base.specs.{
   declared.refusal.DecodeError.TheVariants.{OutOfMemory},
   Counts.{AddsAtMost, SawEach, hit, miss},
@@ -62,6 +62,7 @@ struct Reading<'a> {
 ///
 /// # Errors
 /// `OutOfMemory` where memory is refused, and else the first fault in reading order.
+#[inline(never)]
 pub fn read_next_hops(
     alloc: Global,
     bytes: &[u8],
@@ -110,6 +111,7 @@ fn read_levels(
 }
 
 /// The header of the next hop in front, its attributes, and what follows it and its padding.
+#[inline(always)]
 fn open_hop<'a>(
     bytes: &'a [u8],
     looks: &mut Looks,
@@ -131,6 +133,7 @@ fn open_hop<'a>(
 }
 
 /// The list in the bytes, with its first next hop open.
+#[inline(always)]
 fn open<'a>(
     alloc: Global,
     bytes: &'a [u8],
@@ -162,6 +165,7 @@ fn open<'a>(
 
 /// Opens the next hop in front of the rest, behind those that were read: its attributes are looked
 /// through for the type that governs them.
+#[inline(always)]
 fn open_next(level: &mut Level<'_>, looks: &mut Looks) -> Result<(), DecodeError>
     requires { level.old.attributes.items ≡ [] }
     ensures ok { IfOk result (λ _. Opens level.old.context level.old.hops_rest.now level.old.next_hops.items level.new) }
@@ -196,8 +200,7 @@ fn advance<'a>(
     if item.kind() == RTA_MULTIPATH && !item.value().is_empty() {
         let inside = (level.context.0, level.context.1, level.encap_type);
         let inner = open(alloc, item.value(), inside, looks)?;
-        let outer = mem::replace(level, inner);
-        reading.stack.push(outer)?;
+        enter(reading, inner)?;
         return Ok(None);
     }
     make_room(
@@ -213,6 +216,31 @@ fn advance<'a>(
         looks,
     )?;
     Ok(None)
+}
+
+/// Opens a list inside the open one, which waits for it.
+fn enter<'a>(reading: &mut Reading<'a>, inner: Level<'a>) -> Result<(), DecodeError>
+    ensures ok { IfOk result (λ _. (reading.new.level ≡ inner.entry) × (reading.new.stack.items ≡ reading.old.stack.items ++ reading.old.level ∷ [])) }
+    ensures refused { IfErr result (λ e. e ≡ OutOfMemory) }
+{
+    let outer = mem::replace(&mut reading.level, inner);
+    reading.stack.push(outer)?;
+    Ok(())
+}
+
+/// Goes on with the last list that waits, if one does. It and `enter` are functions of their own, for
+/// what a function keeps on the stack, here a whole level, is cleared at its entry.
+fn leave(reading: &mut Reading<'_>) -> bool
+    ensures waits { IsTrue result → reading.old.stack.items ≡ reading.new.stack.items ++ reading.new.level ∷ [] }
+    ensures none { (result ≡ false) → reading.old.stack.items ≡ [] }
+{
+    match reading.stack.pop() {
+        Some(outer) => {
+            reading.level = outer;
+            true
+        }
+        None => false,
+    }
 }
 
 /// Closes the open next hop, all of whose attributes were read: the next one of its list is opened,
@@ -244,10 +272,9 @@ fn close<'a>(
         return Ok(None);
     }
     let next_hops = mem::replace(&mut level.next_hops, Vec::new(alloc));
-    let Some(outer) = reading.stack.pop() else {
+    if !leave(reading) {
         return Ok(Some(next_hops));
-    };
-    reading.level = outer;
+    }
     reading
         .level
         .attributes

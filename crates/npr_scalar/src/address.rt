@@ -48,6 +48,7 @@ impl RouteAddress {
     ///
     /// # Errors
     /// As `parse`.
+    #[inline(always)]
     pub fn read(
         alloc: Global,
         family: AddressFamily,
@@ -58,10 +59,11 @@ impl RouteAddress {
         ensures refused { IfErr result (λ e. e ≢ OutOfMemory → (route_address family).Wrong at bytes.now e) }
     {
         match family {
-            AddressFamily::Inet => read_ipv4(bytes, at).map(RouteAddress::Inet),
-            AddressFamily::Inet6 => read_ipv6(bytes, at).map(RouteAddress::Inet6),
+            AddressFamily::Inet => Ok(RouteAddress::Inet(read_ipv4(bytes, at)?)),
+            AddressFamily::Inet6 => Ok(RouteAddress::Inet6(read_ipv6(bytes, at)?)),
             AddressFamily::Mpls => {
-                read_u32_be(bytes, at).map(|entry| RouteAddress::Mpls(MplsLabel::from(entry)))
+                let entry = read_u32_be(bytes, at)?;
+                Ok(RouteAddress::Mpls(MplsLabel::from(entry)))
             }
             _ => Ok(RouteAddress::Other(read_bytes(alloc, bytes)?)),
         }

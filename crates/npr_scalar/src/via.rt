@@ -104,6 +104,7 @@ impl RouteVia {
     ///
     /// # Errors
     /// As `parse`.
+    #[inline(always)]
     pub fn read(alloc: Global, bytes: &[u8], at: At) -> Result<Self, DecodeError>
         ensures ok { IfOk result (λ via. via_value.Reads bytes.now (via_of via)) }
         ensures refused { IfErr result (λ e. e ≢ OutOfMemory → via_value.Wrong at bytes.now e) }

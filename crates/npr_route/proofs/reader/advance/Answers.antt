@@ -86,14 +86,15 @@ returns-then-not-is_empty-clause-ok c =
     let rest = c.next_counted.new.self in
     let value = c.value-then-not-is_empty.result.now in
     let value_is : value ≡ item.value = c.value-then-not-is_empty.ensures in
-    let inner = c.replace-outer.new.dest in
-    let same : c.in_ok-inner.inner ≡ inner = sym c.replace-outer.ensures.after in
+    let inner = c.enter.new.reading.level in
+    let entered = c.in_ok-enter.ensures.ok in
+    let same : c.in_ok-inner.inner ≡ inner = sym entered.0 in
     let outer : Level =
     record { context = l.context; next_hops = l.next_hops; header = l.header; encap_type = l.encap_type; attributes = l.attributes; walk = rest; hops_rest = l.hops_rest } in
     let f : Front l.walk item rest = rw c.in_ok-item.was at c.in-Some.ensures.step in
     let look : c.next_counted.new.looks ≡ hit c.args.looks.now = rw c.in_ok-item.was at c.in-Some.ensures.counted in
     let nine : number_of item.kind ≡ 9 = omega arith in
-    let items : c.push.new.self.items ≡ fs ++ outer ∷ [] = rw c.replace-outer.ensures.value at c.in_ok-push.ensures.items in
+    let items : c.enter.new.reading.stack.items ≡ fs ++ outer ∷ [] = entered.1 in
     let opens = subst (λ (k : Level). Opens (context_inside l) value [] k) same c.in_ok-inner.ensures.ok in
     let sought = subst (λ (k : Level). SoughtIn k.walk c.next_counted.new.looks c.open.new.looks) same c.in_ok-inner.ensures.sought in
     let front = HopFront-length value (head_in inner.header) inner.walk inner.hops_rest.now opens.front in
@@ -121,8 +122,8 @@ returns-in_err-inner-clause-ended c =
     let p = err_from_is_err_and c.from_residual-in_err-inner.result c.from_residual-in_err-inner.ensures.1 in
     rw p.1 (Ended-hit-miss c.args.looks.now c.next_counted.new.looks c.open.new.looks _ _ look c.in_err-inner.ensures.misses (omega (arith, room_front l.walk item rest f)))
 
-pub returns-in_err-push-clause-ended : goal.returns-in_err-push-clause-ended
-returns-in_err-push-clause-ended c =
+pub returns-in_err-enter-clause-ended : goal.returns-in_err-enter-clause-ended
+returns-in_err-enter-clause-ended c =
     let l = c.args.reading.now.level in
     let item = c.in_ok-item.item in
     let rest = c.next_counted.new.self in
@@ -131,7 +132,7 @@ returns-in_err-push-clause-ended c =
     let f : Front l.walk item rest = rw c.in_ok-item.was at c.in-Some.ensures.step in
     let look : c.next_counted.new.looks ≡ hit c.args.looks.now = rw c.in_ok-item.was at c.in-Some.ensures.counted in
     let opens : Opens (context_inside l) value [] inner = c.in_ok-inner.ensures.ok in
-    let p = err_from_is_err_and c.from_residual-in_err-push.result c.from_residual-in_err-push.ensures.1 in
+    let p = err_from_is_err_and c.from_residual-in_err-enter.result c.from_residual-in_err-enter.ensures.1 in
     rw p.1 (Ended-inner inner.walk c.args.looks.now c.next_counted.new.looks c.open.new.looks _ _ look c.in_ok-inner.ensures.sought
     (omega (arith, room_open (context_inside l) value [] inner opens, room_front l.walk item rest f, ap length c.value-then-not-is_empty.ensures)))
 

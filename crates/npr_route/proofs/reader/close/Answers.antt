@@ -15,14 +15,14 @@ use Rattle.npr_route.proofs.Views.{view_multi_path}
 use Rattle.npr_route.proofs.Reading.{closes, closed_hop, closed_count, hops_closed, whole, chain_none, chain_pop, chain_wrong, hops_wrong_behind, hops_count, weight_push, account_push, opened_at, room_open, built_open, Added-none, Added-open}
 use Rattle.npr_route.proofs.reader.close.Goals as goal
 
-pub returns-in_default-clause-ok : goal.returns-in_default-clause-ok
-returns-in_default-clause-ok c =
+pub returns-then-not-leave-clause-ok : goal.returns-then-not-leave-clause-ok
+returns-then-not-leave-clause-ok c =
     let l = c.args.reading.now.level in
     let fs = c.args.reading.now.stack.items in
     let hops : map hop_of c.replace-next_hops.result.items ≡ map hop_of l.next_hops.items ++ closed_hop l ∷ [] = rw c.replace-next_hops.ensures.value (hops_closed l c.from_bits_retain.result c.push.new.self.items (c.from_bits_retain.ensures tt) (rw (c.replace-attributes.ensures.value, c.make_room.ensures) at c.in_ok-push.ensures.items)) in
     let nil : l.hops_rest.now ≡ [] = nil_from_length _ (grind (arith, nat_tests)) in
-    let none : length fs ≡ 0 = omega (arith, c.args.reading.now.stack.ok.0, c.in_default.ensures.cases) in
-    let empty : fs ≡ [] = nil_from_length fs none in (
+    let empty : fs ≡ [] = c.leave.ensures.none (grind (arith, nat_tests)) in
+    let none : length fs ≡ 0 = ap length empty in (
       λ d bytes t.
           let done = closes t.0 l (subst (λ w. IsAt t.0 l w) c.requires t.1) in
           let all = whole l.context t.0 l.hops_rest.now _ nil done in
@@ -34,8 +34,8 @@ returns-in_default-clause-ok c =
 pub returns-clause-ok : goal.returns-clause-ok
 returns-clause-ok c =
     let l = c.args.reading.now.level in
-    let f = c.in-Some.outer in
-    let fs = c.pop.new.self.items in
+    let f = c.leave.new.reading.level in
+    let fs = c.leave.new.reading.stack.items in
     let v = c.replace-next_hops.result in
     let hops : map hop_of v.items ≡ map hop_of l.next_hops.items ++ closed_hop l ∷ [] = rw c.replace-next_hops.ensures.value (hops_closed l c.from_bits_retain.result c.push.new.self.items (c.from_bits_retain.ensures tt) (rw (c.replace-attributes.ensures.value, c.make_room.ensures) at c.in_ok-push.ensures.items)) in
     let nil : l.hops_rest.now ≡ [] = nil_from_length _ (grind (arith, nat_tests)) in
@@ -43,7 +43,7 @@ returns-clause-ok c =
     ap (map meaning_of) c.in_ok-push-2.ensures.items ∙ map_push meaning_of f.attributes.items (MultiPath v) ∙ ap (λ (m : Meaning). map meaning_of f.attributes.items ++ m ∷ []) (view_multi_path v) in
     let held : hops_members (hops_of (map hop_of v.items)) ≡ level_built l = hops_count (map hop_of v.items) ∙ ap (list_members hop_members) hops ∙ closed_count l in
     let pushed = account_push fs f in
-    let popped = c.in-Some.ensures.items in (
+    let popped = c.leave.ensures.waits (grind (arith, nat_tests)) in (
       λ d bytes t.
           let p = chain_pop d bytes fs f l.context t.0 (subst (λ z. Chain d bytes z l.context t.0) popped t.2) in
           let done = closes t.0 l (subst (λ w. IsAt t.0 l w) c.requires t.1) in
