@@ -1,6 +1,6 @@
 //! Lists of attributes, for any family.
 
-ghost use Rattle.std.specs.Prelude.{◌≡◌, ◌≢◌, ◌≤◌, ◌<◌, ℕ, List, Option, None, length, map, ◌++◌, ◌+◌, IfOk, IfErr, IsErrOf, OnErr};
+ghost use Rattle.std.specs.Prelude.{◌≡◌, ◌≢◌, ◌≤◌, ◌<◌, ℕ, List, [], Option, None, length, map, max, min, ◌++◌, ◌+◌, ◌/◌, IfOk, IfErr, IsErrOf, OnOk, OnErr, vec_capacity};
 ghost use Rattle.npr_base.specs.{
   Counts.{AddsAtMost, SawEach},
   Framing.{Item, Front, Writes, written_by},
@@ -43,13 +43,16 @@ pub fn parse_list<A: Attribute>(
 }
 
 /// Before the first item of a list of so many bytes: room for just as many as the bytes hold of those
-/// of 8 bytes, and for 16 at most, so that a list of a real message takes memory once, and no more
-/// than it needs.
+/// of 8 bytes, and for 16 at most, so that a list of a real message takes memory once.
 ///
 /// # Errors
 /// `AllocError` where memory is refused.
 pub fn make_room<A: Drop>(found: &mut Vec<A>, len: usize) -> Result<(), AllocError>
-    ensures { found.new.items ≡ found.old.items }
+    ensures items { found.new.items ≡ found.old.items }
+    // There is just this room,
+    ensures room { OnOk result (found.old.items ≡ [] → vec_capacity found.new ≡ max (vec_capacity found.old) (min (len / 8) 16)) }
+    // and memory is wanted only where there was none.
+    ensures memory { OnErr result ((found.old.items ≡ []) × (vec_capacity found.old < min (len / 8) 16)) }
 {
     if found.is_empty() {
         found.reserve_exact((len / 8).min(16))

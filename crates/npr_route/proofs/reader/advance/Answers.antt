@@ -145,7 +145,7 @@ returns-clause-ok c =
     let f : Front l.walk item rest = rw c.in_ok-item.was at c.in-Some.ensures.step in
     let look : c.next_counted.new.looks ≡ hit c.args.looks.now = rw c.in_ok-item.was at c.in-Some.ensures.counted in
     let took = Front-takes l.walk item rest f in
-    let more : map meaning_of c.push_flat.new.list.items ≡ map meaning_of l.attributes.items ++ meaning_of a ∷ [] = ap (map meaning_of) (rw c.make_room.ensures at pushed) ∙ map_push meaning_of l.attributes.items a in (
+    let more : map meaning_of c.push_flat.new.list.items ≡ map meaning_of l.attributes.items ++ meaning_of a ∷ [] = ap (map meaning_of) (rw c.make_room.ensures.items at pushed) ∙ map_push meaning_of l.attributes.items a in (
       λ d bytes t.
           let read = ReadsTo-more (Reads (context_inside l)) t.1.inside (map meaning_of l.attributes.items) l.walk item (meaning_of a) rest t.1.read f reads in
           (t.0, record { front = t.1.front; inside = t.1.inside; done = t.1.done; is_open = t.1.is_open; governs = t.1.governs; read = rw more read }, t.2),

@@ -19,7 +19,7 @@ pub returns-then-not-leave-clause-ok : goal.returns-then-not-leave-clause-ok
 returns-then-not-leave-clause-ok c =
     let l = c.args.reading.now.level in
     let fs = c.args.reading.now.stack.items in
-    let hops : map hop_of c.replace-next_hops.result.items ≡ map hop_of l.next_hops.items ++ closed_hop l ∷ [] = rw c.replace-next_hops.ensures.value (hops_closed l c.from_bits_retain.result c.push.new.self.items (c.from_bits_retain.ensures tt) (rw (c.replace-attributes.ensures.value, c.make_room.ensures) at c.in_ok-push.ensures.items)) in
+    let hops : map hop_of c.replace-next_hops.result.items ≡ map hop_of l.next_hops.items ++ closed_hop l ∷ [] = rw c.replace-next_hops.ensures.value (hops_closed l c.from_bits_retain.result c.push.new.self.items (c.from_bits_retain.ensures tt) (rw (c.replace-attributes.ensures.value, c.make_room.ensures.items) at c.in_ok-push.ensures.items)) in
     let nil : l.hops_rest.now ≡ [] = nil_from_length _ (grind (arith, nat_tests)) in
     let empty : fs ≡ [] = c.leave.ensures.none (grind (arith, nat_tests)) in
     let none : length fs ≡ 0 = ap length empty in (
@@ -37,7 +37,7 @@ returns-clause-ok c =
     let f = c.leave.new.reading.level in
     let fs = c.leave.new.reading.stack.items in
     let v = c.replace-next_hops.result in
-    let hops : map hop_of v.items ≡ map hop_of l.next_hops.items ++ closed_hop l ∷ [] = rw c.replace-next_hops.ensures.value (hops_closed l c.from_bits_retain.result c.push.new.self.items (c.from_bits_retain.ensures tt) (rw (c.replace-attributes.ensures.value, c.make_room.ensures) at c.in_ok-push.ensures.items)) in
+    let hops : map hop_of v.items ≡ map hop_of l.next_hops.items ++ closed_hop l ∷ [] = rw c.replace-next_hops.ensures.value (hops_closed l c.from_bits_retain.result c.push.new.self.items (c.from_bits_retain.ensures tt) (rw (c.replace-attributes.ensures.value, c.make_room.ensures.items) at c.in_ok-push.ensures.items)) in
     let nil : l.hops_rest.now ≡ [] = nil_from_length _ (grind (arith, nat_tests)) in
     let more : map meaning_of c.push-2.new.self.items ≡ map meaning_of f.attributes.items ++ multi_path (hops_of (map hop_of v.items)) ∷ [] =
     ap (map meaning_of) c.in_ok-push-2.ensures.items ∙ map_push meaning_of f.attributes.items (MultiPath v) ∙ ap (λ (m : Meaning). map meaning_of f.attributes.items ++ m ∷ []) (view_multi_path v) in
@@ -72,7 +72,7 @@ returns-then-not-is_empty-clause-ok c =
     let l = c.args.reading.now.level in
     let o = c.in_ok-open_next in
     let next = c.open_next.new.level in
-    let hops = hops_closed l c.from_bits_retain.result c.push.new.self.items (c.from_bits_retain.ensures tt) (rw (c.replace-attributes.ensures.value, c.make_room.ensures) at c.in_ok-push.ensures.items) in
+    let hops = hops_closed l c.from_bits_retain.result c.push.new.self.items (c.from_bits_retain.ensures tt) (rw (c.replace-attributes.ensures.value, c.make_room.ensures.items) at c.in_ok-push.ensures.items) in
     let opens : Opens l.context l.hops_rest.now c.push.new.self.items next = o.ensures.ok in
     let front = HopFront-length l.hops_rest.now (head_in next.header) next.walk next.hops_rest.now opens.front in
     let none : length l.walk ≡ 0 = ap length c.requires in (
