@@ -17,7 +17,7 @@ ghost use Rattle.netlink_packet_route.specs.{
 
 use crate::fault::Fault;
 use netlink_packet_route::family::{
-    check_len, read_bytes, read_name, read_u32, write_bytes, write_name,
+    check_len, read_bytes, read_name, read_u32, write_array, write_bytes, write_name,
 };
 use netlink_packet_route::framing::{
     AttrFamily, Attribute, DecodeError, DefaultNla, EmitError, Looks, Nla, NlaBuffer, Parseable,
@@ -107,7 +107,7 @@ impl Nla for LinkAttribute {
         match self {
             LinkAttribute::Address(bytes) => write_bytes(bytes.as_slice(), out),
             LinkAttribute::IfName(name) => write_name(name.as_str(), out),
-            LinkAttribute::Mtu(n) | LinkAttribute::Link(n) => write_bytes(&n.to_le_bytes(), out),
+            LinkAttribute::Mtu(n) | LinkAttribute::Link(n) => write_array(n.to_le_bytes(), out),
             LinkAttribute::Other(nla) => write_bytes(nla.value(), out),
         }
     }

@@ -12,7 +12,7 @@ ghost use Rattle.netlink_packet_route.specs.{
 };
 
 use crate::link::LinkAttribute;
-use netlink_packet_route::family::write_bytes;
+use netlink_packet_route::family::write_array;
 use netlink_packet_route::framing::{
     DecodeError, EmitError, Emitable, Looks, Parseable, check_list, list_len, parse_list,
     write_list,
@@ -83,7 +83,7 @@ impl Emitable for LinkHeader {
     }
 
     fn emit(&self, out: &mut [u8]) {
-        write_bytes(&self.to_bytes(), out);
+        write_array(self.to_bytes(), out);
     }
 }
 

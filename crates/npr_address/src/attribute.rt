@@ -13,8 +13,8 @@ use crate::cache_info::{CacheInfo, CacheInfoBuffer};
 use bitflags::Flags;
 use npr_base::{
     AttrFamily, Attribute, DecodeError, DefaultNla, EmitError, IpAddr, Ipv4Addr, Ipv6Addr, Looks,
-    Nla, NlaBuffer, Parseable, check_len, ip_len, read_i32, read_ip, read_ipv4, read_ipv6,
-    read_name, read_u8, read_u32, write_bytes, write_ip, write_name,
+    Nla, NlaBuffer, Parseable, framed_len, ip_len, read_i32, read_ip, read_ipv4, read_ipv6,
+    read_name, read_u8, read_u32, write_array, write_bytes, write_ip, write_name,
 };
 use std::alloc::{AllocError, Global};
 
@@ -107,7 +107,11 @@ impl Nla for AddressAttribute {
     }
 
     fn check(&self) -> Result<usize, EmitError> {
-        check_len(self.kind(), self.value_len())
+        let len = self.value_len();
+        framed_len(len).ok_or_else(|| EmitError::TooLong {
+            kind: self.kind(),
+            len,
+        })
     }
 
     fn value_len(&self) -> usize
@@ -132,16 +136,16 @@ impl Nla for AddressAttribute {
             AddressAttribute::Address(ip) | AddressAttribute::Local(ip) => write_ip(ip, out),
             AddressAttribute::Label(name) => write_name(name.as_str(), out),
             AddressAttribute::CacheInfo(info) => {
-                write_bytes(&CacheInfoBuffer::from(info).to_bytes(), out)
+                write_array(CacheInfoBuffer::from(info).to_bytes(), out)
             }
-            AddressAttribute::Broadcast(ip) => write_bytes(&ip.octets(), out),
+            AddressAttribute::Broadcast(ip) => write_array(ip.octets(), out),
             AddressAttribute::Anycast(ip) | AddressAttribute::Multicast(ip) => {
-                write_bytes(&ip.octets(), out)
+                write_array(ip.octets(), out)
             }
-            AddressAttribute::Flags(flags) => write_bytes(&flags.bits().to_le_bytes(), out),
-            AddressAttribute::RoutePriority(n) => write_bytes(&n.to_le_bytes(), out),
-            AddressAttribute::TargetNetNsId(n) => write_bytes(&n.to_le_bytes(), out),
-            AddressAttribute::Protocol(protocol) => write_bytes(&[u8::from(*protocol)], out),
+            AddressAttribute::Flags(flags) => write_array(flags.bits().to_le_bytes(), out),
+            AddressAttribute::RoutePriority(n) => write_array(n.to_le_bytes(), out),
+            AddressAttribute::TargetNetNsId(n) => write_array(n.to_le_bytes(), out),
+            AddressAttribute::Protocol(protocol) => write_array([u8::from(*protocol)], out),
             AddressAttribute::Other(nla) => write_bytes(nla.value(), out),
         }
     }

@@ -9,7 +9,7 @@ ghost use Rattle.npr_base.specs.{
 };
 ghost use Rattle.npr_address.specs.CacheInfo.{cache_info, cache_info_buffer, buffer_of};
 
-use npr_base::{DecodeError, EmitError, Emitable, write_bytes};
+use npr_base::{DecodeError, EmitError, Emitable, write_array};
 
 /// How long an address is preferred and valid, in seconds, and when it was made and changed, in
 /// hundredths of a second since the start of the system.
@@ -118,6 +118,6 @@ impl Emitable for CacheInfo {
     }
 
     fn emit(&self, out: &mut [u8]) {
-        write_bytes(&CacheInfoBuffer::from(self).to_bytes(), out);
+        write_array(CacheInfoBuffer::from(self).to_bytes(), out);
     }
 }

@@ -12,7 +12,7 @@ ghost use Rattle.npr_address.specs.Header.{header_buffer, header, buffer_of};
 use crate::addr_flags::AddressHeaderFlags;
 use crate::addr_scope::AddressScope;
 use bitflags::Flags;
-use npr_base::{AddressFamily, DecodeError, EmitError, Emitable, write_bytes};
+use npr_base::{AddressFamily, DecodeError, EmitError, Emitable, write_array};
 
 /// The header of an address message.
 #[derive(Clone, Copy, Debug, Default, PartialEq, Eq)]
@@ -146,6 +146,6 @@ impl Emitable for AddressHeader {
     }
 
     fn emit(&self, out: &mut [u8]) {
-        write_bytes(&AddressMessageBuffer::from(self).to_bytes(), out);
+        write_array(AddressMessageBuffer::from(self).to_bytes(), out);
     }
 }

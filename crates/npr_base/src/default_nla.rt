@@ -1,7 +1,7 @@
 //! An attribute that is kept as it stands.
 
 ghost use Rattle.std.specs.{
-  Prelude.{◌≡◌, ◌≢◌, ℕ, ◌+◌, false, length, IfOk, IfErr},
+  Prelude.{◌≡◌, ◌≢◌, ℕ, ◌+◌, false, None, Some, nat_lt, if◌then◌else◌, length, IfOk, IfErr},
   Cmp.{decided, partial_equiv_from_equiv},
 };
 ghost use Rattle.npr_base.specs.{
@@ -87,6 +87,18 @@ impl<'a> Parseable<&'a NlaBuffer<'a>> for DefaultNla {
     }
 }
 
+/// The length of an encoding whose value has this length, where 16 bits hold that of header and
+/// value.
+#[inline(always)]
+pub fn framed_len(len: usize) -> Option<usize>
+    ensures { result ≡ if nat_lt len 65532 then Some (framed len) else None }
+{
+    if len > 65531 {
+        return None;
+    }
+    Some((NLA_HEADER_SIZE + len).next_multiple_of(4))
+}
+
 /// The length of an encoding whose value has this length.
 ///
 /// # Errors
@@ -94,10 +106,7 @@ impl<'a> Parseable<&'a NlaBuffer<'a>> for DefaultNla {
 pub fn check_len(kind: u16, len: usize) -> Result<usize, EmitError>
     ensures { result ≡ checked (too_long kind len) (framed len) }
 {
-    if len > 65531 {
-        return Err(EmitError::TooLong { kind, len });
-    }
-    Ok((NLA_HEADER_SIZE + len).next_multiple_of(4))
+    framed_len(len).ok_or(EmitError::TooLong { kind, len })
 }
 
 impl Nla for DefaultNla {

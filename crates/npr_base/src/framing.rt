@@ -245,6 +245,23 @@ pub fn write_bytes(bytes: &[u8], out: &mut [u8]) -> usize
     bytes.len()
 }
 
+/// Writes an array to the front of the slice, leaves the rest, and answers its length. An array of
+/// known length goes from registers, without a place on the stack that `write_bytes` takes it from.
+#[inline(always)]
+pub fn write_array<const N: usize>(bytes: [u8; N], out: &mut [u8]) -> usize
+    requires { N ≤ length out.old }
+    ensures len { result ≡ N }
+    ensures after { Writes out.old out.new bytes.entry }
+{
+    match out.first_chunk_mut::<N>() {
+        Some(front) => {
+            *front = bytes;
+            N
+        }
+        None => unreachable!(),
+    }
+}
+
 /// Writes so many zeros. They are three at most, and cost less one by one than a call to fill them.
 fn write_zeros(count: usize, out: &mut [u8])
     requires few { count < NLA_ALIGNTO }
@@ -271,7 +288,7 @@ fn write_header(size: u16, kind: u16, out: &mut [u8])
 {
     let [a, b] = size.to_le_bytes();
     let [c, d] = kind.to_le_bytes();
-    write_bytes(&[a, b, c, d], out);
+    write_array([a, b, c, d], out);
 }
 
 /// Writes the header in front of a value that stands already, and zeros after it to the next

@@ -18,11 +18,11 @@ mod values;
 
 pub use address_family::AddressFamily;
 pub use attribute::Attribute;
-pub use default_nla::{DefaultNla, check_len};
+pub use default_nla::{DefaultNla, check_len, framed_len};
 pub use emit::{WriteError, to_vec};
 pub use framing::{
     NLA_ALIGNTO, NLA_F_NESTED, NLA_F_NET_BYTEORDER, NLA_HEADER_SIZE, NLA_TYPE_MASK, NlaBuffer,
-    NlasIterator, frame, marked_kind, write_bytes,
+    NlasIterator, frame, marked_kind, write_array, write_bytes,
 };
 pub use ip::{IpAddr, Ipv4Addr, Ipv6Addr};
 pub use list::{

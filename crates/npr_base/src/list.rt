@@ -129,6 +129,7 @@ fn write_items<A: Nla>(list: &[A], out: &mut [u8]) -> usize
 
 /// The length of the encodings in bytes, or the first cause why there are none: the first member
 /// that can't be written, or `Total`.
+#[inline(never)]
 pub fn check_list<A: Attribute>(list: &[A]) -> Result<usize, EmitError>
     ensures { result ≡ checked (list_unfit A.writing.misfit A.writing.writes (map A.meaning list.now)) (length (encodings A.writing.writes (map A.meaning list.now))) }
 {

@@ -16,7 +16,7 @@ ghost use Rattle.npr_base.specs.{
   Refusal.{no_place},
 };
 
-use crate::framing::write_bytes;
+use crate::framing::{write_array, write_bytes};
 use crate::ip::{IpAddr, Ipv4Addr, Ipv6Addr};
 use crate::refusal::{At, DecodeError};
 use std::alloc::{AllocError, Global};
@@ -213,8 +213,8 @@ pub fn write_ip(address: &IpAddr, out: &mut [u8]) -> usize
     ensures after { Writes out.old out.new (octets_of address.now) }
 {
     match address {
-        IpAddr::V4(v4) => write_bytes(&v4.octets(), out),
-        IpAddr::V6(v6) => write_bytes(&v6.octets(), out),
+        IpAddr::V4(v4) => write_array(v4.octets(), out),
+        IpAddr::V6(v6) => write_array(v6.octets(), out),
     }
 }
 

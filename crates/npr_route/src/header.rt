@@ -10,7 +10,7 @@ ghost use Rattle.npr_base.specs.{
 ghost use Rattle.npr_route.specs.Header.{header_buffer, header, buffer_of};
 
 use bitflags::Flags;
-use npr_base::{AddressFamily, DecodeError, EmitError, Emitable, write_bytes};
+use npr_base::{AddressFamily, DecodeError, EmitError, Emitable, write_array};
 use npr_scalar::{RouteFlags, RouteProtocol, RouteScope, RouteType};
 
 /// The header of a route message.
@@ -179,6 +179,6 @@ impl Emitable for RouteHeader {
     }
 
     fn emit(&self, out: &mut [u8]) {
-        write_bytes(&RouteMessageBuffer::from(self).to_bytes(), out);
+        write_array(RouteMessageBuffer::from(self).to_bytes(), out);
     }
 }

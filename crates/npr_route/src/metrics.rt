@@ -6,7 +6,7 @@ ghost use Rattle.npr_route.specs.Metric.{Metric, metric_of, writing, metrics};
 
 use npr_base::{
     AttrFamily, Attribute, DecodeError, DefaultNla, EmitError, Looks, Nla, NlaBuffer, Parseable,
-    check_len, read_name, read_u32, write_bytes, write_name,
+    check_len, read_name, read_u32, write_array, write_bytes, write_name,
 };
 use std::alloc::{AllocError, Global};
 
@@ -153,7 +153,7 @@ impl Nla for RouteMetric {
             | RouteMetric::RtoMin(n)
             | RouteMetric::InitRwnd(n)
             | RouteMetric::QuickAck(n)
-            | RouteMetric::FastopenNoCookie(n) => write_bytes(&n.to_le_bytes(), out),
+            | RouteMetric::FastopenNoCookie(n) => write_array(n.to_le_bytes(), out),
             RouteMetric::CcAlgo(name) => write_name(name.as_str(), out),
             RouteMetric::Other(nla) => write_bytes(nla.value(), out),
         }

@@ -20,8 +20,8 @@ use crate::attribute::RouteAttribute;
 use crate::next_hop_buffer::RouteNextHopBuffer;
 use bitflags::Flags;
 use npr_base::{
-    EmitError, Emitable, Nla, check_len, check_list, clone_list, frame, marked_kind, plus,
-    write_bytes, write_list,
+    EmitError, Emitable, Nla, check_list, clone_list, frame, framed_len, marked_kind, plus,
+    write_array, write_bytes, write_list,
 };
 use npr_scalar::{
     RouteCacheInfoBuffer, RouteMfcStatsBuffer, RouteNextHopFlags, labels_len, write_labels,
@@ -89,25 +89,26 @@ impl Emitable for RouteNextHop {
 }
 
 /// The length of the value in bytes, or the first cause why the list inside has none.
+#[inline(always)]
 #[cycle(check)]
 fn check_inside(attribute: &RouteAttribute) -> Result<usize, EmitError>
     ensures { result ≡ checked (unfit_inside (meaning_of attribute.now)) (length (plain_of (meaning_of attribute.now)).value) }
 {
-    Ok(match attribute {
+    match attribute {
         RouteAttribute::Destination(x)
         | RouteAttribute::Source(x)
         | RouteAttribute::Gateway(x)
         | RouteAttribute::PrefSource(x)
-        | RouteAttribute::NewDestinationAddress(x) => x.len(),
-        RouteAttribute::Via(x) => x.len(),
-        RouteAttribute::Metrics(list) => check_list(list.as_slice())?,
-        RouteAttribute::Encap(list) => check_list(list.as_slice())?,
-        RouteAttribute::MultiPath(hops) => check_hops(hops.as_slice())?,
-        RouteAttribute::NewDestination(labels) => labels_len(labels.as_slice()),
+        | RouteAttribute::NewDestinationAddress(x) => Ok(x.len()),
+        RouteAttribute::Via(x) => Ok(x.len()),
+        RouteAttribute::Metrics(list) => check_list(list.as_slice()),
+        RouteAttribute::Encap(list) => check_list(list.as_slice()),
+        RouteAttribute::MultiPath(hops) => check_hops(hops.as_slice()),
+        RouteAttribute::NewDestination(labels) => Ok(labels_len(labels.as_slice())),
         RouteAttribute::Preference(_)
         | RouteAttribute::TtlPropagate(_)
-        | RouteAttribute::IpProto(_) => 1,
-        RouteAttribute::EncapType(_) | RouteAttribute::Sport(_) | RouteAttribute::Dport(_) => 2,
+        | RouteAttribute::IpProto(_) => Ok(1),
+        RouteAttribute::EncapType(_) | RouteAttribute::Sport(_) | RouteAttribute::Dport(_) => Ok(2),
         RouteAttribute::Iif(_)
         | RouteAttribute::Oif(_)
         | RouteAttribute::Priority(_)
@@ -117,20 +118,25 @@ fn check_inside(attribute: &RouteAttribute) -> Result<usize, EmitError>
         | RouteAttribute::Expires(_)
         | RouteAttribute::Uid(_)
         | RouteAttribute::NhId(_)
-        | RouteAttribute::Flowlabel(_) => 4,
-        RouteAttribute::MulticastExpires(_) => 8,
-        RouteAttribute::MfcStats(_) => 24,
-        RouteAttribute::CacheInfo(_) => 32,
-        RouteAttribute::Other(nla) => nla.value().len(),
-    })
+        | RouteAttribute::Flowlabel(_) => Ok(4),
+        RouteAttribute::MulticastExpires(_) => Ok(8),
+        RouteAttribute::MfcStats(_) => Ok(24),
+        RouteAttribute::CacheInfo(_) => Ok(32),
+        RouteAttribute::Other(nla) => Ok(nla.value().len()),
+    }
 }
 
 /// The length of the encoding in bytes, or the first cause why there is none.
+#[inline(always)]
 #[cycle(check)]
 pub(crate) fn check_attribute(attribute: &RouteAttribute) -> Result<usize, EmitError>
     ensures { result ≡ checked (misfit (meaning_of attribute.now)) (framed (length (plain_of (meaning_of attribute.now)).value)) }
 {
-    check_len(attribute.kind(), check_inside(attribute)?)
+    let len = check_inside(attribute)?;
+    framed_len(len).ok_or_else(|| EmitError::TooLong {
+        kind: attribute.kind(),
+        len,
+    })
 }
 
 /// The length of all encodings in bytes, or the first cause why there are none.
@@ -170,6 +176,7 @@ fn check_hop(hop: &RouteNextHop) -> Result<usize, EmitError>
 }
 
 /// The length of all next hops in bytes, or the first cause why they have none.
+#[inline(never)]
 #[cycle(check)]
 fn check_hops(hops: &[RouteNextHop]) -> Result<usize, EmitError>
     ensures { result ≡ checked (option_or (first_unfit next_hop_misfit hops.now) (overlong (length (joined next_hop_bytes hops.now)))) (length (joined next_hop_bytes hops.now)) }
@@ -219,17 +226,17 @@ pub(crate) fn write_value(attribute: &RouteAttribute, out: &mut [u8]) -> usize
         | RouteAttribute::Mark(x)
         | RouteAttribute::Expires(x)
         | RouteAttribute::Uid(x)
-        | RouteAttribute::NhId(x) => write_bytes(&x.to_le_bytes(), out),
-        RouteAttribute::MulticastExpires(x) => write_bytes(&x.to_le_bytes(), out),
-        RouteAttribute::Sport(x) | RouteAttribute::Dport(x) => write_bytes(&x.to_be_bytes(), out),
-        RouteAttribute::Flowlabel(x) => write_bytes(&x.to_be_bytes(), out),
-        RouteAttribute::IpProto(x) => write_bytes(&[*x], out),
-        RouteAttribute::Realm(x) => write_bytes(&u32::from(*x).to_le_bytes(), out),
-        RouteAttribute::Preference(x) => write_bytes(&[u8::from(*x)], out),
-        RouteAttribute::TtlPropagate(x) => write_bytes(&[u8::from(*x)], out),
-        RouteAttribute::EncapType(x) => write_bytes(&u16::from(*x).to_le_bytes(), out),
-        RouteAttribute::CacheInfo(x) => write_bytes(&RouteCacheInfoBuffer::from(x).to_bytes(), out),
-        RouteAttribute::MfcStats(x) => write_bytes(&RouteMfcStatsBuffer::from(x).to_bytes(), out),
+        | RouteAttribute::NhId(x) => write_array(x.to_le_bytes(), out),
+        RouteAttribute::MulticastExpires(x) => write_array(x.to_le_bytes(), out),
+        RouteAttribute::Sport(x) | RouteAttribute::Dport(x) => write_array(x.to_be_bytes(), out),
+        RouteAttribute::Flowlabel(x) => write_array(x.to_be_bytes(), out),
+        RouteAttribute::IpProto(x) => write_array([*x], out),
+        RouteAttribute::Realm(x) => write_array(u32::from(*x).to_le_bytes(), out),
+        RouteAttribute::Preference(x) => write_array([u8::from(*x)], out),
+        RouteAttribute::TtlPropagate(x) => write_array([u8::from(*x)], out),
+        RouteAttribute::EncapType(x) => write_array(u16::from(*x).to_le_bytes(), out),
+        RouteAttribute::CacheInfo(x) => write_array(RouteCacheInfoBuffer::from(x).to_bytes(), out),
+        RouteAttribute::MfcStats(x) => write_array(RouteMfcStatsBuffer::from(x).to_bytes(), out),
         RouteAttribute::Other(nla) => write_bytes(nla.value(), out),
     }
 }
@@ -280,11 +287,12 @@ fn write_hop(hop: &RouteNextHop, out: &mut [u8]) -> usize
         hops: hop.hops,
         interface_index: hop.interface_index,
     };
-    write_bytes(&header.to_bytes(), out);
+    write_array(header.to_bytes(), out);
     len
 }
 
 /// Writes the next hops one after the other.
+#[inline(never)]
 #[cycle(write)]
 fn write_hops(hops: &[RouteNextHop], out: &mut [u8]) -> usize
     requires fits { first_unfit next_hop_misfit hops.now ≡ None }

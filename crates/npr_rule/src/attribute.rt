@@ -16,8 +16,8 @@ use crate::port_range::RulePortRange;
 use crate::uid_range::RuleUidRange;
 use npr_base::{
     AttrFamily, Attribute, DecodeError, DefaultNla, EmitError, IpAddr, Looks, Nla, NlaBuffer,
-    Parseable, check_len, ip_len, read_bool, read_ip, read_name, read_u8, read_u32, read_u64_be,
-    write_bytes, write_ip, write_name,
+    Parseable, framed_len, ip_len, read_bool, read_ip, read_name, read_u8, read_u32, read_u64_be,
+    write_array, write_bytes, write_ip, write_name,
 };
 use npr_scalar::{IpProtocol, RouteProtocol, RouteRealm};
 use std::alloc::{AllocError, Global};
@@ -147,7 +147,13 @@ impl Nla for RuleAttribute {
     fn check(&self) -> Result<usize, EmitError> {
         match self {
             RuleAttribute::IpProtocol(protocol) => check_protocol(*protocol),
-            _ => check_len(self.kind(), self.value_len()),
+            _ => {
+                let len = self.value_len();
+                framed_len(len).ok_or_else(|| EmitError::TooLong {
+                    kind: self.kind(),
+                    len,
+                })
+            }
         }
     }
 
@@ -186,15 +192,15 @@ impl Nla for RuleAttribute {
             | RuleAttribute::SuppressIfGroup(n)
             | RuleAttribute::SuppressPrefixLen(n)
             | RuleAttribute::Table(n)
-            | RuleAttribute::FwMask(n) => write_bytes(&n.to_le_bytes(), out),
-            RuleAttribute::Realm(realm) => write_bytes(&u32::from(*realm).to_le_bytes(), out),
-            RuleAttribute::TunId(n) => write_bytes(&n.to_be_bytes(), out),
-            RuleAttribute::L3MDev(is) => write_bytes(&[u8::from(*is)], out),
-            RuleAttribute::UidRange(range) => write_bytes(&range.to_bytes(), out),
-            RuleAttribute::Protocol(protocol) => write_bytes(&[u8::from(*protocol)], out),
-            RuleAttribute::IpProtocol(protocol) => write_bytes(&[protocol_byte(*protocol)], out),
+            | RuleAttribute::FwMask(n) => write_array(n.to_le_bytes(), out),
+            RuleAttribute::Realm(realm) => write_array(u32::from(*realm).to_le_bytes(), out),
+            RuleAttribute::TunId(n) => write_array(n.to_be_bytes(), out),
+            RuleAttribute::L3MDev(is) => write_array([u8::from(*is)], out),
+            RuleAttribute::UidRange(range) => write_array(range.to_bytes(), out),
+            RuleAttribute::Protocol(protocol) => write_array([u8::from(*protocol)], out),
+            RuleAttribute::IpProtocol(protocol) => write_array([protocol_byte(*protocol)], out),
             RuleAttribute::SourcePortRange(range) | RuleAttribute::DestinationPortRange(range) => {
-                write_bytes(&range.to_bytes(), out)
+                write_array(range.to_bytes(), out)
             }
             RuleAttribute::Other(nla) => write_bytes(nla.value(), out),
         }

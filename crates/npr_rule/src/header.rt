@@ -12,7 +12,7 @@ ghost use Rattle.npr_rule.specs.Header.{header_buffer, header, buffer_of};
 use crate::action::RuleAction;
 use crate::flags::RuleFlags;
 use bitflags::Flags;
-use npr_base::{AddressFamily, DecodeError, EmitError, Emitable, write_bytes};
+use npr_base::{AddressFamily, DecodeError, EmitError, Emitable, write_array};
 
 /// The header of a rule message.
 #[derive(Clone, Copy, Debug, Default, PartialEq, Eq)]
@@ -168,6 +168,6 @@ impl Emitable for RuleHeader {
     }
 
     fn emit(&self, out: &mut [u8]) {
-        write_bytes(&RuleMessageBuffer::from(self).to_bytes(), out);
+        write_array(RuleMessageBuffer::from(self).to_bytes(), out);
     }
 }

@@ -9,7 +9,7 @@ ghost use Rattle.npr_base.specs.{
 };
 ghost use Rattle.npr_rule.specs.PortRange.{port_range};
 
-use npr_base::{At, DecodeError, EmitError, Emitable, read_octets, write_bytes};
+use npr_base::{At, DecodeError, EmitError, Emitable, read_octets, write_array};
 
 /// A range of ports, both ends included.
 ///
@@ -71,6 +71,6 @@ impl Emitable for RulePortRange {
     }
 
     fn emit(&self, out: &mut [u8]) {
-        write_bytes(&self.to_bytes(), out);
+        write_array(self.to_bytes(), out);
     }
 }

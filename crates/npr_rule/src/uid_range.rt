@@ -9,7 +9,7 @@ ghost use Rattle.npr_base.specs.{
 };
 ghost use Rattle.npr_rule.specs.UidRange.{uid_range};
 
-use npr_base::{At, DecodeError, EmitError, Emitable, read_octets, write_bytes};
+use npr_base::{At, DecodeError, EmitError, Emitable, read_octets, write_array};
 
 /// A range of users, both ends included.
 ///
@@ -71,6 +71,6 @@ impl Emitable for RuleUidRange {
     }
 
     fn emit(&self, out: &mut [u8]) {
-        write_bytes(&self.to_bytes(), out);
+        write_array(self.to_bytes(), out);
     }
 }

@@ -14,7 +14,7 @@ ghost use Rattle.npr_scalar.specs.{
 use crate::mpls::MplsLabel;
 use npr_base::{
     AddressFamily, At, DecodeError, EmitError, Emitable, IpAddr, Ipv4Addr, Ipv6Addr, read_bytes,
-    read_ipv4, read_ipv6, read_u32_be, write_bytes,
+    read_ipv4, read_ipv6, read_u32_be, write_array, write_bytes,
 };
 use std::alloc::{AllocError, Global};
 
@@ -88,9 +88,9 @@ impl RouteAddress {
         ensures after { Writes out.old out.new (address_bytes (address_of self.now)) }
     {
         match self {
-            RouteAddress::Inet(ip) => write_bytes(&ip.octets(), out),
-            RouteAddress::Inet6(ip) => write_bytes(&ip.octets(), out),
-            RouteAddress::Mpls(label) => write_bytes(&u32::from(*label).to_be_bytes(), out),
+            RouteAddress::Inet(ip) => write_array(ip.octets(), out),
+            RouteAddress::Inet6(ip) => write_array(ip.octets(), out),
+            RouteAddress::Mpls(label) => write_array(u32::from(*label).to_be_bytes(), out),
             RouteAddress::Other(bytes) => write_bytes(bytes.as_slice(), out),
         }
     }

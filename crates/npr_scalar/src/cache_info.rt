@@ -4,7 +4,7 @@ ghost use Rattle.std.specs.Prelude.{◌≡◌, None, IfOk, IfErr};
 ghost use Rattle.npr_base.specs.{Codec.{leading}, Refusal.{no_place}};
 ghost use Rattle.npr_scalar.specs.RouteCacheInfo.{route_cache_info, route_cache_info_buffer, cache_info_buffer_of};
 
-use npr_base::{DecodeError, EmitError, Emitable, leading_octets, write_bytes};
+use npr_base::{DecodeError, EmitError, Emitable, leading_octets, write_array};
 
 /// What the kernel remembers of a route.
 #[derive(Clone, Copy, Debug, Default, PartialEq, Eq)]
@@ -135,6 +135,6 @@ impl Emitable for RouteCacheInfo {
     }
 
     fn emit(&self, out: &mut [u8]) {
-        write_bytes(&RouteCacheInfoBuffer::from(self).to_bytes(), out);
+        write_array(RouteCacheInfoBuffer::from(self).to_bytes(), out);
     }
 }

@@ -4,7 +4,7 @@ ghost use Rattle.std.specs.Prelude.{◌≡◌, None, IfOk, IfErr};
 ghost use Rattle.npr_base.specs.{Codec.{leading}, Refusal.{no_place}};
 ghost use Rattle.npr_scalar.specs.RouteMfcStats.{route_mfc_stats, route_mfc_stats_buffer, mfc_stats_buffer_of};
 
-use npr_base::{DecodeError, EmitError, Emitable, leading_octets, write_bytes};
+use npr_base::{DecodeError, EmitError, Emitable, leading_octets, write_array};
 
 /// How much a multicast route forwarded.
 #[derive(Clone, Copy, Debug, Default, PartialEq, Eq)]
@@ -100,6 +100,6 @@ impl Emitable for RouteMfcStats {
     }
 
     fn emit(&self, out: &mut [u8]) {
-        write_bytes(&RouteMfcStatsBuffer::from(self).to_bytes(), out);
+        write_array(RouteMfcStatsBuffer::from(self).to_bytes(), out);
     }
 }

@@ -12,7 +12,7 @@ ghost use Rattle.npr_scalar.specs.{
   MplsLaws.{mpls_label, mpls_labels},
 };
 
-use npr_base::{At, DecodeError, EmitError, Emitable, read_u32_be, write_bytes};
+use npr_base::{At, DecodeError, EmitError, Emitable, read_u32_be, write_array, write_bytes};
 use std::alloc::Global;
 
 /// One entry of a label stack.
@@ -83,7 +83,7 @@ impl Emitable for MplsLabel {
     }
 
     fn emit(&self, out: &mut [u8]) {
-        write_bytes(&u32::from(*self).to_be_bytes(), out);
+        write_array(u32::from(*self).to_be_bytes(), out);
     }
 }
 

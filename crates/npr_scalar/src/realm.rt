@@ -4,7 +4,7 @@ ghost use Rattle.std.specs.Prelude.{◌≡◌, None, IfOk, IfErr};
 ghost use Rattle.npr_base.specs.{Codec.{exactly}, Refusal.{no_place}};
 ghost use Rattle.npr_scalar.specs.Realm.{realm_of, realm_number, route_realm};
 
-use npr_base::{At, DecodeError, EmitError, Emitable, read_u32, write_bytes};
+use npr_base::{At, DecodeError, EmitError, Emitable, read_u32, write_array};
 
 /// The realms of a route.
 ///
@@ -64,6 +64,6 @@ impl Emitable for RouteRealm {
     }
 
     fn emit(&self, out: &mut [u8]) {
-        write_bytes(&u32::from(*self).to_le_bytes(), out);
+        write_array(u32::from(*self).to_le_bytes(), out);
     }
 }

@@ -4,7 +4,7 @@ ghost use Rattle.std.specs.Prelude.{◌≡◌, Some, None, IfOk, IfErr};
 ghost use Rattle.npr_base.specs.{Codec.{exactly}, Refusal.{no_place}};
 ghost use Rattle.npr_scalar.specs.RouteProtocol.{route_protocol, route_protocol_of, route_protocol_number, route_protocol_text};
 
-use npr_base::{At, DecodeError, EmitError, Emitable, read_u8, write_bytes};
+use npr_base::{At, DecodeError, EmitError, Emitable, read_u8, write_array};
 use std::fmt;
 
 /// Who made a route: `RTPROT_*` of `linux/rtnetlink.h`.
@@ -133,7 +133,7 @@ impl Emitable for RouteProtocol {
     }
 
     fn emit(&self, out: &mut [u8]) {
-        write_bytes(&[u8::from(*self)], out);
+        write_array([u8::from(*self)], out);
     }
 }
 

@@ -14,7 +14,8 @@ ghost use Rattle.npr_srh.specs.{
 
 use npr_base::{
     AttrFamily, Attribute, DecodeError, DefaultNla, EmitError, Ipv6Addr, Looks, Nla, NlaBuffer,
-    Parseable, check_len, read_ipv6, read_u8, read_u32, write_bytes, write_six_hex_digits,
+    Parseable, check_len, read_ipv6, read_u8, read_u32, write_array, write_bytes,
+    write_six_hex_digits,
 };
 use std::alloc::{AllocError, Global};
 use std::fmt;
@@ -262,7 +263,7 @@ impl Nla for RouteIoam6Tunnel {
     fn write_value(&self, out: &mut [u8]) -> usize {
         match self {
             RouteIoam6Tunnel::Unspecified => 0,
-            RouteIoam6Tunnel::Mode(mode) => write_bytes(&[u8::from(*mode)], out),
+            RouteIoam6Tunnel::Mode(mode) => write_array([u8::from(*mode)], out),
             RouteIoam6Tunnel::Dst(address) | RouteIoam6Tunnel::Src(address) => write_bytes(
                 &address.octets(),
                 out,

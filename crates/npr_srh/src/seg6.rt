@@ -6,7 +6,7 @@ ghost use Rattle.npr_srh.specs.Seg6Tunnel.{Meaning, meaning_of, writing, members
 use crate::seg6_header::Seg6Header;
 use npr_base::{
     AttrFamily, Attribute, DecodeError, DefaultNla, EmitError, Ipv6Addr, Looks, Nla, NlaBuffer,
-    Parseable, check_len, read_ipv6, read_u32, write_bytes,
+    Parseable, check_len, read_ipv6, read_u32, write_array, write_bytes,
 };
 use std::alloc::{AllocError, Global};
 
@@ -86,8 +86,8 @@ impl Nla for RouteSeg6IpTunnel {
     fn write_value(&self, out: &mut [u8]) -> usize {
         match self {
             RouteSeg6IpTunnel::Seg6(header) => header.write_value(out),
-            RouteSeg6IpTunnel::Src(address) => write_bytes(&address.octets(), out),
-            RouteSeg6IpTunnel::Table(table) => write_bytes(&table.to_le_bytes(), out),
+            RouteSeg6IpTunnel::Src(address) => write_array(address.octets(), out),
+            RouteSeg6IpTunnel::Table(table) => write_array(table.to_le_bytes(), out),
             RouteSeg6IpTunnel::Other(nla) => write_bytes(nla.value(), out),
         }
     }

@@ -8,7 +8,7 @@ use crate::seg6local_srh::Seg6LocalSrh;
 use crate::segments::Segments;
 use npr_base::{
     AttrFamily, Attribute, DecodeError, DefaultNla, EmitError, Ipv4Addr, Ipv6Addr, Looks, Nla,
-    NlaBuffer, Parseable, check_len, read_ipv4, read_ipv6, read_u32, write_bytes,
+    NlaBuffer, Parseable, check_len, read_ipv4, read_ipv6, read_u32, write_array, write_bytes,
 };
 use std::alloc::{AllocError, Global};
 use std::fmt;
@@ -125,12 +125,12 @@ impl Nla for RouteSeg6LocalTunnel {
                 out,
             ),
             RouteSeg6LocalTunnel::Srh(header) => header.write_value(out),
-            RouteSeg6LocalTunnel::Nh4(address) => write_bytes(&address.octets(), out),
-            RouteSeg6LocalTunnel::Nh6(address) => write_bytes(&address.octets(), out),
+            RouteSeg6LocalTunnel::Nh4(address) => write_array(address.octets(), out),
+            RouteSeg6LocalTunnel::Nh6(address) => write_array(address.octets(), out),
             RouteSeg6LocalTunnel::Table(n)
             | RouteSeg6LocalTunnel::Iif(n)
             | RouteSeg6LocalTunnel::Oif(n)
-            | RouteSeg6LocalTunnel::VrfTable(n) => write_bytes(&n.to_le_bytes(), out),
+            | RouteSeg6LocalTunnel::VrfTable(n) => write_array(n.to_le_bytes(), out),
             RouteSeg6LocalTunnel::Other(nla) => write_bytes(nla.value(), out),
         }
     }

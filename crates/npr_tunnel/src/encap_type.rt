@@ -3,7 +3,7 @@
 ghost use Rattle.std.specs.Prelude.{◌≡◌, Some, None};
 ghost use Rattle.npr_tunnel.specs.EncapType.{encap_type, encap_type_of, encap_type_number, encap_type_text};
 
-use npr_base::{EmitError, Emitable, write_bytes};
+use npr_base::{EmitError, Emitable, write_array};
 use std::fmt;
 
 /// The type of an encapsulation: `LWTUNNEL_ENCAP_*` of `linux/lwtunnel.h`. It is written as 2
@@ -93,7 +93,7 @@ impl Emitable for RouteLwEnCapType {
     }
 
     fn emit(&self, out: &mut [u8]) {
-        write_bytes(&u16::from(*self).to_le_bytes(), out);
+        write_array(u16::from(*self).to_le_bytes(), out);
     }
 }
 

@@ -5,7 +5,7 @@ ghost use Rattle.npr_tunnel.specs.ErspanOptions.{Meaning, meaning_of, writing, m
 
 use npr_base::{
     AttrFamily, Attribute, DecodeError, DefaultNla, EmitError, Looks, Nla, NlaBuffer, Parseable,
-    check_len, read_u8, read_u32_be, write_bytes,
+    check_len, read_u8, read_u32_be, write_array, write_bytes,
 };
 use std::alloc::{AllocError, Global};
 use std::fmt;
@@ -86,8 +86,8 @@ impl Nla for RouteErspanOpt {
     fn write_value(&self, out: &mut [u8]) -> usize {
         match self {
             RouteErspanOpt::Ver(x) | RouteErspanOpt::Dir(x) | RouteErspanOpt::Hwid(x) =>
-                write_bytes(&[*x], out),
-            RouteErspanOpt::Index(x) => write_bytes(&x.to_be_bytes(), out),
+                write_array([*x], out),
+            RouteErspanOpt::Index(x) => write_array(x.to_be_bytes(), out),
             RouteErspanOpt::Other(nla) => write_bytes(nla.value(), out),
         }
     }

@@ -10,7 +10,7 @@ use bitflags::Flags;
 use npr_base::{
     AttrFamily, Attribute, DecodeError, DefaultNla, EmitError, Ipv4Addr, Looks, NLA_F_NESTED, Nla,
     NlaBuffer, Parseable, check_len, check_list, clone_list, parse_list, read_ipv4, read_u8,
-    read_u16_be, read_u64_be, write_bytes, write_joined, write_list,
+    read_u16_be, read_u64_be, write_array, write_bytes, write_joined, write_list,
 };
 use std::alloc::{AllocError, Global};
 use std::fmt;
@@ -120,13 +120,13 @@ impl Nla for RouteIpTunnel {
     fn write_value(&self, out: &mut [u8]) -> usize {
         match self {
             RouteIpTunnel::Unspecified => 0,
-            RouteIpTunnel::Id(n) => write_bytes(&n.to_be_bytes(), out),
+            RouteIpTunnel::Id(n) => write_array(n.to_be_bytes(), out),
             RouteIpTunnel::Destination(a) | RouteIpTunnel::Source(a) => write_bytes(
                 &a.octets(),
                 out,
             ),
-            RouteIpTunnel::Ttl(n) | RouteIpTunnel::Tos(n) => write_bytes(&[*n], out),
-            RouteIpTunnel::Flags(flags) => write_bytes(&flags.bits().to_be_bytes(), out),
+            RouteIpTunnel::Ttl(n) | RouteIpTunnel::Tos(n) => write_array([*n], out),
+            RouteIpTunnel::Flags(flags) => write_array(flags.bits().to_be_bytes(), out),
             RouteIpTunnel::Opts(v) => write_list(v.as_slice(), out),
             RouteIpTunnel::Other(nla) => write_bytes(nla.value(), out),
         }

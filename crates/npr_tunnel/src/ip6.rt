@@ -10,7 +10,7 @@ use bitflags::Flags;
 use npr_base::{
     AttrFamily, Attribute, DecodeError, DefaultNla, EmitError, Ipv6Addr, Looks, NLA_F_NESTED, Nla,
     NlaBuffer, Parseable, check_len, check_list, clone_list, parse_list, read_ipv6, read_u8,
-    read_u16_be, read_u64_be, write_bytes, write_joined, write_list,
+    read_u16_be, read_u64_be, write_array, write_bytes, write_joined, write_list,
 };
 use std::alloc::{AllocError, Global};
 use std::fmt;
@@ -120,13 +120,13 @@ impl Nla for RouteIp6Tunnel {
     fn write_value(&self, out: &mut [u8]) -> usize {
         match self {
             RouteIp6Tunnel::Unspecified => 0,
-            RouteIp6Tunnel::Id(n) => write_bytes(&n.to_be_bytes(), out),
+            RouteIp6Tunnel::Id(n) => write_array(n.to_be_bytes(), out),
             RouteIp6Tunnel::Destination(a) | RouteIp6Tunnel::Source(a) => write_bytes(
                 &a.octets(),
                 out,
             ),
-            RouteIp6Tunnel::Hoplimit(n) | RouteIp6Tunnel::Tc(n) => write_bytes(&[*n], out),
-            RouteIp6Tunnel::Flags(flags) => write_bytes(&flags.bits().to_be_bytes(), out),
+            RouteIp6Tunnel::Hoplimit(n) | RouteIp6Tunnel::Tc(n) => write_array([*n], out),
+            RouteIp6Tunnel::Flags(flags) => write_array(flags.bits().to_be_bytes(), out),
             RouteIp6Tunnel::Opts(v) => write_list(v.as_slice(), out),
             RouteIp6Tunnel::Other(nla) => write_bytes(nla.value(), out),
         }

@@ -5,7 +5,7 @@ ghost use Rattle.npr_tunnel.specs.MplsTunnel.{Meaning, meaning_of, writing, memb
 
 use npr_base::{
     AttrFamily, Attribute, DecodeError, DefaultNla, EmitError, Looks, Nla, NlaBuffer, Parseable,
-    check_len, read_u8, write_bytes,
+    check_len, read_u8, write_array, write_bytes,
 };
 use npr_scalar::{MplsLabel, labels_len, read_labels, write_labels};
 use std::alloc::{AllocError, Global};
@@ -80,7 +80,7 @@ impl Nla for RouteMplsIpTunnel {
     fn write_value(&self, out: &mut [u8]) -> usize {
         match self {
             RouteMplsIpTunnel::Destination(x) => write_labels(x.as_slice(), out),
-            RouteMplsIpTunnel::Ttl(x) => write_bytes(&[*x], out),
+            RouteMplsIpTunnel::Ttl(x) => write_array([*x], out),
             RouteMplsIpTunnel::Other(nla) => write_bytes(nla.value(), out),
         }
     }

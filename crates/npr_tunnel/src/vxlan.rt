@@ -5,7 +5,7 @@ ghost use Rattle.npr_tunnel.specs.VxlanOptions.{Meaning, meaning_of, writing, me
 
 use npr_base::{
     AttrFamily, Attribute, DecodeError, DefaultNla, EmitError, Looks, Nla, NlaBuffer, Parseable,
-    check_len, read_u32, write_bytes,
+    check_len, read_u32, write_array, write_bytes,
 };
 use std::alloc::{AllocError, Global};
 use std::fmt;
@@ -72,7 +72,7 @@ impl Nla for RouteVxlanOpt {
 
     fn write_value(&self, out: &mut [u8]) -> usize {
         match self {
-            RouteVxlanOpt::Gbp(x) => write_bytes(&x.to_le_bytes(), out),
+            RouteVxlanOpt::Gbp(x) => write_array(x.to_le_bytes(), out),
             RouteVxlanOpt::Other(nla) => write_bytes(nla.value(), out),
         }
     }

@@ -50,13 +50,6 @@ check_hops-loop-hop-preserved t c =
       sum = c.plus-total.ensures done c.loop-hop.invariant.sum ∙ ap in_usize size;
     }
 
-pub check_inside-returns-in_err-check_hops-in-MultiPath : goal.check_inside-returns-in_err-check_hops-in-MultiPath
-check_inside-returns-in_err-check_hops-in-MultiPath t c =
-    let p = err_from_is_err_and c.from_residual-in_err-check_hops-in-MultiPath.result c.from_residual-in_err-check_hops-in-MultiPath.ensures.1 in
-    let is = sym c.in_err-check_hops-in-MultiPath.was ∙ c.check_hops.ensures in
-    p.1 ∙ ap Err p.2 ∙ rw c.in-MultiPath.is ((rw c.as_slice-in-MultiPath.ensures.value at is) ∙ multi_path-checked c.in-MultiPath.hops)
-
-pub check_inside-returns-in_ok-check_hops-in-MultiPath : goal.check_inside-returns-in_ok-check_hops-in-MultiPath
-check_inside-returns-in_ok-check_hops-in-MultiPath t c =
-    let is = sym c.in_ok-check_hops-in-MultiPath.was ∙ c.check_hops.ensures in
-    rw c.in-MultiPath.is ((rw c.as_slice-in-MultiPath.ensures.value at is) ∙ multi_path-checked c.in-MultiPath.hops)
+pub check_inside-returns-in-MultiPath : goal.check_inside-returns-in-MultiPath
+check_inside-returns-in-MultiPath t c =
+    rw c.in-MultiPath.is ((rw c.as_slice-in-MultiPath.ensures.value at c.check_hops.ensures) ∙ multi_path-checked c.in-MultiPath.hops)

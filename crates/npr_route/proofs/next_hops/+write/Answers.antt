@@ -90,8 +90,8 @@ write_hop-returns-clause-after t c =
     let first : c.to_bytes.result ≡ to_le_bytes w16 (8 + c.write_attributes-len.result) ++ (c.bits.result ∷ head.hops ∷ to_le_bytes w32 head.interface_index) = c.to_bytes.ensures in
     let flags : c.bits.result ≡ head.flags = c.bits.ensures tt in
     let is : c.to_bytes.result ≡ header = first ∙ ap (λ n. to_le_bytes w16 n ++ (c.bits.result ∷ head.hops ∷ to_le_bytes w32 head.interface_index)) len ∙ ap (λ f. to_le_bytes w16 (8 + length text) ++ (f ∷ head.hops ∷ to_le_bytes w32 head.interface_index)) flags in
-    let p = subst (λ w. Writes mid c.write_bytes.new.out w) is c.write_bytes.ensures.after in
-    subst (λ w. Writes out c.write_bytes.new.out w) (sym (next_hop_bytes-is h)) (Writes-before 8 out c.write_attributes-len.new.out c.write_bytes.new.out header text refl room inside p)
+    let p = subst (λ w. Writes mid c.write_array.new.out w) is c.write_array.ensures.after in
+    subst (λ w. Writes out c.write_array.new.out w) (sym (next_hop_bytes-is h)) (Writes-before 8 out c.write_attributes-len.new.out c.write_array.new.out header text refl room inside p)
 
 pub write_hops-write_hop-at-requires : goal.write_hops-write_hop-at-requires
 write_hops-write_hop-at-requires t c =
