@@ -113,6 +113,7 @@ fn put_encapsulation(
 
 /// Puts into a place that holds a blank what an attribute is that holds no next hops: one of another
 /// number, or an empty list of them. Encapsulations are read under the type beside the context.
+#[inline(always)]
 pub(crate) fn read_flat(
     place: &mut RouteAttribute,
     alloc: Global,
@@ -225,6 +226,7 @@ pub(crate) fn read_flat(
 }
 
 /// `read_flat` into a new place behind the attributes of a list.
+#[inline(always)]
 pub(crate) fn push_flat(
     list: &mut Vec<RouteAttribute>,
     alloc: Global,

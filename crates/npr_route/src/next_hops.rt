@@ -201,6 +201,7 @@ pub(crate) fn value_len(attribute: &RouteAttribute) -> usize
 }
 
 /// Writes the value at the front of the slice, leaves the rest, and answers the value's length.
+#[inline(always)]
 #[cycle(write)]
 pub(crate) fn write_value(attribute: &RouteAttribute, out: &mut [u8]) -> usize
     requires fits { misfit (meaning_of attribute.now) ≡ None }
