@@ -1,7 +1,7 @@
 //! Numbers that look random, the same for each seed: SplitMix64 (Steele, Lea and Flood, "Fast
 //! splittable pseudorandom number generators", 2014).
 
-ghost use Rattle.std.specs.Prelude.{◌<◌, ◌≤◌, ◌⊎◌, ◌≡◌};
+ghost use Rattle.std.specs.Prelude.{◌<◌, ◌⊎◌, ◌≡◌};
 
 /// A source of numbers.
 #[derive(Debug, Drop)]

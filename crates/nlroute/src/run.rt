@@ -7,7 +7,6 @@ ghost use Rattle.std.specs.{
 ghost use Rattle.netlink_packet_route.specs.{
   Family.{first_unfit},
   declared.framing.DecodeError.{DecodeError},
-  declared.framing.DecodeError.TheVariants.{OutOfMemory},
   declared.framing.EmitError.{EmitError},
 };
 ghost use Rattle.nlroute.specs.{

@@ -1,6 +1,6 @@
 //! The attributes of an address message: `IFA_*` of `linux/if_addr.h`.
 
-ghost use Rattle.std.specs.Prelude.{◌≡◌, ◌≢◌, ◌≤◌, ◌<◌, ◌+◌, ◌*◌, ℕ, List, Option, None, false, length, IfOk, IfErr};
+ghost use Rattle.std.specs.Prelude.{◌≡◌, ◌≢◌, ◌<◌, ◌+◌, ◌*◌, false, length, IfOk, IfErr};
 ghost use Rattle.std.proofs.Common.{refl};
 ghost use Rattle.npr_base.specs.declared.refusal.DecodeError.TheVariants.{OutOfMemory};
 ghost use Rattle.npr_address.specs.{
@@ -13,7 +13,7 @@ use crate::cache_info::{CacheInfo, CacheInfoBuffer};
 use bitflags::Flags;
 use npr_base::{
     AttrFamily, Attribute, DecodeError, DefaultNla, EmitError, IpAddr, Ipv4Addr, Ipv6Addr, Looks,
-    Nla, NlaBuffer, Parseable, framed_len, ip_len, read_i32, read_ip, read_ipv4, read_ipv6,
+    Nla, NlaBuffer, Parseable, Place, check_len, ip_len, put_ip, read_i32, read_ipv4, read_ipv6,
     read_name, read_u8, read_u32, write_array, write_bytes, write_ip, write_name,
 };
 use std::alloc::{AllocError, Global};
@@ -107,11 +107,7 @@ impl Nla for AddressAttribute {
     }
 
     fn check(&self) -> Result<usize, EmitError> {
-        let len = self.value_len();
-        framed_len(len).ok_or_else(|| EmitError::TooLong {
-            kind: self.kind(),
-            len,
-        })
+        check_len(self.kind(), self.value_len())
     }
 
     fn value_len(&self) -> usize
@@ -151,35 +147,36 @@ impl Nla for AddressAttribute {
     }
 }
 
-/// Puts what the attribute is into a place, whose own value goes.
-fn read_into(
-    place: &mut AddressAttribute,
+/// Puts what the attribute is into a place.
+fn read_into<P: Place<AddressAttribute>>(
+    place: &mut P,
     alloc: Global,
     item: &NlaBuffer<'_>,
 ) -> Result<(), DecodeError>
-    ensures ok { IfOk result (λ _. attributes.Reads item.now (meaning_of place.new)) }
+    requires { P.ready place.old }
+    ensures ok { IfOk result (λ _. (a : _) × P.puts place.old a place.new × attributes.Reads item.now (meaning_of a)) }
     ensures refused { IfErr result (λ e. e ≢ OutOfMemory → attributes.Faulty item.now e) }
 {
     let value = item.value();
     match item.kind() {
-        1 => *place = AddressAttribute::Address(read_ip(value, FAMILY.at(1))?),
-        2 => *place = AddressAttribute::Local(read_ip(value, FAMILY.at(2))?),
-        3 => *place = AddressAttribute::Label(read_name(alloc, value, FAMILY.at(3))?),
-        4 => *place = AddressAttribute::Broadcast(read_ipv4(value, FAMILY.at(4))?),
-        5 => *place = AddressAttribute::Anycast(read_ipv6(value, FAMILY.at(5))?),
-        6 => *place = AddressAttribute::CacheInfo(CacheInfo::parse(value)?),
-        7 => *place = AddressAttribute::Multicast(read_ipv6(value, FAMILY.at(7))?),
-        8 => *place = AddressAttribute::Flags(AddressFlags::from_bits_retain(read_u32(
+        1 => put_ip(place, value, FAMILY.at(1), AddressAttribute::Address)?,
+        2 => put_ip(place, value, FAMILY.at(2), AddressAttribute::Local)?,
+        3 => place.put(AddressAttribute::Label(read_name(alloc, value, FAMILY.at(3))?)),
+        4 => place.put(AddressAttribute::Broadcast(read_ipv4(value, FAMILY.at(4))?)),
+        5 => place.put(AddressAttribute::Anycast(read_ipv6(value, FAMILY.at(5))?)),
+        6 => place.put(AddressAttribute::CacheInfo(CacheInfo::parse(value)?)),
+        7 => place.put(AddressAttribute::Multicast(read_ipv6(value, FAMILY.at(7))?)),
+        8 => place.put(AddressAttribute::Flags(AddressFlags::from_bits_retain(read_u32(
             value,
             FAMILY.at(8),
-        )?)),
-        9 => *place = AddressAttribute::RoutePriority(read_u32(value, FAMILY.at(9))?),
-        10 => *place = AddressAttribute::TargetNetNsId(read_i32(value, FAMILY.at(10))?),
-        11 => *place = AddressAttribute::Protocol(AddressProtocol::from(read_u8(
+        )?))),
+        9 => place.put(AddressAttribute::RoutePriority(read_u32(value, FAMILY.at(9))?)),
+        10 => place.put(AddressAttribute::TargetNetNsId(read_i32(value, FAMILY.at(10))?)),
+        11 => place.put(AddressAttribute::Protocol(AddressProtocol::from(read_u8(
             value,
             FAMILY.at(11),
-        )?)),
-        _ => *place = AddressAttribute::Other(DefaultNla::parse(alloc, item)?),
+        )?))),
+        _ => place.put(AddressAttribute::Other(DefaultNla::parse(alloc, item)?)),
     }
     Ok(())
 }
@@ -205,9 +202,12 @@ impl Attribute for AddressAttribute {
         item: &NlaBuffer<'_>,
         _looks: &mut Looks,
     ) -> Result<Self, DecodeError> {
-        let mut place = AddressAttribute::RoutePriority(0);
+        let mut place = None;
         read_into(&mut place, alloc, item)?;
-        Ok(place)
+        match place {
+            Some(attribute) => Ok(attribute),
+            None => unreachable!(),
+        }
     }
 
     fn read_onto(
@@ -217,10 +217,8 @@ impl Attribute for AddressAttribute {
         item: &NlaBuffer<'_>,
         _looks: &mut Looks,
     ) -> Result<(), DecodeError> {
-        list.push(AddressAttribute::RoutePriority(0))?;
-        let last = list.len() - 1;
-        read_into(&mut list[last], alloc, item)?;
-        Ok(())
+        list.reserve(1)?;
+        read_into(list, alloc, item)
     }
 
     fn try_clone(&self, alloc: Global) -> Result<Self, AllocError> {

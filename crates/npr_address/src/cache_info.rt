@@ -1,10 +1,8 @@
 //! How long an address is preferred and valid: `struct ifa_cacheinfo` of `linux/if_addr.h`.
 
-ghost use Rattle.std.specs.Prelude.{◌≡◌, ◌≤◌, ◌<◌, ℕ, None, length, IfOk, IfErr};
+ghost use Rattle.std.specs.Prelude.{◌≡◌, ◌<◌, None, IfOk, IfErr};
 ghost use Rattle.npr_base.specs.{
   Codec.{leading},
-  Family.{checked},
-  Framing.{Writes},
   Refusal.{no_place},
 };
 ghost use Rattle.npr_address.specs.CacheInfo.{cache_info, cache_info_buffer, buffer_of};

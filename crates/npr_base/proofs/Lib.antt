@@ -2,6 +2,7 @@ pub mod Fronts
 pub mod Writing
 pub mod Checking
 pub mod Lists
+pub mod Places
 pub mod Looking
 pub mod Names
 pub mod Messages

@@ -1,9 +1,9 @@
 -- Lists of attributes of a family.
-use Rattle.std.specs.Prelude.{ℕ, ◌+◌, ◌<◌, ◌^◌, ◌⊎◌, List, [], ◌∷◌, ◌++◌, length, Option, Some, None, Result, Ok, Err, nat_lt, if◌then◌else◌}
+use Rattle.std.specs.Prelude.{Bool, ℕ, ◌+◌, ◌<◌, ◌^◌, ◌⊎◌, List, [], ◌∷◌, ◌++◌, length, Option, Some, None, Result, Ok, Err, nat_lt, if◌then◌else◌}
 use Rattle.npr_base.specs.declared.refusal.DecodeError.{DecodeError}
 use Rattle.npr_base.specs.declared.refusal.EmitError.{EmitError}
 use Rattle.npr_base.specs.declared.refusal.EmitError.TheVariants.{TooLong, Total}
-use Rattle.npr_base.specs.Framing.{Item, Front, Passes, Fault, encoding}
+use Rattle.npr_base.specs.Framing.{Item, Front, Passes, Fault, encoding, framed}
 
 -- what a check answers
 abbrev pub checked : Option EmitError → ℕ → Result ℕ EmitError
@@ -19,9 +19,17 @@ option_or None o = o
 abbrev pub overlong : ℕ → Option EmitError
 overlong n = if nat_lt n (2 ^ 64) then None else Some Total
 
+-- 16 bits hold the length of header and value
+abbrev pub is_short : ℕ → Bool
+is_short len = nat_lt len 65532
+
+-- the length of the encoding, where they do
+abbrev pub short_framed : ℕ → Option ℕ
+short_framed len = if is_short len then Some (framed len) else None
+
 -- a value that is too long for a text
 abbrev pub too_long : ℕ → ℕ → Option EmitError
-too_long kind len = if nat_lt len 65532 then None else if nat_lt len (2 ^ 64) then Some (TooLong kind len) else Some Total
+too_long kind len = if is_short len then None else if nat_lt len (2 ^ 64) then Some (TooLong kind len) else Some Total
 
 -- place by place
 abbrev pub Each : {A B : Type 0} → (A → B → Type 0) → List A → List B → Type 0

@@ -1,13 +1,12 @@
 //! An attribute that is kept as it stands.
 
 ghost use Rattle.std.specs.{
-  Prelude.{◌≡◌, ◌≢◌, ℕ, ◌+◌, false, None, Some, nat_lt, if◌then◌else◌, length, IfOk, IfErr},
+  Prelude.{◌≡◌, ◌+◌, false, None, Some, length, IfOk},
   Cmp.{decided, partial_equiv_from_equiv},
 };
 ghost use Rattle.npr_base.specs.{
-  declared.refusal.DecodeError.TheVariants.{OutOfMemory},
   Framing.{Item, framed},
-  Family.{checked, too_long},
+  Family.{checked, short_framed, too_long},
   ViewEquality.{same_item, item_equality},
   FitLaws.{too_long-short},
 };
@@ -91,7 +90,7 @@ impl<'a> Parseable<&'a NlaBuffer<'a>> for DefaultNla {
 /// value.
 #[inline(always)]
 pub fn framed_len(len: usize) -> Option<usize>
-    ensures { result ≡ if nat_lt len 65532 then Some (framed len) else None }
+    ensures { result ≡ short_framed len }
 {
     if len > 65531 {
         return None;
@@ -103,6 +102,7 @@ pub fn framed_len(len: usize) -> Option<usize>
 ///
 /// # Errors
 /// `TooLong` above 65,531 bytes.
+#[inline(always)]
 pub fn check_len(kind: u16, len: usize) -> Result<usize, EmitError>
     ensures { result ≡ checked (too_long kind len) (framed len) }
 {

@@ -1,7 +1,7 @@
 //! The framing of attributes: four bytes of header, a value, and padding to a multiple of four.
 
 ghost use Rattle.std.specs.{
-  Prelude.{◌≡◌, ◌+◌, ◌%◌, ◌/◌, ◌^◌, ◌≤◌, ◌↔◌, ◌++◌, ◌<◌, [], ◌∷◌, IsTrue, length, take, drop, replicate, List, ℕ, Ok, Err, Some, None},
+  Prelude.{◌≡◌, ◌+◌, ◌%◌, ◌/◌, ◌^◌, ◌≤◌, ◌↔◌, ◌++◌, ◌<◌, [], IsTrue, length, take, drop, replicate, List, ℕ, Ok, Err, Some, None},
   Int.{w16, to_le_bytes},
   Iterator.{at_most},
   Cmp.{decided, partial_equiv_from_equiv},

@@ -1,7 +1,7 @@
 //! The laws of this crate, over its definitions alone. Each function does nothing, and its contract
 //! is the law.
 
-ghost use Rattle.std.specs.Prelude.{◌≡◌, ◌≤◌, ◌+◌, ◌*◌, ◌%◌, ◌++◌, ◌∷◌, ◌↔◌, ℕ, List, [], Result, Err, length};
+ghost use Rattle.std.specs.Prelude.{◌≡◌, ◌≤◌, ◌+◌, ◌*◌, ◌++◌, ◌∷◌, ◌↔◌, ℕ, List, [], Result, Err, length};
 ghost use Rattle.npr_base.specs.{
   declared.refusal.DecodeError.{DecodeError},
   AddressFamily.{family_of, family_number},

@@ -10,6 +10,7 @@ mod ip;
 pub mod laws;
 mod list;
 mod looks;
+mod place;
 mod refusal;
 mod text;
 mod traits;
@@ -29,6 +30,7 @@ pub use list::{
     check_list, clone_list, emit_list, list_len, make_room, parse_list, plus, write_list,
 };
 pub use looks::Looks;
+pub use place::{Place, put_ip};
 pub use refusal::{At, AttrFamily, DecodeError, EmitError, Seg6Fault};
 pub use text::{write_hex, write_joined, write_six_hex_digits};
 pub use traits::{Emitable, Nla, Parseable, ParseableParametrized};

@@ -1,6 +1,6 @@
 //! Lists of attributes, for any family.
 
-ghost use Rattle.std.specs.Prelude.{◌≡◌, ◌≢◌, ◌≤◌, ◌<◌, ℕ, List, [], Option, None, length, map, max, min, ◌++◌, ◌+◌, ◌/◌, IfOk, IfErr, IsErrOf, OnOk, OnErr, vec_capacity};
+ghost use Rattle.std.specs.Prelude.{◌≡◌, ◌≢◌, ◌≤◌, ◌<◌, ℕ, List, [], Option, None, length, map, max, min, ◌+◌, ◌/◌, IfOk, IfErr, IsErrOf, OnOk, OnErr, vec_capacity};
 ghost use Rattle.npr_base.specs.{
   Counts.{AddsAtMost, SawEach},
   Framing.{Item, Front, Writes, written_by},

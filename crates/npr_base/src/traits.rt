@@ -5,7 +5,7 @@ ghost use Rattle.npr_base.specs.{
   declared.refusal.EmitError.{EmitError},
   declared.refusal.DecodeError.{DecodeError},
   declared.refusal.DecodeError.TheVariants.{OutOfMemory},
-  Framing.{Item, Writes, encoding, framed, marked, written},
+  Framing.{Item, Writes, encoding, framed, written},
   Family.{checked},
 };
 
@@ -74,8 +74,9 @@ pub trait Nla: Sized {
         ensures len { result ≡ framed (length (item self.now).value) }
         ensures after { Writes out.old out.new (encoding (written (nested self.now) (item self.now))) }
     {
+        let kind = marked_kind(self.kind(), self.is_nested());
         let len = self.write_value(&mut out[NLA_HEADER_SIZE..]);
-        frame(out, marked_kind(self.kind(), self.is_nested()), len)
+        frame(out, kind, len)
     }
 
     /// Writes header, value and zeros to the next multiple of four at the front of the slice, and

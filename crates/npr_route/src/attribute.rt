@@ -1,6 +1,6 @@
 //! The attributes of a route message: `RTA_*` of `linux/rtnetlink.h`.
 
-ghost use Rattle.std.specs.Prelude.{◌≡◌, ◌≢◌, ◌≤◌, ◌<◌, ◌+◌, ◌*◌, ℕ, List, Option, None, false, length, map, IfOk, IfErr};
+ghost use Rattle.std.specs.Prelude.{◌≡◌, ◌<◌, false, map, IfOk};
 ghost use Rattle.std.proofs.Common.{refl};
 ghost use Rattle.npr_route.specs.{
   Attribute.{Meaning, plain_of, nested_of},
@@ -10,9 +10,10 @@ ghost use Rattle.npr_route.specs.{
 };
 ghost use Rattle.npr_tunnel.specs.Encapsulation.{meaning_of as member_of};
 
+use crate::clone::clone_attribute;
 use crate::flat::{push_flat, read_flat};
 use crate::metrics::RouteMetric;
-use crate::next_hops::{RouteNextHop, check_attribute, clone_attribute, value_len, write_value};
+use crate::next_hops::{RouteNextHop, check_attribute, value_len, write_value};
 use crate::reader::read_next_hops;
 use npr_base::{
     AddressFamily, Attribute, DecodeError, DefaultNla, EmitError, Looks, Nla, NlaBuffer,

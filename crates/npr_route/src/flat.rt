@@ -1,27 +1,30 @@
 //! How the attributes of a route message are read that hold no next hops.
 
-ghost use Rattle.std.specs.Prelude.{◌≡◌, ◌≢◌, ◌≤◌, ◌<◌, ◌+◌, ◌*◌, ℕ, List, Option, None, [], ◌∷◌, ◌++◌, length, IfOk, IfErr, IsOk};
+ghost use Rattle.std.specs.Prelude.{◌≡◌, ◌≢◌, ◌<◌, ◌+◌, [], ◌∷◌, ◌++◌, length, IfOk, IfErr, IsOk};
 ghost use Rattle.npr_base.specs.{
   Counts.{AddsAtMost, SawEach},
   Framing.{number_of},
   Table.{ReadsBy, WrongBy},
   declared.refusal.DecodeError.TheVariants.{OutOfMemory},
 };
-ghost use Rattle.npr_scalar.specs.RouteAddress.{form_of};
+ghost use Rattle.npr_scalar.specs.RouteAddress.{form_of, address_of, route_address};
+ghost use Rattle.npr_scalar.specs.RouteVia.{via_of, via_value};
+ghost use Rattle.npr_scalar.specs.declared.address.RouteAddress.{RouteAddress};
+ghost use Rattle.npr_scalar.specs.declared.via.RouteVia.{RouteVia};
 ghost use Rattle.npr_tunnel.specs.Encapsulation.{encapsulation};
 ghost use Rattle.npr_route.specs.{
   Attribute.{flat, typed},
   AttributeView.{meaning_of},
   declared.attribute.RouteAttribute.{RouteAttribute},
   FlatAttributeLaws.{attributes as flat_attributes},
-  FlatAttribute.{Meaning as Flat, is_multicast, metrics_row, new_destination_row, encap_row, expires_row},
+  FlatAttribute.{Meaning as Flat, at, is_multicast, metrics_row, new_destination_row, encap_row, expires_row},
   AttributeLaws.{writing, attributes},
 };
 
 use crate::attribute::{Context, RTA_ENCAP, RTA_ENCAP_TYPE, RTA_MULTIPATH, RouteAttribute};
 use npr_base::{
     AddressFamily, AttrFamily, DecodeError, DefaultNla, Looks, NlaBuffer, Parseable, parse_list,
-    read_u8, read_u16, read_u16_be, read_u32, read_u32_be, read_u64,
+    read_ipv4, read_ipv6, read_u8, read_u16, read_u16_be, read_u32, read_u32_be, read_u64,
 };
 use npr_scalar::{
     RouteAddress, RouteCacheInfo, RouteMfcStats, RouteMplsTtlPropagation, RoutePreference,
@@ -33,36 +36,6 @@ use std::mem;
 
 const FAMILY: AttrFamily = AttrFamily::Route;
 
-/// Number 19: labels for family mpls, else an address.
-fn read_new_destination(
-    alloc: Global,
-    family: AddressFamily,
-    value: &[u8],
-) -> Result<RouteAttribute, DecodeError>
-    ensures ok { IfOk result (λ a. (m : Flat) × ReadsBy (new_destination_row (form_of family)) value.now m × (meaning_of a ≡ flat m)) }
-    ensures refused { IfErr result (λ e. e ≢ OutOfMemory → WrongBy (new_destination_row (form_of family)) value.now e) }
-{
-    match family {
-        AddressFamily::Mpls => Ok(RouteAttribute::NewDestination(read_labels(alloc, value)?)),
-        _ => {
-            let address = RouteAddress::read(alloc, family, value, FAMILY.at(19))?;
-            Ok(RouteAttribute::NewDestinationAddress(address))
-        }
-    }
-}
-
-/// Number 23: eight bytes of a multicast route, else four.
-fn read_expires(kind: RouteType, value: &[u8]) -> Result<RouteAttribute, DecodeError>
-    ensures ok { IfOk result (λ a. (m : Flat) × ReadsBy (expires_row (is_multicast kind)) value.now m × (meaning_of a ≡ flat m)) }
-    ensures refused { IfErr result (λ e. WrongBy (expires_row (is_multicast kind)) value.now e) }
-{
-    let at = FAMILY.at(23);
-    match kind {
-        RouteType::Multicast => Ok(RouteAttribute::MulticastExpires(read_u64(value, at)?)),
-        _ => Ok(RouteAttribute::Expires(read_u32(value, at)?)),
-    }
-}
-
 /// Puts a value into a place that holds a blank, which has nothing to free.
 fn put(place: &mut RouteAttribute, value: RouteAttribute)
     requires { place.old ≡ RouteAttribute.Uid 0 }
@@ -71,8 +44,38 @@ fn put(place: &mut RouteAttribute, value: RouteAttribute)
     mem::forget(mem::replace(place, value));
 }
 
-/// Puts the metrics of number 8. It and `put_encapsulation` are functions of their own, for what a
-/// function keeps on the stack is cleared at its entry, for each attribute.
+/// Puts the variant that holds an address of this family. Each form is put by itself: where forms
+/// meet in one value, it is moved by pieces that wait for each other.
+#[inline(always)]
+fn put_address<V: FnOnce(RouteAddress) -> RouteAttribute>(
+    place: &mut RouteAttribute,
+    alloc: Global,
+    family: AddressFamily,
+    item: &NlaBuffer<'_>,
+    variant: V,
+) -> Result<(), DecodeError>
+    requires blank { place.old ≡ RouteAttribute.Uid 0 }
+    requires variant { V.IsAlwaysCallable variant }
+    ensures ok { IfOk result (λ _. (address : RouteAddress) × (route_address family).Reads (item.now).value (address_of address) × V.post variant address place.new) }
+    ensures refused { IfErr result (λ e. e ≢ OutOfMemory → (route_address family).Wrong (at (number_of (item.now).kind)) (item.now).value e) }
+{
+    let value = item.value();
+    let at = FAMILY.at(item.kind());
+    if matches!(family, AddressFamily::Inet) {
+        put(place, variant(RouteAddress::Inet(read_ipv4(value, at)?)));
+    } else if matches!(family, AddressFamily::Inet6) {
+        put(place, variant(RouteAddress::Inet6(read_ipv6(value, at)?)));
+    } else {
+        put(
+            place,
+            variant(RouteAddress::read(alloc, family, value, at)?),
+        );
+    }
+    Ok(())
+}
+
+/// Puts the metrics of number 8. It and those below that are never inlined are functions of their
+/// own, for what a function keeps on the stack is cleared at its entry, for each attribute.
 #[inline(never)]
 fn put_metrics(
     place: &mut RouteAttribute,
@@ -111,6 +114,61 @@ fn put_encapsulation(
     Ok(())
 }
 
+/// Puts the gateway of number 18.
+#[inline(never)]
+fn put_via(place: &mut RouteAttribute, alloc: Global, value: &[u8]) -> Result<(), DecodeError>
+    requires { place.old ≡ RouteAttribute.Uid 0 }
+    ensures ok { IfOk result (λ _. (via : RouteVia) × (place.new ≡ RouteAttribute.Via via) × via_value.Reads value.now (via_of via)) }
+    ensures refused { IfErr result (λ e. e ≢ OutOfMemory → via_value.Wrong (at 18) value.now e) }
+{
+    let via = RouteVia::read(alloc, value, FAMILY.at(18))?;
+    put(place, RouteAttribute::Via(via));
+    Ok(())
+}
+
+/// Puts number 19: labels for family mpls, else an address.
+#[inline(never)]
+fn put_new_destination(
+    place: &mut RouteAttribute,
+    alloc: Global,
+    family: AddressFamily,
+    value: &[u8],
+) -> Result<(), DecodeError>
+    requires { place.old ≡ RouteAttribute.Uid 0 }
+    ensures ok { IfOk result (λ _. (m : Flat) × ReadsBy (new_destination_row (form_of family)) value.now m × (meaning_of place.new ≡ flat m)) }
+    ensures refused { IfErr result (λ e. e ≢ OutOfMemory → WrongBy (new_destination_row (form_of family)) value.now e) }
+{
+    match family {
+        AddressFamily::Mpls => {
+            let labels = read_labels(alloc, value)?;
+            put(place, RouteAttribute::NewDestination(labels));
+        }
+        _ => {
+            let address = RouteAddress::read(alloc, family, value, FAMILY.at(19))?;
+            put(place, RouteAttribute::NewDestinationAddress(address));
+        }
+    }
+    Ok(())
+}
+
+/// Puts number 23: eight bytes of a multicast route, else four.
+#[inline(always)]
+fn put_expires(place: &mut RouteAttribute, kind: RouteType, value: &[u8]) -> Result<(), DecodeError>
+    requires { place.old ≡ RouteAttribute.Uid 0 }
+    ensures ok { IfOk result (λ _. (m : Flat) × ReadsBy (expires_row (is_multicast kind)) value.now m × (meaning_of place.new ≡ flat m)) }
+    ensures refused { IfErr result (λ e. WrongBy (expires_row (is_multicast kind)) value.now e) }
+{
+    let at = FAMILY.at(23);
+    match kind {
+        RouteType::Multicast => put(
+            place,
+            RouteAttribute::MulticastExpires(read_u64(value, at)?),
+        ),
+        _ => put(place, RouteAttribute::Expires(read_u32(value, at)?)),
+    }
+    Ok(())
+}
+
 /// Puts into a place that holds a blank what an attribute is that holds no next hops: one of another
 /// number, or an empty list of them. Encapsulations are read under the type beside the context.
 #[inline(always)]
@@ -133,28 +191,16 @@ pub(crate) fn read_flat(
     let (family, kind, _) = context;
     let value = item.value();
     match item.kind() {
-        1 => put(
-            place,
-            RouteAttribute::Destination(RouteAddress::read(alloc, family, value, FAMILY.at(1))?),
-        ),
-        2 => put(
-            place,
-            RouteAttribute::Source(RouteAddress::read(alloc, family, value, FAMILY.at(2))?),
-        ),
+        1 => return put_address(place, alloc, family, item, RouteAttribute::Destination),
+        2 => return put_address(place, alloc, family, item, RouteAttribute::Source),
         3 => put(place, RouteAttribute::Iif(read_u32(value, FAMILY.at(3))?)),
         4 => put(place, RouteAttribute::Oif(read_u32(value, FAMILY.at(4))?)),
-        5 => put(
-            place,
-            RouteAttribute::Gateway(RouteAddress::read(alloc, family, value, FAMILY.at(5))?),
-        ),
+        5 => return put_address(place, alloc, family, item, RouteAttribute::Gateway),
         6 => put(
             place,
             RouteAttribute::Priority(read_u32(value, FAMILY.at(6))?),
         ),
-        7 => put(
-            place,
-            RouteAttribute::PrefSource(RouteAddress::read(alloc, family, value, FAMILY.at(7))?),
-        ),
+        7 => return put_address(place, alloc, family, item, RouteAttribute::PrefSource),
         8 => return put_metrics(place, alloc, value, looks),
         RTA_MULTIPATH => put(place, RouteAttribute::MultiPath(Vec::new(alloc))),
         11 => put(
@@ -174,11 +220,8 @@ pub(crate) fn read_flat(
             place,
             RouteAttribute::MfcStats(RouteMfcStats::parse(value)?),
         ),
-        18 => put(
-            place,
-            RouteAttribute::Via(RouteVia::read(alloc, value, FAMILY.at(18))?),
-        ),
-        19 => put(place, read_new_destination(alloc, family, value)?),
+        18 => return put_via(place, alloc, value),
+        19 => return put_new_destination(place, alloc, family, value),
         20 => put(
             place,
             RouteAttribute::Preference(RoutePreference::from(read_u8(value, FAMILY.at(20))?)),
@@ -191,7 +234,7 @@ pub(crate) fn read_flat(
             )?)),
         ),
         RTA_ENCAP => return put_encapsulation(place, alloc, encap_type, value, looks),
-        23 => put(place, read_expires(kind, value)?),
+        23 => return put_expires(place, kind, value),
         25 => put(place, RouteAttribute::Uid(read_u32(value, FAMILY.at(25))?)),
         26 => put(
             place,

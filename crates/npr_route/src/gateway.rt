@@ -2,7 +2,7 @@
 
 ghost use Rattle.std.specs.Prelude.{◌≡◌, map};
 ghost use Rattle.npr_route.specs.{
-  AttributeView.{meaning_of, hop_of},
+  AttributeView.{meaning_of},
   Gateway.{gateway_ip, first_gateway},
   Message.{message_of},
 };

@@ -1,10 +1,8 @@
 //! The header of a route message: `struct rtmsg` of `linux/rtnetlink.h`.
 
-ghost use Rattle.std.specs.Prelude.{◌≡◌, ◌≤◌, ◌<◌, ℕ, None, length, IfOk, IfErr};
+ghost use Rattle.std.specs.Prelude.{◌≡◌, ◌≤◌, ◌<◌, None, length, IfOk, IfErr};
 ghost use Rattle.npr_base.specs.{
   Codec.{leading},
-  Family.{checked},
-  Framing.{Writes},
   Refusal.{no_place},
 };
 ghost use Rattle.npr_route.specs.Header.{header_buffer, header, buffer_of};

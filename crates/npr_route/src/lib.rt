@@ -2,6 +2,7 @@
 #![tactic(auto)]
 
 mod attribute;
+mod clone;
 mod flat;
 mod gateway;
 mod header;

@@ -1,6 +1,6 @@
 //! The metrics of a route: `RTAX_*` of `linux/rtnetlink.h`.
 
-ghost use Rattle.std.specs.Prelude.{◌≡◌, ◌≢◌, ◌≤◌, ◌<◌, ◌+◌, ◌*◌, ℕ, List, Option, None, false, length, IfOk, IfErr};
+ghost use Rattle.std.specs.Prelude.{◌≡◌, ◌<◌, ◌+◌, ◌*◌, false, length, IfOk};
 ghost use Rattle.std.proofs.Common.{refl};
 ghost use Rattle.npr_route.specs.Metric.{Metric, metric_of, writing, metrics};
 

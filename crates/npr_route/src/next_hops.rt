@@ -1,27 +1,24 @@
 //! Next hops of a route by several paths: `struct rtnexthop` of `linux/rtnetlink.h`. They hold
-//! attributes, which may be next hops again: checking, writing and copying go down in plain
-//! functions.
+//! attributes, which may be next hops again: checking and writing go down in plain functions.
 
-ghost use Rattle.std.specs.Prelude.{◌≡◌, ◌≢◌, ◌≤◌, ◌<◌, ◌+◌, ℕ, List, None, length, map, IfOk, IfErr, IsErrOf, OnErr};
+ghost use Rattle.std.specs.Prelude.{◌≡◌, ◌≤◌, ◌<◌, ◌+◌, None, length, IfOk, OnErr};
 ghost use Rattle.npr_base.specs.{
-  declared.refusal.DecodeError.TheVariants.{OutOfMemory},
-  Codec.{leading},
   Family.{checked, option_or, overlong, first_unfit, list_unfit, encodings},
   Framing.{Writes, encoding, framed},
-  Refusal.{no_place},
 };
 ghost use Rattle.npr_route.specs.{
-  Attribute.{HopHead, HopFront, HopFault, Hop, IsHop, HopWrong, default_hop, plain_of, misfit, unfit_inside, hop_misfit, hop_bytes, hop_overlong},
+  Attribute.{default_hop, plain_of, misfit, unfit_inside, hop_misfit, hop_bytes, hop_overlong},
   AttributeView.{meaning_of, hop_of, attribute_item, attribute_misfit, next_hop_bytes, next_hop_misfit, joined},
-  NextHopHeader.{next_hop_buffer, head_in, IsChecked},
+  NextHopHeader.{next_hop_buffer},
 };
 
 use crate::attribute::RouteAttribute;
+use crate::clone::clone_hop;
 use crate::next_hop_buffer::RouteNextHopBuffer;
 use bitflags::Flags;
 use npr_base::{
-    EmitError, Emitable, Nla, check_list, clone_list, frame, framed_len, marked_kind, plus,
-    write_array, write_bytes, write_list,
+    EmitError, Emitable, Nla, check_len, check_list, frame, marked_kind, plus, write_array,
+    write_bytes, write_list,
 };
 use npr_scalar::{
     RouteCacheInfoBuffer, RouteMfcStatsBuffer, RouteNextHopFlags, labels_len, write_labels,
@@ -133,10 +130,7 @@ pub(crate) fn check_attribute(attribute: &RouteAttribute) -> Result<usize, EmitE
     ensures { result ≡ checked (misfit (meaning_of attribute.now)) (framed (length (plain_of (meaning_of attribute.now)).value)) }
 {
     let len = check_inside(attribute)?;
-    framed_len(len).ok_or_else(|| EmitError::TooLong {
-        kind: attribute.kind(),
-        len,
-    })
+    check_len(attribute.kind(), len)
 }
 
 /// The length of all encodings in bytes, or the first cause why there are none.
@@ -250,12 +244,9 @@ fn write_attribute(attribute: &RouteAttribute, out: &mut [u8]) -> usize
     ensures len { result ≡ framed (length (plain_of (meaning_of attribute.now)).value) }
     ensures after { Writes out.old out.new (encoding (attribute_item attribute.now)) }
 {
+    let kind = marked_kind(attribute.kind(), attribute.is_nested());
     let len = write_value(attribute, &mut out[4..]);
-    frame(
-        out,
-        marked_kind(attribute.kind(), attribute.is_nested()),
-        len,
-    )
+    frame(out, kind, len)
 }
 
 /// Writes the attributes one after the other.
@@ -306,96 +297,4 @@ fn write_hops(hops: &[RouteNextHop], out: &mut [u8]) -> usize
         at += write_hop(hop, &mut out[at..]);
     }
     at
-}
-
-/// An equal attribute.
-///
-/// # Errors
-/// `AllocError` where memory is refused.
-#[cycle(copy)]
-pub(crate) fn clone_attribute(
-    alloc: Global,
-    attribute: &RouteAttribute,
-) -> Result<RouteAttribute, AllocError>
-    ensures { IfOk result (λ a. meaning_of a ≡ meaning_of attribute.now) }
-{
-    Ok(match attribute {
-        RouteAttribute::Destination(x) => RouteAttribute::Destination(x.clone(alloc)?),
-        RouteAttribute::Source(x) => RouteAttribute::Source(x.clone(alloc)?),
-        RouteAttribute::Iif(x) => RouteAttribute::Iif(*x),
-        RouteAttribute::Oif(x) => RouteAttribute::Oif(*x),
-        RouteAttribute::Gateway(x) => RouteAttribute::Gateway(x.clone(alloc)?),
-        RouteAttribute::Priority(x) => RouteAttribute::Priority(*x),
-        RouteAttribute::PrefSource(x) => RouteAttribute::PrefSource(x.clone(alloc)?),
-        RouteAttribute::Metrics(x) => RouteAttribute::Metrics(clone_list(alloc, x.as_slice())?),
-        RouteAttribute::MultiPath(x) => RouteAttribute::MultiPath(clone_hops(alloc, x.as_slice())?),
-        RouteAttribute::Realm(x) => RouteAttribute::Realm(*x),
-        RouteAttribute::CacheInfo(x) => RouteAttribute::CacheInfo(*x),
-        RouteAttribute::Table(x) => RouteAttribute::Table(*x),
-        RouteAttribute::Mark(x) => RouteAttribute::Mark(*x),
-        RouteAttribute::MfcStats(x) => RouteAttribute::MfcStats(*x),
-        RouteAttribute::Via(x) => RouteAttribute::Via(x.clone(alloc)?),
-        RouteAttribute::NewDestination(x) => RouteAttribute::NewDestination(Vec::from_slice(
-            alloc,
-            x.as_slice(),
-        )?),
-        RouteAttribute::NewDestinationAddress(x) => RouteAttribute::NewDestinationAddress(x.clone(
-            alloc,
-        )?),
-        RouteAttribute::Preference(x) => RouteAttribute::Preference(*x),
-        RouteAttribute::EncapType(x) => RouteAttribute::EncapType(*x),
-        RouteAttribute::Encap(x) => RouteAttribute::Encap(clone_list(alloc, x.as_slice())?),
-        RouteAttribute::Expires(x) => RouteAttribute::Expires(*x),
-        RouteAttribute::MulticastExpires(x) => RouteAttribute::MulticastExpires(*x),
-        RouteAttribute::Uid(x) => RouteAttribute::Uid(*x),
-        RouteAttribute::TtlPropagate(x) => RouteAttribute::TtlPropagate(*x),
-        RouteAttribute::IpProto(x) => RouteAttribute::IpProto(*x),
-        RouteAttribute::Sport(x) => RouteAttribute::Sport(*x),
-        RouteAttribute::Dport(x) => RouteAttribute::Dport(*x),
-        RouteAttribute::NhId(x) => RouteAttribute::NhId(*x),
-        RouteAttribute::Flowlabel(x) => RouteAttribute::Flowlabel(*x),
-        RouteAttribute::Other(nla) => RouteAttribute::Other(nla.clone(alloc)?),
-    })
-}
-
-/// Equal attributes, in their order.
-#[cycle(copy)]
-fn clone_attributes(
-    alloc: Global,
-    list: &[RouteAttribute],
-) -> Result<Vec<RouteAttribute>, AllocError>
-    ensures ok { IfOk result (λ v. map meaning_of v.items ≡ map meaning_of list.now) }
-    ensures memory { OnErr result (0 < length list.now) }
-{
-    let mut copies = Vec::new(alloc);
-    for attribute in list {
-        copies.push(clone_attribute(alloc, attribute)?)?;
-    }
-    Ok(copies)
-}
-
-/// An equal next hop.
-#[cycle(copy)]
-fn clone_hop(alloc: Global, hop: &RouteNextHop) -> Result<RouteNextHop, AllocError>
-    ensures ok { IfOk result (λ h. hop_of h ≡ hop_of hop.now) }
-    ensures memory { OnErr result (0 < length hop.now.attributes.items) }
-{
-    Ok(RouteNextHop {
-        flags: hop.flags,
-        hops: hop.hops,
-        interface_index: hop.interface_index,
-        attributes: clone_attributes(alloc, hop.attributes.as_slice())?,
-    })
-}
-
-/// Equal next hops, in their order.
-#[cycle(copy)]
-fn clone_hops(alloc: Global, hops: &[RouteNextHop]) -> Result<Vec<RouteNextHop>, AllocError>
-    ensures { IfOk result (λ v. map hop_of v.items ≡ map hop_of hops.now) }
-{
-    let mut copies = Vec::new(alloc);
-    for hop in hops {
-        copies.push(clone_hop(alloc, hop)?)?;
-    }
-    Ok(copies)
 }

@@ -1,6 +1,6 @@
 //! The attributes of a rule message: `FRA_*` of `linux/fib_rules.h`.
 
-ghost use Rattle.std.specs.Prelude.{◌≡◌, ◌≢◌, ◌≤◌, ◌<◌, ◌+◌, ◌*◌, ℕ, List, Option, None, false, length, IfOk, IfErr};
+ghost use Rattle.std.specs.Prelude.{◌≡◌, ◌≢◌, ◌<◌, ◌+◌, ◌*◌, None, false, length, IfOk, IfErr};
 ghost use Rattle.std.proofs.Common.{refl};
 ghost use Rattle.npr_base.specs.{
   Family.{checked},
@@ -16,8 +16,8 @@ use crate::port_range::RulePortRange;
 use crate::uid_range::RuleUidRange;
 use npr_base::{
     AttrFamily, Attribute, DecodeError, DefaultNla, EmitError, IpAddr, Looks, Nla, NlaBuffer,
-    Parseable, framed_len, ip_len, read_bool, read_ip, read_name, read_u8, read_u32, read_u64_be,
-    write_array, write_bytes, write_ip, write_name,
+    Parseable, Place, check_len, ip_len, put_ip, read_bool, read_name, read_u8, read_u32,
+    read_u64_be, write_array, write_bytes, write_ip, write_name,
 };
 use npr_scalar::{IpProtocol, RouteProtocol, RouteRealm};
 use std::alloc::{AllocError, Global};
@@ -147,13 +147,7 @@ impl Nla for RuleAttribute {
     fn check(&self) -> Result<usize, EmitError> {
         match self {
             RuleAttribute::IpProtocol(protocol) => check_protocol(*protocol),
-            _ => {
-                let len = self.value_len();
-                framed_len(len).ok_or_else(|| EmitError::TooLong {
-                    kind: self.kind(),
-                    len,
-                })
-            }
+            _ => check_len(self.kind(), self.value_len()),
         }
     }
 
@@ -233,40 +227,47 @@ fn protocol_byte(protocol: IpProtocol) -> u8
     }
 }
 
-/// Puts what the attribute is into a place, whose own value goes.
-fn read_into(
-    place: &mut RuleAttribute,
+/// Puts what the attribute is into a place.
+fn read_into<P: Place<RuleAttribute>>(
+    place: &mut P,
     alloc: Global,
     item: &NlaBuffer<'_>,
 ) -> Result<(), DecodeError>
-    ensures ok { IfOk result (λ _. attributes.Reads item.now (meaning_of place.new)) }
+    requires { P.ready place.old }
+    ensures ok { IfOk result (λ _. (a : _) × P.puts place.old a place.new × attributes.Reads item.now (meaning_of a)) }
     ensures refused { IfErr result (λ e. e ≢ OutOfMemory → attributes.Faulty item.now e) }
 {
     let value = item.value();
     match item.kind() {
-        1 => *place = RuleAttribute::Destination(read_ip(value, FAMILY.at(1))?),
-        2 => *place = RuleAttribute::Source(read_ip(value, FAMILY.at(2))?),
-        3 => *place = RuleAttribute::Iifname(read_name(alloc, value, FAMILY.at(3))?),
-        4 => *place = RuleAttribute::Goto(read_u32(value, FAMILY.at(4))?),
-        6 => *place = RuleAttribute::Priority(read_u32(value, FAMILY.at(6))?),
-        10 => *place = RuleAttribute::FwMark(read_u32(value, FAMILY.at(10))?),
-        11 => *place = RuleAttribute::Realm(RouteRealm::from(read_u32(value, FAMILY.at(11))?)),
-        12 => *place = RuleAttribute::TunId(read_u64_be(value, FAMILY.at(12))?),
-        13 => *place = RuleAttribute::SuppressIfGroup(read_u32(value, FAMILY.at(13))?),
-        14 => *place = RuleAttribute::SuppressPrefixLen(read_u32(value, FAMILY.at(14))?),
-        15 => *place = RuleAttribute::Table(read_u32(value, FAMILY.at(15))?),
-        16 => *place = RuleAttribute::FwMask(read_u32(value, FAMILY.at(16))?),
-        17 => *place = RuleAttribute::Oifname(read_name(alloc, value, FAMILY.at(17))?),
-        19 => *place = RuleAttribute::L3MDev(read_bool(value, FAMILY.at(19))?),
-        20 => *place = RuleAttribute::UidRange(RuleUidRange::read(value, FAMILY.at(20))?),
-        21 => *place = RuleAttribute::Protocol(RouteProtocol::from(read_u8(value, FAMILY.at(21))?)),
-        22 => *place = RuleAttribute::IpProtocol(IpProtocol::from(read_u8(value, FAMILY.at(22))?)),
-        23 => *place = RuleAttribute::SourcePortRange(RulePortRange::read(value, FAMILY.at(23))?),
-        24 => *place = RuleAttribute::DestinationPortRange(RulePortRange::read(
+        1 => put_ip(place, value, FAMILY.at(1), RuleAttribute::Destination)?,
+        2 => put_ip(place, value, FAMILY.at(2), RuleAttribute::Source)?,
+        3 => place.put(RuleAttribute::Iifname(read_name(alloc, value, FAMILY.at(3))?)),
+        4 => place.put(RuleAttribute::Goto(read_u32(value, FAMILY.at(4))?)),
+        6 => place.put(RuleAttribute::Priority(read_u32(value, FAMILY.at(6))?)),
+        10 => place.put(RuleAttribute::FwMark(read_u32(value, FAMILY.at(10))?)),
+        11 => place.put(RuleAttribute::Realm(RouteRealm::from(read_u32(value, FAMILY.at(11))?))),
+        12 => place.put(RuleAttribute::TunId(read_u64_be(value, FAMILY.at(12))?)),
+        13 => place.put(RuleAttribute::SuppressIfGroup(read_u32(value, FAMILY.at(13))?)),
+        14 => place.put(RuleAttribute::SuppressPrefixLen(read_u32(value, FAMILY.at(14))?)),
+        15 => place.put(RuleAttribute::Table(read_u32(value, FAMILY.at(15))?)),
+        16 => place.put(RuleAttribute::FwMask(read_u32(value, FAMILY.at(16))?)),
+        17 => place.put(RuleAttribute::Oifname(read_name(alloc, value, FAMILY.at(17))?)),
+        19 => place.put(RuleAttribute::L3MDev(read_bool(value, FAMILY.at(19))?)),
+        20 => place.put(RuleAttribute::UidRange(RuleUidRange::read(value, FAMILY.at(20))?)),
+        21 => place.put(RuleAttribute::Protocol(RouteProtocol::from(read_u8(
+            value,
+            FAMILY.at(21),
+        )?))),
+        22 => place.put(RuleAttribute::IpProtocol(IpProtocol::from(read_u8(
+            value,
+            FAMILY.at(22),
+        )?))),
+        23 => place.put(RuleAttribute::SourcePortRange(RulePortRange::read(value, FAMILY.at(23))?)),
+        24 => place.put(RuleAttribute::DestinationPortRange(RulePortRange::read(
             value,
             FAMILY.at(24),
-        )?),
-        _ => *place = RuleAttribute::Other(DefaultNla::parse(alloc, item)?),
+        )?)),
+        _ => place.put(RuleAttribute::Other(DefaultNla::parse(alloc, item)?)),
     }
     Ok(())
 }
@@ -292,9 +293,12 @@ impl Attribute for RuleAttribute {
         item: &NlaBuffer<'_>,
         _looks: &mut Looks,
     ) -> Result<Self, DecodeError> {
-        let mut place = RuleAttribute::Priority(0);
+        let mut place = None;
         read_into(&mut place, alloc, item)?;
-        Ok(place)
+        match place {
+            Some(attribute) => Ok(attribute),
+            None => unreachable!(),
+        }
     }
 
     fn read_onto(
@@ -304,10 +308,8 @@ impl Attribute for RuleAttribute {
         item: &NlaBuffer<'_>,
         _looks: &mut Looks,
     ) -> Result<(), DecodeError> {
-        list.push(RuleAttribute::Priority(0))?;
-        let last = list.len() - 1;
-        read_into(&mut list[last], alloc, item)?;
-        Ok(())
+        list.reserve(1)?;
+        read_into(list, alloc, item)
     }
 
     fn try_clone(&self, alloc: Global) -> Result<Self, AllocError> {

@@ -1,10 +1,8 @@
 //! The header of a rule message: `struct fib_rule_hdr` of `linux/fib_rules.h`.
 
-ghost use Rattle.std.specs.Prelude.{◌≡◌, ◌≤◌, ◌<◌, ℕ, None, length, IfOk, IfErr};
+ghost use Rattle.std.specs.Prelude.{◌≡◌, ◌≤◌, ◌<◌, None, length, IfOk, IfErr};
 ghost use Rattle.npr_base.specs.{
   Codec.{leading},
-  Family.{checked},
-  Framing.{Writes},
   Refusal.{no_place},
 };
 ghost use Rattle.npr_rule.specs.Header.{header_buffer, header, buffer_of};

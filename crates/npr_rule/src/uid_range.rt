@@ -1,10 +1,8 @@
 //! A range of users: `struct fib_rule_uid_range` of `linux/fib_rules.h`.
 
-ghost use Rattle.std.specs.Prelude.{◌≡◌, ◌≤◌, ◌<◌, ℕ, None, length, IfOk, IfErr};
+ghost use Rattle.std.specs.Prelude.{◌≡◌, ◌<◌, None, IfOk, IfErr};
 ghost use Rattle.npr_base.specs.{
   Codec.{exactly},
-  Family.{checked},
-  Framing.{Writes},
   Refusal.{no_place},
 };
 ghost use Rattle.npr_rule.specs.UidRange.{uid_range};

@@ -1,7 +1,7 @@
 //! IOAM6: traces in packets (RFC 9197; `linux/ioam6.h` and `linux/ioam6_iptunnel.h`).
 
 ghost use Rattle.std.specs.{
-  Prelude.{◌≡◌, ◌≢◌, ℕ, false, length, IfOk, IfErr, IfSome, IfNone, refl, Some},
+  Prelude.{◌≡◌, ◌≢◌, false, length, IfOk, IfErr, IfSome, IfNone, refl, Some},
   Fmt.{WritesOnOk},
 };
 ghost use Rattle.npr_base.specs.declared.refusal.DecodeError.TheVariants.{OutOfMemory};

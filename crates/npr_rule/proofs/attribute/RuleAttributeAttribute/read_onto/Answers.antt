@@ -1,6 +1,6 @@
-use Rattle.std.proofs.Common.{◌≡◌, refl, arith}
+use Rattle.std.proofs.Common.{◌≡◌, ◌∙◌, [], ◌∷◌, ◌++◌, ap, refl, arith}
+use Rattle.std.proofs.lemmas.Result.{IfOk-weaker}
 use Rattle.npr_base.specs.Table.{held_members}
-use Rattle.npr_base.proofs.Lists.{set_pushed}
 use Rattle.npr_rule.specs.Attribute.{Meaning, other, meaning_of, place as place_of}
 use Rattle.npr_rule.proofs.attribute.RuleAttributeAttribute.read_onto.Goals as goal
 
@@ -10,6 +10,9 @@ no_members m = refl
 
 pub returns-clause-ok : goal.returns-clause-ok
 returns-clause-ok c =
-    let place = c.read_into.new.place in
-    let pushed = set_pushed c.args.list.now.items c.push.new.self.items _ place c.len-last.result c.in_ok-push.ensures.items (omega arith) in
-    (place, pushed, c.in_ok-read_into.ensures.ok, record { failed = refl; each = λ h. omega (arith, no_members (meaning_of place)) })
+    IfOk-weaker c.read_into.result _ _ (λ _ h. (
+      h.0,
+      h.1 ∙ ap (λ xs. xs ++ h.0 ∷ []) c.reserve.ensures.items,
+      h.2,
+      record { failed = refl; each = λ _. omega (arith, no_members (meaning_of h.0)) },
+    )) c.read_into.ensures.ok

@@ -1,6 +1,6 @@
 use Rattle.std.proofs.Common.{◌≡◌, map, take}
 use Rattle.npr_route.specs.AttributeView.{meaning_of, hop_of}
-use Rattle.npr_route.proofs.next_hops.+copy.Given as goal
+use Rattle.npr_route.proofs.clone.+copy.Given as goal
 
 abbrev pub invariant-clone_attributes-loop-attribute : goal.invariant-clone_attributes-loop-attribute
 invariant-clone_attributes-loop-attribute l = map meaning_of l.copies.items ≡ map meaning_of (take l.attribute-index l.list)

@@ -4,18 +4,18 @@ use Rattle.npr_scalar.specs.RouteAddress.{address_of}
 use Rattle.npr_route.specs.FlatAttribute as Flat
 use Rattle.npr_route.proofs.Rows.{address_reads, address_wrong}
 use Rattle.npr_route.proofs.Views.{view_new_destination, view_new_destination_address}
-use Rattle.npr_route.proofs.flat.read_new_destination.Goals as goal
+use Rattle.npr_route.proofs.flat.put_new_destination.Goals as goal
 
-pub returns-in_ok-read_labels-in-Mpls-clause-ok : goal.returns-in_ok-read_labels-in-Mpls-clause-ok
-returns-in_ok-read_labels-in-Mpls-clause-ok c =
-    let v = c.in_ok-read_labels-in-Mpls.field-0 in
-    rw c.in-Mpls.is (Flat.new_destination v.items, (v.items, c.in_ok-read_labels-in-Mpls.ensures.ok, refl), view_new_destination v)
+pub returns-in_ok-labels-in-Mpls-clause-ok : goal.returns-in_ok-labels-in-Mpls-clause-ok
+returns-in_ok-labels-in-Mpls-clause-ok c =
+    let v = c.in_ok-labels-in-Mpls.labels in
+    rw (c.put.ensures, c.in-Mpls.is) (Flat.new_destination v.items, (v.items, c.in_ok-labels-in-Mpls.ensures.ok, refl), view_new_destination v)
 
 pub returns-in_ok-address-in_default : goal.returns-in_ok-address-in_default
 returns-in_ok-address-in_default c =
     let a = c.in_ok-address-in_default.address in
     record {
-      ok = (Flat.new_destination_address (address_of a), address_reads c.args.family c.in_default.not-Mpls c.args.value.now (address_of a) c.in_ok-address-in_default.ensures.ok, view_new_destination_address a);
+      ok = rw c.put-in_default.ensures (Flat.new_destination_address (address_of a), address_reads c.args.family c.in_default.not-Mpls c.args.value.now (address_of a) c.in_ok-address-in_default.ensures.ok, view_new_destination_address a);
       refused = tt;
     }
 

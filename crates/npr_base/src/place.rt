@@ -1,0 +1,71 @@
+//! Places that values are put into, as they are read.
+
+ghost use Rattle.std.specs.Prelude.{◌≡◌, ◌<◌, [], ◌∷◌, ◌++◌, Some, IfOk, IfErr, vec_len, vec_capacity};
+ghost use Rattle.npr_base.specs.IpCodec.{ip};
+
+use crate::ip::IpAddr;
+use crate::refusal::{At, DecodeError};
+use crate::values::{read_ipv4, read_ipv6};
+
+/// A place that takes a value. Variants that are put into it one by one don't meet before in a value
+/// of their type, which would be moved by pieces that wait for each other.
+pub trait Place<A> {
+    /// Whether it takes one.
+    ghost ready: { Self → Type 0 };
+
+    /// What it is with the value in it.
+    ghost puts: { Self → A → Self → Type 0 };
+
+    /// Puts the value into it.
+    fn put(&mut self, value: A)
+        requires { ready self.old }
+        ensures { puts self.old value self.new };
+}
+
+/// A list takes it behind its last, where there is room.
+impl<A> Place<A> for Vec<A> {
+    ghost ready = { λ list. vec_len list < vec_capacity list };
+
+    ghost puts = { λ list value new. new.items ≡ list.items ++ value ∷ [] };
+
+    #[inline(always)]
+    fn put(&mut self, value: A) {
+        self.push_reserved(value);
+    }
+}
+
+/// An option takes it in the place of its own.
+impl<A: Drop> Place<A> for Option<A> {
+    ghost ready = { λ _. Unit {0} };
+
+    ghost puts = { λ _ value new. new ≡ Some value };
+
+    #[inline(always)]
+    fn put(&mut self, value: A) {
+        *self = Some(value);
+    }
+}
+
+/// Puts the variant that holds an address, of version 4 in 4 bytes or of version 6 in 16.
+///
+/// # Errors
+/// `ValueLength` at another length.
+#[inline(always)]
+pub fn put_ip<A, P: Place<A>, V: FnOnce(IpAddr) -> A>(
+    place: &mut P,
+    value: &[u8],
+    at: At,
+    variant: V,
+) -> Result<(), DecodeError>
+    requires ready { P.ready place.old }
+    requires variant { V.IsAlwaysCallable variant }
+    ensures ok { IfOk result (λ _. (address : _) × (a : _) × ip.Reads value.now address × V.post variant address a × P.puts place.old a place.new) }
+    ensures refused { IfErr result (λ e. ip.Wrong at value.now e) }
+{
+    if value.len() == 4 {
+        place.put(variant(IpAddr::V4(read_ipv4(value, at)?)));
+    } else {
+        place.put(variant(IpAddr::V6(read_ipv6(value, at)?)));
+    }
+    Ok(())
+}
