@@ -1,6 +1,5 @@
 //! One step over attributes that stand one after the other.
 
-ghost use ;
 ghost use Rattle.npr_c.specs.Steps.{StepsAt};
 
 use crate::answer::refusal_number;
