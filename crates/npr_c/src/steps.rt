@@ -1,5 +1,6 @@
 //! One step over attributes that stand one after the other.
 
+ghost use Rattle.std.specs.Prelude.{◌≡◌};
 ghost use Rattle.npr_c.specs.Steps.{StepsAt};
 
 use crate::answer::refusal_number;
