@@ -2,7 +2,6 @@ pub mod Fronts
 pub mod Writing
 pub mod Checking
 pub mod Lists
-pub mod Places
 pub mod Looking
 pub mod Names
 pub mod Messages
