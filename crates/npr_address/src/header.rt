@@ -143,6 +143,7 @@ impl Emitable for AddressHeader {
         8
     }
 
+    #[inline(never)]
     fn emit(&self, out: &mut [u8]) {
         write_array(AddressMessageBuffer::from(self).to_bytes(), out);
     }

@@ -245,6 +245,18 @@ pub fn write_bytes(bytes: &[u8], out: &mut [u8]) -> usize
     bytes.len()
 }
 
+/// Stores an array in a place of its length, which the compiler then has not to ask for.
+#[inline(always)]
+fn store<const N: usize>(bytes: [u8; N], place: &mut [u8])
+    requires { length place.old ≡ N }
+    ensures { place.new ≡ bytes.entry }
+{
+    match place.first_chunk_mut::<N>() {
+        Some(array) => *array = bytes,
+        None => unreachable!(),
+    }
+}
+
 /// Writes an array to the front of the slice, leaves the rest, and answers its length. An array of
 /// known length goes from registers, without a place on the stack that `write_bytes` takes it from.
 #[inline(always)]
@@ -253,13 +265,8 @@ pub fn write_array<const N: usize>(bytes: [u8; N], out: &mut [u8]) -> usize
     ensures len { result ≡ N }
     ensures after { Writes out.old out.new bytes.entry }
 {
-    match out.first_chunk_mut::<N>() {
-        Some(front) => {
-            *front = bytes;
-            N
-        }
-        None => unreachable!(),
-    }
+    store(bytes, &mut out[..N]);
+    N
 }
 
 /// Writes so many zeros. They are three at most, and cost less one by one than a call to fill them.
@@ -286,9 +293,8 @@ fn write_header(size: u16, kind: u16, out: &mut [u8])
     requires { 4 ≤ length out.old }
     ensures { Writes out.old out.new (to_le_bytes w16 size ++ to_le_bytes w16 kind) }
 {
-    let [a, b] = size.to_le_bytes();
-    let [c, d] = kind.to_le_bytes();
-    write_array([a, b, c, d], out);
+    write_array(size.to_le_bytes(), out);
+    write_array(kind.to_le_bytes(), &mut out[2..]);
 }
 
 /// Writes the header in front of a value that stands already, and zeros after it to the next

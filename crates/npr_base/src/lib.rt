@@ -36,7 +36,7 @@ pub use text::{write_hex, write_joined, write_six_hex_digits};
 pub use traits::{Emitable, Nla, Parseable, ParseableParametrized};
 pub use v6_list::{emit_v6_list, read_v6_list, v6_list_len, write_v6_list};
 pub use values::{
-    ip_len, leading_octets, read_bool, read_bytes, read_i32, read_ip, read_ipv4, read_ipv6,
-    read_name, read_octets, read_u8, read_u16, read_u16_be, read_u32, read_u32_be, read_u64,
-    read_u64_be, write_ip, write_name,
+    borrow_octets, ip_len, leading_octets, read_bool, read_bytes, read_i32, read_ip, read_ipv4,
+    read_ipv6, read_name, read_octets, read_u8, read_u16, read_u16_be, read_u32, read_u32_be,
+    read_u64, read_u64_be, write_ip, write_name,
 };

@@ -1,6 +1,6 @@
 //! Lists of attributes, for any family.
 
-ghost use Rattle.std.specs.Prelude.{◌≡◌, ◌≢◌, ◌≤◌, ◌<◌, ℕ, List, [], Option, None, length, map, max, min, ◌+◌, ◌/◌, IfOk, IfErr, IsErrOf, OnOk, OnErr, vec_capacity};
+ghost use Rattle.std.specs.Prelude.{◌≡◌, ◌≢◌, ◌≤◌, ◌<◌, ℕ, List, [], Option, None, length, map, min, ◌+◌, ◌/◌, IfOk, IfErr, IsErrOf, OnOk, OnErr, vec_capacity};
 ghost use Rattle.npr_base.specs.{
   Counts.{AddsAtMost, SawEach},
   Framing.{Item, Front, Writes, written_by},
@@ -42,23 +42,26 @@ pub fn parse_list<A: Attribute>(
     read_all(alloc, context, bytes, looks)
 }
 
-/// Before the first item of a list of so many bytes: room for just as many as the bytes hold of those
-/// of 8 bytes, and for 16 at most, so that a list of a real message takes memory once.
+/// Before the first item of a list of so many bytes, where the list has no memory: room for just as
+/// many as the bytes hold of those of 8 bytes, and for 16 at most, so that a list of a real message
+/// takes memory once.
 ///
 /// # Errors
 /// `AllocError` where memory is refused.
+#[inline(always)]
 pub fn make_room<A: Drop>(found: &mut Vec<A>, len: usize) -> Result<(), AllocError>
     ensures items { found.new.items ≡ found.old.items }
-    // There is just this room,
-    ensures room { OnOk result (found.old.items ≡ [] → vec_capacity found.new ≡ max (vec_capacity found.old) (min (len / 8) 16)) }
-    // and memory is wanted only where there was none.
-    ensures memory { OnErr result ((found.old.items ≡ []) × (vec_capacity found.old < min (len / 8) 16)) }
+    // There is just this room where there was none,
+    ensures room { OnOk result (vec_capacity found.old ≡ 0 → vec_capacity found.new ≡ min (len / 8) 16) }
+    // room that was there stays as it is,
+    ensures kept { vec_capacity found.old ≢ 0 → (result ≡ Ok tt) × (vec_capacity found.new ≡ vec_capacity found.old) }
+    // and memory is wanted only where there was none and some is needed.
+    ensures memory { OnErr result ((vec_capacity found.old ≡ 0) × (0 < min (len / 8) 16)) }
 {
-    if found.is_empty() {
-        found.reserve_exact((len / 8).min(16))
-    } else {
-        Ok(())
+    if found.capacity() != 0 {
+        return Ok(());
     }
+    found.reserve_exact((len / 8).min(16))
 }
 
 fn read_all<A: Attribute>(

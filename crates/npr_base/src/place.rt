@@ -3,9 +3,9 @@
 ghost use Rattle.std.specs.Prelude.{◌≡◌, ◌<◌, [], ◌∷◌, ◌++◌, Some, IfOk, IfErr, vec_len, vec_capacity};
 ghost use Rattle.npr_base.specs.IpCodec.{ip};
 
-use crate::ip::IpAddr;
+use crate::ip::{IpAddr, Ipv6Addr};
 use crate::refusal::{At, DecodeError};
-use crate::values::{read_ipv4, read_ipv6};
+use crate::values::{borrow_octets, read_ipv4};
 
 /// A place that takes a value. Variants that are put into it one by one don't meet before in a value
 /// of their type, which would be moved by pieces that wait for each other.
@@ -65,7 +65,8 @@ pub fn put_ip<A, P: Place<A>, V: FnOnce(IpAddr) -> A>(
     if value.len() == 4 {
         place.put(variant(IpAddr::V4(read_ipv4(value, at)?)));
     } else {
-        place.put(variant(IpAddr::V6(read_ipv6(value, at)?)));
+        let octets = borrow_octets(value, at)?;
+        place.put(variant(IpAddr::V6(Ipv6Addr::from(*octets))));
     }
     Ok(())
 }

@@ -22,12 +22,14 @@ use crate::refusal::{At, DecodeError};
 use std::alloc::{AllocError, Global};
 use std::str::from_utf8;
 
-/// So many bytes, as they stand.
+/// So many bytes, where they stand. They go from there to where they are wanted at once: beside a
+/// refusal in a `Result`, an array is moved by pieces that wait for each other.
 ///
 /// # Errors
 /// `ValueLength` at another length.
-pub fn read_octets<const N: usize>(value: &[u8], at: At) -> Result<[u8; N], DecodeError>
-    ensures ok { IfOk result (λ x. (exactly (octets N)).Reads value.now x) }
+#[inline(always)]
+pub fn borrow_octets<const N: usize>(value: &[u8], at: At) -> Result<&[u8; N], DecodeError>
+    ensures ok { IfOk result (λ x. (exactly (octets N)).Reads value.now x.now) }
     ensures refused { IfErr result (λ e. (exactly (octets N)).Wrong at value.now e) }
 {
     if value.len() != N {
@@ -36,9 +38,21 @@ pub fn read_octets<const N: usize>(value: &[u8], at: At) -> Result<[u8; N], Deco
             got: value.len(),
         });
     }
-    let mut bytes = [0u8; N];
-    bytes.copy_from_slice(value);
-    Ok(bytes)
+    match value.first_chunk::<N>() {
+        Some(bytes) => Ok(bytes),
+        None => unreachable!(),
+    }
+}
+
+/// So many bytes, as they stand.
+///
+/// # Errors
+/// `ValueLength` at another length.
+pub fn read_octets<const N: usize>(value: &[u8], at: At) -> Result<[u8; N], DecodeError>
+    ensures ok { IfOk result (λ x. (exactly (octets N)).Reads value.now x) }
+    ensures refused { IfErr result (λ e. (exactly (octets N)).Wrong at value.now e) }
+{
+    Ok(*borrow_octets(value, at)?)
 }
 
 /// So many bytes in front; those behind them are not looked at.

@@ -23,8 +23,9 @@ ghost use Rattle.npr_route.specs.{
 
 use crate::attribute::{Context, RTA_ENCAP, RTA_ENCAP_TYPE, RTA_MULTIPATH, RouteAttribute};
 use npr_base::{
-    AddressFamily, AttrFamily, DecodeError, DefaultNla, Looks, NlaBuffer, Parseable, parse_list,
-    read_ipv4, read_ipv6, read_u8, read_u16, read_u16_be, read_u32, read_u32_be, read_u64,
+    AddressFamily, AttrFamily, DecodeError, DefaultNla, Ipv6Addr, Looks, NlaBuffer, Parseable,
+    borrow_octets, parse_list, read_ipv4, read_u8, read_u16, read_u16_be, read_u32, read_u32_be,
+    read_u64,
 };
 use npr_scalar::{
     RouteAddress, RouteCacheInfo, RouteMfcStats, RouteMplsTtlPropagation, RoutePreference,
@@ -64,7 +65,8 @@ fn put_address<V: FnOnce(RouteAddress) -> RouteAttribute>(
     if matches!(family, AddressFamily::Inet) {
         put(place, variant(RouteAddress::Inet(read_ipv4(value, at)?)));
     } else if matches!(family, AddressFamily::Inet6) {
-        put(place, variant(RouteAddress::Inet6(read_ipv6(value, at)?)));
+        let octets = borrow_octets(value, at)?;
+        put(place, variant(RouteAddress::Inet6(Ipv6Addr::from(*octets))));
     } else {
         put(
             place,

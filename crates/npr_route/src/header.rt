@@ -176,6 +176,7 @@ impl Emitable for RouteHeader {
         12
     }
 
+    #[inline(never)]
     fn emit(&self, out: &mut [u8]) {
         write_array(RouteMessageBuffer::from(self).to_bytes(), out);
     }

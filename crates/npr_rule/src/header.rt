@@ -165,6 +165,7 @@ impl Emitable for RuleHeader {
         12
     }
 
+    #[inline(never)]
     fn emit(&self, out: &mut [u8]) {
         write_array(RuleMessageBuffer::from(self).to_bytes(), out);
     }
