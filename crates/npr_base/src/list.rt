@@ -99,12 +99,12 @@ pub fn plus(total: Option<usize>, len: usize) -> Option<usize>
 fn check_items<A: Nla>(list: &[A]) -> Result<usize, EmitError>
     ensures { result ≡ checked (list_unfit A.unfit (written_by A.nested A.item) list.now) (length (encodings (written_by A.nested A.item) list.now)) }
 {
-    let mut total = Some(0usize);
+    // Wide enough for the sum of any list.
+    let mut total = 0u128;
     for x in list {
-        let len = x.check()?;
-        total = plus(total, len);
+        total += x.check()? as u128;
     }
-    total.ok_or(EmitError::Total)
+    usize::try_from(total).map_err(|_| EmitError::Total)
 }
 
 fn items_len<A: Nla>(list: &[A]) -> usize
