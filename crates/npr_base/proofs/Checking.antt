@@ -1,23 +1,10 @@
 -- A list of what is written, member by member.
-use Rattle.std.proofs.Common.{◌≡◌, ℕ, ◌+◌, ◌^◌, ◌<◌, ◌≤◌, Option, Some, None, List, [], ◌∷◌, ◌++◌, length, map, get_or, Ok, take, drop, refl, sym, ap, ◌∙◌, append_assoc, arith, inl, inr, length-append}
-use Rattle.std.proofs.lemmas.Bool.{cases_lt, lt-ltb, le-ltb}
+use Rattle.std.proofs.Common.{◌≡◌, ℕ, ◌+◌, ◌<◌, ◌≤◌, Option, Some, None, List, [], ◌∷◌, ◌++◌, length, map, get_or, Ok, take, drop, refl, sym, ap, ◌∙◌, append_assoc, arith, length-append}
 use Rattle.npr_base.specs.Framing.{Item, encoding}
 use Rattle.std.proofs.lemmas.List.{append-nil, take_more, drop_more, take-append-drop}
 use Rattle.npr_base.specs.declared.refusal.EmitError.{EmitError}
 use Rattle.npr_base.specs.ListLaws.{none_both}
-use Rattle.npr_base.specs.Family.{encodings, in_usize, first_unfit, option_or, checked, overlong, list_unfit}
-
-pub in_usize-past : (n m : ℕ) → in_usize n ≡ None → in_usize (n + m) ≡ None
-in_usize-past n m e = elim (cases_lt n (2 ^ 64)) [
-  | inl lt ↦ absurd (let h : in_usize n ≡ Some n = rw (lt-ltb n (2 ^ 64) lt) refl in cc)
-  | inr le ↦ rw (le-ltb (n + m) (2 ^ 64) (omega arith)) refl
-]
-
-pub in_usize-is : (n t : ℕ) → Some t ≡ in_usize n → (t ≡ n) × (n < 2 ^ 64)
-in_usize-is n t e = elim (cases_lt n (2 ^ 64)) [
-  | inl lt ↦ (let h : in_usize n ≡ Some n = rw (lt-ltb n (2 ^ 64) lt) refl in let k : Some t ≡ Some n = e ∙ h in cc, lt)
-  | inr le ↦ absurd (let h : in_usize n ≡ None = rw (le-ltb n (2 ^ 64) le) refl in cc)
-]
+use Rattle.npr_base.specs.Family.{encodings, first_unfit, option_or, checked, overlong, list_unfit}
 
 pub none_first : {A : Type 0} (o p : Option A) → option_or o p ≡ None → o ≡ None
 none_first o p h = (none_both o p h).0

@@ -73,10 +73,6 @@ first_unfit unfit (x ∷ xs) = option_or (unfit x) (first_unfit unfit xs)
 abbrev pub list_unfit : {A : Type 0} → (A → Option EmitError) → (A → Item) → List A → Option EmitError
 list_unfit unfit item xs = option_or (first_unfit unfit xs) (overlong (length (encodings item xs)))
 
--- a length, where a usize holds it
-abbrev pub in_usize : ℕ → Option ℕ
-in_usize n = if nat_lt n (2 ^ 64) then Some n else None
-
 -- the members of a list, and those inside them
 abbrev pub list_members : {A : Type 0} → (A → ℕ) → List A → ℕ
 list_members members [] = 0

@@ -278,13 +278,13 @@ fn write_zeros(count: usize, out: &mut [u8])
     match count {
         0 => {}
         1 => {
-            write_bytes(&[0], out);
+            write_array([0], out);
         }
         2 => {
-            write_bytes(&[0, 0], out);
+            write_array([0, 0], out);
         }
         _ => {
-            write_bytes(&[0, 0, 0], out);
+            write_array([0, 0, 0], out);
         }
     }
 }

@@ -5,7 +5,7 @@ ghost use Rattle.npr_base.specs.{
   Counts.{AddsAtMost, SawEach},
   Framing.{Item, Front, Writes, written_by},
   Walk.{Walked},
-  Family.{ReadsList, FirstFault, checked, list_unfit, list_members, encodings, in_usize},
+  Family.{ReadsList, FirstFault, checked, list_unfit, list_members, encodings, overlong},
   declared.refusal.DecodeError.TheVariants.{OutOfMemory},
 };
 
@@ -86,25 +86,26 @@ fn read_all<A: Attribute>(
     Ok(found)
 }
 
-/// The sum of a length and those before it, where a `usize` holds it.
-pub fn plus(total: Option<usize>, len: usize) -> Option<usize>
-    ensures { (n : ℕ) → total ≡ in_usize n → result ≡ in_usize (n + len) }
+/// The length of a list, from the sum of its members' lengths. They are summed in 128 bits, which no
+/// list fills, so that nothing is asked for each.
+///
+/// # Errors
+/// `Total` where no `usize` holds it.
+#[inline(always)]
+pub fn total_len(sum: u128) -> Result<usize, EmitError>
+    ensures { result ≡ checked (overlong sum) sum }
 {
-    match total {
-        Some(t) => t.checked_add(len),
-        None => None,
-    }
+    usize::try_from(sum).map_err(|_| EmitError::Total)
 }
 
 fn check_items<A: Nla>(list: &[A]) -> Result<usize, EmitError>
     ensures { result ≡ checked (list_unfit A.unfit (written_by A.nested A.item) list.now) (length (encodings (written_by A.nested A.item) list.now)) }
 {
-    // Wide enough for the sum of any list.
     let mut total = 0u128;
     for x in list {
         total += x.check()? as u128;
     }
-    usize::try_from(total).map_err(|_| EmitError::Total)
+    total_len(total)
 }
 
 fn items_len<A: Nla>(list: &[A]) -> usize

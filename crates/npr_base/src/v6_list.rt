@@ -12,7 +12,7 @@ ghost use Rattle.npr_base.specs.{
   V6List.{IsV6List},
 };
 
-use crate::framing::write_bytes;
+use crate::framing::write_array;
 use crate::ip::Ipv6Addr;
 use crate::refusal::DecodeError;
 use std::alloc::Global;
@@ -60,7 +60,7 @@ fn write_each(addresses: &[Ipv6Addr], out: &mut [u8]) -> usize
 {
     let mut at = 0usize;
     for address in addresses {
-        at += write_bytes(&address.octets(), &mut out[at..]);
+        at += write_array(address.octets(), &mut out[at..]);
     }
     at
 }

@@ -17,7 +17,7 @@ use crate::clone::clone_hop;
 use crate::next_hop_buffer::RouteNextHopBuffer;
 use bitflags::Flags;
 use npr_base::{
-    EmitError, Emitable, Nla, check_len, check_list, frame, marked_kind, plus, write_array,
+    EmitError, Emitable, Nla, check_len, check_list, frame, marked_kind, total_len, write_array,
     write_bytes, write_list,
 };
 use npr_scalar::{
@@ -138,12 +138,11 @@ pub(crate) fn check_attribute(attribute: &RouteAttribute) -> Result<usize, EmitE
 fn check_attributes(list: &[RouteAttribute]) -> Result<usize, EmitError>
     ensures { result ≡ checked (list_unfit attribute_misfit attribute_item list.now) (length (encodings attribute_item list.now)) }
 {
-    let mut total = Some(0usize);
+    let mut total = 0u128;
     for attribute in list {
-        let len = check_attribute(attribute)?;
-        total = plus(total, len);
+        total += check_attribute(attribute)? as u128;
     }
-    total.ok_or(EmitError::Total)
+    total_len(total)
 }
 
 /// The length of a next hop with so many bytes of attributes.
@@ -175,12 +174,11 @@ fn check_hop(hop: &RouteNextHop) -> Result<usize, EmitError>
 fn check_hops(hops: &[RouteNextHop]) -> Result<usize, EmitError>
     ensures { result ≡ checked (option_or (first_unfit next_hop_misfit hops.now) (overlong (length (joined next_hop_bytes hops.now)))) (length (joined next_hop_bytes hops.now)) }
 {
-    let mut total = Some(0usize);
+    let mut total = 0u128;
     for hop in hops {
-        let len = check_hop(hop)?;
-        total = plus(total, len);
+        total += check_hop(hop)? as u128;
     }
-    total.ok_or(EmitError::Total)
+    total_len(total)
 }
 
 /// The length of the value, in bytes. Asks that `check_attribute` accepts.

@@ -12,7 +12,7 @@ ghost use Rattle.npr_scalar.specs.{
   MplsLaws.{mpls_label, mpls_labels},
 };
 
-use npr_base::{At, DecodeError, EmitError, Emitable, read_u32_be, write_array, write_bytes};
+use npr_base::{At, DecodeError, EmitError, Emitable, read_u32_be, write_array};
 use std::alloc::Global;
 
 /// One entry of a label stack.
@@ -123,7 +123,7 @@ pub fn write_labels(labels: &[MplsLabel], out: &mut [u8]) -> usize
 {
     let mut at = 0usize;
     for entry in labels {
-        at += write_bytes(&u32::from(*entry).to_be_bytes(), &mut out[at..]);
+        at += write_array(u32::from(*entry).to_be_bytes(), &mut out[at..]);
     }
     at
 }

@@ -147,7 +147,7 @@ impl Nla for Ioam6TraceHdr {
     }
 
     fn write_value(&self, out: &mut [u8]) -> usize {
-        write_bytes(&self.to_bytes(), out)
+        write_array(self.to_bytes(), out)
     }
 }
 
@@ -264,13 +264,13 @@ impl Nla for RouteIoam6Tunnel {
         match self {
             RouteIoam6Tunnel::Unspecified => 0,
             RouteIoam6Tunnel::Mode(mode) => write_array([u8::from(*mode)], out),
-            RouteIoam6Tunnel::Dst(address) | RouteIoam6Tunnel::Src(address) => write_bytes(
-                &address.octets(),
+            RouteIoam6Tunnel::Dst(address) | RouteIoam6Tunnel::Src(address) => write_array(
+                address.octets(),
                 out,
             ),
             RouteIoam6Tunnel::Trace(trace) => trace.write_value(out),
-            RouteIoam6Tunnel::FreqK(n) | RouteIoam6Tunnel::FreqN(n) => write_bytes(
-                &n.to_le_bytes(),
+            RouteIoam6Tunnel::FreqK(n) | RouteIoam6Tunnel::FreqN(n) => write_array(
+                n.to_le_bytes(),
                 out,
             ),
             RouteIoam6Tunnel::Other(nla) => write_bytes(nla.value(), out),

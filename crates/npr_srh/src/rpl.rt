@@ -12,7 +12,7 @@ ghost use Rattle.npr_srh.specs.{
 use crate::segments::{Segments, check_header, has_header};
 use npr_base::{
     AttrFamily, Attribute, DecodeError, DefaultNla, EmitError, Ipv6Addr, Looks, Nla, NlaBuffer,
-    Parseable, check_len, read_v6_list, v6_list_len, write_bytes, write_v6_list,
+    Parseable, check_len, read_v6_list, v6_list_len, write_array, write_bytes, write_v6_list,
 };
 use std::alloc::{AllocError, Global};
 use std::fmt;
@@ -150,7 +150,7 @@ impl Nla for RplSrh {
     }
 
     fn write_value(&self, out: &mut [u8]) -> usize {
-        let front = write_bytes(&self.front(), out);
+        let front = write_array(self.front(), out);
         front + write_v6_list(self.segments.as_slice(), &mut out[front..])
     }
 }

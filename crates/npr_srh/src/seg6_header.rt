@@ -19,7 +19,7 @@ use crate::seg6_mode::Seg6Mode;
 use crate::segments::check_header;
 use npr_base::{
     DecodeError, EmitError, Ipv6Addr, Nla, Seg6Fault, leading_octets, read_v6_list, v6_list_len,
-    write_bytes,
+    write_array,
 };
 use std::alloc::{AllocError, Global};
 
@@ -248,7 +248,7 @@ fn write_reversed(segments: &[Ipv6Addr], out: &mut [u8]) -> usize
     let count = segments.len();
     let mut at = 0usize;
     for i in 0..count {
-        at += write_bytes(&segments[count - 1 - i].octets(), &mut out[at..]);
+        at += write_array(segments[count - 1 - i].octets(), &mut out[at..]);
     }
     at
 }
@@ -271,7 +271,7 @@ fn write_key(key: Option<u32>, out: &mut [u8]) -> usize
             hmac[5] = b;
             hmac[6] = c;
             hmac[7] = d;
-            write_bytes(&hmac, out)
+            write_array(hmac, out)
         }
     }
 }
@@ -309,7 +309,7 @@ impl Nla for Seg6Header {
     }
 
     fn write_value(&self, out: &mut [u8]) -> usize {
-        let front = write_bytes(&self.front().to_bytes(), out);
+        let front = write_array(self.front().to_bytes(), out);
         let end = front + write_reversed(self.segments.as_slice(), &mut out[front..]);
         end + write_key(self.hmac, &mut out[end..])
     }

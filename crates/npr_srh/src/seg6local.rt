@@ -120,8 +120,8 @@ impl Nla for RouteSeg6LocalTunnel {
     fn write_value(&self, out: &mut [u8]) -> usize {
         match self {
             RouteSeg6LocalTunnel::Unspecified => 0,
-            RouteSeg6LocalTunnel::Action(action) => write_bytes(
-                &u32::from(*action).to_le_bytes(),
+            RouteSeg6LocalTunnel::Action(action) => write_array(
+                u32::from(*action).to_le_bytes(),
                 out,
             ),
             RouteSeg6LocalTunnel::Srh(header) => header.write_value(out),

@@ -11,7 +11,7 @@ ghost use Rattle.npr_srh.specs.{
 use crate::segments::{check_header, has_header};
 use npr_base::{
     AttrFamily, DecodeError, EmitError, Ipv6Addr, Nla, NlaBuffer, Parseable, read_v6_list,
-    v6_list_len, write_bytes, write_v6_list,
+    v6_list_len, write_array, write_v6_list,
 };
 use std::alloc::{AllocError, Global};
 
@@ -142,7 +142,7 @@ impl Nla for Seg6LocalSrh {
     }
 
     fn write_value(&self, out: &mut [u8]) -> usize {
-        let front = write_bytes(&self.front(), out);
+        let front = write_array(self.front(), out);
         front + write_v6_list(self.segments.as_slice(), &mut out[front..])
     }
 }

@@ -15,8 +15,8 @@ ghost use Rattle.npr_tunnel.specs.{
 };
 
 use npr_base::{
-    AttrFamily, DecodeError, EmitError, Looks, Nla, NlaBuffer, NlasIterator, check_len, plus,
-    read_bytes, read_u8, read_u16_be, write_bytes, write_hex,
+    AttrFamily, DecodeError, EmitError, Looks, Nla, NlaBuffer, NlasIterator, check_len, read_bytes,
+    read_u8, read_u16_be, total_len, write_array, write_bytes, write_hex,
 };
 use std::alloc::{AllocError, Global};
 use std::fmt;
@@ -248,8 +248,8 @@ fn write_option(option: &RouteGeneveOpt, out: &mut [u8]) -> usize
     let [high, low] = option.class.to_be_bytes();
     let class = [6, 0, 1, 0, high, low, 0, 0];
     let typ = [5, 0, 2, 0, option.typ, 0, 0, 0];
-    write_bytes(&class, out);
-    write_bytes(&typ, &mut out[8..]);
+    write_array(class, out);
+    write_array(typ, &mut out[8..]);
     16 + Data(option.opt_data.as_slice()).write(&mut out[16..])
 }
 
@@ -257,12 +257,11 @@ fn write_option(option: &RouteGeneveOpt, out: &mut [u8]) -> usize
 pub(crate) fn check_options(options: &[RouteGeneveOpt]) -> Result<usize, EmitError>
     ensures { result ≡ checked (options_unfit (map option_of options.now)) (length (option_bytes (map option_of options.now))) }
 {
-    let mut total = Some(0usize);
+    let mut total = 0u128;
     for option in options {
-        let len = check_option(option)?;
-        total = plus(total, len);
+        total += check_option(option)? as u128;
     }
-    total.ok_or(EmitError::Total)
+    total_len(total)
 }
 
 /// Writes the encodings one after the other at the front of the slice, leaves the rest, and

@@ -121,8 +121,8 @@ impl Nla for RouteIpTunnel {
         match self {
             RouteIpTunnel::Unspecified => 0,
             RouteIpTunnel::Id(n) => write_array(n.to_be_bytes(), out),
-            RouteIpTunnel::Destination(a) | RouteIpTunnel::Source(a) => write_bytes(
-                &a.octets(),
+            RouteIpTunnel::Destination(a) | RouteIpTunnel::Source(a) => write_array(
+                a.octets(),
                 out,
             ),
             RouteIpTunnel::Ttl(n) | RouteIpTunnel::Tos(n) => write_array([*n], out),

@@ -121,8 +121,8 @@ impl Nla for RouteIp6Tunnel {
         match self {
             RouteIp6Tunnel::Unspecified => 0,
             RouteIp6Tunnel::Id(n) => write_array(n.to_be_bytes(), out),
-            RouteIp6Tunnel::Destination(a) | RouteIp6Tunnel::Source(a) => write_bytes(
-                &a.octets(),
+            RouteIp6Tunnel::Destination(a) | RouteIp6Tunnel::Source(a) => write_array(
+                a.octets(),
                 out,
             ),
             RouteIp6Tunnel::Hoplimit(n) | RouteIp6Tunnel::Tc(n) => write_array([*n], out),

@@ -5,7 +5,7 @@ ghost use Rattle.npr_tunnel.specs.XfrmTunnel.{Meaning, meaning_of, writing, memb
 
 use npr_base::{
     AttrFamily, Attribute, DecodeError, DefaultNla, EmitError, Looks, Nla, NlaBuffer, Parseable,
-    check_len, read_u32, write_bytes,
+    check_len, read_u32, write_array, write_bytes,
 };
 use std::alloc::{AllocError, Global};
 use std::fmt;
@@ -83,8 +83,8 @@ impl Nla for RouteXfrmTunnel {
     fn write_value(&self, out: &mut [u8]) -> usize {
         match self {
             RouteXfrmTunnel::Unspecified => 0,
-            RouteXfrmTunnel::IfId(x) | RouteXfrmTunnel::Link(x) => write_bytes(
-                &x.to_le_bytes(),
+            RouteXfrmTunnel::IfId(x) | RouteXfrmTunnel::Link(x) => write_array(
+                x.to_le_bytes(),
                 out,
             ),
             RouteXfrmTunnel::Other(nla) => write_bytes(nla.value(), out),

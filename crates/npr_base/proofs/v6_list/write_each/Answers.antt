@@ -6,8 +6,8 @@ use Rattle.npr_base.proofs.V6Lists.{concat-room}
 use Rattle.npr_base.proofs.Writing.{Writes-more}
 use Rattle.npr_base.proofs.v6_list.write_each.Goals as goal
 
-pub write_bytes-at-requires : goal.write_bytes-at-requires
-write_bytes-at-requires c =
+pub write_array-at-requires : goal.write_array-at-requires
+write_array-at-requires c =
     let x = c.address-item.result in
     let i = c.loop-address.address-index in
     let all = c.args.addresses.now in
@@ -35,7 +35,7 @@ loop-address-preserved c =
     let span : length (concat (take (i + 1) all)) ≡ 16 * i + 16 = omega (arith, ap length next, length-append (concat (take i all)) c.octets.result, past.len, past.place, size) in
     let room = concat-room all i (length c.args.out.now) c.requires lt span in
     record {
-      place = omega (arith, past.place, c.write_bytes-at.ensures.len, size);
-      len = omega (arith, past.len, c.write_bytes-at.ensures.len, ap length next, length-append (concat (take i all)) c.octets.result);
-      after = rw next (Writes-more c.args.out.now c.loop-address.out c.write_bytes-at.new.out (concat (take i all)) c.octets.result c.loop-address.at past.len (omega (arith, past.place, past.len, room)) past.after c.write_bytes-at.ensures.after);
+      place = omega (arith, past.place, c.write_array-at.ensures.len, size);
+      len = omega (arith, past.len, c.write_array-at.ensures.len, ap length next, length-append (concat (take i all)) c.octets.result);
+      after = rw next (Writes-more c.args.out.now c.loop-address.out c.write_array-at.new.out (concat (take i all)) c.octets.result c.loop-address.at past.len (omega (arith, past.place, past.len, room)) past.after c.write_array-at.ensures.after);
     }

@@ -12,8 +12,8 @@ use Rattle.npr_scalar.proofs.mpls.write_labels.Goals as goal
 abbrev none : MplsLabel
 none = record { label = 0; traffic_class = 0; bottom_of_stack = false; ttl = 0 }
 
-pub write_bytes-at-requires : goal.write_bytes-at-requires
-write_bytes-at-requires c =
+pub write_array-at-requires : goal.write_array-at-requires
+write_array-at-requires c =
     let i = c.loop-entry.entry-index in
     let all = c.args.labels.now in
     let out = c.loop-entry.out in
@@ -35,8 +35,8 @@ loop-entry-preserved c =
     let next = block_bytes-next mpls_label all i none c.loop-entry-test.true in
     let is : c.to_be_bytes.result ≡ x = c.to_be_bytes.ensures ∙ ap (to_be_bytes w32) c.from.ensures in
     let below : length done ≤ length c.args.out.now = omega (arith, block_bytes-below mpls_label all i, c.requires) in
-    let written = subst (λ (w : List ℕ). Writes (take (length c.loop-entry.out - c.loop-entry.at) (drop c.loop-entry.at c.loop-entry.out)) c.write_bytes-at.new.out w) is c.write_bytes-at.ensures.after in
+    let written = subst (λ (w : List ℕ). Writes (take (length c.loop-entry.out - c.loop-entry.at) (drop c.loop-entry.at c.loop-entry.out)) c.write_array-at.new.out w) is c.write_array-at.ensures.after in
     record {
-      len = omega (arith, ap length next, length-append done x, past.len, c.write_bytes-at.ensures.len, ap length is);
-      after = rw next (Writes-more c.args.out.now c.loop-entry.out c.write_bytes-at.new.out done x c.loop-entry.at past.len below past.after written);
+      len = omega (arith, ap length next, length-append done x, past.len, c.write_array-at.ensures.len, ap length is);
+      after = rw next (Writes-more c.args.out.now c.loop-entry.out c.write_array-at.new.out done x c.loop-entry.at past.len below past.after written);
     }
