@@ -17,7 +17,7 @@ ghost use Rattle.netlink_packet_route.specs.{
 
 use crate::fault::Fault;
 use netlink_packet_route::family::{
-    check_len, read_bytes, read_name, read_u32, write_array, write_bytes, write_name,
+    read_bytes, read_name, read_u32, write_array, write_bytes, write_name,
 };
 use netlink_packet_route::framing::{
     AttrFamily, Attribute, DecodeError, DefaultNla, EmitError, Looks, Nla, NlaBuffer, Parseable,
@@ -89,7 +89,7 @@ impl Nla for LinkAttribute {
     }
 
     fn check(&self) -> Result<usize, EmitError> {
-        check_len(self.kind(), self.value_len())
+        self.check_len(self.value_len())
     }
 
     fn value_len(&self) -> usize

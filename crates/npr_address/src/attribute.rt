@@ -13,8 +13,8 @@ use crate::cache_info::{CacheInfo, CacheInfoBuffer};
 use bitflags::Flags;
 use npr_base::{
     AttrFamily, Attribute, DecodeError, DefaultNla, EmitError, IpAddr, Ipv4Addr, Ipv6Addr, Looks,
-    Nla, NlaBuffer, Parseable, Place, check_len, ip_len, put_ip, read_i32, read_ipv4, read_ipv6,
-    read_name, read_u8, read_u32, write_array, write_bytes, write_ip, write_name,
+    Nla, NlaBuffer, Parseable, Place, ip_len, put_ip, read_i32, read_ipv4, read_ipv6, read_name,
+    read_u8, read_u32, write_array, write_bytes, write_ip, write_name,
 };
 use std::alloc::{AllocError, Global};
 
@@ -107,7 +107,7 @@ impl Nla for AddressAttribute {
     }
 
     fn check(&self) -> Result<usize, EmitError> {
-        check_len(self.kind(), self.value_len())
+        self.check_len(self.value_len())
     }
 
     fn value_len(&self) -> usize

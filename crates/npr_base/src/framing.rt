@@ -163,9 +163,6 @@ impl<'a> NlasIterator<'a> {
     fn step(&mut self) -> Option<Result<NlaBuffer<'a>, DecodeError>>
         ensures { Step self.old result self.new }
     {
-        if self.rest.is_empty() {
-            return None;
-        }
         match NlaBuffer::new_checked(self.rest) {
             Ok(found) => {
                 let whole = (found.length() as usize).next_multiple_of(NLA_ALIGNTO);
@@ -173,6 +170,7 @@ impl<'a> NlasIterator<'a> {
                 self.rest = &self.rest[end..];
                 Some(Ok(found))
             }
+            Err(_) if self.rest.is_empty() => None,
             Err(e) => {
                 self.rest = &[];
                 Some(Err(e))

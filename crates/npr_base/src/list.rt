@@ -133,7 +133,6 @@ fn write_items<A: Nla>(list: &[A], out: &mut [u8]) -> usize
 
 /// The length of the encodings in bytes, or the first cause why there are none: the first member
 /// that can't be written, or `Total`.
-#[inline(never)]
 pub fn check_list<A: Attribute>(list: &[A]) -> Result<usize, EmitError>
     ensures { result ≡ checked (list_unfit A.writing.misfit A.writing.writes (map A.meaning list.now)) (length (encodings A.writing.writes (map A.meaning list.now))) }
 {
@@ -149,7 +148,6 @@ pub fn list_len<A: Attribute>(list: &[A]) -> usize
 }
 
 /// `emit_list`, with the length of what is written.
-#[inline(never)]
 pub fn write_list<A: Attribute>(list: &[A], out: &mut [u8]) -> usize
     requires fits { list_unfit A.writing.misfit A.writing.writes (map A.meaning list.now) ≡ None }
     requires room { length (encodings A.writing.writes (map A.meaning list.now)) ≤ length out.old }

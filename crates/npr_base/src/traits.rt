@@ -6,9 +6,10 @@ ghost use Rattle.npr_base.specs.{
   declared.refusal.DecodeError.{DecodeError},
   declared.refusal.DecodeError.TheVariants.{OutOfMemory},
   Framing.{Item, Writes, encoding, framed, written},
-  Family.{checked},
+  Family.{checked, too_long},
 };
 
+use crate::default_nla::framed_len;
 use crate::framing::{NLA_HEADER_SIZE, frame, marked_kind};
 use crate::refusal::{DecodeError, EmitError};
 use std::alloc::Global;
@@ -65,6 +66,23 @@ pub trait Nla: Sized {
         ensures { result ≡ framed (length (item self.now).value) }
     {
         (self.value_len() + NLA_HEADER_SIZE).next_multiple_of(4)
+    }
+
+    /// The length of the whole encoding, of a value of this length. The kind is asked for in the
+    /// refusal alone: it costs a jump.
+    ///
+    /// # Errors
+    /// `TooLong` above 65,531 bytes.
+    fn check_len(&self, len: usize) -> Result<usize, EmitError>
+        ensures { result ≡ checked (too_long (item self.now).kind len) (framed len) }
+    {
+        match framed_len(len) {
+            Some(whole) => Ok(whole),
+            None => Err(EmitError::TooLong {
+                kind: self.kind(),
+                len,
+            }),
+        }
     }
 
     /// `emit`, with the length of the encoding.

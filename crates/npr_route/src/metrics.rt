@@ -6,7 +6,7 @@ ghost use Rattle.npr_route.specs.Metric.{Metric, metric_of, writing, metrics};
 
 use npr_base::{
     AttrFamily, Attribute, DecodeError, DefaultNla, EmitError, Looks, Nla, NlaBuffer, Parseable,
-    check_len, read_name, read_u32, write_array, write_bytes, write_name,
+    read_name, read_u32, write_array, write_bytes, write_name,
 };
 use std::alloc::{AllocError, Global};
 
@@ -123,7 +123,7 @@ impl Nla for RouteMetric {
     }
 
     fn check(&self) -> Result<usize, EmitError> {
-        check_len(self.kind(), self.value_len())
+        self.check_len(self.value_len())
     }
 
     fn value_len(&self) -> usize

@@ -17,8 +17,8 @@ use crate::clone::clone_hop;
 use crate::next_hop_buffer::RouteNextHopBuffer;
 use bitflags::Flags;
 use npr_base::{
-    EmitError, Emitable, Nla, check_len, check_list, frame, marked_kind, total_len, write_array,
-    write_bytes, write_list,
+    EmitError, Emitable, Nla, check_list, frame, marked_kind, total_len, write_array, write_bytes,
+    write_list,
 };
 use npr_scalar::{
     RouteCacheInfoBuffer, RouteMfcStatsBuffer, RouteNextHopFlags, labels_len, write_labels,
@@ -130,7 +130,7 @@ pub(crate) fn check_attribute(attribute: &RouteAttribute) -> Result<usize, EmitE
     ensures { result ≡ checked (misfit (meaning_of attribute.now)) (framed (length (plain_of (meaning_of attribute.now)).value)) }
 {
     let len = check_inside(attribute)?;
-    check_len(attribute.kind(), len)
+    attribute.check_len(len)
 }
 
 /// The length of all encodings in bytes, or the first cause why there are none.

@@ -16,8 +16,8 @@ use crate::port_range::RulePortRange;
 use crate::uid_range::RuleUidRange;
 use npr_base::{
     AttrFamily, Attribute, DecodeError, DefaultNla, EmitError, IpAddr, Looks, Nla, NlaBuffer,
-    Parseable, Place, check_len, ip_len, put_ip, read_bool, read_name, read_u8, read_u32,
-    read_u64_be, write_array, write_bytes, write_ip, write_name,
+    Parseable, Place, ip_len, put_ip, read_bool, read_name, read_u8, read_u32, read_u64_be,
+    write_array, write_bytes, write_ip, write_name,
 };
 use npr_scalar::{IpProtocol, RouteProtocol, RouteRealm};
 use std::alloc::{AllocError, Global};
@@ -147,7 +147,7 @@ impl Nla for RuleAttribute {
     fn check(&self) -> Result<usize, EmitError> {
         match self {
             RuleAttribute::IpProtocol(protocol) => check_protocol(*protocol),
-            _ => check_len(self.kind(), self.value_len()),
+            _ => self.check_len(self.value_len()),
         }
     }
 

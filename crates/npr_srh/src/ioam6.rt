@@ -242,7 +242,7 @@ impl Nla for RouteIoam6Tunnel {
     }
 
     fn check(&self) -> Result<usize, EmitError> {
-        check_len(self.kind(), self.value_len())
+        self.check_len(self.value_len())
     }
 
     fn value_len(&self) -> usize

@@ -12,7 +12,7 @@ ghost use Rattle.npr_srh.specs.{
 use crate::segments::{Segments, check_header, has_header};
 use npr_base::{
     AttrFamily, Attribute, DecodeError, DefaultNla, EmitError, Ipv6Addr, Looks, Nla, NlaBuffer,
-    Parseable, check_len, read_v6_list, v6_list_len, write_array, write_bytes, write_v6_list,
+    Parseable, read_v6_list, v6_list_len, write_array, write_bytes, write_v6_list,
 };
 use std::alloc::{AllocError, Global};
 use std::fmt;
@@ -226,7 +226,7 @@ impl Nla for RouteRplIpTunnel {
     fn check(&self) -> Result<usize, EmitError> {
         match self {
             RouteRplIpTunnel::Srh(header) => header.check(),
-            _ => check_len(self.kind(), self.value_len()),
+            _ => self.check_len(self.value_len()),
         }
     }
 

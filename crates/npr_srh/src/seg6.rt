@@ -6,7 +6,7 @@ ghost use Rattle.npr_srh.specs.Seg6Tunnel.{Meaning, meaning_of, writing, members
 use crate::seg6_header::Seg6Header;
 use npr_base::{
     AttrFamily, Attribute, DecodeError, DefaultNla, EmitError, Ipv6Addr, Looks, Nla, NlaBuffer,
-    Parseable, check_len, read_ipv6, read_u32, write_array, write_bytes,
+    Parseable, read_ipv6, read_u32, write_array, write_bytes,
 };
 use std::alloc::{AllocError, Global};
 
@@ -68,7 +68,7 @@ impl Nla for RouteSeg6IpTunnel {
     fn check(&self) -> Result<usize, EmitError> {
         match self {
             RouteSeg6IpTunnel::Seg6(header) => header.check(),
-            _ => check_len(self.kind(), self.value_len()),
+            _ => self.check_len(self.value_len()),
         }
     }
 

@@ -8,7 +8,7 @@ use crate::seg6local_srh::Seg6LocalSrh;
 use crate::segments::Segments;
 use npr_base::{
     AttrFamily, Attribute, DecodeError, DefaultNla, EmitError, Ipv4Addr, Ipv6Addr, Looks, Nla,
-    NlaBuffer, Parseable, check_len, read_ipv4, read_ipv6, read_u32, write_array, write_bytes,
+    NlaBuffer, Parseable, read_ipv4, read_ipv6, read_u32, write_array, write_bytes,
 };
 use std::alloc::{AllocError, Global};
 use std::fmt;
@@ -96,7 +96,7 @@ impl Nla for RouteSeg6LocalTunnel {
     fn check(&self) -> Result<usize, EmitError> {
         match self {
             RouteSeg6LocalTunnel::Srh(header) => header.check(),
-            _ => check_len(self.kind(), self.value_len()),
+            _ => self.check_len(self.value_len()),
         }
     }
 

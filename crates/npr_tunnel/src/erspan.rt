@@ -5,7 +5,7 @@ ghost use Rattle.npr_tunnel.specs.ErspanOptions.{Meaning, meaning_of, writing, m
 
 use npr_base::{
     AttrFamily, Attribute, DecodeError, DefaultNla, EmitError, Looks, Nla, NlaBuffer, Parseable,
-    check_len, read_u8, read_u32_be, write_array, write_bytes,
+    read_u8, read_u32_be, write_array, write_bytes,
 };
 use std::alloc::{AllocError, Global};
 use std::fmt;
@@ -70,7 +70,7 @@ impl Nla for RouteErspanOpt {
     }
 
     fn check(&self) -> Result<usize, EmitError> {
-        check_len(self.kind(), self.value_len())
+        self.check_len(self.value_len())
     }
 
     fn value_len(&self) -> usize

@@ -9,8 +9,8 @@ use crate::tunnel_opts::RouteLwTunnelOpt;
 use bitflags::Flags;
 use npr_base::{
     AttrFamily, Attribute, DecodeError, DefaultNla, EmitError, Ipv4Addr, Looks, NLA_F_NESTED, Nla,
-    NlaBuffer, Parseable, check_len, check_list, clone_list, parse_list, read_ipv4, read_u8,
-    read_u16_be, read_u64_be, write_array, write_bytes, write_joined, write_list,
+    NlaBuffer, Parseable, check_list, clone_list, parse_list, read_ipv4, read_u8, read_u16_be,
+    read_u64_be, write_array, write_bytes, write_joined, write_list,
 };
 use std::alloc::{AllocError, Global};
 use std::fmt;
@@ -107,7 +107,7 @@ impl Nla for RouteIpTunnel {
     }
 
     fn check(&self) -> Result<usize, EmitError> {
-        check_len(self.kind(), self.len()?)
+        self.check_len(self.len()?)
     }
 
     fn value_len(&self) -> usize {

@@ -5,7 +5,7 @@ ghost use Rattle.npr_tunnel.specs.MplsTunnel.{Meaning, meaning_of, writing, memb
 
 use npr_base::{
     AttrFamily, Attribute, DecodeError, DefaultNla, EmitError, Looks, Nla, NlaBuffer, Parseable,
-    check_len, read_u8, write_array, write_bytes,
+    read_u8, write_array, write_bytes,
 };
 use npr_scalar::{MplsLabel, labels_len, read_labels, write_labels};
 use std::alloc::{AllocError, Global};
@@ -64,7 +64,7 @@ impl Nla for RouteMplsIpTunnel {
     }
 
     fn check(&self) -> Result<usize, EmitError> {
-        check_len(self.kind(), self.value_len())
+        self.check_len(self.value_len())
     }
 
     fn value_len(&self) -> usize

@@ -9,7 +9,7 @@ use crate::geneve::{RouteGeneveOpt, check_options, clone_options, read_options, 
 use crate::vxlan::RouteVxlanOpt;
 use npr_base::{
     Attribute, DecodeError, DefaultNla, EmitError, Looks, NLA_F_NESTED, Nla, NlaBuffer, Parseable,
-    check_len, check_list, clone_list, parse_list, write_bytes, write_joined, write_list,
+    check_list, clone_list, parse_list, write_bytes, write_joined, write_list,
 };
 use std::alloc::{AllocError, Global};
 use std::fmt;
@@ -85,7 +85,7 @@ impl Nla for RouteLwTunnelOpt {
     }
 
     fn check(&self) -> Result<usize, EmitError> {
-        check_len(self.kind(), self.len()?)
+        self.check_len(self.len()?)
     }
 
     fn value_len(&self) -> usize {

@@ -5,7 +5,7 @@ ghost use Rattle.npr_tunnel.specs.XfrmTunnel.{Meaning, meaning_of, writing, memb
 
 use npr_base::{
     AttrFamily, Attribute, DecodeError, DefaultNla, EmitError, Looks, Nla, NlaBuffer, Parseable,
-    check_len, read_u32, write_array, write_bytes,
+    read_u32, write_array, write_bytes,
 };
 use std::alloc::{AllocError, Global};
 use std::fmt;
@@ -67,7 +67,7 @@ impl Nla for RouteXfrmTunnel {
     }
 
     fn check(&self) -> Result<usize, EmitError> {
-        check_len(self.kind(), self.value_len())
+        self.check_len(self.value_len())
     }
 
     fn value_len(&self) -> usize
