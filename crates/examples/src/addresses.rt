@@ -12,8 +12,7 @@ ghost use Rattle.examples.specs.{
 ghost use Rattle.netlink_packet_route.specs.{
   AddressAttribute.{meaning_of},
   AddressFlags.{header_flags_bits},
-  AddressMessage.{Address, IsAddressMessage, AddressFault, address_bytes, address_misfit, message_of},
-  declared.address.AddressMessage.{AddressMessage},
+  AddressMessage.{Address, AddressMessage, IsAddressMessage, AddressFault, address_bytes, address_misfit, message_of},
   declared.framing.DecodeError.{DecodeError},
   declared.framing.DecodeError.TheVariants.{OutOfMemory},
   declared.framing.EmitError.{EmitError},
@@ -94,7 +93,7 @@ pub fn loopback(alloc: Global) -> Result<AddressMessage, AllocError>
 ///
 /// # Errors
 /// `Refused(OutOfMemory)` where memory is refused.
-#[tactic(auto, unfolding(netlink_packet_route::specs::AddressMessage::address_bytes, netlink_packet_route::specs::AddressMessage::address_misfit))]
+#[tactic(auto, unfolding(netlink_packet_route::specs::Messages::spelling, netlink_packet_route::specs::Messages::message_misfit))]
 pub fn loopback_bytes(alloc: Global) -> Result<Vec<u8>, Fault>
     ensures ok { IfOk result (λ out. out.items ≡ address_bytes loopback) }
     ensures written { IfOk result (λ out. out.items ≡ loopback_written) }

@@ -149,20 +149,6 @@ impl Attribute for LinkAttribute {
     }
 }
 
-impl<'a> Parseable<&'a NlaBuffer<'a>> for LinkAttribute {
-    ghost parses = { λ input a. attributes.Reads input.now (meaning_of a) };
-
-    ghost misparses = { λ input e. attributes.Faulty input.now e };
-
-    /// What the attribute is in a link message: `read`, with looks that nobody counts.
-    ///
-    /// # Errors
-    /// `OutOfMemory` where memory is refused, and else what is wrong with the value.
-    fn parse(alloc: Global, input: &'a NlaBuffer<'a>) -> Result<Self, DecodeError> {
-        LinkAttribute::read(alloc, (), input, &mut Looks::new())
-    }
-}
-
 /// The first MTU among the attributes of a link that the bytes are.
 ///
 /// # Errors

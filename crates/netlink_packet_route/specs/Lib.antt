@@ -17,7 +17,7 @@ pub use Rattle.npr_base.specs.ViewEquality
 pub use Rattle.npr_base.specs.Layout
 pub use Rattle.npr_base.specs.ListCodec
 pub use Rattle.npr_base.specs.ListLaws
-pub use Rattle.npr_base.specs.Message as Messages
+pub mod Messages
 pub use Rattle.npr_base.specs.Name
 pub use Rattle.npr_base.specs.Refusal
 pub use Rattle.npr_base.specs.Rows
@@ -78,7 +78,6 @@ pub use Rattle.npr_address.specs.Attribute as AddressAttribute
 pub use Rattle.npr_address.specs.CacheInfo
 pub use Rattle.npr_address.specs.Header as AddressHeader
 pub mod AddressMessage
-pub use Rattle.npr_address.specs.MessageLaws as AddressMessageLaws
 -- rule messages
 pub use Rattle.npr_rule.specs.Action as RuleAction
 pub use Rattle.npr_rule.specs.Attribute as RuleAttribute
@@ -86,7 +85,6 @@ pub use Rattle.npr_rule.specs.Flags as RuleFlags
 pub use Rattle.npr_rule.specs.Header as RuleHeader
 pub use Rattle.npr_rule.specs.IpProtocolByte
 pub mod RuleMessage
-pub use Rattle.npr_rule.specs.MessageLaws as RuleMessageLaws
 pub use Rattle.npr_rule.specs.PortRange as RulePortRange
 pub use Rattle.npr_rule.specs.UidRange as RuleUidRange
 -- route messages
@@ -99,7 +97,6 @@ pub use Rattle.npr_route.specs.Gateway as RouteGateway
 pub use Rattle.npr_route.specs.Governing
 pub use Rattle.npr_route.specs.Header as RouteHeader
 pub mod RouteMessage
-pub use Rattle.npr_route.specs.MessageLaws as RouteMessageLaws
 pub use Rattle.npr_route.specs.Metric as RouteMetric
 pub use Rattle.npr_route.specs.NextHopFrontLaws
 pub use Rattle.npr_route.specs.NextHopHeader

@@ -1,20 +1,16 @@
-//! The laws of the three messages, over their definitions alone. Each function does nothing, and
+//! The laws of messages, over their definitions alone. Each function does nothing, and
 //! its contract is the law.
 
-ghost use Rattle.std.specs.Prelude.{◌≡◌, ℕ, List, None};
 ghost use Rattle.npr_base.specs.Walk.{CutsInTwo};
 ghost use Rattle.npr_address.specs.{
   Attribute.{attributes as address_attributes},
-  Message.{Address, IsAddressMessage, IsCoherentAddress, address_bytes, address_misfit},
 };
 ghost use Rattle.npr_route.specs.{
   FlatAttribute.{Context},
   AttributeLaws.{attributes as route_attributes},
-  Message.{Route, IsRouteMessage, IsCoherentRoute, route_bytes, route_misfit},
 };
 ghost use Rattle.npr_rule.specs.{
   Attribute.{attributes as rule_attributes},
-  Message.{Rule, IsRuleMessage, IsCoherentRule, rule_bytes, rule_misfit},
 };
 
 use npr_address::AddressAttribute;
@@ -23,9 +19,9 @@ pub use npr_address::laws::{
     law_numbers as law_address_numbers,
 };
 pub use npr_base::laws::{
-    law_constants as law_framing_constants, law_cut as law_cut_in_two,
+    law_canonical, law_constants as law_framing_constants, law_cut as law_cut_in_two,
     law_default as law_family_default, law_equality as law_framing_equality, law_family_number,
-    law_walk,
+    law_one_reading, law_read_back, law_walk,
 };
 use npr_route::RouteAttribute;
 pub use npr_route::laws::{
@@ -51,39 +47,6 @@ pub use npr_tunnel::laws::{
     law_default as law_tunnel_default, law_encap_type_number, law_equality as law_tunnel_equality,
     law_ip_flags, law_ip6_flags,
 };
-
-/// Bytes are one message of each kind at most.
-pub fn law_one_reading()
-    ensures address { (bytes : List ℕ) (m n : Address) → IsAddressMessage bytes m → IsAddressMessage bytes n → m ≡ n }
-    ensures route { (bytes : List ℕ) (m n : Route) → IsRouteMessage bytes m → IsRouteMessage bytes n → m ≡ n }
-    ensures rule { (bytes : List ℕ) (m n : Rule) → IsRuleMessage bytes m → IsRuleMessage bytes n → m ≡ n }
-{
-    npr_address::laws::law_one_reading();
-    npr_route::laws::law_one_reading();
-    npr_rule::laws::law_one_reading();
-}
-
-/// The canonical bytes of a coherent message that fits are that message.
-pub fn law_read_back()
-    ensures address { (m : Address) → IsCoherentAddress m → address_misfit m ≡ None → IsAddressMessage (address_bytes m) m }
-    ensures route { (m : Route) → IsCoherentRoute m → route_misfit m ≡ None → IsRouteMessage (route_bytes m) m }
-    ensures rule { (m : Rule) → IsCoherentRule m → rule_misfit m ≡ None → IsRuleMessage (rule_bytes m) m }
-{
-    npr_address::laws::law_read_back();
-    npr_route::laws::law_read_back();
-    npr_rule::laws::law_read_back();
-}
-
-/// Coherent messages of one kind that fit are equal where their canonical bytes are.
-pub fn law_canonical()
-    ensures address { (m n : Address) → IsCoherentAddress m → address_misfit m ≡ None → IsCoherentAddress n → address_misfit n ≡ None → address_bytes m ≡ address_bytes n → m ≡ n }
-    ensures route { (m n : Route) → IsCoherentRoute m → route_misfit m ≡ None → IsCoherentRoute n → route_misfit n ≡ None → route_bytes m ≡ route_bytes n → m ≡ n }
-    ensures rule { (m n : Rule) → IsCoherentRule m → rule_misfit m ≡ None → IsCoherentRule n → rule_misfit n ≡ None → rule_bytes m ≡ rule_bytes n → m ≡ n }
-{
-    npr_address::laws::law_canonical();
-    npr_route::laws::law_canonical();
-    npr_rule::laws::law_canonical();
-}
 
 /// A list whose beginning is a multiple of four bytes, and is cut into attributes by itself, is the
 /// list of that beginning and then the list of the rest, in the same context.

@@ -5,14 +5,13 @@ use Rattle.std.proofs.Common.{refl, rules, ap}
 use Rattle.npr_base.specs.Equality.{IsEquality, IsEqualityOf}
 use Rattle.npr_base.specs.ViewEquality.{item_equality}
 use Rattle.npr_base.specs.IpLaws.{ip_equality, ipv4_equality, ipv6_equality}
-use Rattle.npr_base.specs.MeaningLaws.{enum_meaning, ◌also◌, one_meaning, text_equality, items_meaning}
+use Rattle.npr_base.specs.MeaningLaws.{enum_meaning, ◌also◌, one_meaning, text_equality}
 use Rattle.npr_base.specs.StructLaws.{and_decides, decides_as}
 use Rattle.npr_base.specs.AddressFamilyLaws.{family_equality}
 use Rattle.std.specs.Cmp.{unsigned_Decides, signed_Decides}
 use Rattle.npr_address.specs.declared.header.AddressHeader.{AddressHeader}
 use Rattle.npr_address.specs.contracts.addr_protocol.AddressProtocolPartialEq.TheImpl as ProtocolEq
 use Rattle.npr_address.specs.Attribute.{Meaning, address, local, label, broadcast, anycast, info, multicast, flags, route_priority, target_net_ns_id, protocol, other, meaning_of}
-use Rattle.npr_address.specs.Message.{Address, message_of}
 use Rattle.npr_address.specs.contracts.attribute.AddressAttribute.{enum}
 use Rattle.npr_address.specs.contracts.attribute.AddressAttributePartialEq.TheImpl as AttributeEq
 use Rattle.npr_address.specs.contracts.addr_flags.AddressFlagsPartialEq.TheImpl as FlagsEq
@@ -20,7 +19,6 @@ use Rattle.npr_address.specs.contracts.addr_flags.AddressHeaderFlagsPartialEq.Th
 use Rattle.npr_address.specs.contracts.addr_scope.AddressScopePartialEq.TheImpl as ScopeEq
 use Rattle.npr_address.specs.contracts.cache_info.CacheInfoPartialEq.TheImpl as InfoEq
 use Rattle.npr_address.specs.contracts.header.AddressHeaderPartialEq.TheImpl as HeaderEq
-use Rattle.npr_address.specs.contracts.message.AddressMessagePartialEq.TheImpl as MessageEq
 
 order : Meaning → ℕ
 order (address a) = 0
@@ -77,10 +75,3 @@ attribute_equality =
     (λ x. refl, one_meaning (λ f. f) target_net_ns_id signed_Decides (λ p q e. cc)) also
     (λ x. refl, one_meaning (λ f. f) protocol protocol_equality (λ p q e. cc)) also
     (λ x. refl, one_meaning (λ f. f) other item_equality (λ p q e. cc)) also tt)
-
-pub message_equality : IsEqualityOf message_of MessageEq.ghosts.eq
-message_equality a b =
-    decides_as
-    (λ p. λ i. record { header = p.0 i; attributes = p.1 i })
-    (λ e. (ap (λ (m : Address). m.header) e, ap (λ (m : Address). m.attributes) e))
-    (and_decides (header_equality a.header b.header) (items_meaning meaning_of attribute_equality a.attributes b.attributes))

@@ -6,4 +6,3 @@ pub mod Attribute
 pub mod CacheInfo
 pub mod Header
 pub mod Message
-pub mod MessageLaws

@@ -1,39 +1,43 @@
 -- An address message: its header, and attributes to the end (linux/if_addr.h).
-use Rattle.std.specs.Prelude.{ℕ, List, map, Option}
+use Rattle.std.specs.Prelude.{ℕ, List, Option}
 use Rattle.npr_base.specs.declared.refusal.DecodeError.{DecodeError}
 use Rattle.npr_base.specs.declared.refusal.EmitError.{EmitError}
-use Rattle.npr_base.specs.Message.{Message, Body, attributes_of, IsMessage, MessageFault, IsCoherent, spelling, message_misfit}
+use Rattle.npr_base.specs.declared.message.Message.{Message as Stored}
+use Rattle.npr_base.specs.Message.{Message, Body, view, attributes_of, IsMessage, MessageFault, IsCoherent, spelling, message_misfit}
 use Rattle.npr_address.specs.Attribute.{Meaning, meaning_of, writing, attributes}
 use Rattle.npr_address.specs.Header.{header}
 use Rattle.npr_address.specs.declared.header.AddressHeader.{AddressHeader}
-use Rattle.npr_address.specs.declared.message.AddressMessage.{AddressMessage}
+use Rattle.npr_address.specs.declared.attribute.AddressAttribute.{AddressAttribute}
 
 -- a message without where it lies in memory
 abbrev pub Address : Type 0
 Address = Message AddressHeader Meaning
 
+abbrev pub AddressMessage : Type 0
+AddressMessage = Stored AddressHeader AddressAttribute
+
 abbrev pub message_of : AddressMessage → Address
-message_of m = record { header = m.header; attributes = map meaning_of m.attributes.items }
+message_of m = view meaning_of m
 
 abbrev pub body : Body AddressHeader writing
 body = attributes_of attributes
 
 -- the bytes are the message
-unfoldable pub IsAddressMessage : List ℕ → Address → Type 0
+abbrev pub IsAddressMessage : List ℕ → Address → Type 0
 IsAddressMessage bytes m = IsMessage header body bytes m
 
 -- the first fault of bytes that are none
-unfoldable pub AddressFault : List ℕ → DecodeError → Type 0
+abbrev pub AddressFault : List ℕ → DecodeError → Type 0
 AddressFault bytes e = MessageFault header body bytes e
 
 -- what can be read
-unfoldable pub IsCoherentAddress : Address → Type 0
+abbrev pub IsCoherentAddress : Address → Type 0
 IsCoherentAddress m = IsCoherent header body m
 
 -- the canonical bytes
-unfoldable pub address_bytes : Address → List ℕ
+abbrev pub address_bytes : Address → List ℕ
 address_bytes m = spelling header writing m
 
 -- the first cause why there are none
-unfoldable pub address_misfit : Address → Option EmitError
+abbrev pub address_misfit : Address → Option EmitError
 address_misfit m = message_misfit header writing m

@@ -225,17 +225,3 @@ impl Attribute for AddressAttribute {
         self.clone(alloc)
     }
 }
-
-impl<'a> Parseable<&'a NlaBuffer<'a>> for AddressAttribute {
-    ghost parses = { λ input a. attributes.Reads input.now (meaning_of a) };
-
-    ghost misparses = { λ input e. attributes.Faulty input.now e };
-
-    /// What the attribute is in an address message: `read`, with looks that nobody counts.
-    ///
-    /// # Errors
-    /// `OutOfMemory` where memory is refused, and else what is wrong with the value.
-    fn parse(alloc: Global, input: &'a NlaBuffer<'a>) -> Result<Self, DecodeError> {
-        AddressAttribute::read(alloc, (), input, &mut Looks::new())
-    }
-}

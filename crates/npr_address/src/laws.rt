@@ -1,7 +1,7 @@
 //! The laws of address messages, over their definitions alone. Each function does nothing, and its
 //! contract is the law.
 
-ghost use Rattle.std.specs.Prelude.{◌≡◌, ◌^◌, ℕ, List, None};
+ghost use Rattle.std.specs.Prelude.{◌≡◌, ◌^◌, ℕ};
 ghost use Rattle.npr_base.specs.Equality.{IsEquality, IsEqualityOf};
 ghost use Rattle.npr_address.specs.{
   AddressFlags.{address_flags_bits, header_flags_bits, header_flags_of},
@@ -9,7 +9,7 @@ ghost use Rattle.npr_address.specs.{
   AddressScope.{scope_of, scope_number},
   Attribute.{meaning_of},
   Header.{default_header},
-  Message.{Address, message_of, IsAddressMessage, IsCoherentAddress, address_bytes, address_misfit},
+  Message.{message_of},
 };
 
 use crate::addr_flags::{AddressFlags, AddressHeaderFlags};
@@ -19,21 +19,6 @@ use crate::attribute::AddressAttribute;
 use crate::cache_info::{CacheInfo, CacheInfoBuffer};
 use crate::header::{AddressHeader, AddressMessageBuffer};
 use crate::message::AddressMessage;
-
-/// Bytes are one message at most.
-pub fn law_one_reading()
-    ensures { (bytes : List ℕ) (m n : Address) → IsAddressMessage bytes m → IsAddressMessage bytes n → m ≡ n }
-{}
-
-/// The canonical bytes of a coherent message that fits are that message.
-pub fn law_read_back()
-    ensures { (m : Address) → IsCoherentAddress m → address_misfit m ≡ None → IsAddressMessage (address_bytes m) m }
-{}
-
-/// Coherent messages that fit are equal where their canonical bytes are.
-pub fn law_canonical()
-    ensures { (m n : Address) → IsCoherentAddress m → address_misfit m ≡ None → IsCoherentAddress n → address_misfit n ≡ None → address_bytes m ≡ address_bytes n → m ≡ n }
-{}
 
 /// What a number reads as is written as that number.
 pub fn law_numbers()

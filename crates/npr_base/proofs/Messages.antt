@@ -1,6 +1,7 @@
 -- The laws of messages.
-use Rattle.std.specs.Prelude.{◌≢◌, IfOk, IfErr}
-use Rattle.std.proofs.Common.{◌≡◌, ℕ, ◌*◌, ◌≤◌, List, ◌++◌, length, take, drop, None, Result, Ok, Err, refl, sym, ap, subst, ◌∙◌, arith, inl, inr, length-append, length-take}
+use Rattle.std.specs.Prelude.{◌≢◌, Bool, ◌&&◌, IfOk, IfErr}
+use Rattle.std.specs.Cmp.Lexicographic.{pointwise}
+use Rattle.std.proofs.Common.{◌≡◌, ℕ, ◌*◌, ◌-◌, ◌≤◌, List, ◌++◌, length, take, drop, None, Result, Ok, Err, refl, sym, ap, subst, ◌∙◌, arith, inl, inr, length-append, length-take, length-drop}
 use Rattle.std.proofs.lemmas.List.{take-append-drop, take_at, drop_at}
 use Rattle.npr_base.specs.declared.refusal.DecodeError.{DecodeError}
 use Rattle.npr_base.specs.declared.refusal.DecodeError.TheVariants.{OutOfMemory}
@@ -8,7 +9,11 @@ use Rattle.npr_base.specs.Framing.{IsBytes}
 use Rattle.npr_base.specs.Family.{first_unfit, overlong, encodings}
 use Rattle.npr_base.specs.ListLaws.{none_both, IsBytes-left, IsBytes-right}
 use Rattle.npr_base.specs.Layout.{Layout}
-use Rattle.npr_base.specs.Message.{Message, Body, IsMessage, MessageFault, IsCoherent, spelling, message_misfit}
+use Rattle.npr_base.specs.Message.{Message, Body, IsMessage, MessageFault, IsCoherent, spelling, message_misfit, view}
+use Rattle.npr_base.specs.declared.message.Message.{Message as Stored}
+use Rattle.npr_base.specs.Equality.{IsEquality, IsEqualityOf}
+use Rattle.npr_base.specs.MeaningLaws.{items_meaning}
+use Rattle.npr_base.specs.StructLaws.{and_decides, decides_as}
 use Rattle.npr_base.specs.Table.{Writing}
 
 same_message : {H M : Type 0} (m : Message H M) (h : H) (xs : List M) → m.header ≡ h → m.attributes ≡ xs → m ≡ record { header = h; attributes = xs }
@@ -19,12 +24,15 @@ module _ {H M : Type 0} {w : Writing M} (L : Layout H) (B : Body H w) where
   front_is bytes front rest is size = (sym (ap (take L.size) is ∙ take_at front rest L.size size), sym (ap (drop L.size) is ∙ drop_at front rest L.size size))
 
   header_is : (bytes : List ℕ) (m : Message H M) → IsMessage L B bytes m → m.header ≡ L.decode (take L.size bytes)
+  unfolding IsMessage
   header_is bytes m p = p.header ∙ ap L.decode (front_is bytes p.front p.rest p.is p.size).0
 
   pub rest_reads : (bytes : List ℕ) (m : Message H M) → IsMessage L B bytes m → B.Reads m.header (drop L.size bytes) m.attributes
+  unfolding IsMessage
   rest_reads bytes m p = subst (λ (r : List ℕ). B.Reads m.header r m.attributes) (front_is bytes p.front p.rest p.is p.size).1 p.attributes
 
   pub message_read : (bytes : List ℕ) (m : Message H M) → L.size ≤ length bytes → m.header ≡ L.decode (take L.size bytes) → B.Reads m.header (drop L.size bytes) m.attributes → IsMessage L B bytes m
+  unfolding IsMessage
   message_read bytes m long header attributes = record {
     front = take L.size bytes;
     rest = drop L.size bytes;
@@ -35,15 +43,18 @@ module _ {H M : Type 0} {w : Writing M} (L : Layout H) (B : Body H w) where
   }
 
   pub fault_after : (bytes : List ℕ) (h : H) (e : DecodeError) → L.size ≤ length bytes → h ≡ L.decode (take L.size bytes) → B.Faulty h (drop L.size bytes) e → MessageFault L B bytes e
+  unfolding MessageFault
   fault_after bytes h e long header bad = inr (take L.size bytes, drop L.size bytes, sym (take-append-drop L.size bytes), omega (arith, length-take L.size bytes), subst (λ (k : H). B.Faulty k (drop L.size bytes) e) header bad)
 
   pub message-one : (bytes : List ℕ) (m n : Message H M) → IsMessage L B bytes m → IsMessage L B bytes n → m ≡ n
+  unfolding IsMessage
   message-one bytes m n p q =
       let h : m.header ≡ n.header = header_is bytes m p ∙ sym (header_is bytes n q) in
       let a = subst (λ (k : H). B.Reads k (drop L.size bytes) m.attributes) h (rest_reads bytes m p) in
       same_message m n.header n.attributes h (B.one_reading n.header (drop L.size bytes) m.attributes n.attributes a (rest_reads bytes n q))
 
   pub message-sound : (bytes : List ℕ) (n : Message H M) (e : DecodeError) → MessageFault L B bytes e → IsMessage L B bytes n → ⊥
+  unfolding IsMessage MessageFault
   message-sound bytes n e (inl short) q = absurd (omega (arith, short.0, ap length q.is, length-append q.front q.rest, q.size))
   message-sound bytes n e (inr (front, rest, is, size, bad)) q =
       let same = front_is bytes front rest is size in
@@ -52,6 +63,7 @@ module _ {H M : Type 0} {w : Writing M} (L : Layout H) (B : Body H w) where
       B.no_fault n.header (drop L.size bytes) n.attributes e (rest_reads bytes n q) b
 
   pub message-coherent : (bytes : List ℕ) (m : Message H M) → IsBytes bytes → IsMessage L B bytes m → IsCoherent L B m
+  unfolding IsMessage IsCoherent
   message-coherent bytes m fits p =
       let all : IsBytes (p.front ++ p.rest) = subst IsBytes p.is fits in
       record {
@@ -60,6 +72,7 @@ module _ {H M : Type 0} {w : Writing M} (L : Layout H) (B : Body H w) where
       }
 
   pub message-back : (m : Message H M) → IsCoherent L B m → message_misfit L w m ≡ None → IsMessage L B (spelling L w m) m
+  unfolding IsMessage IsCoherent spelling message_misfit
   message-back m c fits = record {
     front = L.encode m.header;
     rest = encodings w.writes m.attributes;
@@ -73,6 +86,7 @@ module _ {H M : Type 0} {w : Writing M} (L : Layout H) (B : Body H w) where
   message-canonical m n c f d g e = message-one (spelling L w n) m n (subst (λ (b : List ℕ). IsMessage L B b m) e (message-back m c f)) (message-back n d g)
 
   pub message-grows : (bytes : List ℕ) (m : Message H M) → IsBytes bytes → IsMessage L B bytes m → 2 * length (spelling L w m) ≤ 5 * length bytes
+  unfolding IsMessage IsCoherent spelling
   message-grows bytes m fits p =
       let all : IsBytes (p.front ++ p.rest) = subst IsBytes p.is fits in
       let c = message-coherent bytes m fits p in
@@ -100,3 +114,31 @@ module _ {H M : Type 0} {w : Writing M} (L : Layout H) (B : Body H w) where
   pub ok_grows : {V : Type 0} (view : V → Message H M) (bytes : List ℕ) → IsBytes bytes → (r : Result V DecodeError) → IfOk r (λ v. IsMessage L B bytes (view v)) → IfOk r (λ v. 2 * length (spelling L w (view v)) ≤ 5 * length bytes)
   ok_grows view bytes fits (Ok v) p = message-grows bytes (view v) fits p
   ok_grows view bytes fits (Err e) p = tt
+
+  pub message-deep : (bytes : List ℕ) (m : Message H M) → IsMessage L B bytes m → 12 * B.depth m.attributes ≤ length bytes - L.size
+  message-deep bytes m p = let h = B.deep m.header (drop L.size bytes) m.attributes (rest_reads bytes m p) in omega (arith, h, length-drop L.size bytes)
+
+  pub ok_deep : {V : Type 0} (view : V → Message H M) (bytes : List ℕ) (r : Result V DecodeError) → IfOk r (λ v. IsMessage L B bytes (view v)) → IfOk r (λ v. 12 * B.depth (view v).attributes ≤ length bytes - L.size)
+  ok_deep view bytes (Ok v) p = message-deep bytes (view v) p
+  ok_deep view bytes (Err e) p = tt
+
+  -- ---- what a message has in it
+
+  -- where it can be written, its attributes can be
+  pub attributes_fit : (m : Message H M) → message_misfit L w m ≡ None → first_unfit w.misfit m.attributes ≡ None
+  unfolding message_misfit
+  attributes_fit m fits = (none_both (first_unfit w.misfit m.attributes) (overlong (length (spelling L w m))) fits).0
+
+  -- the bytes that it is read of have a header
+  pub has_header : (bytes : List ℕ) (m : Message H M) → IsMessage L B bytes m → L.size ≤ length bytes
+  unfolding IsMessage
+  has_header bytes m is = omega (arith, ap length is.is, length-append is.front is.rest, is.size)
+
+-- `==` of a message, from that of the header and of an attribute
+pub message_equality : {H A M : Type 0} {same_header : H → H → Bool} {same : A → A → Bool} (meaning : A → M) → IsEquality same_header → IsEqualityOf meaning same
+    → IsEqualityOf (view meaning) (λ (a b : Stored H A). same_header a.header b.header && pointwise same a.attributes.items b.attributes.items)
+message_equality {H} {A} {M} meaning h k a b =
+    decides_as
+    (λ p. λ i. record { header = p.0 i; attributes = p.1 i })
+    (λ e. (ap (λ (m : Message H M). m.header) e, ap (λ (m : Message H M). m.attributes) e))
+    (and_decides (h a.header b.header) (items_meaning meaning k a.attributes b.attributes))

@@ -1,5 +1,5 @@
 -- A message: a fixed header, and attributes to the end of the bytes.
-use Rattle.std.specs.Prelude.{◌≡◌, ℕ, ◌*◌, ◌<◌, ◌≤◌, ◌⊎◌, List, ◌++◌, length, Option, None}
+use Rattle.std.specs.Prelude.{◌≡◌, ℕ, ◌*◌, ◌<◌, ◌≤◌, ◌⊎◌, List, ◌++◌, length, map, Option, None}
 use Rattle.npr_base.specs.declared.refusal.DecodeError.{DecodeError}
 use Rattle.npr_base.specs.declared.refusal.DecodeError.TheVariants.{HeaderTooShort}
 use Rattle.npr_base.specs.declared.refusal.EmitError.{EmitError}
@@ -8,11 +8,16 @@ use Rattle.npr_base.specs.Family.{AllOf, ReadsList, FirstFault, encodings, first
 use Rattle.npr_base.specs.ListLaws.{ReadsList-one, FirstFault-excludes, ReadsList-known, encodings-read, ReadsList-grows}
 use Rattle.npr_base.specs.Layout.{Layout}
 use Rattle.npr_base.specs.Table.{Writing, Reading, fits-small}
+use Rattle.npr_base.specs.declared.message.Message.{Message as Stored}
+use Rattle.std.proofs.Common.{arith}
 
 -- a message without where it lies in memory
 pub record Message (H M : Type 0) : Type 0 where
   pub header : H
   pub attributes : List M
+
+abbrev pub view : {H A M : Type 0} → (A → M) → Stored H A → Message H M
+view meaning m = record { header = m.header; attributes = map meaning m.attributes.items }
 
 -- what the bytes after a header mean, where attributes are written so, with the laws of both
 pub record Body (H : Type 0) {M : Type 0} (w : Writing M) : Type 1 where
@@ -24,6 +29,9 @@ pub record Body (H : Type 0) {M : Type 0} (w : Writing M) : Type 1 where
   pub reads_coherent : (h : H) (bytes : List ℕ) (xs : List M) → IsBytes bytes → Reads h bytes xs → Coherent h xs
   pub reads_back : (h : H) (xs : List M) → Coherent h xs → first_unfit w.misfit xs ≡ None → Reads h (encodings w.writes xs) xs
   pub grows : (h : H) (bytes : List ℕ) (xs : List M) → IsBytes bytes → Reads h bytes xs → 2 * length (encodings w.writes xs) ≤ 5 * length bytes
+  -- how deep lists stand inside one another; each level takes 12 bytes
+  pub depth : List M → ℕ
+  pub deep : (h : H) (bytes : List ℕ) (xs : List M) → Reads h bytes xs → 12 * depth xs ≤ length bytes
 
 -- attributes of one family, whatever the header says
 abbrev pub attributes_of : {H M : Type 0} {w : Writing M} → Reading w → Body H w
@@ -36,6 +44,8 @@ attributes_of {H} {M} {w} f = record {
   reads_coherent = λ h bytes xs is p. ReadsList-known f.Coherent f.Reads f.reads_coherent bytes xs is p;
   reads_back = λ h xs all fits. encodings-read f.Coherent w.misfit w.writes f.Reads (fits-small f) f.reads_back xs all fits;
   grows = λ h bytes xs is p. ReadsList-grows w.writes f.Reads f.grows bytes xs is p;
+  depth = λ xs. 0;
+  deep = λ h bytes xs p. omega arith;
 }
 
 -- the bytes are the message: a header, and then its attributes
@@ -47,11 +57,11 @@ pub record IsMessageOf {H M : Type 0} (L : Layout H) (Reads : H → List ℕ →
   pub header : m.header ≡ L.decode front
   pub attributes : Reads m.header rest m.attributes
 
-abbrev pub IsMessage : {H M : Type 0} {w : Writing M} → Layout H → Body H w → List ℕ → Message H M → Type 0
+unfoldable pub IsMessage : {H M : Type 0} {w : Writing M} → Layout H → Body H w → List ℕ → Message H M → Type 0
 IsMessage L B bytes m = IsMessageOf L B.Reads bytes m
 
 -- the first fault of bytes that are no message: too few for the header, or a fault after it
-abbrev pub MessageFault : {H M : Type 0} {w : Writing M} → Layout H → Body H w → List ℕ → DecodeError → Type 0
+unfoldable pub MessageFault : {H M : Type 0} {w : Writing M} → Layout H → Body H w → List ℕ → DecodeError → Type 0
 MessageFault L B bytes e =
     ((length bytes < L.size) × (e ≡ HeaderTooShort (length bytes) L.size))
     ⊎ ((front : List ℕ) × (rest : List ℕ) × (bytes ≡ front ++ rest) × (length front ≡ L.size) × B.Faulty (L.decode front) rest e)
@@ -60,13 +70,13 @@ pub record IsCoherentOf {H M : Type 0} (L : Layout H) (Coherent : H → List M �
   pub header : L.Holds m.header
   pub attributes : Coherent m.header m.attributes
 
-abbrev pub IsCoherent : {H M : Type 0} {w : Writing M} → Layout H → Body H w → Message H M → Type 0
+unfoldable pub IsCoherent : {H M : Type 0} {w : Writing M} → Layout H → Body H w → Message H M → Type 0
 IsCoherent L B m = IsCoherentOf L B.Coherent m
 
 -- the canonical bytes
-abbrev pub spelling : {H M : Type 0} → Layout H → Writing M → Message H M → List ℕ
+unfoldable pub spelling : {H M : Type 0} → Layout H → Writing M → Message H M → List ℕ
 spelling L w m = L.encode m.header ++ encodings w.writes m.attributes
 
 -- why there are none: the first attribute that can't be written, or a length that no usize holds
-abbrev pub message_misfit : {H M : Type 0} → Layout H → Writing M → Message H M → Option EmitError
+unfoldable pub message_misfit : {H M : Type 0} → Layout H → Writing M → Message H M → Option EmitError
 message_misfit L w m = option_or (first_unfit w.misfit m.attributes) (overlong (length (spelling L w m)))

@@ -11,7 +11,7 @@ ghost use Rattle.npr_base.specs.{
 use crate::framing::NlaBuffer;
 use crate::looks::Looks;
 use crate::refusal::DecodeError;
-use crate::traits::Nla;
+use crate::traits::{Nla, Parseable};
 use std::alloc::{AllocError, Global};
 
 /// A family of attributes. Each is read in a context, as the family of the message's addresses.
@@ -83,4 +83,19 @@ pub trait Attribute: Nla + Drop {
 
     /// The two views of why it can't be written agree.
     ghost unfit_is: { (a : Self) → Self.unfit a ≡ writing.misfit (meaning a) };
+}
+
+/// A lone attribute of a family that is read in no context.
+impl<'a, A: Attribute<Context = ()>> Parseable<&'a NlaBuffer<'a>> for A {
+    ghost parses = { λ input a. (A.reading tt).Reads input.now (A.meaning a) };
+
+    ghost misparses = { λ input e. (A.reading tt).Faulty input.now e };
+
+    /// What the attribute is in its family: `read`, with looks that nobody counts.
+    ///
+    /// # Errors
+    /// `OutOfMemory` where memory is refused, and else what is wrong with the value.
+    fn parse(alloc: Global, input: &'a NlaBuffer<'a>) -> Result<Self, DecodeError> {
+        A::read(alloc, (), input, &mut Looks::new())
+    }
 }

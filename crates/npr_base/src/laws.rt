@@ -1,12 +1,13 @@
 //! The laws of this crate, over its definitions alone. Each function does nothing, and its contract
 //! is the law.
 
-ghost use Rattle.std.specs.Prelude.{◌≡◌, ◌≤◌, ◌+◌, ◌*◌, ◌++◌, ◌∷◌, ◌↔◌, ℕ, List, [], Result, Err, length};
+ghost use Rattle.std.specs.Prelude.{◌≡◌, ◌≤◌, ◌+◌, ◌*◌, ◌++◌, ◌∷◌, ◌↔◌, ℕ, List, [], Result, Err, None, length};
 ghost use Rattle.npr_base.specs.{
   declared.refusal.DecodeError.{DecodeError},
   AddressFamily.{family_of, family_number},
   Equality.{IsEquality},
   Framing.{Item, Cut, Stops},
+  Message.{Message as Meant, IsMessage, IsCoherent, spelling, message_misfit},
   Walk.{Steps, found, Finds, CutsInTwo},
 };
 
@@ -14,6 +15,7 @@ use crate::attribute::Attribute;
 use crate::framing::{
     NLA_ALIGNTO, NLA_F_NESTED, NLA_F_NET_BYTEORDER, NLA_HEADER_SIZE, NLA_TYPE_MASK,
 };
+use crate::message::Header;
 use crate::{
     AddressFamily, At, AttrFamily, DecodeError, DefaultNla, EmitError, IpAddr, Ipv4Addr, Ipv6Addr,
     Looks, NlaBuffer, NlasIterator, Seg6Fault,
@@ -69,4 +71,20 @@ pub fn law_equality()
     ensures nla_buffer { IsEquality ⟦<NlaBuffer<'static> as PartialEq>⟧.eq }
     ensures walk { IsEquality ⟦<NlasIterator<'static> as PartialEq>⟧.eq }
     ensures looks { IsEquality ⟦<Looks as PartialEq>⟧.eq }
+{}
+
+/// Bytes are one message at most.
+pub fn law_one_reading<H: Header>()
+    ensures { (bytes : List ℕ) (m n : Meant H H.Meaning) → IsMessage H.layout H.body bytes m → IsMessage H.layout H.body bytes n → m ≡ n }
+{}
+
+/// The canonical bytes of a coherent message that fits are that message.
+pub fn law_read_back<H: Header>()
+    ensures { (m : Meant H H.Meaning) → IsCoherent H.layout H.body m → message_misfit H.layout H.writing m ≡ None → IsMessage H.layout H.body (spelling H.layout H.writing m) m }
+{}
+
+/// Coherent messages of one kind that fit are equal where their canonical bytes are.
+pub fn law_canonical<H: Header>()
+    ensures { (m n : Meant H H.Meaning) → IsCoherent H.layout H.body m → message_misfit H.layout H.writing m ≡ None → IsCoherent H.layout H.body n → message_misfit H.layout H.writing n ≡ None
+        → spelling H.layout H.writing m ≡ spelling H.layout H.writing n → m ≡ n }
 {}

@@ -10,6 +10,7 @@ mod ip;
 pub mod laws;
 mod list;
 mod looks;
+mod message;
 mod place;
 mod refusal;
 mod text;
@@ -30,6 +31,7 @@ pub use list::{
     check_list, clone_list, emit_list, list_len, make_room, parse_list, total_len, write_list,
 };
 pub use looks::Looks;
+pub use message::{Gateways, Header, Message};
 pub use place::{Place, put_ip};
 pub use refusal::{At, AttrFamily, DecodeError, EmitError, Seg6Fault};
 pub use text::{write_hex, write_joined, write_six_hex_digits};

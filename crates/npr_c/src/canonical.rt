@@ -4,6 +4,7 @@ ghost use Rattle.std.specs.Prelude.{◌≡◌, ◌≢◌, ◌≤◌, ◌*◌, �
 ghost use Rattle.netlink_packet_route.specs.{
   AddressMessage.{IsAddressMessage, AddressFault, address_bytes, address_misfit},
   Framing.{Item, Front},
+  Messages.{IsMessage, MessageFault, message_misfit, spelling},
   RouteMessage.{IsRouteMessage, RouteFault, route_bytes, route_misfit},
   RuleMessage.{IsRuleMessage, RuleFault, rule_bytes, rule_misfit},
   declared.framing.DecodeError.TheVariants.{OutOfMemory},
@@ -11,10 +12,10 @@ ghost use Rattle.netlink_packet_route.specs.{
 ghost use Rattle.npr_c.specs.Answers.{Spells, Tells, refused_answer};
 
 use crate::answer::Answer;
-use netlink_packet_route::address::AddressMessage;
-use netlink_packet_route::framing::{Emitable, Parseable};
-use netlink_packet_route::route::RouteMessage;
-use netlink_packet_route::rule::RuleMessage;
+use netlink_packet_route::address::AddressHeader;
+use netlink_packet_route::framing::{Emitable, Header, Message, Parseable};
+use netlink_packet_route::route::RouteHeader;
+use netlink_packet_route::rule::RuleHeader;
 use std::alloc::Global;
 
 /// Writes the message to the front of the buffer, where it can be written and has room there.
@@ -31,6 +32,18 @@ fn spell<M: Emitable>(message: &M, out: &mut [u8]) -> Answer
     }
 }
 
+/// Writes the canonical bytes of the message that the bytes are to the front of the buffer.
+fn canonical<H: Header>(alloc: Global, bytes: &[u8], out: &mut [u8]) -> Answer
+    ensures answer { Tells (IsMessage H.layout H.body) (MessageFault H.layout H.body) (message_misfit H.layout H.writing) (spelling H.layout H.writing) bytes.now out.old out.new result }
+    ensures memory { result ≡ refused_answer OutOfMemory → (x : Item) × (rest : List ℕ) × Front (drop H.layout.size bytes.now) x rest }
+    ensures room { 5 * length bytes.now ≤ 2 * length out.old → result.status ≢ 3 }
+{
+    match Message::<H, H::Attribute>::parse(alloc, bytes) {
+        Ok(message) => spell(&message, out),
+        Err(fault) => Answer::refused(fault),
+    }
+}
+
 /// Writes the canonical bytes of the address message that the bytes are to the front of the
 /// buffer, and leaves the rest of it. The buffer is as it was where they aren't written.
 #[unsafe(no_mangle)]
@@ -41,10 +54,7 @@ pub extern "C" fn npr_address_canonical(alloc: Global, bytes: &[u8], out: &mut [
     // A buffer two and a half times as long as the bytes is never too short.
     ensures room { 5 * length bytes.now ≤ 2 * length out.old → result.status ≢ 3 }
 {
-    match AddressMessage::parse(alloc, bytes) {
-        Ok(message) => spell(&message, out),
-        Err(fault) => Answer::refused(fault),
-    }
+    canonical::<AddressHeader>(alloc, bytes, out)
 }
 
 /// Writes the canonical bytes of the route message that the bytes are to the front of the buffer,
@@ -57,10 +67,7 @@ pub extern "C" fn npr_route_canonical(alloc: Global, bytes: &[u8], out: &mut [u8
     // A buffer two and a half times as long as the bytes is never too short.
     ensures room { 5 * length bytes.now ≤ 2 * length out.old → result.status ≢ 3 }
 {
-    match RouteMessage::parse(alloc, bytes) {
-        Ok(message) => spell(&message, out),
-        Err(fault) => Answer::refused(fault),
-    }
+    canonical::<RouteHeader>(alloc, bytes, out)
 }
 
 /// Writes the canonical bytes of the rule message that the bytes are to the front of the buffer,
@@ -73,8 +80,5 @@ pub extern "C" fn npr_rule_canonical(alloc: Global, bytes: &[u8], out: &mut [u8]
     // A buffer two and a half times as long as the bytes is never too short.
     ensures room { 5 * length bytes.now ≤ 2 * length out.old → result.status ≢ 3 }
 {
-    match RuleMessage::parse(alloc, bytes) {
-        Ok(message) => spell(&message, out),
-        Err(fault) => Answer::refused(fault),
-    }
+    canonical::<RuleHeader>(alloc, bytes, out)
 }

@@ -27,7 +27,6 @@ use Rattle.npr_route.specs.contracts.attribute.RouteAttribute.{enum}
 use Rattle.npr_route.specs.contracts.attribute.RouteAttributePartialEq.TheImpl as AttributeEq
 use Rattle.npr_route.specs.contracts.attribute.RouteAttributePartialEq.TheImpl.Laws as AttributeLaws
 use Rattle.npr_route.specs.contracts.header.RouteHeaderPartialEq.TheImpl as HeaderEq
-use Rattle.npr_route.specs.contracts.message.RouteMessagePartialEq.TheImpl as MessageEq
 use Rattle.npr_route.specs.contracts.metrics.RouteMetric.{enum as metric_enum}
 use Rattle.npr_route.specs.contracts.metrics.RouteMetricPartialEq.TheImpl as MetricEq
 use Rattle.npr_route.specs.contracts.next_hops.RouteNextHopPartialEq.TheImpl as HopEq
@@ -245,10 +244,3 @@ attribute_equality a b = attribute_at (meaning_of a) a b refl
 
 pub next_hop_equality : IsEqualityOf hop_of HopEq.ghosts.eq
 next_hop_equality g h = hop_layer g h (attributes_at (attributes_in g.attributes.items) g.attributes.items h.attributes.items refl)
-
-pub message_equality : IsEqualityOf message_of MessageEq.ghosts.eq
-message_equality a b =
-    decides_as
-    (λ p. λ i. record { header = p.0 i; attributes = p.1 i })
-    (λ e. (ap (λ (m : Route). m.header) e, ap (λ (m : Route). m.attributes) e))
-    (and_decides (header_equality a.header b.header) (items_meaning meaning_of attribute_equality a.attributes b.attributes))

@@ -22,6 +22,7 @@ use Rattle.npr_route.specs.FlatAttributeLaws as Flats
 use Rattle.npr_route.specs.AttributeLaws.{writing}
 use Rattle.npr_route.specs.Header.{header}
 use Rattle.npr_route.proofs.Renewing.{attributes_of-newer}
+use Rattle.npr_base.specs.Message.{IsMessage, IsCoherent, spelling, message_misfit}
 use Rattle.npr_route.specs.Message.{Route, under, newer_route, IsRouteMessage, IsRouteMessageBy, IsCoherentRoute, IsCoherentRouteBy, route_bytes, route_misfit}
 use Rattle.npr_tunnel.specs.declared.encap_type.RouteLwEnCapType.TheVariants.{None as NoEncapsulation}
 use Rattle.npr_base.specs.Table.{ReadsBy as ReadsByRow}
@@ -200,11 +201,11 @@ first_in_list : (outer : RouteLwEnCapType) (xs : List Meaning) → first_type ou
 first_in_list outer xs = ap (first_type outer) (attributes_of-newer xs) ∙ first_type-newer outer (attributes_of xs)
 
 pub message-bytes : (m : Route) → route_bytes (newer_route m) ≡ route_bytes m
-unfolding route_bytes
+unfolding spelling
 message-bytes m = ap (λ (w : List ℕ). header.encode m.header ++ w) (encodings-renewed newer writing.writes writes-newer m.attributes)
 
 pub message-misfit : (m : Route) → route_misfit (newer_route m) ≡ route_misfit m
-unfolding route_bytes route_misfit
+unfolding spelling message_misfit
 message-misfit m =
     ap (λ (o : Option EmitError). option_or o (overlong (length (route_bytes (newer_route m))))) (unfit-renewed newer writing.misfit misfit-newer m.attributes)
     ∙ ap (λ (w : List ℕ). option_or (first_unfit writing.misfit m.attributes) (overlong (length w))) (message-bytes m)
@@ -213,7 +214,7 @@ pub message-again : (m : Route) → newer_route (newer_route m) ≡ newer_route 
 message-again m = ap (λ (xs : List Meaning). record { header = m.header; attributes = xs }) (again-renewed newer newer-again m.attributes)
 
 pub message-coherent : (by : ModeTable) (m : Route) → IsCoherentRouteBy by m → IsCoherentRoute (newer_route m)
-unfolding IsCoherentRouteBy IsCoherentRoute
+unfolding IsCoherentRouteBy IsCoherent
 message-coherent by m k =
     let (family, kind) = under m.header in
     let type : RouteLwEnCapType = first_type NoEncapsulation (attributes_of m.attributes) in
@@ -225,7 +226,7 @@ message-coherent by m k =
     }
 
 pub message-read : (by : ModeTable) (bytes : List ℕ) (m : Route) → IsRouteMessageBy by bytes m → IsRouteMessage bytes (newer_route m)
-unfolding IsRouteMessageBy IsRouteMessage
+unfolding IsRouteMessageBy IsMessage
 message-read by bytes m p =
     let (family, kind) = under m.header in
     let c : Context = (family, kind, p.attributes.0) in

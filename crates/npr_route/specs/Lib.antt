@@ -8,7 +8,6 @@ pub mod Governing
 pub mod GoverningLaws
 pub mod Header
 pub mod Message
-pub mod MessageLaws
 pub mod Metric
 pub mod NextHopFrontLaws
 pub mod NextHopHeader

@@ -3,23 +3,27 @@
 use Rattle.std.specs.Prelude.{ℕ, List, map, Option}
 use Rattle.npr_base.specs.declared.refusal.DecodeError.{DecodeError}
 use Rattle.npr_base.specs.declared.refusal.EmitError.{EmitError}
-use Rattle.npr_base.specs.Message.{Message, Body, IsMessage, IsMessageOf, MessageFault, IsCoherent, IsCoherentOf, spelling, message_misfit}
+use Rattle.npr_base.specs.declared.message.Message.{Message as Stored}
+use Rattle.npr_base.specs.Message.{Message, Body, view, IsMessage, IsMessageOf, MessageFault, IsCoherent, IsCoherentOf, spelling, message_misfit}
 use Rattle.npr_srh.specs.Seg6Mode.{ModeTable}
 use Rattle.npr_route.specs.Attribute.{Meaning, newer, attributes_depth, attributes_of}
 use Rattle.npr_route.specs.AttributeView.{meaning_of}
 use Rattle.npr_route.specs.AttributeLaws.{writing}
 use Rattle.npr_route.specs.Header.{header}
 use Rattle.npr_route.specs.RouteList.{Under, IsRouteList, IsRouteListBy, RouteListFault, IsCoherentList, IsCoherentListBy}
-use Rattle.npr_route.specs.RouteListLaws.{route-list-one, route-list-sound, route-list-coherent, route-list-back, route-list-grows}
+use Rattle.npr_route.specs.RouteListLaws.{route-list-one, route-list-sound, route-list-coherent, route-list-back, route-list-grows, route-list-deep}
 use Rattle.npr_route.specs.declared.header.RouteHeader.{RouteHeader}
-use Rattle.npr_route.specs.declared.message.RouteMessage.{RouteMessage}
+use Rattle.npr_route.specs.declared.attribute.RouteAttribute.{RouteAttribute}
 
 -- a message without where it lies in memory
 abbrev pub Route : Type 0
 Route = Message RouteHeader Meaning
 
+abbrev pub RouteMessage : Type 0
+RouteMessage = Stored RouteHeader RouteAttribute
+
 abbrev pub message_of : RouteMessage → Route
-message_of m = record { header = m.header; attributes = map meaning_of m.attributes.items }
+message_of m = view meaning_of m
 
 -- what the header says of its list
 abbrev pub under : RouteHeader → Under
@@ -35,6 +39,8 @@ body = record {
   reads_coherent = λ h bytes xs is p. route-list-coherent (under h) bytes xs is p;
   reads_back = λ h xs all fits. route-list-back (under h) xs all fits;
   grows = λ h bytes xs is p. route-list-grows (under h) bytes xs is p;
+  depth = λ xs. attributes_depth (attributes_of xs);
+  deep = λ h bytes xs p. route-list-deep (under h) bytes xs p;
 }
 
 -- the message with each SEG6 header in it brought up to the table of modes of today
@@ -49,23 +55,23 @@ unfoldable pub IsCoherentRouteBy : ModeTable → Route → Type 0
 IsCoherentRouteBy by m = IsCoherentOf header (λ h. IsCoherentListBy by (under h)) m
 
 -- by the table of today the bytes are the message
-unfoldable pub IsRouteMessage : List ℕ → Route → Type 0
+abbrev pub IsRouteMessage : List ℕ → Route → Type 0
 IsRouteMessage bytes m = IsMessage header body bytes m
 
 -- the first fault of bytes that are none
-unfoldable pub RouteFault : List ℕ → DecodeError → Type 0
+abbrev pub RouteFault : List ℕ → DecodeError → Type 0
 RouteFault bytes e = MessageFault header body bytes e
 
 -- what can be read
-unfoldable pub IsCoherentRoute : Route → Type 0
+abbrev pub IsCoherentRoute : Route → Type 0
 IsCoherentRoute m = IsCoherent header body m
 
 -- the canonical bytes
-unfoldable pub route_bytes : Route → List ℕ
+abbrev pub route_bytes : Route → List ℕ
 route_bytes m = spelling header writing m
 
 -- the first cause why there are none
-unfoldable pub route_misfit : Route → Option EmitError
+abbrev pub route_misfit : Route → Option EmitError
 route_misfit m = message_misfit header writing m
 
 -- how deep next hops stand inside one another

@@ -7,9 +7,9 @@ use Rattle.npr_base.specs.ListLaws.{ReadsList-one, FirstFault-excludes, ReadsLis
 use Rattle.npr_base.specs.Table.{Reading, fits-small}
 use Rattle.npr_tunnel.specs.declared.encap_type.RouteLwEnCapType.{RouteLwEnCapType}
 use Rattle.npr_tunnel.specs.declared.encap_type.RouteLwEnCapType.TheVariants.{None as NoEncapsulation}
-use Rattle.npr_route.specs.Attribute.{Meaning, attributes_of, first_type}
+use Rattle.npr_route.specs.Attribute.{Meaning, attributes_of, attributes_depth, first_type}
 use Rattle.npr_route.specs.FlatAttribute.{Context}
-use Rattle.npr_route.specs.AttributeLaws.{attributes, writing}
+use Rattle.npr_route.specs.AttributeLaws.{attributes, attributes-depth, writing}
 use Rattle.npr_route.specs.GoverningLaws.{governs-one, first_governs, governs_first, all_read}
 use Rattle.npr_route.specs.RouteList.{Under, IsRouteList, RouteListFault, IsCoherentList}
 
@@ -50,3 +50,8 @@ pub route-list-grows : (under : Under) (bytes : List ℕ) (xs : List Meaning) �
 route-list-grows under bytes xs is (type, g, p) =
     let f : Reading writing = attributes (under.0, under.1, type) in
     ReadsList-grows writing.writes f.Reads f.grows bytes xs is p
+
+pub route-list-deep : (under : Under) (bytes : List ℕ) (xs : List Meaning) → IsRouteList under bytes xs → 12 * attributes_depth (attributes_of xs) ≤ length bytes
+route-list-deep under bytes xs (type, g, p) =
+    let c : Context = (under.0, under.1, type) in
+    attributes-depth c bytes (attributes_of xs) (all_read c bytes xs p)

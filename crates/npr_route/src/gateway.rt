@@ -4,22 +4,19 @@ ghost use Rattle.std.specs.Prelude.{◌≡◌, map};
 ghost use Rattle.npr_route.specs.{
   AttributeView.{meaning_of},
   Gateway.{gateway_ip, first_gateway},
-  Message.{message_of},
 };
 
 use crate::attribute::RouteAttribute;
-use crate::message::RouteMessage;
+use crate::header::RouteHeader;
 use crate::next_hops::RouteNextHop;
-use npr_base::IpAddr;
+use npr_base::{Gateways, IpAddr};
 use npr_scalar::RouteAddress;
 
-impl RouteMessage {
-    /// The address of the first gateway of IP among the attributes. Where the route goes by several
-    /// paths, each next hop has its own.
-    pub fn gateway(&self) -> Option<IpAddr>
-        ensures { result ≡ first_gateway (message_of self.now).attributes }
-    {
-        first_gateway(self.attributes.as_slice())
+impl Gateways for RouteHeader {
+    ghost gateway = { λ list. first_gateway (map meaning_of list) };
+
+    fn first_gateway(list: &[RouteAttribute]) -> Option<IpAddr> {
+        first_gateway(list)
     }
 }
 

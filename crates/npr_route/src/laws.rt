@@ -27,21 +27,6 @@ use crate::metrics::RouteMetric;
 use crate::next_hop_buffer::RouteNextHopBuffer;
 use crate::next_hops::RouteNextHop;
 
-/// Bytes are one message at most.
-pub fn law_one_reading()
-    ensures { (bytes : List ℕ) (m n : Route) → IsRouteMessage bytes m → IsRouteMessage bytes n → m ≡ n }
-{}
-
-/// The canonical bytes of a coherent message that fits are that message.
-pub fn law_read_back()
-    ensures { (m : Route) → IsCoherentRoute m → route_misfit m ≡ None → IsRouteMessage (route_bytes m) m }
-{}
-
-/// Coherent messages that fit are equal where their canonical bytes are.
-pub fn law_canonical()
-    ensures { (m n : Route) → IsCoherentRoute m → route_misfit m ≡ None → IsCoherentRoute n → route_misfit n ≡ None → route_bytes m ≡ route_bytes n → m ≡ n }
-{}
-
 /// One type governs a list, whatever its bytes are and whatever the outer type is; and where the
 /// bytes are a list, that is the first type that its attributes hold, or else the outer one: `None`
 /// for the list of a message, and for that of a next hop the type of the list that holds it.

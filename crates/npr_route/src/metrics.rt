@@ -208,17 +208,3 @@ impl Attribute for RouteMetric {
         self.clone(alloc)
     }
 }
-
-impl<'a> Parseable<&'a NlaBuffer<'a>> for RouteMetric {
-    ghost parses = { λ input a. metrics.Reads input.now (metric_of a) };
-
-    ghost misparses = { λ input e. metrics.Faulty input.now e };
-
-    /// The metric that the attribute is: `read`, with looks that nobody counts.
-    ///
-    /// # Errors
-    /// `OutOfMemory` where memory is refused, and else what is wrong with the value.
-    fn parse(alloc: Global, input: &'a NlaBuffer<'a>) -> Result<Self, DecodeError> {
-        RouteMetric::read(alloc, (), input, &mut Looks::new())
-    }
-}

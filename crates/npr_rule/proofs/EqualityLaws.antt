@@ -7,17 +7,15 @@ use Rattle.npr_base.specs.AddressFamilyLaws.{family_equality}
 use Rattle.npr_base.specs.Equality.{IsEquality, IsEqualityOf}
 use Rattle.npr_base.specs.ViewEquality.{item_equality}
 use Rattle.npr_base.specs.IpLaws.{ip_equality}
-use Rattle.npr_base.specs.MeaningLaws.{enum_meaning, ◌also◌, one_meaning, text_equality, items_meaning}
+use Rattle.npr_base.specs.MeaningLaws.{enum_meaning, ◌also◌, one_meaning, text_equality}
 use Rattle.npr_base.specs.StructLaws.{and_decides, decides_as}
 use Rattle.npr_scalar.specs.EqualityLaws.{realm_equality, ip_protocol_equality, route_protocol_equality}
 use Rattle.npr_rule.specs.Attribute.{Meaning, destination, source, iifname, goto, priority, fw_mark, realm, tun_id, suppress_if_group, suppress_prefix_len, table, fw_mask, oifname, l3mdev, uid_range, protocol, ip_protocol, source_port_range, destination_port_range, other, meaning_of}
-use Rattle.npr_rule.specs.Message.{Rule, message_of}
 use Rattle.npr_rule.specs.contracts.action.RuleActionPartialEq.TheImpl as ActionEq
 use Rattle.npr_rule.specs.contracts.attribute.RuleAttribute.{enum}
 use Rattle.npr_rule.specs.contracts.attribute.RuleAttributePartialEq.TheImpl as AttributeEq
 use Rattle.npr_rule.specs.contracts.flags.RuleFlagsPartialEq.TheImpl as FlagsEq
 use Rattle.npr_rule.specs.contracts.header.RuleHeaderPartialEq.TheImpl as HeaderEq
-use Rattle.npr_rule.specs.contracts.message.RuleMessagePartialEq.TheImpl as MessageEq
 use Rattle.npr_rule.specs.contracts.port_range.RulePortRangePartialEq.TheImpl as PortEq
 use Rattle.npr_rule.specs.contracts.uid_range.RuleUidRangePartialEq.TheImpl as UidEq
 use Rattle.npr_rule.specs.declared.header.RuleHeader.{RuleHeader}
@@ -92,10 +90,3 @@ attribute_equality =
     (λ x. refl, one_meaning (λ f. f) source_port_range port_equality (λ p q e. cc)) also
     (λ x. refl, one_meaning (λ f. f) destination_port_range port_equality (λ p q e. cc)) also
     (λ x. refl, one_meaning (λ f. f) other item_equality (λ p q e. cc)) also tt)
-
-pub message_equality : IsEqualityOf message_of MessageEq.ghosts.eq
-message_equality a b =
-    decides_as
-    (λ p. λ i. record { header = p.0 i; attributes = p.1 i })
-    (λ e. (ap (λ (m : Rule). m.header) e, ap (λ (m : Rule). m.attributes) e))
-    (and_decides (header_equality a.header b.header) (items_meaning meaning_of attribute_equality a.attributes b.attributes))

@@ -4,6 +4,5 @@ pub mod Flags
 pub mod Header
 pub mod IpProtocolByte
 pub mod Message
-pub mod MessageLaws
 pub mod PortRange
 pub mod UidRange

@@ -1,39 +1,43 @@
 -- A rule message: its header, and attributes to the end (linux/fib_rules.h).
-use Rattle.std.specs.Prelude.{ℕ, List, map, Option}
+use Rattle.std.specs.Prelude.{ℕ, List, Option}
 use Rattle.npr_base.specs.declared.refusal.DecodeError.{DecodeError}
 use Rattle.npr_base.specs.declared.refusal.EmitError.{EmitError}
-use Rattle.npr_base.specs.Message.{Message, Body, attributes_of, IsMessage, MessageFault, IsCoherent, spelling, message_misfit}
+use Rattle.npr_base.specs.declared.message.Message.{Message as Stored}
+use Rattle.npr_base.specs.Message.{Message, Body, view, attributes_of, IsMessage, MessageFault, IsCoherent, spelling, message_misfit}
 use Rattle.npr_rule.specs.Attribute.{Meaning, meaning_of, writing, attributes}
 use Rattle.npr_rule.specs.Header.{header}
 use Rattle.npr_rule.specs.declared.header.RuleHeader.{RuleHeader}
-use Rattle.npr_rule.specs.declared.message.RuleMessage.{RuleMessage}
+use Rattle.npr_rule.specs.declared.attribute.RuleAttribute.{RuleAttribute}
 
 -- a message without where it lies in memory
 abbrev pub Rule : Type 0
 Rule = Message RuleHeader Meaning
 
+abbrev pub RuleMessage : Type 0
+RuleMessage = Stored RuleHeader RuleAttribute
+
 abbrev pub message_of : RuleMessage → Rule
-message_of m = record { header = m.header; attributes = map meaning_of m.attributes.items }
+message_of m = view meaning_of m
 
 abbrev pub body : Body RuleHeader writing
 body = attributes_of attributes
 
 -- the bytes are the message
-unfoldable pub IsRuleMessage : List ℕ → Rule → Type 0
+abbrev pub IsRuleMessage : List ℕ → Rule → Type 0
 IsRuleMessage bytes m = IsMessage header body bytes m
 
 -- the first fault of bytes that are none
-unfoldable pub RuleFault : List ℕ → DecodeError → Type 0
+abbrev pub RuleFault : List ℕ → DecodeError → Type 0
 RuleFault bytes e = MessageFault header body bytes e
 
 -- what can be read
-unfoldable pub IsCoherentRule : Rule → Type 0
+abbrev pub IsCoherentRule : Rule → Type 0
 IsCoherentRule m = IsCoherent header body m
 
 -- the canonical bytes
-unfoldable pub rule_bytes : Rule → List ℕ
+abbrev pub rule_bytes : Rule → List ℕ
 rule_bytes m = spelling header writing m
 
 -- the first cause why there are none
-unfoldable pub rule_misfit : Rule → Option EmitError
+abbrev pub rule_misfit : Rule → Option EmitError
 rule_misfit m = message_misfit header writing m

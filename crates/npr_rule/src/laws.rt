@@ -1,14 +1,14 @@
 //! The laws of rule messages, over their definitions alone. Each function does nothing, and its
 //! contract is the law.
 
-ghost use Rattle.std.specs.Prelude.{◌≡◌, ◌^◌, ℕ, List, None};
+ghost use Rattle.std.specs.Prelude.{◌≡◌, ◌^◌, ℕ};
 ghost use Rattle.npr_base.specs.Equality.{IsEquality, IsEqualityOf};
 ghost use Rattle.npr_rule.specs.{
   Action.{action_of, action_number},
   Attribute.{meaning_of},
   Flags.{rule_flags_bits, rule_flags_of},
   Header.{default_header},
-  Message.{Rule, message_of, IsRuleMessage, IsCoherentRule, rule_bytes, rule_misfit},
+  Message.{message_of},
 };
 
 use crate::action::RuleAction;
@@ -18,21 +18,6 @@ use crate::header::{RuleHeader, RuleMessageBuffer};
 use crate::message::RuleMessage;
 use crate::port_range::RulePortRange;
 use crate::uid_range::RuleUidRange;
-
-/// Bytes are one message at most.
-pub fn law_one_reading()
-    ensures { (bytes : List ℕ) (m n : Rule) → IsRuleMessage bytes m → IsRuleMessage bytes n → m ≡ n }
-{}
-
-/// The canonical bytes of a coherent message that fits are that message.
-pub fn law_read_back()
-    ensures { (m : Rule) → IsCoherentRule m → rule_misfit m ≡ None → IsRuleMessage (rule_bytes m) m }
-{}
-
-/// Coherent messages that fit are equal where their canonical bytes are.
-pub fn law_canonical()
-    ensures { (m n : Rule) → IsCoherentRule m → rule_misfit m ≡ None → IsCoherentRule n → rule_misfit n ≡ None → rule_bytes m ≡ rule_bytes n → m ≡ n }
-{}
 
 /// What a number reads as is written as that number.
 pub fn law_numbers()

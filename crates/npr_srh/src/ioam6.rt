@@ -320,20 +320,6 @@ impl Attribute for RouteIoam6Tunnel {
     }
 }
 
-impl<'a> Parseable<&'a NlaBuffer<'a>> for RouteIoam6Tunnel {
-    ghost parses = { λ input a. members.Reads input.now (meaning_of a) };
-
-    ghost misparses = { λ input e. members.Faulty input.now e };
-
-    /// The member that the attribute is: `read`, with looks that nobody counts.
-    ///
-    /// # Errors
-    /// `OutOfMemory` where memory is refused, and else what is wrong with the value.
-    fn parse(alloc: Global, input: &'a NlaBuffer<'a>) -> Result<Self, DecodeError> {
-        RouteIoam6Tunnel::read(alloc, (), input, &mut Looks::new())
-    }
-}
-
 /// The name, and of any other mode its number.
 impl fmt::Display for Ioam6Mode {
     ghost output = { λ mode. Some (ioam6_mode_text mode) };

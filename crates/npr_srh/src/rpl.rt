@@ -286,20 +286,6 @@ impl Attribute for RouteRplIpTunnel {
     }
 }
 
-impl<'a> Parseable<&'a NlaBuffer<'a>> for RouteRplIpTunnel {
-    ghost parses = { λ input a. members.Reads input.now (meaning_of a) };
-
-    ghost misparses = { λ input e. members.Faulty input.now e };
-
-    /// The member that the attribute is: `read`, with looks that nobody counts.
-    ///
-    /// # Errors
-    /// `OutOfMemory` where memory is refused, and else what is wrong with the value.
-    fn parse(alloc: Global, input: &'a NlaBuffer<'a>) -> Result<Self, DecodeError> {
-        RouteRplIpTunnel::read(alloc, (), input, &mut Looks::new())
-    }
-}
-
 /// The words of `ip`: how many segments are still to visit, and all of them, the last one first.
 impl fmt::Display for RouteRplIpTunnel {
     ghost output = { λ member. rpl_text (meaning_of member) };

@@ -182,20 +182,6 @@ impl Attribute for RouteSeg6LocalTunnel {
     }
 }
 
-impl<'a> Parseable<&'a NlaBuffer<'a>> for RouteSeg6LocalTunnel {
-    ghost parses = { λ input a. members.Reads input.now (meaning_of a) };
-
-    ghost misparses = { λ input e. members.Faulty input.now e };
-
-    /// The member that the attribute is: `read`, with looks that nobody counts.
-    ///
-    /// # Errors
-    /// `OutOfMemory` where memory is refused, and else what is wrong with the value.
-    fn parse(alloc: Global, input: &'a NlaBuffer<'a>) -> Result<Self, DecodeError> {
-        RouteSeg6LocalTunnel::read(alloc, (), input, &mut Looks::new())
-    }
-}
-
 /// The words of `ip`: of a routing header the number of its segments, and these, the last one first.
 impl fmt::Display for RouteSeg6LocalTunnel {
     ghost output = { λ member. local_text (meaning_of member) };

@@ -129,20 +129,6 @@ impl Attribute for RouteErspanOpt {
     }
 }
 
-impl<'a> Parseable<&'a NlaBuffer<'a>> for RouteErspanOpt {
-    ghost parses = { λ input a. members.Reads input.now (meaning_of a) };
-
-    ghost misparses = { λ input e. members.Faulty input.now e };
-
-    /// The option that the attribute is: `read`, with looks that nobody counts.
-    ///
-    /// # Errors
-    /// `OutOfMemory` where memory is refused, and else what is wrong with the value.
-    fn parse(alloc: Global, input: &'a NlaBuffer<'a>) -> Result<Self, DecodeError> {
-        RouteErspanOpt::read(alloc, (), input, &mut Looks::new())
-    }
-}
-
 /// Writes a list of options: the last value of each kind, or 0 where there is none. Version 1 has
 /// an index, and every other a direction and an id of the hardware.
 pub(crate) fn write_erspan<W: fmt::Write>(

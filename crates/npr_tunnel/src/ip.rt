@@ -175,20 +175,6 @@ impl Attribute for RouteIpTunnel {
     }
 }
 
-impl<'a> Parseable<&'a NlaBuffer<'a>> for RouteIpTunnel {
-    ghost parses = { λ input a. members.Reads input.now (meaning_of a) };
-
-    ghost misparses = { λ input e. members.Faulty input.now e };
-
-    /// The member that the attribute is: `read`, with looks that nobody counts.
-    ///
-    /// # Errors
-    /// `OutOfMemory` where memory is refused, and else what is wrong with the value.
-    fn parse(alloc: Global, input: &'a NlaBuffer<'a>) -> Result<Self, DecodeError> {
-        RouteIpTunnel::read(alloc, (), input, &mut Looks::new())
-    }
-}
-
 /// The name of what stands there, and its value; of flags and options their names alone.
 impl fmt::Display for RouteIpTunnel {
     ghost output = { λ a. ip_tunnel_text (meaning_of a) };

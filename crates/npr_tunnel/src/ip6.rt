@@ -175,20 +175,6 @@ impl Attribute for RouteIp6Tunnel {
     }
 }
 
-impl<'a> Parseable<&'a NlaBuffer<'a>> for RouteIp6Tunnel {
-    ghost parses = { λ input a. members6.Reads input.now (meaning6_of a) };
-
-    ghost misparses = { λ input e. members6.Faulty input.now e };
-
-    /// The member that the attribute is: `read`, with looks that nobody counts.
-    ///
-    /// # Errors
-    /// `OutOfMemory` where memory is refused, and else what is wrong with the value.
-    fn parse(alloc: Global, input: &'a NlaBuffer<'a>) -> Result<Self, DecodeError> {
-        RouteIp6Tunnel::read(alloc, (), input, &mut Looks::new())
-    }
-}
-
 /// The name of what stands there, and its value; of flags and options their names alone.
 impl fmt::Display for RouteIp6Tunnel {
     ghost output = { λ a. ip6_tunnel_text (meaning6_of a) };

@@ -119,17 +119,3 @@ impl Attribute for RouteMplsIpTunnel {
         self.clone(alloc)
     }
 }
-
-impl<'a> Parseable<&'a NlaBuffer<'a>> for RouteMplsIpTunnel {
-    ghost parses = { λ input a. members.Reads input.now (meaning_of a) };
-
-    ghost misparses = { λ input e. members.Faulty input.now e };
-
-    /// The member that the attribute is: `read`, with looks that nobody counts.
-    ///
-    /// # Errors
-    /// `OutOfMemory` where memory is refused, and else what is wrong with the value.
-    fn parse(alloc: Global, input: &'a NlaBuffer<'a>) -> Result<Self, DecodeError> {
-        RouteMplsIpTunnel::read(alloc, (), input, &mut Looks::new())
-    }
-}

@@ -140,20 +140,6 @@ impl Attribute for RouteLwTunnelOpt {
     }
 }
 
-impl<'a> Parseable<&'a NlaBuffer<'a>> for RouteLwTunnelOpt {
-    ghost parses = { λ input a. members.Reads input.now (meaning_of a) };
-
-    ghost misparses = { λ input e. members.Faulty input.now e };
-
-    /// The option that the attribute is: `read`, with looks that nobody counts.
-    ///
-    /// # Errors
-    /// `OutOfMemory` where memory is refused, and else what is wrong with the value.
-    fn parse(alloc: Global, input: &'a NlaBuffer<'a>) -> Result<Self, DecodeError> {
-        RouteLwTunnelOpt::read(alloc, (), input, &mut Looks::new())
-    }
-}
-
 /// The options of Geneve or of VXLAN with a comma between them, and those of ERSPAN as one.
 impl fmt::Display for RouteLwTunnelOpt {
     ghost output = { λ a. tunnel_option_text (meaning_of a) };

@@ -111,20 +111,6 @@ impl Attribute for RouteVxlanOpt {
     }
 }
 
-impl<'a> Parseable<&'a NlaBuffer<'a>> for RouteVxlanOpt {
-    ghost parses = { λ input a. members.Reads input.now (meaning_of a) };
-
-    ghost misparses = { λ input e. members.Faulty input.now e };
-
-    /// The option that the attribute is: `read`, with looks that nobody counts.
-    ///
-    /// # Errors
-    /// `OutOfMemory` where memory is refused, and else what is wrong with the value.
-    fn parse(alloc: Global, input: &'a NlaBuffer<'a>) -> Result<Self, DecodeError> {
-        RouteVxlanOpt::read(alloc, (), input, &mut Looks::new())
-    }
-}
-
 /// The name of the options of VXLAN, and the value of this one.
 impl fmt::Display for RouteVxlanOpt {
     ghost output = { λ a. vxlan_text (meaning_of a) };

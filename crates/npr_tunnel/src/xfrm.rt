@@ -127,20 +127,6 @@ impl Attribute for RouteXfrmTunnel {
     }
 }
 
-impl<'a> Parseable<&'a NlaBuffer<'a>> for RouteXfrmTunnel {
-    ghost parses = { λ input a. members.Reads input.now (meaning_of a) };
-
-    ghost misparses = { λ input e. members.Faulty input.now e };
-
-    /// The member that the attribute is: `read`, with looks that nobody counts.
-    ///
-    /// # Errors
-    /// `OutOfMemory` where memory is refused, and else what is wrong with the value.
-    fn parse(alloc: Global, input: &'a NlaBuffer<'a>) -> Result<Self, DecodeError> {
-        RouteXfrmTunnel::read(alloc, (), input, &mut Looks::new())
-    }
-}
-
 /// The name of what stands there, and its value.
 impl fmt::Display for RouteXfrmTunnel {
     ghost output = { λ a. xfrm_text (meaning_of a) };

@@ -1,4 +1,6 @@
-use Rattle.npr_address.proofs.EqualityLaws.{attribute_equality, header_equality, message_equality}
+use Rattle.npr_base.proofs.Messages.{message_equality}
+use Rattle.npr_address.specs.Attribute.{meaning_of}
+use Rattle.npr_address.proofs.EqualityLaws.{attribute_equality, header_equality}
 use Rattle.npr_address.proofs.laws.law_equality.Goals as goal
 
 pub returns-clause-header : goal.returns-clause-header
@@ -8,4 +10,4 @@ pub returns-clause-attribute : goal.returns-clause-attribute
 returns-clause-attribute c = attribute_equality
 
 pub returns-clause-message : goal.returns-clause-message
-returns-clause-message c = message_equality
+returns-clause-message c = message_equality meaning_of header_equality attribute_equality

@@ -1,0 +1,254 @@
+//! Messages: a header of a fixed length, and attributes to the end.
+
+ghost use Rattle.std.specs.Prelude.{◌≡◌, ◌≢◌, ◌≤◌, ◌<◌, ◌*◌, ◌-◌, ℕ, List, Option, None, [], length, drop, map, IfOk, IfErr, IsErrOf, OnErr};
+ghost use Rattle.npr_base.specs.{
+  declared.ip.IpAddr.{IpAddr},
+  declared.refusal.DecodeError.TheVariants.{OutOfMemory},
+  Codec.{leading},
+  Counts.{AddsAtMostTwice, SawEach},
+  Family.{encodings, first_unfit, list_members},
+  Framing.{Item, Front},
+  Layout.{Layout},
+  Message.{Body, Message as Meant, view, IsMessage, MessageFault, IsCoherent, spelling, message_misfit},
+  Table.{Writing},
+};
+
+use crate::attribute::Attribute;
+use crate::ip::IpAddr;
+use crate::list::{check_list, clone_list, list_len, write_list};
+use crate::looks::Looks;
+use crate::refusal::{DecodeError, EmitError};
+use crate::traits::{Emitable, Parseable};
+use std::alloc::{AllocError, Global};
+
+/// The header of a kind of message, with what the bytes after it mean.
+pub trait Header: Emitable + Copy + Default {
+    /// What stands behind the header.
+    type Attribute: Attribute;
+
+    /// What an attribute is, and how it is written: as its family says, by the laws below.
+    ghost Meaning: { Type 0 };
+
+    ghost meaning: { Self.Attribute → Meaning };
+
+    ghost writing: { Writing Meaning };
+
+    /// How the header is read and written.
+    ghost layout: { Layout Self };
+
+    /// What the bytes after it mean.
+    ghost body: { Body Self writing };
+
+    /// The header with each field at its default.
+    ghost standard: { Self };
+
+    /// The length of the header, in bytes.
+    fn size() -> usize
+        ensures { result ≡ layout.size };
+
+    /// The header in the first bytes, which are there.
+    fn in_front(bytes: &[u8]) -> Self
+        requires { layout.size ≤ length bytes.now }
+        ensures { (leading layout).Reads bytes.now result };
+
+    /// The attributes after the header. Each look at a header of theirs is counted.
+    ///
+    /// # Errors
+    /// `OutOfMemory` where memory is refused, and else the first fault in reading order.
+    fn read_list(
+        &self,
+        alloc: Global,
+        bytes: &[u8],
+        looks: &mut Looks,
+    ) -> Result<Vec<Self::Attribute>, DecodeError>
+        ensures ok { IfOk result (λ v. body.Reads self.now bytes.now (map meaning v.items)) }
+        ensures refused { IfErr result (λ e. e ≢ OutOfMemory → body.Faulty self.now bytes.now e) }
+        ensures memory { IsErrOf result OutOfMemory → (x : Item) × (rest : List ℕ) × Front bytes.now x rest }
+        ensures bounded { AddsAtMostTwice looks.old looks.new (length bytes.now) }
+        ensures counted { IfOk result (λ v. SawEach looks.old looks.new (list_members writing.members (map meaning v.items))) };
+
+    ghost written: { (h : Self) → Self.bytes h ≡ layout.encode h };
+
+    ghost fits: { (h : Self) → Self.unfit h ≡ None };
+
+    ghost size_is: { (h : Self) → length (layout.encode h) ≡ layout.size };
+
+    ghost standard_is: { (h : Self) → Self.is_default h → h ≡ standard };
+
+    ghost encodings_are: { (xs : List Self.Attribute) → encodings Self.Attribute.writing.writes (map Self.Attribute.meaning xs) ≡ encodings writing.writes (map meaning xs) };
+
+    ghost misfits_are: { (xs : List Self.Attribute) → first_unfit Self.Attribute.writing.misfit (map Self.Attribute.meaning xs) ≡ first_unfit writing.misfit (map meaning xs) };
+
+    ghost meanings_are: { (xs ys : List Self.Attribute) → map Self.Attribute.meaning xs ≡ map Self.Attribute.meaning ys → map meaning xs ≡ map meaning ys };
+}
+
+/// A message: a header, and attributes to the end.
+#[derive(Debug, Drop, PartialEq, Eq)]
+pub struct Message<H, A> {
+    /// The header.
+    pub header: H,
+    /// The attributes, in their order.
+    pub attributes: Vec<A>,
+}
+
+impl<H: Header> Message<H, H::Attribute> {
+    /// A message with each field of the header at its default, and no attributes. It takes no
+    /// memory.
+    pub fn new(alloc: Global) -> Self
+        ensures { view H.meaning result ≡ record { header = H.standard; attributes = [] } }
+    {
+        Message {
+            header: H::default(),
+            attributes: Vec::new(alloc),
+        }
+    }
+
+    /// An equal message.
+    ///
+    /// # Errors
+    /// `AllocError` where memory is refused; without attributes none is taken.
+    pub fn clone(&self, alloc: Global) -> Result<Self, AllocError>
+        ensures ok { IfOk result (λ m. view H.meaning m ≡ view H.meaning self.now) }
+        ensures memory { OnErr result (0 < length self.now.attributes.items) }
+    {
+        Ok(Message {
+            header: self.header,
+            attributes: clone_list(alloc, self.attributes.as_slice())?,
+        })
+    }
+
+    /// `parse`, with each look at a header counted.
+    ///
+    /// # Errors
+    /// `OutOfMemory` where memory is refused, and else the first fault in reading order.
+    pub fn parse_counted(
+        alloc: Global,
+        bytes: &[u8],
+        looks: &mut Looks,
+    ) -> Result<Self, DecodeError>
+        // What is read is what the bytes mean.
+        ensures ok { IfOk result (λ m. IsMessage H.layout H.body bytes.now (view H.meaning m)) }
+        // They mean nothing else.
+        ensures one { IfOk result (λ m. (n : Meant H H.Meaning) → IsMessage H.layout H.body bytes.now n → view H.meaning m ≡ n) }
+        ensures coherent { IfOk result (λ m. IsCoherent H.layout H.body (view H.meaning m)) }
+        // A refusal is the first fault.
+        ensures refused { IfErr result (λ e. e ≢ OutOfMemory → MessageFault H.layout H.body bytes.now e) }
+        // Then the bytes mean nothing.
+        ensures none { IfErr result (λ e. e ≢ OutOfMemory → (n : Meant H H.Meaning) → IsMessage H.layout H.body bytes.now n → ⊥) }
+        // Canonical bytes give back their message.
+        ensures again { IfOk result (λ m. (n : Meant H H.Meaning) → IsCoherent H.layout H.body n → message_misfit H.layout H.writing n ≡ None
+            → bytes.now ≡ spelling H.layout H.writing n → view H.meaning m ≡ n) }
+        // Memory is taken behind a first whole attribute alone.
+        ensures memory { IsErrOf result OutOfMemory → (x : Item) × (rest : List ℕ) × Front (drop H.layout.size bytes.now) x rest }
+        // Canonical bytes are at most five halves as long as what was read.
+        ensures growth { IfOk result (λ m. 2 * length (spelling H.layout H.writing (view H.meaning m)) ≤ 5 * length bytes.now) }
+        // Each level of lists takes 12 bytes behind the header.
+        ensures depth { IfOk result (λ m. 12 * H.body.depth (view H.meaning m).attributes ≤ length bytes.now - H.layout.size) }
+        // At most two looks for four bytes behind the header, and one for twelve and two that fail,
+        ensures bounded { AddsAtMostTwice looks.old looks.new (length bytes.now - H.layout.size) }
+        // and none where there is no whole header.
+        ensures short { length bytes.now < H.layout.size → looks.new ≡ looks.old }
+        // Each attribute of a message, and each member inside one, had a look.
+        ensures counted { IfOk result (λ m. SawEach looks.old looks.new (list_members H.writing.members (view H.meaning m).attributes)) }
+    {
+        read::<H>(alloc, bytes, looks)
+    }
+}
+
+fn read<H: Header>(
+    alloc: Global,
+    bytes: &[u8],
+    looks: &mut Looks,
+) -> Result<Message<H, H::Attribute>, DecodeError>
+    ensures ok { IfOk result (λ m. IsMessage H.layout H.body bytes.now (view H.meaning m)) }
+    ensures refused { IfErr result (λ e. e ≢ OutOfMemory → MessageFault H.layout H.body bytes.now e) }
+    ensures memory { IsErrOf result OutOfMemory → (x : Item) × (rest : List ℕ) × Front (drop H.layout.size bytes.now) x rest }
+    ensures bounded { AddsAtMostTwice looks.old looks.new (length bytes.now - H.layout.size) }
+    ensures short { length bytes.now < H.layout.size → looks.new ≡ looks.old }
+    ensures counted { IfOk result (λ m. SawEach looks.old looks.new (list_members H.writing.members (view H.meaning m).attributes)) }
+{
+    let size = H::size();
+    if bytes.len() < size {
+        return Err(DecodeError::HeaderTooShort {
+            got: bytes.len(),
+            want: size,
+        });
+    }
+    let header = H::in_front(bytes);
+    let attributes = header.read_list(alloc, &bytes[size..], looks)?;
+    Ok(Message { header, attributes })
+}
+
+impl<'a, H: Header> Parseable<&'a [u8]> for Message<H, H::Attribute> {
+    ghost parses = { λ bytes m. IsMessage H.layout H.body bytes.now (view H.meaning m) };
+
+    ghost misparses = { λ bytes e. MessageFault H.layout H.body bytes.now e };
+
+    /// The message that the bytes are.
+    ///
+    /// # Errors
+    /// `OutOfMemory` where memory is refused, and else the first fault in reading order.
+    fn parse(alloc: Global, bytes: &'a [u8]) -> Result<Self, DecodeError>
+        // What is read is what the bytes mean.
+        ensures ok { IfOk result (λ m. IsMessage H.layout H.body bytes.now (view H.meaning m)) }
+        // They mean nothing else.
+        ensures one { IfOk result (λ m. (n : Meant H H.Meaning) → IsMessage H.layout H.body bytes.now n → view H.meaning m ≡ n) }
+        ensures coherent { IfOk result (λ m. IsCoherent H.layout H.body (view H.meaning m)) }
+        // A refusal is the first fault.
+        ensures refused { IfErr result (λ e. e ≢ OutOfMemory → MessageFault H.layout H.body bytes.now e) }
+        // Then the bytes mean nothing.
+        ensures none { IfErr result (λ e. e ≢ OutOfMemory → (n : Meant H H.Meaning) → IsMessage H.layout H.body bytes.now n → ⊥) }
+        // Canonical bytes give back their message.
+        ensures again { IfOk result (λ m. (n : Meant H H.Meaning) → IsCoherent H.layout H.body n → message_misfit H.layout H.writing n ≡ None
+            → bytes.now ≡ spelling H.layout H.writing n → view H.meaning m ≡ n) }
+        // Memory is taken behind a first whole attribute alone.
+        ensures memory { IsErrOf result OutOfMemory → (x : Item) × (rest : List ℕ) × Front (drop H.layout.size bytes.now) x rest }
+        // Canonical bytes are at most five halves as long as what was read.
+        ensures growth { IfOk result (λ m. 2 * length (spelling H.layout H.writing (view H.meaning m)) ≤ 5 * length bytes.now) }
+        // Each level of lists takes 12 bytes behind the header.
+        ensures depth { IfOk result (λ m. 12 * H.body.depth (view H.meaning m).attributes ≤ length bytes.now - H.layout.size) }
+    {
+        Message::<H, H::Attribute>::parse_counted(alloc, bytes, &mut Looks::new())
+    }
+}
+
+#[tactic(auto, unfolding(crate::specs::Message::spelling, crate::specs::Message::message_misfit))]
+impl<H: Header> Emitable for Message<H, H::Attribute> {
+    ghost bytes = { λ m. spelling H.layout H.writing (view H.meaning m) };
+
+    ghost unfit = { λ m. message_misfit H.layout H.writing (view H.meaning m) };
+
+    fn check(&self) -> Result<usize, EmitError> {
+        let len = check_list(self.attributes.as_slice())?;
+        len.checked_add(H::size()).ok_or(EmitError::Total)
+    }
+
+    fn buffer_len(&self) -> usize {
+        H::size() + list_len(self.attributes.as_slice())
+    }
+
+    fn emit(&self, out: &mut [u8]) {
+        write_list(self.attributes.as_slice(), &mut out[H::size()..]);
+        self.header.emit(out);
+    }
+}
+
+/// The header of a kind of message whose attributes name gateways.
+pub trait Gateways: Header {
+    /// The address of the first gateway of IP among them.
+    ghost gateway: { List Self.Attribute → Option IpAddr };
+
+    /// The address of the first gateway of IP among them.
+    fn first_gateway(list: &[Self::Attribute]) -> Option<IpAddr>
+        ensures { result ≡ gateway list.now };
+}
+
+impl<H: Gateways> Message<H, H::Attribute> {
+    /// The address of the first gateway of IP among the attributes. Where the route goes by several
+    /// paths, each next hop has its own.
+    pub fn gateway(&self) -> Option<IpAddr>
+        ensures { result ≡ H.gateway self.now.attributes.items }
+    {
+        H::first_gateway(self.attributes.as_slice())
+    }
+}
