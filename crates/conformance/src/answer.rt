@@ -1,55 +1,24 @@
 //! The answer of a parser to bytes, as a line of text.
 
-ghost use Rattle.std.specs.Prelude.{◌≡◌, ◌≢◌, IfSome, IsNone};
-ghost use Rattle.conformance.specs.{declared.answer.Word.{Word}, Word.{word_name}};
-
-use netlink_packet_route::address::AddressMessage;
-use netlink_packet_route::framing::{DecodeError, Emitable, Parseable, WriteError, to_vec};
-use netlink_packet_route::route::RouteMessage;
-use netlink_packet_route::rule::RuleMessage;
+use netlink_packet_route::MessageKind;
+use netlink_packet_route::address::AddressHeader;
+use netlink_packet_route::framing::{DecodeError, Header, Message, Parseable, WriteError, to_vec};
+use netlink_packet_route::route::RouteHeader;
+use netlink_packet_route::rule::RuleHeader;
 use std::alloc::{AllocError, Global};
-
-/// A kind of message.
-#[derive(Clone, Copy, Debug, PartialEq, Eq)]
-pub enum Word {
-    /// Address messages.
-    Address,
-    /// Route messages.
-    Route,
-    /// Rule messages.
-    Rule,
-}
-
-impl Word {
-    /// The kind of this name.
-    pub fn of(name: &str) -> Option<Word>
-        ensures named { IfSome result (λ word. name.now ≡ word_name word) }
-        ensures other { IsNone result → (word : Word) → name.now ≢ word_name word }
-    {
-        match name {
-            "address" => Some(Word::Address),
-            "route" => Some(Word::Route),
-            "rule" => Some(Word::Rule),
-            _ => None,
-        }
-    }
-}
 
 /// What the parser of this kind answers to the bytes: `canonical` with the canonical bytes in
 /// hexadecimal, `refused` with the name of the refusal, or `unfit` with the name of the cause.
-pub fn answer(alloc: Global, word: Word, bytes: &[u8]) -> Result<String, AllocError> {
-    match word {
-        Word::Address => written(alloc, AddressMessage::parse(alloc, bytes)),
-        Word::Route => written(alloc, RouteMessage::parse(alloc, bytes)),
-        Word::Rule => written(alloc, RuleMessage::parse(alloc, bytes)),
+pub fn answer(alloc: Global, kind: MessageKind, bytes: &[u8]) -> Result<String, AllocError> {
+    match kind {
+        MessageKind::Address => answer_by::<AddressHeader>(alloc, bytes),
+        MessageKind::Route => answer_by::<RouteHeader>(alloc, bytes),
+        MessageKind::Rule => answer_by::<RuleHeader>(alloc, bytes),
     }
 }
 
-fn written<M: Emitable + Drop>(
-    alloc: Global,
-    read: Result<M, DecodeError>,
-) -> Result<String, AllocError> {
-    let message = match read {
+fn answer_by<H: Header>(alloc: Global, bytes: &[u8]) -> Result<String, AllocError> {
+    let message = match Message::<H, H::Attribute>::parse(alloc, bytes) {
         Ok(message) => message,
         Err(DecodeError::OutOfMemory) => return Err(AllocError),
         Err(fault) => {

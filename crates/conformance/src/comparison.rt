@@ -2,8 +2,9 @@
 
 ghost use Rattle.std.specs.Prelude.{◌≡◌};
 
-use crate::answer::{Word, answer};
+use crate::answer::answer;
 use hex::FromHexError;
+use netlink_packet_route::MessageKind;
 use std::alloc::{AllocError, Global};
 use std::io::{BufRead, BufReader};
 use std::{fs, io};
@@ -50,13 +51,18 @@ impl Comparison {
     }
 
     /// Compares each line of a file, one in memory at a time.
-    pub fn compare_file(&mut self, rt: &HostRuntime, word: Word, path: &str) -> Result<(), Fault> {
+    pub fn compare_file(
+        &mut self,
+        rt: &HostRuntime,
+        kind: MessageKind,
+        path: &str,
+    ) -> Result<(), Fault> {
         let file = fs::open(rt, path)?;
         let mut number = 0u64;
         for line in BufReader::new(rt.alloc(), file)?.lines(rt.alloc()) {
             let line = line?;
             number = number.saturating_add(1);
-            if !self.compare_line(rt, word, line.as_str())? {
+            if !self.compare_line(rt, kind, line.as_str())? {
                 return Err(Fault::Form { line: number });
             }
         }
@@ -65,7 +71,12 @@ impl Comparison {
 
     /// Compares a line, and prints it where it is one of the first that are answered otherwise.
     /// `false` where the line is out of form.
-    fn compare_line(&mut self, rt: &HostRuntime, word: Word, line: &str) -> Result<bool, Fault> {
+    fn compare_line(
+        &mut self,
+        rt: &HostRuntime,
+        kind: MessageKind,
+        line: &str,
+    ) -> Result<bool, Fault> {
         let Some((digits, wanted)) = line.split_once('\t') else {
             return Ok(false);
         };
@@ -75,7 +86,7 @@ impl Comparison {
         if !is_answer(wanted) {
             return Ok(false);
         }
-        let answered = answer(rt.alloc(), word, bytes.as_slice())?;
+        let answered = answer(rt.alloc(), kind, bytes.as_slice())?;
         self.lines = self.lines.saturating_add(1);
         if answered.as_str() != wanted {
             self.differ = self.differ.saturating_add(1);

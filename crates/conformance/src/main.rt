@@ -7,8 +7,8 @@
 mod answer;
 mod comparison;
 
-use answer::Word;
 use comparison::Comparison;
+use netlink_packet_route::MessageKind;
 use std::process::ExitCode;
 use std::{env, fmt, io};
 
@@ -22,14 +22,14 @@ fn main(rt: HostRuntime) -> ExitCode {
     let mut comparison = Comparison::new();
     let mut current = None;
     for argument in words.iter() {
-        if let Some(word) = Word::of(argument.as_str()) {
-            current = Some(word);
+        if let Some(kind) = MessageKind::of(argument.as_str()) {
+            current = Some(kind);
             continue;
         }
-        let Some(word) = current else {
+        let Some(kind) = current else {
             return fail(&rt, format_args!("{USAGE}"));
         };
-        if let Err(fault) = comparison.compare_file(&rt, word, argument.as_str()) {
+        if let Err(fault) = comparison.compare_file(&rt, kind, argument.as_str()) {
             return fail(&rt, format_args!("{argument}: {fault}"));
         }
     }

@@ -1,12 +1,14 @@
 //! Callers of `netlink_packet_route`, to be copied: each has a contract that says what it does, and
-//! none but the walk by hand and the message of one's own needs a proof of its own.
+//! none but the walk by hand and the function over any header needs a proof of its own.
 #![tactic(auto)]
 
 pub mod addresses;
 pub mod again;
 pub mod fault;
-pub mod link;
-pub mod link_message;
+pub mod neighbour;
+pub mod neighbour_message;
 pub mod routes;
 pub mod stored;
+#[cfg(test)]
+mod tests;
 pub mod walk;

@@ -1,11 +1,13 @@
 //! What is asked of an answer: that a message which is read is written as bytes that give it back,
 //! that these are no longer than promised, and that looks at headers are bounded.
 
-use crate::kind::Kind;
-use netlink_packet_route::address::AddressMessage;
-use netlink_packet_route::framing::{DecodeError, Emitable, Looks, Parseable, WriteError, to_vec};
-use netlink_packet_route::route::RouteMessage;
-use netlink_packet_route::rule::RuleMessage;
+use netlink_packet_route::MessageKind;
+use netlink_packet_route::address::AddressHeader;
+use netlink_packet_route::framing::{
+    DecodeError, Emitable, Header, Looks, Message, Parseable, WriteError, to_vec,
+};
+use netlink_packet_route::route::RouteHeader;
+use netlink_packet_route::rule::RuleHeader;
 use std::alloc::{AllocError, Global};
 
 /// What was answered to bytes.
@@ -25,36 +27,32 @@ pub enum Answer {
 ///
 /// # Errors
 /// `AllocError` where memory is refused.
-pub fn answer_to(alloc: Global, kind: Kind, bytes: &[u8]) -> Result<Answer, AllocError> {
+pub fn answer_to(alloc: Global, kind: MessageKind, bytes: &[u8]) -> Result<Answer, AllocError> {
     match kind {
-        Kind::Address => {
-            let read = AddressMessage::parse(alloc, bytes);
-            let (answer, message, out) = written(alloc, read, bytes.len())?;
-            let again = AddressMessage::parse(alloc, out.as_slice());
-            compared(alloc, answer, message, again, out.as_slice())
-        }
-        Kind::Rule => {
-            let read = RuleMessage::parse(alloc, bytes);
-            let (answer, message, out) = written(alloc, read, bytes.len())?;
-            let again = RuleMessage::parse(alloc, out.as_slice());
-            compared(alloc, answer, message, again, out.as_slice())
-        }
-        Kind::Route => {
-            let mut looks = Looks::new();
-            let read = RouteMessage::parse_counted(alloc, bytes, &mut looks);
-            if !is_bounded(&looks, bytes.len()) {
-                return Ok(Answer::Broken("looks"));
-            }
-            let (answer, message, out) = written(alloc, read, bytes.len())?;
-            let again = RouteMessage::parse(alloc, out.as_slice());
-            compared(alloc, answer, message, again, out.as_slice())
-        }
+        MessageKind::Address => answer_by::<AddressHeader>(alloc, bytes),
+        MessageKind::Route => answer_by::<RouteHeader>(alloc, bytes),
+        MessageKind::Rule => answer_by::<RuleHeader>(alloc, bytes),
     }
 }
 
-/// Looks at the headers of a route of so many bytes are at most those that its length allows.
-fn is_bounded(looks: &Looks, length: usize) -> bool {
-    let behind = length.saturating_sub(12) as u64;
+/// The answer of the parser of messages with such a header.
+fn answer_by<H: Header + PartialEq>(alloc: Global, bytes: &[u8]) -> Result<Answer, AllocError>
+where
+    H::Attribute: PartialEq,
+{
+    let mut looks = Looks::new();
+    let read = Message::<H, H::Attribute>::parse_counted(alloc, bytes, &mut looks);
+    if !is_bounded(&looks, bytes.len().saturating_sub(H::size())) {
+        return Ok(Answer::Broken("looks"));
+    }
+    let (answer, message, out) = written(alloc, read, bytes.len())?;
+    let again = Message::<H, H::Attribute>::parse(alloc, out.as_slice());
+    compared(alloc, answer, message, again, out.as_slice())
+}
+
+/// Looks at headers are at most those that so many bytes behind the header of a message allow.
+fn is_bounded(looks: &Looks, behind: usize) -> bool {
+    let behind = behind as u64;
     looks.successful() <= behind / 4 * 2 && looks.failed() <= behind / 12 + 2
 }
 

@@ -7,13 +7,12 @@
 #![tactic(auto)]
 
 mod asking;
-mod kind;
 mod making;
 mod random;
 mod tally;
 mod worked;
 
-use kind::Kind;
+use netlink_packet_route::MessageKind;
 use std::process::ExitCode;
 use std::{env, io};
 use tally::Tally;
@@ -57,13 +56,13 @@ fn all(rt: &HostRuntime, seed: u64, count: u64) -> io::Result<u64> {
     let mut changed = 0u64;
     let mut made = 0u64;
     let mut broken = 0u64;
-    for (kind, name) in Kind::ALL {
+    for kind in MessageKind::ALL {
         let mut tally = Tally::new(rt.alloc());
         tally.ask_changed(rt, kind)?;
         changed = changed.saturating_add(tally.asked);
         tally.ask_made(rt, kind, seed, count)?;
         made = made.saturating_add(count);
-        eprintln!(rt; "{name}: {} messages", tally.asked)?;
+        eprintln!(rt; "{}: {} messages", kind.name(), tally.asked)?;
         tally.print(rt)?;
         broken = broken.saturating_add(tally.broken);
     }

@@ -1,8 +1,8 @@
 //! Messages that are made at random: attributes of known numbers, mostly with a length that fits,
 //! lists inside lists, and bytes that are changed behind.
 
-use crate::kind::Kind;
 use crate::random::Random;
+use netlink_packet_route::MessageKind;
 use std::alloc::{AllocError, Global};
 use std::mem;
 
@@ -61,14 +61,14 @@ impl Maker {
     ///
     /// # Errors
     /// `AllocError` where memory is refused.
-    pub fn message(&mut self, kind: Kind, out: &mut Vec<u8>) -> Result<(), AllocError> {
+    pub fn message(&mut self, kind: MessageKind, out: &mut Vec<u8>) -> Result<(), AllocError> {
         out.clear();
         self.list.clear();
         self.family = self.random.one_of(&[2, 2, 10, 10, 28, 7, 17], 0);
         match kind {
-            Kind::Address => self.leaves(&ADDRESS)?,
-            Kind::Rule => self.leaves(&RULE)?,
-            Kind::Route => self.route()?,
+            MessageKind::Address => self.leaves(&ADDRESS)?,
+            MessageKind::Rule => self.leaves(&RULE)?,
+            MessageKind::Route => self.route()?,
         }
         self.header(kind, out)?;
         out.extend_from_slice(self.list.as_slice())?;
@@ -79,11 +79,11 @@ impl Maker {
     }
 
     /// The header: with a family, for routes mostly a type, and else what comes.
-    fn header(&mut self, kind: Kind, out: &mut Vec<u8>) -> Result<(), AllocError> {
+    fn header(&mut self, kind: MessageKind, out: &mut Vec<u8>) -> Result<(), AllocError> {
         let [a, b, c, d, e, f, g, _] = self.random.number().to_le_bytes();
         let route_type = self.random.one_of(&[1, 1, 1, 5], g);
         out.extend_from_slice(&[self.family, a, b, c, d, e, f, route_type])?;
-        if kind != Kind::Address {
+        if kind != MessageKind::Address {
             let [a, b, c, d, ..] = self.random.number().to_le_bytes();
             out.extend_from_slice(&[a, b, c, d])?;
         }

@@ -1,9 +1,9 @@
 //! How many messages got which answer.
 
 use crate::asking::{Answer, answer_to};
-use crate::kind::Kind;
 use crate::making::Maker;
 use crate::worked::messages;
+use netlink_packet_route::MessageKind;
 use std::alloc::{AllocError, Global};
 use std::collections::BTreeMap;
 use std::io;
@@ -38,7 +38,7 @@ impl Tally {
     pub fn ask_made(
         &mut self,
         rt: &HostRuntime,
-        kind: Kind,
+        kind: MessageKind,
         seed: u64,
         count: u64,
     ) -> io::Result<()> {
@@ -55,7 +55,7 @@ impl Tally {
     ///
     /// # Errors
     /// Where memory is refused, or a broken message can't be printed.
-    pub fn ask_changed(&mut self, rt: &HostRuntime, kind: Kind) -> io::Result<()> {
+    pub fn ask_changed(&mut self, rt: &HostRuntime, kind: MessageKind) -> io::Result<()> {
         for text in messages(kind) {
             let mut bytes = Vec::new(rt.alloc());
             bytes.resize(text.len() / 2, 0u8)?;
@@ -76,7 +76,7 @@ impl Tally {
     }
 
     /// Counts the answer to the bytes, and prints them where it is none that is promised.
-    fn ask(&mut self, rt: &HostRuntime, kind: Kind, bytes: &[u8]) -> io::Result<()> {
+    fn ask(&mut self, rt: &HostRuntime, kind: MessageKind, bytes: &[u8]) -> io::Result<()> {
         let answered = answer_to(rt.alloc(), kind, bytes)?;
         self.asked = self.asked.saturating_add(1);
         let count = self.counts.entry(answered)?.or_insert(0);

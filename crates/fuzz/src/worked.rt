@@ -1,6 +1,6 @@
 //! Messages of which each byte is changed to each value.
 
-use crate::kind::Kind;
+use netlink_packet_route::MessageKind;
 
 /// Address messages: that of the loopback interface, and one with a name of no bytes.
 const ADDRESSES: [&str; 2] = [
@@ -58,10 +58,10 @@ const ROUTES: [&str; 31] = [
 ];
 
 /// The messages of a kind, as hexadecimal text.
-pub fn messages(kind: Kind) -> &'static [&'static str] {
+pub fn messages(kind: MessageKind) -> &'static [&'static str] {
     match kind {
-        Kind::Address => &ADDRESSES,
-        Kind::Route => &ROUTES,
-        Kind::Rule => &RULES,
+        MessageKind::Address => &ADDRESSES,
+        MessageKind::Route => &ROUTES,
+        MessageKind::Rule => &RULES,
     }
 }

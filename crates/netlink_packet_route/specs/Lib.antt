@@ -9,6 +9,7 @@ pub use Rattle.npr_base.specs.Counts
 pub use Rattle.npr_base.specs.DroppedCodec
 pub use Rattle.npr_base.specs.Equality
 pub use Rattle.npr_base.specs.Family
+pub use Rattle.npr_base.specs.Fields
 pub use Rattle.npr_base.specs.Framing
 pub use Rattle.npr_base.specs.FrontLaws
 pub use Rattle.npr_base.specs.Ip
@@ -17,6 +18,7 @@ pub use Rattle.npr_base.specs.ViewEquality
 pub use Rattle.npr_base.specs.Layout
 pub use Rattle.npr_base.specs.ListCodec
 pub use Rattle.npr_base.specs.ListLaws
+pub mod MessageKind
 pub mod Messages
 pub use Rattle.npr_base.specs.Name
 pub use Rattle.npr_base.specs.Refusal

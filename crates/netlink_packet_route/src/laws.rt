@@ -1,18 +1,17 @@
 //! The laws of messages, over their definitions alone. Each function does nothing, and
 //! its contract is the law.
 
-ghost use Rattle.npr_base.specs.Walk.{CutsInTwo};
-ghost use Rattle.npr_address.specs.{
-  Attribute.{attributes as address_attributes},
-};
+ghost use Rattle.std.specs.{Prelude.{◌≡◌}, List.{Contains}};
+ghost use Rattle.npr_base.specs.{Equality.{IsEquality}, Walk.{CutsInTwo}};
+ghost use Rattle.npr_address.specs.Attribute.{attributes as address_attributes};
 ghost use Rattle.npr_route.specs.{
   FlatAttribute.{Context},
   AttributeLaws.{attributes as route_attributes},
 };
-ghost use Rattle.npr_rule.specs.{
-  Attribute.{attributes as rule_attributes},
-};
+ghost use Rattle.npr_rule.specs.Attribute.{attributes as rule_attributes};
+ghost use Rattle.netlink_packet_route.specs.MessageKind.{kind_name};
 
+use crate::kind::MessageKind;
 use npr_address::AddressAttribute;
 pub use npr_address::laws::{
     law_address_flags, law_default as law_address_default, law_equality as law_address_equality,
@@ -59,3 +58,11 @@ pub fn law_cut()
     law_cut_in_two::<RouteAttribute>();
     law_cut_in_two::<RuleAttribute>();
 }
+
+/// Each kind of message is one of `MessageKind::ALL`, no two have one name, and `==` answers whether
+/// two are equal.
+pub fn law_message_kinds()
+    ensures all { (kind : MessageKind) → Contains MessageKind.ALL kind }
+    ensures names { (kind other : MessageKind) → kind_name kind ≡ kind_name other → kind ≡ other }
+    ensures equality { IsEquality ⟦<MessageKind as PartialEq>⟧.eq }
+{}

@@ -3,12 +3,14 @@
 //! A message is read by `parse` and written by `emit`, once `check` accepts it. Names and paths are
 //! those of the Rust crate `netlink-packet-route`; what that crate takes from others stands in
 //! `framing` and `net`, what a family of one's own is made of in `family`, the numbers of values in
-//! `numbers`, and all laws in `laws`.
+//! `numbers`, and all laws in `laws`. A program that reads messages of any kind tells them by
+//! `MessageKind`.
 #![tactic(auto)]
 
 pub mod address;
 pub mod family;
 pub mod framing;
+mod kind;
 pub mod laws;
 pub mod net;
 pub mod numbers;
@@ -16,5 +18,6 @@ pub mod route;
 pub mod rule;
 
 pub use bitflags::Flags;
+pub use kind::MessageKind;
 pub use npr_base::AddressFamily;
 pub use npr_scalar::IpProtocol;

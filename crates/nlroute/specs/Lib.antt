@@ -3,4 +3,3 @@ pub mod Error
 pub mod HexText
 pub mod Report
 pub mod Run
-pub mod Which

@@ -4,6 +4,7 @@
 ghost use Rattle.std.specs.{Prelude.{◌≡◌, IfErr}, Process.{exit_status}};
 ghost use Rattle.nlroute.specs.{Error.{status_of}, declared.error.RunError.TheVariants.{Memory}};
 
+mod command_line;
 mod counted;
 mod error;
 mod hex_text;
@@ -13,19 +14,19 @@ mod report;
 mod run;
 #[cfg(test)]
 mod tests;
-mod which;
 
+use command_line::{USAGE, kind_of};
 use counted::Counted;
 use error::RunError;
+use netlink_packet_route::MessageKind;
 use output::finish;
 use std::process::ExitCode;
 use std::rt::Env;
 use std::{env, io};
-use which::{USAGE, Which};
 
 fn main(rt: HostRuntime) -> ExitCode {
     match chosen(&rt) {
-        Ok(Some(which)) => report_on(&rt, which),
+        Ok(Some(kind)) => report_on(&rt, kind),
         Ok(None) => {
             let _ = rt.eprintln(USAGE);
             ExitCode::from(2)
@@ -35,11 +36,11 @@ fn main(rt: HostRuntime) -> ExitCode {
 }
 
 /// The kind of message that the command line names, if it names one.
-fn chosen(rt: &(impl Env + AllocGlobal)) -> Result<Option<Which>, RunError>
+fn chosen(rt: &(impl Env + AllocGlobal)) -> Result<Option<MessageKind>, RunError>
     ensures { IfErr result (λ e. e ≡ Memory) }
 {
     match words(rt) {
-        Ok(words) => Ok(Which::of(words.as_slice())),
+        Ok(words) => Ok(kind_of(words.as_slice())),
         // Also where a word is no UTF-8.
         Err(_) => Err(RunError::Memory),
     }
@@ -52,10 +53,10 @@ fn words(rt: &(impl Env + AllocGlobal)) -> io::Result<Vec<String>> {
 }
 
 /// Runs over standard input and standard output.
-fn report_on(rt: &HostRuntime, which: Which) -> ExitCode {
+fn report_on(rt: &HostRuntime, kind: MessageKind) -> ExitCode {
     let mut reader = Counted::new(rt.stdin());
     let mut writer = Counted::new(rt.stdout());
-    let ended = run::run(rt.alloc(), which, &mut reader, &mut writer);
+    let ended = run::run(rt.alloc(), kind, &mut reader, &mut writer);
     match ended.and_then(|()| finish(&mut writer)) {
         Ok(()) => ExitCode::SUCCESS,
         Err(fault) => refuse(rt, fault),

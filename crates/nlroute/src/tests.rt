@@ -1,12 +1,13 @@
 //! Lines, words, texts, and readers and writers that fail.
 
+use crate::command_line::kind_of;
 use crate::counted::Counted;
 use crate::error::RunError;
 use crate::hex_text::bytes_of;
 use crate::input::read_all;
 use crate::output::{finish, write_text};
 use crate::run::run;
-use crate::which::Which;
+use netlink_packet_route::MessageKind;
 use netlink_packet_route::framing::{DecodeError, EmitError};
 use std::alloc::{AllocError, Global};
 use std::io;
@@ -34,24 +35,27 @@ fn each_error_has_its_status_and_line(rt: HostRuntime) -> Result<(), Fail> {
     Ok(())
 }
 
-fn which_of(alloc: Global, words: &[&str]) -> Result<Option<Which>, AllocError> {
+fn kind_named(alloc: Global, words: &[&str]) -> Result<Option<MessageKind>, AllocError> {
     let mut owned = Vec::new(alloc);
     for word in words {
         owned.push(String::from_str(alloc, word)?)?;
     }
-    Ok(Which::of(owned.as_slice()))
+    Ok(kind_of(owned.as_slice()))
 }
 
 #[test]
 fn one_known_word_is_wanted(rt: HostRuntime) -> Result<(), Fail> {
     let alloc = rt.alloc();
-    assert_eq!(rt; which_of(alloc, &["address"])?, Some(Which::Address));
-    assert_eq!(rt; which_of(alloc, &["route"])?, Some(Which::Route));
-    assert_eq!(rt; which_of(alloc, &["rule"])?, Some(Which::Rule));
-    assert_eq!(rt; which_of(alloc, &[])?, None);
-    assert_eq!(rt; which_of(alloc, &["Address"])?, None);
-    assert_eq!(rt; which_of(alloc, &["addresses"])?, None);
-    assert_eq!(rt; which_of(alloc, &["address", "address"])?, None);
+    assert_eq!(rt;
+        kind_named(alloc, &["address"])?,
+        Some(MessageKind::Address)
+    );
+    assert_eq!(rt; kind_named(alloc, &["route"])?, Some(MessageKind::Route));
+    assert_eq!(rt; kind_named(alloc, &["rule"])?, Some(MessageKind::Rule));
+    assert_eq!(rt; kind_named(alloc, &[])?, None);
+    assert_eq!(rt; kind_named(alloc, &["Address"])?, None);
+    assert_eq!(rt; kind_named(alloc, &["addresses"])?, None);
+    assert_eq!(rt; kind_named(alloc, &["address", "address"])?, None);
     Ok(())
 }
 
@@ -199,13 +203,13 @@ const REPORT: &[u8] =
 fn reports_over_memory(rt: HostRuntime) -> Result<(), Fail> {
     let mut reader = Counted::new(LOOPBACK);
     let mut writer = Counted::new(Vec::new(rt.alloc()));
-    run(rt.alloc(), Which::Address, &mut reader, &mut writer)?;
+    run(rt.alloc(), MessageKind::Address, &mut reader, &mut writer)?;
     assert_eq!(rt; writer.into_inner().as_slice(), REPORT);
 
     // An unknown number keeps both flags of its kind.
     let mut reader = Counted::new(b"020880fe01000000 080063c0deadbeef".as_slice());
     let mut writer = Counted::new(Vec::new(rt.alloc()));
-    run(rt.alloc(), Which::Address, &mut reader, &mut writer)?;
+    run(rt.alloc(), MessageKind::Address, &mut reader, &mut writer)?;
     let report =
         b"address: 16 bytes, 1 attributes\nkind 49251 length 4\ncanonical 16 bytes\n020880fe01000000080063c0deadbeef\n";
     assert_eq!(rt; writer.into_inner().as_slice(), report.as_slice());
@@ -216,7 +220,7 @@ fn reports_over_memory(rt: HostRuntime) -> Result<(), Fail> {
 fn reports_a_route(rt: HostRuntime) -> Result<(), Fail> {
     let mut reader = Counted::new(b"02000000fe03000100000000080063c0deadbeef".as_slice());
     let mut writer = Counted::new(Vec::new(rt.alloc()));
-    run(rt.alloc(), Which::Route, &mut reader, &mut writer)?;
+    run(rt.alloc(), MessageKind::Route, &mut reader, &mut writer)?;
     let report =
         b"route: 20 bytes, 1 attributes\nkind 49251 length 4\ncanonical 20 bytes\n02000000fe03000100000000080063c0deadbeef\n";
     assert_eq!(rt; writer.into_inner().as_slice(), report.as_slice());
@@ -224,7 +228,7 @@ fn reports_a_route(rt: HostRuntime) -> Result<(), Fail> {
     // The last padding is not there, and is written.
     let mut reader = Counted::new(b"02000000fe03000100000000 0500140001".as_slice());
     let mut writer = Counted::new(Vec::new(rt.alloc()));
-    run(rt.alloc(), Which::Route, &mut reader, &mut writer)?;
+    run(rt.alloc(), MessageKind::Route, &mut reader, &mut writer)?;
     let report =
         b"route: 17 bytes, 1 attributes\nkind 20 length 1\ncanonical 20 bytes\n02000000fe030001000000000500140001000000\n";
     assert_eq!(rt; writer.into_inner().as_slice(), report.as_slice());
@@ -235,7 +239,7 @@ fn reports_a_route(rt: HostRuntime) -> Result<(), Fail> {
 fn reports_a_rule(rt: HostRuntime) -> Result<(), Fail> {
     let mut reader = Counted::new(b"02000000fe00000100000000 0800030065746830".as_slice());
     let mut writer = Counted::new(Vec::new(rt.alloc()));
-    run(rt.alloc(), Which::Rule, &mut reader, &mut writer)?;
+    run(rt.alloc(), MessageKind::Rule, &mut reader, &mut writer)?;
     let report =
         b"rule: 20 bytes, 1 attributes\nkind 3 length 5\ncanonical 24 bytes\n02000000fe00000100000000090003006574683000000000\n";
     assert_eq!(rt; writer.into_inner().as_slice(), report.as_slice());
@@ -246,14 +250,14 @@ fn reports_a_rule(rt: HostRuntime) -> Result<(), Fail> {
 fn reports_to_a_slow_writer(rt: HostRuntime) -> Result<(), Fail> {
     let mut reader = Counted::new(LOOPBACK);
     let mut writer = Sink::new(rt.alloc(), 1, usize::MAX);
-    run(rt.alloc(), Which::Address, &mut reader, &mut writer)?;
+    run(rt.alloc(), MessageKind::Address, &mut reader, &mut writer)?;
     assert_eq!(rt; writer.into_inner().taken.as_slice(), REPORT);
 
     // One that fails holds a beginning of the report, at whichever call.
     for failing in 1..=REPORT.len() {
         let mut reader = Counted::new(LOOPBACK);
         let mut writer = Sink::new(rt.alloc(), 1, failing);
-        let ended = run(rt.alloc(), Which::Address, &mut reader, &mut writer);
+        let ended = run(rt.alloc(), MessageKind::Address, &mut reader, &mut writer);
         assert_eq!(rt; ended, Err(RunError::Write));
         let taken = writer.into_inner().taken;
         assert!(rt; REPORT.starts_with(taken.as_slice()));
@@ -263,17 +267,17 @@ fn reports_to_a_slow_writer(rt: HostRuntime) -> Result<(), Fail> {
     // One that takes no byte.
     let mut reader = Counted::new(LOOPBACK);
     let mut writer = Sink::new(rt.alloc(), 0, usize::MAX);
-    let ended = run(rt.alloc(), Which::Address, &mut reader, &mut writer);
+    let ended = run(rt.alloc(), MessageKind::Address, &mut reader, &mut writer);
     assert_eq!(rt; ended, Err(RunError::Write));
     assert_eq!(rt; writer.into_inner().taken.len(), 0);
     Ok(())
 }
 
 /// How a run over this text ends; nothing is written unless it ends well.
-fn ending(rt: &(impl Abort + AllocGlobal), which: Which, text: &[u8]) -> Result<(), RunError> {
+fn ending(rt: &(impl Abort + AllocGlobal), kind: MessageKind, text: &[u8]) -> Result<(), RunError> {
     let mut reader = Counted::new(text);
     let mut writer = Counted::new(Vec::new(rt.alloc()));
-    let ended = run(rt.alloc(), which, &mut reader, &mut writer);
+    let ended = run(rt.alloc(), kind, &mut reader, &mut writer);
     assert!(rt; ended.is_ok() || writer.into_inner().is_empty());
     ended
 }
@@ -281,11 +285,14 @@ fn ending(rt: &(impl Abort + AllocGlobal), which: Which, text: &[u8]) -> Result<
 #[test]
 fn writes_nothing_after_a_fault(rt: HostRuntime) -> Result<(), Fail> {
     let short = RunError::Refused(DecodeError::HeaderTooShort { got: 0, want: 8 });
-    assert_eq!(rt; ending(&rt, Which::Address, b""), Err(short));
-    assert_eq!(rt; ending(&rt, Which::Address, b"0 2"), Err(RunError::BadHex));
+    assert_eq!(rt; ending(&rt, MessageKind::Address, b""), Err(short));
+    assert_eq!(rt;
+        ending(&rt, MessageKind::Address, b"0 2"),
+        Err(RunError::BadHex)
+    );
     let rest = RunError::Refused(DecodeError::AttributeTooShort { got: 2 });
     assert_eq!(rt;
-        ending(&rt, Which::Address, b"020880fe01000000 0000"),
+        ending(&rt, MessageKind::Address, b"020880fe01000000 0000"),
         Err(rest)
     );
 
@@ -301,7 +308,10 @@ fn writes_nothing_after_a_fault(rt: HostRuntime) -> Result<(), Fail> {
         kind: 3,
         len: 65_532,
     });
-    assert_eq!(rt; ending(&rt, Which::Address, text.as_slice()), Err(long));
+    assert_eq!(rt;
+        ending(&rt, MessageKind::Address, text.as_slice()),
+        Err(long)
+    );
 
     // The same of a rule's interface, after a header that is four bytes longer.
     let front = b"02000000fe00000100000000ffff0300";
@@ -311,17 +321,17 @@ fn writes_nothing_after_a_fault(rt: HostRuntime) -> Result<(), Fail> {
             text[at] = *digit;
         }
     }
-    assert_eq!(rt; ending(&rt, Which::Rule, text.as_slice()), Err(long));
+    assert_eq!(rt; ending(&rt, MessageKind::Rule, text.as_slice()), Err(long));
     Ok(())
 }
 
 #[test]
 fn refuses_a_route(rt: HostRuntime) {
     let short = RunError::Refused(DecodeError::HeaderTooShort { got: 0, want: 12 });
-    assert_eq!(rt; ending(&rt, Which::Route, b""), Err(short));
+    assert_eq!(rt; ending(&rt, MessageKind::Route, b""), Err(short));
     let via = RunError::Refused(DecodeError::ViaFamily(258));
     let text = b"02000000fe03000100000000 0a00120002010a0000010000";
-    assert_eq!(rt; ending(&rt, Which::Route, text), Err(via));
+    assert_eq!(rt; ending(&rt, MessageKind::Route, text), Err(via));
 }
 
 #[test]
@@ -335,7 +345,7 @@ fn tells_a_failed_read(rt: HostRuntime) -> Result<(), Fail> {
                 kind,
             });
             let mut writer = Counted::new(Vec::new(rt.alloc()));
-            let ended = run(rt.alloc(), Which::Address, &mut reader, &mut writer);
+            let ended = run(rt.alloc(), MessageKind::Address, &mut reader, &mut writer);
             assert_eq!(rt; ended, Err(RunError::Read));
             assert_eq!(rt; writer.into_inner().len(), 0);
         }

@@ -9,7 +9,7 @@ use Rattle.npr_base.specs.Layout.{le32, octets, signed32}
 use Rattle.npr_base.specs.Codec.{exactly, leading}
 use Rattle.npr_base.specs.IpCodec.{ip}
 use Rattle.npr_base.specs.Name.{name}
-use Rattle.npr_base.specs.Table.{Writing, Reading, Row, row, Held, held, held_other, held_kind, held_value, held_misfit, held-reads, IsHeld}
+use Rattle.npr_base.specs.Table.{Writing, Reading, table_of, Row, row, Held, held, held_other, held_kind, held_value, held_misfit, held-reads, IsHeld}
 use Rattle.npr_base.specs.Table.{item_of, placed, IsOther, Aligned, ReadsAt}
 use Rattle.npr_base.specs.TableLaws.{flat, other-back}
 use Rattle.npr_address.specs.AddressFlags.{address_flags}
@@ -109,14 +109,4 @@ writing = placed place
 
 -- the family
 abbrev pub attributes : Reading writing
-attributes = flat (record {
-  rows = rows;
-  other = other;
-  place = place;
-  Coherent = Coherent;
-  aligned = aligned;
-  other_is = λ x. refl;
-  other_coherent = λ x is. is;
-  kinds = kinds;
-  back = back;
-})
+attributes = flat (table_of rows other place Coherent aligned (λ x. refl) (λ x is. is) kinds back)

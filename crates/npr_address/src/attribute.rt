@@ -1,6 +1,7 @@
 //! The attributes of an address message: `IFA_*` of `linux/if_addr.h`.
 
-ghost use Rattle.std.specs.Prelude.{◌≡◌, ◌≢◌, ◌<◌, ◌+◌, ◌*◌, false, length, IfOk, IfErr};
+ghost use Rattle.std.specs.Prelude.{◌≡◌, ◌≢◌, ◌<◌, ◌+◌, ◌*◌, length, IfOk, IfErr};
+ghost use Rattle.npr_base.specs.Table.{shape_by};
 ghost use Rattle.std.proofs.Common.{refl};
 ghost use Rattle.npr_base.specs.declared.refusal.DecodeError.TheVariants.{OutOfMemory};
 ghost use Rattle.npr_address.specs.{
@@ -13,8 +14,7 @@ use crate::cache_info::{CacheInfo, CacheInfoBuffer};
 use bitflags::Flags;
 use npr_base::{
     AttrFamily, Attribute, DecodeError, DefaultNla, EmitError, IpAddr, Ipv4Addr, Ipv6Addr, Looks,
-    Nla, NlaBuffer, Parseable, Place, ip_len, put_ip, read_i32, read_ipv4, read_ipv6, read_name,
-    read_u8, read_u32, write_array, write_bytes, write_ip, write_name,
+    Nla, NlaBuffer, Parseable, Place, clone_rows, kind_rows, len_rows, put_rows, write_rows,
 };
 use std::alloc::{AllocError, Global};
 
@@ -47,6 +47,25 @@ pub enum AddressAttribute {
     Other(DefaultNla),
 }
 
+/// The rows of the table.
+macro_rules! rows {
+    ($body:ident ($($given:tt)*)) => {
+        $body!(($($given)*) AddressAttribute {
+            1 Address(ip);
+            2 Local(ip);
+            3 Label(name);
+            4 Broadcast(octets4);
+            5 Anycast(octets16);
+            6 CacheInfo(CacheInfo leading 16);
+            7 Multicast(octets16);
+            8 Flags(AddressFlags flags le32);
+            9 RoutePriority(le32);
+            10 TargetNetNsId(signed32);
+            11 Protocol(AddressProtocol as byte);
+        })
+    };
+}
+
 impl AddressAttribute {
     /// An equal attribute.
     ///
@@ -55,51 +74,17 @@ impl AddressAttribute {
     pub fn clone(&self, alloc: Global) -> Result<Self, AllocError>
         ensures { IfOk result (λ a. meaning_of a ≡ meaning_of self.now) }
     {
-        match self {
-            AddressAttribute::Address(ip) => Ok(AddressAttribute::Address(*ip)),
-            AddressAttribute::Local(ip) => Ok(AddressAttribute::Local(*ip)),
-            AddressAttribute::Label(name) => {
-                String::from_str(alloc, name.as_str()).map(AddressAttribute::Label)
-            }
-            AddressAttribute::Broadcast(ip) => Ok(AddressAttribute::Broadcast(*ip)),
-            AddressAttribute::Anycast(ip) => Ok(AddressAttribute::Anycast(*ip)),
-            AddressAttribute::CacheInfo(info) => Ok(AddressAttribute::CacheInfo(*info)),
-            AddressAttribute::Multicast(ip) => Ok(AddressAttribute::Multicast(*ip)),
-            AddressAttribute::Flags(flags) => Ok(AddressAttribute::Flags(*flags)),
-            AddressAttribute::RoutePriority(n) => Ok(AddressAttribute::RoutePriority(*n)),
-            AddressAttribute::TargetNetNsId(n) => Ok(AddressAttribute::TargetNetNsId(*n)),
-            AddressAttribute::Protocol(protocol) => Ok(AddressAttribute::Protocol(*protocol)),
-            AddressAttribute::Other(nla) => nla.clone(alloc).map(AddressAttribute::Other),
-        }
+        rows!(clone_rows(self, alloc))
     }
 }
 
 const FAMILY: AttrFamily = AttrFamily::Address;
 
 impl Nla for AddressAttribute {
-    ghost item = { λ a. writing.writes (meaning_of a) };
-
-    ghost nested = { λ _. false };
-
-    ghost unfit = { λ a. writing.misfit (meaning_of a) };
-
-    ghost fits_short = { λ a h. writing.short (meaning_of a) h };
+    ghost shape = { λ a. shape_by writing (meaning_of a) };
 
     fn kind(&self) -> u16 {
-        match self {
-            AddressAttribute::Address(_) => 1,
-            AddressAttribute::Local(_) => 2,
-            AddressAttribute::Label(_) => 3,
-            AddressAttribute::Broadcast(_) => 4,
-            AddressAttribute::Anycast(_) => 5,
-            AddressAttribute::CacheInfo(_) => 6,
-            AddressAttribute::Multicast(_) => 7,
-            AddressAttribute::Flags(_) => 8,
-            AddressAttribute::RoutePriority(_) => 9,
-            AddressAttribute::TargetNetNsId(_) => 10,
-            AddressAttribute::Protocol(_) => 11,
-            AddressAttribute::Other(nla) => nla.kind(),
-        }
+        rows!(kind_rows(self))
     }
 
     fn is_nested(&self) -> bool {
@@ -113,37 +98,11 @@ impl Nla for AddressAttribute {
     fn value_len(&self) -> usize
         ensures { result ≡ length (writing.writes (meaning_of self.now)).value }
     {
-        match self {
-            AddressAttribute::Address(ip) | AddressAttribute::Local(ip) => ip_len(ip),
-            AddressAttribute::Label(name) => name.len() + 1,
-            AddressAttribute::Broadcast(ip) => ip.octets().len(),
-            AddressAttribute::Anycast(ip) | AddressAttribute::Multicast(ip) => ip.octets().len(),
-            AddressAttribute::CacheInfo(_) => 16,
-            AddressAttribute::Flags(_)
-            | AddressAttribute::RoutePriority(_)
-            | AddressAttribute::TargetNetNsId(_) => 4,
-            AddressAttribute::Protocol(_) => 1,
-            AddressAttribute::Other(nla) => nla.value().len(),
-        }
+        rows!(len_rows(self))
     }
 
     fn write_value(&self, out: &mut [u8]) -> usize {
-        match self {
-            AddressAttribute::Address(ip) | AddressAttribute::Local(ip) => write_ip(ip, out),
-            AddressAttribute::Label(name) => write_name(name.as_str(), out),
-            AddressAttribute::CacheInfo(info) => {
-                write_array(CacheInfoBuffer::from(info).to_bytes(), out)
-            }
-            AddressAttribute::Broadcast(ip) => write_array(ip.octets(), out),
-            AddressAttribute::Anycast(ip) | AddressAttribute::Multicast(ip) => {
-                write_array(ip.octets(), out)
-            }
-            AddressAttribute::Flags(flags) => write_array(flags.bits().to_le_bytes(), out),
-            AddressAttribute::RoutePriority(n) => write_array(n.to_le_bytes(), out),
-            AddressAttribute::TargetNetNsId(n) => write_array(n.to_le_bytes(), out),
-            AddressAttribute::Protocol(protocol) => write_array([u8::from(*protocol)], out),
-            AddressAttribute::Other(nla) => write_bytes(nla.value(), out),
-        }
+        rows!(write_rows(self, out))
     }
 }
 
@@ -157,28 +116,7 @@ fn read_into<P: Place<AddressAttribute>>(
     ensures ok { IfOk result (λ _. (a : _) × P.puts place.old a place.new × attributes.Reads item.now (meaning_of a)) }
     ensures refused { IfErr result (λ e. e ≢ OutOfMemory → attributes.Faulty item.now e) }
 {
-    let value = item.value();
-    match item.kind() {
-        1 => put_ip(place, value, FAMILY.at(1), AddressAttribute::Address)?,
-        2 => put_ip(place, value, FAMILY.at(2), AddressAttribute::Local)?,
-        3 => place.put(AddressAttribute::Label(read_name(alloc, value, FAMILY.at(3))?)),
-        4 => place.put(AddressAttribute::Broadcast(read_ipv4(value, FAMILY.at(4))?)),
-        5 => place.put(AddressAttribute::Anycast(read_ipv6(value, FAMILY.at(5))?)),
-        6 => place.put(AddressAttribute::CacheInfo(CacheInfo::parse(value)?)),
-        7 => place.put(AddressAttribute::Multicast(read_ipv6(value, FAMILY.at(7))?)),
-        8 => place.put(AddressAttribute::Flags(AddressFlags::from_bits_retain(read_u32(
-            value,
-            FAMILY.at(8),
-        )?))),
-        9 => place.put(AddressAttribute::RoutePriority(read_u32(value, FAMILY.at(9))?)),
-        10 => place.put(AddressAttribute::TargetNetNsId(read_i32(value, FAMILY.at(10))?)),
-        11 => place.put(AddressAttribute::Protocol(AddressProtocol::from(read_u8(
-            value,
-            FAMILY.at(11),
-        )?))),
-        _ => place.put(AddressAttribute::Other(DefaultNla::parse(alloc, item)?)),
-    }
-    Ok(())
+    rows!(put_rows(place, alloc, item))
 }
 
 impl Attribute for AddressAttribute {
@@ -194,7 +132,7 @@ impl Attribute for AddressAttribute {
 
     ghost item_is = { λ a. refl };
 
-    ghost unfit_is = { λ a. refl };
+    ghost misfit_is = { λ a. refl };
 
     fn read(
         alloc: Global,

@@ -5,9 +5,9 @@ ghost use Rattle.npr_base.specs.{
   Codec.{leading},
   Refusal.{no_place},
 };
-ghost use Rattle.npr_address.specs.CacheInfo.{cache_info, cache_info_buffer, buffer_of};
+ghost use Rattle.npr_address.specs.CacheInfo.{cache_info};
 
-use npr_base::{DecodeError, EmitError, Emitable, write_array};
+use npr_base::{DecodeError, EmitError, Emitable, leading_octets, write_array};
 
 /// How long an address is preferred and valid, in seconds, and when it was made and changed, in
 /// hundredths of a second since the start of the system.
@@ -23,32 +23,20 @@ pub struct CacheInfo {
     pub tstamp: u32,
 }
 
-/// The layout of a [`CacheInfo`]: 16 bytes, four numbers of 4 bytes, little endian.
-#[derive(Clone, Copy, Debug, PartialEq, Eq)]
-pub struct CacheInfoBuffer {
-    pub ifa_preferred: u32,
-    pub ifa_valid: u32,
-    pub cstamp: u32,
-    pub tstamp: u32,
-}
+/// A [`CacheInfo`] is its own layout: 16 bytes, four numbers of 4 bytes, little endian.
+pub type CacheInfoBuffer = CacheInfo;
 
-impl CacheInfoBuffer {
-    /// The layout in the first 16 bytes; more are not looked at.
+impl CacheInfo {
+    /// The values in the first 16 bytes; more are not looked at.
     ///
     /// # Errors
     /// `HeaderTooShort` below 16 bytes.
     pub fn parse(bytes: &[u8]) -> Result<Self, DecodeError>
-        ensures ok { IfOk result (λ b. (leading cache_info_buffer).Reads bytes.now b) }
-        ensures refused { IfErr result (λ e. (leading cache_info_buffer).Wrong no_place bytes.now e) }
+        ensures ok { IfOk result (λ info. (leading cache_info).Reads bytes.now info) }
+        ensures refused { IfErr result (λ e. (leading cache_info).Wrong no_place bytes.now e) }
     {
-        if bytes.len() < 16 {
-            return Err(DecodeError::HeaderTooShort {
-                got: bytes.len(),
-                want: 16,
-            });
-        }
-        let b = &bytes[..16];
-        Ok(CacheInfoBuffer {
+        let b = leading_octets(bytes, 16)?;
+        Ok(CacheInfo {
             ifa_preferred: u32::from_le_bytes([b[0], b[1], b[2], b[3]]),
             ifa_valid: u32::from_le_bytes([b[4], b[5], b[6], b[7]]),
             cstamp: u32::from_le_bytes([b[8], b[9], b[10], b[11]]),
@@ -58,7 +46,7 @@ impl CacheInfoBuffer {
 
     /// The 16 bytes of the layout.
     pub fn to_bytes(&self) -> [u8; 16]
-        ensures { result ≡ cache_info_buffer.encode self.now }
+        ensures { result ≡ cache_info.encode self.now }
     {
         let [a0, a1, a2, a3] = self.ifa_preferred.to_le_bytes();
         let [b0, b1, b2, b3] = self.ifa_valid.to_le_bytes();
@@ -71,34 +59,10 @@ impl CacheInfoBuffer {
 }
 
 impl<'a> From<&'a CacheInfo> for CacheInfoBuffer {
-    ghost from_gives = { λ info b. b ≡ buffer_of info.now };
+    ghost from_gives = { λ info b. b ≡ info.now };
 
     fn from(info: &'a CacheInfo) -> CacheInfoBuffer {
-        CacheInfoBuffer {
-            ifa_preferred: info.ifa_preferred,
-            ifa_valid: info.ifa_valid,
-            cstamp: info.cstamp,
-            tstamp: info.tstamp,
-        }
-    }
-}
-
-impl CacheInfo {
-    /// The values in the first 16 bytes; more are not looked at.
-    ///
-    /// # Errors
-    /// `HeaderTooShort` below 16 bytes.
-    pub fn parse(bytes: &[u8]) -> Result<Self, DecodeError>
-        ensures ok { IfOk result (λ info. (leading cache_info).Reads bytes.now info) }
-        ensures refused { IfErr result (λ e. (leading cache_info).Wrong no_place bytes.now e) }
-    {
-        let b = CacheInfoBuffer::parse(bytes)?;
-        Ok(CacheInfo {
-            ifa_preferred: b.ifa_preferred,
-            ifa_valid: b.ifa_valid,
-            cstamp: b.cstamp,
-            tstamp: b.tstamp,
-        })
+        *info
     }
 }
 
@@ -116,6 +80,6 @@ impl Emitable for CacheInfo {
     }
 
     fn emit(&self, out: &mut [u8]) {
-        write_array(CacheInfoBuffer::from(self).to_bytes(), out);
+        write_array(self.to_bytes(), out);
     }
 }

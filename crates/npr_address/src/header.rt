@@ -10,7 +10,7 @@ ghost use Rattle.npr_address.specs.Header.{header_buffer, header, buffer_of};
 use crate::addr_flags::AddressHeaderFlags;
 use crate::addr_scope::AddressScope;
 use bitflags::Flags;
-use npr_base::{AddressFamily, DecodeError, EmitError, Emitable, write_array};
+use npr_base::{AddressFamily, DecodeError, EmitError, Emitable, leading_octets, write_array};
 
 /// The header of an address message.
 #[derive(Clone, Copy, Debug, Default, PartialEq, Eq)]
@@ -47,13 +47,7 @@ impl AddressMessageBuffer {
         ensures ok { IfOk result (λ b. (leading header_buffer).Reads bytes.now b) }
         ensures refused { IfErr result (λ e. (leading header_buffer).Wrong no_place bytes.now e) }
     {
-        if bytes.len() < 8 {
-            return Err(DecodeError::HeaderTooShort {
-                got: bytes.len(),
-                want: 8,
-            });
-        }
-        let b = &bytes[..8];
+        let b = leading_octets(bytes, 8)?;
         Ok(AddressMessageBuffer {
             family: b[0],
             prefix_len: b[1],
@@ -104,13 +98,7 @@ impl AddressHeader {
         ensures ok { IfOk result (λ h. (leading header).Reads bytes.now h) }
         ensures refused { IfErr result (λ e. (leading header).Wrong no_place bytes.now e) }
     {
-        if bytes.len() < 8 {
-            return Err(DecodeError::HeaderTooShort {
-                got: bytes.len(),
-                want: 8,
-            });
-        }
-        Ok(AddressHeader::in_front(bytes))
+        Ok(AddressHeader::in_front(leading_octets(bytes, 8)?))
     }
 
     /// The header in the first 8 bytes, which are there.

@@ -1,15 +1,23 @@
 -- Structs of numbers, one behind the other: a field is read at its place, and fields are joined to a layout.
 --     Field            a value at a place of a fixed layout
 --     one_byte, le_two, le_four, le_eight      numbers, the lowest byte first
+--     unused           a byte that nothing is read from
+--     form_of          a value in the place of its number
+--     family_byte      the family of an address, in a byte
 --     then             a field behind another
 --     fields           all of them as a layout
+--     structure        a struct of them, each seen by its name
 use Rattle.std.specs.Prelude.{◌≡◌, ℕ, ◌+◌, ◌^◌, ◌<◌, List, [], ◌∷◌, ◌++◌, length, slice_index}
 use Rattle.std.specs.Int.{w16, w32, w64, to_le_bytes, from_le_bytes}
-use Rattle.std.proofs.Common.{refl, sym, ap, ◌∙◌, append_assoc, length-append}
+use Rattle.std.proofs.Common.{refl, sym, ap, subst, ◌∙◌, append_assoc, length-append}
 use Rattle.std.proofs.lemmas.List.{append-nil, get_or-append-add}
 use Rattle.std.proofs.lemmas.Nat.{from_le_bytes-to_le_bytes_2, from_le_bytes-to_le_bytes_4, from_le_bytes-to_le_bytes_8}
+use Rattle.npr_base.specs.AddressFamily.{family_of, family_number}
+use Rattle.npr_base.specs.AddressFamilyLaws.{family_number-family_of}
+use Rattle.npr_base.specs.declared.address_family.AddressFamily.{AddressFamily}
 use Rattle.npr_base.specs.Framing.{IsBytes}
-use Rattle.npr_base.specs.Layout.{Layout, le16_at, le32_at, le64_at, le16_at-holds, le32_at-holds, le64_at-holds}
+use Rattle.npr_base.specs.Rows.{IsFormed}
+use Rattle.npr_base.specs.Layout.{Layout, formed, le16_at, le32_at, le64_at, le16_at-holds, le32_at-holds, le64_at-holds}
 
 pub record Field (V : Type 0) : Type 1 where
   pub width : ℕ
@@ -82,6 +90,33 @@ le_eight = record {
   Holds-at = le64_at-holds;
 }
 
+-- a byte that is not looked at, and written 0
+abbrev pub unused : Field (Unit {0})
+unused = record {
+  width = 1;
+  at = λ bytes i. tt;
+  encode = λ x. 0 ∷ [];
+  Holds = λ x. Unit {0};
+  length-encode = λ x. refl;
+  at-encode = λ front more x h. refl;
+  Holds-at = λ bytes i is. tt;
+}
+
+-- values with numbers, as enumerations and sets of flags: the number stands there
+abbrev pub form_of : {N V : Type 0} (F : Field N) (form : N → V) (number : V → N) → ((d : N) → number (form d) ≡ d) → Field V
+form_of F form number same = record {
+  width = F.width;
+  at = λ bytes i. form (F.at bytes i);
+  encode = λ x. F.encode (number x);
+  Holds = λ x. F.Holds (number x) × IsFormed form number x;
+  length-encode = λ x. F.length-encode (number x);
+  at-encode = λ front more x h. ap form (F.at-encode front more (number x) h.0) ∙ sym h.1;
+  Holds-at = λ bytes i is. (subst F.Holds (sym (same (F.at bytes i))) (F.Holds-at bytes i is), sym (ap form (same (F.at bytes i))));
+}
+
+abbrev pub family_byte : Field AddressFamily
+family_byte = form_of one_byte family_of family_number family_number-family_of
+
 module _ {A B : Type 0} (F : Field A) (G : Field B) where
   pub second-back : (front more : List ℕ) (x : A) (y : B) → G.Holds y → G.at (front ++ ((F.encode x ++ G.encode y) ++ more)) (length front + F.width) ≡ y
   second-back front more x y h =
@@ -118,3 +153,7 @@ fields F = record {
   decode-encode = λ x h. ap (λ (w : List ℕ). F.at w 0) (sym (append-nil (F.encode x))) ∙ F.at-encode [] [] x h;
   Holds-decode = λ bytes is e. F.Holds-at bytes 0 is;
 }
+
+-- a struct, which is made of its fields and parted into them
+abbrev pub structure : {A V : Type 0} (F : Field A) (make : A → V) (parts : V → A) → ((a : A) → parts (make a) ≡ a) → Layout V
+structure F make parts same = formed (fields F) make parts same

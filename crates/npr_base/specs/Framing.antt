@@ -23,9 +23,6 @@ marked nested kind = if nested then 2 ^ 15 + kind % 2 ^ 15 else kind
 abbrev pub written : Bool → Item → Item
 written nested x = record { kind = marked nested x.kind; value = x.value }
 
-abbrev pub written_by : {A : Type 0} → (A → Bool) → (A → Item) → A → Item
-written_by nested item a = written (nested a) (item a)
-
 -- what a text can say of an attribute: two bytes of kind, and two of a length that counts four bytes of header
 pub record Small (x : Item) : Type 0 where
   pub kind : x.kind < 2 ^ 16

@@ -4,8 +4,22 @@ use Rattle.std.specs.Bool.{MatchBool}
 use Rattle.npr_base.specs.declared.refusal.At.{At}
 use Rattle.npr_base.specs.declared.refusal.DecodeError.{DecodeError}
 use Rattle.npr_base.specs.declared.refusal.EmitError.{EmitError}
-use Rattle.npr_base.specs.Framing.{Item, Small, Proper, framed, marked, number_of}
+use Rattle.npr_base.specs.Framing.{Item, Small, Proper, framed, marked, number_of, written}
 use Rattle.npr_base.specs.Codec.{Codec, raw}
+
+-- what is written of a value as an attribute: its kind and value, whether NESTED is set in the kind besides, and why there
+-- is none, if so. What fits is short.
+pub record Shape : Type 0 where
+  pub item : Item
+  pub nested : Bool
+  pub misfit : Option EmitError
+  pub short : misfit ≡ None → length item.value ≤ 65531
+
+abbrev pub shaped_item : {A : Type 0} → (A → Shape) → A → Item
+shaped_item shape a = written (shape a).nested (shape a).item
+
+abbrev pub shaped_misfit : {A : Type 0} → (A → Shape) → A → Option EmitError
+shaped_misfit shape a = (shape a).misfit
 
 -- how meanings are written: the attribute, why there is none, and how many stand inside it at all
 -- depths
@@ -15,6 +29,9 @@ pub record Writing (M : Type 0) : Type 0 where
   pub members : M → ℕ
   -- what fits is short
   pub short : (m : M) → misfit m ≡ None → length (writes m).value ≤ 65531
+
+abbrev pub shape_by : {M : Type 0} → Writing M → M → Shape
+shape_by w m = record { item = w.writes m; nested = false; misfit = w.misfit m; short = w.short m }
 
 -- a family: what attributes mean that are written so, with the laws of both
 pub record Reading {M : Type 0} (w : Writing M) : Type 1 where
@@ -121,6 +138,9 @@ plain_item h = record { kind = held_kind h; value = held_bytes h }
 
 abbrev pub item_of : Held → Item
 item_of h = record { kind = marked (held_nested h) (held_kind h); value = held_bytes h }
+
+abbrev pub shape_at : Held → Shape
+shape_at h = record { item = plain_item h; nested = held_nested h; misfit = held_misfit h; short = held-short h }
 
 -- meanings are written each from its place
 abbrev pub placed : {M : Type 0} → (M → Held) → Writing M

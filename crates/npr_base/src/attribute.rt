@@ -4,8 +4,7 @@ ghost use Rattle.std.specs.Prelude.{◌≡◌, ◌≢◌, [], ◌∷◌, ◌++�
 ghost use Rattle.npr_base.specs.{
   declared.refusal.DecodeError.TheVariants.{OutOfMemory},
   Counts.{AddsAtMost, SawEach},
-  Framing.{written},
-  Table.{Writing, Reading},
+  Table.{Writing, Reading, shaped_item},
 };
 
 use crate::framing::NlaBuffer;
@@ -79,10 +78,10 @@ pub trait Attribute: Nla + Drop {
         ensures { IfOk result (λ a. meaning a ≡ meaning self.now) };
 
     /// The two views of what is written agree.
-    ghost item_is: { (a : Self) → written (Self.nested a) (Self.item a) ≡ writing.writes (meaning a) };
+    ghost item_is: { (a : Self) → shaped_item Self.shape a ≡ writing.writes (meaning a) };
 
     /// The two views of why it can't be written agree.
-    ghost unfit_is: { (a : Self) → Self.unfit a ≡ writing.misfit (meaning a) };
+    ghost misfit_is: { (a : Self) → (Self.shape a).misfit ≡ writing.misfit (meaning a) };
 }
 
 /// A lone attribute of a family that is read in no context.

@@ -1,7 +1,7 @@
 //! An attribute that is kept as it stands.
 
 ghost use Rattle.std.specs.{
-  Prelude.{◌≡◌, ◌+◌, false, None, Some, length, IfOk},
+  Prelude.{◌≡◌, ◌+◌, None, Some, length, IfOk, false},
   Cmp.{decided, partial_equiv_from_equiv},
 };
 ghost use Rattle.npr_base.specs.{
@@ -110,13 +110,7 @@ pub fn check_len(kind: u16, len: usize) -> Result<usize, EmitError>
 }
 
 impl Nla for DefaultNla {
-    ghost item = { λ d. d };
-
-    ghost nested = { λ _. false };
-
-    ghost unfit = { λ d. too_long d.kind (length d.value) };
-
-    ghost fits_short = { λ d h. too_long-short d.kind (length d.value) h };
+    ghost shape = { λ d. record { item = d; nested = false; misfit = too_long d.kind (length d.value); short = too_long-short d.kind (length d.value) } };
 
     fn kind(&self) -> u16 {
         self.kind

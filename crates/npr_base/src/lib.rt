@@ -13,6 +13,7 @@ mod looks;
 mod message;
 mod place;
 mod refusal;
+mod rows;
 mod text;
 mod traits;
 mod v6_list;
@@ -32,7 +33,7 @@ pub use list::{
 };
 pub use looks::Looks;
 pub use message::{Gateways, Header, Message};
-pub use place::{Place, put_ip};
+pub use place::{Place, put_ip, put_read};
 pub use refusal::{At, AttrFamily, DecodeError, EmitError, Seg6Fault};
 pub use text::{write_hex, write_joined, write_six_hex_digits};
 pub use traits::{Emitable, Nla, Parseable, ParseableParametrized};

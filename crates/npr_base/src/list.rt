@@ -3,7 +3,8 @@
 ghost use Rattle.std.specs.Prelude.{◌≡◌, ◌≢◌, ◌≤◌, ◌<◌, ℕ, List, [], Option, None, length, map, min, ◌+◌, ◌/◌, IfOk, IfErr, IsErrOf, OnOk, OnErr, vec_capacity};
 ghost use Rattle.npr_base.specs.{
   Counts.{AddsAtMost, SawEach},
-  Framing.{Item, Front, Writes, written_by},
+  Framing.{Item, Front, Writes},
+  Table.{shaped_item, shaped_misfit},
   Walk.{Walked},
   Family.{ReadsList, FirstFault, checked, list_unfit, list_members, encodings, overlong},
   declared.refusal.DecodeError.TheVariants.{OutOfMemory},
@@ -99,7 +100,7 @@ pub fn total_len(sum: u128) -> Result<usize, EmitError>
 }
 
 fn check_items<A: Nla>(list: &[A]) -> Result<usize, EmitError>
-    ensures { result ≡ checked (list_unfit A.unfit (written_by A.nested A.item) list.now) (length (encodings (written_by A.nested A.item) list.now)) }
+    ensures { result ≡ checked (list_unfit (shaped_misfit A.shape) (shaped_item A.shape) list.now) (length (encodings (shaped_item A.shape) list.now)) }
 {
     let mut total = 0u128;
     for x in list {
@@ -109,8 +110,8 @@ fn check_items<A: Nla>(list: &[A]) -> Result<usize, EmitError>
 }
 
 fn items_len<A: Nla>(list: &[A]) -> usize
-    requires { list_unfit A.unfit (written_by A.nested A.item) list.now ≡ None }
-    ensures { result ≡ length (encodings (written_by A.nested A.item) list.now) }
+    requires { list_unfit (shaped_misfit A.shape) (shaped_item A.shape) list.now ≡ None }
+    ensures { result ≡ length (encodings (shaped_item A.shape) list.now) }
 {
     match check_items(list) {
         Ok(len) => len,
@@ -119,10 +120,10 @@ fn items_len<A: Nla>(list: &[A]) -> usize
 }
 
 fn write_items<A: Nla>(list: &[A], out: &mut [u8]) -> usize
-    requires fits { list_unfit A.unfit (written_by A.nested A.item) list.now ≡ None }
-    requires room { length (encodings (written_by A.nested A.item) list.now) ≤ length out.old }
-    ensures len { result ≡ length (encodings (written_by A.nested A.item) list.now) }
-    ensures after { Writes out.old out.new (encodings (written_by A.nested A.item) list.now) }
+    requires fits { list_unfit (shaped_misfit A.shape) (shaped_item A.shape) list.now ≡ None }
+    requires room { length (encodings (shaped_item A.shape) list.now) ≤ length out.old }
+    ensures len { result ≡ length (encodings (shaped_item A.shape) list.now) }
+    ensures after { Writes out.old out.new (encodings (shaped_item A.shape) list.now) }
 {
     let mut at = 0usize;
     for x in list {

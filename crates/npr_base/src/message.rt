@@ -67,18 +67,15 @@ pub trait Header: Emitable + Copy + Default {
         ensures bounded { AddsAtMostTwice looks.old looks.new (length bytes.now) }
         ensures counted { IfOk result (λ v. SawEach looks.old looks.new (list_members writing.members (map meaning v.items))) };
 
-    ghost written: { (h : Self) → Self.bytes h ≡ layout.encode h };
+    /// It is written as its layout says, and so is its default.
+    ghost by_layout: { (h : Self) → (Self.bytes h ≡ layout.encode h) × (Self.unfit h ≡ None) × (length (layout.encode h) ≡ layout.size)
+        × (Self.is_default h → h ≡ standard) };
 
-    ghost fits: { (h : Self) → Self.unfit h ≡ None };
+    /// Attributes are written as their family says,
+    ghost by_family: { (xs : List Self.Attribute) → (encodings Self.Attribute.writing.writes (map Self.Attribute.meaning xs) ≡ encodings writing.writes (map meaning xs))
+        × (first_unfit Self.Attribute.writing.misfit (map Self.Attribute.meaning xs) ≡ first_unfit writing.misfit (map meaning xs)) };
 
-    ghost size_is: { (h : Self) → length (layout.encode h) ≡ layout.size };
-
-    ghost standard_is: { (h : Self) → Self.is_default h → h ≡ standard };
-
-    ghost encodings_are: { (xs : List Self.Attribute) → encodings Self.Attribute.writing.writes (map Self.Attribute.meaning xs) ≡ encodings writing.writes (map meaning xs) };
-
-    ghost misfits_are: { (xs : List Self.Attribute) → first_unfit Self.Attribute.writing.misfit (map Self.Attribute.meaning xs) ≡ first_unfit writing.misfit (map meaning xs) };
-
+    /// and mean what it says.
     ghost meanings_are: { (xs ys : List Self.Attribute) → map Self.Attribute.meaning xs ≡ map Self.Attribute.meaning ys → map meaning xs ≡ map meaning ys };
 }
 

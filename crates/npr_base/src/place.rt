@@ -1,6 +1,6 @@
 //! Places that values are put into, as they are read.
 
-ghost use Rattle.std.specs.Prelude.{◌≡◌, ◌<◌, [], ◌∷◌, ◌++◌, Some, IfOk, IfErr, vec_len, vec_capacity};
+ghost use Rattle.std.specs.Prelude.{◌≡◌, ◌<◌, [], ◌∷◌, ◌++◌, Some, Ok, Err, IfOk, IfErr, vec_len, vec_capacity};
 ghost use Rattle.npr_base.specs.IpCodec.{ip};
 
 use crate::ip::{IpAddr, Ipv6Addr};
@@ -44,6 +44,25 @@ impl<A: Drop> Place<A> for Option<A> {
     fn put(&mut self, value: A) {
         *self = Some(value);
     }
+}
+
+/// Puts the variant that holds what was read.
+///
+/// # Errors
+/// The refusal, where nothing was read.
+#[inline(always)]
+pub fn put_read<A, T, P: Place<A>, V: FnOnce(T) -> A>(
+    place: &mut P,
+    read: Result<T, DecodeError>,
+    variant: V,
+) -> Result<(), DecodeError>
+    requires ready { P.ready place.old }
+    requires variant { V.IsAlwaysCallable variant }
+    ensures ok { IfOk result (λ _. (x : _) × (a : _) × (read ≡ Ok x) × V.post variant x a × P.puts place.old a place.new) }
+    ensures refused { IfErr result (λ e. read ≡ Err e) }
+{
+    place.put(variant(read?));
+    Ok(())
 }
 
 /// Puts the variant that holds an address, of version 4 in 4 bytes or of version 6 in 16.

@@ -1,12 +1,13 @@
 //! What is parsed and what is emitted.
 
-ghost use Rattle.std.specs.Prelude.{◌≡◌, ◌≢◌, ◌≤◌, Bool, ℕ, List, Option, None, length, IfOk, IfErr};
+ghost use Rattle.std.specs.Prelude.{◌≡◌, ◌≢◌, ◌≤◌, ℕ, List, Option, None, length, IfOk, IfErr};
 ghost use Rattle.npr_base.specs.{
   declared.refusal.EmitError.{EmitError},
   declared.refusal.DecodeError.{DecodeError},
   declared.refusal.DecodeError.TheVariants.{OutOfMemory},
-  Framing.{Item, Writes, encoding, framed, written},
+  Framing.{Writes, encoding, framed, written},
   Family.{checked, too_long},
+  Table.{Shape},
 };
 
 use crate::default_nla::framed_len;
@@ -16,54 +17,49 @@ use std::alloc::Global;
 
 /// A value that is written as an attribute.
 pub trait Nla: Sized {
-    /// The attribute that is written: its kind without the mark of `is_nested`, and its value.
-    ghost item: { Self → Item };
-
-    /// Whether NESTED is set besides in the written kind.
-    ghost nested: { Self → Bool };
-
-    /// Why it can't be written, if so.
-    ghost unfit: { Self → Option EmitError };
+    /// The attribute that is written, whether NESTED is set besides in its kind, and why it can't be
+    /// written, if so.
+    ghost shape: { Self → Shape };
 
     /// The kind, with the flags that it has by itself.
     fn kind(&self) -> u16
-        ensures { result ≡ (item self.now).kind };
+        ensures { result ≡ (shape self.now).item.kind };
 
     /// Whether the written kind has NESTED, whatever `kind` says.
     fn is_nested(&self) -> bool
-        ensures { result ≡ nested self.now };
+        ensures { result ≡ (shape self.now).nested };
 
     /// The length of the whole encoding in bytes, which is `buffer_len`, or the first cause why
     /// there is none.
     fn check(&self) -> Result<usize, EmitError>
-        ensures { result ≡ checked (unfit self.now) (framed (length (item self.now).value)) };
+        ensures { result ≡ checked ((shape self.now).misfit) (framed (length (shape self.now).item.value)) };
 
     /// The length of the value, in bytes. Asks that `check` accepts.
     fn value_len(&self) -> usize
-        requires { unfit self.now ≡ None }
-        ensures { result ≡ length (item self.now).value };
+        requires { (shape self.now).misfit ≡ None }
+        ensures { result ≡ length (shape self.now).item.value };
 
     /// Writes the value at the front of the slice, leaves the rest, and answers the value's
     /// length. Asks that `check` accepts, and room for the value.
     fn write_value(&self, out: &mut [u8]) -> usize
-        requires fits { unfit self.now ≡ None }
-        requires room { length (item self.now).value ≤ length out.old }
-        ensures len { result ≡ length (item self.now).value }
-        ensures after { Writes out.old out.new (item self.now).value };
+        requires fits { (shape self.now).misfit ≡ None }
+        requires room { length (shape self.now).item.value ≤ length out.old }
+        ensures len { result ≡ length (shape self.now).item.value }
+        ensures after { Writes out.old out.new (shape self.now).item.value };
 
     /// Writes the value into a slice of exactly its length. Asks that `check` accepts.
     fn emit_value(&self, out: &mut [u8])
-        requires fits { unfit self.now ≡ None }
-        requires room { length out.old ≡ length (item self.now).value }
-        ensures { out.new ≡ (item self.now).value }
+        requires fits { (shape self.now).misfit ≡ None }
+        requires room { length out.old ≡ length (shape self.now).item.value }
+        ensures { out.new ≡ (shape self.now).item.value }
     {
         self.write_value(out);
     }
 
     /// The length of the whole encoding, in bytes. Asks that `check` accepts.
     fn buffer_len(&self) -> usize
-        requires { unfit self.now ≡ None }
-        ensures { result ≡ framed (length (item self.now).value) }
+        requires { (shape self.now).misfit ≡ None }
+        ensures { result ≡ framed (length (shape self.now).item.value) }
     {
         (self.value_len() + NLA_HEADER_SIZE).next_multiple_of(4)
     }
@@ -74,7 +70,7 @@ pub trait Nla: Sized {
     /// # Errors
     /// `TooLong` above 65,531 bytes.
     fn check_len(&self, len: usize) -> Result<usize, EmitError>
-        ensures { result ≡ checked (too_long (item self.now).kind len) (framed len) }
+        ensures { result ≡ checked (too_long (shape self.now).item.kind len) (framed len) }
     {
         match framed_len(len) {
             Some(whole) => Ok(whole),
@@ -87,10 +83,10 @@ pub trait Nla: Sized {
 
     /// `emit`, with the length of the encoding.
     fn write(&self, out: &mut [u8]) -> usize
-        requires fits { unfit self.now ≡ None }
-        requires room { framed (length (item self.now).value) ≤ length out.old }
-        ensures len { result ≡ framed (length (item self.now).value) }
-        ensures after { Writes out.old out.new (encoding (written (nested self.now) (item self.now))) }
+        requires fits { (shape self.now).misfit ≡ None }
+        requires room { framed (length (shape self.now).item.value) ≤ length out.old }
+        ensures len { result ≡ framed (length (shape self.now).item.value) }
+        ensures after { Writes out.old out.new (encoding (written (shape self.now).nested (shape self.now).item)) }
     {
         let kind = marked_kind(self.kind(), self.is_nested());
         let len = self.write_value(&mut out[NLA_HEADER_SIZE..]);
@@ -100,15 +96,12 @@ pub trait Nla: Sized {
     /// Writes header, value and zeros to the next multiple of four at the front of the slice, and
     /// leaves the rest. Asks that `check` accepts, and room for `buffer_len` bytes.
     fn emit(&self, out: &mut [u8])
-        requires fits { unfit self.now ≡ None }
-        requires room { framed (length (item self.now).value) ≤ length out.old }
-        ensures { Writes out.old out.new (encoding (written (nested self.now) (item self.now))) }
+        requires fits { (shape self.now).misfit ≡ None }
+        requires room { framed (length (shape self.now).item.value) ≤ length out.old }
+        ensures { Writes out.old out.new (encoding (written (shape self.now).nested (shape self.now).item)) }
     {
         self.write(out);
     }
-
-    /// What can be written has a value that an attribute's length can state.
-    ghost fits_short: { (a : Self) → unfit a ≡ None → length (item a).value ≤ 65531 };
 }
 
 /// A value that is written as bytes.

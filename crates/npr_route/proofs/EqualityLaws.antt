@@ -22,7 +22,6 @@ use Rattle.npr_route.specs.AttributeView.{hops_of, attribute_step, hop_step, mea
 use Rattle.npr_route.specs.FlatAttribute as Flat
 use Rattle.npr_route.specs.Metric as Metrics
 use Rattle.npr_route.specs.Metric.{metric_of}
-use Rattle.npr_route.specs.Message.{Route, message_of}
 use Rattle.npr_route.specs.contracts.attribute.RouteAttribute.{enum}
 use Rattle.npr_route.specs.contracts.attribute.RouteAttributePartialEq.TheImpl as AttributeEq
 use Rattle.npr_route.specs.contracts.attribute.RouteAttributePartialEq.TheImpl.Laws as AttributeLaws

@@ -51,7 +51,8 @@ route-list-grows under bytes xs is (type, g, p) =
     let f : Reading writing = attributes (under.0, under.1, type) in
     ReadsList-grows writing.writes f.Reads f.grows bytes xs is p
 
-pub route-list-deep : (under : Under) (bytes : List ℕ) (xs : List Meaning) → IsRouteList under bytes xs → 12 * attributes_depth (attributes_of xs) ≤ length bytes
+pub route-list-deep : (under : Under) (bytes : List ℕ) (xs : List Meaning) → IsRouteList under bytes xs
+    → 12 * attributes_depth (attributes_of xs) ≤ length bytes
 route-list-deep under bytes xs (type, g, p) =
     let c : Context = (under.0, under.1, type) in
     attributes-depth c bytes (attributes_of xs) (all_read c bytes xs p)

@@ -1,29 +1,28 @@
 //! The attributes of a route message: `RTA_*` of `linux/rtnetlink.h`.
 
-ghost use Rattle.std.specs.Prelude.{◌≡◌, ◌<◌, false, map, IfOk};
+ghost use Rattle.std.specs.Prelude.{◌≡◌, IfOk};
 ghost use Rattle.std.proofs.Common.{refl};
 ghost use Rattle.npr_route.specs.{
   Attribute.{Meaning, plain_of, nested_of},
   AttributeView.{meaning_of},
-  FlatAttribute.{marks, any_marks},
   AttributeLaws.{writing, attributes, item-is, plain-short},
 };
-ghost use Rattle.npr_tunnel.specs.Encapsulation.{meaning_of as member_of};
 
-use crate::clone::clone_attribute;
-use crate::flat::{push_flat, read_flat};
+use crate::descent::{check_attribute, clone_attribute, is_marked, value_len, write_value};
 use crate::metrics::RouteMetric;
-use crate::next_hops::{RouteNextHop, check_attribute, value_len, write_value};
+use crate::next_hops::RouteNextHop;
 use crate::reader::read_next_hops;
+use crate::route_rows;
+use crate::rows::{push_flat, read_flat};
 use npr_base::{
     AddressFamily, Attribute, DecodeError, DefaultNla, EmitError, Looks, Nla, NlaBuffer,
-    ParseableParametrized,
+    ParseableParametrized, kind_rows,
 };
 use npr_scalar::{
     MplsLabel, RouteAddress, RouteCacheInfo, RouteMfcStats, RouteMplsTtlPropagation,
     RoutePreference, RouteRealm, RouteType, RouteVia,
 };
-use npr_tunnel::{RouteIp6Tunnel, RouteIpTunnel, RouteLwEnCapType, RouteLwTunnelEncap};
+use npr_tunnel::{RouteLwEnCapType, RouteLwTunnelEncap};
 use std::alloc::{AllocError, Global};
 
 /// The number of next hops, `RTA_MULTIPATH`.
@@ -118,109 +117,32 @@ impl RouteAttribute {
     }
 }
 
-/// Whether the member makes `RTA_ENCAP` carry `NLA_F_NESTED`: as the kernel and `ip` write it.
-const fn wants_nested(member: &RouteLwTunnelEncap) -> bool
-    ensures { result ≡ marks (member_of member.now) }
-{
-    matches!(
-        member,
-        RouteLwTunnelEncap::Seg6(_)
-            | RouteLwTunnelEncap::Xfrm(_)
-            | RouteLwTunnelEncap::Rpl(_)
-            | RouteLwTunnelEncap::Ioam6(_)
-            | RouteLwTunnelEncap::Ip(RouteIpTunnel::Opts(_))
-            | RouteLwTunnelEncap::Ip6(RouteIp6Tunnel::Opts(_))
-    )
-}
-
-pub(crate) fn is_marked(members: &[RouteLwTunnelEncap]) -> bool
-    ensures { result ≡ any_marks (map member_of members.now) }
-{
-    for member in members {
-        if wants_nested(member) {
-            return true;
-        }
-    }
-    false
-}
-
 impl Nla for RouteAttribute {
-    ghost item = { λ a. plain_of (meaning_of a) };
-
-    ghost nested = { λ a. nested_of (meaning_of a) };
-
-    ghost unfit = { λ a. writing.misfit (meaning_of a) };
-
-    ghost fits_short = { λ a h. plain-short (meaning_of a) h };
+    ghost shape = { λ a. record {
+      item = plain_of (meaning_of a);
+      nested = nested_of (meaning_of a);
+      misfit = writing.misfit (meaning_of a);
+      short = plain-short (meaning_of a);
+    } };
 
     fn kind(&self) -> u16 {
-        match self {
-            Self::Destination(_) => 1,
-            Self::Source(_) => 2,
-            Self::Iif(_) => 3,
-            Self::Oif(_) => 4,
-            Self::Gateway(_) => 5,
-            Self::Priority(_) => 6,
-            Self::PrefSource(_) => 7,
-            Self::Metrics(_) => 8,
-            Self::MultiPath(_) => RTA_MULTIPATH,
-            Self::Realm(_) => 11,
-            Self::CacheInfo(_) => 12,
-            Self::Table(_) => 15,
-            Self::Mark(_) => 16,
-            Self::MfcStats(_) => 17,
-            Self::Via(_) => 18,
-            Self::NewDestination(_) => 19,
-            Self::NewDestinationAddress(_) => 19,
-            Self::Preference(_) => 20,
-            Self::EncapType(_) => RTA_ENCAP_TYPE,
-            Self::Encap(_) => RTA_ENCAP,
-            Self::Expires(_) => 23,
-            Self::MulticastExpires(_) => 23,
-            Self::Uid(_) => 25,
-            Self::TtlPropagate(_) => 26,
-            Self::IpProto(_) => 27,
-            Self::Sport(_) => 28,
-            Self::Dport(_) => 29,
-            Self::NhId(_) => 30,
-            Self::Flowlabel(_) => 31,
-            Self::Other(nla) => nla.kind(),
-        }
+        route_rows!(kind_rows(self;
+            RouteAttribute::Metrics(_) => 8,
+            RouteAttribute::MultiPath(_) => RTA_MULTIPATH,
+            RouteAttribute::Via(_) => 18,
+            RouteAttribute::NewDestination(_) => 19,
+            RouteAttribute::NewDestinationAddress(_) => 19,
+            RouteAttribute::Encap(_) => RTA_ENCAP,
+            RouteAttribute::Expires(_) => 23,
+            RouteAttribute::MulticastExpires(_) => 23,
+        ))
     }
 
     /// An encapsulation is, where one of its members wants it.
     fn is_nested(&self) -> bool {
         match self {
             Self::Encap(list) => is_marked(list.as_slice()),
-            Self::Destination(_)
-            | Self::Source(_)
-            | Self::Iif(_)
-            | Self::Oif(_)
-            | Self::Gateway(_)
-            | Self::Priority(_)
-            | Self::PrefSource(_)
-            | Self::Metrics(_)
-            | Self::MultiPath(_)
-            | Self::Realm(_)
-            | Self::CacheInfo(_)
-            | Self::Table(_)
-            | Self::Mark(_)
-            | Self::MfcStats(_)
-            | Self::Via(_)
-            | Self::NewDestination(_)
-            | Self::NewDestinationAddress(_)
-            | Self::Preference(_)
-            | Self::EncapType(_)
-            | Self::Expires(_)
-            | Self::MulticastExpires(_)
-            | Self::Uid(_)
-            | Self::TtlPropagate(_)
-            | Self::IpProto(_)
-            | Self::Sport(_)
-            | Self::Dport(_)
-            | Self::NhId(_)
-            | Self::Flowlabel(_)
-            | Self::Other(_) => false,
+            _ => false,
         }
     }
 
@@ -250,7 +172,7 @@ impl Attribute for RouteAttribute {
 
     ghost item_is = { λ a. item-is (meaning_of a) };
 
-    ghost unfit_is = { λ a. refl };
+    ghost misfit_is = { λ a. refl };
 
     fn read(
         alloc: Global,

@@ -8,7 +8,7 @@ ghost use Rattle.npr_base.specs.{
 ghost use Rattle.npr_route.specs.Header.{header_buffer, header, buffer_of};
 
 use bitflags::Flags;
-use npr_base::{AddressFamily, DecodeError, EmitError, Emitable, write_array};
+use npr_base::{AddressFamily, DecodeError, EmitError, Emitable, leading_octets, write_array};
 use npr_scalar::{RouteFlags, RouteProtocol, RouteScope, RouteType};
 
 /// The header of a route message.
@@ -58,13 +58,7 @@ impl RouteMessageBuffer {
         ensures ok { IfOk result (λ b. (leading header_buffer).Reads bytes.now b) }
         ensures refused { IfErr result (λ e. (leading header_buffer).Wrong no_place bytes.now e) }
     {
-        if bytes.len() < 12 {
-            return Err(DecodeError::HeaderTooShort {
-                got: bytes.len(),
-                want: 12,
-            });
-        }
-        let b = &bytes[..12];
+        let b = leading_octets(bytes, 12)?;
         Ok(RouteMessageBuffer {
             address_family: b[0],
             destination_prefix_length: b[1],
@@ -133,13 +127,7 @@ impl RouteHeader {
         ensures ok { IfOk result (λ h. (leading header).Reads bytes.now h) }
         ensures refused { IfErr result (λ e. (leading header).Wrong no_place bytes.now e) }
     {
-        if bytes.len() < 12 {
-            return Err(DecodeError::HeaderTooShort {
-                got: bytes.len(),
-                want: 12,
-            });
-        }
-        Ok(RouteHeader::in_front(bytes))
+        Ok(RouteHeader::in_front(leading_octets(bytes, 12)?))
     }
 
     /// The header in the first 12 bytes, which are there.

@@ -2,8 +2,7 @@
 #![tactic(auto)]
 
 mod attribute;
-mod clone;
-mod flat;
+mod descent;
 mod gateway;
 mod header;
 pub mod laws;
@@ -14,6 +13,7 @@ mod modes;
 mod next_hop_buffer;
 mod next_hops;
 mod reader;
+mod rows;
 
 pub use attribute::RouteAttribute;
 pub use header::{RouteHeader, RouteMessageBuffer};

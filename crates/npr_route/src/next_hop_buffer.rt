@@ -10,7 +10,7 @@ ghost use Rattle.npr_route.specs.{
 
 use crate::next_hops::RouteNextHop;
 use bitflags::Flags;
-use npr_base::{DecodeError, Emitable};
+use npr_base::{DecodeError, Emitable, leading_octets};
 
 /// The layout of a next hop's header: 8 bytes, little endian.
 #[derive(Clone, Copy, Debug, PartialEq, Eq)]
@@ -85,13 +85,7 @@ impl RouteNextHopBuffer {
         ensures ok { IfOk result (λ b. (leading next_hop_buffer).Reads bytes.now b) }
         ensures refused { IfErr result (λ e. (leading next_hop_buffer).Wrong no_place bytes.now e) }
     {
-        if bytes.len() < 8 {
-            return Err(DecodeError::HeaderTooShort {
-                got: bytes.len(),
-                want: 8,
-            });
-        }
-        Ok(Self::in_front(bytes))
+        Ok(Self::in_front(leading_octets(bytes, 8)?))
     }
 
     /// The 8 bytes of the layout.

@@ -14,10 +14,10 @@ ghost use Rattle.npr_route.specs.{
 };
 
 use crate::attribute::{Context, RTA_MULTIPATH, RouteAttribute};
-use crate::flat::push_flat;
 use crate::list::governing_type;
 use crate::next_hop_buffer::RouteNextHopBuffer;
 use crate::next_hops::RouteNextHop;
+use crate::rows::push_flat;
 use bitflags::Flags;
 use npr_base::{DecodeError, Looks, NlasIterator, ParseableParametrized, make_room};
 use npr_scalar::RouteNextHopFlags;

@@ -10,7 +10,7 @@ use Rattle.npr_base.specs.Layout.{le32, be64, boolean}
 use Rattle.npr_base.specs.Codec.{exactly}
 use Rattle.npr_base.specs.IpCodec.{ip}
 use Rattle.npr_base.specs.Name.{name}
-use Rattle.npr_base.specs.Table.{Writing, Reading, Row, row, Held, held, held_other, held_kind, held_value, held_misfit, held-reads, IsHeld}
+use Rattle.npr_base.specs.Table.{Writing, Reading, table_of, Row, row, Held, held, held_other, held_kind, held_value, held_misfit, held-reads, IsHeld}
 use Rattle.npr_base.specs.Table.{item_of, placed, IsOther, Aligned, ReadsAt}
 use Rattle.npr_base.specs.TableLaws.{flat, other-back}
 use Rattle.npr_scalar.specs.Realm.{route_realm}
@@ -146,14 +146,4 @@ writing = placed place
 
 -- the family
 abbrev pub attributes : Reading writing
-attributes = flat (record {
-  rows = rows;
-  other = other;
-  place = place;
-  Coherent = Coherent;
-  aligned = aligned;
-  other_is = λ x. refl;
-  other_coherent = λ x is. is;
-  kinds = kinds;
-  back = back;
-})
+attributes = flat (table_of rows other place Coherent aligned (λ x. refl) (λ x is. is) kinds back)

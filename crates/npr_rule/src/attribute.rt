@@ -1,8 +1,9 @@
 //! The attributes of a rule message: `FRA_*` of `linux/fib_rules.h`.
 
-ghost use Rattle.std.specs.Prelude.{◌≡◌, ◌≢◌, ◌<◌, ◌+◌, ◌*◌, None, false, length, IfOk, IfErr};
+ghost use Rattle.std.specs.Prelude.{◌≡◌, ◌≢◌, ◌<◌, ◌+◌, ◌*◌, None, length, IfOk, IfErr};
 ghost use Rattle.std.proofs.Common.{refl};
 ghost use Rattle.npr_base.specs.{
+  Table.{shape_by},
   Family.{checked},
   declared.refusal.DecodeError.TheVariants.{OutOfMemory},
 };
@@ -16,8 +17,7 @@ use crate::port_range::RulePortRange;
 use crate::uid_range::RuleUidRange;
 use npr_base::{
     AttrFamily, Attribute, DecodeError, DefaultNla, EmitError, IpAddr, Looks, Nla, NlaBuffer,
-    Parseable, Place, ip_len, put_ip, read_bool, read_name, read_u8, read_u32, read_u64_be,
-    write_array, write_bytes, write_ip, write_name,
+    Parseable, Place, clone_rows, kind_rows, len_rows, put_rows, write_rows,
 };
 use npr_scalar::{IpProtocol, RouteProtocol, RouteRealm};
 use std::alloc::{AllocError, Global};
@@ -67,6 +67,33 @@ pub enum RuleAttribute {
     Other(DefaultNla),
 }
 
+/// The rows of the table.
+macro_rules! rows {
+    ($body:ident ($($given:tt)*)) => {
+        $body!(($($given)*) RuleAttribute {
+            1 Destination(ip);
+            2 Source(ip);
+            3 Iifname(name);
+            4 Goto(le32);
+            6 Priority(le32);
+            10 FwMark(le32);
+            11 Realm(RouteRealm as le32);
+            12 TunId(be64);
+            13 SuppressIfGroup(le32);
+            14 SuppressPrefixLen(le32);
+            15 Table(le32);
+            16 FwMask(le32);
+            17 Oifname(name);
+            19 L3MDev(boolean);
+            20 UidRange(RuleUidRange exactly 8);
+            21 Protocol(RouteProtocol as byte);
+            22 IpProtocol(IpProtocol as byte by protocol_byte);
+            23 SourcePortRange(RulePortRange exactly 4);
+            24 DestinationPortRange(RulePortRange exactly 4);
+        })
+    };
+}
+
 impl RuleAttribute {
     /// An equal attribute.
     ///
@@ -75,69 +102,17 @@ impl RuleAttribute {
     pub fn clone(&self, alloc: Global) -> Result<Self, AllocError>
         ensures { IfOk result (λ a. meaning_of a ≡ meaning_of self.now) }
     {
-        match self {
-            RuleAttribute::Destination(x) => Ok(RuleAttribute::Destination(*x)),
-            RuleAttribute::Source(x) => Ok(RuleAttribute::Source(*x)),
-            RuleAttribute::Iifname(name) => {
-                String::from_str(alloc, name.as_str()).map(RuleAttribute::Iifname)
-            }
-            RuleAttribute::Goto(x) => Ok(RuleAttribute::Goto(*x)),
-            RuleAttribute::Priority(x) => Ok(RuleAttribute::Priority(*x)),
-            RuleAttribute::FwMark(x) => Ok(RuleAttribute::FwMark(*x)),
-            RuleAttribute::Realm(x) => Ok(RuleAttribute::Realm(*x)),
-            RuleAttribute::TunId(x) => Ok(RuleAttribute::TunId(*x)),
-            RuleAttribute::SuppressIfGroup(x) => Ok(RuleAttribute::SuppressIfGroup(*x)),
-            RuleAttribute::SuppressPrefixLen(x) => Ok(RuleAttribute::SuppressPrefixLen(*x)),
-            RuleAttribute::Table(x) => Ok(RuleAttribute::Table(*x)),
-            RuleAttribute::FwMask(x) => Ok(RuleAttribute::FwMask(*x)),
-            RuleAttribute::Oifname(name) => {
-                String::from_str(alloc, name.as_str()).map(RuleAttribute::Oifname)
-            }
-            RuleAttribute::L3MDev(x) => Ok(RuleAttribute::L3MDev(*x)),
-            RuleAttribute::UidRange(x) => Ok(RuleAttribute::UidRange(*x)),
-            RuleAttribute::Protocol(x) => Ok(RuleAttribute::Protocol(*x)),
-            RuleAttribute::IpProtocol(x) => Ok(RuleAttribute::IpProtocol(*x)),
-            RuleAttribute::SourcePortRange(x) => Ok(RuleAttribute::SourcePortRange(*x)),
-            RuleAttribute::DestinationPortRange(x) => Ok(RuleAttribute::DestinationPortRange(*x)),
-            RuleAttribute::Other(nla) => nla.clone(alloc).map(RuleAttribute::Other),
-        }
+        rows!(clone_rows(self, alloc))
     }
 }
 
 const FAMILY: AttrFamily = AttrFamily::Rule;
 
 impl Nla for RuleAttribute {
-    ghost item = { λ a. writing.writes (meaning_of a) };
-
-    ghost nested = { λ _. false };
-
-    ghost unfit = { λ a. writing.misfit (meaning_of a) };
-
-    ghost fits_short = { λ a h. writing.short (meaning_of a) h };
+    ghost shape = { λ a. shape_by writing (meaning_of a) };
 
     fn kind(&self) -> u16 {
-        match self {
-            RuleAttribute::Destination(_) => 1,
-            RuleAttribute::Source(_) => 2,
-            RuleAttribute::Iifname(_) => 3,
-            RuleAttribute::Goto(_) => 4,
-            RuleAttribute::Priority(_) => 6,
-            RuleAttribute::FwMark(_) => 10,
-            RuleAttribute::Realm(_) => 11,
-            RuleAttribute::TunId(_) => 12,
-            RuleAttribute::SuppressIfGroup(_) => 13,
-            RuleAttribute::SuppressPrefixLen(_) => 14,
-            RuleAttribute::Table(_) => 15,
-            RuleAttribute::FwMask(_) => 16,
-            RuleAttribute::Oifname(_) => 17,
-            RuleAttribute::L3MDev(_) => 19,
-            RuleAttribute::UidRange(_) => 20,
-            RuleAttribute::Protocol(_) => 21,
-            RuleAttribute::IpProtocol(_) => 22,
-            RuleAttribute::SourcePortRange(_) => 23,
-            RuleAttribute::DestinationPortRange(_) => 24,
-            RuleAttribute::Other(nla) => nla.kind(),
-        }
+        rows!(kind_rows(self))
     }
 
     fn is_nested(&self) -> bool {
@@ -154,50 +129,11 @@ impl Nla for RuleAttribute {
     fn value_len(&self) -> usize
         ensures { result ≡ length (writing.writes (meaning_of self.now)).value }
     {
-        match self {
-            RuleAttribute::Destination(ip) | RuleAttribute::Source(ip) => ip_len(ip),
-            RuleAttribute::Iifname(name) | RuleAttribute::Oifname(name) => name.len() + 1,
-            RuleAttribute::Goto(_)
-            | RuleAttribute::Priority(_)
-            | RuleAttribute::FwMark(_)
-            | RuleAttribute::SuppressIfGroup(_)
-            | RuleAttribute::SuppressPrefixLen(_)
-            | RuleAttribute::Table(_)
-            | RuleAttribute::FwMask(_)
-            | RuleAttribute::Realm(_)
-            | RuleAttribute::SourcePortRange(_)
-            | RuleAttribute::DestinationPortRange(_) => 4,
-            RuleAttribute::TunId(_) | RuleAttribute::UidRange(_) => 8,
-            RuleAttribute::L3MDev(_) | RuleAttribute::Protocol(_) | RuleAttribute::IpProtocol(_) =>
-                1,
-            RuleAttribute::Other(nla) => nla.value().len(),
-        }
+        rows!(len_rows(self))
     }
 
     fn write_value(&self, out: &mut [u8]) -> usize {
-        match self {
-            RuleAttribute::Destination(ip) | RuleAttribute::Source(ip) => write_ip(ip, out),
-            RuleAttribute::Iifname(name) | RuleAttribute::Oifname(name) => {
-                write_name(name.as_str(), out)
-            }
-            RuleAttribute::Goto(n)
-            | RuleAttribute::Priority(n)
-            | RuleAttribute::FwMark(n)
-            | RuleAttribute::SuppressIfGroup(n)
-            | RuleAttribute::SuppressPrefixLen(n)
-            | RuleAttribute::Table(n)
-            | RuleAttribute::FwMask(n) => write_array(n.to_le_bytes(), out),
-            RuleAttribute::Realm(realm) => write_array(u32::from(*realm).to_le_bytes(), out),
-            RuleAttribute::TunId(n) => write_array(n.to_be_bytes(), out),
-            RuleAttribute::L3MDev(is) => write_array([u8::from(*is)], out),
-            RuleAttribute::UidRange(range) => write_array(range.to_bytes(), out),
-            RuleAttribute::Protocol(protocol) => write_array([u8::from(*protocol)], out),
-            RuleAttribute::IpProtocol(protocol) => write_array([protocol_byte(*protocol)], out),
-            RuleAttribute::SourcePortRange(range) | RuleAttribute::DestinationPortRange(range) => {
-                write_array(range.to_bytes(), out)
-            }
-            RuleAttribute::Other(nla) => write_bytes(nla.value(), out),
-        }
+        rows!(write_rows(self, out))
     }
 }
 
@@ -237,39 +173,7 @@ fn read_into<P: Place<RuleAttribute>>(
     ensures ok { IfOk result (λ _. (a : _) × P.puts place.old a place.new × attributes.Reads item.now (meaning_of a)) }
     ensures refused { IfErr result (λ e. e ≢ OutOfMemory → attributes.Faulty item.now e) }
 {
-    let value = item.value();
-    match item.kind() {
-        1 => put_ip(place, value, FAMILY.at(1), RuleAttribute::Destination)?,
-        2 => put_ip(place, value, FAMILY.at(2), RuleAttribute::Source)?,
-        3 => place.put(RuleAttribute::Iifname(read_name(alloc, value, FAMILY.at(3))?)),
-        4 => place.put(RuleAttribute::Goto(read_u32(value, FAMILY.at(4))?)),
-        6 => place.put(RuleAttribute::Priority(read_u32(value, FAMILY.at(6))?)),
-        10 => place.put(RuleAttribute::FwMark(read_u32(value, FAMILY.at(10))?)),
-        11 => place.put(RuleAttribute::Realm(RouteRealm::from(read_u32(value, FAMILY.at(11))?))),
-        12 => place.put(RuleAttribute::TunId(read_u64_be(value, FAMILY.at(12))?)),
-        13 => place.put(RuleAttribute::SuppressIfGroup(read_u32(value, FAMILY.at(13))?)),
-        14 => place.put(RuleAttribute::SuppressPrefixLen(read_u32(value, FAMILY.at(14))?)),
-        15 => place.put(RuleAttribute::Table(read_u32(value, FAMILY.at(15))?)),
-        16 => place.put(RuleAttribute::FwMask(read_u32(value, FAMILY.at(16))?)),
-        17 => place.put(RuleAttribute::Oifname(read_name(alloc, value, FAMILY.at(17))?)),
-        19 => place.put(RuleAttribute::L3MDev(read_bool(value, FAMILY.at(19))?)),
-        20 => place.put(RuleAttribute::UidRange(RuleUidRange::read(value, FAMILY.at(20))?)),
-        21 => place.put(RuleAttribute::Protocol(RouteProtocol::from(read_u8(
-            value,
-            FAMILY.at(21),
-        )?))),
-        22 => place.put(RuleAttribute::IpProtocol(IpProtocol::from(read_u8(
-            value,
-            FAMILY.at(22),
-        )?))),
-        23 => place.put(RuleAttribute::SourcePortRange(RulePortRange::read(value, FAMILY.at(23))?)),
-        24 => place.put(RuleAttribute::DestinationPortRange(RulePortRange::read(
-            value,
-            FAMILY.at(24),
-        )?)),
-        _ => place.put(RuleAttribute::Other(DefaultNla::parse(alloc, item)?)),
-    }
-    Ok(())
+    rows!(put_rows(place, alloc, item))
 }
 
 impl Attribute for RuleAttribute {
@@ -285,7 +189,7 @@ impl Attribute for RuleAttribute {
 
     ghost item_is = { λ a. refl };
 
-    ghost unfit_is = { λ a. refl };
+    ghost misfit_is = { λ a. refl };
 
     fn read(
         alloc: Global,

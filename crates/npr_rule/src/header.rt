@@ -10,7 +10,7 @@ ghost use Rattle.npr_rule.specs.Header.{header_buffer, header, buffer_of};
 use crate::action::RuleAction;
 use crate::flags::RuleFlags;
 use bitflags::Flags;
-use npr_base::{AddressFamily, DecodeError, EmitError, Emitable, write_array};
+use npr_base::{AddressFamily, DecodeError, EmitError, Emitable, leading_octets, write_array};
 
 /// The header of a rule message.
 #[derive(Clone, Copy, Debug, Default, PartialEq, Eq)]
@@ -55,13 +55,7 @@ impl RuleMessageBuffer {
         ensures ok { IfOk result (λ b. (leading header_buffer).Reads bytes.now b) }
         ensures refused { IfErr result (λ e. (leading header_buffer).Wrong no_place bytes.now e) }
     {
-        if bytes.len() < 12 {
-            return Err(DecodeError::HeaderTooShort {
-                got: bytes.len(),
-                want: 12,
-            });
-        }
-        let b = &bytes[..12];
+        let b = leading_octets(bytes, 12)?;
         Ok(RuleMessageBuffer {
             family: b[0],
             dst_len: b[1],
@@ -124,13 +118,7 @@ impl RuleHeader {
         ensures ok { IfOk result (λ h. (leading header).Reads bytes.now h) }
         ensures refused { IfErr result (λ e. (leading header).Wrong no_place bytes.now e) }
     {
-        if bytes.len() < 12 {
-            return Err(DecodeError::HeaderTooShort {
-                got: bytes.len(),
-                want: 12,
-            });
-        }
-        Ok(RuleHeader::in_front(bytes))
+        Ok(RuleHeader::in_front(leading_octets(bytes, 12)?))
     }
 
     /// The header in the first 12 bytes, which are there.

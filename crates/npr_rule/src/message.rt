@@ -31,17 +31,9 @@ impl Header for RuleHeader {
 
     ghost standard = { default_header };
 
-    ghost written = { λ h. refl };
+    ghost by_layout = { λ h. (refl, refl, refl, Prim.search rules) };
 
-    ghost fits = { λ h. refl };
-
-    ghost size_is = { λ h. refl };
-
-    ghost standard_is = { Prim.search rules };
-
-    ghost encodings_are = { λ xs. refl };
-
-    ghost misfits_are = { λ xs. refl };
+    ghost by_family = { λ xs. (refl, refl) };
 
     ghost meanings_are = { λ xs ys e. e };
 

@@ -2,7 +2,7 @@
 
 ghost use Rattle.std.specs.Prelude.{◌≡◌, None, IfOk, IfErr};
 ghost use Rattle.npr_base.specs.{Codec.{leading}, Refusal.{no_place}};
-ghost use Rattle.npr_scalar.specs.RouteCacheInfo.{route_cache_info, route_cache_info_buffer, cache_info_buffer_of};
+ghost use Rattle.npr_scalar.specs.RouteCacheInfo.{route_cache_info};
 
 use npr_base::{DecodeError, EmitError, Emitable, leading_octets, write_array};
 
@@ -27,30 +27,20 @@ pub struct RouteCacheInfo {
     pub ts_age: u32,
 }
 
-/// The layout of a [`RouteCacheInfo`]: 32 bytes, 8 numbers of 4 bytes, little endian.
-#[derive(Clone, Copy, Debug, PartialEq, Eq)]
-pub struct RouteCacheInfoBuffer {
-    pub clntref: u32,
-    pub last_use: u32,
-    pub expires: u32,
-    pub error: u32,
-    pub used: u32,
-    pub id: u32,
-    pub ts: u32,
-    pub ts_age: u32,
-}
+/// A [`RouteCacheInfo`] is its own layout: 32 bytes, 8 numbers of 4 bytes, little endian.
+pub type RouteCacheInfoBuffer = RouteCacheInfo;
 
-impl RouteCacheInfoBuffer {
-    /// The layout in the first 32 bytes; more are not looked at.
+impl RouteCacheInfo {
+    /// The values in the first 32 bytes; more are not looked at.
     ///
     /// # Errors
     /// `HeaderTooShort` below 32 bytes.
     pub fn parse(bytes: &[u8]) -> Result<Self, DecodeError>
-        ensures ok { IfOk result (λ b. (leading route_cache_info_buffer).Reads bytes.now b) }
-        ensures refused { IfErr result (λ e. (leading route_cache_info_buffer).Wrong no_place bytes.now e) }
+        ensures ok { IfOk result (λ x. (leading route_cache_info).Reads bytes.now x) }
+        ensures refused { IfErr result (λ e. (leading route_cache_info).Wrong no_place bytes.now e) }
     {
         let b = leading_octets(bytes, 32)?;
-        Ok(RouteCacheInfoBuffer {
+        Ok(RouteCacheInfo {
             clntref: u32::from_le_bytes([b[0], b[1], b[2], b[3]]),
             last_use: u32::from_le_bytes([b[4], b[5], b[6], b[7]]),
             expires: u32::from_le_bytes([b[8], b[9], b[10], b[11]]),
@@ -64,7 +54,7 @@ impl RouteCacheInfoBuffer {
 
     /// The 32 bytes of the layout.
     pub fn to_bytes(&self) -> [u8; 32]
-        ensures { result ≡ route_cache_info_buffer.encode self.now }
+        ensures { result ≡ route_cache_info.encode self.now }
     {
         let [a0, a1, a2, a3] = self.clntref.to_le_bytes();
         let [b0, b1, b2, b3] = self.last_use.to_le_bytes();
@@ -82,42 +72,10 @@ impl RouteCacheInfoBuffer {
 }
 
 impl<'a> From<&'a RouteCacheInfo> for RouteCacheInfoBuffer {
-    ghost from_gives = { λ x b. b ≡ cache_info_buffer_of x.now };
+    ghost from_gives = { λ x b. b ≡ x.now };
 
     fn from(x: &'a RouteCacheInfo) -> RouteCacheInfoBuffer {
-        RouteCacheInfoBuffer {
-            clntref: x.clntref,
-            last_use: x.last_use,
-            expires: x.expires,
-            error: x.error,
-            used: x.used,
-            id: x.id,
-            ts: x.ts,
-            ts_age: x.ts_age,
-        }
-    }
-}
-
-impl RouteCacheInfo {
-    /// The values in the first 32 bytes; more are not looked at.
-    ///
-    /// # Errors
-    /// `HeaderTooShort` below 32 bytes.
-    pub fn parse(bytes: &[u8]) -> Result<Self, DecodeError>
-        ensures ok { IfOk result (λ x. (leading route_cache_info).Reads bytes.now x) }
-        ensures refused { IfErr result (λ e. (leading route_cache_info).Wrong no_place bytes.now e) }
-    {
-        let b = RouteCacheInfoBuffer::parse(bytes)?;
-        Ok(RouteCacheInfo {
-            clntref: b.clntref,
-            last_use: b.last_use,
-            expires: b.expires,
-            error: b.error,
-            used: b.used,
-            id: b.id,
-            ts: b.ts,
-            ts_age: b.ts_age,
-        })
+        *x
     }
 }
 
@@ -135,6 +93,6 @@ impl Emitable for RouteCacheInfo {
     }
 
     fn emit(&self, out: &mut [u8]) {
-        write_array(RouteCacheInfoBuffer::from(self).to_bytes(), out);
+        write_array(self.to_bytes(), out);
     }
 }

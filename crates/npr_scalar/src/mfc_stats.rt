@@ -2,7 +2,7 @@
 
 ghost use Rattle.std.specs.Prelude.{◌≡◌, None, IfOk, IfErr};
 ghost use Rattle.npr_base.specs.{Codec.{leading}, Refusal.{no_place}};
-ghost use Rattle.npr_scalar.specs.RouteMfcStats.{route_mfc_stats, route_mfc_stats_buffer, mfc_stats_buffer_of};
+ghost use Rattle.npr_scalar.specs.RouteMfcStats.{route_mfc_stats};
 
 use npr_base::{DecodeError, EmitError, Emitable, leading_octets, write_array};
 
@@ -17,25 +17,20 @@ pub struct RouteMfcStats {
     pub wrong_if: u64,
 }
 
-/// The layout of a [`RouteMfcStats`]: 24 bytes, 3 numbers of 8 bytes, little endian.
-#[derive(Clone, Copy, Debug, PartialEq, Eq)]
-pub struct RouteMfcStatsBuffer {
-    pub packets: u64,
-    pub bytes: u64,
-    pub wrong_if: u64,
-}
+/// A [`RouteMfcStats`] is its own layout: 24 bytes, 3 numbers of 8 bytes, little endian.
+pub type RouteMfcStatsBuffer = RouteMfcStats;
 
-impl RouteMfcStatsBuffer {
-    /// The layout in the first 24 bytes; more are not looked at.
+impl RouteMfcStats {
+    /// The values in the first 24 bytes; more are not looked at.
     ///
     /// # Errors
     /// `HeaderTooShort` below 24 bytes.
     pub fn parse(bytes: &[u8]) -> Result<Self, DecodeError>
-        ensures ok { IfOk result (λ b. (leading route_mfc_stats_buffer).Reads bytes.now b) }
-        ensures refused { IfErr result (λ e. (leading route_mfc_stats_buffer).Wrong no_place bytes.now e) }
+        ensures ok { IfOk result (λ x. (leading route_mfc_stats).Reads bytes.now x) }
+        ensures refused { IfErr result (λ e. (leading route_mfc_stats).Wrong no_place bytes.now e) }
     {
         let b = leading_octets(bytes, 24)?;
-        Ok(RouteMfcStatsBuffer {
+        Ok(RouteMfcStats {
             packets: u64::from_le_bytes([b[0], b[1], b[2], b[3], b[4], b[5], b[6], b[7]]),
             bytes: u64::from_le_bytes([b[8], b[9], b[10], b[11], b[12], b[13], b[14], b[15]]),
             wrong_if: u64::from_le_bytes([b[16], b[17], b[18], b[19], b[20], b[21], b[22], b[23]]),
@@ -44,7 +39,7 @@ impl RouteMfcStatsBuffer {
 
     /// The 24 bytes of the layout.
     pub fn to_bytes(&self) -> [u8; 24]
-        ensures { result ≡ route_mfc_stats_buffer.encode self.now }
+        ensures { result ≡ route_mfc_stats.encode self.now }
     {
         let [a0, a1, a2, a3, a4, a5, a6, a7] = self.packets.to_le_bytes();
         let [b0, b1, b2, b3, b4, b5, b6, b7] = self.bytes.to_le_bytes();
@@ -57,32 +52,10 @@ impl RouteMfcStatsBuffer {
 }
 
 impl<'a> From<&'a RouteMfcStats> for RouteMfcStatsBuffer {
-    ghost from_gives = { λ x b. b ≡ mfc_stats_buffer_of x.now };
+    ghost from_gives = { λ x b. b ≡ x.now };
 
     fn from(x: &'a RouteMfcStats) -> RouteMfcStatsBuffer {
-        RouteMfcStatsBuffer {
-            packets: x.packets,
-            bytes: x.bytes,
-            wrong_if: x.wrong_if,
-        }
-    }
-}
-
-impl RouteMfcStats {
-    /// The values in the first 24 bytes; more are not looked at.
-    ///
-    /// # Errors
-    /// `HeaderTooShort` below 24 bytes.
-    pub fn parse(bytes: &[u8]) -> Result<Self, DecodeError>
-        ensures ok { IfOk result (λ x. (leading route_mfc_stats).Reads bytes.now x) }
-        ensures refused { IfErr result (λ e. (leading route_mfc_stats).Wrong no_place bytes.now e) }
-    {
-        let b = RouteMfcStatsBuffer::parse(bytes)?;
-        Ok(RouteMfcStats {
-            packets: b.packets,
-            bytes: b.bytes,
-            wrong_if: b.wrong_if,
-        })
+        *x
     }
 }
 
@@ -100,6 +73,6 @@ impl Emitable for RouteMfcStats {
     }
 
     fn emit(&self, out: &mut [u8]) {
-        write_array(RouteMfcStatsBuffer::from(self).to_bytes(), out);
+        write_array(self.to_bytes(), out);
     }
 }

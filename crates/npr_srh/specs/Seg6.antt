@@ -12,8 +12,8 @@ use Rattle.npr_base.specs.declared.refusal.Seg6Fault.{Seg6Fault}
 use Rattle.npr_base.specs.declared.refusal.Seg6Fault.TheVariants.{Short, Length, Hmac, Segments}
 use Rattle.npr_base.specs.Framing.{IsBytes}
 use Rattle.npr_base.specs.Family.{AllOf, option_or, too_long}
-use Rattle.npr_base.specs.Fields.{one_byte, le_two, le_four, ◌then◌, fields}
-use Rattle.npr_base.specs.Layout.{Layout, formed}
+use Rattle.npr_base.specs.Fields.{one_byte, le_two, le_four, ◌then◌, structure}
+use Rattle.npr_base.specs.Layout.{Layout}
 use Rattle.npr_base.specs.Rows.{IsFormed}
 use Rattle.npr_srh.specs.Segments.{too_many}
 use Rattle.npr_srh.specs.Seg6Mode.{ModeTable, modes, mode_in, mode_of, mode_number}
@@ -23,20 +23,21 @@ use Rattle.npr_srh.specs.declared.seg6_header.Seg6Header.{Seg6Header}
 
 -- ---- the first twelve bytes
 
+-- in this order, little endian
 abbrev pub message : Layout Seg6MessageBuffer
 message =
-    formed (fields (le_four then one_byte then one_byte then one_byte then one_byte then one_byte then one_byte then le_two))
-    (λ p. record {
-      mode = p.0;
-      nexthdr = p.1.0;
-      hdrlen = p.1.1.0;
-      seg_type = p.1.1.1.0;
-      segments_left = p.1.1.1.1.0;
-      first_segment = p.1.1.1.1.1.0;
-      flags = p.1.1.1.1.1.1.0;
-      tag = p.1.1.1.1.1.1.1;
+    structure (le_four then one_byte then one_byte then one_byte then one_byte then one_byte then one_byte then le_two)
+    (λ (mode, (next, (size, (kind, (left, (first, (flags, tag))))))). record {
+      mode = mode;
+      nexthdr = next;
+      hdrlen = size;
+      seg_type = kind;
+      segments_left = left;
+      first_segment = first;
+      flags = flags;
+      tag = tag;
     })
-    (λ b. (b.mode, (b.nexthdr, (b.hdrlen, (b.seg_type, (b.segments_left, (b.first_segment, (b.flags, b.tag)))))))) (λ p. refl)
+    (λ b. (b.mode, (b.nexthdr, (b.hdrlen, (b.seg_type, (b.segments_left, (b.first_segment, (b.flags, b.tag)))))))) (λ fields. refl)
 
 abbrev pub decode_message : List ℕ → Seg6MessageBuffer
 decode_message = message.decode

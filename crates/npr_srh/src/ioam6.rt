@@ -1,9 +1,10 @@
 //! IOAM6: traces in packets (RFC 9197; `linux/ioam6.h` and `linux/ioam6_iptunnel.h`).
 
 ghost use Rattle.std.specs.{
-  Prelude.{◌≡◌, ◌≢◌, false, length, IfOk, IfErr, IfSome, IfNone, refl, Some},
+  Prelude.{◌≡◌, ◌≢◌, length, IfOk, IfErr, IfSome, IfNone, refl, Some},
   Fmt.{WritesOnOk},
 };
+ghost use Rattle.npr_base.specs.Table.{shape_by, shape_at, held};
 ghost use Rattle.npr_base.specs.declared.refusal.DecodeError.TheVariants.{OutOfMemory};
 ghost use Rattle.npr_srh.specs.{
   Ioam6Mode.{ioam6_mode_of, ioam6_mode_number, ioam6_mode_text},
@@ -14,7 +15,7 @@ ghost use Rattle.npr_srh.specs.{
 
 use npr_base::{
     AttrFamily, Attribute, DecodeError, DefaultNla, EmitError, Ipv6Addr, Looks, Nla, NlaBuffer,
-    Parseable, check_len, read_ipv6, read_u8, read_u32, write_array, write_bytes,
+    Parseable, check_len, clone_rows, kind_rows, len_rows, read_rows, write_array, write_rows,
     write_six_hex_digits,
 };
 use std::alloc::{AllocError, Global};
@@ -120,13 +121,7 @@ impl Ioam6TraceHdr {
 }
 
 impl Nla for Ioam6TraceHdr {
-    ghost item = { λ t. record { kind = 3; value = trace.writes t } };
-
-    ghost nested = { λ _. false };
-
-    ghost unfit = { λ t. trace.misfit 3 t };
-
-    ghost fits_short = { λ t fits. trace.fits_short 3 t fits };
+    ghost shape = { λ t. shape_at (held 3 trace t) };
 
     fn kind(&self) -> u16 {
         IOAM6_IPTUNNEL_TRACE
@@ -194,6 +189,20 @@ pub enum RouteIoam6Tunnel {
     Other(DefaultNla),
 }
 
+/// The rows of the table.
+macro_rules! rows {
+    ($body:ident ($($given:tt)*)) => {
+        $body!(($($given)*) RouteIoam6Tunnel {
+            0 Unspecified;
+            1 Mode(Ioam6Mode as byte);
+            2 Dst(octets16);
+            4 FreqK(le32);
+            5 FreqN(le32);
+            6 Src(octets16);
+        })
+    };
+}
+
 impl RouteIoam6Tunnel {
     /// An equal member.
     ///
@@ -202,39 +211,15 @@ impl RouteIoam6Tunnel {
     pub fn clone(&self, alloc: Global) -> Result<Self, AllocError>
         ensures { IfOk result (λ a. meaning_of a ≡ meaning_of self.now) }
     {
-        match self {
-            RouteIoam6Tunnel::Unspecified => Ok(RouteIoam6Tunnel::Unspecified),
-            RouteIoam6Tunnel::Mode(mode) => Ok(RouteIoam6Tunnel::Mode(*mode)),
-            RouteIoam6Tunnel::Dst(address) => Ok(RouteIoam6Tunnel::Dst(*address)),
-            RouteIoam6Tunnel::Trace(trace) => Ok(RouteIoam6Tunnel::Trace(*trace)),
-            RouteIoam6Tunnel::FreqK(count) => Ok(RouteIoam6Tunnel::FreqK(*count)),
-            RouteIoam6Tunnel::FreqN(count) => Ok(RouteIoam6Tunnel::FreqN(*count)),
-            RouteIoam6Tunnel::Src(address) => Ok(RouteIoam6Tunnel::Src(*address)),
-            RouteIoam6Tunnel::Other(nla) => nla.clone(alloc).map(RouteIoam6Tunnel::Other),
-        }
+        rows!(clone_rows(self, alloc; RouteIoam6Tunnel::Trace(trace) => Ok(RouteIoam6Tunnel::Trace(*trace)),))
     }
 }
 
 impl Nla for RouteIoam6Tunnel {
-    ghost item = { λ a. writing.writes (meaning_of a) };
-
-    ghost nested = { λ _. false };
-
-    ghost unfit = { λ a. writing.misfit (meaning_of a) };
-
-    ghost fits_short = { λ a h. writing.short (meaning_of a) h };
+    ghost shape = { λ a. shape_by writing (meaning_of a) };
 
     fn kind(&self) -> u16 {
-        match self {
-            RouteIoam6Tunnel::Unspecified => 0,
-            RouteIoam6Tunnel::Mode(_) => 1,
-            RouteIoam6Tunnel::Dst(_) => 2,
-            RouteIoam6Tunnel::Trace(trace) => trace.kind(),
-            RouteIoam6Tunnel::FreqK(_) => 4,
-            RouteIoam6Tunnel::FreqN(_) => 5,
-            RouteIoam6Tunnel::Src(_) => 6,
-            RouteIoam6Tunnel::Other(nla) => nla.kind(),
-        }
+        rows!(kind_rows(self; RouteIoam6Tunnel::Trace(trace) => trace.kind(),))
     }
 
     fn is_nested(&self) -> bool {
@@ -248,33 +233,11 @@ impl Nla for RouteIoam6Tunnel {
     fn value_len(&self) -> usize
         ensures { result ≡ length (writing.writes (meaning_of self.now)).value }
     {
-        match self {
-            RouteIoam6Tunnel::Unspecified => 0,
-            RouteIoam6Tunnel::Mode(_) => 1,
-            RouteIoam6Tunnel::Dst(address) | RouteIoam6Tunnel::Src(address) => address
-                .octets()
-                .len(),
-            RouteIoam6Tunnel::Trace(trace) => trace.value_len(),
-            RouteIoam6Tunnel::FreqK(_) | RouteIoam6Tunnel::FreqN(_) => 4,
-            RouteIoam6Tunnel::Other(nla) => nla.value().len(),
-        }
+        rows!(len_rows(self; RouteIoam6Tunnel::Trace(trace) => trace.value_len(),))
     }
 
     fn write_value(&self, out: &mut [u8]) -> usize {
-        match self {
-            RouteIoam6Tunnel::Unspecified => 0,
-            RouteIoam6Tunnel::Mode(mode) => write_array([u8::from(*mode)], out),
-            RouteIoam6Tunnel::Dst(address) | RouteIoam6Tunnel::Src(address) => write_array(
-                address.octets(),
-                out,
-            ),
-            RouteIoam6Tunnel::Trace(trace) => trace.write_value(out),
-            RouteIoam6Tunnel::FreqK(n) | RouteIoam6Tunnel::FreqN(n) => write_array(
-                n.to_le_bytes(),
-                out,
-            ),
-            RouteIoam6Tunnel::Other(nla) => write_bytes(nla.value(), out),
-        }
+        rows!(write_rows(self, out; RouteIoam6Tunnel::Trace(trace) => trace.write_value(out),))
     }
 }
 
@@ -291,28 +254,20 @@ impl Attribute for RouteIoam6Tunnel {
 
     ghost item_is = { λ a. refl };
 
-    ghost unfit_is = { λ a. refl };
+    ghost misfit_is = { λ a. refl };
 
     fn read(
         alloc: Global,
         _context: (),
         item: &NlaBuffer<'_>,
-        _looks: &mut Looks,
+        looks: &mut Looks,
     ) -> Result<Self, DecodeError> {
-        let value = item.value();
-        match item.kind() {
-            0 => Ok(RouteIoam6Tunnel::Unspecified),
-            1 => read_u8(value, FAMILY.at(1)).map(|n| RouteIoam6Tunnel::Mode(Ioam6Mode::from(n))),
-            2 => read_ipv6(value, FAMILY.at(2)).map(RouteIoam6Tunnel::Dst),
-            3 => match Ioam6TraceHdr::read(value) {
+        rows!(read_rows(alloc, item, looks;
+            3 => match Ioam6TraceHdr::read(item.value()) {
                 Some(trace) => Ok(RouteIoam6Tunnel::Trace(trace)),
                 None => Ok(RouteIoam6Tunnel::Other(DefaultNla::parse(alloc, item)?)),
             },
-            4 => read_u32(value, FAMILY.at(4)).map(RouteIoam6Tunnel::FreqK),
-            5 => read_u32(value, FAMILY.at(5)).map(RouteIoam6Tunnel::FreqN),
-            6 => read_ipv6(value, FAMILY.at(6)).map(RouteIoam6Tunnel::Src),
-            _ => DefaultNla::parse(alloc, item).map(RouteIoam6Tunnel::Other),
-        }
+        ))
     }
 
     fn try_clone(&self, alloc: Global) -> Result<Self, AllocError> {

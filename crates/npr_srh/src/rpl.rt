@@ -1,7 +1,8 @@
 //! RPL: source routes of a network of low power (RFC 6554; `linux/rpl.h` and
 //! `linux/rpl_iptunnel.h`).
 
-ghost use Rattle.std.specs.Prelude.{◌≡◌, ◌≤◌, ◌*◌, false, length, [], IfOk, IfErr, IfSome, IfNone, refl};
+ghost use Rattle.std.specs.Prelude.{◌≡◌, ◌≤◌, ◌*◌, length, [], IfOk, IfErr, IfSome, IfNone, refl};
+ghost use Rattle.npr_base.specs.Table.{shape_by, shape_at, held};
 ghost use Rattle.npr_base.specs.declared.refusal.DecodeError.TheVariants.{OutOfMemory};
 ghost use Rattle.npr_srh.specs.{
   Headed.{IsUnread},
@@ -12,7 +13,8 @@ ghost use Rattle.npr_srh.specs.{
 use crate::segments::{Segments, check_header, has_header};
 use npr_base::{
     AttrFamily, Attribute, DecodeError, DefaultNla, EmitError, Ipv6Addr, Looks, Nla, NlaBuffer,
-    Parseable, read_v6_list, v6_list_len, write_array, write_bytes, write_v6_list,
+    Parseable, clone_rows, kind_rows, len_rows, read_rows, read_v6_list, v6_list_len, write_array,
+    write_rows, write_v6_list,
 };
 use std::alloc::{AllocError, Global};
 use std::fmt;
@@ -123,13 +125,7 @@ impl RplSrh {
 }
 
 impl Nla for RplSrh {
-    ghost item = { λ h. record { kind = 1; value = rpl.writes (rpl_of h) } };
-
-    ghost nested = { λ _. false };
-
-    ghost unfit = { λ h. rpl.misfit 1 (rpl_of h) };
-
-    ghost fits_short = { λ h fits. rpl.fits_short 1 (rpl_of h) fits };
+    ghost shape = { λ h. shape_at (held 1 rpl (rpl_of h)) };
 
     fn kind(&self) -> u16 {
         RPL_IPTUNNEL_SRH
@@ -186,6 +182,15 @@ pub enum RouteRplIpTunnel {
     Other(DefaultNla),
 }
 
+/// The rows of the table.
+macro_rules! rows {
+    ($body:ident ($($given:tt)*)) => {
+        $body!(($($given)*) RouteRplIpTunnel {
+            0 Unspecified;
+        })
+    };
+}
+
 impl RouteRplIpTunnel {
     /// An equal member.
     ///
@@ -194,29 +199,15 @@ impl RouteRplIpTunnel {
     pub fn clone(&self, alloc: Global) -> Result<Self, AllocError>
         ensures { IfOk result (λ a. meaning_of a ≡ meaning_of self.now) }
     {
-        match self {
-            RouteRplIpTunnel::Unspecified => Ok(RouteRplIpTunnel::Unspecified),
-            RouteRplIpTunnel::Srh(header) => header.clone(alloc).map(RouteRplIpTunnel::Srh),
-            RouteRplIpTunnel::Other(nla) => nla.clone(alloc).map(RouteRplIpTunnel::Other),
-        }
+        rows!(clone_rows(self, alloc; RouteRplIpTunnel::Srh(header) => header.clone(alloc).map(RouteRplIpTunnel::Srh),))
     }
 }
 
 impl Nla for RouteRplIpTunnel {
-    ghost item = { λ a. writing.writes (meaning_of a) };
-
-    ghost nested = { λ _. false };
-
-    ghost unfit = { λ a. writing.misfit (meaning_of a) };
-
-    ghost fits_short = { λ a h. writing.short (meaning_of a) h };
+    ghost shape = { λ a. shape_by writing (meaning_of a) };
 
     fn kind(&self) -> u16 {
-        match self {
-            RouteRplIpTunnel::Unspecified => 0,
-            RouteRplIpTunnel::Srh(header) => header.kind(),
-            RouteRplIpTunnel::Other(nla) => nla.kind(),
-        }
+        rows!(kind_rows(self; RouteRplIpTunnel::Srh(_) => 1,))
     }
 
     fn is_nested(&self) -> bool {
@@ -233,19 +224,11 @@ impl Nla for RouteRplIpTunnel {
     fn value_len(&self) -> usize
         ensures { result ≡ length (writing.writes (meaning_of self.now)).value }
     {
-        match self {
-            RouteRplIpTunnel::Unspecified => 0,
-            RouteRplIpTunnel::Srh(header) => header.value_len(),
-            RouteRplIpTunnel::Other(nla) => nla.value().len(),
-        }
+        rows!(len_rows(self; RouteRplIpTunnel::Srh(header) => header.value_len(),))
     }
 
     fn write_value(&self, out: &mut [u8]) -> usize {
-        match self {
-            RouteRplIpTunnel::Unspecified => 0,
-            RouteRplIpTunnel::Srh(header) => header.write_value(out),
-            RouteRplIpTunnel::Other(nla) => write_bytes(nla.value(), out),
-        }
+        rows!(write_rows(self, out; RouteRplIpTunnel::Srh(header) => header.write_value(out),))
     }
 }
 
@@ -262,22 +245,20 @@ impl Attribute for RouteRplIpTunnel {
 
     ghost item_is = { λ a. refl };
 
-    ghost unfit_is = { λ a. refl };
+    ghost misfit_is = { λ a. refl };
 
     fn read(
         alloc: Global,
         _context: (),
         item: &NlaBuffer<'_>,
-        _looks: &mut Looks,
+        looks: &mut Looks,
     ) -> Result<Self, DecodeError> {
-        let value = item.value();
         match item.kind() {
-            0 => Ok(RouteRplIpTunnel::Unspecified),
-            1 => match RplSrh::read(alloc, value)? {
+            1 => match RplSrh::read(alloc, item.value())? {
                 Some(header) => Ok(RouteRplIpTunnel::Srh(header)),
                 None => Ok(RouteRplIpTunnel::Other(DefaultNla::parse(alloc, item)?)),
             },
-            _ => DefaultNla::parse(alloc, item).map(RouteRplIpTunnel::Other),
+            _ => rows!(read_rows(alloc, item, looks)),
         }
     }
 

@@ -1,12 +1,13 @@
 //! SEG6: members of its tunnel (RFC 8754; `linux/seg6_iptunnel.h`).
 
-ghost use Rattle.std.specs.Prelude.{◌≡◌, false, length, IfOk, refl};
+ghost use Rattle.std.specs.Prelude.{◌≡◌, length, IfOk, refl};
+ghost use Rattle.npr_base.specs.Table.{shape_by};
 ghost use Rattle.npr_srh.specs.Seg6Tunnel.{Meaning, meaning_of, writing, members};
 
 use crate::seg6_header::Seg6Header;
 use npr_base::{
     AttrFamily, Attribute, DecodeError, DefaultNla, EmitError, Ipv6Addr, Looks, Nla, NlaBuffer,
-    Parseable, read_ipv6, read_u32, write_array, write_bytes,
+    Parseable, clone_rows, kind_rows, len_rows, read_rows, write_rows,
 };
 use std::alloc::{AllocError, Global};
 
@@ -23,6 +24,16 @@ pub enum RouteSeg6IpTunnel {
     Other(DefaultNla),
 }
 
+/// The rows of the table.
+macro_rules! rows {
+    ($body:ident ($($given:tt)*)) => {
+        $body!(($($given)*) RouteSeg6IpTunnel {
+            2 Src(octets16);
+            3 Table(le32);
+        })
+    };
+}
+
 impl RouteSeg6IpTunnel {
     /// An equal member.
     ///
@@ -31,12 +42,7 @@ impl RouteSeg6IpTunnel {
     pub fn clone(&self, alloc: Global) -> Result<Self, AllocError>
         ensures { IfOk result (λ a. meaning_of a ≡ meaning_of self.now) }
     {
-        match self {
-            RouteSeg6IpTunnel::Seg6(header) => header.clone(alloc).map(RouteSeg6IpTunnel::Seg6),
-            RouteSeg6IpTunnel::Src(address) => Ok(RouteSeg6IpTunnel::Src(*address)),
-            RouteSeg6IpTunnel::Table(table) => Ok(RouteSeg6IpTunnel::Table(*table)),
-            RouteSeg6IpTunnel::Other(nla) => nla.clone(alloc).map(RouteSeg6IpTunnel::Other),
-        }
+        rows!(clone_rows(self, alloc; RouteSeg6IpTunnel::Seg6(header) => header.clone(alloc).map(RouteSeg6IpTunnel::Seg6),))
     }
 }
 
@@ -44,21 +50,10 @@ impl RouteSeg6IpTunnel {
 const FAMILY: AttrFamily = AttrFamily::Seg6;
 
 impl Nla for RouteSeg6IpTunnel {
-    ghost item = { λ a. writing.writes (meaning_of a) };
-
-    ghost nested = { λ _. false };
-
-    ghost unfit = { λ a. writing.misfit (meaning_of a) };
-
-    ghost fits_short = { λ a h. writing.short (meaning_of a) h };
+    ghost shape = { λ a. shape_by writing (meaning_of a) };
 
     fn kind(&self) -> u16 {
-        match self {
-            RouteSeg6IpTunnel::Seg6(header) => header.kind(),
-            RouteSeg6IpTunnel::Src(_) => 2,
-            RouteSeg6IpTunnel::Table(_) => 3,
-            RouteSeg6IpTunnel::Other(nla) => nla.kind(),
-        }
+        rows!(kind_rows(self; RouteSeg6IpTunnel::Seg6(_) => 1,))
     }
 
     fn is_nested(&self) -> bool {
@@ -75,21 +70,11 @@ impl Nla for RouteSeg6IpTunnel {
     fn value_len(&self) -> usize
         ensures { result ≡ length (writing.writes (meaning_of self.now)).value }
     {
-        match self {
-            RouteSeg6IpTunnel::Seg6(header) => header.value_len(),
-            RouteSeg6IpTunnel::Src(address) => address.octets().len(),
-            RouteSeg6IpTunnel::Table(_) => 4,
-            RouteSeg6IpTunnel::Other(nla) => nla.value().len(),
-        }
+        rows!(len_rows(self; RouteSeg6IpTunnel::Seg6(header) => header.value_len(),))
     }
 
     fn write_value(&self, out: &mut [u8]) -> usize {
-        match self {
-            RouteSeg6IpTunnel::Seg6(header) => header.write_value(out),
-            RouteSeg6IpTunnel::Src(address) => write_array(address.octets(), out),
-            RouteSeg6IpTunnel::Table(table) => write_array(table.to_le_bytes(), out),
-            RouteSeg6IpTunnel::Other(nla) => write_bytes(nla.value(), out),
-        }
+        rows!(write_rows(self, out; RouteSeg6IpTunnel::Seg6(header) => header.write_value(out),))
     }
 }
 
@@ -106,21 +91,15 @@ impl Attribute for RouteSeg6IpTunnel {
 
     ghost item_is = { λ a. refl };
 
-    ghost unfit_is = { λ a. refl };
+    ghost misfit_is = { λ a. refl };
 
     fn read(
         alloc: Global,
         _context: (),
         item: &NlaBuffer<'_>,
-        _looks: &mut Looks,
+        looks: &mut Looks,
     ) -> Result<Self, DecodeError> {
-        let value = item.value();
-        match item.kind() {
-            1 => Seg6Header::read(alloc, value).map(RouteSeg6IpTunnel::Seg6),
-            2 => read_ipv6(value, FAMILY.at(2)).map(RouteSeg6IpTunnel::Src),
-            3 => read_u32(value, FAMILY.at(3)).map(RouteSeg6IpTunnel::Table),
-            _ => DefaultNla::parse(alloc, item).map(RouteSeg6IpTunnel::Other),
-        }
+        rows!(read_rows(alloc, item, looks; 1 => Seg6Header::read(alloc, item.value()).map(RouteSeg6IpTunnel::Seg6),))
     }
 
     fn try_clone(&self, alloc: Global) -> Result<Self, AllocError> {

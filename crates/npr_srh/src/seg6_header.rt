@@ -1,10 +1,11 @@
 //! SEG6's routing header of segments, behind its mode (RFC 8754; `linux/seg6.h`).
 
 ghost use Rattle.std.specs.{
-  Prelude.{◌≡◌, ◌≢◌, ◌≤◌, ◌*◌, ◌/◌, ◌%◌, None, false, length, take, reverse, [], Err, IfOk, IfErr},
+  Prelude.{◌≡◌, ◌≢◌, ◌≤◌, ◌*◌, ◌/◌, ◌%◌, None, length, take, reverse, [], Err, IfOk, IfErr},
   List.{concat},
 };
 ghost use Rattle.npr_base.specs.{
+  Table.{shape_at, held},
   Codec.{leading},
   Framing.{Writes},
   Refusal.{no_place},
@@ -277,13 +278,7 @@ fn write_key(key: Option<u32>, out: &mut [u8]) -> usize
 }
 
 impl Nla for Seg6Header {
-    ghost item = { λ h. record { kind = 1; value = seg6.writes (seg6_of h) } };
-
-    ghost nested = { λ _. false };
-
-    ghost unfit = { λ h. seg6.misfit 1 (seg6_of h) };
-
-    ghost fits_short = { λ h fits. seg6.fits_short 1 (seg6_of h) fits };
+    ghost shape = { λ h. shape_at (held 1 seg6 (seg6_of h)) };
 
     fn kind(&self) -> u16 {
         SEG6_IPTUNNEL_SRH

@@ -1,6 +1,7 @@
 //! SEG6 local: members of its tunnel (RFC 8986; `linux/seg6_local.h`).
 
-ghost use Rattle.std.specs.Prelude.{◌≡◌, false, length, IfOk, refl};
+ghost use Rattle.std.specs.Prelude.{◌≡◌, length, IfOk, refl};
+ghost use Rattle.npr_base.specs.Table.{shape_by};
 ghost use Rattle.npr_srh.specs.Seg6LocalTunnel.{Meaning, meaning_of, writing, members, local_text};
 
 use crate::seg6local_action::Seg6LocalAction;
@@ -8,7 +9,7 @@ use crate::seg6local_srh::Seg6LocalSrh;
 use crate::segments::Segments;
 use npr_base::{
     AttrFamily, Attribute, DecodeError, DefaultNla, EmitError, Ipv4Addr, Ipv6Addr, Looks, Nla,
-    NlaBuffer, Parseable, read_ipv4, read_ipv6, read_u32, write_array, write_bytes,
+    NlaBuffer, Parseable, clone_rows, kind_rows, len_rows, read_rows, write_rows,
 };
 use std::alloc::{AllocError, Global};
 use std::fmt;
@@ -39,6 +40,22 @@ pub enum RouteSeg6LocalTunnel {
     Other(DefaultNla),
 }
 
+/// The rows of the table.
+macro_rules! rows {
+    ($body:ident ($($given:tt)*)) => {
+        $body!(($($given)*) RouteSeg6LocalTunnel {
+            0 Unspecified;
+            1 Action(Seg6LocalAction as le32);
+            3 Table(le32);
+            4 Nh4(octets4);
+            5 Nh6(octets16);
+            6 Iif(le32);
+            7 Oif(le32);
+            9 VrfTable(le32);
+        })
+    };
+}
+
 impl RouteSeg6LocalTunnel {
     /// An equal member.
     ///
@@ -47,18 +64,7 @@ impl RouteSeg6LocalTunnel {
     pub fn clone(&self, alloc: Global) -> Result<Self, AllocError>
         ensures { IfOk result (λ a. meaning_of a ≡ meaning_of self.now) }
     {
-        match self {
-            RouteSeg6LocalTunnel::Unspecified => Ok(RouteSeg6LocalTunnel::Unspecified),
-            RouteSeg6LocalTunnel::Action(action) => Ok(RouteSeg6LocalTunnel::Action(*action)),
-            RouteSeg6LocalTunnel::Srh(header) => header.clone(alloc).map(RouteSeg6LocalTunnel::Srh),
-            RouteSeg6LocalTunnel::Table(table) => Ok(RouteSeg6LocalTunnel::Table(*table)),
-            RouteSeg6LocalTunnel::Nh4(address) => Ok(RouteSeg6LocalTunnel::Nh4(*address)),
-            RouteSeg6LocalTunnel::Nh6(address) => Ok(RouteSeg6LocalTunnel::Nh6(*address)),
-            RouteSeg6LocalTunnel::Iif(index) => Ok(RouteSeg6LocalTunnel::Iif(*index)),
-            RouteSeg6LocalTunnel::Oif(index) => Ok(RouteSeg6LocalTunnel::Oif(*index)),
-            RouteSeg6LocalTunnel::VrfTable(table) => Ok(RouteSeg6LocalTunnel::VrfTable(*table)),
-            RouteSeg6LocalTunnel::Other(nla) => nla.clone(alloc).map(RouteSeg6LocalTunnel::Other),
-        }
+        rows!(clone_rows(self, alloc; RouteSeg6LocalTunnel::Srh(header) => header.clone(alloc).map(RouteSeg6LocalTunnel::Srh),))
     }
 }
 
@@ -66,27 +72,10 @@ impl RouteSeg6LocalTunnel {
 const FAMILY: AttrFamily = AttrFamily::Seg6Local;
 
 impl Nla for RouteSeg6LocalTunnel {
-    ghost item = { λ a. writing.writes (meaning_of a) };
-
-    ghost nested = { λ _. false };
-
-    ghost unfit = { λ a. writing.misfit (meaning_of a) };
-
-    ghost fits_short = { λ a h. writing.short (meaning_of a) h };
+    ghost shape = { λ a. shape_by writing (meaning_of a) };
 
     fn kind(&self) -> u16 {
-        match self {
-            RouteSeg6LocalTunnel::Unspecified => 0,
-            RouteSeg6LocalTunnel::Action(_) => 1,
-            RouteSeg6LocalTunnel::Srh(header) => header.kind(),
-            RouteSeg6LocalTunnel::Table(_) => 3,
-            RouteSeg6LocalTunnel::Nh4(_) => 4,
-            RouteSeg6LocalTunnel::Nh6(_) => 5,
-            RouteSeg6LocalTunnel::Iif(_) => 6,
-            RouteSeg6LocalTunnel::Oif(_) => 7,
-            RouteSeg6LocalTunnel::VrfTable(_) => 9,
-            RouteSeg6LocalTunnel::Other(nla) => nla.kind(),
-        }
+        rows!(kind_rows(self; RouteSeg6LocalTunnel::Srh(_) => 2,))
     }
 
     fn is_nested(&self) -> bool {
@@ -103,36 +92,11 @@ impl Nla for RouteSeg6LocalTunnel {
     fn value_len(&self) -> usize
         ensures { result ≡ length (writing.writes (meaning_of self.now)).value }
     {
-        match self {
-            RouteSeg6LocalTunnel::Unspecified => 0,
-            RouteSeg6LocalTunnel::Srh(header) => header.value_len(),
-            RouteSeg6LocalTunnel::Nh4(address) => address.octets().len(),
-            RouteSeg6LocalTunnel::Nh6(address) => address.octets().len(),
-            RouteSeg6LocalTunnel::Action(_)
-            | RouteSeg6LocalTunnel::Table(_)
-            | RouteSeg6LocalTunnel::Iif(_)
-            | RouteSeg6LocalTunnel::Oif(_)
-            | RouteSeg6LocalTunnel::VrfTable(_) => 4,
-            RouteSeg6LocalTunnel::Other(nla) => nla.value().len(),
-        }
+        rows!(len_rows(self; RouteSeg6LocalTunnel::Srh(header) => header.value_len(),))
     }
 
     fn write_value(&self, out: &mut [u8]) -> usize {
-        match self {
-            RouteSeg6LocalTunnel::Unspecified => 0,
-            RouteSeg6LocalTunnel::Action(action) => write_array(
-                u32::from(*action).to_le_bytes(),
-                out,
-            ),
-            RouteSeg6LocalTunnel::Srh(header) => header.write_value(out),
-            RouteSeg6LocalTunnel::Nh4(address) => write_array(address.octets(), out),
-            RouteSeg6LocalTunnel::Nh6(address) => write_array(address.octets(), out),
-            RouteSeg6LocalTunnel::Table(n)
-            | RouteSeg6LocalTunnel::Iif(n)
-            | RouteSeg6LocalTunnel::Oif(n)
-            | RouteSeg6LocalTunnel::VrfTable(n) => write_array(n.to_le_bytes(), out),
-            RouteSeg6LocalTunnel::Other(nla) => write_bytes(nla.value(), out),
-        }
+        rows!(write_rows(self, out; RouteSeg6LocalTunnel::Srh(header) => header.write_value(out),))
     }
 }
 
@@ -149,31 +113,20 @@ impl Attribute for RouteSeg6LocalTunnel {
 
     ghost item_is = { λ a. refl };
 
-    ghost unfit_is = { λ a. refl };
+    ghost misfit_is = { λ a. refl };
 
     fn read(
         alloc: Global,
         _context: (),
         item: &NlaBuffer<'_>,
-        _looks: &mut Looks,
+        looks: &mut Looks,
     ) -> Result<Self, DecodeError> {
-        let value = item.value();
         match item.kind() {
-            0 => Ok(RouteSeg6LocalTunnel::Unspecified),
-            1 => read_u32(value, FAMILY.at(1)).map(|n| RouteSeg6LocalTunnel::Action(
-                Seg6LocalAction::from(n),
-            )),
-            2 => match Seg6LocalSrh::read(alloc, value)? {
+            2 => match Seg6LocalSrh::read(alloc, item.value())? {
                 Some(header) => Ok(RouteSeg6LocalTunnel::Srh(header)),
                 None => Ok(RouteSeg6LocalTunnel::Other(DefaultNla::parse(alloc, item)?)),
             },
-            3 => read_u32(value, FAMILY.at(3)).map(RouteSeg6LocalTunnel::Table),
-            4 => read_ipv4(value, FAMILY.at(4)).map(RouteSeg6LocalTunnel::Nh4),
-            5 => read_ipv6(value, FAMILY.at(5)).map(RouteSeg6LocalTunnel::Nh6),
-            6 => read_u32(value, FAMILY.at(6)).map(RouteSeg6LocalTunnel::Iif),
-            7 => read_u32(value, FAMILY.at(7)).map(RouteSeg6LocalTunnel::Oif),
-            9 => read_u32(value, FAMILY.at(9)).map(RouteSeg6LocalTunnel::VrfTable),
-            _ => DefaultNla::parse(alloc, item).map(RouteSeg6LocalTunnel::Other),
+            _ => rows!(read_rows(alloc, item, looks)),
         }
     }
 

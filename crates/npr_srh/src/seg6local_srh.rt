@@ -1,6 +1,7 @@
 //! SEG6 local's routing header of segments (RFC 8754; `linux/seg6_local.h`).
 
-ghost use Rattle.std.specs.Prelude.{◌≡◌, ◌≤◌, ◌*◌, false, length, [], IfOk, IfErr, IfSome, IfNone};
+ghost use Rattle.std.specs.Prelude.{◌≡◌, ◌≤◌, ◌*◌, length, [], IfOk, IfErr, IfSome, IfNone};
+ghost use Rattle.npr_base.specs.Table.{shape_at, held};
 ghost use Rattle.npr_base.specs.declared.refusal.DecodeError.TheVariants.{OutOfMemory};
 ghost use Rattle.npr_srh.specs.{
   Headed.{IsUnread},
@@ -115,13 +116,7 @@ impl Seg6LocalSrh {
 }
 
 impl Nla for Seg6LocalSrh {
-    ghost item = { λ h. record { kind = 2; value = local.writes (local_of h) } };
-
-    ghost nested = { λ _. false };
-
-    ghost unfit = { λ h. local.misfit 2 (local_of h) };
-
-    ghost fits_short = { λ h fits. local.fits_short 2 (local_of h) fits };
+    ghost shape = { λ h. shape_at (held 2 local (local_of h)) };
 
     fn kind(&self) -> u16 {
         SEG6_LOCAL_SRH

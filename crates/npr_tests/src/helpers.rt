@@ -4,12 +4,11 @@
 
 ghost use Rattle.std.specs.Prelude.{◌≤◌, length, IfOk};
 
-use netlink_packet_route::address::{AddressAttribute, AddressMessage};
 use netlink_packet_route::framing::{
-    Attribute, DecodeError, EmitError, Emitable, Looks, Nla, NlaBuffer, Parseable,
+    Attribute, DecodeError, EmitError, Emitable, Header, Looks, Message as Stored, Nla, NlaBuffer,
+    Parseable,
 };
-use netlink_packet_route::route::{MplsLabel, RouteAttribute, RouteMessage};
-use netlink_packet_route::rule::{RuleAttribute, RuleMessage};
+use netlink_packet_route::route::MplsLabel;
 use std::alloc::{AllocError, Global};
 use std::fmt::{Debug, Display};
 use std::process::Abort;
@@ -47,50 +46,21 @@ pub(crate) trait Message: Emitable + PartialEq + Drop + Sized {
     fn attributes(&self) -> &[Self::Attribute];
 }
 
-impl Message for AddressMessage {
-    type Attribute = AddressAttribute;
+impl<H: Header + PartialEq> Message for Stored<H, H::Attribute>
+where
+    H::Attribute: PartialEq,
+{
+    type Attribute = H::Attribute;
 
     fn of(alloc: Global, bytes: &[u8]) -> Result<Self, DecodeError> {
-        AddressMessage::parse(alloc, bytes)
+        Stored::<H, H::Attribute>::parse(alloc, bytes)
     }
 
     fn copy(&self, alloc: Global) -> Result<Self, AllocError> {
         self.clone(alloc)
     }
 
-    fn attributes(&self) -> &[AddressAttribute] {
-        self.attributes.as_slice()
-    }
-}
-
-impl Message for RouteMessage {
-    type Attribute = RouteAttribute;
-
-    fn of(alloc: Global, bytes: &[u8]) -> Result<Self, DecodeError> {
-        RouteMessage::parse(alloc, bytes)
-    }
-
-    fn copy(&self, alloc: Global) -> Result<Self, AllocError> {
-        self.clone(alloc)
-    }
-
-    fn attributes(&self) -> &[RouteAttribute] {
-        self.attributes.as_slice()
-    }
-}
-
-impl Message for RuleMessage {
-    type Attribute = RuleAttribute;
-
-    fn of(alloc: Global, bytes: &[u8]) -> Result<Self, DecodeError> {
-        RuleMessage::parse(alloc, bytes)
-    }
-
-    fn copy(&self, alloc: Global) -> Result<Self, AllocError> {
-        self.clone(alloc)
-    }
-
-    fn attributes(&self) -> &[RuleAttribute] {
+    fn attributes(&self) -> &[H::Attribute] {
         self.attributes.as_slice()
     }
 }

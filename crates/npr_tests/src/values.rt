@@ -1,14 +1,14 @@
 //! Labels, realms, numbers and structures of routes: entries of RFC 3032, and layouts of
-//! `linux/rtnetlink.h`.
+//! `linux/rtnetlink.h`; and the names of kinds of messages.
 
 use crate::helpers::{LABEL, bytes_of, holds, same, writes};
 use bitflags::Flags;
-use netlink_packet_route::IpProtocol;
 use netlink_packet_route::framing::{At, DecodeError};
 use netlink_packet_route::route::{
     MplsLabel, RouteCacheInfo, RouteCacheInfoBuffer, RouteFlags, RouteMfcStats,
     RouteMfcStatsBuffer, RouteNextHopFlags, RouteProtocol, RouteRealm, emit_labels, read_labels,
 };
+use netlink_packet_route::{IpProtocol, MessageKind};
 use std::test::Fail;
 
 #[test]
@@ -165,4 +165,12 @@ fn flags_of_routes(rt: HostRuntime) {
     holds(&rt, both.contains(RouteFlags::Dead));
     holds(&rt, both.contains(RouteFlags::RtOffload));
     holds(&rt, !both.contains(RouteFlags::RtTrap));
+}
+
+#[test]
+fn kinds_of_messages(rt: HostRuntime) {
+    for kind in MessageKind::ALL {
+        same(&rt, MessageKind::of(kind.name()), Some(kind));
+    }
+    same(&rt, MessageKind::of("Route"), None);
 }

@@ -1,6 +1,7 @@
 //! The members of an encapsulation, by its type.
 
-ghost use Rattle.std.specs.Prelude.{◌≡◌, false, IfOk, refl};
+ghost use Rattle.std.specs.Prelude.{◌≡◌, IfOk, refl};
+ghost use Rattle.npr_base.specs.Table.{shape_by};
 ghost use Rattle.npr_tunnel.specs.Encapsulation.{Meaning, meaning_of, newer, writing, encapsulation};
 
 use crate::encap_type::RouteLwEnCapType;
@@ -38,6 +39,52 @@ pub enum RouteLwTunnelEncap {
     Other(DefaultNla),
 }
 
+/// The families of members, each with its variant, which has the name of its type.
+macro_rules! members {
+    ($body:ident ($($given:tt)*)) => {
+        $body!(($($given)*) {
+            Mpls(RouteMplsIpTunnel);
+            Seg6(RouteSeg6IpTunnel);
+            Ip(RouteIpTunnel);
+            Ip6(RouteIp6Tunnel);
+            Ioam6(RouteIoam6Tunnel);
+            Rpl(RouteRplIpTunnel);
+            Seg6Local(RouteSeg6LocalTunnel);
+            Xfrm(RouteXfrmTunnel);
+        })
+    };
+}
+
+/// What a method answers of the member that stands there.
+macro_rules! asked {
+    (($of:expr, $method:ident $given:tt) { $($variant:ident($family:ident);)* }) => {
+        match $of {
+            $(RouteLwTunnelEncap::$variant(member) => member.$method $given,)*
+            RouteLwTunnelEncap::Other(nla) => nla.$method $given,
+        }
+    };
+}
+
+/// An equal member.
+macro_rules! cloned {
+    (($of:expr, $alloc:expr) { $($variant:ident($family:ident);)* }) => {
+        match $of {
+            $(RouteLwTunnelEncap::$variant(member) => member.clone($alloc).map(RouteLwTunnelEncap::$variant),)*
+            RouteLwTunnelEncap::Other(nla) => nla.clone($alloc).map(RouteLwTunnelEncap::Other),
+        }
+    };
+}
+
+/// The member of the family of a type.
+macro_rules! member_of {
+    (($kind:expr, $alloc:expr, $item:expr, $looks:expr) { $($variant:ident($family:ident);)* }) => {
+        match $kind {
+            $(RouteLwEnCapType::$variant => $family::read($alloc, (), $item, $looks).map(RouteLwTunnelEncap::$variant),)*
+            _ => DefaultNla::parse($alloc, $item).map(RouteLwTunnelEncap::Other),
+        }
+    };
+}
+
 impl RouteLwTunnelEncap {
     /// An equal member.
     ///
@@ -46,17 +93,7 @@ impl RouteLwTunnelEncap {
     pub fn clone(&self, alloc: Global) -> Result<Self, AllocError>
         ensures { IfOk result (λ a. meaning_of a ≡ meaning_of self.now) }
     {
-        match self {
-            RouteLwTunnelEncap::Mpls(x) => x.clone(alloc).map(RouteLwTunnelEncap::Mpls),
-            RouteLwTunnelEncap::Seg6(x) => x.clone(alloc).map(RouteLwTunnelEncap::Seg6),
-            RouteLwTunnelEncap::Ip(x) => x.clone(alloc).map(RouteLwTunnelEncap::Ip),
-            RouteLwTunnelEncap::Ip6(x) => x.clone(alloc).map(RouteLwTunnelEncap::Ip6),
-            RouteLwTunnelEncap::Ioam6(x) => x.clone(alloc).map(RouteLwTunnelEncap::Ioam6),
-            RouteLwTunnelEncap::Rpl(x) => x.clone(alloc).map(RouteLwTunnelEncap::Rpl),
-            RouteLwTunnelEncap::Seg6Local(x) => x.clone(alloc).map(RouteLwTunnelEncap::Seg6Local),
-            RouteLwTunnelEncap::Xfrm(x) => x.clone(alloc).map(RouteLwTunnelEncap::Xfrm),
-            RouteLwTunnelEncap::Other(x) => x.clone(alloc).map(RouteLwTunnelEncap::Other),
-        }
+        members!(cloned(self, alloc))
     }
 
     /// Gives the mode of a SEG6 header the name that its number has today: `Seg6Header::normalize`.
@@ -70,26 +107,10 @@ impl RouteLwTunnelEncap {
 }
 
 impl Nla for RouteLwTunnelEncap {
-    ghost item = { λ a. writing.writes (meaning_of a) };
-
-    ghost nested = { λ _. false };
-
-    ghost unfit = { λ a. writing.misfit (meaning_of a) };
-
-    ghost fits_short = { λ a h. writing.short (meaning_of a) h };
+    ghost shape = { λ a. shape_by writing (meaning_of a) };
 
     fn kind(&self) -> u16 {
-        match self {
-            RouteLwTunnelEncap::Mpls(x) => x.kind(),
-            RouteLwTunnelEncap::Seg6(x) => x.kind(),
-            RouteLwTunnelEncap::Ip(x) => x.kind(),
-            RouteLwTunnelEncap::Ip6(x) => x.kind(),
-            RouteLwTunnelEncap::Ioam6(x) => x.kind(),
-            RouteLwTunnelEncap::Rpl(x) => x.kind(),
-            RouteLwTunnelEncap::Seg6Local(x) => x.kind(),
-            RouteLwTunnelEncap::Xfrm(x) => x.kind(),
-            RouteLwTunnelEncap::Other(x) => x.kind(),
-        }
+        members!(asked(self, kind()))
     }
 
     fn is_nested(&self) -> bool {
@@ -97,45 +118,15 @@ impl Nla for RouteLwTunnelEncap {
     }
 
     fn check(&self) -> Result<usize, EmitError> {
-        match self {
-            RouteLwTunnelEncap::Mpls(x) => x.check(),
-            RouteLwTunnelEncap::Seg6(x) => x.check(),
-            RouteLwTunnelEncap::Ip(x) => x.check(),
-            RouteLwTunnelEncap::Ip6(x) => x.check(),
-            RouteLwTunnelEncap::Ioam6(x) => x.check(),
-            RouteLwTunnelEncap::Rpl(x) => x.check(),
-            RouteLwTunnelEncap::Seg6Local(x) => x.check(),
-            RouteLwTunnelEncap::Xfrm(x) => x.check(),
-            RouteLwTunnelEncap::Other(x) => x.check(),
-        }
+        members!(asked(self, check()))
     }
 
     fn value_len(&self) -> usize {
-        match self {
-            RouteLwTunnelEncap::Mpls(x) => x.value_len(),
-            RouteLwTunnelEncap::Seg6(x) => x.value_len(),
-            RouteLwTunnelEncap::Ip(x) => x.value_len(),
-            RouteLwTunnelEncap::Ip6(x) => x.value_len(),
-            RouteLwTunnelEncap::Ioam6(x) => x.value_len(),
-            RouteLwTunnelEncap::Rpl(x) => x.value_len(),
-            RouteLwTunnelEncap::Seg6Local(x) => x.value_len(),
-            RouteLwTunnelEncap::Xfrm(x) => x.value_len(),
-            RouteLwTunnelEncap::Other(x) => x.value_len(),
-        }
+        members!(asked(self, value_len()))
     }
 
     fn write_value(&self, out: &mut [u8]) -> usize {
-        match self {
-            RouteLwTunnelEncap::Mpls(x) => x.write_value(out),
-            RouteLwTunnelEncap::Seg6(x) => x.write_value(out),
-            RouteLwTunnelEncap::Ip(x) => x.write_value(out),
-            RouteLwTunnelEncap::Ip6(x) => x.write_value(out),
-            RouteLwTunnelEncap::Ioam6(x) => x.write_value(out),
-            RouteLwTunnelEncap::Rpl(x) => x.write_value(out),
-            RouteLwTunnelEncap::Seg6Local(x) => x.write_value(out),
-            RouteLwTunnelEncap::Xfrm(x) => x.write_value(out),
-            RouteLwTunnelEncap::Other(x) => x.write_value(out),
-        }
+        members!(asked(self, write_value(out)))
     }
 }
 
@@ -152,7 +143,7 @@ impl Attribute for RouteLwTunnelEncap {
 
     ghost item_is = { λ a. refl };
 
-    ghost unfit_is = { λ a. refl };
+    ghost misfit_is = { λ a. refl };
 
     fn read(
         alloc: Global,
@@ -160,33 +151,7 @@ impl Attribute for RouteLwTunnelEncap {
         item: &NlaBuffer<'_>,
         looks: &mut Looks,
     ) -> Result<Self, DecodeError> {
-        match kind {
-            RouteLwEnCapType::Mpls => RouteMplsIpTunnel::read(alloc, (), item, looks).map(
-                RouteLwTunnelEncap::Mpls,
-            ),
-            RouteLwEnCapType::Seg6 => RouteSeg6IpTunnel::read(alloc, (), item, looks).map(
-                RouteLwTunnelEncap::Seg6,
-            ),
-            RouteLwEnCapType::Ip => RouteIpTunnel::read(alloc, (), item, looks).map(
-                RouteLwTunnelEncap::Ip,
-            ),
-            RouteLwEnCapType::Ip6 => RouteIp6Tunnel::read(alloc, (), item, looks).map(
-                RouteLwTunnelEncap::Ip6,
-            ),
-            RouteLwEnCapType::Ioam6 => RouteIoam6Tunnel::read(alloc, (), item, looks).map(
-                RouteLwTunnelEncap::Ioam6,
-            ),
-            RouteLwEnCapType::Rpl => RouteRplIpTunnel::read(alloc, (), item, looks).map(
-                RouteLwTunnelEncap::Rpl,
-            ),
-            RouteLwEnCapType::Seg6Local => RouteSeg6LocalTunnel::read(alloc, (), item, looks).map(
-                RouteLwTunnelEncap::Seg6Local,
-            ),
-            RouteLwEnCapType::Xfrm => RouteXfrmTunnel::read(alloc, (), item, looks).map(
-                RouteLwTunnelEncap::Xfrm,
-            ),
-            _ => DefaultNla::parse(alloc, item).map(RouteLwTunnelEncap::Other),
-        }
+        members!(member_of(kind, alloc, item, looks))
     }
 
     fn try_clone(&self, alloc: Global) -> Result<Self, AllocError> {

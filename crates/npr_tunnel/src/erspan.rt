@@ -1,11 +1,12 @@
 //! Options of ERSPAN: `LWTUNNEL_IP_OPT_ERSPAN_*` of `linux/lwtunnel.h`.
 
-ghost use Rattle.std.specs.{Prelude.{◌≡◌, false, length, map, IfOk, refl}, Fmt.{WritesOnOk}};
+ghost use Rattle.std.specs.{Prelude.{◌≡◌, length, map, IfOk, refl}, Fmt.{WritesOnOk}};
+ghost use Rattle.npr_base.specs.Table.{shape_by};
 ghost use Rattle.npr_tunnel.specs.ErspanOptions.{Meaning, meaning_of, writing, members, erspan_text};
 
 use npr_base::{
     AttrFamily, Attribute, DecodeError, DefaultNla, EmitError, Looks, Nla, NlaBuffer, Parseable,
-    read_u8, read_u32_be, write_array, write_bytes,
+    clone_rows, kind_rows, len_rows, read_rows, write_rows,
 };
 use std::alloc::{AllocError, Global};
 use std::fmt;
@@ -25,6 +26,18 @@ pub enum RouteErspanOpt {
     Other(DefaultNla),
 }
 
+/// The rows of the table.
+macro_rules! rows {
+    ($body:ident ($($given:tt)*)) => {
+        $body!(($($given)*) RouteErspanOpt {
+            1 Ver(byte);
+            2 Index(be32);
+            3 Dir(byte);
+            4 Hwid(byte);
+        })
+    };
+}
+
 impl RouteErspanOpt {
     /// An equal option.
     ///
@@ -33,13 +46,7 @@ impl RouteErspanOpt {
     pub fn clone(&self, alloc: Global) -> Result<Self, AllocError>
         ensures { IfOk result (λ a. meaning_of a ≡ meaning_of self.now) }
     {
-        match self {
-            RouteErspanOpt::Ver(x) => Ok(RouteErspanOpt::Ver(*x)),
-            RouteErspanOpt::Index(x) => Ok(RouteErspanOpt::Index(*x)),
-            RouteErspanOpt::Dir(x) => Ok(RouteErspanOpt::Dir(*x)),
-            RouteErspanOpt::Hwid(x) => Ok(RouteErspanOpt::Hwid(*x)),
-            RouteErspanOpt::Other(nla) => nla.clone(alloc).map(RouteErspanOpt::Other),
-        }
+        rows!(clone_rows(self, alloc))
     }
 }
 
@@ -47,22 +54,10 @@ impl RouteErspanOpt {
 const FAMILY: AttrFamily = AttrFamily::Erspan;
 
 impl Nla for RouteErspanOpt {
-    ghost item = { λ a. writing.writes (meaning_of a) };
-
-    ghost nested = { λ _. false };
-
-    ghost unfit = { λ a. writing.misfit (meaning_of a) };
-
-    ghost fits_short = { λ a h. writing.short (meaning_of a) h };
+    ghost shape = { λ a. shape_by writing (meaning_of a) };
 
     fn kind(&self) -> u16 {
-        match self {
-            RouteErspanOpt::Ver(_) => 1,
-            RouteErspanOpt::Index(_) => 2,
-            RouteErspanOpt::Dir(_) => 3,
-            RouteErspanOpt::Hwid(_) => 4,
-            RouteErspanOpt::Other(nla) => nla.kind(),
-        }
+        rows!(kind_rows(self))
     }
 
     fn is_nested(&self) -> bool {
@@ -76,20 +71,11 @@ impl Nla for RouteErspanOpt {
     fn value_len(&self) -> usize
         ensures { result ≡ length (writing.writes (meaning_of self.now)).value }
     {
-        match self {
-            RouteErspanOpt::Ver(_) | RouteErspanOpt::Dir(_) | RouteErspanOpt::Hwid(_) => 1,
-            RouteErspanOpt::Index(_) => 4,
-            RouteErspanOpt::Other(nla) => nla.value().len(),
-        }
+        rows!(len_rows(self))
     }
 
     fn write_value(&self, out: &mut [u8]) -> usize {
-        match self {
-            RouteErspanOpt::Ver(x) | RouteErspanOpt::Dir(x) | RouteErspanOpt::Hwid(x) =>
-                write_array([*x], out),
-            RouteErspanOpt::Index(x) => write_array(x.to_be_bytes(), out),
-            RouteErspanOpt::Other(nla) => write_bytes(nla.value(), out),
-        }
+        rows!(write_rows(self, out))
     }
 }
 
@@ -106,22 +92,15 @@ impl Attribute for RouteErspanOpt {
 
     ghost item_is = { λ a. refl };
 
-    ghost unfit_is = { λ a. refl };
+    ghost misfit_is = { λ a. refl };
 
     fn read(
         alloc: Global,
         _context: (),
         item: &NlaBuffer<'_>,
-        _looks: &mut Looks,
+        looks: &mut Looks,
     ) -> Result<Self, DecodeError> {
-        let value = item.value();
-        match item.kind() {
-            1 => read_u8(value, FAMILY.at(1)).map(RouteErspanOpt::Ver),
-            2 => read_u32_be(value, FAMILY.at(2)).map(RouteErspanOpt::Index),
-            3 => read_u8(value, FAMILY.at(3)).map(RouteErspanOpt::Dir),
-            4 => read_u8(value, FAMILY.at(4)).map(RouteErspanOpt::Hwid),
-            _ => DefaultNla::parse(alloc, item).map(RouteErspanOpt::Other),
-        }
+        rows!(read_rows(alloc, item, looks))
     }
 
     fn try_clone(&self, alloc: Global) -> Result<Self, AllocError> {

@@ -1,7 +1,8 @@
 //! Options of Geneve: `LWTUNNEL_IP_OPT_GENEVE_*` of `linux/lwtunnel.h`.
 
-ghost use Rattle.std.specs.Prelude.{◌≡◌, ◌≢◌, ◌≤◌, ◌⊎◌, ◌+◌, ◌∷◌, ◌++◌, true, false, [], ℕ, Some, None, length, map, IfOk, IfErr, OnOk};
+ghost use Rattle.std.specs.Prelude.{◌≡◌, ◌≢◌, ◌≤◌, ◌⊎◌, ◌+◌, ◌∷◌, ◌++◌, true, [], ℕ, Some, None, length, map, IfOk, IfErr, OnOk};
 ghost use Rattle.npr_base.specs.{
+  Table.{shape_at, held},
   Codec.{exactly, raw},
   Family.{checked},
   Counts.{AddsAtMost, SawEach},
@@ -198,13 +199,7 @@ pub(crate) fn read_options(
 struct Data<'a>(&'a [u8]);
 
 impl<'a> Nla for Data<'a> {
-    ghost item = { λ d. child_item (data_child d.0.now) };
-
-    ghost nested = { λ _. false };
-
-    ghost unfit = { λ d. child_misfit (data_child d.0.now) };
-
-    ghost fits_short = { λ d h. raw.fits_short 3 d.0.now h };
+    ghost shape = { λ d. shape_at (held 3 raw d.0.now) };
 
     fn kind(&self) -> u16 {
         LWTUNNEL_IP_OPT_GENEVE_DATA

@@ -8,6 +8,7 @@ mod flags;
 mod geneve;
 mod ip;
 mod ip6;
+mod ip_rows;
 pub mod laws;
 mod mpls;
 mod tunnel_opts;

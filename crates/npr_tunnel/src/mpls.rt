@@ -1,11 +1,12 @@
 //! The tunnel of MPLS: `MPLS_IPTUNNEL_*` of `linux/mpls_iptunnel.h`.
 
-ghost use Rattle.std.specs.Prelude.{◌≡◌, false, length, IfOk, refl};
+ghost use Rattle.std.specs.Prelude.{◌≡◌, length, IfOk, refl};
+ghost use Rattle.npr_base.specs.Table.{shape_by};
 ghost use Rattle.npr_tunnel.specs.MplsTunnel.{Meaning, meaning_of, writing, members};
 
 use npr_base::{
     AttrFamily, Attribute, DecodeError, DefaultNla, EmitError, Looks, Nla, NlaBuffer, Parseable,
-    read_u8, write_array, write_bytes,
+    clone_rows, kind_rows, len_rows, read_rows, write_rows,
 };
 use npr_scalar::{MplsLabel, labels_len, read_labels, write_labels};
 use std::alloc::{AllocError, Global};
@@ -21,6 +22,15 @@ pub enum RouteMplsIpTunnel {
     Other(DefaultNla),
 }
 
+/// The rows of the table.
+macro_rules! rows {
+    ($body:ident ($($given:tt)*)) => {
+        $body!(($($given)*) RouteMplsIpTunnel {
+            2 Ttl(byte);
+        })
+    };
+}
+
 impl RouteMplsIpTunnel {
     /// An equal member.
     ///
@@ -29,13 +39,7 @@ impl RouteMplsIpTunnel {
     pub fn clone(&self, alloc: Global) -> Result<Self, AllocError>
         ensures { IfOk result (λ a. meaning_of a ≡ meaning_of self.now) }
     {
-        match self {
-            RouteMplsIpTunnel::Destination(x) => Vec::from_slice(alloc, x.as_slice()).map(
-                RouteMplsIpTunnel::Destination,
-            ),
-            RouteMplsIpTunnel::Ttl(x) => Ok(RouteMplsIpTunnel::Ttl(*x)),
-            RouteMplsIpTunnel::Other(nla) => nla.clone(alloc).map(RouteMplsIpTunnel::Other),
-        }
+        rows!(clone_rows(self, alloc; RouteMplsIpTunnel::Destination(x) => Vec::from_slice(alloc, x.as_slice()).map(RouteMplsIpTunnel::Destination),))
     }
 }
 
@@ -43,20 +47,10 @@ impl RouteMplsIpTunnel {
 const FAMILY: AttrFamily = AttrFamily::Mpls;
 
 impl Nla for RouteMplsIpTunnel {
-    ghost item = { λ a. writing.writes (meaning_of a) };
-
-    ghost nested = { λ _. false };
-
-    ghost unfit = { λ a. writing.misfit (meaning_of a) };
-
-    ghost fits_short = { λ a h. writing.short (meaning_of a) h };
+    ghost shape = { λ a. shape_by writing (meaning_of a) };
 
     fn kind(&self) -> u16 {
-        match self {
-            RouteMplsIpTunnel::Destination(_) => 1,
-            RouteMplsIpTunnel::Ttl(_) => 2,
-            RouteMplsIpTunnel::Other(nla) => nla.kind(),
-        }
+        rows!(kind_rows(self; RouteMplsIpTunnel::Destination(_) => 1,))
     }
 
     fn is_nested(&self) -> bool {
@@ -70,19 +64,11 @@ impl Nla for RouteMplsIpTunnel {
     fn value_len(&self) -> usize
         ensures { result ≡ length (writing.writes (meaning_of self.now)).value }
     {
-        match self {
-            RouteMplsIpTunnel::Destination(x) => labels_len(x.as_slice()),
-            RouteMplsIpTunnel::Ttl(_) => 1,
-            RouteMplsIpTunnel::Other(nla) => nla.value().len(),
-        }
+        rows!(len_rows(self; RouteMplsIpTunnel::Destination(x) => labels_len(x.as_slice()),))
     }
 
     fn write_value(&self, out: &mut [u8]) -> usize {
-        match self {
-            RouteMplsIpTunnel::Destination(x) => write_labels(x.as_slice(), out),
-            RouteMplsIpTunnel::Ttl(x) => write_array([*x], out),
-            RouteMplsIpTunnel::Other(nla) => write_bytes(nla.value(), out),
-        }
+        rows!(write_rows(self, out; RouteMplsIpTunnel::Destination(x) => write_labels(x.as_slice(), out),))
     }
 }
 
@@ -99,20 +85,15 @@ impl Attribute for RouteMplsIpTunnel {
 
     ghost item_is = { λ a. refl };
 
-    ghost unfit_is = { λ a. refl };
+    ghost misfit_is = { λ a. refl };
 
     fn read(
         alloc: Global,
         _context: (),
         item: &NlaBuffer<'_>,
-        _looks: &mut Looks,
+        looks: &mut Looks,
     ) -> Result<Self, DecodeError> {
-        let value = item.value();
-        match item.kind() {
-            1 => read_labels(alloc, value).map(RouteMplsIpTunnel::Destination),
-            2 => read_u8(value, FAMILY.at(2)).map(RouteMplsIpTunnel::Ttl),
-            _ => DefaultNla::parse(alloc, item).map(RouteMplsIpTunnel::Other),
-        }
+        rows!(read_rows(alloc, item, looks; 1 => read_labels(alloc, item.value()).map(RouteMplsIpTunnel::Destination),))
     }
 
     fn try_clone(&self, alloc: Global) -> Result<Self, AllocError> {

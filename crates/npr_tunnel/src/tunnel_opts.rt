@@ -1,7 +1,7 @@
 //! Options of tunnels over IP: `LWTUNNEL_IP_OPTS_*` of `linux/lwtunnel.h`.
 
-ghost use Rattle.std.specs.Prelude.{◌≡◌, false, length, IfOk, refl};
-ghost use Rattle.npr_base.specs.{Family.{checked}, Table.{held_bytes}};
+ghost use Rattle.std.specs.Prelude.{◌≡◌, length, IfOk, refl};
+ghost use Rattle.npr_base.specs.{Family.{checked}, Table.{held_bytes, shape_by}};
 ghost use Rattle.npr_tunnel.specs.TunnelOptions.{Meaning, meaning_of, writing, members, place, unfit_inside, tunnel_option_text};
 
 use crate::erspan::{RouteErspanOpt, write_erspan};
@@ -9,7 +9,7 @@ use crate::geneve::{RouteGeneveOpt, check_options, clone_options, read_options, 
 use crate::vxlan::RouteVxlanOpt;
 use npr_base::{
     Attribute, DecodeError, DefaultNla, EmitError, Looks, NLA_F_NESTED, Nla, NlaBuffer, Parseable,
-    check_list, clone_list, parse_list, write_bytes, write_joined, write_list,
+    clone_rows, kind_rows, len_rows, read_rows, write_joined, write_rows,
 };
 use std::alloc::{AllocError, Global};
 use std::fmt;
@@ -27,6 +27,16 @@ pub enum RouteLwTunnelOpt {
     Other(DefaultNla),
 }
 
+/// The rows of the table.
+macro_rules! rows {
+    ($body:ident ($($given:tt)*)) => {
+        $body!(($($given)*) RouteLwTunnelOpt {
+            2 Vxlan(list) as NLA_F_NESTED + 2;
+            3 Erspan(list) as NLA_F_NESTED + 3;
+        })
+    };
+}
+
 impl RouteLwTunnelOpt {
     /// An equal option.
     ///
@@ -35,49 +45,22 @@ impl RouteLwTunnelOpt {
     pub fn clone(&self, alloc: Global) -> Result<Self, AllocError>
         ensures { IfOk result (λ a. meaning_of a ≡ meaning_of self.now) }
     {
-        Ok(match self {
-            RouteLwTunnelOpt::Geneve(v) => RouteLwTunnelOpt::Geneve(clone_options(
-                alloc,
-                v.as_slice(),
-            )?),
-            RouteLwTunnelOpt::Vxlan(v) => RouteLwTunnelOpt::Vxlan(clone_list(alloc, v.as_slice())?),
-            RouteLwTunnelOpt::Erspan(v) => RouteLwTunnelOpt::Erspan(clone_list(
-                alloc,
-                v.as_slice(),
-            )?),
-            RouteLwTunnelOpt::Other(nla) => RouteLwTunnelOpt::Other(nla.clone(alloc)?),
-        })
+        rows!(clone_rows(self, alloc; RouteLwTunnelOpt::Geneve(v) => clone_options(alloc, v.as_slice()).map(RouteLwTunnelOpt::Geneve),))
     }
 
     /// The length of the value, or the first cause why the list inside has none.
     fn len(&self) -> Result<usize, EmitError>
         ensures { result ≡ checked (unfit_inside (meaning_of self.now)) (length (held_bytes (place (meaning_of self.now)))) }
     {
-        Ok(match self {
-            RouteLwTunnelOpt::Geneve(v) => check_options(v.as_slice())?,
-            RouteLwTunnelOpt::Vxlan(v) => check_list(v.as_slice())?,
-            RouteLwTunnelOpt::Erspan(v) => check_list(v.as_slice())?,
-            RouteLwTunnelOpt::Other(nla) => nla.value().len(),
-        })
+        Ok(rows!(len_rows(self; RouteLwTunnelOpt::Geneve(v) => check_options(v.as_slice())?,)))
     }
 }
 
 impl Nla for RouteLwTunnelOpt {
-    ghost item = { λ a. writing.writes (meaning_of a) };
-
-    ghost nested = { λ _. false };
-
-    ghost unfit = { λ a. writing.misfit (meaning_of a) };
-
-    ghost fits_short = { λ a h. writing.short (meaning_of a) h };
+    ghost shape = { λ a. shape_by writing (meaning_of a) };
 
     fn kind(&self) -> u16 {
-        match self {
-            RouteLwTunnelOpt::Geneve(_) => NLA_F_NESTED + 1,
-            RouteLwTunnelOpt::Vxlan(_) => NLA_F_NESTED + 2,
-            RouteLwTunnelOpt::Erspan(_) => NLA_F_NESTED + 3,
-            RouteLwTunnelOpt::Other(nla) => nla.kind(),
-        }
+        rows!(kind_rows(self; RouteLwTunnelOpt::Geneve(_) => NLA_F_NESTED + 1,))
     }
 
     fn is_nested(&self) -> bool {
@@ -96,12 +79,7 @@ impl Nla for RouteLwTunnelOpt {
     }
 
     fn write_value(&self, out: &mut [u8]) -> usize {
-        match self {
-            RouteLwTunnelOpt::Geneve(v) => write_options(v.as_slice(), out),
-            RouteLwTunnelOpt::Vxlan(v) => write_list(v.as_slice(), out),
-            RouteLwTunnelOpt::Erspan(v) => write_list(v.as_slice(), out),
-            RouteLwTunnelOpt::Other(nla) => write_bytes(nla.value(), out),
-        }
+        rows!(write_rows(self, out; RouteLwTunnelOpt::Geneve(v) => write_options(v.as_slice(), out),))
     }
 }
 
@@ -118,7 +96,7 @@ impl Attribute for RouteLwTunnelOpt {
 
     ghost item_is = { λ a. refl };
 
-    ghost unfit_is = { λ a. refl };
+    ghost misfit_is = { λ a. refl };
 
     fn read(
         alloc: Global,
@@ -126,13 +104,7 @@ impl Attribute for RouteLwTunnelOpt {
         item: &NlaBuffer<'_>,
         looks: &mut Looks,
     ) -> Result<Self, DecodeError> {
-        let value = item.value();
-        match item.kind() {
-            1 => read_options(alloc, value, looks).map(RouteLwTunnelOpt::Geneve),
-            2 => parse_list(alloc, (), value, looks).map(RouteLwTunnelOpt::Vxlan),
-            3 => parse_list(alloc, (), value, looks).map(RouteLwTunnelOpt::Erspan),
-            _ => DefaultNla::parse(alloc, item).map(RouteLwTunnelOpt::Other),
-        }
+        rows!(read_rows(alloc, item, looks; 1 => read_options(alloc, item.value(), looks).map(RouteLwTunnelOpt::Geneve),))
     }
 
     fn try_clone(&self, alloc: Global) -> Result<Self, AllocError> {

@@ -1,11 +1,12 @@
 //! Options of VXLAN: `LWTUNNEL_IP_OPT_VXLAN_*` of `linux/lwtunnel.h`.
 
-ghost use Rattle.std.specs.Prelude.{◌≡◌, false, length, IfOk, refl};
+ghost use Rattle.std.specs.Prelude.{◌≡◌, length, IfOk, refl};
+ghost use Rattle.npr_base.specs.Table.{shape_by};
 ghost use Rattle.npr_tunnel.specs.VxlanOptions.{Meaning, meaning_of, writing, members, vxlan_text};
 
 use npr_base::{
     AttrFamily, Attribute, DecodeError, DefaultNla, EmitError, Looks, Nla, NlaBuffer, Parseable,
-    read_u32, write_array, write_bytes,
+    clone_rows, kind_rows, len_rows, read_rows, write_rows,
 };
 use std::alloc::{AllocError, Global};
 use std::fmt;
@@ -19,6 +20,15 @@ pub enum RouteVxlanOpt {
     Other(DefaultNla),
 }
 
+/// The rows of the table.
+macro_rules! rows {
+    ($body:ident ($($given:tt)*)) => {
+        $body!(($($given)*) RouteVxlanOpt {
+            1 Gbp(le32);
+        })
+    };
+}
+
 impl RouteVxlanOpt {
     /// An equal option.
     ///
@@ -27,10 +37,7 @@ impl RouteVxlanOpt {
     pub fn clone(&self, alloc: Global) -> Result<Self, AllocError>
         ensures { IfOk result (λ a. meaning_of a ≡ meaning_of self.now) }
     {
-        match self {
-            RouteVxlanOpt::Gbp(x) => Ok(RouteVxlanOpt::Gbp(*x)),
-            RouteVxlanOpt::Other(nla) => nla.clone(alloc).map(RouteVxlanOpt::Other),
-        }
+        rows!(clone_rows(self, alloc))
     }
 }
 
@@ -38,19 +45,10 @@ impl RouteVxlanOpt {
 const FAMILY: AttrFamily = AttrFamily::Vxlan;
 
 impl Nla for RouteVxlanOpt {
-    ghost item = { λ a. writing.writes (meaning_of a) };
-
-    ghost nested = { λ _. false };
-
-    ghost unfit = { λ a. writing.misfit (meaning_of a) };
-
-    ghost fits_short = { λ a h. writing.short (meaning_of a) h };
+    ghost shape = { λ a. shape_by writing (meaning_of a) };
 
     fn kind(&self) -> u16 {
-        match self {
-            RouteVxlanOpt::Gbp(_) => 1,
-            RouteVxlanOpt::Other(nla) => nla.kind(),
-        }
+        rows!(kind_rows(self))
     }
 
     fn is_nested(&self) -> bool {
@@ -64,17 +62,11 @@ impl Nla for RouteVxlanOpt {
     fn value_len(&self) -> usize
         ensures { result ≡ length (writing.writes (meaning_of self.now)).value }
     {
-        match self {
-            RouteVxlanOpt::Gbp(_) => 4,
-            RouteVxlanOpt::Other(nla) => nla.value().len(),
-        }
+        rows!(len_rows(self))
     }
 
     fn write_value(&self, out: &mut [u8]) -> usize {
-        match self {
-            RouteVxlanOpt::Gbp(x) => write_array(x.to_le_bytes(), out),
-            RouteVxlanOpt::Other(nla) => write_bytes(nla.value(), out),
-        }
+        rows!(write_rows(self, out))
     }
 }
 
@@ -91,19 +83,15 @@ impl Attribute for RouteVxlanOpt {
 
     ghost item_is = { λ a. refl };
 
-    ghost unfit_is = { λ a. refl };
+    ghost misfit_is = { λ a. refl };
 
     fn read(
         alloc: Global,
         _context: (),
         item: &NlaBuffer<'_>,
-        _looks: &mut Looks,
+        looks: &mut Looks,
     ) -> Result<Self, DecodeError> {
-        let value = item.value();
-        match item.kind() {
-            1 => read_u32(value, FAMILY.at(1)).map(RouteVxlanOpt::Gbp),
-            _ => DefaultNla::parse(alloc, item).map(RouteVxlanOpt::Other),
-        }
+        rows!(read_rows(alloc, item, looks))
     }
 
     fn try_clone(&self, alloc: Global) -> Result<Self, AllocError> {

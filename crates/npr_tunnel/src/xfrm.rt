@@ -1,11 +1,12 @@
 //! The tunnel of an IPsec interface: `LWT_XFRM_*` of `linux/lwtunnel.h`.
 
-ghost use Rattle.std.specs.Prelude.{◌≡◌, false, length, IfOk, refl};
+ghost use Rattle.std.specs.Prelude.{◌≡◌, length, IfOk, refl};
+ghost use Rattle.npr_base.specs.Table.{shape_by};
 ghost use Rattle.npr_tunnel.specs.XfrmTunnel.{Meaning, meaning_of, writing, members, xfrm_text};
 
 use npr_base::{
     AttrFamily, Attribute, DecodeError, DefaultNla, EmitError, Looks, Nla, NlaBuffer, Parseable,
-    read_u32, write_array, write_bytes,
+    clone_rows, kind_rows, len_rows, read_rows, write_rows,
 };
 use std::alloc::{AllocError, Global};
 use std::fmt;
@@ -24,6 +25,17 @@ pub enum RouteXfrmTunnel {
     Other(DefaultNla),
 }
 
+/// The rows of the table.
+macro_rules! rows {
+    ($body:ident ($($given:tt)*)) => {
+        $body!(($($given)*) RouteXfrmTunnel {
+            0 Unspecified;
+            1 IfId(le32);
+            2 Link(le32);
+        })
+    };
+}
+
 impl RouteXfrmTunnel {
     /// An equal member.
     ///
@@ -32,12 +44,7 @@ impl RouteXfrmTunnel {
     pub fn clone(&self, alloc: Global) -> Result<Self, AllocError>
         ensures { IfOk result (λ a. meaning_of a ≡ meaning_of self.now) }
     {
-        match self {
-            RouteXfrmTunnel::Unspecified => Ok(RouteXfrmTunnel::Unspecified),
-            RouteXfrmTunnel::IfId(x) => Ok(RouteXfrmTunnel::IfId(*x)),
-            RouteXfrmTunnel::Link(x) => Ok(RouteXfrmTunnel::Link(*x)),
-            RouteXfrmTunnel::Other(nla) => nla.clone(alloc).map(RouteXfrmTunnel::Other),
-        }
+        rows!(clone_rows(self, alloc))
     }
 }
 
@@ -45,21 +52,10 @@ impl RouteXfrmTunnel {
 const FAMILY: AttrFamily = AttrFamily::Xfrm;
 
 impl Nla for RouteXfrmTunnel {
-    ghost item = { λ a. writing.writes (meaning_of a) };
-
-    ghost nested = { λ _. false };
-
-    ghost unfit = { λ a. writing.misfit (meaning_of a) };
-
-    ghost fits_short = { λ a h. writing.short (meaning_of a) h };
+    ghost shape = { λ a. shape_by writing (meaning_of a) };
 
     fn kind(&self) -> u16 {
-        match self {
-            RouteXfrmTunnel::Unspecified => 0,
-            RouteXfrmTunnel::IfId(_) => 1,
-            RouteXfrmTunnel::Link(_) => 2,
-            RouteXfrmTunnel::Other(nla) => nla.kind(),
-        }
+        rows!(kind_rows(self))
     }
 
     fn is_nested(&self) -> bool {
@@ -73,22 +69,11 @@ impl Nla for RouteXfrmTunnel {
     fn value_len(&self) -> usize
         ensures { result ≡ length (writing.writes (meaning_of self.now)).value }
     {
-        match self {
-            RouteXfrmTunnel::Unspecified => 0,
-            RouteXfrmTunnel::IfId(_) | RouteXfrmTunnel::Link(_) => 4,
-            RouteXfrmTunnel::Other(nla) => nla.value().len(),
-        }
+        rows!(len_rows(self))
     }
 
     fn write_value(&self, out: &mut [u8]) -> usize {
-        match self {
-            RouteXfrmTunnel::Unspecified => 0,
-            RouteXfrmTunnel::IfId(x) | RouteXfrmTunnel::Link(x) => write_array(
-                x.to_le_bytes(),
-                out,
-            ),
-            RouteXfrmTunnel::Other(nla) => write_bytes(nla.value(), out),
-        }
+        rows!(write_rows(self, out))
     }
 }
 
@@ -105,21 +90,15 @@ impl Attribute for RouteXfrmTunnel {
 
     ghost item_is = { λ a. refl };
 
-    ghost unfit_is = { λ a. refl };
+    ghost misfit_is = { λ a. refl };
 
     fn read(
         alloc: Global,
         _context: (),
         item: &NlaBuffer<'_>,
-        _looks: &mut Looks,
+        looks: &mut Looks,
     ) -> Result<Self, DecodeError> {
-        let value = item.value();
-        match item.kind() {
-            0 => Ok(RouteXfrmTunnel::Unspecified),
-            1 => read_u32(value, FAMILY.at(1)).map(RouteXfrmTunnel::IfId),
-            2 => read_u32(value, FAMILY.at(2)).map(RouteXfrmTunnel::Link),
-            _ => DefaultNla::parse(alloc, item).map(RouteXfrmTunnel::Other),
-        }
+        rows!(read_rows(alloc, item, looks))
     }
 
     fn try_clone(&self, alloc: Global) -> Result<Self, AllocError> {

@@ -7,10 +7,11 @@
 mod rows;
 mod trial;
 
+use netlink_packet_route::MessageKind;
 use netlink_packet_route::address::AddressMessage;
 use netlink_packet_route::route::{RouteMessage, RouteNextHop};
 use netlink_packet_route::rule::RuleMessage;
-use rows::{Kind, Row};
+use rows::{Parsed, Row};
 use std::alloc::Global;
 use std::process::ExitCode;
 use std::{env, io};
@@ -43,12 +44,19 @@ fn arguments(rt: &HostRuntime) -> io::Result<Vec<String>> {
 
 /// How parsing and then cloning the row's message ended.
 fn tried(alloc: Global, row: Row) -> (Ending, Ending) {
-    match row.kind {
-        Kind::Address => parse_and_clone::<AddressMessage>(alloc, row.text, row.canonical),
-        Kind::Route => parse_and_clone::<RouteMessage>(alloc, row.text, row.canonical),
-        Kind::Rule => parse_and_clone::<RuleMessage>(alloc, row.text, row.canonical),
-        Kind::NextHop => parse_and_clone::<RouteNextHop>(alloc, row.text, row.canonical),
-        Kind::Levels => trial::parse_and_clone_levels(alloc),
+    match row.parsed {
+        Parsed::Message(kind) => tried_message(alloc, kind, row),
+        Parsed::NextHop => parse_and_clone::<RouteNextHop>(alloc, row.text, row.canonical),
+        Parsed::Levels => trial::parse_and_clone_levels(alloc),
+    }
+}
+
+/// The same of a message of this kind.
+fn tried_message(alloc: Global, kind: MessageKind, row: Row) -> (Ending, Ending) {
+    match kind {
+        MessageKind::Address => parse_and_clone::<AddressMessage>(alloc, row.text, row.canonical),
+        MessageKind::Route => parse_and_clone::<RouteMessage>(alloc, row.text, row.canonical),
+        MessageKind::Rule => parse_and_clone::<RuleMessage>(alloc, row.text, row.canonical),
     }
 }
 

@@ -1,14 +1,12 @@
 //! The messages.
 
+use netlink_packet_route::MessageKind;
+
 /// What is parsed.
 #[derive(Clone, Copy, Debug, PartialEq, Eq)]
-pub enum Kind {
-    /// An address message.
-    Address,
-    /// A route message.
-    Route,
-    /// A rule message.
-    Rule,
+pub enum Parsed {
+    /// A message of this kind.
+    Message(MessageKind),
     /// A next hop by itself.
     NextHop,
     /// A route message with next hops inside next hops, as many as a length of two bytes lets stand.
@@ -19,12 +17,18 @@ pub enum Kind {
 #[derive(Clone, Copy, Debug)]
 pub struct Row {
     /// What is parsed.
-    pub kind: Kind,
+    pub parsed: Parsed,
     /// Its bytes.
     pub text: &'static str,
     /// The bytes that are written of it.
     pub canonical: &'static str,
 }
+
+const ADDRESS: Parsed = Parsed::Message(MessageKind::Address);
+
+const ROUTE: Parsed = Parsed::Message(MessageKind::Route);
+
+const RULE: Parsed = Parsed::Message(MessageKind::Rule);
 
 /// The address of the loopback interface.
 const LOOPBACK: &str =
@@ -69,20 +73,20 @@ const NEXT_HOP: &str = "1800000002000000080005000a000001080001000a000002";
 impl Row {
     /// The row of this name.
     pub fn of(name: &str) -> Option<Row> {
-        let (kind, text, canonical) = match name {
-            "loopback" => (Kind::Address, LOOPBACK, LOOPBACK),
-            "by_next_hop" => (Kind::Route, BY_NEXT_HOP, BY_NEXT_HOP),
-            "version_6" => (Kind::Route, VERSION_6, VERSION_6),
-            "two_next_hops" => (Kind::Route, TWO_NEXT_HOPS, TWO_NEXT_HOPS_CANONICAL),
-            "geneve" => (Kind::Route, GENEVE, GENEVE_CANONICAL),
-            "name" => (Kind::Rule, NAME, NAME_CANONICAL),
-            "rpl" => (Kind::Route, RPL, RPL_CANONICAL),
-            "next_hop" => (Kind::NextHop, NEXT_HOP, NEXT_HOP),
-            "levels" => (Kind::Levels, "", ""),
+        let (parsed, text, canonical) = match name {
+            "loopback" => (ADDRESS, LOOPBACK, LOOPBACK),
+            "by_next_hop" => (ROUTE, BY_NEXT_HOP, BY_NEXT_HOP),
+            "version_6" => (ROUTE, VERSION_6, VERSION_6),
+            "two_next_hops" => (ROUTE, TWO_NEXT_HOPS, TWO_NEXT_HOPS_CANONICAL),
+            "geneve" => (ROUTE, GENEVE, GENEVE_CANONICAL),
+            "name" => (RULE, NAME, NAME_CANONICAL),
+            "rpl" => (ROUTE, RPL, RPL_CANONICAL),
+            "next_hop" => (Parsed::NextHop, NEXT_HOP, NEXT_HOP),
+            "levels" => (Parsed::Levels, "", ""),
             _ => return None,
         };
         Some(Row {
-            kind,
+            parsed,
             text,
             canonical,
         })

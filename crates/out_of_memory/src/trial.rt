@@ -2,10 +2,10 @@
 
 use hex::decode_to_slice;
 use netlink_packet_route::AddressFamily;
-use netlink_packet_route::address::AddressMessage;
-use netlink_packet_route::framing::{DecodeError, Emitable, Parseable, ParseableParametrized};
+use netlink_packet_route::framing::{
+    DecodeError, Emitable, Header, Message, Parseable, ParseableParametrized,
+};
 use netlink_packet_route::route::{RouteLwEnCapType, RouteMessage, RouteNextHop, RouteType};
-use netlink_packet_route::rule::RuleMessage;
 use std::alloc::{AllocError, Global};
 
 /// How a call ended.
@@ -48,29 +48,12 @@ pub trait Sample: Emitable + PartialEq + Drop + Sized {
     fn copy(&self, alloc: Global) -> Result<Self, AllocError>;
 }
 
-impl Sample for AddressMessage {
+impl<H: Header + PartialEq> Sample for Message<H, H::Attribute>
+where
+    H::Attribute: PartialEq,
+{
     fn of(alloc: Global, bytes: &[u8]) -> Result<Self, DecodeError> {
-        AddressMessage::parse(alloc, bytes)
-    }
-
-    fn copy(&self, alloc: Global) -> Result<Self, AllocError> {
-        self.clone(alloc)
-    }
-}
-
-impl Sample for RouteMessage {
-    fn of(alloc: Global, bytes: &[u8]) -> Result<Self, DecodeError> {
-        RouteMessage::parse(alloc, bytes)
-    }
-
-    fn copy(&self, alloc: Global) -> Result<Self, AllocError> {
-        self.clone(alloc)
-    }
-}
-
-impl Sample for RuleMessage {
-    fn of(alloc: Global, bytes: &[u8]) -> Result<Self, DecodeError> {
-        RuleMessage::parse(alloc, bytes)
+        Message::<H, H::Attribute>::parse(alloc, bytes)
     }
 
     fn copy(&self, alloc: Global) -> Result<Self, AllocError> {

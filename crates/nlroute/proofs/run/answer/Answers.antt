@@ -1,28 +1,43 @@
--- the attributes of a message that can be written can be, and its bytes have a header
-use Rattle.std.proofs.Common.{arith}
-use Rattle.netlink_packet_route.proofs.Messages.{attributes_fit, has_header}
-use Rattle.netlink_packet_route.specs.AddressMessage.{body as address_body}
-use Rattle.netlink_packet_route.specs.RouteMessage.{body as route_body}
-use Rattle.netlink_packet_route.specs.RuleMessage.{body as rule_body}
-use Rattle.netlink_packet_route.specs.AddressHeader.{header as address_header}
-use Rattle.netlink_packet_route.specs.RouteHeader.{header as route_header}
-use Rattle.netlink_packet_route.specs.RuleHeader.{header as rule_header}
+-- what is said of a message with such a header is said of its kind
+use Rattle.std.proofs.lemmas.Result.{IfOk-weaker}
+use Rattle.netlink_packet_route.specs.AddressMessage.{message_of as address_of}
+use Rattle.netlink_packet_route.specs.RouteMessage.{message_of as route_of}
+use Rattle.netlink_packet_route.specs.RuleMessage.{message_of as rule_of}
+use Rattle.nlroute.specs.Run.{IsReport, IsRefused, IsUnfit}
 use Rattle.nlroute.proofs.run.answer.Goals as goal
 
-pub written-requires : goal.written-requires
-written-requires c = λ fits. rw c.as_slice.ensures.value (attributes_fit address_header address_body _ fits)
+pub returns-in-Address-clause-ok : goal.returns-in-Address-clause-ok
+unfolding IsReport
+returns-in-Address-clause-ok c = rw c.in-Address.is (IfOk-weaker c.answer_by.result _ _ (λ text r. (address_of r.0, r.1, r.2, r.3)) c.answer_by.ensures.ok)
 
-pub written-requires-in-Route : goal.written-requires-in-Route
-written-requires-in-Route c = λ fits. rw c.as_slice-in-Route.ensures.value (attributes_fit route_header route_body _ fits)
+pub returns-in-Address-clause-refused : goal.returns-in-Address-clause-refused
+unfolding IsRefused
+returns-in-Address-clause-refused c = rw c.in-Address.is c.answer_by.ensures.refused
 
-pub written-requires-in-Rule : goal.written-requires-in-Rule
-written-requires-in-Rule c = λ fits. rw c.as_slice-in-Rule.ensures.value (attributes_fit rule_header rule_body _ fits)
+pub returns-in-Address-clause-unfit : goal.returns-in-Address-clause-unfit
+unfolding IsUnfit
+returns-in-Address-clause-unfit c = rw c.in-Address.is c.answer_by.ensures.unfit
 
-pub returns-in_ok-message-in-Address-clause-memory : goal.returns-in_ok-message-in-Address-clause-memory
-returns-in_ok-message-in-Address-clause-memory c = λ failed. omega (arith, has_header address_header address_body c.args.bytes.now _ c.in_ok-message-in-Address.ensures.ok)
+pub returns-in-Route-clause-ok : goal.returns-in-Route-clause-ok
+unfolding IsReport
+returns-in-Route-clause-ok c = rw c.in-Route.is (IfOk-weaker c.answer_by-in-Route.result _ _ (λ text r. (route_of r.0, r.1, r.2, r.3)) c.answer_by-in-Route.ensures.ok)
 
-pub returns-in_ok-message-in-Route-clause-memory : goal.returns-in_ok-message-in-Route-clause-memory
-returns-in_ok-message-in-Route-clause-memory c = λ failed. omega (arith, has_header route_header route_body c.args.bytes.now _ c.in_ok-message-in-Route.ensures.ok)
+pub returns-in-Route-clause-refused : goal.returns-in-Route-clause-refused
+unfolding IsRefused
+returns-in-Route-clause-refused c = rw c.in-Route.is c.answer_by-in-Route.ensures.refused
 
-pub returns-in_ok-message-in-Rule-clause-memory : goal.returns-in_ok-message-in-Rule-clause-memory
-returns-in_ok-message-in-Rule-clause-memory c = λ failed. omega (arith, has_header rule_header rule_body c.args.bytes.now _ c.in_ok-message-in-Rule.ensures.ok)
+pub returns-in-Route-clause-unfit : goal.returns-in-Route-clause-unfit
+unfolding IsUnfit
+returns-in-Route-clause-unfit c = rw c.in-Route.is c.answer_by-in-Route.ensures.unfit
+
+pub returns-in-Rule-clause-ok : goal.returns-in-Rule-clause-ok
+unfolding IsReport
+returns-in-Rule-clause-ok c = rw c.in-Rule.is (IfOk-weaker c.answer_by-in-Rule.result _ _ (λ text r. (rule_of r.0, r.1, r.2, r.3)) c.answer_by-in-Rule.ensures.ok)
+
+pub returns-in-Rule-clause-refused : goal.returns-in-Rule-clause-refused
+unfolding IsRefused
+returns-in-Rule-clause-refused c = rw c.in-Rule.is c.answer_by-in-Rule.ensures.refused
+
+pub returns-in-Rule-clause-unfit : goal.returns-in-Rule-clause-unfit
+unfolding IsUnfit
+returns-in-Rule-clause-unfit c = rw c.in-Rule.is c.answer_by-in-Rule.ensures.unfit

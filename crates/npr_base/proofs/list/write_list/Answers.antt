@@ -1,28 +1,28 @@
 use Rattle.std.proofs.Common.{◌∙◌}
-use Rattle.npr_base.specs.Framing.{written_by}
 use Rattle.npr_base.proofs.Checking.{encodings-seen, list-seen}
 use Rattle.npr_base.proofs.list.write_list.Goals as goal
+use Rattle.npr_base.specs.Table.{shaped_item, shaped_misfit}
 
 pub write_items-requires-clause-fits : goal.write_items-requires-clause-fits
 write_items-requires-clause-fits g c =
     let a = g.A.Attribute in
-    let item = written_by g.A.Nla.nested g.A.Nla.item in
-    list-seen g.A.Nla.unfit a.writing.misfit item a.writing.writes a.meaning g.met.A.Attribute.unfit_is g.met.A.Attribute.item_is c.args.list.now ∙ c.requires.fits
+    let item = shaped_item g.A.Nla.shape in
+    list-seen (shaped_misfit g.A.Nla.shape) a.writing.misfit item a.writing.writes a.meaning g.met.A.Attribute.misfit_is g.met.A.Attribute.item_is c.args.list.now ∙ c.requires.fits
 
 pub write_items-requires-clause-room : goal.write_items-requires-clause-room
 write_items-requires-clause-room g c =
     let a = g.A.Attribute in
-    let e = encodings-seen (written_by g.A.Nla.nested g.A.Nla.item) a.writing.writes a.meaning g.met.A.Attribute.item_is c.args.list.now in
+    let e = encodings-seen (shaped_item g.A.Nla.shape) a.writing.writes a.meaning g.met.A.Attribute.item_is c.args.list.now in
     rw e c.requires.room
 
 pub returns-clause-len : goal.returns-clause-len
 returns-clause-len g c =
     let a = g.A.Attribute in
-    let e = encodings-seen (written_by g.A.Nla.nested g.A.Nla.item) a.writing.writes a.meaning g.met.A.Attribute.item_is c.args.list.now in
+    let e = encodings-seen (shaped_item g.A.Nla.shape) a.writing.writes a.meaning g.met.A.Attribute.item_is c.args.list.now in
     rw (← e) c.write_items.ensures.len
 
 pub returns-clause-after : goal.returns-clause-after
 returns-clause-after g c =
     let a = g.A.Attribute in
-    let e = encodings-seen (written_by g.A.Nla.nested g.A.Nla.item) a.writing.writes a.meaning g.met.A.Attribute.item_is c.args.list.now in
+    let e = encodings-seen (shaped_item g.A.Nla.shape) a.writing.writes a.meaning g.met.A.Attribute.item_is c.args.list.now in
     rw (← e) c.write_items.ensures.after

@@ -1,8 +1,8 @@
-use Rattle.std.proofs.Common.{◌≡◌, map, inl, sym, ap, ◌∙◌, arith, subst, ◌<◌, length, refl}
+use Rattle.std.proofs.Common.{map, inl, ap, arith, length}
 use Rattle.std.proofs.lemmas.List.{take_rest}
 use Rattle.std.proofs.lemmas.Result.{err_from_is_err_and}
 use Rattle.npr_base.specs.declared.refusal.DecodeError.TheVariants.{HeaderTooShort}
-use Rattle.npr_base.specs.Message.{IsMessage, MessageFault}
+use Rattle.npr_base.specs.Message.{MessageFault}
 use Rattle.npr_base.proofs.Messages.{message_read, fault_after}
 use Rattle.npr_base.proofs.message.read.Goals as goal
 

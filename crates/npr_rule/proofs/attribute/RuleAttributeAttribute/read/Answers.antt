@@ -1,4 +1,4 @@
-use Rattle.std.proofs.Common.{◌≡◌, ◌∙◌, sym, subst}
+use Rattle.std.proofs.Common.{◌∙◌, sym, subst}
 use Rattle.std.proofs.lemmas.Option.{same_Some}
 use Rattle.npr_rule.specs.Attribute.{meaning_of, attributes}
 use Rattle.npr_rule.proofs.attribute.RuleAttributeAttribute.read.Goals as goal

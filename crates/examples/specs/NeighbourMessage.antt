@@ -1,0 +1,30 @@
+-- A neighbour message: its header, and attributes to the end (linux/neighbour.h, RTM_NEWNEIGH).
+use Rattle.std.specs.Prelude.{ℕ, List}
+use Rattle.netlink_packet_route.specs.declared.framing.DecodeError.{DecodeError}
+use Rattle.netlink_packet_route.specs.declared.framing.Message.{Message as Stored}
+use Rattle.netlink_packet_route.specs.Messages.{Message, Body, view, attributes_of, IsMessage, MessageFault}
+use Rattle.examples.specs.NeighbourHeader.{header}
+use Rattle.examples.specs.Neighbours.{Meaning, meaning_of, writing, attributes}
+use Rattle.examples.specs.declared.neighbour.NeighbourAttribute.{NeighbourAttribute}
+use Rattle.examples.specs.declared.neighbour_message.NeighbourHeader.{NeighbourHeader}
+
+-- a message without where it lies in memory
+abbrev pub Neighbour : Type 0
+Neighbour = Message NeighbourHeader Meaning
+
+abbrev pub NeighbourMessage : Type 0
+NeighbourMessage = Stored NeighbourHeader NeighbourAttribute
+
+abbrev pub message_of : NeighbourMessage → Neighbour
+message_of m = view meaning_of m
+
+abbrev pub body : Body NeighbourHeader writing
+body = attributes_of attributes
+
+-- the bytes are the message
+abbrev pub IsNeighbourMessage : List ℕ → Neighbour → Type 0
+IsNeighbourMessage bytes m = IsMessage header body bytes m
+
+-- the first fault of bytes that are none
+abbrev pub NeighbourFault : List ℕ → DecodeError → Type 0
+NeighbourFault bytes e = MessageFault header body bytes e

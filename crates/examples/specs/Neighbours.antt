@@ -1,0 +1,102 @@
+-- The attributes of a neighbour message (linux/neighbour.h, NDA_*), by their table.
+use Rattle.std.specs.Prelude.{◌≡◌, ◌≢◌, ℕ, ◌<◌, ◌^◌, List, [], ◌∷◌, Option, Some, None}
+use Rattle.std.proofs.Common.{refl, arith, rules}
+use Rattle.netlink_packet_route.specs.Fields.{le_four, ◌then◌, structure}
+use Rattle.netlink_packet_route.specs.declared.framing.At.{At}
+use Rattle.netlink_packet_route.specs.declared.framing.AttrFamily.TheVariants.{Value}
+use Rattle.netlink_packet_route.specs.declared.net.IpAddr.{IpAddr}
+use Rattle.netlink_packet_route.specs.Framing.{Item, number_of}
+use Rattle.netlink_packet_route.specs.Layout.{Layout, le32}
+use Rattle.netlink_packet_route.specs.Codec.{exactly, leading, raw}
+use Rattle.netlink_packet_route.specs.IpCodec.{ip}
+use Rattle.netlink_packet_route.specs.Table.{Writing, Reading, table_of, Row, row, Held, held, held_other, held_kind, held_value}
+use Rattle.netlink_packet_route.specs.Table.{held_misfit, held-reads, IsHeld, item_of, placed, IsOther, Aligned, ReadsAt}
+use Rattle.netlink_packet_route.specs.TableLaws.{flat, other-back}
+use Rattle.examples.specs.Found.{IsFirst}
+use Rattle.examples.specs.declared.neighbour.NeighbourCacheInfo.{NeighbourCacheInfo}
+use Rattle.examples.specs.declared.neighbour.NeighbourAttribute.{NeighbourAttribute}
+use Rattle.examples.specs.declared.neighbour.NeighbourAttribute.TheVariants.{Destination, LinkLayerAddress, CacheInfo, Probes, Other}
+
+-- what the kernel remembers of a neighbour (struct nda_cacheinfo): four numbers of four bytes, in this order
+abbrev pub cache_info : Layout NeighbourCacheInfo
+cache_info =
+    structure (le_four then le_four then le_four then le_four)
+    (λ (confirmed, (used, (updated, references))). record { confirmed = confirmed; used = used; updated = updated; references = references })
+    (λ x. (x.confirmed, (x.used, (x.updated, x.references)))) (λ numbers. refl)
+
+-- what an attribute is, without where it lies in memory
+pub data Meaning : Type 0 where
+  destination : IpAddr → Meaning
+  link_layer : List ℕ → Meaning
+  remembered : NeighbourCacheInfo → Meaning
+  probes : ℕ → Meaning
+  other : Item → Meaning
+
+abbrev pub meaning_of : NeighbourAttribute → Meaning
+meaning_of (Destination a) = destination a
+meaning_of (LinkLayerAddress bytes) = link_layer bytes.items
+meaning_of (CacheInfo x) = remembered x
+meaning_of (Probes n) = probes n
+meaning_of (Other d) = other d
+
+-- a place that a refusal names: no family of the library
+abbrev pub at : ℕ → At
+at number = record { family = Value; kind = number }
+
+-- the table
+abbrev pub rows : List (Row Meaning)
+rows =
+    row (at 1) ip destination
+    ∷ row (at 2) raw link_layer
+    ∷ row (at 3) (leading cache_info) remembered
+    ∷ row (at 4) (exactly le32) probes
+    ∷ []
+
+-- where each meaning stands in it
+abbrev pub place : Meaning → Held
+place (destination a) = held 1 ip a
+place (link_layer bytes) = held 2 raw bytes
+place (remembered x) = held 3 (leading cache_info) x
+place (probes n) = held 4 (exactly le32) n
+place (other x) = held_other x
+
+-- what can be read
+abbrev pub Coherent : Meaning → Type 0
+Coherent (other x) = IsOther rows x
+Coherent m = IsHeld (place m)
+
+pub aligned : Aligned (λ m. item_of (place m)) Coherent rows
+aligned = search rules
+
+pub kinds : (m : Meaning) → Coherent m → held_kind (place m) < 2 ^ 16
+kinds (other x) c = c.proper.kind
+kinds m c = omega arith
+
+pub back : (m : Meaning) → Coherent m → held_misfit (place m) ≡ None → ReadsAt other rows (number_of (item_of (place m)).kind) (item_of (place m)) m
+back (other x) c fits = other-back other rows (number_of x.kind) x c.alone
+back m c fits = (held_value (place m), held-reads (place m) c fits, refl)
+
+-- how each is written
+abbrev pub writing : Writing Meaning
+writing = placed place
+
+-- the family
+abbrev pub attributes : Reading writing
+attributes = flat (table_of rows other place Coherent aligned (λ x. refl) (λ x is. is) kinds back)
+
+-- the address of a destination
+abbrev pub destination_in : Meaning → Option IpAddr
+destination_in (destination a) = Some a
+destination_in m = None
+
+-- the bytes of a link-layer address
+abbrev pub link_layer_in : Meaning → Option (List ℕ)
+link_layer_in (link_layer bytes) = Some bytes
+link_layer_in m = None
+
+-- what is found for a destination: where the first one among the attributes is this, their first link-layer address
+pub record IsAddressOf (ip : IpAddr) (attributes : List NeighbourAttribute) (found : Option (List ℕ)) : Type 0 where
+  pub about : Option IpAddr
+  pub first : IsFirst (λ a. destination_in (meaning_of a)) attributes about
+  pub same : about ≡ Some ip → IsFirst (λ a. link_layer_in (meaning_of a)) attributes found
+  pub other : about ≢ Some ip → found ≡ None

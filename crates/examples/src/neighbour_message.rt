@@ -1,0 +1,177 @@
+//! A message of one's own: `RTM_NEWNEIGH` of `linux/neighbour.h`, without the envelope.
+
+ghost use Rattle.std.specs.Prelude.{◌≡◌, ◌≢◌, ◌≤◌, ℕ, List, Option, None, length, IfOk, IfErr, refl};
+ghost use Rattle.std.specs.Option.{option_map};
+ghost use Rattle.std.proofs.Common.{rules};
+ghost use Rattle.examples.specs.{
+  Found.{IsFirst},
+  NeighbourHeader.{header, default_header},
+  NeighbourMessage.{NeighbourMessage, IsNeighbourMessage, NeighbourFault, message_of, body},
+  Neighbours.{Meaning, meaning_of, writing, destination_in, link_layer_in, IsAddressOf},
+};
+ghost use Rattle.netlink_packet_route.specs.{
+  Codec.{leading},
+  declared.framing.DecodeError.TheVariants.{OutOfMemory},
+};
+
+use crate::neighbour::NeighbourAttribute;
+use netlink_packet_route::family::write_array;
+use netlink_packet_route::framing::{
+    DecodeError, EmitError, Emitable, Header, Looks, Message, Parseable, parse_list,
+};
+use netlink_packet_route::net::IpAddr;
+use netlink_packet_route::route::RouteType;
+use netlink_packet_route::{AddressFamily, numbers};
+use std::alloc::Global;
+
+/// The header of a neighbour message: `struct ndmsg`, 12 bytes, little endian. Bytes 1 to 3 are
+/// padding, which is not looked at, and written 0.
+#[derive(Clone, Copy, Debug, Default, PartialEq, Eq)]
+pub struct NeighbourHeader {
+    /// The family of the destination (`ndm_family`, byte 0).
+    pub family: AddressFamily,
+    /// The number of the interface (`ndm_ifindex`, bytes 4 to 7). The kernel's is an `int`; here the
+    /// 32 bits are a number without a sign.
+    pub ifindex: u32,
+    /// How far the neighbour is known, `NUD_*` (`ndm_state`, bytes 8 and 9).
+    pub state: u16,
+    /// What the neighbour is besides, `NTF_*` (`ndm_flags`, byte 10).
+    pub flags: u8,
+    /// What becomes of a packet to it (`ndm_type`, byte 11).
+    pub kind: RouteType,
+}
+
+impl Emitable for NeighbourHeader {
+    ghost bytes = { header.encode };
+
+    ghost unfit = { λ _. None };
+
+    fn check(&self) -> Result<usize, EmitError> {
+        Ok(12)
+    }
+
+    fn buffer_len(&self) -> usize {
+        12
+    }
+
+    fn emit(&self, out: &mut [u8]) {
+        let [index_0, index_1, index_2, index_3] = self.ifindex.to_le_bytes();
+        let [state_0, state_1] = self.state.to_le_bytes();
+        let family = numbers::address_family(self.family);
+        let kind = numbers::route_type(self.kind);
+        let bytes = [
+            family, 0, 0, 0, index_0, index_1, index_2, index_3, state_0, state_1, self.flags, kind,
+        ];
+        write_array(bytes, out);
+    }
+}
+
+/// A neighbour message: a header of 12 bytes, and attributes to the end.
+pub type NeighbourMessage = Message<NeighbourHeader, NeighbourAttribute>;
+
+impl Header for NeighbourHeader {
+    type Attribute = NeighbourAttribute;
+
+    ghost Meaning = { Meaning };
+
+    ghost meaning = { meaning_of };
+
+    ghost writing = { writing };
+
+    ghost layout = { header };
+
+    ghost body = { body };
+
+    ghost standard = { default_header };
+
+    ghost by_layout = { λ h. (refl, refl, refl, Prim.search rules) };
+
+    ghost by_family = { λ xs. (refl, refl) };
+
+    ghost meanings_are = { λ xs ys e. e };
+
+    fn size() -> usize {
+        12
+    }
+
+    #[inline]
+    fn in_front(b: &[u8]) -> Self {
+        NeighbourHeader {
+            family: AddressFamily::from(b[0]),
+            ifindex: u32::from_le_bytes([b[4], b[5], b[6], b[7]]),
+            state: u16::from_le_bytes([b[8], b[9]]),
+            flags: b[10],
+            kind: RouteType::from(b[11]),
+        }
+    }
+
+    fn read_list(
+        &self,
+        alloc: Global,
+        bytes: &[u8],
+        looks: &mut Looks,
+    ) -> Result<Vec<NeighbourAttribute>, DecodeError> {
+        parse_list(alloc, (), bytes, looks)
+    }
+}
+
+/// The link-layer address of the neighbour with this destination, if the neighbour message that the
+/// bytes are is about it and has one.
+///
+/// # Errors
+/// Why the bytes are no neighbour message.
+pub fn read_link_layer_address(
+    alloc: Global,
+    bytes: &[u8],
+    destination: IpAddr,
+) -> Result<Option<Vec<u8>>, DecodeError>
+    ensures ok { IfOk result (λ found. (m : NeighbourMessage) × IsNeighbourMessage bytes.now (message_of m)
+        × (address : Option (List ℕ)) × IsAddressOf destination m.attributes.items address × (option_map (λ x. x.items) found ≡ address)) }
+    ensures refused { IfErr result (λ e. e ≢ OutOfMemory → NeighbourFault bytes.now e) }
+{
+    let message = NeighbourMessage::parse(alloc, bytes)?;
+    match link_layer_address(&message, destination) {
+        Some(address) => Ok(Some(Vec::from_slice(alloc, address)?)),
+        None => Ok(None),
+    }
+}
+
+/// The link-layer address of the neighbour with this destination, where the message is about it.
+pub fn link_layer_address(message: &NeighbourMessage, destination: IpAddr) -> Option<&[u8]>
+    ensures { IsAddressOf destination message.now.attributes.items (option_map (λ x. x.now) result) }
+{
+    if first_destination(message) != Some(destination) {
+        return None;
+    }
+    first_link_layer(message)
+}
+
+fn first_destination(message: &NeighbourMessage) -> Option<IpAddr>
+    ensures { IsFirst (λ a. destination_in (meaning_of a)) message.now.attributes.items result }
+{
+    message.attributes.iter().find_map(destination_in)
+}
+
+fn destination_in(attribute: &NeighbourAttribute) -> Option<IpAddr>
+    ensures { result ≡ destination_in (meaning_of attribute.now) }
+{
+    match attribute {
+        NeighbourAttribute::Destination(ip) => Some(*ip),
+        _ => None,
+    }
+}
+
+fn first_link_layer(message: &NeighbourMessage) -> Option<&[u8]>
+    ensures { IsFirst (λ a. link_layer_in (meaning_of a)) message.now.attributes.items (option_map (λ x. x.now) result) }
+{
+    message.attributes.iter().find_map(link_layer_in)
+}
+
+fn link_layer_in(attribute: &NeighbourAttribute) -> Option<&[u8]>
+    ensures { option_map (λ x. x.now) result ≡ link_layer_in (meaning_of attribute.now) }
+{
+    match attribute {
+        NeighbourAttribute::LinkLayerAddress(address) => Some(address.as_slice()),
+        _ => None,
+    }
+}

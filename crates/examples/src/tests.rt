@@ -1,0 +1,71 @@
+//! Neighbours as a kernel dumped them, and what `ip` said of them.
+
+use crate::neighbour::{NeighbourAttribute, NeighbourCacheInfo};
+use crate::neighbour_message::{NeighbourHeader, NeighbourMessage, read_link_layer_address};
+use netlink_packet_route::AddressFamily;
+use netlink_packet_route::framing::{DefaultNla, Parseable, to_vec};
+use netlink_packet_route::net::IpAddr;
+use netlink_packet_route::route::RouteType;
+use std::test::Fail;
+
+/// `192.0.2.3 dev d0 lladdr 02:00:00:00:00:13 ref 1 probes 1 PROBE proto static`; `d0` is 3.
+const PROBED: &str = "020000000300000010000001 08000100c0000203 0a000200020000000013 0000 \
+    0800040001000000 140003009a1700002d0000002a00000001000000 05000c0004000000";
+
+/// `2001:db8:1::2 dev d0 lladdr 02:00:00:00:00:22 router STALE`.
+const STALE: &str = "0a0000000300000004008001 1400010020010db8000100000000000000000002 \
+    0a000200020000000022 0000 0800040000000000 140003009c1700002c0000002c00000000000000";
+
+fn bytes_of(rt: &impl AllocGlobal, text: &str) -> Result<Vec<u8>, Fail> {
+    let mut bytes = Vec::new(rt.alloc());
+    for word in text.split_whitespace() {
+        bytes.extend_from_slice(hex::decode(rt.alloc(), word)?.as_slice())?;
+    }
+    Ok(bytes)
+}
+
+#[test]
+fn reads_a_neighbour(rt: HostRuntime) -> Result<(), Fail> {
+    let bytes = bytes_of(&rt, PROBED)?;
+    let message = NeighbourMessage::parse(rt.alloc(), bytes.as_slice())?;
+    let header = NeighbourHeader {
+        family: AddressFamily::Inet,
+        ifindex: 3,
+        state: 0x10,
+        flags: 0,
+        kind: RouteType::Unicast,
+    };
+    assert_eq!(rt; message.header, header);
+    let info = NeighbourCacheInfo {
+        confirmed: 6042,
+        used: 45,
+        updated: 42,
+        references: 1,
+    };
+    let address = bytes_of(&rt, "020000000013")?;
+    let attributes = [
+        NeighbourAttribute::Destination(IpAddr::from([192, 0, 2, 3])),
+        NeighbourAttribute::LinkLayerAddress(address),
+        NeighbourAttribute::Probes(1),
+        NeighbourAttribute::CacheInfo(info),
+        NeighbourAttribute::Other(DefaultNla::new(12, bytes_of(&rt, "04")?)),
+    ];
+    assert!(rt; message.attributes.as_slice() == attributes.as_slice());
+    assert_eq!(rt; to_vec(rt.alloc(), &message)?, bytes);
+    Ok(())
+}
+
+/// The link-layer address of 192.0.2.3, in this message.
+fn address_in(rt: &impl AllocGlobal, text: &str) -> Result<Option<Vec<u8>>, Fail> {
+    let bytes = bytes_of(rt, text)?;
+    let ip = IpAddr::from([192, 0, 2, 3]);
+    Ok(read_link_layer_address(rt.alloc(), bytes.as_slice(), ip)?)
+}
+
+#[test]
+fn finds_a_link_layer_address(rt: HostRuntime) -> Result<(), Fail> {
+    let address = bytes_of(&rt, "020000000013")?;
+    assert_eq!(rt; address_in(&rt, PROBED)?, Some(address));
+    assert_eq!(rt; address_in(&rt, STALE)?, None);
+    Ok(())
+}

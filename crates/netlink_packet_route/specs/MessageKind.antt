@@ -1,0 +1,34 @@
+-- The kinds of messages: their names, and what each is made of.
+use Rattle.std.specs.Prelude.{ℕ, List, codes}
+use Rattle.npr_base.specs.Layout.{Layout}
+use Rattle.npr_base.specs.Message.{Body}
+use Rattle.npr_base.specs.Table.{Writing}
+use Rattle.npr_address.specs.Header.{header as address_header}
+use Rattle.npr_address.specs.Message.{body as address_body}
+use Rattle.npr_route.specs.Header.{header as route_header}
+use Rattle.npr_route.specs.Message.{body as route_body}
+use Rattle.npr_rule.specs.Header.{header as rule_header}
+use Rattle.npr_rule.specs.Message.{body as rule_body}
+use Rattle.netlink_packet_route.specs.declared.kind.MessageKind.{MessageKind}
+use Rattle.netlink_packet_route.specs.declared.kind.MessageKind.TheVariants.{Address, Route, Rule}
+
+abbrev pub kind_name : MessageKind → List ℕ
+kind_name Address = codes "address"
+kind_name Route = codes "route"
+kind_name Rule = codes "rule"
+
+-- what a kind of message is made of: its header, and what stands behind it
+pub record Form : Type 1 where
+  pub Header : Type 0
+  pub Meaning : Type 0
+  pub writing : Writing Meaning
+  pub layout : Layout Header
+  pub body : Body Header writing
+
+abbrev pub form_by : {H M : Type 0} {w : Writing M} → Layout H → Body H w → Form
+form_by {H} {M} {w} L B = record { Header = H; Meaning = M; writing = w; layout = L; body = B }
+
+abbrev pub form_of : MessageKind → Form
+form_of Address = form_by address_header address_body
+form_of Route = form_by route_header route_body
+form_of Rule = form_by rule_header rule_body

@@ -1,0 +1,47 @@
+//! The kinds of messages, by their names.
+
+ghost use Rattle.std.specs.Prelude.{◌≡◌, ◌≢◌, IfSome, IsNone};
+ghost use Rattle.netlink_packet_route.specs.{
+  declared.kind.MessageKind.{MessageKind},
+  MessageKind.{kind_name},
+};
+
+/// A kind of message.
+#[derive(Clone, Copy, Debug, PartialEq, Eq)]
+pub enum MessageKind {
+    /// Address messages.
+    Address,
+    /// Route messages.
+    Route,
+    /// Rule messages.
+    Rule,
+}
+
+impl MessageKind {
+    /// Each kind.
+    pub const ALL: [MessageKind; 3] = [MessageKind::Address, MessageKind::Route, MessageKind::Rule];
+
+    /// The kind of this name.
+    pub fn of(name: &str) -> Option<MessageKind>
+        ensures named { IfSome result (λ kind. name.now ≡ kind_name kind) }
+        ensures other { IsNone result → (kind : MessageKind) → name.now ≢ kind_name kind }
+    {
+        match name {
+            "address" => Some(MessageKind::Address),
+            "route" => Some(MessageKind::Route),
+            "rule" => Some(MessageKind::Rule),
+            _ => None,
+        }
+    }
+
+    /// The kind's name.
+    pub fn name(&self) -> &'static str
+        ensures { result.now ≡ kind_name self.now }
+    {
+        match self {
+            MessageKind::Address => "address",
+            MessageKind::Route => "route",
+            MessageKind::Rule => "rule",
+        }
+    }
+}

@@ -1,0 +1,143 @@
+use Rattle.std.specs.Int.{w16, w32, to_le_bytes}
+use Rattle.std.proofs.Common.{rules, ◌≡◌, ◌∷◌, ◌++◌, ℕ, ◌+◌, ◌-◌, ◌≤◌, ap, sym, ◌∙◌, subst, refl, arith, length, take, drop, length-take, length-drop}
+use borrow.Rule.Slice.PartMut.{put_mid}
+use Rattle.npr_base.specs.Framing.{Item, Writes, encoding, framed, marked}
+use Rattle.npr_base.specs.Family.{encodings}
+use Rattle.npr_base.proofs.Checking.{first-none, encodings-more, encodings-next, encodings-below}
+use Rattle.npr_base.proofs.Writing.{Writes-more, Writes-encoding}
+use Rattle.npr_base.specs.ListLaws.{length-encoding}
+use Rattle.npr_route.specs.Attribute.{plain_of, nested_of}
+use Rattle.npr_route.specs.AttributeLaws.{item-is}
+use Rattle.npr_route.specs.AttributeView.{meaning_of, attribute_item, attribute_misfit, next_hop_bytes, next_hop_misfit, joined}
+use Rattle.npr_route.specs.declared.attribute.RouteAttribute.TheViews.{the_lemmas}
+use Rattle.npr_route.proofs.Views.{head_of, plain_value, joined-next, joined-more, joined-below, hop_bytes-length}
+use Rattle.npr_route.proofs.HopWriting.{Writes-before, next_hop_bytes-is, hop_fits, multi_path_fits, multi_path_value}
+use Rattle.npr_route.proofs.descent.+write.Goals as goal
+
+pub write_attribute-returns-clause-after : goal.write_attribute-returns-clause-after
+write_attribute-returns-clause-after t c =
+    let m = meaning_of c.args.attribute.now in
+    let x : Item = plain_of m in
+    let out = c.args.out.now in
+    let body = c.write_value-len.new.out in
+    let len = c.write_value-len.result in
+    let mid = put_mid 4 (length out - 4) out body in
+    let kind : c.marked_kind-kind.result ≡ marked (nested_of m) x.kind = rw (c.marked_kind-kind.ensures, c.is_nested.ensures, c.kind.ensures) refl in
+    let framed = subst (λ (k : ℕ). Writes mid c.frame.new.out (encoding (record { kind = k; value = take len (drop 4 mid) }))) kind c.frame.ensures.after in
+    let so = Writes-encoding out body c.frame.new.out x.value (marked (nested_of m) x.kind) len c.write_value-len.ensures.len c.requires.room c.write_value-len.ensures.after framed in
+    subst (λ (i : Item). Writes out c.frame.new.out (encoding i)) (item-is m) so
+
+pub write_attributes-write_attribute-at-requires : goal.write_attributes-write_attribute-at-requires
+write_attributes-write_attribute-at-requires t c =
+    let x = c.attribute-item.result in
+    let i = c.loop-attribute.attribute-index in
+    let all = c.args.list.now in
+    let out = c.loop-attribute.out in
+    let at = c.loop-attribute.at in
+    let past = c.loop-attribute.invariant in
+    let same : length out ≡ length c.args.out.now = c.loop-attribute.auto.out in
+    let size : framed (length (plain_of (meaning_of x)).value) ≡ length (encoding (attribute_item x)) = ap (λ w. framed (length w)) (plain_value (meaning_of x)) ∙ sym (length-encoding (attribute_item x)) in
+    let need : at + framed (length (plain_of (meaning_of x)).value) ≤ length out =
+    omega (arith, encodings-more attribute_item all i x c.loop-attribute-test.true c.attribute-item.is, encodings-below attribute_item all (i + 1), size, past.len, c.requires.room, same) in (
+      search (rules, the_lemmas),
+      ((first-none attribute_misfit all i x c.loop-attribute-test.true c.attribute-item.is past.fits).0, omega (arith, need, length-take (length out - at) (drop at out), length-drop at out)),
+    )
+
+pub write_attributes-loop-attribute-preserved : goal.write_attributes-loop-attribute-preserved
+write_attributes-loop-attribute-preserved t c =
+    let x = c.attribute-item.result in
+    let i = c.loop-attribute.attribute-index in
+    let all = c.args.list.now in
+    let past = c.loop-attribute.invariant in
+    let next = encodings-next attribute_item all i x c.loop-attribute-test.true c.attribute-item.is in
+    let below : length (encodings attribute_item (take i all)) ≤ length c.args.out.now = omega (arith, encodings-below attribute_item all i, c.requires.room) in
+    let size : framed (length (plain_of (meaning_of x)).value) ≡ length (encoding (attribute_item x)) = ap (λ w. framed (length w)) (plain_value (meaning_of x)) ∙ sym (length-encoding (attribute_item x)) in
+    record {
+      fits = (first-none attribute_misfit all i x c.loop-attribute-test.true c.attribute-item.is past.fits).1;
+      len = omega (arith, encodings-more attribute_item all i x c.loop-attribute-test.true c.attribute-item.is, past.len, c.write_attribute-at.ensures.len, size);
+      after = rw next (Writes-more c.args.out.now c.loop-attribute.out c.write_attribute-at.new.out (encodings attribute_item (take i all)) (encoding (attribute_item x)) c.loop-attribute.at past.len below past.after c.write_attribute-at.ensures.after);
+    }
+
+pub write_hop-write_attributes-len-requires : goal.write_hop-write_attributes-len-requires
+write_hop-write_attributes-len-requires t c =
+    let h = c.args.hop.now in
+    let out = c.args.out.now in
+    let fits = hop_fits h c.requires.fits in (
+      search (rules, the_lemmas),
+      (rw c.as_slice.ensures.value fits.0, rw c.as_slice.ensures.value (omega (arith, c.requires.room, hop_bytes-length h, length-take (length out - 8) (drop 8 out), length-drop 8 out))),
+    )
+
+pub write_hop-overflow_cast-header : goal.write_hop-overflow_cast-header
+write_hop-overflow_cast-header t c =
+    let fits = hop_fits c.args.hop.now c.requires.fits in
+    omega (arith, fits.1, c.write_attributes-len.ensures.len, ap (λ xs. length (encodings attribute_item xs)) c.as_slice.ensures.value)
+
+pub write_hop-returns-clause-len : goal.write_hop-returns-clause-len
+write_hop-returns-clause-len t c =
+    omega (arith, hop_bytes-length c.args.hop.now, c.write_attributes-len.ensures.len, ap (λ xs. length (encodings attribute_item xs)) c.as_slice.ensures.value)
+
+pub write_hop-returns-clause-after : goal.write_hop-returns-clause-after
+write_hop-returns-clause-after t c =
+    let h = c.args.hop.now in
+    let out = c.args.out.now in
+    let mid = put_mid 8 (length out - 8) out c.write_attributes-len.new.out in
+    let text = encodings attribute_item h.attributes.items in
+    let head = head_of h in
+    let header = to_le_bytes w16 (8 + length text) ++ (head.flags ∷ head.hops ∷ to_le_bytes w32 head.interface_index) in
+    let room : 8 + length text ≤ length out = omega (arith, c.requires.room, hop_bytes-length h) in
+    let inside = subst (λ xs. Writes (take (length out - 8) (drop 8 out)) c.write_attributes-len.new.out (encodings attribute_item xs)) c.as_slice.ensures.value c.write_attributes-len.ensures.after in
+    let len : 8 + c.write_attributes-len.result ≡ 8 + length text = ap (λ n. 8 + n) (c.write_attributes-len.ensures.len ∙ ap (λ xs. length (encodings attribute_item xs)) c.as_slice.ensures.value) in
+    let first : c.to_bytes.result ≡ to_le_bytes w16 (8 + c.write_attributes-len.result) ++ (c.bits.result ∷ head.hops ∷ to_le_bytes w32 head.interface_index) = c.to_bytes.ensures in
+    let flags : c.bits.result ≡ head.flags = c.bits.ensures tt in
+    let is : c.to_bytes.result ≡ header = first ∙ ap (λ n. to_le_bytes w16 n ++ (c.bits.result ∷ head.hops ∷ to_le_bytes w32 head.interface_index)) len ∙ ap (λ f. to_le_bytes w16 (8 + length text) ++ (f ∷ head.hops ∷ to_le_bytes w32 head.interface_index)) flags in
+    let p = subst (λ w. Writes mid c.write_array.new.out w) is c.write_array.ensures.after in
+    subst (λ w. Writes out c.write_array.new.out w) (sym (next_hop_bytes-is h)) (Writes-before 8 out c.write_attributes-len.new.out c.write_array.new.out header text refl room inside p)
+
+pub write_hops-write_hop-at-requires : goal.write_hops-write_hop-at-requires
+write_hops-write_hop-at-requires t c =
+    let x = c.hop-item.result in
+    let i = c.loop-hop.hop-index in
+    let all = c.args.hops.now in
+    let out = c.loop-hop.out in
+    let at = c.loop-hop.at in
+    let past = c.loop-hop.invariant in
+    let same : length out ≡ length c.args.out.now = c.loop-hop.auto.out in
+    let need : at + length (next_hop_bytes x) ≤ length out =
+    omega (arith, joined-more next_hop_bytes all i x c.loop-hop-test.true c.hop-item.is, joined-below next_hop_bytes all (i + 1), past.len, c.requires.room, same) in (
+      search (rules, the_lemmas),
+      ((first-none next_hop_misfit all i x c.loop-hop-test.true c.hop-item.is past.fits).0, omega (arith, need, length-take (length out - at) (drop at out), length-drop at out)),
+    )
+
+pub write_hops-loop-hop-preserved : goal.write_hops-loop-hop-preserved
+write_hops-loop-hop-preserved t c =
+    let x = c.hop-item.result in
+    let i = c.loop-hop.hop-index in
+    let all = c.args.hops.now in
+    let past = c.loop-hop.invariant in
+    let next = joined-next next_hop_bytes all i x c.loop-hop-test.true c.hop-item.is in
+    let below : length (joined next_hop_bytes (take i all)) ≤ length c.args.out.now = omega (arith, joined-below next_hop_bytes all i, c.requires.room) in
+    record {
+      fits = (first-none next_hop_misfit all i x c.loop-hop-test.true c.hop-item.is past.fits).1;
+      len = omega (arith, joined-more next_hop_bytes all i x c.loop-hop-test.true c.hop-item.is, past.len, c.write_hop-at.ensures.len);
+      after = rw next (Writes-more c.args.out.now c.loop-hop.out c.write_hop-at.new.out (joined next_hop_bytes (take i all)) (next_hop_bytes x) c.loop-hop.at past.len below past.after c.write_hop-at.ensures.after);
+    }
+
+pub write_value-write_hops-requires : goal.write_value-write_hops-requires
+write_value-write_hops-requires t c =
+    let v = c.in-MultiPath.hops in
+    let fits = rw c.in-MultiPath.is at c.requires.fits in
+    let room = rw c.in-MultiPath.is at c.requires.room in (
+      search (rules, the_lemmas),
+      (rw c.as_slice-in-MultiPath.ensures.value (multi_path_fits v fits), rw c.as_slice-in-MultiPath.ensures.value (rw multi_path_value at room)),
+    )
+
+pub write_value-returns-in-MultiPath-clause-len : goal.write_value-returns-in-MultiPath-clause-len
+write_value-returns-in-MultiPath-clause-len t c =
+    let v = c.in-MultiPath.hops in
+    rw c.in-MultiPath.is (c.write_hops.ensures.len ∙ ap (λ xs. length (joined next_hop_bytes xs)) c.as_slice-in-MultiPath.ensures.value ∙ ap length (sym (multi_path_value v)))
+
+pub write_value-returns-in-MultiPath-clause-after : goal.write_value-returns-in-MultiPath-clause-after
+write_value-returns-in-MultiPath-clause-after t c =
+    let v = c.in-MultiPath.hops in
+    let is = ap (λ xs. joined next_hop_bytes xs) c.as_slice-in-MultiPath.ensures.value ∙ sym (multi_path_value v) in
+    rw c.in-MultiPath.is (subst (λ w. Writes c.args.out.now c.write_hops.new.out w) is c.write_hops.ensures.after)

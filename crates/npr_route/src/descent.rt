@@ -1,0 +1,289 @@
+//! What goes down attributes and next hops, which hold each other: measuring, writing and copying, in
+//! plain functions.
+
+ghost use Rattle.std.specs.Prelude.{◌≡◌, ◌≤◌, ◌<◌, ◌+◌, None, length, IfOk, OnErr, map};
+ghost use Rattle.npr_base.specs.{
+  Family.{checked, option_or, overlong, first_unfit, list_unfit, encodings},
+  Framing.{Writes, encoding, framed},
+};
+ghost use Rattle.npr_route.specs.{
+  Attribute.{plain_of, misfit, unfit_inside, hop_misfit, hop_bytes, hop_overlong},
+  AttributeView.{meaning_of, hop_of, attribute_item, attribute_misfit, next_hop_bytes, next_hop_misfit, joined},
+  FlatAttribute.{marks, any_marks},
+};
+ghost use Rattle.npr_tunnel.specs.Encapsulation.{meaning_of as member_of};
+
+use crate::attribute::RouteAttribute;
+use crate::next_hop_buffer::RouteNextHopBuffer;
+use crate::next_hops::RouteNextHop;
+use crate::route_rows;
+use bitflags::Flags;
+use npr_base::{
+    EmitError, Nla, check_list, clone_list, clone_rows, frame, len_rows, marked_kind, total_len,
+    write_array, write_list, write_rows,
+};
+use npr_scalar::{labels_len, write_labels};
+use npr_tunnel::{RouteIp6Tunnel, RouteIpTunnel, RouteLwTunnelEncap};
+use std::alloc::{AllocError, Global};
+
+/// The length of the value in bytes, or the first cause why the list inside has none.
+#[inline(always)]
+#[cycle(check)]
+fn check_inside(attribute: &RouteAttribute) -> Result<usize, EmitError>
+    ensures { result ≡ checked (unfit_inside (meaning_of attribute.now)) (length (plain_of (meaning_of attribute.now)).value) }
+{
+    Ok(route_rows!(len_rows(attribute;
+        RouteAttribute::Via(x) => x.len(),
+        RouteAttribute::Metrics(list) => return check_list(list.as_slice()),
+        RouteAttribute::Encap(list) => return check_list(list.as_slice()),
+        RouteAttribute::MultiPath(hops) => return check_hops(hops.as_slice()),
+        RouteAttribute::NewDestination(labels) => labels_len(labels.as_slice()),
+        RouteAttribute::NewDestinationAddress(x) => x.len(),
+        RouteAttribute::Expires(_) => 4,
+        RouteAttribute::MulticastExpires(_) => 8,
+    )))
+}
+
+/// The length of the encoding in bytes, or the first cause why there is none.
+#[inline(always)]
+#[cycle(check)]
+pub(crate) fn check_attribute(attribute: &RouteAttribute) -> Result<usize, EmitError>
+    ensures { result ≡ checked (misfit (meaning_of attribute.now)) (framed (length (plain_of (meaning_of attribute.now)).value)) }
+{
+    let len = check_inside(attribute)?;
+    attribute.check_len(len)
+}
+
+/// The length of all encodings in bytes, or the first cause why there are none.
+#[cycle(check)]
+fn check_attributes(list: &[RouteAttribute]) -> Result<usize, EmitError>
+    ensures { result ≡ checked (list_unfit attribute_misfit attribute_item list.now) (length (encodings attribute_item list.now)) }
+{
+    let mut total = 0u128;
+    for attribute in list {
+        total += check_attribute(attribute)? as u128;
+    }
+    total_len(total)
+}
+
+/// The length of a next hop with so many bytes of attributes.
+///
+/// # Errors
+/// `NextHopTooLong` above 65,535 bytes, and `Total` where no `usize` holds the length.
+fn hop_len(inside: usize) -> Result<usize, EmitError>
+    ensures { result ≡ checked (hop_overlong (8 + inside)) (8 + inside) }
+{
+    let len = inside.checked_add(8).ok_or(EmitError::Total)?;
+    if len > 65535 {
+        return Err(EmitError::NextHopTooLong { len });
+    }
+    Ok(len)
+}
+
+/// The length of a next hop in bytes, its header included, or the first cause why it has none.
+#[cycle(check)]
+pub(crate) fn check_hop(hop: &RouteNextHop) -> Result<usize, EmitError>
+    ensures { result ≡ checked (hop_misfit (hop_of hop.now)) (length (hop_bytes (hop_of hop.now))) }
+{
+    let inside = check_attributes(hop.attributes.as_slice())?;
+    hop_len(inside)
+}
+
+/// The length of all next hops in bytes, or the first cause why they have none.
+#[inline(never)]
+#[cycle(check)]
+fn check_hops(hops: &[RouteNextHop]) -> Result<usize, EmitError>
+    ensures { result ≡ checked (option_or (first_unfit next_hop_misfit hops.now) (overlong (length (joined next_hop_bytes hops.now)))) (length (joined next_hop_bytes hops.now)) }
+{
+    let mut total = 0u128;
+    for hop in hops {
+        total += check_hop(hop)? as u128;
+    }
+    total_len(total)
+}
+
+/// The length of the value, in bytes. Asks that `check_attribute` accepts.
+pub(crate) fn value_len(attribute: &RouteAttribute) -> usize
+    requires { misfit (meaning_of attribute.now) ≡ None }
+    ensures { result ≡ length (plain_of (meaning_of attribute.now)).value }
+{
+    match check_inside(attribute) {
+        Ok(len) => len,
+        Err(_) => unreachable!(),
+    }
+}
+
+/// Writes the value at the front of the slice, leaves the rest, and answers the value's length.
+#[inline(always)]
+#[cycle(write)]
+pub(crate) fn write_value(attribute: &RouteAttribute, out: &mut [u8]) -> usize
+    requires fits { misfit (meaning_of attribute.now) ≡ None }
+    requires room { length (plain_of (meaning_of attribute.now)).value ≤ length out.old }
+    ensures len { result ≡ length (plain_of (meaning_of attribute.now)).value }
+    ensures after { Writes out.old out.new (plain_of (meaning_of attribute.now)).value }
+{
+    route_rows!(write_rows(attribute, out;
+        RouteAttribute::Via(x) => x.write(out),
+        RouteAttribute::Metrics(list) => write_list(list.as_slice(), out),
+        RouteAttribute::Encap(list) => write_list(list.as_slice(), out),
+        RouteAttribute::MultiPath(hops) => write_hops(hops.as_slice(), out),
+        RouteAttribute::NewDestination(labels) => write_labels(labels.as_slice(), out),
+        RouteAttribute::NewDestinationAddress(x) => x.write(out),
+        RouteAttribute::Expires(x) => write_array(x.to_le_bytes(), out),
+        RouteAttribute::MulticastExpires(x) => write_array(x.to_le_bytes(), out),
+    ))
+}
+
+/// Writes the attribute: its value behind four bytes, and then header and padding.
+#[cycle(write)]
+fn write_attribute(attribute: &RouteAttribute, out: &mut [u8]) -> usize
+    requires fits { misfit (meaning_of attribute.now) ≡ None }
+    requires room { framed (length (plain_of (meaning_of attribute.now)).value) ≤ length out.old }
+    ensures len { result ≡ framed (length (plain_of (meaning_of attribute.now)).value) }
+    ensures after { Writes out.old out.new (encoding (attribute_item attribute.now)) }
+{
+    let kind = marked_kind(attribute.kind(), attribute.is_nested());
+    let len = write_value(attribute, &mut out[4..]);
+    frame(out, kind, len)
+}
+
+/// Writes the attributes one after the other.
+#[cycle(write)]
+fn write_attributes(list: &[RouteAttribute], out: &mut [u8]) -> usize
+    requires fits { first_unfit attribute_misfit list.now ≡ None }
+    requires room { length (encodings attribute_item list.now) ≤ length out.old }
+    ensures len { result ≡ length (encodings attribute_item list.now) }
+    ensures after { Writes out.old out.new (encodings attribute_item list.now) }
+{
+    let mut at = 0usize;
+    for attribute in list {
+        at += write_attribute(attribute, &mut out[at..]);
+    }
+    at
+}
+
+/// Writes a next hop: its attributes behind eight bytes, and then its header.
+#[cycle(write)]
+pub(crate) fn write_hop(hop: &RouteNextHop, out: &mut [u8]) -> usize
+    requires fits { next_hop_misfit hop.now ≡ None }
+    requires room { length (next_hop_bytes hop.now) ≤ length out.old }
+    ensures len { result ≡ length (next_hop_bytes hop.now) }
+    ensures after { Writes out.old out.new (next_hop_bytes hop.now) }
+{
+    let len = 8 + write_attributes(hop.attributes.as_slice(), &mut out[8..]);
+    let header = RouteNextHopBuffer {
+        length: len as u16,
+        flags: hop.flags.bits(),
+        hops: hop.hops,
+        interface_index: hop.interface_index,
+    };
+    write_array(header.to_bytes(), out);
+    len
+}
+
+/// Writes the next hops one after the other.
+#[inline(never)]
+#[cycle(write)]
+fn write_hops(hops: &[RouteNextHop], out: &mut [u8]) -> usize
+    requires fits { first_unfit next_hop_misfit hops.now ≡ None }
+    requires room { length (joined next_hop_bytes hops.now) ≤ length out.old }
+    ensures len { result ≡ length (joined next_hop_bytes hops.now) }
+    ensures after { Writes out.old out.new (joined next_hop_bytes hops.now) }
+{
+    let mut at = 0usize;
+    for hop in hops {
+        at += write_hop(hop, &mut out[at..]);
+    }
+    at
+}
+
+/// An equal attribute.
+///
+/// # Errors
+/// `AllocError` where memory is refused.
+#[cycle(copy)]
+pub(crate) fn clone_attribute(
+    alloc: Global,
+    attribute: &RouteAttribute,
+) -> Result<RouteAttribute, AllocError>
+    ensures { IfOk result (λ a. meaning_of a ≡ meaning_of attribute.now) }
+{
+    route_rows!(clone_rows(attribute, alloc;
+        RouteAttribute::Metrics(x) => clone_list(alloc, x.as_slice()).map(RouteAttribute::Metrics),
+        RouteAttribute::MultiPath(x) => clone_hops(alloc, x.as_slice()).map(RouteAttribute::MultiPath),
+        RouteAttribute::Via(x) => x.clone(alloc).map(RouteAttribute::Via),
+        RouteAttribute::NewDestination(x) => Vec::from_slice(alloc, x.as_slice()).map(RouteAttribute::NewDestination),
+        RouteAttribute::NewDestinationAddress(x) => x.clone(alloc).map(RouteAttribute::NewDestinationAddress),
+        RouteAttribute::Encap(x) => clone_list(alloc, x.as_slice()).map(RouteAttribute::Encap),
+        RouteAttribute::Expires(x) => Ok(RouteAttribute::Expires(*x)),
+        RouteAttribute::MulticastExpires(x) => Ok(RouteAttribute::MulticastExpires(*x)),
+    ))
+}
+
+/// Equal attributes, in their order.
+#[cycle(copy)]
+fn clone_attributes(
+    alloc: Global,
+    list: &[RouteAttribute],
+) -> Result<Vec<RouteAttribute>, AllocError>
+    ensures ok { IfOk result (λ v. map meaning_of v.items ≡ map meaning_of list.now) }
+    ensures memory { OnErr result (0 < length list.now) }
+{
+    let mut copies = Vec::new(alloc);
+    for attribute in list {
+        copies.push(clone_attribute(alloc, attribute)?)?;
+    }
+    Ok(copies)
+}
+
+/// An equal next hop.
+#[cycle(copy)]
+pub(crate) fn clone_hop(alloc: Global, hop: &RouteNextHop) -> Result<RouteNextHop, AllocError>
+    ensures ok { IfOk result (λ h. hop_of h ≡ hop_of hop.now) }
+    ensures memory { OnErr result (0 < length hop.now.attributes.items) }
+{
+    Ok(RouteNextHop {
+        flags: hop.flags,
+        hops: hop.hops,
+        interface_index: hop.interface_index,
+        attributes: clone_attributes(alloc, hop.attributes.as_slice())?,
+    })
+}
+
+/// Equal next hops, in their order.
+#[cycle(copy)]
+fn clone_hops(alloc: Global, hops: &[RouteNextHop]) -> Result<Vec<RouteNextHop>, AllocError>
+    ensures { IfOk result (λ v. map hop_of v.items ≡ map hop_of hops.now) }
+{
+    let mut copies = Vec::new(alloc);
+    for hop in hops {
+        copies.push(clone_hop(alloc, hop)?)?;
+    }
+    Ok(copies)
+}
+
+/// Whether the member makes `RTA_ENCAP` carry `NLA_F_NESTED`: as the kernel and `ip` write it.
+const fn wants_nested(member: &RouteLwTunnelEncap) -> bool
+    ensures { result ≡ marks (member_of member.now) }
+{
+    matches!(
+        member,
+        RouteLwTunnelEncap::Seg6(_)
+            | RouteLwTunnelEncap::Xfrm(_)
+            | RouteLwTunnelEncap::Rpl(_)
+            | RouteLwTunnelEncap::Ioam6(_)
+            | RouteLwTunnelEncap::Ip(RouteIpTunnel::Opts(_))
+            | RouteLwTunnelEncap::Ip6(RouteIp6Tunnel::Opts(_))
+    )
+}
+
+pub(crate) fn is_marked(members: &[RouteLwTunnelEncap]) -> bool
+    ensures { result ≡ any_marks (map member_of members.now) }
+{
+    for member in members {
+        if wants_nested(member) {
+            return true;
+        }
+    }
+    false
+}
