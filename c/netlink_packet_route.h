@@ -1,23 +1,29 @@
-/* Address, route and rule messages of Linux rtnetlink for C: the canonical bytes of given bytes, the
- * names of what is wrong with them, and one step over attributes.
+/* Address, route and rule messages of Linux rtnetlink for C: the canonical bytes of given bytes, whether
+ * bytes are a message and what is wrong with them, the names of that, and steps over the messages of a
+ * datagram, over attributes and over next hops.
  *
- * A message here is what stands behind `struct nlmsghdr`: a header of 8 bytes (`struct ifaddrmsg`)
- * or 12 (`struct rtmsg`, `struct fib_rule_hdr`), and attributes to the end. Two inputs that have
- * canonical bytes mean the same exactly if these are equal.
+ * A message of a kind is what stands behind `struct nlmsghdr`: a header of 8 bytes
+ * (`struct ifaddrmsg`) or 12 (`struct rtmsg`, `struct fib_rule_hdr`), and attributes to the end. In a
+ * datagram of a socket it is found by `npr_message_at`, and its type says its kind. Two inputs that
+ * have canonical bytes mean the same exactly if these are equal.
  *
  * The calls are proved for all bytes: none reads or writes outside what it is given, none keeps
- * anything of it, and none ends the process. What each answers is in its contract
- * (crates/npr_c/src). What no proof looks at is this header, and that the caller keeps to this:
+ * anything of it, and none ends the process, but for one whose thread has too little stack (below).
+ * What each answers is in its contract (crates/npr_c/src). What no proof looks at is this header,
+ * and that the caller keeps to this:
  *
  * - A pointer is not null, and as many bytes may be read or written there as the length says. That
- *   goes for a length of 0 as well: give the address of any byte.
+ *   goes for a length of 0 as well, at which any byte's address will do; an empty `std::vector` may
+ *   have none.
  * - The bytes that are read and the buffer that is written do not overlap, and no other thread
  *   writes the former, or uses the latter, while a call runs.
  * - `malloc`, `realloc` and `free` are of one allocator, and align as the C standard asks. Only the
- *   three calls for canonical bytes use them, and these are not called from a signal handler, nor
- *   in the forked child of a process with threads.
- * - Next hops may hold next hops, 5,461 deep in one attribute, and the machine's stack is used for
- *   each level.
+ *   calls for canonical bytes and for faults use them, and these are not called from a signal
+ *   handler, nor in the forked child of a process with threads.
+ * - Next hops may hold next hops, 5,461 deep in one attribute, and the calls for canonical bytes and
+ *   for faults use some 145 bytes of stack for each level. A thread with NPR_STACK bytes of stack is
+ *   enough for every input. Where a message is deeper than the stack of its thread, the process ends
+ *   by a signal, as where any C function has no stack left.
  *
  * Calls may run in several threads at once. Lengths and places are in bytes. The library is built
  * for x86-64 under Linux. */
@@ -27,6 +33,16 @@
 
 #include <stddef.h>
 #include <stdint.h>
+
+/* The version of the library. */
+#define NPR_VERSION_MAJOR 0
+#define NPR_VERSION_MINOR 3
+#define NPR_VERSION_PATCH 9
+#define NPR_VERSION "0.3.9"
+
+/* The stack of a thread that is enough for every call and every input, in bytes: 1 MiB. The deepest
+ * message takes some 773 KiB (measured). */
+#define NPR_STACK 1048576
 
 #ifdef __cplusplus
 extern "C" {
@@ -72,7 +88,11 @@ enum npr_refusal {
     /* A gateway of an address family that no byte holds. */
     NPR_VIA_FAMILY = 12,
     /* A routing header in a form that is not read. */
-    NPR_UNSUPPORTED = 13
+    NPR_UNSUPPORTED = 13,
+    /* Fewer than 16 bytes where a message of a datagram begins. */
+    NPR_MESSAGE_TOO_SHORT = 14,
+    /* The length of a message of a datagram is below 16, or above the bytes that are left. */
+    NPR_MESSAGE_LENGTH = 15
 };
 
 /* Why a message has no canonical bytes: the first cause in its order. */
@@ -106,6 +126,83 @@ struct npr_answer npr_address_canonical(const uint8_t *bytes, size_t length, uin
 struct npr_answer npr_route_canonical(const uint8_t *bytes, size_t length, uint8_t *out, size_t room);
 struct npr_answer npr_rule_canonical(const uint8_t *bytes, size_t length, uint8_t *out, size_t room);
 
+/* The family in which the number of an attribute is to be understood. */
+enum npr_family {
+    /* No attribute is told. */
+    NPR_FAMILY_NONE = 0,
+    /* IFA_* of linux/if_addr.h. */
+    NPR_FAMILY_ADDRESS = 1,
+    /* FRA_* of linux/fib_rules.h. */
+    NPR_FAMILY_RULE = 2,
+    /* RTA_* of linux/rtnetlink.h. */
+    NPR_FAMILY_ROUTE = 3,
+    /* RTAX_* of linux/rtnetlink.h. */
+    NPR_FAMILY_METRIC = 4,
+    /* MPLS_IPTUNNEL_* of linux/mpls_iptunnel.h. */
+    NPR_FAMILY_MPLS = 5,
+    /* LWTUNNEL_IP_* of linux/lwtunnel.h. */
+    NPR_FAMILY_IP = 6,
+    /* LWTUNNEL_IP6_* of linux/lwtunnel.h. */
+    NPR_FAMILY_IP6 = 7,
+    /* LWT_XFRM_* of linux/lwtunnel.h. */
+    NPR_FAMILY_XFRM = 8,
+    /* LWTUNNEL_IP_OPTS_* of linux/lwtunnel.h. */
+    NPR_FAMILY_OPT = 9,
+    /* LWTUNNEL_IP_OPT_GENEVE_* of linux/lwtunnel.h. */
+    NPR_FAMILY_GENEVE = 10,
+    /* LWTUNNEL_IP_OPT_VXLAN_* of linux/lwtunnel.h. */
+    NPR_FAMILY_VXLAN = 11,
+    /* LWTUNNEL_IP_OPT_ERSPAN_* of linux/lwtunnel.h. */
+    NPR_FAMILY_ERSPAN = 12,
+    /* SEG6_IPTUNNEL_* of linux/seg6_iptunnel.h. */
+    NPR_FAMILY_SEG6 = 13,
+    /* SEG6_LOCAL_* of linux/seg6_local.h. */
+    NPR_FAMILY_SEG6_LOCAL = 14,
+    /* RPL_IPTUNNEL_* of linux/rpl_iptunnel.h. */
+    NPR_FAMILY_RPL = 15,
+    /* IOAM6_IPTUNNEL_* of linux/ioam6_iptunnel.h. */
+    NPR_FAMILY_IOAM6 = 16
+};
+
+/* What is wrong with a SEG6 routing header (RFC 8754, section 2). */
+enum npr_seg6_fault {
+    /* Fewer bytes than the fixed part takes. */
+    NPR_SEG6_SHORT = 1,
+    /* The length that it states is not the length that it has. */
+    NPR_SEG6_LENGTH = 2,
+    /* The HMAC flag is set, and no HMAC has room. */
+    NPR_SEG6_HMAC = 3,
+    /* The segments are not whole. */
+    NPR_SEG6_SEGMENTS = 4
+};
+
+/* What is wrong with bytes as a message: a refusal with all that it tells. A member that a refusal
+ * tells nothing of is 0, and all are 0 where the bytes are a message. */
+struct npr_fault {
+    /* One of `enum npr_refusal`, or 0 where the bytes are a message. */
+    uint32_t number;
+    /* One of `enum npr_family`, of the attribute at NPR_VALUE_LENGTH, NPR_NOT_UTF8, NPR_UNSUPPORTED,
+     * NPR_GENEVE_ORDER and NPR_GENEVE_CHILD. */
+    uint32_t family;
+    /* The number of this attribute, without the two flags of a kind. */
+    uint16_t kind;
+    /* At NPR_SEG6_HEADER one of `enum npr_seg6_fault`, at NPR_VIA_FAMILY the address family. */
+    uint16_t detail;
+    /* The length that is stated at NPR_ATTRIBUTE_LENGTH and NPR_NEXT_HOP_LENGTH; how many bytes there
+     * were at NPR_HEADER_TOO_SHORT, NPR_ATTRIBUTE_TOO_SHORT, NPR_NEXT_HOP_TOO_SHORT and
+     * NPR_VALUE_LENGTH. */
+    size_t length;
+    /* How many bytes are left at NPR_ATTRIBUTE_LENGTH and NPR_NEXT_HOP_LENGTH, how many the header
+     * takes at NPR_HEADER_TOO_SHORT. */
+    size_t limit;
+};
+
+/* Whether the bytes are a message, and else the first fault in reading order. Nothing is written; a
+ * message of which all members are 0 here may still have no canonical bytes (NPR_UNFIT). */
+struct npr_fault npr_address_fault(const uint8_t *bytes, size_t length);
+struct npr_fault npr_route_fault(const uint8_t *bytes, size_t length);
+struct npr_fault npr_rule_fault(const uint8_t *bytes, size_t length);
+
 /* Room for every name and its zero. */
 #define NPR_NAME_ROOM 18
 
@@ -117,17 +214,74 @@ size_t npr_refusal_name(uint32_t number, char *out, size_t room);
 /* The same for the name of a cause, as "TooLong". */
 size_t npr_cause_name(uint32_t number, char *out, size_t room);
 
-/* How a step over attributes ends. */
+/* The name of a refusal, as `npr_refusal_name` writes it, as a text that stays. */
+static inline const char *npr_refusal_text(uint32_t number) {
+    switch (number) {
+    case NPR_OUT_OF_MEMORY:
+        return "OutOfMemory";
+    case NPR_HEADER_TOO_SHORT:
+        return "HeaderTooShort";
+    case NPR_ATTRIBUTE_TOO_SHORT:
+        return "AttributeTooShort";
+    case NPR_ATTRIBUTE_LENGTH:
+        return "AttributeLength";
+    case NPR_NEXT_HOP_TOO_SHORT:
+        return "NextHopTooShort";
+    case NPR_NEXT_HOP_LENGTH:
+        return "NextHopLength";
+    case NPR_VALUE_LENGTH:
+        return "ValueLength";
+    case NPR_NOT_UTF8:
+        return "NotUtf8";
+    case NPR_SEG6_HEADER:
+        return "Seg6Header";
+    case NPR_GENEVE_ORDER:
+        return "GeneveOrder";
+    case NPR_GENEVE_CHILD:
+        return "GeneveChild";
+    case NPR_VIA_FAMILY:
+        return "ViaFamily";
+    case NPR_UNSUPPORTED:
+        return "Unsupported";
+    case NPR_MESSAGE_TOO_SHORT:
+        return "MessageTooShort";
+    case NPR_MESSAGE_LENGTH:
+        return "MessageLength";
+    default:
+        return "";
+    }
+}
+
+/* The same for the name of a cause. */
+static inline const char *npr_cause_text(uint32_t number) {
+    switch (number) {
+    case NPR_TOO_LONG:
+        return "TooLong";
+    case NPR_NEXT_HOP_TOO_LONG:
+        return "NextHopTooLong";
+    case NPR_TOO_MANY_SEGMENTS:
+        return "TooManySegments";
+    case NPR_IP_PROTOCOL:
+        return "IpProtocol";
+    case NPR_TOTAL:
+        return "Total";
+    default:
+        return "";
+    }
+}
+
+/* How a step ends. */
 enum npr_step_status {
-    /* An attribute stands at the place. */
+    /* An attribute, a next hop, or a message of a datagram stands at the place. */
     NPR_FOUND = 0,
-    /* None does: `number` is NPR_ATTRIBUTE_TOO_SHORT or NPR_ATTRIBUTE_LENGTH. */
+    /* None does: `number` is NPR_ATTRIBUTE_TOO_SHORT or NPR_ATTRIBUTE_LENGTH, and of the others
+     * NPR_NEXT_HOP_TOO_SHORT or NPR_NEXT_HOP_LENGTH, NPR_MESSAGE_TOO_SHORT or NPR_MESSAGE_LENGTH. */
     NPR_FAULT = 1,
     /* The place is the end of the bytes, or past it. */
     NPR_END = 2
 };
 
-/* What a step answers. All members but `status` and `number` are 0 unless the status is NPR_FOUND. */
+/* What a step over attributes answers. All members but `status` and `number` are 0 unless the status is NPR_FOUND. */
 struct npr_step {
     /* One of `enum npr_step_status`. */
     uint32_t status;
@@ -146,7 +300,66 @@ struct npr_step {
 
 /* The attribute that begins `at` bytes from the first. In a message the first one begins behind the
  * header, at 8 or 12; inside a value that is a list, at its first byte. It takes no memory. */
-struct npr_step npr_step(const uint8_t *bytes, size_t length, size_t at);
+struct npr_step npr_step_at(const uint8_t *bytes, size_t length, size_t at);
+
+/* The first attribute of this number (below 0x4000: a kind without its two flags) that begins at `at`
+ * or behind it, or the fault or the end that comes before one. It takes no memory. */
+struct npr_step npr_find(const uint8_t *bytes, size_t length, size_t at, uint16_t number);
+
+/* What a step over next hops answers. All members but `status` and `number` are 0 unless the status is
+ * NPR_FOUND. */
+struct npr_next_hop {
+    /* One of `enum npr_step_status`. */
+    uint32_t status;
+    /* At NPR_FAULT one of `enum npr_refusal`, and else 0. */
+    uint32_t number;
+    /* The index of its interface. */
+    uint32_t interface_index;
+    /* RTNH_F_* of linux/rtnetlink.h. */
+    uint8_t flags;
+    /* Its weight less one. */
+    uint8_t hops;
+    /* Where its attributes begin, and where they end, from the first of the bytes: they are gone over
+     * by `npr_step_at(bytes, end, attributes)`. */
+    size_t attributes;
+    size_t end;
+    /* Where the next one begins, from the first of the bytes; where none follows, their length. It is
+     * at least 8 above the place that was asked for. */
+    size_t next;
+};
+
+/* The next hop that begins `at` bytes from the first. In the value of RTA_MULTIPATH the first one
+ * begins at its first byte. Its attributes are not looked at. It takes no memory. */
+struct npr_next_hop npr_next_hop_at(const uint8_t *bytes, size_t length, size_t at);
+
+/* What a step over the messages of a datagram answers. All members but `status` and `number` are 0
+ * unless the status is NPR_FOUND. */
+struct npr_message {
+    /* One of `enum npr_step_status`. */
+    uint32_t status;
+    /* At NPR_FAULT one of `enum npr_refusal`, and else 0. */
+    uint32_t number;
+    /* NLMSG_* of linux/netlink.h, or RTM_* of linux/rtnetlink.h. */
+    uint16_t message_type;
+    /* NLM_F_* of linux/netlink.h. */
+    uint16_t flags;
+    /* The number of the request to which the message belongs. */
+    uint32_t sequence_number;
+    /* The port of the socket that asked, or 0. */
+    uint32_t port_number;
+    /* Where what stands behind `struct nlmsghdr` begins, from the first of the bytes: there, with
+     * `length`, stands the message that the calls above take. */
+    size_t payload;
+    /* Its length, without padding. */
+    size_t length;
+    /* Where the next message begins, from the first of the bytes; where none follows, their length.
+     * It is at least 16 above the place that was asked for. */
+    size_t next;
+};
+
+/* The message that begins `at` bytes from the first of a datagram. The first one begins at 0. It takes
+ * no memory. */
+struct npr_message npr_message_at(const uint8_t *datagram, size_t length, size_t at);
 
 #ifdef __cplusplus
 }

@@ -106,12 +106,12 @@ static const char *name_of(struct npr_answer answer, char name[NPR_NAME_ROOM]) {
 /* Goes over the attributes of canonical bytes. Counts them, and prints a line for each if asked. */
 static size_t attributes_of(const struct kind *kind, struct bytes canonical, bool print) {
     size_t count = 0;
-    struct npr_step step = npr_step(canonical.at, canonical.length, kind->header);
+    struct npr_step step = npr_step_at(canonical.at, canonical.length, kind->header);
     while (step.status == NPR_FOUND) {
         count++;
         if (print)
             printf("kind %u length %zu\n", (unsigned)step.kind, step.length);
-        step = npr_step(canonical.at, canonical.length, step.next);
+        step = npr_step_at(canonical.at, canonical.length, step.next);
     }
     return count;
 }

@@ -2,9 +2,8 @@
 
 ghost use Rattle.std.specs.Prelude.{◌≡◌};
 
-use crate::answer::answer;
+use crate::answer::Asked;
 use hex::FromHexError;
-use netlink_packet_route::MessageKind;
 use std::alloc::{AllocError, Global};
 use std::io::{BufRead, BufReader};
 use std::{fs, io};
@@ -54,7 +53,7 @@ impl Comparison {
     pub fn compare_file(
         &mut self,
         rt: &HostRuntime,
-        kind: MessageKind,
+        asked: Asked,
         path: &str,
     ) -> Result<(), Fault> {
         let file = fs::open(rt, path)?;
@@ -62,7 +61,7 @@ impl Comparison {
         for line in BufReader::new(rt.alloc(), file)?.lines(rt.alloc()) {
             let line = line?;
             number = number.saturating_add(1);
-            if !self.compare_line(rt, kind, line.as_str())? {
+            if !self.compare_line(rt, asked, line.as_str())? {
                 return Err(Fault::Form { line: number });
             }
         }
@@ -71,12 +70,7 @@ impl Comparison {
 
     /// Compares a line, and prints it where it is one of the first that are answered otherwise.
     /// `false` where the line is out of form.
-    fn compare_line(
-        &mut self,
-        rt: &HostRuntime,
-        kind: MessageKind,
-        line: &str,
-    ) -> Result<bool, Fault> {
+    fn compare_line(&mut self, rt: &HostRuntime, asked: Asked, line: &str) -> Result<bool, Fault> {
         let Some((digits, wanted)) = line.split_once('\t') else {
             return Ok(false);
         };
@@ -86,7 +80,7 @@ impl Comparison {
         if !is_answer(wanted) {
             return Ok(false);
         }
-        let answered = answer(rt.alloc(), kind, bytes.as_slice())?;
+        let answered = asked.answer(rt.alloc(), bytes.as_slice())?;
         self.lines = self.lines.saturating_add(1);
         if answered.as_str() != wanted {
             self.differ = self.differ.saturating_add(1);
@@ -108,7 +102,7 @@ fn bytes_of(alloc: Global, digits: &str) -> Result<Option<Vec<u8>>, AllocError> 
 }
 
 fn is_answer(text: &str) -> bool {
-    ["canonical ", "refused ", "unfit "]
+    ["canonical ", "messages ", "refused ", "unfit "]
         .iter()
         .any(|word| text.starts_with(*word))
 }

@@ -1,18 +1,20 @@
 //! Compares the answers of the message parsers with those that stand in files.
 //!
 //! `conformance WORD FILE..`, which may be repeated with another word: each line of a file is hexadecimal text, a tab and an answer, which is
-//! `canonical HEX`, `refused NAME` or `unfit NAME`.
+//! `canonical HEX`, `refused NAME` or `unfit NAME`; of `datagrams` it is `messages N others M HEX`.
 #![tactic(auto)]
 
 mod answer;
 mod comparison;
+mod datagram;
 
+use answer::Asked;
 use comparison::Comparison;
-use netlink_packet_route::MessageKind;
 use std::process::ExitCode;
 use std::{env, fmt, io};
 
-const USAGE: &str = "usage: conformance address|route|rule FILE.. [address|route|rule FILE..]";
+const USAGE: &str =
+    "usage: conformance address|route|rule|datagrams FILE.. [address|route|rule|datagrams FILE..]";
 
 fn main(rt: HostRuntime) -> ExitCode {
     let words = match arguments(&rt) {
@@ -22,14 +24,14 @@ fn main(rt: HostRuntime) -> ExitCode {
     let mut comparison = Comparison::new();
     let mut current = None;
     for argument in words.iter() {
-        if let Some(kind) = MessageKind::of(argument.as_str()) {
-            current = Some(kind);
+        if let Some(asked) = Asked::of(argument.as_str()) {
+            current = Some(asked);
             continue;
         }
-        let Some(kind) = current else {
+        let Some(asked) = current else {
             return fail(&rt, format_args!("{USAGE}"));
         };
-        if let Err(fault) = comparison.compare_file(&rt, kind, argument.as_str()) {
+        if let Err(fault) = comparison.compare_file(&rt, asked, argument.as_str()) {
             return fail(&rt, format_args!("{argument}: {fault}"));
         }
     }

@@ -1,7 +1,7 @@
 pub mod Addresses
 pub mod Fault
-pub mod Found
 pub mod NeighbourHeader
 pub mod NeighbourMessage
 pub mod Neighbours
+pub mod Routes
 pub mod Walk

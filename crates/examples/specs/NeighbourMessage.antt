@@ -2,7 +2,7 @@
 use Rattle.std.specs.Prelude.{ℕ, List}
 use Rattle.netlink_packet_route.specs.declared.framing.DecodeError.{DecodeError}
 use Rattle.netlink_packet_route.specs.declared.framing.Message.{Message as Stored}
-use Rattle.netlink_packet_route.specs.Messages.{Message, Body, view, attributes_of, IsMessage, MessageFault}
+use Rattle.netlink_packet_route.specs.Messages.{Message, Body, view, body_of, IsMessage, MessageFault}
 use Rattle.examples.specs.NeighbourHeader.{header}
 use Rattle.examples.specs.Neighbours.{Meaning, meaning_of, writing, attributes}
 use Rattle.examples.specs.declared.neighbour.NeighbourAttribute.{NeighbourAttribute}
@@ -19,7 +19,7 @@ abbrev pub message_of : NeighbourMessage → Neighbour
 message_of m = view meaning_of m
 
 abbrev pub body : Body NeighbourHeader writing
-body = attributes_of attributes
+body = body_of attributes
 
 -- the bytes are the message
 abbrev pub IsNeighbourMessage : List ℕ → Neighbour → Type 0

@@ -10,9 +10,9 @@ use Rattle.netlink_packet_route.specs.Layout.{Layout, le32}
 use Rattle.netlink_packet_route.specs.Codec.{exactly, leading, raw}
 use Rattle.netlink_packet_route.specs.IpCodec.{ip}
 use Rattle.netlink_packet_route.specs.Table.{Writing, Reading, table_of, Row, row, Held, held, held_other, held_kind, held_value}
-use Rattle.netlink_packet_route.specs.Table.{held_misfit, held-reads, IsHeld, item_of, placed, IsOther, Aligned, ReadsAt}
-use Rattle.netlink_packet_route.specs.TableLaws.{flat, other-back}
-use Rattle.examples.specs.Found.{IsFirst}
+use Rattle.netlink_packet_route.specs.Table.{held_misfit, held-reads, IsHeld, item_of, writing_by, IsOther, Aligned, ReadsAt}
+use Rattle.netlink_packet_route.specs.TableLaws.{table_family, other-back}
+use Rattle.netlink_packet_route.specs.Found.{IsFirst}
 use Rattle.examples.specs.declared.neighbour.NeighbourCacheInfo.{NeighbourCacheInfo}
 use Rattle.examples.specs.declared.neighbour.NeighbourAttribute.{NeighbourAttribute}
 use Rattle.examples.specs.declared.neighbour.NeighbourAttribute.TheVariants.{Destination, LinkLayerAddress, CacheInfo, Probes, Other}
@@ -53,36 +53,36 @@ rows =
     ∷ []
 
 -- where each meaning stands in it
-abbrev pub place : Meaning → Held
-place (destination a) = held 1 ip a
-place (link_layer bytes) = held 2 raw bytes
-place (remembered x) = held 3 (leading cache_info) x
-place (probes n) = held 4 (exactly le32) n
-place (other x) = held_other x
+abbrev pub held_of : Meaning → Held
+held_of (destination a) = held 1 ip a
+held_of (link_layer bytes) = held 2 raw bytes
+held_of (remembered x) = held 3 (leading cache_info) x
+held_of (probes n) = held 4 (exactly le32) n
+held_of (other x) = held_other x
 
 -- what can be read
 abbrev pub Coherent : Meaning → Type 0
 Coherent (other x) = IsOther rows x
-Coherent m = IsHeld (place m)
+Coherent m = IsHeld (held_of m)
 
-pub aligned : Aligned (λ m. item_of (place m)) Coherent rows
+pub aligned : Aligned (λ m. item_of (held_of m)) Coherent rows
 aligned = search rules
 
-pub kinds : (m : Meaning) → Coherent m → held_kind (place m) < 2 ^ 16
+pub kinds : (m : Meaning) → Coherent m → held_kind (held_of m) < 2 ^ 16
 kinds (other x) c = c.proper.kind
 kinds m c = omega arith
 
-pub back : (m : Meaning) → Coherent m → held_misfit (place m) ≡ None → ReadsAt other rows (number_of (item_of (place m)).kind) (item_of (place m)) m
+pub back : (m : Meaning) → Coherent m → held_misfit (held_of m) ≡ None → ReadsAt other rows (number_of (item_of (held_of m)).kind) (item_of (held_of m)) m
 back (other x) c fits = other-back other rows (number_of x.kind) x c.alone
-back m c fits = (held_value (place m), held-reads (place m) c fits, refl)
+back m c fits = (held_value (held_of m), held-reads (held_of m) c fits, refl)
 
 -- how each is written
 abbrev pub writing : Writing Meaning
-writing = placed place
+writing = writing_by held_of
 
 -- the family
 abbrev pub attributes : Reading writing
-attributes = flat (table_of rows other place Coherent aligned (λ x. refl) (λ x is. is) kinds back)
+attributes = table_family (table_of rows other held_of Coherent aligned (λ x. refl) (λ x is. is) kinds back)
 
 -- the address of a destination
 abbrev pub destination_in : Meaning → Option IpAddr

@@ -5,7 +5,6 @@ ghost use Rattle.std.specs.{
   Int.RustNames.{bit_and},
 };
 ghost use Rattle.examples.specs.{
-  Found.{IsFirst},
   Addresses.{local_ipv4, loopback, loopback_written, with_priority},
   declared.fault.Fault.TheVariants.{Refused, Unfit},
 };
@@ -13,6 +12,7 @@ ghost use Rattle.netlink_packet_route.specs.{
   AddressAttribute.{meaning_of},
   AddressFlags.{header_flags_bits},
   AddressMessage.{Address, AddressMessage, IsAddressMessage, AddressFault, address_bytes, address_misfit, message_of},
+  Found.{IsFirst},
   declared.framing.DecodeError.{DecodeError},
   declared.framing.DecodeError.TheVariants.{OutOfMemory},
   declared.framing.EmitError.{EmitError},

@@ -4,13 +4,13 @@ ghost use Rattle.std.specs.Prelude.{◌≡◌, ◌≢◌, ◌≤◌, ℕ, List, 
 ghost use Rattle.std.specs.Option.{option_map};
 ghost use Rattle.std.proofs.Common.{rules};
 ghost use Rattle.examples.specs.{
-  Found.{IsFirst},
   NeighbourHeader.{header, default_header},
   NeighbourMessage.{NeighbourMessage, IsNeighbourMessage, NeighbourFault, message_of, body},
   Neighbours.{Meaning, meaning_of, writing, destination_in, link_layer_in, IsAddressOf},
 };
 ghost use Rattle.netlink_packet_route.specs.{
   Codec.{leading},
+  Found.{IsFirst},
   declared.framing.DecodeError.TheVariants.{OutOfMemory},
 };
 

@@ -10,6 +10,7 @@ pub use Rattle.npr_base.specs.DroppedCodec
 pub use Rattle.npr_base.specs.Equality
 pub use Rattle.npr_base.specs.Family
 pub use Rattle.npr_base.specs.Fields
+pub use Rattle.npr_base.specs.Found
 pub use Rattle.npr_base.specs.Framing
 pub use Rattle.npr_base.specs.FrontLaws
 pub use Rattle.npr_base.specs.Ip
@@ -18,8 +19,11 @@ pub use Rattle.npr_base.specs.ViewEquality
 pub use Rattle.npr_base.specs.Layout
 pub use Rattle.npr_base.specs.ListCodec
 pub use Rattle.npr_base.specs.ListLaws
+pub use Rattle.npr_base.specs.Looks
+pub use Rattle.npr_base.specs.LooksLaws
 pub mod MessageKind
 pub mod Messages
+pub mod RouteNetlinkMessage
 pub use Rattle.npr_base.specs.Name
 pub use Rattle.npr_base.specs.Refusal
 pub use Rattle.npr_base.specs.Rows
@@ -66,6 +70,7 @@ pub use Rattle.npr_tunnel.specs.EncapType
 pub use Rattle.npr_tunnel.specs.Encapsulation
 pub use Rattle.npr_tunnel.specs.ErspanOptions
 pub use Rattle.npr_tunnel.specs.Geneve
+pub use Rattle.npr_tunnel.specs.GeneveLooks
 pub use Rattle.npr_tunnel.specs.IpTunnel
 pub use Rattle.npr_tunnel.specs.MplsTunnel
 pub use Rattle.npr_tunnel.specs.TunnelOptions
@@ -92,14 +97,15 @@ pub use Rattle.npr_rule.specs.UidRange as RuleUidRange
 -- route messages
 pub use Rattle.npr_route.specs.Attribute as RouteAttribute
 pub use Rattle.npr_route.specs.AttributeLaws as RouteAttributeLaws
+pub use Rattle.npr_route.specs.AttributeLooks as RouteAttributeLooks
 pub use Rattle.npr_route.specs.AttributeView as RouteAttributeView
 pub use Rattle.npr_route.specs.FlatAttribute as FlatRouteAttribute
 pub use Rattle.npr_route.specs.FlatAttributeLaws as FlatRouteAttributeLaws
-pub use Rattle.npr_route.specs.Gateway as RouteGateway
 pub use Rattle.npr_route.specs.Governing
 pub use Rattle.npr_route.specs.Header as RouteHeader
 pub mod RouteMessage
 pub use Rattle.npr_route.specs.Metric as RouteMetric
 pub use Rattle.npr_route.specs.NextHopFrontLaws
 pub use Rattle.npr_route.specs.NextHopHeader
+pub use Rattle.npr_route.specs.Path as RoutePath
 pub use Rattle.npr_route.specs.RouteList

@@ -15,22 +15,23 @@ use crate::kind::MessageKind;
 use npr_address::AddressAttribute;
 pub use npr_address::laws::{
     law_address_flags, law_default as law_address_default, law_equality as law_address_equality,
-    law_numbers as law_address_numbers,
+    law_looks as law_address_looks, law_numbers as law_address_numbers,
 };
 pub use npr_base::laws::{
     law_canonical, law_constants as law_framing_constants, law_cut as law_cut_in_two,
     law_default as law_family_default, law_equality as law_framing_equality, law_family_number,
-    law_one_reading, law_read_back, law_walk,
+    law_looks, law_one_reading, law_read_back, law_walk,
 };
 use npr_route::RouteAttribute;
 pub use npr_route::laws::{
     law_constants as law_route_constants, law_default as law_route_default,
-    law_equality as law_route_equality, law_governing_type, law_newer, law_next_hops,
+    law_equality as law_route_equality, law_governing_type, law_looks as law_route_looks,
+    law_next_hops, law_normalized,
 };
 use npr_rule::RuleAttribute;
 pub use npr_rule::laws::{
     law_default as law_rule_default, law_equality as law_rule_equality,
-    law_numbers as law_rule_numbers, law_rule_flags,
+    law_looks as law_rule_looks, law_numbers as law_rule_numbers, law_rule_flags,
 };
 pub use npr_scalar::laws::{
     law_default as law_value_default, law_equality as law_value_equality, law_label_number,

@@ -12,6 +12,7 @@ pub mod family;
 pub mod framing;
 mod kind;
 pub mod laws;
+mod message;
 pub mod net;
 pub mod numbers;
 pub mod route;
@@ -19,5 +20,9 @@ pub mod rule;
 
 pub use bitflags::Flags;
 pub use kind::MessageKind;
+pub use message::{Action, MessageType, OtherMessage, RouteNetlinkMessage};
 pub use npr_base::AddressFamily;
 pub use npr_scalar::IpProtocol;
+
+#[cfg(test)]
+mod tests;

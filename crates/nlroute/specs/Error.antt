@@ -34,8 +34,9 @@ abbrev pub unwritten : WriteError → RunError
 unwritten Unwritten.OutOfMemory = Memory
 unwritten (Unwritten.Unfit cause) = Unfit cause
 
--- how a run can end by the message alone, or for want of memory
+-- how a run can end by the message alone, or for want of memory, which is no refusal
 abbrev pub IsOfMessage : RunError → Type 0
+IsOfMessage (Refused OutOfMemory) = ⊥
 IsOfMessage BadHex = ⊥
 IsOfMessage Read = ⊥
 IsOfMessage Write = ⊥

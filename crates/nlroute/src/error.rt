@@ -1,6 +1,7 @@
 //! How a run ends that does not print a report.
 
 ghost use Rattle.std.specs.Prelude.{◌≡◌, ◌++◌};
+ghost use Rattle.netlink_packet_route.specs.Equality.{IsEquality};
 ghost use Rattle.nlroute.specs.{
   declared.error.RunError.TheVariants.{Memory},
   Error.{line_of, refusal_of, status_of, unwritten},
@@ -92,3 +93,8 @@ impl<T: Drop> From<AllocFailed<T>> for RunError {
         RunError::Memory
     }
 }
+
+/// `==` answers whether two are equal.
+pub fn law_equality()
+    ensures { IsEquality ⟦<RunError as PartialEq>⟧.eq }
+{}

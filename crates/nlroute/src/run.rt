@@ -45,6 +45,7 @@ pub fn run<R: Read, W: Write>(
 ) -> Result<(), RunError>
     ensures ok { OnOk result (Reports kind (R.remaining reader.old.inner)
         (W.contents writer.old.inner) (W.contents writer.new.inner)) }
+    ensures never { result ≢ Err (Refused OutOfMemory) }
     ensures bad { result ≡ Err BadHex → IfSome (R.remaining reader.old.inner) IsNoHexText }
     ensures end { result ≢ Err ReadFailed → result ≢ Err Memory → IsAtEnd (R.remaining reader.new.inner) }
     ensures memory { result ≡ Err Memory → SomethingLeft (R.remaining reader.old.inner) }

@@ -10,8 +10,8 @@ use Rattle.npr_base.specs.Codec.{exactly, leading}
 use Rattle.npr_base.specs.IpCodec.{ip}
 use Rattle.npr_base.specs.Name.{name}
 use Rattle.npr_base.specs.Table.{Writing, Reading, table_of, Row, row, Held, held, held_other, held_kind, held_value, held_misfit, held-reads, IsHeld}
-use Rattle.npr_base.specs.Table.{item_of, placed, IsOther, Aligned, ReadsAt}
-use Rattle.npr_base.specs.TableLaws.{flat, other-back}
+use Rattle.npr_base.specs.Table.{item_of, writing_by, IsOther, Aligned, ReadsAt}
+use Rattle.npr_base.specs.TableLaws.{table_family, other-back}
 use Rattle.npr_address.specs.AddressFlags.{address_flags}
 use Rattle.npr_address.specs.AddressProtocol.{protocol as address_protocol}
 use Rattle.npr_address.specs.CacheInfo.{cache_info}
@@ -73,40 +73,40 @@ rows =
     ∷ []
 
 -- where each meaning stands in it
-abbrev pub place : Meaning → Held
-place (address a) = held 1 ip a
-place (local a) = held 2 ip a
-place (label s) = held 3 name s
-place (broadcast a) = held 4 (exactly (octets 4)) a
-place (anycast a) = held 5 (exactly (octets 16)) a
-place (info c) = held 6 (leading cache_info) c
-place (multicast a) = held 7 (exactly (octets 16)) a
-place (flags f) = held 8 (exactly address_flags) f
-place (route_priority n) = held 9 (exactly le32) n
-place (target_net_ns_id n) = held 10 (exactly signed32) n
-place (protocol p) = held 11 (exactly address_protocol) p
-place (other x) = held_other x
+abbrev pub held_of : Meaning → Held
+held_of (address a) = held 1 ip a
+held_of (local a) = held 2 ip a
+held_of (label s) = held 3 name s
+held_of (broadcast a) = held 4 (exactly (octets 4)) a
+held_of (anycast a) = held 5 (exactly (octets 16)) a
+held_of (info c) = held 6 (leading cache_info) c
+held_of (multicast a) = held 7 (exactly (octets 16)) a
+held_of (flags f) = held 8 (exactly address_flags) f
+held_of (route_priority n) = held 9 (exactly le32) n
+held_of (target_net_ns_id n) = held 10 (exactly signed32) n
+held_of (protocol p) = held 11 (exactly address_protocol) p
+held_of (other x) = held_other x
 
 -- what can be read
 abbrev pub Coherent : Meaning → Type 0
 Coherent (other x) = IsOther rows x
-Coherent m = IsHeld (place m)
+Coherent m = IsHeld (held_of m)
 
-pub aligned : Aligned (λ m. item_of (place m)) Coherent rows
+pub aligned : Aligned (λ m. item_of (held_of m)) Coherent rows
 aligned = search rules
 
-pub kinds : (m : Meaning) → Coherent m → held_kind (place m) < 2 ^ 16
+pub kinds : (m : Meaning) → Coherent m → held_kind (held_of m) < 2 ^ 16
 kinds (other x) c = c.proper.kind
 kinds m c = omega arith
 
-pub back : (m : Meaning) → Coherent m → held_misfit (place m) ≡ None → ReadsAt other rows (number_of (item_of (place m)).kind) (item_of (place m)) m
+pub back : (m : Meaning) → Coherent m → held_misfit (held_of m) ≡ None → ReadsAt other rows (number_of (item_of (held_of m)).kind) (item_of (held_of m)) m
 back (other x) c fits = other-back other rows (number_of x.kind) x c.alone
-back m c fits = (held_value (place m), held-reads (place m) c fits, refl)
+back m c fits = (held_value (held_of m), held-reads (held_of m) c fits, refl)
 
 -- how each is written
 abbrev pub writing : Writing Meaning
-writing = placed place
+writing = writing_by held_of
 
 -- the family
 abbrev pub attributes : Reading writing
-attributes = flat (table_of rows other place Coherent aligned (λ x. refl) (λ x is. is) kinds back)
+attributes = table_family (table_of rows other held_of Coherent aligned (λ x. refl) (λ x is. is) kinds back)

@@ -3,7 +3,7 @@ use Rattle.std.specs.Prelude.{ℕ, List, Option}
 use Rattle.npr_base.specs.declared.refusal.DecodeError.{DecodeError}
 use Rattle.npr_base.specs.declared.refusal.EmitError.{EmitError}
 use Rattle.npr_base.specs.declared.message.Message.{Message as Stored}
-use Rattle.npr_base.specs.Message.{Message, Body, view, attributes_of, IsMessage, MessageFault, IsCoherent, spelling, message_misfit}
+use Rattle.npr_base.specs.Message.{Message, Body, view, body_of, IsMessage, MessageFault, IsCoherent, spelling, message_misfit}
 use Rattle.npr_address.specs.Attribute.{Meaning, meaning_of, writing, attributes}
 use Rattle.npr_address.specs.Header.{header}
 use Rattle.npr_address.specs.declared.header.AddressHeader.{AddressHeader}
@@ -20,7 +20,7 @@ abbrev pub message_of : AddressMessage → Address
 message_of m = view meaning_of m
 
 abbrev pub body : Body AddressHeader writing
-body = attributes_of attributes
+body = body_of attributes
 
 -- the bytes are the message
 abbrev pub IsAddressMessage : List ℕ → Address → Type 0

@@ -13,6 +13,9 @@ use crate::header::AddressHeader;
 use npr_base::{DecodeError, Header, Looks, Message, parse_list};
 use std::alloc::Global;
 
+/// The bytes of `struct ifaddrmsg` of `linux/if_addr.h`.
+const IFADDRMSG_SIZE: usize = 8;
+
 /// An address message: a header of 8 bytes, and attributes to the end.
 pub type AddressMessage = Message<AddressHeader, AddressAttribute>;
 
@@ -38,7 +41,7 @@ impl Header for AddressHeader {
     ghost meanings_are = { λ xs ys e. e };
 
     fn size() -> usize {
-        8
+        IFADDRMSG_SIZE
     }
 
     #[inline]

@@ -3,10 +3,11 @@ pub mod Writing
 pub mod Checking
 pub mod Lists
 pub mod Looking
+pub mod LookBounds
 pub mod Names
 pub mod Messages
 pub mod Mapped
 pub mod WalkLaws
 pub mod V6Lists
 pub mod Texts
-pub mod RenewLaws
+pub mod NormalizedLaws

@@ -5,11 +5,14 @@ use Rattle.std.proofs.Common.{◌≡◌, ℕ, ◌*◌, ◌-◌, ◌≤◌, List,
 use Rattle.std.proofs.lemmas.List.{take-append-drop, take_at, drop_at}
 use Rattle.npr_base.specs.declared.refusal.DecodeError.{DecodeError}
 use Rattle.npr_base.specs.declared.refusal.DecodeError.TheVariants.{OutOfMemory}
+use Rattle.npr_base.specs.Counts.{Counts, no_looks}
 use Rattle.npr_base.specs.Framing.{IsBytes}
 use Rattle.npr_base.specs.Family.{first_unfit, overlong, encodings}
 use Rattle.npr_base.specs.ListLaws.{none_both, IsBytes-left, IsBytes-right}
 use Rattle.npr_base.specs.Layout.{Layout}
-use Rattle.npr_base.specs.Message.{Message, Body, IsMessage, MessageFault, IsCoherent, spelling, message_misfit, view}
+use Rattle.npr_base.specs.Looks.{Adds}
+use Rattle.npr_base.specs.LooksLaws.{raised-none}
+use Rattle.npr_base.specs.Message.{Message, Body, IsMessage, MessageFault, MessageLooks, IsCoherent, spelling, message_misfit, view}
 use Rattle.npr_base.specs.declared.message.Message.{Message as Stored}
 use Rattle.npr_base.specs.Equality.{IsEquality, IsEqualityOf}
 use Rattle.npr_base.specs.MeaningLaws.{items_meaning}
@@ -20,10 +23,10 @@ same_message : {H M : Type 0} (m : Message H M) (h : H) (xs : List M) → m.head
 same_message {H} {M} m h xs p q = ap (λ (k : H). record { header = k; attributes = m.attributes }) p ∙ ap (λ (ys : List M). record { header = h; attributes = ys }) q
 
 module _ {H M : Type 0} {w : Writing M} (L : Layout H) (B : Body H w) where
-  front_is : (bytes front rest : List ℕ) → bytes ≡ front ++ rest → length front ≡ L.size → (front ≡ take L.size bytes) × (rest ≡ drop L.size bytes)
+  pub front_is : (bytes front rest : List ℕ) → bytes ≡ front ++ rest → length front ≡ L.size → (front ≡ take L.size bytes) × (rest ≡ drop L.size bytes)
   front_is bytes front rest is size = (sym (ap (take L.size) is ∙ take_at front rest L.size size), sym (ap (drop L.size) is ∙ drop_at front rest L.size size))
 
-  header_is : (bytes : List ℕ) (m : Message H M) → IsMessage L B bytes m → m.header ≡ L.decode (take L.size bytes)
+  pub header_is : (bytes : List ℕ) (m : Message H M) → IsMessage L B bytes m → m.header ≡ L.decode (take L.size bytes)
   unfolding IsMessage
   header_is bytes m p = p.header ∙ ap L.decode (front_is bytes p.front p.rest p.is p.size).0
 
@@ -45,6 +48,31 @@ module _ {H M : Type 0} {w : Writing M} (L : Layout H) (B : Body H w) where
   pub fault_after : (bytes : List ℕ) (h : H) (e : DecodeError) → L.size ≤ length bytes → h ≡ L.decode (take L.size bytes) → B.Faulty h (drop L.size bytes) e → MessageFault L B bytes e
   unfolding MessageFault
   fault_after bytes h e long header bad = inr (take L.size bytes, drop L.size bytes, sym (take-append-drop L.size bytes), omega (arith, length-take L.size bytes), subst (λ (k : H). B.Faulty k (drop L.size bytes) e) header bad)
+
+  -- the looks behind the header
+  pub looks_after : (bytes : List ℕ) (h : H) (old new : Counts) → L.size ≤ length bytes → h ≡ L.decode (take L.size bytes) → (B.looks h).Takes (drop L.size bytes) old new
+      → MessageLooks L B bytes old new
+  unfolding MessageLooks
+  looks_after bytes h old new long header looks = inr (take L.size bytes, drop L.size bytes, sym (take-append-drop L.size bytes), omega (arith, length-take L.size bytes), subst (λ (k : H). (B.looks k).Takes (drop L.size bytes) old new) header looks)
+
+  pub message-looks-one : (bytes : List ℕ) (old new other : Counts) → MessageLooks L B bytes old new → MessageLooks L B bytes old other → new ≡ other
+  unfolding MessageLooks
+  message-looks-one bytes old new other (inl (short, p)) (inl (low, q)) = p ∙ sym q
+  message-looks-one bytes old new other (inl (short, p)) (inr (front, rest, is, size, t)) = absurd (omega (arith, short, ap length is, length-append front rest, size))
+  message-looks-one bytes old new other (inr (front, rest, is, size, t)) (inl (short, p)) = absurd (omega (arith, short, ap length is, length-append front rest, size))
+  message-looks-one bytes old new other (inr (front, rest, is, size, t)) (inr (head, tail, js, long, u)) =
+      let p = front_is bytes front rest is size in
+      let q = front_is bytes head tail js long in
+      let h : L.decode head ≡ L.decode front = ap L.decode (q.0 ∙ sym p.0) in
+      (B.looks (L.decode front)).one rest old new other t
+      (subst (λ (k : H). (B.looks k).Takes rest old other) h (subst (λ (b : List ℕ). (B.looks (L.decode head)).Takes b old other) (q.1 ∙ sym p.1) u))
+
+  pub message-looks-add : (bytes : List ℕ) (old new : Counts) → MessageLooks L B bytes old new → Adds (MessageLooks L B bytes) old new
+  unfolding MessageLooks
+  message-looks-add bytes old new (inl (short, p)) = record { number = no_looks; is = p ∙ sym (raised-none old); alike = λ c. inl (short, raised-none c) }
+  message-looks-add bytes old new (inr (front, rest, is, size, t)) =
+      let a = (B.looks (L.decode front)).adds rest old new t in
+      record { number = a.number; is = a.is; alike = λ c. inr (front, rest, is, size, a.alike c) }
 
   pub message-one : (bytes : List ℕ) (m n : Message H M) → IsMessage L B bytes m → IsMessage L B bytes n → m ≡ n
   unfolding IsMessage

@@ -18,6 +18,13 @@ hit c = record { successful = one_more c.successful; failed = c.failed }
 abbrev pub miss : Counts → Counts
 miss c = record { successful = c.successful; failed = one_more c.failed }
 
+-- so many more, as far as the greatest u64 leaves room for them
+abbrev pub raised : Counts → Counts → Counts
+raised more c = record {
+  successful = c.successful + min more.successful (2 ^ 64 - 1 - c.successful);
+  failed = c.failed + min more.failed (2 ^ 64 - 1 - c.failed);
+}
+
 -- the looks that the reading of so many bytes may add: two for four bytes, since a list of route
 -- attributes is looked through once for its encapsulation type and once to be read
 abbrev pub most_successful : ℕ → ℕ

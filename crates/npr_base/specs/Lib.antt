@@ -4,8 +4,11 @@ pub mod Framing
 pub mod Walk
 pub mod Family
 pub mod FitLaws
+pub mod Found
 pub mod FrontLaws
 pub mod ListLaws
+pub mod Looks
+pub mod LooksLaws
 pub mod Name
 pub mod NameLaws
 pub mod Table

@@ -1,6 +1,6 @@
 -- What a derived `==` of an enum answers where its values mean something else, as a vector means the list of its
 -- items: one fact a variant, and none for a pair of variants.
---     enum_meaning       it answers whether two values mean the same; `place` numbers the meanings' variants in their order
+--     enum_meaning       it answers whether two values mean the same; `order` numbers the meanings' variants in their order
 --     enum_meaning_at    the same of a type that holds itself
 --     one_meaning, one_meaning_by      the fact for a variant of one field
 --     text_equality      of a text, by its bytes
@@ -27,28 +27,28 @@ infixr 2 ◌also◌
 abbrev pub ◌also◌ : {A B : Type 0} → A → B → A × B
 x also y = (x, y)
 
-module _ {M : Type 0} (place : M → ℕ) (t : M) where
-  -- from the n-th variant on: what a variant means has the variant's place, and where it means t, the variant's
+module _ {M : Type 0} (order : M → ℕ) (t : M) where
+  -- from the n-th variant on: what a variant means has the variant's order, and where it means t, the variant's
   -- answer is whether two values of it mean the same
   abbrev pub MeaningsDecide : (Fss : List (List Field)) → (Choice Fss → M) → Each Bool Fss → ℕ → Type 0
   MeaningsDecide [] meaning tests n = ⊤
   MeaningsDecide (Fs ∷ Fss) meaning tests n =
-      (((x : Values Fs) → place (meaning (inl x)) ≡ n)
+      (((x : Values Fs) → order (meaning (inl x)) ≡ n)
       × ((x y : Values Fs) → meaning (inl x) ≡ t
       → Decides (tests.0 x y) (meaning (inl x) ≡ meaning (inl y)))) × MeaningsDecide Fss (λ c. meaning (inr c)) tests.1 (n + 1)
 
-  later_place : (Fss : List (List Field)) (meaning : Choice Fss → M) (tests : Each Bool Fss) (n : ℕ) → MeaningsDecide Fss meaning tests n → (c : Choice Fss)
-      → n ≤ place (meaning c)
-  later_place [] meaning tests n all c = absurd c
-  later_place (Fs ∷ Fss) meaning tests n all (inl x) = let e = all.0.0 x in omega arith
-  later_place (Fs ∷ Fss) meaning tests n all (inr c) = let h = later_place Fss (λ d. meaning (inr d)) tests.1 (n + 1) all.1 c in omega arith
+  later_order : (Fss : List (List Field)) (meaning : Choice Fss → M) (tests : Each Bool Fss) (n : ℕ) → MeaningsDecide Fss meaning tests n → (c : Choice Fss)
+      → n ≤ order (meaning c)
+  later_order [] meaning tests n all c = absurd c
+  later_order (Fs ∷ Fss) meaning tests n all (inl x) = let e = all.0.0 x in omega arith
+  later_order (Fs ∷ Fss) meaning tests n all (inr c) = let h = later_order Fss (λ d. meaning (inr d)) tests.1 (n + 1) all.1 c in omega arith
 
   apart : (Fs : List Field) (Fss : List (List Field)) (meaning : Choice (Fs ∷ Fss) → M) (tests : Each Bool (Fs ∷ Fss)) (n : ℕ)
       → MeaningsDecide (Fs ∷ Fss) meaning tests n → (x : Values Fs) (c : Choice Fss) → meaning (inl x) ≡ meaning (inr c) → ⊥
   apart Fs Fss meaning tests n all x c e =
       let here = all.0.0 x in
-      let later = later_place Fss (λ d. meaning (inr d)) tests.1 (n + 1) all.1 c in
-      let same = ap place e in
+      let later = later_order Fss (λ d. meaning (inr d)) tests.1 (n + 1) all.1 c in
+      let same = ap order e in
       omega arith
 
   choices_meaning : (Fss : List (List Field)) (meaning : Choice Fss → M) (tests : Each Bool Fss) (n : ℕ) → MeaningsDecide Fss meaning tests n
@@ -70,10 +70,10 @@ module _ {M : Type 0} (place : M → ℕ) (t : M) where
       (λ e. sym p ∙ h.0 e ∙ q, λ e. h.1 (p ∙ e ∙ sym q))
 
 -- N is `enum` of the type's module in `specs.contracts`
-pub enum_meaning : {M : Type 0} (place : M → ℕ) (N : Record) (meaning : N.D → M) (tests : Each Bool N.parts)
-    → ((t : M) → MeaningsDecide place t N.parts (λ c. meaning (N.make c)) tests 0) → (a b : N.D)
+pub enum_meaning : {M : Type 0} (order : M → ℕ) (N : Record) (meaning : N.D → M) (tests : Each Bool N.parts)
+    → ((t : M) → MeaningsDecide order t N.parts (λ c. meaning (N.make c)) tests 0) → (a b : N.D)
     → Decides (by false false N.parts tests (N.as_values a) (N.as_values b)) (meaning a ≡ meaning b)
-enum_meaning place N meaning tests all a b = enum_meaning_at place (meaning a) N meaning tests (all (meaning a)) a b refl
+enum_meaning order N meaning tests all a b = enum_meaning_at order (meaning a) N meaning tests (all (meaning a)) a b refl
 
 module _ {A B M : Type 0} {test : A → A → Bool} (view : A → B) (made : B → M) where
   -- a variant of one field, whose meaning is a constructor of the field's: `λ p q e. cc` shows that the constructor is one to one

@@ -7,6 +7,9 @@ use Rattle.npr_base.specs.Framing.{IsBytes}
 use Rattle.npr_base.specs.Family.{AllOf, ReadsList, FirstFault, encodings, first_unfit, option_or, overlong}
 use Rattle.npr_base.specs.ListLaws.{ReadsList-one, FirstFault-excludes, ReadsList-known, encodings-read, ReadsList-grows}
 use Rattle.npr_base.specs.Layout.{Layout}
+use Rattle.npr_base.specs.Looks.{Looking}
+use Rattle.npr_base.specs.LooksLaws.{list_looking}
+use Rattle.npr_base.specs.Counts.{Counts}
 use Rattle.npr_base.specs.Table.{Writing, Reading, fits-small}
 use Rattle.npr_base.specs.declared.message.Message.{Message as Stored}
 use Rattle.std.proofs.Common.{arith}
@@ -19,10 +22,11 @@ pub record Message (H M : Type 0) : Type 0 where
 abbrev pub view : {H A M : Type 0} → (A → M) → Stored H A → Message H M
 view meaning m = record { header = m.header; attributes = map meaning m.attributes.items }
 
--- what the bytes after a header mean, where attributes are written so, with the laws of both
+-- what the bytes after a header mean, where attributes are written so, and the looks that reading them takes, with the laws of all
 pub record Body (H : Type 0) {M : Type 0} (w : Writing M) : Type 1 where
   pub Reads : H → List ℕ → List M → Type 0
   pub Faulty : H → List ℕ → DecodeError → Type 0
+  pub looks : H → Looking (List ℕ)
   pub Coherent : H → List M → Type 0
   pub one_reading : (h : H) (bytes : List ℕ) (xs ys : List M) → Reads h bytes xs → Reads h bytes ys → xs ≡ ys
   pub no_fault : (h : H) (bytes : List ℕ) (xs : List M) (e : DecodeError) → Reads h bytes xs → Faulty h bytes e → ⊥
@@ -34,10 +38,11 @@ pub record Body (H : Type 0) {M : Type 0} (w : Writing M) : Type 1 where
   pub deep : (h : H) (bytes : List ℕ) (xs : List M) → Reads h bytes xs → 12 * depth xs ≤ length bytes
 
 -- attributes of one family, whatever the header says
-abbrev pub attributes_of : {H M : Type 0} {w : Writing M} → Reading w → Body H w
-attributes_of {H} {M} {w} f = record {
+abbrev pub body_of : {H M : Type 0} {w : Writing M} → Reading w → Body H w
+body_of {H} {M} {w} f = record {
   Reads = λ h bytes xs. ReadsList f.Reads bytes xs;
   Faulty = λ h bytes e. FirstFault f.Reads f.Faulty bytes e;
+  looks = λ h. list_looking f;
   Coherent = λ h xs. AllOf f.Coherent xs;
   one_reading = λ h bytes xs ys p q. ReadsList-one f.Reads f.one_reading bytes xs ys p q;
   no_fault = λ h bytes xs e p q. FirstFault-excludes f.Reads f.Faulty f.no_fault bytes e xs q p;
@@ -65,6 +70,12 @@ unfoldable pub MessageFault : {H M : Type 0} {w : Writing M} → Layout H → Bo
 MessageFault L B bytes e =
     ((length bytes < L.size) × (e ≡ HeaderTooShort (length bytes) L.size))
     ⊎ ((front : List ℕ) × (rest : List ℕ) × (bytes ≡ front ++ rest) × (length front ≡ L.size) × B.Faulty (L.decode front) rest e)
+
+-- the looks at the headers behind that of a message: none where there are too few bytes for it
+unfoldable pub MessageLooks : {H M : Type 0} {w : Writing M} → Layout H → Body H w → List ℕ → Counts → Counts → Type 0
+MessageLooks L B bytes old new =
+    ((length bytes < L.size) × (new ≡ old))
+    ⊎ ((front : List ℕ) × (rest : List ℕ) × (bytes ≡ front ++ rest) × (length front ≡ L.size) × (B.looks (L.decode front)).Takes rest old new)
 
 pub record IsCoherentOf {H M : Type 0} (L : Layout H) (Coherent : H → List M → Type 0) (m : Message H M) : Type 0 where
   pub header : L.Holds m.header

@@ -6,6 +6,7 @@ use Rattle.npr_base.specs.declared.refusal.DecodeError.{DecodeError}
 use Rattle.npr_base.specs.declared.refusal.EmitError.{EmitError}
 use Rattle.npr_base.specs.Framing.{Item, Small, Proper, framed, marked, number_of, written}
 use Rattle.npr_base.specs.Codec.{Codec, raw}
+use Rattle.npr_base.specs.Looks.{Looking}
 
 -- what is written of a value as an attribute: its kind and value, whether NESTED is set in the kind besides, and why there
 -- is none, if so. What fits is short.
@@ -33,10 +34,11 @@ pub record Writing (M : Type 0) : Type 0 where
 abbrev pub shape_by : {M : Type 0} → Writing M → M → Shape
 shape_by w m = record { item = w.writes m; nested = false; misfit = w.misfit m; short = w.short m }
 
--- a family: what attributes mean that are written so, with the laws of both
+-- a family: what attributes mean that are written so, and the looks that reading their values takes, with the laws of all
 pub record Reading {M : Type 0} (w : Writing M) : Type 1 where
   pub Reads : Item → M → Type 0
   pub Faulty : Item → DecodeError → Type 0
+  pub looks : Looking Item
   pub Coherent : M → Type 0
   pub one_reading : (x : Item) (m n : M) → Reads x m → Reads x n → m ≡ n
   pub no_fault : (x : Item) (m : M) (e : DecodeError) → Reads x m → Faulty x e → ⊥
@@ -60,20 +62,20 @@ abbrev pub row : {M V : Type 0} → At → Codec V → (V → M) → Row M
 row {M} {V} at codec variant = record { at = at; V = V; codec = codec; variant = variant }
 
 -- what bytes mean by a row, and why they mean nothing
-abbrev pub ReadsBy : {M : Type 0} → Row M → List ℕ → M → Type 0
-ReadsBy r bytes m = (v : r.V) × r.codec.Reads bytes v × (m ≡ r.variant v)
+abbrev pub RowReads : {M : Type 0} → Row M → List ℕ → M → Type 0
+RowReads r bytes m = (v : r.V) × r.codec.Reads bytes v × (m ≡ r.variant v)
 
-abbrev pub WrongBy : {M : Type 0} → Row M → List ℕ → DecodeError → Type 0
-WrongBy r bytes e = r.codec.Wrong r.at bytes e
+abbrev pub RowWrong : {M : Type 0} → Row M → List ℕ → DecodeError → Type 0
+RowWrong r bytes e = r.codec.Wrong r.at bytes e
 
 -- what an attribute of the number k means: the variant of its row, or else itself
 abbrev pub ReadsAt : {M : Type 0} → (Item → M) → List (Row M) → ℕ → Item → M → Type 0
 ReadsAt other [] k x m = m ≡ other x
-ReadsAt other (r ∷ rows) k x m = MatchBool (k == r.at.kind) (ReadsBy r x.value m) (ReadsAt other rows k x m)
+ReadsAt other (r ∷ rows) k x m = MatchBool (k == r.at.kind) (RowReads r x.value m) (ReadsAt other rows k x m)
 
 abbrev pub WrongAt : {M : Type 0} → List (Row M) → ℕ → Item → DecodeError → Type 0
 WrongAt [] k x e = ⊥
-WrongAt (r ∷ rows) k x e = MatchBool (k == r.at.kind) (WrongBy r x.value e) (WrongAt rows k x e)
+WrongAt (r ∷ rows) k x e = MatchBool (k == r.at.kind) (RowWrong r x.value e) (WrongAt rows k x e)
 
 -- the number has a row
 abbrev pub has_row : {M : Type 0} → List (Row M) → ℕ → Bool
@@ -143,13 +145,13 @@ abbrev pub shape_at : Held → Shape
 shape_at h = record { item = plain_item h; nested = held_nested h; misfit = held_misfit h; short = held-short h }
 
 -- meanings are written each from its place
-abbrev pub placed : {M : Type 0} → (M → Held) → Writing M
-placed place =
+abbrev pub writing_by : {M : Type 0} → (M → Held) → Writing M
+writing_by held_of =
     record {
-      writes = λ m. item_of (place m);
-      misfit = λ m. held_misfit (place m);
-      members = λ m. held_members (place m);
-      short = λ m h. held-short (place m) h;
+      writes = λ m. item_of (held_of m);
+      misfit = λ m. held_misfit (held_of m);
+      members = λ m. held_members (held_of m);
+      short = λ m h. held-short (held_of m) h;
     }
 
 -- each row's variant is written by that row, and is coherent where the row can hold its value
@@ -162,23 +164,23 @@ Aligned writes Coherent (r ∷ rows) =
 pub record Table (M : Type 0) : Type 1 where
   pub rows : List (Row M)
   pub other : Item → M
-  pub place : M → Held
+  pub held_of : M → Held
   pub Coherent : M → Type 0
-  pub aligned : Aligned (λ m. item_of (place m)) Coherent rows
-  pub other_is : (x : Item) → item_of (place (other x)) ≡ x
+  pub aligned : Aligned (λ m. item_of (held_of m)) Coherent rows
+  pub other_is : (x : Item) → item_of (held_of (other x)) ≡ x
   pub other_coherent : (x : Item) → IsOther rows x → Coherent (other x)
-  pub kinds : (m : M) → Coherent m → held_kind (place m) < 2 ^ 16
-  pub back : (m : M) → Coherent m → held_misfit (place m) ≡ None → ReadsAt other rows (number_of (item_of (place m)).kind) (item_of (place m)) m
+  pub kinds : (m : M) → Coherent m → held_kind (held_of m) < 2 ^ 16
+  pub back : (m : M) → Coherent m → held_misfit (held_of m) ≡ None → ReadsAt other rows (number_of (item_of (held_of m)).kind) (item_of (held_of m)) m
 
 -- a table from its parts; where `place` says how what other attributes mean is written, the two laws of `other` hold by themselves
-abbrev pub table_of : {M : Type 0} (rows : List (Row M)) (other : Item → M) (place : M → Held) (Coherent : M → Type 0)
-    → Aligned (λ m. item_of (place m)) Coherent rows → ((x : Item) → item_of (place (other x)) ≡ x) → ((x : Item) → IsOther rows x → Coherent (other x))
-    → ((m : M) → Coherent m → held_kind (place m) < 2 ^ 16)
-    → ((m : M) → Coherent m → held_misfit (place m) ≡ None → ReadsAt other rows (number_of (item_of (place m)).kind) (item_of (place m)) m) → Table M
-table_of rows other place Coherent aligned other_is other_coherent kinds back = record {
+abbrev pub table_of : {M : Type 0} (rows : List (Row M)) (other : Item → M) (held_of : M → Held) (Coherent : M → Type 0)
+    → Aligned (λ m. item_of (held_of m)) Coherent rows → ((x : Item) → item_of (held_of (other x)) ≡ x) → ((x : Item) → IsOther rows x → Coherent (other x))
+    → ((m : M) → Coherent m → held_kind (held_of m) < 2 ^ 16)
+    → ((m : M) → Coherent m → held_misfit (held_of m) ≡ None → ReadsAt other rows (number_of (item_of (held_of m)).kind) (item_of (held_of m)) m) → Table M
+table_of rows other held_of Coherent aligned other_is other_coherent kinds back = record {
   rows = rows;
   other = other;
-  place = place;
+  held_of = held_of;
   Coherent = Coherent;
   aligned = aligned;
   other_is = other_is;

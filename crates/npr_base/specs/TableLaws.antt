@@ -5,10 +5,13 @@ use Rattle.std.proofs.Common.{◌≡◌, ℕ, ◌+◌, ◌*◌, ◌<◌, ◌≤�
 use Rattle.npr_base.specs.declared.refusal.DecodeError.{DecodeError}
 use Rattle.npr_base.specs.Framing.{Item, IsBytes, framed, marked, number_of}
 use Rattle.npr_base.specs.CodecLaws.{framed-grows}
-use Rattle.npr_base.specs.Table.{Reading, Row, ReadsAt, WrongAt, has_row, item_of, held_kind, held_nested, placed, Aligned, Table}
+use Rattle.npr_base.specs.Counts.{Counts}
+use Rattle.npr_base.specs.Looks.{Adds, Looking, LooksAt}
+use Rattle.npr_base.specs.LooksLaws.{no_looking}
+use Rattle.npr_base.specs.Table.{Writing, Reading, Row, ReadsAt, WrongAt, has_row, item_of, held_kind, held_nested, writing_by, Aligned, Table}
 
 -- two facts on the same test
-both : {P Q S T R : Type 0} (b : Bool) → (P → S → R) → (Q → T → R) → MatchBool b P Q → MatchBool b S T → R
+pub both : {P Q S T R : Type 0} (b : Bool) → (P → S → R) → (Q → T → R) → MatchBool b P Q → MatchBool b S T → R
 both true f g p q = f p q
 both false f g p q = g p q
 
@@ -16,34 +19,34 @@ pub one_of : {P Q R : Type 0} (b : Bool) → (b ≡ true → P → R) → (b ≡
 one_of true f g p = f refl p
 one_of false f g p = g refl p
 
-pub flat-one : {M : Type 0} (other : Item → M) (rows : List (Row M)) (k : ℕ) (x : Item) (m n : M) → ReadsAt other rows k x m → ReadsAt other rows k x n → m ≡ n
-flat-one other [] k x m n p q = p ∙ sym q
-flat-one other (r ∷ rows) k x m n p q = both (k == r.at.kind)
+pub table-one : {M : Type 0} (other : Item → M) (rows : List (Row M)) (k : ℕ) (x : Item) (m n : M) → ReadsAt other rows k x m → ReadsAt other rows k x n → m ≡ n
+table-one other [] k x m n p q = p ∙ sym q
+table-one other (r ∷ rows) k x m n p q = both (k == r.at.kind)
     (λ a b. a.2 ∙ ap r.variant (r.codec.one_reading x.value a.0 b.0 a.1 b.1) ∙ sym b.2)
-    (flat-one other rows k x m n) p q
+    (table-one other rows k x m n) p q
 
-pub flat-sound : {M : Type 0} (other : Item → M) (rows : List (Row M)) (k : ℕ) (x : Item) (m : M) (e : DecodeError) → ReadsAt other rows k x m
+pub table-sound : {M : Type 0} (other : Item → M) (rows : List (Row M)) (k : ℕ) (x : Item) (m : M) (e : DecodeError) → ReadsAt other rows k x m
     → WrongAt rows k x e → ⊥
-flat-sound other [] k x m e p q = q
-flat-sound other (r ∷ rows) k x m e p q = both (k == r.at.kind) (λ a b. r.codec.no_fault r.at x.value a.0 e a.1 b) (flat-sound other rows k x m e) p q
+table-sound other [] k x m e p q = q
+table-sound other (r ∷ rows) k x m e p q = both (k == r.at.kind) (λ a b. r.codec.no_fault r.at x.value a.0 e a.1 b) (table-sound other rows k x m e) p q
 
-pub flat-coherent : {M : Type 0} (other : Item → M) (writes : M → Item) (Coherent : M → Type 0) (rows : List (Row M)) → Aligned writes Coherent rows
+pub table-coherent : {M : Type 0} (other : Item → M) (writes : M → Item) (Coherent : M → Type 0) (rows : List (Row M)) → Aligned writes Coherent rows
     → (k : ℕ) (x : Item) → IsBytes x.value → (has_row rows k ≡ false → Coherent (other x)) → (m : M) → ReadsAt other rows k x m → Coherent m
-flat-coherent other writes Coherent [] aligned k x bytes alone m p = subst Coherent (sym p) (alone refl)
-flat-coherent other writes Coherent (r ∷ rows) aligned k x bytes alone m p = one_of (k == r.at.kind)
+table-coherent other writes Coherent [] aligned k x bytes alone m p = subst Coherent (sym p) (alone refl)
+table-coherent other writes Coherent (r ∷ rows) aligned k x bytes alone m p = one_of (k == r.at.kind)
     (λ e a. subst Coherent (sym a.2) ((aligned.0 a.0).1 (r.codec.reads_holds x.value a.0 bytes a.1)))
-    (λ e a. flat-coherent other writes Coherent rows aligned.1 k x bytes (λ h. alone (rw e h)) m a) p
+    (λ e a. table-coherent other writes Coherent rows aligned.1 k x bytes (λ h. alone (rw e h)) m a) p
 
-pub flat-grows : {M : Type 0} (other : Item → M) (writes : M → Item) (Coherent : M → Type 0) (rows : List (Row M)) → Aligned writes Coherent rows
+pub table-grows : {M : Type 0} (other : Item → M) (writes : M → Item) (Coherent : M → Type 0) (rows : List (Row M)) → Aligned writes Coherent rows
     → ((x : Item) → writes (other x) ≡ x)
     → (k : ℕ) (x : Item) → IsBytes x.value → (m : M) → ReadsAt other rows k x m → 2 * framed (length (writes m).value) ≤ 5 * (4 + length x.value)
-flat-grows other writes Coherent [] aligned same k x bytes m p =
+table-grows other writes Coherent [] aligned same k x bytes m p =
     framed-grows (length (writes m).value) (length x.value) (omega (arith, ap (λ n. length (writes n).value) p, ap (λ (y : Item). length y.value) (same x)))
-flat-grows other writes Coherent (r ∷ rows) aligned same k x bytes m p = one_of (k == r.at.kind)
+table-grows other writes Coherent (r ∷ rows) aligned same k x bytes m p = one_of (k == r.at.kind)
     (λ e. λ (a : (v : r.V) × r.codec.Reads x.value v × (m ≡ r.variant v)).
     let v : length (writes m).value ≡ length (r.codec.writes a.0) = ap (λ n. length (writes n).value) a.2 ∙ ap length (aligned.0 a.0).0 in
     rw v (r.codec.grows x.value a.0 bytes a.1))
-    (λ e a. flat-grows other writes Coherent rows aligned.1 same k x bytes m a) p
+    (λ e a. table-grows other writes Coherent rows aligned.1 same k x bytes m a) p
 
 pub marked-small : (b : Bool) (k : ℕ) → k < 2 ^ 16 → marked b k < 2 ^ 16
 marked-small true k h = omega arith
@@ -58,18 +61,38 @@ pub other-back : {M : Type 0} (other : Item → M) (rows : List (Row M)) (k : �
 other-back other [] k x h = refl
 other-back other (r ∷ rows) k x h = not_here (k == r.at.kind) (has_row rows k) h (λ e f. rw e (other-back other rows k x f))
 
-abbrev pub flat : {M : Type 0} → (t : Table M) → Reading (placed t.place)
-flat t = record {
+-- no value of which is a list
+abbrev pub table_family : {M : Type 0} → (t : Table M) → Reading (writing_by t.held_of)
+table_family t = record {
   Reads = λ x m. ReadsAt t.other t.rows (number_of x.kind) x m;
   Faulty = λ x e. WrongAt t.rows (number_of x.kind) x e;
+  looks = no_looking;
   Coherent = t.Coherent;
-  one_reading = λ x m n p q. flat-one t.other t.rows (number_of x.kind) x m n p q;
-  no_fault = λ x m e p q. flat-sound t.other t.rows (number_of x.kind) x m e p q;
+  one_reading = λ x m n p q. table-one t.other t.rows (number_of x.kind) x m n p q;
+  no_fault = λ x m e p q. table-sound t.other t.rows (number_of x.kind) x m e p q;
   reads_coherent =
       λ x m proper p.
       let alone = λ (a : has_row t.rows (number_of x.kind) ≡ false). t.other_coherent x (record { proper = proper; alone = a }) in
-      flat-coherent t.other (λ n. item_of (t.place n)) t.Coherent t.rows t.aligned (number_of x.kind) x proper.value alone m p;
-  kinds = λ m c. marked-small (held_nested (t.place m)) (held_kind (t.place m)) (t.kinds m c);
+      table-coherent t.other (λ n. item_of (t.held_of n)) t.Coherent t.rows t.aligned (number_of x.kind) x proper.value alone m p;
+  kinds = λ m c. marked-small (held_nested (t.held_of m)) (held_kind (t.held_of m)) (t.kinds m c);
   reads_back = λ m c h. t.back m c h;
-  grows = λ x m proper p. flat-grows t.other (λ n. item_of (t.place n)) t.Coherent t.rows t.aligned t.other_is (number_of x.kind) x proper.value m p;
+  grows = λ x m proper p. table-grows t.other (λ n. item_of (t.held_of n)) t.Coherent t.rows t.aligned t.other_is (number_of x.kind) x proper.value m p;
+}
+
+-- some values of which are lists, that take these looks
+abbrev pub holding : {M : Type 0} {w : Writing M} → Looking Item → Reading w → Reading w
+holding looking f = record f { looks = looking }
+
+pub adds-at : (P Q : Counts → Counts → Type 0) (b : Bool) (old new : Counts) → (P old new → Adds P old new) → (Q old new → Adds Q old new)
+    → MatchBool b (P old new) (Q old new) → Adds (λ (s t : Counts). MatchBool b (P s t) (Q s t)) old new
+adds-at P Q true old new f g p = let a = f p in record { number = a.number; is = a.is; alike = a.alike }
+adds-at P Q false old new f g p = let a = g p in record { number = a.number; is = a.is; alike = a.alike }
+
+-- values of one number take these looks, and attributes of other numbers those
+abbrev pub looking_at : ℕ → Looking (List ℕ) → Looking Item → Looking Item
+looking_at number within others = record {
+  Takes = LooksAt number within.Takes others.Takes;
+  one = λ x old new other p q. both (number_of x.kind == number) (within.one x.value old new other) (others.one x old new other) p q;
+  adds = λ x old new p.
+      adds-at (within.Takes x.value) (others.Takes x) (number_of x.kind == number) old new (within.adds x.value old new) (others.adds x old new) p;
 }

@@ -1,6 +1,7 @@
 -- Words of printed texts: parts with a separator between them, bytes and numbers in hexadecimal, and flags that are set.
-use Rattle.std.specs.Prelude.{ℕ, Bool, Option, Some, false, ◌/◌, ◌%◌, ◌-◌, ◌==◌, bit_and, List, [], ◌∷◌, ◌++◌, length, replicate, flat_map}
-use Rattle.std.specs.Fmt.{digits, digit_glyph, option_append}
+use Rattle.std.specs.Prelude.{ℕ, Bool, Option, Some, false, ◌/◌, ◌%◌, ◌-◌, ◌==◌, bit_and, List, [], ◌∷◌, ◌++◌, length, replicate, flat_map, codes, decimal}
+use Rattle.std.specs.Fmt.{digits, digit_glyph, option_append, debug_list, ◌++?◌}
+use Rattle.npr_base.specs.Framing.{Item}
 
 -- each part, with the separator before it; no text is known where that of a part is not
 abbrev pub each_after : {A : Type 0} → List ℕ → (A → Option (List ℕ)) → List A → Option (List ℕ)
@@ -26,3 +27,7 @@ padded_hex_text width n = replicate (width - length (digits 16 false n)) 48 ++ d
 -- whether a set of flags holds one, of one bit or of several
 abbrev pub is_set : ℕ → ℕ → Bool
 is_set bits flag = bit_and bits flag == flag
+
+-- an attribute that is kept as it stands: its kind with both flags, and the bytes of its value, as numbers
+abbrev pub nla_text : Item → Option (List ℕ)
+nla_text x = Some (codes "DefaultNla { kind: " ++ decimal x.kind ++ codes ", value: ") ++? debug_list (λ b. Some (decimal b)) x.value ++? Some (codes " }")

@@ -4,6 +4,7 @@ ghost use Rattle.std.specs.Prelude.{◌≡◌, ◌≢◌, [], ◌∷◌, ◌++�
 ghost use Rattle.npr_base.specs.{
   declared.refusal.DecodeError.TheVariants.{OutOfMemory},
   Counts.{AddsAtMost, SawEach},
+  Looks.{Answered},
   Table.{Writing, Reading, shaped_item},
 };
 
@@ -45,6 +46,7 @@ pub trait Attribute: Nla + Drop {
     ) -> Result<Self, DecodeError>
         ensures ok { IfOk result (λ a. (reading context).Reads item.now (meaning a)) }
         ensures refused { IfErr result (λ e. e ≢ OutOfMemory → (reading context).Faulty item.now e) }
+        ensures exact { Answered result → (reading context).looks.Takes item.now looks.old looks.new }
         ensures bounded { AddsAtMost looks.old looks.new (length (item.now).value) }
         ensures counted { IfOk result (λ a. SawEach looks.old looks.new (writing.members (meaning a))) };
 
@@ -63,6 +65,7 @@ pub trait Attribute: Nla + Drop {
         ensures ok { IfOk result (λ _. (a : Self) × (list.new.items ≡ list.old.items ++ a ∷ []) × (reading context).Reads item.now (meaning a)
             × SawEach looks.old looks.new (writing.members (meaning a))) }
         ensures refused { IfErr result (λ e. e ≢ OutOfMemory → (reading context).Faulty item.now e) }
+        ensures exact { Answered result → (reading context).looks.Takes item.now looks.old looks.new }
         ensures bounded { AddsAtMost looks.old looks.new (length (item.now).value) }
     {
         let attribute = Self::read(alloc, context, item, looks)?;

@@ -5,20 +5,23 @@ ghost use Rattle.std.specs.{
   Cmp.{decided, partial_equiv_from_equiv},
 };
 ghost use Rattle.npr_base.specs.{
-  Framing.{Item, framed},
-  Family.{checked, short_framed, too_long},
+  Framing.{Item},
+  Family.{too_long},
   ViewEquality.{same_item, item_equality},
   FitLaws.{too_long-short},
+  Text.{nla_text},
 };
 
-use crate::framing::{NLA_HEADER_SIZE, NlaBuffer, write_bytes};
+use crate::framing::{NlaBuffer, check_len};
 use crate::refusal::{DecodeError, EmitError};
 use crate::traits::{Nla, Parseable};
+use crate::values::write_bytes;
 use std::alloc::{AllocError, Global};
+use std::fmt;
 use std::marker::Model;
 
 /// An attribute that is kept as it stands: all 16 bits of its kind, and its value.
-#[derive(Debug, Drop)]
+#[derive(Drop)]
 pub struct DefaultNla {
     kind: u16,
     value: Vec<u8>,
@@ -59,6 +62,17 @@ impl DefaultNla {
     }
 }
 
+/// The kind with both flags, and the bytes of the value, as numbers. This is also its part in the
+/// printed text of a list that holds it.
+impl fmt::Debug for DefaultNla {
+    ghost debug_output = { nla_text };
+
+    fn fmt<W: fmt::Write>(&self, f: &mut fmt::Formatter<W>) -> fmt::Result {
+        let value = self.value.as_slice();
+        write!(f, "DefaultNla {{ kind: {}, value: {value:?} }}", self.kind)
+    }
+}
+
 impl PartialEq for DefaultNla {
     ghost eq = { same_item };
 
@@ -84,29 +98,6 @@ impl<'a> Parseable<&'a NlaBuffer<'a>> for DefaultNla {
             value: Vec::from_slice(alloc, input.value())?,
         })
     }
-}
-
-/// The length of an encoding whose value has this length, where 16 bits hold that of header and
-/// value.
-#[inline(always)]
-pub fn framed_len(len: usize) -> Option<usize>
-    ensures { result ≡ short_framed len }
-{
-    if len > 65531 {
-        return None;
-    }
-    Some((NLA_HEADER_SIZE + len).next_multiple_of(4))
-}
-
-/// The length of an encoding whose value has this length.
-///
-/// # Errors
-/// `TooLong` above 65,531 bytes.
-#[inline(always)]
-pub fn check_len(kind: u16, len: usize) -> Result<usize, EmitError>
-    ensures { result ≡ checked (too_long kind len) (framed len) }
-{
-    framed_len(len).ok_or(EmitError::TooLong { kind, len })
 }
 
 impl Nla for DefaultNla {

@@ -8,11 +8,13 @@ ghost use Rattle.std.specs.{
 };
 ghost use Rattle.npr_base.specs.{
   ViewEquality.{same_item, item_equality, same_bytes, bytes_equality},
+  Family.{checked, short_framed, too_long},
   Framing.{Item, Begins, Step, Writes, encoding, framed, looked, marked, number_of},
 };
 
 use crate::looks::Looks;
-use crate::refusal::DecodeError;
+use crate::refusal::{DecodeError, EmitError};
+use crate::values::write_array;
 use std::marker::Model;
 
 /// The flag of a kind that says that the value is a list of attributes (`linux/netlink.h`).
@@ -233,38 +235,27 @@ pub fn marked_kind(kind: u16, nested: bool) -> u16
     }
 }
 
-/// Copies the bytes to the front of the slice, leaves the rest, and answers their length.
-pub fn write_bytes(bytes: &[u8], out: &mut [u8]) -> usize
-    requires { length bytes.now ≤ length out.old }
-    ensures len { result ≡ length bytes.now }
-    ensures after { Writes out.old out.new bytes.now }
-{
-    out[..bytes.len()].copy_from_slice(bytes);
-    bytes.len()
-}
-
-/// Stores an array in a place of its length, which the compiler then has not to ask for.
+/// The length of an encoding whose value has this length, where 16 bits hold that of header and
+/// value.
 #[inline(always)]
-fn store<const N: usize>(bytes: [u8; N], place: &mut [u8])
-    requires { length place.old ≡ N }
-    ensures { place.new ≡ bytes.entry }
+pub fn framed_len(len: usize) -> Option<usize>
+    ensures { result ≡ short_framed len }
 {
-    match place.first_chunk_mut::<N>() {
-        Some(array) => *array = bytes,
-        None => unreachable!(),
+    if len > 65531 {
+        return None;
     }
+    Some((NLA_HEADER_SIZE + len).next_multiple_of(4))
 }
 
-/// Writes an array to the front of the slice, leaves the rest, and answers its length. An array of
-/// known length goes from registers, without a place on the stack that `write_bytes` takes it from.
+/// The length of an encoding whose value has this length.
+///
+/// # Errors
+/// `TooLong` above 65,531 bytes.
 #[inline(always)]
-pub fn write_array<const N: usize>(bytes: [u8; N], out: &mut [u8]) -> usize
-    requires { N ≤ length out.old }
-    ensures len { result ≡ N }
-    ensures after { Writes out.old out.new bytes.entry }
+pub fn check_len(kind: u16, len: usize) -> Result<usize, EmitError>
+    ensures { result ≡ checked (too_long kind len) (framed len) }
 {
-    store(bytes, &mut out[..N]);
-    N
+    framed_len(len).ok_or(EmitError::TooLong { kind, len })
 }
 
 /// Writes so many zeros. They are three at most, and cost less one by one than a call to fill them.

@@ -7,7 +7,9 @@ ghost use Rattle.npr_base.specs.{
   AddressFamily.{family_of, family_number},
   Equality.{IsEquality},
   Framing.{Item, Cut, Stops},
-  Message.{Message as Meant, IsMessage, IsCoherent, spelling, message_misfit},
+  Counts.{Counts},
+  Looks.{Adds},
+  Message.{Message as Meant, IsMessage, MessageLooks, IsCoherent, spelling, message_misfit},
   Walk.{Steps, found, Finds, CutsInTwo},
 };
 
@@ -18,7 +20,7 @@ use crate::framing::{
 use crate::message::Header;
 use crate::{
     AddressFamily, At, AttrFamily, DecodeError, DefaultNla, EmitError, IpAddr, Ipv4Addr, Ipv6Addr,
-    Looks, NlaBuffer, NlasIterator, Seg6Fault,
+    Looks, NlaBuffer, NlasIterator, Seg6Fault, WriteError,
 };
 
 /// The steps of a walk: those that find attributes from the first byte to the last are the cut of
@@ -67,6 +69,7 @@ pub fn law_equality()
     ensures seg6_fault { IsEquality ⟦<Seg6Fault as PartialEq>⟧.eq }
     ensures decode_error { IsEquality ⟦<DecodeError as PartialEq>⟧.eq }
     ensures emit_error { IsEquality ⟦<EmitError as PartialEq>⟧.eq }
+    ensures write_error { IsEquality ⟦<WriteError as PartialEq>⟧.eq }
     ensures default_nla { IsEquality ⟦<DefaultNla as PartialEq>⟧.eq }
     ensures nla_buffer { IsEquality ⟦<NlaBuffer<'static> as PartialEq>⟧.eq }
     ensures walk { IsEquality ⟦<NlasIterator<'static> as PartialEq>⟧.eq }
@@ -87,4 +90,12 @@ pub fn law_read_back<H: Header>()
 pub fn law_canonical<H: Header>()
     ensures { (m n : Meant H H.Meaning) → IsCoherent H.layout H.body m → message_misfit H.layout H.writing m ≡ None → IsCoherent H.layout H.body n → message_misfit H.layout H.writing n ≡ None
         → spelling H.layout H.writing m ≡ spelling H.layout H.writing n → m ≡ n }
+{}
+
+/// The looks that reading a message takes are one number, by its bytes alone.
+pub fn law_looks<H: Header>()
+    // From the same counts it goes to the same counts,
+    ensures one { (bytes : List ℕ) (old new other : Counts) → MessageLooks H.layout H.body bytes old new → MessageLooks H.layout H.body bytes old other → new ≡ other }
+    // and what it adds to these counts, it adds to all.
+    ensures number { (bytes : List ℕ) (old new : Counts) → MessageLooks H.layout H.body bytes old new → Adds (MessageLooks H.layout H.body bytes) old new }
 {}

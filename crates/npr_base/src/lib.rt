@@ -21,18 +21,18 @@ mod values;
 
 pub use address_family::AddressFamily;
 pub use attribute::Attribute;
-pub use default_nla::{DefaultNla, check_len, framed_len};
+pub use default_nla::DefaultNla;
 pub use emit::{WriteError, to_vec};
 pub use framing::{
     NLA_ALIGNTO, NLA_F_NESTED, NLA_F_NET_BYTEORDER, NLA_HEADER_SIZE, NLA_TYPE_MASK, NlaBuffer,
-    NlasIterator, frame, marked_kind, write_array, write_bytes,
+    NlasIterator, check_len, frame, framed_len, marked_kind,
 };
 pub use ip::{IpAddr, Ipv4Addr, Ipv6Addr};
 pub use list::{
     check_list, clone_list, emit_list, list_len, make_room, parse_list, total_len, write_list,
 };
 pub use looks::Looks;
-pub use message::{Gateways, Header, Message};
+pub use message::{Header, Message};
 pub use place::{Place, put_ip, put_read};
 pub use refusal::{At, AttrFamily, DecodeError, EmitError, Seg6Fault};
 pub use text::{write_hex, write_joined, write_six_hex_digits};
@@ -41,5 +41,5 @@ pub use v6_list::{emit_v6_list, read_v6_list, v6_list_len, write_v6_list};
 pub use values::{
     borrow_octets, ip_len, leading_octets, read_bool, read_bytes, read_i32, read_ip, read_ipv4,
     read_ipv6, read_name, read_octets, read_u8, read_u16, read_u16_be, read_u32, read_u32_be,
-    read_u64, read_u64_be, write_ip, write_name,
+    read_u64, read_u64_be, write_array, write_bytes, write_ip, write_name,
 };

@@ -3,6 +3,7 @@
 ghost use Rattle.std.specs.Prelude.{◌≡◌, ◌≢◌, ◌≤◌, ◌<◌, ℕ, List, [], Option, None, length, map, min, ◌+◌, ◌/◌, IfOk, IfErr, IsErrOf, OnOk, OnErr, vec_capacity};
 ghost use Rattle.npr_base.specs.{
   Counts.{AddsAtMost, SawEach},
+  Looks.{Answered, ListLooks},
   Framing.{Item, Front, Writes},
   Table.{shaped_item, shaped_misfit},
   Walk.{Walked},
@@ -35,12 +36,14 @@ pub fn parse_list<A: Attribute>(
     ensures none { IfErr result (λ e. e ≢ OutOfMemory → (xs : List A.Meaning) → ReadsList (A.reading context).Reads bytes.now xs → ⊥) }
     // Memory is taken behind a first whole attribute alone.
     ensures memory { IsErrOf result OutOfMemory → (x : Item) × (rest : List ℕ) × Front bytes.now x rest }
+    // The looks are those that the bytes take.
+    ensures exact { Answered result → ListLooks (A.reading context).Reads (A.reading context).Faulty (A.reading context).looks.Takes bytes.now looks.old looks.new }
     // The looks and the attributes passed are together at most what the bytes passed allow.
     ensures walked { Walked bytes.now looks.old looks.new }
     ensures bounded { AddsAtMost looks.old looks.new (length bytes.now) }
     ensures counted { IfOk result (λ v. SawEach looks.old looks.new (list_members A.writing.members (map A.meaning v.items))) }
 {
-    read_all(alloc, context, bytes, looks)
+    parse_list_body(alloc, context, bytes, looks)
 }
 
 /// Before the first item of a list of so many bytes, where the list has no memory: room for just as
@@ -65,7 +68,7 @@ pub fn make_room<A: Drop>(found: &mut Vec<A>, len: usize) -> Result<(), AllocErr
     found.reserve_exact((len / 8).min(16))
 }
 
-fn read_all<A: Attribute>(
+fn parse_list_body<A: Attribute>(
     alloc: Global,
     context: A::Context,
     bytes: &[u8],
@@ -74,6 +77,7 @@ fn read_all<A: Attribute>(
     ensures ok { IfOk result (λ v. ReadsList (A.reading context).Reads bytes.now (map A.meaning v.items)) }
     ensures refused { IfErr result (λ e. e ≢ OutOfMemory → FirstFault (A.reading context).Reads (A.reading context).Faulty bytes.now e) }
     ensures memory { IsErrOf result OutOfMemory → (x : Item) × (rest : List ℕ) × Front bytes.now x rest }
+    ensures exact { Answered result → ListLooks (A.reading context).Reads (A.reading context).Faulty (A.reading context).looks.Takes bytes.now looks.old looks.new }
     ensures walked { Walked bytes.now looks.old looks.new }
     ensures counted { IfOk result (λ v. SawEach looks.old looks.new (list_members A.writing.members (map A.meaning v.items))) }
 {
@@ -99,7 +103,7 @@ pub fn total_len(sum: u128) -> Result<usize, EmitError>
     usize::try_from(sum).map_err(|_| EmitError::Total)
 }
 
-fn check_items<A: Nla>(list: &[A]) -> Result<usize, EmitError>
+fn check_list_body<A: Nla>(list: &[A]) -> Result<usize, EmitError>
     ensures { result ≡ checked (list_unfit (shaped_misfit A.shape) (shaped_item A.shape) list.now) (length (encodings (shaped_item A.shape) list.now)) }
 {
     let mut total = 0u128;
@@ -109,17 +113,17 @@ fn check_items<A: Nla>(list: &[A]) -> Result<usize, EmitError>
     total_len(total)
 }
 
-fn items_len<A: Nla>(list: &[A]) -> usize
+fn list_len_body<A: Nla>(list: &[A]) -> usize
     requires { list_unfit (shaped_misfit A.shape) (shaped_item A.shape) list.now ≡ None }
     ensures { result ≡ length (encodings (shaped_item A.shape) list.now) }
 {
-    match check_items(list) {
+    match check_list_body(list) {
         Ok(len) => len,
         Err(_) => unreachable!(),
     }
 }
 
-fn write_items<A: Nla>(list: &[A], out: &mut [u8]) -> usize
+fn write_list_body<A: Nla>(list: &[A], out: &mut [u8]) -> usize
     requires fits { list_unfit (shaped_misfit A.shape) (shaped_item A.shape) list.now ≡ None }
     requires room { length (encodings (shaped_item A.shape) list.now) ≤ length out.old }
     ensures len { result ≡ length (encodings (shaped_item A.shape) list.now) }
@@ -137,7 +141,7 @@ fn write_items<A: Nla>(list: &[A], out: &mut [u8]) -> usize
 pub fn check_list<A: Attribute>(list: &[A]) -> Result<usize, EmitError>
     ensures { result ≡ checked (list_unfit A.writing.misfit A.writing.writes (map A.meaning list.now)) (length (encodings A.writing.writes (map A.meaning list.now))) }
 {
-    check_items(list)
+    check_list_body(list)
 }
 
 /// The length of the encodings, in bytes. Asks that `check_list` accepts.
@@ -145,7 +149,7 @@ pub fn list_len<A: Attribute>(list: &[A]) -> usize
     requires { list_unfit A.writing.misfit A.writing.writes (map A.meaning list.now) ≡ None }
     ensures { result ≡ length (encodings A.writing.writes (map A.meaning list.now)) }
 {
-    items_len(list)
+    list_len_body(list)
 }
 
 /// `emit_list`, with the length of what is written.
@@ -155,7 +159,7 @@ pub fn write_list<A: Attribute>(list: &[A], out: &mut [u8]) -> usize
     ensures len { result ≡ length (encodings A.writing.writes (map A.meaning list.now)) }
     ensures after { Writes out.old out.new (encodings A.writing.writes (map A.meaning list.now)) }
 {
-    write_items(list, out)
+    write_list_body(list, out)
 }
 
 /// Writes the encodings one after the other at the front of the slice, and leaves the rest. Asks

@@ -1,20 +1,19 @@
 //! Messages: a header of a fixed length, and attributes to the end.
 
-ghost use Rattle.std.specs.Prelude.{◌≡◌, ◌≢◌, ◌≤◌, ◌<◌, ◌*◌, ◌-◌, ℕ, List, Option, None, [], length, drop, map, IfOk, IfErr, IsErrOf, OnErr};
+ghost use Rattle.std.specs.Prelude.{◌≡◌, ◌≢◌, ◌≤◌, ◌<◌, ◌*◌, ◌-◌, ℕ, List, None, [], length, drop, map, IfOk, IfErr, IsErrOf, OnErr};
 ghost use Rattle.npr_base.specs.{
-  declared.ip.IpAddr.{IpAddr},
   declared.refusal.DecodeError.TheVariants.{OutOfMemory},
   Codec.{leading},
   Counts.{AddsAtMostTwice, SawEach},
   Family.{encodings, first_unfit, list_members},
   Framing.{Item, Front},
   Layout.{Layout},
-  Message.{Body, Message as Meant, view, IsMessage, MessageFault, IsCoherent, spelling, message_misfit},
+  Looks.{Answered},
+  Message.{Body, Message as Meant, view, IsMessage, MessageFault, MessageLooks, IsCoherent, spelling, message_misfit},
   Table.{Writing},
 };
 
 use crate::attribute::Attribute;
-use crate::ip::IpAddr;
 use crate::list::{check_list, clone_list, list_len, write_list};
 use crate::looks::Looks;
 use crate::refusal::{DecodeError, EmitError};
@@ -64,6 +63,7 @@ pub trait Header: Emitable + Copy + Default {
         ensures ok { IfOk result (λ v. body.Reads self.now bytes.now (map meaning v.items)) }
         ensures refused { IfErr result (λ e. e ≢ OutOfMemory → body.Faulty self.now bytes.now e) }
         ensures memory { IsErrOf result OutOfMemory → (x : Item) × (rest : List ℕ) × Front bytes.now x rest }
+        ensures exact { Answered result → (body.looks self.now).Takes bytes.now looks.old looks.new }
         ensures bounded { AddsAtMostTwice looks.old looks.new (length bytes.now) }
         ensures counted { IfOk result (λ v. SawEach looks.old looks.new (list_members writing.members (map meaning v.items))) };
 
@@ -141,18 +141,20 @@ impl<H: Header> Message<H, H::Attribute> {
         ensures growth { IfOk result (λ m. 2 * length (spelling H.layout H.writing (view H.meaning m)) ≤ 5 * length bytes.now) }
         // Each level of lists takes 12 bytes behind the header.
         ensures depth { IfOk result (λ m. 12 * H.body.depth (view H.meaning m).attributes ≤ length bytes.now - H.layout.size) }
-        // At most two looks for four bytes behind the header, and one for twelve and two that fail,
+        // The looks are those that the bytes take:
+        ensures exact { Answered result → MessageLooks H.layout H.body bytes.now looks.old looks.new }
+        // at most two for four bytes behind the header, and one for twelve and two that fail,
         ensures bounded { AddsAtMostTwice looks.old looks.new (length bytes.now - H.layout.size) }
         // and none where there is no whole header.
         ensures short { length bytes.now < H.layout.size → looks.new ≡ looks.old }
         // Each attribute of a message, and each member inside one, had a look.
         ensures counted { IfOk result (λ m. SawEach looks.old looks.new (list_members H.writing.members (view H.meaning m).attributes)) }
     {
-        read::<H>(alloc, bytes, looks)
+        parse_counted_body::<H>(alloc, bytes, looks)
     }
 }
 
-fn read<H: Header>(
+fn parse_counted_body<H: Header>(
     alloc: Global,
     bytes: &[u8],
     looks: &mut Looks,
@@ -160,6 +162,7 @@ fn read<H: Header>(
     ensures ok { IfOk result (λ m. IsMessage H.layout H.body bytes.now (view H.meaning m)) }
     ensures refused { IfErr result (λ e. e ≢ OutOfMemory → MessageFault H.layout H.body bytes.now e) }
     ensures memory { IsErrOf result OutOfMemory → (x : Item) × (rest : List ℕ) × Front (drop H.layout.size bytes.now) x rest }
+    ensures exact { Answered result → MessageLooks H.layout H.body bytes.now looks.old looks.new }
     ensures bounded { AddsAtMostTwice looks.old looks.new (length bytes.now - H.layout.size) }
     ensures short { length bytes.now < H.layout.size → looks.new ≡ looks.old }
     ensures counted { IfOk result (λ m. SawEach looks.old looks.new (list_members H.writing.members (view H.meaning m).attributes)) }
@@ -227,25 +230,5 @@ impl<H: Header> Emitable for Message<H, H::Attribute> {
     fn emit(&self, out: &mut [u8]) {
         write_list(self.attributes.as_slice(), &mut out[H::size()..]);
         self.header.emit(out);
-    }
-}
-
-/// The header of a kind of message whose attributes name gateways.
-pub trait Gateways: Header {
-    /// The address of the first gateway of IP among them.
-    ghost gateway: { List Self.Attribute → Option IpAddr };
-
-    /// The address of the first gateway of IP among them.
-    fn first_gateway(list: &[Self::Attribute]) -> Option<IpAddr>
-        ensures { result ≡ gateway list.now };
-}
-
-impl<H: Gateways> Message<H, H::Attribute> {
-    /// The address of the first gateway of IP among the attributes. Where the route goes by several
-    /// paths, each next hop has its own.
-    pub fn gateway(&self) -> Option<IpAddr>
-        ensures { result ≡ H.gateway self.now.attributes.items }
-    {
-        H::first_gateway(self.attributes.as_slice())
     }
 }

@@ -10,8 +10,7 @@ ghost use Rattle.npr_base.specs.{
   Table.{Shape},
 };
 
-use crate::default_nla::framed_len;
-use crate::framing::{NLA_HEADER_SIZE, frame, marked_kind};
+use crate::framing::{NLA_HEADER_SIZE, frame, framed_len, marked_kind};
 use crate::refusal::{DecodeError, EmitError};
 use std::alloc::Global;
 

@@ -12,9 +12,9 @@ ghost use Rattle.npr_base.specs.{
   V6List.{IsV6List},
 };
 
-use crate::framing::write_array;
 use crate::ip::Ipv6Addr;
 use crate::refusal::DecodeError;
+use crate::values::write_array;
 use std::alloc::Global;
 
 /// The addresses that the bytes are, in the order of the wire. Asks that the length is a multiple

@@ -16,7 +16,6 @@ ghost use Rattle.npr_base.specs.{
   Refusal.{no_place},
 };
 
-use crate::framing::{write_array, write_bytes};
 use crate::ip::{IpAddr, Ipv4Addr, Ipv6Addr};
 use crate::refusal::{At, DecodeError};
 use std::alloc::{AllocError, Global};
@@ -281,4 +280,38 @@ pub fn write_name(text: &str, out: &mut [u8]) -> usize
     out[len] = 0;
     write_bytes(text.as_bytes(), out);
     len + 1
+}
+
+/// Copies the bytes to the front of the slice, leaves the rest, and answers their length.
+pub fn write_bytes(bytes: &[u8], out: &mut [u8]) -> usize
+    requires { length bytes.now ≤ length out.old }
+    ensures len { result ≡ length bytes.now }
+    ensures after { Writes out.old out.new bytes.now }
+{
+    out[..bytes.len()].copy_from_slice(bytes);
+    bytes.len()
+}
+
+/// Stores an array in a place of its length, which the compiler then has not to ask for.
+#[inline(always)]
+fn store<const N: usize>(bytes: [u8; N], place: &mut [u8])
+    requires { length place.old ≡ N }
+    ensures { place.new ≡ bytes.entry }
+{
+    match place.first_chunk_mut::<N>() {
+        Some(array) => *array = bytes,
+        None => unreachable!(),
+    }
+}
+
+/// Writes an array to the front of the slice, leaves the rest, and answers its length. An array of
+/// known length goes from registers, without a place on the stack that `write_bytes` takes it from.
+#[inline(always)]
+pub fn write_array<const N: usize>(bytes: [u8; N], out: &mut [u8]) -> usize
+    requires { N ≤ length out.old }
+    ensures len { result ≡ N }
+    ensures after { Writes out.old out.new bytes.entry }
+{
+    store(bytes, &mut out[..N]);
+    N
 }

@@ -1,1 +1,5 @@
+mod EnvelopePlaces
+mod HopPlaces
 mod Places
+mod Searches
+mod Told

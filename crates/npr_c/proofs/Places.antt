@@ -7,7 +7,7 @@ use Rattle.npr_c.specs.Steps.{FoundAt}
 use Rattle.npr_c.specs.declared.steps.Step.{Step}
 
 -- the bytes from the place of a rest on
-rest_is : (bytes front rest : List ℕ) → bytes ≡ front ++ rest → drop (length bytes - length rest) bytes ≡ rest
+pub rest_is : (bytes front rest : List ℕ) → bytes ≡ front ++ rest → drop (length bytes - length rest) bytes ≡ rest
 rest_is bytes front rest is =
     let size : length front ≡ length bytes - length rest = omega (arith, ap length is, length-append front rest) in
     ap (drop (length bytes - length rest)) is ∙ drop_at front rest (length bytes - length rest) size

@@ -1,6 +1,6 @@
--- One step over attributes, by its place in the bytes.
-use Rattle.std.specs.Prelude.{◌≡◌, ◌⊎◌, ◌<◌, ◌≤◌, ℕ, ◌+◌, List, length, take, drop}
-use Rattle.netlink_packet_route.specs.Framing.{Item, Front, Fault}
+-- One step over attributes, by its place in the bytes, and the search for one of a number.
+use Rattle.std.specs.Prelude.{◌≡◌, ◌≢◌, ◌⊎◌, ◌<◌, ◌≤◌, ℕ, ◌+◌, List, length, take, drop, All}
+use Rattle.netlink_packet_route.specs.Framing.{Item, Front, Fault, Passes, number_of}
 use Rattle.netlink_packet_route.specs.declared.framing.DecodeError.{DecodeError}
 use Rattle.npr_c.specs.Numbers.{refusal_number}
 use Rattle.npr_c.specs.declared.steps.Step.{Step}
@@ -25,3 +25,16 @@ StepsAt bytes at step =
     ⊎ ((e : DecodeError) × (at < length bytes) × Fault (drop at bytes) e
     × (step ≡ record { status = 1; number = refusal_number e; value = 0; length = 0; next = 0; kind = 0 }))
     ⊎ FoundAt bytes at step
+
+-- attributes of other numbers stand from one place up to another
+pub record Others (bytes : List ℕ) (at number place : ℕ) : Type 0 where
+  pub passed : List Item
+  pub passes : Passes (drop at bytes) passed (drop place bytes)
+  pub others : All (λ x. number_of x.kind ≢ number) passed
+
+-- what a search answers: behind attributes of other numbers, one of this number, the fault, or the end
+pub record FindsAt (bytes : List ℕ) (at number : ℕ) (step : Step) : Type 0 where
+  pub place : ℕ
+  pub others : Others bytes at number place
+  pub stands : StepsAt bytes place step
+  pub found : step.status ≡ 0 → number_of step.kind ≡ number

@@ -1,10 +1,15 @@
-//! The library for C: canonical bytes of messages, the names of refusals and causes, and one step
-//! over attributes. No call keeps anything of what it is given, and none ends the process.
+//! The library for C: canonical bytes of messages, whether bytes are a message and what is wrong with
+//! them, the names of that, and steps over the messages of a datagram, over attributes and over next
+//! hops. No call keeps anything of what it is given, and none ends the process, but where a thread has
+//! too little stack for a message's levels of next hops (`NPR_STACK` in the header).
 //!
 //! A slice is a pointer and then a length in C, and an allocator is nothing there.
 #![tactic(auto)]
 
 mod answer;
 mod canonical;
+mod envelopes;
+mod faults;
 mod names;
+mod next_hops;
 mod steps;

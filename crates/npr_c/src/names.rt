@@ -6,7 +6,9 @@ ghost use Rattle.netlink_packet_route.specs.{
   declared.framing.DecodeError.{DecodeError},
   declared.framing.EmitError.{EmitError},
 };
+ghost use Rattle.netlink_packet_core.specs.declared.refusal.EnvelopeError.{EnvelopeError};
 ghost use Rattle.npr_c.specs.{
+  Envelopes.{envelope_name, envelope_number},
   Names.{Puts, cause_name, refusal_name},
   Numbers.{cause_number, refusal_number},
 };
@@ -29,6 +31,8 @@ fn refusal_name(number: u32) -> &'static str
         11 => "GeneveChild",
         12 => "ViaFamily",
         13 => "Unsupported",
+        14 => "MessageTooShort",
+        15 => "MessageLength",
         _ => "",
     }
 }
@@ -72,6 +76,7 @@ pub extern "C" fn npr_refusal_name(number: u32, out: &mut [u8]) -> usize
     ensures longest { result ≤ 17 }
     // Each refusal has its variant's name at its number.
     ensures name { (e : DecodeError) → refusal_name (refusal_number e) ≡ decode_name e }
+    ensures message_name { (e : EnvelopeError) → refusal_name (envelope_number e) ≡ envelope_name e }
 {
     put(refusal_name(number), out)
 }

@@ -1,10 +1,12 @@
-//! One step over attributes that stand one after the other.
+//! One step over attributes that stand one after the other, and the search for one of a number.
 
 ghost use Rattle.std.specs.Prelude.{◌≡◌};
-ghost use Rattle.npr_c.specs.Steps.{StepsAt};
+ghost use Rattle.npr_c.specs.Steps.{StepsAt, FindsAt};
 
 use crate::answer::refusal_number;
-use netlink_packet_route::framing::{NLA_HEADER_SIZE, NlasIterator};
+use netlink_packet_route::framing::{NLA_F_NET_BYTEORDER, NLA_HEADER_SIZE, NlasIterator};
+
+const FOUND: u32 = 0;
 
 /// What a step over attributes answers.
 ///
@@ -44,7 +46,7 @@ const END: Step = Step {
 /// The attribute that begins `at` bytes from the first, or why there is none. At the length of
 /// the bytes, and past it, is their end. It takes no memory.
 #[unsafe(no_mangle)]
-pub extern "C" fn npr_step(bytes: &[u8], at: usize) -> Step
+pub extern "C" fn npr_step_at(bytes: &[u8], at: usize) -> Step
     ensures { StepsAt bytes.now at result }
 {
     if at >= bytes.len() {
@@ -65,5 +67,20 @@ pub extern "C" fn npr_step(bytes: &[u8], at: usize) -> Step
             number: refusal_number(fault),
             ..NOTHING
         },
+    }
+}
+
+/// The first attribute of this number that stands `at` bytes from the first or behind, or the fault
+/// or the end before one. A number is without the two flags of a kind. It takes no memory.
+#[unsafe(no_mangle)]
+pub extern "C" fn npr_find(bytes: &[u8], mut at: usize, number: u16) -> Step
+    ensures { FindsAt bytes.now at number result }
+{
+    'attributes: loop {
+        let step = npr_step_at(bytes, at);
+        if step.status != FOUND || step.kind % NLA_F_NET_BYTEORDER == number {
+            return step;
+        }
+        at = step.next;
     }
 }

@@ -97,37 +97,37 @@ metric_equality =
     (λ x. refl, one_meaning (λ d. d) Metrics.other item_equality (λ p q e. cc)) also tt)
 
 -- the places of the variants of an attribute's meaning: next hops stand behind the metrics
-place : Meaning → ℕ
-place (flat (Flat.destination a)) = 0
-place (flat (Flat.source a)) = 1
-place (flat (Flat.iif a)) = 2
-place (flat (Flat.oif a)) = 3
-place (flat (Flat.gateway a)) = 4
-place (flat (Flat.priority a)) = 5
-place (flat (Flat.pref_source a)) = 6
-place (flat (Flat.metrics a)) = 7
-place (multi_path hs) = 8
-place (flat (Flat.realm a)) = 9
-place (flat (Flat.cache_info a)) = 10
-place (flat (Flat.table a)) = 11
-place (flat (Flat.mark a)) = 12
-place (flat (Flat.mfc_stats a)) = 13
-place (flat (Flat.via a)) = 14
-place (flat (Flat.new_destination a)) = 15
-place (flat (Flat.new_destination_address a)) = 16
-place (flat (Flat.preference a)) = 17
-place (flat (Flat.encap_type a)) = 18
-place (flat (Flat.encap a)) = 19
-place (flat (Flat.expires a)) = 20
-place (flat (Flat.multicast_expires a)) = 21
-place (flat (Flat.uid a)) = 22
-place (flat (Flat.ttl_propagate a)) = 23
-place (flat (Flat.ip_proto a)) = 24
-place (flat (Flat.sport a)) = 25
-place (flat (Flat.dport a)) = 26
-place (flat (Flat.nh_id a)) = 27
-place (flat (Flat.flowlabel a)) = 28
-place (flat (Flat.other a)) = 29
+order : Meaning → ℕ
+order (flat (Flat.destination a)) = 0
+order (flat (Flat.source a)) = 1
+order (flat (Flat.iif a)) = 2
+order (flat (Flat.oif a)) = 3
+order (flat (Flat.gateway a)) = 4
+order (flat (Flat.priority a)) = 5
+order (flat (Flat.pref_source a)) = 6
+order (flat (Flat.metrics a)) = 7
+order (multi_path hs) = 8
+order (flat (Flat.realm a)) = 9
+order (flat (Flat.cache_info a)) = 10
+order (flat (Flat.table a)) = 11
+order (flat (Flat.mark a)) = 12
+order (flat (Flat.mfc_stats a)) = 13
+order (flat (Flat.via a)) = 14
+order (flat (Flat.new_destination a)) = 15
+order (flat (Flat.new_destination_address a)) = 16
+order (flat (Flat.preference a)) = 17
+order (flat (Flat.encap_type a)) = 18
+order (flat (Flat.encap a)) = 19
+order (flat (Flat.expires a)) = 20
+order (flat (Flat.multicast_expires a)) = 21
+order (flat (Flat.uid a)) = 22
+order (flat (Flat.ttl_propagate a)) = 23
+order (flat (Flat.ip_proto a)) = 24
+order (flat (Flat.sport a)) = 25
+order (flat (Flat.dport a)) = 26
+order (flat (Flat.nh_id a)) = 27
+order (flat (Flat.flowlabel a)) = 28
+order (flat (Flat.other a)) = 29
 
 abbrev same : RouteAttribute → RouteAttribute → Bool
 same = AttributeEq.ghosts.eq
@@ -161,9 +161,9 @@ outermost_multi_path v = sym (outermost_is (MultiPath v)) ∙ view_multi_path v
 attribute_layer :
     (t : Meaning) → ((v w : Vec RouteNextHop Global) → multi_path (hops_in v.items) ≡ t → HopsDecide v.items w.items) → (a b : RouteAttribute) → meaning_of a ≡ t
     → Decides (same a b) (meaning_of a ≡ meaning_of b)
-unfolding place out-RouteAttribute Carrier.out
+unfolding order out-RouteAttribute Carrier.out
 attribute_layer t inside a b is =
-    let h = enum_meaning_at place t enum outermost _ (
+    let h = enum_meaning_at order t enum outermost _ (
     (λ x. refl, one_meaning address_of (λ a. flat (Flat.destination a)) address_equality (λ p q e. cc)) also
     (λ x. refl, one_meaning address_of (λ a. flat (Flat.source a)) address_equality (λ p q e. cc)) also
     (λ x. refl, one_meaning (λ n. n) (λ a. flat (Flat.iif a)) unsigned_Decides (λ p q e. cc)) also
@@ -172,7 +172,7 @@ attribute_layer t inside a b is =
     (λ x. refl, one_meaning (λ n. n) (λ a. flat (Flat.priority a)) unsigned_Decides (λ p q e. cc)) also
     (λ x. refl, one_meaning address_of (λ a. flat (Flat.pref_source a)) address_equality (λ p q e. cc)) also
     (λ x. refl, one_meaning (λ v. map metric_of v.items) (λ a. flat (Flat.metrics a)) (items_meaning metric_of metric_equality) (λ p q e. cc)) also
-    (λ x. ap place (outermost_multi_path x.0), one_meaning_by (λ (v : Vec RouteNextHop Global). hops_in v.items) multi_path (λ v. outermost (MultiPath v)) outermost_multi_path (λ p q e. cc) inside) also
+    (λ x. ap order (outermost_multi_path x.0), one_meaning_by (λ (v : Vec RouteNextHop Global). hops_in v.items) multi_path (λ v. outermost (MultiPath v)) outermost_multi_path (λ p q e. cc) inside) also
     (λ x. refl, one_meaning (λ f. f) (λ a. flat (Flat.realm a)) realm_equality (λ p q e. cc)) also
     (λ x. refl, one_meaning (λ f. f) (λ a. flat (Flat.cache_info a)) cache_info_equality (λ p q e. cc)) also
     (λ x. refl, one_meaning (λ n. n) (λ a. flat (Flat.table a)) unsigned_Decides (λ p q e. cc)) also

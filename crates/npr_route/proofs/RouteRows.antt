@@ -3,7 +3,7 @@ use Rattle.std.proofs.Common.{◌≡◌, ℕ, List, refl}
 use Rattle.npr_base.specs.declared.address_family.AddressFamily.{AddressFamily}
 use Rattle.npr_base.specs.declared.address_family.AddressFamily.TheVariants.{Inet, Inet6, Mpls}
 use Rattle.npr_base.specs.declared.refusal.DecodeError.{DecodeError}
-use Rattle.npr_base.specs.Table.{ReadsBy, WrongBy}
+use Rattle.npr_base.specs.Table.{RowReads, RowWrong}
 use Rattle.npr_scalar.specs.RouteAddress.{form_of, route_address, Address}
 use Rattle.npr_base.specs.Codec.{exactly}
 use Rattle.npr_base.specs.Layout.{le32}
@@ -11,18 +11,18 @@ use Rattle.npr_scalar.specs.declared.route_type.RouteType.{RouteType}
 use Rattle.npr_scalar.specs.declared.route_type.RouteType.TheVariants.{Multicast}
 use Rattle.npr_route.specs.FlatAttribute.{at, is_multicast, expires, expires_row, new_destination_address, new_destination_row}
 
-pub address_reads : (family : AddressFamily) → (family ≡ Mpls → ⊥) → (bytes : List ℕ) (a : Address) → (route_address family).Reads bytes a → ReadsBy (new_destination_row (form_of family)) bytes (new_destination_address a)
+pub address_reads : (family : AddressFamily) → (family ≡ Mpls → ⊥) → (bytes : List ℕ) (a : Address) → (route_address family).Reads bytes a → RowReads (new_destination_row (form_of family)) bytes (new_destination_address a)
 address_reads Inet not bytes a p = (a, p, refl)
 address_reads Inet6 not bytes a p = (a, p, refl)
 address_reads Mpls not bytes a p = absurd (not refl)
 address_reads family not bytes a p = (a, p, refl)
 
-pub address_wrong : (family : AddressFamily) → (family ≡ Mpls → ⊥) → (bytes : List ℕ) (e : DecodeError) → (route_address family).Wrong (at 19) bytes e → WrongBy (new_destination_row (form_of family)) bytes e
+pub address_wrong : (family : AddressFamily) → (family ≡ Mpls → ⊥) → (bytes : List ℕ) (e : DecodeError) → (route_address family).Wrong (at 19) bytes e → RowWrong (new_destination_row (form_of family)) bytes e
 address_wrong Inet not bytes e p = p
 address_wrong Inet6 not bytes e p = p
 address_wrong Mpls not bytes e p = absurd (not refl)
 address_wrong family not bytes e p = p
 
-pub expires_reads : (kind : RouteType) → (kind ≡ Multicast → ⊥) → (bytes : List ℕ) (n : ℕ) → (exactly le32).Reads bytes n → ReadsBy (expires_row (is_multicast kind)) bytes (expires n)
+pub expires_reads : (kind : RouteType) → (kind ≡ Multicast → ⊥) → (bytes : List ℕ) (n : ℕ) → (exactly le32).Reads bytes n → RowReads (expires_row (is_multicast kind)) bytes (expires n)
 expires_reads Multicast not bytes n p = absurd (not refl)
 expires_reads kind not bytes n p = (n, p, refl)

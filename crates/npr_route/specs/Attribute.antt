@@ -195,11 +195,11 @@ hop_misfit h = option_or (attributes_misfit h.attributes) (hop_overlong (8 + len
 
 -- before NESTED is set in its kind, whether it is, and why the list inside can't be written, if so
 abbrev pub plain_of : Meaning → Item
-plain_of (flat m) = plain_item (Flat.place m)
+plain_of (flat m) = plain_item (Flat.held_of m)
 plain_of (multi_path hs) = record { kind = 9; value = hops_bytes hs }
 
 abbrev pub nested_of : Meaning → Bool
-nested_of (flat m) = held_nested (Flat.place m)
+nested_of (flat m) = held_nested (Flat.held_of m)
 nested_of (multi_path hs) = false
 
 abbrev pub unfit_inside : Meaning → Option EmitError
@@ -231,20 +231,20 @@ HopsCoherent c hs = HopsCoherentBy modes c hs
 
 -- an attribute with each SEG6 header in it brought up to the table of today
 abbrev mutual
-  pub newer : Meaning → Meaning
-  newer (flat m) = flat (Flat.newer m)
-  newer (multi_path hs) = multi_path (hops_newer hs)
+  pub normalized : Meaning → Meaning
+  normalized (flat m) = flat (Flat.normalized m)
+  normalized (multi_path hs) = multi_path (hops_normalized hs)
 
-  pub attributes_newer : Attributes → Attributes
-  attributes_newer no_more = no_more
-  attributes_newer (attribute m ms) = attribute (newer m) (attributes_newer ms)
+  pub attributes_normalized : Attributes → Attributes
+  attributes_normalized no_more = no_more
+  attributes_normalized (attribute m ms) = attribute (normalized m) (attributes_normalized ms)
 
-  pub hops_newer : Hops → Hops
-  hops_newer no_hops = no_hops
-  hops_newer (hop h ms hs) = hop h (attributes_newer ms) (hops_newer hs)
+  pub hops_normalized : Hops → Hops
+  hops_normalized no_hops = no_hops
+  hops_normalized (hop h ms hs) = hop h (attributes_normalized ms) (hops_normalized hs)
 
-abbrev pub newer_hop : Hop → Hop
-newer_hop h = record { head = h.head; attributes = attributes_newer h.attributes }
+abbrev pub normalized_hop : Hop → Hop
+normalized_hop h = record { head = h.head; attributes = attributes_normalized h.attributes }
 
 -- how many attributes and next hops stand inside, at all depths
 abbrev mutual

@@ -25,6 +25,7 @@ use Rattle.npr_route.specs.Attribute.{Wrong, value_wrong, hops_wrong, Attributes
 use Rattle.npr_route.specs.Attribute.{none_in_front, first_wrong, later_wrong, HopsWrong, no_hop_in_front, first_hop_wrong, later_hop_wrong}
 use Rattle.npr_route.specs.Attribute.{plain_of, nested_of, writes, attributes_bytes, hops_bytes, hop_overlong, misfit, attributes_misfit}
 use Rattle.npr_route.specs.Attribute.{hops_misfit, Coherent, AttributesCoherent, HopsCoherent, members, depth, attributes_depth, hops_depth}
+use Rattle.npr_route.specs.AttributeLooksLaws.{attribute_looking}
 use Rattle.npr_route.specs.Governing.{Governs}
 use Rattle.npr_route.specs.GoverningLaws.{governs-one, first_governs, governs_first}
 use Rattle.npr_route.specs.NextHopFrontLaws.{HopFront-same, HopFront-sound, HopFront-length, HopFront-proper}
@@ -295,6 +296,7 @@ abbrev pub attributes : Context → Reading writing
 attributes c = record {
   Reads = Reads c;
   Faulty = Wrong c;
+  looks = attribute_looking c;
   Coherent = Coherent c;
   one_reading = reads-one c;
   no_fault = reads-sound c;

@@ -12,7 +12,7 @@ use Rattle.npr_base.specs.ListCodec.{list_of}
 use Rattle.npr_base.specs.Table.{Reading, Row, row, Held, held, held_marked, held_other, IsHeld, IsOther}
 use Rattle.npr_scalar.specs.MplsLaws.{mpls_labels}
 use Rattle.npr_scalar.specs.Realm.{route_realm}
-use Rattle.npr_scalar.specs.RouteAddress.{Address as AddressMeaning, address_bytes, address_in, Form, four, sixteen, label, any}
+use Rattle.npr_scalar.specs.RouteAddress.{Address as AddressMeaning, route_address_bytes, address_in, Form, four, sixteen, label, any}
 use Rattle.npr_scalar.specs.RouteCacheInfo.{route_cache_info}
 use Rattle.npr_scalar.specs.RouteMfcStats.{route_mfc_stats}
 use Rattle.npr_scalar.specs.RoutePreference.{route_preference}
@@ -166,36 +166,36 @@ rows form multicast family =
     ∷ []
 
 -- how each meaning is written, whatever the context
-abbrev pub place : Meaning → Held
-place (destination a) = held 1 raw (address_bytes a)
-place (source a) = held 2 raw (address_bytes a)
-place (iif a) = held 3 (exactly le32) a
-place (oif a) = held 4 (exactly le32) a
-place (gateway a) = held 5 raw (address_bytes a)
-place (priority a) = held 6 (exactly le32) a
-place (pref_source a) = held 7 raw (address_bytes a)
-place (metrics a) = held 8 (list_of metric_family) a
-place (realm a) = held 11 (exactly route_realm) a
-place (cache_info a) = held 12 (leading route_cache_info) a
-place (table a) = held 15 (exactly le32) a
-place (mark a) = held 16 (exactly le32) a
-place (mfc_stats a) = held 17 (leading route_mfc_stats) a
-place (via a) = held 18 via_value a
-place (new_destination a) = held 19 mpls_labels a
-place (new_destination_address a) = held 19 raw (address_bytes a)
-place (preference a) = held 20 (exactly route_preference) a
-place (encap_type a) = held 21 (exactly encap_type_layout) a
-place (encap a) = held_marked (any_marks a) 22 (list_of (OfEncap.encapsulation NoEncapsulation)) a
-place (expires a) = held 23 (exactly le32) a
-place (multicast_expires a) = held 23 (exactly le64) a
-place (uid a) = held 25 (exactly le32) a
-place (ttl_propagate a) = held 26 (exactly ttl_propagation) a
-place (ip_proto a) = held 27 (exactly byte) a
-place (sport a) = held 28 (exactly be16) a
-place (dport a) = held 29 (exactly be16) a
-place (nh_id a) = held 30 (exactly le32) a
-place (flowlabel a) = held 31 (exactly be32) a
-place (other x) = held_other x
+abbrev pub held_of : Meaning → Held
+held_of (destination a) = held 1 raw (route_address_bytes a)
+held_of (source a) = held 2 raw (route_address_bytes a)
+held_of (iif a) = held 3 (exactly le32) a
+held_of (oif a) = held 4 (exactly le32) a
+held_of (gateway a) = held 5 raw (route_address_bytes a)
+held_of (priority a) = held 6 (exactly le32) a
+held_of (pref_source a) = held 7 raw (route_address_bytes a)
+held_of (metrics a) = held 8 (list_of metric_family) a
+held_of (realm a) = held 11 (exactly route_realm) a
+held_of (cache_info a) = held 12 (leading route_cache_info) a
+held_of (table a) = held 15 (exactly le32) a
+held_of (mark a) = held 16 (exactly le32) a
+held_of (mfc_stats a) = held 17 (leading route_mfc_stats) a
+held_of (via a) = held 18 via_value a
+held_of (new_destination a) = held 19 mpls_labels a
+held_of (new_destination_address a) = held 19 raw (route_address_bytes a)
+held_of (preference a) = held 20 (exactly route_preference) a
+held_of (encap_type a) = held 21 (exactly encap_type_layout) a
+held_of (encap a) = held_marked (any_marks a) 22 (list_of (OfEncap.encapsulation NoEncapsulation)) a
+held_of (expires a) = held 23 (exactly le32) a
+held_of (multicast_expires a) = held 23 (exactly le64) a
+held_of (uid a) = held 25 (exactly le32) a
+held_of (ttl_propagate a) = held 26 (exactly ttl_propagation) a
+held_of (ip_proto a) = held 27 (exactly byte) a
+held_of (sport a) = held 28 (exactly be16) a
+held_of (dport a) = held 29 (exactly be16) a
+held_of (nh_id a) = held 30 (exactly le32) a
+held_of (flowlabel a) = held 31 (exactly be32) a
+held_of (other x) = held_other x
 
 -- why the list inside can't be written, if so
 abbrev pub unfit_inside : Meaning → Option EmitError
@@ -215,9 +215,9 @@ Coherent form multicast family (encap xs) = (list_of family).Holds xs
 Coherent form multicast family (expires n) = (multicast ≡ false) × (n < 2 ^ 32)
 Coherent form multicast family (multicast_expires n) = (multicast ≡ true) × (n < 2 ^ 64)
 Coherent form multicast family (other x) = IsOther (rows form multicast family) x
-Coherent form multicast family m = IsHeld (place m)
+Coherent form multicast family m = IsHeld (held_of m)
 
 -- the attribute with each SEG6 header of its encapsulation brought up to the table of modes of today
-abbrev pub newer : Meaning → Meaning
-newer (encap xs) = encap (map OfEncap.newer xs)
-newer m = m
+abbrev pub normalized : Meaning → Meaning
+normalized (encap xs) = encap (map OfEncap.normalized xs)
+normalized m = m

@@ -1,12 +1,14 @@
 -- The family of the attributes of a route message but next hops, under a context.
 use Rattle.std.specs.Prelude.{◌≡◌, ℕ, ◌<◌, ◌^◌, Bool, true, false, None}
 use Rattle.std.proofs.Common.{refl, arith, rules}
-use Rattle.npr_base.specs.Framing.{marked, number_of}
+use Rattle.npr_base.specs.Framing.{Item, marked, number_of}
 use Rattle.npr_base.specs.Layout.{le32, le64}
 use Rattle.npr_base.specs.Codec.{exactly}
 use Rattle.npr_base.specs.ListCodec.{list_of}
-use Rattle.npr_base.specs.Table.{Writing, Reading, held_kind, held_value, held_misfit, held-reads, item_of, placed, Aligned, ReadsAt}
-use Rattle.npr_base.specs.TableLaws.{flat, other-back}
+use Rattle.npr_base.specs.Table.{Writing, Reading, held_kind, held_value, held_misfit, held-reads, item_of, writing_by, Aligned, ReadsAt}
+use Rattle.npr_base.specs.Looks.{Looking}
+use Rattle.npr_base.specs.LooksLaws.{no_looking, list_looking}
+use Rattle.npr_base.specs.TableLaws.{table_family, holding, looking_at, other-back}
 use Rattle.npr_scalar.specs.MplsLaws.{mpls_labels}
 use Rattle.npr_scalar.specs.RouteAddress.{address_in, Form, four, sixteen, label, any, form_of}
 use Rattle.npr_srh.specs.Seg6Mode.{ModeTable, modes}
@@ -14,10 +16,11 @@ use Rattle.npr_tunnel.specs.Encapsulation as OfEncap
 use Rattle.npr_route.specs.FlatAttribute.{Context, Meaning, destination, source, gateway, pref_source, new_destination}
 use Rattle.npr_route.specs.FlatAttribute.{new_destination_address, encap, any_marks, expires, multicast_expires, other, rows}
 use Rattle.npr_route.specs.FlatAttribute.{new_destination_codec, new_destination_variant, NewDestinationValue, expires_layout}
-use Rattle.npr_route.specs.FlatAttribute.{expires_variant, place, Coherent, is_multicast}
+use Rattle.npr_route.specs.FlatAttribute.{expires_variant, held_of, Coherent, is_multicast}
+use Rattle.npr_route.specs.Metric.{metrics}
 
 new_destination-aligned : (form : Form) (multicast : Bool) (family : Reading OfEncap.writing) (v : NewDestinationValue form)
-    → ((item_of (place (new_destination_variant form v))).value ≡ (new_destination_codec form).writes v) ×
+    → ((item_of (held_of (new_destination_variant form v))).value ≡ (new_destination_codec form).writes v) ×
     ((new_destination_codec form).Holds v → Coherent form multicast family (new_destination_variant form v))
 new_destination-aligned four multicast family v = (refl, λ h. (λ e. cc, h))
 new_destination-aligned sixteen multicast family v = (refl, λ h. (λ e. cc, h))
@@ -25,16 +28,17 @@ new_destination-aligned label multicast family v = (refl, λ h. (refl, h))
 new_destination-aligned any multicast family v = (refl, λ h. (λ e. cc, h))
 
 expires-aligned : (form : Form) (multicast : Bool) (family : Reading OfEncap.writing) (v : ℕ)
-    → ((item_of (place (expires_variant multicast v))).value ≡ (exactly (expires_layout multicast)).writes v) ×
+    → ((item_of (held_of (expires_variant multicast v))).value ≡ (exactly (expires_layout multicast)).writes v) ×
     ((exactly (expires_layout multicast)).Holds v → Coherent form multicast family (expires_variant multicast v))
 expires-aligned form true family v = (refl, λ h. (refl, h))
 expires-aligned form false family v = (refl, λ h. (refl, h))
 
 pub aligned : (form : Form) (multicast : Bool) (family : Reading OfEncap.writing)
-    → Aligned (λ m. item_of (place m)) (Coherent form multicast family) (rows form multicast family)
+    → Aligned (λ m. item_of (held_of m)) (Coherent form multicast family) (rows form multicast family)
 aligned form multicast family = search (rules, new_destination-aligned form multicast family, expires-aligned form multicast family)
 
-pub kinds : (form : Form) (multicast : Bool) (family : Reading OfEncap.writing) (m : Meaning) → Coherent form multicast family m → held_kind (place m) < 2 ^ 16
+pub kinds : (form : Form) (multicast : Bool) (family : Reading OfEncap.writing) (m : Meaning)
+    → Coherent form multicast family m → held_kind (held_of m) < 2 ^ 16
 kinds form multicast family (other x) c = c.proper.kind
 kinds form multicast family m c = omega arith
 
@@ -43,8 +47,8 @@ encap-number true = refl
 encap-number false = refl
 
 pub back : (form : Form) (multicast : Bool) (family : Reading OfEncap.writing) (m : Meaning) → Coherent form multicast family m
-    → held_misfit (place m) ≡ None
-    → ReadsAt other (rows form multicast family) (number_of (item_of (place m)).kind) (item_of (place m)) m
+    → held_misfit (held_of m) ≡ None
+    → ReadsAt other (rows form multicast family) (number_of (item_of (held_of m)).kind) (item_of (held_of m)) m
 back form multicast family (other x) c fits = other-back other (rows form multicast family) (number_of x.kind) x c.alone
 back form multicast family (destination a) c fits = (a, (address_in form).reads_back 1 a c fits, refl)
 back form multicast family (source a) c fits = (a, (address_in form).reads_back 2 a c fits, refl)
@@ -63,25 +67,29 @@ back form false family (expires n) c fits = (n, (exactly le32).reads_back 23 n c
 back form true family (expires n) c fits = absurd (let e = c.0 in cc)
 back form true family (multicast_expires n) c fits = (n, (exactly le64).reads_back 23 n c.1 fits, refl)
 back form false family (multicast_expires n) c fits = absurd (let e = c.0 in cc)
-back form multicast family m c fits = (held_value (place m), held-reads (place m) c fits, refl)
+back form multicast family m c fits = (held_value (held_of m), held-reads (held_of m) c fits, refl)
 
 -- how each is written, whatever the context
 abbrev pub writing : Writing Meaning
-writing = placed place
+writing = writing_by held_of
+
+-- number 8 is a list of metrics, and number 22 one of members
+abbrev pub looks : Reading OfEncap.writing → Looking Item
+looks family = looking_at 8 (list_looking metrics) (looking_at 22 (list_looking family) no_looking)
 
 -- the family under a form of addresses, for multicast routes or others, and over a family of members
 abbrev pub attributes_in : Form → Bool → Reading OfEncap.writing → Reading writing
-attributes_in form multicast family = flat (record {
+attributes_in form multicast family = holding (looks family) (table_family (record {
   rows = rows form multicast family;
   other = other;
-  place = place;
+  held_of = held_of;
   Coherent = Coherent form multicast family;
   aligned = aligned form multicast family;
   other_is = λ x. refl;
   other_coherent = λ x is. is;
   kinds = kinds form multicast family;
   back = back form multicast family;
-})
+}))
 
 -- the family under a context, by a table of SEG6 modes
 abbrev pub attributes_by : ModeTable → Context → Reading writing

@@ -13,13 +13,13 @@ abbrev pub told : Item → Option RouteLwEnCapType
 told x = if number_of x.kind == 21 then if length x.value == 2 then Some (encap_type.decode x.value) else None else None
 
 -- no attribute stands in front: no bytes are left, or what is left is faulty
-abbrev pub Ends : List ℕ → Type 0
-Ends rest = (rest ≡ []) ⊎ ((e : DecodeError) × (0 < length rest) × Fault rest e)
+abbrev pub NoneInFront : List ℕ → Type 0
+NoneInFront rest = (rest ≡ []) ⊎ ((e : DecodeError) × (0 < length rest) × Fault rest e)
 
 -- what comes next tells the type; where nothing comes, it is the outer one
 abbrev pub Tells : RouteLwEnCapType → List ℕ → RouteLwEnCapType → Type 0
 Tells outer rest type =
-    ((x : Item) × (more : List ℕ) × Front rest x more × (told x ≡ Some type)) ⊎ (Ends rest × (type ≡ outer))
+    ((x : Item) × (more : List ℕ) × Front rest x more × (told x ≡ Some type)) ⊎ (NoneInFront rest × (type ≡ outer))
 
 -- attributes that tell none, and then one that does, or the end; a fault only ends the search. The outer type is `None`
 -- for the list of a message

@@ -16,11 +16,11 @@ use Rattle.npr_route.specs.Attribute.{type_held, or_else, first_type}
 use Rattle.npr_route.specs.FlatAttribute as Flat
 use Rattle.npr_route.specs.FlatAttribute.{Context, other, rows, is_multicast, new_destination_variant, NewDestinationValue, expires_variant}
 use Rattle.npr_route.specs.FlatAttributeLaws as Flats
-use Rattle.npr_route.specs.Governing.{told, Ends, Tells, Governs}
+use Rattle.npr_route.specs.Governing.{told, NoneInFront, Tells, Governs}
 
 -- ---- one type
 
-ends_empty : (rest more : List ℕ) (x : Item) → Ends rest → Front rest x more → ⊥
+ends_empty : (rest more : List ℕ) (x : Item) → NoneInFront rest → Front rest x more → ⊥
 ends_empty rest more x (inl is) f = absurd (omega (arith, ap length is, Front-shrinks rest x more f))
 ends_empty rest more x (inr (e, left, bad)) f = Front-sound rest x more e f bad
 

@@ -1,9 +1,11 @@
 pub mod Attribute
+pub mod AttributeLooks
+pub mod AttributeLooksLaws
 pub mod AttributeLaws
 pub mod AttributeView
 pub mod FlatAttribute
 pub mod FlatAttributeLaws
-pub mod Gateway
+pub mod Path
 pub mod Governing
 pub mod GoverningLaws
 pub mod Header
@@ -12,5 +14,6 @@ pub mod Metric
 pub mod NextHopFrontLaws
 pub mod NextHopHeader
 pub mod Reader
+pub mod ReaderLooks
 pub mod RouteList
 pub mod RouteListLaws

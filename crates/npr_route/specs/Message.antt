@@ -6,12 +6,13 @@ use Rattle.npr_base.specs.declared.refusal.EmitError.{EmitError}
 use Rattle.npr_base.specs.declared.message.Message.{Message as Stored}
 use Rattle.npr_base.specs.Message.{Message, Body, view, IsMessage, IsMessageOf, MessageFault, IsCoherent, IsCoherentOf, spelling, message_misfit}
 use Rattle.npr_srh.specs.Seg6Mode.{ModeTable}
-use Rattle.npr_route.specs.Attribute.{Meaning, newer, attributes_depth, attributes_of}
+use Rattle.npr_route.specs.Attribute.{Meaning, normalized, attributes_depth, attributes_of}
 use Rattle.npr_route.specs.AttributeView.{meaning_of}
 use Rattle.npr_route.specs.AttributeLaws.{writing}
 use Rattle.npr_route.specs.Header.{header}
 use Rattle.npr_route.specs.RouteList.{Under, IsRouteList, IsRouteListBy, RouteListFault, IsCoherentList, IsCoherentListBy}
-use Rattle.npr_route.specs.RouteListLaws.{route-list-one, route-list-sound, route-list-coherent, route-list-back, route-list-grows, route-list-deep}
+use Rattle.npr_route.specs.RouteListLaws.{route-list-one, route-list-sound, route-list-coherent, route-list-back, route-list-grows}
+use Rattle.npr_route.specs.RouteListLaws.{route-list-deep, route_list_looking}
 use Rattle.npr_route.specs.declared.header.RouteHeader.{RouteHeader}
 use Rattle.npr_route.specs.declared.attribute.RouteAttribute.{RouteAttribute}
 
@@ -33,6 +34,7 @@ abbrev pub body : Body RouteHeader writing
 body = record {
   Reads = λ h bytes xs. IsRouteList (under h) bytes xs;
   Faulty = λ h bytes e. RouteListFault (under h) bytes e;
+  looks = λ h. route_list_looking (under h);
   Coherent = λ h xs. IsCoherentList (under h) xs;
   one_reading = λ h bytes xs ys p q. route-list-one (under h) bytes xs ys p q;
   no_fault = λ h bytes xs e p q. route-list-sound (under h) bytes xs e p q;
@@ -44,8 +46,8 @@ body = record {
 }
 
 -- the message with each SEG6 header in it brought up to the table of modes of today
-abbrev pub newer_route : Route → Route
-newer_route m = record { header = m.header; attributes = map newer m.attributes }
+abbrev pub normalized_route : Route → Route
+normalized_route m = record { header = m.header; attributes = map normalized m.attributes }
 
 -- the bytes are the message, and the message can be read, by a table of SEG6 modes
 unfoldable pub IsRouteMessageBy : ModeTable → List ℕ → Route → Type 0

@@ -9,8 +9,8 @@ use Rattle.npr_base.specs.Layout.{le32}
 use Rattle.npr_base.specs.Codec.{exactly}
 use Rattle.npr_base.specs.Name.{name}
 use Rattle.npr_base.specs.Table.{Writing, Reading, table_of, Row, row, Held, held, held_other, held_kind, held_value, held_misfit, held-reads, IsHeld}
-use Rattle.npr_base.specs.Table.{item_of, placed, IsOther, Aligned, ReadsAt}
-use Rattle.npr_base.specs.TableLaws.{flat, other-back}
+use Rattle.npr_base.specs.Table.{item_of, writing_by, IsOther, Aligned, ReadsAt}
+use Rattle.npr_base.specs.TableLaws.{table_family, other-back}
 use Rattle.npr_route.specs.declared.metrics.RouteMetric.{RouteMetric}
 use Rattle.npr_route.specs.declared.metrics.RouteMetric.TheVariants.{Lock, Mtu, Window, Rtt, RttVar, SsThresh, Cwnd, Advmss, Reordering}
 use Rattle.npr_route.specs.declared.metrics.RouteMetric.TheVariants.{Hoplimit, InitCwnd, Features, RtoMin, InitRwnd, QuickAck, CcAlgo}
@@ -83,46 +83,46 @@ rows =
     ∷ []
 
 -- where each meaning stands in it
-abbrev pub place : Metric → Held
-place (lock a) = held 1 (exactly le32) a
-place (mtu a) = held 2 (exactly le32) a
-place (window a) = held 3 (exactly le32) a
-place (rtt a) = held 4 (exactly le32) a
-place (rtt_var a) = held 5 (exactly le32) a
-place (ss_thresh a) = held 6 (exactly le32) a
-place (cwnd a) = held 7 (exactly le32) a
-place (advmss a) = held 8 (exactly le32) a
-place (reordering a) = held 9 (exactly le32) a
-place (hoplimit a) = held 10 (exactly le32) a
-place (init_cwnd a) = held 11 (exactly le32) a
-place (features a) = held 12 (exactly le32) a
-place (rto_min a) = held 13 (exactly le32) a
-place (init_rwnd a) = held 14 (exactly le32) a
-place (quick_ack a) = held 15 (exactly le32) a
-place (cc_algo a) = held 16 name a
-place (fastopen_no_cookie a) = held 17 (exactly le32) a
-place (other x) = held_other x
+abbrev pub held_of : Metric → Held
+held_of (lock a) = held 1 (exactly le32) a
+held_of (mtu a) = held 2 (exactly le32) a
+held_of (window a) = held 3 (exactly le32) a
+held_of (rtt a) = held 4 (exactly le32) a
+held_of (rtt_var a) = held 5 (exactly le32) a
+held_of (ss_thresh a) = held 6 (exactly le32) a
+held_of (cwnd a) = held 7 (exactly le32) a
+held_of (advmss a) = held 8 (exactly le32) a
+held_of (reordering a) = held 9 (exactly le32) a
+held_of (hoplimit a) = held 10 (exactly le32) a
+held_of (init_cwnd a) = held 11 (exactly le32) a
+held_of (features a) = held 12 (exactly le32) a
+held_of (rto_min a) = held 13 (exactly le32) a
+held_of (init_rwnd a) = held 14 (exactly le32) a
+held_of (quick_ack a) = held 15 (exactly le32) a
+held_of (cc_algo a) = held 16 name a
+held_of (fastopen_no_cookie a) = held 17 (exactly le32) a
+held_of (other x) = held_other x
 
 -- what can be read
 abbrev pub Coherent : Metric → Type 0
 Coherent (other x) = IsOther rows x
-Coherent m = IsHeld (place m)
+Coherent m = IsHeld (held_of m)
 
-pub aligned : Aligned (λ m. item_of (place m)) Coherent rows
+pub aligned : Aligned (λ m. item_of (held_of m)) Coherent rows
 aligned = search rules
 
-pub kinds : (m : Metric) → Coherent m → held_kind (place m) < 2 ^ 16
+pub kinds : (m : Metric) → Coherent m → held_kind (held_of m) < 2 ^ 16
 kinds (other x) c = c.proper.kind
 kinds m c = omega arith
 
-pub back : (m : Metric) → Coherent m → held_misfit (place m) ≡ None → ReadsAt other rows (number_of (item_of (place m)).kind) (item_of (place m)) m
+pub back : (m : Metric) → Coherent m → held_misfit (held_of m) ≡ None → ReadsAt other rows (number_of (item_of (held_of m)).kind) (item_of (held_of m)) m
 back (other x) c fits = other-back other rows (number_of x.kind) x c.alone
-back m c fits = (held_value (place m), held-reads (place m) c fits, refl)
+back m c fits = (held_value (held_of m), held-reads (held_of m) c fits, refl)
 
 -- how each is written
 abbrev pub writing : Writing Metric
-writing = placed place
+writing = writing_by held_of
 
 -- the family
 abbrev pub metrics : Reading writing
-metrics = flat (table_of rows other place Coherent aligned (λ x. refl) (λ x is. is) kinds back)
+metrics = table_family (table_of rows other held_of Coherent aligned (λ x. refl) (λ x is. is) kinds back)

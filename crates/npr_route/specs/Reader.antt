@@ -12,7 +12,7 @@ use Rattle.npr_route.specs.Governing.{Governs}
 use Rattle.npr_route.specs.NextHopHeader.{head_in}
 use Rattle.npr_route.specs.declared.next_hops.RouteNextHop.{RouteNextHop}
 use Rattle.npr_route.specs.declared.reader.Level.{Level}
-use Rattle.npr_route.specs.declared.reader.Reading.{Reading}
+use Rattle.npr_route.specs.declared.reader.Reader.{Reader}
 
 -- a front of the bytes is these next hops, and then the rest follows
 abbrev pub HopsTo : Context → List ℕ → List Hop → List ℕ → Type 0
@@ -25,13 +25,13 @@ abbrev pub context_inside : Level → Context
 context_inside l = typed l.context l.encap_type
 
 -- of the bytes the level has read next hops, and of the open one attributes up to a place
-pub record IsAt (bytes : List ℕ) (l : Level) (place : List ℕ) : Type 0 where
+pub record IsAt (bytes : List ℕ) (l : Level) (left : List ℕ) : Type 0 where
   pub front : List ℕ
   pub inside : List ℕ
   pub done : HopsTo l.context bytes (map hop_of l.next_hops.items) front
   pub is_open : HopFront front (head_in l.header) inside l.hops_rest.now
   pub governs : Governs l.context.2 inside l.encap_type
-  pub read : ReadsTo (Reads (context_inside l)) inside (map meaning_of l.attributes.items) place
+  pub read : ReadsTo (Reads (context_inside l)) inside (map meaning_of l.attributes.items) left
 
 -- up to what hasn't been walked
 abbrev pub IsOpen : List ℕ → Level → Type 0
@@ -39,10 +39,10 @@ IsOpen bytes l = IsAt bytes l l.walk
 
 -- up to an attribute that holds the next hops in these bytes, behind which it goes on
 pub record Waits (bytes : List ℕ) (l : Level) (value : List ℕ) : Type 0 where
-  pub place : List ℕ
+  pub left : List ℕ
   pub item : Item
-  pub at : IsAt bytes l place
-  pub begins : Front place item l.walk
+  pub at : IsAt bytes l left
+  pub begins : Front left item l.walk
   pub is_nine : number_of item.kind ≡ 9
   pub value_is : item.value ≡ value
 
@@ -51,7 +51,7 @@ abbrev pub Chain : Context → List ℕ → List Level → Context → List ℕ 
 Chain c bytes [] d value = (c ≡ d) × (bytes ≡ value)
 Chain c bytes (f ∷ fs) d value = (c ≡ f.context) × (inner : List ℕ) × Waits bytes f inner × Chain (context_inside f) inner fs d value
 
-abbrev pub Tied : Context → List ℕ → Reading → Type 0
+abbrev pub Tied : Context → List ℕ → Reader → Type 0
 Tied c bytes r = (value : List ℕ) × IsOpen value r.level × Chain c bytes r.stack.items r.level.context value
 
 -- a next hop has been opened behind others
@@ -70,7 +70,7 @@ abbrev pub weight_of : List Level → ℕ
 weight_of [] = 0
 weight_of (l ∷ ls) = level_weight l + weight_of ls
 
-abbrev pub weight : Reading → ℕ
+abbrev pub weight : Reader → ℕ
 weight r = level_weight r.level + weight_of r.stack.items
 
 -- ---- attributes ahead
@@ -133,7 +133,7 @@ account_of (l ∷ ls) = record {
   built = 1 + (level_account l).built + (account_of ls).built;
 }
 
-abbrev pub account : Reading → Account
+abbrev pub account : Reader → Account
 account r = record {
   room = (level_account r.level).room + (account_of r.stack.items).room;
   stops = (level_account r.level).stops + (account_of r.stack.items).stops;
@@ -164,12 +164,12 @@ pub record Ended (old new : Counts) (before : Account) (walk : ℕ) : Type 0 whe
   pub failed : new.failed ≤ old.failed + (1 + walk / 12)
 
 -- a step after which the reading goes on
-abbrev pub GoesOn : Reading → Reading → Counts → Counts → Type 0
+abbrev pub GoesOn : Reader → Reader → Counts → Counts → Type 0
 GoesOn r next old new =
     ((c : Context) (bytes : List ℕ) → Tied c bytes r → Tied c bytes next) × (weight next < weight r) × Added old new (account r) (account next)
 
 -- and one that ends it with the next hops
-abbrev pub Ends : Reading → List RouteNextHop → Counts → Counts → Type 0
+abbrev pub Ends : Reader → List RouteNextHop → Counts → Counts → Type 0
 Ends r hops old new =
     ((c : Context) (bytes : List ℕ) → Tied c bytes r → AreHops c bytes (hops_of (map hop_of hops)))
     × Added old new (account r) (all_built (map hop_of hops))

@@ -2,6 +2,8 @@
 use Rattle.std.specs.Prelude.{ℕ, List}
 use Rattle.npr_base.specs.declared.address_family.AddressFamily.{AddressFamily}
 use Rattle.npr_base.specs.declared.refusal.DecodeError.{DecodeError}
+use Rattle.npr_base.specs.Counts.{Counts}
+use Rattle.npr_base.specs.LooksLaws.{list_looking}
 use Rattle.npr_base.specs.Family.{AllOf, ReadsList, FirstFault}
 use Rattle.npr_scalar.specs.declared.route_type.RouteType.{RouteType}
 use Rattle.npr_tunnel.specs.declared.encap_type.RouteLwEnCapType.{RouteLwEnCapType}
@@ -9,7 +11,7 @@ use Rattle.npr_tunnel.specs.declared.encap_type.RouteLwEnCapType.TheVariants.{No
 use Rattle.npr_srh.specs.Seg6Mode.{ModeTable, modes}
 use Rattle.npr_route.specs.Attribute.{Meaning, ReadsBy, CoherentBy, attributes_of, first_type}
 use Rattle.npr_route.specs.AttributeLaws.{attributes}
-use Rattle.npr_route.specs.Governing.{Governs}
+use Rattle.npr_route.specs.Governing.{Governs, Searches}
 
 -- what the header says of its list
 abbrev pub Under : Type 0
@@ -29,6 +31,12 @@ abbrev pub RouteListFault : Under → List ℕ → DecodeError → Type 0
 RouteListFault under bytes e =
     (type : RouteLwEnCapType) × Governs NoEncapsulation bytes type
     × FirstFault (attributes (under.0, under.1, type)).Reads (attributes (under.0, under.1, type)).Faulty bytes e
+
+-- the looks that reading the bytes takes: those of the search for the type, and then those at the attributes
+abbrev pub RouteListTakes : Under → List ℕ → Counts → Counts → Type 0
+RouteListTakes under bytes old new =
+    (type : RouteLwEnCapType) × (mid : Counts) × Searches NoEncapsulation bytes type old mid
+    × (list_looking (attributes (under.0, under.1, type))).Takes bytes mid new
 
 -- what can be read: each attribute under the first type among them
 abbrev pub IsCoherentListBy : ModeTable → Under → List Meaning → Type 0

@@ -1,17 +1,21 @@
 -- A list of route attributes has one meaning at most, which is coherent and is read again from what is written.
-use Rattle.std.proofs.Common.{◌≡◌, ℕ, ◌*◌, ◌≤◌, List, length, None, subst}
+use Rattle.std.proofs.Common.{◌≡◌, ℕ, ◌*◌, ◌≤◌, List, length, None, ap, subst, ◌∙◌}
 use Rattle.npr_base.specs.declared.refusal.DecodeError.{DecodeError}
 use Rattle.npr_base.specs.Framing.{IsBytes}
 use Rattle.npr_base.specs.Family.{AllOf, ReadsList, encodings, first_unfit}
 use Rattle.npr_base.specs.ListLaws.{ReadsList-one, FirstFault-excludes, ReadsList-known, encodings-read, ReadsList-grows}
+use Rattle.npr_base.specs.Counts.{Counts, raised}
+use Rattle.npr_base.specs.Looks.{Adds, Looking}
+use Rattle.npr_base.specs.LooksLaws.{plus, raised-more, list_looking}
 use Rattle.npr_base.specs.Table.{Reading, fits-small}
 use Rattle.npr_tunnel.specs.declared.encap_type.RouteLwEnCapType.{RouteLwEnCapType}
 use Rattle.npr_tunnel.specs.declared.encap_type.RouteLwEnCapType.TheVariants.{None as NoEncapsulation}
 use Rattle.npr_route.specs.Attribute.{Meaning, attributes_of, attributes_depth, first_type}
+use Rattle.npr_route.specs.AttributeLooksLaws.{search-one, search-adds}
 use Rattle.npr_route.specs.FlatAttribute.{Context}
 use Rattle.npr_route.specs.AttributeLaws.{attributes, attributes-depth, writing}
 use Rattle.npr_route.specs.GoverningLaws.{governs-one, first_governs, governs_first, all_read}
-use Rattle.npr_route.specs.RouteList.{Under, IsRouteList, RouteListFault, IsCoherentList}
+use Rattle.npr_route.specs.RouteList.{Under, IsRouteList, RouteListFault, RouteListTakes, IsCoherentList}
 
 pub route-list-one : (under : Under) (bytes : List ℕ) (xs ys : List Meaning) → IsRouteList under bytes xs → IsRouteList under bytes ys → xs ≡ ys
 route-list-one under bytes xs ys (a, g, p) (b, h, q) =
@@ -56,3 +60,32 @@ pub route-list-deep : (under : Under) (bytes : List ℕ) (xs : List Meaning) →
 route-list-deep under bytes xs (type, g, p) =
     let c : Context = (under.0, under.1, type) in
     attributes-depth c bytes (attributes_of xs) (all_read c bytes xs p)
+
+pub route-list-looks-one : (under : Under) (bytes : List ℕ) (old new other : Counts) → RouteListTakes under bytes old new
+    → RouteListTakes under bytes old other → new ≡ other
+route-list-looks-one under bytes old new other (a, mid, s, p) (b, far, t, q) =
+    let f : Reading writing = attributes (under.0, under.1, a) in
+    let e = search-one NoEncapsulation bytes b a old far mid t s in
+    let same = subst (λ (z : RouteLwEnCapType). (list_looking (attributes (under.0, under.1, z))).Takes bytes far other) e.0 q in
+    (list_looking f).one bytes mid new other p (subst (λ (c : Counts). (list_looking f).Takes bytes c other) e.1 same)
+
+pub route-list-looks-add : (under : Under) (bytes : List ℕ) (old new : Counts) → RouteListTakes under bytes old new → Adds (RouteListTakes under bytes) old new
+route-list-looks-add under bytes old new (type, mid, s, p) =
+    let f : Reading writing = attributes (under.0, under.1, type) in
+    let a = search-adds NoEncapsulation bytes type old mid s in
+    let b = (list_looking f).adds bytes mid new p in
+    record {
+      number = plus a.number b.number;
+      is = b.is ∙ ap (raised b.number) a.is ∙ raised-more a.number b.number old;
+      alike =
+          λ c.
+          let far : Counts = raised a.number c in
+          (type, far, a.alike c, subst (λ (n : Counts). (list_looking f).Takes bytes far n) (raised-more a.number b.number c) (b.alike far));
+    }
+
+abbrev pub route_list_looking : Under → Looking (List ℕ)
+route_list_looking under = record {
+  Takes = RouteListTakes under;
+  one = route-list-looks-one under;
+  adds = route-list-looks-add under;
+}

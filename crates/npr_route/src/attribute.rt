@@ -28,6 +28,18 @@ use std::alloc::{AllocError, Global};
 /// The number of next hops, `RTA_MULTIPATH`.
 pub(crate) const RTA_MULTIPATH: u16 = 9;
 
+/// The kind of metrics (`linux/rtnetlink.h`).
+pub(crate) const RTA_METRICS: u16 = 8;
+
+/// The kind of a gateway of a family of its own (`linux/rtnetlink.h`).
+pub(crate) const RTA_VIA: u16 = 18;
+
+/// The kind of labels, or of an address, that a packet gets (`linux/rtnetlink.h`).
+pub(crate) const RTA_NEWDST: u16 = 19;
+
+/// The kind of a time to live (`linux/rtnetlink.h`).
+pub(crate) const RTA_EXPIRES: u16 = 23;
+
 /// The number of the type of an encapsulation, `RTA_ENCAP_TYPE`.
 pub(crate) const RTA_ENCAP_TYPE: u16 = 21;
 
@@ -127,14 +139,14 @@ impl Nla for RouteAttribute {
 
     fn kind(&self) -> u16 {
         route_rows!(kind_rows(self;
-            RouteAttribute::Metrics(_) => 8,
+            RouteAttribute::Metrics(_) => RTA_METRICS,
             RouteAttribute::MultiPath(_) => RTA_MULTIPATH,
-            RouteAttribute::Via(_) => 18,
-            RouteAttribute::NewDestination(_) => 19,
-            RouteAttribute::NewDestinationAddress(_) => 19,
+            RouteAttribute::Via(_) => RTA_VIA,
+            RouteAttribute::NewDestination(_) => RTA_NEWDST,
+            RouteAttribute::NewDestinationAddress(_) => RTA_NEWDST,
             RouteAttribute::Encap(_) => RTA_ENCAP,
-            RouteAttribute::Expires(_) => 23,
-            RouteAttribute::MulticastExpires(_) => 23,
+            RouteAttribute::Expires(_) => RTA_EXPIRES,
+            RouteAttribute::MulticastExpires(_) => RTA_EXPIRES,
         ))
     }
 

@@ -1,22 +1,28 @@
 //! The laws of route messages, over their definitions alone. Each function does nothing, and its
 //! contract is the law.
 
-ghost use Rattle.std.specs.Prelude.{◌≡◌, ◌≤◌, ◌+◌, ◌*◌, ℕ, List, None, length};
+ghost use Rattle.std.specs.Prelude.{true, false, ◌-◌, ◌≡◌, ◌≤◌, ◌+◌, ◌*◌, ℕ, List, None, length, max};
 ghost use Rattle.npr_base.specs.{
   Equality.{IsEquality, IsEqualityOf},
   declared.refusal.DecodeError.{DecodeError},
   Framing.{IsBytes},
+  Counts.{Counts, AddsAtMost, AddsAtMostTwice, SawEach},
+  Family.{list_members},
+  Message.{MessageLooks},
 };
 ghost use Rattle.npr_srh.specs.Seg6Mode.{first_modes};
 ghost use Rattle.npr_tunnel.specs.declared.encap_type.RouteLwEnCapType.{RouteLwEnCapType};
 ghost use Rattle.npr_route.specs.{
+  AttributeLaws.{writing},
+  AttributeLooks.{HopsLooks, HopsTake},
   AttributeView.{meaning_of, hop_of},
-  FlatAttribute.{Context},
+  FlatAttribute.{Context, Meaning as Flat},
   Governing.{Governs},
-  Header.{default_header},
+  Header.{default_header, header},
   Metric.{metric_of},
-  Message.{Route, message_of, newer_route, IsRouteMessage, IsRouteMessageBy, IsCoherentRoute, IsCoherentRouteBy, route_bytes, route_misfit},
-  Attribute.{Meaning, Attributes, attributes_of, first_type, AreGoverned, Hops, AreHops, HopsWrong, HopsCoherent, hops_bytes, hops_misfit, hops_depth},
+  Message.{Route, body, message_of, normalized_route, IsRouteMessage, IsRouteMessageBy, IsCoherentRoute, IsCoherentRouteBy, route_bytes, route_misfit},
+  Attribute.{Meaning, Attributes, attributes_of, first_type, AreGoverned, Hops, AreHops, HopsWrong, HopsCoherent, hops_bytes, hops_misfit},
+  Attribute.{HopHead, no_hops, hop, no_more, attribute, multi_path, flat, hops_depth, attributes_depth},
   RouteList.{Under, IsRouteList},
 };
 
@@ -38,7 +44,8 @@ pub fn law_governing_type()
 
 /// Next hops, over their definitions: bytes are one list of them at most, and none where there is
 /// a fault; what is read is coherent, what is coherent and fits is read back from its encoding,
-/// an encoding is at most five halves as long as what was read, and each level takes 12 bytes.
+/// an encoding is at most five halves as long as what was read, and each level takes 12 bytes. None
+/// have depth 0, and a list is one deeper than the deepest list inside its next hops.
 pub fn law_next_hops()
     ensures one { (c : Context) (bytes : List ℕ) (gs hs : Hops) → AreHops c bytes gs → AreHops c bytes hs → gs ≡ hs }
     ensures none { (c : Context) (bytes : List ℕ) (hs : Hops) (e : DecodeError) → AreHops c bytes hs → HopsWrong c bytes e → ⊥ }
@@ -46,20 +53,38 @@ pub fn law_next_hops()
     ensures back { (c : Context) (hs : Hops) → HopsCoherent c hs → hops_misfit hs ≡ None → AreHops c (hops_bytes hs) hs }
     ensures growth { (c : Context) (bytes : List ℕ) (hs : Hops) → IsBytes bytes → AreHops c bytes hs → 2 * length (hops_bytes hs) ≤ 5 * length bytes }
     ensures depth { (c : Context) (bytes : List ℕ) (hs : Hops) → AreHops c bytes hs → 12 * hops_depth hs ≤ 4 + length bytes }
+    ensures no_depth { hops_depth no_hops ≡ 0 }
+    ensures one_deeper { (h : HopHead) (ms : Attributes) (hs : Hops) → hops_depth (hop h ms hs) ≡ max (attributes_depth ms + 1) (hops_depth hs) }
+    ensures plain { (m : Flat) (ms : Attributes) → attributes_depth (attribute (flat m) ms) ≡ attributes_depth ms }
+    ensures inside { (gs : Hops) (ms : Attributes) → attributes_depth (attribute (multi_path gs) ms) ≡ max (hops_depth gs) (attributes_depth ms) }
+    ensures no_attributes { attributes_depth no_more ≡ 0 }
+{}
+
+/// The looks that reading a message, or next hops, takes, over their definitions.
+pub fn law_looks()
+    // At most two for four bytes behind the header, and one for twelve and two that fail.
+    ensures bounded { (bytes : List ℕ) (old new : Counts) → MessageLooks header body bytes old new → AddsAtMostTwice old new (length bytes - 12) }
+    // Each attribute of a message has one, and each member and next hop inside one.
+    ensures counted { (bytes : List ℕ) (m : Route) (old new : Counts) → IsRouteMessage bytes m → MessageLooks header body bytes old new
+        → SawEach old new (list_members writing.members m.attributes) }
+    ensures next_hops { (c : Context) (bytes : List ℕ) (old new : Counts) → HopsTake c bytes old new → AddsAtMost old new (length bytes) }
+    // Next hops are read where their looks say so, and else there is a fault.
+    ensures read { (c : Context) (bytes : List ℕ) (old new : Counts) → HopsLooks c bytes true old new → (hs : Hops) × AreHops c bytes hs }
+    ensures wrong { (c : Context) (bytes : List ℕ) (old new : Counts) → HopsLooks c bytes false old new → (e : DecodeError) × HopsWrong c bytes e }
 {}
 
 /// A message of the first table of SEG6 modes, brought up to the table of today as `normalize` does.
-pub fn law_newer()
+pub fn law_normalized()
     // It is written by the same bytes,
-    ensures bytes { (m : Route) → route_bytes (newer_route m) ≡ route_bytes m }
+    ensures bytes { (m : Route) → route_bytes (normalized_route m) ≡ route_bytes m }
     // and where it can't be written, for the same cause.
-    ensures fits { (m : Route) → route_misfit (newer_route m) ≡ route_misfit m }
+    ensures fits { (m : Route) → route_misfit (normalized_route m) ≡ route_misfit m }
     // Once is enough.
-    ensures again { (m : Route) → newer_route (newer_route m) ≡ newer_route m }
+    ensures again { (m : Route) → normalized_route (normalized_route m) ≡ normalized_route m }
     // What could be read then can be read now,
-    ensures coherent { (m : Route) → IsCoherentRouteBy first_modes m → IsCoherentRoute (newer_route m) }
+    ensures coherent { (m : Route) → IsCoherentRouteBy first_modes m → IsCoherentRoute (normalized_route m) }
     // and what bytes meant then, they mean now brought up.
-    ensures read { (bytes : List ℕ) (m : Route) → IsRouteMessageBy first_modes bytes m → IsRouteMessage bytes (newer_route m) }
+    ensures read { (bytes : List ℕ) (m : Route) → IsRouteMessageBy first_modes bytes m → IsRouteMessage bytes (normalized_route m) }
 {}
 
 /// The tables that have a name (`linux/rtnetlink.h`).

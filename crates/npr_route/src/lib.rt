@@ -3,7 +3,6 @@
 
 mod attribute;
 mod descent;
-mod gateway;
 mod header;
 pub mod laws;
 mod list;
@@ -12,6 +11,7 @@ mod metrics;
 mod modes;
 mod next_hop_buffer;
 mod next_hops;
+mod path;
 mod reader;
 mod rows;
 
@@ -23,4 +23,5 @@ pub use metrics::RouteMetric;
 pub use modes::normalize;
 pub use next_hop_buffer::RouteNextHopBuffer;
 pub use next_hops::RouteNextHop;
+pub use path::RoutePath;
 pub use reader::read_next_hops;

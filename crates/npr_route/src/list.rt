@@ -6,13 +6,14 @@ ghost use Rattle.npr_base.specs.{
   Counts.{AddsAtMostTwice, SawEach},
   Family.{list_members},
   Framing.{Item, Front},
+  Looks.{Answered},
 };
 ghost use Rattle.npr_route.specs.{
   Attribute.{Meaning},
   AttributeView.{meaning_of},
   AttributeLaws.{writing},
   Governing.{told, Governs, Searches},
-  RouteList.{IsRouteList, RouteListFault},
+  RouteList.{IsRouteList, RouteListFault, RouteListTakes},
 };
 
 use crate::attribute::{RTA_ENCAP_TYPE, RouteAttribute};
@@ -73,6 +74,8 @@ pub fn read_route_list(
     ensures none { IfErr result (λ e. e ≢ OutOfMemory → (xs : List Meaning) → IsRouteList under bytes.now xs → ⊥) }
     // Memory is taken behind a first whole attribute alone.
     ensures memory { IsErrOf result OutOfMemory → (x : Item) × (rest : List ℕ) × Front bytes.now x rest }
+    // The looks are those that the bytes take.
+    ensures exact { Answered result → RouteListTakes under bytes.now looks.old looks.new }
     // The search and the reading together look no more often than a reading may.
     ensures bounded { AddsAtMostTwice looks.old looks.new (length bytes.now) }
     ensures counted { IfOk result (λ v. SawEach looks.old looks.new (list_members writing.members (map meaning_of v.items))) }

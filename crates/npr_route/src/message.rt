@@ -16,6 +16,9 @@ use crate::list::read_route_list;
 use npr_base::{DecodeError, Header, Looks, Message};
 use std::alloc::Global;
 
+/// The bytes of `struct rtmsg` of `linux/rtnetlink.h`.
+const RTMSG_SIZE: usize = 12;
+
 /// A route message: a header of 12 bytes, and attributes to the end.
 pub type RouteMessage = Message<RouteHeader, RouteAttribute>;
 
@@ -41,7 +44,7 @@ impl Header for RouteHeader {
     ghost meanings_are = { λ xs ys e. e };
 
     fn size() -> usize {
-        12
+        RTMSG_SIZE
     }
 
     #[inline]

@@ -2,11 +2,11 @@
 //! checking and writing do, and takes no memory.
 
 ghost use Rattle.std.specs.Prelude.{◌≡◌, map, Vec};
-ghost use Rattle.npr_tunnel.specs.Encapsulation.{meaning_of as member_of, newer as newer_member};
+ghost use Rattle.npr_tunnel.specs.Encapsulation.{meaning_of as member_of, normalized as normalized_member};
 ghost use Rattle.npr_route.specs.{
-  Attribute.{newer, newer_hop},
+  Attribute.{normalized, normalized_hop},
   AttributeView.{meaning_of, hop_of},
-  Message.{message_of, newer_route},
+  Message.{message_of, normalized_route},
 };
 
 use crate::attribute::RouteAttribute;
@@ -21,13 +21,13 @@ use std::mem;
 /// stays the same.
 pub fn normalize(message: &mut RouteMessage)
     // Each header is brought up, and all else is as it was.
-    ensures { message_of message.new ≡ newer_route (message_of message.old) }
+    ensures { message_of message.new ≡ normalized_route (message_of message.old) }
 {
     normalize_attributes(message.attributes.as_mut_slice());
 }
 
 fn normalize_members(members: &mut [RouteLwTunnelEncap])
-    ensures { map member_of members.new ≡ map newer_member (map member_of members.old) }
+    ensures { map member_of members.new ≡ map normalized_member (map member_of members.old) }
 {
     for member in members.iter_mut() {
         member.normalize();
@@ -36,7 +36,7 @@ fn normalize_members(members: &mut [RouteLwTunnelEncap])
 
 #[cycle(normalize)]
 fn normalize_attribute(attribute: &mut RouteAttribute)
-    ensures { meaning_of attribute.new ≡ newer (meaning_of attribute.old) }
+    ensures { meaning_of attribute.new ≡ normalized (meaning_of attribute.old) }
 {
     match attribute {
         RouteAttribute::Encap(members) => normalize_members(members.as_mut_slice()),
@@ -76,7 +76,7 @@ fn normalize_attribute(attribute: &mut RouteAttribute)
 #[cycle(normalize)]
 fn normalize_multi_path(attribute: &mut RouteAttribute)
     requires { (v : Vec RouteNextHop Global) × (attribute.now ≡ RouteAttribute.MultiPath v) }
-    ensures { meaning_of attribute.new ≡ newer (meaning_of attribute.old) }
+    ensures { meaning_of attribute.new ≡ normalized (meaning_of attribute.old) }
 {
     let taken = mem::replace(attribute, RouteAttribute::Uid(0));
     if let RouteAttribute::MultiPath(mut hops) = taken {
@@ -87,7 +87,7 @@ fn normalize_multi_path(attribute: &mut RouteAttribute)
 
 #[cycle(normalize)]
 fn normalize_attributes(attributes: &mut [RouteAttribute])
-    ensures { map meaning_of attributes.new ≡ map newer (map meaning_of attributes.old) }
+    ensures { map meaning_of attributes.new ≡ map normalized (map meaning_of attributes.old) }
 {
     for attribute in attributes.iter_mut() {
         normalize_attribute(attribute);
@@ -96,14 +96,14 @@ fn normalize_attributes(attributes: &mut [RouteAttribute])
 
 #[cycle(normalize)]
 fn normalize_hop(hop: &mut RouteNextHop)
-    ensures { hop_of hop.new ≡ newer_hop (hop_of hop.old) }
+    ensures { hop_of hop.new ≡ normalized_hop (hop_of hop.old) }
 {
     normalize_attributes(hop.attributes.as_mut_slice());
 }
 
 #[cycle(normalize)]
 fn normalize_hops(hops: &mut [RouteNextHop])
-    ensures { map hop_of hops.new ≡ map newer_hop (map hop_of hops.old) }
+    ensures { map hop_of hops.new ≡ map normalized_hop (map hop_of hops.old) }
 {
     for hop in hops.iter_mut() {
         normalize_hop(hop);

@@ -1,16 +1,20 @@
 //! Reading of next hops, by a loop and a stack: they alone nest without bound.
 
-ghost use Rattle.std.specs.Prelude.{◌≡◌, ◌≢◌, ◌<◌, ◌+◌, ◌++◌, ℕ, List, [], ◌∷◌, false, IsTrue, length, map, IfOk, IfErr, OnOk, OnErr, IsErrOf, MatchOption};
+ghost use Rattle.std.specs.Prelude.{◌≡◌, ◌≢◌, ◌<◌, ◌+◌, ◌++◌, ℕ, List, [], ◌∷◌, true, false, IsTrue, length, map, IfOk, IfErr, OnOk, OnErr, IsErrOf, MatchOption};
 ghost use Rattle.npr_base.specs.{
   declared.refusal.DecodeError.TheVariants.{OutOfMemory},
   Counts.{AddsAtMost, SawEach, hit, miss},
+  Looks.{Answered},
 };
 ghost use Rattle.npr_route.specs.{
   Attribute.{HopHead, HopFront, HopFault, Hop, IsHop, HopWrong, Hops, AreHops, HopsWrong, hops_members},
+  AttributeLooks.{HopsTake},
   AttributeView.{hop_of, hops_of},
   FlatAttribute.{Context},
+  Governing.{Searches},
   NextHopHeader.{head_in},
   Reader.{Tied, Opens, SoughtIn, account, GoesOn, Ends, Ended},
+  ReaderLooks.{Follows, Finishes},
 };
 
 use crate::attribute::{Context, RTA_MULTIPATH, RouteAttribute};
@@ -51,7 +55,7 @@ struct Level<'a> {
 /// The open list, and those that wait for it, the outermost first: each at an attribute whose value
 /// is the list of the next.
 #[derive(Drop)]
-struct Reading<'a> {
+struct Reader<'a> {
     level: Level<'a>,
     stack: Vec<Level<'a>>,
 }
@@ -77,13 +81,15 @@ pub fn read_next_hops(
     ensures none { IfErr result (λ e. e ≢ OutOfMemory → (hs : Hops) → AreHops context bytes.now hs → ⊥) }
     // Memory is taken behind a first whole header alone.
     ensures memory { IsErrOf result OutOfMemory → (h : HopHead) × (inside : List ℕ) × (rest : List ℕ) × HopFront bytes.now h inside rest }
+    // The looks are those that the bytes take.
+    ensures exact { Answered result → HopsTake context bytes.now looks.old looks.new }
     ensures bounded { AddsAtMost looks.old looks.new (length bytes.now) }
     ensures counted { IfOk result (λ v. SawEach looks.old looks.new (hops_members (hops_of (map hop_of v.items)))) }
 {
-    read_levels(alloc, bytes, context, looks)
+    read_next_hops_body(alloc, bytes, context, looks)
 }
 
-fn read_levels(
+fn read_next_hops_body(
     alloc: Global,
     bytes: &[u8],
     context: Context,
@@ -92,6 +98,7 @@ fn read_levels(
     ensures ok { IfOk result (λ v. AreHops context bytes.now (hops_of (map hop_of v.items))) }
     ensures refused { IfErr result (λ e. e ≢ OutOfMemory → HopsWrong context bytes.now e) }
     ensures memory { IsErrOf result OutOfMemory → (h : HopHead) × (inside : List ℕ) × (rest : List ℕ) × HopFront bytes.now h inside rest }
+    ensures exact { Answered result → HopsTake context bytes.now looks.old looks.new }
     ensures bounded { AddsAtMost looks.old looks.new (length bytes.now) }
     ensures counted { IfOk result (λ v. SawEach looks.old looks.new (hops_members (hops_of (map hop_of v.items)))) }
 {
@@ -99,12 +106,12 @@ fn read_levels(
         return Ok(Vec::new(alloc));
     }
     let level = open(alloc, bytes, context, looks)?;
-    let mut reading = Reading {
+    let mut reader = Reader {
         level,
         stack: Vec::new(alloc),
     };
     loop {
-        if let Some(next_hops) = advance(alloc, &mut reading, looks)? {
+        if let Some(next_hops) = advance(alloc, &mut reader, looks)? {
             return Ok(next_hops);
         }
     }
@@ -141,6 +148,7 @@ fn open<'a>(
     looks: &mut Looks,
 ) -> Result<Level<'a>, DecodeError>
     ensures ok { IfOk result (λ l. Opens context bytes.now [] l) }
+    ensures searched { IfOk result (λ l. Searches context.2 l.walk l.encap_type (hit looks.old) looks.new) }
     ensures sought { IfOk result (λ l. SoughtIn l.walk looks.old looks.new) }
     ensures refused { IfErr result (λ e. (e ≢ OutOfMemory) × HopFault bytes.now e) }
     ensures misses { OnErr result (looks.new ≡ miss looks.old) }
@@ -169,6 +177,7 @@ fn open<'a>(
 fn open_next(level: &mut Level<'_>, looks: &mut Looks) -> Result<(), DecodeError>
     requires { level.old.attributes.items ≡ [] }
     ensures ok { IfOk result (λ _. Opens level.old.context level.old.hops_rest.now level.old.next_hops.items level.new) }
+    ensures searched { IfOk result (λ _. Searches level.old.context.2 level.new.walk level.new.encap_type (hit looks.old) looks.new) }
     ensures sought { IfOk result (λ _. SoughtIn level.new.walk looks.old looks.new) }
     ensures refused { IfErr result (λ e. (e ≢ OutOfMemory) × HopFault level.old.hops_rest.now e) }
     ensures misses { OnErr result (looks.new ≡ miss looks.old) }
@@ -185,22 +194,24 @@ fn open_next(level: &mut Level<'_>, looks: &mut Looks) -> Result<(), DecodeError
 /// next hops of the outermost list, once all of them were read.
 fn advance<'a>(
     alloc: Global,
-    reading: &mut Reading<'a>,
+    reader: &mut Reader<'a>,
     looks: &mut Looks,
 ) -> Result<Option<Vec<RouteNextHop>>, DecodeError>
-    ensures ok { IfOk result (λ done. MatchOption done (GoesOn reading.old reading.new looks.old looks.new) (λ v. Ends reading.old v.items looks.old looks.new)) }
-    ensures refused { IfErr result (λ e. e ≢ OutOfMemory → (c : Context) (bytes : List ℕ) → Tied c bytes reading.old → HopsWrong c bytes e) }
-    ensures ended { OnErr result (Ended looks.old looks.new (account reading.old) (length reading.old.level.walk)) }
+    ensures ok { IfOk result (λ done. MatchOption done (GoesOn reader.old reader.new looks.old looks.new) (λ v. Ends reader.old v.items looks.old looks.new)) }
+    ensures refused { IfErr result (λ e. e ≢ OutOfMemory → (c : Context) (bytes : List ℕ) → Tied c bytes reader.old → HopsWrong c bytes e) }
+    ensures follows { IfOk result (λ done. MatchOption done (Follows reader.old reader.new looks.old looks.new) (λ _. Finishes reader.old true looks.old looks.new)) }
+    ensures stops { IfErr result (λ e. e ≢ OutOfMemory → Finishes reader.old false looks.old looks.new) }
+    ensures ended { OnErr result (Ended looks.old looks.new (account reader.old) (length reader.old.level.walk)) }
 {
-    let Some(next) = reading.level.walk.next_counted(looks) else {
-        return close(alloc, reading, looks);
+    let Some(next) = reader.level.walk.next_counted(looks) else {
+        return close(alloc, reader, looks);
     };
     let item = next?;
-    let level = &mut reading.level;
+    let level = &mut reader.level;
     if item.kind() == RTA_MULTIPATH && !item.value().is_empty() {
         let inside = (level.context.0, level.context.1, level.encap_type);
         let inner = open(alloc, item.value(), inside, looks)?;
-        enter(reading, inner)?;
+        enter(reader, inner)?;
         return Ok(None);
     }
     make_room(
@@ -219,24 +230,24 @@ fn advance<'a>(
 }
 
 /// Opens a list inside the open one, which waits for it.
-fn enter<'a>(reading: &mut Reading<'a>, inner: Level<'a>) -> Result<(), DecodeError>
-    ensures ok { IfOk result (λ _. (reading.new.level ≡ inner.entry) × (reading.new.stack.items ≡ reading.old.stack.items ++ reading.old.level ∷ [])) }
+fn enter<'a>(reader: &mut Reader<'a>, inner: Level<'a>) -> Result<(), DecodeError>
+    ensures ok { IfOk result (λ _. (reader.new.level ≡ inner.entry) × (reader.new.stack.items ≡ reader.old.stack.items ++ reader.old.level ∷ [])) }
     ensures refused { IfErr result (λ e. e ≡ OutOfMemory) }
 {
-    let outer = mem::replace(&mut reading.level, inner);
-    reading.stack.push(outer)?;
+    let outer = mem::replace(&mut reader.level, inner);
+    reader.stack.push(outer)?;
     Ok(())
 }
 
 /// Goes on with the last list that waits, if one does. It and `enter` are functions of their own, for
 /// what a function keeps on the stack, here a whole level, is cleared at its entry.
-fn leave(reading: &mut Reading<'_>) -> bool
-    ensures waits { IsTrue result → reading.old.stack.items ≡ reading.new.stack.items ++ reading.new.level ∷ [] }
-    ensures none { (result ≡ false) → reading.old.stack.items ≡ [] }
+fn leave(reader: &mut Reader<'_>) -> bool
+    ensures waits { IsTrue result → reader.old.stack.items ≡ reader.new.stack.items ++ reader.new.level ∷ [] }
+    ensures none { (result ≡ false) → reader.old.stack.items ≡ [] }
 {
-    match reading.stack.pop() {
+    match reader.stack.pop() {
         Some(outer) => {
-            reading.level = outer;
+            reader.level = outer;
             true
         }
         None => false,
@@ -247,15 +258,17 @@ fn leave(reading: &mut Reading<'_>) -> bool
 /// or the list that waits goes on.
 fn close<'a>(
     alloc: Global,
-    reading: &mut Reading<'a>,
+    reader: &mut Reader<'a>,
     looks: &mut Looks,
 ) -> Result<Option<Vec<RouteNextHop>>, DecodeError>
-    requires { reading.old.level.walk ≡ [] }
-    ensures ok { IfOk result (λ done. MatchOption done (GoesOn reading.old reading.new looks.old looks.new) (λ v. Ends reading.old v.items looks.old looks.new)) }
-    ensures refused { IfErr result (λ e. e ≢ OutOfMemory → (c : Context) (bytes : List ℕ) → Tied c bytes reading.old → HopsWrong c bytes e) }
-    ensures ended { OnErr result (Ended looks.old looks.new (account reading.old) (length reading.old.level.walk)) }
+    requires { reader.old.level.walk ≡ [] }
+    ensures ok { IfOk result (λ done. MatchOption done (GoesOn reader.old reader.new looks.old looks.new) (λ v. Ends reader.old v.items looks.old looks.new)) }
+    ensures refused { IfErr result (λ e. e ≢ OutOfMemory → (c : Context) (bytes : List ℕ) → Tied c bytes reader.old → HopsWrong c bytes e) }
+    ensures follows { IfOk result (λ done. MatchOption done (Follows reader.old reader.new looks.old looks.new) (λ _. Finishes reader.old true looks.old looks.new)) }
+    ensures stops { IfErr result (λ e. e ≢ OutOfMemory → Finishes reader.old false looks.old looks.new) }
+    ensures ended { OnErr result (Ended looks.old looks.new (account reader.old) (length reader.old.level.walk)) }
 {
-    let level = &mut reading.level;
+    let level = &mut reader.level;
     make_room(
         &mut level.next_hops,
         level.hops_rest.len().saturating_add(8),
@@ -272,10 +285,10 @@ fn close<'a>(
         return Ok(None);
     }
     let next_hops = mem::replace(&mut level.next_hops, Vec::new(alloc));
-    if !leave(reading) {
+    if !leave(reader) {
         return Ok(Some(next_hops));
     }
-    reading
+    reader
         .level
         .attributes
         .push(RouteAttribute::MultiPath(next_hops))?;
@@ -305,11 +318,15 @@ impl<'a> ParseableParametrized<&'a [u8], Context> for RouteNextHop {
         // Memory is taken behind a whole header alone.
         ensures memory { IsErrOf result OutOfMemory → (h : HopHead) × (inside : List ℕ) × (rest : List ℕ) × HopFront bytes.now h inside rest }
     {
-        read_hop(alloc, bytes, context)
+        parse_with_param_body(alloc, bytes, context)
     }
 }
 
-fn read_hop(alloc: Global, bytes: &[u8], context: Context) -> Result<RouteNextHop, DecodeError>
+fn parse_with_param_body(
+    alloc: Global,
+    bytes: &[u8],
+    context: Context,
+) -> Result<RouteNextHop, DecodeError>
     ensures ok { IfOk result (λ h. IsHop context bytes.now (hop_of h)) }
     ensures refused { IfErr result (λ e. e ≢ OutOfMemory → HopWrong context bytes.now e) }
     ensures memory { IsErrOf result OutOfMemory → (h : HopHead) × (inside : List ℕ) × (rest : List ℕ) × HopFront bytes.now h inside rest }

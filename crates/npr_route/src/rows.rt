@@ -1,10 +1,12 @@
 //! The rows of route attributes: their list, those that stand beside it, and how each is read.
 
-ghost use Rattle.std.specs.Prelude.{◌≡◌, ◌≢◌, [], ◌∷◌, ◌++◌, length, IfOk, IfErr, IsOk};
+ghost use Rattle.std.specs.Prelude.{true, false, ◌≡◌, ◌≢◌, [], ◌∷◌, ◌++◌, length, IfOk, IfErr, IsOk};
 ghost use Rattle.npr_base.specs.{
   Counts.{AddsAtMost, SawEach},
   Framing.{number_of},
-  Table.{ReadsBy, WrongBy},
+  Looks.{Answered},
+  LooksLaws.{list_looking},
+  Table.{RowReads, RowWrong},
   declared.refusal.DecodeError.TheVariants.{OutOfMemory},
 };
 ghost use Rattle.npr_scalar.specs.{
@@ -16,14 +18,19 @@ ghost use Rattle.npr_scalar.specs.{
 ghost use Rattle.npr_tunnel.specs.Encapsulation.{encapsulation};
 ghost use Rattle.npr_route.specs.{
   Attribute.{flat, typed},
+  AttributeLooks.{AttributeLooks},
   AttributeView.{meaning_of},
   AttributeLaws.{writing, attributes},
   declared.attribute.RouteAttribute.{RouteAttribute},
   FlatAttributeLaws.{attributes as flat_attributes},
+  Metric.{metrics},
   FlatAttribute.{Meaning as Flat, at, is_multicast, metrics_row, new_destination_row, encap_row, expires_row},
 };
 
-use crate::attribute::{Context, RTA_ENCAP, RTA_MULTIPATH, RouteAttribute};
+use crate::attribute::{
+    Context, RTA_ENCAP, RTA_EXPIRES, RTA_METRICS, RTA_MULTIPATH, RTA_NEWDST, RTA_VIA,
+    RouteAttribute,
+};
 use npr_base::{
     AddressFamily, AttrFamily, DecodeError, DefaultNla, Ipv6Addr, Looks, NlaBuffer, Parseable,
     borrow_octets, parse_list, read_ipv4, read_u32, read_u64, read_value,
@@ -118,8 +125,9 @@ fn put_metrics(
     looks: &mut Looks,
 ) -> Result<(), DecodeError>
     requires { place.old ≡ RouteAttribute.Uid 0 }
-    ensures ok { IfOk result (λ _. (m : Flat) × ReadsBy metrics_row value.now m × (meaning_of place.new ≡ flat m)) }
-    ensures refused { IfErr result (λ e. e ≢ OutOfMemory → WrongBy metrics_row value.now e) }
+    ensures ok { IfOk result (λ _. (m : Flat) × RowReads metrics_row value.now m × (meaning_of place.new ≡ flat m)) }
+    ensures refused { IfErr result (λ e. e ≢ OutOfMemory → RowWrong metrics_row value.now e) }
+    ensures exact { Answered result → (list_looking metrics).Takes value.now looks.old looks.new }
     ensures bounded { AddsAtMost looks.old looks.new (length value.now) }
     ensures counted { IfOk result (λ _. SawEach looks.old looks.new (writing.members (meaning_of place.new))) }
 {
@@ -138,8 +146,9 @@ fn put_encapsulation(
     looks: &mut Looks,
 ) -> Result<(), DecodeError>
     requires { place.old ≡ RouteAttribute.Uid 0 }
-    ensures ok { IfOk result (λ _. (m : Flat) × ReadsBy (encap_row (encapsulation encap_type)) value.now m × (meaning_of place.new ≡ flat m)) }
-    ensures refused { IfErr result (λ e. e ≢ OutOfMemory → WrongBy (encap_row (encapsulation encap_type)) value.now e) }
+    ensures ok { IfOk result (λ _. (m : Flat) × RowReads (encap_row (encapsulation encap_type)) value.now m × (meaning_of place.new ≡ flat m)) }
+    ensures refused { IfErr result (λ e. e ≢ OutOfMemory → RowWrong (encap_row (encapsulation encap_type)) value.now e) }
+    ensures exact { Answered result → (list_looking (encapsulation encap_type)).Takes value.now looks.old looks.new }
     ensures bounded { AddsAtMost looks.old looks.new (length value.now) }
     ensures counted { IfOk result (λ _. SawEach looks.old looks.new (writing.members (meaning_of place.new))) }
 {
@@ -155,7 +164,7 @@ fn put_via(place: &mut RouteAttribute, alloc: Global, value: &[u8]) -> Result<()
     ensures ok { IfOk result (λ _. (via : RouteVia) × (place.new ≡ RouteAttribute.Via via) × via_value.Reads value.now (via_of via)) }
     ensures refused { IfErr result (λ e. e ≢ OutOfMemory → via_value.Wrong (at 18) value.now e) }
 {
-    let via = RouteVia::read(alloc, value, FAMILY.at(18))?;
+    let via = RouteVia::read(alloc, value, FAMILY.at(RTA_VIA))?;
     put(place, RouteAttribute::Via(via));
     Ok(())
 }
@@ -169,8 +178,8 @@ fn put_new_destination(
     value: &[u8],
 ) -> Result<(), DecodeError>
     requires { place.old ≡ RouteAttribute.Uid 0 }
-    ensures ok { IfOk result (λ _. (m : Flat) × ReadsBy (new_destination_row (form_of family)) value.now m × (meaning_of place.new ≡ flat m)) }
-    ensures refused { IfErr result (λ e. e ≢ OutOfMemory → WrongBy (new_destination_row (form_of family)) value.now e) }
+    ensures ok { IfOk result (λ _. (m : Flat) × RowReads (new_destination_row (form_of family)) value.now m × (meaning_of place.new ≡ flat m)) }
+    ensures refused { IfErr result (λ e. e ≢ OutOfMemory → RowWrong (new_destination_row (form_of family)) value.now e) }
 {
     match family {
         AddressFamily::Mpls => {
@@ -178,7 +187,7 @@ fn put_new_destination(
             put(place, RouteAttribute::NewDestination(labels));
         }
         _ => {
-            let address = RouteAddress::read(alloc, family, value, FAMILY.at(19))?;
+            let address = RouteAddress::read(alloc, family, value, FAMILY.at(RTA_NEWDST))?;
             put(place, RouteAttribute::NewDestinationAddress(address));
         }
     }
@@ -189,10 +198,10 @@ fn put_new_destination(
 #[inline(always)]
 fn put_expires(place: &mut RouteAttribute, kind: RouteType, value: &[u8]) -> Result<(), DecodeError>
     requires { place.old ≡ RouteAttribute.Uid 0 }
-    ensures ok { IfOk result (λ _. (m : Flat) × ReadsBy (expires_row (is_multicast kind)) value.now m × (meaning_of place.new ≡ flat m)) }
-    ensures refused { IfErr result (λ e. WrongBy (expires_row (is_multicast kind)) value.now e) }
+    ensures ok { IfOk result (λ _. (m : Flat) × RowReads (expires_row (is_multicast kind)) value.now m × (meaning_of place.new ≡ flat m)) }
+    ensures refused { IfErr result (λ e. RowWrong (expires_row (is_multicast kind)) value.now e) }
 {
-    let at = FAMILY.at(23);
+    let at = FAMILY.at(RTA_EXPIRES);
     match kind {
         RouteType::Multicast => put(
             place,
@@ -245,17 +254,18 @@ pub(crate) fn read_flat(
     ensures ok { IfOk result (λ _. (attributes (typed context encap_type)).Reads item.now (meaning_of place.new)) }
     ensures refused { IfErr result (λ e. e ≢ OutOfMemory → (flat_attributes (typed context encap_type)).Faulty item.now e) }
     ensures nine { number_of (item.now).kind ≡ 9 → IsOk result }
+    ensures exact { Answered result → (flat_attributes (typed context encap_type)).looks.Takes item.now looks.old looks.new }
     ensures bounded { AddsAtMost looks.old looks.new (length (item.now).value) }
     ensures counted { IfOk result (λ _. SawEach looks.old looks.new (writing.members (meaning_of place.new))) }
 {
     let (family, kind, _) = context;
     route_rows!(put_rows(place, alloc, family, item;
-        8 => return put_metrics(place, alloc, item.value(), looks),
+        RTA_METRICS => return put_metrics(place, alloc, item.value(), looks),
         RTA_MULTIPATH => put(place, RouteAttribute::MultiPath(Vec::new(alloc))),
-        18 => return put_via(place, alloc, item.value()),
-        19 => return put_new_destination(place, alloc, family, item.value()),
+        RTA_VIA => return put_via(place, alloc, item.value()),
+        RTA_NEWDST => return put_new_destination(place, alloc, family, item.value()),
         RTA_ENCAP => return put_encapsulation(place, alloc, encap_type, item.value(), looks),
-        23 => return put_expires(place, kind, item.value()),
+        RTA_EXPIRES => return put_expires(place, kind, item.value()),
     ))
 }
 
@@ -273,6 +283,8 @@ pub(crate) fn push_flat(
     ensures ok { IfOk result (λ _. (a : RouteAttribute) × (list.new.items ≡ list.old.items ++ a ∷ []) × (attributes (typed context encap_type)).Reads item.now (meaning_of a)
         × SawEach looks.old looks.new (writing.members (meaning_of a))) }
     ensures refused { IfErr result (λ e. e ≢ OutOfMemory → (number_of (item.now).kind ≢ 9) × (flat_attributes (typed context encap_type)).Faulty item.now e) }
+    ensures read { IfOk result (λ _. AttributeLooks (typed context encap_type) item.now true looks.old looks.new) }
+    ensures faulty { IfErr result (λ e. e ≢ OutOfMemory → AttributeLooks (typed context encap_type) item.now false looks.old looks.new) }
     ensures bounded { AddsAtMost looks.old looks.new (length (item.now).value) }
 {
     list.push(RouteAttribute::Uid(0))?;

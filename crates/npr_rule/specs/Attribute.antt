@@ -11,8 +11,8 @@ use Rattle.npr_base.specs.Codec.{exactly}
 use Rattle.npr_base.specs.IpCodec.{ip}
 use Rattle.npr_base.specs.Name.{name}
 use Rattle.npr_base.specs.Table.{Writing, Reading, table_of, Row, row, Held, held, held_other, held_kind, held_value, held_misfit, held-reads, IsHeld}
-use Rattle.npr_base.specs.Table.{item_of, placed, IsOther, Aligned, ReadsAt}
-use Rattle.npr_base.specs.TableLaws.{flat, other-back}
+use Rattle.npr_base.specs.Table.{item_of, writing_by, IsOther, Aligned, ReadsAt}
+use Rattle.npr_base.specs.TableLaws.{table_family, other-back}
 use Rattle.npr_scalar.specs.Realm.{route_realm}
 use Rattle.npr_scalar.specs.RouteProtocol.{route_protocol}
 use Rattle.npr_scalar.specs.declared.realm.RouteRealm.{RouteRealm}
@@ -102,48 +102,48 @@ rows =
     ∷ []
 
 -- where each meaning stands in it
-abbrev pub place : Meaning → Held
-place (destination a) = held 1 ip a
-place (source a) = held 2 ip a
-place (iifname a) = held 3 name a
-place (goto a) = held 4 (exactly le32) a
-place (priority a) = held 6 (exactly le32) a
-place (fw_mark a) = held 10 (exactly le32) a
-place (realm a) = held 11 (exactly route_realm) a
-place (tun_id a) = held 12 (exactly be64) a
-place (suppress_if_group a) = held 13 (exactly le32) a
-place (suppress_prefix_len a) = held 14 (exactly le32) a
-place (table a) = held 15 (exactly le32) a
-place (fw_mask a) = held 16 (exactly le32) a
-place (oifname a) = held 17 name a
-place (l3mdev a) = held 19 (exactly boolean) a
-place (uid_range a) = held 20 (exactly uid_range_layout) a
-place (protocol a) = held 21 (exactly route_protocol) a
-place (ip_protocol a) = held 22 ip_protocol_byte a
-place (source_port_range a) = held 23 (exactly port_range) a
-place (destination_port_range a) = held 24 (exactly port_range) a
-place (other x) = held_other x
+abbrev pub held_of : Meaning → Held
+held_of (destination a) = held 1 ip a
+held_of (source a) = held 2 ip a
+held_of (iifname a) = held 3 name a
+held_of (goto a) = held 4 (exactly le32) a
+held_of (priority a) = held 6 (exactly le32) a
+held_of (fw_mark a) = held 10 (exactly le32) a
+held_of (realm a) = held 11 (exactly route_realm) a
+held_of (tun_id a) = held 12 (exactly be64) a
+held_of (suppress_if_group a) = held 13 (exactly le32) a
+held_of (suppress_prefix_len a) = held 14 (exactly le32) a
+held_of (table a) = held 15 (exactly le32) a
+held_of (fw_mask a) = held 16 (exactly le32) a
+held_of (oifname a) = held 17 name a
+held_of (l3mdev a) = held 19 (exactly boolean) a
+held_of (uid_range a) = held 20 (exactly uid_range_layout) a
+held_of (protocol a) = held 21 (exactly route_protocol) a
+held_of (ip_protocol a) = held 22 ip_protocol_byte a
+held_of (source_port_range a) = held 23 (exactly port_range) a
+held_of (destination_port_range a) = held 24 (exactly port_range) a
+held_of (other x) = held_other x
 
 -- what can be read
 abbrev pub Coherent : Meaning → Type 0
 Coherent (other x) = IsOther rows x
-Coherent m = IsHeld (place m)
+Coherent m = IsHeld (held_of m)
 
-pub aligned : Aligned (λ m. item_of (place m)) Coherent rows
+pub aligned : Aligned (λ m. item_of (held_of m)) Coherent rows
 aligned = search rules
 
-pub kinds : (m : Meaning) → Coherent m → held_kind (place m) < 2 ^ 16
+pub kinds : (m : Meaning) → Coherent m → held_kind (held_of m) < 2 ^ 16
 kinds (other x) c = c.proper.kind
 kinds m c = omega arith
 
-pub back : (m : Meaning) → Coherent m → held_misfit (place m) ≡ None → ReadsAt other rows (number_of (item_of (place m)).kind) (item_of (place m)) m
+pub back : (m : Meaning) → Coherent m → held_misfit (held_of m) ≡ None → ReadsAt other rows (number_of (item_of (held_of m)).kind) (item_of (held_of m)) m
 back (other x) c fits = other-back other rows (number_of x.kind) x c.alone
-back m c fits = (held_value (place m), held-reads (place m) c fits, refl)
+back m c fits = (held_value (held_of m), held-reads (held_of m) c fits, refl)
 
 -- how each is written
 abbrev pub writing : Writing Meaning
-writing = placed place
+writing = writing_by held_of
 
 -- the family
 abbrev pub attributes : Reading writing
-attributes = flat (table_of rows other place Coherent aligned (λ x. refl) (λ x is. is) kinds back)
+attributes = table_family (table_of rows other held_of Coherent aligned (λ x. refl) (λ x is. is) kinds back)

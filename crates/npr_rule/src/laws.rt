@@ -1,14 +1,19 @@
 //! The laws of rule messages, over their definitions alone. Each function does nothing, and its
 //! contract is the law.
 
-ghost use Rattle.std.specs.Prelude.{◌≡◌, ◌^◌, ℕ};
-ghost use Rattle.npr_base.specs.Equality.{IsEquality, IsEqualityOf};
+ghost use Rattle.std.specs.Prelude.{◌≡◌, ◌^◌, ◌-◌, ℕ, List, length};
+ghost use Rattle.npr_base.specs.{
+  Counts.{Counts, AddsAtMostTwice, SawEach},
+  Equality.{IsEquality, IsEqualityOf},
+  Family.{list_members},
+  Message.{MessageLooks},
+};
 ghost use Rattle.npr_rule.specs.{
   Action.{action_of, action_number},
-  Attribute.{meaning_of},
+  Attribute.{meaning_of, writing},
   Flags.{rule_flags_bits, rule_flags_of},
-  Header.{default_header},
-  Message.{message_of},
+  Header.{default_header, header},
+  Message.{Rule, body, message_of, IsRuleMessage},
 };
 
 use crate::action::RuleAction;
@@ -32,6 +37,15 @@ pub fn law_rule_flags()
     ensures iif_detached { rule_flags_bits RuleFlags.IifDetached ≡ 2 ^ 3 }
     ensures dev_detached { rule_flags_bits RuleFlags.DevDetached ≡ 2 ^ 3 }
     ensures oif_detached { rule_flags_bits RuleFlags.OifDetached ≡ 2 ^ 4 }
+{}
+
+/// The looks that reading a message takes, over their definition.
+pub fn law_looks()
+    // At most two for four bytes behind the header, and one for twelve and two that fail.
+    ensures bounded { (bytes : List ℕ) (old new : Counts) → MessageLooks header body bytes old new → AddsAtMostTwice old new (length bytes - 12) }
+    // Each attribute has one.
+    ensures counted { (bytes : List ℕ) (m : Rule) (old new : Counts) → IsRuleMessage bytes m → MessageLooks header body bytes old new
+        → SawEach old new (list_members writing.members m.attributes) }
 {}
 
 /// Which value is the default.

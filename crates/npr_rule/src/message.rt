@@ -13,6 +13,9 @@ use crate::header::RuleHeader;
 use npr_base::{DecodeError, Header, Looks, Message, parse_list};
 use std::alloc::Global;
 
+/// The bytes of `struct fib_rule_hdr` of `linux/fib_rules.h`.
+const FIB_RULE_HDR_SIZE: usize = 12;
+
 /// A rule message: a header of 12 bytes, and attributes to the end.
 pub type RuleMessage = Message<RuleHeader, RuleAttribute>;
 
@@ -38,7 +41,7 @@ impl Header for RuleHeader {
     ghost meanings_are = { λ xs ys e. e };
 
     fn size() -> usize {
-        12
+        FIB_RULE_HDR_SIZE
     }
 
     #[inline]

@@ -43,28 +43,28 @@ form_of Mpls = label
 form_of family = any
 
 -- the bytes that are written
-abbrev pub address_bytes : Address → List ℕ
-address_bytes (inet a) = a
-address_bytes (inet6 a) = a
-address_bytes (mpls l) = mpls_label.encode l
-address_bytes (other v) = v
+abbrev pub route_address_bytes : Address → List ℕ
+route_address_bytes (inet a) = a
+route_address_bytes (inet6 a) = a
+route_address_bytes (mpls l) = mpls_label.encode l
+route_address_bytes (other v) = v
 
 -- four bytes, sixteen, one label of four bytes, or any bytes as they stand
 abbrev pub address_by : Form → Codec Address
-address_by four = variant (exactly (octets 4)) inet address_bytes (λ v. refl) (λ kind v h. h)
-address_by sixteen = variant (exactly (octets 16)) inet6 address_bytes (λ v. refl) (λ kind v h. h)
-address_by label = variant (exactly mpls_label) mpls address_bytes (λ v. refl) (λ kind v h. h)
-address_by any = variant raw other address_bytes (λ v. refl) (λ kind v h. h)
+address_by four = variant (exactly (octets 4)) inet route_address_bytes (λ v. refl) (λ kind v h. h)
+address_by sixteen = variant (exactly (octets 16)) inet6 route_address_bytes (λ v. refl) (λ kind v h. h)
+address_by label = variant (exactly mpls_label) mpls route_address_bytes (λ v. refl) (λ kind v h. h)
+address_by any = variant raw other route_address_bytes (λ v. refl) (λ kind v h. h)
 
-pub address-back : (form : Form) (kind : ℕ) (a : Address) → (address_by form).Holds a → too_long kind (length (address_bytes a)) ≡ None
-    → (address_by form).Reads (address_bytes a) a
+pub address-back : (form : Form) (kind : ℕ) (a : Address) → (address_by form).Holds a → too_long kind (length (route_address_bytes a)) ≡ None
+    → (address_by form).Reads (route_address_bytes a) a
 address-back four kind a h fits = (address_by four).reads_back kind a h fits
 address-back sixteen kind a h fits = (address_by sixteen).reads_back kind a h fits
 address-back label kind a h fits = (address_by label).reads_back kind a h fits
 address-back any kind a h fits = (address_by any).reads_back kind a h fits
 
 pub address-grows : (form : Form) (bytes : List ℕ) (a : Address) → IsBytes bytes → (address_by form).Reads bytes a
-    → 2 * framed (length (address_bytes a)) ≤ 5 * (4 + length bytes)
+    → 2 * framed (length (route_address_bytes a)) ≤ 5 * (4 + length bytes)
 address-grows four bytes a is p = (address_by four).grows bytes a is p
 address-grows sixteen bytes a is p = (address_by sixteen).grows bytes a is p
 address-grows label bytes a is p = (address_by label).grows bytes a is p
@@ -75,14 +75,14 @@ abbrev pub address_in : Form → Codec Address
 address_in form = record {
   Reads = (address_by form).Reads;
   Wrong = (address_by form).Wrong;
-  writes = address_bytes;
-  misfit = λ kind a. too_long kind (length (address_bytes a));
+  writes = route_address_bytes;
+  misfit = λ kind a. too_long kind (length (route_address_bytes a));
   Holds = (address_by form).Holds;
   members = λ a. 0;
   one_reading = (address_by form).one_reading;
   no_fault = (address_by form).no_fault;
   reads_holds = (address_by form).reads_holds;
-  fits_short = λ kind a h. too_long-short kind (length (address_bytes a)) h;
+  fits_short = λ kind a h. too_long-short kind (length (route_address_bytes a)) h;
   reads_back = address-back form;
   grows = address-grows form;
 }

@@ -7,7 +7,7 @@ ghost use Rattle.npr_base.specs.{
   Refusal.{no_place},
 };
 ghost use Rattle.npr_scalar.specs.{
-  RouteAddress.{address_of, address_bytes, address_of_ip, route_address},
+  RouteAddress.{address_of, route_address_bytes, address_of_ip, route_address},
   declared.address.RouteAddress.TheVariants.{Inet, Inet6, Mpls},
 };
 
@@ -71,7 +71,7 @@ impl RouteAddress {
 
     /// The length of its bytes.
     pub fn len(&self) -> usize
-        ensures { result ≡ length (address_bytes (address_of self.now)) }
+        ensures { result ≡ length (route_address_bytes (address_of self.now)) }
     {
         match self {
             RouteAddress::Inet(ip) => ip.octets().len(),
@@ -83,9 +83,9 @@ impl RouteAddress {
 
     /// Writes its bytes at the front of the slice, leaves the rest, and answers their length.
     pub fn write(&self, out: &mut [u8]) -> usize
-        requires { length (address_bytes (address_of self.now)) ≤ length out.old }
-        ensures len { result ≡ length (address_bytes (address_of self.now)) }
-        ensures after { Writes out.old out.new (address_bytes (address_of self.now)) }
+        requires { length (route_address_bytes (address_of self.now)) ≤ length out.old }
+        ensures len { result ≡ length (route_address_bytes (address_of self.now)) }
+        ensures after { Writes out.old out.new (route_address_bytes (address_of self.now)) }
     {
         match self {
             RouteAddress::Inet(ip) => write_array(ip.octets(), out),
@@ -149,7 +149,7 @@ impl From<MplsLabel> for RouteAddress {
 }
 
 impl Emitable for RouteAddress {
-    ghost bytes = { λ a. address_bytes (address_of a) };
+    ghost bytes = { λ a. route_address_bytes (address_of a) };
 
     ghost unfit = { λ _. None };
 

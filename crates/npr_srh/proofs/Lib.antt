@@ -1,3 +1,3 @@
 pub mod Headers
 mod SegmentTexts
-pub mod Seg6NewerLaws
+pub mod Seg6NormalizedLaws

@@ -9,8 +9,9 @@ use Rattle.npr_base.specs.Codec.{exactly}
 use Rattle.npr_base.specs.DroppedCodec.{dropped}
 use Rattle.npr_base.specs.Layout.{le32, octets}
 use Rattle.npr_base.specs.Table.{Writing, Reading, Table, table_of, Row, row, Held, held, held_other, held_kind, held_value}
-use Rattle.npr_base.specs.Table.{held_misfit, held-reads, IsHeld, item_of, placed, IsOther, Aligned, ReadsAt}
+use Rattle.npr_base.specs.Table.{held_misfit, held-reads, IsHeld, item_of, writing_by, IsOther, Aligned, ReadsAt}
 use Rattle.npr_base.specs.TableLaws.{other-back}
+use Rattle.npr_base.specs.Text.{nla_text}
 use Rattle.npr_srh.specs.Keeping.{keeping, IsRowOf}
 use Rattle.npr_srh.specs.Ioam6Mode.{ioam6_mode, ioam6_mode_text}
 use Rattle.npr_srh.specs.Trace.{trace, trace_text}
@@ -61,47 +62,47 @@ rows =
     ∷ []
 
 -- where each meaning stands in it
-abbrev pub place : Meaning → Held
-place unspecified = held 0 dropped tt
-place (mode m) = held 1 (exactly ioam6_mode) m
-place (dst a) = held 2 (exactly (octets 16)) a
-place (traced t) = held 3 trace t
-place (freq_k n) = held 4 (exactly le32) n
-place (freq_n n) = held 5 (exactly le32) n
-place (src a) = held 6 (exactly (octets 16)) a
-place (other x) = held_other x
+abbrev pub held_of : Meaning → Held
+held_of unspecified = held 0 dropped tt
+held_of (mode m) = held 1 (exactly ioam6_mode) m
+held_of (dst a) = held 2 (exactly (octets 16)) a
+held_of (traced t) = held 3 trace t
+held_of (freq_k n) = held 4 (exactly le32) n
+held_of (freq_n n) = held 5 (exactly le32) n
+held_of (src a) = held 6 (exactly (octets 16)) a
+held_of (other x) = held_other x
 
 -- what can be read by it
 abbrev pub Coherent : Meaning → Type 0
 Coherent (other x) = IsOther rows x
-Coherent m = IsHeld (place m)
+Coherent m = IsHeld (held_of m)
 
-pub aligned : Aligned (λ m. item_of (place m)) Coherent rows
+pub aligned : Aligned (λ m. item_of (held_of m)) Coherent rows
 aligned = search rules
 
-pub kinds : (m : Meaning) → Coherent m → held_kind (place m) < 2 ^ 16
+pub kinds : (m : Meaning) → Coherent m → held_kind (held_of m) < 2 ^ 16
 kinds (other x) c = c.proper.kind
 kinds m c = omega arith
 
-pub back : (m : Meaning) → Coherent m → held_misfit (place m) ≡ None → ReadsAt other rows (number_of (item_of (place m)).kind) (item_of (place m)) m
+pub back : (m : Meaning) → Coherent m → held_misfit (held_of m) ≡ None → ReadsAt other rows (number_of (item_of (held_of m)).kind) (item_of (held_of m)) m
 back (other x) c fits = other-back other rows (number_of x.kind) x c.alone
-back m c fits = (held_value (place m), held-reads (place m) c fits, refl)
+back m c fits = (held_value (held_of m), held-reads (held_of m) c fits, refl)
 
 abbrev pub table_of_rows : Table Meaning
-table_of_rows = table_of rows other place Coherent aligned (λ x. refl) (λ x is. is) kinds back
+table_of_rows = table_of rows other held_of Coherent aligned (λ x. refl) (λ x is. is) kinds back
 
 pub here : IsRowOf table_of_rows trace_row
 here x m e p = let q = rw e at p in (q.0, q.1)
 
 -- how each is written
 abbrev pub writing : Writing Meaning
-writing = placed place
+writing = writing_by held_of
 
 -- the family: where the routing header can't be read, the attribute is kept
-abbrev pub members : Reading writing
-members = keeping table_of_rows trace_row here
+abbrev pub attributes : Reading writing
+attributes = keeping table_of_rows trace_row here
 
--- the text of a member; none is claimed for an unknown one
+-- the text of a member
 abbrev pub ioam6_text : Meaning → Option (List ℕ)
 ioam6_text unspecified = Some (codes "unspecified")
 ioam6_text (mode m) = Some (codes "mode " ++ ioam6_mode_text m)
@@ -110,4 +111,4 @@ ioam6_text (traced t) = Some (trace_text t)
 ioam6_text (freq_k n) = Some (codes "freq " ++ decimal n)
 ioam6_text (freq_n n) = Some (codes "/" ++ decimal n)
 ioam6_text (src a) = Some (codes "tunsrc " ++ ipv6_text (segments_of a))
-ioam6_text (other x) = None
+ioam6_text (other x) = nla_text x

@@ -3,8 +3,8 @@ use Rattle.std.proofs.Common.{◌≡◌, ◌+◌, ◌*◌, ◌<◌, ◌≤◌, �
 use Rattle.npr_base.specs.declared.refusal.DecodeError.{DecodeError}
 use Rattle.npr_base.specs.Framing.{Item, Proper, framed, number_of}
 use Rattle.npr_base.specs.CodecLaws.{framed-grows}
-use Rattle.npr_base.specs.Table.{Reading, Row, Table, item_of, placed}
-use Rattle.npr_base.specs.TableLaws.{flat}
+use Rattle.npr_base.specs.Table.{Reading, Row, Table, item_of, writing_by}
+use Rattle.npr_base.specs.TableLaws.{table_family}
 
 -- the attribute has the row's number, and its value means nothing there
 pub record IsUnreadable {M : Type 0} (r : Row M) (x : Item) : Type 0 where
@@ -23,45 +23,48 @@ CoherentOrKept t r m = t.Coherent m ⊎ ((x : Item) × Proper x × IsKept t.othe
 module _ {M : Type 0} (t : Table M) (r : Row M) where
   -- at the row's number the table reads by the row
   abbrev pub IsRowOf : Type 0
-  IsRowOf = (x : Item) (m : M) → number_of x.kind ≡ r.at.kind → (flat t).Reads x m → (v : r.V) × r.codec.Reads x.value v
+  IsRowOf = (x : Item) (m : M) → number_of x.kind ≡ r.at.kind → (table_family t).Reads x m → (v : r.V) × r.codec.Reads x.value v
 
-  kept-is : (x : Item) (m : M) → m ≡ t.other x → item_of (t.place m) ≡ x
-  kept-is x m e = ap (λ (n : M). item_of (t.place n)) e ∙ t.other_is x
+  kept-is : (x : Item) (m : M) → m ≡ t.other x → item_of (t.held_of m) ≡ x
+  kept-is x m e = ap (λ (n : M). item_of (t.held_of n)) e ∙ t.other_is x
 
-  pub keeping-one : IsRowOf → (x : Item) (m n : M) → (flat t).Reads x m ⊎ IsKept t.other r x m → (flat t).Reads x n ⊎ IsKept t.other r x n → m ≡ n
-  keeping-one here x m n (inl p) (inl q) = (flat t).one_reading x m n p q
+  pub keeping-one : IsRowOf → (x : Item) (m n : M) → (table_family t).Reads x m ⊎ IsKept t.other r x m
+      → (table_family t).Reads x n ⊎ IsKept t.other r x n → m ≡ n
+  keeping-one here x m n (inl p) (inl q) = (table_family t).one_reading x m n p q
   keeping-one here x m n (inl p) (inr q) = let v = here x m q.unreadable.number p in absurd (q.unreadable.unread v.0 v.1)
   keeping-one here x m n (inr p) (inl q) = let v = here x n p.unreadable.number q in absurd (p.unreadable.unread v.0 v.1)
   keeping-one here x m n (inr p) (inr q) = p.is ∙ sym q.is
 
-  pub keeping-sound : (x : Item) (m : M) (e : DecodeError) → (flat t).Reads x m ⊎ IsKept t.other r x m → (flat t).Faulty x e × (IsUnreadable r x → ⊥) → ⊥
-  keeping-sound x m e (inl p) q = (flat t).no_fault x m e p q.0
+  pub keeping-sound : (x : Item) (m : M) (e : DecodeError) → (table_family t).Reads x m ⊎ IsKept t.other r x m
+      → (table_family t).Faulty x e × (IsUnreadable r x → ⊥) → ⊥
+  keeping-sound x m e (inl p) q = (table_family t).no_fault x m e p q.0
   keeping-sound x m e (inr p) q = q.1 p.unreadable
 
-  pub keeping-coherent : (x : Item) (m : M) → Proper x → (flat t).Reads x m ⊎ IsKept t.other r x m → CoherentOrKept t r m
-  keeping-coherent x m proper (inl p) = inl ((flat t).reads_coherent x m proper p)
+  pub keeping-coherent : (x : Item) (m : M) → Proper x → (table_family t).Reads x m ⊎ IsKept t.other r x m → CoherentOrKept t r m
+  keeping-coherent x m proper (inl p) = inl ((table_family t).reads_coherent x m proper p)
   keeping-coherent x m proper (inr p) = inr (x, proper, p)
 
-  pub keeping-kinds : (m : M) → CoherentOrKept t r m → ((placed t.place).writes m).kind < 2 ^ 16
-  keeping-kinds m (inl c) = (flat t).kinds m c
+  pub keeping-kinds : (m : M) → CoherentOrKept t r m → ((writing_by t.held_of).writes m).kind < 2 ^ 16
+  keeping-kinds m (inl c) = (table_family t).kinds m c
   keeping-kinds m (inr (x, proper, k)) = subst (λ (y : Item). y.kind < 2 ^ 16) (sym (kept-is x m k.is)) proper.kind
 
-  pub keeping-back : (m : M) → CoherentOrKept t r m → (placed t.place).misfit m ≡ None
-      → (flat t).Reads ((placed t.place).writes m) m ⊎ IsKept t.other r ((placed t.place).writes m) m
-  keeping-back m (inl c) fits = inl ((flat t).reads_back m c fits)
+  pub keeping-back : (m : M) → CoherentOrKept t r m → (writing_by t.held_of).misfit m ≡ None
+      → (table_family t).Reads ((writing_by t.held_of).writes m) m ⊎ IsKept t.other r ((writing_by t.held_of).writes m) m
+  keeping-back m (inl c) fits = inl ((table_family t).reads_back m c fits)
   keeping-back m (inr (x, proper, k)) fits = inr (subst (λ (y : Item). IsKept t.other r y m) (sym (kept-is x m k.is)) k)
 
-  pub keeping-grows : (x : Item) (m : M) → Proper x → (flat t).Reads x m ⊎ IsKept t.other r x m
-      → 2 * framed (length ((placed t.place).writes m).value) ≤ 5 * (4 + length x.value)
-  keeping-grows x m proper (inl p) = (flat t).grows x m proper p
+  pub keeping-grows : (x : Item) (m : M) → Proper x → (table_family t).Reads x m ⊎ IsKept t.other r x m
+      → 2 * framed (length ((writing_by t.held_of).writes m).value) ≤ 5 * (4 + length x.value)
+  keeping-grows x m proper (inl p) = (table_family t).grows x m proper p
   keeping-grows x m proper (inr k) =
-      framed-grows (length ((placed t.place).writes m).value) (length x.value) (omega (arith, ap (λ (y : Item). length y.value) (kept-is x m k.is)))
+      framed-grows (length ((writing_by t.held_of).writes m).value) (length x.value) (omega (arith, ap (λ (y : Item). length y.value) (kept-is x m k.is)))
 
 -- the family: `here` says that the row is the table's at its number
-abbrev pub keeping : {M : Type 0} (t : Table M) (r : Row M) → IsRowOf t r → Reading (placed t.place)
+abbrev pub keeping : {M : Type 0} (t : Table M) (r : Row M) → IsRowOf t r → Reading (writing_by t.held_of)
 keeping t r here = record {
-  Reads = λ x m. (flat t).Reads x m ⊎ IsKept t.other r x m;
-  Faulty = λ x e. (flat t).Faulty x e × (IsUnreadable r x → ⊥);
+  Reads = λ x m. (table_family t).Reads x m ⊎ IsKept t.other r x m;
+  Faulty = λ x e. (table_family t).Faulty x e × (IsUnreadable r x → ⊥);
+  looks = (table_family t).looks;
   Coherent = CoherentOrKept t r;
   one_reading = keeping-one t r here;
   no_fault = keeping-sound t r;

@@ -6,8 +6,9 @@ use Rattle.npr_base.specs.declared.refusal.AttrFamily.TheVariants.{Rpl as OfRpl}
 use Rattle.npr_base.specs.Framing.{Item, number_of}
 use Rattle.npr_base.specs.DroppedCodec.{dropped}
 use Rattle.npr_base.specs.Table.{Writing, Reading, Table, table_of, Row, row, Held, held, held_other, held_kind, held_value}
-use Rattle.npr_base.specs.Table.{held_misfit, held-reads, IsHeld, item_of, placed, IsOther, Aligned, ReadsAt}
+use Rattle.npr_base.specs.Table.{held_misfit, held-reads, IsHeld, item_of, writing_by, IsOther, Aligned, ReadsAt}
 use Rattle.npr_base.specs.TableLaws.{other-back}
+use Rattle.npr_base.specs.Text.{nla_text}
 use Rattle.npr_srh.specs.Keeping.{keeping, IsRowOf}
 use Rattle.npr_srh.specs.Rpl.{Rpl, rpl, rpl_of}
 use Rattle.npr_srh.specs.Segments.{segments_text}
@@ -41,43 +42,43 @@ rows =
     ∷ []
 
 -- where each meaning stands in it
-abbrev pub place : Meaning → Held
-place unspecified = held 0 dropped tt
-place (srh h) = held 1 rpl h
-place (other x) = held_other x
+abbrev pub held_of : Meaning → Held
+held_of unspecified = held 0 dropped tt
+held_of (srh h) = held 1 rpl h
+held_of (other x) = held_other x
 
 -- what can be read by it
 abbrev pub Coherent : Meaning → Type 0
 Coherent (other x) = IsOther rows x
-Coherent m = IsHeld (place m)
+Coherent m = IsHeld (held_of m)
 
-pub aligned : Aligned (λ m. item_of (place m)) Coherent rows
+pub aligned : Aligned (λ m. item_of (held_of m)) Coherent rows
 aligned = search rules
 
-pub kinds : (m : Meaning) → Coherent m → held_kind (place m) < 2 ^ 16
+pub kinds : (m : Meaning) → Coherent m → held_kind (held_of m) < 2 ^ 16
 kinds (other x) c = c.proper.kind
 kinds m c = omega arith
 
-pub back : (m : Meaning) → Coherent m → held_misfit (place m) ≡ None → ReadsAt other rows (number_of (item_of (place m)).kind) (item_of (place m)) m
+pub back : (m : Meaning) → Coherent m → held_misfit (held_of m) ≡ None → ReadsAt other rows (number_of (item_of (held_of m)).kind) (item_of (held_of m)) m
 back (other x) c fits = other-back other rows (number_of x.kind) x c.alone
-back m c fits = (held_value (place m), held-reads (place m) c fits, refl)
+back m c fits = (held_value (held_of m), held-reads (held_of m) c fits, refl)
 
 abbrev pub table_of_rows : Table Meaning
-table_of_rows = table_of rows other place Coherent aligned (λ x. refl) (λ x is. is) kinds back
+table_of_rows = table_of rows other held_of Coherent aligned (λ x. refl) (λ x is. is) kinds back
 
 pub here : IsRowOf table_of_rows srh_row
 here x m e p = let q = rw e at p in (q.0, q.1)
 
 -- how each is written
 abbrev pub writing : Writing Meaning
-writing = placed place
+writing = writing_by held_of
 
 -- the family: where the routing header can't be read, the attribute is kept
-abbrev pub members : Reading writing
-members = keeping table_of_rows srh_row here
+abbrev pub attributes : Reading writing
+attributes = keeping table_of_rows srh_row here
 
--- the text of a member; none is claimed for an unknown one
+-- the text of a member
 abbrev pub rpl_text : Meaning → Option (List ℕ)
 rpl_text unspecified = Some (codes "unspecified")
 rpl_text (srh h) = Some (codes "srh segs " ++ decimal h.front.segments_left ++ codes " [ ") ++? segments_text h.segments ++? Some (codes " ]")
-rpl_text (other x) = None
+rpl_text (other x) = nla_text x

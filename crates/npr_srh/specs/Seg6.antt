@@ -57,8 +57,8 @@ abbrev pub seg6_of : Seg6Header → Seg6
 seg6_of h = record { mode = h.mode; segments = h.segments.items; hmac = h.hmac }
 
 -- the header with the mode that its number has in the table of today
-abbrev pub newer : Seg6 → Seg6
-newer h = record { mode = mode_of (mode_number h.mode); segments = h.segments; hmac = h.hmac }
+abbrev pub normalized : Seg6 → Seg6
+normalized h = record { mode = mode_of (mode_number h.mode); segments = h.segments; hmac = h.hmac }
 
 -- the bytes of the routing header: its length byte counts eights, the first one left out
 abbrev pub header_len : Seg6MessageBuffer → ℕ

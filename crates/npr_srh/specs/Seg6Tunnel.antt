@@ -6,9 +6,9 @@ use Rattle.npr_base.specs.Framing.{Item, number_of}
 use Rattle.npr_base.specs.Codec.{exactly}
 use Rattle.npr_base.specs.Layout.{le32, octets}
 use Rattle.npr_base.specs.Table.{Writing, Reading, table_of, Row, row, Held, held, held_other, held_kind, held_value}
-use Rattle.npr_base.specs.Table.{held_misfit, held-reads, IsHeld, item_of, placed, IsOther, Aligned, ReadsAt}
-use Rattle.npr_base.specs.TableLaws.{flat, other-back}
-use Rattle.npr_srh.specs.Seg6.{Seg6 as Header, seg6_of, newer as newer_header}
+use Rattle.npr_base.specs.Table.{held_misfit, held-reads, IsHeld, item_of, writing_by, IsOther, Aligned, ReadsAt}
+use Rattle.npr_base.specs.TableLaws.{table_family, other-back}
+use Rattle.npr_srh.specs.Seg6.{Seg6 as Header, seg6_of, normalized as normalized_header}
 use Rattle.npr_srh.specs.Seg6Codec.{seg6, seg6_by}
 use Rattle.npr_srh.specs.Seg6Mode.{ModeTable, modes}
 use Rattle.npr_srh.specs.declared.seg6.RouteSeg6IpTunnel.{RouteSeg6IpTunnel}
@@ -29,9 +29,9 @@ meaning_of (RouteTable n) = table n
 meaning_of (Other d) = other d
 
 -- the member with its header brought up to the table of today
-abbrev pub newer : Meaning → Meaning
-newer (header h) = header (newer_header h)
-newer m = m
+abbrev pub normalized : Meaning → Meaning
+normalized (header h) = header (normalized_header h)
+normalized m = m
 
 abbrev pub at : ℕ → At
 at number = record { family = OfSeg6; kind = number }
@@ -45,38 +45,38 @@ rows by =
     ∷ []
 
 -- where each meaning stands in it
-abbrev pub place : Meaning → Held
-place (header h) = held 1 seg6 h
-place (src a) = held 2 (exactly (octets 16)) a
-place (table n) = held 3 (exactly le32) n
-place (other x) = held_other x
+abbrev pub held_of : Meaning → Held
+held_of (header h) = held 1 seg6 h
+held_of (src a) = held 2 (exactly (octets 16)) a
+held_of (table n) = held 3 (exactly le32) n
+held_of (other x) = held_other x
 
 -- what can be read
 abbrev pub Coherent : ModeTable → Meaning → Type 0
 Coherent by (header h) = (seg6_by by).Holds h
 Coherent by (other x) = IsOther (rows by) x
-Coherent by m = IsHeld (place m)
+Coherent by m = IsHeld (held_of m)
 
-pub aligned : (by : ModeTable) → Aligned (λ m. item_of (place m)) (Coherent by) (rows by)
+pub aligned : (by : ModeTable) → Aligned (λ m. item_of (held_of m)) (Coherent by) (rows by)
 aligned by = search rules
 
-pub kinds : (by : ModeTable) (m : Meaning) → Coherent by m → held_kind (place m) < 2 ^ 16
+pub kinds : (by : ModeTable) (m : Meaning) → Coherent by m → held_kind (held_of m) < 2 ^ 16
 kinds by (other x) c = c.proper.kind
 kinds by m c = omega arith
 
-pub back : (by : ModeTable) (m : Meaning) → Coherent by m → held_misfit (place m) ≡ None
-    → ReadsAt other (rows by) (number_of (item_of (place m)).kind) (item_of (place m)) m
+pub back : (by : ModeTable) (m : Meaning) → Coherent by m → held_misfit (held_of m) ≡ None
+    → ReadsAt other (rows by) (number_of (item_of (held_of m)).kind) (item_of (held_of m)) m
 back by (other x) c fits = other-back other (rows by) (number_of x.kind) x c.alone
 back by (header h) c fits = (h, (seg6_by by).reads_back 1 h c fits, refl)
-back by m c fits = (held_value (place m), held-reads (place m) c fits, refl)
+back by m c fits = (held_value (held_of m), held-reads (held_of m) c fits, refl)
 
 -- how each is written
 abbrev pub writing : Writing Meaning
-writing = placed place
+writing = writing_by held_of
 
 -- the family, by a table of modes and by that of today
-abbrev pub members_by : ModeTable → Reading writing
-members_by by = flat (table_of (rows by) other place (Coherent by) (aligned by) (λ x. refl) (λ x is. is) (kinds by) (back by))
+abbrev pub attributes_by : ModeTable → Reading writing
+attributes_by by = table_family (table_of (rows by) other held_of (Coherent by) (aligned by) (λ x. refl) (λ x is. is) (kinds by) (back by))
 
-abbrev pub members : Reading writing
-members = members_by modes
+abbrev pub attributes : Reading writing
+attributes = attributes_by modes

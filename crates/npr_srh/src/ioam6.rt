@@ -10,7 +10,7 @@ ghost use Rattle.npr_srh.specs.{
   Ioam6Mode.{ioam6_mode_of, ioam6_mode_number, ioam6_mode_text},
   Trace.{trace, IsTrace, encode_trace, trace_text},
   declared.ioam6.Ioam6TraceHdr.{Ioam6TraceHdr},
-  Ioam6Tunnel.{Meaning, meaning_of, writing, members, ioam6_text, at as place_at},
+  Ioam6Tunnel.{Meaning, meaning_of, writing, attributes, ioam6_text, at as place_at},
 };
 
 use npr_base::{
@@ -250,7 +250,7 @@ impl Attribute for RouteIoam6Tunnel {
 
     ghost writing = { writing };
 
-    ghost reading = { λ _. members };
+    ghost reading = { λ _. attributes };
 
     ghost item_is = { λ a. refl };
 

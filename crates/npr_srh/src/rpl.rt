@@ -7,7 +7,7 @@ ghost use Rattle.npr_base.specs.declared.refusal.DecodeError.TheVariants.{OutOfM
 ghost use Rattle.npr_srh.specs.{
   Headed.{IsUnread},
   Rpl.{rpl, rpl_of, rpl_front, encode_rpl},
-  RplTunnel.{Meaning, meaning_of, writing, members, rpl_text, at as place_at},
+  RplTunnel.{Meaning, meaning_of, writing, attributes, rpl_text, at as place_at},
 };
 
 use crate::segments::{Segments, check_header, has_header};
@@ -241,7 +241,7 @@ impl Attribute for RouteRplIpTunnel {
 
     ghost writing = { writing };
 
-    ghost reading = { λ _. members };
+    ghost reading = { λ _. attributes };
 
     ghost item_is = { λ a. refl };
 

@@ -2,7 +2,7 @@
 
 ghost use Rattle.std.specs.Prelude.{◌≡◌, length, IfOk, refl};
 ghost use Rattle.npr_base.specs.Table.{shape_by};
-ghost use Rattle.npr_srh.specs.Seg6Tunnel.{Meaning, meaning_of, writing, members};
+ghost use Rattle.npr_srh.specs.Seg6Tunnel.{Meaning, meaning_of, writing, attributes};
 
 use crate::seg6_header::Seg6Header;
 use npr_base::{
@@ -87,7 +87,7 @@ impl Attribute for RouteSeg6IpTunnel {
 
     ghost writing = { writing };
 
-    ghost reading = { λ _. members };
+    ghost reading = { λ _. attributes };
 
     ghost item_is = { λ a. refl };
 

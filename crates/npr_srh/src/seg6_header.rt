@@ -12,7 +12,7 @@ ghost use Rattle.npr_base.specs.{
   declared.refusal.DecodeError.TheVariants.{OutOfMemory, Seg6Header as Refused},
 };
 ghost use Rattle.npr_srh.specs.{
-  Seg6.{message, seg6_of, newer, IsSeg6, IsKey, HasFront, Seg6Wrong, front_of, key_bytes, key_eights, most_segments},
+  Seg6.{message, seg6_of, normalized, IsSeg6, IsKey, HasFront, Seg6Wrong, front_of, key_bytes, key_eights, most_segments},
   Seg6Codec.{seg6},
 };
 
@@ -190,7 +190,7 @@ impl Seg6Header {
     /// Gives the mode the name that its number has today, where the value is of a time in which it
     /// had none (`docs/CHANGES.md`). What is written stays the same.
     pub fn normalize(&mut self)
-        ensures { seg6_of self.new ≡ newer (seg6_of self.old) }
+        ensures { seg6_of self.new ≡ normalized (seg6_of self.old) }
     {
         self.mode = Seg6Mode::from(u32::from(self.mode));
     }

@@ -2,7 +2,7 @@
 
 ghost use Rattle.std.specs.Prelude.{◌≡◌, length, IfOk, refl};
 ghost use Rattle.npr_base.specs.Table.{shape_by};
-ghost use Rattle.npr_srh.specs.Seg6LocalTunnel.{Meaning, meaning_of, writing, members, local_text};
+ghost use Rattle.npr_srh.specs.Seg6LocalTunnel.{Meaning, meaning_of, writing, attributes, local_text};
 
 use crate::seg6local_action::Seg6LocalAction;
 use crate::seg6local_srh::Seg6LocalSrh;
@@ -109,7 +109,7 @@ impl Attribute for RouteSeg6LocalTunnel {
 
     ghost writing = { writing };
 
-    ghost reading = { λ _. members };
+    ghost reading = { λ _. attributes };
 
     ghost item_is = { λ a. refl };
 

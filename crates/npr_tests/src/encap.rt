@@ -1,6 +1,6 @@
 //! Encapsulations of routes, and the type that governs them.
 
-use crate::helpers::{INET, LABEL, reads, refuses, rewrites_lines};
+use crate::helpers::{INET, LABEL, reads, refuses, rewrites, rewrites_lines};
 use netlink_packet_route::framing::{At, AttrFamily, DecodeError, DefaultNla};
 use netlink_packet_route::route::{
     RouteAttribute, RouteGeneveOpt, RouteIpTunnel, RouteLwEnCapType, RouteLwTunnelEncap,
@@ -38,6 +38,23 @@ fn labels(alloc: Global) -> Result<RouteAttribute, AllocError> {
 fn options(alloc: Global, option: RouteLwTunnelOpt) -> Result<RouteAttribute, AllocError> {
     let options = RouteIpTunnel::Opts(vec![in alloc; option]?);
     one(alloc, RouteLwTunnelEncap::Ip(options))
+}
+
+/// Without a type a member is kept as it stands, all 16 bits of its kind, and the encapsulation around
+/// it is written without NESTED.
+#[test]
+fn a_member_without_a_type(rt: HostRuntime) -> Result<(), Fail> {
+    let alloc = rt.alloc();
+    let value = [0x0c, 0, 1, 0x80, 6, 0, 1, 0, 1, 2, 0, 0].to_vec(alloc)?;
+    let kept = RouteLwTunnelEncap::Other(DefaultNla::new(0x8008, value));
+    let member = "10000880 0c000180 06000100 01020000";
+    let wanted = [one(alloc, kept)?];
+    reads::<RouteMessage, _>(&rt, &[INET, "14001680", member], wanted)?;
+    rewrites::<RouteMessage>(
+        &rt,
+        &[INET, "14001680", member],
+        &[INET, "14001600", member],
+    )
 }
 
 /// The first type governs, wherever it stands.

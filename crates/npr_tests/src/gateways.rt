@@ -1,11 +1,12 @@
 //! Addresses and gateways of routes, each by its family.
 
-use crate::helpers::{INET, LABEL, bytes_of, same, writes};
+use crate::helpers::{INET, LABEL, bytes_of, holds, same, writes};
 use netlink_packet_route::AddressFamily;
 use netlink_packet_route::framing::{At, AttrFamily, DecodeError, Looks, Parseable};
 use netlink_packet_route::net::{IpAddr, Ipv4Addr, Ipv6Addr};
 use netlink_packet_route::route::{
-    RouteAddress, RouteMessage, RouteNextHop, RouteType, RouteVia, RouteViaBuffer, read_route_list,
+    RouteAddress, RouteAttribute, RouteMessage, RouteNextHop, RoutePath, RouteType, RouteVia,
+    RouteViaBuffer, read_route_list,
 };
 use std::process::Abort;
 use std::test::Fail;
@@ -231,4 +232,58 @@ fn gateways_of_next_hops(rt: HostRuntime) -> Result<(), Fail> {
     hop.attributes = read_route_list(rt.alloc(), bytes.as_slice(), under, &mut Looks::new())?;
     same(&rt, hop.gateway(), Some(IpAddr::from(FOUR)));
     Ok(())
+}
+
+/// There is this next hop and no other.
+fn has_hop(rt: &impl Abort, found: Option<&[RouteNextHop]>, wanted: RouteNextHop) {
+    match found {
+        Some([only]) => holds(rt, *only == wanted),
+        _ => holds(rt, false),
+    }
+}
+
+/// What is asked of a route is the first of its kind; a next hop has its own.
+#[test]
+fn what_is_asked_of_routes(rt: HostRuntime) -> Result<(), Fail> {
+    let hops = "14000900 10000000 02000000 08000500 0a000001";
+    let texts = [
+        INET,
+        "08000100 0a000000 08000400 07000000",
+        hops,
+        "08000f00 e8030000",
+    ];
+    let bytes = bytes_of(&rt, &texts)?;
+    let message = RouteMessage::parse(rt.alloc(), bytes.as_slice())?;
+    same(
+        &rt,
+        message.destination(),
+        Some(IpAddr::from([10, 0, 0, 0])),
+    );
+    same(&rt, message.output_interface(), Some(7));
+    same(&rt, message.table(), Some(1000));
+    let hop = RouteNextHop::through(rt.alloc(), 2, IpAddr::from(FOUR))?;
+    same(&rt, hop.gateway(), Some(IpAddr::from(FOUR)));
+    has_hop(&rt, message.next_hops(), hop);
+    Ok(())
+}
+
+/// What is built has the bytes of its kind.
+#[test]
+fn what_is_built_for_routes(rt: HostRuntime) -> Result<(), Fail> {
+    let alloc = rt.alloc();
+    let four = IpAddr::from(FOUR);
+    let mut message = RouteMessage::new(alloc);
+    let attributes = &mut message.attributes;
+    attributes.push(RouteAttribute::to_destination(four))?;
+    attributes.push(RouteAttribute::to_gateway(four))?;
+    attributes.push(RouteAttribute::in_table(1000))?;
+    attributes.push(RouteAttribute::out_by(7))?;
+    let hops = vec![in alloc; RouteNextHop::through(alloc, 2, four)?]?;
+    attributes.push(RouteAttribute::by_next_hops(hops))?;
+    let texts = [
+        "00000000 00000000 00000000",
+        "08000100 0a000001 08000500 0a000001 08000f00 e8030000 08000400 07000000",
+        "14000900 10000000 02000000 08000500 0a000001",
+    ];
+    writes(&rt, message, &texts)
 }

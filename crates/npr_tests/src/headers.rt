@@ -311,13 +311,9 @@ fn unreadable_rpl_headers(rt: HostRuntime) -> Result<(), Fail> {
     )
 }
 
-/// With memory a header is read. Where the first growth is refused, which is that of its list, that
-/// refusal is met and no other answer.
+/// With memory a header is read.
 fn is_read(rt: &impl Abort, answer: Result<bool, DecodeError>) {
-    holds(
-        rt,
-        answer == Ok(true) || answer == Err(DecodeError::OutOfMemory),
-    );
+    holds(rt, answer == Ok(true));
 }
 
 #[test]

@@ -1,6 +1,6 @@
 //! Messages that were cut short, and lengths that no attribute has.
 
-use crate::helpers::{INET, Message, bytes_of, holds, refuses};
+use crate::helpers::{INET, Message, bytes_of, holds, refuses, same};
 use netlink_packet_route::address::AddressMessage;
 use netlink_packet_route::framing::DecodeError;
 use netlink_packet_route::route::RouteMessage;
@@ -32,30 +32,66 @@ const UNPADDED: &str = "02000000fe03000100000000 19000900 0d00000002000000 05001
 const GENEVE: &str = "02000000fe03000100000000 14001680 10000880 0c000180 0600010001020000
     0600150002000000";
 
-/// The beginnings of these lengths are messages; each other is refused, and not for want of memory.
-fn is_whole_at<M: Message>(
+/// Why so many bytes of a message are refused, whose attributes have these lengths: the header is not
+/// whole, that of the last attribute is not, or its value is not.
+fn refusal(count: usize, header: usize, lengths: &[u16]) -> Option<DecodeError> {
+    if count < header {
+        return Some(DecodeError::HeaderTooShort {
+            got: count,
+            want: header,
+        });
+    }
+    let mut left = count - header;
+    for length in lengths {
+        let whole = usize::from(*length);
+        if left == 0 {
+            return None;
+        }
+        if left < 4 {
+            return Some(DecodeError::AttributeTooShort { got: left });
+        }
+        if left < whole {
+            return Some(DecodeError::AttributeLength {
+                length: *length,
+                left,
+            });
+        }
+        left = left.saturating_sub(whole.next_multiple_of(4));
+    }
+    None
+}
+
+/// The beginnings up to `whole` bytes, of attributes of these lengths, are messages or are refused for
+/// where they end.
+fn is_cut<M: Message>(
     rt: &(impl Abort + AllocGlobal),
     text: &str,
-    lengths: &[usize],
+    header: usize,
+    lengths: &[u16],
+    whole: usize,
 ) -> Result<(), Fail> {
     let bytes = bytes_of(rt, &[text])?;
+    holds(rt, whole <= bytes.len());
     for end in 0..=bytes.len() {
-        let answer = M::of(rt.alloc(), &bytes.as_slice()[..end]);
-        holds(rt, answer.is_ok() == lengths.contains(&end));
-        holds(rt, !matches!(answer, Err(DecodeError::OutOfMemory)));
+        let answer = M::of(rt.alloc(), &bytes.as_slice()[..end]).err();
+        if end <= whole {
+            same(rt, answer, refusal(end, header, lengths));
+        }
     }
     Ok(())
 }
 
 #[test]
 fn messages_cut_short(rt: HostRuntime) -> Result<(), Fail> {
-    is_whole_at::<AddressMessage>(&rt, LOOPBACK, &[8, 16, 24, 31, 32, 40, 60])?;
-    is_whole_at::<RouteMessage>(&rt, BY_NEXT_HOP, &[12, 20, 28])?;
-    is_whole_at::<RouteMessage>(&rt, OF_VERSION_6, &[12, 32, 40, 48])?;
-    is_whole_at::<RouteMessage>(&rt, TWO_NEXT_HOPS, &[12, 40])?;
-    is_whole_at::<RouteMessage>(&rt, NO_PADDING, &[12, 29])?;
-    is_whole_at::<RouteMessage>(&rt, UNPADDED, &[12])?;
-    is_whole_at::<RouteMessage>(&rt, GENEVE, &[12, 32, 38, 39, 40])
+    is_cut::<AddressMessage>(&rt, LOOPBACK, 8, &[8, 8, 7, 8, 20], 60)?;
+    is_cut::<RouteMessage>(&rt, BY_NEXT_HOP, 12, &[8, 8], 28)?;
+    is_cut::<RouteMessage>(&rt, OF_VERSION_6, 12, &[20, 8, 8], 48)?;
+    is_cut::<RouteMessage>(&rt, TWO_NEXT_HOPS, 12, &[28], 40)?;
+    is_cut::<RouteMessage>(&rt, NO_PADDING, 12, &[17], 29)?;
+    is_cut::<RouteMessage>(&rt, UNPADDED, 12, &[25], 36)?;
+    is_cut::<RouteMessage>(&rt, GENEVE, 12, &[20, 6], 40)?;
+    let fault = DecodeError::NextHopTooShort { got: 5 };
+    refuses::<RouteMessage>(&rt, &[UNPADDED], fault)
 }
 
 #[test]

@@ -7,6 +7,8 @@
 #[cfg(test)]
 mod address;
 #[cfg(test)]
+mod debugs;
+#[cfg(test)]
 mod displays;
 #[cfg(test)]
 mod encap;
@@ -24,6 +26,8 @@ mod hostile;
 mod lists;
 #[cfg(test)]
 mod lone;
+#[cfg(test)]
+mod looks;
 #[cfg(test)]
 mod modes;
 #[cfg(test)]

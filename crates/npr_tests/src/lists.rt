@@ -3,7 +3,7 @@
 use crate::helpers::{LABEL, bytes_of, holds, same};
 use netlink_packet_route::AddressFamily;
 use netlink_packet_route::framing::{
-    Attribute, DecodeError, Looks, Nla, check_list, emit_list, parse_list,
+    Attribute, DecodeError, Looks, Nla, check_list, clone_list, emit_list, parse_list,
 };
 use netlink_packet_route::route::{
     RouteAttribute, RouteLwEnCapType, RouteLwTunnelEncap, RouteMetric, RouteMplsIpTunnel,
@@ -113,6 +113,14 @@ fn metrics(rt: HostRuntime) -> Result<(), Fail> {
     let name = String::from_str(rt.alloc(), "bbr")?;
     let list = vec![in rt.alloc(); RouteMetric::Mtu(1500), RouteMetric::CcAlgo(name)]?;
     is_list(&rt, &["08000200 dc050000 08001000 62627200"], list)
+}
+
+#[test]
+fn a_copy_of_a_list(rt: HostRuntime) -> Result<(), Fail> {
+    let list = labels(rt.alloc())?;
+    let copy = clone_list(rt.alloc(), &list)?;
+    holds(&rt, copy.as_slice() == list.as_slice());
+    Ok(())
 }
 
 /// The value alone, without its header.

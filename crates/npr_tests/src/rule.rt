@@ -54,6 +54,31 @@ fn reads_values(rt: HostRuntime) -> Result<(), Fail> {
     reads::<RuleMessage, _>(&rt, &texts, wanted)
 }
 
+/// A value that no reading gives is written by its number, and is read as what has that.
+#[test]
+fn a_protocol_under_another_name(rt: HostRuntime) -> Result<(), Fail> {
+    let alloc = rt.alloc();
+    let mut message = RuleMessage::new(alloc);
+    let protocol = RuleAttribute::IpProtocol(IpProtocol::Other(6));
+    message.attributes.push(protocol)?;
+    let bytes = to_vec(alloc, &message)?;
+    let texts = ["00000000 00000000 00000000", "05001600 06000000"];
+    same(&rt, bytes.as_slice(), bytes_of(&rt, &texts)?.as_slice());
+    let wanted = [RuleAttribute::IpProtocol(IpProtocol::Tcp)];
+    reads::<RuleMessage, _>(&rt, &texts, wanted)
+}
+
+/// An attribute by itself fills just the room that it takes.
+#[test]
+fn an_attribute_by_itself(rt: HostRuntime) -> Result<(), Fail> {
+    let attribute = RuleAttribute::TunId(42);
+    same(&rt, attribute.check()?, 12);
+    let mut out = [0xffu8; 12];
+    attribute.emit(&mut out);
+    same(&rt, out, [12, 0, 12, 0, 0, 0, 0, 0, 0, 0, 0, 42]);
+    Ok(())
+}
+
 /// A value of this length at this number.
 fn length(kind: u16, got: usize) -> DecodeError {
     let family = AttrFamily::Rule;

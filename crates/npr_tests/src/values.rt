@@ -3,6 +3,7 @@
 
 use crate::helpers::{LABEL, bytes_of, holds, same, writes};
 use bitflags::Flags;
+use netlink_packet_route::family::{read_bytes, read_name};
 use netlink_packet_route::framing::{At, DecodeError};
 use netlink_packet_route::route::{
     MplsLabel, RouteCacheInfo, RouteCacheInfoBuffer, RouteFlags, RouteMfcStats,
@@ -138,6 +139,17 @@ fn structures_at_the_front(rt: HostRuntime) -> Result<(), Fail> {
     let short = Some(DecodeError::HeaderTooShort { got: 23, want: 24 });
     same(&rt, RouteMfcStats::parse(&[0; 23]).err(), short);
     same(&rt, RouteMfcStatsBuffer::parse(&[0; 23]).err(), short);
+    Ok(())
+}
+
+/// A final zero is taken off a name, and bytes are as they stand.
+#[test]
+fn names_and_bytes(rt: HostRuntime) -> Result<(), Fail> {
+    let value = [b'l', b'o', 0];
+    let name = read_name(rt.alloc(), &value, At::NO_PLACE)?;
+    same(&rt, name.as_str(), "lo");
+    let bytes = read_bytes(rt.alloc(), &value)?;
+    same(&rt, bytes.as_slice(), value.as_slice());
     Ok(())
 }
 

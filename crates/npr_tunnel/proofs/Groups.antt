@@ -1,5 +1,5 @@
 -- Options of Geneve that were read so far.
-use Rattle.std.proofs.Common.{◌≡◌, ℕ, ◌+◌, ◌-◌, ◌≤◌, Bool, true, List, [], ◌∷◌, ◌++◌, Option, Some, None, length, refl, sym, ap, subst, ◌∙◌, append_assoc, arith, length-append}
+use Rattle.std.proofs.Common.{◌≡◌, ℕ, ◌+◌, ◌-◌, ◌≤◌, Bool, true, List, [], ◌∷◌, ◌++◌, false, Option, Some, None, length, refl, sym, ap, subst, ◌∙◌, append_assoc, arith, length-append}
 use Rattle.std.proofs.lemmas.List.{append-nil, length_push}
 use Rattle.npr_base.specs.declared.refusal.DecodeError.{DecodeError}
 use Rattle.npr_base.specs.Counts.{Counts, AddsAtMost, SawEach, hit}
@@ -9,6 +9,7 @@ use Rattle.npr_base.specs.FrontLaws.{Front-takes}
 use Rattle.npr_base.proofs.Lists.{ReadsTo-none, ReadsTo-more}
 use Rattle.npr_base.proofs.Looking.{SoFar, SoFar-none, SoFar-more, list_members-more}
 use Rattle.npr_tunnel.specs.Geneve.{Geneve, Child, class_child, type_child, data_child, ReadsChild, WrongChild, Plain, last_type, last_data, IsGroup, AreGroups, AreOptions, is_open, OptionsFault}
+use Rattle.npr_tunnel.specs.GeneveLooks.{Stands, OptionsLooks, child_passed}
 use Rattle.npr_tunnel.specs.GeneveSteps.{listed, is_some, Changes}
 
 -- ---- one child more
@@ -69,6 +70,7 @@ pub record SoFarRead (bytes : List ℕ) (start now : Counts) (options : List Gen
   pub groups : AreGroups children (options ++ listed current)
   pub begun : current ≡ None → options ≡ []
   pub left : length rest ≤ length bytes
+  pub exact : (end : Counts) → OptionsLooks (is_some current) rest now end → OptionsLooks false bytes start end
   pub looks : SoFar start now (length bytes - length rest) (length children) (list_members (λ (c : Child). 0) children)
 
 no-more : (n : ℕ) → n - n ≡ 0
@@ -81,8 +83,16 @@ nothing_read bytes c = record {
   groups = refl;
   begun = λ e. refl;
   left = omega arith;
+  exact = λ end later. later;
   looks = rw (no-more (length bytes)) (SoFar-none c);
 }
+
+may-stand : (before : Option Geneve) (c : Child) (closed : Option Geneve) (opened : Geneve) → Changes before c closed opened → Stands (is_some before) c
+may-stand before (class_child n) closed opened change = tt
+may-stand (Some o) (type_child n) closed opened change = refl
+may-stand (Some o) (data_child d) closed opened change = refl
+may-stand None (type_child n) closed opened change = absurd change
+may-stand None (data_child d) closed opened change = absurd change
 
 -- a child holds no members, and its reading looks at no header
 pub child_read : (bytes : List ℕ) (start now : Counts) (os : List Geneve) (before closed : Option Geneve) (opened : Geneve) (walk rest : List ℕ) (x : Item) (c : Child)
@@ -98,6 +108,7 @@ child_read bytes start now os before closed opened walk rest x c past f reads ch
       groups = groups-more os before c closed opened past.children past.groups change;
       begun = λ e. absurd cc;
       left = omega (arith, took, past.left);
+      exact = λ end later. past.exact end (child_passed x rest c f reads (may-stand before c closed opened change) later);
       looks = rw (length_push past.children c, list_members-more (λ (d : Child). 0) past.children c) (SoFar-more start now (hit now) (length bytes - length walk) (length past.children) (list_members (λ (d : Child). 0) past.children) (length x.value) (length bytes - length rest) 0 past.looks adds saw fewer);
     }
 

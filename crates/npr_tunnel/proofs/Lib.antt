@@ -1,4 +1,4 @@
 pub mod Groups
 pub mod Options
 pub mod Texts
-pub mod EncapsulationNewerLaws
+pub mod EncapsulationNormalizedLaws

@@ -2,7 +2,7 @@
 -- stands (linux/lwtunnel.h, LWTUNNEL_ENCAP_*).
 use Rattle.std.proofs.Common.{refl}
 use Rattle.npr_base.specs.Framing.{Item}
-use Rattle.npr_base.specs.Table.{Writing, Reading, Held, held_other, placed}
+use Rattle.npr_base.specs.Table.{Writing, Reading, Held, held_other, writing_by}
 use Rattle.npr_srh.specs.Ioam6Tunnel as OfIoam6
 use Rattle.npr_srh.specs.RplTunnel as OfRpl
 use Rattle.npr_srh.specs.Seg6LocalTunnel as OfSeg6Local
@@ -42,31 +42,31 @@ meaning_of (HasXfrm m) = xfrm (OfXfrm.meaning_of m)
 meaning_of (Other d) = other d
 
 -- where each stands in its tunnel's table, whatever the type
-abbrev pub place : Meaning → Held
-place (mpls m) = OfMpls.place m
-place (seg6 m) = OfSeg6.place m
-place (ip m) = OfIp.place 4 m
-place (ip6 m) = OfIp.place 16 m
-place (ioam6 m) = OfIoam6.place m
-place (rpl m) = OfRpl.place m
-place (seg6_local m) = OfSeg6Local.place m
-place (xfrm m) = OfXfrm.place m
-place (other x) = held_other x
+abbrev pub held_of : Meaning → Held
+held_of (mpls m) = OfMpls.held_of m
+held_of (seg6 m) = OfSeg6.held_of m
+held_of (ip m) = OfIp.held_of 4 m
+held_of (ip6 m) = OfIp.held_of 16 m
+held_of (ioam6 m) = OfIoam6.held_of m
+held_of (rpl m) = OfRpl.held_of m
+held_of (seg6_local m) = OfSeg6Local.held_of m
+held_of (xfrm m) = OfXfrm.held_of m
+held_of (other x) = held_other x
 
 -- how each is written
 abbrev pub writing : Writing Meaning
-writing = placed place
+writing = writing_by held_of
 
 -- the family of a type, by a table of SEG6 modes
 abbrev pub encapsulation_by : ModeTable → RouteLwEnCapType → Reading writing
-encapsulation_by by Mpls = wrapped OfMpls.members mpls writing (λ m. refl) (λ m. refl)
-encapsulation_by by Seg6 = wrapped (OfSeg6.members_by by) seg6 writing (λ m. refl) (λ m. refl)
-encapsulation_by by Ip = wrapped OfIp.members ip writing (λ m. refl) (λ m. refl)
-encapsulation_by by Ip6 = wrapped OfIp.members6 ip6 writing (λ m. refl) (λ m. refl)
-encapsulation_by by Ioam6 = wrapped OfIoam6.members ioam6 writing (λ m. refl) (λ m. refl)
-encapsulation_by by Rpl = wrapped OfRpl.members rpl writing (λ m. refl) (λ m. refl)
-encapsulation_by by Seg6Local = wrapped OfSeg6Local.members seg6_local writing (λ m. refl) (λ m. refl)
-encapsulation_by by Xfrm = wrapped OfXfrm.members xfrm writing (λ m. refl) (λ m. refl)
+encapsulation_by by Mpls = wrapped OfMpls.attributes mpls writing (λ m. refl) (λ m. refl)
+encapsulation_by by Seg6 = wrapped (OfSeg6.attributes_by by) seg6 writing (λ m. refl) (λ m. refl)
+encapsulation_by by Ip = wrapped OfIp.attributes ip writing (λ m. refl) (λ m. refl)
+encapsulation_by by Ip6 = wrapped OfIp.attributes6 ip6 writing (λ m. refl) (λ m. refl)
+encapsulation_by by Ioam6 = wrapped OfIoam6.attributes ioam6 writing (λ m. refl) (λ m. refl)
+encapsulation_by by Rpl = wrapped OfRpl.attributes rpl writing (λ m. refl) (λ m. refl)
+encapsulation_by by Seg6Local = wrapped OfSeg6Local.attributes seg6_local writing (λ m. refl) (λ m. refl)
+encapsulation_by by Xfrm = wrapped OfXfrm.attributes xfrm writing (λ m. refl) (λ m. refl)
 encapsulation_by by type = wrapped kept other writing (λ x. refl) (λ x. refl)
 
 -- and by that of today
@@ -74,6 +74,6 @@ abbrev pub encapsulation : RouteLwEnCapType → Reading writing
 encapsulation type = encapsulation_by modes type
 
 -- the member with its header, if it is a SEG6 one, brought up to the table of today
-abbrev pub newer : Meaning → Meaning
-newer (seg6 m) = seg6 (OfSeg6.newer m)
-newer m = m
+abbrev pub normalized : Meaning → Meaning
+normalized (seg6 m) = seg6 (OfSeg6.normalized m)
+normalized m = m

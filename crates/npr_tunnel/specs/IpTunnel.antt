@@ -14,9 +14,11 @@ use Rattle.npr_base.specs.Framing.{Item, number_of}
 use Rattle.npr_base.specs.Layout.{byte, be16, be64, octets}
 use Rattle.npr_base.specs.ListCodec.{list_of}
 use Rattle.npr_base.specs.Table.{Writing, Reading, table_of, Row, row, Held, held, held_other, held_kind, held_value}
-use Rattle.npr_base.specs.Table.{held_misfit, held-reads, IsHeld, item_of, placed, IsOther, Aligned, ReadsAt}
-use Rattle.npr_base.specs.TableLaws.{flat, other-back}
-use Rattle.npr_base.specs.Text.{joined_by}
+use Rattle.npr_base.specs.Table.{held_misfit, held-reads, IsHeld, item_of, writing_by, IsOther, Aligned, ReadsAt}
+use Rattle.npr_base.specs.Looks.{Looking}
+use Rattle.npr_base.specs.LooksLaws.{no_looking, list_looking}
+use Rattle.npr_base.specs.TableLaws.{table_family, holding, looking_at, other-back}
+use Rattle.npr_base.specs.Text.{joined_by, nla_text}
 use Rattle.npr_tunnel.specs.TunnelFlags.{ip_flags_bits, ip6_flags_bits, flags_text}
 use Rattle.npr_tunnel.specs.TunnelOptions as OfOption
 use Rattle.npr_tunnel.specs.declared.ip.RouteIpTunnel.{RouteIpTunnel}
@@ -69,20 +71,20 @@ rows family width =
     ∷ row (record { family = family; kind = 4 }) (exactly byte) hops
     ∷ row (record { family = family; kind = 5 }) (exactly byte) service
     ∷ row (record { family = family; kind = 6 }) (exactly be16) flags
-    ∷ row (record { family = family; kind = 8 }) (list_of OfOption.members) options
+    ∷ row (record { family = family; kind = 8 }) (list_of OfOption.attributes) options
     ∷ []
 
 -- where each meaning stands in it: options are written with NESTED, which is bit 15 of the kind
-abbrev pub place : ℕ → Meaning → Held
-place width unspecified = held 0 dropped tt
-place width (id n) = held 1 (exactly be64) n
-place width (destination a) = held 2 (exactly (octets width)) a
-place width (source a) = held 3 (exactly (octets width)) a
-place width (hops n) = held 4 (exactly byte) n
-place width (service n) = held 5 (exactly byte) n
-place width (flags n) = held 6 (exactly be16) n
-place width (options xs) = held (2 ^ 15 + 8) (list_of OfOption.members) xs
-place width (other x) = held_other x
+abbrev pub held_of : ℕ → Meaning → Held
+held_of width unspecified = held 0 dropped tt
+held_of width (id n) = held 1 (exactly be64) n
+held_of width (destination a) = held 2 (exactly (octets width)) a
+held_of width (source a) = held 3 (exactly (octets width)) a
+held_of width (hops n) = held 4 (exactly byte) n
+held_of width (service n) = held 5 (exactly byte) n
+held_of width (flags n) = held 6 (exactly be16) n
+held_of width (options xs) = held (2 ^ 15 + 8) (list_of OfOption.attributes) xs
+held_of width (other x) = held_other x
 
 -- why the list inside can't be written, if so
 abbrev pub unfit_inside : Meaning → Option EmitError
@@ -92,37 +94,43 @@ unfit_inside m = None
 -- what can be read
 abbrev pub Coherent : AttrFamily → ℕ → Meaning → Type 0
 Coherent family width (other x) = IsOther (rows family width) x
-Coherent family width m = IsHeld (place width m)
+Coherent family width m = IsHeld (held_of width m)
 
-pub aligned : (family : AttrFamily) (width : ℕ) → Aligned (λ m. item_of (place width m)) (Coherent family width) (rows family width)
+pub aligned : (family : AttrFamily) (width : ℕ) → Aligned (λ m. item_of (held_of width m)) (Coherent family width) (rows family width)
 aligned family width = search rules
 
-pub kinds : (family : AttrFamily) (width : ℕ) (m : Meaning) → Coherent family width m → held_kind (place width m) < 2 ^ 16
+pub kinds : (family : AttrFamily) (width : ℕ) (m : Meaning) → Coherent family width m → held_kind (held_of width m) < 2 ^ 16
 kinds family width (other x) c = c.proper.kind
 kinds family width m c = omega arith
 
-pub back : (family : AttrFamily) (width : ℕ) (m : Meaning) → Coherent family width m → held_misfit (place width m) ≡ None
-    → ReadsAt other (rows family width) (number_of (item_of (place width m)).kind) (item_of (place width m)) m
+pub back : (family : AttrFamily) (width : ℕ) (m : Meaning) → Coherent family width m → held_misfit (held_of width m) ≡ None
+    → ReadsAt other (rows family width) (number_of (item_of (held_of width m)).kind) (item_of (held_of width m)) m
 back family width (other x) c fits = other-back other (rows family width) (number_of x.kind) x c.alone
-back family width m c fits = (held_value (place width m), held-reads (place width m) c fits, refl)
+back family width m c fits = (held_value (held_of width m), held-reads (held_of width m) c fits, refl)
 
 -- how each is written
 abbrev pub writing : ℕ → Writing Meaning
-writing width = placed (place width)
+writing width = writing_by (held_of width)
 
-abbrev pub members_of : AttrFamily → (width : ℕ) → Reading (writing width)
-members_of family width =
-    flat (table_of (rows family width) other (place width) (Coherent family width) (aligned family width) (λ x. refl) (λ x is. is) (kinds family width)
-    (back family width))
+-- number 8 is a list of options
+abbrev pub looks : Looking Item
+looks = looking_at 8 (list_looking OfOption.attributes) no_looking
+
+abbrev pub attributes_over : AttrFamily → (width : ℕ) → Reading (writing width)
+attributes_over family width =
+    holding looks (
+    table_family (table_of (rows family width) other (held_of width) (Coherent family width) (aligned family width) (λ x. refl) (λ x is. is)
+    (kinds family width) (back family width))
+    )
 
 -- the families
-abbrev pub members : Reading (writing 4)
-members = members_of OfIp 4
+abbrev pub attributes : Reading (writing 4)
+attributes = attributes_over OfIp 4
 
-abbrev pub members6 : Reading (writing 16)
-members6 = members_of OfIp6 16
+abbrev pub attributes6 : Reading (writing 16)
+attributes6 = attributes_over OfIp6 16
 
--- the text of a member over version 4; of an unknown one none is claimed
+-- the text of a member over version 4
 abbrev pub ip_tunnel_text : Meaning → Option (List ℕ)
 ip_tunnel_text unspecified = Some (codes "unspecified")
 ip_tunnel_text (id n) = Some (codes "id " ++ decimal n)
@@ -132,7 +140,7 @@ ip_tunnel_text (hops n) = Some (codes "ttl " ++ decimal n)
 ip_tunnel_text (service n) = Some (codes "tos " ++ decimal n)
 ip_tunnel_text (flags bits) = Some (flags_text bits)
 ip_tunnel_text (options xs) = joined_by (codes ", ") OfOption.tunnel_option_text xs
-ip_tunnel_text (other x) = None
+ip_tunnel_text (other x) = nla_text x
 
 -- and over version 6, where `src` has a comma behind it
 abbrev pub ip6_tunnel_text : Meaning → Option (List ℕ)
@@ -144,4 +152,4 @@ ip6_tunnel_text (hops n) = Some (codes "hoplimit " ++ decimal n)
 ip6_tunnel_text (service n) = Some (codes "tc " ++ decimal n)
 ip6_tunnel_text (flags bits) = Some (flags_text bits)
 ip6_tunnel_text (options xs) = joined_by (codes ", ") OfOption.tunnel_option_text xs
-ip6_tunnel_text (other x) = None
+ip6_tunnel_text (other x) = nla_text x

@@ -6,6 +6,7 @@ pub mod VxlanOptions
 pub mod ErspanOptions
 pub mod Geneve
 pub mod GeneveLaws
+pub mod GeneveLooks
 pub mod GeneveSteps
 pub mod TunnelOptions
 pub mod IpTunnel

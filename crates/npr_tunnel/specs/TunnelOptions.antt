@@ -9,12 +9,15 @@ use Rattle.npr_base.specs.Family.{list_unfit}
 use Rattle.npr_base.specs.Framing.{Item, number_of}
 use Rattle.npr_base.specs.ListCodec.{list_of}
 use Rattle.npr_base.specs.Table.{Writing, Reading, table_of, Row, row, Held, held, held_other, held_kind, held_value}
-use Rattle.npr_base.specs.Table.{held_misfit, held-reads, IsHeld, item_of, placed, IsOther, Aligned, ReadsAt}
-use Rattle.npr_base.specs.TableLaws.{flat, other-back}
-use Rattle.npr_base.specs.Text.{joined_by}
+use Rattle.npr_base.specs.Table.{held_misfit, held-reads, IsHeld, item_of, writing_by, IsOther, Aligned, ReadsAt}
+use Rattle.npr_base.specs.Looks.{Looking}
+use Rattle.npr_base.specs.LooksLaws.{no_looking, list_looking}
+use Rattle.npr_base.specs.TableLaws.{table_family, holding, looking_at, other-back}
+use Rattle.npr_base.specs.Text.{joined_by, nla_text}
 use Rattle.npr_tunnel.specs.ErspanOptions as OfErspan
 use Rattle.npr_tunnel.specs.Geneve.{Geneve as GeneveOption, option_of, options_unfit, geneve_text}
 use Rattle.npr_tunnel.specs.GeneveLaws.{geneve_options}
+use Rattle.npr_tunnel.specs.GeneveLooks.{options_looking}
 use Rattle.npr_tunnel.specs.VxlanOptions as OfVxlan
 use Rattle.npr_tunnel.specs.declared.tunnel_opts.RouteLwTunnelOpt.{RouteLwTunnelOpt}
 use Rattle.npr_tunnel.specs.declared.tunnel_opts.RouteLwTunnelOpt.TheVariants.{Geneve, Vxlan, Erspan, Other}
@@ -39,16 +42,16 @@ at number = record { family = OfOption; kind = number }
 abbrev pub rows : List (Row Meaning)
 rows =
     row (at 1) geneve_options geneve
-    ∷ row (at 2) (list_of OfVxlan.members) vxlan
-    ∷ row (at 3) (list_of OfErspan.members) erspan
+    ∷ row (at 2) (list_of OfVxlan.attributes) vxlan
+    ∷ row (at 3) (list_of OfErspan.attributes) erspan
     ∷ []
 
 -- where each meaning stands in it
-abbrev pub place : Meaning → Held
-place (geneve os) = held (2 ^ 15 + 1) geneve_options os
-place (vxlan xs) = held (2 ^ 15 + 2) (list_of OfVxlan.members) xs
-place (erspan xs) = held (2 ^ 15 + 3) (list_of OfErspan.members) xs
-place (other x) = held_other x
+abbrev pub held_of : Meaning → Held
+held_of (geneve os) = held (2 ^ 15 + 1) geneve_options os
+held_of (vxlan xs) = held (2 ^ 15 + 2) (list_of OfVxlan.attributes) xs
+held_of (erspan xs) = held (2 ^ 15 + 3) (list_of OfErspan.attributes) xs
+held_of (other x) = held_other x
 
 -- why the list inside can't be written, if so
 abbrev pub unfit_inside : Meaning → Option EmitError
@@ -60,30 +63,34 @@ unfit_inside (other x) = None
 -- what can be read
 abbrev pub Coherent : Meaning → Type 0
 Coherent (other x) = IsOther rows x
-Coherent m = IsHeld (place m)
+Coherent m = IsHeld (held_of m)
 
-pub aligned : Aligned (λ m. item_of (place m)) Coherent rows
+pub aligned : Aligned (λ m. item_of (held_of m)) Coherent rows
 aligned = search rules
 
-pub kinds : (m : Meaning) → Coherent m → held_kind (place m) < 2 ^ 16
+pub kinds : (m : Meaning) → Coherent m → held_kind (held_of m) < 2 ^ 16
 kinds (other x) c = c.proper.kind
 kinds m c = omega arith
 
-pub back : (m : Meaning) → Coherent m → held_misfit (place m) ≡ None → ReadsAt other rows (number_of (item_of (place m)).kind) (item_of (place m)) m
+pub back : (m : Meaning) → Coherent m → held_misfit (held_of m) ≡ None → ReadsAt other rows (number_of (item_of (held_of m)).kind) (item_of (held_of m)) m
 back (other x) c fits = other-back other rows (number_of x.kind) x c.alone
-back m c fits = (held_value (place m), held-reads (place m) c fits, refl)
+back m c fits = (held_value (held_of m), held-reads (held_of m) c fits, refl)
 
 -- how each is written
 abbrev pub writing : Writing Meaning
-writing = placed place
+writing = writing_by held_of
+
+-- each row is a list
+abbrev pub looks : Looking Item
+looks = looking_at 1 options_looking (looking_at 2 (list_looking OfVxlan.attributes) (looking_at 3 (list_looking OfErspan.attributes) no_looking))
 
 -- the family
-abbrev pub members : Reading writing
-members = flat (table_of rows other place Coherent aligned (λ x. refl) (λ x is. is) kinds back)
+abbrev pub attributes : Reading writing
+attributes = holding looks (table_family (table_of rows other held_of Coherent aligned (λ x. refl) (λ x is. is) kinds back))
 
--- the text of an option; of an unknown one, and of options of VXLAN of which one is unknown, none is claimed
+-- the text of an option
 abbrev pub tunnel_option_text : Meaning → Option (List ℕ)
 tunnel_option_text (geneve os) = joined_by (codes ",") (λ o. Some (geneve_text o)) os
 tunnel_option_text (vxlan xs) = joined_by (codes ",") OfVxlan.vxlan_text xs
 tunnel_option_text (erspan xs) = Some (OfErspan.erspan_text xs)
-tunnel_option_text (other x) = None
+tunnel_option_text (other x) = nla_text x

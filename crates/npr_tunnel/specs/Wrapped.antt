@@ -3,7 +3,8 @@ use Rattle.std.specs.Prelude.{◌≡◌, ◌+◌, ◌*◌, ◌<◌, ◌≤◌, �
 use Rattle.std.proofs.Common.{refl, sym, ap, subst, ◌∙◌}
 use Rattle.npr_base.specs.Codec.{raw}
 use Rattle.npr_base.specs.Framing.{Item, Proper, framed}
-use Rattle.npr_base.specs.Table.{Writing, Reading, held_other, placed}
+use Rattle.npr_base.specs.LooksLaws.{no_looking}
+use Rattle.npr_base.specs.Table.{Writing, Reading, held_other, writing_by}
 
 -- `made` is the variant, and what is written of it is what the family writes
 module _ {M W : Type 0} {v : Writing M} (F : Reading v) (made : M → W) (w : Writing W)
@@ -18,6 +19,7 @@ module _ {M W : Type 0} {v : Writing M} (F : Reading v) (made : M → W) (w : Wr
   wrapped = record {
     Reads = λ x n. (m : M) × F.Reads x m × (n ≡ made m);
     Faulty = F.Faulty;
+    looks = F.looks;
     Coherent = λ n. (m : M) × F.Coherent m × (n ≡ made m);
     one_reading = λ x n o p q. p.2 ∙ ap made (F.one_reading x p.0 q.0 p.1 q.1) ∙ sym q.2;
     no_fault = λ x n e p q. F.no_fault x p.0 e p.1 q;
@@ -28,10 +30,11 @@ module _ {M W : Type 0} {v : Writing M} (F : Reading v) (made : M → W) (w : Wr
         λ x n proper p. subst (λ (y : Item). 2 * framed (length y.value) ≤ 5 * (4 + length x.value)) (sym (written-is n p.0 p.2)) (F.grows x p.0 proper p.1);
   }
 
-abbrev pub kept : Reading (placed held_other)
+abbrev pub kept : Reading (writing_by held_other)
 kept = record {
   Reads = λ x y. y ≡ x;
   Faulty = λ x e. ⊥;
+  looks = no_looking;
   Coherent = Proper;
   one_reading = λ x y z p q. p ∙ sym q;
   no_fault = λ x y e p q. q;

@@ -8,8 +8,9 @@ use Rattle.npr_base.specs.Layout.{le32}
 use Rattle.npr_base.specs.Codec.{exactly}
 use Rattle.npr_base.specs.DroppedCodec.{dropped}
 use Rattle.npr_base.specs.Table.{Writing, Reading, table_of, Row, row, Held, held, held_other, held_kind, held_value}
-use Rattle.npr_base.specs.Table.{held_misfit, held-reads, IsHeld, item_of, placed, IsOther, Aligned, ReadsAt}
-use Rattle.npr_base.specs.TableLaws.{flat, other-back}
+use Rattle.npr_base.specs.Table.{held_misfit, held-reads, IsHeld, item_of, writing_by, IsOther, Aligned, ReadsAt}
+use Rattle.npr_base.specs.TableLaws.{table_family, other-back}
+use Rattle.npr_base.specs.Text.{nla_text}
 use Rattle.npr_tunnel.specs.declared.xfrm.RouteXfrmTunnel.{RouteXfrmTunnel}
 use Rattle.npr_tunnel.specs.declared.xfrm.RouteXfrmTunnel.TheVariants.{Unspecified, IfId, Link, Other}
 
@@ -38,39 +39,39 @@ rows =
     ∷ []
 
 -- where each meaning stands in it
-abbrev pub place : Meaning → Held
-place unspecified = held 0 dropped tt
-place (if_id a) = held 1 (exactly le32) a
-place (link a) = held 2 (exactly le32) a
-place (other x) = held_other x
+abbrev pub held_of : Meaning → Held
+held_of unspecified = held 0 dropped tt
+held_of (if_id a) = held 1 (exactly le32) a
+held_of (link a) = held 2 (exactly le32) a
+held_of (other x) = held_other x
 
 -- what can be read
 abbrev pub Coherent : Meaning → Type 0
 Coherent (other x) = IsOther rows x
-Coherent m = IsHeld (place m)
+Coherent m = IsHeld (held_of m)
 
-pub aligned : Aligned (λ m. item_of (place m)) Coherent rows
+pub aligned : Aligned (λ m. item_of (held_of m)) Coherent rows
 aligned = search rules
 
-pub kinds : (m : Meaning) → Coherent m → held_kind (place m) < 2 ^ 16
+pub kinds : (m : Meaning) → Coherent m → held_kind (held_of m) < 2 ^ 16
 kinds (other x) c = c.proper.kind
 kinds m c = omega arith
 
-pub back : (m : Meaning) → Coherent m → held_misfit (place m) ≡ None → ReadsAt other rows (number_of (item_of (place m)).kind) (item_of (place m)) m
+pub back : (m : Meaning) → Coherent m → held_misfit (held_of m) ≡ None → ReadsAt other rows (number_of (item_of (held_of m)).kind) (item_of (held_of m)) m
 back (other x) c fits = other-back other rows (number_of x.kind) x c.alone
-back m c fits = (held_value (place m), held-reads (place m) c fits, refl)
+back m c fits = (held_value (held_of m), held-reads (held_of m) c fits, refl)
 
 -- how each is written
 abbrev pub writing : Writing Meaning
-writing = placed place
+writing = writing_by held_of
 
 -- the family
-abbrev pub members : Reading writing
-members = flat (table_of rows other place Coherent aligned (λ x. refl) (λ x is. is) kinds back)
+abbrev pub attributes : Reading writing
+attributes = table_family (table_of rows other held_of Coherent aligned (λ x. refl) (λ x is. is) kinds back)
 
--- the text of a member; of an unknown one none is claimed
+-- the text of a member
 abbrev pub xfrm_text : Meaning → Option (List ℕ)
 xfrm_text unspecified = Some (codes "unspecified")
 xfrm_text (if_id n) = Some (codes "if_id " ++ decimal n)
 xfrm_text (link n) = Some (codes "link_dev " ++ decimal n)
-xfrm_text (other x) = None
+xfrm_text (other x) = nla_text x

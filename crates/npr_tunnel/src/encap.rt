@@ -2,7 +2,7 @@
 
 ghost use Rattle.std.specs.Prelude.{◌≡◌, IfOk, refl};
 ghost use Rattle.npr_base.specs.Table.{shape_by};
-ghost use Rattle.npr_tunnel.specs.Encapsulation.{Meaning, meaning_of, newer, writing, encapsulation};
+ghost use Rattle.npr_tunnel.specs.Encapsulation.{Meaning, meaning_of, normalized, writing, encapsulation};
 
 use crate::encap_type::RouteLwEnCapType;
 use crate::ip::RouteIpTunnel;
@@ -98,7 +98,7 @@ impl RouteLwTunnelEncap {
 
     /// Gives the mode of a SEG6 header the name that its number has today: `Seg6Header::normalize`.
     pub fn normalize(&mut self)
-        ensures { meaning_of self.new ≡ newer (meaning_of self.old) }
+        ensures { meaning_of self.new ≡ normalized (meaning_of self.old) }
     {
         if let RouteLwTunnelEncap::Seg6(RouteSeg6IpTunnel::Seg6(header)) = self {
             header.normalize();

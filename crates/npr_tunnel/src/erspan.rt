@@ -2,7 +2,7 @@
 
 ghost use Rattle.std.specs.{Prelude.{◌≡◌, length, map, IfOk, refl}, Fmt.{WritesOnOk}};
 ghost use Rattle.npr_base.specs.Table.{shape_by};
-ghost use Rattle.npr_tunnel.specs.ErspanOptions.{Meaning, meaning_of, writing, members, erspan_text};
+ghost use Rattle.npr_tunnel.specs.ErspanOptions.{Meaning, meaning_of, writing, attributes, erspan_text};
 
 use npr_base::{
     AttrFamily, Attribute, DecodeError, DefaultNla, EmitError, Looks, Nla, NlaBuffer, Parseable,
@@ -88,7 +88,7 @@ impl Attribute for RouteErspanOpt {
 
     ghost writing = { writing };
 
-    ghost reading = { λ _. members };
+    ghost reading = { λ _. attributes };
 
     ghost item_is = { λ a. refl };
 

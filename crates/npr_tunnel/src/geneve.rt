@@ -1,17 +1,19 @@
 //! Options of Geneve: `LWTUNNEL_IP_OPT_GENEVE_*` of `linux/lwtunnel.h`.
 
-ghost use Rattle.std.specs.Prelude.{◌≡◌, ◌≢◌, ◌≤◌, ◌⊎◌, ◌+◌, ◌∷◌, ◌++◌, true, [], ℕ, Some, None, length, map, IfOk, IfErr, OnOk};
+ghost use Rattle.std.specs.Prelude.{false, ◌≡◌, ◌≢◌, ◌≤◌, ◌⊎◌, ◌+◌, ◌∷◌, ◌++◌, true, [], ℕ, Some, None, length, map, IfOk, IfErr, OnOk};
 ghost use Rattle.npr_base.specs.{
   Table.{shape_at, held},
   Codec.{exactly, raw},
   Family.{checked},
   Counts.{AddsAtMost, SawEach},
+  Looks.{Answered},
   Framing.{Writes, number_of},
   Layout.{byte, be16},
   declared.refusal.DecodeError.TheVariants.{OutOfMemory},
 };
 ghost use Rattle.npr_tunnel.specs.{
   Geneve.{at, Child, child_item, child_misfit, option_bytes, option_misfit, options_unfit, class_child, type_child, data_child, option_of, ReadsChild, WrongChild, AreOptions, OptionsFault, geneve_text},
+  GeneveLooks.{OptionsLooks},
   GeneveSteps.{seen, listed, is_some, Changes},
 };
 
@@ -178,6 +180,7 @@ pub(crate) fn read_options(
 ) -> Result<Vec<RouteGeneveOpt>, DecodeError>
     ensures ok { IfOk result (λ v. AreOptions bytes.now (map option_of v.items)) }
     ensures refused { IfErr result (λ e. e ≢ OutOfMemory → OptionsFault bytes.now e) }
+    ensures exact { Answered result → OptionsLooks false bytes.now looks.old looks.new }
     ensures bounded { AddsAtMost looks.old looks.new (length bytes.now) }
     ensures counted { IfOk result (λ v. SawEach looks.old looks.new (length v.items)) }
 {

@@ -2,7 +2,7 @@
 
 ghost use Rattle.std.specs.Prelude.{◌≡◌, length, IfOk, refl};
 ghost use Rattle.npr_base.specs.{Family.{checked}, Table.{held_bytes, shape_by}};
-ghost use Rattle.npr_tunnel.specs.IpTunnel.{Meaning, meaning_of, writing, members, place, unfit_inside, ip_tunnel_text};
+ghost use Rattle.npr_tunnel.specs.IpTunnel.{Meaning, meaning_of, writing, attributes, held_of, unfit_inside, ip_tunnel_text};
 
 use crate::flags::{RouteIpTunnelFlags, write_flags};
 use crate::ip_rows;
@@ -59,7 +59,7 @@ impl RouteIpTunnel {
 
     /// The length of the value, or the first cause why the list inside has none.
     fn len(&self) -> Result<usize, EmitError>
-        ensures { result ≡ checked (unfit_inside (meaning_of self.now)) (length (held_bytes (place 4 (meaning_of self.now)))) }
+        ensures { result ≡ checked (unfit_inside (meaning_of self.now)) (length (held_bytes (held_of 4 (meaning_of self.now)))) }
     {
         Ok(rows!(len_rows(self)))
     }
@@ -104,7 +104,7 @@ impl Attribute for RouteIpTunnel {
 
     ghost writing = { writing 4 };
 
-    ghost reading = { λ _. members };
+    ghost reading = { λ _. attributes };
 
     ghost item_is = { λ a. refl };
 

@@ -2,7 +2,7 @@
 
 ghost use Rattle.std.specs.Prelude.{◌≡◌, length, IfOk, refl};
 ghost use Rattle.npr_base.specs.{Family.{checked}, Table.{held_bytes, shape_by}};
-ghost use Rattle.npr_tunnel.specs.IpTunnel.{Meaning, meaning6_of, writing, members6, place, unfit_inside, ip6_tunnel_text};
+ghost use Rattle.npr_tunnel.specs.IpTunnel.{Meaning, meaning6_of, writing, attributes6, held_of, unfit_inside, ip6_tunnel_text};
 
 use crate::flags::{RouteIp6TunnelFlags, write_flags};
 use crate::ip_rows;
@@ -59,7 +59,7 @@ impl RouteIp6Tunnel {
 
     /// The length of the value, or the first cause why the list inside has none.
     fn len(&self) -> Result<usize, EmitError>
-        ensures { result ≡ checked (unfit_inside (meaning6_of self.now)) (length (held_bytes (place 16 (meaning6_of self.now)))) }
+        ensures { result ≡ checked (unfit_inside (meaning6_of self.now)) (length (held_bytes (held_of 16 (meaning6_of self.now)))) }
     {
         Ok(rows!(len_rows(self)))
     }
@@ -104,7 +104,7 @@ impl Attribute for RouteIp6Tunnel {
 
     ghost writing = { writing 16 };
 
-    ghost reading = { λ _. members6 };
+    ghost reading = { λ _. attributes6 };
 
     ghost item_is = { λ a. refl };
 

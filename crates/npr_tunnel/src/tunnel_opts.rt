@@ -2,7 +2,7 @@
 
 ghost use Rattle.std.specs.Prelude.{◌≡◌, length, IfOk, refl};
 ghost use Rattle.npr_base.specs.{Family.{checked}, Table.{held_bytes, shape_by}};
-ghost use Rattle.npr_tunnel.specs.TunnelOptions.{Meaning, meaning_of, writing, members, place, unfit_inside, tunnel_option_text};
+ghost use Rattle.npr_tunnel.specs.TunnelOptions.{Meaning, meaning_of, writing, attributes, held_of, unfit_inside, tunnel_option_text};
 
 use crate::erspan::{RouteErspanOpt, write_erspan};
 use crate::geneve::{RouteGeneveOpt, check_options, clone_options, read_options, write_options};
@@ -50,7 +50,7 @@ impl RouteLwTunnelOpt {
 
     /// The length of the value, or the first cause why the list inside has none.
     fn len(&self) -> Result<usize, EmitError>
-        ensures { result ≡ checked (unfit_inside (meaning_of self.now)) (length (held_bytes (place (meaning_of self.now)))) }
+        ensures { result ≡ checked (unfit_inside (meaning_of self.now)) (length (held_bytes (held_of (meaning_of self.now)))) }
     {
         Ok(rows!(len_rows(self; RouteLwTunnelOpt::Geneve(v) => check_options(v.as_slice())?,)))
     }
@@ -92,7 +92,7 @@ impl Attribute for RouteLwTunnelOpt {
 
     ghost writing = { writing };
 
-    ghost reading = { λ _. members };
+    ghost reading = { λ _. attributes };
 
     ghost item_is = { λ a. refl };
 

@@ -2,7 +2,7 @@
 
 ghost use Rattle.std.specs.Prelude.{◌≡◌, length, IfOk, refl};
 ghost use Rattle.npr_base.specs.Table.{shape_by};
-ghost use Rattle.npr_tunnel.specs.VxlanOptions.{Meaning, meaning_of, writing, members, vxlan_text};
+ghost use Rattle.npr_tunnel.specs.VxlanOptions.{Meaning, meaning_of, writing, attributes, vxlan_text};
 
 use npr_base::{
     AttrFamily, Attribute, DecodeError, DefaultNla, EmitError, Looks, Nla, NlaBuffer, Parseable,
@@ -79,7 +79,7 @@ impl Attribute for RouteVxlanOpt {
 
     ghost writing = { writing };
 
-    ghost reading = { λ _. members };
+    ghost reading = { λ _. attributes };
 
     ghost item_is = { λ a. refl };
 

@@ -3,6 +3,8 @@
 
 mod c;
 
+use std::fmt;
+
 /// A kind of message.
 #[derive(Clone, Copy, Debug, PartialEq, Eq)]
 pub enum Kind {
@@ -20,11 +22,52 @@ pub enum Fault {
     Unfit(String),
 }
 
+impl fmt::Display for Fault {
+    fn fmt(&self, f: &mut fmt::Formatter<'_>) -> fmt::Result {
+        match self {
+            Fault::Refused(name) => write!(f, "refused: {name}"),
+            Fault::Unfit(name) => write!(f, "unfit: {name}"),
+        }
+    }
+}
+
+impl std::error::Error for Fault {}
+
+/// What is wrong with bytes as a message, with all that the library tells of it: the members of `struct npr_fault`.
+#[derive(Clone, Debug, PartialEq, Eq)]
+pub struct Refusal {
+    pub name: String,
+    pub family: u32,
+    pub kind: u16,
+    pub detail: u16,
+    pub length: usize,
+    pub limit: usize,
+}
+
 /// An attribute: all 16 bits of its kind, and its value.
 #[derive(Clone, Copy, Debug, PartialEq, Eq)]
 pub struct Attribute<'a> {
     pub kind: u16,
     pub value: &'a [u8],
+}
+
+/// A next hop: its header but for the length, and the bytes of its attributes.
+#[derive(Clone, Copy, Debug, PartialEq, Eq)]
+pub struct NextHop<'a> {
+    pub flags: u8,
+    pub hops: u8,
+    pub interface_index: u32,
+    pub attributes: &'a [u8],
+}
+
+/// A message of a datagram: the header of its envelope but for the length, and what stands behind it.
+#[derive(Clone, Copy, Debug, PartialEq, Eq)]
+pub struct Message<'a> {
+    pub message_type: u16,
+    pub flags: u16,
+    pub sequence_number: u32,
+    pub port_number: u32,
+    pub payload: &'a [u8],
 }
 
 /// The canonical bytes of the message that the bytes are.
@@ -43,6 +86,33 @@ pub fn canonical(kind: Kind, bytes: &[u8]) -> Result<Vec<u8>, Fault> {
     }
 }
 
+/// Whether the bytes are a message, and else the first fault in reading order.
+pub fn judge(kind: Kind, bytes: &[u8]) -> Result<(), Refusal> {
+    let fault = c::fault(kind, bytes);
+    if fault.number == 0 {
+        return Ok(());
+    }
+    Err(Refusal {
+        name: c::refusal_name(fault.number),
+        family: fault.family,
+        kind: fault.kind,
+        detail: fault.detail,
+        length: fault.length,
+        limit: fault.limit,
+    })
+}
+
+fn told(bytes: &[u8], step: c::Step) -> Option<Result<Attribute<'_>, Fault>> {
+    match step.status {
+        c::FOUND => Some(Ok(Attribute {
+            kind: step.kind,
+            value: &bytes[step.value..][..step.length],
+        })),
+        c::FAULT => Some(Err(Fault::Refused(c::refusal_name(step.number)))),
+        _ => None,
+    }
+}
+
 /// The attributes that stand one after the other from this place on. A fault is the last item.
 pub fn attributes(
     bytes: &[u8],
@@ -55,12 +125,57 @@ pub fn attributes(
         } else {
             bytes.len()
         };
-        match step.status {
-            c::FOUND => Some(Ok(Attribute {
-                kind: step.kind,
-                value: &bytes[step.value..][..step.length],
+        told(bytes, step)
+    })
+}
+
+/// The first attribute of this number from this place on.
+pub fn find(bytes: &[u8], at: usize, number: u16) -> Result<Option<Attribute<'_>>, Fault> {
+    told(bytes, c::find(bytes, at, number)).transpose()
+}
+
+/// The next hops that are the bytes. A fault is the last item.
+pub fn next_hops(bytes: &[u8]) -> impl Iterator<Item = Result<NextHop<'_>, Fault>> {
+    let mut at = 0;
+    std::iter::from_fn(move || {
+        let hop = c::next_hop(bytes, at);
+        at = if hop.status == c::FOUND {
+            hop.next
+        } else {
+            bytes.len()
+        };
+        match hop.status {
+            c::FOUND => Some(Ok(NextHop {
+                flags: hop.flags,
+                hops: hop.hops,
+                interface_index: hop.interface_index,
+                attributes: &bytes[hop.attributes..hop.end],
             })),
-            c::FAULT => Some(Err(Fault::Refused(c::refusal_name(step.number)))),
+            c::FAULT => Some(Err(Fault::Refused(c::refusal_name(hop.number)))),
+            _ => None,
+        }
+    })
+}
+
+/// The messages of a datagram, one after the other. A fault is the last item.
+pub fn messages(datagram: &[u8]) -> impl Iterator<Item = Result<Message<'_>, Fault>> {
+    let mut at = 0;
+    std::iter::from_fn(move || {
+        let message = c::message(datagram, at);
+        at = if message.status == c::FOUND {
+            message.next
+        } else {
+            datagram.len()
+        };
+        match message.status {
+            c::FOUND => Some(Ok(Message {
+                message_type: message.message_type,
+                flags: message.flags,
+                sequence_number: message.sequence_number,
+                port_number: message.port_number,
+                payload: &datagram[message.payload..][..message.length],
+            })),
+            c::FAULT => Some(Err(Fault::Refused(c::refusal_name(message.number)))),
             _ => None,
         }
     })

@@ -8,4 +8,4 @@ returns g c =
     let item = shaped_item g.A.Nla.shape in
     let e = encodings-seen item a.writing.writes a.meaning g.met.A.Attribute.item_is c.args.list.now in
     let u = list-seen (shaped_misfit g.A.Nla.shape) a.writing.misfit item a.writing.writes a.meaning g.met.A.Attribute.misfit_is g.met.A.Attribute.item_is c.args.list.now in
-    rw (← u, ← e) c.check_items.ensures
+    rw (← u, ← e) c.check_list_body.ensures

@@ -16,7 +16,7 @@ loop-address-preserved c =
     let sized : length (get_or all i x) ≡ 16 = ap length read ∙ size in
     let more = take_more all i x lt in
     record {
-      place = omega (arith, past.place);
+      offset = omega (arith, past.offset);
       len = omega (arith, past.len, ap length (ap concat more ∙ concat-push (take i all) (get_or all i x)), length-append (concat (take i all)) (get_or all i x), sized);
       each = rw more (AllOf-push (λ (a : List ℕ). length a ≡ 16) (take i all) (get_or all i x) past.each sized);
     }

@@ -5,7 +5,7 @@ use Rattle.npr_base.proofs.v6_list.v6_list_len.Given as goal
 
 abbrev pub invariant-loop-address : goal.invariant-loop-address
 invariant-loop-address l = record {
-  place : l.total ≡ 16 * l.address-index;
+  offset : l.total ≡ 16 * l.address-index;
   len : l.total ≡ length (concat (take l.address-index l.addresses));
   each : AllOf (λ a. length a ≡ 16) (take l.address-index l.addresses);
 }

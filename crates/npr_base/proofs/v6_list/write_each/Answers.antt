@@ -18,9 +18,9 @@ write_array-at-requires c =
     let lt = c.loop-address-test.true in
     let read : get_or all i x ≡ c.octets.result = cc in
     let next : concat (take (i + 1) all) ≡ concat (take i all) ++ c.octets.result = ap concat (take_more all i x lt) ∙ concat-push (take i all) (get_or all i x) ∙ ap (λ (w : List ℕ). concat (take i all) ++ w) read in
-    let span : length (concat (take (i + 1) all)) ≡ 16 * i + 16 = omega (arith, ap length next, length-append (concat (take i all)) c.octets.result, past.len, past.place, size) in
+    let span : length (concat (take (i + 1) all)) ≡ 16 * i + 16 = omega (arith, ap length next, length-append (concat (take i all)) c.octets.result, past.len, past.offset, size) in
     let room = concat-room all i (length c.args.out.now) c.requires lt span in
-    omega (arith, room, past.place, size, c.loop-address.auto.out, length-take (length out - at) (drop at out), length-drop at out)
+    omega (arith, room, past.offset, size, c.loop-address.auto.out, length-take (length out - at) (drop at out), length-drop at out)
 
 pub loop-address-preserved : goal.loop-address-preserved
 loop-address-preserved c =
@@ -32,10 +32,10 @@ loop-address-preserved c =
     let lt = c.loop-address-test.true in
     let read : get_or all i x ≡ c.octets.result = cc in
     let next : concat (take (i + 1) all) ≡ concat (take i all) ++ c.octets.result = ap concat (take_more all i x lt) ∙ concat-push (take i all) (get_or all i x) ∙ ap (λ (w : List ℕ). concat (take i all) ++ w) read in
-    let span : length (concat (take (i + 1) all)) ≡ 16 * i + 16 = omega (arith, ap length next, length-append (concat (take i all)) c.octets.result, past.len, past.place, size) in
+    let span : length (concat (take (i + 1) all)) ≡ 16 * i + 16 = omega (arith, ap length next, length-append (concat (take i all)) c.octets.result, past.len, past.offset, size) in
     let room = concat-room all i (length c.args.out.now) c.requires lt span in
     record {
-      place = omega (arith, past.place, c.write_array-at.ensures.len, size);
+      offset = omega (arith, past.offset, c.write_array-at.ensures.len, size);
       len = omega (arith, past.len, c.write_array-at.ensures.len, ap length next, length-append (concat (take i all)) c.octets.result);
-      after = rw next (Writes-more c.args.out.now c.loop-address.out c.write_array-at.new.out (concat (take i all)) c.octets.result c.loop-address.at past.len (omega (arith, past.place, past.len, room)) past.after c.write_array-at.ensures.after);
+      after = rw next (Writes-more c.args.out.now c.loop-address.out c.write_array-at.new.out (concat (take i all)) c.octets.result c.loop-address.at past.len (omega (arith, past.offset, past.len, room)) past.after c.write_array-at.ensures.after);
     }

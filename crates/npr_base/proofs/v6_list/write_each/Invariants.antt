@@ -5,7 +5,7 @@ use Rattle.npr_base.proofs.v6_list.write_each.Given as goal
 
 abbrev pub invariant-loop-address : goal.invariant-loop-address
 invariant-loop-address l = record {
-  place : l.at ≡ 16 * l.address-index;
+  offset : l.at ≡ 16 * l.address-index;
   len : l.at ≡ length (concat (take l.address-index l.addresses));
   after : Writes l.fn.out l.out (concat (take l.address-index l.addresses));
 }

@@ -19,12 +19,12 @@ write_attribute-returns-clause-after t c =
     let m = meaning_of c.args.attribute.now in
     let x : Item = plain_of m in
     let out = c.args.out.now in
-    let body = c.write_value-len.new.out in
-    let len = c.write_value-len.result in
+    let body = c.write_inside-len.new.out in
+    let len = c.write_inside-len.result in
     let mid = put_mid 4 (length out - 4) out body in
     let kind : c.marked_kind-kind.result ≡ marked (nested_of m) x.kind = rw (c.marked_kind-kind.ensures, c.is_nested.ensures, c.kind.ensures) refl in
     let framed = subst (λ (k : ℕ). Writes mid c.frame.new.out (encoding (record { kind = k; value = take len (drop 4 mid) }))) kind c.frame.ensures.after in
-    let so = Writes-encoding out body c.frame.new.out x.value (marked (nested_of m) x.kind) len c.write_value-len.ensures.len c.requires.room c.write_value-len.ensures.after framed in
+    let so = Writes-encoding out body c.frame.new.out x.value (marked (nested_of m) x.kind) len c.write_inside-len.ensures.len c.requires.room c.write_inside-len.ensures.after framed in
     subst (λ (i : Item). Writes out c.frame.new.out (encoding i)) (item-is m) so
 
 pub write_attributes-write_attribute-at-requires : goal.write_attributes-write_attribute-at-requires

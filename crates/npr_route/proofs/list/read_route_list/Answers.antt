@@ -19,3 +19,6 @@ pub returns-clause-counted : goal.returns-clause-counted
 returns-clause-counted c =
     saw_if_ok (λ v. map meaning_of v.items) (list_members writing.members) (attributes (c.args.under.0, c.args.under.1, c.governing_type-kind.result)).Reads NoEncapsulation c.args.bytes.now
     c.governing_type-kind.result c.args.looks.now c.governing_type-kind.new.looks c.parse_list.new.looks c.governing_type-kind.ensures.looks c.parse_list.result c.parse_list.ensures.ok c.parse_list.ensures.counted
+
+pub returns-clause-exact : goal.returns-clause-exact
+returns-clause-exact c = λ answered. (c.governing_type-kind.result, c.governing_type-kind.new.looks, c.governing_type-kind.ensures.looks, c.parse_list.ensures.exact answered)

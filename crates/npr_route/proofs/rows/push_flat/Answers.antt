@@ -3,6 +3,10 @@ use Rattle.std.proofs.Common.{◌≡◌, arith}
 use Rattle.std.proofs.lemmas.Result.{IfOk-weaker}
 use Rattle.npr_base.specs.Framing.{number_of}
 use Rattle.npr_base.proofs.Lists.{set_pushed}
+use Rattle.npr_route.specs.Attribute.{typed}
+use Rattle.npr_route.specs.AttributeLooks.{value_faulty}
+use Rattle.npr_route.specs.AttributeView.{meaning_of}
+use Rattle.npr_route.proofs.RowLooks.{looks_read, answered_ok, answered_err}
 use Rattle.npr_route.proofs.rows.push_flat.Goals as goal
 
 -- both of what holds where there is a value
@@ -24,3 +28,15 @@ returns-clause-ok c =
     let place = c.read_flat.new.place in
     let pushed = set_pushed c.args.list.now.items c.push.new.self.items _ place c.len-last.result c.in_ok-push.ensures.items (omega arith) in
     IfOk-weaker c.read_flat.result _ _ (λ _ h. (place, pushed, h.0, h.1)) (both c.read_flat.result _ _ c.read_flat.ensures.ok c.read_flat.ensures.counted)
+
+-- ---- the looks
+
+pub returns-clause-read : goal.returns-clause-read
+returns-clause-read c =
+    let context = typed c.args.context c.args.encap_type in
+    answered_ok c.read_flat.result _ _ (λ _ h. looks_read context c.args.item.now (meaning_of c.read_flat.new.place) c.args.looks.now c.read_flat.new.looks c.requires h) c.read_flat.ensures.ok c.read_flat.ensures.exact
+
+pub returns-clause-faulty : goal.returns-clause-faulty
+returns-clause-faulty c =
+    let refused = unless (number_of c.args.item.now.kind ≡ 9) c.read_flat.result _ _ c.read_flat.ensures.nine c.read_flat.ensures.refused in
+    answered_err c.read_flat.result _ _ (λ e w. value_faulty e w.0 w.1) refused c.read_flat.ensures.exact

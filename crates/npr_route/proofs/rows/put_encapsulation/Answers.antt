@@ -15,3 +15,8 @@ returns-clause-ok c =
     let v = c.in_ok-members.members in
     let xs = map meaning_of v.items in
     rw c.put.ensures (Flat.encap xs, (xs, c.in_ok-members.ensures.ok, refl), view_encapsulation v)
+
+pub returns-in_err-members-clause-exact : goal.returns-in_err-members-clause-exact
+returns-in_err-members-clause-exact c =
+    let p = err_from_is_err_and c.from_residual.result c.from_residual.ensures.1 in
+    rw (p.1, p.2) c.in_err-members.ensures.exact

@@ -15,3 +15,8 @@ returns-clause-ok c =
     let v = c.in_ok-metrics.metrics in
     let xs = map metric_of v.items in
     rw c.put.ensures (Flat.metrics xs, (xs, c.in_ok-metrics.ensures.ok, refl), view_metrics v)
+
+pub returns-in_err-metrics-clause-exact : goal.returns-in_err-metrics-clause-exact
+returns-in_err-metrics-clause-exact c =
+    let p = err_from_is_err_and c.from_residual.result c.from_residual.ensures.1 in
+    rw (p.1, p.2) c.in_err-metrics.ensures.exact

@@ -29,7 +29,7 @@ loop-i-preserved c =
     let read : get_or all i x ≡ c.octets.result = get_or-reverse c.args.segments.now i x lt ∙ sym c.index-segments-count.is ∙ sym c.octets.ensures in
     let next : concat (take (i + 1) all) ≡ concat (take i all) ++ c.octets.result = ap concat (take_more all i x (omega (arith, lt, length-reverse c.args.segments.now))) ∙ concat-push (take i all) (get_or all i x) ∙ ap (λ (w : List ℕ). concat (take i all) ++ w) read in
     record {
-      place = omega (arith, past.place, c.write_array-at.ensures.len, size);
+      offset = omega (arith, past.offset, c.write_array-at.ensures.len, size);
       len = omega (arith, past.len, c.write_array-at.ensures.len, ap length next, length-append (concat (take i all)) c.octets.result);
       after = rw next (Writes-more c.args.out.now c.loop-i.out c.write_array-at.new.out (concat (take i all)) c.octets.result c.loop-i.at past.len (omega (arith, past.len, concat-below all i, c.requires)) past.after c.write_array-at.ensures.after);
     }

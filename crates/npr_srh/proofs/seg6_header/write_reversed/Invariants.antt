@@ -5,7 +5,7 @@ use Rattle.npr_srh.proofs.seg6_header.write_reversed.Given as goal
 
 abbrev pub invariant-loop-i : goal.invariant-loop-i
 invariant-loop-i l = record {
-  place : l.at ≡ 16 * l.i;
+  offset : l.at ≡ 16 * l.i;
   len : l.at ≡ length (concat (take l.i (reverse l.segments)));
   after : Writes l.fn.out l.out (concat (take l.i (reverse l.segments)));
 }

@@ -1,9 +1,12 @@
-use Rattle.std.proofs.Common.{◌≡◌, ◌++◌, sym, ap, ◌∙◌, subst, map, length}
+use Rattle.std.proofs.Common.{◌≡◌, ◌<◌, Bool, Option, Some, None, refl, [], ◌++◌, sym, ap, ◌∙◌, subst, map, length}
+use Rattle.std.proofs.lemmas.Result.{err_from_is_err_and}
 use Rattle.std.proofs.lemmas.List.{length-map}
-use Rattle.npr_base.specs.Counts.{hit, SawEach}
-use Rattle.npr_base.specs.Framing.{Front}
-use Rattle.npr_tunnel.specs.Geneve.{option_of}
-use Rattle.npr_tunnel.specs.GeneveSteps.{seen, listed}
+use Rattle.npr_base.specs.Counts.{hit, miss, SawEach}
+use Rattle.npr_base.specs.Framing.{Front, Fault}
+use Rattle.npr_tunnel.specs.Geneve.{option_of, WrongChild}
+use Rattle.npr_tunnel.specs.GeneveLooks.{options_end, no_child_stands, child_faulty}
+use Rattle.npr_tunnel.specs.GeneveSteps.{seen, listed, is_some}
+use Rattle.npr_tunnel.specs.declared.geneve.RouteGeneveOpt.{RouteGeneveOpt}
 use Rattle.npr_tunnel.proofs.Groups.{child_read, all_seen}
 use Rattle.npr_tunnel.proofs.geneve.read_options.Goals as goal
 
@@ -23,3 +26,31 @@ returns-clause-counted c =
     let seen_all = all_seen c.args.bytes.now c.args.looks.now c.loop-next.looks options current c.loop-next.walk c.loop-next.invariant in
     let count : length (options ++ listed current) ≡ length c.close-2.new.options.items = ap length (sym c.in_ok-close-2.ensures.ok) ∙ length-map c.close-2.new.options.items option_of in
     rw c.in_default.ensures.counted (subst (SawEach c.args.looks.now c.loop-next.looks) count seen_all)
+
+-- ---- the looks
+
+pub returns-clause-exact : goal.returns-clause-exact
+returns-clause-exact c = λ answered. c.loop-next.invariant.exact c.next_counted.new.looks (options_end c.in_default.ensures.step.0 c.in_default.ensures.counted)
+
+pub returns-in_err-child-clause-exact : goal.returns-in_err-child-clause-exact
+returns-in_err-child-clause-exact c = λ answered.
+    let e = c.in_err-child.field-0.0 in
+    let step : (0 < length c.loop-next.walk) × Fault c.loop-next.walk e × (c.next_counted.new.self ≡ []) = rw c.in_err-child.was at c.in-Some.ensures.step in
+    let look : c.next_counted.new.looks ≡ miss c.loop-next.looks = rw c.in_err-child.was at c.in-Some.ensures.counted in
+    c.loop-next.invariant.exact c.next_counted.new.looks (no_child_stands e step.0 step.1 look)
+
+some_seen : (o : Option RouteGeneveOpt) → is_some o ≡ is_some (seen o)
+some_seen None = refl
+some_seen (Some o) = refl
+
+pub returns-in_err-closed-clause-exact : goal.returns-in_err-closed-clause-exact
+returns-in_err-closed-clause-exact c =
+    let p = err_from_is_err_and c.from_residual-in_err-closed.result c.from_residual-in_err-closed.ensures.1 in
+    let child = c.in_ok-child.child in
+    let rest = c.next_counted.new.self in
+    let f : Front c.loop-next.walk child rest = rw c.in_ok-child.was at c.in-Some.ensures.step in
+    let look : c.next_counted.new.looks ≡ hit c.loop-next.looks = rw c.in_ok-child.was at c.in-Some.ensures.counted in
+    let e = c.in_err-closed.field-0.0 in
+    rw (p.1, p.2) (λ other.
+    let wrong = subst (λ (b : Bool). WrongChild b child e) (some_seen c.loop-next.current) (c.in_err-closed.ensures.refused other) in
+    c.loop-next.invariant.exact c.next_counted.new.looks (child_faulty child rest e f wrong look))

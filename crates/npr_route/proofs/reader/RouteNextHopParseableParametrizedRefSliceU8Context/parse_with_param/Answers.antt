@@ -9,5 +9,5 @@ pub returns-clause-none : goal.returns-clause-none
 returns-clause-none c =
     let k = c.args.context in
     let bytes = c.args.bytes.now in
-    IfErr-weaker c.read_hop.result (λ e. e ≢ OutOfMemory → HopWrong k bytes e) (λ e. e ≢ OutOfMemory → (h : Hop) → IsHop k bytes h → ⊥)
-    (λ e p other h is. hop-sound k bytes h e is (p other)) c.read_hop.ensures.refused
+    IfErr-weaker c.parse_with_param_body.result (λ e. e ≢ OutOfMemory → HopWrong k bytes e) (λ e. e ≢ OutOfMemory → (h : Hop) → IsHop k bytes h → ⊥)
+    (λ e p other h is. hop-sound k bytes h e is (p other)) c.parse_with_param_body.ensures.refused

@@ -1,10 +1,10 @@
 use Rattle.std.proofs.Common.{◌≡◌, ◌∙◌, [], ◌∷◌, ◌++◌, ap, refl, arith}
 use Rattle.std.proofs.lemmas.Result.{IfOk-weaker}
 use Rattle.npr_base.specs.Table.{held_members}
-use Rattle.npr_rule.specs.Attribute.{Meaning, other, meaning_of, place as place_of}
+use Rattle.npr_rule.specs.Attribute.{Meaning, other, meaning_of, held_of}
 use Rattle.npr_rule.proofs.attribute.RuleAttributeAttribute.read_onto.Goals as goal
 
-no_members : (m : Meaning) → held_members (place_of m) ≡ 0
+no_members : (m : Meaning) → held_members (held_of m) ≡ 0
 no_members (other x) = refl
 no_members m = refl
 

@@ -1,0 +1,102 @@
+-- What stands behind the header of an envelope (linux/netlink.h, NLMSG_*, struct nlmsgerr).
+use Rattle.std.specs.Prelude.{◌≡◌, ◌≢◌, ℕ, ℤ, ◌<◌, ◌≤◌, ◌==◌, pos, FitsSigned, List, [], ◌++◌, length, take, drop, Option, Some, None}
+use Rattle.std.specs.Bool.{MatchBool}
+use Rattle.std.specs.Int.{w32}
+use Rattle.std.specs.declared.num.NonZeroI32.{NonZeroI32}
+use Rattle.npr_base.specs.Framing.{IsBytes}
+use Rattle.npr_base.specs.Layout.{signed32}
+use Rattle.npr_base.specs.declared.refusal.DecodeError.{DecodeError}
+use Rattle.npr_base.specs.declared.refusal.DecodeError.TheVariants.{HeaderTooShort}
+use Rattle.npr_base.specs.declared.refusal.EmitError.{EmitError}
+use Rattle.netlink_packet_core.specs.Protocol.{Protocol}
+use Rattle.netlink_packet_core.specs.declared.payload.NetlinkPayload.{NetlinkPayload}
+use Rattle.netlink_packet_core.specs.declared.payload.NetlinkPayload.TheVariants.{Done, Error, Noop, Overrun, InnerMessage}
+
+-- what it is, without where it lies in memory: of an error the code, which is 0 in an acknowledgement, and the bytes behind it
+pub data Payload (M : Type 0) : Type 0 where
+  noop : Payload M
+  error : ℤ → List ℕ → Payload M
+  done : ℤ → List ℕ → Payload M
+  overrun : List ℕ → Payload M
+  inner : M → Payload M
+
+-- a code that isn't 0, or none
+abbrev pub code_of : Option NonZeroI32 → ℤ
+code_of (Some n) = n.value
+code_of None = pos 0
+
+abbrev pub payload_of : {I M : Type 0} → (I → M) → NetlinkPayload I → Payload M
+payload_of meaning (Done m) = done m.code m.extended_ack.items
+payload_of meaning (Error m) = error (code_of m.code) m.header.items
+payload_of meaning Noop = noop
+payload_of meaning (Overrun bytes) = overrun bytes.items
+payload_of meaning (InnerMessage m) = inner (meaning m)
+
+-- a code of four bytes, and the bytes behind it
+abbrev pub coded : ℤ → List ℕ → List ℕ
+coded code more = signed32.encode code ++ more
+
+-- the type, the bytes, and why there are none
+abbrev pub payload_type : {M : Type 0} → Protocol M → Payload M → ℕ
+payload_type P noop = 1
+payload_type P (error code more) = 2
+payload_type P (done code more) = 3
+payload_type P (overrun bytes) = 4
+payload_type P (inner m) = P.number m
+
+abbrev pub payload_bytes : {M : Type 0} → Protocol M → Payload M → List ℕ
+payload_bytes P noop = []
+payload_bytes P (error code more) = coded code more
+payload_bytes P (done code more) = coded code more
+payload_bytes P (overrun bytes) = bytes
+payload_bytes P (inner m) = P.writes m
+
+abbrev pub payload_misfit : {M : Type 0} → Protocol M → Payload M → Option EmitError
+payload_misfit P noop = None
+payload_misfit P (error code more) = None
+payload_misfit P (done code more) = None
+payload_misfit P (overrun bytes) = None
+payload_misfit P (inner m) = P.misfit m
+
+-- the bytes are a code and what stands behind it
+pub record IsCoded (bytes : List ℕ) (code : ℤ) (more : List ℕ) : Type 0 where
+  pub long : 4 ≤ length bytes
+  pub code_is : code ≡ signed32.decode (take 4 bytes)
+  pub more_is : more ≡ drop 4 bytes
+
+-- or too few
+abbrev pub IsUncoded : List ℕ → DecodeError → Type 0
+IsUncoded bytes e = (length bytes < 4) × (e ≡ HeaderTooShort (length bytes) 4)
+
+-- what bytes under a type mean: the protocol says it of each type but the four of the envelope
+abbrev pub PayloadReads : {M : Type 0} → Protocol M → ℕ → List ℕ → Payload M → Type 0
+PayloadReads {M} P kind bytes x =
+    MatchBool (kind == 1) (x ≡ noop)
+    (MatchBool (kind == 2) ((code : ℤ) × (more : List ℕ) × IsCoded bytes code more × (x ≡ error code more))
+    (MatchBool (kind == 3) ((code : ℤ) × (more : List ℕ) × IsCoded bytes code more × (x ≡ done code more))
+    (MatchBool (kind == 4) (x ≡ overrun bytes)
+    ((m : M) × P.Reads kind bytes m × (x ≡ inner m)))))
+
+-- why they mean nothing
+abbrev pub PayloadFault : {M : Type 0} → Protocol M → ℕ → List ℕ → DecodeError → Type 0
+PayloadFault P kind bytes e =
+    MatchBool (kind == 1) ⊥
+    (MatchBool (kind == 2) (IsUncoded bytes e)
+    (MatchBool (kind == 3) (IsUncoded bytes e)
+    (MatchBool (kind == 4) ⊥
+    (P.Faulty kind bytes e))))
+
+-- a type of the protocol
+pub record IsInner (kind : ℕ) : Type 0 where
+  pub noop : kind ≢ 1
+  pub error : kind ≢ 2
+  pub done : kind ≢ 3
+  pub overrun : kind ≢ 4
+
+-- what can be read
+abbrev pub IsCoherentPayload : {M : Type 0} → Protocol M → Payload M → Type 0
+IsCoherentPayload P noop = Unit {0}
+IsCoherentPayload P (error code more) = FitsSigned w32 code × IsBytes more
+IsCoherentPayload P (done code more) = FitsSigned w32 code × IsBytes more
+IsCoherentPayload P (overrun bytes) = IsBytes bytes
+IsCoherentPayload P (inner m) = P.Coherent m × IsInner (P.number m)

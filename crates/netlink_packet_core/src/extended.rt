@@ -1,0 +1,193 @@
+//! The attributes of an extended answer: `NLMSGERR_ATTR_*` of `linux/netlink.h`.
+
+ghost use Rattle.std.specs.Prelude.{◌≡◌, ◌<◌, ◌^◌, length, option_map, refl};
+ghost use Rattle.npr_base.specs.Table.{shape_by};
+ghost use Rattle.netlink_packet_core.specs.Extended.{Meaning, meaning_of, writing, attributes, has_flag, refused_length, refused_message, error_attributes, done_attributes, IsFirstText};
+ghost use Rattle.npr_base.specs.NameLaws.{IsUnterminated};
+
+use crate::constants::{NETLINK_HEADER_LEN, NLM_F_ACK_TLVS, NLM_F_CAPPED, NLMSG_ALIGNTO};
+use crate::header::NetlinkHeader;
+use npr_base::{
+    AttrFamily, Attribute, DecodeError, DefaultNla, EmitError, Looks, Nla, NlaBuffer, NlasIterator,
+    Parseable, clone_rows, kind_rows, len_rows, read_rows, write_rows,
+};
+use std::alloc::{AllocError, Global};
+
+/// An attribute of an extended answer.
+#[derive(Debug, Drop, PartialEq, Eq)]
+pub enum ErrorAttribute {
+    /// `NLMSGERR_ATTR_MSG`: what is wrong, in words.
+    Message(String),
+    /// `NLMSGERR_ATTR_OFFS`: where the wrong attribute begins, in bytes from the refused message's
+    /// header on.
+    Offset(u32),
+    /// `NLMSGERR_ATTR_COOKIE`: what names the object that was made.
+    Cookie(Vec<u8>),
+    /// `NLMSGERR_ATTR_POLICY`: what the wrong attribute should have been, as it stands.
+    Policy(Vec<u8>),
+    /// `NLMSGERR_ATTR_MISS_TYPE`: the number of an attribute that is missing.
+    MissingType(u32),
+    /// `NLMSGERR_ATTR_MISS_NEST`: where the list begins in which it is missing.
+    MissingNest(u32),
+    /// An attribute of another number, as it stands.
+    Other(DefaultNla),
+}
+
+/// The rows of the table.
+macro_rules! rows {
+    ($body:ident ($($given:tt)*)) => {
+        $body!(($($given)*) ErrorAttribute {
+            1 Message(name);
+            2 Offset(le32);
+            3 Cookie(raw);
+            4 Policy(raw);
+            5 MissingType(le32);
+            6 MissingNest(le32);
+        })
+    };
+}
+
+/// What refusals name: no family of attributes.
+const FAMILY: AttrFamily = AttrFamily::Value;
+
+impl Nla for ErrorAttribute {
+    ghost shape = { λ a. shape_by writing (meaning_of a) };
+
+    fn kind(&self) -> u16 {
+        rows!(kind_rows(self))
+    }
+
+    fn is_nested(&self) -> bool {
+        false
+    }
+
+    fn check(&self) -> Result<usize, EmitError> {
+        self.check_len(self.value_len())
+    }
+
+    fn value_len(&self) -> usize
+        ensures { result ≡ length (writing.writes (meaning_of self.now)).value }
+    {
+        rows!(len_rows(self))
+    }
+
+    fn write_value(&self, out: &mut [u8]) -> usize {
+        rows!(write_rows(self, out))
+    }
+}
+
+impl Attribute for ErrorAttribute {
+    type Context = ();
+
+    ghost Meaning = { Meaning };
+
+    ghost meaning = { meaning_of };
+
+    ghost writing = { writing };
+
+    ghost reading = { λ _. attributes };
+
+    ghost item_is = { λ a. refl };
+
+    ghost misfit_is = { λ a. refl };
+
+    fn read(
+        alloc: Global,
+        _context: (),
+        item: &NlaBuffer<'_>,
+        looks: &mut Looks,
+    ) -> Result<Self, DecodeError> {
+        rows!(read_rows(alloc, item, looks))
+    }
+
+    fn try_clone(&self, alloc: Global) -> Result<Self, AllocError> {
+        rows!(clone_rows(self, alloc))
+    }
+}
+
+/// Whether the bit of this value is set.
+pub(crate) fn has_flag(flags: u16, bit: u16) -> bool
+    requires { 0 < bit }
+    ensures { result ≡ has_flag flags bit }
+{
+    flags / bit % 2 == 1
+}
+
+/// How long the refused message is that stands behind the code of an error, in bytes.
+fn refused_length(flags: u16, more: &[u8]) -> usize
+    ensures length { result ≡ refused_length flags more.now }
+    ensures small { result < 2 ^ 32 }
+{
+    if has_flag(flags, NLM_F_CAPPED) || more.len() < NETLINK_HEADER_LEN {
+        return NETLINK_HEADER_LEN;
+    }
+    NETLINK_HEADER_LEN.max(NetlinkHeader::in_front(more).length as usize)
+}
+
+/// The attributes behind the code of an error: under `NLM_F_ACK_TLVS`, what follows the refused
+/// message at a multiple of four.
+pub fn error_attributes(flags: u16, more: &[u8]) -> &[u8]
+    ensures { result.now ≡ error_attributes flags more.now }
+{
+    if !has_flag(flags, NLM_F_ACK_TLVS) {
+        return &[];
+    }
+    let end = refused_length(flags, more).next_multiple_of(NLMSG_ALIGNTO);
+    &more[end.min(more.len())..]
+}
+
+/// The refused message behind the code of an error: its header, and under no `NLM_F_CAPPED` what
+/// stands behind that.
+pub fn refused_message(flags: u16, more: &[u8]) -> &[u8]
+    ensures { result.now ≡ refused_message flags more.now }
+{
+    if !has_flag(flags, NLM_F_ACK_TLVS) {
+        return more;
+    }
+    &more[..refused_length(flags, more).min(more.len())]
+}
+
+/// The attributes behind the code of an end, under `NLM_F_ACK_TLVS`.
+pub fn done_attributes(flags: u16, more: &[u8]) -> &[u8]
+    ensures { result.now ≡ done_attributes flags more.now }
+{
+    if has_flag(flags, NLM_F_ACK_TLVS) {
+        more
+    } else {
+        &[]
+    }
+}
+
+/// The bytes without one final zero, where there is one.
+#[tactic(auto, using(crate::proofs::Names::unterminated))]
+fn without_zero(bytes: &[u8]) -> &[u8]
+    ensures { IsUnterminated bytes.now result.now }
+{
+    if bytes.is_empty() {
+        return bytes;
+    }
+    let last = bytes.len() - 1;
+    if bytes[last] == 0 {
+        &bytes[..last]
+    } else {
+        bytes
+    }
+}
+
+/// What the kernel says in words, among the attributes of an extended answer: the first
+/// `NLMSGERR_ATTR_MSG`, borrowed, without its final zero.
+pub fn error_text(attributes: &[u8]) -> Option<&[u8]>
+    ensures { IsFirstText attributes.now (option_map (λ text. text.now) result) }
+{
+    let mut walk = NlasIterator::new(attributes);
+    while let Some(next) = walk.next() {
+        match next {
+            Ok(attribute) if attribute.kind() == 1 => {
+                return Some(without_zero(attribute.value()));
+            }
+            Ok(_) => {}
+            Err(_) => return None,
+        }
+    }
+    None
+}

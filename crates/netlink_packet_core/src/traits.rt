@@ -1,0 +1,39 @@
+//! What stands behind the header of an envelope, by its protocol.
+
+ghost use Rattle.std.specs.Prelude.{◌≡◌, ◌≢◌, IfOk, IfErr};
+ghost use Rattle.npr_base.specs.declared.refusal.DecodeError.TheVariants.{OutOfMemory};
+ghost use Rattle.netlink_packet_core.specs.Protocol.{Protocol};
+
+use crate::header::NetlinkHeader;
+use npr_base::{DecodeError, Emitable};
+use std::alloc::Global;
+
+/// A message of a protocol: it says its type and its bytes, and is read by its type.
+pub trait NetlinkInner: Emitable + Drop {
+    /// What it is, without where it lies in memory.
+    ghost Meaning: { Type 0 };
+
+    ghost meaning: { Self → Meaning };
+
+    /// How messages are written, and what bytes under a type mean, with the laws of both.
+    ghost protocol: { Protocol Meaning };
+
+    /// The type that stands in the header.
+    fn message_type(&self) -> u16
+        ensures { result ≡ protocol.number (meaning self.now) };
+
+    /// The message that the bytes behind this header are.
+    ///
+    /// # Errors
+    /// `OutOfMemory` where memory is refused, and else what is wrong with the bytes.
+    fn deserialize(
+        alloc: Global,
+        header: &NetlinkHeader,
+        payload: &[u8],
+    ) -> Result<Self, DecodeError>
+        ensures ok { IfOk result (λ m. protocol.Reads header.now.message_type payload.now (meaning m)) }
+        ensures refused { IfErr result (λ e. e ≢ OutOfMemory → protocol.Faulty header.now.message_type payload.now e) };
+
+    /// It is written as its protocol says.
+    ghost by_protocol: { (m : Self) → (Self.bytes m ≡ protocol.writes (meaning m)) × (Self.unfit m ≡ protocol.misfit (meaning m)) };
+}

@@ -1,0 +1,85 @@
+-- What a fault tells is the whole refusal.
+use Rattle.std.proofs.Common.{◌≡◌, ℕ, List, [], ◌∷◌, refl, sym, ap, ◌∙◌}
+use Rattle.std.specs.Prelude.{slice_get, unwrap_or}
+use Rattle.netlink_packet_route.specs.declared.framing.At.{At}
+use Rattle.netlink_packet_route.specs.declared.framing.AttrFamily.{AttrFamily}
+use Rattle.netlink_packet_route.specs.declared.framing.AttrFamily.TheVariants.{Value, Address, Rule, Route, Metric, Mpls, Ip, Ip6, Xfrm}
+use Rattle.netlink_packet_route.specs.declared.framing.AttrFamily.TheVariants.{Opt, Geneve, Vxlan, Erspan, Seg6, Seg6Local, Rpl, Ioam6}
+use Rattle.netlink_packet_route.specs.declared.framing.Seg6Fault.{Seg6Fault}
+use Rattle.netlink_packet_route.specs.declared.framing.Seg6Fault.TheVariants.{Short, Length, Hmac, Segments}
+use Rattle.netlink_packet_route.specs.declared.framing.DecodeError.{DecodeError}
+use Rattle.netlink_packet_route.specs.declared.framing.DecodeError.TheVariants.{OutOfMemory, HeaderTooShort, AttributeTooShort, AttributeLength}
+use Rattle.netlink_packet_route.specs.declared.framing.DecodeError.TheVariants.{NextHopTooShort, NextHopLength, ValueLength, NotUtf8, Seg6Header}
+use Rattle.netlink_packet_route.specs.declared.framing.DecodeError.TheVariants.{GeneveOrder, GeneveChild, ViaFamily, Unsupported}
+use Rattle.npr_c.specs.Faults.{family_number, seg6_number, fault_of}
+use Rattle.npr_c.specs.declared.faults.Fault.{Fault}
+
+-- the family, the fault and the refusal that have these numbers
+abbrev families : List AttrFamily
+families =
+    Value ∷ Address ∷ Rule ∷ Route ∷ Metric ∷ Mpls ∷ Ip ∷ Ip6 ∷ Xfrm ∷ Opt ∷ Geneve ∷ Vxlan ∷ Erspan ∷ Seg6 ∷ Seg6Local ∷ Rpl ∷ Ioam6 ∷ []
+
+abbrev family_of : ℕ → AttrFamily
+family_of number = unwrap_or (slice_get families number) Value
+
+abbrev seg6_of : ℕ → Seg6Fault
+seg6_of number = unwrap_or (slice_get (Short ∷ Short ∷ Length ∷ Hmac ∷ Segments ∷ []) number) Short
+
+abbrev place_of : Fault → At
+place_of f = record { family = family_of f.family; kind = f.kind }
+
+abbrev refusals : Fault → List DecodeError
+refusals f =
+    OutOfMemory ∷ OutOfMemory ∷ HeaderTooShort f.length f.limit ∷ AttributeTooShort f.length ∷ AttributeLength f.length f.limit
+    ∷ NextHopTooShort f.length ∷ NextHopLength f.length f.limit ∷ ValueLength (place_of f) f.length ∷ NotUtf8 (place_of f)
+    ∷ Seg6Header (seg6_of f.detail) ∷ GeneveOrder f.kind ∷ GeneveChild f.kind ∷ ViaFamily f.detail ∷ Unsupported (place_of f) ∷ []
+
+abbrev refusal_of : Fault → DecodeError
+refusal_of f = unwrap_or (slice_get (refusals f) f.number) OutOfMemory
+
+family_back : (f : AttrFamily) → family_of (family_number f) ≡ f
+family_back Value = refl
+family_back Address = refl
+family_back Rule = refl
+family_back Route = refl
+family_back Metric = refl
+family_back Mpls = refl
+family_back Ip = refl
+family_back Ip6 = refl
+family_back Xfrm = refl
+family_back Opt = refl
+family_back Geneve = refl
+family_back Vxlan = refl
+family_back Erspan = refl
+family_back Seg6 = refl
+family_back Seg6Local = refl
+family_back Rpl = refl
+family_back Ioam6 = refl
+
+seg6_back : (f : Seg6Fault) → seg6_of (seg6_number f) ≡ f
+seg6_back Short = refl
+seg6_back Length = refl
+seg6_back Hmac = refl
+seg6_back Segments = refl
+
+place_back : (at : At) → record { family = family_of (family_number at.family); kind = at.kind } ≡ at
+place_back at = λ i. record { family = family_back at.family i; kind = at.kind }
+
+refusal_back : (e : DecodeError) → refusal_of (fault_of e) ≡ e
+refusal_back OutOfMemory = refl
+refusal_back (HeaderTooShort got want) = refl
+refusal_back (AttributeTooShort got) = refl
+refusal_back (AttributeLength length left) = refl
+refusal_back (NextHopTooShort got) = refl
+refusal_back (NextHopLength length left) = refl
+refusal_back (ValueLength at got) = ap (λ (a : At). ValueLength a got) (place_back at)
+refusal_back (NotUtf8 at) = ap (λ (a : At). NotUtf8 a) (place_back at)
+refusal_back (Seg6Header fault) = ap (λ (f : Seg6Fault). Seg6Header f) (seg6_back fault)
+refusal_back (GeneveOrder kind) = refl
+refusal_back (GeneveChild kind) = refl
+refusal_back (ViaFamily family) = refl
+refusal_back (Unsupported at) = ap (λ (a : At). Unsupported a) (place_back at)
+
+-- two refusals that are told alike are one
+pub one_refusal : (d e : DecodeError) → fault_of d ≡ fault_of e → d ≡ e
+one_refusal d e same = sym (refusal_back d) ∙ ap refusal_of same ∙ refusal_back e

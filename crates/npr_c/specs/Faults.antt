@@ -1,0 +1,77 @@
+-- A refusal with all that it tells, as numbers.
+use Rattle.std.specs.Prelude.{◌≡◌, ◌≢◌, ◌⊎◌, ℕ, List}
+use Rattle.netlink_packet_route.specs.declared.framing.AttrFamily.{AttrFamily}
+use Rattle.netlink_packet_route.specs.declared.framing.AttrFamily.TheVariants.{Value, Address, Rule, Route, Metric, Mpls, Ip, Ip6, Xfrm}
+use Rattle.netlink_packet_route.specs.declared.framing.AttrFamily.TheVariants.{Opt, Geneve, Vxlan, Erspan, Seg6, Seg6Local, Rpl, Ioam6}
+use Rattle.netlink_packet_route.specs.declared.framing.Seg6Fault.{Seg6Fault}
+use Rattle.netlink_packet_route.specs.declared.framing.Seg6Fault.TheVariants.{Short, Length, Hmac, Segments}
+use Rattle.netlink_packet_route.specs.declared.framing.DecodeError.{DecodeError}
+use Rattle.netlink_packet_route.specs.declared.framing.DecodeError.TheVariants.{OutOfMemory, HeaderTooShort, AttributeTooShort, AttributeLength}
+use Rattle.netlink_packet_route.specs.declared.framing.DecodeError.TheVariants.{NextHopTooShort, NextHopLength, ValueLength, NotUtf8, Seg6Header}
+use Rattle.netlink_packet_route.specs.declared.framing.DecodeError.TheVariants.{GeneveOrder, GeneveChild, ViaFamily, Unsupported}
+use Rattle.npr_c.specs.Numbers.{refusal_number}
+use Rattle.npr_c.specs.declared.faults.Fault.{Fault}
+
+abbrev pub family_number : AttrFamily → ℕ
+family_number Value = 0
+family_number Address = 1
+family_number Rule = 2
+family_number Route = 3
+family_number Metric = 4
+family_number Mpls = 5
+family_number Ip = 6
+family_number Ip6 = 7
+family_number Xfrm = 8
+family_number Opt = 9
+family_number Geneve = 10
+family_number Vxlan = 11
+family_number Erspan = 12
+family_number Seg6 = 13
+family_number Seg6Local = 14
+family_number Rpl = 15
+family_number Ioam6 = 16
+
+abbrev pub seg6_number : Seg6Fault → ℕ
+seg6_number Short = 1
+seg6_number Length = 2
+seg6_number Hmac = 3
+seg6_number Segments = 4
+
+-- the bytes are a message
+abbrev pub no_fault : Fault
+no_fault = record { number = 0; family = 0; kind = 0; detail = 0; length = 0; limit = 0 }
+
+-- a refusal that tells one length, or two
+abbrev pub fault_by_length : DecodeError → ℕ → ℕ → Fault
+fault_by_length e length limit = record { number = refusal_number e; family = 0; kind = 0; detail = 0; length = length; limit = limit }
+
+-- a refusal that tells an attribute
+abbrev pub fault_at : DecodeError → AttrFamily → ℕ → ℕ → Fault
+fault_at e family kind length =
+    record { number = refusal_number e; family = family_number family; kind = kind; detail = 0; length = length; limit = 0 }
+
+-- a refusal that tells what stands in a value
+abbrev pub fault_with : DecodeError → ℕ → Fault
+fault_with e detail = record { number = refusal_number e; family = 0; kind = 0; detail = detail; length = 0; limit = 0 }
+
+-- all that a refusal tells
+abbrev pub fault_of : DecodeError → Fault
+fault_of OutOfMemory = fault_by_length OutOfMemory 0 0
+fault_of (HeaderTooShort got want) = fault_by_length (HeaderTooShort got want) got want
+fault_of (AttributeTooShort got) = fault_by_length (AttributeTooShort got) got 0
+fault_of (AttributeLength length left) = fault_by_length (AttributeLength length left) length left
+fault_of (NextHopTooShort got) = fault_by_length (NextHopTooShort got) got 0
+fault_of (NextHopLength length left) = fault_by_length (NextHopLength length left) length left
+fault_of (ValueLength at got) = fault_at (ValueLength at got) at.family at.kind got
+fault_of (NotUtf8 at) = fault_at (NotUtf8 at) at.family at.kind 0
+fault_of (Seg6Header fault) = fault_with (Seg6Header fault) (seg6_number fault)
+fault_of (GeneveOrder kind) = fault_at (GeneveOrder kind) Geneve kind 0
+fault_of (GeneveChild kind) = fault_at (GeneveChild kind) Geneve kind 0
+fault_of (ViaFamily family) = fault_with (ViaFamily family) family
+fault_of (Unsupported at) = fault_at (Unsupported at) at.family at.kind 0
+
+-- the answer for bytes: they are a message, or refused for their first fault or for want of memory
+abbrev pub IsJudged : {M : Type 0} → (List ℕ → M → Type 0) → (List ℕ → DecodeError → Type 0) → List ℕ → Fault → Type 0
+IsJudged {M} reads faulty bytes answer =
+    ((m : M) × reads bytes m × (answer ≡ no_fault))
+    ⊎ ((e : DecodeError) × (answer ≡ fault_of e) × (e ≢ OutOfMemory → faulty bytes e))

@@ -1,0 +1,194 @@
+//! Whether bytes are a message, and what is wrong with them.
+
+ghost use Rattle.std.specs.Prelude.{◌≡◌, ℕ, List, drop};
+ghost use Rattle.netlink_packet_route.specs.{
+  AddressMessage.{IsAddressMessage, AddressFault},
+  Framing.{Item, Front},
+  Messages.{IsMessage, MessageFault},
+  RouteMessage.{IsRouteMessage, RouteFault},
+  RuleMessage.{IsRuleMessage, RuleFault},
+  declared.framing.DecodeError.{DecodeError},
+  declared.framing.DecodeError.TheVariants.{OutOfMemory},
+};
+ghost use Rattle.npr_c.specs.Faults.{IsJudged, fault_of, no_fault, family_number, seg6_number};
+
+use crate::answer::refusal_number;
+use netlink_packet_route::address::AddressHeader;
+use netlink_packet_route::framing::{
+    At, AttrFamily, DecodeError, Header, Message, Parseable, Seg6Fault,
+};
+use netlink_packet_route::route::RouteHeader;
+use netlink_packet_route::rule::RuleHeader;
+use std::alloc::Global;
+
+/// A refusal with all that it tells, or that there is none.
+///
+/// Layout: two numbers of 4 bytes, two of 2 bytes, and two of the machine's word, in this order.
+#[repr(C)]
+#[derive(Clone, Copy)]
+pub struct Fault {
+    /// The number of the refusal, or 0 where the bytes are a message.
+    pub number: u32,
+    /// The number of the attribute's family where the refusal tells an attribute, and else 0.
+    pub family: u32,
+    /// The attribute's number there, without the two flags, and else 0.
+    pub kind: u16,
+    /// The address family of a gateway at `ViaFamily`, what is wrong with the header at
+    /// `Seg6Header`, and else 0.
+    pub detail: u16,
+    /// The length that is stated, or how many bytes were there, and 0 where no length is told.
+    pub length: usize,
+    /// How many bytes are left, or are wanted, at a refusal with two lengths, and else 0.
+    pub limit: usize,
+}
+
+const NO_FAULT: Fault = Fault {
+    number: 0,
+    family: 0,
+    kind: 0,
+    detail: 0,
+    length: 0,
+    limit: 0,
+};
+
+/// The number of a family of attributes.
+fn family_number(family: AttrFamily) -> u32
+    ensures { result ≡ family_number family }
+{
+    match family {
+        AttrFamily::Value => 0,
+        AttrFamily::Address => 1,
+        AttrFamily::Rule => 2,
+        AttrFamily::Route => 3,
+        AttrFamily::Metric => 4,
+        AttrFamily::Mpls => 5,
+        AttrFamily::Ip => 6,
+        AttrFamily::Ip6 => 7,
+        AttrFamily::Xfrm => 8,
+        AttrFamily::Opt => 9,
+        AttrFamily::Geneve => 10,
+        AttrFamily::Vxlan => 11,
+        AttrFamily::Erspan => 12,
+        AttrFamily::Seg6 => 13,
+        AttrFamily::Seg6Local => 14,
+        AttrFamily::Rpl => 15,
+        AttrFamily::Ioam6 => 16,
+    }
+}
+
+/// The number of what is wrong with a SEG6 routing header.
+fn seg6_number(fault: Seg6Fault) -> u16
+    ensures { result ≡ seg6_number fault }
+{
+    match fault {
+        Seg6Fault::Short => 1,
+        Seg6Fault::Length => 2,
+        Seg6Fault::Hmac => 3,
+        Seg6Fault::Segments => 4,
+    }
+}
+
+impl Fault {
+    /// All that a refusal tells.
+    fn of(refusal: DecodeError) -> Fault
+        ensures { result ≡ fault_of refusal }
+    {
+        let fault = Fault {
+            number: refusal_number(refusal),
+            ..NO_FAULT
+        };
+        match refusal {
+            DecodeError::OutOfMemory => fault,
+            DecodeError::HeaderTooShort { got, want } => fault.with_lengths(got, want),
+            DecodeError::AttributeTooShort { got } | DecodeError::NextHopTooShort { got } => {
+                fault.with_lengths(got, 0)
+            }
+            DecodeError::AttributeLength { length, left }
+            | DecodeError::NextHopLength { length, left } => {
+                fault.with_lengths(length as usize, left)
+            }
+            DecodeError::ValueLength { at, got } => fault.at(at).with_lengths(got, 0),
+            DecodeError::NotUtf8 { at } | DecodeError::Unsupported { at } => fault.at(at),
+            DecodeError::GeneveOrder { kind } | DecodeError::GeneveChild { kind } => {
+                fault.at(AttrFamily::Geneve.at(kind))
+            }
+            DecodeError::ViaFamily(family) => fault.with_detail(family),
+            DecodeError::Seg6Header { fault: seg6 } => fault.with_detail(seg6_number(seg6)),
+        }
+    }
+
+    fn with_lengths(self, length: usize, limit: usize) -> Fault
+        ensures { result ≡ record self { length = length; limit = limit } }
+    {
+        Fault {
+            length,
+            limit,
+            ..self
+        }
+    }
+
+    fn with_detail(self, detail: u16) -> Fault
+        ensures { result ≡ record self { detail = detail } }
+    {
+        Fault { detail, ..self }
+    }
+
+    /// With the place of an attribute.
+    fn at(self, at: At) -> Fault
+        ensures { result ≡ record self { family = family_number at.family; kind = at.kind } }
+    {
+        Fault {
+            family: family_number(at.family),
+            kind: at.kind,
+            ..self
+        }
+    }
+}
+
+/// What is wrong with the bytes as a message of this kind.
+fn judged<H: Header>(alloc: Global, bytes: &[u8]) -> Fault
+    ensures fault { IsJudged (IsMessage H.layout H.body) (MessageFault H.layout H.body) bytes.now result }
+    ensures told { (d e : DecodeError) → fault_of d ≡ fault_of e → d ≡ e }
+    ensures memory { result ≡ fault_of OutOfMemory → (x : Item) × (rest : List ℕ) × Front (drop H.layout.size bytes.now) x rest }
+{
+    match Message::<H, H::Attribute>::parse(alloc, bytes) {
+        Ok(_) => NO_FAULT,
+        Err(refusal) => Fault::of(refusal),
+    }
+}
+
+/// What is wrong with the bytes as an address message, or that they are one.
+#[unsafe(no_mangle)]
+pub extern "C" fn npr_address_fault(alloc: Global, bytes: &[u8]) -> Fault
+    ensures fault { IsJudged IsAddressMessage AddressFault bytes.now result }
+    // Two refusals that are told alike are one.
+    ensures told { (d e : DecodeError) → fault_of d ≡ fault_of e → d ≡ e }
+    // Memory is refused behind a first whole attribute alone.
+    ensures memory { result ≡ fault_of OutOfMemory → (x : Item) × (rest : List ℕ) × Front (drop 8 bytes.now) x rest }
+{
+    judged::<AddressHeader>(alloc, bytes)
+}
+
+/// What is wrong with the bytes as a route message, or that they are one.
+#[unsafe(no_mangle)]
+pub extern "C" fn npr_route_fault(alloc: Global, bytes: &[u8]) -> Fault
+    ensures fault { IsJudged IsRouteMessage RouteFault bytes.now result }
+    // Two refusals that are told alike are one.
+    ensures told { (d e : DecodeError) → fault_of d ≡ fault_of e → d ≡ e }
+    // Memory is refused behind a first whole attribute alone.
+    ensures memory { result ≡ fault_of OutOfMemory → (x : Item) × (rest : List ℕ) × Front (drop 12 bytes.now) x rest }
+{
+    judged::<RouteHeader>(alloc, bytes)
+}
+
+/// What is wrong with the bytes as a rule message, or that they are one.
+#[unsafe(no_mangle)]
+pub extern "C" fn npr_rule_fault(alloc: Global, bytes: &[u8]) -> Fault
+    ensures fault { IsJudged IsRuleMessage RuleFault bytes.now result }
+    // Two refusals that are told alike are one.
+    ensures told { (d e : DecodeError) → fault_of d ≡ fault_of e → d ≡ e }
+    // Memory is refused behind a first whole attribute alone.
+    ensures memory { result ≡ fault_of OutOfMemory → (x : Item) × (rest : List ℕ) × Front (drop 12 bytes.now) x rest }
+{
+    judged::<RuleHeader>(alloc, bytes)
+}

@@ -1,0 +1,255 @@
+-- The looks of a search and those of route attributes are one number.
+use Rattle.std.proofs.Common.{◌≡◌, ℕ, Bool, true, false, List, [], ◌∷◌, length, Option, Some, None, Result, Ok, Err, refl, sym, ap, subst, ◌∙◌}
+use Rattle.std.proofs.Common.{arith, true≢false}
+use Rattle.npr_base.specs.declared.refusal.DecodeError.{DecodeError}
+use Rattle.npr_base.specs.Counts.{Counts, no_looks, hit, raised}
+use Rattle.npr_base.specs.Family.{AllOf}
+use Rattle.npr_base.specs.Framing.{Item, Front, Passes, Step, looked}
+use Rattle.npr_base.specs.FrontLaws.{Front-same, Front-shrinks, Front-sound}
+use Rattle.npr_base.specs.Looks.{Adds, Looking}
+use Rattle.npr_base.specs.LooksLaws.{plus, one_hit, one_miss, raised-none, raised-hit, raised-miss, raised-more, raised-behind, raised-inside}
+use Rattle.npr_route.specs.Attribute.{HopHead, HopFront, typed}
+use Rattle.npr_route.specs.AttributeLooks.{AttributeLooks, value_read, value_faulty, hops_inside, HopLooks, hop_ends, none_in_hop, faulty_in_hop}
+use Rattle.npr_route.specs.AttributeLooks.{passed_in_hop, HopsLooks, hops_end, no_hop_stands, hop_stands, AttributeTakes, HopsTake}
+use Rattle.npr_route.specs.FlatAttribute.{Context}
+use Rattle.npr_route.specs.FlatAttributeLaws as Flats
+use Rattle.npr_route.specs.Governing.{told, hit_each, EndsSearch, Searches}
+use Rattle.npr_route.specs.NextHopFrontLaws.{HopFront-same, HopFront-sound, HopFront-length}
+use Rattle.npr_tunnel.specs.declared.encap_type.RouteLwEnCapType.{RouteLwEnCapType}
+
+no_front : {A : Type 0} (bytes rest : List ℕ) (x : Item) → bytes ≡ [] → Front bytes x rest → A
+no_front bytes rest x is f = absurd (omega (arith, ap length is, Front-shrinks bytes x rest f))
+
+no_hop : {A : Type 0} (bytes inside rest : List ℕ) (h : HopHead) → bytes ≡ [] → HopFront bytes h inside rest → A
+no_hop bytes inside rest h is f = absurd (omega (arith, ap length is, HopFront-length bytes h inside rest f))
+
+the_same : {A : Type 0} (o : Option A) (x y : A) → o ≡ Some x → o ≡ Some y → x ≡ y
+the_same o x y p q = cc
+
+none_told : {A B : Type 0} (o : Option A) (x : A) → o ≡ None → o ≡ Some x → B
+none_told o x p q = absurd cc
+
+-- ---- a search
+
+ends-one : (outer : RouteLwEnCapType) (bytes r s : List ℕ) (l k : Option (Result Item DecodeError)) (a b : RouteLwEnCapType) (c m n : Counts)
+    → Step bytes l r → EndsSearch outer l a → m ≡ looked l c → Step bytes k s → EndsSearch outer k b → n ≡ looked k c → (a ≡ b) × (m ≡ n)
+ends-one outer bytes r s None None a b c m n p t i q u j = (t ∙ sym u, i ∙ sym j)
+ends-one outer bytes r s None (Some (Ok y)) a b c m n p t i q u j = no_front bytes s y p.0 q
+ends-one outer bytes r s None (Some (Err e)) a b c m n p t i q u j = absurd (omega (arith, ap length p.0, q.0))
+ends-one outer bytes r s (Some (Ok x)) None a b c m n p t i q u j = no_front bytes r x q.0 p
+ends-one outer bytes r s (Some (Ok x)) (Some (Ok y)) a b c m n p t i q u j =
+    (the_same (told x) a b t (ap told (Front-same bytes x y r s p q).0 ∙ u), i ∙ sym j)
+ends-one outer bytes r s (Some (Ok x)) (Some (Err e)) a b c m n p t i q u j = absurd (Front-sound bytes x r e p q.1)
+ends-one outer bytes r s (Some (Err e)) None a b c m n p t i q u j = absurd (omega (arith, ap length q.0, p.0))
+ends-one outer bytes r s (Some (Err e)) (Some (Ok y)) a b c m n p t i q u j = absurd (Front-sound bytes y s e q p.1)
+ends-one outer bytes r s (Some (Err e)) (Some (Err d)) a b c m n p t i q u j = (t ∙ sym u, i ∙ sym j)
+
+-- a search that ends at bytes does not pass an attribute there
+ends-here : (outer : RouteLwEnCapType) (bytes r w : List ℕ) (l : Option (Result Item DecodeError)) (a : RouteLwEnCapType) (y : Item) → Step bytes l r
+    → EndsSearch outer l a → Front bytes y w → told y ≡ None → ⊥
+ends-here outer bytes r w None a y p t f none = no_front bytes w y p.0 f
+ends-here outer bytes r w (Some (Ok x)) a y p t f none = none_told (told y) a none (ap told (Front-same bytes y x w r f p).0 ∙ t)
+ends-here outer bytes r w (Some (Err e)) a y p t f none = Front-sound bytes y w e f p.1
+
+passes-one : (outer : RouteLwEnCapType) (xs ys : List Item) (bytes at r to s : List ℕ) (l k : Option (Result Item DecodeError)) (a b : RouteLwEnCapType)
+    (c m n : Counts) → Passes bytes xs at → AllOf (λ x. told x ≡ None) xs → Step at l r → EndsSearch outer l a → m ≡ looked l (hit_each xs c)
+    → Passes bytes ys to → AllOf (λ x. told x ≡ None) ys → Step to k s → EndsSearch outer k b → n ≡ looked k (hit_each ys c) → (a ≡ b) × (m ≡ n)
+passes-one outer [] [] bytes at r to s l k a b c m n p none t i is q silent u j js =
+    ends-one outer bytes r s l k a b c m n (subst (λ (z : List ℕ). Step z l r) (sym p) t) i is (subst (λ (z : List ℕ). Step z k s) (sym q) u) j js
+passes-one outer [] (y ∷ ys) bytes at r to s l k a b c m n p none t i is (w, g, q) silent u j js =
+    absurd (ends-here outer bytes r w l a y (subst (λ (z : List ℕ). Step z l r) (sym p) t) i g silent.0)
+passes-one outer (x ∷ xs) [] bytes at r to s l k a b c m n (v, f, p) none t i is q silent u j js =
+    absurd (ends-here outer bytes s v k b x (subst (λ (z : List ℕ). Step z k s) (sym q) u) j f none.0)
+passes-one outer (x ∷ xs) (y ∷ ys) bytes at r to s l k a b c m n (v, f, p) none t i is (w, g, q) silent u j js =
+    passes-one outer xs ys v at r to s l k a b (hit c) m n p none.1 t i is
+    (subst (λ (z : List ℕ). Passes z ys to) (Front-same bytes y x w v g f).1 q) silent.1 u j js
+
+pub search-one : (outer : RouteLwEnCapType) (bytes : List ℕ) (a b : RouteLwEnCapType) (old m n : Counts) → Searches outer bytes a old m
+    → Searches outer bytes b old n → (a ≡ b) × (m ≡ n)
+search-one outer bytes a b old m n p q =
+    passes-one outer p.before q.before bytes p.rest p.left q.rest q.left p.last q.last a b old m n p.passes p.silent p.step p.ends p.looks
+    q.passes q.silent q.step q.ends q.looks
+
+searched : List Item → Counts
+searched [] = no_looks
+searched (x ∷ xs) = plus one_hit (searched xs)
+
+hit_each-raised : (xs : List Item) (c : Counts) → hit_each xs c ≡ raised (searched xs) c
+unfolding searched
+hit_each-raised [] c = sym (raised-none c)
+hit_each-raised (x ∷ xs) c = hit_each-raised xs (hit c) ∙ raised-inside (searched xs) c
+
+last_look : Option (Result Item DecodeError) → Counts
+last_look None = no_looks
+last_look (Some (Ok x)) = one_hit
+last_look (Some (Err e)) = one_miss
+
+looked-raised : (l : Option (Result Item DecodeError)) (c : Counts) → looked l c ≡ raised (last_look l) c
+unfolding last_look
+looked-raised None c = sym (raised-none c)
+looked-raised (Some (Ok x)) c = sym (raised-hit c)
+looked-raised (Some (Err e)) c = sym (raised-miss c)
+
+search-raised : (xs : List Item) (l : Option (Result Item DecodeError)) (c : Counts)
+    → looked l (hit_each xs c) ≡ raised (plus (searched xs) (last_look l)) c
+search-raised xs l c =
+    looked-raised l (hit_each xs c) ∙ ap (raised (last_look l)) (hit_each-raised xs c) ∙ raised-more (searched xs) (last_look l) c
+
+pub search-adds : (outer : RouteLwEnCapType) (bytes : List ℕ) (type : RouteLwEnCapType) (old new : Counts) → Searches outer bytes type old new
+    → Adds (Searches outer bytes type) old new
+search-adds outer bytes type old new s = record {
+  number = plus (searched s.before) (last_look s.last);
+  is = s.looks ∙ search-raised s.before s.last old;
+  alike = λ c. record {
+    before = s.before;
+    rest = s.rest;
+    last = s.last;
+    left = s.left;
+    passes = s.passes;
+    silent = s.silent;
+    step = s.step;
+    ends = s.ends;
+    looks = sym (search-raised s.before s.last c);
+  };
+}
+
+-- ---- attributes and next hops: one number, and read or not
+
+mutual
+  pub attribute-looks-one : (c : Context) (x : Item) (r s : Bool) (old m n : Counts) → AttributeLooks c x r old m
+      → AttributeLooks c x s old n → (r ≡ s) × (m ≡ n)
+  attribute-looks-one c x true true old m n (value_read a k p t) (value_read b l q u) = (refl, (Flats.attributes c).looks.one x old m n t u)
+  attribute-looks-one c x true false old m n (value_read a k p t) (value_faulty e l w u) = absurd ((Flats.attributes c).no_fault x a e p w)
+  attribute-looks-one c x true s old m n (value_read a k p t) (hops_inside l g) = absurd (k l)
+  attribute-looks-one c x false true old m n (value_faulty e k w t) (value_read b l q u) = absurd ((Flats.attributes c).no_fault x b e q w)
+  attribute-looks-one c x false false old m n (value_faulty e k w t) (value_faulty d l v u) = (refl, (Flats.attributes c).looks.one x old m n t u)
+  attribute-looks-one c x false s old m n (value_faulty e k w t) (hops_inside l g) = absurd (k l)
+  attribute-looks-one c x r true old m n (hops_inside k h) (value_read b l q u) = absurd (l k)
+  attribute-looks-one c x r false old m n (hops_inside k h) (value_faulty d l v u) = absurd (l k)
+  attribute-looks-one c x r s old m n (hops_inside k h) (hops_inside l g) = hops-looks-one c x.value r s old m n h g
+
+  pub hop-looks-one : (c : Context) (type : RouteLwEnCapType) (inside rest : List ℕ) (r s : Bool) (old m n : Counts) → HopLooks c type inside rest r old m
+      → HopLooks c type inside rest s old n → (r ≡ s) × (m ≡ n)
+  hop-looks-one c type inside rest r s old m n (hop_ends is h) (hop_ends js g) = hops-looks-one c rest r s old m n h g
+  hop-looks-one c type inside rest r false old m n (hop_ends is h) (none_in_hop e left bad q) = absurd (omega (arith, ap length is, left))
+  hop-looks-one c type inside rest r false old m n (hop_ends is h) (faulty_in_hop y b g v) = no_front inside b y is g
+  hop-looks-one c type inside rest r s old m n (hop_ends is h) (passed_in_hop y b far g v q) = no_front inside b y is g
+  hop-looks-one c type inside rest false s old m n (none_in_hop e left bad p) (hop_ends js g) = absurd (omega (arith, ap length js, left))
+  hop-looks-one c type inside rest false false old m n (none_in_hop e left bad p) (none_in_hop d more worse q) = (refl, p ∙ sym q)
+  hop-looks-one c type inside rest false false old m n (none_in_hop e left bad p) (faulty_in_hop y b g v) = absurd (Front-sound inside y b e g bad)
+  hop-looks-one c type inside rest false s old m n (none_in_hop e left bad p) (passed_in_hop y b far g v q) = absurd (Front-sound inside y b e g bad)
+  hop-looks-one c type inside rest false s old m n (faulty_in_hop x a f w) (hop_ends js g) = no_front inside a x js f
+  hop-looks-one c type inside rest false false old m n (faulty_in_hop x a f w) (none_in_hop d left bad q) = absurd (Front-sound inside x a d f bad)
+  hop-looks-one c type inside rest false false old m n (faulty_in_hop x a f w) (faulty_in_hop y b g v) =
+      let same = subst (λ (z : Item). AttributeLooks (typed c type) z false (hit old) n) (Front-same inside y x b a g f).0 v in
+      (refl, (attribute-looks-one (typed c type) x false false (hit old) m n w same).1)
+  hop-looks-one c type inside rest false s old m n (faulty_in_hop x a f w) (passed_in_hop y b far g v q) =
+      let same = subst (λ (z : Item). AttributeLooks (typed c type) z true (hit old) far) (Front-same inside y x b a g f).0 v in
+      absurd (true≢false (sym (attribute-looks-one (typed c type) x false true (hit old) m far w same).0))
+  hop-looks-one c type inside rest r s old m n (passed_in_hop x a mid f w p) (hop_ends js g) = no_front inside a x js f
+  hop-looks-one c type inside rest r false old m n (passed_in_hop x a mid f w p) (none_in_hop d left bad q) = absurd (Front-sound inside x a d f bad)
+  hop-looks-one c type inside rest r false old m n (passed_in_hop x a mid f w p) (faulty_in_hop y b g v) =
+      let same = subst (λ (z : Item). AttributeLooks (typed c type) z false (hit old) n) (Front-same inside y x b a g f).0 v in
+      absurd (true≢false (attribute-looks-one (typed c type) x true false (hit old) mid n w same).0)
+  hop-looks-one c type inside rest r s old m n (passed_in_hop x a mid f w p) (passed_in_hop y b far g v q) =
+      let e = Front-same inside y x b a g f in
+      let same = subst (λ (z : Item). AttributeLooks (typed c type) z true (hit old) far) e.0 v in
+      let here = (attribute-looks-one (typed c type) x true true (hit old) mid far w same).1 in
+      let later = subst (λ (z : List ℕ). HopLooks c type z rest s far n) e.1 q in
+      hop-looks-one c type a rest r s mid m n p (subst (λ (d : Counts). HopLooks c type a rest s d n) (sym here) later)
+
+  pub hops-looks-one : (c : Context) (bytes : List ℕ) (r s : Bool) (old m n : Counts) → HopsLooks c bytes r old m
+      → HopsLooks c bytes s old n → (r ≡ s) × (m ≡ n)
+  hops-looks-one c bytes true true old m n (hops_end is p) (hops_end js q) = (refl, p ∙ sym q)
+  hops-looks-one c bytes true false old m n (hops_end is p) (no_hop_stands e left bad q) = absurd (omega (arith, ap length is, left))
+  hops-looks-one c bytes true s old m n (hops_end is p) (hop_stands k j b type far g u q) = no_hop bytes j b k is g
+  hops-looks-one c bytes false true old m n (no_hop_stands e left bad p) (hops_end js q) = absurd (omega (arith, ap length js, left))
+  hops-looks-one c bytes false false old m n (no_hop_stands e left bad p) (no_hop_stands d more worse q) = (refl, p ∙ sym q)
+  hops-looks-one c bytes false s old m n (no_hop_stands e left bad p) (hop_stands k j b type far g u q) = absurd (HopFront-sound bytes k j b e g bad)
+  hops-looks-one c bytes r true old m n (hop_stands h i a type mid f t p) (hops_end js q) = no_hop bytes i a h js f
+  hops-looks-one c bytes r false old m n (hop_stands h i a type mid f t p) (no_hop_stands d left bad q) = absurd (HopFront-sound bytes h i a d f bad)
+  hops-looks-one c bytes r s old m n (hop_stands h i a type mid f t p) (hop_stands k j b kind far g u q) =
+      let e = HopFront-same bytes k h j i b a g f in
+      let sought = search-one c.2 i kind type (hit old) far mid (subst (λ (z : List ℕ). Searches c.2 z kind (hit old) far) e.1 u) t in
+      let inner = subst (λ (z : List ℕ). HopLooks c kind z b s far n) e.1 q in
+      let behind = subst (λ (z : List ℕ). HopLooks c kind i z s far n) e.2 inner in
+      let under = subst (λ (z : RouteLwEnCapType). HopLooks c z i a s far n) sought.0 behind in
+      hop-looks-one c type i a r s mid m n p (subst (λ (d : Counts). HopLooks c type i a s d n) sought.1 under)
+
+mutual
+  pub attribute-looks-add : (c : Context) (x : Item) (r : Bool) (old new : Counts) → AttributeLooks c x r old new → Adds (AttributeLooks c x r) old new
+  attribute-looks-add c x true old new (value_read m k p t) =
+      let a = (Flats.attributes c).looks.adds x old new t in
+      record { number = a.number; is = a.is; alike = λ d. value_read m k p (a.alike d) }
+  attribute-looks-add c x false old new (value_faulty e k w t) =
+      let a = (Flats.attributes c).looks.adds x old new t in
+      record { number = a.number; is = a.is; alike = λ d. value_faulty e k w (a.alike d) }
+  attribute-looks-add c x r old new (hops_inside k h) =
+      let a = hops-looks-add c x.value r old new h in
+      record { number = a.number; is = a.is; alike = λ d. hops_inside k (a.alike d) }
+
+  pub hop-looks-add : (c : Context) (type : RouteLwEnCapType) (inside rest : List ℕ) (r : Bool) (old new : Counts) → HopLooks c type inside rest r old new
+      → Adds (HopLooks c type inside rest r) old new
+  hop-looks-add c type inside rest r old new (hop_ends is h) =
+      let a = hops-looks-add c rest r old new h in
+      record { number = a.number; is = a.is; alike = λ d. hop_ends is (a.alike d) }
+  hop-looks-add c type inside rest false old new (none_in_hop e left bad p) =
+      record { number = one_miss; is = p ∙ sym (raised-miss old); alike = λ d. none_in_hop e left bad (raised-miss d) }
+  hop-looks-add c type inside rest false old new (faulty_in_hop x more f w) =
+      let a = attribute-looks-add (typed c type) x false (hit old) new w in
+      record {
+        number = plus one_hit a.number;
+        is = a.is ∙ raised-inside a.number old;
+        alike =
+            λ d. faulty_in_hop x more f (subst (λ (n : Counts). AttributeLooks (typed c type) x false (hit d) n) (raised-inside a.number d) (a.alike (hit d)));
+      }
+  hop-looks-add c type inside rest r old new (passed_in_hop x more mid f w p) =
+      let a = attribute-looks-add (typed c type) x true (hit old) mid w in
+      let b = hop-looks-add c type more rest r mid new p in
+      record {
+        number = plus one_hit (plus a.number b.number);
+        is = b.is ∙ ap (raised b.number) a.is ∙ raised-behind a.number b.number old;
+        alike =
+            λ d.
+            let far : Counts = raised a.number (hit d) in
+            let later = subst (λ (n : Counts). HopLooks c type more rest r far n) (raised-behind a.number b.number d) (b.alike far) in
+            passed_in_hop x more far f (a.alike (hit d)) later;
+      }
+
+  pub hops-looks-add : (c : Context) (bytes : List ℕ) (r : Bool) (old new : Counts) → HopsLooks c bytes r old new → Adds (HopsLooks c bytes r) old new
+  hops-looks-add c bytes true old new (hops_end is p) =
+      record { number = no_looks; is = p ∙ sym (raised-none old); alike = λ d. hops_end is (raised-none d) }
+  hops-looks-add c bytes false old new (no_hop_stands e left bad p) =
+      record { number = one_miss; is = p ∙ sym (raised-miss old); alike = λ d. no_hop_stands e left bad (raised-miss d) }
+  hops-looks-add c bytes r old new (hop_stands h inside rest type mid f t p) =
+      let s = search-adds c.2 inside type (hit old) mid t in
+      let a = hop-looks-add c type inside rest r mid new p in
+      record {
+        number = plus one_hit (plus s.number a.number);
+        is = a.is ∙ ap (raised a.number) s.is ∙ raised-behind s.number a.number old;
+        alike =
+            λ d.
+            let far : Counts = raised s.number (hit d) in
+            let later = subst (λ (n : Counts). HopLooks c type inside rest r far n) (raised-behind s.number a.number d) (a.alike far) in
+            hop_stands h inside rest type far f (s.alike (hit d)) later;
+      }
+
+-- the looks of an attribute under a context
+abbrev pub attribute_looking : Context → Looking Item
+attribute_looking c = record {
+  Takes = AttributeTakes c;
+  one = λ x old new other p q. (attribute-looks-one c x p.0 q.0 old new other p.1 q.1).1;
+  adds = λ x old new p.
+      let a = attribute-looks-add c x p.0 old new p.1 in
+      record { number = a.number; is = a.is; alike = λ d. (p.0, a.alike d) };
+}
+
+-- and those of next hops
+abbrev pub hops_looking : Context → Looking (List ℕ)
+hops_looking c = record {
+  Takes = HopsTake c;
+  one = λ bytes old new other p q. (hops-looks-one c bytes p.0 q.0 old new other p.1 q.1).1;
+  adds = λ bytes old new p.
+      let a = hops-looks-add c bytes p.0 old new p.1 in
+      record { number = a.number; is = a.is; alike = λ d. (p.0, a.alike d) };
+}

@@ -1,0 +1,87 @@
+-- Headers and members of an older table of modes, brought up to the table of today: they are written by the same bytes, and
+-- what bytes meant, they mean brought up.
+use Rattle.std.proofs.Common.{◌≡◌, ℕ, ◌<◌, ◌^◌, List, length, refl, sym, ap, subst, ◌∙◌}
+use Rattle.npr_base.specs.Family.{option_or, too_long}
+use Rattle.npr_base.specs.Framing.{Item, number_of}
+use Rattle.npr_base.proofs.NormalizedLaws.{Normalizes, rows-normalized}
+use Rattle.npr_base.specs.RowLaws.{form_IsFormed}
+use Rattle.npr_base.specs.Table.{item_of, held_misfit}
+use Rattle.npr_srh.specs.Segments.{too_many}
+use Rattle.npr_srh.specs.Seg6.{Seg6, IsSeg6, IsSeg6By, HoldsSeg6By, seg6_bytes, seg6_misfit, most_segments, decode_message, normalized as normalized_header}
+use Rattle.npr_srh.specs.Seg6Mode.{ModeTable, modes, mode_of, mode_number, mode_number-mode_in, mode_number-mode_of}
+use Rattle.npr_srh.specs.Seg6Tunnel.{Meaning, header, src, table, other, normalized, rows, held_of, attributes, attributes_by}
+use Rattle.npr_srh.specs.declared.seg6_mode.Seg6Mode.{Seg6Mode}
+
+-- ---- a header
+
+-- the number stays
+header-mode : (h : Seg6) → mode_number (normalized_header h).mode ≡ mode_number h.mode
+header-mode h = mode_number-mode_of (mode_number h.mode)
+
+pub header-bytes : (h : Seg6) → seg6_bytes (normalized_header h) ≡ seg6_bytes h
+header-bytes h = rw (header-mode h) refl
+
+pub header-misfit : (kind : ℕ) (h : Seg6) → seg6_misfit kind (normalized_header h) ≡ seg6_misfit kind h
+header-misfit kind h =
+    ap (λ (b : List ℕ). option_or (too_long kind (length b)) (too_many (most_segments h.hmac) (length h.segments))) (header-bytes h)
+
+pub header-again : (h : Seg6) → normalized_header (normalized_header h) ≡ normalized_header h
+header-again h = ap (λ (m : Seg6Mode). record { mode = m; segments = h.segments; hmac = h.hmac }) (ap mode_of (header-mode h))
+
+header-holds : (by : ModeTable) (h : Seg6) → HoldsSeg6By by h → HoldsSeg6By modes (normalized_header h)
+header-holds by h c = record {
+  mode = subst (λ (n : ℕ). n < 2 ^ 32) (sym (header-mode h)) c.mode;
+  formed = form_IsFormed mode_of mode_number mode_number-mode_of (mode_number h.mode);
+  whole = c.whole;
+  segments = c.segments;
+  key = c.key;
+}
+
+header-read : (by : ModeTable) (bytes : List ℕ) (h : Seg6) → IsSeg6By by bytes h → IsSeg6 bytes (normalized_header h)
+header-read by bytes h p = record {
+  front = p.front;
+  wire = p.wire;
+  hmac = p.hmac;
+  rest = p.rest;
+  is = p.is;
+  size = p.size;
+  whole = p.whole;
+  len = p.len;
+  hmac_size = p.hmac_size;
+  mode = ap mode_of (ap mode_number p.mode ∙ mode_number-mode_in by (decode_message p.front).mode);
+  segments = p.segments;
+  key = p.key;
+}
+
+-- ---- a member
+
+pub member-item : (m : Meaning) → item_of (held_of (normalized m)) ≡ item_of (held_of m)
+member-item (header h) = rw (header-bytes h) refl
+member-item (src a) = refl
+member-item (table n) = refl
+member-item (other x) = refl
+
+pub member-misfit : (m : Meaning) → held_misfit (held_of (normalized m)) ≡ held_misfit (held_of m)
+member-misfit (header h) = header-misfit 1 h
+member-misfit (src a) = refl
+member-misfit (table n) = refl
+member-misfit (other x) = refl
+
+pub member-again : (m : Meaning) → normalized (normalized m) ≡ normalized m
+member-again (header h) = ap header (header-again h)
+member-again (src a) = refl
+member-again (table n) = refl
+member-again (other x) = refl
+
+normalizes : (by : ModeTable) → Normalizes normalized (rows by) (rows modes)
+normalizes by =
+    (refl, λ bytes h p. (normalized_header h, header-read by bytes h p, refl), (refl, λ bytes a p. (a, p, refl), (refl, λ bytes n p. (n, p, refl), tt)))
+
+pub member-read : (by : ModeTable) (x : Item) (m : Meaning) → (attributes_by by).Reads x m → attributes.Reads x (normalized m)
+member-read by x m p = rows-normalized normalized other (λ y. refl) (rows by) (rows modes) (normalizes by) (number_of x.kind) x m p
+
+pub member-coherent : (by : ModeTable) (m : Meaning) → (attributes_by by).Coherent m → attributes.Coherent (normalized m)
+member-coherent by (header h) c = header-holds by h c
+member-coherent by (src a) c = c
+member-coherent by (table n) c = c
+member-coherent by (other x) c = record { proper = c.proper; alone = c.alone }

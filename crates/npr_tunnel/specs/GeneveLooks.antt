@@ -1,0 +1,89 @@
+-- The looks that reading options of Geneve takes: one at the header of each child, up to the end or to the first that is faulty.
+use Rattle.std.proofs.Common.{◌≡◌, ℕ, ◌<◌, Bool, true, false, List, [], length, refl, sym, ap, subst, ◌∙◌, inl, inr, true≢false, arith}
+use Rattle.npr_base.specs.declared.refusal.DecodeError.{DecodeError}
+use Rattle.npr_base.specs.Codec.{exactly}
+use Rattle.npr_base.specs.Counts.{Counts, no_looks, hit, miss, raised}
+use Rattle.npr_base.specs.Framing.{Item, Front, Fault}
+use Rattle.npr_base.specs.FrontLaws.{Front-same, Front-shrinks, Front-sound}
+use Rattle.npr_base.specs.Layout.{byte, be16}
+use Rattle.npr_base.specs.Looks.{Adds, Looking}
+use Rattle.npr_base.specs.LooksLaws.{plus, one_hit, one_miss, raised-none, raised-hit, raised-miss, raised-inside}
+use Rattle.npr_tunnel.specs.Geneve.{at, Child, class_child, type_child, data_child, ReadsChild, WrongChild, class_length, type_length, order, child}
+
+-- where a child may stand: a class anywhere, and the others in an option that is open
+abbrev pub Stands : Bool → Child → Type 0
+Stands inside (class_child n) = Unit {0}
+Stands inside (type_child n) = inside ≡ true
+Stands inside (data_child d) = inside ≡ true
+
+-- behind options, of which one may be open
+pub data OptionsLooks : Bool → List ℕ → Counts → Counts → Type 0 where
+  options_end : {inside : Bool} {bytes : List ℕ} {old new : Counts} → bytes ≡ [] → new ≡ old → OptionsLooks inside bytes old new
+  no_child_stands : {inside : Bool} {bytes : List ℕ} {old new : Counts} (e : DecodeError) → 0 < length bytes → Fault bytes e → new ≡ miss old
+      → OptionsLooks inside bytes old new
+  child_faulty : {inside : Bool} {bytes : List ℕ} {old new : Counts} (x : Item) (rest : List ℕ) (e : DecodeError) → Front bytes x rest
+      → WrongChild inside x e → new ≡ hit old → OptionsLooks inside bytes old new
+  child_passed : {inside : Bool} {bytes : List ℕ} {old new : Counts} (x : Item) (rest : List ℕ) (c : Child) → Front bytes x rest
+      → ReadsChild x c → Stands inside c → OptionsLooks true rest (hit old) new → OptionsLooks inside bytes old new
+
+no_front : {A : Type 0} (bytes rest : List ℕ) (x : Item) → bytes ≡ [] → Front bytes x rest → A
+no_front bytes rest x is f = absurd (omega (arith, ap length is, Front-shrinks bytes x rest f))
+
+child-stands : (inside : Bool) (x : Item) (c : Child) (e : DecodeError) → ReadsChild x c → Stands inside c → WrongChild inside x e → ⊥
+child-stands inside x (class_child n) f p s (class_length e k w) = (exactly be16).no_fault (at 1) x.value n e p.1 w
+child-stands inside x (class_child n) f p s (type_length e k o w) = absurd (omega (arith, p.0, k))
+child-stands inside x (class_child n) f p s (order o (inl k)) = absurd (omega (arith, p.0, k))
+child-stands inside x (class_child n) f p s (order o (inr k)) = absurd (omega (arith, p.0, k))
+child-stands inside x (class_child n) f p s (child i j k) = i p.0
+child-stands inside x (type_child n) f p s (class_length e k w) = absurd (omega (arith, p.0, k))
+child-stands inside x (type_child n) f p s (type_length e k o w) = (exactly byte).no_fault (at 2) x.value n e p.1 w
+child-stands inside x (type_child n) f p s (order o k) = true≢false (sym s ∙ o)
+child-stands inside x (type_child n) f p s (child i j k) = j p.0
+child-stands inside x (data_child d) f p s (class_length e k w) = absurd (omega (arith, p.0, k))
+child-stands inside x (data_child d) f p s (type_length e k o w) = absurd (omega (arith, p.0, k))
+child-stands inside x (data_child d) f p s (order o k) = true≢false (sym s ∙ o)
+child-stands inside x (data_child d) f p s (child i j k) = k p.0
+
+pub looks-one : (inside : Bool) (bytes : List ℕ) (old new other : Counts) → OptionsLooks inside bytes old new
+    → OptionsLooks inside bytes old other → new ≡ other
+looks-one inside bytes old new other (options_end is p) (options_end js q) = p ∙ sym q
+looks-one inside bytes old new other (options_end is p) (no_child_stands e left bad q) = absurd (omega (arith, ap length is, left))
+looks-one inside bytes old new other (options_end is p) (child_faulty x rest e f bad q) = no_front bytes rest x is f
+looks-one inside bytes old new other (options_end is p) (child_passed x rest c f r s q) = no_front bytes rest x is f
+looks-one inside bytes old new other (no_child_stands e left bad p) (options_end is q) = absurd (omega (arith, ap length is, left))
+looks-one inside bytes old new other (no_child_stands e left bad p) (no_child_stands d more worse q) = p ∙ sym q
+looks-one inside bytes old new other (no_child_stands e left bad p) (child_faulty x rest d f worse q) = absurd (Front-sound bytes x rest e f bad)
+looks-one inside bytes old new other (no_child_stands e left bad p) (child_passed x rest c f r s q) = absurd (Front-sound bytes x rest e f bad)
+looks-one inside bytes old new other (child_faulty x rest e f bad p) (options_end is q) = no_front bytes rest x is f
+looks-one inside bytes old new other (child_faulty x rest e f bad p) (no_child_stands d left worse q) = absurd (Front-sound bytes x rest d f worse)
+looks-one inside bytes old new other (child_faulty x rest e f bad p) (child_faulty y more d g worse q) = p ∙ sym q
+looks-one inside bytes old new other (child_faulty x rest e f bad p) (child_passed y more c g r s q) =
+    absurd (child-stands inside x c e (subst (λ (z : Item). ReadsChild z c) (Front-same bytes y x more rest g f).0 r) s bad)
+looks-one inside bytes old new other (child_passed x rest c f r s p) (options_end is q) = no_front bytes rest x is f
+looks-one inside bytes old new other (child_passed x rest c f r s p) (no_child_stands e left bad q) = absurd (Front-sound bytes x rest e f bad)
+looks-one inside bytes old new other (child_passed x rest c f r s p) (child_faulty y more e g bad q) =
+    absurd (child-stands inside x c e r s (subst (λ (z : Item). WrongChild inside z e) (Front-same bytes y x more rest g f).0 bad))
+looks-one inside bytes old new other (child_passed x rest c f r s p) (child_passed y more d g v w q) =
+    looks-one true rest (hit old) new other p (subst (λ (b : List ℕ). OptionsLooks true b (hit old) other) (Front-same bytes y x more rest g f).1 q)
+
+pub looks-add : (inside : Bool) (bytes : List ℕ) (old new : Counts) → OptionsLooks inside bytes old new → Adds (OptionsLooks inside bytes) old new
+looks-add inside bytes old new (options_end is p) = record { number = no_looks; is = p ∙ sym (raised-none old); alike = λ c. options_end is (raised-none c) }
+looks-add inside bytes old new (no_child_stands e left bad p) =
+    record { number = one_miss; is = p ∙ sym (raised-miss old); alike = λ c. no_child_stands e left bad (raised-miss c) }
+looks-add inside bytes old new (child_faulty x rest e f bad p) =
+    record { number = one_hit; is = p ∙ sym (raised-hit old); alike = λ c. child_faulty x rest e f bad (raised-hit c) }
+looks-add inside bytes old new (child_passed x rest c f r s p) =
+    let a = looks-add true rest (hit old) new p in
+    record {
+      number = plus one_hit a.number;
+      is = a.is ∙ raised-inside a.number old;
+      alike = λ d. child_passed x rest c f r s (subst (λ (n : Counts). OptionsLooks true rest (hit d) n) (raised-inside a.number d) (a.alike (hit d)));
+    }
+
+-- of a list, where none is open yet
+abbrev pub options_looking : Looking (List ℕ)
+options_looking = record {
+  Takes = OptionsLooks false;
+  one = looks-one false;
+  adds = looks-add false;
+}

@@ -1,0 +1,167 @@
+/* Each call of the library with what it must answer. It ends with 0 where all is as it should be, and else with 1
+ * and the first answer that is not. `make check` compiles it as C and as C++. */
+
+#include "netlink_packet_route.h"
+#include <stdio.h>
+#include <string.h>
+
+#define LENGTH(array) (sizeof(array) / sizeof *(array))
+
+#define WANT(is_so)                                                                                                    \
+    do {                                                                                                               \
+        if (!(is_so)) {                                                                                                \
+            fprintf(stderr, "calls.c:%d: %s\n", __LINE__, #is_so);                                                     \
+            return 1;                                                                                                  \
+        }                                                                                                              \
+    } while (0)
+
+/* An address message: a local address, a label under NLA_F_NESTED, and three bytes that are no attribute. */
+static const uint8_t ADDRESS[] = {2, 8, 128, 254, 1, 0,   0,   0,   8, 0, 1, 0, 127, 0,
+                                  0, 1, 7,   0,   3, 128, 'l', 'o', 0, 0, 5, 0, 255};
+
+/* A route message: RTA_MULTIPATH with a next hop of 13 bytes and one of 8. */
+static const uint8_t ROUTE[] = {2, 0, 0, 0, 254, 3, 0,  1, 0, 0,   0,   0,   28, 0, 9, 0, 13, 0, 4, 5,
+                                2, 0, 0, 0, 5,   0, 20, 0, 1, 170, 187, 204, 8,  0, 0, 0, 3,  0, 0, 0};
+
+/* A datagram: a message of type 20 whose payload has 9 bytes, padding, an end of a dump, and a length that is one too
+ * many. */
+static const uint8_t DATAGRAM[] = {25, 0, 0, 0, 20, 0, 18, 0, 7, 0, 0, 0, 8, 1, 0, 0, 1, 2, 3, 4, 5, 6,
+                                   7,  8, 9, 0, 0,  0, 20, 0, 0, 0, 3, 0, 2, 0, 7, 0, 0, 0, 8, 1, 0, 0,
+                                   0,  0, 0, 0, 17, 0, 0,  0, 3, 0, 2, 0, 7, 0, 0, 0, 8, 1, 0, 0};
+
+/* What a call for a fault is given, and what it must tell. */
+struct told {
+    struct npr_fault (*fault)(const uint8_t *, size_t);
+    uint8_t bytes[48];
+    size_t length;
+    struct npr_fault wanted;
+};
+
+static const struct told TOLD[] = {
+    {npr_address_fault, {2, 8, 128}, 3, {NPR_HEADER_TOO_SHORT, 0, 0, 0, 3, 8}},
+    {npr_address_fault, {2, 8, 128, 254, 1, 0, 0, 0}, 8, {0, 0, 0, 0, 0, 0}},
+    {npr_address_fault, {2, 8, 128, 254, 1, 0, 0, 0, 5, 0, 1}, 11, {NPR_ATTRIBUTE_TOO_SHORT, 0, 0, 0, 3, 0}},
+    {npr_address_fault, {2, 8, 128, 254, 1, 0, 0, 0, 10, 0, 1, 0, 7}, 13, {NPR_ATTRIBUTE_LENGTH, 0, 0, 0, 10, 5}},
+    {npr_address_fault,
+     {2, 8, 128, 254, 1, 0, 0, 0, 6, 0, 3, 0, 255, 0},
+     14,
+     {NPR_NOT_UTF8, NPR_FAMILY_ADDRESS, 3, 0, 0, 0}},
+    {npr_rule_fault,
+     {2, 0, 0, 0, 254, 0, 0, 1, 0, 0, 0, 0, 4, 0, 2, 0},
+     16,
+     {NPR_VALUE_LENGTH, NPR_FAMILY_RULE, 2, 0, 0, 0}},
+    {npr_route_fault,
+     {2, 0, 0, 0, 254, 3, 0, 5, 0, 0, 0, 0, 8, 0, 23, 0, 184, 11, 0, 0},
+     20,
+     {NPR_VALUE_LENGTH, NPR_FAMILY_ROUTE, 23, 0, 4, 0}},
+    {npr_route_fault,
+     {2, 0, 0, 0, 254, 3, 0, 1, 0, 0, 0, 0, 7, 0, 9, 0, 8, 0, 0},
+     19,
+     {NPR_NEXT_HOP_TOO_SHORT, 0, 0, 0, 3, 0}},
+    {npr_route_fault,
+     {2, 0, 0, 0, 254, 3, 0, 1, 0, 0, 0, 0, 12, 0, 9, 0, 7, 0, 0, 0, 1, 0, 0, 0},
+     24,
+     {NPR_NEXT_HOP_LENGTH, 0, 0, 0, 7, 8}},
+    {npr_route_fault, {2, 0, 0, 0, 254, 3, 0, 1, 0, 0, 0, 0, 6, 0, 18, 0, 0, 1}, 18, {NPR_VIA_FAMILY, 0, 0, 256, 0, 0}},
+    /* LWTUNNEL_ENCAP_SEG6 with a mode and no header behind it */
+    {npr_route_fault,
+     {2, 0, 0, 0, 254, 3, 0, 1, 0, 0, 0, 0, 12, 0, 22, 0, 8, 0, 1, 0, 0, 0, 0, 0, 6, 0, 21, 0, 5, 0},
+     30,
+     {NPR_SEG6_HEADER, 0, 0, NPR_SEG6_SHORT, 0, 0}},
+    /* LWTUNNEL_ENCAP_IP with an option of Geneve: a type before a class, and a child 9 */
+    {npr_route_fault,
+     {2,   0,  0, 0, 254, 3, 0, 1, 0, 0, 0, 0, 20, 0, 22, 128, 16, 0, 8,
+      128, 12, 0, 1, 128, 5, 0, 2, 0, 7, 0, 0, 0,  6, 0,  21,  0,  2, 0},
+     38,
+     {NPR_GENEVE_ORDER, NPR_FAMILY_GENEVE, 2, 0, 0, 0}},
+    {npr_route_fault,
+     {2,   0,  0, 0, 254, 3, 0, 1, 0, 0, 0, 0, 20, 0, 22, 128, 16, 0, 8,
+      128, 12, 0, 1, 128, 5, 0, 9, 0, 7, 0, 0, 0,  6, 0,  21,  0,  2, 0},
+     38,
+     {NPR_GENEVE_CHILD, NPR_FAMILY_GENEVE, 9, 0, 0, 0}},
+};
+
+static int same_fault(struct npr_fault one, struct npr_fault other) {
+    return one.number == other.number && one.family == other.family && one.kind == other.kind &&
+           one.detail == other.detail && one.length == other.length && one.limit == other.limit;
+}
+
+static int same_step(struct npr_step step, uint16_t kind, size_t value, size_t length, size_t next) {
+    return step.status == NPR_FOUND && step.number == 0 && step.kind == kind && step.value == value &&
+           step.length == length && step.next == next;
+}
+
+static int steps(void) {
+    struct npr_step step = npr_step_at(ADDRESS, sizeof ADDRESS, 8);
+    WANT(same_step(step, 1, 12, 4, 16));
+    step = npr_step_at(ADDRESS, sizeof ADDRESS, step.next);
+    WANT(same_step(step, 0x8003, 20, 3, 24));
+    step = npr_step_at(ADDRESS, sizeof ADDRESS, step.next);
+    WANT(step.status == NPR_FAULT && step.number == NPR_ATTRIBUTE_TOO_SHORT && step.next == 0);
+    WANT(npr_step_at(ADDRESS, 24, 24).status == NPR_END);
+    WANT(npr_step_at(ADDRESS, sizeof ADDRESS, SIZE_MAX).status == NPR_END);
+    return 0;
+}
+
+static int finds(void) {
+    WANT(same_step(npr_find(ADDRESS, sizeof ADDRESS, 8, 1), 1, 12, 4, 16));
+    WANT(same_step(npr_find(ADDRESS, sizeof ADDRESS, 8, 3), 0x8003, 20, 3, 24));
+    WANT(npr_find(ADDRESS, sizeof ADDRESS, 16, 1).number == NPR_ATTRIBUTE_TOO_SHORT);
+    WANT(npr_find(ADDRESS, 24, 16, 1).status == NPR_END);
+    return 0;
+}
+
+static int next_hops(void) {
+    struct npr_next_hop hop = npr_next_hop_at(ROUTE, sizeof ROUTE, 16);
+    WANT(hop.status == NPR_FOUND && hop.flags == 4 && hop.hops == 5 && hop.interface_index == 2);
+    WANT(hop.attributes == 24 && hop.end == 29 && hop.next == 32);
+    WANT(same_step(npr_step_at(ROUTE, hop.end, hop.attributes), 20, 28, 1, 29));
+    hop = npr_next_hop_at(ROUTE, sizeof ROUTE, hop.next);
+    WANT(hop.status == NPR_FOUND && hop.flags == 0 && hop.interface_index == 3);
+    WANT(hop.attributes == 40 && hop.end == 40 && hop.next == 40);
+    WANT(npr_next_hop_at(ROUTE, sizeof ROUTE, hop.next).status == NPR_END);
+    WANT(npr_next_hop_at(ROUTE, sizeof ROUTE, 33).number == NPR_NEXT_HOP_TOO_SHORT);
+    WANT(npr_next_hop_at(ROUTE, 31, 20).number == NPR_NEXT_HOP_LENGTH);
+    return 0;
+}
+
+static int messages(void) {
+    struct npr_message message = npr_message_at(DATAGRAM, sizeof DATAGRAM, 0);
+    WANT(message.status == NPR_FOUND && message.message_type == 20 && message.flags == 18 &&
+         message.sequence_number == 7);
+    WANT(message.port_number == 264 && message.payload == 16 && message.length == 9 && message.next == 28);
+    message = npr_message_at(DATAGRAM, sizeof DATAGRAM, message.next);
+    WANT(message.status == NPR_FOUND && message.message_type == 3 && message.payload == 44 && message.length == 4 &&
+         message.next == 48);
+    WANT(npr_message_at(DATAGRAM, sizeof DATAGRAM, message.next).number == NPR_MESSAGE_LENGTH);
+    WANT(npr_message_at(DATAGRAM, sizeof DATAGRAM - 1, message.next).number == NPR_MESSAGE_TOO_SHORT);
+    WANT(npr_message_at(DATAGRAM, 48, message.next).status == NPR_END);
+    return 0;
+}
+
+static int faults(void) {
+    for (size_t i = 0; i < LENGTH(TOLD); i++)
+        WANT(same_fault(TOLD[i].fault(TOLD[i].bytes, TOLD[i].length), TOLD[i].wanted));
+    return 0;
+}
+
+/* The texts of the header are the names of the library. */
+static int names(void) {
+    char name[NPR_NAME_ROOM];
+    for (uint32_t number = 0; number < 32; number++) {
+        npr_refusal_name(number, name, sizeof name);
+        WANT(strcmp(name, npr_refusal_text(number)) == 0);
+        npr_cause_name(number, name, sizeof name);
+        WANT(strcmp(name, npr_cause_text(number)) == 0);
+    }
+    return 0;
+}
+
+static int version(void) {
+    char text[32];
+    snprintf(text, sizeof text, "%d.%d.%d", NPR_VERSION_MAJOR, NPR_VERSION_MINOR, NPR_VERSION_PATCH);
+    WANT(strcmp(text, NPR_VERSION) == 0);
+    return 0;
+}
+
+int main(void) { return steps() || finds() || next_hops() || messages() || faults() || names() || version(); }
