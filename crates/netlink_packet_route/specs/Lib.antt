@@ -8,6 +8,7 @@ pub use Rattle.npr_base.specs.Codec
 pub use Rattle.npr_base.specs.Counts
 pub use Rattle.npr_base.specs.DroppedCodec
 pub use Rattle.npr_base.specs.Equality
+pub use Rattle.npr_base.specs.EqualityLaws
 pub use Rattle.npr_base.specs.Family
 pub use Rattle.npr_base.specs.Fields
 pub use Rattle.npr_base.specs.Found

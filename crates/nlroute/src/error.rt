@@ -8,6 +8,7 @@ ghost use Rattle.nlroute.specs.{
 };
 
 use netlink_packet_route::framing::{DecodeError, EmitError, WriteError};
+use netlink_packet_route::laws::law_framing_equality;
 use std::alloc::{AllocError, AllocFailed};
 
 /// Why a run prints no report.
@@ -97,4 +98,6 @@ impl<T: Drop> From<AllocFailed<T>> for RunError {
 /// `==` answers whether two are equal.
 pub fn law_equality()
     ensures { IsEquality ⟦<RunError as PartialEq>⟧.eq }
-{}
+{
+    law_framing_equality();
+}
