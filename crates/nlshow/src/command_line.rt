@@ -1,0 +1,154 @@
+//! The words of a command line.
+
+use netlink_packet_route::MessageKind;
+use std::alloc::{AllocError, Global};
+use std::fmt;
+
+/// The line for a command line that says nothing that can be done.
+pub const USAGE: &str =
+    "usage: nlshow [--json | --count] [--numeric] [--hex] [--as address|route|rule] [--keep FILE] [FILE..]";
+
+/// What `--help` says.
+pub const HELP: &str =
+    "nlshow shows messages of rtnetlink as ip does: datagrams with their envelopes, from files or standard input.
+
+  --json      an object for each message, with the keys of ip -j -d
+  --count     how many messages there are, of each kind
+  --numeric   numbers in place of names
+  --hex       the input is hexadecimal text, a message a line
+  --as KIND   messages of this kind without an envelope: address, route or rule
+  --keep FILE writes the messages that are refused to FILE
+  --help      this text
+  --version   the version
+
+Status 1: a message was refused; 2: a wrong word; 4: no memory; 5: a file failed.";
+
+/// What is told of messages.
+#[derive(Clone, Copy, Debug, PartialEq, Eq)]
+pub enum Form {
+    /// A line each.
+    Lines,
+    /// An object of JSON each.
+    Json,
+    /// How many there are.
+    Count,
+}
+
+/// How messages are read and told.
+#[derive(Clone, Copy, Debug, PartialEq, Eq)]
+pub struct Options {
+    /// What is told.
+    pub form: Form,
+    /// Whether numbers stand in place of names.
+    pub numeric: bool,
+    /// Whether the input is hexadecimal text.
+    pub is_hex: bool,
+    /// The kind of messages without an envelope.
+    pub kind: Option<MessageKind>,
+}
+
+/// What is to be shown.
+#[derive(Drop)]
+pub struct Request<'a> {
+    /// How.
+    pub options: Options,
+    /// The file for what is refused.
+    pub keep: Option<&'a str>,
+    /// The files; of none standard input.
+    pub files: Vec<&'a str>,
+}
+
+/// What a command line asks for.
+#[derive(Drop)]
+pub enum Command<'a> {
+    /// The text that says how to call.
+    Help,
+    /// The version.
+    Version,
+    /// Messages.
+    Show(Request<'a>),
+    /// Nothing that can be done.
+    Wrong(WrongWord<'a>),
+}
+
+/// A word that is wrong.
+#[derive(Clone, Copy, Debug)]
+pub enum WrongWord<'a> {
+    /// No option has this name.
+    Option(&'a str),
+    /// The option wants a word behind it.
+    Alone(&'a str),
+    /// No kind of message has this name.
+    Kind(&'a str),
+}
+
+impl<'a> fmt::Display for WrongWord<'a> {
+    fn fmt<W: fmt::Write>(&self, f: &mut fmt::Formatter<W>) -> fmt::Result {
+        match *self {
+            WrongWord::Option(word) => write!(f, "`{word}` is no option"),
+            WrongWord::Alone(word) => write!(f, "`{word}` wants a word behind it"),
+            WrongWord::Kind(word) => write!(f, "`{word}` is no kind of message"),
+        }
+    }
+}
+
+/// What the words after the program's name ask for.
+pub fn command_of<'a>(alloc: Global, words: &'a [String]) -> Result<Command<'a>, AllocError> {
+    let mut options = Options {
+        form: Form::Lines,
+        numeric: false,
+        is_hex: false,
+        kind: None,
+    };
+    let mut keep = None;
+    let mut files = Vec::new(alloc);
+    // The option whose word comes next.
+    let mut waiting = None;
+    for word in words {
+        let word = word.as_str();
+        match waiting {
+            Some("--keep") => keep = Some(word),
+            Some(_) => match MessageKind::of(word) {
+                Some(kind) => options.kind = Some(kind),
+                None => return Ok(Command::Wrong(WrongWord::Kind(word))),
+            },
+            None => match word {
+                "--help" => return Ok(Command::Help),
+                "--version" => return Ok(Command::Version),
+                "--as" | "--keep" => {
+                    waiting = Some(word);
+                    continue;
+                }
+                _ if set_option(&mut options, word) => {}
+                _ if is_option(word) => return Ok(Command::Wrong(WrongWord::Option(word))),
+                _ => files.push(word)?,
+            },
+        }
+        waiting = None;
+    }
+    Ok(match waiting {
+        Some(word) => Command::Wrong(WrongWord::Alone(word)),
+        None => Command::Show(Request {
+            options,
+            keep,
+            files,
+        }),
+    })
+}
+
+/// Whether a word is an option and no file; `-` is standard input.
+fn is_option(word: &str) -> bool {
+    word.len() > 1 && word.starts_with('-')
+}
+
+/// Sets what an option without a word behind it says, and answers whether it is one.
+fn set_option(options: &mut Options, word: &str) -> bool {
+    match word {
+        "--json" => options.form = Form::Json,
+        "--count" => options.form = Form::Count,
+        "--numeric" => options.numeric = true,
+        "--hex" => options.is_hex = true,
+        _ => return false,
+    }
+    true
+}

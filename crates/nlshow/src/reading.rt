@@ -1,0 +1,379 @@
+//! Finding messages in an input, a window of it at a time.
+
+use crate::hex_line::bytes_of_line;
+use crate::refusal::Refusal;
+use crate::session::{Place, Session};
+use crate::stop::Stop;
+use crate::window::Window;
+use netlink_packet_core::{NETLINK_HEADER_LEN, NLMSG_ALIGNTO, NetlinkHeader};
+use netlink_packet_route::MessageKind;
+use std::alloc::Global;
+use std::io::{Read, Write};
+
+/// How many bytes of an input are held at a time, which is what the longest message has.
+pub const WINDOW: usize = 1 << 18;
+
+/// What stands in front of some bytes.
+#[derive(Clone, Copy, Debug, PartialEq, Eq)]
+pub enum Front {
+    /// A message of this length, with so many bytes to its end and padding.
+    Whole(usize, usize),
+    /// A message that is not there whole, or nothing.
+    Part,
+    /// A message of this length, which has no room.
+    TooLong(u32),
+    /// A length that no message has.
+    TooShort(u32),
+}
+
+/// What stands in front of the bytes, behind which more come or not.
+pub fn front_of(bytes: &[u8], is_last: bool) -> Front {
+    let Ok(header) = NetlinkHeader::parse(bytes) else {
+        return Front::Part;
+    };
+    let length = header.length as usize;
+    if length < NETLINK_HEADER_LEN {
+        return Front::TooShort(header.length);
+    }
+    if length > WINDOW {
+        return Front::TooLong(header.length);
+    }
+    let padded = length.next_multiple_of(NLMSG_ALIGNTO);
+    if padded <= bytes.len() || (is_last && length <= bytes.len()) {
+        return Front::Whole(length, padded);
+    }
+    Front::Part
+}
+
+/// Reads an input by what the run's options say of it.
+pub fn read_input<R: Read + Drop, O: Write, E: Write, K: Write>(
+    alloc: Global,
+    session: &mut Session<O, E, K>,
+    reader: R,
+) -> Result<(), Stop> {
+    let mut window = Window::new(alloc, reader, WINDOW)?;
+    match (session.options.is_hex, session.options.kind) {
+        (true, _) => read_lines(alloc, session, &mut window),
+        (false, Some(kind)) => read_lone(session, &mut window, kind),
+        (false, None) => read_datagrams(session, &mut window),
+    }
+}
+
+/// Reads once more, and answers whether anything came.
+fn fill<R: Read + Drop, O: Write, E: Write, K: Write>(
+    session: &mut Session<O, E, K>,
+    window: &mut Window<R>,
+) -> Result<bool, Stop> {
+    let before = window.held().len();
+    let is_more = window.fill()?;
+    let more = window.held().len().saturating_sub(before);
+    session.progress(more as u64, window.passed());
+    Ok(is_more)
+}
+
+/// Datagrams, one behind the other.
+fn read_datagrams<R: Read + Drop, O: Write, E: Write, K: Write>(
+    session: &mut Session<O, E, K>,
+    window: &mut Window<R>,
+) -> Result<(), Stop> {
+    let mut number = 0u64;
+    for _ in 0..u64::MAX {
+        let is_more = fill(session, window)?;
+        let front = take_messages(session, window, &mut number, !is_more)?;
+        match front {
+            Front::TooLong(length) => pass_long(session, window, &mut number, length)?,
+            Front::TooShort(_) => return refuse_rest(session, window, number, front),
+            _ if !is_more => return refuse_rest(session, window, number, front),
+            _ => {}
+        }
+        session.flush()?;
+    }
+    Ok(())
+}
+
+/// Tells of the messages that the window has whole, and answers what stands behind them.
+fn take_messages<R: Read + Drop, O: Write, E: Write, K: Write>(
+    session: &mut Session<O, E, K>,
+    window: &mut Window<R>,
+    number: &mut u64,
+    is_last: bool,
+) -> Result<Front, Stop> {
+    for _ in 0..window.held().len() {
+        let front = front_of(window.held(), is_last);
+        let Front::Whole(length, padded) = front else {
+            return Ok(front);
+        };
+        let Some(bytes) = window.held().get(..length) else {
+            return Ok(Front::Part);
+        };
+        *number = number.saturating_add(1);
+        let place = Place {
+            what: "message",
+            number: *number,
+            offset: window.passed(),
+            length: length as u64,
+        };
+        session.message(place, bytes)?;
+        window.pass(padded);
+    }
+    Ok(front_of(window.held(), is_last))
+}
+
+/// Passes a message that has no room, and refuses it.
+fn pass_long<R: Read + Drop, O: Write, E: Write, K: Write>(
+    session: &mut Session<O, E, K>,
+    window: &mut Window<R>,
+    number: &mut u64,
+    length: u32,
+) -> Result<(), Stop> {
+    *number = number.saturating_add(1);
+    let length = u64::from(length);
+    let place = Place {
+        what: "message",
+        number: *number,
+        offset: window.passed(),
+        length,
+    };
+    let left = pass_kept(session, window, length.next_multiple_of(4))?;
+    let gone = window.passed().saturating_sub(place.offset);
+    let refusal = match left {
+        0 => Refusal::TooLong {
+            length,
+            most: WINDOW as u64,
+        },
+        _ => Refusal::MessageLength { length, left: gone },
+    };
+    session.refuse(place, refusal);
+    Ok(())
+}
+
+/// Passes so many bytes of the input and keeps them, and answers how many were not there.
+fn pass_kept<R: Read + Drop, O: Write, E: Write, K: Write>(
+    session: &mut Session<O, E, K>,
+    window: &mut Window<R>,
+    count: u64,
+) -> Result<u64, Stop> {
+    let mut left = count;
+    for _ in 0..u64::MAX {
+        let held = window.held();
+        let here = held.len().min(usize::try_from(left).unwrap_or(usize::MAX));
+        session.keep(held.get(..here).unwrap_or(held))?;
+        window.pass(here);
+        left = left.saturating_sub(here as u64);
+        if left == 0 || !fill(session, window)? {
+            break;
+        }
+    }
+    Ok(left)
+}
+
+/// Refuses what is left of an input, if anything is.
+fn refuse_rest<R: Read + Drop, O: Write, E: Write, K: Write>(
+    session: &mut Session<O, E, K>,
+    window: &mut Window<R>,
+    number: u64,
+    front: Front,
+) -> Result<(), Stop> {
+    if window.held().is_empty() {
+        return session.flush();
+    }
+    let stated = NetlinkHeader::parse(window.held()).map_or(0, |header| header.length);
+    let offset = window.passed();
+    pass_kept(session, window, u64::MAX)?;
+    let left = window.passed().saturating_sub(offset);
+    let place = Place {
+        what: "message",
+        number: number.saturating_add(1),
+        offset,
+        length: left,
+    };
+    let length = u64::from(stated);
+    let refusal = match front {
+        Front::Part if left < NETLINK_HEADER_LEN as u64 => Refusal::MessageTooShort { left },
+        _ => Refusal::MessageLength { length, left },
+    };
+    session.refuse(place, refusal);
+    session.flush()
+}
+
+/// One message without an envelope.
+fn read_lone<R: Read + Drop, O: Write, E: Write, K: Write>(
+    session: &mut Session<O, E, K>,
+    window: &mut Window<R>,
+    kind: MessageKind,
+) -> Result<(), Stop> {
+    for _ in 0..u64::MAX {
+        if window.is_full() || !fill(session, window)? {
+            break;
+        }
+    }
+    let mut place = Place {
+        what: "message",
+        number: 1,
+        offset: 0,
+        length: window.held().len() as u64,
+    };
+    if !window.is_full() {
+        session.lone(kind, place, window.held())?;
+        return session.flush();
+    }
+    pass_kept(session, window, u64::MAX)?;
+    place.length = window.passed();
+    let refusal = Refusal::TooLong {
+        length: place.length,
+        most: WINDOW as u64 - 1,
+    };
+    session.refuse(place, refusal);
+    session.flush()
+}
+
+/// Lines of hexadecimal text.
+fn read_lines<R: Read + Drop, O: Write, E: Write, K: Write>(
+    alloc: Global,
+    session: &mut Session<O, E, K>,
+    window: &mut Window<R>,
+) -> Result<(), Stop> {
+    let mut number = 0u64;
+    for _ in 0..u64::MAX {
+        let is_more = fill(session, window)?;
+        take_lines(alloc, session, window, &mut number)?;
+        if window.is_full() {
+            pass_line(session, window, &mut number)?;
+        } else if !is_more {
+            if !window.held().is_empty() {
+                number = number.saturating_add(1);
+                take_line(alloc, session, number, window.passed(), window.held())?;
+            }
+            return session.flush();
+        }
+        session.flush()?;
+    }
+    Ok(())
+}
+
+/// Where the first line ends.
+fn line_end(bytes: &[u8]) -> Option<usize> {
+    bytes.iter().position(|byte| *byte == b'\n')
+}
+
+/// Takes the lines that the window has whole.
+fn take_lines<R: Read + Drop, O: Write, E: Write, K: Write>(
+    alloc: Global,
+    session: &mut Session<O, E, K>,
+    window: &mut Window<R>,
+    number: &mut u64,
+) -> Result<(), Stop> {
+    for _ in 0..window.held().len() {
+        let held = window.held();
+        let Some(end) = line_end(held) else {
+            break;
+        };
+        *number = number.saturating_add(1);
+        take_line(
+            alloc,
+            session,
+            *number,
+            window.passed(),
+            held.get(..end).unwrap_or(held),
+        )?;
+        window.pass(end.saturating_add(1));
+    }
+    Ok(())
+}
+
+/// Passes a line that has no room, and refuses it.
+fn pass_line<R: Read + Drop, O: Write, E: Write, K: Write>(
+    session: &mut Session<O, E, K>,
+    window: &mut Window<R>,
+    number: &mut u64,
+) -> Result<(), Stop> {
+    *number = number.saturating_add(1);
+    let offset = window.passed();
+    for _ in 0..u64::MAX {
+        let held = window.held();
+        let end = line_end(held);
+        let count = end.map_or(held.len(), |end| end.saturating_add(1));
+        session.keep_as_it_stands(held.get(..count).unwrap_or(held))?;
+        window.pass(count);
+        if end.is_some() || !fill(session, window)? {
+            break;
+        }
+    }
+    let length = window.passed().saturating_sub(offset);
+    let place = Place {
+        what: "line",
+        number: *number,
+        offset,
+        length,
+    };
+    let most = WINDOW as u64 - 1;
+    session.refuse(place, Refusal::TooLong { length, most });
+    Ok(())
+}
+
+/// Takes a line, which is kept as it stands where anything in it is refused.
+fn take_line<O: Write, E: Write, K: Write>(
+    alloc: Global,
+    session: &mut Session<O, E, K>,
+    number: u64,
+    offset: u64,
+    line: &[u8],
+) -> Result<(), Stop> {
+    let place = Place {
+        what: "line",
+        number,
+        offset,
+        length: line.len() as u64,
+    };
+    let before = session.counts.refused;
+    match bytes_of_line(alloc, line)? {
+        None => session.refuse(place, Refusal::BadHex),
+        Some(bytes) if bytes.is_empty() => {}
+        Some(bytes) => take_bytes(session, place, bytes.as_slice())?,
+    }
+    if session.counts.refused != before {
+        session.keep_as_it_stands(line)?;
+        session.keep_as_it_stands(b"\n")?;
+    }
+    Ok(())
+}
+
+/// Takes the bytes of a line: a message without an envelope, or messages.
+fn take_bytes<O: Write, E: Write, K: Write>(
+    session: &mut Session<O, E, K>,
+    place: Place,
+    bytes: &[u8],
+) -> Result<(), Stop> {
+    let whole = Place {
+        length: bytes.len() as u64,
+        ..place
+    };
+    if let Some(kind) = session.options.kind {
+        return session.lone(kind, whole, bytes);
+    }
+    let mut rest = bytes;
+    for _ in 0..bytes.len() {
+        if rest.is_empty() {
+            break;
+        }
+        let Front::Whole(length, padded) = front_of(rest, true) else {
+            session.refuse(whole, refusal_of(rest));
+            break;
+        };
+        session.message(whole, rest.get(..length).unwrap_or(rest))?;
+        rest = rest.get(padded..).unwrap_or(&[]);
+    }
+    Ok(())
+}
+
+/// Why bytes without a message in front are none.
+fn refusal_of(bytes: &[u8]) -> Refusal {
+    let left = bytes.len() as u64;
+    match NetlinkHeader::parse(bytes) {
+        Ok(header) => Refusal::MessageLength {
+            length: u64::from(header.length),
+            left,
+        },
+        Err(_) => Refusal::MessageTooShort { left },
+    }
+}

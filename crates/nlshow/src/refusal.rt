@@ -1,0 +1,94 @@
+//! Why a message is not shown, in words.
+
+use crate::attribute_names::attribute_name;
+use netlink_packet_route::framing::{At, AttrFamily, DecodeError};
+use std::fmt;
+
+/// Why a message is not shown.
+#[derive(Clone, Copy, Debug, PartialEq, Eq)]
+pub enum Refusal {
+    /// What stands in its envelope is no message.
+    Payload(DecodeError),
+    /// So many bytes are left, and an envelope begins with 16.
+    MessageTooShort { left: u64 },
+    /// Its length is below 16, or above the bytes that are left.
+    MessageLength { length: u64, left: u64 },
+    /// It does not fit the window.
+    TooLong { length: u64, most: u64 },
+    /// A line that is no hexadecimal text.
+    BadHex,
+}
+
+impl Refusal {
+    /// Its name.
+    pub fn name(&self) -> &'static str {
+        match self {
+            Refusal::Payload(fault) => fault.name(),
+            Refusal::MessageTooShort { .. } => "MessageTooShort",
+            Refusal::MessageLength { .. } => "MessageLength",
+            Refusal::TooLong { .. } => "TooLong",
+            Refusal::BadHex => "BadHex",
+        }
+    }
+}
+
+/// An attribute by its name and number.
+#[derive(Clone, Copy)]
+struct Named(At);
+
+impl fmt::Display for Named {
+    fn fmt<W: fmt::Write>(&self, f: &mut fmt::Formatter<W>) -> fmt::Result {
+        let Named(at) = *self;
+        match attribute_name(at.family, at.kind) {
+            Some(name) => write!(f, "{name} ({})", at.kind),
+            None => write!(f, "{:?} {}", at.family, at.kind),
+        }
+    }
+}
+
+/// The name and the lengths.
+impl fmt::Display for Refusal {
+    fn fmt<W: fmt::Write>(&self, f: &mut fmt::Formatter<W>) -> fmt::Result {
+        let name = self.name();
+        write!(f, "{name}: ")?;
+        match *self {
+            Refusal::Payload(fault) => write_fault(f, fault),
+            Refusal::MessageTooShort { left } => {
+                write!(f, "{left} bytes, where a message begins with 16")
+            }
+            Refusal::MessageLength { length, left } => {
+                write!(f, "a message of length {length} with {left} bytes left")
+            }
+            Refusal::TooLong { length, most } => {
+                write!(f, "{length} bytes, where {most} have room")
+            }
+            Refusal::BadHex => f.write_str("no pairs of hexadecimal digits"),
+        }
+    }
+}
+
+fn write_fault<W: fmt::Write>(f: &mut fmt::Formatter<W>, fault: DecodeError) -> fmt::Result {
+    match fault {
+        DecodeError::ValueLength { at, got } => {
+            let named = Named(at);
+            write!(f, "a value of {got} bytes at {named}")
+        }
+        DecodeError::NotUtf8 { at } => {
+            let named = Named(at);
+            write!(f, "no UTF-8 at {named}")
+        }
+        DecodeError::Unsupported { at } => {
+            let named = Named(at);
+            write!(f, "an unsupported header at {named}")
+        }
+        DecodeError::GeneveOrder { kind } => {
+            let named = Named(AttrFamily::Geneve.at(kind));
+            write!(f, "{named} before a class")
+        }
+        DecodeError::GeneveChild { kind } => {
+            let named = Named(AttrFamily::Geneve.at(kind));
+            write!(f, "{named} is unknown")
+        }
+        _ => write!(f, "{fault}"),
+    }
+}

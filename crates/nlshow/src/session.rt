@@ -1,0 +1,237 @@
+//! What is done with each message: it is told of, counted or refused.
+
+use crate::command_line::{Form, Options};
+use crate::counts::Counts;
+use crate::field::members_of;
+use crate::manner::Manner;
+use crate::message_fields::message_fields;
+use crate::refusal::Refusal;
+use crate::stop::Stop;
+use netlink_packet_core::{NetlinkBuffer, NetlinkHeader, NetlinkMessage, NetlinkPayload};
+use netlink_packet_route::address::AddressMessage;
+use netlink_packet_route::framing::{DecodeError, Parseable};
+use netlink_packet_route::route::RouteMessage;
+use netlink_packet_route::rule::RuleMessage;
+use netlink_packet_route::{MessageKind, RouteNetlinkMessage};
+use serde_json::Value;
+use std::alloc::{AllocError, Global};
+use std::io::Write;
+
+/// How much text is kept back at most, in bytes, before it is written in the midst of a read.
+const LONG_TEXT: usize = 1 << 16;
+
+/// After how many bytes it is told how far a long input is.
+const STEP: u64 = 1 << 26;
+
+/// Where a message stands in its input.
+#[derive(Clone, Copy, Debug, PartialEq, Eq)]
+pub struct Place {
+    /// What it is there: a message or a line.
+    pub what: &'static str,
+    /// Which, from 1 on.
+    pub number: u64,
+    /// How many bytes stand before it.
+    pub offset: u64,
+    /// How many bytes it has.
+    pub length: u64,
+}
+
+/// A run over inputs: where lines, refusals and refused bytes go.
+#[derive(Drop)]
+pub struct Session<O, E, K> {
+    /// How messages are read and told.
+    pub options: Options,
+    /// How many there were.
+    pub counts: Counts,
+    alloc: Global,
+    output: O,
+    errors: E,
+    keep: Option<K>,
+    is_watched: bool,
+    text: String,
+    input: String,
+}
+
+impl<O: Write, E: Write, K: Write> Session<O, E, K> {
+    /// A run that has read nothing. Where it is watched, long input shows how far it is.
+    pub fn new(
+        alloc: Global,
+        options: Options,
+        output: O,
+        errors: E,
+        keep: Option<K>,
+        is_watched: bool,
+    ) -> Self {
+        Session {
+            options,
+            counts: Counts::default(),
+            alloc,
+            output,
+            errors,
+            keep,
+            is_watched,
+            text: String::new(alloc),
+            input: String::new(alloc),
+        }
+    }
+
+    /// Goes on with the input of this name.
+    pub fn open(&mut self, name: &str) -> Result<(), AllocError> {
+        self.input.clear();
+        self.input.push_str(name)
+    }
+
+    /// A message in its envelope.
+    pub fn message(&mut self, place: Place, bytes: &[u8]) -> Result<(), Stop> {
+        match read_message(self.alloc, bytes) {
+            Ok(message) => self.tell(&message),
+            Err(Refusal::Payload(DecodeError::OutOfMemory)) => Err(Stop::Memory),
+            Err(refusal) => {
+                self.refuse(place, refusal);
+                self.keep(bytes)
+            }
+        }
+    }
+
+    /// A message of this kind without an envelope.
+    pub fn lone(&mut self, kind: MessageKind, place: Place, bytes: &[u8]) -> Result<(), Stop> {
+        match read_lone(self.alloc, kind, bytes) {
+            Ok(message) => self.tell(&message),
+            Err(DecodeError::OutOfMemory) => Err(Stop::Memory),
+            Err(fault) => {
+                self.refuse(place, Refusal::Payload(fault));
+                self.keep(bytes)
+            }
+        }
+    }
+
+    /// Tells of a message that was read.
+    fn tell(&mut self, message: &NetlinkMessage<RouteNetlinkMessage>) -> Result<(), Stop> {
+        self.counts.add(&message.payload);
+        let is_json = match self.options.form {
+            Form::Count => return Ok(()),
+            Form::Json => true,
+            Form::Lines => false,
+        };
+        let manner = Manner {
+            alloc: self.alloc,
+            numeric: self.options.numeric,
+        };
+        append_message(manner, is_json, message, &mut self.text)?;
+        if self.text.len() < LONG_TEXT {
+            return Ok(());
+        }
+        self.flush()
+    }
+
+    /// Says that a message is refused.
+    pub fn refuse(&mut self, place: Place, refusal: Refusal) {
+        self.counts.refused = self.counts.refused.saturating_add(1);
+        let input = self.input.as_str();
+        let what = place.what;
+        let number = place.number;
+        let offset = place.offset;
+        let length = place.length;
+        // Nobody could be told that this failed.
+        let _ = writeln!(
+            self.errors,
+            "{input}: {what} {number} at byte {offset}, {length} bytes: {refusal}"
+        );
+    }
+
+    /// Keeps bytes of the input that are refused. Of hexadecimal text the line is kept in their place.
+    pub fn keep(&mut self, bytes: &[u8]) -> Result<(), Stop> {
+        if self.options.is_hex {
+            return Ok(());
+        }
+        self.keep_as_it_stands(bytes)
+    }
+
+    /// Keeps these bytes.
+    pub fn keep_as_it_stands(&mut self, bytes: &[u8]) -> Result<(), Stop> {
+        match &mut self.keep {
+            None => Ok(()),
+            Some(file) => file.write_all(bytes).map_err(|_| Stop::Write),
+        }
+    }
+
+    /// Writes what is told so far.
+    pub fn flush(&mut self) -> Result<(), Stop> {
+        let written = self.output.write_all(self.text.as_bytes());
+        self.text.clear();
+        match written.and_then(|()| self.output.flush()) {
+            Ok(()) => Ok(()),
+            Err(fault) => Err(Stop::of_write(&fault)),
+        }
+    }
+
+    /// Takes notice that so many bytes more were read of which this many stand before the window.
+    pub fn progress(&mut self, more: u64, passed: u64) {
+        let before = self.counts.bytes / STEP;
+        self.counts.bytes = self.counts.bytes.saturating_add(more);
+        if self.is_watched && self.counts.bytes / STEP != before {
+            let _ = write!(self.errors, "\r{}: {passed} bytes", self.input);
+        }
+    }
+
+    /// Writes the rest.
+    pub fn finish(&mut self) -> Result<(), Stop> {
+        if self.is_watched && self.counts.bytes >= STEP {
+            let _ = writeln!(self.errors, "");
+        }
+        if self.options.form == Form::Count {
+            self.counts.write(&mut self.text)?;
+        }
+        self.flush()
+    }
+}
+
+/// The message that these bytes are, an envelope and what stands in it.
+fn read_message(
+    alloc: Global,
+    bytes: &[u8],
+) -> Result<NetlinkMessage<RouteNetlinkMessage>, Refusal> {
+    let Ok(envelope) = NetlinkBuffer::new_checked(bytes) else {
+        let left = bytes.len() as u64;
+        return Err(Refusal::MessageTooShort { left });
+    };
+    NetlinkMessage::parse(alloc, &envelope).map_err(Refusal::Payload)
+}
+
+/// The message of this kind that these bytes are, as if it stood in an envelope that tells of it.
+fn read_lone(
+    alloc: Global,
+    kind: MessageKind,
+    bytes: &[u8],
+) -> Result<NetlinkMessage<RouteNetlinkMessage>, DecodeError> {
+    let message = match kind {
+        MessageKind::Address => {
+            RouteNetlinkMessage::NewAddress(AddressMessage::parse(alloc, bytes)?)
+        }
+        MessageKind::Route => RouteNetlinkMessage::NewRoute(RouteMessage::parse(alloc, bytes)?),
+        MessageKind::Rule => RouteNetlinkMessage::NewRule(RuleMessage::parse(alloc, bytes)?),
+    };
+    Ok(NetlinkMessage {
+        header: NetlinkHeader::default(),
+        payload: NetlinkPayload::InnerMessage(message),
+    })
+}
+
+/// Appends the line, or the object, of a message.
+fn append_message(
+    manner: Manner,
+    is_json: bool,
+    message: &NetlinkMessage<RouteNetlinkMessage>,
+    text: &mut String,
+) -> Result<(), AllocError> {
+    let alloc = manner.alloc;
+    let fields = message_fields(manner, &message.header, &message.payload)?;
+    let mut line = String::new(alloc);
+    let members = members_of(alloc, fields, &mut line)?;
+    if is_json {
+        text.push_str(Value::from(members).to_string(alloc)?.as_str())?;
+    } else {
+        text.push_str(line.as_str())?;
+    }
+    text.push('\n')
+}

@@ -1,0 +1,67 @@
+//! Why a run ends before its input does.
+
+ghost use Rattle.std.specs.Prelude.{◌≡◌};
+ghost use Rattle.nlshow.specs.Stop.{status_of};
+
+use std::alloc::{AllocError, AllocFailed};
+use std::io;
+use std::io::ErrorKind;
+
+/// Why a run ends before its input does.
+#[derive(Clone, Copy, Debug, PartialEq, Eq)]
+pub enum Stop {
+    /// Memory was refused.
+    Memory,
+    /// A file could not be opened, or made.
+    Open,
+    /// Input could not be read.
+    Read,
+    /// Output could not be written.
+    Write,
+    /// Nobody reads the output any more.
+    Closed,
+}
+
+impl Stop {
+    /// The status that the process ends with, where no message was refused before.
+    pub fn status(&self) -> u8
+        ensures { result ≡ status_of self.now }
+    {
+        match self {
+            Stop::Closed => 0,
+            Stop::Memory => 4,
+            Stop::Open | Stop::Read | Stop::Write => 5,
+        }
+    }
+
+    /// The line for standard error, without its end; nothing where nobody is to be told.
+    pub fn line(&self) -> Option<&'static str> {
+        match self {
+            Stop::Memory => Some("out of memory"),
+            Stop::Open => Some("cannot be opened"),
+            Stop::Read => Some("read failed"),
+            Stop::Write => Some("write failed"),
+            Stop::Closed => None,
+        }
+    }
+
+    /// Why a write failed.
+    pub fn of_write(fault: &io::Error) -> Stop {
+        match fault.kind() {
+            ErrorKind::BrokenPipe => Stop::Closed,
+            _ => Stop::Write,
+        }
+    }
+}
+
+impl From<AllocError> for Stop {
+    fn from(_fault: AllocError) -> Stop {
+        Stop::Memory
+    }
+}
+
+impl<T: Drop> From<AllocFailed<T>> for Stop {
+    fn from(_fault: AllocFailed<T>) -> Stop {
+        Stop::Memory
+    }
+}

@@ -1,0 +1,74 @@
+//! A reader through a window of fixed length, so that memory does not grow with the input.
+
+ghost use Rattle.std.specs.Prelude.{◌≡◌, ◌≤◌, vec_len};
+
+use crate::stop::Stop;
+use std::alloc::{AllocError, Global};
+use std::io::Read;
+
+/// What a reader gave and nobody has passed yet.
+#[derive(Drop)]
+pub struct Window<R> {
+    reader: R,
+    room: Vec<u8>,
+    start: usize,
+    end: usize,
+    passed: u64,
+    ghost ordered: { start ≤ end },
+    ghost inside: { end ≤ vec_len room },
+}
+
+impl<R: Read + Drop> Window<R> {
+    /// A window of this length before the reader.
+    pub fn new(alloc: Global, reader: R, length: usize) -> Result<Window<R>, AllocError> {
+        let room = vec![in alloc; 0u8; length]?;
+        Ok(Window {
+            reader,
+            room,
+            start: 0,
+            end: 0,
+            passed: 0,
+        })
+    }
+
+    /// The bytes in the window.
+    pub fn held(&self) -> &[u8] {
+        &self.room.as_slice()[self.start..self.end]
+    }
+
+    /// How many bytes of the input stand before the window.
+    pub fn passed(&self) -> u64
+        ensures { result ≡ self.now.passed }
+    {
+        self.passed
+    }
+
+    /// Whether the window has no room for more.
+    pub fn is_full(&self) -> bool {
+        self.end - self.start == self.room.len()
+    }
+
+    /// Passes so many of the bytes in the window, or all.
+    pub fn pass(&mut self, count: usize) {
+        let count = count.min(self.end - self.start);
+        self.start += count;
+        self.passed = self.passed.saturating_add(count as u64);
+    }
+
+    /// Reads once into the room that is left, and answers whether anything came. No failed read is
+    /// tried again.
+    pub fn fill(&mut self) -> Result<bool, Stop> {
+        self.room
+            .as_mut_slice()
+            .copy_within(self.start..self.end, 0);
+        self.end -= self.start;
+        self.start = 0;
+        match self.reader.read(&mut self.room.as_mut_slice()[self.end..]) {
+            Ok(count) => {
+                self.end += count;
+                Ok(count != 0)
+            }
+            Err(_) => Err(Stop::Read),
+        }
+    }
+}
