@@ -77,7 +77,7 @@ pub fn address_fields(manner: Manner, message: &AddressMessage) -> Result<Vec<Fi
     let bits = flags_of(attributes).unwrap_or(u32::from(message.header.flags.bits()));
     push_flags(manner.alloc, message.header.family, bits, &mut fields)?;
     for attribute in attributes {
-        push_attribute(manner, local, attribute, &mut fields)?;
+        push_attribute(manner, local.as_ref(), attribute, &mut fields)?;
     }
     Ok(fields)
 }
@@ -138,13 +138,13 @@ fn push_flags(
 
 fn push_attribute(
     manner: Manner,
-    local: Option<IpAddr>,
+    local: Option<&IpAddr>,
     attribute: &AddressAttribute,
     fields: &mut Vec<Field>,
 ) -> Result<(), AllocError> {
     let alloc = manner.alloc;
     let field = match attribute {
-        AddressAttribute::Address(ip) => address_field(alloc, local, *ip)?,
+        AddressAttribute::Address(ip) => address_field(alloc, local, ip)?,
         AddressAttribute::Local(ip) => LOCAL.text(alloc, ip)?,
         AddressAttribute::Label(name) => LABEL.text(alloc, name)?,
         AddressAttribute::Broadcast(ip) => BROADCAST.text(alloc, ip)?,
@@ -166,11 +166,11 @@ fn push_attribute(
 }
 
 /// The address of an interface without a local one, its peer, or the local one once more.
-fn address_field(alloc: Global, local: Option<IpAddr>, ip: IpAddr) -> Result<Field, AllocError> {
+fn address_field(alloc: Global, local: Option<&IpAddr>, ip: &IpAddr) -> Result<Field, AllocError> {
     match local {
-        None => LOCAL.text(alloc, &ip),
-        Some(other) if other == ip => Ok(PEER.text(alloc, &ip)?.hidden()),
-        Some(_) => PEER.text(alloc, &ip),
+        None => LOCAL.text(alloc, ip),
+        Some(other) if *other == *ip => Ok(PEER.text(alloc, ip)?.hidden()),
+        Some(_) => PEER.text(alloc, ip),
     }
 }
 

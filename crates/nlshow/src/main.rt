@@ -21,6 +21,8 @@ mod route_fields;
 mod rule_fields;
 mod session;
 mod stop;
+#[cfg(test)]
+mod tests;
 mod tunnel_fields;
 mod window;
 

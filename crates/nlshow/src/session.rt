@@ -75,6 +75,25 @@ impl<O: Write, E: Write, K: Write> Session<O, E, K> {
         }
     }
 
+    /// What was written, told and kept.
+    #[cfg(test)]
+    pub fn into_parts(self) -> (O, E, Option<K>) {
+        let Session {
+            options: _,
+            counts: _,
+            alloc: _,
+            output,
+            errors,
+            keep,
+            is_watched: _,
+            text,
+            input,
+        } = self;
+        drop(text);
+        drop(input);
+        (output, errors, keep)
+    }
+
     /// Goes on with the input of this name.
     pub fn open(&mut self, name: &str) -> Result<(), AllocError> {
         self.input.clear();
