@@ -1,9 +1,9 @@
 -- A conversation answers what its definition says.
-use Rattle.std.specs.Prelude.{Option, Some, map, ◌⊎◌, if◌then◌else◌}
-use Rattle.std.proofs.Common.{◌≡◌, ℕ, Bool, true, false, List, [], ◌∷◌, ◌++◌, length, Result, Ok, Err, refl, sym, ap, subst, ◌∙◌, arith, inl, inr, true≢false}
-use Rattle.netlink_packet_core.specs.Envelope.{Envelope, Place, EnvelopeStep}
-use Rattle.netlink_packet_core.specs.Walk.{start, EnvelopeSteps, EnvelopeWalk}
-use Rattle.netlink_packet_core.specs.Conversation.{Talk, Event, event_of, said, after, answers, kept, Hears, Talks, TalksOver, Stand}
+use Rattle.std.specs.Prelude.{map, ◌⊎◌}
+use Rattle.std.proofs.Common.{◌≡◌, ℕ, Bool, true, false, List, [], ◌∷◌, ◌++◌, Result, refl, sym, ap, subst, ◌∙◌, inl, inr}
+use Rattle.netlink_packet_core.specs.Envelope.{Envelope, Place}
+use Rattle.netlink_packet_core.specs.Walk.{start, EnvelopeSteps}
+use Rattle.netlink_packet_core.specs.Conversation.{Talk, Event, event_of, said, after, answers, kept, Talks, TalksOver, Stand}
 use Rattle.netlink_packet_core.specs.declared.refusal.EnvelopeError.{EnvelopeError}
 use Rattle.netlink_packet_core.specs.declared.conversation.Answer.{Answer}
 use Rattle.netlink_packet_core.proofs.Walks.{no_step_past_the_end, Step-same}

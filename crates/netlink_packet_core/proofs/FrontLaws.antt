@@ -5,7 +5,7 @@ use Rattle.std.proofs.lemmas.Bool.{cases_lt}
 use Rattle.std.specs.Int.{w32, from_le_bytes}
 use Rattle.npr_base.specs.Framing.{pad}
 use Rattle.netlink_packet_core.specs.Header.{header}
-use Rattle.netlink_packet_core.specs.Envelope.{Envelope, EnvelopeFront, EnvelopePasses, IsDatagram, EnvelopeFault, EnvelopeStops}
+use Rattle.netlink_packet_core.specs.Envelope.{Envelope, EnvelopeFront, EnvelopePasses, IsDatagram, EnvelopeFault}
 use Rattle.netlink_packet_core.specs.declared.header.NetlinkHeader.{NetlinkHeader}
 use Rattle.netlink_packet_core.specs.declared.refusal.EnvelopeError.{EnvelopeError}
 use Rattle.netlink_packet_core.specs.declared.refusal.EnvelopeError.TheVariants.{MessageTooShort, MessageLength}

@@ -1,5 +1,5 @@
 -- What stands in front of bytes, and what is left behind it.
-use Rattle.std.proofs.Common.{◌≡◌, ℕ, min, ◌+◌, ◌-◌, ◌<◌, ◌≤◌, List, ◌++◌, length, take, drop, Some, Ok, refl, sym, ap, subst, ◌∙◌, append_assoc, arith, length-append, length-drop}
+use Rattle.std.proofs.Common.{◌≡◌, ℕ, min, ◌+◌, ◌-◌, ◌≤◌, List, ◌++◌, length, take, drop, Some, Ok, sym, ap, subst, ◌∙◌, append_assoc, arith, length-append, length-drop}
 use Rattle.std.proofs.lemmas.List.{take-append-drop, length-take, drop_at, drop_min, drop-drop}
 use Rattle.npr_base.specs.Framing.{pad}
 use Rattle.netlink_packet_core.specs.Header.{header}

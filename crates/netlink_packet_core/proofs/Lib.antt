@@ -1,8 +1,10 @@
 pub mod Fronts
 pub mod FrontLaws
 pub mod Walks
+pub mod WholeWalks
 pub mod Payloads
 pub mod Messages
 pub mod Writing
 pub mod Conversations
 pub mod Names
+pub mod EqualityLaws

@@ -1,18 +1,13 @@
 -- The laws of messages.
 use Rattle.std.proofs.Common.{◌≡◌, ℕ, ◌+◌, ◌%◌, ◌<◌, ◌^◌, List, [], ◌++◌, length, None, replicate, refl, sym, ap, subst, ◌∙◌, arith, append_assoc, length-append}
-use Rattle.std.specs.Prelude.{Option, Some, nat_lt, ◌≢◌, IfOk, IfErr}
-use Rattle.std.proofs.Common.{Result, Ok, Err}
 use Rattle.std.proofs.lemmas.List.{append-nil, length-replicate}
-use Rattle.npr_base.specs.Family.{option_or}
 use Rattle.npr_base.specs.Framing.{IsBytes, pad}
 use Rattle.npr_base.specs.ListLaws.{none_both}
 use Rattle.npr_base.specs.declared.refusal.DecodeError.{DecodeError}
-use Rattle.npr_base.specs.declared.refusal.DecodeError.TheVariants.{OutOfMemory}
-use Rattle.npr_base.specs.declared.refusal.EmitError.{EmitError}
 use Rattle.netlink_packet_core.specs.Header.{header}
 use Rattle.netlink_packet_core.specs.Envelope.{Envelope, EnvelopeFront}
 use Rattle.netlink_packet_core.specs.Protocol.{Protocol}
-use Rattle.netlink_packet_core.specs.Payload.{Payload, PayloadReads, payload_type, payload_bytes, payload_misfit}
+use Rattle.netlink_packet_core.specs.Payload.{payload_type, payload_bytes, payload_misfit}
 use Rattle.netlink_packet_core.specs.Message.{Meant, IsNetlinkMessage, NetlinkFault, IsCoherentMessage, finalized, final_header, envelope_of, netlink_misfit, message_bytes, oversized}
 use Rattle.netlink_packet_core.specs.declared.header.NetlinkHeader.{NetlinkHeader}
 use Rattle.netlink_packet_core.proofs.FrontLaws.{Front-same}

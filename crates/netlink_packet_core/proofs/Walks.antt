@@ -4,7 +4,7 @@ use Rattle.std.proofs.Common.{◌≡◌, ℕ, ◌+◌, ◌-◌, ◌*◌, ◌<◌
 use Rattle.netlink_packet_core.specs.Envelope.{Envelope, EnvelopeFront, EnvelopePasses, EnvelopeFault, EnvelopeStops, IsDatagram, Place, EnvelopeStep}
 use Rattle.netlink_packet_core.specs.Walk.{start, found, EnvelopeSteps, EnvelopeWalk, EnvelopeFinds}
 use Rattle.netlink_packet_core.specs.declared.refusal.EnvelopeError.{EnvelopeError}
-use Rattle.netlink_packet_core.proofs.FrontLaws.{Front-shrinks, Front-same, Front-sound, Fault-same, Passes-length, length_at-is}
+use Rattle.netlink_packet_core.proofs.FrontLaws.{Front-shrinks, Front-same, Front-sound, Fault-same, Passes-length}
 
 -- how far a place is in a datagram of n bytes
 abbrev At : ℕ → Place → Type 0

@@ -9,6 +9,8 @@ use Rattle.npr_base.specs.declared.refusal.DecodeError.{DecodeError}
 use Rattle.npr_base.specs.declared.refusal.DecodeError.TheVariants.{HeaderTooShort}
 use Rattle.npr_base.specs.declared.refusal.EmitError.{EmitError}
 use Rattle.netlink_packet_core.specs.Protocol.{Protocol}
+use Rattle.netlink_packet_core.specs.declared.payload.DoneMessage.{DoneMessage}
+use Rattle.netlink_packet_core.specs.declared.payload.ErrorMessage.{ErrorMessage}
 use Rattle.netlink_packet_core.specs.declared.payload.NetlinkPayload.{NetlinkPayload}
 use Rattle.netlink_packet_core.specs.declared.payload.NetlinkPayload.TheVariants.{Done, Error, Noop, Overrun, InnerMessage}
 
@@ -24,6 +26,13 @@ pub data Payload (M : Type 0) : Type 0 where
 abbrev pub code_of : Option NonZeroI32 → ℤ
 code_of (Some n) = n.value
 code_of None = pos 0
+
+-- an error and an end by themselves
+abbrev pub error_of : ErrorMessage → ℤ × List ℕ
+error_of m = (code_of m.code, m.header.items)
+
+abbrev pub done_of : DoneMessage → ℤ × List ℕ
+done_of m = (m.code, m.extended_ack.items)
 
 abbrev pub payload_of : {I M : Type 0} → (I → M) → NetlinkPayload I → Payload M
 payload_of meaning (Done m) = done m.code m.extended_ack.items

@@ -1,5 +1,5 @@
 -- Walks over the messages of a datagram, step by step.
-use Rattle.std.specs.Prelude.{◌≡◌, ℕ, ◌-◌, List, [], ◌∷◌, ◌++◌, length, map, Some, Result, Ok, Err, ◌⊎◌, Bool, ◌==◌, ◌&&◌, nat_eq}
+use Rattle.std.specs.Prelude.{◌≡◌, ℕ, List, [], ◌∷◌, ◌++◌, map, Some, Result, Ok, Err, ◌⊎◌, Bool, ◌==◌, ◌&&◌, nat_eq}
 use Rattle.std.specs.Cmp.Lexicographic.{pointwise}
 use Rattle.netlink_packet_core.specs.Envelope.{Envelope, EnvelopePasses, EnvelopeStops, Place, EnvelopeStep}
 use Rattle.netlink_packet_core.specs.declared.header.NetlinkHeader.{NetlinkHeader}
@@ -17,6 +17,10 @@ EnvelopeSteps old (s ∷ steps) new = (more : Place) × EnvelopeStep old (Some s
 -- steps from the first byte of a datagram to the last
 abbrev pub EnvelopeWalk : List ℕ → List (Result Envelope EnvelopeError) → Type 0
 EnvelopeWalk datagram steps = (last : Place) × EnvelopeSteps (start datagram) steps last × (last.bytes ≡ [])
+
+-- one value is so, and no other
+abbrev pub HasOne : {A : Type 0} → (A → Type 0) → Type 0
+HasOne {A} P = (x : A) × P x × ((y : A) → P y → y ≡ x)
 
 -- what a walk answers where it finds these messages
 abbrev pub found : List Envelope → List (Result Envelope EnvelopeError)

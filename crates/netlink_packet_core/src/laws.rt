@@ -1,19 +1,21 @@
 //! The laws of this crate, over its definitions alone. Each function does nothing, and its contract
 //! is the law.
 
-ghost use Rattle.std.specs.Prelude.{◌≡◌, ◌≤◌, ◌%◌, ◌*◌, ◌+◌, ◌++◌, ◌∷◌, ◌↔◌, ℕ, List, [], Result, Err, None, length, map, true};
+ghost use Rattle.std.specs.Prelude.{◌≡◌, ◌≤◌, ◌%◌, ◌*◌, ◌+◌, ◌++◌, ◌∷◌, ◌↔◌, ◌⊎◌, ℕ, List, [], Result, Err, None, length, map, true};
 ghost use Rattle.npr_base.specs.{
   declared.refusal.DecodeError.{DecodeError},
-  Equality.{IsEquality},
+  Equality.{IsEquality, IsEqualityOf},
 };
 ghost use Rattle.netlink_packet_core.specs.{
   Conversation.{Talk, TalksOver, Stand, event_of, said, after, answers, kept, is_end},
   declared.conversation.Answer.{Answer},
   declared.refusal.EnvelopeError.{EnvelopeError},
   Envelope.{Envelope, IsDatagram, EnvelopeStops, Place},
+  Extended.{meaning_of as attribute_of},
   Header.{default_header},
-  Message.{Meant, IsNetlinkMessage, NetlinkFault, IsCoherentMessage, netlink_misfit, message_bytes, envelope_of, finalized},
-  Walk.{start, found, EnvelopeSteps, EnvelopeWalk, EnvelopeFinds},
+  Payload.{payload_of, error_of, done_of},
+  Message.{Meant, message_of, IsNetlinkMessage, NetlinkFault, IsCoherentMessage, netlink_misfit, message_bytes, envelope_of, finalized},
+  Walk.{HasOne, start, found, EnvelopeSteps, EnvelopeWalk, EnvelopeFinds},
 };
 
 use crate::buffer::NetlinkBuffer;
@@ -23,14 +25,18 @@ use crate::constants::{
     NLM_F_EXCL, NLM_F_MATCH, NLM_F_MULTIPART, NLM_F_NONREC, NLM_F_REPLACE, NLM_F_REQUEST,
     NLM_F_ROOT, NLMSG_ALIGNTO, NLMSG_DONE, NLMSG_ERROR, NLMSG_NOOP, NLMSG_OVERRUN,
 };
+use crate::extended::ErrorAttribute;
 use crate::header::NetlinkHeader;
+use crate::message::NetlinkMessage;
+use crate::payload::{DoneMessage, ErrorMessage, NetlinkPayload};
 use crate::refusal::EnvelopeError;
 use crate::traits::NetlinkInner;
 
-/// Bytes are one list of messages at most, and none where they stop at a fault; and they stop at
-/// one fault at most. Two datagrams, the first of a multiple of four bytes, are the messages of the
+/// Bytes are a list of messages, or stop at a fault. They are one list at most, and none where they
+/// stop; and they stop at one fault at most. Two datagrams, the first of a multiple of four bytes, are the messages of the
 /// first and then those of the second.
 pub fn law_datagram()
+    ensures each { (bytes : List ℕ) → (xs : List Envelope) × (IsDatagram bytes xs ⊎ ((e : EnvelopeError) × EnvelopeStops bytes xs e)) }
     ensures one { (bytes : List ℕ) (xs ys : List Envelope) → IsDatagram bytes xs → IsDatagram bytes ys → xs ≡ ys }
     ensures none { (bytes : List ℕ) (xs ys : List Envelope) (e : EnvelopeError) → IsDatagram bytes xs → EnvelopeStops bytes ys e → ⊥ }
     ensures first { (bytes : List ℕ) (xs ys : List Envelope) (e f : EnvelopeError) → EnvelopeStops bytes xs e → EnvelopeStops bytes ys f → (xs ≡ ys) × (e ≡ f) }
@@ -38,11 +44,13 @@ pub fn law_datagram()
 {}
 
 /// The steps of a walk: those that find messages from the first byte to the last are the messages
-/// of the datagram, and those that find a fault are its stop. Any steps find messages, each of which
-/// takes 16 bytes at least, and one fault after them at most.
+/// of the datagram, and those that find a fault are its stop. Each datagram has one walk to its last
+/// byte. Any steps find messages, each of which takes 16 bytes at least, and one fault after them at
+/// most.
 pub fn law_walk()
     ensures datagram { (bytes : List ℕ) (xs : List Envelope) → EnvelopeWalk bytes (found xs) ↔ IsDatagram bytes xs }
     ensures stop { (bytes : List ℕ) (xs : List Envelope) (e : EnvelopeError) → EnvelopeWalk bytes (found xs ++ Err e ∷ []) ↔ EnvelopeStops bytes xs e }
+    ensures one { (bytes : List ℕ) → HasOne (λ steps. EnvelopeWalk bytes steps) }
     ensures any { (bytes : List ℕ) (steps : List (Result Envelope EnvelopeError)) (last : Place) → EnvelopeSteps (start bytes) steps last
         → (xs : List Envelope) × EnvelopeFinds bytes steps last.bytes xs × (16 * length xs ≤ length bytes) }
 {}
@@ -64,9 +72,11 @@ pub fn law_written<I: NetlinkInner>()
         → message_bytes I.protocol m ≡ message_bytes I.protocol n → finalized I.protocol m ≡ finalized I.protocol n }
 {}
 
-/// A conversation over datagrams, each of them walked until nothing more is answered, answers what
-/// the definition says of what stands in them, and keeps that; after the end nothing is answered.
+/// In datagrams there stands one list of messages and faults. A conversation over datagrams, each of
+/// them walked until nothing more is answered, answers what the definition says of that list, and
+/// keeps that; after the end nothing is answered.
 pub fn law_conversation()
+    ensures stand { (datagrams : List (List ℕ)) → HasOne (λ steps. Stand datagrams steps) }
     ensures answers { (t : Talk) (datagrams : List (List ℕ)) (steps : List (Result Envelope EnvelopeError)) (given : List Answer) (u : Talk)
         → Stand datagrams steps → TalksOver t datagrams given u → (map event_of given ≡ answers t steps) × (u ≡ kept t steps) }
     ensures end { (t : Talk) (s : Result Envelope EnvelopeError) (steps : List (Result Envelope EnvelopeError)) → is_end (said t s) ≡ true → answers (after t s) steps ≡ [] }
@@ -109,9 +119,18 @@ pub fn law_default()
     ensures { (x : NetlinkHeader) → ⟦<NetlinkHeader as Default>⟧.is_default x → x ≡ default_header }
 {}
 
-/// `==` answers whether two values are equal.
+/// `==` answers whether two values are equal, or mean the same where they hold a vector.
 pub fn law_equality()
     ensures header { IsEquality ⟦<NetlinkHeader as PartialEq>⟧.eq }
     ensures buffer { IsEquality ⟦<NetlinkBuffer<'static> as PartialEq>⟧.eq }
     ensures refusal { IsEquality ⟦<EnvelopeError as PartialEq>⟧.eq }
+    ensures attribute { IsEqualityOf attribute_of ⟦<ErrorAttribute as PartialEq>⟧.eq }
+    ensures error { IsEqualityOf error_of ⟦<ErrorMessage as PartialEq>⟧.eq }
+    ensures done { IsEqualityOf done_of ⟦<DoneMessage as PartialEq>⟧.eq }
+{}
+
+/// `==` answers whether two messages mean the same, where it does so of those of the protocol.
+pub fn law_message_equality<I: NetlinkInner + PartialEq>()
+    ensures payload { IsEqualityOf I.meaning I.eq → IsEqualityOf (payload_of I.meaning) ⟦<NetlinkPayload<I> as PartialEq>⟧.eq }
+    ensures message { IsEqualityOf I.meaning I.eq → IsEqualityOf (message_of I.meaning) ⟦<NetlinkMessage<I> as PartialEq>⟧.eq }
 {}

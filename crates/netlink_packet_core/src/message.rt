@@ -15,10 +15,10 @@ use crate::header::NetlinkHeader;
 use crate::payload::NetlinkPayload;
 use crate::traits::NetlinkInner;
 use npr_base::{DecodeError, EmitError, Emitable, Parseable, write_array};
-use std::alloc::Global;
+use std::alloc::{AllocError, Global};
 
 /// A message: the header of its envelope, and what stands behind it.
-#[derive(Debug, Drop)]
+#[derive(Debug, Drop, PartialEq, Eq)]
 pub struct NetlinkMessage<I> {
     /// The header. What is written has the length and the type of the payload, whatever stands here.
     pub header: NetlinkHeader,
@@ -38,6 +38,19 @@ impl<I: NetlinkInner> NetlinkMessage<I> {
             message_type: self.payload.message_type(),
             ..self.header
         }
+    }
+
+    /// An equal message.
+    ///
+    /// # Errors
+    /// `AllocError` where memory is refused.
+    pub fn clone(&self, alloc: Global) -> Result<Self, AllocError>
+        ensures { IfOk result (λ m. message_of I.meaning m ≡ message_of I.meaning self.now) }
+    {
+        Ok(NetlinkMessage {
+            header: self.header,
+            payload: self.payload.clone(alloc)?,
+        })
     }
 
     /// Sets the length and the type of the header to those of the payload, which are written in any

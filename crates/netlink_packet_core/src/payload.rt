@@ -5,19 +5,19 @@ ghost use Rattle.npr_base.specs.{
   declared.refusal.DecodeError.TheVariants.{OutOfMemory},
   Framing.{Writes},
 };
-ghost use Rattle.netlink_packet_core.specs.Payload.{Payload, payload_of, IsCoherentPayload, payload_type, payload_bytes, payload_misfit, PayloadReads, PayloadFault, IsCoded, IsUncoded, code_of, coded};
+ghost use Rattle.netlink_packet_core.specs.Payload.{Payload, payload_of, error_of, done_of, IsCoherentPayload, payload_type, payload_bytes, payload_misfit, PayloadReads, PayloadFault, IsCoded, IsUncoded, code_of, coded};
 
 use crate::constants::{NLMSG_DONE, NLMSG_ERROR, NLMSG_NOOP, NLMSG_OVERRUN};
 use crate::header::NetlinkHeader;
 use crate::traits::NetlinkInner;
 use npr_base::{DecodeError, EmitError, Emitable, write_array, write_bytes};
-use std::alloc::Global;
+use std::alloc::{AllocError, Global};
 use std::num::NonZeroI32;
 
 /// An error, or an acknowledgement: `struct nlmsgerr` of `linux/netlink.h`.
 ///
 /// Layout: the code in 4 bytes, signed, little endian, and the bytes behind it.
-#[derive(Debug, Drop)]
+#[derive(Debug, Drop, PartialEq, Eq)]
 pub struct ErrorMessage {
     /// The number of the error, below 0; `None` is 0, an acknowledgement.
     pub code: Option<NonZeroI32>,
@@ -28,7 +28,7 @@ pub struct ErrorMessage {
 /// The end of a dump.
 ///
 /// Layout: the code in 4 bytes, signed, little endian, and the bytes behind it.
-#[derive(Debug, Drop)]
+#[derive(Debug, Drop, PartialEq, Eq)]
 pub struct DoneMessage {
     /// The number of the error, below 0, or what the kernel's function answered.
     pub code: i32,
@@ -37,7 +37,7 @@ pub struct DoneMessage {
 }
 
 /// What stands behind the header of an envelope.
-#[derive(Debug, Drop)]
+#[derive(Debug, Drop, PartialEq, Eq)]
 pub enum NetlinkPayload<I> {
     /// `NLMSG_DONE`: the end of a dump.
     Done(DoneMessage),
@@ -84,6 +84,19 @@ impl ErrorMessage {
         })
     }
 
+    /// An equal message.
+    ///
+    /// # Errors
+    /// `AllocError` where memory is refused.
+    pub fn clone(&self, alloc: Global) -> Result<Self, AllocError>
+        ensures { IfOk result (λ m. error_of m ≡ error_of self.now) }
+    {
+        Ok(ErrorMessage {
+            code: self.code,
+            header: Vec::from_slice(alloc, self.header.as_slice())?,
+        })
+    }
+
     /// The number of the error, below 0; 0 is an acknowledgement.
     pub fn raw_code(&self) -> i32
         ensures { result ≡ code_of self.now.code }
@@ -126,6 +139,19 @@ impl DoneMessage {
         Ok(DoneMessage {
             code,
             extended_ack: Vec::from_slice(alloc, rest)?,
+        })
+    }
+
+    /// An equal message.
+    ///
+    /// # Errors
+    /// `AllocError` where memory is refused.
+    pub fn clone(&self, alloc: Global) -> Result<Self, AllocError>
+        ensures { IfOk result (λ m. done_of m ≡ done_of self.now) }
+    {
+        Ok(DoneMessage {
+            code: self.code,
+            extended_ack: Vec::from_slice(alloc, self.extended_ack.as_slice())?,
         })
     }
 }
@@ -192,6 +218,24 @@ impl<I: NetlinkInner> NetlinkPayload<I> {
         ensures none { IfErr result (λ e. e ≢ OutOfMemory → (q : Payload I.Meaning) → PayloadReads I.protocol header.message_type bytes.now q → ⊥) }
     {
         read_payload(alloc, header, bytes)
+    }
+
+    /// An equal payload.
+    ///
+    /// # Errors
+    /// `AllocError` where memory is refused.
+    pub fn clone(&self, alloc: Global) -> Result<Self, AllocError>
+        ensures { IfOk result (λ p. payload_of I.meaning p ≡ payload_of I.meaning self.now) }
+    {
+        Ok(match self {
+            NetlinkPayload::Done(m) => NetlinkPayload::Done(m.clone(alloc)?),
+            NetlinkPayload::Error(m) => NetlinkPayload::Error(m.clone(alloc)?),
+            NetlinkPayload::Noop => NetlinkPayload::Noop,
+            NetlinkPayload::Overrun(bytes) => {
+                NetlinkPayload::Overrun(Vec::from_slice(alloc, bytes.as_slice())?)
+            }
+            NetlinkPayload::InnerMessage(m) => NetlinkPayload::InnerMessage(m.try_clone(alloc)?),
+        })
     }
 
     /// The type that stands in the header.

@@ -6,7 +6,7 @@ ghost use Rattle.netlink_packet_core.specs.Protocol.{Protocol};
 
 use crate::header::NetlinkHeader;
 use npr_base::{DecodeError, Emitable};
-use std::alloc::Global;
+use std::alloc::{AllocError, Global};
 
 /// A message of a protocol: it says its type and its bytes, and is read by its type.
 pub trait NetlinkInner: Emitable + Drop {
@@ -33,6 +33,13 @@ pub trait NetlinkInner: Emitable + Drop {
     ) -> Result<Self, DecodeError>
         ensures ok { IfOk result (λ m. protocol.Reads header.now.message_type payload.now (meaning m)) }
         ensures refused { IfErr result (λ e. e ≢ OutOfMemory → protocol.Faulty header.now.message_type payload.now e) };
+
+    /// An equal message.
+    ///
+    /// # Errors
+    /// `AllocError` where memory is refused.
+    fn try_clone(&self, alloc: Global) -> Result<Self, AllocError>
+        ensures { IfOk result (λ m. meaning m ≡ meaning self.now) };
 
     /// It is written as its protocol says.
     ghost by_protocol: { (m : Self) → (Self.bytes m ≡ protocol.writes (meaning m)) × (Self.unfit m ≡ protocol.misfit (meaning m)) };

@@ -1,2 +1,3 @@
 -- the laws of messages, for a message of one's own
 pub use Rattle.npr_base.proofs.Messages
+mod EqualityLaws

@@ -24,6 +24,7 @@ pub use Rattle.npr_base.specs.Looks
 pub use Rattle.npr_base.specs.LooksLaws
 pub mod MessageKind
 pub mod Messages
+pub mod Request
 pub mod RouteNetlinkMessage
 pub use Rattle.npr_base.specs.Name
 pub use Rattle.npr_base.specs.Refusal
@@ -34,6 +35,16 @@ pub use Rattle.npr_base.specs.Text
 pub use Rattle.npr_base.specs.V6List
 pub use Rattle.npr_base.specs.VariantCodec
 pub use Rattle.npr_base.specs.Walk
+-- the envelope
+pub use Rattle.netlink_packet_core.specs.Conversation
+pub use Rattle.netlink_packet_core.specs.Envelope
+pub use Rattle.netlink_packet_core.specs.Extended as ErrorAttribute
+pub use Rattle.netlink_packet_core.specs.Header as NetlinkHeader
+pub use Rattle.netlink_packet_core.specs.Message as NetlinkMessage
+pub use Rattle.netlink_packet_core.specs.Payload as NetlinkPayload
+pub use Rattle.netlink_packet_core.specs.Protocol
+pub use Rattle.netlink_packet_core.specs.Request as NetlinkRequest
+pub use Rattle.netlink_packet_core.specs.Walk as EnvelopeWalk
 -- values
 pub use Rattle.npr_scalar.specs.IpProtocol
 pub use Rattle.npr_scalar.specs.Mpls

@@ -1,5 +1,5 @@
 -- The messages of rtnetlink by their types (linux/rtnetlink.h, RTM_*): those of addresses, routes and rules, and any other.
-use Rattle.std.specs.Prelude.{◌≡◌, ℕ, ◌<◌, ◌^◌, ◌==◌, Bool, true, false, List, [], ◌∷◌, Option, Some, None, if◌then◌else◌}
+use Rattle.std.specs.Prelude.{◌≡◌, ℕ, ◌==◌, Bool, true, false, List, Option, None, if◌then◌else◌}
 use Rattle.std.proofs.Common.{refl, sym, ap, subst, ◌∙◌}
 use Rattle.std.proofs.lemmas.Bool.{eqb-true}
 use Rattle.npr_base.specs.declared.refusal.DecodeError.{DecodeError}
@@ -14,6 +14,7 @@ use Rattle.npr_route.specs.Message.{Route, body as route_body, message_of as rou
 use Rattle.npr_rule.specs.Header.{header as rule_header}
 use Rattle.npr_rule.specs.Message.{Rule, body as rule_body, message_of as rule_of, IsRuleMessage, RuleFault, IsCoherentRule, rule_bytes, rule_misfit}
 use Rattle.netlink_packet_core.specs.Protocol.{Protocol}
+use Rattle.netlink_packet_route.specs.declared.message.OtherMessage.{OtherMessage}
 use Rattle.netlink_packet_route.specs.declared.message.RouteNetlinkMessage.{RouteNetlinkMessage}
 use Rattle.netlink_packet_route.specs.declared.message.RouteNetlinkMessage.TheVariants.{NewAddress, DelAddress, GetAddress, NewRoute, DelRoute, GetRoute}
 use Rattle.netlink_packet_route.specs.declared.message.RouteNetlinkMessage.TheVariants.{NewRule, DelRule, GetRule, Other}
@@ -28,6 +29,10 @@ pub data Meaning : Type 0 where
   route : Action → Route → Meaning
   rule : Action → Rule → Meaning
   other : ℕ → List ℕ → Meaning
+
+-- another type, and its bytes
+abbrev pub other_of : OtherMessage → ℕ × List ℕ
+other_of m = (m.message_type, m.payload.items)
 
 abbrev pub meaning_of : RouteNetlinkMessage → Meaning
 meaning_of (NewAddress m) = address New (address_of m)

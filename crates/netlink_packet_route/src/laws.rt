@@ -2,16 +2,25 @@
 //! its contract is the law.
 
 ghost use Rattle.std.specs.{Prelude.{◌≡◌}, List.{Contains}};
-ghost use Rattle.npr_base.specs.{Equality.{IsEquality}, Walk.{CutsInTwo}};
+ghost use Rattle.npr_base.specs.{Equality.{IsEquality, IsEqualityOf}, Walk.{CutsInTwo}};
 ghost use Rattle.npr_address.specs.Attribute.{attributes as address_attributes};
 ghost use Rattle.npr_route.specs.{
   FlatAttribute.{Context},
   AttributeLaws.{attributes as route_attributes},
 };
 ghost use Rattle.npr_rule.specs.Attribute.{attributes as rule_attributes};
+ghost use Rattle.netlink_packet_core.specs.Message.{message_of};
 ghost use Rattle.netlink_packet_route.specs.MessageKind.{kind_name};
+ghost use Rattle.netlink_packet_route.specs.RouteNetlinkMessage.{meaning_of, other_of};
 
 use crate::kind::MessageKind;
+use crate::message::{OtherMessage, RouteNetlinkMessage};
+use netlink_packet_core::NetlinkMessage;
+pub use netlink_packet_core::laws::{
+    law_conversation, law_datagram, law_default as law_envelope_default,
+    law_equality as law_envelope_equality, law_flags as law_envelope_flags, law_message,
+    law_message_equality, law_message_types, law_walk as law_envelope_walk, law_written,
+};
 use npr_address::AddressAttribute;
 pub use npr_address::laws::{
     law_address_flags, law_default as law_address_default, law_equality as law_address_equality,
@@ -67,3 +76,15 @@ pub fn law_message_kinds()
     ensures names { (kind other : MessageKind) → kind_name kind ≡ kind_name other → kind ≡ other }
     ensures equality { IsEquality ⟦<MessageKind as PartialEq>⟧.eq }
 {}
+
+/// `==` answers whether two messages mean the same.
+pub fn law_rtnetlink_equality()
+    ensures other { IsEqualityOf other_of ⟦<OtherMessage as PartialEq>⟧.eq }
+    ensures inner { IsEqualityOf meaning_of ⟦<RouteNetlinkMessage as PartialEq>⟧.eq }
+    ensures message { IsEqualityOf (message_of meaning_of) ⟦<NetlinkMessage<RouteNetlinkMessage> as PartialEq>⟧.eq }
+{
+    law_address_equality();
+    law_route_equality();
+    law_rule_equality();
+    law_message_equality::<RouteNetlinkMessage>();
+}

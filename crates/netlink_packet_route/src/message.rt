@@ -2,7 +2,7 @@
 
 ghost use Rattle.std.specs.Prelude.{◌≡◌, ◌≢◌, IfOk, IfErr, refl};
 ghost use Rattle.npr_base.specs.declared.refusal.DecodeError.TheVariants.{OutOfMemory};
-ghost use Rattle.netlink_packet_route.specs.RouteNetlinkMessage.{Meaning, meaning_of, address, route, rule, rtnetlink, type_of, writes, misfit, address_type, route_type, rule_type, ReadsUnder, FaultUnder};
+ghost use Rattle.netlink_packet_route.specs.RouteNetlinkMessage.{Meaning, meaning_of, other_of, address, route, rule, rtnetlink, type_of, writes, misfit, address_type, route_type, rule_type, ReadsUnder, FaultUnder};
 ghost use Rattle.npr_address.specs.Message.{message_of as address_of};
 ghost use Rattle.npr_route.specs.Message.{message_of as route_of};
 ghost use Rattle.npr_rule.specs.Message.{message_of as rule_of};
@@ -12,7 +12,7 @@ use npr_address::AddressMessage;
 use npr_base::{DecodeError, EmitError, Emitable, Parseable, write_bytes};
 use npr_route::RouteMessage;
 use npr_rule::RuleMessage;
-use std::alloc::Global;
+use std::alloc::{AllocError, Global};
 
 /// A message of a type that the library does not read, as it stands.
 #[derive(Debug, Drop, PartialEq, Eq)]
@@ -24,7 +24,7 @@ pub struct OtherMessage {
 }
 
 /// A message of rtnetlink, by its type.
-#[derive(Debug, Drop)]
+#[derive(Debug, Drop, PartialEq, Eq)]
 pub enum RouteNetlinkMessage {
     /// `RTM_NEWADDR`, 20.
     NewAddress(AddressMessage),
@@ -92,33 +92,66 @@ impl MessageType {
     }
 }
 
-fn of_address(action: Action, message: AddressMessage) -> RouteNetlinkMessage
-    ensures { meaning_of result ≡ address action (address_of message) }
-{
-    match action {
-        Action::New => RouteNetlinkMessage::NewAddress(message),
-        Action::Del => RouteNetlinkMessage::DelAddress(message),
-        Action::Get => RouteNetlinkMessage::GetAddress(message),
+/// A message on an entry of the kernel's tables: an address, a route or a rule.
+pub trait Entry: Drop {
+    ghost use Rattle.netlink_packet_route.specs.declared.message.Action.{Action};
+
+    /// What the message of rtnetlink is that does this with it.
+    ghost meant: { Action → Self → Meaning };
+
+    /// The message of rtnetlink that does this with the entry.
+    fn under(self, action: Action) -> RouteNetlinkMessage
+        ensures { meaning_of result ≡ meant action self };
+}
+
+impl Entry for AddressMessage {
+    ghost meant = { λ a m. address a (address_of m) };
+
+    fn under(self, action: Action) -> RouteNetlinkMessage {
+        match action {
+            Action::New => RouteNetlinkMessage::NewAddress(self),
+            Action::Del => RouteNetlinkMessage::DelAddress(self),
+            Action::Get => RouteNetlinkMessage::GetAddress(self),
+        }
     }
 }
 
-fn of_route(action: Action, message: RouteMessage) -> RouteNetlinkMessage
-    ensures { meaning_of result ≡ route action (route_of message) }
-{
-    match action {
-        Action::New => RouteNetlinkMessage::NewRoute(message),
-        Action::Del => RouteNetlinkMessage::DelRoute(message),
-        Action::Get => RouteNetlinkMessage::GetRoute(message),
+impl Entry for RouteMessage {
+    ghost meant = { λ a m. route a (route_of m) };
+
+    fn under(self, action: Action) -> RouteNetlinkMessage {
+        match action {
+            Action::New => RouteNetlinkMessage::NewRoute(self),
+            Action::Del => RouteNetlinkMessage::DelRoute(self),
+            Action::Get => RouteNetlinkMessage::GetRoute(self),
+        }
     }
 }
 
-fn of_rule(action: Action, message: RuleMessage) -> RouteNetlinkMessage
-    ensures { meaning_of result ≡ rule action (rule_of message) }
-{
-    match action {
-        Action::New => RouteNetlinkMessage::NewRule(message),
-        Action::Del => RouteNetlinkMessage::DelRule(message),
-        Action::Get => RouteNetlinkMessage::GetRule(message),
+impl Entry for RuleMessage {
+    ghost meant = { λ a m. rule a (rule_of m) };
+
+    fn under(self, action: Action) -> RouteNetlinkMessage {
+        match action {
+            Action::New => RouteNetlinkMessage::NewRule(self),
+            Action::Del => RouteNetlinkMessage::DelRule(self),
+            Action::Get => RouteNetlinkMessage::GetRule(self),
+        }
+    }
+}
+
+impl OtherMessage {
+    /// An equal message.
+    ///
+    /// # Errors
+    /// `AllocError` where memory is refused.
+    pub fn clone(&self, alloc: Global) -> Result<Self, AllocError>
+        ensures { IfOk result (λ m. other_of m ≡ other_of self.now) }
+    {
+        Ok(OtherMessage {
+            message_type: self.message_type,
+            payload: Vec::from_slice(alloc, self.payload.as_slice())?,
+        })
     }
 }
 
@@ -206,6 +239,21 @@ impl NetlinkInner for RouteNetlinkMessage {
     ) -> Result<Self, DecodeError> {
         read_under(alloc, header.message_type, payload)
     }
+
+    fn try_clone(&self, alloc: Global) -> Result<Self, AllocError> {
+        Ok(match self {
+            RouteNetlinkMessage::NewAddress(m) => m.clone(alloc)?.under(Action::New),
+            RouteNetlinkMessage::DelAddress(m) => m.clone(alloc)?.under(Action::Del),
+            RouteNetlinkMessage::GetAddress(m) => m.clone(alloc)?.under(Action::Get),
+            RouteNetlinkMessage::NewRoute(m) => m.clone(alloc)?.under(Action::New),
+            RouteNetlinkMessage::DelRoute(m) => m.clone(alloc)?.under(Action::Del),
+            RouteNetlinkMessage::GetRoute(m) => m.clone(alloc)?.under(Action::Get),
+            RouteNetlinkMessage::NewRule(m) => m.clone(alloc)?.under(Action::New),
+            RouteNetlinkMessage::DelRule(m) => m.clone(alloc)?.under(Action::Del),
+            RouteNetlinkMessage::GetRule(m) => m.clone(alloc)?.under(Action::Get),
+            RouteNetlinkMessage::Other(m) => RouteNetlinkMessage::Other(m.clone(alloc)?),
+        })
+    }
 }
 
 /// The message that the bytes are under this type.
@@ -219,10 +267,10 @@ fn read_under(
 {
     match MessageType::of(message_type) {
         MessageType::OfAddress(action) => {
-            Ok(of_address(action, AddressMessage::parse(alloc, payload)?))
+            Ok(AddressMessage::parse(alloc, payload)?.under(action))
         }
-        MessageType::OfRoute(action) => Ok(of_route(action, RouteMessage::parse(alloc, payload)?)),
-        MessageType::OfRule(action) => Ok(of_rule(action, RuleMessage::parse(alloc, payload)?)),
+        MessageType::OfRoute(action) => Ok(RouteMessage::parse(alloc, payload)?.under(action)),
+        MessageType::OfRule(action) => Ok(RuleMessage::parse(alloc, payload)?.under(action)),
         MessageType::Unknown => Ok(RouteNetlinkMessage::Other(OtherMessage {
             message_type,
             payload: Vec::from_slice(alloc, payload)?,

@@ -1,5 +1,6 @@
 use Rattle.std.proofs.Common.{length}
 use Rattle.netlink_packet_core.proofs.FrontLaws.{Datagram-same, Datagram-sound, Stop-same, Datagrams-joined}
+use Rattle.netlink_packet_core.proofs.WholeWalks.{Datagram-or-stop}
 use Rattle.netlink_packet_core.proofs.laws.law_datagram.Goals as goal
 
 pub returns-clause-one : goal.returns-clause-one
@@ -14,3 +15,6 @@ returns-clause-first c =
 
 pub returns-clause-joined : goal.returns-clause-joined
 returns-clause-joined c = λ a b xs ys whole p q. Datagrams-joined xs ys a b whole p q
+
+pub returns-clause-each : goal.returns-clause-each
+returns-clause-each c = Datagram-or-stop

@@ -1,4 +1,5 @@
 use Rattle.netlink_packet_core.proofs.Walks.{Walk-finds, Finds-length, Walk-is-datagram, Datagram-is-walk, Walk-is-stop, Stop-is-walk}
+use Rattle.netlink_packet_core.proofs.WholeWalks.{Walk-one}
 use Rattle.netlink_packet_core.proofs.laws.law_walk.Goals as goal
 
 pub returns-clause-datagram : goal.returns-clause-datagram
@@ -9,3 +10,6 @@ returns-clause-stop c = λ bytes xs e. (λ p. Walk-is-stop xs bytes e p, λ p. S
 
 pub returns-clause-any : goal.returns-clause-any
 returns-clause-any c = λ bytes steps last p. let h = Walk-finds bytes steps last p in (h.0, h.1, Finds-length bytes steps last.bytes h.0 h.1)
+
+pub returns-clause-one : goal.returns-clause-one
+returns-clause-one c = Walk-one

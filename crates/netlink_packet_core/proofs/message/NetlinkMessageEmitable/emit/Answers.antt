@@ -1,4 +1,4 @@
-use Rattle.std.proofs.Common.{◌+◌, ◌-◌, ℕ, arith, refl, List, length, replicate, subst, length-append}
+use Rattle.std.proofs.Common.{◌+◌, ◌-◌, ℕ, arith, refl, length, replicate, subst, length-append}
 use Rattle.std.proofs.lemmas.List.{length-replicate}
 use Rattle.npr_base.specs.Framing.{Writes, pad}
 use Rattle.netlink_packet_core.specs.Header.{header}

@@ -1,6 +1,4 @@
 use Rattle.std.proofs.Common.{arith, refl, sym}
-use Rattle.netlink_packet_core.specs.Message.{message_of}
-use Rattle.netlink_packet_core.proofs.Messages.{Message-known, Message-one, Message-sound, Message-again}
 use Rattle.netlink_packet_core.proofs.message.NetlinkMessageParseableRefNetlinkBuffer.parse.Goals as goal
 
 pub returns-clause-coherent : goal.returns-clause-coherent

@@ -1,0 +1,95 @@
+//! Requests to the kernel on addresses, routes and rules, with the flags that `ip` sets. A sequence
+//! number is one of the caller's choice, which the answer has again.
+
+ghost use Rattle.netlink_packet_core.specs.{
+  Message.{message_of},
+  Request.{IsRequest, dump_flags, get_flags, new_flags, replace_flags, delete_flags},
+};
+ghost use Rattle.netlink_packet_route.specs.declared.message.Action.TheVariants.{New, Del, Get};
+ghost use Rattle.netlink_packet_route.specs.RouteNetlinkMessage.{meaning_of, rtnetlink, address, route, rule};
+ghost use Rattle.netlink_packet_route.specs.Request.{addresses_of, routes_of, rules_of};
+
+use crate::message::{Action, Entry, RouteNetlinkMessage};
+use netlink_packet_core::NetlinkMessage;
+use npr_address::AddressMessage;
+use npr_base::AddressFamily;
+use npr_route::RouteMessage;
+use npr_rule::RuleMessage;
+use std::alloc::Global;
+
+/// Asks for all that the message names, as `ip route show table 100`.
+pub fn dump<M: Entry>(sequence_number: u32, message: M) -> NetlinkMessage<RouteNetlinkMessage>
+    ensures { IsRequest rtnetlink dump_flags sequence_number (M.meant Get message) (message_of meaning_of result) }
+{
+    NetlinkMessage::dump_request(sequence_number, message.under(Action::Get))
+}
+
+/// Asks for the addresses of a family, or of each where it is `Unspec`, as `ip -4 address`. It takes
+/// no memory.
+pub fn dump_addresses(
+    alloc: Global,
+    sequence_number: u32,
+    family: AddressFamily,
+) -> NetlinkMessage<RouteNetlinkMessage>
+    ensures { IsRequest rtnetlink dump_flags sequence_number (address Get (addresses_of family)) (message_of meaning_of result) }
+{
+    let mut message = AddressMessage::new(alloc);
+    message.header.family = family;
+    dump(sequence_number, message)
+}
+
+/// Asks for the routes of a family, of all tables, as `ip -4 route show table all`. It takes no
+/// memory.
+pub fn dump_routes(
+    alloc: Global,
+    sequence_number: u32,
+    family: AddressFamily,
+) -> NetlinkMessage<RouteNetlinkMessage>
+    ensures { IsRequest rtnetlink dump_flags sequence_number (route Get (routes_of family)) (message_of meaning_of result) }
+{
+    let mut message = RouteMessage::new(alloc);
+    message.header.address_family = family;
+    dump(sequence_number, message)
+}
+
+/// Asks for the rules of a family, as `ip -4 rule`. It takes no memory.
+pub fn dump_rules(
+    alloc: Global,
+    sequence_number: u32,
+    family: AddressFamily,
+) -> NetlinkMessage<RouteNetlinkMessage>
+    ensures { IsRequest rtnetlink dump_flags sequence_number (rule Get (rules_of family)) (message_of meaning_of result) }
+{
+    let mut message = RuleMessage::new(alloc);
+    message.header.family = family;
+    dump(sequence_number, message)
+}
+
+/// Asks for the one that the message names, as `ip route get`.
+pub fn get<M: Entry>(sequence_number: u32, message: M) -> NetlinkMessage<RouteNetlinkMessage>
+    ensures { IsRequest rtnetlink get_flags sequence_number (M.meant Get message) (message_of meaning_of result) }
+{
+    NetlinkMessage::get_request(sequence_number, message.under(Action::Get))
+}
+
+/// Makes one that is not there, and asks for an acknowledgement, as `ip route add`.
+pub fn add<M: Entry>(sequence_number: u32, message: M) -> NetlinkMessage<RouteNetlinkMessage>
+    ensures { IsRequest rtnetlink new_flags sequence_number (M.meant New message) (message_of meaning_of result) }
+{
+    NetlinkMessage::new_request(sequence_number, message.under(Action::New))
+}
+
+/// Makes one, in place of one that is there, and asks for an acknowledgement, as `ip route replace`;
+/// the kernel replaces no rule, and makes a second one.
+pub fn replace<M: Entry>(sequence_number: u32, message: M) -> NetlinkMessage<RouteNetlinkMessage>
+    ensures { IsRequest rtnetlink replace_flags sequence_number (M.meant New message) (message_of meaning_of result) }
+{
+    NetlinkMessage::replace_request(sequence_number, message.under(Action::New))
+}
+
+/// Takes one away, and asks for an acknowledgement, as `ip route del`.
+pub fn delete<M: Entry>(sequence_number: u32, message: M) -> NetlinkMessage<RouteNetlinkMessage>
+    ensures { IsRequest rtnetlink delete_flags sequence_number (M.meant Del message) (message_of meaning_of result) }
+{
+    NetlinkMessage::delete_request(sequence_number, message.under(Action::Del))
+}
