@@ -1,7 +1,9 @@
 //! The answer to datagrams, as a line of text.
 
-use netlink_packet_core::{EnvelopeError, NetlinkIterator, NetlinkMessage, NetlinkPayload};
 use netlink_packet_route::RouteNetlinkMessage;
+use netlink_packet_route::envelope::{
+    EnvelopeError, NetlinkIterator, NetlinkMessage, NetlinkPayload,
+};
 use netlink_packet_route::framing::{DecodeError, Parseable, WriteError, to_vec};
 use std::alloc::{AllocError, Global};
 

@@ -1,6 +1,7 @@
 //! What is asked of an answer: that a message which is read is written as bytes that give it back,
 //! that these are no longer than promised, and that looks at headers are bounded.
 
+use crate::datagrams::answer_to_datagram;
 use netlink_packet_route::MessageKind;
 use netlink_packet_route::address::AddressHeader;
 use netlink_packet_route::framing::{
@@ -9,6 +10,33 @@ use netlink_packet_route::framing::{
 use netlink_packet_route::route::RouteHeader;
 use netlink_packet_route::rule::RuleHeader;
 use std::alloc::{AllocError, Global};
+
+/// What bytes are asked about as.
+#[derive(Clone, Copy, Debug, PartialEq, Eq)]
+pub enum Subject {
+    /// A message of this kind.
+    Message(MessageKind),
+    /// The messages of a datagram.
+    Datagram,
+}
+
+impl Subject {
+    /// Each of them.
+    pub const ALL: [Subject; 4] = [
+        Subject::Message(MessageKind::Address),
+        Subject::Message(MessageKind::Route),
+        Subject::Message(MessageKind::Rule),
+        Subject::Datagram,
+    ];
+
+    /// Its name.
+    pub fn name(self) -> &'static str {
+        match self {
+            Subject::Message(kind) => kind.name(),
+            Subject::Datagram => "datagram",
+        }
+    }
+}
 
 /// What was answered to bytes.
 #[derive(Clone, Copy, Debug, PartialEq, Eq, PartialOrd, Ord)]
@@ -23,15 +51,16 @@ pub enum Answer {
     Broken(&'static str),
 }
 
-/// The answer of the parser of this kind.
+/// The answer of the parser of this kind, or of the walk over a datagram.
 ///
 /// # Errors
 /// `AllocError` where memory is refused.
-pub fn answer_to(alloc: Global, kind: MessageKind, bytes: &[u8]) -> Result<Answer, AllocError> {
-    match kind {
-        MessageKind::Address => answer_by::<AddressHeader>(alloc, bytes),
-        MessageKind::Route => answer_by::<RouteHeader>(alloc, bytes),
-        MessageKind::Rule => answer_by::<RuleHeader>(alloc, bytes),
+pub fn answer_to(alloc: Global, subject: Subject, bytes: &[u8]) -> Result<Answer, AllocError> {
+    match subject {
+        Subject::Message(MessageKind::Address) => answer_by::<AddressHeader>(alloc, bytes),
+        Subject::Message(MessageKind::Route) => answer_by::<RouteHeader>(alloc, bytes),
+        Subject::Message(MessageKind::Rule) => answer_by::<RuleHeader>(alloc, bytes),
+        Subject::Datagram => answer_to_datagram(alloc, bytes),
     }
 }
 
@@ -57,7 +86,7 @@ fn is_bounded(looks: &Looks, behind: usize) -> bool {
 }
 
 /// What was answered, the message and its canonical bytes, where there are some.
-fn written<M: Emitable + Drop>(
+pub(crate) fn written<M: Emitable + Drop>(
     alloc: Global,
     read: Result<M, DecodeError>,
     length: usize,
@@ -84,7 +113,7 @@ fn written<M: Emitable + Drop>(
 }
 
 /// The answer, unless what the canonical bytes give is not the message, or isn't written as them.
-fn compared<M: Emitable + PartialEq + Drop>(
+pub(crate) fn compared<M: Emitable + PartialEq + Drop>(
     alloc: Global,
     answer: Answer,
     message: Option<M>,

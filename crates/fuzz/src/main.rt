@@ -1,18 +1,19 @@
-//! Changes each byte of worked messages to each value, makes messages at random, and asks of each
-//! answer what the library promises.
+//! Changes each byte of worked messages and datagrams to each value, makes others at random, and asks
+//! of each answer what the library promises.
 //!
-//! `fuzz SEED COUNT` makes so many messages of each kind, and prints how many were changed and made
-//! and how many answers are broken; on standard error, how many got which answer. Ends with status 1
+//! `fuzz SEED COUNT` makes so many messages of each kind and so many datagrams, and prints how many
+//! were changed and made and how many answers are broken; on standard error, how many got which answer. Ends with status 1
 //! where one is broken; the first of them are printed.
 #![tactic(auto)]
 
 mod asking;
+mod datagrams;
 mod making;
 mod random;
 mod tally;
 mod worked;
 
-use netlink_packet_route::MessageKind;
+use asking::Subject;
 use std::process::ExitCode;
 use std::{env, io};
 use tally::Tally;
@@ -51,18 +52,18 @@ fn numbers(rt: &HostRuntime) -> io::Result<Option<(u64, u64)>> {
     Ok(Some((seed, count)))
 }
 
-/// Asks about messages of each kind, prints the counts, and answers how many were broken.
+/// Asks about messages of each kind and about datagrams, prints the counts, and answers how many were broken.
 fn all(rt: &HostRuntime, seed: u64, count: u64) -> io::Result<u64> {
     let mut changed = 0u64;
     let mut made = 0u64;
     let mut broken = 0u64;
-    for kind in MessageKind::ALL {
+    for subject in Subject::ALL {
         let mut tally = Tally::new(rt.alloc());
-        tally.ask_changed(rt, kind)?;
+        tally.ask_changed(rt, subject)?;
         changed = changed.saturating_add(tally.asked);
-        tally.ask_made(rt, kind, seed, count)?;
+        tally.ask_made(rt, subject, seed, count)?;
         made = made.saturating_add(count);
-        eprintln!(rt; "{}: {} messages", kind.name(), tally.asked)?;
+        eprintln!(rt; "{}: {} asked", subject.name(), tally.asked)?;
         tally.print(rt)?;
         broken = broken.saturating_add(tally.broken);
     }

@@ -1,6 +1,7 @@
-//! Messages that are made at random: attributes of known numbers, mostly with a length that fits,
-//! lists inside lists, and bytes that are changed behind.
+//! Messages and datagrams that are made at random: attributes of known numbers, mostly with a length
+//! that fits, lists inside lists, and bytes that are changed behind.
 
+use crate::asking::Subject;
 use crate::random::Random;
 use netlink_packet_route::MessageKind;
 use std::alloc::{AllocError, Global};
@@ -25,6 +26,22 @@ const ROUTE: [u8; 32] = [
 const RULE: [u8; 25] = [
     ANY, OF_FAMILY, OF_FAMILY, ANY, 4, ANY, 4, ANY, ANY, ANY, 4, 4, 8, 4, 4, 4, 4, ANY, ANY, 1, 8,
     1, 1, 4, 4,
+];
+
+/// Attributes of an extended answer.
+const ANSWERS: [u8; 7] = [ANY, ANY, 4, ANY, ANY, 4, 4];
+
+/// Types of messages, with the kind of those that have one.
+const TYPES: [(u16, Option<MessageKind>); 9] = [
+    (20, Some(MessageKind::Address)),
+    (22, Some(MessageKind::Address)),
+    (24, Some(MessageKind::Route)),
+    (26, Some(MessageKind::Route)),
+    (32, Some(MessageKind::Rule)),
+    (1, None),
+    (2, None),
+    (3, None),
+    (16, None),
 ];
 
 /// Members of encapsulations, of whichever type.
@@ -57,25 +74,96 @@ impl Maker {
         }
     }
 
+    /// The next message or datagram.
+    ///
+    /// # Errors
+    /// `AllocError` where memory is refused.
+    pub fn make(&mut self, subject: Subject, out: &mut Vec<u8>) -> Result<(), AllocError> {
+        match subject {
+            Subject::Message(kind) => self.message(kind, out),
+            Subject::Datagram => self.datagram(out),
+        }
+    }
+
     /// The next message of this kind.
     ///
     /// # Errors
     /// `AllocError` where memory is refused.
-    pub fn message(&mut self, kind: MessageKind, out: &mut Vec<u8>) -> Result<(), AllocError> {
+    fn message(&mut self, kind: MessageKind, out: &mut Vec<u8>) -> Result<(), AllocError> {
         out.clear();
-        self.list.clear();
-        self.family = self.random.one_of(&[2, 2, 10, 10, 28, 7, 17], 0);
-        match kind {
-            MessageKind::Address => self.leaves(&ADDRESS)?,
-            MessageKind::Rule => self.leaves(&RULE)?,
-            MessageKind::Route => self.route()?,
-        }
+        self.attributes(kind)?;
         self.header(kind, out)?;
         out.extend_from_slice(self.list.as_slice())?;
         if self.random.once_in(2) {
             self.change(out)?;
         }
         Ok(())
+    }
+
+    /// The next datagram: up to four messages with their envelopes.
+    ///
+    /// # Errors
+    /// `AllocError` where memory is refused.
+    fn datagram(&mut self, out: &mut Vec<u8>) -> Result<(), AllocError> {
+        out.clear();
+        for _ in 0..=self.random.below(4) {
+            self.envelope(out)?;
+        }
+        if self.random.once_in(2) {
+            self.change(out)?;
+        }
+        Ok(())
+    }
+
+    /// A message with its envelope: mostly a part of an answer to the request of number 7.
+    fn envelope(&mut self, out: &mut Vec<u8>) -> Result<(), AllocError> {
+        let (message_type, kind) = self.random.one_of(&TYPES, (4, None));
+        let size = match kind {
+            Some(MessageKind::Address) => 24usize,
+            Some(MessageKind::Route | MessageKind::Rule) => 28,
+            None => 16,
+        };
+        match kind {
+            Some(kind) => self.attributes(kind)?,
+            None => self.reply()?,
+        }
+        let length = u32::try_from(self.list.len().saturating_add(size)).unwrap_or(0);
+        let flags = self.random.one_of(&[2, 2, 0x12, 0x100, 0x200], 0x300u16);
+        let sequence_number = self.random.one_of(&[7, 7, 7, 7], 8u32);
+        out.extend_from_slice(&length.to_le_bytes())?;
+        out.extend_from_slice(&message_type.to_le_bytes())?;
+        out.extend_from_slice(&flags.to_le_bytes())?;
+        out.extend_from_slice(&sequence_number.to_le_bytes())?;
+        out.extend_from_slice(&[1, 0, 0, 0])?;
+        if let Some(kind) = kind {
+            self.header(kind, out)?;
+        }
+        out.extend_from_slice(self.list.as_slice())?;
+        pad(out)
+    }
+
+    /// What stands behind an envelope of no kind: a code, perhaps the header of a refused message,
+    /// and attributes.
+    fn reply(&mut self) -> Result<(), AllocError> {
+        self.list.clear();
+        let code = self.random.one_of(&[-1, -1, -22], 0i32);
+        self.list.extend_from_slice(&code.to_le_bytes())?;
+        if self.random.once_in(2) {
+            self.list
+                .extend_from_slice(&[16, 0, 0, 0, 24, 0, 5, 6, 7, 0, 0, 0, 0, 0, 0, 0])?;
+        }
+        self.leaves(&ANSWERS)
+    }
+
+    /// The attributes of a message of this kind.
+    fn attributes(&mut self, kind: MessageKind) -> Result<(), AllocError> {
+        self.list.clear();
+        self.family = self.random.one_of(&[2, 2, 10, 10, 28, 7, 17], 0);
+        match kind {
+            MessageKind::Address => self.leaves(&ADDRESS),
+            MessageKind::Rule => self.leaves(&RULE),
+            MessageKind::Route => self.route(),
+        }
     }
 
     /// The header: with a family, for routes mostly a type, and else what comes.
@@ -110,7 +198,7 @@ impl Maker {
             let byte = if is_small { byte % 16 } else { byte };
             self.list.push(byte)?;
         }
-        self.pad()
+        pad(&mut self.list)
     }
 
     /// A length of a value: mostly that of the table.
@@ -135,16 +223,6 @@ impl Maker {
         self.list.extend_from_slice(&kind.to_le_bytes())
     }
 
-    /// Zeros up to a multiple of four bytes.
-    fn pad(&mut self) -> Result<(), AllocError> {
-        for _ in 0..3 {
-            if self.list.len() % 4 != 0 {
-                self.list.push(0)?;
-            }
-        }
-        Ok(())
-    }
-
     /// What was made becomes the value of an attribute of a new list, behind these bytes.
     fn wrap(&mut self, kind: u16, before: &[u8]) -> Result<(), AllocError> {
         mem::swap(&mut self.list, &mut self.inside);
@@ -153,7 +231,7 @@ impl Maker {
         self.front(kind, count)?;
         self.list.extend_from_slice(before)?;
         self.list.extend_from_slice(self.inside.as_slice())?;
-        self.pad()
+        pad(&mut self.list)
     }
 
     /// The list of a route: with an encapsulation, metrics or next hops, or with none of them.
@@ -261,4 +339,14 @@ impl Maker {
         }
         Ok(())
     }
+}
+
+/// Zeros up to a multiple of four bytes.
+fn pad(bytes: &mut Vec<u8>) -> Result<(), AllocError> {
+    for _ in 0..3 {
+        if bytes.len() % 4 != 0 {
+            bytes.push(0)?;
+        }
+    }
+    Ok(())
 }

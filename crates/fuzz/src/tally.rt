@@ -1,9 +1,8 @@
 //! How many messages got which answer.
 
-use crate::asking::{Answer, answer_to};
+use crate::asking::{Answer, Subject, answer_to};
 use crate::making::Maker;
 use crate::worked::messages;
-use netlink_packet_route::MessageKind;
 use std::alloc::{AllocError, Global};
 use std::collections::BTreeMap;
 use std::io;
@@ -11,7 +10,7 @@ use std::io;
 /// The messages that are printed at most.
 const PRINTED: u64 = 10;
 
-/// The counts of one kind of message.
+/// The counts of one kind of message, or of datagrams.
 #[derive(Drop)]
 pub struct Tally {
     counts: BTreeMap<Answer, u64>,
@@ -38,15 +37,15 @@ impl Tally {
     pub fn ask_made(
         &mut self,
         rt: &HostRuntime,
-        kind: MessageKind,
+        subject: Subject,
         seed: u64,
         count: u64,
     ) -> io::Result<()> {
         let mut maker = Maker::new(rt.alloc(), seed);
         let mut bytes = Vec::new(rt.alloc());
         for _ in 0..count {
-            maker.message(kind, &mut bytes)?;
-            self.ask(rt, kind, bytes.as_slice())?;
+            maker.make(subject, &mut bytes)?;
+            self.ask(rt, subject, bytes.as_slice())?;
         }
         Ok(())
     }
@@ -55,8 +54,8 @@ impl Tally {
     ///
     /// # Errors
     /// Where memory is refused, or a broken message can't be printed.
-    pub fn ask_changed(&mut self, rt: &HostRuntime, kind: MessageKind) -> io::Result<()> {
-        for text in messages(kind) {
+    pub fn ask_changed(&mut self, rt: &HostRuntime, subject: Subject) -> io::Result<()> {
+        for text in messages(subject) {
             let mut bytes = Vec::new(rt.alloc());
             bytes.resize(text.len() / 2, 0u8)?;
             if hex::decode_to_slice(*text, bytes.as_mut_slice()).is_err() {
@@ -67,7 +66,7 @@ impl Tally {
                 let kept = bytes[place];
                 for value in 0..=u8::MAX {
                     bytes[place] = value;
-                    self.ask(rt, kind, bytes.as_slice())?;
+                    self.ask(rt, subject, bytes.as_slice())?;
                 }
                 bytes[place] = kept;
             }
@@ -76,8 +75,8 @@ impl Tally {
     }
 
     /// Counts the answer to the bytes, and prints them where it is none that is promised.
-    fn ask(&mut self, rt: &HostRuntime, kind: MessageKind, bytes: &[u8]) -> io::Result<()> {
-        let answered = answer_to(rt.alloc(), kind, bytes)?;
+    fn ask(&mut self, rt: &HostRuntime, subject: Subject, bytes: &[u8]) -> io::Result<()> {
+        let answered = answer_to(rt.alloc(), subject, bytes)?;
         self.asked = self.asked.saturating_add(1);
         let count = self.counts.entry(answered)?.or_insert(0);
         *count = count.saturating_add(1);

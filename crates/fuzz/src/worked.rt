@@ -1,5 +1,6 @@
-//! Messages of which each byte is changed to each value.
+//! Messages and datagrams of which each byte is changed to each value.
 
+use crate::asking::Subject;
 use netlink_packet_route::MessageKind;
 
 /// Address messages: that of the loopback interface, and one with a name of no bytes.
@@ -57,11 +58,21 @@ const ROUTES: [&str; 31] = [
     "02000000fe0300050000000008001700b80b0000",
 ];
 
-/// The messages of a kind, as hexadecimal text.
-pub fn messages(kind: MessageKind) -> &'static [&'static str] {
-    match kind {
-        MessageKind::Address => &ADDRESSES,
-        MessageKind::Route => &ROUTES,
-        MessageKind::Rule => &RULES,
+/// Datagrams: two rules of a dump and its end, the second of them interrupted; a message of 17 bytes and
+/// an overrun; an error with the words of an extended answer behind a capped message, and an
+/// acknowledgement.
+const DATAGRAMS: [&str; 3] = [
+    "3400000020000200070000009c6c00000a000000ff0000010000000008000f00ff00000008000e00ffffffff05001500020000003c00000020001200070000009c6c00000a000000fe0000010000000008000f00fe00000008000e00ffffffff050015000200000008000600fe7f00001400000003000200070000009c6c000000000000",
+    "11000000010000000700000000000000ffaabbcc10000000040000000700000000000000",
+    "3c00000002000003070000009c6c0000ffffffff240000001800050607000000000000000e0001004e6f7420666f756e64000000080002001800000024000000020000010700000000000000000000002400000018000506070000000000000000000000",
+];
+
+/// The messages of a kind, or datagrams, as hexadecimal text.
+pub fn messages(subject: Subject) -> &'static [&'static str] {
+    match subject {
+        Subject::Message(MessageKind::Address) => &ADDRESSES,
+        Subject::Message(MessageKind::Route) => &ROUTES,
+        Subject::Message(MessageKind::Rule) => &RULES,
+        Subject::Datagram => &DATAGRAMS,
     }
 }
