@@ -1,8 +1,9 @@
 //! Messages of rtnetlink as a kernel sent them, envelopes included.
 
 use crate::RouteNetlinkMessage;
+use crate::request::{dump_addresses, dump_routes, dump_rules};
 use netlink_packet_core::{NetlinkIterator, NetlinkMessage, NetlinkPayload};
-use npr_base::{Parseable, to_vec};
+use npr_base::{AddressFamily, Parseable, to_vec};
 use std::test::Fail;
 
 /// A rule of a dump, the end of the dump, and a message on a link with a payload of 17 bytes.
@@ -38,5 +39,37 @@ fn a_datagram_is_read_by_type(rt: HostRuntime) -> Result<(), Fail> {
     }
     assert_eq!(rt; words.as_slice(), ["rule", "done", "other"].as_slice());
     assert_eq!(rt; written.as_slice(), DATAGRAM.as_slice());
+    Ok(())
+}
+
+/// What was sent to the kernel whose dumps `conformance` reads: `NLM_F_REQUEST` and `NLM_F_DUMP`, the
+/// number 7, and a header of zeros but for the family.
+#[test]
+fn dumps_are_asked_for(rt: HostRuntime) -> Result<(), Fail> {
+    let alloc = rt.alloc();
+    let addresses = to_vec(alloc, &dump_addresses(alloc, 7, AddressFamily::Inet6))?;
+    let routes = to_vec(alloc, &dump_routes(alloc, 7, AddressFamily::Inet))?;
+    let rules = to_vec(alloc, &dump_rules(alloc, 7, AddressFamily::Inet6))?;
+    assert_eq!(rt;
+        addresses.as_slice(),
+        [
+            24, 0, 0, 0, 22, 0, 1, 3, 7, 0, 0, 0, 0, 0, 0, 0, 10, 0, 0, 0, 0, 0, 0, 0
+        ]
+        .as_slice()
+    );
+    assert_eq!(rt;
+        routes.as_slice(),
+        [
+            28, 0, 0, 0, 26, 0, 1, 3, 7, 0, 0, 0, 0, 0, 0, 0, 2, 0, 0, 0, 0, 0, 0, 0, 0, 0, 0, 0,
+        ]
+        .as_slice()
+    );
+    assert_eq!(rt;
+        rules.as_slice(),
+        [
+            28, 0, 0, 0, 34, 0, 1, 3, 7, 0, 0, 0, 0, 0, 0, 0, 10, 0, 0, 0, 0, 0, 0, 0, 0, 0, 0, 0,
+        ]
+        .as_slice()
+    );
     Ok(())
 }
