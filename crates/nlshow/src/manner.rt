@@ -27,7 +27,7 @@ impl Manner {
         match address {
             RouteAddress::Inet(ip) => format!(in self.alloc; "{ip}"),
             RouteAddress::Inet6(ip) => format!(in self.alloc; "{ip}"),
-            RouteAddress::Mpls(label) => format!(in self.alloc; "{}", label.label),
+            RouteAddress::Mpls(label) => self.label(*label, true),
             RouteAddress::Other(bytes) => hex::encode(self.alloc, bytes.as_slice()),
         }
     }
@@ -41,14 +41,32 @@ impl Manner {
         Ok(text)
     }
 
-    /// Labels, each with what differs from an ordinary one, with `/` between them.
+    /// Labels with `/` between them.
     pub fn labels(self, labels: &[MplsLabel]) -> Result<String, AllocError> {
         let mut text = String::new(self.alloc);
+        let mut left = labels.len();
         for label in labels {
             if !text.is_empty() {
                 text.push('/')?;
             }
-            write!(text, "{}", label.label)?;
+            left = left.saturating_sub(1);
+            text.push_str(self.label(*label, left == 0)?.as_str())?;
+        }
+        Ok(text)
+    }
+
+    /// A label, in brackets with what `ip` does not show: a class and a time to live that are not 0,
+    /// and whether the stack ends with it, where that is not what its place says.
+    fn label(self, label: MplsLabel, is_last: bool) -> Result<String, AllocError> {
+        let mut text = format!(in self.alloc; "{}", label.label)?;
+        if label.traffic_class != 0 {
+            write!(text, "[tc {}]", label.traffic_class)?;
+        }
+        if label.bottom_of_stack != is_last {
+            write!(text, "[bottom {}]", label.bottom_of_stack)?;
+        }
+        if label.ttl != 0 {
+            write!(text, "[ttl {}]", label.ttl)?;
         }
         Ok(text)
     }
