@@ -329,3 +329,22 @@ fn a_wrong_word_is_named(rt: HostRuntime) -> Result<(), Fail> {
     assert!(rt; wrong_of(alloc, &["--json", "--numeric", "--hex", "-", "a.bin"])?.is_none());
     Ok(())
 }
+
+/// Two labels, 100 of class 3 and 200 with a time to live of 255 at the end of the stack.
+#[test]
+fn nothing_of_a_label_is_lost(rt: HostRuntime) -> Result<(), Fail> {
+    let alloc = rt.alloc();
+    let options = Options {
+        is_hex: true,
+        kind: Some(MessageKind::Route),
+        ..PLAIN
+    };
+    let text = "02000000fe03000100000000 10001600 0c000100 00064600 000c81ff 0600150001000000";
+    let ran = run(alloc, options, text.as_bytes(), 4096)?;
+    let told = String::from_utf8_lossy(alloc, ran.output.as_slice())?;
+    assert_eq!(rt;
+        told.as_str(),
+        "default encap mpls 100[tc 3]/200[ttl 255] proto boot\n"
+    );
+    Ok(())
+}
