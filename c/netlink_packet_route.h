@@ -161,7 +161,9 @@ enum npr_family {
     /* RPL_IPTUNNEL_* of linux/rpl_iptunnel.h. */
     NPR_FAMILY_RPL = 15,
     /* IOAM6_IPTUNNEL_* of linux/ioam6_iptunnel.h. */
-    NPR_FAMILY_IOAM6 = 16
+    NPR_FAMILY_IOAM6 = 16,
+    /* NDA_* of linux/neighbour.h. */
+    NPR_FAMILY_NEIGHBOUR = 17
 };
 
 /* What is wrong with a SEG6 routing header (RFC 8754, section 2). */

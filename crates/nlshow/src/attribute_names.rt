@@ -45,6 +45,27 @@ const RULE: &[&str] = &[
     "FRA_DPORT_RANGE",
 ];
 
+const NEIGHBOUR: &[&str] = &[
+    "NDA_UNSPEC",
+    "NDA_DST",
+    "NDA_LLADDR",
+    "NDA_CACHEINFO",
+    "NDA_PROBES",
+    "NDA_VLAN",
+    "NDA_PORT",
+    "NDA_VNI",
+    "NDA_IFINDEX",
+    "NDA_MASTER",
+    "NDA_LINK_NETNSID",
+    "NDA_SRC_VNI",
+    "NDA_PROTOCOL",
+    "NDA_NH_ID",
+    "NDA_FDB_EXT_ATTRS",
+    "NDA_FLAGS_EXT",
+    "NDA_NDM_STATE_MASK",
+    "NDA_NDM_FLAGS_MASK",
+];
+
 const ROUTE: &[&str] = &[
     "RTA_UNSPEC",
     "RTA_DST",
@@ -198,6 +219,7 @@ fn names_of(family: AttrFamily) -> &'static [&'static str] {
         AttrFamily::Address => ADDRESS,
         AttrFamily::Rule => RULE,
         AttrFamily::Route => ROUTE,
+        AttrFamily::Neighbour => NEIGHBOUR,
         AttrFamily::Metric => METRIC,
         AttrFamily::Mpls => MPLS,
         AttrFamily::Ip => IP,

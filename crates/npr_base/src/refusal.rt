@@ -20,6 +20,8 @@ pub enum AttrFamily {
     Rule,
     /// `RTA_*` of `linux/rtnetlink.h`.
     Route,
+    /// `NDA_*` of `linux/neighbour.h`.
+    Neighbour,
     /// `RTAX_*` of `linux/rtnetlink.h`.
     Metric,
     /// `MPLS_IPTUNNEL_*` of `linux/mpls_iptunnel.h`.

@@ -3,7 +3,7 @@ use Rattle.std.proofs.Common.{◌≡◌, ℕ, List, [], ◌∷◌, refl, sym, ap
 use Rattle.std.specs.Prelude.{slice_get, unwrap_or}
 use Rattle.netlink_packet_route.specs.declared.framing.At.{At}
 use Rattle.netlink_packet_route.specs.declared.framing.AttrFamily.{AttrFamily}
-use Rattle.netlink_packet_route.specs.declared.framing.AttrFamily.TheVariants.{Value, Address, Rule, Route, Metric, Mpls, Ip, Ip6, Xfrm}
+use Rattle.netlink_packet_route.specs.declared.framing.AttrFamily.TheVariants.{Value, Address, Rule, Route, Neighbour, Metric, Mpls, Ip, Ip6, Xfrm}
 use Rattle.netlink_packet_route.specs.declared.framing.AttrFamily.TheVariants.{Opt, Geneve, Vxlan, Erspan, Seg6, Seg6Local, Rpl, Ioam6}
 use Rattle.netlink_packet_route.specs.declared.framing.Seg6Fault.{Seg6Fault}
 use Rattle.netlink_packet_route.specs.declared.framing.Seg6Fault.TheVariants.{Short, Length, Hmac, Segments}
@@ -17,7 +17,7 @@ use Rattle.npr_c.specs.declared.faults.Fault.{Fault}
 -- the family, the fault and the refusal that have these numbers
 abbrev families : List AttrFamily
 families =
-    Value ∷ Address ∷ Rule ∷ Route ∷ Metric ∷ Mpls ∷ Ip ∷ Ip6 ∷ Xfrm ∷ Opt ∷ Geneve ∷ Vxlan ∷ Erspan ∷ Seg6 ∷ Seg6Local ∷ Rpl ∷ Ioam6 ∷ []
+    Value ∷ Address ∷ Rule ∷ Route ∷ Metric ∷ Mpls ∷ Ip ∷ Ip6 ∷ Xfrm ∷ Opt ∷ Geneve ∷ Vxlan ∷ Erspan ∷ Seg6 ∷ Seg6Local ∷ Rpl ∷ Ioam6 ∷ Neighbour ∷ []
 
 abbrev family_of : ℕ → AttrFamily
 family_of number = unwrap_or (slice_get families number) Value
@@ -55,6 +55,7 @@ family_back Seg6 = refl
 family_back Seg6Local = refl
 family_back Rpl = refl
 family_back Ioam6 = refl
+family_back Neighbour = refl
 
 seg6_back : (f : Seg6Fault) → seg6_of (seg6_number f) ≡ f
 seg6_back Short = refl

@@ -1,7 +1,7 @@
 -- A refusal with all that it tells, as numbers.
 use Rattle.std.specs.Prelude.{◌≡◌, ◌≢◌, ◌⊎◌, ℕ, List}
 use Rattle.netlink_packet_route.specs.declared.framing.AttrFamily.{AttrFamily}
-use Rattle.netlink_packet_route.specs.declared.framing.AttrFamily.TheVariants.{Value, Address, Rule, Route, Metric, Mpls, Ip, Ip6, Xfrm}
+use Rattle.netlink_packet_route.specs.declared.framing.AttrFamily.TheVariants.{Value, Address, Rule, Route, Neighbour, Metric, Mpls, Ip, Ip6, Xfrm}
 use Rattle.netlink_packet_route.specs.declared.framing.AttrFamily.TheVariants.{Opt, Geneve, Vxlan, Erspan, Seg6, Seg6Local, Rpl, Ioam6}
 use Rattle.netlink_packet_route.specs.declared.framing.Seg6Fault.{Seg6Fault}
 use Rattle.netlink_packet_route.specs.declared.framing.Seg6Fault.TheVariants.{Short, Length, Hmac, Segments}
@@ -30,6 +30,7 @@ family_number Seg6 = 13
 family_number Seg6Local = 14
 family_number Rpl = 15
 family_number Ioam6 = 16
+family_number Neighbour = 17
 
 abbrev pub seg6_number : Seg6Fault → ℕ
 seg6_number Short = 1

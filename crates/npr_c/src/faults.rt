@@ -73,6 +73,7 @@ fn family_number(family: AttrFamily) -> u32
         AttrFamily::Seg6Local => 14,
         AttrFamily::Rpl => 15,
         AttrFamily::Ioam6 => 16,
+        AttrFamily::Neighbour => 17,
     }
 }
 

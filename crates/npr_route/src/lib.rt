@@ -17,7 +17,7 @@ mod rows;
 
 pub use attribute::RouteAttribute;
 pub use header::{RouteHeader, RouteMessageBuffer};
-pub use list::read_route_list;
+pub use list::{governing_type, read_route_list};
 pub use message::RouteMessage;
 pub use metrics::RouteMetric;
 pub use modes::normalize;
