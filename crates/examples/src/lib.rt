@@ -5,10 +5,6 @@
 pub mod addresses;
 pub mod again;
 pub mod fault;
-pub mod neighbour;
-pub mod neighbour_message;
 pub mod routes;
 pub mod stored;
-#[cfg(test)]
-mod tests;
 pub mod walk;

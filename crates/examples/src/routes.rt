@@ -4,14 +4,15 @@ ghost use Rattle.std.specs.Prelude.{◌≡◌, ◌≢◌, IfOk, IfErr};
 ghost use Rattle.netlink_packet_route.specs.{
   Found.{IsFirst},
   RouteAttributeView.{meaning_of},
-  RouteMessage.{RouteMessage, IsRouteMessage, RouteFault, message_of},
+  RouteMessage.{RouteMessage, IsRouteMessage, RouteFault, message_of, route_bytes},
   RoutePath.{gateway_ip},
   declared.framing.DecodeError.TheVariants.{OutOfMemory},
 };
-ghost use Rattle.examples.specs.Routes.{two_ways};
+ghost use Rattle.examples.specs.{Routes.{two_ways}, declared.fault.Fault.TheVariants.{Refused}};
 
+use crate::fault::Fault;
 use netlink_packet_route::AddressFamily;
-use netlink_packet_route::framing::{DecodeError, Parseable};
+use netlink_packet_route::framing::{DecodeError, Parseable, to_vec};
 use netlink_packet_route::net::{IpAddr, Ipv4Addr};
 use netlink_packet_route::route::{
     RouteAttribute, RouteHeader, RouteMessage, RouteNextHop, RoutePath,
@@ -54,4 +55,17 @@ pub fn two_ways(alloc: Global) -> Result<RouteMessage, AllocError>
     let ways = RouteAttribute::by_next_hops(hops);
     route.attributes.push(ways)?;
     Ok(route)
+}
+
+/// The bytes of that message.
+///
+/// # Errors
+/// `Refused(OutOfMemory)` where memory is refused.
+#[tactic(auto, unfolding(netlink_packet_route::specs::Messages::spelling, netlink_packet_route::specs::Messages::message_misfit))]
+pub fn two_ways_bytes(alloc: Global) -> Result<Vec<u8>, Fault>
+    ensures ok { IfOk result (λ out. out.items ≡ route_bytes two_ways) }
+    ensures memory { IfErr result (λ e. e ≡ Refused OutOfMemory) }
+{
+    let route = two_ways(alloc)?;
+    Ok(to_vec(alloc, &route)?)
 }

@@ -33,6 +33,8 @@ mod modes;
 #[cfg(test)]
 mod next_hops;
 #[cfg(test)]
+mod own_message;
+#[cfg(test)]
 mod route;
 #[cfg(test)]
 mod rule;

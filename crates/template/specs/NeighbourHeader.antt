@@ -6,7 +6,7 @@ use Rattle.netlink_packet_route.specs.RouteType.{route_type_of, route_type_numbe
 use Rattle.netlink_packet_route.specs.declared.AddressFamily.TheVariants.{Unspec}
 use Rattle.netlink_packet_route.specs.declared.route.RouteType.{RouteType}
 use Rattle.netlink_packet_route.specs.declared.route.RouteType.TheVariants.{Unspec as NoType}
-use Rattle.examples.specs.declared.neighbour_message.NeighbourHeader.{NeighbourHeader}
+use Rattle.template.specs.declared.neighbour_message.NeighbourHeader.{NeighbourHeader}
 
 abbrev pub type_byte : Field RouteType
 type_byte = form_of one_byte route_type_of route_type_number route_type_number-route_type_of

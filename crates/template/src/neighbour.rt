@@ -1,7 +1,7 @@
 //! A family of one's own: attributes of a neighbour message, `NDA_*` of `linux/neighbour.h`.
 
 ghost use Rattle.std.specs.Prelude.{◌≡◌, length, IfOk, IfErr, refl};
-ghost use Rattle.examples.specs.Neighbours.{Meaning, meaning_of, writing, attributes, cache_info};
+ghost use Rattle.template.specs.Neighbours.{Meaning, meaning_of, writing, attributes, cache_info};
 ghost use Rattle.netlink_packet_route.specs.{Codec.{leading}, Refusal.{no_place}, Table.{shape_by}};
 
 use netlink_packet_route::family::leading_octets;

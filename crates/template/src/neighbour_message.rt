@@ -3,7 +3,7 @@
 ghost use Rattle.std.specs.Prelude.{◌≡◌, ◌≢◌, ◌≤◌, ℕ, List, Option, None, length, IfOk, IfErr, refl};
 ghost use Rattle.std.specs.Option.{option_map};
 ghost use Rattle.std.proofs.Common.{rules};
-ghost use Rattle.examples.specs.{
+ghost use Rattle.template.specs.{
   NeighbourHeader.{header, default_header},
   NeighbourMessage.{NeighbourMessage, IsNeighbourMessage, NeighbourFault, message_of, body},
   Neighbours.{Meaning, meaning_of, writing, destination_in, link_layer_in, IsAddressOf},

@@ -3,10 +3,10 @@ use Rattle.std.specs.Prelude.{ℕ, List}
 use Rattle.netlink_packet_route.specs.declared.framing.DecodeError.{DecodeError}
 use Rattle.netlink_packet_route.specs.declared.framing.Message.{Message as Stored}
 use Rattle.netlink_packet_route.specs.Messages.{Message, Body, view, body_of, IsMessage, MessageFault}
-use Rattle.examples.specs.NeighbourHeader.{header}
-use Rattle.examples.specs.Neighbours.{Meaning, meaning_of, writing, attributes}
-use Rattle.examples.specs.declared.neighbour.NeighbourAttribute.{NeighbourAttribute}
-use Rattle.examples.specs.declared.neighbour_message.NeighbourHeader.{NeighbourHeader}
+use Rattle.template.specs.NeighbourHeader.{header}
+use Rattle.template.specs.Neighbours.{Meaning, meaning_of, writing, attributes}
+use Rattle.template.specs.declared.neighbour.NeighbourAttribute.{NeighbourAttribute}
+use Rattle.template.specs.declared.neighbour_message.NeighbourHeader.{NeighbourHeader}
 
 -- a message without where it lies in memory
 abbrev pub Neighbour : Type 0

@@ -13,9 +13,9 @@ use Rattle.netlink_packet_route.specs.Table.{Writing, Reading, table_of, Row, ro
 use Rattle.netlink_packet_route.specs.Table.{held_misfit, held-reads, IsHeld, item_of, writing_by, IsOther, Aligned, ReadsAt}
 use Rattle.netlink_packet_route.specs.TableLaws.{table_family, other-back}
 use Rattle.netlink_packet_route.specs.Found.{IsFirst}
-use Rattle.examples.specs.declared.neighbour.NeighbourCacheInfo.{NeighbourCacheInfo}
-use Rattle.examples.specs.declared.neighbour.NeighbourAttribute.{NeighbourAttribute}
-use Rattle.examples.specs.declared.neighbour.NeighbourAttribute.TheVariants.{Destination, LinkLayerAddress, CacheInfo, Probes, Other}
+use Rattle.template.specs.declared.neighbour.NeighbourCacheInfo.{NeighbourCacheInfo}
+use Rattle.template.specs.declared.neighbour.NeighbourAttribute.{NeighbourAttribute}
+use Rattle.template.specs.declared.neighbour.NeighbourAttribute.TheVariants.{Destination, LinkLayerAddress, CacheInfo, Probes, Other}
 
 -- what the kernel remembers of a neighbour (struct nda_cacheinfo): four numbers of four bytes, in this order
 abbrev pub cache_info : Layout NeighbourCacheInfo

@@ -1,0 +1,3 @@
+pub mod NeighbourHeader
+pub mod NeighbourMessage
+pub mod Neighbours
