@@ -31,6 +31,3 @@ pub use payload::{DoneMessage, ErrorMessage, NetlinkPayload};
 pub use refusal::EnvelopeError;
 pub use traits::NetlinkInner;
 pub use walk::NetlinkIterator;
-
-#[cfg(test)]
-mod tests;

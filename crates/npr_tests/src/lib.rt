@@ -13,6 +13,8 @@ mod displays;
 #[cfg(test)]
 mod encap;
 #[cfg(test)]
+mod envelopes;
+#[cfg(test)]
 mod framing;
 #[cfg(test)]
 mod gateways;
