@@ -24,7 +24,7 @@ pub const HELP: &str =
 Status 1: a message was refused; 2: a wrong word; 4: no memory; 5: a file failed.";
 
 /// What is told of messages.
-#[derive(Clone, Copy, Debug, PartialEq, Eq)]
+#[derive(Clone, Copy)]
 pub enum Form {
     /// A line each.
     Lines,
@@ -35,7 +35,7 @@ pub enum Form {
 }
 
 /// How messages are read and told.
-#[derive(Clone, Copy, Debug, PartialEq, Eq)]
+#[derive(Clone, Copy)]
 pub struct Options {
     /// What is told.
     pub form: Form,
@@ -72,7 +72,7 @@ pub enum Command<'a> {
 }
 
 /// A word that is wrong.
-#[derive(Clone, Copy, Debug)]
+#[derive(Clone, Copy)]
 pub enum WrongWord<'a> {
     /// No option has this name.
     Option(&'a str),

@@ -1,11 +1,11 @@
 //! Why a message is not shown, in words.
 
-use crate::attribute_names::attribute_name;
 use netlink_packet_route::framing::{At, AttrFamily, DecodeError};
+use netlink_show::attribute_name;
 use std::fmt;
 
 /// Why a message is not shown.
-#[derive(Clone, Copy, Debug, PartialEq, Eq)]
+#[derive(Clone, Copy)]
 pub enum Refusal {
     /// What stands in its envelope is no message.
     Payload(DecodeError),

@@ -8,7 +8,7 @@ use std::io;
 use std::io::ErrorKind;
 
 /// Why a run ends before its input does.
-#[derive(Clone, Copy, Debug, PartialEq, Eq)]
+#[derive(Clone, Copy)]
 pub enum Stop {
     /// Memory was refused.
     Memory,
