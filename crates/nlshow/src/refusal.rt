@@ -77,10 +77,6 @@ fn write_fault<W: fmt::Write>(f: &mut fmt::Formatter<W>, fault: DecodeError) -> 
             let named = Named(at);
             write!(f, "no UTF-8 at {named}")
         }
-        DecodeError::Unsupported { at } => {
-            let named = Named(at);
-            write!(f, "an unsupported header at {named}")
-        }
         DecodeError::GeneveOrder { kind } => {
             let named = Named(AttrFamily::Geneve.at(kind));
             write!(f, "{named} before a class")

@@ -37,6 +37,8 @@ mod route;
 #[cfg(test)]
 mod rule;
 #[cfg(test)]
+mod shown;
+#[cfg(test)]
 mod srh;
 #[cfg(test)]
 mod texts;
