@@ -11,8 +11,7 @@ use std::test::Fail;
 /// Two labels, 100 of class 3 and 200 with a time to live of 255 at the end of the stack.
 const LABELS: &str = "10001600 0c000100 00064600 000c81ff 0600150001000000";
 
-const SHOWN: &str =
-    "default encap mpls 100[tc 3]/200[ttl 255] proto boot
+const SHOWN: &str = "default encap mpls 100[tc 3]/200[ttl 255] proto boot
 {\"dst\":\"default\",\"encap\":\"mpls\",\"encap_info\":{\"dst\":\"100[tc 3]/200[ttl 255]\"},\"family\":\"inet\",\"flags\":[],\"message\":\"route\",\"protocol\":\"boot\",\"scope\":\"global\",\"table\":\"main\",\"type\":\"unicast\"}
 bytes 0
 addresses 0
@@ -48,7 +47,10 @@ fn nothing_of_a_label_is_lost(rt: HostRuntime) -> Result<(), Fail> {
 
 #[test]
 fn an_attribute_has_its_name(rt: HostRuntime) -> Result<(), Fail> {
-    assert_eq!(rt; attribute_name(AttrFamily::Rule, 24), Some("FRA_DPORT_RANGE"));
+    assert_eq!(rt;
+        attribute_name(AttrFamily::Rule, 24),
+        Some("FRA_DPORT_RANGE")
+    );
     assert_eq!(rt; attribute_name(AttrFamily::Rule, 25), None);
     Ok(())
 }
