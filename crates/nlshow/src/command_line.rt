@@ -24,7 +24,7 @@ pub const HELP: &str =
 Status 1: a message was refused; 2: a wrong word; 4: no memory; 5: a file failed.";
 
 /// What is told of messages.
-#[derive(Clone, Copy, Debug, PartialEq, Eq)]
+#[derive(Clone, Copy)]
 pub enum Form {
     /// A line each.
     Lines,
@@ -35,7 +35,7 @@ pub enum Form {
 }
 
 /// How messages are read and told.
-#[derive(Clone, Copy, Debug, PartialEq, Eq)]
+#[derive(Clone, Copy)]
 pub struct Options {
     /// What is told.
     pub form: Form,
@@ -46,6 +46,14 @@ pub struct Options {
     /// The kind of messages without an envelope.
     pub kind: Option<MessageKind>,
 }
+
+/// Lines of datagrams.
+const PLAIN: Options = Options {
+    form: Form::Lines,
+    numeric: false,
+    is_hex: false,
+    kind: None,
+};
 
 /// What is to be shown.
 #[derive(Drop)]
@@ -72,7 +80,7 @@ pub enum Command<'a> {
 }
 
 /// A word that is wrong.
-#[derive(Clone, Copy, Debug)]
+#[derive(Clone, Copy)]
 pub enum WrongWord<'a> {
     /// No option has this name.
     Option(&'a str),
@@ -94,46 +102,40 @@ impl<'a> fmt::Display for WrongWord<'a> {
 
 /// What the words after the program's name ask for.
 pub fn command_of<'a>(alloc: Global, words: &'a [String]) -> Result<Command<'a>, AllocError> {
-    let mut options = Options {
-        form: Form::Lines,
-        numeric: false,
-        is_hex: false,
-        kind: None,
+    let mut request = Request {
+        options: PLAIN,
+        keep: None,
+        files: Vec::new(alloc),
     };
-    let mut keep = None;
-    let mut files = Vec::new(alloc);
     // The option whose word comes next.
     let mut waiting = None;
     for word in words {
         let word = word.as_str();
-        match waiting {
-            Some("--keep") => keep = Some(word),
-            Some(_) => match MessageKind::of(word) {
-                Some(kind) => options.kind = Some(kind),
-                None => return Ok(Command::Wrong(WrongWord::Kind(word))),
-            },
-            None => match word {
-                "--help" => return Ok(Command::Help),
-                "--version" => return Ok(Command::Version),
-                "--as" | "--keep" => {
-                    waiting = Some(word);
-                    continue;
-                }
-                _ if set_option(&mut options, word) => {}
-                _ if is_option(word) => return Ok(Command::Wrong(WrongWord::Option(word))),
-                _ => files.push(word)?,
-            },
+        match (waiting, word) {
+            (Some(option), _) if take_word(&mut request, option, word) => waiting = None,
+            (Some(_), _) => return Ok(Command::Wrong(WrongWord::Kind(word))),
+            (None, "--help") => return Ok(Command::Help),
+            (None, "--version") => return Ok(Command::Version),
+            (None, "--as" | "--keep") => waiting = Some(word),
+            (None, _) if set_option(&mut request.options, word) => {}
+            (None, _) if is_option(word) => return Ok(Command::Wrong(WrongWord::Option(word))),
+            (None, _) => request.files.push(word)?,
         }
-        waiting = None;
     }
     Ok(match waiting {
         Some(word) => Command::Wrong(WrongWord::Alone(word)),
-        None => Command::Show(Request {
-            options,
-            keep,
-            files,
-        }),
+        None => Command::Show(request),
     })
+}
+
+/// Takes the word behind an option, and answers whether it can stand there.
+fn take_word<'a>(request: &mut Request<'a>, option: &str, word: &'a str) -> bool {
+    if option == "--keep" {
+        request.keep = Some(word);
+        return true;
+    }
+    request.options.kind = MessageKind::of(word);
+    request.options.kind.is_some()
 }
 
 /// Whether a word is an option and no file; `-` is standard input.

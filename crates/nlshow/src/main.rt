@@ -1,46 +1,23 @@
 //! Shows messages of rtnetlink as `ip` does.
 #![tactic(auto)]
 
-mod address_fields;
-mod attribute_fields;
-mod attribute_names;
 mod command_line;
-mod counts;
-mod encap_fields;
-mod field;
 mod hex_line;
-mod manner;
-mod message_fields;
-mod metric_fields;
-mod names;
-mod next_hop_fields;
 mod reading;
 mod refusal;
-mod route_attribute;
-mod route_fields;
-mod rule_fields;
 mod session;
 mod stop;
-#[cfg(test)]
-mod tests;
-mod tunnel_fields;
 mod window;
 
 use command_line::{Command, HELP, Request, USAGE, command_of};
 use reading::read_input;
 use session::Session;
-use std::fs::File;
-use std::io::IsTerminal;
 use std::process::ExitCode;
-use std::rt::{Stderr, Stdout};
 use std::{env, fs, io};
 use stop::Stop;
 
 /// The version, which is the repository's.
 const VERSION: &str = "nlshow 0.3.9";
-
-/// The session of a process.
-type Here = Session<Stdout, Stderr, File>;
 
 fn main(rt: HostRuntime) -> ExitCode {
     // Also where a word is no UTF-8.
@@ -90,15 +67,7 @@ fn show(rt: &HostRuntime, request: &Request<'_>) -> ExitCode {
         Some(Ok(file)) => Some(file),
         Some(Err(_)) => return stopped(rt, request.keep.unwrap_or(""), Stop::Open),
     };
-    let is_watched = rt.stderr().is_terminal();
-    let mut session = Session::new(
-        rt.alloc(),
-        request.options,
-        rt.stdout(),
-        rt.stderr(),
-        keep,
-        is_watched,
-    );
+    let mut session = Session::new(rt, request.options, keep);
     let files = request.files.as_slice();
     for name in if files.is_empty() { &["-"] } else { files } {
         if let Err(stop) = show_input(rt, &mut session, name) {
@@ -112,19 +81,19 @@ fn show(rt: &HostRuntime, request: &Request<'_>) -> ExitCode {
 }
 
 /// The status of a run that ends so.
-fn ended(rt: &impl Eprint, session: &Here, name: &str, stop: Stop) -> ExitCode {
-    if stop == Stop::Closed && session.counts.refused != 0 {
+fn ended(rt: &impl Eprint, session: &Session, name: &str, stop: Stop) -> ExitCode {
+    if matches!(stop, Stop::Closed) && session.counts.refused != 0 {
         return ExitCode::from(1);
     }
     stopped(rt, name, stop)
 }
 
 /// Shows the input of this name.
-fn show_input(rt: &HostRuntime, session: &mut Here, name: &str) -> Result<(), Stop> {
+fn show_input(rt: &HostRuntime, session: &mut Session, name: &str) -> Result<(), Stop> {
     session.open(name)?;
     if name == "-" {
-        return read_input(rt.alloc(), session, rt.stdin());
+        return read_input(session, rt.stdin());
     }
     let file = fs::open(rt, name).map_err(|_| Stop::Open)?;
-    read_input(rt.alloc(), session, file)
+    read_input(session, file)
 }

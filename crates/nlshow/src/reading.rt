@@ -7,15 +7,14 @@ use crate::stop::Stop;
 use crate::window::Window;
 use netlink_packet_core::{NETLINK_HEADER_LEN, NLMSG_ALIGNTO, NetlinkHeader};
 use netlink_packet_route::MessageKind;
-use std::alloc::Global;
-use std::io::{Read, Write};
+use std::io::Read;
 
 /// How many bytes of an input are held at a time, which is what the longest message has.
-pub const WINDOW: usize = 1 << 18;
+const WINDOW: usize = 1 << 18;
 
 /// What stands in front of some bytes.
-#[derive(Clone, Copy, Debug, PartialEq, Eq)]
-pub enum Front {
+#[derive(Clone, Copy)]
+enum Front {
     /// A message of this length, with so many bytes to its end and padding.
     Whole(usize, usize),
     /// A message that is not there whole, or nothing.
@@ -27,7 +26,7 @@ pub enum Front {
 }
 
 /// What stands in front of the bytes, behind which more come or not.
-pub fn front_of(bytes: &[u8], is_last: bool) -> Front {
+fn front_of(bytes: &[u8], is_last: bool) -> Front {
     let Ok(header) = NetlinkHeader::parse(bytes) else {
         return Front::Part;
     };
@@ -46,24 +45,17 @@ pub fn front_of(bytes: &[u8], is_last: bool) -> Front {
 }
 
 /// Reads an input by what the run's options say of it.
-pub fn read_input<R: Read + Drop, O: Write, E: Write, K: Write>(
-    alloc: Global,
-    session: &mut Session<O, E, K>,
-    reader: R,
-) -> Result<(), Stop> {
-    let mut window = Window::new(alloc, reader, WINDOW)?;
+pub fn read_input<R: Read + Drop>(session: &mut Session, reader: R) -> Result<(), Stop> {
+    let mut window = Window::new(session.alloc, reader, WINDOW)?;
     match (session.options.is_hex, session.options.kind) {
-        (true, _) => read_lines(alloc, session, &mut window),
+        (true, _) => read_lines(session, &mut window),
         (false, Some(kind)) => read_lone(session, &mut window, kind),
         (false, None) => read_datagrams(session, &mut window),
     }
 }
 
 /// Reads once more, and answers whether anything came.
-fn fill<R: Read + Drop, O: Write, E: Write, K: Write>(
-    session: &mut Session<O, E, K>,
-    window: &mut Window<R>,
-) -> Result<bool, Stop> {
+fn fill<R: Read + Drop>(session: &mut Session, window: &mut Window<R>) -> Result<bool, Stop> {
     let before = window.held().len();
     let is_more = window.fill()?;
     let more = window.held().len().saturating_sub(before);
@@ -72,8 +64,8 @@ fn fill<R: Read + Drop, O: Write, E: Write, K: Write>(
 }
 
 /// Datagrams, one behind the other.
-fn read_datagrams<R: Read + Drop, O: Write, E: Write, K: Write>(
-    session: &mut Session<O, E, K>,
+fn read_datagrams<R: Read + Drop>(
+    session: &mut Session,
     window: &mut Window<R>,
 ) -> Result<(), Stop> {
     let mut number = 0u64;
@@ -92,8 +84,8 @@ fn read_datagrams<R: Read + Drop, O: Write, E: Write, K: Write>(
 }
 
 /// Tells of the messages that the window has whole, and answers what stands behind them.
-fn take_messages<R: Read + Drop, O: Write, E: Write, K: Write>(
-    session: &mut Session<O, E, K>,
+fn take_messages<R: Read + Drop>(
+    session: &mut Session,
     window: &mut Window<R>,
     number: &mut u64,
     is_last: bool,
@@ -120,8 +112,8 @@ fn take_messages<R: Read + Drop, O: Write, E: Write, K: Write>(
 }
 
 /// Passes a message that has no room, and refuses it.
-fn pass_long<R: Read + Drop, O: Write, E: Write, K: Write>(
-    session: &mut Session<O, E, K>,
+fn pass_long<R: Read + Drop>(
+    session: &mut Session,
     window: &mut Window<R>,
     number: &mut u64,
     length: u32,
@@ -148,8 +140,8 @@ fn pass_long<R: Read + Drop, O: Write, E: Write, K: Write>(
 }
 
 /// Passes so many bytes of the input and keeps them, and answers how many were not there.
-fn pass_kept<R: Read + Drop, O: Write, E: Write, K: Write>(
-    session: &mut Session<O, E, K>,
+fn pass_kept<R: Read + Drop>(
+    session: &mut Session,
     window: &mut Window<R>,
     count: u64,
 ) -> Result<u64, Stop> {
@@ -168,8 +160,8 @@ fn pass_kept<R: Read + Drop, O: Write, E: Write, K: Write>(
 }
 
 /// Refuses what is left of an input, if anything is.
-fn refuse_rest<R: Read + Drop, O: Write, E: Write, K: Write>(
-    session: &mut Session<O, E, K>,
+fn refuse_rest<R: Read + Drop>(
+    session: &mut Session,
     window: &mut Window<R>,
     number: u64,
     front: Front,
@@ -197,8 +189,8 @@ fn refuse_rest<R: Read + Drop, O: Write, E: Write, K: Write>(
 }
 
 /// One message without an envelope.
-fn read_lone<R: Read + Drop, O: Write, E: Write, K: Write>(
-    session: &mut Session<O, E, K>,
+fn read_lone<R: Read + Drop>(
+    session: &mut Session,
     window: &mut Window<R>,
     kind: MessageKind,
 ) -> Result<(), Stop> {
@@ -228,21 +220,17 @@ fn read_lone<R: Read + Drop, O: Write, E: Write, K: Write>(
 }
 
 /// Lines of hexadecimal text.
-fn read_lines<R: Read + Drop, O: Write, E: Write, K: Write>(
-    alloc: Global,
-    session: &mut Session<O, E, K>,
-    window: &mut Window<R>,
-) -> Result<(), Stop> {
+fn read_lines<R: Read + Drop>(session: &mut Session, window: &mut Window<R>) -> Result<(), Stop> {
     let mut number = 0u64;
     for _ in 0..u64::MAX {
         let is_more = fill(session, window)?;
-        take_lines(alloc, session, window, &mut number)?;
+        take_lines(session, window, &mut number)?;
         if window.is_full() {
             pass_line(session, window, &mut number)?;
         } else if !is_more {
             if !window.held().is_empty() {
                 number = number.saturating_add(1);
-                take_line(alloc, session, number, window.passed(), window.held())?;
+                take_line(session, number, window.passed(), window.held())?;
             }
             return session.flush();
         }
@@ -257,9 +245,8 @@ fn line_end(bytes: &[u8]) -> Option<usize> {
 }
 
 /// Takes the lines that the window has whole.
-fn take_lines<R: Read + Drop, O: Write, E: Write, K: Write>(
-    alloc: Global,
-    session: &mut Session<O, E, K>,
+fn take_lines<R: Read + Drop>(
+    session: &mut Session,
     window: &mut Window<R>,
     number: &mut u64,
 ) -> Result<(), Stop> {
@@ -270,7 +257,6 @@ fn take_lines<R: Read + Drop, O: Write, E: Write, K: Write>(
         };
         *number = number.saturating_add(1);
         take_line(
-            alloc,
             session,
             *number,
             window.passed(),
@@ -282,8 +268,8 @@ fn take_lines<R: Read + Drop, O: Write, E: Write, K: Write>(
 }
 
 /// Passes a line that has no room, and refuses it.
-fn pass_line<R: Read + Drop, O: Write, E: Write, K: Write>(
-    session: &mut Session<O, E, K>,
+fn pass_line<R: Read + Drop>(
+    session: &mut Session,
     window: &mut Window<R>,
     number: &mut u64,
 ) -> Result<(), Stop> {
@@ -312,13 +298,7 @@ fn pass_line<R: Read + Drop, O: Write, E: Write, K: Write>(
 }
 
 /// Takes a line, which is kept as it stands where anything in it is refused.
-fn take_line<O: Write, E: Write, K: Write>(
-    alloc: Global,
-    session: &mut Session<O, E, K>,
-    number: u64,
-    offset: u64,
-    line: &[u8],
-) -> Result<(), Stop> {
+fn take_line(session: &mut Session, number: u64, offset: u64, line: &[u8]) -> Result<(), Stop> {
     let place = Place {
         what: "line",
         number,
@@ -326,7 +306,7 @@ fn take_line<O: Write, E: Write, K: Write>(
         length: line.len() as u64,
     };
     let before = session.counts.refused;
-    match bytes_of_line(alloc, line)? {
+    match bytes_of_line(session.alloc, line)? {
         None => session.refuse(place, Refusal::BadHex),
         Some(bytes) if bytes.is_empty() => {}
         Some(bytes) => take_bytes(session, place, bytes.as_slice())?,
@@ -339,11 +319,7 @@ fn take_line<O: Write, E: Write, K: Write>(
 }
 
 /// Takes the bytes of a line: a message without an envelope, or messages.
-fn take_bytes<O: Write, E: Write, K: Write>(
-    session: &mut Session<O, E, K>,
-    place: Place,
-    bytes: &[u8],
-) -> Result<(), Stop> {
+fn take_bytes(session: &mut Session, place: Place, bytes: &[u8]) -> Result<(), Stop> {
     let whole = Place {
         length: bytes.len() as u64,
         ..place

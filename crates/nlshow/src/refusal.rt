@@ -1,11 +1,11 @@
 //! Why a message is not shown, in words.
 
-use crate::attribute_names::attribute_name;
 use netlink_packet_route::framing::{At, AttrFamily, DecodeError};
+use netlink_show::attribute_name;
 use std::fmt;
 
 /// Why a message is not shown.
-#[derive(Clone, Copy, Debug, PartialEq, Eq)]
+#[derive(Clone, Copy)]
 pub enum Refusal {
     /// What stands in its envelope is no message.
     Payload(DecodeError),
@@ -76,10 +76,6 @@ fn write_fault<W: fmt::Write>(f: &mut fmt::Formatter<W>, fault: DecodeError) -> 
         DecodeError::NotUtf8 { at } => {
             let named = Named(at);
             write!(f, "no UTF-8 at {named}")
-        }
-        DecodeError::Unsupported { at } => {
-            let named = Named(at);
-            write!(f, "an unsupported header at {named}")
         }
         DecodeError::GeneveOrder { kind } => {
             let named = Named(AttrFamily::Geneve.at(kind));

@@ -1,21 +1,18 @@
 //! What is done with each message: it is told of, counted or refused.
 
 use crate::command_line::{Form, Options};
-use crate::counts::Counts;
-use crate::field::members_of;
-use crate::manner::Manner;
-use crate::message_fields::message_fields;
 use crate::refusal::Refusal;
 use crate::stop::Stop;
-use netlink_packet_core::{NetlinkBuffer, NetlinkHeader, NetlinkMessage, NetlinkPayload};
-use netlink_packet_route::address::AddressMessage;
+use netlink_packet_core::{
+    NetlinkBuffer, NetlinkHeader, NetlinkInner, NetlinkMessage, NetlinkPayload,
+};
 use netlink_packet_route::framing::{DecodeError, Parseable};
-use netlink_packet_route::route::RouteMessage;
-use netlink_packet_route::rule::RuleMessage;
 use netlink_packet_route::{MessageKind, RouteNetlinkMessage};
-use serde_json::Value;
+use netlink_show::{Counts, Manner, append_lines, append_object};
 use std::alloc::{AllocError, Global};
-use std::io::Write;
+use std::fs::File;
+use std::io::{IsTerminal, Write};
+use std::rt::{Stderr, Stdout};
 
 /// How much text is kept back at most, in bytes, before it is written in the midst of a read.
 const LONG_TEXT: usize = 1 << 16;
@@ -24,7 +21,7 @@ const LONG_TEXT: usize = 1 << 16;
 const STEP: u64 = 1 << 26;
 
 /// Where a message stands in its input.
-#[derive(Clone, Copy, Debug, PartialEq, Eq)]
+#[derive(Clone, Copy)]
 pub struct Place {
     /// What it is there: a message or a line.
     pub what: &'static str,
@@ -38,60 +35,35 @@ pub struct Place {
 
 /// A run over inputs: where lines, refusals and refused bytes go.
 #[derive(Drop)]
-pub struct Session<O, E, K> {
+pub struct Session {
+    /// Where memory comes from.
+    pub alloc: Global,
     /// How messages are read and told.
     pub options: Options,
     /// How many there were.
     pub counts: Counts,
-    alloc: Global,
-    output: O,
-    errors: E,
-    keep: Option<K>,
+    output: Stdout,
+    errors: Stderr,
+    keep: Option<File>,
     is_watched: bool,
     text: String,
     input: String,
 }
 
-impl<O: Write, E: Write, K: Write> Session<O, E, K> {
-    /// A run that has read nothing. Where it is watched, long input shows how far it is.
-    pub fn new(
-        alloc: Global,
-        options: Options,
-        output: O,
-        errors: E,
-        keep: Option<K>,
-        is_watched: bool,
-    ) -> Self {
+impl Session {
+    /// A run that has read nothing. Where standard error is a terminal, long input shows how far it is.
+    pub fn new(rt: &HostRuntime, options: Options, keep: Option<File>) -> Session {
         Session {
+            alloc: rt.alloc(),
             options,
             counts: Counts::default(),
-            alloc,
-            output,
-            errors,
+            output: rt.stdout(),
+            errors: rt.stderr(),
             keep,
-            is_watched,
-            text: String::new(alloc),
-            input: String::new(alloc),
+            is_watched: rt.stderr().is_terminal(),
+            text: String::new(rt.alloc()),
+            input: String::new(rt.alloc()),
         }
-    }
-
-    /// What was written, told and kept.
-    #[cfg(test)]
-    pub fn into_parts(self) -> (O, E, Option<K>) {
-        let Session {
-            options: _,
-            counts: _,
-            alloc: _,
-            output,
-            errors,
-            keep,
-            is_watched: _,
-            text,
-            input,
-        } = self;
-        drop(text);
-        drop(input);
-        (output, errors, keep)
     }
 
     /// Goes on with the input of this name.
@@ -127,16 +99,15 @@ impl<O: Write, E: Write, K: Write> Session<O, E, K> {
     /// Tells of a message that was read.
     fn tell(&mut self, message: &NetlinkMessage<RouteNetlinkMessage>) -> Result<(), Stop> {
         self.counts.add(&message.payload);
-        let is_json = match self.options.form {
-            Form::Count => return Ok(()),
-            Form::Json => true,
-            Form::Lines => false,
-        };
         let manner = Manner {
             alloc: self.alloc,
             numeric: self.options.numeric,
         };
-        append_message(manner, is_json, message, &mut self.text)?;
+        match self.options.form {
+            Form::Count => return Ok(()),
+            Form::Json => append_object(manner, message, &mut self.text)?,
+            Form::Lines => append_lines(manner, message, &mut self.text)?,
+        }
         if self.text.len() < LONG_TEXT {
             return Ok(());
         }
@@ -198,7 +169,7 @@ impl<O: Write, E: Write, K: Write> Session<O, E, K> {
         if self.is_watched && self.counts.bytes >= STEP {
             let _ = writeln!(self.errors, "");
         }
-        if self.options.form == Form::Count {
+        if matches!(self.options.form, Form::Count) {
             self.counts.write(&mut self.text)?;
         }
         self.flush()
@@ -223,34 +194,22 @@ fn read_lone(
     kind: MessageKind,
     bytes: &[u8],
 ) -> Result<NetlinkMessage<RouteNetlinkMessage>, DecodeError> {
-    let message = match kind {
-        MessageKind::Address => {
-            RouteNetlinkMessage::NewAddress(AddressMessage::parse(alloc, bytes)?)
-        }
-        MessageKind::Route => RouteNetlinkMessage::NewRoute(RouteMessage::parse(alloc, bytes)?),
-        MessageKind::Rule => RouteNetlinkMessage::NewRule(RuleMessage::parse(alloc, bytes)?),
+    let header = NetlinkHeader {
+        message_type: type_of(kind),
+        ..NetlinkHeader::default()
     };
+    let message = RouteNetlinkMessage::deserialize(alloc, &header, bytes)?;
     Ok(NetlinkMessage {
-        header: NetlinkHeader::default(),
+        header,
         payload: NetlinkPayload::InnerMessage(message),
     })
 }
 
-/// Appends the line, or the object, of a message.
-fn append_message(
-    manner: Manner,
-    is_json: bool,
-    message: &NetlinkMessage<RouteNetlinkMessage>,
-    text: &mut String,
-) -> Result<(), AllocError> {
-    let alloc = manner.alloc;
-    let fields = message_fields(manner, &message.header, &message.payload)?;
-    let mut line = String::new(alloc);
-    let members = members_of(alloc, fields, &mut line)?;
-    if is_json {
-        text.push_str(Value::from(members).to_string(alloc)?.as_str())?;
-    } else {
-        text.push_str(line.as_str())?;
+/// The type that tells of such a message (`RTM_NEW*` of `linux/rtnetlink.h`).
+fn type_of(kind: MessageKind) -> u16 {
+    match kind {
+        MessageKind::Address => 20,
+        MessageKind::Route => 24,
+        MessageKind::Rule => 32,
     }
-    text.push('\n')
 }

@@ -1,14 +1,18 @@
 //! Why a run ends before its input does.
 
-ghost use Rattle.std.specs.Prelude.{◌≡◌};
-ghost use Rattle.nlshow.specs.Stop.{status_of};
+ghost use Rattle.std.specs.Prelude.{◌≡◌, option_map};
+ghost use Rattle.std.specs.IoError.{error_kind};
+ghost use Rattle.nlshow.specs.{
+  declared.stop.Stop.TheVariants.{Memory},
+  Stop.{line_of, status_of, unwritten},
+};
 
 use std::alloc::{AllocError, AllocFailed};
 use std::io;
 use std::io::ErrorKind;
 
 /// Why a run ends before its input does.
-#[derive(Clone, Copy, Debug, PartialEq, Eq)]
+#[derive(Clone, Copy)]
 pub enum Stop {
     /// Memory was refused.
     Memory,
@@ -35,7 +39,9 @@ impl Stop {
     }
 
     /// The line for standard error, without its end; nothing where nobody is to be told.
-    pub fn line(&self) -> Option<&'static str> {
+    pub fn line(&self) -> Option<&'static str>
+        ensures { option_map (λ line. line.now) result ≡ line_of self.now }
+    {
         match self {
             Stop::Memory => Some("out of memory"),
             Stop::Open => Some("cannot be opened"),
@@ -46,7 +52,9 @@ impl Stop {
     }
 
     /// Why a write failed.
-    pub fn of_write(fault: &io::Error) -> Stop {
+    pub fn of_write(fault: &io::Error) -> Stop
+        ensures { result ≡ unwritten (error_kind fault.now) }
+    {
         match fault.kind() {
             ErrorKind::BrokenPipe => Stop::Closed,
             _ => Stop::Write,
@@ -55,12 +63,16 @@ impl Stop {
 }
 
 impl From<AllocError> for Stop {
+    ghost from_gives = { λ _ stop. stop ≡ Memory };
+
     fn from(_fault: AllocError) -> Stop {
         Stop::Memory
     }
 }
 
 impl<T: Drop> From<AllocFailed<T>> for Stop {
+    ghost from_gives = { λ _ stop. stop ≡ Memory };
+
     fn from(_fault: AllocFailed<T>) -> Stop {
         Stop::Memory
     }

@@ -1,6 +1,13 @@
 //! A reader through a window of fixed length, so that memory does not grow with the input.
 
-ghost use Rattle.std.specs.Prelude.{◌≡◌, ◌≤◌, vec_len};
+ghost use Rattle.std.specs.{
+  Prelude.{◌≡◌, ◌≤◌, ◌++◌, ◌+◌, ◌-◌, ◌^◌, ◌==◌, ℕ, List, IfOk, IfErr, drop, min, vec_len},
+  Io.KnownBytes.{Consumes},
+};
+ghost use Rattle.nlshow.specs.{
+  declared.stop.Stop.TheVariants.{Read as ReadFailed},
+  Window.{between},
+};
 
 use crate::stop::Stop;
 use std::alloc::{AllocError, Global};
@@ -32,7 +39,9 @@ impl<R: Read + Drop> Window<R> {
     }
 
     /// The bytes in the window.
-    pub fn held(&self) -> &[u8] {
+    pub fn held(&self) -> &[u8]
+        ensures { result.now ≡ between self.now.room.items self.now.start self.now.end }
+    {
         &self.room.as_slice()[self.start..self.end]
     }
 
@@ -44,25 +53,44 @@ impl<R: Read + Drop> Window<R> {
     }
 
     /// Whether the window has no room for more.
-    pub fn is_full(&self) -> bool {
+    pub fn is_full(&self) -> bool
+        ensures { result ≡ (self.now.end - self.now.start == vec_len self.now.room) }
+    {
         self.end - self.start == self.room.len()
     }
 
     /// Passes so many of the bytes in the window, or all.
-    pub fn pass(&mut self, count: usize) {
+    pub fn pass(&mut self, count: usize)
+        ensures rest { let n = min count (self.old.end - self.old.start) in between self.new.room.items self.new.start self.new.end ≡ drop n (between self.old.room.items self.old.start self.old.end) }
+        ensures passed { let n = min count (self.old.end - self.old.start) in self.new.passed ≡ min (self.old.passed + n) (2 ^ 64 - 1) }
+    {
         let count = count.min(self.end - self.start);
         self.start += count;
         self.passed = self.passed.saturating_add(count as u64);
     }
 
-    /// Reads once into the room that is left, and answers whether anything came. No failed read is
-    /// tried again.
-    pub fn fill(&mut self) -> Result<bool, Stop> {
+    /// Moves the bytes in the window to the front of its room.
+    fn shift(&mut self)
+        ensures same { between self.new.room.items self.new.start self.new.end ≡ between self.old.room.items self.old.start self.old.end }
+        ensures front { self.new.start ≡ 0 }
+        ensures rest { (self.new.reader ≡ self.old.reader) × (self.new.passed ≡ self.old.passed) }
+    {
         self.room
             .as_mut_slice()
             .copy_within(self.start..self.end, 0);
         self.end -= self.start;
         self.start = 0;
+    }
+
+    /// Reads once into the room that is left, and answers whether anything came. No failed read is
+    /// tried again.
+    pub fn fill(&mut self) -> Result<bool, Stop>
+        ensures more { IfOk result (λ _. (bytes : List ℕ) × (between self.new.room.items self.new.start self.new.end ≡ between self.old.room.items self.old.start self.old.end ++ bytes)
+            × Consumes (R.remaining self.old.reader) (R.remaining self.new.reader) bytes) }
+        ensures failed { IfErr result (λ stop. stop ≡ ReadFailed) }
+        ensures passed { self.new.passed ≡ self.old.passed }
+    {
+        self.shift();
         match self.reader.read(&mut self.room.as_mut_slice()[self.end..]) {
             Ok(count) => {
                 self.end += count;

@@ -41,6 +41,8 @@ mod route;
 #[cfg(test)]
 mod rule;
 #[cfg(test)]
+mod shown;
+#[cfg(test)]
 mod srh;
 #[cfg(test)]
 mod texts;

@@ -1,8 +1,8 @@
 //! What is shown of an attribute of any family.
 
-use crate::field::{Field, UNKNOWN, Word};
+use crate::field::{Fields, UNKNOWN, Word};
 use netlink_packet_route::framing::{DefaultNla, NLA_TYPE_MASK, Nla};
-use std::alloc::{AllocError, Global};
+use std::alloc::AllocError;
 
 /// The last place of a line.
 const LAST: u8 = 250;
@@ -16,17 +16,17 @@ const FLAGS: Word = Word(1, "flags", "/");
 const VALUE: Word = Word(2, "value", "");
 
 /// An attribute that nobody knows: its number, the flags of its kind if it has any, and its value.
-pub fn unknown(alloc: Global, nla: &DefaultNla) -> Result<Field, AllocError> {
-    raw(alloc, nla.kind(), nla.value())
+pub fn push_unknown(fields: &mut Fields, nla: &DefaultNla) -> Result<(), AllocError> {
+    push_raw(fields, nla.kind(), nla.value())
 }
 
 /// The same of an attribute that is not at hand as one.
-pub fn raw(alloc: Global, kind: u16, value: &[u8]) -> Result<Field, AllocError> {
-    let mut fields = Vec::new(alloc);
-    fields.push(NUMBER.number(alloc, u64::from(kind & NLA_TYPE_MASK))?)?;
+pub fn push_raw(fields: &mut Fields, kind: u16, value: &[u8]) -> Result<(), AllocError> {
+    let mut inside = Fields::new(fields.manner);
+    inside.number(NUMBER, u64::from(kind & NLA_TYPE_MASK))?;
     if kind & !NLA_TYPE_MASK != 0 {
-        fields.push(FLAGS.bits(alloc, u64::from(kind & !NLA_TYPE_MASK))?)?;
+        inside.bits(FLAGS, u64::from(kind & !NLA_TYPE_MASK))?;
     }
-    fields.push(VALUE.bytes(alloc, value)?)?;
-    WHOLE.object(alloc, fields)
+    inside.bytes(VALUE, value)?;
+    fields.object(WHOLE, inside)
 }

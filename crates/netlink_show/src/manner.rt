@@ -1,11 +1,11 @@
 //! How values are shown.
 
 use crate::names::Names;
-use netlink_packet_route::route::{MplsLabel, RouteAddress, RouteLwEnCapType};
+use netlink_packet_route::route::{MplsLabel, RouteAddress};
 use std::alloc::{AllocError, Global};
 
 /// How values are shown, and where memory comes from.
-#[derive(Clone, Copy, Debug)]
+#[derive(Clone, Copy)]
 pub struct Manner {
     /// Where memory comes from.
     pub alloc: Global,
@@ -69,14 +69,6 @@ impl Manner {
             write!(text, "[ttl {}]", label.ttl)?;
         }
         Ok(text)
-    }
-
-    /// A type of encapsulation.
-    pub fn encap_type(self, kind: RouteLwEnCapType) -> Result<String, AllocError> {
-        match kind {
-            RouteLwEnCapType::Other(number) => format!(in self.alloc; "{number}"),
-            _ => format!(in self.alloc; "{kind}"),
-        }
     }
 
     /// Milliseconds, and from a second on seconds.

@@ -1,0 +1,259 @@
+//! What is shown of the members of an encapsulation.
+
+use crate::attribute_fields::push_unknown;
+use crate::field::{Fields, Word, joined};
+use crate::names::{SEG6_MODES, TABLES};
+use crate::tunnel_fields::{push_ip, push_ip6};
+use netlink_packet_route::net::Ipv6Addr;
+use netlink_packet_route::numbers;
+use netlink_packet_route::route::{
+    Ioam6Mode, Ioam6TraceHdr, MplsLabel, RouteIoam6Tunnel, RouteLwTunnelEncap, RouteMplsIpTunnel,
+    RouteRplIpTunnel, RouteSeg6IpTunnel, RouteSeg6LocalTunnel, RouteXfrmTunnel, RplSrh, Seg6Header,
+    Seg6LocalAction, Seg6LocalSrh,
+};
+use std::alloc::AllocError;
+
+const LABELS: Word = Word(0, "dst", "");
+
+const TTL: Word = Word(1, "ttl", "ttl ");
+
+const MODE: Word = Word(0, "mode", "mode ");
+
+const SEGMENTS: Word = Word(1, "segs", "segs ");
+
+const HMAC: Word = Word(2, "hmac", "hmac ");
+
+const SOURCE: Word = Word(3, "tunsrc", "tunsrc ");
+
+const SEG6_TABLE: Word = Word(4, "table", "table ");
+
+const ACTION: Word = Word(0, "action", "action ");
+
+const HEADER: Word = Word(1, "srh", "srh");
+
+const TABLE: Word = Word(2, "table", "table ");
+
+const VRF_TABLE: Word = Word(3, "vrftable", "vrftable ");
+
+const HOP4: Word = Word(4, "nh4", "nh4 ");
+
+const HOP6: Word = Word(5, "nh6", "nh6 ");
+
+const INCOMING: Word = Word(6, "iif", "iif ");
+
+const OUTGOING: Word = Word(7, "oif", "oif ");
+
+const NEXT_HEADER: Word = Word(10, "nexthdr", "nexthdr ");
+
+const ROUTING_TYPE: Word = Word(11, "type", "type ");
+
+const SEGMENTS_LEFT: Word = Word(12, "segments_left", "segments_left ");
+
+const FIRST_SEGMENT: Word = Word(13, "first_segment", "first_segment ");
+
+const FLAGS: Word = Word(14, "flags", "flags ");
+
+const TAG: Word = Word(15, "tag", "tag ");
+
+const LEFT_OUT: Word = Word(16, "cmpri", "cmpri ");
+
+const LEFT_OUT_LAST: Word = Word(17, "cmpre", "cmpre ");
+
+const PADDING: Word = Word(18, "pad", "pad ");
+
+const FREQUENCY: Word = Word(0, "freq", "freq ");
+
+const OF: Word = Word(1, "freq_of", "/");
+
+const TUNNEL_SOURCE: Word = Word(3, "tunsrc", "tunsrc ");
+
+const TUNNEL_DESTINATION: Word = Word(4, "tundst", "tundst ");
+
+const TRACE: Word = Word(5, "trace", "trace");
+
+const PREALLOCATED: Word = Word(6, "prealloc", "prealloc");
+
+const TRACE_TYPE: Word = Word(7, "type", "type ");
+
+const NAMESPACE: Word = Word(8, "ns", "ns ");
+
+const SIZE: Word = Word(9, "size", "size ");
+
+const NODE_LENGTH: Word = Word(10, "nodelen", "nodelen ");
+
+const OVERFLOW: Word = Word(11, "overflow", "overflow");
+
+const INTERFACE_ID: Word = Word(0, "if_id", "if_id ");
+
+const LINK: Word = Word(1, "link_dev", "link_dev ");
+
+/// A member that says nothing.
+const UNSPECIFIED: Word = Word(100, "unspecified", "unspecified");
+
+/// What is shown of a member.
+pub fn push_encap(fields: &mut Fields, member: &RouteLwTunnelEncap) -> Result<(), AllocError> {
+    match member {
+        RouteLwTunnelEncap::Mpls(member) => push_mpls(fields, member),
+        RouteLwTunnelEncap::Seg6(member) => push_seg6(fields, member),
+        RouteLwTunnelEncap::Ip(member) => push_ip(fields, member),
+        RouteLwTunnelEncap::Ip6(member) => push_ip6(fields, member),
+        RouteLwTunnelEncap::Ioam6(member) => push_ioam6(fields, member),
+        RouteLwTunnelEncap::Rpl(member) => push_rpl(fields, member),
+        RouteLwTunnelEncap::Seg6Local(member) => push_local(fields, member),
+        RouteLwTunnelEncap::Xfrm(member) => push_xfrm(fields, member),
+        RouteLwTunnelEncap::Other(nla) => push_unknown(fields, nla),
+    }
+}
+
+fn push_mpls(fields: &mut Fields, member: &RouteMplsIpTunnel) -> Result<(), AllocError> {
+    match member {
+        RouteMplsIpTunnel::Destination(labels) => push_labels(fields, labels.as_slice()),
+        RouteMplsIpTunnel::Ttl(hops) => fields.number(TTL, u64::from(*hops)),
+        RouteMplsIpTunnel::Other(nla) => push_unknown(fields, nla),
+    }
+}
+
+fn push_labels(fields: &mut Fields, labels: &[MplsLabel]) -> Result<(), AllocError> {
+    let text = fields.manner.labels(labels)?;
+    fields.text(LABELS, &text)
+}
+
+fn push_seg6(fields: &mut Fields, member: &RouteSeg6IpTunnel) -> Result<(), AllocError> {
+    match member {
+        RouteSeg6IpTunnel::Seg6(header) => push_seg6_header(fields, header),
+        RouteSeg6IpTunnel::Src(ip) => fields.text(SOURCE, ip),
+        RouteSeg6IpTunnel::Table(number) => fields.named(SEG6_TABLE, TABLES, *number),
+        RouteSeg6IpTunnel::Other(nla) => push_unknown(fields, nla),
+    }
+}
+
+fn push_seg6_header(fields: &mut Fields, header: &Seg6Header) -> Result<(), AllocError> {
+    fields.named(MODE, SEG6_MODES, numbers::seg6_mode(header.mode))?;
+    push_segments(fields, header.segments.as_slice())?;
+    match header.hmac {
+        Some(key) => fields.bits(HMAC, u64::from(key)),
+        None => Ok(()),
+    }
+}
+
+fn push_segments(fields: &mut Fields, segments: &[Ipv6Addr]) -> Result<(), AllocError> {
+    let alloc = fields.manner.alloc;
+    let mut texts = Vec::new(alloc);
+    for segment in segments {
+        texts.push(format!(in alloc; "{segment}")?)?;
+    }
+    let count = texts.len();
+    let inside = joined(alloc, texts.as_slice(), " ")?;
+    fields.list(
+        SEGMENTS,
+        texts,
+        format!(in alloc; "segs {count} [ {inside} ]")?,
+    )
+}
+
+fn push_local(fields: &mut Fields, member: &RouteSeg6LocalTunnel) -> Result<(), AllocError> {
+    match member {
+        RouteSeg6LocalTunnel::Unspecified => fields.mark(UNSPECIFIED),
+        RouteSeg6LocalTunnel::Action(action) => push_local_action(fields, *action),
+        RouteSeg6LocalTunnel::Srh(header) => push_local_header(fields, header),
+        RouteSeg6LocalTunnel::Table(number) => fields.named(TABLE, TABLES, *number),
+        RouteSeg6LocalTunnel::Nh4(ip) => fields.text(HOP4, ip),
+        RouteSeg6LocalTunnel::Nh6(ip) => fields.text(HOP6, ip),
+        RouteSeg6LocalTunnel::Iif(index) => fields.number(INCOMING, u64::from(*index)),
+        RouteSeg6LocalTunnel::Oif(index) => fields.number(OUTGOING, u64::from(*index)),
+        RouteSeg6LocalTunnel::VrfTable(number) => fields.named(VRF_TABLE, TABLES, *number),
+        RouteSeg6LocalTunnel::Other(nla) => push_unknown(fields, nla),
+    }
+}
+
+fn push_local_action(fields: &mut Fields, action: Seg6LocalAction) -> Result<(), AllocError> {
+    match action {
+        Seg6LocalAction::Other(number) => fields.text(ACTION, &number),
+        _ => fields.text(ACTION, &action),
+    }
+}
+
+fn push_local_header(fields: &mut Fields, header: &Seg6LocalSrh) -> Result<(), AllocError> {
+    let mut inside = Fields::new(fields.manner);
+    push_segments(&mut inside, header.segments.as_slice())?;
+    let numbers = [
+        (NEXT_HEADER, header.next_header),
+        (ROUTING_TYPE, header.routing_type),
+        (SEGMENTS_LEFT, header.segments_left),
+        (FIRST_SEGMENT, header.first_segment),
+        (FLAGS, header.flags),
+    ];
+    push_numbers(&mut inside, &numbers)?;
+    inside.number(TAG, u64::from(header.tag))?;
+    fields.object(HEADER, inside)
+}
+
+fn push_numbers(fields: &mut Fields, numbers: &[(Word, u8)]) -> Result<(), AllocError> {
+    for (word, number) in numbers {
+        fields.number(*word, u64::from(*number))?;
+    }
+    Ok(())
+}
+
+fn push_rpl(fields: &mut Fields, member: &RouteRplIpTunnel) -> Result<(), AllocError> {
+    match member {
+        RouteRplIpTunnel::Unspecified => fields.mark(UNSPECIFIED),
+        RouteRplIpTunnel::Srh(header) => push_rpl_header(fields, header),
+        RouteRplIpTunnel::Other(nla) => push_unknown(fields, nla),
+    }
+}
+
+fn push_rpl_header(fields: &mut Fields, header: &RplSrh) -> Result<(), AllocError> {
+    push_segments(fields, header.segments.as_slice())?;
+    let numbers = [
+        (NEXT_HEADER, header.next_header),
+        (ROUTING_TYPE, header.routing_type),
+        (SEGMENTS_LEFT, header.segments_left),
+        (LEFT_OUT, header.cmpri),
+        (LEFT_OUT_LAST, header.cmpre),
+        (PADDING, header.pad),
+    ];
+    push_numbers(fields, &numbers)
+}
+
+fn push_ioam6(fields: &mut Fields, member: &RouteIoam6Tunnel) -> Result<(), AllocError> {
+    match member {
+        RouteIoam6Tunnel::Unspecified => fields.mark(UNSPECIFIED),
+        RouteIoam6Tunnel::Mode(mode) => push_mode(fields, *mode),
+        RouteIoam6Tunnel::Dst(ip) => fields.text(TUNNEL_DESTINATION, ip),
+        RouteIoam6Tunnel::Trace(header) => push_trace(fields, header),
+        RouteIoam6Tunnel::FreqK(count) => fields.number(FREQUENCY, u64::from(*count)),
+        RouteIoam6Tunnel::FreqN(count) => fields.number(OF, u64::from(*count)),
+        RouteIoam6Tunnel::Src(ip) => fields.text(TUNNEL_SOURCE, ip),
+        RouteIoam6Tunnel::Other(nla) => push_unknown(fields, nla),
+    }
+}
+
+fn push_mode(fields: &mut Fields, mode: Ioam6Mode) -> Result<(), AllocError> {
+    match mode {
+        Ioam6Mode::Other(number) => fields.text(MODE, &number),
+        _ => fields.text(MODE, &mode),
+    }
+}
+
+fn push_trace(fields: &mut Fields, header: &Ioam6TraceHdr) -> Result<(), AllocError> {
+    fields.mark(TRACE)?;
+    fields.mark(PREALLOCATED)?;
+    fields.bits(TRACE_TYPE, u64::from(header.trace_type))?;
+    fields.number(NAMESPACE, u64::from(header.namespace_id))?;
+    fields.number(SIZE, u64::from(header.remlen) * 4)?;
+    fields.number(NODE_LENGTH, u64::from(header.nodelen))?;
+    if header.overflow {
+        fields.truth(OVERFLOW)?;
+    }
+    Ok(())
+}
+
+fn push_xfrm(fields: &mut Fields, member: &RouteXfrmTunnel) -> Result<(), AllocError> {
+    match member {
+        RouteXfrmTunnel::Unspecified => fields.mark(UNSPECIFIED),
+        RouteXfrmTunnel::IfId(id) => fields.bits(INTERFACE_ID, u64::from(*id)),
+        RouteXfrmTunnel::Link(index) => fields.number(LINK, u64::from(*index)),
+        RouteXfrmTunnel::Other(nla) => push_unknown(fields, nla),
+    }
+}

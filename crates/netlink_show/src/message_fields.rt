@@ -1,0 +1,120 @@
+//! What is shown of a message by its envelope.
+
+use crate::address_fields::push_address;
+use crate::field::{Fields, Word};
+use crate::manner::Manner;
+use crate::route_fields::push_route;
+use crate::rule_fields::push_rule;
+use crate::subject::{Subject, subject_of};
+use netlink_packet_core::{
+    DoneMessage, ErrorMessage, NetlinkHeader, NetlinkInner, NetlinkMessage, NetlinkPayload,
+    done_attributes, error_attributes, error_text, refused_message,
+};
+use netlink_packet_route::{OtherMessage, RouteNetlinkMessage};
+use std::alloc::AllocError;
+
+/// What a message is.
+const KIND: Word = Word(0, "message", "");
+
+const DELETED: Word = Word(1, "deleted", "Deleted");
+
+const REQUEST: Word = Word(1, "request", "Request");
+
+const CODE: Word = Word(1, "code", "");
+
+const TEXT: Word = Word(2, "text", "");
+
+const REFUSED: Word = Word(3, "refused", "refused ");
+
+const BYTES: Word = Word(4, "bytes", "bytes ");
+
+const TYPE: Word = Word(1, "message_type", "type ");
+
+const LENGTH: Word = Word(2, "length", "length ");
+
+/// What is shown of a message.
+pub fn message_fields(
+    manner: Manner,
+    message: &NetlinkMessage<RouteNetlinkMessage>,
+) -> Result<Fields, AllocError> {
+    let mut fields = Fields::new(manner);
+    let header = &message.header;
+    match &message.payload {
+        NetlinkPayload::Done(end) => push_done(&mut fields, header, end)?,
+        NetlinkPayload::Error(error) => push_error(&mut fields, header, error)?,
+        NetlinkPayload::Noop => fields.text(KIND, &"noop")?,
+        NetlinkPayload::Overrun(bytes) => push_overrun(&mut fields, bytes.as_slice())?,
+        NetlinkPayload::InnerMessage(inner) => push_inner(&mut fields, inner)?,
+    }
+    Ok(fields)
+}
+
+fn push_done(
+    fields: &mut Fields,
+    header: &NetlinkHeader,
+    message: &DoneMessage,
+) -> Result<(), AllocError> {
+    fields.text(KIND, &"done")?;
+    fields.signed(CODE, message.code)?;
+    fields.hide_if(message.code == 0);
+    let more = message.extended_ack.as_slice();
+    push_text(fields, done_attributes(header.flags, more))
+}
+
+fn push_error(
+    fields: &mut Fields,
+    header: &NetlinkHeader,
+    message: &ErrorMessage,
+) -> Result<(), AllocError> {
+    let more = message.header.as_slice();
+    fields.text(KIND, &"error")?;
+    fields.signed(CODE, message.raw_code())?;
+    push_text(fields, error_attributes(header.flags, more))?;
+    fields.bytes(REFUSED, refused_message(header.flags, more))
+}
+
+/// What the kernel says in words, if anything.
+fn push_text(fields: &mut Fields, attributes: &[u8]) -> Result<(), AllocError> {
+    let Some(words) = error_text(attributes) else {
+        return Ok(());
+    };
+    let text = String::from_utf8_lossy(fields.manner.alloc, words)?;
+    fields.text(TEXT, &text)
+}
+
+fn push_overrun(fields: &mut Fields, bytes: &[u8]) -> Result<(), AllocError> {
+    fields.text(KIND, &"overrun")?;
+    fields.bytes(BYTES, bytes)
+}
+
+fn push_inner(fields: &mut Fields, message: &RouteNetlinkMessage) -> Result<(), AllocError> {
+    let kind = match subject_of(message) {
+        Subject::Address(address) => {
+            push_address(fields, address)?;
+            "address"
+        }
+        Subject::Route(route) => {
+            push_route(fields, route)?;
+            "route"
+        }
+        Subject::Rule(rule) => {
+            push_rule(fields, rule)?;
+            "rule"
+        }
+        Subject::Other(other) => return push_other(fields, other),
+    };
+    fields.text(KIND, &kind)?;
+    fields.hide();
+    // A type's last two bits are what the message does.
+    match message.message_type() % 4 {
+        1 => fields.truth(DELETED),
+        2 => fields.truth(REQUEST),
+        _ => Ok(()),
+    }
+}
+
+fn push_other(fields: &mut Fields, message: &OtherMessage) -> Result<(), AllocError> {
+    fields.text(KIND, &"other")?;
+    fields.number(TYPE, u64::from(message.message_type))?;
+    fields.number(LENGTH, message.payload.len() as u64)
+}

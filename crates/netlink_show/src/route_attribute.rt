@@ -1,0 +1,321 @@
+//! What is shown of an attribute of a route or a next hop.
+
+use crate::attribute_fields::{push_raw, push_unknown};
+use crate::encap_fields::push_encap;
+use crate::field::{Fields, Word, joined};
+use crate::metric_fields::push_metrics;
+use crate::names::{IP_PROTOCOLS, PREFERENCES, REALMS, TABLES};
+use netlink_packet_route::framing::Nla;
+use netlink_packet_route::route::{
+    MplsLabel, RouteAddress, RouteAttribute, RouteCacheInfo, RouteHeader, RouteLwEnCapType,
+    RouteLwTunnelEncap, RouteMetric, RouteMfcStats, RouteMplsTtlPropagation, RouteRealm, RouteVia,
+};
+use netlink_packet_route::{AddressFamily, numbers};
+use serde_json::Value;
+use std::alloc::AllocError;
+
+/// The destination.
+pub const DESTINATION: Word = Word(3, "dst", "");
+
+/// The source.
+pub const SOURCE: Word = Word(4, "from", "from ");
+
+/// The interface by which a packet goes out.
+pub const INTERFACE: Word = Word(12, "dev", "dev ");
+
+const NEW_DESTINATION: Word = Word(5, "to", "as to ");
+
+const ENCAP: Word = Word(6, "encap", "encap ");
+
+const ENCAP_INFO: Word = Word(7, "encap_info", "");
+
+const NEXT_HOP: Word = Word(9, "nhid", "nhid ");
+
+const GATEWAY: Word = Word(10, "gateway", "via ");
+
+const VIA: Word = Word(11, "via", "via");
+
+const TABLE: Word = Word(13, "table", "table ");
+
+const PREFERRED_SOURCE: Word = Word(16, "prefsrc", "src ");
+
+const PRIORITY: Word = Word(17, "metric", "metric ");
+
+const FLAGS: Word = Word(18, "flags", "");
+
+const MARK: Word = Word(19, "mark", "mark ");
+
+const FLOW: Word = Word(20, "flow", "");
+
+const USER: Word = Word(21, "uid", "uid ");
+
+const METRICS: Word = Word(30, "metrics", "");
+
+const INCOMING: Word = Word(31, "iif", "iif ");
+
+const PREFERENCE: Word = Word(32, "pref", "pref ");
+
+const PROPAGATE: Word = Word(33, "ttl-propogate", "ttl-propogate ");
+
+const IP_PROTOCOL: Word = Word(34, "ipproto", "ipproto ");
+
+const SOURCE_PORT: Word = Word(35, "sport", "sport ");
+
+const DESTINATION_PORT: Word = Word(36, "dport", "dport ");
+
+const FLOW_LABEL: Word = Word(37, "flowlabel", "flowlabel ");
+
+const EXPIRES: Word = Word(38, "expires_in", "expires_in ");
+
+const TICKS: Word = Word(39, "expires_ticks", "expires_ticks ");
+
+const FORWARDED: Word = Word(40, "forwarded", "forwarded");
+
+const EXPIRY: Word = Word(22, "expires", "expires ");
+
+const ERROR: Word = Word(23, "error", "error ");
+
+const USERS: Word = Word(24, "users", "users ");
+
+const USED: Word = Word(25, "used", "used ");
+
+const AGE: Word = Word(26, "age", "age ");
+
+const IDENTIFICATION: Word = Word(27, "ipid", "ipid ");
+
+const STAMP: Word = Word(28, "ts", "ts ");
+
+const STAMP_AGE: Word = Word(29, "tsage", "tsage ");
+
+const PACKETS: Word = Word(0, "packets", "packets ");
+
+const BYTES: Word = Word(1, "bytes", "bytes ");
+
+const WRONG: Word = Word(2, "wrong_if", "wrong_if ");
+
+const FROM: Word = Word(0, "from", "realms ");
+
+const TO: Word = Word(1, "to", "/");
+
+const TO_ALONE: Word = Word(1, "to", "realm ");
+
+const HOST_FAMILY: Word = Word(0, "family", "");
+
+const HOST: Word = Word(1, "host", "");
+
+/// Ticks in a second, as the kernel tells them.
+const HERTZ: i32 = 100;
+
+/// The flags of a route or a next hop that have a word.
+const NAMED_FLAGS: &[(u32, &'static str)] = &[
+    (0x1, "dead"),
+    (0x4, "onlink"),
+    (0x2, "pervasive"),
+    (0x8, "offload"),
+    (0x40, "trap"),
+    (0x100, "notify"),
+    (0x10, "linkdown"),
+    (0x20, "unresolved"),
+    (0x4000, "rt_offload"),
+    (0x8000, "rt_trap"),
+    (0x2000_0000, "rt_offload_failed"),
+    (0x200, "cloned"),
+    (0x400, "equalize"),
+    (0x800, "prefix"),
+    (0x1000, "lookup_table"),
+    (0x2000, "fibmatch"),
+];
+
+/// The flags that are set, by their words, and the others as a number.
+pub fn push_route_flags(fields: &mut Fields, bits: u32) -> Result<(), AllocError> {
+    let alloc = fields.manner.alloc;
+    let mut names = Vec::new(alloc);
+    let mut rest = bits;
+    for (bit, name) in NAMED_FLAGS {
+        if bits & *bit != 0 {
+            names.push(String::from_str(alloc, name)?)?;
+            rest &= !*bit;
+        }
+    }
+    if rest != 0 {
+        names.push(format!(in alloc; "0x{rest:x}")?)?;
+    }
+    let text = joined(alloc, names.as_slice(), " ")?;
+    fields.list(FLAGS, names, text)
+}
+
+/// The table, which a line does not have where it is the main one.
+pub fn push_table(fields: &mut Fields, number: u32) -> Result<(), AllocError> {
+    fields.named(TABLE, TABLES, number)?;
+    fields.hide_if(number == u32::from(RouteHeader::RT_TABLE_MAIN));
+    Ok(())
+}
+
+/// What is shown of an attribute, whatever stands in the header.
+pub fn push_attribute(fields: &mut Fields, attribute: &RouteAttribute) -> Result<(), AllocError> {
+    match attribute {
+        RouteAttribute::Destination(address) => push_address(fields, DESTINATION, address),
+        RouteAttribute::Source(address) => push_address(fields, SOURCE, address),
+        RouteAttribute::Iif(index) => fields.number(INCOMING, u64::from(*index)),
+        RouteAttribute::Oif(index) => fields.number(INTERFACE, u64::from(*index)),
+        RouteAttribute::Gateway(address) => push_address(fields, GATEWAY, address),
+        RouteAttribute::Priority(metric) => fields.number(PRIORITY, u64::from(*metric)),
+        RouteAttribute::PrefSource(address) => push_address(fields, PREFERRED_SOURCE, address),
+        RouteAttribute::Metrics(metrics) => push_all_metrics(fields, metrics.as_slice()),
+        RouteAttribute::Realm(realm) => push_realms(fields, *realm),
+        RouteAttribute::CacheInfo(info) => push_cache_info(fields, info),
+        RouteAttribute::Table(number) => push_table(fields, *number),
+        RouteAttribute::Mark(mark) => fields.bits(MARK, u64::from(*mark)),
+        RouteAttribute::Via(gateway) => push_via(fields, gateway),
+        RouteAttribute::EncapType(kind) => push_encap_type(fields, *kind),
+        RouteAttribute::Encap(members) => push_encap_info(fields, members.as_slice()),
+        RouteAttribute::NhId(id) => fields.number(NEXT_HOP, u64::from(*id)),
+        _ => push_rare(fields, attribute),
+    }
+}
+
+fn push_rare(fields: &mut Fields, attribute: &RouteAttribute) -> Result<(), AllocError> {
+    match attribute {
+        RouteAttribute::MfcStats(stats) => push_forwarded(fields, stats),
+        RouteAttribute::NewDestination(labels) => push_new_labels(fields, labels.as_slice()),
+        RouteAttribute::NewDestinationAddress(address) => {
+            push_address(fields, NEW_DESTINATION, address)
+        }
+        RouteAttribute::Preference(value) => {
+            let number = u32::from(numbers::route_preference(*value));
+            fields.named(PREFERENCE, PREFERENCES, number)
+        }
+        RouteAttribute::Expires(seconds) => fields.lifetime(EXPIRES, *seconds),
+        RouteAttribute::MulticastExpires(ticks) => fields.number(TICKS, *ticks),
+        RouteAttribute::Uid(user) => fields.number(USER, u64::from(*user)),
+        RouteAttribute::TtlPropagate(how) => push_propagate(fields, *how),
+        RouteAttribute::IpProto(number) => {
+            fields.named(IP_PROTOCOL, IP_PROTOCOLS, u32::from(*number))
+        }
+        RouteAttribute::Sport(port) => fields.number(SOURCE_PORT, u64::from(*port)),
+        RouteAttribute::Dport(port) => fields.number(DESTINATION_PORT, u64::from(*port)),
+        RouteAttribute::Flowlabel(label) => fields.bits(FLOW_LABEL, u64::from(*label)),
+        RouteAttribute::Other(nla) => push_unknown(fields, nla),
+        _ => push_written(fields, attribute),
+    }
+}
+
+fn push_address(fields: &mut Fields, word: Word, address: &RouteAddress) -> Result<(), AllocError> {
+    let text = fields.manner.address(address)?;
+    fields.text(word, &text)
+}
+
+fn push_new_labels(fields: &mut Fields, labels: &[MplsLabel]) -> Result<(), AllocError> {
+    let text = fields.manner.labels(labels)?;
+    fields.text(NEW_DESTINATION, &text)
+}
+
+fn push_encap_type(fields: &mut Fields, kind: RouteLwEnCapType) -> Result<(), AllocError> {
+    match kind {
+        RouteLwEnCapType::Other(number) => fields.text(ENCAP, &number),
+        _ => fields.text(ENCAP, &kind),
+    }
+}
+
+fn push_encap_info(fields: &mut Fields, members: &[RouteLwTunnelEncap]) -> Result<(), AllocError> {
+    let mut inside = Fields::new(fields.manner);
+    for member in members {
+        push_encap(&mut inside, member)?;
+    }
+    fields.object(ENCAP_INFO, inside)
+}
+
+/// An attribute as it is written: next hops inside a next hop, which no kernel makes.
+fn push_written(fields: &mut Fields, attribute: &RouteAttribute) -> Result<(), AllocError> {
+    if attribute.check().is_err() {
+        return push_raw(fields, attribute.kind(), &[]);
+    }
+    let mut value = vec![in fields.manner.alloc; 0u8; attribute.value_len()]?;
+    attribute.emit_value(value.as_mut_slice());
+    push_raw(fields, attribute.kind(), value.as_slice())
+}
+
+fn push_all_metrics(fields: &mut Fields, metrics: &[RouteMetric]) -> Result<(), AllocError> {
+    let mut inside = Fields::new(fields.manner);
+    push_metrics(&mut inside, metrics)?;
+    let mut objects = Vec::new(fields.manner.alloc);
+    objects.push(inside)?;
+    fields.objects(METRICS, objects)
+}
+
+fn push_realms(fields: &mut Fields, realm: RouteRealm) -> Result<(), AllocError> {
+    let mut inside = Fields::new(fields.manner);
+    let to = u32::from(realm.destination);
+    if realm.source == 0 {
+        inside.named(TO_ALONE, REALMS, to)?;
+    } else {
+        inside.named(FROM, REALMS, u32::from(realm.source))?;
+        inside.named(TO, REALMS, to)?;
+    }
+    fields.object(FLOW, inside)
+}
+
+/// A gateway of a family of its own.
+fn push_via(fields: &mut Fields, gateway: &RouteVia) -> Result<(), AllocError> {
+    let mut inside = Fields::new(fields.manner);
+    match gateway {
+        RouteVia::Inet(ip) => {
+            inside.text(HOST_FAMILY, &AddressFamily::Inet)?;
+            inside.text(HOST, ip)?;
+        }
+        RouteVia::Inet6(ip) => {
+            inside.text(HOST_FAMILY, &AddressFamily::Inet6)?;
+            inside.text(HOST, ip)?;
+        }
+        RouteVia::Packet(bytes) => push_host(&mut inside, AddressFamily::Packet, bytes.as_slice())?,
+        RouteVia::Other((family, bytes)) => push_host(&mut inside, *family, bytes.as_slice())?,
+    }
+    fields.object(VIA, inside)
+}
+
+fn push_host(fields: &mut Fields, family: AddressFamily, host: &[u8]) -> Result<(), AllocError> {
+    fields.text(HOST_FAMILY, &family)?;
+    fields.bytes(HOST, host)
+}
+
+fn push_propagate(fields: &mut Fields, how: RouteMplsTtlPropagation) -> Result<(), AllocError> {
+    match how {
+        RouteMplsTtlPropagation::Disabled => fields.truth_of(PROPAGATE, false, "disabled"),
+        RouteMplsTtlPropagation::Enabled => fields.truth_of(PROPAGATE, true, "enabled"),
+        RouteMplsTtlPropagation::Other(number) => fields.number(PROPAGATE, u64::from(number)),
+    }
+}
+
+fn push_forwarded(fields: &mut Fields, stats: &RouteMfcStats) -> Result<(), AllocError> {
+    let mut inside = Fields::new(fields.manner);
+    inside.number(PACKETS, stats.packets)?;
+    inside.number(BYTES, stats.bytes)?;
+    inside.number(WRONG, stats.wrong_if)?;
+    fields.object(FORWARDED, inside)
+}
+
+/// What the kernel remembers of a route, where it is not 0.
+fn push_cache_info(fields: &mut Fields, info: &RouteCacheInfo) -> Result<(), AllocError> {
+    if info.expires != 0 {
+        let seconds = info.expires.cast_signed() / HERTZ;
+        let shown = format!(in fields.manner.alloc; "expires {seconds}sec")?;
+        fields.push(EXPIRY, shown, Value::from(seconds))?;
+    }
+    for (word, number) in [
+        (ERROR, info.error),
+        (USERS, info.clntref),
+        (USED, info.used),
+        (AGE, info.last_use),
+        (STAMP_AGE, info.ts_age),
+    ] {
+        if number != 0 {
+            fields.number(word, u64::from(number))?;
+        }
+    }
+    for (word, bits) in [(IDENTIFICATION, info.id), (STAMP, info.ts)] {
+        if bits != 0 {
+            fields.bits(word, u64::from(bits))?;
+        }
+    }
+    Ok(())
+}

@@ -1,0 +1,346 @@
+//! What is shown of a rule.
+
+use crate::attribute_fields::{push_raw, push_unknown};
+use crate::field::{Fields, Word};
+use crate::names::{GROUPS, IP_PROTOCOLS, PROTOCOLS, REALMS, TABLES, TYPES};
+use netlink_packet_route::framing::Nla;
+use netlink_packet_route::net::IpAddr;
+use netlink_packet_route::route::RouteRealm;
+use netlink_packet_route::rule::{
+    RuleAction, RuleAttribute, RuleFlags, RuleHeader, RuleMessage, RulePortRange, RuleUidRange,
+};
+use netlink_packet_route::{Flags, IpProtocol, numbers};
+use std::alloc::AllocError;
+
+const PRIORITY: Word = Word(2, "priority", "");
+
+const NOT: Word = Word(3, "not", "not");
+
+const SOURCE: Word = Word(4, "src", "from ");
+
+const SOURCE_LENGTH: Word = Word(5, "srclen", "/");
+
+const DESTINATION: Word = Word(6, "dst", "to ");
+
+const DESTINATION_LENGTH: Word = Word(7, "dstlen", "/");
+
+const SERVICE: Word = Word(8, "tos", "tos ");
+
+const MARK: Word = Word(9, "fwmark", "fwmark ");
+
+const MASK: Word = Word(10, "fwmask", "/");
+
+const INCOMING: Word = Word(11, "iif", "iif ");
+
+const INCOMING_DETACHED: Word = Word(12, "iif_detached", "[detached]");
+
+const OUTGOING: Word = Word(13, "oif", "oif ");
+
+const OUTGOING_DETACHED: Word = Word(14, "oif_detached", "[detached]");
+
+const MASTER: Word = Word(15, "l3mdev", "lookup [l3mdev-table]");
+
+const FIRST_USER: Word = Word(16, "uid_start", "uidrange ");
+
+const LAST_USER: Word = Word(17, "uid_end", "-");
+
+const IP_PROTOCOL: Word = Word(18, "ipproto", "ipproto ");
+
+const TUNNEL: Word = Word(25, "tun_id", "tun_id ");
+
+const TABLE: Word = Word(26, "table", "lookup ");
+
+const PREFIX_LENGTH: Word = Word(27, "suppress_prefixlen", "suppress_prefixlength ");
+
+const GROUP: Word = Word(28, "suppress_ifgroup", "suppress_ifgroup ");
+
+const FLOW_FROM: Word = Word(29, "flow_from", "realms ");
+
+const FLOW_TO: Word = Word(30, "flow_to", "/");
+
+const FLOW_TO_ALONE: Word = Word(30, "flow_to", "realms ");
+
+const GOTO: Word = Word(31, "goto", "goto ");
+
+const UNRESOLVED: Word = Word(32, "unresolved", "[unresolved]");
+
+const NOP: Word = Word(33, "nop", "nop");
+
+const ACTION: Word = Word(34, "action", "");
+
+const PROTOCOL: Word = Word(35, "protocol", "proto ");
+
+const PERMANENT: Word = Word(36, "permanent", "permanent");
+
+const OTHER_FLAGS: Word = Word(37, "flags", "flags ");
+
+const FAMILY: Word = Word(38, "family", "family ");
+
+/// The words for a port, for the first port of a range and for its last.
+type PortWords = (Word, Word, Word);
+
+const SOURCE_PORTS: PortWords = (
+    Word(19, "sport", "sport "),
+    Word(20, "sport_start", "sport "),
+    Word(21, "sport_end", "-"),
+);
+
+const DESTINATION_PORTS: PortWords = (
+    Word(22, "dport", "dport "),
+    Word(23, "dport_start", "dport "),
+    Word(24, "dport_end", "-"),
+);
+
+/// Attributes in whose absence something is told (`FRA_*` of `linux/fib_rules.h`).
+const FRA_DST: u16 = 1;
+
+const FRA_SRC: u16 = 2;
+
+const FRA_GOTO: u16 = 4;
+
+const FRA_PRIORITY: u16 = 6;
+
+const FRA_FWMARK: u16 = 10;
+
+const FRA_TABLE: u16 = 15;
+
+const FRA_FWMASK: u16 = 16;
+
+/// The flags that have a word.
+const NAMED: u32 = 0x1f;
+
+/// What is shown of a rule.
+pub fn push_rule(fields: &mut Fields, message: &RuleMessage) -> Result<(), AllocError> {
+    let header = &message.header;
+    let attributes = message.attributes.as_slice();
+    push_flags(fields, header.flags.bits())?;
+    push_action(fields, header.action)?;
+    push_absent(fields, header, attributes)?;
+    push_header(fields, header)?;
+    for attribute in attributes {
+        push_attribute(fields, header, attribute)?;
+    }
+    Ok(())
+}
+
+fn push_header(fields: &mut Fields, header: &RuleHeader) -> Result<(), AllocError> {
+    if header.tos != 0 {
+        let service = format!(in fields.manner.alloc; "0x{:02x}", header.tos)?;
+        fields.text(SERVICE, &service)?;
+    }
+    fields.text(FAMILY, &header.family)?;
+    fields.hide();
+    Ok(())
+}
+
+fn push_flags(fields: &mut Fields, bits: u32) -> Result<(), AllocError> {
+    for (flag, word) in [
+        (RuleFlags::Permanent, PERMANENT),
+        (RuleFlags::Invert, NOT),
+        (RuleFlags::Unresolved, UNRESOLVED),
+        (RuleFlags::IifDetached, INCOMING_DETACHED),
+        (RuleFlags::OifDetached, OUTGOING_DETACHED),
+    ] {
+        if bits & flag.bits() != 0 {
+            fields.mark(word)?;
+        }
+    }
+    if bits & !NAMED == 0 {
+        return Ok(());
+    }
+    fields.bits(OTHER_FLAGS, u64::from(bits & !NAMED))
+}
+
+fn push_action(fields: &mut Fields, action: RuleAction) -> Result<(), AllocError> {
+    match action {
+        // What they do is told by attributes.
+        RuleAction::ToTable | RuleAction::Goto => Ok(()),
+        RuleAction::Nop => fields.mark(NOP),
+        _ => fields.named(ACTION, TYPES, u32::from(numbers::rule_action(action))),
+    }
+}
+
+/// Whether there is an attribute of this number.
+fn has(attributes: &[RuleAttribute], kind: u16) -> bool {
+    attributes.iter().any(|attribute| attribute.kind() == kind)
+}
+
+/// What is told where an attribute is not there.
+fn push_absent(
+    fields: &mut Fields,
+    header: &RuleHeader,
+    attributes: &[RuleAttribute],
+) -> Result<(), AllocError> {
+    if !has(attributes, FRA_PRIORITY) {
+        push_priority(fields, 0)?;
+    }
+    if !has(attributes, FRA_SRC) {
+        let source = if header.src_len == 0 { "all" } else { "0" };
+        fields.text(SOURCE, &source)?;
+        push_length(fields, SOURCE_LENGTH, header.src_len, 0)?;
+    }
+    if !has(attributes, FRA_DST) && header.dst_len != 0 {
+        fields.text(DESTINATION, &"0")?;
+        push_length(fields, DESTINATION_LENGTH, header.dst_len, 0)?;
+    }
+    if has(attributes, FRA_FWMASK) && !has(attributes, FRA_FWMARK) {
+        fields.bits(MARK, 0)?;
+    }
+    if !has(attributes, FRA_TABLE) {
+        push_table(fields, u32::from(header.table))?;
+    }
+    if header.action == RuleAction::Goto && !has(attributes, FRA_GOTO) {
+        fields.text(GOTO, &"none")?;
+    }
+    Ok(())
+}
+
+/// The preference, which stands first in a line.
+fn push_priority(fields: &mut Fields, number: u32) -> Result<(), AllocError> {
+    let text = format!(in fields.manner.alloc; "{number}:")?;
+    fields.measured(PRIORITY, u64::from(number), &text)
+}
+
+/// The length of a prefix, where it is not that of the address alone.
+fn push_length(fields: &mut Fields, word: Word, length: u8, whole: u8) -> Result<(), AllocError> {
+    if length == whole {
+        return Ok(());
+    }
+    fields.number(word, u64::from(length))
+}
+
+fn whole_length(ip: &IpAddr) -> u8 {
+    match ip {
+        IpAddr::V4(_) => 32,
+        IpAddr::V6(_) => 128,
+    }
+}
+
+/// The table, which a line does not have where there is none.
+fn push_table(fields: &mut Fields, number: u32) -> Result<(), AllocError> {
+    fields.named(TABLE, TABLES, number)?;
+    fields.hide_if(number == 0);
+    Ok(())
+}
+
+/// What is shown of an attribute.
+fn push_attribute(
+    fields: &mut Fields,
+    header: &RuleHeader,
+    attribute: &RuleAttribute,
+) -> Result<(), AllocError> {
+    match attribute {
+        RuleAttribute::Source(ip) => push_prefix(
+            fields,
+            (SOURCE, SOURCE_LENGTH),
+            ip,
+            header.src_len,
+        ),
+        RuleAttribute::Destination(ip) => {
+            push_prefix(
+                fields,
+                (DESTINATION, DESTINATION_LENGTH),
+                ip,
+                header.dst_len,
+            )
+        }
+        RuleAttribute::Realm(realm) => push_realm(fields, *realm),
+        RuleAttribute::UidRange(users) => push_users(fields, *users),
+        RuleAttribute::SourcePortRange(ports) => push_ports(fields, SOURCE_PORTS, *ports),
+        RuleAttribute::DestinationPortRange(ports) => push_ports(fields, DESTINATION_PORTS, *ports),
+        RuleAttribute::Iifname(name) => fields.text(INCOMING, name),
+        RuleAttribute::Oifname(name) => fields.text(OUTGOING, name),
+        RuleAttribute::Goto(target) => fields.number(GOTO, u64::from(*target)),
+        RuleAttribute::Priority(number) => push_priority(fields, *number),
+        RuleAttribute::FwMark(mark) => fields.bits(MARK, u64::from(*mark)),
+        RuleAttribute::FwMask(mask) => push_mask(fields, *mask),
+        RuleAttribute::TunId(id) => fields.number(TUNNEL, *id),
+        RuleAttribute::Table(number) => push_table(fields, *number),
+        _ => push_rare(fields, attribute),
+    }
+}
+
+fn push_rare(fields: &mut Fields, attribute: &RuleAttribute) -> Result<(), AllocError> {
+    match attribute {
+        RuleAttribute::SuppressIfGroup(group) => push_group(fields, *group),
+        RuleAttribute::SuppressPrefixLen(length) => push_suppressed(fields, *length),
+        RuleAttribute::L3MDev(is_so) => push_master(fields, *is_so),
+        RuleAttribute::Protocol(made_by) => {
+            let number = u32::from(numbers::route_protocol(*made_by));
+            fields.named(PROTOCOL, PROTOCOLS, number)
+        }
+        RuleAttribute::IpProtocol(protocol) => push_ip_protocol(fields, *protocol),
+        RuleAttribute::Other(nla) => push_unknown(fields, nla),
+        _ => push_raw(fields, attribute.kind(), &[]),
+    }
+}
+
+/// An address and the length of its prefix.
+fn push_prefix(
+    fields: &mut Fields,
+    words: (Word, Word),
+    ip: &IpAddr,
+    length: u8,
+) -> Result<(), AllocError> {
+    fields.text(words.0, ip)?;
+    push_length(fields, words.1, length, whole_length(ip))
+}
+
+fn push_mask(fields: &mut Fields, mask: u32) -> Result<(), AllocError> {
+    fields.bits(MASK, u64::from(mask))?;
+    fields.hide_if(mask == u32::MAX);
+    Ok(())
+}
+
+fn push_group(fields: &mut Fields, group: u32) -> Result<(), AllocError> {
+    fields.named(GROUP, GROUPS, group)?;
+    fields.hide_if(group == u32::MAX);
+    Ok(())
+}
+
+fn push_suppressed(fields: &mut Fields, length: u32) -> Result<(), AllocError> {
+    fields.signed(PREFIX_LENGTH, length.cast_signed())?;
+    fields.hide_if(length == u32::MAX);
+    Ok(())
+}
+
+fn push_master(fields: &mut Fields, is_so: bool) -> Result<(), AllocError> {
+    if is_so {
+        return fields.mark(MASTER);
+    }
+    fields.truth_of(MASTER, false, "")?;
+    fields.hide();
+    Ok(())
+}
+
+fn push_ip_protocol(fields: &mut Fields, protocol: IpProtocol) -> Result<(), AllocError> {
+    let number = protocol.as_u8().map_or(u32::MAX, u32::from);
+    fields.named(IP_PROTOCOL, IP_PROTOCOLS, number)
+}
+
+fn push_realm(fields: &mut Fields, realm: RouteRealm) -> Result<(), AllocError> {
+    let to = u32::from(realm.destination);
+    if realm.source == 0 {
+        return fields.named(FLOW_TO_ALONE, REALMS, to);
+    }
+    fields.named(FLOW_FROM, REALMS, u32::from(realm.source))?;
+    fields.named(FLOW_TO, REALMS, to)
+}
+
+fn push_users(fields: &mut Fields, users: RuleUidRange) -> Result<(), AllocError> {
+    fields.number(FIRST_USER, u64::from(users.start))?;
+    fields.number(LAST_USER, u64::from(users.end))
+}
+
+fn push_ports(
+    fields: &mut Fields,
+    words: PortWords,
+    ports: RulePortRange,
+) -> Result<(), AllocError> {
+    let (one, first, last) = words;
+    if ports.start == ports.end {
+        return fields.number(one, u64::from(ports.start));
+    }
+    fields.number(first, u64::from(ports.start))?;
+    fields.number(last, u64::from(ports.end))
+}

@@ -1,0 +1,43 @@
+//! Messages as lines and as objects.
+
+use crate::field::members_of;
+use crate::manner::Manner;
+use crate::message_fields::message_fields;
+use netlink_packet_core::NetlinkMessage;
+use netlink_packet_route::RouteNetlinkMessage;
+use serde_json::Value;
+use std::alloc::AllocError;
+
+/// Appends what `ip` says of a message, which is a line, and of a route by several paths another for
+/// each, with their ends.
+///
+/// # Errors
+/// `AllocError` where memory is refused; some of the text may stand then.
+pub fn append_lines(
+    manner: Manner,
+    message: &NetlinkMessage<RouteNetlinkMessage>,
+    text: &mut String,
+) -> Result<(), AllocError> {
+    let fields = message_fields(manner, message)?;
+    let mut line = String::new(manner.alloc);
+    members_of(fields, &mut line)?;
+    text.push_str(line.as_str())?;
+    text.push('\n')
+}
+
+/// Appends the object of a message as JSON, with the keys of `ip -j -d`, and the end of a line.
+///
+/// # Errors
+/// `AllocError` where memory is refused; some of the text may stand then.
+pub fn append_object(
+    manner: Manner,
+    message: &NetlinkMessage<RouteNetlinkMessage>,
+    text: &mut String,
+) -> Result<(), AllocError> {
+    let fields = message_fields(manner, message)?;
+    let mut line = String::new(manner.alloc);
+    let members = members_of(fields, &mut line)?;
+    let object = Value::from(members).to_string(manner.alloc)?;
+    text.push_str(object.as_str())?;
+    text.push('\n')
+}
