@@ -4,6 +4,7 @@ use crate::datagram::datagram_answer;
 use netlink_packet_route::MessageKind;
 use netlink_packet_route::address::AddressHeader;
 use netlink_packet_route::framing::{DecodeError, Header, Message, Parseable, WriteError, to_vec};
+use netlink_packet_route::neighbour::NeighbourHeader;
 use netlink_packet_route::route::RouteHeader;
 use netlink_packet_route::rule::RuleHeader;
 use std::alloc::{AllocError, Global};
@@ -42,6 +43,7 @@ fn answer(alloc: Global, kind: MessageKind, bytes: &[u8]) -> Result<String, Allo
         MessageKind::Address => answer_by::<AddressHeader>(alloc, bytes),
         MessageKind::Route => answer_by::<RouteHeader>(alloc, bytes),
         MessageKind::Rule => answer_by::<RuleHeader>(alloc, bytes),
+        MessageKind::Neighbour => answer_by::<NeighbourHeader>(alloc, bytes),
     }
 }
 

@@ -7,6 +7,7 @@ use netlink_packet_route::address::AddressHeader;
 use netlink_packet_route::framing::{
     DecodeError, Emitable, Header, Looks, Message, Parseable, WriteError, to_vec,
 };
+use netlink_packet_route::neighbour::NeighbourHeader;
 use netlink_packet_route::route::RouteHeader;
 use netlink_packet_route::rule::RuleHeader;
 use std::alloc::{AllocError, Global};
@@ -22,10 +23,11 @@ pub enum Subject {
 
 impl Subject {
     /// Each of them.
-    pub const ALL: [Subject; 4] = [
+    pub const ALL: [Subject; 5] = [
         Subject::Message(MessageKind::Address),
         Subject::Message(MessageKind::Route),
         Subject::Message(MessageKind::Rule),
+        Subject::Message(MessageKind::Neighbour),
         Subject::Datagram,
     ];
 
@@ -60,6 +62,7 @@ pub fn answer_to(alloc: Global, subject: Subject, bytes: &[u8]) -> Result<Answer
         Subject::Message(MessageKind::Address) => answer_by::<AddressHeader>(alloc, bytes),
         Subject::Message(MessageKind::Route) => answer_by::<RouteHeader>(alloc, bytes),
         Subject::Message(MessageKind::Rule) => answer_by::<RuleHeader>(alloc, bytes),
+        Subject::Message(MessageKind::Neighbour) => answer_by::<NeighbourHeader>(alloc, bytes),
         Subject::Datagram => answer_to_datagram(alloc, bytes),
     }
 }

@@ -28,15 +28,19 @@ const RULE: [u8; 25] = [
     1, 1, 4, 4,
 ];
 
+const NEIGHBOUR: [u8; 16] = [ANY, OF_FAMILY, 6, 16, 4, 2, 2, 4, 4, 4, 4, 4, 1, 4, ANY, 4];
+
 /// Attributes of an extended answer.
 const ANSWERS: [u8; 7] = [ANY, ANY, 4, ANY, ANY, 4, 4];
 
 /// Types of messages, with the kind of those that have one.
-const TYPES: [(u16, Option<MessageKind>); 9] = [
+const TYPES: [(u16, Option<MessageKind>); 11] = [
     (20, Some(MessageKind::Address)),
     (22, Some(MessageKind::Address)),
     (24, Some(MessageKind::Route)),
     (26, Some(MessageKind::Route)),
+    (28, Some(MessageKind::Neighbour)),
+    (29, Some(MessageKind::Neighbour)),
     (32, Some(MessageKind::Rule)),
     (1, None),
     (2, None),
@@ -120,7 +124,7 @@ impl Maker {
         let (message_type, kind) = self.random.one_of(&TYPES, (4, None));
         let size = match kind {
             Some(MessageKind::Address) => 24usize,
-            Some(MessageKind::Route | MessageKind::Rule) => 28,
+            Some(MessageKind::Route | MessageKind::Rule | MessageKind::Neighbour) => 28,
             None => 16,
         };
         match kind {
@@ -162,6 +166,7 @@ impl Maker {
         match kind {
             MessageKind::Address => self.leaves(&ADDRESS),
             MessageKind::Rule => self.leaves(&RULE),
+            MessageKind::Neighbour => self.leaves(&NEIGHBOUR),
             MessageKind::Route => self.route(),
         }
     }

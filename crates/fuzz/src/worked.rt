@@ -15,6 +15,12 @@ const RULES: [&str; 2] = [
     "02000000fe0000010000000009000300657468300000000008000f00fe00000005001500030000000800060000800000",
 ];
 
+/// Neighbour messages: one of version 4 that a kernel dumped, and one of a bridge behind a tunnel.
+const NEIGHBOURS: [&str; 2] = [
+    "02000000030000001000000108000100c00002030a00020002000000001300000800040001000000140003009a1700002d0000002a0000000100000005000c0004000000",
+    "070000000300000080000200080001000a0000090600060012b50000",
+];
+
 /// Route messages.
 const ROUTES: [&str; 31] = [
     // by an object of a next hop, and to a network of version 6
@@ -73,6 +79,7 @@ pub fn messages(subject: Subject) -> &'static [&'static str] {
         Subject::Message(MessageKind::Address) => &ADDRESSES,
         Subject::Message(MessageKind::Route) => &ROUTES,
         Subject::Message(MessageKind::Rule) => &RULES,
+        Subject::Message(MessageKind::Neighbour) => &NEIGHBOURS,
         Subject::Datagram => &DATAGRAMS,
     }
 }

@@ -5,7 +5,7 @@ use Rattle.std.proofs.Common.{ap}
 use Rattle.npr_base.specs.Equality.{IsEqualityOf}
 use Rattle.npr_base.specs.MeaningLaws.{items_equality}
 use Rattle.npr_base.specs.StructLaws.{and_decides, decides_as}
-use Rattle.netlink_packet_route.specs.RouteNetlinkMessage.{Meaning, address, route, rule, other, other_of}
+use Rattle.netlink_packet_route.specs.RouteNetlinkMessage.{Meaning, address, route, neighbour, rule, other, other_of}
 use Rattle.netlink_packet_route.specs.contracts.message.OtherMessagePartialEq.TheImpl as OtherEq
 use Rattle.netlink_packet_route.specs.declared.message.Action.{Action}
 use Rattle.netlink_packet_route.specs.declared.message.Action.TheVariants.{New, Del, Get}
@@ -18,8 +18,9 @@ action_order Get = 2
 unfoldable pub order : Meaning → ℕ
 order (address a m) = action_order a
 order (route a m) = 3 + action_order a
-order (rule a m) = 6 + action_order a
-order (other kind bytes) = 9
+order (neighbour a m) = 6 + action_order a
+order (rule a m) = 9 + action_order a
+order (other kind bytes) = 12
 
 abbrev pub other_by : ℕ × List ℕ → Meaning
 other_by p = other p.0 p.1

@@ -97,6 +97,14 @@ pub use Rattle.npr_address.specs.Attribute as AddressAttribute
 pub use Rattle.npr_address.specs.CacheInfo
 pub use Rattle.npr_address.specs.Header as AddressHeader
 pub mod AddressMessage
+-- neighbour messages
+pub use Rattle.npr_neighbour.specs.Attribute as NeighbourAttribute
+pub use Rattle.npr_neighbour.specs.CacheInfo as NeighbourCacheInfo
+pub use Rattle.npr_neighbour.specs.Flags as NeighbourFlags
+pub use Rattle.npr_neighbour.specs.Header as NeighbourHeader
+pub use Rattle.npr_neighbour.specs.NeighbourAddress
+pub mod NeighbourMessage
+pub use Rattle.npr_neighbour.specs.State as NeighbourState
 -- rule messages
 pub use Rattle.npr_rule.specs.Action as RuleAction
 pub use Rattle.npr_rule.specs.Attribute as RuleAttribute

@@ -5,17 +5,20 @@ use Rattle.npr_base.specs.Message.{Body}
 use Rattle.npr_base.specs.Table.{Writing}
 use Rattle.npr_address.specs.Header.{header as address_header}
 use Rattle.npr_address.specs.Message.{body as address_body}
+use Rattle.npr_neighbour.specs.Header.{header as neighbour_header}
+use Rattle.npr_neighbour.specs.Message.{body as neighbour_body}
 use Rattle.npr_route.specs.Header.{header as route_header}
 use Rattle.npr_route.specs.Message.{body as route_body}
 use Rattle.npr_rule.specs.Header.{header as rule_header}
 use Rattle.npr_rule.specs.Message.{body as rule_body}
 use Rattle.netlink_packet_route.specs.declared.kind.MessageKind.{MessageKind}
-use Rattle.netlink_packet_route.specs.declared.kind.MessageKind.TheVariants.{Address, Route, Rule}
+use Rattle.netlink_packet_route.specs.declared.kind.MessageKind.TheVariants.{Address, Route, Rule, Neighbour}
 
 abbrev pub kind_name : MessageKind → List ℕ
 kind_name Address = codes "address"
 kind_name Route = codes "route"
 kind_name Rule = codes "rule"
+kind_name Neighbour = codes "neighbour"
 
 -- what a kind of message is made of: its header, and what stands behind it
 pub record Form : Type 1 where
@@ -32,3 +35,4 @@ abbrev pub form_of : MessageKind → Form
 form_of Address = form_by address_header address_body
 form_of Route = form_by route_header route_body
 form_of Rule = form_by rule_header rule_body
+form_of Neighbour = form_by neighbour_header neighbour_body

@@ -15,11 +15,18 @@ pub enum MessageKind {
     Route,
     /// Rule messages.
     Rule,
+    /// Neighbour messages.
+    Neighbour,
 }
 
 impl MessageKind {
     /// Each kind.
-    pub const ALL: [MessageKind; 3] = [MessageKind::Address, MessageKind::Route, MessageKind::Rule];
+    pub const ALL: [MessageKind; 4] = [
+        MessageKind::Address,
+        MessageKind::Route,
+        MessageKind::Rule,
+        MessageKind::Neighbour,
+    ];
 
     /// The kind of this name.
     pub fn of(name: &str) -> Option<MessageKind>
@@ -30,6 +37,7 @@ impl MessageKind {
             "address" => Some(MessageKind::Address),
             "route" => Some(MessageKind::Route),
             "rule" => Some(MessageKind::Rule),
+            "neighbour" => Some(MessageKind::Neighbour),
             _ => None,
         }
     }
@@ -42,6 +50,7 @@ impl MessageKind {
             MessageKind::Address => "address",
             MessageKind::Route => "route",
             MessageKind::Rule => "rule",
+            MessageKind::Neighbour => "neighbour",
         }
     }
 }

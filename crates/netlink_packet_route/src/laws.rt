@@ -4,6 +4,8 @@
 ghost use Rattle.std.specs.{Prelude.{◌≡◌}, List.{Contains}};
 ghost use Rattle.npr_base.specs.{Equality.{IsEquality, IsEqualityOf}, Walk.{CutsInTwo}};
 ghost use Rattle.npr_address.specs.Attribute.{attributes as address_attributes};
+ghost use Rattle.npr_base.specs.declared.address_family.AddressFamily.{AddressFamily};
+ghost use Rattle.npr_neighbour.specs.Attribute.{attributes as neighbour_attributes};
 ghost use Rattle.npr_route.specs.{
   FlatAttribute.{Context},
   AttributeLaws.{attributes as route_attributes},
@@ -30,6 +32,12 @@ pub use npr_base::laws::{
     law_canonical, law_constants as law_framing_constants, law_cut as law_cut_in_two,
     law_default as law_family_default, law_equality as law_framing_equality, law_family_number,
     law_looks, law_one_reading, law_read_back, law_walk,
+};
+use npr_neighbour::NeighbourAttribute;
+pub use npr_neighbour::laws::{
+    law_default as law_neighbour_default, law_equality as law_neighbour_equality,
+    law_looks as law_neighbour_looks, law_neighbour_flags, law_neighbour_states,
+    law_read_back as law_neighbour_read_back,
 };
 use npr_route::RouteAttribute;
 pub use npr_route::laws::{
@@ -63,10 +71,12 @@ pub fn law_cut()
     ensures address { CutsInTwo address_attributes.Reads }
     ensures route { (context : Context) → CutsInTwo (route_attributes context).Reads }
     ensures rule { CutsInTwo rule_attributes.Reads }
+    ensures neighbour { (family : AddressFamily) → CutsInTwo (neighbour_attributes family).Reads }
 {
     law_cut_in_two::<AddressAttribute>();
     law_cut_in_two::<RouteAttribute>();
     law_cut_in_two::<RuleAttribute>();
+    law_cut_in_two::<NeighbourAttribute>();
 }
 
 /// Each kind of message is one of `MessageKind::ALL`, no two have one name, and `==` answers whether
@@ -86,5 +96,6 @@ pub fn law_rtnetlink_equality()
     law_address_equality();
     law_route_equality();
     law_rule_equality();
+    law_neighbour_equality();
     law_message_equality::<RouteNetlinkMessage>();
 }

@@ -2,14 +2,16 @@
 
 ghost use Rattle.std.specs.Prelude.{◌≡◌, ◌≢◌, IfOk, IfErr, refl};
 ghost use Rattle.npr_base.specs.declared.refusal.DecodeError.TheVariants.{OutOfMemory};
-ghost use Rattle.netlink_packet_route.specs.RouteNetlinkMessage.{Meaning, meaning_of, other_of, address, route, rule, rtnetlink, type_of, writes, misfit, address_type, route_type, rule_type, ReadsUnder, FaultUnder};
+ghost use Rattle.netlink_packet_route.specs.RouteNetlinkMessage.{Meaning, meaning_of, other_of, address, route, neighbour, rule, rtnetlink, type_of, writes, misfit, address_type, route_type, neighbour_type, rule_type, ReadsUnder, FaultUnder};
 ghost use Rattle.npr_address.specs.Message.{message_of as address_of};
+ghost use Rattle.npr_neighbour.specs.Message.{message_of as neighbour_of};
 ghost use Rattle.npr_route.specs.Message.{message_of as route_of};
 ghost use Rattle.npr_rule.specs.Message.{message_of as rule_of};
 
 use netlink_packet_core::{NetlinkHeader, NetlinkInner};
 use npr_address::AddressMessage;
 use npr_base::{DecodeError, EmitError, Emitable, Parseable, write_bytes};
+use npr_neighbour::NeighbourMessage;
 use npr_route::RouteMessage;
 use npr_rule::RuleMessage;
 use std::alloc::{AllocError, Global};
@@ -38,6 +40,12 @@ pub enum RouteNetlinkMessage {
     DelRoute(RouteMessage),
     /// `RTM_GETROUTE`, 26.
     GetRoute(RouteMessage),
+    /// `RTM_NEWNEIGH`, 28.
+    NewNeighbour(NeighbourMessage),
+    /// `RTM_DELNEIGH`, 29.
+    DelNeighbour(NeighbourMessage),
+    /// `RTM_GETNEIGH`, 30.
+    GetNeighbour(NeighbourMessage),
     /// `RTM_NEWRULE`, 32.
     NewRule(RuleMessage),
     /// `RTM_DELRULE`, 33.
@@ -66,10 +74,75 @@ pub enum MessageType {
     OfAddress(Action),
     /// A message on a route.
     OfRoute(Action),
+    /// A message on a neighbour.
+    OfNeighbour(Action),
     /// A message on a rule.
     OfRule(Action),
     /// Any other.
     Unknown,
+}
+
+/// The types, by the kinds of messages: for each kind its message and what its types say, and for each
+/// type its number, its message and what that does.
+macro_rules! types {
+    ($body:ident ($($given:tt)*)) => {
+        $body!(($($given)*) {
+            AddressMessage OfAddress { 20 NewAddress New; 21 DelAddress Del; 22 GetAddress Get; }
+            RouteMessage OfRoute { 24 NewRoute New; 25 DelRoute Del; 26 GetRoute Get; }
+            NeighbourMessage OfNeighbour { 28 NewNeighbour New; 29 DelNeighbour Del; 30 GetNeighbour Get; }
+            RuleMessage OfRule { 32 NewRule New; 33 DelRule Del; 34 GetRule Get; }
+        })
+    };
+}
+
+/// What a number says.
+macro_rules! type_of {
+    (($number:expr) { $($message:ident $of:ident { $($kind:tt $variant:ident $action:ident;)* })* }) => {
+        match $number {
+            $($($kind => MessageType::$of(Action::$action),)*)*
+            _ => MessageType::Unknown,
+        }
+    };
+}
+
+/// The number of a message that is read, or else that of another one.
+macro_rules! number_of {
+    (($of_message:expr; $other:ident => $otherwise:expr) { $($message:ident $of:ident { $($kind:tt $variant:ident $action:ident;)* })* }) => {
+        match $of_message {
+            $($(RouteNetlinkMessage::$variant(_) => $kind,)*)*
+            RouteNetlinkMessage::Other($other) => $otherwise,
+        }
+    };
+}
+
+/// The same of each message that is read, and something else of another one.
+macro_rules! each {
+    (($of_message:expr; $m:ident => $then:expr; $other:ident => $otherwise:expr) { $($message:ident $of:ident { $($kind:tt $variant:ident $action:ident;)* })* }) => {
+        match $of_message {
+            $($(RouteNetlinkMessage::$variant($m) => $then,)*)*
+            RouteNetlinkMessage::Other($other) => $otherwise,
+        }
+    };
+}
+
+/// An equal message.
+macro_rules! clone_of {
+    (($of_message:expr, $alloc:expr) { $($message:ident $of:ident { $($kind:tt $variant:ident $action:ident;)* })* }) => {
+        match $of_message {
+            $($(RouteNetlinkMessage::$variant(m) => m.clone($alloc)?.under(Action::$action),)*)*
+            RouteNetlinkMessage::Other(m) => RouteNetlinkMessage::Other(m.clone($alloc)?),
+        }
+    };
+}
+
+/// The message that the bytes are under what their type says.
+macro_rules! read_as {
+    (($message_type:expr, $alloc:expr, $payload:expr; $unknown:expr) { $($message:ident $of:ident { $($kind:tt $variant:ident $action:ident;)* })* }) => {
+        match $message_type {
+            $(MessageType::$of(action) => $message::parse($alloc, $payload)?.under(action),)*
+            MessageType::Unknown => $unknown,
+        }
+    };
 }
 
 impl MessageType {
@@ -77,22 +150,11 @@ impl MessageType {
     pub fn of(number: u16) -> MessageType
         ensures { result ≡ type_of number }
     {
-        match number {
-            20 => MessageType::OfAddress(Action::New),
-            21 => MessageType::OfAddress(Action::Del),
-            22 => MessageType::OfAddress(Action::Get),
-            24 => MessageType::OfRoute(Action::New),
-            25 => MessageType::OfRoute(Action::Del),
-            26 => MessageType::OfRoute(Action::Get),
-            32 => MessageType::OfRule(Action::New),
-            33 => MessageType::OfRule(Action::Del),
-            34 => MessageType::OfRule(Action::Get),
-            _ => MessageType::Unknown,
-        }
+        types!(type_of(number))
     }
 }
 
-/// A message on an entry of the kernel's tables: an address, a route or a rule.
+/// A message on an entry of the kernel's tables: an address, a route, a neighbour or a rule.
 pub trait Entry: Drop {
     ghost use Rattle.netlink_packet_route.specs.declared.message.Action.{Action};
 
@@ -124,6 +186,18 @@ impl Entry for RouteMessage {
             Action::New => RouteNetlinkMessage::NewRoute(self),
             Action::Del => RouteNetlinkMessage::DelRoute(self),
             Action::Get => RouteNetlinkMessage::GetRoute(self),
+        }
+    }
+}
+
+impl Entry for NeighbourMessage {
+    ghost meant = { λ a m. neighbour a (neighbour_of m) };
+
+    fn under(self, action: Action) -> RouteNetlinkMessage {
+        match action {
+            Action::New => RouteNetlinkMessage::NewNeighbour(self),
+            Action::Del => RouteNetlinkMessage::DelNeighbour(self),
+            Action::Get => RouteNetlinkMessage::GetNeighbour(self),
         }
     }
 }
@@ -161,50 +235,17 @@ impl Emitable for RouteNetlinkMessage {
     ghost unfit = { λ m. misfit (meaning_of m) };
 
     fn check(&self) -> Result<usize, EmitError> {
-        match self {
-            RouteNetlinkMessage::NewAddress(m) => m.check(),
-            RouteNetlinkMessage::DelAddress(m) => m.check(),
-            RouteNetlinkMessage::GetAddress(m) => m.check(),
-            RouteNetlinkMessage::NewRoute(m) => m.check(),
-            RouteNetlinkMessage::DelRoute(m) => m.check(),
-            RouteNetlinkMessage::GetRoute(m) => m.check(),
-            RouteNetlinkMessage::NewRule(m) => m.check(),
-            RouteNetlinkMessage::DelRule(m) => m.check(),
-            RouteNetlinkMessage::GetRule(m) => m.check(),
-            RouteNetlinkMessage::Other(m) => Ok(m.payload.len()),
-        }
+        types!(each(self; m => m.check(); other => Ok(other.payload.len())))
     }
 
     fn buffer_len(&self) -> usize {
-        match self {
-            RouteNetlinkMessage::NewAddress(m) => m.buffer_len(),
-            RouteNetlinkMessage::DelAddress(m) => m.buffer_len(),
-            RouteNetlinkMessage::GetAddress(m) => m.buffer_len(),
-            RouteNetlinkMessage::NewRoute(m) => m.buffer_len(),
-            RouteNetlinkMessage::DelRoute(m) => m.buffer_len(),
-            RouteNetlinkMessage::GetRoute(m) => m.buffer_len(),
-            RouteNetlinkMessage::NewRule(m) => m.buffer_len(),
-            RouteNetlinkMessage::DelRule(m) => m.buffer_len(),
-            RouteNetlinkMessage::GetRule(m) => m.buffer_len(),
-            RouteNetlinkMessage::Other(m) => m.payload.len(),
-        }
+        types!(each(self; m => m.buffer_len(); other => other.payload.len()))
     }
 
     fn emit(&self, out: &mut [u8]) {
-        match self {
-            RouteNetlinkMessage::NewAddress(m) => m.emit(out),
-            RouteNetlinkMessage::DelAddress(m) => m.emit(out),
-            RouteNetlinkMessage::GetAddress(m) => m.emit(out),
-            RouteNetlinkMessage::NewRoute(m) => m.emit(out),
-            RouteNetlinkMessage::DelRoute(m) => m.emit(out),
-            RouteNetlinkMessage::GetRoute(m) => m.emit(out),
-            RouteNetlinkMessage::NewRule(m) => m.emit(out),
-            RouteNetlinkMessage::DelRule(m) => m.emit(out),
-            RouteNetlinkMessage::GetRule(m) => m.emit(out),
-            RouteNetlinkMessage::Other(m) => {
-                write_bytes(m.payload.as_slice(), out);
-            }
-        }
+        types!(each(self; m => m.emit(out); other => {
+            write_bytes(other.payload.as_slice(), out);
+        }))
     }
 }
 
@@ -218,18 +259,7 @@ impl NetlinkInner for RouteNetlinkMessage {
     ghost by_protocol = { λ m. (refl, refl) };
 
     fn message_type(&self) -> u16 {
-        match self {
-            RouteNetlinkMessage::NewAddress(_) => 20,
-            RouteNetlinkMessage::DelAddress(_) => 21,
-            RouteNetlinkMessage::GetAddress(_) => 22,
-            RouteNetlinkMessage::NewRoute(_) => 24,
-            RouteNetlinkMessage::DelRoute(_) => 25,
-            RouteNetlinkMessage::GetRoute(_) => 26,
-            RouteNetlinkMessage::NewRule(_) => 32,
-            RouteNetlinkMessage::DelRule(_) => 33,
-            RouteNetlinkMessage::GetRule(_) => 34,
-            RouteNetlinkMessage::Other(m) => m.message_type,
-        }
+        types!(number_of(self; other => other.message_type))
     }
 
     fn deserialize(
@@ -241,18 +271,7 @@ impl NetlinkInner for RouteNetlinkMessage {
     }
 
     fn try_clone(&self, alloc: Global) -> Result<Self, AllocError> {
-        Ok(match self {
-            RouteNetlinkMessage::NewAddress(m) => m.clone(alloc)?.under(Action::New),
-            RouteNetlinkMessage::DelAddress(m) => m.clone(alloc)?.under(Action::Del),
-            RouteNetlinkMessage::GetAddress(m) => m.clone(alloc)?.under(Action::Get),
-            RouteNetlinkMessage::NewRoute(m) => m.clone(alloc)?.under(Action::New),
-            RouteNetlinkMessage::DelRoute(m) => m.clone(alloc)?.under(Action::Del),
-            RouteNetlinkMessage::GetRoute(m) => m.clone(alloc)?.under(Action::Get),
-            RouteNetlinkMessage::NewRule(m) => m.clone(alloc)?.under(Action::New),
-            RouteNetlinkMessage::DelRule(m) => m.clone(alloc)?.under(Action::Del),
-            RouteNetlinkMessage::GetRule(m) => m.clone(alloc)?.under(Action::Get),
-            RouteNetlinkMessage::Other(m) => RouteNetlinkMessage::Other(m.clone(alloc)?),
-        })
+        Ok(types!(clone_of(self, alloc)))
     }
 }
 
@@ -265,15 +284,12 @@ fn read_under(
     ensures ok { IfOk result (λ m. ReadsUnder (type_of message_type) message_type payload.now (meaning_of m)) }
     ensures refused { IfErr result (λ e. e ≢ OutOfMemory → FaultUnder (type_of message_type) payload.now e) }
 {
-    match MessageType::of(message_type) {
-        MessageType::OfAddress(action) => {
-            Ok(AddressMessage::parse(alloc, payload)?.under(action))
-        }
-        MessageType::OfRoute(action) => Ok(RouteMessage::parse(alloc, payload)?.under(action)),
-        MessageType::OfRule(action) => Ok(RuleMessage::parse(alloc, payload)?.under(action)),
-        MessageType::Unknown => Ok(RouteNetlinkMessage::Other(OtherMessage {
+    Ok(
+        types!(read_as(MessageType::of(message_type), alloc, payload;
+        RouteNetlinkMessage::Other(OtherMessage {
             message_type,
             payload: Vec::from_slice(alloc, payload)?,
-        })),
-    }
+        })
+    )),
+    )
 }

@@ -1,18 +1,19 @@
-//! Requests to the kernel on addresses, routes and rules, with the flags that `ip` sets. A sequence
-//! number is one of the caller's choice, which the answer has again.
+//! Requests to the kernel on addresses, routes, neighbours and rules, with the flags that `ip` sets. A
+//! sequence number is one of the caller's choice, which the answer has again.
 
 ghost use Rattle.netlink_packet_core.specs.{
   Message.{message_of},
   Request.{IsRequest, dump_flags, get_flags, new_flags, replace_flags, delete_flags},
 };
 ghost use Rattle.netlink_packet_route.specs.declared.message.Action.TheVariants.{New, Del, Get};
-ghost use Rattle.netlink_packet_route.specs.RouteNetlinkMessage.{meaning_of, rtnetlink, address, route, rule};
-ghost use Rattle.netlink_packet_route.specs.Request.{addresses_of, routes_of, rules_of};
+ghost use Rattle.netlink_packet_route.specs.RouteNetlinkMessage.{meaning_of, rtnetlink, address, route, neighbour, rule};
+ghost use Rattle.netlink_packet_route.specs.Request.{addresses_of, routes_of, neighbours_of, rules_of};
 
 use crate::message::{Action, Entry, RouteNetlinkMessage};
 use netlink_packet_core::NetlinkMessage;
 use npr_address::AddressMessage;
 use npr_base::AddressFamily;
+use npr_neighbour::NeighbourMessage;
 use npr_route::RouteMessage;
 use npr_rule::RuleMessage;
 use std::alloc::Global;
@@ -61,6 +62,20 @@ pub fn dump_rules(
     ensures { IsRequest rtnetlink dump_flags sequence_number (rule Get (rules_of family)) (message_of meaning_of result) }
 {
     let mut message = RuleMessage::new(alloc);
+    message.header.family = family;
+    dump(sequence_number, message)
+}
+
+/// Asks for the neighbours of a family, or of each but bridges where it is `Unspec`, as
+/// `ip -4 neighbour`. It takes no memory.
+pub fn dump_neighbours(
+    alloc: Global,
+    sequence_number: u32,
+    family: AddressFamily,
+) -> NetlinkMessage<RouteNetlinkMessage>
+    ensures { IsRequest rtnetlink dump_flags sequence_number (neighbour Get (neighbours_of family)) (message_of meaning_of result) }
+{
+    let mut message = NeighbourMessage::new(alloc);
     message.header.family = family;
     dump(sequence_number, message)
 }

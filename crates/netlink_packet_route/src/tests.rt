@@ -1,7 +1,7 @@
 //! Messages of rtnetlink as a kernel sent them, envelopes included.
 
 use crate::RouteNetlinkMessage;
-use crate::request::{dump_addresses, dump_routes, dump_rules};
+use crate::request::{dump_addresses, dump_neighbours, dump_routes, dump_rules};
 use netlink_packet_core::{NetlinkIterator, NetlinkMessage, NetlinkPayload};
 use npr_base::{AddressFamily, Parseable, to_vec};
 use std::test::Fail;
@@ -50,6 +50,7 @@ fn dumps_are_asked_for(rt: HostRuntime) -> Result<(), Fail> {
     let addresses = to_vec(alloc, &dump_addresses(alloc, 7, AddressFamily::Inet6))?;
     let routes = to_vec(alloc, &dump_routes(alloc, 7, AddressFamily::Inet))?;
     let rules = to_vec(alloc, &dump_rules(alloc, 7, AddressFamily::Inet6))?;
+    let neighbours = to_vec(alloc, &dump_neighbours(alloc, 7, AddressFamily::Inet))?;
     assert_eq!(rt;
         addresses.as_slice(),
         [
@@ -68,6 +69,13 @@ fn dumps_are_asked_for(rt: HostRuntime) -> Result<(), Fail> {
         rules.as_slice(),
         [
             28, 0, 0, 0, 34, 0, 1, 3, 7, 0, 0, 0, 0, 0, 0, 0, 10, 0, 0, 0, 0, 0, 0, 0, 0, 0, 0, 0,
+        ]
+        .as_slice()
+    );
+    assert_eq!(rt;
+        neighbours.as_slice(),
+        [
+            28, 0, 0, 0, 30, 0, 1, 3, 7, 0, 0, 0, 0, 0, 0, 0, 2, 0, 0, 0, 0, 0, 0, 0, 0, 0, 0, 0,
         ]
         .as_slice()
     );

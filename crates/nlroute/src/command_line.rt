@@ -9,7 +9,7 @@ ghost use Rattle.netlink_packet_route.specs.{
 use netlink_packet_route::MessageKind;
 
 /// The line for a command line that names no kind of message.
-pub const USAGE: &str = "usage: nlroute address|route|rule";
+pub const USAGE: &str = "usage: nlroute address|route|rule|neighbour";
 
 /// The kind of message that `words`, those after the program's name, consist of.
 pub fn kind_of(words: &[String]) -> Option<MessageKind>

@@ -31,6 +31,7 @@ use crate::report::whole;
 use netlink_packet_route::MessageKind;
 use netlink_packet_route::address::AddressHeader;
 use netlink_packet_route::framing::{Attribute, Emitable, Header, Message, Parseable, to_vec};
+use netlink_packet_route::neighbour::NeighbourHeader;
 use netlink_packet_route::route::RouteHeader;
 use netlink_packet_route::rule::RuleHeader;
 use std::alloc::Global;
@@ -78,6 +79,9 @@ fn answer(alloc: Global, kind: MessageKind, bytes: &[u8]) -> Result<String, RunE
         MessageKind::Address => answer_by::<AddressHeader>(alloc, MessageKind::Address, bytes),
         MessageKind::Route => answer_by::<RouteHeader>(alloc, MessageKind::Route, bytes),
         MessageKind::Rule => answer_by::<RuleHeader>(alloc, MessageKind::Rule, bytes),
+        MessageKind::Neighbour => {
+            answer_by::<NeighbourHeader>(alloc, MessageKind::Neighbour, bytes)
+        }
     }
 }
 

@@ -52,6 +52,10 @@ fn one_known_word_is_wanted(rt: HostRuntime) -> Result<(), Fail> {
     );
     assert_eq!(rt; kind_named(alloc, &["route"])?, Some(MessageKind::Route));
     assert_eq!(rt; kind_named(alloc, &["rule"])?, Some(MessageKind::Rule));
+    assert_eq!(rt;
+        kind_named(alloc, &["neighbour"])?,
+        Some(MessageKind::Neighbour)
+    );
     assert_eq!(rt; kind_named(alloc, &[])?, None);
     assert_eq!(rt; kind_named(alloc, &["Address"])?, None);
     assert_eq!(rt; kind_named(alloc, &["addresses"])?, None);
@@ -242,6 +246,19 @@ fn reports_a_rule(rt: HostRuntime) -> Result<(), Fail> {
     run(rt.alloc(), MessageKind::Rule, &mut reader, &mut writer)?;
     let report =
         b"rule: 20 bytes, 1 attributes\nkind 3 length 5\ncanonical 24 bytes\n02000000fe00000100000000090003006574683000000000\n";
+    assert_eq!(rt; writer.into_inner().as_slice(), report.as_slice());
+    Ok(())
+}
+
+#[test]
+fn reports_a_neighbour(rt: HostRuntime) -> Result<(), Fail> {
+    let mut reader = Counted::new(
+        b"020000000300000010000001 08000100c0000203 08000400 01000000".as_slice(),
+    );
+    let mut writer = Counted::new(Vec::new(rt.alloc()));
+    run(rt.alloc(), MessageKind::Neighbour, &mut reader, &mut writer)?;
+    let report =
+        b"neighbour: 28 bytes, 2 attributes\nkind 1 length 4\nkind 4 length 4\ncanonical 28 bytes\n02000000030000001000000108000100c00002030800040001000000\n";
     assert_eq!(rt; writer.into_inner().as_slice(), report.as_slice());
     Ok(())
 }

@@ -33,6 +33,8 @@ mod looks;
 #[cfg(test)]
 mod modes;
 #[cfg(test)]
+mod neighbour;
+#[cfg(test)]
 mod next_hops;
 #[cfg(test)]
 mod own_message;

@@ -9,6 +9,7 @@ mod trial;
 
 use netlink_packet_route::MessageKind;
 use netlink_packet_route::address::AddressMessage;
+use netlink_packet_route::neighbour::NeighbourMessage;
 use netlink_packet_route::route::{RouteMessage, RouteNextHop};
 use netlink_packet_route::rule::RuleMessage;
 use rows::{Parsed, Row};
@@ -57,6 +58,9 @@ fn tried_message(alloc: Global, kind: MessageKind, row: Row) -> (Ending, Ending)
         MessageKind::Address => parse_and_clone::<AddressMessage>(alloc, row.text, row.canonical),
         MessageKind::Route => parse_and_clone::<RouteMessage>(alloc, row.text, row.canonical),
         MessageKind::Rule => parse_and_clone::<RuleMessage>(alloc, row.text, row.canonical),
+        MessageKind::Neighbour => {
+            parse_and_clone::<NeighbourMessage>(alloc, row.text, row.canonical)
+        }
     }
 }
 

@@ -30,6 +30,8 @@ const ROUTE: Parsed = Parsed::Message(MessageKind::Route);
 
 const RULE: Parsed = Parsed::Message(MessageKind::Rule);
 
+const NEIGHBOUR: Parsed = Parsed::Message(MessageKind::Neighbour);
+
 /// The address of the loopback interface.
 const LOOPBACK: &str =
     "020880fe01000000080001007f000001080002007f000001070003006c6f0000080008008000000014000600ffffffffffffffff9c0000009c000000";
@@ -67,6 +69,9 @@ const RPL: &str =
 const RPL_CANONICAL: &str =
     "02000000fe03000100000000200016801c0001000002030100000000fc0000000000000000000000000000010600150008000000";
 
+/// A neighbour of a bridge, whose address and address on the link are bytes.
+const OF_BRIDGE: &str = "070000000300000080000200080001000a0000090a0002000200000000130000";
+
 /// A next hop, its attributes two addresses.
 const NEXT_HOP: &str = "1800000002000000080005000a000001080001000a000002";
 
@@ -81,6 +86,7 @@ impl Row {
             "geneve" => (ROUTE, GENEVE, GENEVE_CANONICAL),
             "name" => (RULE, NAME, NAME_CANONICAL),
             "rpl" => (ROUTE, RPL, RPL_CANONICAL),
+            "of_bridge" => (NEIGHBOUR, OF_BRIDGE, OF_BRIDGE),
             "next_hop" => (Parsed::NextHop, NEXT_HOP, NEXT_HOP),
             "levels" => (Parsed::Levels, "", ""),
             _ => return None,

@@ -1,9 +1,10 @@
 use Rattle.std.proofs.Common.{refl}
 use Rattle.npr_base.specs.MeaningLaws.{enum_meaning, ◌also◌, one_meaning}
 use Rattle.npr_address.specs.Message.{message_of as address_of}
+use Rattle.npr_neighbour.specs.Message.{message_of as neighbour_of}
 use Rattle.npr_route.specs.Message.{message_of as route_of}
 use Rattle.npr_rule.specs.Message.{message_of as rule_of}
-use Rattle.netlink_packet_route.specs.RouteNetlinkMessage.{address, route, rule, other_of, meaning_of}
+use Rattle.netlink_packet_route.specs.RouteNetlinkMessage.{address, route, neighbour, rule, other_of, meaning_of}
 use Rattle.netlink_packet_route.specs.contracts.message.RouteNetlinkMessage.{enum}
 use Rattle.netlink_packet_route.specs.declared.message.Action.TheVariants.{New, Del, Get}
 use Rattle.netlink_packet_route.proofs.EqualityLaws.{order, action_order, other_by, other_one, other_equality}
@@ -22,6 +23,9 @@ returns-clause-inner c =
     (λ x. refl, one_meaning route_of (route New) c.law_equality-2.ensures.message (λ p q e. cc)) also
     (λ x. refl, one_meaning route_of (route Del) c.law_equality-2.ensures.message (λ p q e. cc)) also
     (λ x. refl, one_meaning route_of (route Get) c.law_equality-2.ensures.message (λ p q e. cc)) also
+    (λ x. refl, one_meaning neighbour_of (neighbour New) c.law_equality-4.ensures.message (λ p q e. cc)) also
+    (λ x. refl, one_meaning neighbour_of (neighbour Del) c.law_equality-4.ensures.message (λ p q e. cc)) also
+    (λ x. refl, one_meaning neighbour_of (neighbour Get) c.law_equality-4.ensures.message (λ p q e. cc)) also
     (λ x. refl, one_meaning rule_of (rule New) c.law_equality-3.ensures.message (λ p q e. cc)) also
     (λ x. refl, one_meaning rule_of (rule Del) c.law_equality-3.ensures.message (λ p q e. cc)) also
     (λ x. refl, one_meaning rule_of (rule Get) c.law_equality-3.ensures.message (λ p q e. cc)) also

@@ -1,6 +1,7 @@
 -- what is said of a message with such a header is said of its kind
 use Rattle.std.proofs.lemmas.Result.{IfOk-weaker}
 use Rattle.netlink_packet_route.specs.AddressMessage.{message_of as address_of}
+use Rattle.netlink_packet_route.specs.NeighbourMessage.{message_of as neighbour_of}
 use Rattle.netlink_packet_route.specs.RouteMessage.{message_of as route_of}
 use Rattle.netlink_packet_route.specs.RuleMessage.{message_of as rule_of}
 use Rattle.nlroute.specs.Run.{IsReport, IsRefused, IsUnfit}
@@ -41,3 +42,15 @@ returns-in-Rule-clause-refused c = rw c.in-Rule.is c.answer_by-in-Rule.ensures.r
 pub returns-in-Rule-clause-unfit : goal.returns-in-Rule-clause-unfit
 unfolding IsUnfit
 returns-in-Rule-clause-unfit c = rw c.in-Rule.is c.answer_by-in-Rule.ensures.unfit
+
+pub returns-in-Neighbour-clause-ok : goal.returns-in-Neighbour-clause-ok
+unfolding IsReport
+returns-in-Neighbour-clause-ok c = rw c.in-Neighbour.is (IfOk-weaker c.answer_by-in-Neighbour.result _ _ (λ text r. (neighbour_of r.0, r.1, r.2, r.3)) c.answer_by-in-Neighbour.ensures.ok)
+
+pub returns-in-Neighbour-clause-refused : goal.returns-in-Neighbour-clause-refused
+unfolding IsRefused
+returns-in-Neighbour-clause-refused c = rw c.in-Neighbour.is c.answer_by-in-Neighbour.ensures.refused
+
+pub returns-in-Neighbour-clause-unfit : goal.returns-in-Neighbour-clause-unfit
+unfolding IsUnfit
+returns-in-Neighbour-clause-unfit c = rw c.in-Neighbour.is c.answer_by-in-Neighbour.ensures.unfit

@@ -1,0 +1,7 @@
+//! Neighbour messages: `struct ndmsg` of `linux/neighbour.h`.
+
+pub use npr_neighbour::{
+    NeighbourAddress, NeighbourAttribute, NeighbourCacheInfo, NeighbourCacheInfoBuffer,
+    NeighbourExtendedFlags, NeighbourFlags, NeighbourHeader, NeighbourMessage,
+    NeighbourMessageBuffer, NeighbourState,
+};

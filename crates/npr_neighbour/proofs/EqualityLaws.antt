@@ -1,0 +1,96 @@
+-- What `==` answers of addresses, attributes and messages: whether they mean the same.
+use Rattle.std.specs.Prelude.{ℕ}
+use Rattle.std.specs.Cmp.{signed_Decides, unsigned_Decides}
+use Rattle.std.proofs.Common.{refl, rules, ap}
+use Rattle.npr_base.specs.AddressFamilyLaws.{family_equality}
+use Rattle.npr_base.specs.Equality.{IsEquality, IsEqualityOf}
+use Rattle.npr_base.specs.IpLaws.{ipv4_equality, ipv6_equality}
+use Rattle.npr_base.specs.MeaningLaws.{enum_meaning, ◌also◌, one_meaning, items_equality}
+use Rattle.npr_base.specs.StructLaws.{and_decides, decides_as}
+use Rattle.npr_base.specs.ViewEquality.{item_equality}
+use Rattle.npr_scalar.specs.EqualityLaws.{route_protocol_equality, route_type_equality}
+use Rattle.npr_neighbour.specs.Attribute.{Meaning, destination, link_layer, info, probes, vlan, port, vni, if_index, controller, link_net_ns_id, source_vni, protocol, nh_id, flags_ext, other, meaning_of}
+use Rattle.npr_neighbour.specs.NeighbourAddress as A
+use Rattle.npr_neighbour.specs.contracts.address.NeighbourAddress.{enum as address_enum}
+use Rattle.npr_neighbour.specs.contracts.address.NeighbourAddressPartialEq.TheImpl as AddressEq
+use Rattle.npr_neighbour.specs.contracts.attribute.NeighbourAttribute.{enum}
+use Rattle.npr_neighbour.specs.contracts.attribute.NeighbourAttributePartialEq.TheImpl as AttributeEq
+use Rattle.npr_neighbour.specs.contracts.cache_info.NeighbourCacheInfoPartialEq.TheImpl as InfoEq
+use Rattle.npr_neighbour.specs.contracts.flags.NeighbourExtendedFlagsPartialEq.TheImpl as ExtendedFlagsEq
+use Rattle.npr_neighbour.specs.contracts.flags.NeighbourFlagsPartialEq.TheImpl as FlagsEq
+use Rattle.npr_neighbour.specs.contracts.header.NeighbourHeaderPartialEq.TheImpl as HeaderEq
+use Rattle.npr_neighbour.specs.contracts.state.NeighbourStatePartialEq.TheImpl as StateEq
+use Rattle.npr_neighbour.specs.declared.header.NeighbourHeader.{NeighbourHeader}
+
+-- the places of the variants
+address_order : A.Address → ℕ
+address_order (A.inet a) = 0
+address_order (A.inet6 a) = 1
+address_order (A.other v) = 2
+
+pub address_equality : IsEqualityOf A.address_of AddressEq.ghosts.eq
+unfolding address_order
+address_equality =
+    enum_meaning address_order address_enum A.address_of _ (λ t.
+    (λ x. refl, one_meaning (λ a. a) A.inet ipv4_equality (λ p q e. cc)) also
+    (λ x. refl, one_meaning (λ a. a) A.inet6 ipv6_equality (λ p q e. cc)) also
+    (λ x. refl, one_meaning (λ v. v.items) A.other (items_equality unsigned_Decides) (λ p q e. cc)) also tt)
+
+info_equality : IsEquality InfoEq.ghosts.eq
+info_equality = search rules
+
+extended_flags_equality : IsEquality ExtendedFlagsEq.ghosts.eq
+extended_flags_equality = search rules
+
+flags_equality : IsEquality FlagsEq.ghosts.eq
+flags_equality = search rules
+
+state_equality : IsEquality StateEq.ghosts.eq
+state_equality = search rules
+
+pub header_equality : IsEquality HeaderEq.ghosts.eq
+header_equality a b =
+    decides_as
+    (λ p. λ i. record { family = p.0 i; ifindex = p.1.0 i; state = p.1.1.0 i; flags = p.1.1.1.0 i; kind = p.1.1.1.1 i })
+    (λ e. (ap (λ (h : NeighbourHeader). h.family) e, (ap (λ (h : NeighbourHeader). h.ifindex) e, (ap (λ (h : NeighbourHeader). h.state) e, (ap (λ (h : NeighbourHeader). h.flags) e, ap (λ (h : NeighbourHeader). h.kind) e)))))
+    (and_decides (family_equality a.family b.family)
+    (and_decides (signed_Decides a.ifindex b.ifindex)
+    (and_decides (state_equality a.state b.state)
+    (and_decides (flags_equality a.flags b.flags) (route_type_equality a.kind b.kind)))))
+
+order : Meaning → ℕ
+order (destination a) = 0
+order (link_layer a) = 1
+order (info a) = 2
+order (probes a) = 3
+order (vlan a) = 4
+order (port a) = 5
+order (vni a) = 6
+order (if_index a) = 7
+order (controller a) = 8
+order (link_net_ns_id a) = 9
+order (source_vni a) = 10
+order (protocol a) = 11
+order (nh_id a) = 12
+order (flags_ext a) = 13
+order (other x) = 14
+
+pub attribute_equality : IsEqualityOf meaning_of AttributeEq.ghosts.eq
+unfolding order
+attribute_equality =
+    enum_meaning order enum meaning_of _ (λ t.
+    (λ x. refl, one_meaning A.address_of destination address_equality (λ p q e. cc)) also
+    (λ x. refl, one_meaning (λ v. v.items) link_layer (items_equality unsigned_Decides) (λ p q e. cc)) also
+    (λ x. refl, one_meaning (λ f. f) info info_equality (λ p q e. cc)) also
+    (λ x. refl, one_meaning (λ f. f) probes unsigned_Decides (λ p q e. cc)) also
+    (λ x. refl, one_meaning (λ f. f) vlan unsigned_Decides (λ p q e. cc)) also
+    (λ x. refl, one_meaning (λ f. f) port unsigned_Decides (λ p q e. cc)) also
+    (λ x. refl, one_meaning (λ f. f) vni unsigned_Decides (λ p q e. cc)) also
+    (λ x. refl, one_meaning (λ f. f) if_index unsigned_Decides (λ p q e. cc)) also
+    (λ x. refl, one_meaning (λ f. f) controller unsigned_Decides (λ p q e. cc)) also
+    (λ x. refl, one_meaning (λ f. f) link_net_ns_id unsigned_Decides (λ p q e. cc)) also
+    (λ x. refl, one_meaning (λ f. f) source_vni unsigned_Decides (λ p q e. cc)) also
+    (λ x. refl, one_meaning (λ f. f) protocol route_protocol_equality (λ p q e. cc)) also
+    (λ x. refl, one_meaning (λ f. f) nh_id unsigned_Decides (λ p q e. cc)) also
+    (λ x. refl, one_meaning (λ f. f) flags_ext extended_flags_equality (λ p q e. cc)) also
+    (λ x. refl, one_meaning (λ f. f) other item_equality (λ p q e. cc)) also tt)

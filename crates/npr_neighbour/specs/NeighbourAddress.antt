@@ -1,0 +1,86 @@
+-- The address of a neighbour: its form follows from the family of the message (linux/neighbour.h, NDA_DST).
+use Rattle.std.specs.Prelude.{◌≡◌, ℕ, ◌+◌, ◌*◌, ◌≤◌, List, length, None}
+use Rattle.std.proofs.Common.{refl}
+use Rattle.npr_base.specs.declared.address_family.AddressFamily.{AddressFamily}
+use Rattle.npr_base.specs.declared.address_family.AddressFamily.TheVariants.{Inet, Inet6}
+use Rattle.npr_base.specs.declared.ip.IpAddr.{IpAddr}
+use Rattle.npr_base.specs.declared.ip.IpAddr.TheVariants.{V4, V6}
+use Rattle.npr_base.specs.Family.{too_long}
+use Rattle.npr_base.specs.FitLaws.{too_long-short}
+use Rattle.npr_base.specs.Framing.{IsBytes, framed}
+use Rattle.npr_base.specs.Layout.{octets}
+use Rattle.npr_base.specs.Codec.{Codec, exactly, raw}
+use Rattle.npr_base.specs.VariantCodec.{variant}
+use Rattle.npr_neighbour.specs.declared.address.NeighbourAddress.{NeighbourAddress}
+use Rattle.npr_neighbour.specs.declared.address.NeighbourAddress.TheVariants.{Inet as AddressInet, Inet6 as AddressInet6, Other as AddressOther}
+
+-- an address, without where it lies in memory
+pub data Address : Type 0 where
+  inet : List ℕ → Address
+  inet6 : List ℕ → Address
+  other : List ℕ → Address
+
+abbrev pub address_of : NeighbourAddress → Address
+address_of (AddressInet a) = inet a
+address_of (AddressInet6 a) = inet6 a
+address_of (AddressOther v) = other v.items
+
+-- the families whose addresses have a form; a family counts by its variant
+pub data Form : Type 0 where
+  four : Form
+  sixteen : Form
+  any : Form
+
+abbrev pub form_of : AddressFamily → Form
+form_of Inet = four
+form_of Inet6 = sixteen
+form_of family = any
+
+-- the bytes that are written
+abbrev pub address_bytes : Address → List ℕ
+address_bytes (inet a) = a
+address_bytes (inet6 a) = a
+address_bytes (other v) = v
+
+-- four bytes, sixteen, or any bytes as they stand
+abbrev pub address_by : Form → Codec Address
+address_by four = variant (exactly (octets 4)) inet address_bytes (λ v. refl) (λ kind v h. h)
+address_by sixteen = variant (exactly (octets 16)) inet6 address_bytes (λ v. refl) (λ kind v h. h)
+address_by any = variant raw other address_bytes (λ v. refl) (λ kind v h. h)
+
+pub address-back : (form : Form) (kind : ℕ) (a : Address) → (address_by form).Holds a → too_long kind (length (address_bytes a)) ≡ None
+    → (address_by form).Reads (address_bytes a) a
+address-back four kind a h fits = (address_by four).reads_back kind a h fits
+address-back sixteen kind a h fits = (address_by sixteen).reads_back kind a h fits
+address-back any kind a h fits = (address_by any).reads_back kind a h fits
+
+pub address-grows : (form : Form) (bytes : List ℕ) (a : Address) → IsBytes bytes → (address_by form).Reads bytes a
+    → 2 * framed (length (address_bytes a)) ≤ 5 * (4 + length bytes)
+address-grows four bytes a is p = (address_by four).grows bytes a is p
+address-grows sixteen bytes a is p = (address_by sixteen).grows bytes a is p
+address-grows any bytes a is p = (address_by any).grows bytes a is p
+
+-- it is written in one way, whatever the form
+abbrev pub address_in : Form → Codec Address
+address_in form = record {
+  Reads = (address_by form).Reads;
+  Wrong = (address_by form).Wrong;
+  writes = address_bytes;
+  misfit = λ kind a. too_long kind (length (address_bytes a));
+  Holds = (address_by form).Holds;
+  members = λ a. 0;
+  one_reading = (address_by form).one_reading;
+  no_fault = (address_by form).no_fault;
+  reads_holds = (address_by form).reads_holds;
+  fits_short = λ kind a h. too_long-short kind (length (address_bytes a)) h;
+  reads_back = address-back form;
+  grows = address-grows form;
+}
+
+abbrev pub neighbour_address : AddressFamily → Codec Address
+neighbour_address family = address_in (form_of family)
+
+-- the address of a neighbour that an address of IP is
+abbrev pub address_of_ip : IpAddr → NeighbourAddress
+address_of_ip (V4 a) = AddressInet a
+address_of_ip (V6 a) = AddressInet6 a

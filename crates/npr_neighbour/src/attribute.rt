@@ -1,0 +1,171 @@
+//! The attributes of a neighbour message: `NDA_*` of `linux/neighbour.h`.
+
+ghost use Rattle.std.specs.Prelude.{◌≡◌, length, IfOk};
+ghost use Rattle.std.proofs.Common.{refl};
+ghost use Rattle.npr_base.specs.Table.{shape_by};
+ghost use Rattle.npr_neighbour.specs.Attribute.{Meaning, meaning_of, writing, attributes};
+
+use crate::address::NeighbourAddress;
+use crate::cache_info::NeighbourCacheInfo;
+use crate::flags::NeighbourExtendedFlags;
+use bitflags::Flags;
+use npr_base::{
+    AddressFamily, AttrFamily, Attribute, DecodeError, DefaultNla, EmitError, Looks, Nla,
+    NlaBuffer, Parseable, ParseableParametrized, clone_rows, kind_rows, len_rows, read_rows,
+    write_rows,
+};
+use npr_scalar::RouteProtocol;
+use std::alloc::{AllocError, Global};
+
+/// An attribute of a neighbour message. What an address means rests on the family of the message's
+/// header.
+#[derive(Debug, Drop, PartialEq, Eq)]
+pub enum NeighbourAttribute {
+    /// `NDA_DST`: the address.
+    Destination(NeighbourAddress),
+    /// `NDA_LLADDR`: the address on the link, as it stands.
+    LinkLayerAddress(Vec<u8>),
+    /// `NDA_CACHEINFO`: when it was confirmed, used and changed.
+    CacheInfo(NeighbourCacheInfo),
+    /// `NDA_PROBES`: how often it was asked.
+    Probes(u32),
+    /// `NDA_VLAN`: the VLAN.
+    Vlan(u16),
+    /// `NDA_PORT`: the port of the tunnel.
+    Port(u16),
+    /// `NDA_VNI`: the network of the tunnel.
+    Vni(u32),
+    /// `NDA_IFINDEX`: the interface that the tunnel goes by.
+    IfIndex(u32),
+    /// `NDA_MASTER`: the controller of the interface.
+    Controller(u32),
+    /// `NDA_LINK_NETNSID`: the network namespace of the link.
+    LinkNetNsId(u32),
+    /// `NDA_SRC_VNI`: the network that a packet comes from.
+    SourceVni(u32),
+    /// `NDA_PROTOCOL`: who made it.
+    Protocol(RouteProtocol),
+    /// `NDA_NH_ID`: the id of a next hop object.
+    NhId(u32),
+    /// `NDA_FLAGS_EXT`: the flags for which the header has no room.
+    FlagsExt(NeighbourExtendedFlags),
+    /// An attribute of another number, as it stands.
+    Other(DefaultNla),
+}
+
+/// The number of an address, `NDA_DST`.
+const NDA_DST: u16 = 1;
+
+/// The rows of the table that stand for themselves. Number 1 stands beside them in each match.
+macro_rules! rows {
+    ($body:ident ($($given:tt)*)) => {
+        $body!(($($given)*) NeighbourAttribute {
+            2 LinkLayerAddress(raw);
+            3 CacheInfo(NeighbourCacheInfo leading 16);
+            4 Probes(le32);
+            5 Vlan(le16);
+            6 Port(be16);
+            7 Vni(le32);
+            8 IfIndex(le32);
+            9 Controller(le32);
+            10 LinkNetNsId(le32);
+            11 SourceVni(le32);
+            12 Protocol(RouteProtocol as byte);
+            13 NhId(le32);
+            15 FlagsExt(NeighbourExtendedFlags flags le32);
+        })
+    };
+}
+
+impl NeighbourAttribute {
+    /// An equal attribute.
+    ///
+    /// # Errors
+    /// `AllocError` where memory is refused.
+    pub fn clone(&self, alloc: Global) -> Result<Self, AllocError>
+        ensures { IfOk result (λ a. meaning_of a ≡ meaning_of self.now) }
+    {
+        rows!(clone_rows(self, alloc;
+            NeighbourAttribute::Destination(a) => a.clone(alloc).map(NeighbourAttribute::Destination),
+        ))
+    }
+}
+
+const FAMILY: AttrFamily = AttrFamily::Neighbour;
+
+impl Nla for NeighbourAttribute {
+    ghost shape = { λ a. shape_by writing (meaning_of a) };
+
+    fn kind(&self) -> u16 {
+        rows!(kind_rows(self; NeighbourAttribute::Destination(_) => NDA_DST,))
+    }
+
+    fn is_nested(&self) -> bool {
+        false
+    }
+
+    fn check(&self) -> Result<usize, EmitError> {
+        self.check_len(self.value_len())
+    }
+
+    fn value_len(&self) -> usize
+        ensures { result ≡ length (writing.writes (meaning_of self.now)).value }
+    {
+        rows!(len_rows(self; NeighbourAttribute::Destination(a) => a.len(),))
+    }
+
+    fn write_value(&self, out: &mut [u8]) -> usize {
+        rows!(write_rows(self, out; NeighbourAttribute::Destination(a) => a.write(out),))
+    }
+}
+
+impl Attribute for NeighbourAttribute {
+    type Context = AddressFamily;
+
+    ghost Meaning = { Meaning };
+
+    ghost meaning = { meaning_of };
+
+    ghost writing = { writing };
+
+    ghost reading = { attributes };
+
+    ghost item_is = { λ a. refl };
+
+    ghost misfit_is = { λ a. refl };
+
+    fn read(
+        alloc: Global,
+        family: AddressFamily,
+        item: &NlaBuffer<'_>,
+        looks: &mut Looks,
+    ) -> Result<Self, DecodeError> {
+        rows!(read_rows(alloc, item, looks;
+            NDA_DST => NeighbourAddress::read(alloc, family, item.value(), FAMILY.at(NDA_DST))
+                .map(NeighbourAttribute::Destination),
+        ))
+    }
+
+    fn try_clone(&self, alloc: Global) -> Result<Self, AllocError> {
+        self.clone(alloc)
+    }
+}
+
+impl<'a> ParseableParametrized<&'a NlaBuffer<'a>, AddressFamily> for NeighbourAttribute {
+    ghost parses = { λ family input a. (attributes family).Reads input.now (meaning_of a) };
+
+    ghost misparses = { λ family input e. (attributes family).Faulty input.now e };
+
+    /// What the attribute is in a neighbour message of this family: `read`, with looks that nobody
+    /// counts.
+    ///
+    /// # Errors
+    /// `OutOfMemory` where memory is refused, and else what is wrong with the value.
+    fn parse_with_param(
+        alloc: Global,
+        input: &'a NlaBuffer<'a>,
+        family: AddressFamily,
+    ) -> Result<Self, DecodeError> {
+        Self::read(alloc, family, input, &mut Looks::new())
+    }
+}

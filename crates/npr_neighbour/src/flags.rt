@@ -1,0 +1,139 @@
+//! What a neighbour is besides: `NTF_*` of `linux/neighbour.h`. Every bit is kept.
+
+ghost use Rattle.std.specs.Prelude.{⊤, [], ◌∷◌, codes};
+ghost use Rattle.npr_neighbour.specs.Flags.{flags_bits, extended_flags_bits};
+
+use bitflags::{Flag, Flags};
+
+/// The flags of a neighbour, as the header has them.
+#[derive(Clone, Copy, Debug, Default, PartialEq, Eq)]
+pub struct NeighbourFlags(u8);
+
+impl NeighbourFlags {
+    /// `NTF_USE`: it is in use.
+    pub const Use: NeighbourFlags = NeighbourFlags(0x1);
+
+    /// `NTF_SELF`: it belongs to the device itself.
+    pub const Own: NeighbourFlags = NeighbourFlags(0x2);
+
+    /// `NTF_MASTER`: it belongs to the controller of the device.
+    pub const Controller: NeighbourFlags = NeighbourFlags(0x4);
+
+    /// `NTF_PROXY`: this host answers for it.
+    pub const Proxy: NeighbourFlags = NeighbourFlags(0x8);
+
+    /// `NTF_EXT_LEARNED`: a program learned it.
+    pub const ExtLearned: NeighbourFlags = NeighbourFlags(0x10);
+
+    /// `NTF_OFFLOADED`: the device forwards to it by itself.
+    pub const Offloaded: NeighbourFlags = NeighbourFlags(0x20);
+
+    /// `NTF_STICKY`: it doesn't move to another port.
+    pub const Sticky: NeighbourFlags = NeighbourFlags(0x40);
+
+    /// `NTF_ROUTER`: it is a router.
+    pub const Router: NeighbourFlags = NeighbourFlags(0x80);
+
+    const FLAGS: &'static [Flag<NeighbourFlags>] = &[
+        Flag {
+            name: "Use",
+            value: NeighbourFlags::Use,
+        },
+        Flag {
+            name: "Own",
+            value: NeighbourFlags::Own,
+        },
+        Flag {
+            name: "Controller",
+            value: NeighbourFlags::Controller,
+        },
+        Flag {
+            name: "Proxy",
+            value: NeighbourFlags::Proxy,
+        },
+        Flag {
+            name: "ExtLearned",
+            value: NeighbourFlags::ExtLearned,
+        },
+        Flag {
+            name: "Offloaded",
+            value: NeighbourFlags::Offloaded,
+        },
+        Flag {
+            name: "Sticky",
+            value: NeighbourFlags::Sticky,
+        },
+        Flag {
+            name: "Router",
+            value: NeighbourFlags::Router,
+        },
+        Flag {
+            name: "",
+            value: NeighbourFlags(u8::MAX),
+        },
+    ];
+}
+
+impl Flags for NeighbourFlags {
+    type Bits = u8;
+
+    ghost exact = { ⊤ };
+
+    ghost table = { (codes "Use", 1) ∷ (codes "Own", 2) ∷ (codes "Controller", 4) ∷ (codes "Proxy", 8) ∷ (codes "ExtLearned", 16) ∷ (codes "Offloaded", 32) ∷ (codes "Sticky", 64) ∷ (codes "Router", 128) ∷ ([], 255) ∷ [] };
+
+    ghost set_of = { flags_bits };
+
+    fn flags<'a>() -> &'a [Flag<NeighbourFlags>] {
+        NeighbourFlags::FLAGS
+    }
+
+    fn bits(&self) -> u8 {
+        self.0
+    }
+
+    fn from_bits_retain(bits: u8) -> NeighbourFlags {
+        NeighbourFlags(bits)
+    }
+}
+
+/// Those for which the header has no room, as the attribute `NDA_FLAGS_EXT` has them.
+#[derive(Clone, Copy, Debug, Default, PartialEq, Eq)]
+pub struct NeighbourExtendedFlags(u32);
+
+impl NeighbourExtendedFlags {
+    /// `NTF_EXT_MANAGED`: the kernel keeps it confirmed by itself.
+    pub const Managed: NeighbourExtendedFlags = NeighbourExtendedFlags(0x1);
+
+    const FLAGS: &'static [Flag<NeighbourExtendedFlags>] = &[
+        Flag {
+            name: "Managed",
+            value: NeighbourExtendedFlags::Managed,
+        },
+        Flag {
+            name: "",
+            value: NeighbourExtendedFlags(u32::MAX),
+        },
+    ];
+}
+
+impl Flags for NeighbourExtendedFlags {
+    type Bits = u32;
+
+    ghost exact = { ⊤ };
+
+    ghost table = { (codes "Managed", 1) ∷ ([], 4294967295) ∷ [] };
+
+    ghost set_of = { extended_flags_bits };
+
+    fn flags<'a>() -> &'a [Flag<NeighbourExtendedFlags>] {
+        NeighbourExtendedFlags::FLAGS
+    }
+
+    fn bits(&self) -> u32 {
+        self.0
+    }
+
+    fn from_bits_retain(bits: u32) -> NeighbourExtendedFlags {
+        NeighbourExtendedFlags(bits)
+    }
+}

@@ -1,0 +1,145 @@
+//! The header of a neighbour message: `struct ndmsg` of `linux/neighbour.h`.
+
+ghost use Rattle.std.specs.Prelude.{◌≡◌, ◌≤◌, ◌<◌, None, length, IfOk, IfErr};
+ghost use Rattle.npr_base.specs.{
+  Codec.{leading},
+  Refusal.{no_place},
+};
+ghost use Rattle.npr_neighbour.specs.Header.{header_buffer, header, buffer_of};
+
+use crate::flags::NeighbourFlags;
+use crate::state::NeighbourState;
+use bitflags::Flags;
+use npr_base::{AddressFamily, DecodeError, EmitError, Emitable, leading_octets, write_array};
+use npr_scalar::RouteType;
+
+/// The header of a neighbour message.
+#[derive(Clone, Copy, Debug, Default, PartialEq, Eq)]
+pub struct NeighbourHeader {
+    /// The family of the address.
+    pub family: AddressFamily,
+    /// The number of the interface. The kernel's has a sign.
+    pub ifindex: i32,
+    /// How far the neighbour is known.
+    pub state: NeighbourState,
+    /// The flags, as far as they have room here.
+    pub flags: NeighbourFlags,
+    /// What becomes of a packet to it.
+    pub kind: RouteType,
+}
+
+/// The layout of a [`NeighbourHeader`]: 12 bytes, the family, three of padding, the index in 4 and
+/// the state in 2, little endian, the flags, and the kind. The padding is not looked at where a
+/// header is read, and written 0.
+#[derive(Clone, Copy, Debug, PartialEq, Eq)]
+pub struct NeighbourMessageBuffer {
+    pub family: u8,
+    pub ifindex: i32,
+    pub state: u16,
+    pub flags: u8,
+    pub kind: u8,
+}
+
+impl NeighbourMessageBuffer {
+    /// The layout in the first 12 bytes; more are not looked at.
+    ///
+    /// # Errors
+    /// `HeaderTooShort` below 12 bytes.
+    pub fn parse(bytes: &[u8]) -> Result<Self, DecodeError>
+        ensures ok { IfOk result (λ b. (leading header_buffer).Reads bytes.now b) }
+        ensures refused { IfErr result (λ e. (leading header_buffer).Wrong no_place bytes.now e) }
+    {
+        let b = leading_octets(bytes, 12)?;
+        Ok(NeighbourMessageBuffer {
+            family: b[0],
+            ifindex: i32::from_le_bytes([b[4], b[5], b[6], b[7]]),
+            state: u16::from_le_bytes([b[8], b[9]]),
+            flags: b[10],
+            kind: b[11],
+        })
+    }
+
+    /// The 12 bytes of the layout.
+    pub fn to_bytes(&self) -> [u8; 12]
+        ensures { result ≡ header_buffer.encode self.now }
+    {
+        let [a, b, c, d] = self.ifindex.to_le_bytes();
+        let [e, f] = self.state.to_le_bytes();
+        [
+            self.family,
+            0,
+            0,
+            0,
+            a,
+            b,
+            c,
+            d,
+            e,
+            f,
+            self.flags,
+            self.kind,
+        ]
+    }
+}
+
+impl<'a> From<&'a NeighbourHeader> for NeighbourMessageBuffer {
+    ghost from_gives = { λ h b. b ≡ buffer_of h.now };
+
+    fn from(header: &'a NeighbourHeader) -> NeighbourMessageBuffer {
+        NeighbourMessageBuffer {
+            family: u8::from(header.family),
+            ifindex: header.ifindex,
+            state: header.state.bits(),
+            flags: header.flags.bits(),
+            kind: u8::from(header.kind),
+        }
+    }
+}
+
+impl NeighbourHeader {
+    /// The header in the first 12 bytes; more are not looked at.
+    ///
+    /// # Errors
+    /// `HeaderTooShort` below 12 bytes.
+    pub fn parse(bytes: &[u8]) -> Result<Self, DecodeError>
+        ensures ok { IfOk result (λ h. (leading header).Reads bytes.now h) }
+        ensures refused { IfErr result (λ e. (leading header).Wrong no_place bytes.now e) }
+    {
+        Ok(NeighbourHeader::in_front(leading_octets(bytes, 12)?))
+    }
+
+    /// The header in the first 12 bytes, which are there.
+    #[inline]
+    pub(crate) fn in_front(bytes: &[u8]) -> Self
+        requires { 12 ≤ length bytes.now }
+        ensures { (leading header).Reads bytes.now result }
+    {
+        let b = &bytes[..12];
+        NeighbourHeader {
+            family: AddressFamily::from(b[0]),
+            ifindex: i32::from_le_bytes([b[4], b[5], b[6], b[7]]),
+            state: NeighbourState::from_bits_retain(u16::from_le_bytes([b[8], b[9]])),
+            flags: NeighbourFlags::from_bits_retain(b[10]),
+            kind: RouteType::from(b[11]),
+        }
+    }
+}
+
+impl Emitable for NeighbourHeader {
+    ghost bytes = { header.encode };
+
+    ghost unfit = { λ _. None };
+
+    fn check(&self) -> Result<usize, EmitError> {
+        Ok(12)
+    }
+
+    fn buffer_len(&self) -> usize {
+        12
+    }
+
+    #[inline(never)]
+    fn emit(&self, out: &mut [u8]) {
+        write_array(NeighbourMessageBuffer::from(self).to_bytes(), out);
+    }
+}

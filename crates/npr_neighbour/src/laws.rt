@@ -1,0 +1,89 @@
+//! The laws of neighbour messages, over their definitions alone. Each function does nothing, and its
+//! contract is the law.
+
+ghost use Rattle.std.specs.Prelude.{◌≡◌, ◌^◌, ◌-◌, ℕ, List, length};
+ghost use Rattle.npr_base.specs.{
+  Counts.{Counts, AddsAtMostTwice, SawEach},
+  Equality.{IsEquality, IsEqualityOf},
+  Family.{list_members},
+  Message.{MessageLooks},
+};
+ghost use Rattle.npr_neighbour.specs.{
+  Attribute.{meaning_of, writing},
+  Flags.{flags_bits, flags_of, extended_flags_bits, extended_flags_of},
+  Header.{default_header, header},
+  Message.{Neighbour, body, message_of, IsNeighbourMessage},
+  NeighbourAddress.{Address, address_of, neighbour_address},
+  State.{state_bits, state_of},
+};
+
+use crate::address::NeighbourAddress;
+use crate::attribute::NeighbourAttribute;
+use crate::cache_info::NeighbourCacheInfo;
+use crate::flags::{NeighbourExtendedFlags, NeighbourFlags};
+use crate::header::{NeighbourHeader, NeighbourMessageBuffer};
+use crate::message::NeighbourMessage;
+use crate::state::NeighbourState;
+use npr_base::AddressFamily;
+
+/// The named states of a neighbour, by their bits (`linux/neighbour.h`).
+pub fn law_neighbour_states()
+    ensures none { state_bits NeighbourState.None ≡ 0 }
+    ensures incomplete { state_bits NeighbourState.Incomplete ≡ 2 ^ 0 }
+    ensures reachable { state_bits NeighbourState.Reachable ≡ 2 ^ 1 }
+    ensures stale { state_bits NeighbourState.Stale ≡ 2 ^ 2 }
+    ensures delay { state_bits NeighbourState.Delay ≡ 2 ^ 3 }
+    ensures probe { state_bits NeighbourState.Probe ≡ 2 ^ 4 }
+    ensures failed { state_bits NeighbourState.Failed ≡ 2 ^ 5 }
+    ensures noarp { state_bits NeighbourState.Noarp ≡ 2 ^ 6 }
+    ensures permanent { state_bits NeighbourState.Permanent ≡ 2 ^ 7 }
+{}
+
+/// The named flags of a neighbour, by their bits (`linux/neighbour.h`).
+pub fn law_neighbour_flags()
+    ensures in_use { flags_bits NeighbourFlags.Use ≡ 2 ^ 0 }
+    ensures own { flags_bits NeighbourFlags.Own ≡ 2 ^ 1 }
+    ensures controller { flags_bits NeighbourFlags.Controller ≡ 2 ^ 2 }
+    ensures proxy { flags_bits NeighbourFlags.Proxy ≡ 2 ^ 3 }
+    ensures ext_learned { flags_bits NeighbourFlags.ExtLearned ≡ 2 ^ 4 }
+    ensures offloaded { flags_bits NeighbourFlags.Offloaded ≡ 2 ^ 5 }
+    ensures sticky { flags_bits NeighbourFlags.Sticky ≡ 2 ^ 6 }
+    ensures router { flags_bits NeighbourFlags.Router ≡ 2 ^ 7 }
+    ensures managed { extended_flags_bits NeighbourExtendedFlags.Managed ≡ 2 ^ 0 }
+{}
+
+/// The looks that reading a message takes, over their definition.
+pub fn law_looks()
+    // At most two for four bytes behind the header, and one for twelve and two that fail.
+    ensures bounded { (bytes : List ℕ) (old new : Counts) → MessageLooks header body bytes old new → AddsAtMostTwice old new (length bytes - 12) }
+    // Each attribute has one.
+    ensures counted { (bytes : List ℕ) (m : Neighbour) (old new : Counts) → IsNeighbourMessage bytes m → MessageLooks header body bytes old new
+        → SawEach old new (list_members writing.members m.attributes) }
+{}
+
+/// An address that its family can hold is read again from its bytes.
+pub fn law_read_back()
+    ensures { (family : AddressFamily) (a : Address) → (neighbour_address family).Holds a → (neighbour_address family).Reads ((neighbour_address family).writes a) a }
+{}
+
+/// Which value is the default.
+pub fn law_default()
+    ensures state { (x : NeighbourState) → ⟦<NeighbourState as Default>⟧.is_default x → x ≡ state_of 0 }
+    ensures flags { (x : NeighbourFlags) → ⟦<NeighbourFlags as Default>⟧.is_default x → x ≡ flags_of 0 }
+    ensures extended_flags { (x : NeighbourExtendedFlags) → ⟦<NeighbourExtendedFlags as Default>⟧.is_default x → x ≡ extended_flags_of 0 }
+    ensures cache_info { (x : NeighbourCacheInfo) → ⟦<NeighbourCacheInfo as Default>⟧.is_default x → x ≡ record { confirmed = 0; used = 0; updated = 0; refcnt = 0 } }
+    ensures header { (x : NeighbourHeader) → ⟦<NeighbourHeader as Default>⟧.is_default x → x ≡ default_header }
+{}
+
+/// `==` answers whether two values are equal, or mean the same where they hold a vector.
+pub fn law_equality()
+    ensures state { IsEquality ⟦<NeighbourState as PartialEq>⟧.eq }
+    ensures flags { IsEquality ⟦<NeighbourFlags as PartialEq>⟧.eq }
+    ensures extended_flags { IsEquality ⟦<NeighbourExtendedFlags as PartialEq>⟧.eq }
+    ensures cache_info { IsEquality ⟦<NeighbourCacheInfo as PartialEq>⟧.eq }
+    ensures header { IsEquality ⟦<NeighbourHeader as PartialEq>⟧.eq }
+    ensures header_buffer { IsEquality ⟦<NeighbourMessageBuffer as PartialEq>⟧.eq }
+    ensures address { IsEqualityOf address_of ⟦<NeighbourAddress as PartialEq>⟧.eq }
+    ensures attribute { IsEqualityOf meaning_of ⟦<NeighbourAttribute as PartialEq>⟧.eq }
+    ensures message { IsEqualityOf message_of ⟦<NeighbourMessage as PartialEq>⟧.eq }
+{}
