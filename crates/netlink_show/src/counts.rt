@@ -16,6 +16,8 @@ pub struct Counts {
     pub routes: u64,
     /// Of rules.
     pub rules: u64,
+    /// Of neighbours.
+    pub neighbours: u64,
     /// Of types that the library has no message for.
     pub others: u64,
     /// Ends, errors and the like.
@@ -32,6 +34,7 @@ impl Counts {
                 Subject::Address(_) => &mut self.addresses,
                 Subject::Route(_) => &mut self.routes,
                 Subject::Rule(_) => &mut self.rules,
+                Subject::Neighbour(_) => &mut self.neighbours,
                 Subject::Other(_) => &mut self.others,
             },
             _ => &mut self.controls,
@@ -49,6 +52,7 @@ impl Counts {
             ("addresses", self.addresses),
             ("routes", self.routes),
             ("rules", self.rules),
+            ("neighbours", self.neighbours),
             ("others", self.others),
             ("controls", self.controls),
             ("refused", self.refused),

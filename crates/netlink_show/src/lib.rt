@@ -14,6 +14,7 @@ mod manner;
 mod message_fields;
 mod metric_fields;
 mod names;
+mod neighbour_fields;
 mod next_hop_fields;
 mod route_attribute;
 mod route_fields;

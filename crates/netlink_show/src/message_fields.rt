@@ -3,6 +3,7 @@
 use crate::address_fields::push_address;
 use crate::field::{Fields, Word};
 use crate::manner::Manner;
+use crate::neighbour_fields::push_neighbour;
 use crate::route_fields::push_route;
 use crate::rule_fields::push_rule;
 use crate::subject::{Subject, subject_of};
@@ -100,6 +101,10 @@ fn push_inner(fields: &mut Fields, message: &RouteNetlinkMessage) -> Result<(), 
         Subject::Rule(rule) => {
             push_rule(fields, rule)?;
             "rule"
+        }
+        Subject::Neighbour(neighbour) => {
+            push_neighbour(fields, neighbour)?;
+            "neighbour"
         }
         Subject::Other(other) => return push_other(fields, other),
     };

@@ -1,6 +1,7 @@
 //! What a message is about.
 
 use netlink_packet_route::address::AddressMessage;
+use netlink_packet_route::neighbour::NeighbourMessage;
 use netlink_packet_route::route::RouteMessage;
 use netlink_packet_route::rule::RuleMessage;
 use netlink_packet_route::{OtherMessage, RouteNetlinkMessage};
@@ -14,6 +15,8 @@ pub enum Subject<'a> {
     Route(&'a RouteMessage),
     /// A rule.
     Rule(&'a RuleMessage),
+    /// A neighbour.
+    Neighbour(&'a NeighbourMessage),
     /// Something that the library has no message for.
     Other(&'a OtherMessage),
 }
@@ -30,6 +33,9 @@ pub fn subject_of(message: &RouteNetlinkMessage) -> Subject<'_> {
         RouteNetlinkMessage::NewRule(rule)
         | RouteNetlinkMessage::DelRule(rule)
         | RouteNetlinkMessage::GetRule(rule) => Subject::Rule(rule),
+        RouteNetlinkMessage::NewNeighbour(neighbour)
+        | RouteNetlinkMessage::DelNeighbour(neighbour)
+        | RouteNetlinkMessage::GetNeighbour(neighbour) => Subject::Neighbour(neighbour),
         RouteNetlinkMessage::Other(other) => Subject::Other(other),
     }
 }

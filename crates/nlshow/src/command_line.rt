@@ -6,7 +6,7 @@ use std::fmt;
 
 /// The line for a command line that says nothing that can be done.
 pub const USAGE: &str =
-    "usage: nlshow [--json | --count] [--numeric] [--hex] [--as address|route|rule] [--keep FILE] [FILE..]";
+    "usage: nlshow [--json | --count] [--numeric] [--hex] [--as address|route|rule|neighbour] [--keep FILE] [FILE..]";
 
 /// What `--help` says.
 pub const HELP: &str =

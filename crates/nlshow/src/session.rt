@@ -211,5 +211,6 @@ fn type_of(kind: MessageKind) -> u16 {
         MessageKind::Address => 20,
         MessageKind::Route => 24,
         MessageKind::Rule => 32,
+        MessageKind::Neighbour => 28,
     }
 }

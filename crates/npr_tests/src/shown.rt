@@ -17,6 +17,7 @@ bytes 0
 addresses 0
 routes 1
 rules 0
+neighbours 0
 others 0
 controls 0
 refused 0
