@@ -20,6 +20,7 @@ static const struct kind KINDS[] = {
     {"address", npr_address_canonical, npr_address_fault},
     {"route", npr_route_canonical, npr_route_fault},
     {"rule", npr_rule_canonical, npr_rule_fault},
+    {"neighbour", npr_neighbour_canonical, npr_neighbour_fault},
 };
 
 #define KIND_COUNT (sizeof KINDS / sizeof *KINDS)

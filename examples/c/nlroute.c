@@ -1,8 +1,8 @@
 /* Reads a message of rtnetlink as hexadecimal text from standard input and prints the report on it,
  * as the program of crates/nlroute does; or compares answers with those that stand in files.
  *
- *   nlroute address|route|rule
- *   nlroute compare address|route|rule FILE.. [address|route|rule FILE..]
+ *   nlroute address|route|rule|neighbour
+ *   nlroute compare address|route|rule|neighbour FILE.. [address|route|rule|neighbour FILE..]
  *
  * It ends with 0 and the report; or with one line on standard error and 1 (refused), 2 (bad
  * hexadecimal text, or the usage), 3 (unfit), 4 (out of memory) or 5 (reading or writing failed). A
@@ -16,7 +16,7 @@
 #include <stdlib.h>
 #include <string.h>
 
-#define USAGE "usage: nlroute address|route|rule\n       nlroute compare address|route|rule FILE.."
+#define USAGE "usage: nlroute address|route|rule|neighbour\n       nlroute compare address|route|rule|neighbour FILE.."
 
 enum ending { WELL = 0, REFUSED = 1, BAD_HEX = 2, UNFIT = 3, MEMORY = 4, FAILED = 5 };
 
@@ -31,6 +31,7 @@ static const struct kind KINDS[] = {
     {"address", 8, npr_address_canonical},
     {"route", 12, npr_route_canonical},
     {"rule", 12, npr_rule_canonical},
+    {"neighbour", 12, npr_neighbour_canonical},
 };
 
 static const struct kind *kind_of(const char *name) {

@@ -8,13 +8,14 @@ use std::fs;
 
 const DATA: &str = concat!(env!("CARGO_MANIFEST_DIR"), "/../../crates/conformance/data");
 
-const FILES: [(&str, Kind, usize); 6] = [
+const FILES: [(&str, Kind, usize); 7] = [
     ("address.tsv", Kind::Address, 8),
     ("generated_address.tsv", Kind::Address, 8),
     ("route.tsv", Kind::Route, 12),
     ("generated_route.tsv", Kind::Route, 12),
     ("rule.tsv", Kind::Rule, 12),
     ("generated_rule.tsv", Kind::Rule, 12),
+    ("neighbour.tsv", Kind::Neighbour, 12),
 ];
 
 fn bytes_of(digits: &str) -> Vec<u8> {
