@@ -37,8 +37,8 @@
 /* The version of the library. */
 #define NPR_VERSION_MAJOR 0
 #define NPR_VERSION_MINOR 3
-#define NPR_VERSION_PATCH 9
-#define NPR_VERSION "0.3.9"
+#define NPR_VERSION_PATCH 10
+#define NPR_VERSION "0.3.10"
 
 /* The stack of a thread that is enough for every call and every input, in bytes: 1 MiB. The deepest
  * message takes some 773 KiB (measured). */
@@ -178,8 +178,8 @@ enum npr_seg6_fault {
     NPR_SEG6_SEGMENTS = 4
 };
 
-/* What is wrong with bytes as a message: a refusal with all that it tells. A member that a refusal
- * tells nothing of is 0, and all are 0 where the bytes are a message. */
+/* What is wrong with bytes as a message: a refusal with all that it tells, and where it stands. A
+ * member that a refusal tells nothing of is 0, and all are 0 where the bytes are a message. */
 struct npr_fault {
     /* One of `enum npr_refusal`, or 0 where the bytes are a message. */
     uint32_t number;
@@ -197,6 +197,11 @@ struct npr_fault {
     /* How many bytes are left at NPR_ATTRIBUTE_LENGTH and NPR_NEXT_HOP_LENGTH, how many the header
      * takes at NPR_HEADER_TOO_SHORT. */
     size_t limit;
+    /* Where an attribute of the message begins, from the first of the bytes: the one that is wrong, or
+     * that none can be where one should begin. It is at the level of the message: what is wrong inside
+     * an encapsulation or a next hop stands in the RTA_ENCAP or RTA_MULTIPATH that begins there. Each
+     * attribute before it is read. 0 at NPR_OUT_OF_MEMORY and NPR_HEADER_TOO_SHORT. */
+    size_t offset;
 };
 
 /* Whether the bytes are a message, and else the first fault in reading order. Nothing is written; a

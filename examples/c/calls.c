@@ -38,52 +38,73 @@ struct told {
 };
 
 static const struct told TOLD[] = {
-    {npr_address_fault, {2, 8, 128}, 3, {NPR_HEADER_TOO_SHORT, 0, 0, 0, 3, 8}},
-    {npr_address_fault, {2, 8, 128, 254, 1, 0, 0, 0}, 8, {0, 0, 0, 0, 0, 0}},
-    {npr_address_fault, {2, 8, 128, 254, 1, 0, 0, 0, 5, 0, 1}, 11, {NPR_ATTRIBUTE_TOO_SHORT, 0, 0, 0, 3, 0}},
-    {npr_address_fault, {2, 8, 128, 254, 1, 0, 0, 0, 10, 0, 1, 0, 7}, 13, {NPR_ATTRIBUTE_LENGTH, 0, 0, 0, 10, 5}},
+    {npr_address_fault, {2, 8, 128}, 3, {NPR_HEADER_TOO_SHORT, 0, 0, 0, 3, 8, 0}},
+    {npr_address_fault, {2, 8, 128, 254, 1, 0, 0, 0}, 8, {0, 0, 0, 0, 0, 0, 0}},
+    {npr_address_fault, {2, 8, 128, 254, 1, 0, 0, 0, 5, 0, 1}, 11, {NPR_ATTRIBUTE_TOO_SHORT, 0, 0, 0, 3, 0, 8}},
+    {npr_address_fault, {2, 8, 128, 254, 1, 0, 0, 0, 10, 0, 1, 0, 7}, 13, {NPR_ATTRIBUTE_LENGTH, 0, 0, 0, 10, 5, 8}},
     {npr_address_fault,
      {2, 8, 128, 254, 1, 0, 0, 0, 6, 0, 3, 0, 255, 0},
      14,
-     {NPR_NOT_UTF8, NPR_FAMILY_ADDRESS, 3, 0, 0, 0}},
+     {NPR_NOT_UTF8, NPR_FAMILY_ADDRESS, 3, 0, 0, 0, 8}},
     {npr_rule_fault,
      {2, 0, 0, 0, 254, 0, 0, 1, 0, 0, 0, 0, 4, 0, 2, 0},
      16,
-     {NPR_VALUE_LENGTH, NPR_FAMILY_RULE, 2, 0, 0, 0}},
+     {NPR_VALUE_LENGTH, NPR_FAMILY_RULE, 2, 0, 0, 0, 12}},
     {npr_route_fault,
      {2, 0, 0, 0, 254, 3, 0, 5, 0, 0, 0, 0, 8, 0, 23, 0, 184, 11, 0, 0},
      20,
-     {NPR_VALUE_LENGTH, NPR_FAMILY_ROUTE, 23, 0, 4, 0}},
+     {NPR_VALUE_LENGTH, NPR_FAMILY_ROUTE, 23, 0, 4, 0, 12}},
     {npr_route_fault,
      {2, 0, 0, 0, 254, 3, 0, 1, 0, 0, 0, 0, 7, 0, 9, 0, 8, 0, 0},
      19,
-     {NPR_NEXT_HOP_TOO_SHORT, 0, 0, 0, 3, 0}},
+     {NPR_NEXT_HOP_TOO_SHORT, 0, 0, 0, 3, 0, 12}},
     {npr_route_fault,
      {2, 0, 0, 0, 254, 3, 0, 1, 0, 0, 0, 0, 12, 0, 9, 0, 7, 0, 0, 0, 1, 0, 0, 0},
      24,
-     {NPR_NEXT_HOP_LENGTH, 0, 0, 0, 7, 8}},
-    {npr_route_fault, {2, 0, 0, 0, 254, 3, 0, 1, 0, 0, 0, 0, 6, 0, 18, 0, 0, 1}, 18, {NPR_VIA_FAMILY, 0, 0, 256, 0, 0}},
+     {NPR_NEXT_HOP_LENGTH, 0, 0, 0, 7, 8, 12}},
+    {npr_route_fault,
+     {2, 0, 0, 0, 254, 3, 0, 1, 0, 0, 0, 0, 6, 0, 18, 0, 0, 1},
+     18,
+     {NPR_VIA_FAMILY, 0, 0, 256, 0, 0, 12}},
     /* LWTUNNEL_ENCAP_SEG6 with a mode and no header behind it */
     {npr_route_fault,
      {2, 0, 0, 0, 254, 3, 0, 1, 0, 0, 0, 0, 12, 0, 22, 0, 8, 0, 1, 0, 0, 0, 0, 0, 6, 0, 21, 0, 5, 0},
      30,
-     {NPR_SEG6_HEADER, 0, 0, NPR_SEG6_SHORT, 0, 0}},
+     {NPR_SEG6_HEADER, 0, 0, NPR_SEG6_SHORT, 0, 0, 12}},
     /* LWTUNNEL_ENCAP_IP with an option of Geneve: a type before a class, and a child 9 */
     {npr_route_fault,
      {2,   0,  0, 0, 254, 3, 0, 1, 0, 0, 0, 0, 20, 0, 22, 128, 16, 0, 8,
       128, 12, 0, 1, 128, 5, 0, 2, 0, 7, 0, 0, 0,  6, 0,  21,  0,  2, 0},
      38,
-     {NPR_GENEVE_ORDER, NPR_FAMILY_GENEVE, 2, 0, 0, 0}},
+     {NPR_GENEVE_ORDER, NPR_FAMILY_GENEVE, 2, 0, 0, 0, 12}},
     {npr_route_fault,
      {2,   0,  0, 0, 254, 3, 0, 1, 0, 0, 0, 0, 20, 0, 22, 128, 16, 0, 8,
       128, 12, 0, 1, 128, 5, 0, 9, 0, 7, 0, 0, 0,  6, 0,  21,  0,  2, 0},
      38,
-     {NPR_GENEVE_CHILD, NPR_FAMILY_GENEVE, 9, 0, 0, 0}},
+     {NPR_GENEVE_CHILD, NPR_FAMILY_GENEVE, 9, 0, 0, 0, 12}},
+    /* a local address, a label with its padding, and three bytes that are no attribute */
+    {npr_address_fault,
+     {2, 8, 128, 254, 1, 0, 0, 0, 8, 0, 1, 0, 127, 0, 0, 1, 7, 0, 3, 0, 'l', 'o', 0, 0, 5, 0, 255},
+     27,
+     {NPR_ATTRIBUTE_TOO_SHORT, 0, 0, 0, 3, 0, 24}},
+    /* the type of an encapsulation, an interface, and a next hop whose interface has two bytes */
+    {npr_route_fault,
+     {2, 0, 0, 0, 254, 3,  0, 1, 0, 0,  0, 0, 6, 0, 21, 0, 5, 0, 0, 0, 8, 0, 4,
+      0, 2, 0, 0, 0,   18, 0, 9, 0, 14, 0, 0, 0, 1, 0,  0, 0, 6, 0, 4, 0, 1, 2},
+     46,
+     {NPR_VALUE_LENGTH, NPR_FAMILY_ROUTE, 4, 0, 2, 0, 28}},
+    /* an encapsulation that the type behind it makes wrong, behind an interface */
+    {npr_route_fault,
+     {2, 0,  0, 0,  254, 3, 0, 1, 0, 0, 0, 0, 8, 0, 4, 0,  2, 0, 0,
+      0, 12, 0, 22, 0,   8, 0, 1, 0, 0, 0, 0, 0, 6, 0, 21, 0, 5, 0},
+     38,
+     {NPR_SEG6_HEADER, 0, 0, NPR_SEG6_SHORT, 0, 0, 20}},
 };
 
 static int same_fault(struct npr_fault one, struct npr_fault other) {
     return one.number == other.number && one.family == other.family && one.kind == other.kind &&
-           one.detail == other.detail && one.length == other.length && one.limit == other.limit;
+           one.detail == other.detail && one.length == other.length && one.limit == other.limit &&
+           one.offset == other.offset;
 }
 
 static int same_step(struct npr_step step, uint16_t kind, size_t value, size_t length, size_t next) {

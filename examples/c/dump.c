@@ -151,8 +151,8 @@ static bool print_line(uint16_t type, struct bytes payload) {
     if (fault.number == 0)
         print_message(kind, payload);
     else
-        printf(" refused: %s, family %u, attribute %u, length %zu", npr_refusal_text(fault.number),
-               (unsigned)fault.family, fault.kind, fault.length);
+        printf(" refused: %s, family %u, attribute %u, length %zu, at %zu", npr_refusal_text(fault.number),
+               (unsigned)fault.family, fault.kind, fault.length, fault.offset);
     putchar('\n');
     return fault.number == 0;
 }

@@ -2,4 +2,5 @@ mod EnvelopePlaces
 mod HopPlaces
 mod Places
 mod Searches
+mod Stopping
 mod Told

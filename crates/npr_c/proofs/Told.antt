@@ -11,7 +11,7 @@ use Rattle.netlink_packet_route.specs.declared.framing.DecodeError.{DecodeError}
 use Rattle.netlink_packet_route.specs.declared.framing.DecodeError.TheVariants.{OutOfMemory, HeaderTooShort, AttributeTooShort, AttributeLength}
 use Rattle.netlink_packet_route.specs.declared.framing.DecodeError.TheVariants.{NextHopTooShort, NextHopLength, ValueLength, NotUtf8, Seg6Header}
 use Rattle.netlink_packet_route.specs.declared.framing.DecodeError.TheVariants.{GeneveOrder, GeneveChild, ViaFamily, Unsupported}
-use Rattle.npr_c.specs.Faults.{family_number, seg6_number, fault_of}
+use Rattle.npr_c.specs.Faults.{family_number, seg6_number, told}
 use Rattle.npr_c.specs.declared.faults.Fault.{Fault}
 
 -- the family, the fault and the refusal that have these numbers
@@ -66,21 +66,21 @@ seg6_back Segments = refl
 place_back : (at : At) → record { family = family_of (family_number at.family); kind = at.kind } ≡ at
 place_back at = λ i. record { family = family_back at.family i; kind = at.kind }
 
-refusal_back : (e : DecodeError) → refusal_of (fault_of e) ≡ e
-refusal_back OutOfMemory = refl
-refusal_back (HeaderTooShort got want) = refl
-refusal_back (AttributeTooShort got) = refl
-refusal_back (AttributeLength length left) = refl
-refusal_back (NextHopTooShort got) = refl
-refusal_back (NextHopLength length left) = refl
-refusal_back (ValueLength at got) = ap (λ (a : At). ValueLength a got) (place_back at)
-refusal_back (NotUtf8 at) = ap (λ (a : At). NotUtf8 a) (place_back at)
-refusal_back (Seg6Header fault) = ap (λ (f : Seg6Fault). Seg6Header f) (seg6_back fault)
-refusal_back (GeneveOrder kind) = refl
-refusal_back (GeneveChild kind) = refl
-refusal_back (ViaFamily family) = refl
-refusal_back (Unsupported at) = ap (λ (a : At). Unsupported a) (place_back at)
+refusal_back : (e : DecodeError) (k : ℕ) → refusal_of (told e k) ≡ e
+refusal_back OutOfMemory k = refl
+refusal_back (HeaderTooShort got want) k = refl
+refusal_back (AttributeTooShort got) k = refl
+refusal_back (AttributeLength length left) k = refl
+refusal_back (NextHopTooShort got) k = refl
+refusal_back (NextHopLength length left) k = refl
+refusal_back (ValueLength at got) k = ap (λ (a : At). ValueLength a got) (place_back at)
+refusal_back (NotUtf8 at) k = ap (λ (a : At). NotUtf8 a) (place_back at)
+refusal_back (Seg6Header fault) k = ap (λ (f : Seg6Fault). Seg6Header f) (seg6_back fault)
+refusal_back (GeneveOrder kind) k = refl
+refusal_back (GeneveChild kind) k = refl
+refusal_back (ViaFamily family) k = refl
+refusal_back (Unsupported at) k = ap (λ (a : At). Unsupported a) (place_back at)
 
 -- two refusals that are told alike are one
-pub one_refusal : (d e : DecodeError) → fault_of d ≡ fault_of e → d ≡ e
-one_refusal d e same = sym (refusal_back d) ∙ ap refusal_of same ∙ refusal_back e
+pub one_refusal : (d e : DecodeError) (j k : ℕ) → told d j ≡ told e k → d ≡ e
+one_refusal d e j k same = sym (refusal_back d j) ∙ ap refusal_of same ∙ refusal_back e k

@@ -40,22 +40,23 @@ seg6_number Segments = 4
 
 -- the bytes are a message
 abbrev pub no_fault : Fault
-no_fault = record { number = 0; family = 0; kind = 0; detail = 0; length = 0; limit = 0 }
+no_fault = record { number = 0; family = 0; kind = 0; detail = 0; length = 0; limit = 0; offset = 0 }
 
 -- a refusal that tells one length, or two
 abbrev pub fault_by_length : DecodeError → ℕ → ℕ → Fault
-fault_by_length e length limit = record { number = refusal_number e; family = 0; kind = 0; detail = 0; length = length; limit = limit }
+fault_by_length e length limit =
+    record { number = refusal_number e; family = 0; kind = 0; detail = 0; length = length; limit = limit; offset = 0 }
 
 -- a refusal that tells an attribute
 abbrev pub fault_at : DecodeError → AttrFamily → ℕ → ℕ → Fault
 fault_at e family kind length =
-    record { number = refusal_number e; family = family_number family; kind = kind; detail = 0; length = length; limit = 0 }
+    record { number = refusal_number e; family = family_number family; kind = kind; detail = 0; length = length; limit = 0; offset = 0 }
 
 -- a refusal that tells what stands in a value
 abbrev pub fault_with : DecodeError → ℕ → Fault
-fault_with e detail = record { number = refusal_number e; family = 0; kind = 0; detail = detail; length = 0; limit = 0 }
+fault_with e detail = record { number = refusal_number e; family = 0; kind = 0; detail = detail; length = 0; limit = 0; offset = 0 }
 
--- all that a refusal tells
+-- all that a refusal tells by itself
 abbrev pub fault_of : DecodeError → Fault
 fault_of OutOfMemory = fault_by_length OutOfMemory 0 0
 fault_of (HeaderTooShort got want) = fault_by_length (HeaderTooShort got want) got want
@@ -71,8 +72,12 @@ fault_of (GeneveChild kind) = fault_at (GeneveChild kind) Geneve kind 0
 fault_of (ViaFamily family) = fault_with (ViaFamily family) family
 fault_of (Unsupported at) = fault_at (Unsupported at) at.family at.kind 0
 
+-- the same with a place in the bytes
+abbrev pub told : DecodeError → ℕ → Fault
+told e offset = record (fault_of e) { offset = offset }
+
 -- the answer for bytes: they are a message, or refused for their first fault or for want of memory
 abbrev pub IsJudged : {M : Type 0} → (List ℕ → M → Type 0) → (List ℕ → DecodeError → Type 0) → List ℕ → Fault → Type 0
 IsJudged {M} reads faulty bytes answer =
     ((m : M) × reads bytes m × (answer ≡ no_fault))
-    ⊎ ((e : DecodeError) × (answer ≡ fault_of e) × (e ≢ OutOfMemory → faulty bytes e))
+    ⊎ ((e : DecodeError) × (answer ≡ told e answer.offset) × (e ≢ OutOfMemory → faulty bytes e))

@@ -5,3 +5,5 @@ pub mod Names
 pub mod NextHops
 pub mod Numbers
 pub mod Steps
+pub mod Stops
+pub mod StopsLaws

@@ -4,26 +4,28 @@ ghost use Rattle.std.specs.Prelude.{◌≡◌, ℕ, List, drop};
 ghost use Rattle.netlink_packet_route.specs.{
   AddressMessage.{IsAddressMessage, AddressFault},
   Framing.{Item, Front},
-  Messages.{IsMessage, MessageFault},
+  Messages.{Message as Meant, IsMessage, MessageFault},
   RouteMessage.{IsRouteMessage, RouteFault},
   RuleMessage.{IsRuleMessage, RuleFault},
   declared.framing.DecodeError.{DecodeError},
   declared.framing.DecodeError.TheVariants.{OutOfMemory},
 };
-ghost use Rattle.npr_c.specs.Faults.{IsJudged, fault_of, no_fault, family_number, seg6_number};
+ghost use Rattle.npr_c.specs.{
+  Faults.{IsJudged, fault_of, no_fault, told, family_number, seg6_number},
+  Stops.{AddressStandsAt, IsPlaced, RouteStandsAt, RuleStandsAt, StandsAt},
+};
 
 use crate::answer::refusal_number;
+use crate::placing::{Placed, read_through};
 use netlink_packet_route::address::AddressHeader;
-use netlink_packet_route::framing::{
-    At, AttrFamily, DecodeError, Header, Message, Parseable, Seg6Fault,
-};
+use netlink_packet_route::framing::{At, AttrFamily, DecodeError, Seg6Fault};
 use netlink_packet_route::route::RouteHeader;
 use netlink_packet_route::rule::RuleHeader;
 use std::alloc::Global;
 
 /// A refusal with all that it tells, or that there is none.
 ///
-/// Layout: two numbers of 4 bytes, two of 2 bytes, and two of the machine's word, in this order.
+/// Layout: two numbers of 4 bytes, two of 2 bytes, and three of the machine's word, in this order.
 #[repr(C)]
 #[derive(Clone, Copy)]
 pub struct Fault {
@@ -40,6 +42,10 @@ pub struct Fault {
     pub length: usize,
     /// How many bytes are left, or are wanted, at a refusal with two lengths, and else 0.
     pub limit: usize,
+    /// Where the first fault stands: where the attribute of the message begins that is wrong or holds
+    /// what is, or where none can stand, in bytes from the first; 0 where memory is refused, where
+    /// the bytes are fewer than a header, and where they are a message.
+    pub offset: usize,
 }
 
 const NO_FAULT: Fault = Fault {
@@ -49,6 +55,7 @@ const NO_FAULT: Fault = Fault {
     detail: 0,
     length: 0,
     limit: 0,
+    offset: 0,
 };
 
 /// The number of a family of attributes.
@@ -90,7 +97,7 @@ fn seg6_number(fault: Seg6Fault) -> u16
 }
 
 impl Fault {
-    /// All that a refusal tells.
+    /// All that a refusal tells by itself.
     fn of(refusal: DecodeError) -> Fault
         ensures { result ≡ fault_of refusal }
     {
@@ -134,7 +141,14 @@ impl Fault {
         Fault { detail, ..self }
     }
 
-    /// With the place of an attribute.
+    /// With the place in the bytes.
+    fn standing(self, offset: usize) -> Fault
+        ensures { result ≡ record self { offset = offset } }
+    {
+        Fault { offset, ..self }
+    }
+
+    /// With the family and the number of an attribute.
     fn at(self, at: At) -> Fault
         ensures { result ≡ record self { family = family_number at.family; kind = at.kind } }
     {
@@ -147,47 +161,61 @@ impl Fault {
 }
 
 /// What is wrong with the bytes as a message of this kind.
-fn judged<H: Header>(alloc: Global, bytes: &[u8]) -> Fault
+fn judged<H: Placed>(alloc: Global, bytes: &[u8]) -> Fault
     ensures fault { IsJudged (IsMessage H.layout H.body) (MessageFault H.layout H.body) bytes.now result }
-    ensures told { (d e : DecodeError) → fault_of d ≡ fault_of e → d ≡ e }
+    ensures place { IsPlaced H.layout.size (StandsAt H.layout H.stops) bytes.now result }
+    ensures one_place { (j k : ℕ) (d e : DecodeError) → StandsAt H.layout H.stops bytes.now j d → StandsAt H.layout H.stops bytes.now k e → j ≡ k }
+    ensures told { (d e : DecodeError) (j k : ℕ) → told d j ≡ told e k → d ≡ e }
     ensures memory { result ≡ fault_of OutOfMemory → (x : Item) × (rest : List ℕ) × Front (drop H.layout.size bytes.now) x rest }
 {
-    match Message::<H, H::Attribute>::parse(alloc, bytes) {
-        Ok(_) => NO_FAULT,
-        Err(refusal) => Fault::of(refusal),
+    match read_through::<H>(alloc, bytes) {
+        Ok(()) => NO_FAULT,
+        Err(place) => Fault::of(place.refusal).standing(place.offset),
     }
 }
 
-/// What is wrong with the bytes as an address message, or that they are one.
+/// What is wrong with the bytes as an address message and where it stands, or that they are one.
 #[unsafe(no_mangle)]
 pub extern "C" fn npr_address_fault(alloc: Global, bytes: &[u8]) -> Fault
     ensures fault { IsJudged IsAddressMessage AddressFault bytes.now result }
+    // Up to the place attributes read, and what stands there is wrong.
+    ensures place { IsPlaced 8 AddressStandsAt bytes.now result }
+    // There is one such place.
+    ensures one_place { (j k : ℕ) (d e : DecodeError) → AddressStandsAt bytes.now j d → AddressStandsAt bytes.now k e → j ≡ k }
     // Two refusals that are told alike are one.
-    ensures told { (d e : DecodeError) → fault_of d ≡ fault_of e → d ≡ e }
+    ensures told { (d e : DecodeError) (j k : ℕ) → told d j ≡ told e k → d ≡ e }
     // Memory is refused behind a first whole attribute alone.
     ensures memory { result ≡ fault_of OutOfMemory → (x : Item) × (rest : List ℕ) × Front (drop 8 bytes.now) x rest }
 {
     judged::<AddressHeader>(alloc, bytes)
 }
 
-/// What is wrong with the bytes as a route message, or that they are one.
+/// What is wrong with the bytes as a route message and where it stands, or that they are one.
 #[unsafe(no_mangle)]
 pub extern "C" fn npr_route_fault(alloc: Global, bytes: &[u8]) -> Fault
     ensures fault { IsJudged IsRouteMessage RouteFault bytes.now result }
+    // Up to the place attributes read, and what stands there is wrong.
+    ensures place { IsPlaced 12 RouteStandsAt bytes.now result }
+    // There is one such place.
+    ensures one_place { (j k : ℕ) (d e : DecodeError) → RouteStandsAt bytes.now j d → RouteStandsAt bytes.now k e → j ≡ k }
     // Two refusals that are told alike are one.
-    ensures told { (d e : DecodeError) → fault_of d ≡ fault_of e → d ≡ e }
+    ensures told { (d e : DecodeError) (j k : ℕ) → told d j ≡ told e k → d ≡ e }
     // Memory is refused behind a first whole attribute alone.
     ensures memory { result ≡ fault_of OutOfMemory → (x : Item) × (rest : List ℕ) × Front (drop 12 bytes.now) x rest }
 {
     judged::<RouteHeader>(alloc, bytes)
 }
 
-/// What is wrong with the bytes as a rule message, or that they are one.
+/// What is wrong with the bytes as a rule message and where it stands, or that they are one.
 #[unsafe(no_mangle)]
 pub extern "C" fn npr_rule_fault(alloc: Global, bytes: &[u8]) -> Fault
     ensures fault { IsJudged IsRuleMessage RuleFault bytes.now result }
+    // Up to the place attributes read, and what stands there is wrong.
+    ensures place { IsPlaced 12 RuleStandsAt bytes.now result }
+    // There is one such place.
+    ensures one_place { (j k : ℕ) (d e : DecodeError) → RuleStandsAt bytes.now j d → RuleStandsAt bytes.now k e → j ≡ k }
     // Two refusals that are told alike are one.
-    ensures told { (d e : DecodeError) → fault_of d ≡ fault_of e → d ≡ e }
+    ensures told { (d e : DecodeError) (j k : ℕ) → told d j ≡ told e k → d ≡ e }
     // Memory is refused behind a first whole attribute alone.
     ensures memory { result ≡ fault_of OutOfMemory → (x : Item) × (rest : List ℕ) × Front (drop 12 bytes.now) x rest }
 {

@@ -12,4 +12,5 @@ mod envelopes;
 mod faults;
 mod names;
 mod next_hops;
+mod placing;
 mod steps;

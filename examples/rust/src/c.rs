@@ -26,6 +26,7 @@ pub struct Fault {
     pub detail: u16,
     pub length: usize,
     pub limit: usize,
+    pub offset: usize,
 }
 
 #[repr(C)]

@@ -42,7 +42,16 @@ pub struct Refusal {
     pub detail: u16,
     pub length: usize,
     pub limit: usize,
+    pub offset: usize,
 }
+
+impl fmt::Display for Refusal {
+    fn fmt(&self, f: &mut fmt::Formatter<'_>) -> fmt::Result {
+        write!(f, "refused: {} at byte {}", self.name, self.offset)
+    }
+}
+
+impl std::error::Error for Refusal {}
 
 /// An attribute: all 16 bits of its kind, and its value.
 #[derive(Clone, Copy, Debug, PartialEq, Eq)]
@@ -99,6 +108,7 @@ pub fn judge(kind: Kind, bytes: &[u8]) -> Result<(), Refusal> {
         detail: fault.detail,
         length: fault.length,
         limit: fault.limit,
+        offset: fault.offset,
     })
 }
 

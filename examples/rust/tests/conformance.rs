@@ -140,7 +140,9 @@ fn tells_the_place_of_a_fault() {
         detail: 0,
         length: 0,
         limit: 0,
+        offset: 12,
     };
+    assert_eq!(refusal.to_string(), "refused: ValueLength at byte 12");
     assert_eq!(
         judge(Kind::Rule, &bytes_of("02000000fe0000010000000004000200")),
         Err(refusal)

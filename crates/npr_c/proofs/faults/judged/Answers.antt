@@ -1,15 +1,19 @@
-use Rattle.std.proofs.Common.{◌∙◌, inl, inr}
-use Rattle.netlink_packet_route.specs.Messages.{view}
-use Rattle.npr_c.proofs.Told.{one_refusal}
+use Rattle.std.proofs.Common.{inl, inr, refl}
+use Rattle.npr_c.specs.Stops.{StandsAt}
+use Rattle.npr_c.proofs.Stopping.{placed, told_there}
 use Rattle.npr_c.proofs.faults.judged.Goals as goal
-use Rattle.npr_c.proofs.faults.judged.Goals.{in-Ok, in-Err}
 
-pub returns-clause-fault : goal.returns-clause-fault
-returns-clause-fault g c =
-    elim c.match-parse.branch [
-      | in-Ok w ↦ inl (view g.H.Header.meaning w.in-Ok.field-0, w.in-Ok.ensures.ok, w.result-is)
-      | in-Err w ↦ inr (w.in-Err.refusal, w.result-is ∙ w.of.ensures, w.in-Err.ensures.refused)
-    ]
+pub returns-in-Ok-clause-fault : goal.returns-in-Ok-clause-fault
+returns-in-Ok-clause-fault g c = let (m, is) = c.in-Ok.ensures.ok in inl (m, is, refl)
 
-pub returns-clause-told : goal.returns-clause-told
-returns-clause-told g c = one_refusal
+pub returns-in-Err-clause-fault : goal.returns-in-Err-clause-fault
+returns-in-Err-clause-fault g c =
+    let place = c.in-Err.place in
+    inr (place.refusal, told_there c.standing.result c.of.result place.refusal place.offset c.of.ensures c.standing.ensures, c.in-Err.ensures.refused)
+
+pub returns-in-Err-clause-place : goal.returns-in-Err-clause-place
+returns-in-Err-clause-place g c =
+    let place = c.in-Err.place in
+    let stands = StandsAt g.H.Header.layout g.H.Placed.stops in
+    placed g.H.Header.layout.size stands c.args.bytes.now c.standing.result c.of.result place.refusal place.offset c.of.ensures c.standing.ensures
+    (λ refused. (c.in-Err.ensures.memory refused).0) c.in-Err.ensures.place

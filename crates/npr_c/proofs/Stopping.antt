@@ -1,0 +1,40 @@
+-- What stops the reading of attributes stands in the message.
+use Rattle.std.proofs.Common.{◌≡◌, ◌≢◌, ◌⊎◌, ℕ, ◌+◌, ◌<◌, ◌≤◌, List, length, take, drop, sym, ap, subst, ◌∙◌, inr}
+use Rattle.netlink_packet_route.specs.Layout.{Layout}
+use Rattle.netlink_packet_route.specs.Messages.{Message, Body, IsMessage}
+use Rattle.netlink_packet_route.specs.Table.{Writing}
+use Rattle.netlink_packet_route.specs.declared.framing.DecodeError.{DecodeError}
+use Rattle.npr_base.proofs.Messages.{message_read}
+use Rattle.netlink_packet_route.specs.declared.framing.DecodeError.TheVariants.{OutOfMemory}
+use Rattle.npr_c.specs.Faults.{fault_of, told}
+use Rattle.npr_c.specs.Stops.{StandsAt, IsPlaced}
+use Rattle.npr_c.specs.declared.faults.Fault.{Fault}
+
+pub stands_there : {H : Type 0} (L : Layout H) (Stops : H → List ℕ → List ℕ → DecodeError → Type 0) (bytes rest : List ℕ) (h : H) (offset : ℕ)
+    (d e : DecodeError) → L.size ≤ length bytes → h ≡ L.decode (take L.size bytes) → Stops h (drop L.size bytes) rest e → length bytes ≡ offset + length rest → d ≡ e
+    → StandsAt L Stops bytes offset d
+stands_there {H} L Stops bytes rest h offset d e long header stops place same = record {
+  header = long;
+  rest = rest;
+  place = place;
+  stops = subst (λ (k : H). Stops k (drop L.size bytes) rest d) header (subst (λ (x : DecodeError). Stops h (drop L.size bytes) rest x) (sym same) stops);
+}
+
+pub message_there : {H M : Type 0} {w : Writing M} (L : Layout H) (B : Body H w) (bytes : List ℕ) (h : H) (xs : List M) → L.size ≤ length bytes
+    → h ≡ L.decode (take L.size bytes) → B.Reads h (drop L.size bytes) xs → (m : Message H M) × IsMessage L B bytes m
+message_there L B bytes h xs long header reads =
+    (record { header = h; attributes = xs }, message_read L B bytes (record { header = h; attributes = xs }) long header reads)
+
+-- a fault that is told with its place
+pub told_there : (answer fault : Fault) (e : DecodeError) (offset : ℕ) → fault ≡ fault_of e → answer ≡ record fault { offset = offset }
+    → answer ≡ told e answer.offset
+told_there answer fault e offset of standing =
+    let there : answer.offset ≡ offset = ap (λ (f : Fault). f.offset) standing in
+    subst (λ (k : ℕ). answer ≡ told e k) (sym there) (standing ∙ ap (λ (f : Fault). record f { offset = offset }) of)
+
+pub placed : (size : ℕ) (stands : List ℕ → ℕ → DecodeError → Type 0) (bytes : List ℕ) (answer fault : Fault) (e : DecodeError)
+    (offset : ℕ) → fault ≡ fault_of e → answer ≡ record fault { offset = offset } → (e ≡ OutOfMemory → offset ≡ 0)
+    → (e ≢ OutOfMemory → ((length bytes < size) × (offset ≡ 0)) ⊎ stands bytes offset e) → IsPlaced size stands bytes answer
+placed size stands bytes answer fault e offset of standing memory place =
+    let there : answer.offset ≡ offset = ap (λ (f : Fault). f.offset) standing in
+    inr (e, told_there answer fault e offset of standing, λ refused. there ∙ memory refused, λ other. rw there (place other))
