@@ -1,11 +1,11 @@
-/* Address, route and rule messages of Linux rtnetlink for C: the canonical bytes of given bytes, whether
- * bytes are a message and what is wrong with them, the names of that, and steps over the messages of a
- * datagram, over attributes and over next hops.
+/* Address, route, rule and neighbour messages of Linux rtnetlink for C: the canonical bytes of given
+ * bytes, whether bytes are a message and what is wrong with them, the names of that, and steps over the
+ * messages of a datagram, over attributes and over next hops.
  *
  * A message of a kind is what stands behind `struct nlmsghdr`: a header of 8 bytes
- * (`struct ifaddrmsg`) or 12 (`struct rtmsg`, `struct fib_rule_hdr`), and attributes to the end. In a
- * datagram of a socket it is found by `npr_message_at`, and its type says its kind. Two inputs that
- * have canonical bytes mean the same exactly if these are equal.
+ * (`struct ifaddrmsg`) or 12 (`struct rtmsg`, `struct fib_rule_hdr`, `struct ndmsg`), and attributes to
+ * the end. In a datagram of a socket it is found by `npr_message_at`, and its type says its kind. Two
+ * inputs that have canonical bytes mean the same exactly if these are equal.
  *
  * The calls are proved for all bytes: none reads or writes outside what it is given, none keeps
  * anything of it, and none ends the process, but for one whose thread has too little stack (below).
@@ -125,6 +125,7 @@ struct npr_answer {
 struct npr_answer npr_address_canonical(const uint8_t *bytes, size_t length, uint8_t *out, size_t room);
 struct npr_answer npr_route_canonical(const uint8_t *bytes, size_t length, uint8_t *out, size_t room);
 struct npr_answer npr_rule_canonical(const uint8_t *bytes, size_t length, uint8_t *out, size_t room);
+struct npr_answer npr_neighbour_canonical(const uint8_t *bytes, size_t length, uint8_t *out, size_t room);
 
 /* The family in which the number of an attribute is to be understood. */
 enum npr_family {
@@ -209,6 +210,7 @@ struct npr_fault {
 struct npr_fault npr_address_fault(const uint8_t *bytes, size_t length);
 struct npr_fault npr_route_fault(const uint8_t *bytes, size_t length);
 struct npr_fault npr_rule_fault(const uint8_t *bytes, size_t length);
+struct npr_fault npr_neighbour_fault(const uint8_t *bytes, size_t length);
 
 /* Room for every name and its zero. */
 #define NPR_NAME_ROOM 18

@@ -99,6 +99,12 @@ static const struct told TOLD[] = {
       0, 12, 0, 22, 0,   8, 0, 1, 0, 0, 0, 0, 0, 6, 0, 21, 0, 5, 0},
      38,
      {NPR_SEG6_HEADER, 0, 0, NPR_SEG6_SHORT, 0, 0, 20}},
+    /* a neighbour of version 4 on interface 3, reachable: its address, and then a port of one byte */
+    {npr_neighbour_fault,
+     {2, 0, 0, 0, 3, 0, 0, 0, 2, 0, 0, 1, 8, 0, 1, 0, 192, 0, 2, 3, 5, 0, 6, 0, 7},
+     25,
+     {NPR_VALUE_LENGTH, NPR_FAMILY_NEIGHBOUR, 6, 0, 1, 0, 20}},
+    {npr_neighbour_fault, {2, 0, 0, 0, 3, 0, 0, 0, 2, 0, 0, 1, 8, 0, 1, 0, 192, 0, 2, 3}, 20, {0, 0, 0, 0, 0, 0, 0}},
 };
 
 static int same_fault(struct npr_fault one, struct npr_fault other) {

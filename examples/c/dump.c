@@ -1,6 +1,6 @@
-/* Asks the kernel for a table of addresses, routes or rules, and prints each message of the answer in a line.
+/* Asks the kernel for a table of addresses, routes, rules or neighbours, and prints each message of the answer in a line.
  *
- *   dump [-4|-6] [-w FILE] address|route|rule
+ *   dump [-4|-6] [-w FILE] address|route|rule|neighbour
  *   dump -r FILE
  *
  * With -w the datagrams of the answer are written to a file as they came, one behind the other; with -r such a
@@ -16,6 +16,7 @@
 #include <errno.h>
 #include <linux/fib_rules.h>
 #include <linux/if_addr.h>
+#include <linux/neighbour.h>
 #include <linux/netlink.h>
 #include <linux/rtnetlink.h>
 #include <stdbool.h>
@@ -25,7 +26,7 @@
 #include <sys/socket.h>
 #include <unistd.h>
 
-#define USAGE "usage: dump [-4|-6] [-w FILE] address|route|rule\n       dump -r FILE"
+#define USAGE "usage: dump [-4|-6] [-w FILE] address|route|rule|neighbour\n       dump -r FILE"
 
 enum ending { WELL = 0, REFUSED = 1, UNKNOWN_WORD = 2, INTERRUPTED = 3, FAILED = 5 };
 
@@ -41,6 +42,7 @@ static const struct kind KINDS[] = {
     {"address", RTM_NEWADDR, RTM_DELADDR, RTM_GETADDR, 8, npr_address_fault},
     {"route", RTM_NEWROUTE, RTM_DELROUTE, RTM_GETROUTE, 12, npr_route_fault},
     {"rule", RTM_NEWRULE, RTM_DELRULE, RTM_GETRULE, 12, npr_rule_fault},
+    {"neighbour", RTM_NEWNEIGH, RTM_DELNEIGH, RTM_GETNEIGH, 12, npr_neighbour_fault},
 };
 
 #define KIND_COUNT (sizeof KINDS / sizeof *KINDS)
@@ -109,6 +111,15 @@ static void print_next_hops(struct bytes message) {
     }
 }
 
+/* The address on the link, as `:` joins its bytes. */
+static void print_link(struct bytes message) {
+    struct bytes value;
+    if (!has(message, 12, NDA_LLADDR, &value))
+        return;
+    for (size_t i = 0; i < value.length; i++)
+        printf("%s%02x", i == 0 ? " at " : ":", value.at[i]);
+}
+
 /* Prints a message that is one. */
 static void print_message(const struct kind *kind, struct bytes message) {
     if (kind->asked == RTM_GETADDR) {
@@ -123,6 +134,12 @@ static void print_message(const struct kind *kind, struct bytes message) {
         print_path(message, 12);
         print_next_hops(message);
         print_table(message, RTA_TABLE);
+    } else if (kind->asked == RTM_GETNEIGH) {
+        int32_t index;
+        memcpy(&index, message.at + 4, sizeof index);
+        print_address("is", message, 12, NDA_DST);
+        print_link(message);
+        printf(" dev %d", (int)index);
     } else {
         print_number("priority", message, 12, FRA_PRIORITY);
         print_prefix("from", message, 12, FRA_SRC, message.at[2]);

@@ -9,6 +9,8 @@ use Rattle.netlink_packet_route.specs.AddressAttribute as OfAddress
 use Rattle.netlink_packet_route.specs.AddressHeader.{header as address_header}
 use Rattle.netlink_packet_route.specs.RuleAttribute as OfRule
 use Rattle.netlink_packet_route.specs.RuleHeader.{header as rule_header}
+use Rattle.netlink_packet_route.specs.NeighbourAttribute as OfNeighbour
+use Rattle.netlink_packet_route.specs.NeighbourHeader.{header as neighbour_header}
 use Rattle.netlink_packet_route.specs.RouteAttributeLaws as OfRoute
 use Rattle.netlink_packet_route.specs.RouteHeader.{header as route_header}
 use Rattle.netlink_packet_route.specs.declared.framing.DecodeError.{DecodeError}
@@ -46,6 +48,9 @@ AddressStandsAt bytes offset e = StandsAt address_header (stops_of OfAddress.att
 
 abbrev pub RuleStandsAt : List ℕ → ℕ → DecodeError → Type 0
 RuleStandsAt bytes offset e = StandsAt rule_header (stops_of OfRule.attributes) bytes offset e
+
+abbrev pub NeighbourStandsAt : List ℕ → ℕ → DecodeError → Type 0
+NeighbourStandsAt bytes offset e = StandsAt neighbour_header (λ h. stops_of (OfNeighbour.attributes h.family) h) bytes offset e
 
 abbrev pub RouteStandsAt : List ℕ → ℕ → DecodeError → Type 0
 RouteStandsAt bytes offset e = StandsAt route_header route_stops bytes offset e

@@ -5,6 +5,7 @@ ghost use Rattle.netlink_packet_route.specs.{
   AddressMessage.{IsAddressMessage, AddressFault, address_bytes, address_misfit},
   Framing.{Item, Front},
   Messages.{IsMessage, MessageFault, message_misfit, spelling},
+  NeighbourMessage.{IsNeighbourMessage, NeighbourFault, neighbour_bytes, neighbour_misfit},
   RouteMessage.{IsRouteMessage, RouteFault, route_bytes, route_misfit},
   RuleMessage.{IsRuleMessage, RuleFault, rule_bytes, rule_misfit},
   declared.framing.DecodeError.TheVariants.{OutOfMemory},
@@ -14,6 +15,7 @@ ghost use Rattle.npr_c.specs.Answers.{Spells, Tells, refused_answer};
 use crate::answer::Answer;
 use netlink_packet_route::address::AddressHeader;
 use netlink_packet_route::framing::{Emitable, Header, Message, Parseable};
+use netlink_packet_route::neighbour::NeighbourHeader;
 use netlink_packet_route::route::RouteHeader;
 use netlink_packet_route::rule::RuleHeader;
 use std::alloc::Global;
@@ -81,4 +83,17 @@ pub extern "C" fn npr_rule_canonical(alloc: Global, bytes: &[u8], out: &mut [u8]
     ensures room { 5 * length bytes.now ≤ 2 * length out.old → result.status ≢ 3 }
 {
     canonical::<RuleHeader>(alloc, bytes, out)
+}
+
+/// Writes the canonical bytes of the neighbour message that the bytes are to the front of the
+/// buffer, and leaves the rest of it. The buffer is as it was where they aren't written.
+#[unsafe(no_mangle)]
+pub extern "C" fn npr_neighbour_canonical(alloc: Global, bytes: &[u8], out: &mut [u8]) -> Answer
+    ensures answer { Tells IsNeighbourMessage NeighbourFault neighbour_misfit neighbour_bytes bytes.now out.old out.new result }
+    // Memory is refused behind a first whole attribute alone.
+    ensures memory { result ≡ refused_answer OutOfMemory → (x : Item) × (rest : List ℕ) × Front (drop 12 bytes.now) x rest }
+    // A buffer two and a half times as long as the bytes is never too short.
+    ensures room { 5 * length bytes.now ≤ 2 * length out.old → result.status ≢ 3 }
+{
+    canonical::<NeighbourHeader>(alloc, bytes, out)
 }

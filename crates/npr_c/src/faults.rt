@@ -5,6 +5,7 @@ ghost use Rattle.netlink_packet_route.specs.{
   AddressMessage.{IsAddressMessage, AddressFault},
   Framing.{Item, Front},
   Messages.{Message as Meant, IsMessage, MessageFault},
+  NeighbourMessage.{IsNeighbourMessage, NeighbourFault},
   RouteMessage.{IsRouteMessage, RouteFault},
   RuleMessage.{IsRuleMessage, RuleFault},
   declared.framing.DecodeError.{DecodeError},
@@ -12,13 +13,14 @@ ghost use Rattle.netlink_packet_route.specs.{
 };
 ghost use Rattle.npr_c.specs.{
   Faults.{IsJudged, fault_of, no_fault, told, family_number, seg6_number},
-  Stops.{AddressStandsAt, IsPlaced, RouteStandsAt, RuleStandsAt, StandsAt},
+  Stops.{AddressStandsAt, IsPlaced, NeighbourStandsAt, RouteStandsAt, RuleStandsAt, StandsAt},
 };
 
 use crate::answer::refusal_number;
 use crate::placing::{Placed, read_through};
 use netlink_packet_route::address::AddressHeader;
 use netlink_packet_route::framing::{At, AttrFamily, DecodeError, Seg6Fault};
+use netlink_packet_route::neighbour::NeighbourHeader;
 use netlink_packet_route::route::RouteHeader;
 use netlink_packet_route::rule::RuleHeader;
 use std::alloc::Global;
@@ -220,4 +222,20 @@ pub extern "C" fn npr_rule_fault(alloc: Global, bytes: &[u8]) -> Fault
     ensures memory { result ≡ fault_of OutOfMemory → (x : Item) × (rest : List ℕ) × Front (drop 12 bytes.now) x rest }
 {
     judged::<RuleHeader>(alloc, bytes)
+}
+
+/// What is wrong with the bytes as a neighbour message and where it stands, or that they are one.
+#[unsafe(no_mangle)]
+pub extern "C" fn npr_neighbour_fault(alloc: Global, bytes: &[u8]) -> Fault
+    ensures fault { IsJudged IsNeighbourMessage NeighbourFault bytes.now result }
+    // Up to the place attributes read, and what stands there is wrong.
+    ensures place { IsPlaced 12 NeighbourStandsAt bytes.now result }
+    // There is one such place.
+    ensures one_place { (j k : ℕ) (d e : DecodeError) → NeighbourStandsAt bytes.now j d → NeighbourStandsAt bytes.now k e → j ≡ k }
+    // Two refusals that are told alike are one.
+    ensures told { (d e : DecodeError) (j k : ℕ) → told d j ≡ told e k → d ≡ e }
+    // Memory is refused behind a first whole attribute alone.
+    ensures memory { result ≡ fault_of OutOfMemory → (x : Item) × (rest : List ℕ) × Front (drop 12 bytes.now) x rest }
+{
+    judged::<NeighbourHeader>(alloc, bytes)
 }

@@ -6,6 +6,7 @@ ghost use Rattle.netlink_packet_route.specs.{
   Family.{ReadsList},
   Framing.{Item, Front},
   Messages.{Message as Meant, IsMessage, MessageFault},
+  NeighbourAttribute.{attributes as neighbour_attributes},
   RuleAttribute.{attributes as rule_attributes},
   declared.framing.DecodeError.{DecodeError},
   declared.framing.DecodeError.TheVariants.{OutOfMemory},
@@ -18,6 +19,7 @@ ghost use Rattle.npr_c.specs.{
 use netlink_packet_route::AddressFamily;
 use netlink_packet_route::address::AddressHeader;
 use netlink_packet_route::framing::{Attribute, DecodeError, Header, Looks, NlasIterator};
+use netlink_packet_route::neighbour::NeighbourHeader;
 use netlink_packet_route::route::{RouteHeader, RouteLwEnCapType, RouteType, governing_type};
 use netlink_packet_route::rule::RuleHeader;
 use std::alloc::Global;
@@ -59,6 +61,18 @@ impl Placed for RuleHeader {
     ghost one_place = { stops-one rule_attributes };
 
     fn context(&self, _bytes: &[u8]) {}
+}
+
+impl Placed for NeighbourHeader {
+    ghost stops = { λ h. stops_of (neighbour_attributes h.family) h };
+
+    ghost is_fault = { λ h bytes rest e (xs, reads, wrong). (xs, rest, reads, wrong) };
+
+    ghost one_place = { λ h. stops-one (neighbour_attributes h.family) h };
+
+    fn context(&self, _bytes: &[u8]) -> AddressFamily {
+        self.family
+    }
 }
 
 impl Placed for RouteHeader {

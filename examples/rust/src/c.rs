@@ -72,9 +72,16 @@ unsafe extern "C" {
     fn npr_address_canonical(bytes: *const u8, length: usize, out: *mut u8, room: usize) -> Answer;
     fn npr_route_canonical(bytes: *const u8, length: usize, out: *mut u8, room: usize) -> Answer;
     fn npr_rule_canonical(bytes: *const u8, length: usize, out: *mut u8, room: usize) -> Answer;
+    fn npr_neighbour_canonical(
+        bytes: *const u8,
+        length: usize,
+        out: *mut u8,
+        room: usize,
+    ) -> Answer;
     fn npr_address_fault(bytes: *const u8, length: usize) -> Fault;
     fn npr_route_fault(bytes: *const u8, length: usize) -> Fault;
     fn npr_rule_fault(bytes: *const u8, length: usize) -> Fault;
+    fn npr_neighbour_fault(bytes: *const u8, length: usize) -> Fault;
     fn npr_refusal_name(number: u32, out: *mut u8, room: usize) -> usize;
     fn npr_cause_name(number: u32, out: *mut u8, room: usize) -> usize;
     fn npr_step_at(bytes: *const u8, length: usize, at: usize) -> Step;
@@ -88,6 +95,7 @@ pub fn canonical(kind: Kind, bytes: &[u8], out: &mut [u8]) -> Answer {
         Kind::Address => npr_address_canonical,
         Kind::Route => npr_route_canonical,
         Kind::Rule => npr_rule_canonical,
+        Kind::Neighbour => npr_neighbour_canonical,
     };
     // SAFETY: the call reads the one slice and writes the other, and keeps neither; a slice's pointer is never null.
     unsafe { call(bytes.as_ptr(), bytes.len(), out.as_mut_ptr(), out.len()) }
@@ -98,6 +106,7 @@ pub fn fault(kind: Kind, bytes: &[u8]) -> Fault {
         Kind::Address => npr_address_fault,
         Kind::Route => npr_route_fault,
         Kind::Rule => npr_rule_fault,
+        Kind::Neighbour => npr_neighbour_fault,
     };
     // SAFETY: the call reads the slice, and keeps nothing of it.
     unsafe { call(bytes.as_ptr(), bytes.len()) }

@@ -11,6 +11,7 @@ pub enum Kind {
     Address,
     Route,
     Rule,
+    Neighbour,
 }
 
 /// Why there are no canonical bytes, with a name as the library gives it.
