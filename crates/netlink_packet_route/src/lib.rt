@@ -28,6 +28,3 @@ pub use kind::MessageKind;
 pub use message::{Action, Entry, MessageType, OtherMessage, RouteNetlinkMessage};
 pub use npr_base::AddressFamily;
 pub use npr_scalar::IpProtocol;
-
-#[cfg(test)]
-mod tests;

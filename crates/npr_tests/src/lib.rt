@@ -41,6 +41,8 @@ mod own_message;
 #[cfg(test)]
 mod route;
 #[cfg(test)]
+mod rtnetlink;
+#[cfg(test)]
 mod rule;
 #[cfg(test)]
 mod shown;

@@ -1,9 +1,10 @@
 //! Messages of rtnetlink as a kernel sent them, envelopes included.
 
-use crate::RouteNetlinkMessage;
-use crate::request::{dump_addresses, dump_neighbours, dump_routes, dump_rules};
-use netlink_packet_core::{NetlinkIterator, NetlinkMessage, NetlinkPayload};
-use npr_base::{AddressFamily, Parseable, to_vec};
+use crate::helpers::writes;
+use netlink_packet_route::envelope::{NetlinkIterator, NetlinkMessage, NetlinkPayload};
+use netlink_packet_route::framing::{Parseable, to_vec};
+use netlink_packet_route::request::{dump_addresses, dump_neighbours, dump_routes, dump_rules};
+use netlink_packet_route::{AddressFamily, RouteNetlinkMessage};
 use std::test::Fail;
 
 /// A rule of a dump, the end of the dump, and a message on a link with a payload of 17 bytes.
@@ -47,37 +48,28 @@ fn a_datagram_is_read_by_type(rt: HostRuntime) -> Result<(), Fail> {
 #[test]
 fn dumps_are_asked_for(rt: HostRuntime) -> Result<(), Fail> {
     let alloc = rt.alloc();
-    let addresses = to_vec(alloc, &dump_addresses(alloc, 7, AddressFamily::Inet6))?;
-    let routes = to_vec(alloc, &dump_routes(alloc, 7, AddressFamily::Inet))?;
-    let rules = to_vec(alloc, &dump_rules(alloc, 7, AddressFamily::Inet6))?;
-    let neighbours = to_vec(alloc, &dump_neighbours(alloc, 7, AddressFamily::Inet))?;
-    assert_eq!(rt;
-        addresses.as_slice(),
-        [
-            24, 0, 0, 0, 22, 0, 1, 3, 7, 0, 0, 0, 0, 0, 0, 0, 10, 0, 0, 0, 0, 0, 0, 0
-        ]
-        .as_slice()
-    );
-    assert_eq!(rt;
-        routes.as_slice(),
-        [
-            28, 0, 0, 0, 26, 0, 1, 3, 7, 0, 0, 0, 0, 0, 0, 0, 2, 0, 0, 0, 0, 0, 0, 0, 0, 0, 0, 0,
-        ]
-        .as_slice()
-    );
-    assert_eq!(rt;
-        rules.as_slice(),
-        [
-            28, 0, 0, 0, 34, 0, 1, 3, 7, 0, 0, 0, 0, 0, 0, 0, 10, 0, 0, 0, 0, 0, 0, 0, 0, 0, 0, 0,
-        ]
-        .as_slice()
-    );
-    assert_eq!(rt;
-        neighbours.as_slice(),
-        [
-            28, 0, 0, 0, 30, 0, 1, 3, 7, 0, 0, 0, 0, 0, 0, 0, 2, 0, 0, 0, 0, 0, 0, 0, 0, 0, 0, 0,
-        ]
-        .as_slice()
-    );
-    Ok(())
+    let addresses = dump_addresses(alloc, 7, AddressFamily::Inet6);
+    writes(
+        &rt,
+        addresses,
+        &["18000000 1600 0103 07000000 00000000 0a00000000000000"],
+    )?;
+    let routes = dump_routes(alloc, 7, AddressFamily::Inet);
+    writes(
+        &rt,
+        routes,
+        &["1c000000 1a00 0103 07000000 00000000 020000000000000000000000"],
+    )?;
+    let rules = dump_rules(alloc, 7, AddressFamily::Inet6);
+    writes(
+        &rt,
+        rules,
+        &["1c000000 2200 0103 07000000 00000000 0a0000000000000000000000"],
+    )?;
+    let neighbours = dump_neighbours(alloc, 7, AddressFamily::Inet);
+    writes(
+        &rt,
+        neighbours,
+        &["1c000000 1e00 0103 07000000 00000000 020000000000000000000000"],
+    )
 }
