@@ -37,11 +37,7 @@ fn told_by(item: &NlaBuffer<'_>) -> Option<RouteLwEnCapType>
 /// The type that governs the list in the bytes: that of its first `RTA_ENCAP_TYPE` of two bytes,
 /// wherever it stands, and the outer type where there is none. A fault ends the search and no more:
 /// it is refused when the list is read. Each look at a header is counted.
-pub fn governing_type(
-    bytes: &[u8],
-    outer: RouteLwEnCapType,
-    looks: &mut Looks,
-) -> RouteLwEnCapType
+pub fn governing_type(bytes: &[u8], outer: RouteLwEnCapType, looks: &mut Looks) -> RouteLwEnCapType
     ensures governs { Governs outer bytes.now result }
     ensures looks { Searches outer bytes.now result looks.old looks.new }
 {
