@@ -3,6 +3,8 @@ pub use Rattle.bitflags.specs.Sets as FlagSets
 -- the base layer
 pub use Rattle.npr_base.specs.AddressFamily
 pub use Rattle.npr_base.specs.AddressFamilyLaws
+pub use Rattle.npr_base.specs.Attributes
+pub use Rattle.npr_base.specs.AttributesLaws
 pub use Rattle.npr_base.specs.Blocks
 pub use Rattle.npr_base.specs.Codec
 pub use Rattle.npr_base.specs.Counts

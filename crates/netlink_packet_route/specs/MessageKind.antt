@@ -1,5 +1,5 @@
 -- The kinds of messages: their names, and what each is made of.
-use Rattle.std.specs.Prelude.{ℕ, List, codes}
+use Rattle.std.specs.Prelude.{ℕ, List, Option, Some, None, codes}
 use Rattle.npr_base.specs.Layout.{Layout}
 use Rattle.npr_base.specs.Message.{Body}
 use Rattle.npr_base.specs.Table.{Writing}
@@ -13,6 +13,8 @@ use Rattle.npr_rule.specs.Header.{header as rule_header}
 use Rattle.npr_rule.specs.Message.{body as rule_body}
 use Rattle.netlink_packet_route.specs.declared.kind.MessageKind.{MessageKind}
 use Rattle.netlink_packet_route.specs.declared.kind.MessageKind.TheVariants.{Address, Route, Rule, Neighbour}
+use Rattle.netlink_packet_route.specs.declared.message.MessageType.{MessageType}
+use Rattle.netlink_packet_route.specs.declared.message.MessageType.TheVariants.{OfAddress, OfRoute, OfNeighbour, OfRule, Unknown}
 
 abbrev pub kind_name : MessageKind → List ℕ
 kind_name Address = codes "address"
@@ -36,3 +38,11 @@ form_of Address = form_by address_header address_body
 form_of Route = form_by route_header route_body
 form_of Rule = form_by rule_header rule_body
 form_of Neighbour = form_by neighbour_header neighbour_body
+
+-- the kind of the messages of a type, where the library has one
+abbrev pub kind_of_type : MessageType → Option MessageKind
+kind_of_type (OfAddress a) = Some Address
+kind_of_type (OfRoute a) = Some Route
+kind_of_type (OfNeighbour a) = Some Neighbour
+kind_of_type (OfRule a) = Some Rule
+kind_of_type Unknown = None

@@ -2,12 +2,14 @@
 
 ghost use Rattle.std.specs.Prelude.{◌≡◌, ◌≢◌, IfOk, IfErr, refl};
 ghost use Rattle.npr_base.specs.declared.refusal.DecodeError.TheVariants.{OutOfMemory};
+ghost use Rattle.netlink_packet_route.specs.MessageKind.{kind_of_type};
 ghost use Rattle.netlink_packet_route.specs.RouteNetlinkMessage.{Meaning, meaning_of, other_of, address, route, neighbour, rule, rtnetlink, type_of, writes, misfit, address_type, route_type, neighbour_type, rule_type, ReadsUnder, FaultUnder};
 ghost use Rattle.npr_address.specs.Message.{message_of as address_of};
 ghost use Rattle.npr_neighbour.specs.Message.{message_of as neighbour_of};
 ghost use Rattle.npr_route.specs.Message.{message_of as route_of};
 ghost use Rattle.npr_rule.specs.Message.{message_of as rule_of};
 
+use crate::kind::MessageKind;
 use netlink_packet_core::{NetlinkHeader, NetlinkInner};
 use npr_address::AddressMessage;
 use npr_base::{DecodeError, EmitError, Emitable, Parseable, write_bytes};
@@ -151,6 +153,19 @@ impl MessageType {
         ensures { result ≡ type_of number }
     {
         types!(type_of(number))
+    }
+
+    /// The kind of its messages, if it is of one that is read.
+    pub fn kind(self) -> Option<MessageKind>
+        ensures { result ≡ kind_of_type self }
+    {
+        match self {
+            MessageType::OfAddress(_) => Some(MessageKind::Address),
+            MessageType::OfRoute(_) => Some(MessageKind::Route),
+            MessageType::OfNeighbour(_) => Some(MessageKind::Neighbour),
+            MessageType::OfRule(_) => Some(MessageKind::Rule),
+            MessageType::Unknown => None,
+        }
     }
 }
 

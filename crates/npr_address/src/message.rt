@@ -10,7 +10,7 @@ ghost use Rattle.npr_address.specs.{
 
 use crate::attribute::AddressAttribute;
 use crate::header::AddressHeader;
-use npr_base::{DecodeError, Header, Looks, Message, parse_list};
+use npr_base::{DecodeError, Header, Looks, Message, fill_list};
 use std::alloc::Global;
 
 /// The bytes of `struct ifaddrmsg` of `linux/if_addr.h`.
@@ -40,6 +40,12 @@ impl Header for AddressHeader {
 
     ghost meanings_are = { λ xs ys e. e };
 
+    ghost governs = { λ h bytes context. Unit {0} };
+
+    ghost reads_under = { λ h bytes context xs governs reads. reads };
+
+    ghost faulty_under = { λ h bytes context e governs wrong. wrong };
+
     fn size() -> usize {
         IFADDRMSG_SIZE
     }
@@ -49,12 +55,15 @@ impl Header for AddressHeader {
         AddressHeader::in_front(bytes)
     }
 
+    fn context(&self, _bytes: &[u8]) {}
+
     fn read_list(
         &self,
+        list: &mut Vec<AddressAttribute>,
         alloc: Global,
         bytes: &[u8],
         looks: &mut Looks,
-    ) -> Result<Vec<AddressAttribute>, DecodeError> {
-        parse_list(alloc, (), bytes, looks)
+    ) -> Result<(), DecodeError> {
+        fill_list(list, alloc, (), bytes, looks)
     }
 }

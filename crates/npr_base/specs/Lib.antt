@@ -1,6 +1,8 @@
 pub mod Refusal
 pub mod Counts
 pub mod Framing
+pub mod Attributes
+pub mod AttributesLaws
 pub mod Walk
 pub mod Family
 pub mod FitLaws

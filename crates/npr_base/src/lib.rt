@@ -3,6 +3,7 @@
 
 mod address_family;
 mod attribute;
+mod attributes;
 mod default_nla;
 mod emit;
 mod framing;
@@ -21,6 +22,7 @@ mod values;
 
 pub use address_family::AddressFamily;
 pub use attribute::Attribute;
+pub use attributes::Attributes;
 pub use default_nla::DefaultNla;
 pub use emit::{WriteError, to_vec};
 pub use framing::{
@@ -29,7 +31,8 @@ pub use framing::{
 };
 pub use ip::{IpAddr, Ipv4Addr, Ipv6Addr};
 pub use list::{
-    check_list, clone_list, emit_list, list_len, make_room, parse_list, total_len, write_list,
+    check_list, clone_list, emit_list, fill_list, list_len, make_room, parse_list, total_len,
+    write_list,
 };
 pub use looks::Looks;
 pub use message::{Header, Message};

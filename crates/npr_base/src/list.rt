@@ -43,7 +43,9 @@ pub fn parse_list<A: Attribute>(
     ensures bounded { AddsAtMost looks.old looks.new (length bytes.now) }
     ensures counted { IfOk result (λ v. SawEach looks.old looks.new (list_members A.writing.members (map A.meaning v.items))) }
 {
-    parse_list_body(alloc, context, bytes, looks)
+    let mut found = Vec::new(alloc);
+    fill_list(&mut found, alloc, context, bytes, looks)?;
+    Ok(found)
 }
 
 /// Before the first item of a list of so many bytes, where the list has no memory: room for just as
@@ -68,27 +70,38 @@ pub fn make_room<A: Drop>(found: &mut Vec<A>, len: usize) -> Result<(), AllocErr
     found.reserve_exact((len / 8).min(16))
 }
 
-fn parse_list_body<A: Attribute>(
+/// `parse_list` into an empty list, whose room is used again.
+///
+/// # Errors
+/// `OutOfMemory` where memory is refused, and else the first fault in reading order. The attributes
+/// before it stand in the list.
+pub fn fill_list<A: Attribute>(
+    found: &mut Vec<A>,
     alloc: Global,
     context: A::Context,
     bytes: &[u8],
     looks: &mut Looks,
-) -> Result<Vec<A>, DecodeError>
-    ensures ok { IfOk result (λ v. ReadsList (A.reading context).Reads bytes.now (map A.meaning v.items)) }
+) -> Result<(), DecodeError>
+    requires { found.old.items ≡ [] }
+    // What is read is what the bytes mean.
+    ensures ok { IfOk result (λ _. ReadsList (A.reading context).Reads bytes.now (map A.meaning found.new.items)) }
+    // A refusal is the first fault.
     ensures refused { IfErr result (λ e. e ≢ OutOfMemory → FirstFault (A.reading context).Reads (A.reading context).Faulty bytes.now e) }
+    // Memory is taken behind a first whole attribute alone.
     ensures memory { IsErrOf result OutOfMemory → (x : Item) × (rest : List ℕ) × Front bytes.now x rest }
+    // The looks are those that the bytes take.
     ensures exact { Answered result → ListLooks (A.reading context).Reads (A.reading context).Faulty (A.reading context).looks.Takes bytes.now looks.old looks.new }
+    // The looks and the attributes passed are together at most what the bytes passed allow.
     ensures walked { Walked bytes.now looks.old looks.new }
-    ensures counted { IfOk result (λ v. SawEach looks.old looks.new (list_members A.writing.members (map A.meaning v.items))) }
+    ensures counted { IfOk result (λ _. SawEach looks.old looks.new (list_members A.writing.members (map A.meaning found.new.items))) }
 {
     let mut walk = NlasIterator::new(bytes);
-    let mut found = Vec::new(alloc);
     while let Some(next) = walk.next_counted(looks) {
         let item = next?;
-        make_room(&mut found, bytes.len())?;
-        A::read_onto(&mut found, alloc, context, &item, looks)?;
+        make_room(found, bytes.len())?;
+        A::read_onto(found, alloc, context, &item, looks)?;
     }
-    Ok(found)
+    Ok(())
 }
 
 /// The length of a list, from the sum of its members' lengths. They are summed in 128 bits, which no

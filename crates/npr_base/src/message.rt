@@ -2,10 +2,11 @@
 
 ghost use Rattle.std.specs.Prelude.{◌≡◌, ◌≢◌, ◌≤◌, ◌<◌, ◌*◌, ◌-◌, ℕ, List, None, [], length, drop, map, IfOk, IfErr, IsErrOf, OnErr};
 ghost use Rattle.npr_base.specs.{
-  declared.refusal.DecodeError.TheVariants.{OutOfMemory},
+  declared.refusal.DecodeError.{DecodeError},
+  declared.refusal.DecodeError.TheVariants.{OutOfMemory, HeaderTooShort},
   Codec.{leading},
   Counts.{AddsAtMostTwice, SawEach},
-  Family.{encodings, first_unfit, list_members},
+  Family.{ReadsList, FirstFault, encodings, first_unfit, list_members},
   Framing.{Item, Front},
   Layout.{Layout},
   Looks.{Answered},
@@ -50,22 +51,32 @@ pub trait Header: Emitable + Copy + Default {
         requires { layout.size ≤ length bytes.now }
         ensures { (leading layout).Reads bytes.now result };
 
-    /// The attributes after the header. Each look at a header of theirs is counted.
+    /// Behind a header, the bytes are attributes that are read in this context.
+    ghost governs: { Self → List ℕ → Self.Attribute.Context → Type 0 };
+
+    /// The context that the attributes in the bytes are read in.
+    fn context(&self, bytes: &[u8]) -> <Self::Attribute as Attribute>::Context
+        ensures { governs self.now bytes.now result };
+
+    /// Puts the attributes after the header into an empty list. Each look at a header of theirs is
+    /// counted.
     ///
     /// # Errors
     /// `OutOfMemory` where memory is refused, and else the first fault in reading order.
     fn read_list(
         &self,
+        list: &mut Vec<Self::Attribute>,
         alloc: Global,
         bytes: &[u8],
         looks: &mut Looks,
-    ) -> Result<Vec<Self::Attribute>, DecodeError>
-        ensures ok { IfOk result (λ v. body.Reads self.now bytes.now (map meaning v.items)) }
+    ) -> Result<(), DecodeError>
+        requires { list.old.items ≡ [] }
+        ensures ok { IfOk result (λ _. body.Reads self.now bytes.now (map meaning list.new.items)) }
         ensures refused { IfErr result (λ e. e ≢ OutOfMemory → body.Faulty self.now bytes.now e) }
         ensures memory { IsErrOf result OutOfMemory → (x : Item) × (rest : List ℕ) × Front bytes.now x rest }
         ensures exact { Answered result → (body.looks self.now).Takes bytes.now looks.old looks.new }
         ensures bounded { AddsAtMostTwice looks.old looks.new (length bytes.now) }
-        ensures counted { IfOk result (λ v. SawEach looks.old looks.new (list_members writing.members (map meaning v.items))) };
+        ensures counted { IfOk result (λ _. SawEach looks.old looks.new (list_members writing.members (map meaning list.new.items))) };
 
     /// It is written as its layout says, and so is its default.
     ghost by_layout: { (h : Self) → (Self.bytes h ≡ layout.encode h) × (Self.unfit h ≡ None) × (length (layout.encode h) ≡ layout.size)
@@ -77,6 +88,14 @@ pub trait Header: Emitable + Copy + Default {
 
     /// and mean what it says.
     ghost meanings_are: { (xs ys : List Self.Attribute) → map Self.Attribute.meaning xs ≡ map Self.Attribute.meaning ys → map meaning xs ≡ map meaning ys };
+
+    /// In the context that governs them they are what the bytes mean,
+    ghost reads_under: { (h : Self) (bytes : List ℕ) (context : Self.Attribute.Context) (xs : List Self.Attribute) → governs h bytes context
+        → ReadsList (Self.Attribute.reading context).Reads bytes (map Self.Attribute.meaning xs) → body.Reads h bytes (map meaning xs) };
+
+    /// and what is wrong with them is the fault.
+    ghost faulty_under: { (h : Self) (bytes : List ℕ) (context : Self.Attribute.Context) (e : DecodeError) → governs h bytes context
+        → FirstFault (Self.Attribute.reading context).Reads (Self.Attribute.reading context).Faulty bytes e → body.Faulty h bytes e };
 }
 
 /// A message: a header, and attributes to the end.
@@ -152,6 +171,40 @@ impl<H: Header> Message<H, H::Attribute> {
     {
         parse_counted_body::<H>(alloc, bytes, looks)
     }
+
+    /// `parse` into a message that stands, whose list keeps its room. After a refusal the message is
+    /// as `new` makes it.
+    ///
+    /// # Errors
+    /// `OutOfMemory` where memory is refused, and else the first fault in reading order.
+    pub fn parse_into(&mut self, alloc: Global, bytes: &[u8]) -> Result<(), DecodeError>
+        // What is read is what the bytes mean.
+        ensures ok { IfOk result (λ _. IsMessage H.layout H.body bytes.now (view H.meaning self.new)) }
+        // They mean nothing else.
+        ensures one { IfOk result (λ _. (n : Meant H H.Meaning) → IsMessage H.layout H.body bytes.now n → view H.meaning self.new ≡ n) }
+        ensures coherent { IfOk result (λ _. IsCoherent H.layout H.body (view H.meaning self.new)) }
+        // A refusal is the first fault.
+        ensures refused { IfErr result (λ e. e ≢ OutOfMemory → MessageFault H.layout H.body bytes.now e) }
+        // Then the bytes mean nothing,
+        ensures none { IfErr result (λ e. e ≢ OutOfMemory → (n : Meant H H.Meaning) → IsMessage H.layout H.body bytes.now n → ⊥) }
+        // and nothing is left of what was there.
+        ensures new { IfErr result (λ _. view H.meaning self.new ≡ record { header = H.standard; attributes = [] }) }
+        // Memory is taken behind a first whole attribute alone.
+        ensures memory { IsErrOf result OutOfMemory → (x : Item) × (rest : List ℕ) × Front (drop H.layout.size bytes.now) x rest }
+    {
+        self.attributes.clear();
+        match read_onto_list::<H>(&mut self.attributes, alloc, bytes, &mut Looks::new()) {
+            Ok(header) => {
+                self.header = header;
+                Ok(())
+            }
+            Err(refusal) => {
+                self.header = H::default();
+                self.attributes.clear();
+                Err(refusal)
+            }
+        }
+    }
 }
 
 fn parse_counted_body<H: Header>(
@@ -167,6 +220,42 @@ fn parse_counted_body<H: Header>(
     ensures short { length bytes.now < H.layout.size → looks.new ≡ looks.old }
     ensures counted { IfOk result (λ m. SawEach looks.old looks.new (list_members H.writing.members (view H.meaning m).attributes)) }
 {
+    let mut attributes = Vec::new(alloc);
+    let header = read_onto_list::<H>(&mut attributes, alloc, bytes, looks)?;
+    Ok(Message { header, attributes })
+}
+
+/// The header in the first bytes; its attributes are put into an empty list.
+#[inline(always)]
+fn read_onto_list<H: Header>(
+    list: &mut Vec<H::Attribute>,
+    alloc: Global,
+    bytes: &[u8],
+    looks: &mut Looks,
+) -> Result<H, DecodeError>
+    requires { list.old.items ≡ [] }
+    ensures ok { IfOk result (λ h. IsMessage H.layout H.body bytes.now (record { header = h; attributes = map H.meaning list.new.items })) }
+    ensures refused { IfErr result (λ e. e ≢ OutOfMemory → MessageFault H.layout H.body bytes.now e) }
+    ensures memory { IsErrOf result OutOfMemory → (x : Item) × (rest : List ℕ) × Front (drop H.layout.size bytes.now) x rest }
+    ensures exact { Answered result → MessageLooks H.layout H.body bytes.now looks.old looks.new }
+    ensures bounded { AddsAtMostTwice looks.old looks.new (length bytes.now - H.layout.size) }
+    ensures short { length bytes.now < H.layout.size → looks.new ≡ looks.old }
+    ensures counted { IfOk result (λ _. SawEach looks.old looks.new (list_members H.writing.members (map H.meaning list.new.items))) }
+{
+    let header = header_of::<H>(bytes)?;
+    header.read_list(list, alloc, &bytes[H::size()..], looks)?;
+    Ok(header)
+}
+
+/// The header in the first bytes.
+///
+/// # Errors
+/// `HeaderTooShort` where they are fewer.
+#[inline(always)]
+pub(crate) fn header_of<H: Header>(bytes: &[u8]) -> Result<H, DecodeError>
+    ensures ok { IfOk result (λ h. (leading H.layout).Reads bytes.now h) }
+    ensures refused { IfErr result (λ e. (length bytes.now < H.layout.size) × (e ≡ HeaderTooShort (length bytes.now) H.layout.size)) }
+{
     let size = H::size();
     if bytes.len() < size {
         return Err(DecodeError::HeaderTooShort {
@@ -174,9 +263,7 @@ fn parse_counted_body<H: Header>(
             want: size,
         });
     }
-    let header = H::in_front(bytes);
-    let attributes = header.read_list(alloc, &bytes[size..], looks)?;
-    Ok(Message { header, attributes })
+    Ok(H::in_front(bytes))
 }
 
 impl<'a, H: Header> Parseable<&'a [u8]> for Message<H, H::Attribute> {

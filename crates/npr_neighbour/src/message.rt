@@ -1,16 +1,17 @@
 //! Neighbour messages: `RTM_NEWNEIGH`, `RTM_DELNEIGH` and `RTM_GETNEIGH`, without the envelope.
 
-ghost use Rattle.std.specs.Prelude.{refl};
-ghost use Rattle.std.proofs.Common.{rules};
+ghost use Rattle.std.specs.Prelude.{◌≡◌, refl, map};
+ghost use Rattle.std.proofs.Common.{rules, subst};
+ghost use Rattle.npr_base.specs.Family.{ReadsList, FirstFault};
 ghost use Rattle.npr_neighbour.specs.{
-  Attribute.{Meaning, meaning_of, writing},
+  Attribute.{Meaning, meaning_of, writing, attributes},
   Header.{default_header, header},
   Message.{body},
 };
 
 use crate::attribute::NeighbourAttribute;
 use crate::header::NeighbourHeader;
-use npr_base::{DecodeError, Header, Looks, Message, parse_list};
+use npr_base::{AddressFamily, DecodeError, Header, Looks, Message, fill_list};
 use std::alloc::Global;
 
 /// The bytes of `struct ndmsg` of `linux/neighbour.h`.
@@ -40,6 +41,12 @@ impl Header for NeighbourHeader {
 
     ghost meanings_are = { λ xs ys e. e };
 
+    ghost governs = { λ h bytes context. context ≡ h.family };
+
+    ghost reads_under = { λ h bytes context xs governs reads. subst (λ family. ReadsList (attributes family).Reads bytes (map meaning_of xs)) governs reads };
+
+    ghost faulty_under = { λ h bytes context e governs wrong. subst (λ family. FirstFault (attributes family).Reads (attributes family).Faulty bytes e) governs wrong };
+
     fn size() -> usize {
         NDMSG_SIZE
     }
@@ -49,12 +56,17 @@ impl Header for NeighbourHeader {
         NeighbourHeader::in_front(bytes)
     }
 
+    fn context(&self, _bytes: &[u8]) -> AddressFamily {
+        self.family
+    }
+
     fn read_list(
         &self,
+        list: &mut Vec<NeighbourAttribute>,
         alloc: Global,
         bytes: &[u8],
         looks: &mut Looks,
-    ) -> Result<Vec<NeighbourAttribute>, DecodeError> {
-        parse_list(alloc, self.family, bytes, looks)
+    ) -> Result<(), DecodeError> {
+        fill_list(list, alloc, self.family, bytes, looks)
     }
 }

@@ -1,5 +1,5 @@
 -- What is asked most of the attributes of a route and of a next hop, and built most (linux/rtnetlink.h).
-use Rattle.std.specs.Prelude.{ℕ, List, [], ◌∷◌, Option, Some, None}
+use Rattle.std.specs.Prelude.{ℕ, [], ◌∷◌, Option, Some, None}
 use Rattle.npr_base.specs.declared.ip.IpAddr.{IpAddr}
 use Rattle.npr_base.specs.declared.ip.IpAddr.TheVariants.{V4, V6}
 use Rattle.npr_scalar.specs.RouteAddress.{Address, inet, inet6, address_of, address_of_ip}

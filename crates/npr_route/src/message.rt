@@ -1,19 +1,24 @@
 //! Route messages: `RTM_NEWROUTE`, `RTM_DELROUTE` and `RTM_GETROUTE`, without the envelope.
 
-ghost use Rattle.std.specs.Prelude.{refl};
-ghost use Rattle.std.proofs.Common.{rules};
+ghost use Rattle.std.specs.Prelude.{◌≡◌, refl, map};
+ghost use Rattle.std.proofs.Common.{rules, subst};
+ghost use Rattle.npr_base.specs.Family.{ReadsList, FirstFault};
+ghost use Rattle.npr_tunnel.specs.declared.encap_type.RouteLwEnCapType.{RouteLwEnCapType};
+ghost use Rattle.npr_tunnel.specs.declared.encap_type.RouteLwEnCapType.TheVariants.{None as NoEncapsulation};
 ghost use Rattle.npr_route.specs.{
   Attribute.{Meaning},
-  AttributeLaws.{writing},
+  AttributeLaws.{writing, attributes},
   AttributeView.{meaning_of},
+  Governing.{Governs},
   Header.{default_header, header},
   Message.{body},
 };
 
-use crate::attribute::RouteAttribute;
+use crate::attribute::{Context, RouteAttribute};
 use crate::header::RouteHeader;
-use crate::list::read_route_list;
+use crate::list::{fill_route_list, governing_type};
 use npr_base::{DecodeError, Header, Looks, Message};
+use npr_tunnel::RouteLwEnCapType;
 use std::alloc::Global;
 
 /// The bytes of `struct rtmsg` of `linux/rtnetlink.h`.
@@ -43,6 +48,12 @@ impl Header for RouteHeader {
 
     ghost meanings_are = { λ xs ys e. e };
 
+    ghost governs = { λ h bytes context. (type : RouteLwEnCapType) × Governs NoEncapsulation bytes type × (context ≡ (h.address_family, h.kind, type)) };
+
+    ghost reads_under = { λ h bytes context xs (type, governs, is) reads. (type, governs, subst (λ c. ReadsList (attributes c).Reads bytes (map meaning_of xs)) is reads) };
+
+    ghost faulty_under = { λ h bytes context e (type, governs, is) wrong. (type, governs, subst (λ c. FirstFault (attributes c).Reads (attributes c).Faulty bytes e) is wrong) };
+
     fn size() -> usize {
         RTMSG_SIZE
     }
@@ -52,12 +63,18 @@ impl Header for RouteHeader {
         RouteHeader::in_front(bytes)
     }
 
+    fn context(&self, bytes: &[u8]) -> Context {
+        let kind = governing_type(bytes, RouteLwEnCapType::None, &mut Looks::new());
+        (self.address_family, self.kind, kind)
+    }
+
     fn read_list(
         &self,
+        list: &mut Vec<RouteAttribute>,
         alloc: Global,
         bytes: &[u8],
         looks: &mut Looks,
-    ) -> Result<Vec<RouteAttribute>, DecodeError> {
-        read_route_list(alloc, bytes, (self.address_family, self.kind), looks)
+    ) -> Result<(), DecodeError> {
+        fill_route_list(list, alloc, bytes, (self.address_family, self.kind), looks)
     }
 }

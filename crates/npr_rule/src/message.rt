@@ -10,7 +10,7 @@ ghost use Rattle.npr_rule.specs.{
 
 use crate::attribute::RuleAttribute;
 use crate::header::RuleHeader;
-use npr_base::{DecodeError, Header, Looks, Message, parse_list};
+use npr_base::{DecodeError, Header, Looks, Message, fill_list};
 use std::alloc::Global;
 
 /// The bytes of `struct fib_rule_hdr` of `linux/fib_rules.h`.
@@ -40,6 +40,12 @@ impl Header for RuleHeader {
 
     ghost meanings_are = { λ xs ys e. e };
 
+    ghost governs = { λ h bytes context. Unit {0} };
+
+    ghost reads_under = { λ h bytes context xs governs reads. reads };
+
+    ghost faulty_under = { λ h bytes context e governs wrong. wrong };
+
     fn size() -> usize {
         FIB_RULE_HDR_SIZE
     }
@@ -49,12 +55,15 @@ impl Header for RuleHeader {
         RuleHeader::in_front(bytes)
     }
 
+    fn context(&self, _bytes: &[u8]) {}
+
     fn read_list(
         &self,
+        list: &mut Vec<RuleAttribute>,
         alloc: Global,
         bytes: &[u8],
         looks: &mut Looks,
-    ) -> Result<Vec<RuleAttribute>, DecodeError> {
-        parse_list(alloc, (), bytes, looks)
+    ) -> Result<(), DecodeError> {
+        fill_list(list, alloc, (), bytes, looks)
     }
 }

@@ -17,7 +17,7 @@ ghost use Rattle.netlink_packet_route.specs.{
 use crate::neighbour::NeighbourAttribute;
 use netlink_packet_route::family::write_array;
 use netlink_packet_route::framing::{
-    DecodeError, EmitError, Emitable, Header, Looks, Message, Parseable, parse_list,
+    DecodeError, EmitError, Emitable, Header, Looks, Message, Parseable, fill_list,
 };
 use netlink_packet_route::net::IpAddr;
 use netlink_packet_route::route::RouteType;
@@ -90,6 +90,12 @@ impl Header for NeighbourHeader {
 
     ghost meanings_are = { λ xs ys e. e };
 
+    ghost governs = { λ h bytes context. Unit {0} };
+
+    ghost reads_under = { λ h bytes context xs governs reads. reads };
+
+    ghost faulty_under = { λ h bytes context e governs wrong. wrong };
+
     fn size() -> usize {
         12
     }
@@ -105,13 +111,16 @@ impl Header for NeighbourHeader {
         }
     }
 
+    fn context(&self, _bytes: &[u8]) {}
+
     fn read_list(
         &self,
+        list: &mut Vec<NeighbourAttribute>,
         alloc: Global,
         bytes: &[u8],
         looks: &mut Looks,
-    ) -> Result<Vec<NeighbourAttribute>, DecodeError> {
-        parse_list(alloc, (), bytes, looks)
+    ) -> Result<(), DecodeError> {
+        fill_list(list, alloc, (), bytes, looks)
     }
 }
 

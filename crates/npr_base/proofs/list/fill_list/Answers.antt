@@ -8,7 +8,7 @@ use Rattle.npr_base.specs.Family.{list_members}
 use Rattle.npr_base.specs.FrontLaws.{Front-takes}
 use Rattle.npr_base.proofs.Lists.{begins_so, ReadsTo-more}
 use Rattle.npr_base.proofs.Looking.{SoFar-more, Walked-so, Walked-miss, Walked-past, AddsAtMost-none, list_members-more}
-use Rattle.npr_base.proofs.list.parse_list_body.Goals as goal
+use Rattle.npr_base.proofs.list.fill_list.Goals as goal
 
 pub returns-in_err-read_onto-clause-memory : goal.returns-in_err-read_onto-clause-memory
 returns-in_err-read_onto-clause-memory g c = λ h.

@@ -3,7 +3,7 @@ use Rattle.npr_base.specs.Counts.{Counts}
 use Rattle.npr_base.specs.Looks.{ListLooks}
 use Rattle.npr_base.specs.Family.{ReadsTo, list_members}
 use Rattle.npr_base.proofs.Looking.{SoFar}
-use Rattle.npr_base.proofs.list.parse_list_body.Given as goal
+use Rattle.npr_base.proofs.list.fill_list.Given as goal
 
 abbrev pub invariant-loop-next : goal.invariant-loop-next
 invariant-loop-next g l = record {
