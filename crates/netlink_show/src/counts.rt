@@ -1,8 +1,7 @@
 //! How many messages there were.
 
-use crate::subject::{Subject, subject_of};
-use netlink_packet_core::NetlinkPayload;
-use netlink_packet_route::RouteNetlinkMessage;
+use netlink_packet_core::{NetlinkInner, NetlinkPayload};
+use netlink_packet_route::{MessageKind, MessageType, RouteNetlinkMessage};
 use std::alloc::AllocError;
 
 /// How many messages there were, of each kind. No count goes past the greatest number.
@@ -30,14 +29,22 @@ impl Counts {
     /// Counts a message that was read. Bytes and refusals are for the caller to count.
     pub fn add(&mut self, payload: &NetlinkPayload<RouteNetlinkMessage>) {
         let count = match payload {
-            NetlinkPayload::InnerMessage(message) => match subject_of(message) {
-                Subject::Address(_) => &mut self.addresses,
-                Subject::Route(_) => &mut self.routes,
-                Subject::Rule(_) => &mut self.rules,
-                Subject::Neighbour(_) => &mut self.neighbours,
-                Subject::Other(_) => &mut self.others,
-            },
+            NetlinkPayload::InnerMessage(message) => {
+                return self.add_type(MessageType::of(message.message_type()));
+            }
             _ => &mut self.controls,
+        };
+        *count = count.saturating_add(1);
+    }
+
+    /// Counts a message of rtnetlink of this type.
+    pub fn add_type(&mut self, message_type: MessageType) {
+        let count = match message_type.kind() {
+            Some(MessageKind::Address) => &mut self.addresses,
+            Some(MessageKind::Route) => &mut self.routes,
+            Some(MessageKind::Rule) => &mut self.rules,
+            Some(MessageKind::Neighbour) => &mut self.neighbours,
+            None => &mut self.others,
         };
         *count = count.saturating_add(1);
     }

@@ -6,8 +6,12 @@ use crate::stop::Stop;
 use netlink_packet_core::{
     NetlinkBuffer, NetlinkHeader, NetlinkInner, NetlinkMessage, NetlinkPayload,
 };
-use netlink_packet_route::framing::{DecodeError, Parseable};
-use netlink_packet_route::{MessageKind, RouteNetlinkMessage};
+use netlink_packet_route::address::AddressMessage;
+use netlink_packet_route::framing::{Attributes, DecodeError, Header, Parseable};
+use netlink_packet_route::neighbour::NeighbourMessage;
+use netlink_packet_route::route::RouteMessage;
+use netlink_packet_route::rule::RuleMessage;
+use netlink_packet_route::{MessageKind, MessageType, RouteNetlinkMessage};
 use netlink_show::{Counts, Manner, append_lines, append_object};
 use std::alloc::{AllocError, Global};
 use std::fs::File;
@@ -74,12 +78,41 @@ impl Session {
 
     /// A message in its envelope.
     pub fn message(&mut self, place: Place, bytes: &[u8]) -> Result<(), Stop> {
-        match read_message(self.alloc, bytes) {
-            Ok(message) => self.tell(&message),
+        match self.read(bytes) {
+            Ok(read) => self.take(read),
             Err(Refusal::Payload(DecodeError::OutOfMemory)) => Err(Stop::Memory),
             Err(refusal) => {
                 self.refuse(place, refusal);
                 self.keep(bytes)
+            }
+        }
+    }
+
+    /// The message that these bytes are, an envelope and what stands in it. Where messages are
+    /// counted, what the library reads is read attribute by attribute, and nothing of it is kept.
+    fn read(&self, bytes: &[u8]) -> Result<Read, Refusal> {
+        let Ok(envelope) = NetlinkBuffer::new_checked(bytes) else {
+            let left = bytes.len() as u64;
+            return Err(Refusal::MessageTooShort { left });
+        };
+        if matches!(self.options.form, Form::Count) {
+            let message_type = MessageType::of(envelope.message_type());
+            if let Some(kind) = message_type.kind() {
+                read_through(self.alloc, kind, envelope.payload()).map_err(Refusal::Payload)?;
+                return Ok(Read::Through(message_type));
+            }
+        }
+        let message = NetlinkMessage::parse(self.alloc, &envelope).map_err(Refusal::Payload)?;
+        Ok(Read::Whole(message))
+    }
+
+    /// Takes a message that was read.
+    fn take(&mut self, read: Read) -> Result<(), Stop> {
+        match read {
+            Read::Whole(message) => self.tell(&message),
+            Read::Through(message_type) => {
+                self.counts.add_type(message_type);
+                Ok(())
             }
         }
     }
@@ -176,16 +209,30 @@ impl Session {
     }
 }
 
-/// The message that these bytes are, an envelope and what stands in it.
-fn read_message(
-    alloc: Global,
-    bytes: &[u8],
-) -> Result<NetlinkMessage<RouteNetlinkMessage>, Refusal> {
-    let Ok(envelope) = NetlinkBuffer::new_checked(bytes) else {
-        let left = bytes.len() as u64;
-        return Err(Refusal::MessageTooShort { left });
-    };
-    NetlinkMessage::parse(alloc, &envelope).map_err(Refusal::Payload)
+/// What was read of a message.
+#[derive(Drop)]
+enum Read {
+    /// All of it.
+    Whole(NetlinkMessage<RouteNetlinkMessage>),
+    /// All of it, of which nothing was kept but its type.
+    Through(MessageType),
+}
+
+/// Reads the attributes of a message of this kind one after the other, and keeps none.
+fn read_through(alloc: Global, kind: MessageKind, bytes: &[u8]) -> Result<(), DecodeError> {
+    match kind {
+        MessageKind::Address => read_each(AddressMessage::attributes(alloc, bytes)?),
+        MessageKind::Route => read_each(RouteMessage::attributes(alloc, bytes)?),
+        MessageKind::Rule => read_each(RuleMessage::attributes(alloc, bytes)?),
+        MessageKind::Neighbour => read_each(NeighbourMessage::attributes(alloc, bytes)?),
+    }
+}
+
+fn read_each<H: Header>(attributes: Attributes<'_, H>) -> Result<(), DecodeError> {
+    for attribute in attributes {
+        attribute?;
+    }
+    Ok(())
 }
 
 /// The message of this kind that these bytes are, as if it stood in an envelope that tells of it.

@@ -20,11 +20,6 @@ stands_there {H} L Stops bytes rest h offset d e long header stops place same = 
   stops = subst (λ (k : H). Stops k (drop L.size bytes) rest d) header (subst (λ (x : DecodeError). Stops h (drop L.size bytes) rest x) (sym same) stops);
 }
 
-pub message_there : {H M : Type 0} {w : Writing M} (L : Layout H) (B : Body H w) (bytes : List ℕ) (h : H) (xs : List M) → L.size ≤ length bytes
-    → h ≡ L.decode (take L.size bytes) → B.Reads h (drop L.size bytes) xs → (m : Message H M) × IsMessage L B bytes m
-message_there L B bytes h xs long header reads =
-    (record { header = h; attributes = xs }, message_read L B bytes (record { header = h; attributes = xs }) long header reads)
-
 -- a fault that is told with its place
 pub told_there : (answer fault : Fault) (e : DecodeError) (offset : ℕ) → fault ≡ fault_of e → answer ≡ record fault { offset = offset }
     → answer ≡ told e answer.offset

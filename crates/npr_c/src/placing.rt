@@ -1,12 +1,14 @@
 //! Where in a message the first fault stands: its attributes are read one after the other.
 
-ghost use Rattle.std.specs.Prelude.{◌≡◌, ◌≢◌, ◌≤◌, ◌<◌, ◌⊎◌, ◌+◌, ℕ, List, length, map, drop, IfOk, IfErr};
+ghost use Rattle.std.specs.Prelude.{◌≡◌, ◌≢◌, ◌≤◌, ◌<◌, ◌⊎◌, ◌+◌, ℕ, List, [], Some, Err, length, drop, IfOk, IfErr};
+ghost use Rattle.std.proofs.Common.{subst};
 ghost use Rattle.netlink_packet_route.specs.{
   AddressAttribute.{attributes as address_attributes},
-  Family.{ReadsList},
+  Attributes.{AttributeStep, AttributeSteps},
   Framing.{Item, Front},
   Messages.{Message as Meant, IsMessage, MessageFault},
   NeighbourAttribute.{attributes as neighbour_attributes},
+  RouteAttributeLaws.{attributes as route_attributes},
   RuleAttribute.{attributes as rule_attributes},
   declared.framing.DecodeError.{DecodeError},
   declared.framing.DecodeError.TheVariants.{OutOfMemory},
@@ -16,11 +18,10 @@ ghost use Rattle.npr_c.specs.{
   StopsLaws.{stops-one, route-stops-one},
 };
 
-use netlink_packet_route::AddressFamily;
 use netlink_packet_route::address::AddressHeader;
-use netlink_packet_route::framing::{Attribute, DecodeError, Header, Looks, NlasIterator};
+use netlink_packet_route::framing::{Attributes, DecodeError, Header, Message};
 use netlink_packet_route::neighbour::NeighbourHeader;
-use netlink_packet_route::route::{RouteHeader, RouteLwEnCapType, RouteType, governing_type};
+use netlink_packet_route::route::RouteHeader;
 use netlink_packet_route::rule::RuleHeader;
 use std::alloc::Global;
 
@@ -29,63 +30,44 @@ pub trait Placed: Header {
     /// Behind a header, attributes read up to a rest, in front of which something is wrong.
     ghost stops: { Self → List ℕ → List ℕ → DecodeError → Type 0 };
 
-    /// What the attributes behind the header are read in.
-    fn context(&self, bytes: &[u8]) -> <Self::Attribute as Attribute>::Context
-        ensures reads { (xs : List Self.Attribute) → ReadsList (Self.Attribute.reading result).Reads bytes.now (map Self.Attribute.meaning xs)
-            → Self.body.Reads self.now bytes.now (map Self.meaning xs) }
-        ensures stops { (rest : List ℕ) (e : DecodeError)
-            → StopsBefore (Self.Attribute.reading result).Reads (Self.Attribute.reading result).Faulty bytes.now rest e → stops self.now bytes.now rest e };
+    /// It is so where it is under the context that governs the attributes,
+    ghost stops_under: { (h : Self) (bytes : List ℕ) (context : Self.Attribute.Context) (rest : List ℕ) (e : DecodeError) → Self.governs h bytes context
+        → StopsBefore (Self.Attribute.reading context).Reads (Self.Attribute.reading context).Faulty bytes rest e → stops h bytes rest e };
 
-    /// What is wrong there is the first fault,
-    ghost is_fault: { (h : Self) (bytes rest : List ℕ) (e : DecodeError) → stops h bytes rest e → Self.body.Faulty h bytes e };
-
-    /// and stands at one place.
+    /// and at one place.
     ghost one_place: { (h : Self) (bytes r s : List ℕ) (d e : DecodeError) → stops h bytes r d → stops h bytes s e → r ≡ s };
 }
 
 impl Placed for AddressHeader {
     ghost stops = { stops_of address_attributes };
 
-    ghost is_fault = { λ h bytes rest e (xs, reads, wrong). (xs, rest, reads, wrong) };
+    ghost stops_under = { λ h bytes context rest e governs stops. stops };
 
     ghost one_place = { stops-one address_attributes };
-
-    fn context(&self, _bytes: &[u8]) {}
 }
 
 impl Placed for RuleHeader {
     ghost stops = { stops_of rule_attributes };
 
-    ghost is_fault = { λ h bytes rest e (xs, reads, wrong). (xs, rest, reads, wrong) };
+    ghost stops_under = { λ h bytes context rest e governs stops. stops };
 
     ghost one_place = { stops-one rule_attributes };
-
-    fn context(&self, _bytes: &[u8]) {}
 }
 
 impl Placed for NeighbourHeader {
     ghost stops = { λ h. stops_of (neighbour_attributes h.family) h };
 
-    ghost is_fault = { λ h bytes rest e (xs, reads, wrong). (xs, rest, reads, wrong) };
+    ghost stops_under = { λ h bytes context rest e governs stops. subst (λ family. stops_of (neighbour_attributes family) h bytes rest e) governs stops };
 
     ghost one_place = { λ h. stops-one (neighbour_attributes h.family) h };
-
-    fn context(&self, _bytes: &[u8]) -> AddressFamily {
-        self.family
-    }
 }
 
 impl Placed for RouteHeader {
     ghost stops = { route_stops };
 
-    ghost is_fault = { λ h bytes rest e (type, governs, (xs, reads, wrong)). (type, governs, (xs, rest, reads, wrong)) };
+    ghost stops_under = { λ h bytes context rest e (type, governs, is) stops. (type, governs, subst (λ c. stops_of (route_attributes c) h bytes rest e) is stops) };
 
     ghost one_place = { route-stops-one };
-
-    fn context(&self, bytes: &[u8]) -> (AddressFamily, RouteType, RouteLwEnCapType) {
-        let kind = governing_type(bytes, RouteLwEnCapType::None, &mut Looks::new());
-        (self.address_family, self.kind, kind)
-    }
 }
 
 /// Why attributes are refused, and how many bytes are left where the first that is wrong begins.
@@ -95,31 +77,29 @@ pub struct Stop {
     pub left: usize,
 }
 
-/// Reads the attributes one after the other in the context, each let go before the next, up to the
-/// first that is wrong.
+/// Reads the attributes one after the other, each let go before the next, up to the first that is
+/// wrong.
 ///
 /// # Errors
 /// What is wrong there, or `OutOfMemory`.
-pub fn read_each<A: Attribute>(alloc: Global, context: A::Context, bytes: &[u8]) -> Result<(), Stop>
-    ensures ok { IfOk result (λ _. (xs : List A) × ReadsList (A.reading context).Reads bytes.now (map A.meaning xs)) }
-    ensures stopped { IfErr result (λ stop. stop.refusal ≢ OutOfMemory → (rest : List ℕ)
-        × StopsBefore (A.reading context).Reads (A.reading context).Faulty bytes.now rest stop.refusal × (stop.left ≡ length rest)) }
-    ensures within { IfErr result (λ stop. stop.left ≤ length bytes.now) }
-    ensures memory { IfErr result (λ stop. stop.refusal ≡ OutOfMemory → (x : Item) × (rest : List ℕ) × Front bytes.now x rest) }
+fn read_each<H: Header>(attributes: Attributes<'_, H>) -> Result<(), Stop>
+    ensures ok { IfOk result (λ _. (xs : List H.Attribute)
+        × AttributeSteps H.Attribute.meaning (H.Attribute.reading attributes.entry.context) attributes.entry.walk xs []) }
+    ensures stopped { IfErr result (λ stop. (xs : List H.Attribute) × (rest : List ℕ)
+        × AttributeSteps H.Attribute.meaning (H.Attribute.reading attributes.entry.context) attributes.entry.walk xs rest
+        × AttributeStep H.Attribute.meaning (H.Attribute.reading attributes.entry.context) rest (Some (Err stop.refusal)) []
+        × (stop.left ≡ length rest)) }
+    ensures within { IfErr result (λ stop. stop.left ≤ length attributes.entry.walk) }
+    ensures memory { IfErr result (λ stop. stop.refusal ≡ OutOfMemory → (x : Item) × (rest : List ℕ) × Front attributes.entry.walk x rest) }
 {
-    let mut looks = Looks::new();
-    let mut walk = NlasIterator::new(bytes);
+    let mut attributes = attributes;
     'attributes: loop {
-        let left = walk.rest().len();
-        let refusal = match walk.next() {
+        let left = attributes.rest().len();
+        match attributes.next() {
             None => return Ok(()),
-            Some(Err(refusal)) => refusal,
-            Some(Ok(item)) => match A::read(alloc, context, &item, &mut looks) {
-                Ok(_) => continue 'attributes,
-                Err(refusal) => refusal,
-            },
-        };
-        return Err(Stop { refusal, left });
+            Some(Ok(_)) => continue 'attributes,
+            Some(Err(refusal)) => return Err(Stop { refusal, left }),
+        }
     }
 }
 
@@ -162,20 +142,11 @@ pub fn read_through<H: Placed>(alloc: Global, bytes: &[u8]) -> Result<(), Place>
     ensures memory { IfErr result (λ place. place.refusal ≡ OutOfMemory
         → (place.offset ≡ 0) × ((x : Item) × (rest : List ℕ) × Front (drop H.layout.size bytes.now) x rest)) }
 {
-    let size = H::size();
-    if bytes.len() < size {
-        return Err(Place {
-            refusal: DecodeError::HeaderTooShort {
-                got: bytes.len(),
-                want: size,
-            },
-            offset: 0,
-        });
-    }
-    let header = H::in_front(bytes);
-    let behind = &bytes[size..];
-    let context = header.context(behind);
-    match read_each::<H::Attribute>(alloc, context, behind) {
+    let attributes = match Message::<H, H::Attribute>::attributes(alloc, bytes) {
+        Ok(attributes) => attributes,
+        Err(refusal) => return Err(Place { refusal, offset: 0 }),
+    };
+    match read_each(attributes) {
         Ok(()) => Ok(()),
         Err(stop) => Err(stop.among(bytes.len())),
     }

@@ -1,27 +1,34 @@
-use Rattle.std.proofs.Common.{◌++◌, ◌∷◌, [], map, arith}
-use Rattle.std.proofs.lemmas.List.{map_push}
-use Rattle.netlink_packet_route.specs.Framing.{Front}
+use Rattle.std.proofs.Common.{List, ℕ, Some, Ok, Err, ◌++◌, ◌∷◌, [], ◌∙◌, subst, arith}
+use Rattle.netlink_packet_route.specs.Attributes.{AttributeStep}
 use Rattle.netlink_packet_route.specs.FrontLaws.{Front-shrinks}
-use Rattle.npr_base.proofs.Lists.{begins_so, ReadsTo-more}
+use Rattle.netlink_packet_route.specs.AttributesLaws.{steps-more, steps-begin}
 use Rattle.npr_c.proofs.placing.read_each.Goals as goal
 
--- an attribute that is read is one more that was passed
+-- an attribute that is answered is one more that was passed
 pub attributes-preserved : goal.attributes-preserved
 attributes-preserved g c =
-    let family = g.A.Attribute in
-    let xs = c.attributes.invariant.read.0 in
-    let x = c.in-Some-Ok.item in
-    let f : Front c.attributes.walk x c.next.new.self = rw c.in-Some-Ok.field-0-is at c.in-Some-Ok.ensures.steps in
-    let more = ReadsTo-more (family.reading c.args.context).Reads c.args.bytes.now (map family.meaning xs) c.attributes.walk x (family.meaning c.in-Ok.field-0)
-    c.next.new.self c.attributes.invariant.read.1 f c.in-Ok.ensures.ok in
+    let A = g.H.Attribute.Attribute in
+    let past = c.attributes.invariant in
+    let (xs, steps) = past.steps in
+    let a = c.in-Some-Ok.field-0-0 in
+    let left = c.attributes.attributes.walk in
+    let now = c.next.new.self.walk in
+    let (step, header, context) = c.in-Some-Ok.ensures.steps in
+    let under = subst (λ k. AttributeStep A.meaning (A.reading k) left (Some c.in-Some-Ok.field-0) now) past.context step in
+    let read : AttributeStep A.meaning (A.reading c.args.attributes.context) left (Some (Ok a)) now = rw c.in-Some-Ok.field-0-is at under in
     record {
-      read = (xs ++ c.in-Ok.field-0 ∷ [], rw (map_push family.meaning xs c.in-Ok.field-0) more);
-      left = omega (arith, Front-shrinks c.attributes.walk x c.next.new.self f, c.attributes.invariant.left);
+      steps = (xs ++ a ∷ [], steps-more A.meaning (A.reading c.args.attributes.context) xs a c.args.attributes.walk left now steps read);
+      context = context ∙ past.context;
+      left = omega (arith, Front-shrinks left read.0 now read.1, past.left);
     }
 
-pub returns-in-Err-clause-memory : goal.returns-in-Err-clause-memory
-returns-in-Err-clause-memory g c = λ refused.
-    let family = g.A.Attribute in
-    let f : Front c.attributes.walk c.in-Some-Ok.item c.next.new.self = rw c.in-Some-Ok.field-0-is at c.in-Some-Ok.ensures.steps in
-    begins_so (family.reading c.args.context).Reads c.args.bytes.now (map family.meaning c.attributes.invariant.read.0) c.attributes.walk c.in-Some-Ok.item
-    c.next.new.self c.attributes.invariant.read.1 f
+pub returns-in-Some-Err-clause-memory : goal.returns-in-Some-Err-clause-memory
+returns-in-Some-Err-clause-memory g c = λ refused.
+    let A = g.H.Attribute.Attribute in
+    let past = c.attributes.invariant in
+    let (xs, steps) = past.steps in
+    let left = c.attributes.attributes.walk in
+    let step : AttributeStep A.meaning (A.reading c.attributes.attributes.context) left (Some (Err c.in-Some-Err.refusal)) c.next.new.self.walk
+    = rw c.in-Some-Err.field-0-is at c.in-Some-Err.ensures.steps.0 in
+    let (x, more, front) = step.1 refused in
+    steps-begin A.meaning (A.reading c.args.attributes.context) xs c.args.attributes.walk left more x steps front

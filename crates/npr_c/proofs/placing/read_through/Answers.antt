@@ -1,44 +1,47 @@
-use Rattle.std.proofs.Common.{◌≢◌, ◌+◌, ◌∙◌, map, inl, inr, ap, sym, subst, arith, length}
-use Rattle.std.proofs.lemmas.List.{take_rest}
+use Rattle.std.proofs.Common.{◌≡◌, ◌≢◌, ◌+◌, ◌∙◌, ℕ, List, [], map, inl, inr, ap, sym, subst}
+use Rattle.netlink_packet_route.specs.Framing.{Item, Front}
 use Rattle.netlink_packet_route.specs.declared.framing.DecodeError.{DecodeError}
-use Rattle.netlink_packet_route.specs.declared.framing.DecodeError.TheVariants.{OutOfMemory, HeaderTooShort}
+use Rattle.netlink_packet_route.specs.declared.framing.DecodeError.TheVariants.{OutOfMemory}
 use Rattle.npr_base.specs.Message.{MessageFault}
-use Rattle.npr_base.proofs.Messages.{fault_after}
-use Rattle.npr_c.proofs.Stopping.{message_there, stands_there}
+use Rattle.netlink_packet_route.specs.AttributesLaws.{steps-read}
+use Rattle.npr_c.proofs.Stopping.{stands_there}
 use Rattle.npr_c.proofs.placing.read_through.Goals as goal
 
-pub returns-then-bytes-size-clause-refused : goal.returns-then-bytes-size-clause-refused
-unfolding MessageFault
-returns-then-bytes-size-clause-refused g c =
-    let is = c.size-size.ensures in
-    λ other. inl (omega (arith, is, c.if-bytes-size.true), ap (HeaderTooShort (length c.args.bytes.now)) is)
-
-pub returns-in-Ok-clause-ok : goal.returns-in-Ok-clause-ok
-returns-in-Ok-clause-ok g c =
-    let (xs, read) = c.in-Ok.ensures.ok in
-    let list = rw (take_rest, c.size-size.ensures) at (c.context-context.ensures.reads xs read) in
-    let head = c.in_front-header.ensures in
-    message_there g.H.Header.layout g.H.Header.body c.args.bytes.now c.in_front-header.result (map g.H.Header.meaning xs) head.0 head.1 list
-
 pub returns-in-Err-clause-refused : goal.returns-in-Err-clause-refused
-returns-in-Err-clause-refused g c = λ other.
-    let e = c.in-Err.stop.refusal in
+unfolding MessageFault
+returns-in-Err-clause-refused g c = λ other. inl c.in-Err.ensures.short
+
+pub returns-in-Ok-read_each-clause-ok : goal.returns-in-Ok-read_each-clause-ok
+returns-in-Ok-read_each-clause-ok g c =
+    let (xs, steps) = c.in-Ok-read_each.ensures.ok in
+    (record { header = c.in-Ok.attributes.header; attributes = map g.H.Header.meaning xs }, c.in-Ok.ensures.all xs steps)
+
+pub returns-in-Err-read_each-clause-refused : goal.returns-in-Err-read_each-clause-refused
+returns-in-Err-read_each-clause-refused g c = λ other.
     let same = c.among.ensures.refusal in
-    let (rest, stop, left) = c.in-Err.ensures.stopped (subst (λ (d : DecodeError). d ≢ OutOfMemory) same other) in
-    let stops = rw (take_rest, c.size-size.ensures) at (c.context-context.ensures.stops rest e stop) in
-    let head = c.in_front-header.ensures in
-    let faulty = g.met.H.Placed.is_fault c.in_front-header.result _ rest e stops in
-    let fault = fault_after g.H.Header.layout g.H.Header.body c.args.bytes.now c.in_front-header.result e head.0 head.1 faulty in
+    let mine = subst (λ (d : DecodeError). d ≢ OutOfMemory) same other in
+    let (xs, rest, steps, step, left) = c.in-Err-read_each.ensures.stopped in
+    let fault = c.in-Ok.ensures.fault xs rest [] c.in-Err-read_each.stop.refusal steps step mine in
     subst (λ (d : DecodeError). MessageFault g.H.Header.layout g.H.Header.body c.args.bytes.now d) (sym same) fault
 
-pub returns-in-Err-clause-place : goal.returns-in-Err-clause-place
-returns-in-Err-clause-place g c = λ other.
-    let e = c.in-Err.stop.refusal in
+pub returns-in-Err-read_each-clause-place : goal.returns-in-Err-read_each-clause-place
+returns-in-Err-read_each-clause-place g c = λ other.
+    let A = g.H.Attribute.Attribute in
+    let s = c.in-Ok.attributes in
+    let e = c.in-Err-read_each.stop.refusal in
     let same = c.among.ensures.refusal in
     let mine : e ≢ OutOfMemory = subst (λ (d : DecodeError). d ≢ OutOfMemory) same other in
-    let (rest, stop, left) = c.in-Err.ensures.stopped mine in
-    let stops = rw (take_rest, c.size-size.ensures) at (c.context-context.ensures.stops rest e stop) in
-    let head = c.in_front-header.ensures in
+    let (head, walk, governs) = c.in-Ok.ensures.begins in
+    let (xs, rest, steps, step, left) = c.in-Err-read_each.ensures.stopped in
+    let passed = steps-read A.meaning (A.reading s.context) xs s.walk rest steps in
+    let there = g.met.H.Placed.stops_under s.header s.walk s.context rest e governs (map A.meaning xs, passed, step.0 mine) in
+    let stops = subst (λ (b : List ℕ). g.H.Placed.stops s.header b rest e) walk there in
     let place = c.among.ensures.place mine ∙ ap (λ n. c.among.result.offset + n) left in
-    inr (stands_there g.H.Header.layout g.H.Placed.stops c.args.bytes.now rest c.in_front-header.result c.among.result.offset c.among.result.refusal e
+    inr (stands_there g.H.Header.layout g.H.Placed.stops c.args.bytes.now rest s.header c.among.result.offset c.among.result.refusal e
     head.0 head.1 stops place same)
+
+pub returns-in-Err-read_each-clause-memory : goal.returns-in-Err-read_each-clause-memory
+returns-in-Err-read_each-clause-memory g c = λ refused.
+    let mine = sym c.among.ensures.refusal ∙ refused in
+    let front = c.in-Err-read_each.ensures.memory mine in
+    (c.among.ensures.memory mine, subst (λ (b : List ℕ). (x : Item) × (rest : List ℕ) × Front b x rest) c.in-Ok.ensures.begins.1 front)
