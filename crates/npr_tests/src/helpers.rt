@@ -41,6 +41,10 @@ pub(crate) trait Message: Emitable + PartialEq + Drop + Sized {
 
     fn of(alloc: Global, bytes: &[u8]) -> Result<Self, DecodeError>;
 
+    fn one_by_one(alloc: Global, bytes: &[u8]) -> Result<Vec<Self::Attribute>, DecodeError>;
+
+    fn read_again(&mut self, alloc: Global, bytes: &[u8]) -> Result<(), DecodeError>;
+
     fn copy(&self, alloc: Global) -> Result<Self, AllocError>;
 
     fn attributes(&self) -> &[Self::Attribute];
@@ -54,6 +58,18 @@ where
 
     fn of(alloc: Global, bytes: &[u8]) -> Result<Self, DecodeError> {
         Stored::<H, H::Attribute>::parse(alloc, bytes)
+    }
+
+    fn one_by_one(alloc: Global, bytes: &[u8]) -> Result<Vec<H::Attribute>, DecodeError> {
+        let mut found = Vec::new(alloc);
+        for attribute in Stored::<H, H::Attribute>::attributes(alloc, bytes)? {
+            found.push(attribute?)?;
+        }
+        Ok(found)
+    }
+
+    fn read_again(&mut self, alloc: Global, bytes: &[u8]) -> Result<(), DecodeError> {
+        self.parse_into(alloc, bytes)
     }
 
     fn copy(&self, alloc: Global) -> Result<Self, AllocError> {
@@ -166,16 +182,21 @@ pub(crate) fn rewrites_lines<M: Message>(
     Ok(())
 }
 
-/// The bytes are a message of these attributes, and so is its copy.
+/// The bytes are a message of these attributes, and so is its copy; they come so one by one, and are
+/// so read into a message that stands.
 pub(crate) fn reads<M: Message, const N: usize>(
     rt: &(impl Abort + AllocGlobal),
     texts: &[&str],
     attributes: [M::Attribute; N],
 ) -> Result<(), Fail> {
     let bytes = bytes_of(rt, texts)?;
-    let message = M::of(rt.alloc(), bytes.as_slice())?;
+    let mut message = M::of(rt.alloc(), bytes.as_slice())?;
     holds(rt, message.attributes() == attributes.as_slice());
     holds(rt, message.copy(rt.alloc())? == message);
+    let found = M::one_by_one(rt.alloc(), bytes.as_slice())?;
+    holds(rt, found.as_slice() == attributes.as_slice());
+    message.read_again(rt.alloc(), bytes.as_slice())?;
+    holds(rt, message.attributes() == attributes.as_slice());
     Ok(())
 }
 
@@ -187,6 +208,8 @@ pub(crate) fn refuses<M: Message>(
 ) -> Result<(), Fail> {
     let bytes = bytes_of(rt, texts)?;
     same(rt, M::of(rt.alloc(), bytes.as_slice()).err(), Some(fault));
+    let one_by_one = M::one_by_one(rt.alloc(), bytes.as_slice());
+    same(rt, one_by_one.err(), Some(fault));
     Ok(())
 }
 

@@ -37,6 +37,8 @@ mod neighbour;
 #[cfg(test)]
 mod next_hops;
 #[cfg(test)]
+mod one_by_one;
+#[cfg(test)]
 mod own_message;
 #[cfg(test)]
 mod route;

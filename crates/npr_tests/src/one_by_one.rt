@@ -1,0 +1,96 @@
+//! Attributes one after the other, and messages that are read into again.
+
+use crate::helpers::{INET, bytes_of, holds, same};
+use netlink_packet_route::framing::{DecodeError, Parseable};
+use netlink_packet_route::route::{RouteAttribute, RouteLwEnCapType, RouteMessage, RouteType};
+use netlink_packet_route::rule::RuleMessage;
+use netlink_packet_route::{AddressFamily, MessageKind, MessageType};
+use std::test::Fail;
+
+/// A rule header: family inet, action to table.
+const RULE: &str = "020000000000000001000000";
+
+/// An encapsulation, the type behind it that governs it, and bytes that are no attribute.
+const CUT: [&str; 4] = [
+    INET,
+    "0c001600 08000100 000641ff",
+    "06001500 01000000",
+    "080004",
+];
+
+#[test]
+fn what_governs_is_known_at_once(rt: HostRuntime) -> Result<(), Fail> {
+    let bytes = bytes_of(&rt, &CUT)?;
+    let attributes = RouteMessage::attributes(rt.alloc(), bytes.as_slice())?;
+    same(&rt, attributes.header().kind, RouteType::Unicast);
+    let (family, kind, encap_type) = attributes.context();
+    same(&rt, family, AddressFamily::Inet);
+    same(&rt, kind, RouteType::Unicast);
+    same(&rt, encap_type, RouteLwEnCapType::Mpls);
+    same(&rt, attributes.rest().len(), 23);
+    Ok(())
+}
+
+#[test]
+fn a_fault_is_the_last(rt: HostRuntime) -> Result<(), Fail> {
+    let bytes = bytes_of(&rt, &CUT)?;
+    let mut attributes = RouteMessage::attributes(rt.alloc(), bytes.as_slice())?;
+    holds(
+        &rt,
+        matches!(attributes.next(), Some(Ok(RouteAttribute::Encap(_)))),
+    );
+    holds(
+        &rt,
+        matches!(
+            attributes.next(),
+            Some(Ok(RouteAttribute::EncapType(RouteLwEnCapType::Mpls)))
+        ),
+    );
+    let fault = DecodeError::AttributeTooShort { got: 3 };
+    holds(
+        &rt,
+        matches!(attributes.next(), Some(Err(found)) if found == fault),
+    );
+    holds(&rt, attributes.next().is_none());
+    holds(&rt, attributes.rest().is_empty());
+    Ok(())
+}
+
+#[test]
+fn a_header_comes_first(rt: HostRuntime) {
+    let short = RouteMessage::attributes(rt.alloc(), &[2, 0]);
+    let fault = DecodeError::HeaderTooShort { got: 2, want: 12 };
+    same(&rt, short.err(), Some(fault));
+}
+
+/// The list keeps its room, also behind a refusal.
+#[test]
+fn a_message_is_read_into_again(rt: HostRuntime) -> Result<(), Fail> {
+    let alloc = rt.alloc();
+    let long = bytes_of(&rt, &[RULE, "08000f00 fe000000", "08000e00 ffffffff"])?;
+    let short = bytes_of(&rt, &[RULE, "08000600 05000000"])?;
+    let mut message = RuleMessage::parse(alloc, long.as_slice())?;
+    let room = message.attributes.capacity();
+    message.parse_into(alloc, short.as_slice())?;
+    holds(&rt, message == RuleMessage::parse(alloc, short.as_slice())?);
+    let fault = DecodeError::HeaderTooShort { got: 3, want: 12 };
+    same(
+        &rt,
+        message.parse_into(alloc, &[2, 0, 0]).err(),
+        Some(fault),
+    );
+    holds(&rt, message == RuleMessage::new(alloc));
+    same(&rt, message.attributes.capacity(), room);
+    Ok(())
+}
+
+/// `RTM_GETNEIGH` and `RTM_NEWLINK`.
+#[test]
+fn a_type_has_a_kind(rt: HostRuntime) {
+    same(
+        &rt,
+        MessageType::of(30).kind(),
+        Some(MessageKind::Neighbour),
+    );
+    same(&rt, MessageType::of(16).kind(), None);
+}
