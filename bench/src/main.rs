@@ -1,7 +1,10 @@
-//! Times this library and the upstream crate over the same messages, in turns.
+//! Times this library and the upstream crate over the same messages, in turns, and with the feature `peers` libmnl and libnl.
 //!
-//! `bench [ROUNDS]` reads the real messages of `crates/conformance/data`. A figure is the median over
+//! `bench [ROUNDS [ROUTES]]` reads the real messages of `crates/conformance/data`. A figure is the median over
 //! rounds of the ratio of both times, ours by upstream's: below 1 is faster.
+
+mod timing;
+mod ways;
 
 // For its link line alone.
 use canonical as _;
@@ -9,6 +12,8 @@ use netlink_packet_core::{Emitable, Parseable};
 use netlink_packet_route::{address::AddressMessage, route::RouteMessage, rule::RuleMessage};
 use std::hint::black_box;
 use std::time::{Duration, Instant};
+use timing::median;
+use ways::{compare_dump, compare_ways, datagram};
 
 #[repr(C)]
 struct Answer {
@@ -79,11 +84,6 @@ fn timed(work: Work, call: Ours, all: &[Vec<u8>], out: &mut [u8], times: usize) 
     start.elapsed()
 }
 
-fn median(mut values: Vec<f64>) -> f64 {
-    values.sort_by(f64::total_cmp);
-    values[values.len() / 2]
-}
-
 /// Prints both medians in nanoseconds a message, and that of the ratios.
 fn compare(title: &str, call: Ours, theirs: Work, all: &[Vec<u8>], room: usize, rounds: usize) {
     let mut out = vec![0; room];
@@ -107,19 +107,52 @@ fn compare(title: &str, call: Ours, theirs: Work, all: &[Vec<u8>], room: usize, 
     println!("{title:<28} {mine:>9.1} {other:>9.1} {ratio:>6.2}");
 }
 
+/// What is compared of a kind.
+struct Kind {
+    name: &'static str,
+    message_type: u16,
+    call: Ours,
+    theirs: Work,
+    ways: fn(&[u8], usize, usize),
+}
+
+const KINDS: [Kind; 3] = [
+    Kind {
+        name: "address",
+        message_type: 20,
+        call: npr_address_canonical,
+        theirs: upstream::<AddressMessage>,
+        ways: compare_ways::<AddressMessage>,
+    },
+    Kind {
+        name: "route",
+        message_type: 24,
+        call: npr_route_canonical,
+        theirs: upstream::<RouteMessage>,
+        ways: compare_ways::<RouteMessage>,
+    },
+    Kind {
+        name: "rule",
+        message_type: 32,
+        call: npr_rule_canonical,
+        theirs: upstream::<RuleMessage>,
+        ways: compare_ways::<RuleMessage>,
+    },
+];
+
 fn main() {
-    let rounds = std::env::args().nth(1).map_or(101, |word| word.parse().expect("a count of rounds"));
+    let mut words = std::env::args().skip(1).map(|word| word.parse().expect("a count"));
+    let rounds = words.next().unwrap_or(101);
+    let routes = words.next().unwrap_or(1_000_000);
     println!("{:<28} {:>9} {:>9} {:>6}", "nanoseconds a message", "ours", "upstream", "ratio");
-    let kinds: [(&str, Ours, Work); 3] = [
-        ("address", npr_address_canonical, upstream::<AddressMessage>),
-        ("route", npr_route_canonical, upstream::<RouteMessage>),
-        ("rule", npr_rule_canonical, upstream::<RuleMessage>),
-    ];
-    for (name, call, theirs) in kinds {
-        let path = format!("{}/../crates/conformance/data/{name}.tsv", env!("CARGO_MANIFEST_DIR"));
-        let all = taken_alike(messages(&path), call, theirs);
-        println!("{name}: {} messages", all.len());
-        compare("  parse, measure", call, theirs, &all, 0, rounds);
-        compare("  parse, measure, write", call, theirs, &all, 1 << 18, rounds);
+    for kind in &KINDS {
+        let path = format!("{}/../crates/conformance/data/{}.tsv", env!("CARGO_MANIFEST_DIR"), kind.name);
+        let all = taken_alike(messages(&path), kind.call, kind.theirs);
+        println!("{}: {} messages", kind.name, all.len());
+        compare("  parse, measure", kind.call, kind.theirs, &all, 0, rounds);
+        compare("  parse, measure, write", kind.call, kind.theirs, &all, 1 << 18, rounds);
+        (kind.ways)(&datagram(kind.message_type, &all), all.len(), rounds);
     }
+    let routes = u32::try_from(routes).expect("a count of routes");
+    compare_dump(routes, rounds.min(11));
 }
