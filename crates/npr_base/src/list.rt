@@ -17,6 +17,7 @@ use crate::looks::Looks;
 use crate::refusal::{DecodeError, EmitError};
 use crate::traits::Nla;
 use std::alloc::{AllocError, Global};
+use std::mem;
 
 /// The attributes that the bytes are cut into, in order, each read in the context.
 ///
@@ -73,18 +74,18 @@ pub fn make_room<A: Drop>(found: &mut Vec<A>, len: usize) -> Result<(), AllocErr
 /// `parse_list` into an empty list, whose room is used again.
 ///
 /// # Errors
-/// `OutOfMemory` where memory is refused, and else the first fault in reading order. The attributes
-/// before it stand in the list.
+/// `OutOfMemory` where memory is refused, and else the first fault in reading order. The list is empty
+/// then, and without room.
 pub fn fill_list<A: Attribute>(
-    found: &mut Vec<A>,
+    list: &mut Vec<A>,
     alloc: Global,
     context: A::Context,
     bytes: &[u8],
     looks: &mut Looks,
 ) -> Result<(), DecodeError>
-    requires { found.old.items ≡ [] }
+    requires { list.old.items ≡ [] }
     // What is read is what the bytes mean.
-    ensures ok { IfOk result (λ _. ReadsList (A.reading context).Reads bytes.now (map A.meaning found.new.items)) }
+    ensures ok { IfOk result (λ _. ReadsList (A.reading context).Reads bytes.now (map A.meaning list.new.items)) }
     // A refusal is the first fault.
     ensures refused { IfErr result (λ e. e ≢ OutOfMemory → FirstFault (A.reading context).Reads (A.reading context).Faulty bytes.now e) }
     // Memory is taken behind a first whole attribute alone.
@@ -93,14 +94,17 @@ pub fn fill_list<A: Attribute>(
     ensures exact { Answered result → ListLooks (A.reading context).Reads (A.reading context).Faulty (A.reading context).looks.Takes bytes.now looks.old looks.new }
     // The looks and the attributes passed are together at most what the bytes passed allow.
     ensures walked { Walked bytes.now looks.old looks.new }
-    ensures counted { IfOk result (λ _. SawEach looks.old looks.new (list_members A.writing.members (map A.meaning found.new.items))) }
+    ensures counted { IfOk result (λ _. SawEach looks.old looks.new (list_members A.writing.members (map A.meaning list.new.items))) }
 {
+    // A list of the caller's would be read and written in memory at each attribute.
+    let mut found = mem::replace(list, Vec::new(alloc));
     let mut walk = NlasIterator::new(bytes);
     while let Some(next) = walk.next_counted(looks) {
         let item = next?;
-        make_room(found, bytes.len())?;
-        A::read_onto(found, alloc, context, &item, looks)?;
+        make_room(&mut found, bytes.len())?;
+        A::read_onto(&mut found, alloc, context, &item, looks)?;
     }
+    *list = found;
     Ok(())
 }
 

@@ -63,7 +63,7 @@ fn a_header_comes_first(rt: HostRuntime) {
     same(&rt, short.err(), Some(fault));
 }
 
-/// The list keeps its room, also behind a refusal.
+/// The list keeps its room, and a refusal leaves nothing.
 #[test]
 fn a_message_is_read_into_again(rt: HostRuntime) -> Result<(), Fail> {
     let alloc = rt.alloc();
@@ -73,6 +73,7 @@ fn a_message_is_read_into_again(rt: HostRuntime) -> Result<(), Fail> {
     let room = message.attributes.capacity();
     message.parse_into(alloc, short.as_slice())?;
     holds(&rt, message == RuleMessage::parse(alloc, short.as_slice())?);
+    same(&rt, message.attributes.capacity(), room);
     let fault = DecodeError::HeaderTooShort { got: 3, want: 12 };
     same(
         &rt,
@@ -80,7 +81,6 @@ fn a_message_is_read_into_again(rt: HostRuntime) -> Result<(), Fail> {
         Some(fault),
     );
     holds(&rt, message == RuleMessage::new(alloc));
-    same(&rt, message.attributes.capacity(), room);
     Ok(())
 }
 

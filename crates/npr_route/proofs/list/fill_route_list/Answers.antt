@@ -12,7 +12,7 @@ returns-clause-bounded c =
 
 pub returns-clause-counted : goal.returns-clause-counted
 returns-clause-counted c =
-    saw_if_ok (λ _. map meaning_of c.fill_list.new.found.items) (list_members writing.members) (attributes (c.args.under.0, c.args.under.1, c.governing_type-kind.result)).Reads NoEncapsulation c.args.bytes.now
+    saw_if_ok (λ _. map meaning_of c.fill_list.new.list.items) (list_members writing.members) (attributes (c.args.under.0, c.args.under.1, c.governing_type-kind.result)).Reads NoEncapsulation c.args.bytes.now
     c.governing_type-kind.result c.args.looks.now c.governing_type-kind.new.looks c.fill_list.new.looks c.governing_type-kind.ensures.looks c.fill_list.result c.fill_list.ensures.ok c.fill_list.ensures.counted
 
 pub returns-clause-exact : goal.returns-clause-exact
