@@ -20,7 +20,8 @@ use Rattle.netlink_packet_core.specs.Protocol.{Protocol}
 use Rattle.netlink_packet_route.specs.declared.message.OtherMessage.{OtherMessage}
 use Rattle.netlink_packet_route.specs.declared.message.RouteNetlinkMessage.{RouteNetlinkMessage}
 use Rattle.netlink_packet_route.specs.declared.message.RouteNetlinkMessage.TheVariants.{NewAddress, DelAddress, GetAddress, NewRoute, DelRoute, GetRoute}
-use Rattle.netlink_packet_route.specs.declared.message.RouteNetlinkMessage.TheVariants.{NewNeighbour, DelNeighbour, GetNeighbour, NewRule, DelRule, GetRule, Other}
+use Rattle.netlink_packet_route.specs.declared.message.RouteNetlinkMessage.TheVariants.{NewNeighbour, DelNeighbour, GetNeighbour}
+use Rattle.netlink_packet_route.specs.declared.message.RouteNetlinkMessage.TheVariants.{NewRule, DelRule, GetRule, Other}
 use Rattle.netlink_packet_route.specs.declared.message.Action.{Action}
 use Rattle.netlink_packet_route.specs.declared.message.Action.TheVariants.{New, Del, Get}
 use Rattle.netlink_packet_route.specs.declared.message.MessageType.{MessageType}
