@@ -2,24 +2,10 @@
 #![tactic(auto)]
 
 ghost use Rattle.std.specs.{Prelude.{◌≡◌, IfErr}, Process.{exit_status}};
-ghost use Rattle.nlroute.specs.{Error.{status_of}, declared.error.RunError.TheVariants.{Memory}};
+ghost use Rattle.netlink_report.specs.{Error.{status_of}, declared.error.RunError.TheVariants.{Memory}};
 
-mod command_line;
-mod counted;
-mod error;
-mod hex_text;
-mod input;
-mod output;
-mod report;
-mod run;
-#[cfg(test)]
-mod tests;
-
-use command_line::{USAGE, kind_of};
-use counted::Counted;
-use error::RunError;
 use netlink_packet_route::MessageKind;
-use output::finish;
+use netlink_report::{Counted, RunError, USAGE, finish, kind_of, run};
 use std::process::ExitCode;
 use std::rt::Env;
 use std::{env, io};
@@ -56,7 +42,7 @@ fn words(rt: &(impl Env + AllocGlobal)) -> io::Result<Vec<String>> {
 fn report_on(rt: &HostRuntime, kind: MessageKind) -> ExitCode {
     let mut reader = Counted::new(rt.stdin());
     let mut writer = Counted::new(rt.stdout());
-    let ended = run::run(rt.alloc(), kind, &mut reader, &mut writer);
+    let ended = run(rt.alloc(), kind, &mut reader, &mut writer);
     match ended.and_then(|()| finish(&mut writer)) {
         Ok(()) => ExitCode::SUCCESS,
         Err(fault) => refuse(rt, fault),

@@ -17,7 +17,7 @@ use std::{env, fs, io};
 use stop::Stop;
 
 /// The version, which is the repository's.
-const VERSION: &str = "nlshow 0.4.1";
+const VERSION: &str = "nlshow 0.4.2";
 
 fn main(rt: HostRuntime) -> ExitCode {
     // Also where a word is no UTF-8.

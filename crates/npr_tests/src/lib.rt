@@ -41,6 +41,8 @@ mod one_by_one;
 #[cfg(test)]
 mod own_message;
 #[cfg(test)]
+mod report;
+#[cfg(test)]
 mod route;
 #[cfg(test)]
 mod rtnetlink;

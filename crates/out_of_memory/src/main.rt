@@ -1,7 +1,7 @@
-//! Parses and clones messages of its own, and prints how each call ended: for runs in which a
-//! request for memory is refused from outside.
+//! Parses and clones messages of its own and reads their attributes one after the other, and prints how
+//! each call ended: for runs in which a request for memory is refused from outside.
 //!
-//! `out_of_memory ROW..`: a row is a message, and gives two lines, one for each call.
+//! `out_of_memory ROW..`: a row is a message, and gives three lines, one for each call.
 #![tactic(auto)]
 
 mod rows;
@@ -16,7 +16,7 @@ use rows::{Parsed, Row};
 use std::alloc::Global;
 use std::process::ExitCode;
 use std::{env, io};
-use trial::{Ending, parse_and_clone};
+use trial::{Endings, try_each, try_levels};
 
 const USAGE: &str = "usage: out_of_memory ROW..";
 
@@ -30,8 +30,8 @@ fn main(rt: HostRuntime) -> ExitCode {
             let _ = rt.eprintln(USAGE);
             return ExitCode::from(2);
         };
-        let (parsed, cloned) = tried(rt.alloc(), row);
-        if report(&rt, word.as_str(), parsed, cloned).is_err() {
+        let endings = tried(rt.alloc(), row);
+        if report(&rt, word.as_str(), endings).is_err() {
             return ExitCode::from(5);
         }
     }
@@ -43,31 +43,31 @@ fn arguments(rt: &HostRuntime) -> io::Result<Vec<String>> {
     Ok(words)
 }
 
-/// How parsing and then cloning the row's message ended.
-fn tried(alloc: Global, row: Row) -> (Ending, Ending) {
+/// How each call on the row's message ended.
+fn tried(alloc: Global, row: Row) -> Endings {
     match row.parsed {
         Parsed::Message(kind) => tried_message(alloc, kind, row),
-        Parsed::NextHop => parse_and_clone::<RouteNextHop>(alloc, row.text, row.canonical),
-        Parsed::Levels => trial::parse_and_clone_levels(alloc),
+        Parsed::NextHop => try_each::<RouteNextHop>(alloc, row.text, row.canonical),
+        Parsed::Levels => try_levels(alloc),
     }
 }
 
 /// The same of a message of this kind.
-fn tried_message(alloc: Global, kind: MessageKind, row: Row) -> (Ending, Ending) {
+fn tried_message(alloc: Global, kind: MessageKind, row: Row) -> Endings {
     match kind {
-        MessageKind::Address => parse_and_clone::<AddressMessage>(alloc, row.text, row.canonical),
-        MessageKind::Route => parse_and_clone::<RouteMessage>(alloc, row.text, row.canonical),
-        MessageKind::Rule => parse_and_clone::<RuleMessage>(alloc, row.text, row.canonical),
-        MessageKind::Neighbour => {
-            parse_and_clone::<NeighbourMessage>(alloc, row.text, row.canonical)
-        }
+        MessageKind::Address => try_each::<AddressMessage>(alloc, row.text, row.canonical),
+        MessageKind::Route => try_each::<RouteMessage>(alloc, row.text, row.canonical),
+        MessageKind::Rule => try_each::<RuleMessage>(alloc, row.text, row.canonical),
+        MessageKind::Neighbour => try_each::<NeighbourMessage>(alloc, row.text, row.canonical),
     }
 }
 
-/// Prints both lines without new memory.
-fn report(rt: &HostRuntime, name: &str, parsed: Ending, cloned: Ending) -> io::Result<()> {
-    let parsed = parsed.name();
-    let cloned = cloned.name();
+/// Prints the lines without new memory.
+fn report(rt: &HostRuntime, name: &str, endings: Endings) -> io::Result<()> {
+    let parsed = endings.parsed.name();
+    let cloned = endings.cloned.name();
+    let walked = endings.walked.name();
     rt.println(format_args!("{name} parse: {parsed}"))?;
-    rt.println(format_args!("{name} clone: {cloned}"))
+    rt.println(format_args!("{name} clone: {cloned}"))?;
+    rt.println(format_args!("{name} walk: {walked}"))
 }

@@ -1,4 +1,4 @@
-//! Parsing and cloning one message.
+//! Parsing one message, cloning it, and reading its attributes one after the other.
 
 use hex::decode_to_slice;
 use netlink_packet_route::AddressFamily;
@@ -33,6 +33,17 @@ impl Ending {
     }
 }
 
+/// How each call ended.
+#[derive(Clone, Copy, Debug, PartialEq, Eq)]
+pub struct Endings {
+    /// Parsing.
+    pub parsed: Ending,
+    /// Cloning what was parsed.
+    pub cloned: Ending,
+    /// Reading the attributes one after the other, without a list.
+    pub walked: Ending,
+}
+
 /// A value that is parsed from bytes, and cloned.
 pub trait Sample: Emitable + PartialEq + Drop + Sized {
     /// The value of the bytes.
@@ -46,6 +57,9 @@ pub trait Sample: Emitable + PartialEq + Drop + Sized {
     /// # Errors
     /// `AllocError` where memory is refused.
     fn copy(&self, alloc: Global) -> Result<Self, AllocError>;
+
+    /// How reading its attributes one after the other ends, if it can be read so.
+    fn walk(alloc: Global, bytes: &[u8]) -> Ending;
 }
 
 impl<H: Header + PartialEq> Sample for Message<H, H::Attribute>
@@ -58,6 +72,20 @@ where
 
     fn copy(&self, alloc: Global) -> Result<Self, AllocError> {
         self.clone(alloc)
+    }
+
+    fn walk(alloc: Global, bytes: &[u8]) -> Ending {
+        let Ok(attributes) = Message::<H, H::Attribute>::attributes(alloc, bytes) else {
+            return Ending::Wrong;
+        };
+        for attribute in attributes {
+            match attribute {
+                Ok(_) => {}
+                Err(DecodeError::OutOfMemory) => return Ending::OutOfMemory,
+                Err(_) => return Ending::Wrong,
+            }
+        }
+        Ending::Done
     }
 }
 
@@ -74,18 +102,26 @@ impl Sample for RouteNextHop {
     fn copy(&self, alloc: Global) -> Result<Self, AllocError> {
         self.clone(alloc)
     }
+
+    fn walk(_alloc: Global, _bytes: &[u8]) -> Ending {
+        Ending::NotCalled
+    }
 }
 
 /// The most bytes of a message that stands as text.
 const ROOM: usize = 128;
 
-/// How parsing the bytes of a text and then cloning what was read ended.
-pub fn parse_and_clone<S: Sample>(alloc: Global, text: &str, canonical: &str) -> (Ending, Ending) {
+/// How each call ended on the bytes of a text.
+pub fn try_each<S: Sample>(alloc: Global, text: &str, canonical: &str) -> Endings {
     let mut bytes = [0u8; ROOM];
     let mut wanted = [0u8; ROOM];
     let (Some(bytes), Some(wanted)) = (decoded(text, &mut bytes), decoded(canonical, &mut wanted))
     else {
-        return (Ending::Wrong, Ending::NotCalled);
+        return Endings {
+            parsed: Ending::Wrong,
+            cloned: Ending::NotCalled,
+            walked: Ending::NotCalled,
+        };
     };
     ended::<S>(alloc, bytes, wanted, &mut [0u8; ROOM])
 }
@@ -105,7 +141,7 @@ const LEVELS: u16 = 5_461;
 const LEVELS_ROOM: usize = 65_544;
 
 /// The same of a route of next hops inside next hops.
-pub fn parse_and_clone_levels(alloc: Global) -> (Ending, Ending) {
+pub fn try_levels(alloc: Global) -> Endings {
     let mut bytes = [0u8; LEVELS_ROOM];
     write_levels(&mut bytes);
     ended::<RouteMessage>(alloc, &bytes, &bytes, &mut [0u8; LEVELS_ROOM])
@@ -126,8 +162,18 @@ fn write_levels(bytes: &mut [u8]) {
     }
 }
 
+/// How each call ended on the bytes.
+fn ended<S: Sample>(alloc: Global, bytes: &[u8], canonical: &[u8], room: &mut [u8]) -> Endings {
+    let (parsed, cloned) = parse_and_clone::<S>(alloc, bytes, canonical, room);
+    Endings {
+        parsed,
+        cloned,
+        walked: S::walk(alloc, bytes),
+    }
+}
+
 /// How parsing the bytes and then cloning what was read ended.
-fn ended<S: Sample>(
+fn parse_and_clone<S: Sample>(
     alloc: Global,
     bytes: &[u8],
     canonical: &[u8],

@@ -1,0 +1,45 @@
+-- What a run has read, answered and written.
+use Rattle.std.specs.Prelude.{◌≡◌, ◌≢◌, ℕ, ◌<◌, ◌≤◌, List, length, map, take, Option, Some, None, IfSome}
+use Rattle.std.specs.Io.KnownBytes.{Appends}
+use Rattle.netlink_packet_route.specs.MessageKind.{form_of, kind_name}
+use Rattle.netlink_packet_route.specs.Messages.{Message, IsMessage, MessageFault, message_misfit, spelling}
+use Rattle.netlink_packet_route.specs.declared.MessageKind.{MessageKind}
+use Rattle.netlink_packet_route.specs.declared.framing.DecodeError.{DecodeError}
+use Rattle.netlink_packet_route.specs.declared.framing.DecodeError.TheVariants.{OutOfMemory}
+use Rattle.netlink_packet_route.specs.declared.framing.EmitError.{EmitError}
+use Rattle.netlink_report.specs.HexText.{IsHexText}
+use Rattle.netlink_report.specs.Report.{report}
+
+-- the bytes are a message of this kind that can be written, and the text is the report on it
+unfoldable pub IsReport : MessageKind → List ℕ → List ℕ → Type 0
+IsReport kind bytes text =
+    let f = form_of kind in
+    (m : Message f.Header f.Meaning) × IsMessage f.layout f.body bytes m × (message_misfit f.layout f.writing m ≡ None)
+    × (text ≡ report (kind_name kind) (length bytes) (map f.writing.writes m.attributes) (spelling f.layout f.writing m))
+
+-- the bytes are no message of this kind, and this is their first fault
+unfoldable pub IsRefused : MessageKind → List ℕ → DecodeError → Type 0
+IsRefused kind bytes e = let f = form_of kind in (e ≢ OutOfMemory) × MessageFault f.layout f.body bytes e
+
+-- the bytes are a message of this kind that can't be written, and this is the first cause
+unfoldable pub IsUnfit : MessageKind → List ℕ → EmitError → Type 0
+IsUnfit kind bytes e =
+    let f = form_of kind in
+    (m : Message f.Header f.Meaning) × IsMessage f.layout f.body bytes m × (message_misfit f.layout f.writing m ≡ Some e)
+
+-- the text that was left to read stands for bytes of which this holds
+abbrev pub OfText : Option (List ℕ) → (List ℕ → Type 0) → Type 0
+OfText remaining P = IfSome remaining (λ text. (bytes : List ℕ) × IsHexText text bytes × P bytes)
+
+-- the text stands for a message, and the writer holds the report on it besides
+abbrev pub Reports : MessageKind → Option (List ℕ) → Option (List ℕ) → Option (List ℕ) → Type 0
+Reports kind remaining before after = OfText remaining (λ bytes. (text : List ℕ) × IsReport kind bytes text × Appends before after text)
+
+-- the text stands for a message, and the writer holds a beginning of the report on it besides
+abbrev pub ReportsPart : MessageKind → Option (List ℕ) → Option (List ℕ) → Option (List ℕ) → Type 0
+ReportsPart kind remaining before after = OfText remaining (λ bytes.
+    (text : List ℕ) × IsReport kind bytes text × (n : ℕ) × (n ≤ length text) × Appends before after (take n text))
+
+-- there is something left to read
+abbrev pub SomethingLeft : Option (List ℕ) → Type 0
+SomethingLeft remaining = IfSome remaining (λ left. 0 < length left)

@@ -1,0 +1,20 @@
+//! Reports on a message of rtnetlink that is read as hexadecimal text: what the program `nlroute` does,
+//! over any reader and any writer.
+#![tactic(auto)]
+
+mod command_line;
+mod counted;
+mod error;
+mod hex_text;
+mod input;
+mod output;
+mod report;
+mod running;
+
+pub use command_line::{USAGE, kind_of};
+pub use counted::Counted;
+pub use error::{RunError, law_equality};
+pub use hex_text::bytes_of;
+pub use input::read_all;
+pub use output::{finish, write_text};
+pub use running::run;

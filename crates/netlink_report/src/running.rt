@@ -1,0 +1,125 @@
+//! A run, from the text that is read to the report that is written.
+
+ghost use Rattle.std.specs.{
+  Prelude.{◌≡◌, ◌≢◌, ◌⊎◌, ◌<◌, ◌≤◌, None, Some, length, map, string_bytes, IfOk, IfErr, IfSome, OnOk, OnErr},
+  Io.KnownBytes.{IsAtEnd, Keeps},
+};
+ghost use Rattle.netlink_packet_route.specs.{
+  Family.{first_unfit},
+  MessageKind.{kind_name},
+  Messages.{Message as Meant, IsMessage, MessageFault, message_misfit, spelling, view},
+  declared.framing.DecodeError.{DecodeError},
+  declared.framing.DecodeError.TheVariants.{OutOfMemory},
+  declared.framing.EmitError.{EmitError},
+  declared.framing.Message.{Message},
+};
+ghost use Rattle.netlink_report.specs.{
+  Counted.{raised},
+  Error.{IsOfMessage},
+  HexText.{IsNoHexText},
+  Report.{report},
+  Run.{IsReport, IsRefused, IsUnfit, OfText, Reports, ReportsPart, SomethingLeft},
+  declared.error.RunError.TheVariants.{BadHex, Memory, Refused, Unfit, Read as ReadFailed, Write as WriteFailed},
+};
+
+use crate::counted::Counted;
+use crate::error::RunError;
+use crate::hex_text::bytes_of;
+use crate::input::read_all;
+use crate::output::write_text;
+use crate::report::whole;
+use netlink_packet_route::MessageKind;
+use netlink_packet_route::address::AddressHeader;
+use netlink_packet_route::framing::{Attribute, Emitable, Header, Message, Parseable, to_vec};
+use netlink_packet_route::neighbour::NeighbourHeader;
+use netlink_packet_route::route::RouteHeader;
+use netlink_packet_route::rule::RuleHeader;
+use std::alloc::Global;
+use std::io::{Read, Write};
+
+/// Reads a text from `reader`, and writes the report on its message to `writer`.
+pub fn run<R: Read, W: Write>(
+    alloc: Global,
+    kind: MessageKind,
+    reader: &mut Counted<R>,
+    writer: &mut Counted<W>,
+) -> Result<(), RunError>
+    ensures ok { OnOk result (Reports kind (R.remaining reader.old.inner)
+        (W.contents writer.old.inner) (W.contents writer.new.inner)) }
+    ensures never { result ≢ Err (Refused OutOfMemory) }
+    ensures bad { result ≡ Err BadHex → IfSome (R.remaining reader.old.inner) IsNoHexText }
+    ensures end { result ≢ Err ReadFailed → result ≢ Err Memory → IsAtEnd (R.remaining reader.new.inner) }
+    ensures memory { result ≡ Err Memory → SomethingLeft (R.remaining reader.old.inner) }
+    ensures silent { OnErr result (result ≢ Err WriteFailed
+        → Keeps (W.contents writer.old.inner) (W.contents writer.new.inner)) }
+    ensures part { result ≡ Err WriteFailed → ReportsPart kind (R.remaining reader.old.inner)
+        (W.contents writer.old.inner) (W.contents writer.new.inner) }
+    ensures read { result ≡ Err ReadFailed → reader.new.failures ≡ raised reader.old.failures }
+    ensures read_kept { result ≢ Err ReadFailed → reader.new.failures ≡ reader.old.failures }
+    ensures write { result ≡ Err WriteFailed → writer.new.failures ≡ raised writer.old.failures }
+    ensures write_kept { result ≢ Err WriteFailed → writer.new.failures ≡ writer.old.failures }
+    ensures refused { (e : DecodeError) → result ≡ Err (Refused e) → OfText (R.remaining reader.old.inner) (λ bytes. IsRefused kind bytes e) }
+    ensures unfit { (e : EmitError) → result ≡ Err (Unfit e) → OfText (R.remaining reader.old.inner) (λ bytes. IsUnfit kind bytes e) }
+{
+    let text = read_all(alloc, reader)?;
+    let bytes = bytes_of(alloc, text.as_slice())?;
+    let report = answer(alloc, kind, bytes.as_slice())?;
+    write_text(writer, report.as_str().as_bytes())
+}
+
+/// The report on a message of this kind that the bytes are.
+fn answer(alloc: Global, kind: MessageKind, bytes: &[u8]) -> Result<String, RunError>
+    ensures ok { IfOk result (λ text. IsReport kind bytes.now (string_bytes text)) }
+    ensures refused { (e : DecodeError) → result ≡ Err (Refused e) → IsRefused kind bytes.now e }
+    ensures unfit { (e : EmitError) → result ≡ Err (Unfit e) → IsUnfit kind bytes.now e }
+    ensures memory { result ≡ Err Memory → 0 < length bytes.now }
+    ensures errors { IfErr result IsOfMessage }
+{
+    match kind {
+        MessageKind::Address => answer_by::<AddressHeader>(alloc, MessageKind::Address, bytes),
+        MessageKind::Route => answer_by::<RouteHeader>(alloc, MessageKind::Route, bytes),
+        MessageKind::Rule => answer_by::<RuleHeader>(alloc, MessageKind::Rule, bytes),
+        MessageKind::Neighbour => {
+            answer_by::<NeighbourHeader>(alloc, MessageKind::Neighbour, bytes)
+        }
+    }
+}
+
+/// The report, under the name of this kind, on a message with such a header.
+fn answer_by<H: Header>(alloc: Global, kind: MessageKind, bytes: &[u8]) -> Result<String, RunError>
+    ensures ok { IfOk result (λ text. (m : Message H H.Attribute) × IsMessage H.layout H.body bytes.now (view H.meaning m)
+        × (message_misfit H.layout H.writing (view H.meaning m) ≡ None)
+        × (string_bytes text ≡ report (kind_name kind) (length bytes.now) (map H.Attribute.writing.writes (map H.Attribute.meaning m.attributes.items)) (spelling H.layout H.writing (view H.meaning m)))) }
+    ensures refused { (e : DecodeError) → result ≡ Err (Refused e) → (e ≢ OutOfMemory) × MessageFault H.layout H.body bytes.now e }
+    ensures unfit { (e : EmitError) → result ≡ Err (Unfit e) → (m : Meant H H.Meaning) × IsMessage H.layout H.body bytes.now m × (message_misfit H.layout H.writing m ≡ Some e) }
+    ensures memory { result ≡ Err Memory → H.layout.size ≤ length bytes.now }
+    ensures errors { IfErr result IsOfMessage }
+{
+    let message = Message::<H, H::Attribute>::parse(alloc, bytes)?;
+    let attributes = message.attributes.as_slice();
+    written(alloc, kind, bytes, &message, attributes)
+}
+
+/// The report on a message that was read from these bytes.
+fn written<M: Emitable, A: Attribute>(
+    alloc: Global,
+    kind: MessageKind,
+    bytes: &[u8],
+    message: &M,
+    attributes: &[A],
+) -> Result<String, RunError>
+    requires { M.unfit message.now ≡ None → first_unfit A.writing.misfit (map A.meaning attributes.now) ≡ None }
+    ensures ok { IfOk result (λ text. (M.unfit message.now ≡ None)
+        × (string_bytes text ≡ report (kind_name kind) (length bytes.now) (map A.writing.writes (map A.meaning attributes.now)) (M.bytes message.now))) }
+    ensures unfit { (e : EmitError) → result ≡ Err (Unfit e) → M.unfit message.now ≡ Some e }
+    ensures errors { IfErr result (λ e. (e ≡ Memory) ⊎ ((cause : EmitError) × (e ≡ Unfit cause))) }
+{
+    let canonical = to_vec(alloc, message)?;
+    whole(
+        alloc,
+        kind.name(),
+        bytes.len(),
+        attributes,
+        canonical.as_slice(),
+    )
+}
