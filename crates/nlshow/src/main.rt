@@ -6,15 +6,13 @@ mod hex_line;
 mod reading;
 mod refusal;
 mod session;
-mod stop;
-mod window;
 
+use byte_window::Stop;
 use command_line::{Command, HELP, Request, USAGE, command_of};
 use reading::read_input;
 use session::Session;
 use std::process::ExitCode;
 use std::{env, fs, io};
-use stop::Stop;
 
 /// The version, which is the repository's.
 const VERSION: &str = "nlshow 0.4.2";

@@ -3,8 +3,7 @@
 use crate::hex_line::bytes_of_line;
 use crate::refusal::Refusal;
 use crate::session::{Place, Session};
-use crate::stop::Stop;
-use crate::window::Window;
+use byte_window::{Stop, Window};
 use netlink_packet_core::{NETLINK_HEADER_LEN, NLMSG_ALIGNTO, NetlinkHeader};
 use netlink_packet_route::MessageKind;
 use std::io::Read;

@@ -2,7 +2,7 @@
 
 use crate::command_line::{Form, Options};
 use crate::refusal::Refusal;
-use crate::stop::Stop;
+use byte_window::Stop;
 use netlink_packet_core::{
     NetlinkBuffer, NetlinkHeader, NetlinkInner, NetlinkMessage, NetlinkPayload,
 };

@@ -2,7 +2,7 @@ use Rattle.std.proofs.Common.{◌≡◌, ◌≤◌, ◌+◌, ◌-◌, length, ta
 use lib.Seq.{paste}
 use Rattle.std.proofs.lemmas.List.{with_items_is, places}
 use Rattle.std.proofs.lemmas.List.Edits.{take-paste}
-use Rattle.nlshow.proofs.window.Window.shift.Goals as goal
+use Rattle.byte_window.proofs.window.Window.shift.Goals as goal
 
 pub returns-clause-same : goal.returns-clause-same
 returns-clause-same g c =

@@ -2,8 +2,8 @@
 use Rattle.std.specs.Prelude.{ℕ, List, Option, Some, None, codes}
 use Rattle.std.specs.declared.io.ErrorKind.{ErrorKind}
 use Rattle.std.specs.declared.io.ErrorKind.TheVariants.{BrokenPipe}
-use Rattle.nlshow.specs.declared.stop.Stop.{Stop}
-use Rattle.nlshow.specs.declared.stop.Stop.TheVariants.{Memory, Open, Read, Write, Closed}
+use Rattle.byte_window.specs.declared.stop.Stop.{Stop}
+use Rattle.byte_window.specs.declared.stop.Stop.TheVariants.{Memory, Open, Read, Write, Closed}
 
 -- the status of the process
 abbrev pub status_of : Stop → ℕ

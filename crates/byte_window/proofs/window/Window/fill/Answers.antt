@@ -2,8 +2,8 @@ use Rattle.std.proofs.Common.{◌≡◌, ◌≤◌, ◌+◌, ◌-◌, ◌++◌, 
 use borrow.Rule.Slice.PartMut.{post_of}
 use Rattle.std.proofs.lemmas.List.{with_items_is, places, take-append-le}
 use Rattle.std.proofs.Math.Seq.{take-append-add}
-use Rattle.nlshow.specs.Window.{between}
-use Rattle.nlshow.proofs.window.Window.fill.Goals as goal
+use Rattle.byte_window.specs.Window.{between}
+use Rattle.byte_window.proofs.window.Window.fill.Goals as goal
 
 pub returns-in-Ok-clause-more : goal.returns-in-Ok-clause-more
 returns-in-Ok-clause-more g c =

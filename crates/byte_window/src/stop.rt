@@ -2,7 +2,7 @@
 
 ghost use Rattle.std.specs.Prelude.{◌≡◌, option_map};
 ghost use Rattle.std.specs.IoError.{error_kind};
-ghost use Rattle.nlshow.specs.{
+ghost use Rattle.byte_window.specs.{
   declared.stop.Stop.TheVariants.{Memory},
   Stop.{line_of, status_of, unwritten},
 };

@@ -4,7 +4,7 @@ ghost use Rattle.std.specs.{
   Prelude.{◌≡◌, ◌≤◌, ◌++◌, ◌+◌, ◌-◌, ◌^◌, ◌==◌, ℕ, List, IfOk, IfErr, drop, min, vec_len},
   Io.KnownBytes.{Consumes},
 };
-ghost use Rattle.nlshow.specs.{
+ghost use Rattle.byte_window.specs.{
   declared.stop.Stop.TheVariants.{Read as ReadFailed},
   Window.{between},
 };
