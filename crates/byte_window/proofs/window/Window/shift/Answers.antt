@@ -1,4 +1,4 @@
-use Rattle.std.proofs.Common.{◌≡◌, ◌≤◌, ◌+◌, ◌-◌, length, take, drop, vec_len, ap, ◌∙◌, arith, rules, length-drop, take_all}
+use Rattle.std.proofs.Common.{◌≡◌, ◌≤◌, ◌+◌, ◌-◌, length, take, drop, vec_len, ap, ◌∙◌, arith, rules, length-drop}
 use lib.Seq.{paste}
 use Rattle.std.proofs.lemmas.List.{with_items_is, places}
 use Rattle.std.proofs.lemmas.List.Edits.{take-paste}
