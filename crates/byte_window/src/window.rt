@@ -1,7 +1,7 @@
 //! A reader through a window of fixed length, so that memory does not grow with the input.
 
 ghost use Rattle.std.specs.{
-  Prelude.{◌≡◌, ◌≤◌, ◌++◌, ◌+◌, ◌-◌, ◌^◌, ◌==◌, ℕ, List, IfOk, IfErr, drop, min, vec_len},
+  Prelude.{◌≡◌, ◌≤◌, ◌++◌, ◌+◌, ◌-◌, ◌^◌, ◌==◌, ℕ, List, [], IfOk, IfErr, drop, min, vec_len},
   Io.KnownBytes.{Consumes},
 };
 ghost use Rattle.byte_window.specs.{
@@ -26,8 +26,14 @@ pub struct Window<R> {
 }
 
 impl<R: Read + Drop> Window<R> {
-    /// A window of this length before the reader.
-    pub fn new(alloc: Global, reader: R, length: usize) -> Result<Window<R>, AllocError> {
+    /// A window of this length before the reader, which holds nothing yet.
+    ///
+    /// # Errors
+    /// `AllocError` where memory is refused.
+    pub fn new(alloc: Global, reader: R, length: usize) -> Result<Window<R>, AllocError>
+        ensures empty { IfOk result (λ window. between window.room.items window.start window.end ≡ []) }
+        ensures fresh { IfOk result (λ window. (window.reader ≡ reader) × (window.passed ≡ 0) × (vec_len window.room ≡ length)) }
+    {
         let room = vec![in alloc; 0u8; length]?;
         Ok(Window {
             reader,
