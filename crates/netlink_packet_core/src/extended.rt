@@ -1,7 +1,6 @@
 //! The attributes of an extended answer: `NLMSGERR_ATTR_*` of `linux/netlink.h`.
 
 ghost use Rattle.std.specs.Prelude.{◌≡◌, ◌<◌, ◌^◌, length, option_map, refl};
-ghost use Rattle.npr_base.specs.Table.{shape_by};
 ghost use Rattle.netlink_packet_core.specs.Extended.{Meaning, meaning_of, writing, attributes, has_flag, refused_length, refused_message, error_attributes, done_attributes, IsFirstText};
 ghost use Rattle.npr_base.specs.NameLaws.{IsUnterminated};
 
@@ -51,7 +50,7 @@ macro_rules! rows {
 const FAMILY: AttrFamily = AttrFamily::Value;
 
 impl Nla for ErrorAttribute {
-    ghost shape = { λ a. shape_by writing (meaning_of a) };
+    ghost shape = { λ a. writing.shape (meaning_of a) };
 
     fn kind(&self) -> u16 {
         rows!(kind_rows(self))
@@ -61,14 +60,8 @@ impl Nla for ErrorAttribute {
         false
     }
 
-    fn check(&self) -> Result<usize, EmitError> {
-        self.check_len(self.value_len())
-    }
-
-    fn value_len(&self) -> usize
-        ensures { result ≡ length (writing.writes (meaning_of self.now)).value }
-    {
-        rows!(len_rows(self))
+    fn check_value(&self) -> Result<usize, EmitError> {
+        Ok(rows!(len_rows(self)))
     }
 
     fn write_value(&self, out: &mut [u8]) -> usize {
@@ -87,9 +80,7 @@ impl Attribute for ErrorAttribute {
 
     ghost reading = { λ _. attributes };
 
-    ghost item_is = { λ a. refl };
-
-    ghost misfit_is = { λ a. refl };
+    ghost shape_is = { λ a. refl };
 
     fn read(
         alloc: Global,

@@ -79,10 +79,6 @@ impl Emitable for NetlinkHeader {
         Ok(NETLINK_HEADER_LEN)
     }
 
-    fn buffer_len(&self) -> usize {
-        NETLINK_HEADER_LEN
-    }
-
     fn emit(&self, out: &mut [u8]) {
         write_array(self.to_bytes(), out);
     }

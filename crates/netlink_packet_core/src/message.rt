@@ -131,10 +131,6 @@ impl<I: NetlinkInner> Emitable for NetlinkMessage<I> {
         framed_len(self.payload.check()?)
     }
 
-    fn buffer_len(&self) -> usize {
-        (NETLINK_HEADER_LEN + self.payload.buffer_len()).next_multiple_of(NLMSG_ALIGNTO)
-    }
-
     fn emit(&self, out: &mut [u8]) {
         let len = self.payload.buffer_len();
         let size = NETLINK_HEADER_LEN + len;

@@ -114,11 +114,7 @@ impl Emitable for ErrorMessage {
     ghost unfit = { λ _. None };
 
     fn check(&self) -> Result<usize, EmitError> {
-        Ok(self.buffer_len())
-    }
-
-    fn buffer_len(&self) -> usize {
-        4 + self.header.len()
+        Ok(4 + self.header.len())
     }
 
     fn emit(&self, out: &mut [u8]) {
@@ -162,11 +158,7 @@ impl Emitable for DoneMessage {
     ghost unfit = { λ _. None };
 
     fn check(&self) -> Result<usize, EmitError> {
-        Ok(self.buffer_len())
-    }
-
-    fn buffer_len(&self) -> usize {
-        4 + self.extended_ack.len()
+        Ok(4 + self.extended_ack.len())
     }
 
     fn emit(&self, out: &mut [u8]) {
@@ -264,16 +256,6 @@ impl<I: NetlinkInner> Emitable for NetlinkPayload<I> {
             NetlinkPayload::Noop => Ok(0),
             NetlinkPayload::Overrun(bytes) => Ok(bytes.len()),
             NetlinkPayload::InnerMessage(m) => m.check(),
-        }
-    }
-
-    fn buffer_len(&self) -> usize {
-        match self {
-            NetlinkPayload::Done(m) => m.buffer_len(),
-            NetlinkPayload::Error(m) => m.buffer_len(),
-            NetlinkPayload::Noop => 0,
-            NetlinkPayload::Overrun(bytes) => bytes.len(),
-            NetlinkPayload::InnerMessage(m) => m.buffer_len(),
         }
     }
 

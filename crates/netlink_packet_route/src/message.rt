@@ -253,10 +253,6 @@ impl Emitable for RouteNetlinkMessage {
         types!(each(self; m => m.check(); other => Ok(other.payload.len())))
     }
 
-    fn buffer_len(&self) -> usize {
-        types!(each(self; m => m.buffer_len(); other => other.payload.len()))
-    }
-
     fn emit(&self, out: &mut [u8]) {
         types!(each(self; m => m.emit(out); other => {
             write_bytes(other.payload.as_slice(), out);

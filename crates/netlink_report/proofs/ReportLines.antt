@@ -4,7 +4,7 @@ use Rattle.std.proofs.lemmas.List.{take_more, drop_more, map_push}
 use Rattle.netlink_packet_route.specs.declared.framing.EmitError.{EmitError}
 use Rattle.netlink_packet_route.specs.Framing.{Item}
 use Rattle.netlink_packet_route.specs.Family.{first_unfit}
-use Rattle.netlink_packet_route.specs.ListLaws.{none_both}
+use Rattle.netlink_packet_route.specs.FitLaws.{none_both}
 use Rattle.netlink_report.specs.Report.{line_text, lines_text}
 
 lines_text-append : (xs : List Item) (x : Item) → lines_text (xs ++ x ∷ []) ≡ lines_text xs ++ line_text x.kind (length x.value)

@@ -1,6 +1,7 @@
 -- What a run has read, answered and written.
 use Rattle.std.specs.Prelude.{◌≡◌, ◌≢◌, ℕ, ◌<◌, ◌≤◌, List, length, map, take, Option, Some, None, IfSome}
 use Rattle.std.specs.Io.KnownBytes.{Appends}
+use Rattle.netlink_packet_route.specs.Table.{written_by}
 use Rattle.netlink_packet_route.specs.MessageKind.{form_of, kind_name}
 use Rattle.netlink_packet_route.specs.Messages.{Message, IsMessage, MessageFault, message_misfit, spelling}
 use Rattle.netlink_packet_route.specs.declared.MessageKind.{MessageKind}
@@ -15,7 +16,7 @@ unfoldable pub IsReport : MessageKind → List ℕ → List ℕ → Type 0
 IsReport kind bytes text =
     let f = form_of kind in
     (m : Message f.Header f.Meaning) × IsMessage f.layout f.body bytes m × (message_misfit f.layout f.writing m ≡ None)
-    × (text ≡ report (kind_name kind) (length bytes) (map f.writing.writes m.attributes) (spelling f.layout f.writing m))
+    × (text ≡ report (kind_name kind) (length bytes) (map (written_by f.writing) m.attributes) (spelling f.layout f.writing m))
 
 -- the bytes are no message of this kind, and this is their first fault
 unfoldable pub IsRefused : MessageKind → List ℕ → DecodeError → Type 0

@@ -5,7 +5,7 @@ use crate::encap_fields::push_encap;
 use crate::field::{Fields, Word, joined};
 use crate::metric_fields::push_metrics;
 use crate::names::{IP_PROTOCOLS, PREFERENCES, REALMS, TABLES};
-use netlink_packet_route::framing::Nla;
+use netlink_packet_route::framing::{Emitable, Nla};
 use netlink_packet_route::route::{
     MplsLabel, RouteAddress, RouteAttribute, RouteCacheInfo, RouteHeader, RouteLwEnCapType,
     RouteLwTunnelEncap, RouteMetric, RouteMfcStats, RouteMplsTtlPropagation, RouteRealm, RouteVia,

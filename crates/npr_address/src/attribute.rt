@@ -1,7 +1,6 @@
 //! The attributes of an address message: `IFA_*` of `linux/if_addr.h`.
 
-ghost use Rattle.std.specs.Prelude.{◌≡◌, ◌≢◌, ◌<◌, ◌+◌, ◌*◌, length, IfOk, IfErr};
-ghost use Rattle.npr_base.specs.Table.{shape_by};
+ghost use Rattle.std.specs.Prelude.{◌≡◌, ◌≢◌, ◌<◌, ◌*◌, IfOk, IfErr};
 ghost use Rattle.std.proofs.Common.{refl};
 ghost use Rattle.npr_base.specs.declared.refusal.DecodeError.TheVariants.{OutOfMemory};
 ghost use Rattle.npr_address.specs.{
@@ -81,7 +80,7 @@ impl AddressAttribute {
 const FAMILY: AttrFamily = AttrFamily::Address;
 
 impl Nla for AddressAttribute {
-    ghost shape = { λ a. shape_by writing (meaning_of a) };
+    ghost shape = { λ a. writing.shape (meaning_of a) };
 
     fn kind(&self) -> u16 {
         rows!(kind_rows(self))
@@ -91,14 +90,8 @@ impl Nla for AddressAttribute {
         false
     }
 
-    fn check(&self) -> Result<usize, EmitError> {
-        self.check_len(self.value_len())
-    }
-
-    fn value_len(&self) -> usize
-        ensures { result ≡ length (writing.writes (meaning_of self.now)).value }
-    {
-        rows!(len_rows(self))
+    fn check_value(&self) -> Result<usize, EmitError> {
+        Ok(rows!(len_rows(self)))
     }
 
     fn write_value(&self, out: &mut [u8]) -> usize {
@@ -130,9 +123,7 @@ impl Attribute for AddressAttribute {
 
     ghost reading = { λ _. attributes };
 
-    ghost item_is = { λ a. refl };
-
-    ghost misfit_is = { λ a. refl };
+    ghost shape_is = { λ a. refl };
 
     fn read(
         alloc: Global,

@@ -75,10 +75,6 @@ impl Emitable for CacheInfo {
         Ok(16)
     }
 
-    fn buffer_len(&self) -> usize {
-        16
-    }
-
     fn emit(&self, out: &mut [u8]) {
         write_array(self.to_bytes(), out);
     }

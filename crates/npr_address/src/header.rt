@@ -127,10 +127,6 @@ impl Emitable for AddressHeader {
         Ok(8)
     }
 
-    fn buffer_len(&self) -> usize {
-        8
-    }
-
     #[inline(never)]
     fn emit(&self, out: &mut [u8]) {
         write_array(AddressMessageBuffer::from(self).to_bytes(), out);

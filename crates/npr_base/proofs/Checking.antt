@@ -3,7 +3,7 @@ use Rattle.std.proofs.Common.{◌≡◌, ℕ, ◌+◌, ◌<◌, ◌≤◌, Optio
 use Rattle.npr_base.specs.Framing.{Item, encoding}
 use Rattle.std.proofs.lemmas.List.{append-nil, take_more, drop_more, take-append-drop}
 use Rattle.npr_base.specs.declared.refusal.EmitError.{EmitError}
-use Rattle.npr_base.specs.ListLaws.{none_both}
+use Rattle.npr_base.specs.FitLaws.{none_both}
 use Rattle.npr_base.specs.Family.{encodings, first_unfit, option_or, checked, overlong, list_unfit}
 
 pub none_first : {A : Type 0} (o p : Option A) → option_or o p ≡ None → o ≡ None

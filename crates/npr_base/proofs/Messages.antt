@@ -8,7 +8,8 @@ use Rattle.npr_base.specs.declared.refusal.DecodeError.TheVariants.{OutOfMemory}
 use Rattle.npr_base.specs.Counts.{Counts, no_looks}
 use Rattle.npr_base.specs.Framing.{IsBytes}
 use Rattle.npr_base.specs.Family.{first_unfit, overlong, encodings}
-use Rattle.npr_base.specs.ListLaws.{none_both, IsBytes-left, IsBytes-right}
+use Rattle.npr_base.specs.FitLaws.{none_both}
+use Rattle.npr_base.specs.ListLaws.{IsBytes-left, IsBytes-right}
 use Rattle.npr_base.specs.Layout.{Layout}
 use Rattle.npr_base.specs.Looks.{Adds}
 use Rattle.npr_base.specs.LooksLaws.{raised-none}
@@ -17,7 +18,7 @@ use Rattle.npr_base.specs.declared.message.Message.{Message as Stored}
 use Rattle.npr_base.specs.Equality.{IsEquality, IsEqualityOf}
 use Rattle.npr_base.specs.MeaningLaws.{items_meaning}
 use Rattle.npr_base.specs.StructLaws.{and_decides, decides_as}
-use Rattle.npr_base.specs.Table.{Writing}
+use Rattle.npr_base.specs.Table.{Writing, written_by, unfit_by}
 
 same_message : {H M : Type 0} (m : Message H M) (h : H) (xs : List M) → m.header ≡ h → m.attributes ≡ xs → m ≡ record { header = h; attributes = xs }
 same_message {H} {M} m h xs p q = ap (λ (k : H). record { header = k; attributes = m.attributes }) p ∙ ap (λ (ys : List M). record { header = h; attributes = ys }) q
@@ -103,11 +104,11 @@ module _ {H M : Type 0} {w : Writing M} (L : Layout H) (B : Body H w) where
   unfolding IsMessage IsCoherent spelling message_misfit
   message-back m c fits = record {
     front = L.encode m.header;
-    rest = encodings w.writes m.attributes;
+    rest = encodings (written_by w) m.attributes;
     is = refl;
     size = L.length-encode m.header c.header;
     header = sym (L.decode-encode m.header c.header);
-    attributes = B.reads_back m.header m.attributes c.attributes (none_both (first_unfit w.misfit m.attributes) (overlong (length (spelling L w m))) fits).0;
+    attributes = B.reads_back m.header m.attributes c.attributes (none_both (first_unfit (unfit_by w) m.attributes) (overlong (length (spelling L w m))) fits).0;
   }
 
   pub message-canonical : (m n : Message H M) → IsCoherent L B m → message_misfit L w m ≡ None → IsCoherent L B n → message_misfit L w n ≡ None → spelling L w m ≡ spelling L w n → m ≡ n
@@ -118,7 +119,7 @@ module _ {H M : Type 0} {w : Writing M} (L : Layout H) (B : Body H w) where
   message-grows bytes m fits p =
       let all : IsBytes (p.front ++ p.rest) = subst IsBytes p.is fits in
       let c = message-coherent bytes m fits p in
-      omega (arith, B.grows m.header p.rest m.attributes (IsBytes-right p.front p.rest all) p.attributes, L.length-encode m.header c.header, length-append (L.encode m.header) (encodings w.writes m.attributes), ap length p.is, length-append p.front p.rest, p.size)
+      omega (arith, B.grows m.header p.rest m.attributes (IsBytes-right p.front p.rest all) p.attributes, L.length-encode m.header c.header, length-append (L.encode m.header) (encodings (written_by w) m.attributes), ap length p.is, length-append p.front p.rest, p.size)
 
   -- ---- of an answer
 
@@ -153,9 +154,9 @@ module _ {H M : Type 0} {w : Writing M} (L : Layout H) (B : Body H w) where
   -- ---- what a message has in it
 
   -- where it can be written, its attributes can be
-  pub attributes_fit : (m : Message H M) → message_misfit L w m ≡ None → first_unfit w.misfit m.attributes ≡ None
+  pub attributes_fit : (m : Message H M) → message_misfit L w m ≡ None → first_unfit (unfit_by w) m.attributes ≡ None
   unfolding message_misfit
-  attributes_fit m fits = (none_both (first_unfit w.misfit m.attributes) (overlong (length (spelling L w m))) fits).0
+  attributes_fit m fits = (none_both (first_unfit (unfit_by w) m.attributes) (overlong (length (spelling L w m))) fits).0
 
   -- the bytes that it is read of have a header
   pub has_header : (bytes : List ℕ) (m : Message H M) → IsMessage L B bytes m → L.size ≤ length bytes

@@ -3,12 +3,11 @@
 --     AreBlocks        the bytes are blocks of these values, and what is left has no room for one more
 --     block_bytes      what is written: the blocks, joined
 --     blocks           how such values are read and written, with the laws of both; it refuses no bytes
-use Rattle.std.specs.Prelude.{◌≡◌, ℕ, ◌+◌, ◌*◌, ◌<◌, ◌≤◌, List, [], ◌∷◌, ◌++◌, length, take, drop}
+use Rattle.std.specs.Prelude.{◌≡◌, ℕ, ◌+◌, ◌*◌, ◌<◌, ◌≤◌, List, [], ◌∷◌, ◌++◌, length, take, drop, None}
 use Rattle.std.proofs.Common.{refl, sym, ap, subst, ◌∙◌, arith, length-append, length-take, length-drop}
 use Rattle.std.proofs.lemmas.List.{take_at, drop_at, take-append-drop}
 use Rattle.npr_base.specs.Framing.{IsBytes, framed}
-use Rattle.npr_base.specs.Family.{AllOf, too_long}
-use Rattle.npr_base.specs.FitLaws.{too_long-short}
+use Rattle.npr_base.specs.Family.{AllOf}
 use Rattle.npr_base.specs.ListLaws.{IsBytes-take, IsBytes-right}
 use Rattle.npr_base.specs.CodecLaws.{framed-grows}
 use Rattle.npr_base.specs.Layout.{Layout}
@@ -79,13 +78,12 @@ blocks L positive = record {
   Reads = AreBlocks L;
   Wrong = λ at bytes e. ⊥;
   writes = block_bytes L;
-  misfit = λ kind xs. too_long kind (length (block_bytes L xs));
+  inside = λ kind xs. None;
   Holds = AllOf L.Holds;
   members = λ xs. 0;
   one_reading = blocks-one L;
   no_fault = λ at bytes xs e p q. q;
   reads_holds = blocks-hold L;
-  fits_short = λ kind xs h. too_long-short kind (length (block_bytes L xs)) h;
   reads_back = λ kind xs all fits. blocks-back L positive xs all;
   grows = blocks-grow L;
 }

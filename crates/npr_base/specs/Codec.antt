@@ -5,8 +5,6 @@ use Rattle.npr_base.specs.declared.refusal.DecodeError.{DecodeError}
 use Rattle.npr_base.specs.declared.refusal.DecodeError.TheVariants.{ValueLength, HeaderTooShort}
 use Rattle.npr_base.specs.declared.refusal.EmitError.{EmitError}
 use Rattle.npr_base.specs.Framing.{IsBytes, framed}
-use Rattle.npr_base.specs.Family.{too_long}
-use Rattle.npr_base.specs.FitLaws.{too_long-short}
 use Rattle.npr_base.specs.Layout.{Layout}
 use Rattle.npr_base.specs.CodecLaws.{exactly-one, exactly-sound, exactly-holds, exactly-back, exactly-grows}
 use Rattle.npr_base.specs.CodecLaws.{leading-one, leading-sound, leading-holds, leading-back, leading-grows}
@@ -20,8 +18,8 @@ pub record Codec (V : Type 0) : Type 1 where
   pub Wrong : At → List ℕ → DecodeError → Type 0
   -- the bytes that are written
   pub writes : V → List ℕ
-  -- why it can't be written under a kind, if so
-  pub misfit : ℕ → V → Option EmitError
+  -- why it can't be written under a kind, if so, be its length or not
+  pub inside : ℕ → V → Option EmitError
   -- what can be read
   pub Holds : V → Type 0
   -- the members inside it
@@ -30,8 +28,7 @@ pub record Codec (V : Type 0) : Type 1 where
   pub one_reading : (bytes : List ℕ) (x y : V) → Reads bytes x → Reads bytes y → x ≡ y
   pub no_fault : (at : At) (bytes : List ℕ) (x : V) (e : DecodeError) → Reads bytes x → Wrong at bytes e → ⊥
   pub reads_holds : (bytes : List ℕ) (x : V) → IsBytes bytes → Reads bytes x → Holds x
-  pub fits_short : (kind : ℕ) (x : V) → misfit kind x ≡ None → length (writes x) ≤ 65531
-  pub reads_back : (kind : ℕ) (x : V) → Holds x → misfit kind x ≡ None → Reads (writes x) x
+  pub reads_back : (kind : ℕ) (x : V) → Holds x → inside kind x ≡ None → Reads (writes x) x
   pub grows : (bytes : List ℕ) (x : V) → IsBytes bytes → Reads bytes x → 2 * framed (length (writes x)) ≤ 5 * (4 + length bytes)
 
 -- a value of exactly the layout's size
@@ -40,14 +37,13 @@ exactly L = record {
   Reads = λ bytes x. (length bytes ≡ L.size) × (x ≡ L.decode bytes);
   Wrong = λ at bytes e. (length bytes ≢ L.size) × (e ≡ ValueLength at (length bytes));
   writes = L.encode;
-  misfit = λ kind x. too_long kind (length (L.encode x));
+  inside = λ kind x. None;
   Holds = L.Holds;
   members = λ x. 0;
   one_reading = exactly-one L;
   no_fault = exactly-sound L;
   reads_holds = exactly-holds L;
-  fits_short = λ kind x h. too_long-short kind (length (L.encode x)) h;
-  reads_back = exactly-back L;
+  reads_back = λ kind x h fits. exactly-back L x h;
   grows = exactly-grows L;
 }
 
@@ -57,14 +53,13 @@ leading L = record {
   Reads = λ bytes x. (L.size ≤ length bytes) × (x ≡ L.decode (take L.size bytes));
   Wrong = λ at bytes e. (length bytes < L.size) × (e ≡ HeaderTooShort (length bytes) L.size);
   writes = L.encode;
-  misfit = λ kind x. too_long kind (length (L.encode x));
+  inside = λ kind x. None;
   Holds = L.Holds;
   members = λ x. 0;
   one_reading = leading-one L;
   no_fault = leading-sound L;
   reads_holds = leading-holds L;
-  fits_short = λ kind x h. too_long-short kind (length (L.encode x)) h;
-  reads_back = leading-back L;
+  reads_back = λ kind x h fits. leading-back L x h;
   grows = leading-grows L;
 }
 
@@ -74,13 +69,12 @@ raw = record {
   Reads = λ bytes x. x ≡ bytes;
   Wrong = λ at bytes e. ⊥;
   writes = λ x. x;
-  misfit = λ kind x. too_long kind (length x);
+  inside = λ kind x. None;
   Holds = IsBytes;
   members = λ x. 0;
   one_reading = λ bytes x y p q. p ∙ sym q;
   no_fault = λ at bytes x e p q. q;
   reads_holds = λ bytes x is p. subst IsBytes (sym p) is;
-  fits_short = λ kind x h. too_long-short kind (length x) h;
   reads_back = λ kind x h f. refl;
   grows = raw-grows;
 }

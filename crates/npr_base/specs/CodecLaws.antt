@@ -1,12 +1,11 @@
 -- The laws of values of fixed size and of bytes as they stand.
-use Rattle.std.specs.Prelude.{◌≢◌, None}
+use Rattle.std.specs.Prelude.{◌≢◌}
 use Rattle.std.proofs.Common.{◌≡◌, ℕ, ◌+◌, ◌*◌, ◌<◌, ◌≤◌, List, length, take, sym, ap, subst, ◌∙◌, arith, length-take}
 use Rattle.std.proofs.lemmas.List.{take_all}
 use Rattle.npr_base.specs.declared.refusal.At.{At}
 use Rattle.npr_base.specs.declared.refusal.DecodeError.{DecodeError}
 use Rattle.npr_base.specs.declared.refusal.DecodeError.TheVariants.{ValueLength, HeaderTooShort}
 use Rattle.npr_base.specs.Framing.{IsBytes, framed}
-use Rattle.npr_base.specs.Family.{too_long}
 use Rattle.npr_base.specs.Layout.{Layout}
 use Rattle.npr_base.specs.ListLaws.{IsBytes-take}
 
@@ -25,8 +24,8 @@ module _ {V : Type 0} (L : Layout V) where
   pub exactly-holds : (bytes : List ℕ) (x : V) → IsBytes bytes → (length bytes ≡ L.size) × (x ≡ L.decode bytes) → L.Holds x
   exactly-holds bytes x is p = subst L.Holds (sym p.1) (L.Holds-decode bytes is p.0)
 
-  pub exactly-back : (kind : ℕ) (x : V) → L.Holds x → too_long kind (length (L.encode x)) ≡ None → (length (L.encode x) ≡ L.size) × (x ≡ L.decode (L.encode x))
-  exactly-back kind x h fits = (L.length-encode x h, sym (L.decode-encode x h))
+  pub exactly-back : (x : V) → L.Holds x → (length (L.encode x) ≡ L.size) × (x ≡ L.decode (L.encode x))
+  exactly-back x h = (L.length-encode x h, sym (L.decode-encode x h))
 
   pub exactly-grows : (bytes : List ℕ) (x : V) → IsBytes bytes → (length bytes ≡ L.size) × (x ≡ L.decode bytes)
       → 2 * framed (length (L.encode x)) ≤ 5 * (4 + length bytes)
@@ -44,9 +43,8 @@ module _ {V : Type 0} (L : Layout V) where
   leading-holds bytes x is p =
       subst L.Holds (sym p.1) (L.Holds-decode (take L.size bytes) (IsBytes-take L.size bytes is) (omega (arith, p.0, length-take L.size bytes)))
 
-  pub leading-back : (kind : ℕ) (x : V) → L.Holds x → too_long kind (length (L.encode x)) ≡ None
-      → (L.size ≤ length (L.encode x)) × (x ≡ L.decode (take L.size (L.encode x)))
-  leading-back kind x h fits =
+  pub leading-back : (x : V) → L.Holds x → (L.size ≤ length (L.encode x)) × (x ≡ L.decode (take L.size (L.encode x)))
+  leading-back x h =
       let len = L.length-encode x h in
       (omega (arith, len), sym (ap L.decode (take_all L.size (L.encode x) (omega (arith, len))) ∙ L.decode-encode x h))
 

@@ -4,9 +4,6 @@ use Rattle.std.proofs.Common.{refl, arith}
 use Rattle.npr_base.specs.Framing.{framed}
 use Rattle.npr_base.specs.Codec.{Codec}
 
-pub dropped-short : 0 ≤ 65531
-dropped-short = omega arith
-
 pub dropped-grows : (bytes : List ℕ) → 2 * framed 0 ≤ 5 * (4 + length bytes)
 dropped-grows bytes = omega arith
 
@@ -15,13 +12,12 @@ dropped = record {
   Reads = λ bytes x. Unit {0};
   Wrong = λ at bytes e. ⊥;
   writes = λ x. [];
-  misfit = λ kind x. None;
+  inside = λ kind x. None;
   Holds = λ x. Unit {0};
   members = λ x. 0;
   one_reading = λ bytes x y p q. refl;
   no_fault = λ at bytes x e p q. q;
   reads_holds = λ bytes x is p. tt;
-  fits_short = λ kind x h. dropped-short;
   reads_back = λ kind x h f. tt;
   grows = λ bytes x is p. dropped-grows bytes;
 }

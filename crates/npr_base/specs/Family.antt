@@ -31,6 +31,10 @@ short_framed len = if is_short len then Some (framed len) else None
 abbrev pub too_long : ℕ → ℕ → Option EmitError
 too_long kind len = if is_short len then None else if nat_lt len (2 ^ 64) then Some (TooLong kind len) else Some Total
 
+-- why an attribute can't be written, if so: the cause inside it, or its length
+abbrev pub misfit_of : Option EmitError → Item → Option EmitError
+misfit_of inside x = option_or inside (too_long x.kind (length x.value))
+
 -- place by place
 abbrev pub Each : {A B : Type 0} → (A → B → Type 0) → List A → List B → Type 0
 Each R [] [] = Unit {0}

@@ -1,5 +1,5 @@
 -- Addresses as values: four bytes or sixteen, whatever the family of the message.
-use Rattle.std.specs.Prelude.{◌≡◌, ◌≢◌, ℕ, ◌+◌, ◌*◌, ◌≤◌, List, length}
+use Rattle.std.specs.Prelude.{◌≡◌, ◌≢◌, ℕ, ◌+◌, ◌*◌, ◌≤◌, List, length, None}
 use Rattle.std.proofs.Common.{refl, sym, ap, subst, ◌∙◌, arith}
 use Rattle.npr_base.specs.declared.refusal.At.{At}
 use Rattle.npr_base.specs.declared.refusal.DecodeError.{DecodeError}
@@ -7,8 +7,6 @@ use Rattle.npr_base.specs.declared.refusal.DecodeError.TheVariants.{ValueLength}
 use Rattle.npr_base.specs.declared.ip.IpAddr.{IpAddr}
 use Rattle.npr_base.specs.declared.ip.IpAddr.TheVariants.{V4, V6}
 use Rattle.npr_base.specs.Framing.{IsBytes, framed}
-use Rattle.npr_base.specs.Family.{too_long}
-use Rattle.npr_base.specs.FitLaws.{too_long-short}
 use Rattle.npr_base.specs.CodecLaws.{framed-grows}
 use Rattle.npr_base.specs.Ip.{octets_of}
 use Rattle.npr_base.specs.Codec.{Codec}
@@ -50,13 +48,12 @@ ip = record {
   Reads = IsIp;
   Wrong = λ at bytes e. (length bytes ≢ 4) × (length bytes ≢ 16) × (e ≡ ValueLength at (length bytes));
   writes = octets_of;
-  misfit = λ kind a. too_long kind (length (octets_of a));
+  inside = λ kind a. None;
   Holds = HoldsIp;
   members = λ a. 0;
   one_reading = ip-one;
   no_fault = ip-sound;
   reads_holds = ip-holds;
-  fits_short = λ kind a h. too_long-short kind (length (octets_of a)) h;
   reads_back = λ kind a h f. ip-back a h;
   grows = λ bytes a is p. ip-grows bytes a p;
 }

@@ -9,11 +9,8 @@ use Rattle.npr_base.specs.declared.refusal.DecodeError.TheVariants.{OutOfMemory}
 use Rattle.npr_base.specs.declared.refusal.EmitError.{EmitError}
 use Rattle.npr_base.specs.Framing.{Item, Small, Proper, IsBytes, Front, Passes, text, pad, encoding, framed}
 use Rattle.npr_base.specs.Family.{Each, AllOf, ReadsList, IsWrong, FirstFault, encodings, first_unfit, option_or}
+use Rattle.npr_base.specs.FitLaws.{none_both}
 use Rattle.npr_base.specs.FrontLaws.{Front-same, Front-sound, Front-shrinks, Front-takes, Cut-same}
-
-pub none_both : {A : Type 0} (o p : Option A) → option_or o p ≡ None → (o ≡ None) × (p ≡ None)
-none_both None p h = (refl, h)
-none_both (Some x) p h = absurd cc
 
 -- ---- one reading
 

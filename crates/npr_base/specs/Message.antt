@@ -10,7 +10,7 @@ use Rattle.npr_base.specs.Layout.{Layout}
 use Rattle.npr_base.specs.Looks.{Looking}
 use Rattle.npr_base.specs.LooksLaws.{list_looking}
 use Rattle.npr_base.specs.Counts.{Counts}
-use Rattle.npr_base.specs.Table.{Writing, Reading, fits-small}
+use Rattle.npr_base.specs.Table.{Writing, Reading, fits-small, written_by, unfit_by}
 use Rattle.npr_base.specs.declared.message.Message.{Message as Stored}
 use Rattle.std.proofs.Common.{arith}
 
@@ -31,8 +31,8 @@ pub record Body (H : Type 0) {M : Type 0} (w : Writing M) : Type 1 where
   pub one_reading : (h : H) (bytes : List ℕ) (xs ys : List M) → Reads h bytes xs → Reads h bytes ys → xs ≡ ys
   pub no_fault : (h : H) (bytes : List ℕ) (xs : List M) (e : DecodeError) → Reads h bytes xs → Faulty h bytes e → ⊥
   pub reads_coherent : (h : H) (bytes : List ℕ) (xs : List M) → IsBytes bytes → Reads h bytes xs → Coherent h xs
-  pub reads_back : (h : H) (xs : List M) → Coherent h xs → first_unfit w.misfit xs ≡ None → Reads h (encodings w.writes xs) xs
-  pub grows : (h : H) (bytes : List ℕ) (xs : List M) → IsBytes bytes → Reads h bytes xs → 2 * length (encodings w.writes xs) ≤ 5 * length bytes
+  pub reads_back : (h : H) (xs : List M) → Coherent h xs → first_unfit (unfit_by w) xs ≡ None → Reads h (encodings (written_by w) xs) xs
+  pub grows : (h : H) (bytes : List ℕ) (xs : List M) → IsBytes bytes → Reads h bytes xs → 2 * length (encodings (written_by w) xs) ≤ 5 * length bytes
   -- how deep lists stand inside one another; each level takes 12 bytes
   pub depth : List M → ℕ
   pub deep : (h : H) (bytes : List ℕ) (xs : List M) → Reads h bytes xs → 12 * depth xs ≤ length bytes
@@ -47,8 +47,8 @@ body_of {H} {M} {w} f = record {
   one_reading = λ h bytes xs ys p q. ReadsList-one f.Reads f.one_reading bytes xs ys p q;
   no_fault = λ h bytes xs e p q. FirstFault-excludes f.Reads f.Faulty f.no_fault bytes e xs q p;
   reads_coherent = λ h bytes xs is p. ReadsList-known f.Coherent f.Reads f.reads_coherent bytes xs is p;
-  reads_back = λ h xs all fits. encodings-read f.Coherent w.misfit w.writes f.Reads (fits-small f) f.reads_back xs all fits;
-  grows = λ h bytes xs is p. ReadsList-grows w.writes f.Reads f.grows bytes xs is p;
+  reads_back = λ h xs all fits. encodings-read f.Coherent (unfit_by w) (written_by w) f.Reads (fits-small f) f.reads_back xs all fits;
+  grows = λ h bytes xs is p. ReadsList-grows (written_by w) f.Reads f.grows bytes xs is p;
   depth = λ xs. 0;
   deep = λ h bytes xs p. omega arith;
 }
@@ -86,8 +86,8 @@ IsCoherent L B m = IsCoherentOf L B.Coherent m
 
 -- the canonical bytes
 unfoldable pub spelling : {H M : Type 0} → Layout H → Writing M → Message H M → List ℕ
-spelling L w m = L.encode m.header ++ encodings w.writes m.attributes
+spelling L w m = L.encode m.header ++ encodings (written_by w) m.attributes
 
 -- why there are none: the first attribute that can't be written, or a length that no usize holds
 unfoldable pub message_misfit : {H M : Type 0} → Layout H → Writing M → Message H M → Option EmitError
-message_misfit L w m = option_or (first_unfit w.misfit m.attributes) (overlong (length (spelling L w m)))
+message_misfit L w m = option_or (first_unfit (unfit_by w) m.attributes) (overlong (length (spelling L w m)))

@@ -1,10 +1,8 @@
 -- Names: UTF-8 with one final zero, which may be missing where it is read.
-use Rattle.std.specs.Prelude.{◌≡◌, ℕ, List, [], ◌∷◌, ◌++◌, length}
+use Rattle.std.specs.Prelude.{◌≡◌, ℕ, List, [], ◌∷◌, ◌++◌, length, None}
 use Rattle.std.specs.Str.{IsUtf8}
 use Rattle.std.proofs.Common.{refl, inl}
 use Rattle.npr_base.specs.declared.refusal.DecodeError.TheVariants.{NotUtf8}
-use Rattle.npr_base.specs.Family.{too_long}
-use Rattle.npr_base.specs.FitLaws.{too_long-short}
 use Rattle.npr_base.specs.Codec.{Codec}
 use Rattle.npr_base.specs.NameLaws.{IsUnterminated, name-one, name-grows}
 
@@ -21,13 +19,12 @@ name = record {
   Reads = IsName;
   Wrong = λ at bytes e. IsNoName bytes × (e ≡ NotUtf8 at);
   writes = λ text. text ++ 0 ∷ [];
-  misfit = λ kind text. too_long kind (length (text ++ 0 ∷ []));
+  inside = λ kind text. None;
   Holds = IsUtf8;
   members = λ text. 0;
   one_reading = λ bytes x y p q. name-one bytes x y p.1 q.1;
   no_fault = λ at bytes x e p q. q.0.no_text x p.1 p.0;
   reads_holds = λ bytes x is p. p.0;
-  fits_short = λ kind x h. too_long-short kind (length (x ++ 0 ∷ [])) h;
   reads_back = λ kind x h f. (h, inl refl);
   grows = λ bytes x is p. name-grows bytes x p.1;
 }

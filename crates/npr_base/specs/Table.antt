@@ -5,34 +5,42 @@ use Rattle.npr_base.specs.declared.refusal.At.{At}
 use Rattle.npr_base.specs.declared.refusal.DecodeError.{DecodeError}
 use Rattle.npr_base.specs.declared.refusal.EmitError.{EmitError}
 use Rattle.npr_base.specs.Framing.{Item, Small, Proper, framed, marked, number_of, written}
+use Rattle.npr_base.specs.Family.{misfit_of}
+use Rattle.npr_base.specs.FitLaws.{misfit_of-short}
 use Rattle.npr_base.specs.Codec.{Codec, raw}
 use Rattle.npr_base.specs.Looks.{Looking}
 
--- what is written of a value as an attribute: its kind and value, whether NESTED is set in the kind besides, and why there
--- is none, if so. What fits is short.
+-- what is written of a value as an attribute: its kind and value, whether NESTED is set in the kind besides, and why what is
+-- inside can't be written, if so
 pub record Shape : Type 0 where
   pub item : Item
   pub nested : Bool
-  pub misfit : Option EmitError
-  pub short : misfit ≡ None → length item.value ≤ 65531
+  pub inside : Option EmitError
+
+-- the attribute that is written
+abbrev pub written_as : Shape → Item
+written_as s = written s.nested s.item
+
+-- why there is none, if so: what is inside, or its length
+abbrev pub unfit_as : Shape → Option EmitError
+unfit_as s = misfit_of s.inside s.item
 
 abbrev pub shaped_item : {A : Type 0} → (A → Shape) → A → Item
-shaped_item shape a = written (shape a).nested (shape a).item
+shaped_item shape a = written_as (shape a)
 
 abbrev pub shaped_misfit : {A : Type 0} → (A → Shape) → A → Option EmitError
-shaped_misfit shape a = (shape a).misfit
+shaped_misfit shape a = unfit_as (shape a)
 
--- how meanings are written: the attribute, why there is none, and how many stand inside it at all
--- depths
+-- how meanings are written, and how many attributes stand inside each at all depths
 pub record Writing (M : Type 0) : Type 0 where
-  pub writes : M → Item
-  pub misfit : M → Option EmitError
+  pub shape : M → Shape
   pub members : M → ℕ
-  -- what fits is short
-  pub short : (m : M) → misfit m ≡ None → length (writes m).value ≤ 65531
 
-abbrev pub shape_by : {M : Type 0} → Writing M → M → Shape
-shape_by w m = record { item = w.writes m; nested = false; misfit = w.misfit m; short = w.short m }
+abbrev pub written_by : {M : Type 0} → Writing M → M → Item
+written_by w m = written_as (w.shape m)
+
+abbrev pub unfit_by : {M : Type 0} → Writing M → M → Option EmitError
+unfit_by w m = unfit_as (w.shape m)
 
 -- a family: what attributes mean that are written so, and the looks that reading their values takes, with the laws of all
 pub record Reading {M : Type 0} (w : Writing M) : Type 1 where
@@ -43,13 +51,13 @@ pub record Reading {M : Type 0} (w : Writing M) : Type 1 where
   pub one_reading : (x : Item) (m n : M) → Reads x m → Reads x n → m ≡ n
   pub no_fault : (x : Item) (m : M) (e : DecodeError) → Reads x m → Faulty x e → ⊥
   pub reads_coherent : (x : Item) (m : M) → Proper x → Reads x m → Coherent m
-  pub kinds : (m : M) → Coherent m → (w.writes m).kind < 2 ^ 16
-  pub reads_back : (m : M) → Coherent m → w.misfit m ≡ None → Reads (w.writes m) m
-  pub grows : (x : Item) (m : M) → Proper x → Reads x m → 2 * framed (length (w.writes m).value) ≤ 5 * (4 + length x.value)
+  pub kinds : (m : M) → Coherent m → (written_by w m).kind < 2 ^ 16
+  pub reads_back : (m : M) → Coherent m → unfit_by w m ≡ None → Reads (written_by w m) m
+  pub grows : (x : Item) (m : M) → Proper x → Reads x m → 2 * framed (length (written_by w m).value) ≤ 5 * (4 + length x.value)
 
 -- what can be read and fits is an attribute that a text can hold
-pub fits-small : {M : Type 0} {w : Writing M} (r : Reading w) (m : M) → r.Coherent m → w.misfit m ≡ None → Small (w.writes m)
-fits-small {M} {w} r m c h = record { kind = r.kinds m c; value = w.short m h }
+pub fits-small : {M : Type 0} {w : Writing M} (r : Reading w) (m : M) → r.Coherent m → unfit_by w m ≡ None → Small (written_by w m)
+fits-small {M} {w} r m c h = record { kind = r.kinds m c; value = misfit_of-short (w.shape m).inside (w.shape m).item h }
 
 -- a row of a table: where it stands, how its values are read and written, and what they mean
 pub record Row (M : Type 0) : Type 1 where
@@ -111,8 +119,8 @@ held_value (held_marked nested kind codec value) = value
 abbrev pub held_bytes : Held → List ℕ
 held_bytes (held_marked nested kind codec value) = codec.writes value
 
-abbrev pub held_misfit : Held → Option EmitError
-held_misfit (held_marked nested kind codec value) = codec.misfit kind value
+abbrev pub held_inside : Held → Option EmitError
+held_inside (held_marked nested kind codec value) = codec.inside kind value
 
 abbrev pub IsHeld : Held → Type 0
 IsHeld (held_marked nested kind codec value) = codec.Holds value
@@ -120,12 +128,8 @@ IsHeld (held_marked nested kind codec value) = codec.Holds value
 abbrev pub held_members : Held → ℕ
 held_members (held_marked nested kind codec value) = codec.members value
 
--- what fits is short
-pub held-short : (h : Held) → held_misfit h ≡ None → length (held_bytes h) ≤ 65531
-held-short (held_marked nested kind codec value) fits = codec.fits_short kind value fits
-
--- and its bytes mean it again
-pub held-reads : (h : Held) → IsHeld h → held_misfit h ≡ None → (held_codec h).Reads (held_bytes h) (held_value h)
+-- where nothing inside forbids it, its bytes mean it again
+pub held-reads : (h : Held) → IsHeld h → held_inside h ≡ None → (held_codec h).Reads (held_bytes h) (held_value h)
 held-reads (held_marked nested kind codec value) is fits = codec.reads_back kind value is fits
 
 abbrev pub held : {V : Type 0} → ℕ → Codec V → V → Held
@@ -142,16 +146,14 @@ abbrev pub item_of : Held → Item
 item_of h = record { kind = marked (held_nested h) (held_kind h); value = held_bytes h }
 
 abbrev pub shape_at : Held → Shape
-shape_at h = record { item = plain_item h; nested = held_nested h; misfit = held_misfit h; short = held-short h }
+shape_at h = record { item = plain_item h; nested = held_nested h; inside = held_inside h }
 
 -- meanings are written each from its place
 abbrev pub writing_by : {M : Type 0} → (M → Held) → Writing M
 writing_by held_of =
     record {
-      writes = λ m. item_of (held_of m);
-      misfit = λ m. held_misfit (held_of m);
+      shape = λ m. shape_at (held_of m);
       members = λ m. held_members (held_of m);
-      short = λ m h. held-short (held_of m) h;
     }
 
 -- each row's variant is written by that row, and is coherent where the row can hold its value
@@ -170,13 +172,13 @@ pub record Table (M : Type 0) : Type 1 where
   pub other_is : (x : Item) → item_of (held_of (other x)) ≡ x
   pub other_coherent : (x : Item) → IsOther rows x → Coherent (other x)
   pub kinds : (m : M) → Coherent m → held_kind (held_of m) < 2 ^ 16
-  pub back : (m : M) → Coherent m → held_misfit (held_of m) ≡ None → ReadsAt other rows (number_of (item_of (held_of m)).kind) (item_of (held_of m)) m
+  pub back : (m : M) → Coherent m → held_inside (held_of m) ≡ None → ReadsAt other rows (number_of (item_of (held_of m)).kind) (item_of (held_of m)) m
 
 -- a table from its parts; where `place` says how what other attributes mean is written, the two laws of `other` hold by themselves
 abbrev pub table_of : {M : Type 0} (rows : List (Row M)) (other : Item → M) (held_of : M → Held) (Coherent : M → Type 0)
     → Aligned (λ m. item_of (held_of m)) Coherent rows → ((x : Item) → item_of (held_of (other x)) ≡ x) → ((x : Item) → IsOther rows x → Coherent (other x))
     → ((m : M) → Coherent m → held_kind (held_of m) < 2 ^ 16)
-    → ((m : M) → Coherent m → held_misfit (held_of m) ≡ None → ReadsAt other rows (number_of (item_of (held_of m)).kind) (item_of (held_of m)) m) → Table M
+    → ((m : M) → Coherent m → held_inside (held_of m) ≡ None → ReadsAt other rows (number_of (item_of (held_of m)).kind) (item_of (held_of m)) m) → Table M
 table_of rows other held_of Coherent aligned other_is other_coherent kinds back = record {
   rows = rows;
   other = other;

@@ -5,10 +5,11 @@ use Rattle.std.proofs.Common.{◌≡◌, ℕ, ◌+◌, ◌*◌, ◌<◌, ◌≤�
 use Rattle.npr_base.specs.declared.refusal.DecodeError.{DecodeError}
 use Rattle.npr_base.specs.Framing.{Item, IsBytes, framed, marked, number_of}
 use Rattle.npr_base.specs.CodecLaws.{framed-grows}
+use Rattle.npr_base.specs.FitLaws.{misfit_of-none}
 use Rattle.npr_base.specs.Counts.{Counts}
 use Rattle.npr_base.specs.Looks.{Adds, Looking, LooksAt}
 use Rattle.npr_base.specs.LooksLaws.{no_looking}
-use Rattle.npr_base.specs.Table.{Writing, Reading, Row, ReadsAt, WrongAt, has_row, item_of, held_kind, held_nested, writing_by, Aligned, Table}
+use Rattle.npr_base.specs.Table.{Writing, Reading, Row, ReadsAt, WrongAt, has_row, item_of, plain_item, held_inside, held_kind, held_nested, writing_by, Aligned, Table}
 
 -- two facts on the same test
 pub both : {P Q S T R : Type 0} (b : Bool) → (P → S → R) → (Q → T → R) → MatchBool b P Q → MatchBool b S T → R
@@ -75,7 +76,7 @@ table_family t = record {
       let alone = λ (a : has_row t.rows (number_of x.kind) ≡ false). t.other_coherent x (record { proper = proper; alone = a }) in
       table-coherent t.other (λ n. item_of (t.held_of n)) t.Coherent t.rows t.aligned (number_of x.kind) x proper.value alone m p;
   kinds = λ m c. marked-small (held_nested (t.held_of m)) (held_kind (t.held_of m)) (t.kinds m c);
-  reads_back = λ m c h. t.back m c h;
+  reads_back = λ m c h. t.back m c (misfit_of-none (held_inside (t.held_of m)) (plain_item (t.held_of m)) h);
   grows = λ x m proper p. table-grows t.other (λ n. item_of (t.held_of n)) t.Coherent t.rows t.aligned t.other_is (number_of x.kind) x proper.value m p;
 }
 

@@ -1,24 +1,19 @@
 -- A value that is one of several variants, read by the codec of one of them.
 use Rattle.std.specs.Prelude.{◌≡◌, ℕ, ◌+◌, ◌*◌, ◌≤◌, List, length, None}
 use Rattle.std.proofs.Common.{sym, ap, subst, ◌∙◌}
-use Rattle.npr_base.specs.Family.{too_long}
-use Rattle.npr_base.specs.FitLaws.{too_long-short}
 use Rattle.npr_base.specs.Framing.{IsBytes, framed}
 use Rattle.npr_base.specs.Codec.{Codec}
 
--- the bytes are read by C, and the value is that variant; each variant is written by `bytes_of`, and
--- fits where its bytes are short
+-- the bytes are read by C, and the value is that variant; each variant is written by `bytes_of`
 module _ {V W : Type 0} (C : Codec V) (made : V → W) (bytes_of : W → List ℕ) (same : (v : V) → bytes_of (made v) ≡ C.writes v)
-    (plain : (kind : ℕ) (v : V) → too_long kind (length (C.writes v)) ≡ None → C.misfit kind v ≡ None) where
+    (free : (v : V) → C.inside 0 v ≡ None) where
   pub variant-one : (bytes : List ℕ) (x y : W) → (v : V) × C.Reads bytes v × (x ≡ made v) → (w : V) × C.Reads bytes w × (y ≡ made w) → x ≡ y
   variant-one bytes x y p q = p.2 ∙ ap made (C.one_reading bytes p.0 q.0 p.1 q.1) ∙ sym q.2
 
-  pub variant-back : (kind : ℕ) (x : W) → (v : V) × C.Holds v × (x ≡ made v) → too_long kind (length (bytes_of x)) ≡ None
-      → (v : V) × C.Reads (bytes_of x) v × (x ≡ made v)
-  variant-back kind x p fits =
+  pub variant-back : (x : W) → (v : V) × C.Holds v × (x ≡ made v) → (v : V) × C.Reads (bytes_of x) v × (x ≡ made v)
+  variant-back x p =
       let is : bytes_of x ≡ C.writes p.0 = ap bytes_of p.2 ∙ same p.0 in
-      let small : too_long kind (length (C.writes p.0)) ≡ None = subst (λ (b : List ℕ). too_long kind (length b) ≡ None) is fits in
-      (p.0, subst (λ (b : List ℕ). C.Reads b p.0) (sym is) (C.reads_back kind p.0 p.1 (plain kind p.0 small)), p.2)
+      (p.0, subst (λ (b : List ℕ). C.Reads b p.0) (sym is) (C.reads_back 0 p.0 p.1 (free p.0)), p.2)
 
   pub variant-grows : (bytes : List ℕ) (x : W) → IsBytes bytes → (v : V) × C.Reads bytes v × (x ≡ made v)
       → 2 * framed (length (bytes_of x)) ≤ 5 * (4 + length bytes)
@@ -31,13 +26,12 @@ module _ {V W : Type 0} (C : Codec V) (made : V → W) (bytes_of : W → List �
     Reads = λ bytes x. (v : V) × C.Reads bytes v × (x ≡ made v);
     Wrong = C.Wrong;
     writes = bytes_of;
-    misfit = λ kind x. too_long kind (length (bytes_of x));
+    inside = λ kind x. None;
     Holds = λ x. (v : V) × C.Holds v × (x ≡ made v);
     members = λ x. 0;
     one_reading = variant-one;
     no_fault = λ at bytes x e p q. C.no_fault at bytes p.0 e p.1 q;
     reads_holds = λ bytes x is p. (p.0, C.reads_holds bytes p.0 is p.1, p.2);
-    fits_short = λ kind x h. too_long-short kind (length (bytes_of x)) h;
-    reads_back = variant-back;
+    reads_back = λ kind x p fits. variant-back x p;
     grows = variant-grows;
   }

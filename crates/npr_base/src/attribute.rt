@@ -5,7 +5,7 @@ ghost use Rattle.npr_base.specs.{
   declared.refusal.DecodeError.TheVariants.{OutOfMemory},
   Counts.{AddsAtMost, SawEach},
   Looks.{Answered},
-  Table.{Writing, Reading, shaped_item},
+  Table.{Writing, Reading},
 };
 
 use crate::framing::NlaBuffer;
@@ -80,11 +80,8 @@ pub trait Attribute: Nla + Drop {
     fn try_clone(&self, alloc: Global) -> Result<Self, AllocError>
         ensures { IfOk result (λ a. meaning a ≡ meaning self.now) };
 
-    /// The two views of what is written agree.
-    ghost item_is: { (a : Self) → shaped_item Self.shape a ≡ writing.writes (meaning a) };
-
-    /// The two views of why it can't be written agree.
-    ghost misfit_is: { (a : Self) → (Self.shape a).misfit ≡ writing.misfit (meaning a) };
+    /// It is written as its meaning is.
+    ghost shape_is: { (a : Self) → Self.shape a ≡ writing.shape (meaning a) };
 }
 
 /// A lone attribute of a family that is read in no context.

@@ -1,18 +1,16 @@
 //! An attribute that is kept as it stands.
 
 ghost use Rattle.std.specs.{
-  Prelude.{◌≡◌, ◌+◌, None, Some, length, IfOk, false},
+  Prelude.{◌≡◌, None, IfOk, false},
   Cmp.{decided, partial_equiv_from_equiv},
 };
 ghost use Rattle.npr_base.specs.{
   Framing.{Item},
-  Family.{too_long},
   ViewEquality.{same_item, item_equality},
-  FitLaws.{too_long-short},
   Text.{nla_text},
 };
 
-use crate::framing::{NlaBuffer, check_len};
+use crate::framing::NlaBuffer;
 use crate::refusal::{DecodeError, EmitError};
 use crate::traits::{Nla, Parseable};
 use crate::values::write_bytes;
@@ -101,7 +99,7 @@ impl<'a> Parseable<&'a NlaBuffer<'a>> for DefaultNla {
 }
 
 impl Nla for DefaultNla {
-    ghost shape = { λ d. record { item = d; nested = false; misfit = too_long d.kind (length d.value); short = too_long-short d.kind (length d.value) } };
+    ghost shape = { λ d. record { item = d; nested = false; inside = None } };
 
     fn kind(&self) -> u16 {
         self.kind
@@ -111,12 +109,8 @@ impl Nla for DefaultNla {
         false
     }
 
-    fn check(&self) -> Result<usize, EmitError> {
-        check_len(self.kind, self.value.len())
-    }
-
-    fn value_len(&self) -> usize {
-        self.value.len()
+    fn check_value(&self) -> Result<usize, EmitError> {
+        Ok(self.value.len())
     }
 
     fn write_value(&self, out: &mut [u8]) -> usize {

@@ -31,7 +31,7 @@ pub use framing::{
 };
 pub use ip::{IpAddr, Ipv4Addr, Ipv6Addr};
 pub use list::{
-    check_list, clone_list, emit_list, fill_list, list_len, make_room, parse_list, total_len,
+    check_list, clone_list, emit_list, fill_list, make_room, parse_list, total_len,
     write_list,
 };
 pub use looks::Looks;
@@ -39,7 +39,9 @@ pub use message::{Header, Message};
 pub use place::{Place, put_ip, put_read};
 pub use refusal::{At, AttrFamily, DecodeError, EmitError, Seg6Fault};
 pub use text::{write_hex, write_joined, write_six_hex_digits};
-pub use traits::{Emitable, Nla, Parseable, ParseableParametrized};
+pub use traits::{
+    Emitable, Nla, Parseable, ParseableParametrized, check_attribute_len, write_attribute,
+};
 pub use v6_list::{emit_v6_list, read_v6_list, v6_list_len, write_v6_list};
 pub use values::{
     borrow_octets, ip_len, leading_octets, read_bool, read_bytes, read_i32, read_ip, read_ipv4,

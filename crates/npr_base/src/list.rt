@@ -1,11 +1,11 @@
 //! Lists of attributes, for any family.
 
-ghost use Rattle.std.specs.Prelude.{◌≡◌, ◌≢◌, ◌≤◌, ◌<◌, ℕ, List, [], Option, None, length, map, min, ◌+◌, ◌/◌, IfOk, IfErr, IsErrOf, OnOk, OnErr, vec_capacity};
+ghost use Rattle.std.specs.Prelude.{◌≡◌, ◌≢◌, ◌≤◌, ◌<◌, ℕ, List, [], None, length, map, min, ◌+◌, ◌/◌, IfOk, IfErr, IsErrOf, OnOk, OnErr, vec_capacity};
 ghost use Rattle.npr_base.specs.{
   Counts.{AddsAtMost, SawEach},
   Looks.{Answered, ListLooks},
   Framing.{Item, Front, Writes},
-  Table.{shaped_item, shaped_misfit},
+  Table.{shaped_item, shaped_misfit, written_by, unfit_by},
   Walk.{Walked},
   Family.{ReadsList, FirstFault, checked, list_unfit, list_members, encodings, overlong},
   declared.refusal.DecodeError.TheVariants.{OutOfMemory},
@@ -15,7 +15,7 @@ use crate::attribute::Attribute;
 use crate::framing::NlasIterator;
 use crate::looks::Looks;
 use crate::refusal::{DecodeError, EmitError};
-use crate::traits::Nla;
+use crate::traits::{Emitable, Nla, write_attribute};
 use std::alloc::{AllocError, Global};
 use std::mem;
 
@@ -130,16 +130,6 @@ fn check_list_body<A: Nla>(list: &[A]) -> Result<usize, EmitError>
     total_len(total)
 }
 
-fn list_len_body<A: Nla>(list: &[A]) -> usize
-    requires { list_unfit (shaped_misfit A.shape) (shaped_item A.shape) list.now ≡ None }
-    ensures { result ≡ length (encodings (shaped_item A.shape) list.now) }
-{
-    match check_list_body(list) {
-        Ok(len) => len,
-        Err(_) => unreachable!(),
-    }
-}
-
 fn write_list_body<A: Nla>(list: &[A], out: &mut [u8]) -> usize
     requires fits { list_unfit (shaped_misfit A.shape) (shaped_item A.shape) list.now ≡ None }
     requires room { length (encodings (shaped_item A.shape) list.now) ≤ length out.old }
@@ -148,7 +138,7 @@ fn write_list_body<A: Nla>(list: &[A], out: &mut [u8]) -> usize
 {
     let mut at = 0usize;
     for x in list {
-        at += x.write(&mut out[at..]);
+        at += write_attribute(x, &mut out[at..]);
     }
     at
 }
@@ -156,25 +146,17 @@ fn write_list_body<A: Nla>(list: &[A], out: &mut [u8]) -> usize
 /// The length of the encodings in bytes, or the first cause why there are none: the first member
 /// that can't be written, or `Total`.
 pub fn check_list<A: Attribute>(list: &[A]) -> Result<usize, EmitError>
-    ensures { result ≡ checked (list_unfit A.writing.misfit A.writing.writes (map A.meaning list.now)) (length (encodings A.writing.writes (map A.meaning list.now))) }
+    ensures { result ≡ checked (list_unfit (unfit_by A.writing) (written_by A.writing) (map A.meaning list.now)) (length (encodings (written_by A.writing) (map A.meaning list.now))) }
 {
     check_list_body(list)
 }
 
-/// The length of the encodings, in bytes. Asks that `check_list` accepts.
-pub fn list_len<A: Attribute>(list: &[A]) -> usize
-    requires { list_unfit A.writing.misfit A.writing.writes (map A.meaning list.now) ≡ None }
-    ensures { result ≡ length (encodings A.writing.writes (map A.meaning list.now)) }
-{
-    list_len_body(list)
-}
-
 /// `emit_list`, with the length of what is written.
 pub fn write_list<A: Attribute>(list: &[A], out: &mut [u8]) -> usize
-    requires fits { list_unfit A.writing.misfit A.writing.writes (map A.meaning list.now) ≡ None }
-    requires room { length (encodings A.writing.writes (map A.meaning list.now)) ≤ length out.old }
-    ensures len { result ≡ length (encodings A.writing.writes (map A.meaning list.now)) }
-    ensures after { Writes out.old out.new (encodings A.writing.writes (map A.meaning list.now)) }
+    requires fits { list_unfit (unfit_by A.writing) (written_by A.writing) (map A.meaning list.now) ≡ None }
+    requires room { length (encodings (written_by A.writing) (map A.meaning list.now)) ≤ length out.old }
+    ensures len { result ≡ length (encodings (written_by A.writing) (map A.meaning list.now)) }
+    ensures after { Writes out.old out.new (encodings (written_by A.writing) (map A.meaning list.now)) }
 {
     write_list_body(list, out)
 }
@@ -182,9 +164,9 @@ pub fn write_list<A: Attribute>(list: &[A], out: &mut [u8]) -> usize
 /// Writes the encodings one after the other at the front of the slice, and leaves the rest. Asks
 /// that `check_list` accepts, and room for the length that it answers.
 pub fn emit_list<A: Attribute>(list: &[A], out: &mut [u8])
-    requires fits { list_unfit A.writing.misfit A.writing.writes (map A.meaning list.now) ≡ None }
-    requires room { length (encodings A.writing.writes (map A.meaning list.now)) ≤ length out.old }
-    ensures { Writes out.old out.new (encodings A.writing.writes (map A.meaning list.now)) }
+    requires fits { list_unfit (unfit_by A.writing) (written_by A.writing) (map A.meaning list.now) ≡ None }
+    requires room { length (encodings (written_by A.writing) (map A.meaning list.now)) ≤ length out.old }
+    ensures { Writes out.old out.new (encodings (written_by A.writing) (map A.meaning list.now)) }
 {
     write_list(list, out);
 }

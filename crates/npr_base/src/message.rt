@@ -11,11 +11,11 @@ ghost use Rattle.npr_base.specs.{
   Layout.{Layout},
   Looks.{Answered},
   Message.{Body, Message as Meant, view, IsMessage, MessageFault, MessageLooks, IsCoherent, spelling, message_misfit},
-  Table.{Writing},
+  Table.{Writing, written_by, unfit_by},
 };
 
 use crate::attribute::Attribute;
-use crate::list::{check_list, clone_list, list_len, write_list};
+use crate::list::{check_list, clone_list, write_list};
 use crate::looks::Looks;
 use crate::refusal::{DecodeError, EmitError};
 use crate::traits::{Emitable, Parseable};
@@ -83,8 +83,8 @@ pub trait Header: Emitable + Copy + Default {
         × (Self.is_default h → h ≡ standard) };
 
     /// Attributes are written as their family says,
-    ghost by_family: { (xs : List Self.Attribute) → (encodings Self.Attribute.writing.writes (map Self.Attribute.meaning xs) ≡ encodings writing.writes (map meaning xs))
-        × (first_unfit Self.Attribute.writing.misfit (map Self.Attribute.meaning xs) ≡ first_unfit writing.misfit (map meaning xs)) };
+    ghost by_family: { (xs : List Self.Attribute) → (encodings (written_by Self.Attribute.writing) (map Self.Attribute.meaning xs) ≡ encodings (written_by writing) (map meaning xs))
+        × (first_unfit (unfit_by Self.Attribute.writing) (map Self.Attribute.meaning xs) ≡ first_unfit (unfit_by writing) (map meaning xs)) };
 
     /// and mean what it says.
     ghost meanings_are: { (xs ys : List Self.Attribute) → map Self.Attribute.meaning xs ≡ map Self.Attribute.meaning ys → map meaning xs ≡ map meaning ys };
@@ -308,10 +308,6 @@ impl<H: Header> Emitable for Message<H, H::Attribute> {
     fn check(&self) -> Result<usize, EmitError> {
         let len = check_list(self.attributes.as_slice())?;
         len.checked_add(H::size()).ok_or(EmitError::Total)
-    }
-
-    fn buffer_len(&self) -> usize {
-        H::size() + list_len(self.attributes.as_slice())
     }
 
     fn emit(&self, out: &mut [u8]) {

@@ -5,9 +5,9 @@ ghost use Rattle.npr_base.specs.{
   declared.refusal.EmitError.{EmitError},
   declared.refusal.DecodeError.{DecodeError},
   declared.refusal.DecodeError.TheVariants.{OutOfMemory},
-  Framing.{Writes, encoding, framed, written},
+  Framing.{Writes, encoding, framed},
   Family.{checked, too_long},
-  Table.{Shape},
+  Table.{Shape, shaped_item, shaped_misfit},
 };
 
 use crate::framing::{NLA_HEADER_SIZE, frame, framed_len, marked_kind};
@@ -16,8 +16,8 @@ use std::alloc::Global;
 
 /// A value that is written as an attribute.
 pub trait Nla: Sized {
-    /// The attribute that is written, whether NESTED is set besides in its kind, and why it can't be
-    /// written, if so.
+    /// The attribute that is written, whether NESTED is set besides in its kind, and why what is
+    /// inside can't be written, if so.
     ghost shape: { Self → Shape };
 
     /// The kind, with the flags that it has by itself.
@@ -28,78 +28,37 @@ pub trait Nla: Sized {
     fn is_nested(&self) -> bool
         ensures { result ≡ (shape self.now).nested };
 
-    /// The length of the whole encoding in bytes, which is `buffer_len`, or the first cause why
-    /// there is none.
-    fn check(&self) -> Result<usize, EmitError>
-        ensures { result ≡ checked ((shape self.now).misfit) (framed (length (shape self.now).item.value)) };
-
-    /// The length of the value, in bytes. Asks that `check` accepts.
-    fn value_len(&self) -> usize
-        requires { (shape self.now).misfit ≡ None }
-        ensures { result ≡ length (shape self.now).item.value };
+    /// The length of the value in bytes, however long, or the first cause why what is inside can't
+    /// be written.
+    fn check_value(&self) -> Result<usize, EmitError>
+        ensures { result ≡ checked (shape self.now).inside (length (shape self.now).item.value) };
 
     /// Writes the value at the front of the slice, leaves the rest, and answers the value's
-    /// length. Asks that `check` accepts, and room for the value.
+    /// length. Asks that `check_value` accepts, and room for the value.
     fn write_value(&self, out: &mut [u8]) -> usize
-        requires fits { (shape self.now).misfit ≡ None }
+        requires fits { (shape self.now).inside ≡ None }
         requires room { length (shape self.now).item.value ≤ length out.old }
         ensures len { result ≡ length (shape self.now).item.value }
         ensures after { Writes out.old out.new (shape self.now).item.value };
 
-    /// Writes the value into a slice of exactly its length. Asks that `check` accepts.
-    fn emit_value(&self, out: &mut [u8])
-        requires fits { (shape self.now).misfit ≡ None }
+    /// The length of the value, in bytes. Asks that `check_value` accepts.
+    final fn value_len(&self) -> usize
+        requires { (shape self.now).inside ≡ None }
+        ensures { result ≡ length (shape self.now).item.value }
+    {
+        match self.check_value() {
+            Ok(len) => len,
+            Err(_) => unreachable!(),
+        }
+    }
+
+    /// Writes the value into a slice of exactly its length. Asks that `check_value` accepts.
+    final fn emit_value(&self, out: &mut [u8])
+        requires fits { (shape self.now).inside ≡ None }
         requires room { length out.old ≡ length (shape self.now).item.value }
         ensures { out.new ≡ (shape self.now).item.value }
     {
         self.write_value(out);
-    }
-
-    /// The length of the whole encoding, in bytes. Asks that `check` accepts.
-    fn buffer_len(&self) -> usize
-        requires { (shape self.now).misfit ≡ None }
-        ensures { result ≡ framed (length (shape self.now).item.value) }
-    {
-        (self.value_len() + NLA_HEADER_SIZE).next_multiple_of(4)
-    }
-
-    /// The length of the whole encoding, of a value of this length. The kind is asked for in the
-    /// refusal alone: it costs a jump.
-    ///
-    /// # Errors
-    /// `TooLong` above 65,531 bytes.
-    fn check_len(&self, len: usize) -> Result<usize, EmitError>
-        ensures { result ≡ checked (too_long (shape self.now).item.kind len) (framed len) }
-    {
-        match framed_len(len) {
-            Some(whole) => Ok(whole),
-            None => Err(EmitError::TooLong {
-                kind: self.kind(),
-                len,
-            }),
-        }
-    }
-
-    /// `emit`, with the length of the encoding.
-    fn write(&self, out: &mut [u8]) -> usize
-        requires fits { (shape self.now).misfit ≡ None }
-        requires room { framed (length (shape self.now).item.value) ≤ length out.old }
-        ensures len { result ≡ framed (length (shape self.now).item.value) }
-        ensures after { Writes out.old out.new (encoding (written (shape self.now).nested (shape self.now).item)) }
-    {
-        let kind = marked_kind(self.kind(), self.is_nested());
-        let len = self.write_value(&mut out[NLA_HEADER_SIZE..]);
-        frame(out, kind, len)
-    }
-
-    /// Writes header, value and zeros to the next multiple of four at the front of the slice, and
-    /// leaves the rest. Asks that `check` accepts, and room for `buffer_len` bytes.
-    fn emit(&self, out: &mut [u8])
-        requires fits { (shape self.now).misfit ≡ None }
-        requires room { framed (length (shape self.now).item.value) ≤ length out.old }
-        ensures { Writes out.old out.new (encoding (written (shape self.now).nested (shape self.now).item)) }
-    {
-        self.write(out);
     }
 }
 
@@ -115,17 +74,69 @@ pub trait Emitable {
     fn check(&self) -> Result<usize, EmitError>
         ensures { result ≡ checked (unfit self.now) (length (bytes self.now)) };
 
-    /// The length of the bytes. Asks that `check` accepts.
-    fn buffer_len(&self) -> usize
-        requires { unfit self.now ≡ None }
-        ensures { result ≡ length (bytes self.now) };
-
     /// Writes the bytes at the front of the slice, and leaves the rest. Asks that `check` accepts,
     /// and room for the bytes.
     fn emit(&self, out: &mut [u8])
         requires fits { unfit self.now ≡ None }
         requires room { length (bytes self.now) ≤ length out.old }
         ensures { Writes out.old out.new (bytes self.now) };
+
+    /// The length of the bytes. Asks that `check` accepts.
+    final fn buffer_len(&self) -> usize
+        requires { unfit self.now ≡ None }
+        ensures { result ≡ length (bytes self.now) }
+    {
+        match self.check() {
+            Ok(len) => len,
+            Err(_) => unreachable!(),
+        }
+    }
+}
+
+/// Header, value and zeros to the next multiple of four.
+impl<A: Nla> Emitable for A {
+    ghost bytes = { λ a. encoding (shaped_item A.shape a) };
+
+    ghost unfit = { shaped_misfit A.shape };
+
+    fn check(&self) -> Result<usize, EmitError> {
+        let len = self.check_value()?;
+        check_attribute_len(self, len)
+    }
+
+    fn emit(&self, out: &mut [u8]) {
+        write_attribute(self, out);
+    }
+}
+
+/// The length of an attribute's encoding, of a value of this length. The kind is asked for in the
+/// refusal alone: it costs a jump.
+///
+/// # Errors
+/// `TooLong` above 65,531 bytes.
+#[inline(always)]
+pub fn check_attribute_len<A: Nla>(attribute: &A, len: usize) -> Result<usize, EmitError>
+    ensures { result ≡ checked (too_long (A.shape attribute.now).item.kind len) (framed len) }
+{
+    match framed_len(len) {
+        Some(whole) => Ok(whole),
+        None => Err(EmitError::TooLong {
+            kind: attribute.kind(),
+            len,
+        }),
+    }
+}
+
+/// `emit` of an attribute, with the length of what is written.
+pub fn write_attribute<A: Nla>(attribute: &A, out: &mut [u8]) -> usize
+    requires fits { shaped_misfit A.shape attribute.now ≡ None }
+    requires room { framed (length (A.shape attribute.now).item.value) ≤ length out.old }
+    ensures len { result ≡ framed (length (A.shape attribute.now).item.value) }
+    ensures after { Writes out.old out.new (encoding (shaped_item A.shape attribute.now)) }
+{
+    let kind = marked_kind(attribute.kind(), attribute.is_nested());
+    let len = attribute.write_value(&mut out[NLA_HEADER_SIZE..]);
+    frame(out, kind, len)
 }
 
 /// A value that is read from an input, which is a reference.

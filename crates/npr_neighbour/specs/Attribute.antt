@@ -7,7 +7,7 @@ use Rattle.npr_base.specs.declared.refusal.AttrFamily.TheVariants.{Neighbour}
 use Rattle.npr_base.specs.Framing.{Item, number_of}
 use Rattle.npr_base.specs.Layout.{le16, le32, be16}
 use Rattle.npr_base.specs.Codec.{exactly, leading, raw}
-use Rattle.npr_base.specs.Table.{Writing, Reading, table_of, Row, row, Held, held, held_other, held_kind, held_value, held_misfit, held-reads, IsHeld}
+use Rattle.npr_base.specs.Table.{Writing, Reading, table_of, Row, row, Held, held, held_other, held_kind, held_value, held_inside, held-reads, IsHeld}
 use Rattle.npr_base.specs.Table.{item_of, writing_by, IsOther, Aligned, ReadsAt}
 use Rattle.npr_base.specs.TableLaws.{table_family, other-back}
 use Rattle.npr_scalar.specs.RouteProtocol.{route_protocol}
@@ -110,7 +110,7 @@ pub kinds : (form : Form) (m : Meaning) → Coherent form m → held_kind (held_
 kinds form (other x) c = c.proper.kind
 kinds form m c = omega arith
 
-pub back : (form : Form) (m : Meaning) → Coherent form m → held_misfit (held_of m) ≡ None
+pub back : (form : Form) (m : Meaning) → Coherent form m → held_inside (held_of m) ≡ None
     → ReadsAt other (rows form) (number_of (item_of (held_of m)).kind) (item_of (held_of m)) m
 back form (other x) c fits = other-back other (rows form) (number_of x.kind) x c.alone
 back form (destination a) c fits = (a, (address_in form).reads_back 1 a c fits, refl)

@@ -135,10 +135,6 @@ impl Emitable for NeighbourAddress {
         Ok(self.len())
     }
 
-    fn buffer_len(&self) -> usize {
-        self.len()
-    }
-
     fn emit(&self, out: &mut [u8]) {
         self.write(out);
     }

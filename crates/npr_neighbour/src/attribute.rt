@@ -1,8 +1,7 @@
 //! The attributes of a neighbour message: `NDA_*` of `linux/neighbour.h`.
 
-ghost use Rattle.std.specs.Prelude.{◌≡◌, length, IfOk};
+ghost use Rattle.std.specs.Prelude.{◌≡◌, IfOk};
 ghost use Rattle.std.proofs.Common.{refl};
-ghost use Rattle.npr_base.specs.Table.{shape_by};
 ghost use Rattle.npr_neighbour.specs.Attribute.{Meaning, meaning_of, writing, attributes};
 
 use crate::address::NeighbourAddress;
@@ -94,7 +93,7 @@ impl NeighbourAttribute {
 const FAMILY: AttrFamily = AttrFamily::Neighbour;
 
 impl Nla for NeighbourAttribute {
-    ghost shape = { λ a. shape_by writing (meaning_of a) };
+    ghost shape = { λ a. writing.shape (meaning_of a) };
 
     fn kind(&self) -> u16 {
         rows!(kind_rows(self; NeighbourAttribute::Destination(_) => NDA_DST,))
@@ -104,14 +103,8 @@ impl Nla for NeighbourAttribute {
         false
     }
 
-    fn check(&self) -> Result<usize, EmitError> {
-        self.check_len(self.value_len())
-    }
-
-    fn value_len(&self) -> usize
-        ensures { result ≡ length (writing.writes (meaning_of self.now)).value }
-    {
-        rows!(len_rows(self; NeighbourAttribute::Destination(a) => a.len(),))
+    fn check_value(&self) -> Result<usize, EmitError> {
+        Ok(rows!(len_rows(self; NeighbourAttribute::Destination(a) => a.len(),)))
     }
 
     fn write_value(&self, out: &mut [u8]) -> usize {
@@ -130,9 +123,7 @@ impl Attribute for NeighbourAttribute {
 
     ghost reading = { attributes };
 
-    ghost item_is = { λ a. refl };
-
-    ghost misfit_is = { λ a. refl };
+    ghost shape_is = { λ a. refl };
 
     fn read(
         alloc: Global,

@@ -75,10 +75,6 @@ impl Emitable for NeighbourCacheInfo {
         Ok(16)
     }
 
-    fn buffer_len(&self) -> usize {
-        16
-    }
-
     fn emit(&self, out: &mut [u8]) {
         write_array(self.to_bytes(), out);
     }

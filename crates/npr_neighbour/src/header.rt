@@ -134,10 +134,6 @@ impl Emitable for NeighbourHeader {
         Ok(12)
     }
 
-    fn buffer_len(&self) -> usize {
-        12
-    }
-
     #[inline(never)]
     fn emit(&self, out: &mut [u8]) {
         write_array(NeighbourMessageBuffer::from(self).to_bytes(), out);

@@ -6,9 +6,9 @@ use Rattle.std.specs.declared.alloc.Global.{Global}
 use borrow.Rule.Slice.PartMut.{put_mid}
 use Rattle.npr_base.specs.Framing.{Writes}
 use Rattle.npr_base.specs.Family.{first_unfit, encodings}
-use Rattle.npr_base.specs.ListLaws.{none_both}
+use Rattle.npr_base.specs.FitLaws.{none_both}
 use Rattle.npr_base.proofs.Writing.{Writes-more}
-use Rattle.npr_route.specs.Attribute.{Meaning, plain_of, misfit, hop_bytes, hop_text, hop_overlong}
+use Rattle.npr_route.specs.Attribute.{Meaning, shape_of, hop_bytes, hop_text, hop_overlong}
 use Rattle.npr_route.specs.AttributeLaws.{hop-short, fits-inside}
 use Rattle.npr_route.specs.AttributeView.{meaning_of, hop_of, hops_of, attribute_item, attribute_misfit, next_hop_bytes, next_hop_misfit, joined}
 use Rattle.npr_route.specs.declared.attribute.RouteAttribute.TheVariants.{MultiPath}
@@ -38,8 +38,8 @@ hop_fits h fits =
     (k.0, hop-short len k.1)
 
 -- next hops as the value of an attribute that can be written
-pub multi_path_fits : (v : Vec RouteNextHop Global) → misfit (meaning_of (MultiPath v)) ≡ None → first_unfit next_hop_misfit v.items ≡ None
-multi_path_fits v fits = sym (hops_fit v.items) ∙ fits-inside (hops_of (map hop_of v.items)) (sym (ap misfit (view_multi_path v)) ∙ fits)
+pub multi_path_fits : (v : Vec RouteNextHop Global) → (shape_of (meaning_of (MultiPath v))).inside ≡ None → first_unfit next_hop_misfit v.items ≡ None
+multi_path_fits v fits = sym (hops_fit v.items) ∙ fits-inside (hops_of (map hop_of v.items)) (sym (ap (λ (m : Meaning). (shape_of m).inside) (view_multi_path v)) ∙ fits)
 
-pub multi_path_value : (v : Vec RouteNextHop Global) → (plain_of (meaning_of (MultiPath v))).value ≡ joined next_hop_bytes v.items
-multi_path_value v = ap (λ (m : Meaning). (plain_of m).value) (view_multi_path v) ∙ hops_text v.items
+pub multi_path_value : (v : Vec RouteNextHop Global) → (shape_of (meaning_of (MultiPath v))).item.value ≡ joined next_hop_bytes v.items
+multi_path_value v = ap (λ (m : Meaning). (shape_of m).item.value) (view_multi_path v) ∙ hops_text v.items

@@ -25,7 +25,7 @@ use Rattle.npr_route.proofs.Normalizing.{attributes_of-normalized}
 use Rattle.npr_base.specs.Message.{IsMessage, IsCoherent, spelling, message_misfit}
 use Rattle.npr_route.specs.Message.{Route, under, normalized_route, IsRouteMessage, IsRouteMessageBy, IsCoherentRoute, IsCoherentRouteBy, route_bytes, route_misfit}
 use Rattle.npr_tunnel.specs.declared.encap_type.RouteLwEnCapType.TheVariants.{None as NoEncapsulation}
-use Rattle.npr_base.specs.Table.{RowReads}
+use Rattle.npr_base.specs.Table.{RowReads, written_by, unfit_by}
 
 -- ---- members of an encapsulation
 
@@ -39,23 +39,23 @@ members-marks (x ∷ xs) = rw (member-marks x, members-marks xs) refl
 
 -- ---- an attribute without next hops
 
-encap-item : (xs : List OfEncap.Meaning) → Flats.writing.writes (Flat.encap (map OfEncap.normalized xs)) ≡ Flats.writing.writes (Flat.encap xs)
+encap-item : (xs : List OfEncap.Meaning) → written_by Flats.writing (Flat.encap (map OfEncap.normalized xs)) ≡ written_by Flats.writing (Flat.encap xs)
 encap-item xs =
-    ap (λ (b : Bool). record { kind = marked b 22; value = encodings OfEncap.writing.writes (map OfEncap.normalized xs) }) (members-marks xs)
-    ∙ ap (λ (w : List ℕ). record { kind = marked (any_marks xs) 22; value = w }) (encodings-normalized OfEncap.normalized OfEncap.writing.writes OfEncapLaws.member-writes xs)
+    ap (λ (b : Bool). record { kind = marked b 22; value = encodings (written_by OfEncap.writing) (map OfEncap.normalized xs) }) (members-marks xs)
+    ∙ ap (λ (w : List ℕ). record { kind = marked (any_marks xs) 22; value = w }) (encodings-normalized OfEncap.normalized (written_by OfEncap.writing) OfEncapLaws.member-writes xs)
 
-pub flat-writes : (m : Flat.Meaning) → Flats.writing.writes (Flat.normalized m) ≡ Flats.writing.writes m
+pub flat-writes : (m : Flat.Meaning) → written_by Flats.writing (Flat.normalized m) ≡ written_by Flats.writing m
 flat-writes (Flat.encap xs) = encap-item xs
 flat-writes m = refl
 
 list-misfit : (u : Option EmitError) (w : List ℕ) → Option EmitError
 list-misfit u w = option_or (option_or u (overlong (length w))) (too_long 22 (length w))
 
-pub flat-misfit : (m : Flat.Meaning) → Flats.writing.misfit (Flat.normalized m) ≡ Flats.writing.misfit m
+pub flat-misfit : (m : Flat.Meaning) → unfit_by Flats.writing (Flat.normalized m) ≡ unfit_by Flats.writing m
 unfolding list-misfit
 flat-misfit (Flat.encap xs) =
-    ap (λ (o : Option EmitError). list-misfit o (encodings OfEncap.writing.writes (map OfEncap.normalized xs))) (unfit-normalized OfEncap.normalized OfEncap.writing.misfit OfEncapLaws.member-misfit xs)
-    ∙ ap (list-misfit (first_unfit OfEncap.writing.misfit xs)) (encodings-normalized OfEncap.normalized OfEncap.writing.writes OfEncapLaws.member-writes xs)
+    ap (λ (o : Option EmitError). list-misfit o (encodings (written_by OfEncap.writing) (map OfEncap.normalized xs))) (unfit-normalized OfEncap.normalized (unfit_by OfEncap.writing) OfEncapLaws.member-misfit xs)
+    ∙ ap (list-misfit (first_unfit (unfit_by OfEncap.writing) xs)) (encodings-normalized OfEncap.normalized (written_by OfEncap.writing) OfEncapLaws.member-writes xs)
 flat-misfit m = refl
 
 pub flat-again : (m : Flat.Meaning) → Flat.normalized (Flat.normalized m) ≡ Flat.normalized m
@@ -202,13 +202,13 @@ first_in_list outer xs = ap (first_type outer) (attributes_of-normalized xs) ∙
 
 pub message-bytes : (m : Route) → route_bytes (normalized_route m) ≡ route_bytes m
 unfolding spelling
-message-bytes m = ap (λ (w : List ℕ). header.encode m.header ++ w) (encodings-normalized normalized writing.writes writes-normalized m.attributes)
+message-bytes m = ap (λ (w : List ℕ). header.encode m.header ++ w) (encodings-normalized normalized (written_by writing) writes-normalized m.attributes)
 
 pub message-misfit : (m : Route) → route_misfit (normalized_route m) ≡ route_misfit m
 unfolding spelling message_misfit
 message-misfit m =
-    ap (λ (o : Option EmitError). option_or o (overlong (length (route_bytes (normalized_route m))))) (unfit-normalized normalized writing.misfit misfit-normalized m.attributes)
-    ∙ ap (λ (w : List ℕ). option_or (first_unfit writing.misfit m.attributes) (overlong (length w))) (message-bytes m)
+    ap (λ (o : Option EmitError). option_or o (overlong (length (route_bytes (normalized_route m))))) (unfit-normalized normalized (unfit_by writing) misfit-normalized m.attributes)
+    ∙ ap (λ (w : List ℕ). option_or (first_unfit (unfit_by writing) m.attributes) (overlong (length w))) (message-bytes m)
 
 pub message-again : (m : Route) → normalized_route (normalized_route m) ≡ normalized_route m
 message-again m = ap (λ (xs : List Meaning). record { header = m.header; attributes = xs }) (again-normalized normalized normalized-again m.attributes)

@@ -7,7 +7,7 @@ use Rattle.npr_base.specs.declared.refusal.EmitError.{EmitError}
 use Rattle.npr_base.specs.declared.refusal.EmitError.TheVariants.{Total}
 use Rattle.npr_base.specs.Framing.{encoding}
 use Rattle.npr_base.specs.Family.{checked, option_or, overlong, first_unfit, list_unfit, encodings}
-use Rattle.npr_route.specs.Attribute.{HopHead, Meaning, flat, multi_path, Hop, writes, plain_of, misfit, attributes_misfit, attributes_bytes, hops_misfit, hops_bytes, hop_misfit, hop_bytes, unfit_inside, hop_overlong, attributes_of}
+use Rattle.npr_route.specs.Attribute.{HopHead, Meaning, flat, multi_path, Hop, shape_of, misfit, attributes_misfit, attributes_bytes, hops_misfit, hops_bytes, hop_misfit, hop_bytes, hop_overlong, attributes_of}
 use Rattle.npr_route.specs.AttributeView.{hops_of, attribute_step, hop_step, meaning_of, hop_of, attribute_item, attribute_misfit, next_hop_bytes, next_hop_misfit, joined}
 use Rattle.npr_scalar.specs.RouteFlags.{next_hop_flags_bits}
 use Rattle.npr_route.specs.declared.attribute.RouteAttribute.{RouteAttribute}
@@ -78,11 +78,6 @@ pub hops_text : (xs : List RouteNextHop) → hops_bytes (hops_of (map hop_of xs)
 hops_text [] = refl
 hops_text (x ∷ xs) = ap (λ (w : List ℕ). next_hop_bytes x ++ w) (hops_text xs)
 
--- NESTED changes no value
-pub plain_value : (m : Meaning) → (plain_of m).value ≡ (writes m).value
-plain_value (flat m) = refl
-plain_value (multi_path hs) = refl
-
 -- ---- texts one after the other
 
 module _ {A : Type 0} (text : A → List ℕ) where
@@ -149,11 +144,11 @@ hop_checked h m is =
 -- a list of next hops as the value of an attribute
 pub multi_path-checked : (v : Vec RouteNextHop Global)
     → checked (option_or (first_unfit next_hop_misfit v.items) (overlong (length (joined next_hop_bytes v.items)))) (length (joined next_hop_bytes v.items))
-    ≡ checked (unfit_inside (meaning_of (MultiPath v))) (length (plain_of (meaning_of (MultiPath v))).value)
+    ≡ checked (shape_of (meaning_of (MultiPath v))).inside (length (shape_of (meaning_of (MultiPath v))).item.value)
 multi_path-checked v =
     let m = view_multi_path v in
     let both : (u : Option EmitError) (w : List ℕ) → hops_misfit (hops_of (map hop_of v.items)) ≡ u → hops_bytes (hops_of (map hop_of v.items)) ≡ w
-    → checked (option_or u (overlong (length w))) (length w) ≡ checked (unfit_inside (multi_path (hops_of (map hop_of v.items)))) (length (hops_bytes (hops_of (map hop_of v.items))))
+    → checked (option_or u (overlong (length w))) (length w) ≡ checked (shape_of (multi_path (hops_of (map hop_of v.items)))).inside (length (hops_bytes (hops_of (map hop_of v.items))))
     = λ u w p q. rw (← p, ← q) refl in
     both (first_unfit next_hop_misfit v.items) (joined next_hop_bytes v.items) (hops_fit v.items) (hops_text v.items)
-    ∙ sym (ap (λ (n : Meaning). checked (unfit_inside n) (length (plain_of n).value)) m)
+    ∙ sym (ap (λ (n : Meaning). checked (shape_of n).inside (length (shape_of n).item.value)) m)

@@ -1,14 +1,14 @@
 -- The attributes of a route message with next hops among them (linux/rtnetlink.h, RTA_*, struct rtnexthop): a next hop is
 -- a header of eight bytes and attributes, which may be next hops again.
-use Rattle.std.specs.Prelude.{◌≡◌, ◌≢◌, ℕ, ◌+◌, ◌<◌, ◌≤◌, ◌^◌, ◌⊎◌, Bool, false, List, [], ◌∷◌, ◌++◌, length, take, max, Option, Some, None}
+use Rattle.std.specs.Prelude.{◌≡◌, ◌≢◌, ℕ, ◌+◌, ◌<◌, ◌≤◌, ◌^◌, ◌⊎◌, false, List, [], ◌∷◌, ◌++◌, length, take, max, Option, Some, None}
 use Rattle.std.specs.Prelude.{nat_lt, if◌then◌else◌}
 use Rattle.std.specs.Int.{w16, w32, to_le_bytes, from_le_bytes}
 use Rattle.npr_base.specs.declared.refusal.DecodeError.{DecodeError}
 use Rattle.npr_base.specs.declared.refusal.DecodeError.TheVariants.{NextHopTooShort, NextHopLength}
 use Rattle.npr_base.specs.declared.refusal.EmitError.{EmitError}
 use Rattle.npr_base.specs.declared.refusal.EmitError.TheVariants.{NextHopTooLong, Total}
-use Rattle.npr_base.specs.Family.{option_or, too_long, overlong}
-use Rattle.npr_base.specs.Table.{plain_item, held_nested}
+use Rattle.npr_base.specs.Family.{option_or, overlong}
+use Rattle.npr_base.specs.Table.{Shape, written_as, unfit_as, written_by}
 use Rattle.npr_base.specs.Framing.{Item, number_of, encoding, Front, Fault, pad}
 use Rattle.npr_route.specs.FlatAttribute as Flat
 use Rattle.npr_route.specs.FlatAttribute.{Context}
@@ -154,37 +154,39 @@ HopWrong c bytes e =
 abbrev pub default_hop : Hop
 default_hop = record { head = record { flags = 0; hops = 0; interface_index = 0 }; attributes = no_more }
 
--- what is written: an attribute under its kind, and next hops with their lengths
+-- a next hop that is too long, by the length in its header
+abbrev pub hop_overlong : ℕ → Option EmitError
+hop_overlong len = if nat_lt len 65536 then None else if nat_lt len (2 ^ 64) then Some (NextHopTooLong len) else Some Total
+
+-- what is written, an attribute under its kind and next hops with their lengths, and why it can't be, if so: what stands
+-- inside, and then its own length
 abbrev mutual
-  pub writes : Meaning → Item
-  writes (flat m) = Flats.writing.writes m
-  writes (multi_path hs) = record { kind = 9; value = hops_bytes hs }
+  pub shape_of : Meaning → Shape
+  shape_of (flat m) = Flats.writing.shape m
+  shape_of (multi_path hs) =
+      record { item = record { kind = 9; value = hops_bytes hs }; nested = false; inside = option_or (hops_misfit hs) (overlong (length (hops_bytes hs))) }
 
   pub attributes_bytes : Attributes → List ℕ
   attributes_bytes no_more = []
-  attributes_bytes (attribute m ms) = encoding (writes m) ++ attributes_bytes ms
+  attributes_bytes (attribute m ms) = encoding (written_as (shape_of m)) ++ attributes_bytes ms
 
   pub hops_bytes : Hops → List ℕ
   hops_bytes no_hops = []
   hops_bytes (hop h ms hs) = hop_text h (attributes_bytes ms) ++ hops_bytes hs
 
--- a next hop that is too long, by the length in its header
-abbrev pub hop_overlong : ℕ → Option EmitError
-hop_overlong len = if nat_lt len 65536 then None else if nat_lt len (2 ^ 64) then Some (NextHopTooLong len) else Some Total
-
--- why it can't be written, if so: what stands inside, and then its own length
-abbrev mutual
-  pub misfit : Meaning → Option EmitError
-  misfit (flat m) = Flats.writing.misfit m
-  misfit (multi_path hs) = option_or (option_or (hops_misfit hs) (overlong (length (hops_bytes hs)))) (too_long 9 (length (hops_bytes hs)))
-
   pub attributes_misfit : Attributes → Option EmitError
   attributes_misfit no_more = None
-  attributes_misfit (attribute m ms) = option_or (misfit m) (attributes_misfit ms)
+  attributes_misfit (attribute m ms) = option_or (unfit_as (shape_of m)) (attributes_misfit ms)
 
   pub hops_misfit : Hops → Option EmitError
   hops_misfit no_hops = None
   hops_misfit (hop h ms hs) = option_or (option_or (attributes_misfit ms) (hop_overlong (8 + length (attributes_bytes ms)))) (hops_misfit hs)
+
+abbrev pub writes : Meaning → Item
+writes m = written_as (shape_of m)
+
+abbrev pub misfit : Meaning → Option EmitError
+misfit m = unfit_as (shape_of m)
 
 -- one next hop, and the cause why it can't be written
 abbrev pub hop_bytes : Hop → List ℕ
@@ -193,23 +195,10 @@ hop_bytes h = hop_text h.head (attributes_bytes h.attributes)
 abbrev pub hop_misfit : Hop → Option EmitError
 hop_misfit h = option_or (attributes_misfit h.attributes) (hop_overlong (8 + length (attributes_bytes h.attributes)))
 
--- before NESTED is set in its kind, whether it is, and why the list inside can't be written, if so
-abbrev pub plain_of : Meaning → Item
-plain_of (flat m) = plain_item (Flat.held_of m)
-plain_of (multi_path hs) = record { kind = 9; value = hops_bytes hs }
-
-abbrev pub nested_of : Meaning → Bool
-nested_of (flat m) = held_nested (Flat.held_of m)
-nested_of (multi_path hs) = false
-
-abbrev pub unfit_inside : Meaning → Option EmitError
-unfit_inside (flat m) = Flat.unfit_inside m
-unfit_inside (multi_path hs) = option_or (hops_misfit hs) (overlong (length (hops_bytes hs)))
-
 -- what can be read, the attributes of a next hop under the first type among them
 abbrev mutual
   pub CoherentBy : ModeTable → Context → Meaning → Type 0
-  CoherentBy by c (flat m) = (Flats.attributes_by by c).Coherent m × (number_of (Flats.writing.writes m).kind ≢ 9)
+  CoherentBy by c (flat m) = (Flats.attributes_by by c).Coherent m × (number_of (written_by Flats.writing m).kind ≢ 9)
   CoherentBy by c (multi_path hs) = HopsCoherentBy by c hs
 
   pub AttributesCoherentBy : ModeTable → Context → Attributes → Type 0

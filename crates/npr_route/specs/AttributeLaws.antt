@@ -7,11 +7,11 @@ use Rattle.std.proofs.lemmas.Bool.{eqb-true, cases_lt, lt-ltb, le-ltb}
 use Rattle.npr_base.specs.declared.refusal.DecodeError.{DecodeError}
 use Rattle.npr_base.specs.declared.refusal.EmitError.TheVariants.{NextHopTooLong, Total}
 use Rattle.npr_base.specs.Framing.{Item, IsBytes, Proper, written, Small, Front, number_of, marked, encoding, framed}
-use Rattle.npr_base.specs.Family.{option_or, too_long, overlong}
-use Rattle.npr_base.specs.FitLaws.{too_long-short}
+use Rattle.npr_base.specs.Family.{option_or, overlong}
+use Rattle.npr_base.specs.FitLaws.{misfit_of-none, misfit_of-short, none_both}
 use Rattle.npr_base.specs.FrontLaws.{Front-same, Front-shrinks, Front-sound, Front-takes}
-use Rattle.npr_base.specs.ListLaws.{none_both, encoding-front, Front-proper, length-encoding}
-use Rattle.npr_base.specs.Table.{Writing, Reading, Row, ReadsAt}
+use Rattle.npr_base.specs.ListLaws.{encoding-front, Front-proper, length-encoding}
+use Rattle.npr_base.specs.Table.{Writing, Reading, Row, ReadsAt, written_by}
 use Rattle.npr_base.specs.TableLaws.{one_of}
 use Rattle.npr_scalar.specs.RouteAddress.{Form, four, sixteen, label, any, form_of}
 use Rattle.npr_tunnel.specs.Encapsulation as OfEncap
@@ -23,7 +23,7 @@ use Rattle.npr_route.specs.Attribute.{HopHead, HoldsHead, hop_text, HopFront, Me
 use Rattle.npr_route.specs.Attribute.{Hops, no_hops, hop, typed, first_type, Reads, AreAttributes, AreGoverned, AreHops}
 use Rattle.npr_route.specs.Attribute.{Wrong, value_wrong, hops_wrong, AttributesWrong, GovernedWrong, governed_wrong}
 use Rattle.npr_route.specs.Attribute.{none_in_front, first_wrong, later_wrong, HopsWrong, no_hop_in_front, first_hop_wrong, later_hop_wrong}
-use Rattle.npr_route.specs.Attribute.{plain_of, nested_of, writes, attributes_bytes, hops_bytes, hop_overlong, misfit, attributes_misfit}
+use Rattle.npr_route.specs.Attribute.{shape_of, writes, attributes_bytes, hops_bytes, hop_overlong, misfit, attributes_misfit}
 use Rattle.npr_route.specs.Attribute.{hops_misfit, Coherent, AttributesCoherent, HopsCoherent, members, depth, attributes_depth, hops_depth}
 use Rattle.npr_route.specs.AttributeLooksLaws.{attribute_looking}
 use Rattle.npr_route.specs.Governing.{Governs}
@@ -125,7 +125,7 @@ numbered-reads number kept same (r ∷ rs) all k x m is p = one_of (k == r.at.ki
 
 -- the number under which an attribute is written
 abbrev written_number : Flat.Meaning → ℕ
-written_number m = number_of (Flats.writing.writes m).kind
+written_number m = number_of (written_by Flats.writing m).kind
 
 number_marked : (nested : Bool) → number_of (marked nested 22) ≡ 22
 number_marked true = refl
@@ -181,23 +181,15 @@ hop-short len e = elim (cases_lt len 65536) [
   ]
 ]
 
-pub fits-inside : (hs : Hops) → misfit (multi_path hs) ≡ None → hops_misfit hs ≡ None
-fits-inside hs h =
-    let len : ℕ = length (hops_bytes hs) in
-    (none_both (hops_misfit hs) (overlong len) (none_both (option_or (hops_misfit hs) (overlong len)) (too_long 9 len) h).0).0
+pub fits-inside : (hs : Hops) → (shape_of (multi_path hs)).inside ≡ None → hops_misfit hs ≡ None
+fits-inside hs h = (none_both (hops_misfit hs) (overlong (length (hops_bytes hs))) h).0
 
 pub kinds : (c : Context) (m : Meaning) → Coherent c m → (writes m).kind < 2 ^ 16
 kinds c (flat m) k = (Flats.attributes c).kinds m k.0
 kinds c (multi_path hs) k = omega arith
 
-pub short : (m : Meaning) → misfit m ≡ None → length (writes m).value ≤ 65531
-short (flat m) h = Flats.writing.short m h
-short (multi_path hs) h =
-    let len : ℕ = length (hops_bytes hs) in
-    too_long-short 9 len (none_both (option_or (hops_misfit hs) (overlong len)) (too_long 9 len) h).1
-
 small : (c : Context) (m : Meaning) → Coherent c m → misfit m ≡ None → Small (writes m)
-small c m k h = record { kind = kinds c m k; value = short m h }
+small c m k h = record { kind = kinds c m k; value = misfit_of-short (shape_of m).inside (shape_of m).item h }
 
 -- what is written of a next hop needs no padding
 hop-front : (h : HopHead) (inside rest : List ℕ) → HoldsHead h → 8 + length inside ≤ 65535 → length inside % 4 ≡ 0
@@ -219,7 +211,8 @@ attributes-whole (attribute m ms) =
 mutual
   pub reads-back : (c : Context) (m : Meaning) → Coherent c m → misfit m ≡ None → Reads c (writes m) m
   reads-back c (flat m) k h = (k.1, (Flats.attributes c).reads_back m k.0 h)
-  reads-back c (multi_path hs) k h = (refl, hops-back c hs k (fits-inside hs h))
+  reads-back c (multi_path hs) k h =
+      (refl, hops-back c hs k (fits-inside hs (misfit_of-none (shape_of (multi_path hs)).inside (shape_of (multi_path hs)).item h)))
 
   pub attributes-back : (c : Context) (ms : Attributes) → AttributesCoherent c ms → attributes_misfit ms ≡ None → AreAttributes c (attributes_bytes ms) ms
   attributes-back c no_more k h = refl
@@ -278,18 +271,9 @@ mutual
   hops-depth c bytes (hop h ms hs) (i, r, f, p, ps) =
       omega (arith, attributes-depth (typed c p.0) i ms p.2, hops-depth c r hs ps, HopFront-length bytes h i r f)
 
--- NESTED is set in the kind besides
-pub plain-short : (m : Meaning) → misfit m ≡ None → length (plain_of m).value ≤ 65531
-plain-short (flat m) h = short (flat m) h
-plain-short (multi_path hs) h = short (multi_path hs) h
-
-pub item-is : (m : Meaning) → written (nested_of m) (plain_of m) ≡ writes m
-item-is (flat m) = refl
-item-is (multi_path hs) = refl
-
 -- how each is written
 abbrev pub writing : Writing Meaning
-writing = record { writes = writes; misfit = misfit; members = members; short = short }
+writing = record { shape = shape_of; members = members }
 
 -- the family of attributes with next hops
 abbrev pub attributes : Context → Reading writing

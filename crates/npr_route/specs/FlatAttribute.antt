@@ -197,12 +197,6 @@ held_of (nh_id a) = held 30 (exactly le32) a
 held_of (flowlabel a) = held 31 (exactly be32) a
 held_of (other x) = held_other x
 
--- why the list inside can't be written, if so
-abbrev pub unfit_inside : Meaning → Option EmitError
-unfit_inside (metrics xs) = list_unfit metric_writing.misfit metric_writing.writes xs
-unfit_inside (encap xs) = list_unfit OfEncap.writing.misfit OfEncap.writing.writes xs
-unfit_inside m = None
-
 -- what can be read
 abbrev pub Coherent : Form → Bool → Reading OfEncap.writing → Meaning → Type 0
 Coherent form multicast family (destination a) = (address_in form).Holds a

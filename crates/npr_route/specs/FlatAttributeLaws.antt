@@ -5,7 +5,7 @@ use Rattle.npr_base.specs.Framing.{Item, marked, number_of}
 use Rattle.npr_base.specs.Layout.{le32, le64}
 use Rattle.npr_base.specs.Codec.{exactly}
 use Rattle.npr_base.specs.ListCodec.{list_of}
-use Rattle.npr_base.specs.Table.{Writing, Reading, held_kind, held_value, held_misfit, held-reads, item_of, writing_by, Aligned, ReadsAt}
+use Rattle.npr_base.specs.Table.{Writing, Reading, held_kind, held_value, held_inside, held-reads, item_of, writing_by, Aligned, ReadsAt}
 use Rattle.npr_base.specs.Looks.{Looking}
 use Rattle.npr_base.specs.LooksLaws.{no_looking, list_looking}
 use Rattle.npr_base.specs.TableLaws.{table_family, holding, looking_at, other-back}
@@ -47,7 +47,7 @@ encap-number true = refl
 encap-number false = refl
 
 pub back : (form : Form) (multicast : Bool) (family : Reading OfEncap.writing) (m : Meaning) → Coherent form multicast family m
-    → held_misfit (held_of m) ≡ None
+    → held_inside (held_of m) ≡ None
     → ReadsAt other (rows form multicast family) (number_of (item_of (held_of m)).kind) (item_of (held_of m)) m
 back form multicast family (other x) c fits = other-back other (rows form multicast family) (number_of x.kind) x c.alone
 back form multicast family (destination a) c fits = (a, (address_in form).reads_back 1 a c fits, refl)

@@ -7,7 +7,7 @@ use Rattle.npr_base.specs.ListLaws.{ReadsList-one, FirstFault-excludes, ReadsLis
 use Rattle.npr_base.specs.Counts.{Counts, raised}
 use Rattle.npr_base.specs.Looks.{Adds, Looking}
 use Rattle.npr_base.specs.LooksLaws.{plus, raised-more, list_looking}
-use Rattle.npr_base.specs.Table.{Reading, fits-small}
+use Rattle.npr_base.specs.Table.{Reading, fits-small, written_by, unfit_by}
 use Rattle.npr_tunnel.specs.declared.encap_type.RouteLwEnCapType.{RouteLwEnCapType}
 use Rattle.npr_tunnel.specs.declared.encap_type.RouteLwEnCapType.TheVariants.{None as NoEncapsulation}
 use Rattle.npr_route.specs.Attribute.{Meaning, attributes_of, attributes_depth, first_type}
@@ -38,22 +38,22 @@ route-list-coherent under bytes xs is p =
     subst (λ (t : RouteLwEnCapType). AllOf (attributes (under.0, under.1, t)).Coherent xs) first
     (ReadsList-known f.Coherent f.Reads f.reads_coherent bytes xs is p.2)
 
-pub route-list-back : (under : Under) (xs : List Meaning) → IsCoherentList under xs → first_unfit writing.misfit xs ≡ None
-    → IsRouteList under (encodings writing.writes xs) xs
+pub route-list-back : (under : Under) (xs : List Meaning) → IsCoherentList under xs → first_unfit (unfit_by writing) xs ≡ None
+    → IsRouteList under (encodings (written_by writing) xs) xs
 route-list-back under xs all fits =
     let type : RouteLwEnCapType = first_type NoEncapsulation (attributes_of xs) in
     let context : Context = (under.0, under.1, type) in
     let f : Reading writing = attributes context in
-    let p : ReadsList f.Reads (encodings writing.writes xs) xs =
-    encodings-read f.Coherent writing.misfit writing.writes f.Reads (fits-small f) f.reads_back xs all fits in
-    let all = all_read context (encodings writing.writes xs) xs p in
-    (type, first_governs NoEncapsulation context (encodings writing.writes xs) (attributes_of xs) all, p)
+    let p : ReadsList f.Reads (encodings (written_by writing) xs) xs =
+    encodings-read f.Coherent (unfit_by writing) (written_by writing) f.Reads (fits-small f) f.reads_back xs all fits in
+    let all = all_read context (encodings (written_by writing) xs) xs p in
+    (type, first_governs NoEncapsulation context (encodings (written_by writing) xs) (attributes_of xs) all, p)
 
 pub route-list-grows : (under : Under) (bytes : List ℕ) (xs : List Meaning) → IsBytes bytes → IsRouteList under bytes xs
-    → 2 * length (encodings writing.writes xs) ≤ 5 * length bytes
+    → 2 * length (encodings (written_by writing) xs) ≤ 5 * length bytes
 route-list-grows under bytes xs is (type, g, p) =
     let f : Reading writing = attributes (under.0, under.1, type) in
-    ReadsList-grows writing.writes f.Reads f.grows bytes xs is p
+    ReadsList-grows (written_by writing) f.Reads f.grows bytes xs is p
 
 pub route-list-deep : (under : Under) (bytes : List ℕ) (xs : List Meaning) → IsRouteList under bytes xs
     → 12 * attributes_depth (attributes_of xs) ≤ length bytes

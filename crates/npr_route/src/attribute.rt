@@ -3,12 +3,12 @@
 ghost use Rattle.std.specs.Prelude.{◌≡◌, IfOk};
 ghost use Rattle.std.proofs.Common.{refl};
 ghost use Rattle.npr_route.specs.{
-  Attribute.{Meaning, plain_of, nested_of},
+  Attribute.{Meaning},
   AttributeView.{meaning_of},
-  AttributeLaws.{writing, attributes, item-is, plain-short},
+  AttributeLaws.{writing, attributes},
 };
 
-use crate::descent::{check_attribute, clone_attribute, is_marked, value_len, write_value};
+use crate::descent::{check_inside, clone_attribute, is_marked, write_value};
 use crate::metrics::RouteMetric;
 use crate::next_hops::RouteNextHop;
 use crate::reader::read_next_hops;
@@ -130,12 +130,7 @@ impl RouteAttribute {
 }
 
 impl Nla for RouteAttribute {
-    ghost shape = { λ a. record {
-      item = plain_of (meaning_of a);
-      nested = nested_of (meaning_of a);
-      misfit = writing.misfit (meaning_of a);
-      short = plain-short (meaning_of a);
-    } };
+    ghost shape = { λ a. writing.shape (meaning_of a) };
 
     fn kind(&self) -> u16 {
         route_rows!(kind_rows(self;
@@ -158,12 +153,8 @@ impl Nla for RouteAttribute {
         }
     }
 
-    fn check(&self) -> Result<usize, EmitError> {
-        check_attribute(self)
-    }
-
-    fn value_len(&self) -> usize {
-        value_len(self)
+    fn check_value(&self) -> Result<usize, EmitError> {
+        check_inside(self)
     }
 
     fn write_value(&self, out: &mut [u8]) -> usize {
@@ -182,9 +173,7 @@ impl Attribute for RouteAttribute {
 
     ghost reading = { attributes };
 
-    ghost item_is = { λ a. item-is (meaning_of a) };
-
-    ghost misfit_is = { λ a. refl };
+    ghost shape_is = { λ a. refl };
 
     fn read(
         alloc: Global,

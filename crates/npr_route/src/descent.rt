@@ -7,7 +7,7 @@ ghost use Rattle.npr_base.specs.{
   Framing.{Writes, encoding, framed},
 };
 ghost use Rattle.npr_route.specs.{
-  Attribute.{plain_of, misfit, unfit_inside, hop_misfit, hop_bytes, hop_overlong},
+  Attribute.{shape_of, misfit, hop_misfit, hop_bytes, hop_overlong},
   AttributeView.{meaning_of, hop_of, attribute_item, attribute_misfit, next_hop_bytes, next_hop_misfit, joined},
   FlatAttribute.{marks, any_marks},
 };
@@ -19,7 +19,7 @@ use crate::next_hops::RouteNextHop;
 use crate::route_rows;
 use bitflags::Flags;
 use npr_base::{
-    EmitError, Nla, check_list, clone_list, clone_rows, frame, len_rows, marked_kind, total_len,
+    EmitError, Nla, check_len, check_list, clone_list, clone_rows, frame, len_rows, marked_kind, total_len,
     write_array, write_list, write_rows,
 };
 use npr_scalar::{labels_len, write_labels};
@@ -29,8 +29,8 @@ use std::alloc::{AllocError, Global};
 /// The length of the value in bytes, or the first cause why the list inside has none.
 #[inline(always)]
 #[cycle(check)]
-fn check_inside(attribute: &RouteAttribute) -> Result<usize, EmitError>
-    ensures { result ≡ checked (unfit_inside (meaning_of attribute.now)) (length (plain_of (meaning_of attribute.now)).value) }
+pub(crate) fn check_inside(attribute: &RouteAttribute) -> Result<usize, EmitError>
+    ensures { result ≡ checked (shape_of (meaning_of attribute.now)).inside (length (shape_of (meaning_of attribute.now)).item.value) }
 {
     Ok(route_rows!(len_rows(attribute;
         RouteAttribute::Via(x) => x.len(),
@@ -47,11 +47,11 @@ fn check_inside(attribute: &RouteAttribute) -> Result<usize, EmitError>
 /// The length of the encoding in bytes, or the first cause why there is none.
 #[inline(always)]
 #[cycle(check)]
-pub(crate) fn check_attribute(attribute: &RouteAttribute) -> Result<usize, EmitError>
-    ensures { result ≡ checked (misfit (meaning_of attribute.now)) (framed (length (plain_of (meaning_of attribute.now)).value)) }
+fn check_attribute(attribute: &RouteAttribute) -> Result<usize, EmitError>
+    ensures { result ≡ checked (misfit (meaning_of attribute.now)) (framed (length (shape_of (meaning_of attribute.now)).item.value)) }
 {
     let len = check_inside(attribute)?;
-    attribute.check_len(len)
+    check_len(attribute.kind(), len)
 }
 
 /// The length of all encodings in bytes, or the first cause why there are none.
@@ -102,25 +102,14 @@ fn check_hops(hops: &[RouteNextHop]) -> Result<usize, EmitError>
     total_len(total)
 }
 
-/// The length of the value, in bytes. Asks that `check_attribute` accepts.
-pub(crate) fn value_len(attribute: &RouteAttribute) -> usize
-    requires { misfit (meaning_of attribute.now) ≡ None }
-    ensures { result ≡ length (plain_of (meaning_of attribute.now)).value }
-{
-    match check_inside(attribute) {
-        Ok(len) => len,
-        Err(_) => unreachable!(),
-    }
-}
-
 /// Writes the value at the front of the slice, leaves the rest, and answers the value's length.
 #[inline(always)]
 #[cycle(write)]
 pub(crate) fn write_value(attribute: &RouteAttribute, out: &mut [u8]) -> usize
-    requires fits { misfit (meaning_of attribute.now) ≡ None }
-    requires room { length (plain_of (meaning_of attribute.now)).value ≤ length out.old }
-    ensures len { result ≡ length (plain_of (meaning_of attribute.now)).value }
-    ensures after { Writes out.old out.new (plain_of (meaning_of attribute.now)).value }
+    requires fits { (shape_of (meaning_of attribute.now)).inside ≡ None }
+    requires room { length (shape_of (meaning_of attribute.now)).item.value ≤ length out.old }
+    ensures len { result ≡ length (shape_of (meaning_of attribute.now)).item.value }
+    ensures after { Writes out.old out.new (shape_of (meaning_of attribute.now)).item.value }
 {
     route_rows!(write_rows(attribute, out;
         RouteAttribute::Via(x) => x.write(out),
@@ -139,10 +128,10 @@ pub(crate) fn write_value(attribute: &RouteAttribute, out: &mut [u8]) -> usize
 #[inline(never)]
 #[cycle(write)]
 fn write_inside(attribute: &RouteAttribute, out: &mut [u8]) -> usize
-    requires fits { misfit (meaning_of attribute.now) ≡ None }
-    requires room { length (plain_of (meaning_of attribute.now)).value ≤ length out.old }
-    ensures len { result ≡ length (plain_of (meaning_of attribute.now)).value }
-    ensures after { Writes out.old out.new (plain_of (meaning_of attribute.now)).value }
+    requires fits { (shape_of (meaning_of attribute.now)).inside ≡ None }
+    requires room { length (shape_of (meaning_of attribute.now)).item.value ≤ length out.old }
+    ensures len { result ≡ length (shape_of (meaning_of attribute.now)).item.value }
+    ensures after { Writes out.old out.new (shape_of (meaning_of attribute.now)).item.value }
 {
     write_value(attribute, out)
 }
@@ -151,8 +140,8 @@ fn write_inside(attribute: &RouteAttribute, out: &mut [u8]) -> usize
 #[cycle(write)]
 fn write_attribute(attribute: &RouteAttribute, out: &mut [u8]) -> usize
     requires fits { misfit (meaning_of attribute.now) ≡ None }
-    requires room { framed (length (plain_of (meaning_of attribute.now)).value) ≤ length out.old }
-    ensures len { result ≡ framed (length (plain_of (meaning_of attribute.now)).value) }
+    requires room { framed (length (shape_of (meaning_of attribute.now)).item.value) ≤ length out.old }
+    ensures len { result ≡ framed (length (shape_of (meaning_of attribute.now)).item.value) }
     ensures after { Writes out.old out.new (encoding (attribute_item attribute.now)) }
 {
     let kind = marked_kind(attribute.kind(), attribute.is_nested());

@@ -160,10 +160,6 @@ impl Emitable for RouteHeader {
         Ok(12)
     }
 
-    fn buffer_len(&self) -> usize {
-        12
-    }
-
     #[inline(never)]
     fn emit(&self, out: &mut [u8]) {
         write_array(RouteMessageBuffer::from(self).to_bytes(), out);

@@ -1,7 +1,6 @@
 //! The metrics of a route: `RTAX_*` of `linux/rtnetlink.h`.
 
-ghost use Rattle.std.specs.Prelude.{◌≡◌, ◌<◌, ◌+◌, ◌*◌, length, IfOk};
-ghost use Rattle.npr_base.specs.Table.{shape_by};
+ghost use Rattle.std.specs.Prelude.{◌≡◌, ◌<◌, ◌*◌, IfOk};
 ghost use Rattle.std.proofs.Common.{refl};
 ghost use Rattle.npr_route.specs.Metric.{Metric, metric_of, writing, metrics};
 
@@ -92,7 +91,7 @@ impl RouteMetric {
 const FAMILY: AttrFamily = AttrFamily::Metric;
 
 impl Nla for RouteMetric {
-    ghost shape = { λ a. shape_by writing (metric_of a) };
+    ghost shape = { λ a. writing.shape (metric_of a) };
 
     fn kind(&self) -> u16 {
         rows!(kind_rows(self))
@@ -102,14 +101,8 @@ impl Nla for RouteMetric {
         false
     }
 
-    fn check(&self) -> Result<usize, EmitError> {
-        self.check_len(self.value_len())
-    }
-
-    fn value_len(&self) -> usize
-        ensures { result ≡ length (writing.writes (metric_of self.now)).value }
-    {
-        rows!(len_rows(self))
+    fn check_value(&self) -> Result<usize, EmitError> {
+        Ok(rows!(len_rows(self)))
     }
 
     fn write_value(&self, out: &mut [u8]) -> usize {
@@ -128,9 +121,7 @@ impl Attribute for RouteMetric {
 
     ghost reading = { λ _. metrics };
 
-    ghost item_is = { λ a. refl };
-
-    ghost misfit_is = { λ a. refl };
+    ghost shape_is = { λ a. refl };
 
     fn read(
         alloc: Global,

@@ -62,13 +62,6 @@ impl Emitable for RouteNextHop {
         check_hop(self)
     }
 
-    fn buffer_len(&self) -> usize {
-        match check_hop(self) {
-            Ok(len) => len,
-            Err(_) => unreachable!(),
-        }
-    }
-
     fn emit(&self, out: &mut [u8]) {
         write_hop(self, out);
     }

@@ -1,6 +1,6 @@
 -- A protocol over IP as a value of one byte. A number that no byte holds can't be written.
 use Rattle.std.specs.Prelude.{ℕ, Option, Some, None}
-use Rattle.std.proofs.Common.{refl, arith}
+use Rattle.std.proofs.Common.{refl}
 use Rattle.npr_base.specs.declared.refusal.EmitError.{EmitError}
 use Rattle.npr_base.specs.declared.refusal.EmitError.TheVariants.{IpProtocol as NoByte}
 use Rattle.npr_base.specs.Codec.{Codec, exactly}
@@ -20,13 +20,12 @@ ip_protocol_byte = record {
   Reads = (exactly ip_protocol).Reads;
   Wrong = (exactly ip_protocol).Wrong;
   writes = ip_protocol.encode;
-  misfit = λ kind x. protocol_misfit x;
+  inside = λ kind x. protocol_misfit x;
   Holds = ip_protocol.Holds;
   members = λ x. 0;
   one_reading = (exactly ip_protocol).one_reading;
   no_fault = (exactly ip_protocol).no_fault;
   reads_holds = (exactly ip_protocol).reads_holds;
-  fits_short = λ kind x h. omega arith;
   reads_back = λ kind x h fits. (exactly ip_protocol).reads_back 0 x h refl;
   grows = (exactly ip_protocol).grows;
 }

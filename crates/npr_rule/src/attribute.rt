@@ -1,9 +1,8 @@
 //! The attributes of a rule message: `FRA_*` of `linux/fib_rules.h`.
 
-ghost use Rattle.std.specs.Prelude.{◌≡◌, ◌≢◌, ◌<◌, ◌+◌, ◌*◌, None, length, IfOk, IfErr};
+ghost use Rattle.std.specs.Prelude.{◌≡◌, ◌≢◌, ◌<◌, ◌*◌, None, IfOk, IfErr};
 ghost use Rattle.std.proofs.Common.{refl};
 ghost use Rattle.npr_base.specs.{
-  Table.{shape_by},
   Family.{checked},
   declared.refusal.DecodeError.TheVariants.{OutOfMemory},
 };
@@ -109,7 +108,7 @@ impl RuleAttribute {
 const FAMILY: AttrFamily = AttrFamily::Rule;
 
 impl Nla for RuleAttribute {
-    ghost shape = { λ a. shape_by writing (meaning_of a) };
+    ghost shape = { λ a. writing.shape (meaning_of a) };
 
     fn kind(&self) -> u16 {
         rows!(kind_rows(self))
@@ -119,17 +118,11 @@ impl Nla for RuleAttribute {
         false
     }
 
-    fn check(&self) -> Result<usize, EmitError> {
+    fn check_value(&self) -> Result<usize, EmitError> {
         match self {
             RuleAttribute::IpProtocol(protocol) => check_protocol(*protocol),
-            _ => self.check_len(self.value_len()),
+            _ => Ok(rows!(len_rows(self))),
         }
-    }
-
-    fn value_len(&self) -> usize
-        ensures { result ≡ length (writing.writes (meaning_of self.now)).value }
-    {
-        rows!(len_rows(self))
     }
 
     fn write_value(&self, out: &mut [u8]) -> usize {
@@ -137,15 +130,15 @@ impl Nla for RuleAttribute {
     }
 }
 
-/// The length of the encoding of a protocol: 8 bytes.
+/// The length of the value of a protocol: 1 byte.
 ///
 /// # Errors
 /// `IpProtocol` where no byte holds its number.
 fn check_protocol(protocol: IpProtocol) -> Result<usize, EmitError>
-    ensures { result ≡ checked (protocol_misfit protocol) 8 }
+    ensures { result ≡ checked (protocol_misfit protocol) 1 }
 {
     match protocol.as_u8() {
-        Some(_) => Ok(8),
+        Some(_) => Ok(1),
         None => Err(EmitError::IpProtocol {
             number: i32::from(protocol),
         }),
@@ -187,9 +180,7 @@ impl Attribute for RuleAttribute {
 
     ghost reading = { λ _. attributes };
 
-    ghost item_is = { λ a. refl };
-
-    ghost misfit_is = { λ a. refl };
+    ghost shape_is = { λ a. refl };
 
     fn read(
         alloc: Global,

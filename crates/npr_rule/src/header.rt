@@ -149,10 +149,6 @@ impl Emitable for RuleHeader {
         Ok(12)
     }
 
-    fn buffer_len(&self) -> usize {
-        12
-    }
-
     #[inline(never)]
     fn emit(&self, out: &mut [u8]) {
         write_array(RuleMessageBuffer::from(self).to_bytes(), out);

@@ -64,10 +64,6 @@ impl Emitable for RulePortRange {
         Ok(4)
     }
 
-    fn buffer_len(&self) -> usize {
-        4
-    }
-
     fn emit(&self, out: &mut [u8]) {
         write_array(self.to_bytes(), out);
     }

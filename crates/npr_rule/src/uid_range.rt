@@ -64,10 +64,6 @@ impl Emitable for RuleUidRange {
         Ok(8)
     }
 
-    fn buffer_len(&self) -> usize {
-        8
-    }
-
     fn emit(&self, out: &mut [u8]) {
         write_array(self.to_bytes(), out);
     }

@@ -5,8 +5,6 @@ use Rattle.npr_base.specs.declared.address_family.AddressFamily.{AddressFamily}
 use Rattle.npr_base.specs.declared.address_family.AddressFamily.TheVariants.{Inet, Inet6, Mpls}
 use Rattle.npr_base.specs.declared.ip.IpAddr.{IpAddr}
 use Rattle.npr_base.specs.declared.ip.IpAddr.TheVariants.{V4, V6}
-use Rattle.npr_base.specs.Family.{too_long}
-use Rattle.npr_base.specs.FitLaws.{too_long-short}
 use Rattle.npr_base.specs.Framing.{IsBytes, framed}
 use Rattle.npr_base.specs.Layout.{octets}
 use Rattle.npr_base.specs.Codec.{Codec, exactly, raw}
@@ -51,17 +49,16 @@ route_address_bytes (other v) = v
 
 -- four bytes, sixteen, one label of four bytes, or any bytes as they stand
 abbrev pub address_by : Form → Codec Address
-address_by four = variant (exactly (octets 4)) inet route_address_bytes (λ v. refl) (λ kind v h. h)
-address_by sixteen = variant (exactly (octets 16)) inet6 route_address_bytes (λ v. refl) (λ kind v h. h)
-address_by label = variant (exactly mpls_label) mpls route_address_bytes (λ v. refl) (λ kind v h. h)
-address_by any = variant raw other route_address_bytes (λ v. refl) (λ kind v h. h)
+address_by four = variant (exactly (octets 4)) inet route_address_bytes (λ v. refl) (λ v. refl)
+address_by sixteen = variant (exactly (octets 16)) inet6 route_address_bytes (λ v. refl) (λ v. refl)
+address_by label = variant (exactly mpls_label) mpls route_address_bytes (λ v. refl) (λ v. refl)
+address_by any = variant raw other route_address_bytes (λ v. refl) (λ v. refl)
 
-pub address-back : (form : Form) (kind : ℕ) (a : Address) → (address_by form).Holds a → too_long kind (length (route_address_bytes a)) ≡ None
-    → (address_by form).Reads (route_address_bytes a) a
-address-back four kind a h fits = (address_by four).reads_back kind a h fits
-address-back sixteen kind a h fits = (address_by sixteen).reads_back kind a h fits
-address-back label kind a h fits = (address_by label).reads_back kind a h fits
-address-back any kind a h fits = (address_by any).reads_back kind a h fits
+pub address-back : (form : Form) (a : Address) → (address_by form).Holds a → (address_by form).Reads (route_address_bytes a) a
+address-back four a h = (address_by four).reads_back 0 a h refl
+address-back sixteen a h = (address_by sixteen).reads_back 0 a h refl
+address-back label a h = (address_by label).reads_back 0 a h refl
+address-back any a h = (address_by any).reads_back 0 a h refl
 
 pub address-grows : (form : Form) (bytes : List ℕ) (a : Address) → IsBytes bytes → (address_by form).Reads bytes a
     → 2 * framed (length (route_address_bytes a)) ≤ 5 * (4 + length bytes)
@@ -76,14 +73,13 @@ address_in form = record {
   Reads = (address_by form).Reads;
   Wrong = (address_by form).Wrong;
   writes = route_address_bytes;
-  misfit = λ kind a. too_long kind (length (route_address_bytes a));
+  inside = λ kind a. None;
   Holds = (address_by form).Holds;
   members = λ a. 0;
   one_reading = (address_by form).one_reading;
   no_fault = (address_by form).no_fault;
   reads_holds = (address_by form).reads_holds;
-  fits_short = λ kind a h. too_long-short kind (length (route_address_bytes a)) h;
-  reads_back = address-back form;
+  reads_back = λ kind a h fits. address-back form a h;
   grows = address-grows form;
 }
 

@@ -1,5 +1,5 @@
 -- A gateway of a family of its own (linux/rtnetlink.h, struct rtvia): two bytes of family, and an address.
-use Rattle.std.specs.Prelude.{◌≡◌, ◌≢◌, ℕ, ◌+◌, ◌*◌, ◌<◌, ◌≤◌, ◌^◌, ◌⊎◌, List, ◌++◌, length, drop}
+use Rattle.std.specs.Prelude.{◌≡◌, ◌≢◌, ℕ, ◌+◌, ◌*◌, ◌<◌, ◌≤◌, ◌^◌, ◌⊎◌, List, ◌++◌, length, drop, None}
 use Rattle.std.specs.Int.{w16, to_le_bytes}
 use Rattle.std.proofs.Common.{refl, sym, ap, subst, ◌∙◌, arith, inl, inr, length-drop}
 use Rattle.std.proofs.lemmas.Nat.{from_le_bytes-to_le_bytes_2}
@@ -12,8 +12,6 @@ use Rattle.npr_base.specs.AddressFamily.{family_of, family_number}
 use Rattle.npr_base.specs.AddressFamilyLaws.{family_number-family_of, family_of_IsFormed}
 use Rattle.npr_base.specs.Rows.{IsFormed}
 use Rattle.npr_base.specs.Framing.{IsBytes, framed}
-use Rattle.npr_base.specs.Family.{too_long}
-use Rattle.npr_base.specs.FitLaws.{too_long-short}
 use Rattle.npr_base.specs.CodecLaws.{framed-grows}
 use Rattle.npr_base.specs.ListLaws.{IsBytes-drop}
 use Rattle.npr_base.specs.Layout.{le16_at}
@@ -163,7 +161,7 @@ via_value = record {
   Reads = IsVia;
   Wrong = NotVia;
   writes = via_bytes;
-  misfit = λ kind v. too_long kind (length (via_bytes v));
+  inside = λ kind v. None;
   Holds = HoldsVia;
   members = λ v. 0;
   one_reading = λ bytes v w p q. gateway-one (family_of (le16_at bytes 0)) (via_form_of (family_of (le16_at bytes 0))) (drop 2 bytes) v w p.address q.address;
@@ -171,7 +169,6 @@ via_value = record {
   reads_holds =
       λ bytes v is p. gateway-holds (le16_at bytes 0) (via_form_of (family_of (le16_at bytes 0))) refl p.small (drop 2 bytes) v
       (IsBytes-drop 2 bytes is) p.address;
-  fits_short = λ kind v h. too_long-short kind (length (via_bytes v)) h;
   reads_back = λ kind v h fits. via-back v h;
   grows = λ bytes v is p. via-grows bytes v p;
 }

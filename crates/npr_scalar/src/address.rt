@@ -157,10 +157,6 @@ impl Emitable for RouteAddress {
         Ok(self.len())
     }
 
-    fn buffer_len(&self) -> usize {
-        self.len()
-    }
-
     fn emit(&self, out: &mut [u8]) {
         self.write(out);
     }

@@ -88,10 +88,6 @@ impl Emitable for RouteCacheInfo {
         Ok(32)
     }
 
-    fn buffer_len(&self) -> usize {
-        32
-    }
-
     fn emit(&self, out: &mut [u8]) {
         write_array(self.to_bytes(), out);
     }

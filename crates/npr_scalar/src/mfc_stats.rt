@@ -68,10 +68,6 @@ impl Emitable for RouteMfcStats {
         Ok(24)
     }
 
-    fn buffer_len(&self) -> usize {
-        24
-    }
-
     fn emit(&self, out: &mut [u8]) {
         write_array(self.to_bytes(), out);
     }

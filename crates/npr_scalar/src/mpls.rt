@@ -78,10 +78,6 @@ impl Emitable for MplsLabel {
         Ok(4)
     }
 
-    fn buffer_len(&self) -> usize {
-        4
-    }
-
     fn emit(&self, out: &mut [u8]) {
         write_array(u32::from(*self).to_be_bytes(), out);
     }

@@ -59,10 +59,6 @@ impl Emitable for RouteRealm {
         Ok(4)
     }
 
-    fn buffer_len(&self) -> usize {
-        4
-    }
-
     fn emit(&self, out: &mut [u8]) {
         write_array(u32::from(*self).to_le_bytes(), out);
     }

@@ -128,10 +128,6 @@ impl Emitable for RouteProtocol {
         Ok(1)
     }
 
-    fn buffer_len(&self) -> usize {
-        1
-    }
-
     fn emit(&self, out: &mut [u8]) {
         write_array([u8::from(*self)], out);
     }

@@ -214,10 +214,6 @@ impl Emitable for RouteVia {
         Ok(self.len())
     }
 
-    fn buffer_len(&self) -> usize {
-        self.len()
-    }
-
     fn emit(&self, out: &mut [u8]) {
         self.write(out);
     }

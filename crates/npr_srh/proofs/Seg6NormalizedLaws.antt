@@ -1,15 +1,15 @@
 -- Headers and members of an older table of modes, brought up to the table of today: they are written by the same bytes, and
 -- what bytes meant, they mean brought up.
 use Rattle.std.proofs.Common.{◌≡◌, ℕ, ◌<◌, ◌^◌, List, length, refl, sym, ap, subst, ◌∙◌}
-use Rattle.npr_base.specs.Family.{option_or, too_long}
+use Rattle.npr_base.specs.Family.{misfit_of, option_or, too_long}
 use Rattle.npr_base.specs.Framing.{Item, number_of}
 use Rattle.npr_base.proofs.NormalizedLaws.{Normalizes, rows-normalized}
 use Rattle.npr_base.specs.RowLaws.{form_IsFormed}
-use Rattle.npr_base.specs.Table.{item_of, held_misfit}
+use Rattle.npr_base.specs.Table.{item_of, unfit_by}
 use Rattle.npr_srh.specs.Segments.{too_many}
 use Rattle.npr_srh.specs.Seg6.{Seg6, IsSeg6, IsSeg6By, HoldsSeg6By, seg6_bytes, seg6_misfit, most_segments, decode_message, normalized as normalized_header}
 use Rattle.npr_srh.specs.Seg6Mode.{ModeTable, modes, mode_of, mode_number, mode_number-mode_in, mode_number-mode_of}
-use Rattle.npr_srh.specs.Seg6Tunnel.{Meaning, header, src, table, other, normalized, rows, held_of, attributes, attributes_by}
+use Rattle.npr_srh.specs.Seg6Tunnel.{Meaning, writing, header, src, table, other, normalized, rows, held_of, attributes, attributes_by}
 use Rattle.npr_srh.specs.declared.seg6_mode.Seg6Mode.{Seg6Mode}
 
 -- ---- a header
@@ -20,10 +20,6 @@ header-mode h = mode_number-mode_of (mode_number h.mode)
 
 pub header-bytes : (h : Seg6) → seg6_bytes (normalized_header h) ≡ seg6_bytes h
 header-bytes h = rw (header-mode h) refl
-
-pub header-misfit : (kind : ℕ) (h : Seg6) → seg6_misfit kind (normalized_header h) ≡ seg6_misfit kind h
-header-misfit kind h =
-    ap (λ (b : List ℕ). option_or (too_long kind (length b)) (too_many (most_segments h.hmac) (length h.segments))) (header-bytes h)
 
 pub header-again : (h : Seg6) → normalized_header (normalized_header h) ≡ normalized_header h
 header-again h = ap (λ (m : Seg6Mode). record { mode = m; segments = h.segments; hmac = h.hmac }) (ap mode_of (header-mode h))
@@ -61,8 +57,10 @@ member-item (src a) = refl
 member-item (table n) = refl
 member-item (other x) = refl
 
-pub member-misfit : (m : Meaning) → held_misfit (held_of (normalized m)) ≡ held_misfit (held_of m)
-member-misfit (header h) = header-misfit 1 h
+pub member-misfit : (m : Meaning) → unfit_by writing (normalized m) ≡ unfit_by writing m
+member-misfit (header h) =
+    let few = too_many (most_segments h.hmac) (length h.segments) in
+    ap (λ (b : List ℕ). misfit_of (option_or (too_long 1 (length b)) few) (record { kind = 1; value = b })) (header-bytes h)
 member-misfit (src a) = refl
 member-misfit (table n) = refl
 member-misfit (other x) = refl

@@ -12,9 +12,8 @@ use Rattle.npr_base.specs.declared.refusal.DecodeError.TheVariants.{Unsupported}
 use Rattle.npr_base.specs.declared.refusal.EmitError.{EmitError}
 use Rattle.npr_base.specs.Framing.{IsBytes, framed}
 use Rattle.npr_base.specs.Family.{AllOf, option_or, too_long}
-use Rattle.npr_base.specs.FitLaws.{too_long-short}
 use Rattle.npr_base.specs.CodecLaws.{framed-grows}
-use Rattle.npr_base.specs.ListLaws.{none_both, IsBytes-left, IsBytes-right}
+use Rattle.npr_base.specs.ListLaws.{IsBytes-left, IsBytes-right}
 use Rattle.npr_base.specs.V6List.{IsV6List}
 use Rattle.npr_base.specs.V6ListLaws.{same_parts, length-concat, v6_list-one, v6_list-bytes}
 use Rattle.npr_base.specs.Codec.{Codec}
@@ -143,15 +142,12 @@ headed L = record {
   Reads = IsHeaded L;
   Wrong = λ at bytes e. IsUnread L bytes × (e ≡ Unsupported at);
   writes = headed_bytes L;
-  misfit = headed_misfit L;
+  inside = headed_misfit L;
   Holds = HoldsHeaded L;
   members = λ h. 0;
   one_reading = headed-one L;
   no_fault = λ at bytes h e p q. q.0 h p;
   reads_holds = headed-holds L;
-  fits_short =
-      λ kind h fits. too_long-short kind (length (headed_bytes L h))
-      (none_both (too_long kind (length (headed_bytes L h))) (too_many 127 (length h.segments)) fits).0;
   reads_back = λ kind h holds fits. headed-back L h holds;
   grows = headed-grows L;
 }

@@ -3,7 +3,7 @@ use Rattle.std.proofs.Common.{◌≡◌, ◌+◌, ◌*◌, ◌<◌, ◌≤◌, �
 use Rattle.npr_base.specs.declared.refusal.DecodeError.{DecodeError}
 use Rattle.npr_base.specs.Framing.{Item, Proper, framed, number_of}
 use Rattle.npr_base.specs.CodecLaws.{framed-grows}
-use Rattle.npr_base.specs.Table.{Reading, Row, Table, item_of, writing_by}
+use Rattle.npr_base.specs.Table.{Reading, Row, Table, item_of, writing_by, written_by, unfit_by}
 use Rattle.npr_base.specs.TableLaws.{table_family}
 
 -- the attribute has the row's number, and its value means nothing there
@@ -44,20 +44,20 @@ module _ {M : Type 0} (t : Table M) (r : Row M) where
   keeping-coherent x m proper (inl p) = inl ((table_family t).reads_coherent x m proper p)
   keeping-coherent x m proper (inr p) = inr (x, proper, p)
 
-  pub keeping-kinds : (m : M) → CoherentOrKept t r m → ((writing_by t.held_of).writes m).kind < 2 ^ 16
+  pub keeping-kinds : (m : M) → CoherentOrKept t r m → (written_by (writing_by t.held_of) m).kind < 2 ^ 16
   keeping-kinds m (inl c) = (table_family t).kinds m c
   keeping-kinds m (inr (x, proper, k)) = subst (λ (y : Item). y.kind < 2 ^ 16) (sym (kept-is x m k.is)) proper.kind
 
-  pub keeping-back : (m : M) → CoherentOrKept t r m → (writing_by t.held_of).misfit m ≡ None
-      → (table_family t).Reads ((writing_by t.held_of).writes m) m ⊎ IsKept t.other r ((writing_by t.held_of).writes m) m
+  pub keeping-back : (m : M) → CoherentOrKept t r m → unfit_by (writing_by t.held_of) m ≡ None
+      → (table_family t).Reads (written_by (writing_by t.held_of) m) m ⊎ IsKept t.other r (written_by (writing_by t.held_of) m) m
   keeping-back m (inl c) fits = inl ((table_family t).reads_back m c fits)
   keeping-back m (inr (x, proper, k)) fits = inr (subst (λ (y : Item). IsKept t.other r y m) (sym (kept-is x m k.is)) k)
 
   pub keeping-grows : (x : Item) (m : M) → Proper x → (table_family t).Reads x m ⊎ IsKept t.other r x m
-      → 2 * framed (length ((writing_by t.held_of).writes m).value) ≤ 5 * (4 + length x.value)
+      → 2 * framed (length (written_by (writing_by t.held_of) m).value) ≤ 5 * (4 + length x.value)
   keeping-grows x m proper (inl p) = (table_family t).grows x m proper p
   keeping-grows x m proper (inr k) =
-      framed-grows (length ((writing_by t.held_of).writes m).value) (length x.value) (omega (arith, ap (λ (y : Item). length y.value) (kept-is x m k.is)))
+      framed-grows (length (written_by (writing_by t.held_of) m).value) (length x.value) (omega (arith, ap (λ (y : Item). length y.value) (kept-is x m k.is)))
 
 -- the family: `here` says that the row is the table's at its number
 abbrev pub keeping : {M : Type 0} (t : Table M) (r : Row M) → IsRowOf t r → Reading (writing_by t.held_of)

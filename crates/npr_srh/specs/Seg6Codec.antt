@@ -11,10 +11,10 @@ use Rattle.npr_base.specs.declared.refusal.Seg6Fault.{Seg6Fault}
 use Rattle.npr_base.specs.declared.refusal.Seg6Fault.TheVariants.{Short, Length, Hmac, Segments}
 use Rattle.npr_base.specs.Framing.{IsBytes, framed}
 use Rattle.npr_base.specs.Family.{AllOf, too_long}
-use Rattle.npr_base.specs.FitLaws.{too_long-short}
+use Rattle.npr_base.specs.FitLaws.{none_both}
 use Rattle.npr_base.specs.CodecLaws.{framed-grows}
 use Rattle.npr_base.specs.LayoutLaws.{be32-holds}
-use Rattle.npr_base.specs.ListLaws.{none_both, IsBytes-left, IsBytes-right, IsBytes-take}
+use Rattle.npr_base.specs.ListLaws.{IsBytes-left, IsBytes-right, IsBytes-take}
 use Rattle.npr_base.specs.V6ListLaws.{same_parts, AllOf-reverse, length-concat, v6_list-one, v6_list-bytes}
 use Rattle.npr_base.specs.RowLaws.{form_IsFormed}
 use Rattle.npr_base.specs.Rows.{IsFormed}
@@ -180,15 +180,12 @@ seg6_by table = record {
   Reads = IsSeg6By table;
   Wrong = λ at bytes e. Seg6Wrong bytes e;
   writes = seg6_bytes;
-  misfit = seg6_misfit;
+  inside = seg6_misfit;
   Holds = HoldsSeg6By table;
   members = λ h. 0;
   one_reading = seg6-one table;
   no_fault = seg6-sound table;
   reads_holds = seg6-holds table;
-  fits_short =
-      λ kind h fits. too_long-short kind (length (seg6_bytes h))
-      (none_both (too_long kind (length (seg6_bytes h))) (too_many (most_segments h.hmac) (length h.segments)) fits).0;
   reads_back = seg6-back table;
   grows = seg6-grows table;
 }

@@ -6,7 +6,7 @@ use Rattle.npr_base.specs.Framing.{Item, number_of}
 use Rattle.npr_base.specs.Codec.{exactly}
 use Rattle.npr_base.specs.Layout.{le32, octets}
 use Rattle.npr_base.specs.Table.{Writing, Reading, table_of, Row, row, Held, held, held_other, held_kind, held_value}
-use Rattle.npr_base.specs.Table.{held_misfit, held-reads, IsHeld, item_of, writing_by, IsOther, Aligned, ReadsAt}
+use Rattle.npr_base.specs.Table.{held_inside, held-reads, IsHeld, item_of, writing_by, IsOther, Aligned, ReadsAt}
 use Rattle.npr_base.specs.TableLaws.{table_family, other-back}
 use Rattle.npr_srh.specs.Seg6.{Seg6 as Header, seg6_of, normalized as normalized_header}
 use Rattle.npr_srh.specs.Seg6Codec.{seg6, seg6_by}
@@ -64,7 +64,7 @@ pub kinds : (by : ModeTable) (m : Meaning) → Coherent by m → held_kind (held
 kinds by (other x) c = c.proper.kind
 kinds by m c = omega arith
 
-pub back : (by : ModeTable) (m : Meaning) → Coherent by m → held_misfit (held_of m) ≡ None
+pub back : (by : ModeTable) (m : Meaning) → Coherent by m → held_inside (held_of m) ≡ None
     → ReadsAt other (rows by) (number_of (item_of (held_of m)).kind) (item_of (held_of m)) m
 back by (other x) c fits = other-back other (rows by) (number_of x.kind) x c.alone
 back by (header h) c fits = (h, (seg6_by by).reads_back 1 h c fits, refl)

@@ -1,12 +1,10 @@
 -- The header of an IOAM trace (RFC 9197, section 4.4.1; linux/ioam6.h, struct ioam6_trace_hdr): eight bytes.
-use Rattle.std.specs.Prelude.{◌≡◌, ℕ, ◌+◌, ◌*◌, ◌/◌, ◌%◌, ◌<◌, ◌^◌, ◌==◌, Bool, true, false, List, ◌∷◌, ◌++◌, length, slice_index, codes, decimal}
+use Rattle.std.specs.Prelude.{◌≡◌, ℕ, ◌+◌, ◌*◌, ◌/◌, ◌%◌, ◌<◌, ◌^◌, ◌==◌, Bool, true, false, List, ◌∷◌, ◌++◌, length, slice_index, codes, decimal, None}
 use Rattle.std.specs.Int.{w16, w32, to_be_bytes}
 use Rattle.std.proofs.Common.{refl, ap, ◌∙◌, arith}
 use Rattle.std.proofs.lemmas.Nat.{from_be_bytes-to_be_bytes_2, from_be_bytes-to_be_bytes_4}
 use Rattle.npr_base.specs.declared.refusal.DecodeError.TheVariants.{Unsupported}
 use Rattle.npr_base.specs.Framing.{IsBytes}
-use Rattle.npr_base.specs.Family.{too_long}
-use Rattle.npr_base.specs.FitLaws.{too_long-short}
 use Rattle.npr_base.specs.Layout.{Layout, be16_at, be32_at, truth_byte}
 use Rattle.npr_base.specs.CodecLaws.{exactly-one, exactly-holds, exactly-back, exactly-grows}
 use Rattle.npr_base.specs.Codec.{Codec}
@@ -83,14 +81,13 @@ trace = record {
   Reads = IsTrace;
   Wrong = λ at bytes e. ((t : Ioam6TraceHdr) → IsTrace bytes t → ⊥) × (e ≡ Unsupported at);
   writes = encode_trace;
-  misfit = λ kind t. too_long kind (length (encode_trace t));
+  inside = λ kind t. None;
   Holds = HoldsTrace;
   members = λ t. 0;
   one_reading = exactly-one trace_layout;
   no_fault = λ at bytes t e p q. q.0 t p;
   reads_holds = exactly-holds trace_layout;
-  fits_short = λ kind t h. too_long-short kind (length (encode_trace t)) h;
-  reads_back = exactly-back trace_layout;
+  reads_back = λ kind t h fits. exactly-back trace_layout t h;
   grows = exactly-grows trace_layout;
 }
 

@@ -1,10 +1,10 @@
 //! IOAM6: traces in packets (RFC 9197; `linux/ioam6.h` and `linux/ioam6_iptunnel.h`).
 
 ghost use Rattle.std.specs.{
-  Prelude.{◌≡◌, ◌≢◌, length, IfOk, IfErr, IfSome, IfNone, refl, Some},
+  Prelude.{◌≡◌, ◌≢◌, IfOk, IfErr, IfSome, IfNone, refl, Some},
   Fmt.{WritesOnOk},
 };
-ghost use Rattle.npr_base.specs.Table.{shape_by, shape_at, held};
+ghost use Rattle.npr_base.specs.Table.{shape_at, held};
 ghost use Rattle.npr_base.specs.declared.refusal.DecodeError.TheVariants.{OutOfMemory};
 ghost use Rattle.npr_srh.specs.{
   Ioam6Mode.{ioam6_mode_of, ioam6_mode_number, ioam6_mode_text},
@@ -131,14 +131,8 @@ impl Nla for Ioam6TraceHdr {
         false
     }
 
-    fn check(&self) -> Result<usize, EmitError> {
-        check_len(IOAM6_IPTUNNEL_TRACE, self.value_len())
-    }
-
-    fn value_len(&self) -> usize
-        ensures { result ≡ 8 }
-    {
-        8
+    fn check_value(&self) -> Result<usize, EmitError> {
+        Ok(8)
     }
 
     fn write_value(&self, out: &mut [u8]) -> usize {
@@ -216,7 +210,7 @@ impl RouteIoam6Tunnel {
 }
 
 impl Nla for RouteIoam6Tunnel {
-    ghost shape = { λ a. shape_by writing (meaning_of a) };
+    ghost shape = { λ a. writing.shape (meaning_of a) };
 
     fn kind(&self) -> u16 {
         rows!(kind_rows(self; RouteIoam6Tunnel::Trace(trace) => trace.kind(),))
@@ -226,14 +220,8 @@ impl Nla for RouteIoam6Tunnel {
         false
     }
 
-    fn check(&self) -> Result<usize, EmitError> {
-        self.check_len(self.value_len())
-    }
-
-    fn value_len(&self) -> usize
-        ensures { result ≡ length (writing.writes (meaning_of self.now)).value }
-    {
-        rows!(len_rows(self; RouteIoam6Tunnel::Trace(trace) => trace.value_len(),))
+    fn check_value(&self) -> Result<usize, EmitError> {
+        Ok(rows!(len_rows(self; RouteIoam6Tunnel::Trace(trace) => trace.check_value()?,)))
     }
 
     fn write_value(&self, out: &mut [u8]) -> usize {
@@ -252,9 +240,7 @@ impl Attribute for RouteIoam6Tunnel {
 
     ghost reading = { λ _. attributes };
 
-    ghost item_is = { λ a. refl };
-
-    ghost misfit_is = { λ a. refl };
+    ghost shape_is = { λ a. refl };
 
     fn read(
         alloc: Global,

@@ -2,7 +2,7 @@
 //! `linux/rpl_iptunnel.h`).
 
 ghost use Rattle.std.specs.Prelude.{◌≡◌, ◌≤◌, ◌*◌, length, [], IfOk, IfErr, IfSome, IfNone, refl};
-ghost use Rattle.npr_base.specs.Table.{shape_by, shape_at, held};
+ghost use Rattle.npr_base.specs.Table.{shape_at, held};
 ghost use Rattle.npr_base.specs.declared.refusal.DecodeError.TheVariants.{OutOfMemory};
 ghost use Rattle.npr_srh.specs.{
   Headed.{IsUnread},
@@ -135,14 +135,8 @@ impl Nla for RplSrh {
         false
     }
 
-    fn check(&self) -> Result<usize, EmitError> {
-        check_header(RPL_IPTUNNEL_SRH, self.value_len(), self.segments.len(), 127)
-    }
-
-    fn value_len(&self) -> usize
-        ensures { result ≡ length (rpl.writes (rpl_of self.now)) }
-    {
-        8 + v6_list_len(self.segments.as_slice())
+    fn check_value(&self) -> Result<usize, EmitError> {
+        check_header(RPL_IPTUNNEL_SRH, 8 + v6_list_len(self.segments.as_slice()), self.segments.len(), 127)
     }
 
     fn write_value(&self, out: &mut [u8]) -> usize {
@@ -204,7 +198,7 @@ impl RouteRplIpTunnel {
 }
 
 impl Nla for RouteRplIpTunnel {
-    ghost shape = { λ a. shape_by writing (meaning_of a) };
+    ghost shape = { λ a. writing.shape (meaning_of a) };
 
     fn kind(&self) -> u16 {
         rows!(kind_rows(self; RouteRplIpTunnel::Srh(_) => 1,))
@@ -214,17 +208,8 @@ impl Nla for RouteRplIpTunnel {
         false
     }
 
-    fn check(&self) -> Result<usize, EmitError> {
-        match self {
-            RouteRplIpTunnel::Srh(header) => header.check(),
-            _ => self.check_len(self.value_len()),
-        }
-    }
-
-    fn value_len(&self) -> usize
-        ensures { result ≡ length (writing.writes (meaning_of self.now)).value }
-    {
-        rows!(len_rows(self; RouteRplIpTunnel::Srh(header) => header.value_len(),))
+    fn check_value(&self) -> Result<usize, EmitError> {
+        Ok(rows!(len_rows(self; RouteRplIpTunnel::Srh(header) => header.check_value()?,)))
     }
 
     fn write_value(&self, out: &mut [u8]) -> usize {
@@ -243,9 +228,7 @@ impl Attribute for RouteRplIpTunnel {
 
     ghost reading = { λ _. attributes };
 
-    ghost item_is = { λ a. refl };
-
-    ghost misfit_is = { λ a. refl };
+    ghost shape_is = { λ a. refl };
 
     fn read(
         alloc: Global,

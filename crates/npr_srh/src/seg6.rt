@@ -1,7 +1,6 @@
 //! SEG6: members of its tunnel (RFC 8754; `linux/seg6_iptunnel.h`).
 
-ghost use Rattle.std.specs.Prelude.{◌≡◌, length, IfOk, refl};
-ghost use Rattle.npr_base.specs.Table.{shape_by};
+ghost use Rattle.std.specs.Prelude.{◌≡◌, IfOk, refl};
 ghost use Rattle.npr_srh.specs.Seg6Tunnel.{Meaning, meaning_of, writing, attributes};
 
 use crate::seg6_header::Seg6Header;
@@ -50,7 +49,7 @@ impl RouteSeg6IpTunnel {
 const FAMILY: AttrFamily = AttrFamily::Seg6;
 
 impl Nla for RouteSeg6IpTunnel {
-    ghost shape = { λ a. shape_by writing (meaning_of a) };
+    ghost shape = { λ a. writing.shape (meaning_of a) };
 
     fn kind(&self) -> u16 {
         rows!(kind_rows(self; RouteSeg6IpTunnel::Seg6(_) => 1,))
@@ -60,17 +59,8 @@ impl Nla for RouteSeg6IpTunnel {
         false
     }
 
-    fn check(&self) -> Result<usize, EmitError> {
-        match self {
-            RouteSeg6IpTunnel::Seg6(header) => header.check(),
-            _ => self.check_len(self.value_len()),
-        }
-    }
-
-    fn value_len(&self) -> usize
-        ensures { result ≡ length (writing.writes (meaning_of self.now)).value }
-    {
-        rows!(len_rows(self; RouteSeg6IpTunnel::Seg6(header) => header.value_len(),))
+    fn check_value(&self) -> Result<usize, EmitError> {
+        Ok(rows!(len_rows(self; RouteSeg6IpTunnel::Seg6(header) => header.check_value()?,)))
     }
 
     fn write_value(&self, out: &mut [u8]) -> usize {
@@ -89,9 +79,7 @@ impl Attribute for RouteSeg6IpTunnel {
 
     ghost reading = { λ _. attributes };
 
-    ghost item_is = { λ a. refl };
-
-    ghost misfit_is = { λ a. refl };
+    ghost shape_is = { λ a. refl };
 
     fn read(
         alloc: Global,

@@ -215,6 +215,13 @@ impl Seg6Header {
         }
     }
 
+    /// The length of the value, in bytes.
+    fn len(&self) -> usize
+        ensures { result ≡ length (seg6.writes (seg6_of self.now)) }
+    {
+        12 + v6_list_len(self.segments.as_slice()) + self.hmac_len()
+    }
+
     /// The layout that is written in front.
     fn front(&self) -> Seg6MessageBuffer
         requires { length self.now.segments.items ≤ most_segments self.now.hmac }
@@ -288,19 +295,13 @@ impl Nla for Seg6Header {
         false
     }
 
-    fn check(&self) -> Result<usize, EmitError> {
+    fn check_value(&self) -> Result<usize, EmitError> {
         check_header(
             SEG6_IPTUNNEL_SRH,
-            self.value_len(),
+            self.len(),
             self.segments.len(),
             self.most_segments(),
         )
-    }
-
-    fn value_len(&self) -> usize
-        ensures { result ≡ length (seg6.writes (seg6_of self.now)) }
-    {
-        12 + v6_list_len(self.segments.as_slice()) + self.hmac_len()
     }
 
     fn write_value(&self, out: &mut [u8]) -> usize {

@@ -1,7 +1,6 @@
 //! SEG6 local: members of its tunnel (RFC 8986; `linux/seg6_local.h`).
 
-ghost use Rattle.std.specs.Prelude.{◌≡◌, length, IfOk, refl};
-ghost use Rattle.npr_base.specs.Table.{shape_by};
+ghost use Rattle.std.specs.Prelude.{◌≡◌, IfOk, refl};
 ghost use Rattle.npr_srh.specs.Seg6LocalTunnel.{Meaning, meaning_of, writing, attributes, local_text};
 
 use crate::seg6local_action::Seg6LocalAction;
@@ -72,7 +71,7 @@ impl RouteSeg6LocalTunnel {
 const FAMILY: AttrFamily = AttrFamily::Seg6Local;
 
 impl Nla for RouteSeg6LocalTunnel {
-    ghost shape = { λ a. shape_by writing (meaning_of a) };
+    ghost shape = { λ a. writing.shape (meaning_of a) };
 
     fn kind(&self) -> u16 {
         rows!(kind_rows(self; RouteSeg6LocalTunnel::Srh(_) => 2,))
@@ -82,17 +81,8 @@ impl Nla for RouteSeg6LocalTunnel {
         false
     }
 
-    fn check(&self) -> Result<usize, EmitError> {
-        match self {
-            RouteSeg6LocalTunnel::Srh(header) => header.check(),
-            _ => self.check_len(self.value_len()),
-        }
-    }
-
-    fn value_len(&self) -> usize
-        ensures { result ≡ length (writing.writes (meaning_of self.now)).value }
-    {
-        rows!(len_rows(self; RouteSeg6LocalTunnel::Srh(header) => header.value_len(),))
+    fn check_value(&self) -> Result<usize, EmitError> {
+        Ok(rows!(len_rows(self; RouteSeg6LocalTunnel::Srh(header) => header.check_value()?,)))
     }
 
     fn write_value(&self, out: &mut [u8]) -> usize {
@@ -111,9 +101,7 @@ impl Attribute for RouteSeg6LocalTunnel {
 
     ghost reading = { λ _. attributes };
 
-    ghost item_is = { λ a. refl };
-
-    ghost misfit_is = { λ a. refl };
+    ghost shape_is = { λ a. refl };
 
     fn read(
         alloc: Global,

@@ -126,14 +126,8 @@ impl Nla for Seg6LocalSrh {
         false
     }
 
-    fn check(&self) -> Result<usize, EmitError> {
-        check_header(SEG6_LOCAL_SRH, self.value_len(), self.segments.len(), 127)
-    }
-
-    fn value_len(&self) -> usize
-        ensures { result ≡ length (local.writes (local_of self.now)) }
-    {
-        8 + v6_list_len(self.segments.as_slice())
+    fn check_value(&self) -> Result<usize, EmitError> {
+        check_header(SEG6_LOCAL_SRH, 8 + v6_list_len(self.segments.as_slice()), self.segments.len(), 127)
     }
 
     fn write_value(&self, out: &mut [u8]) -> usize {

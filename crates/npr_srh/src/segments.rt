@@ -1,14 +1,13 @@
 //! What the families of routing headers share: their lengths, and the text of their segments.
 
 ghost use Rattle.std.specs.Prelude.{◌≡◌, ◌↔◌, IsTrue};
-ghost use Rattle.npr_base.specs.{Family.{checked, option_or, too_long}, Framing.{framed}};
+ghost use Rattle.npr_base.specs.Family.{checked, option_or, too_long};
 ghost use Rattle.npr_srh.specs.{Headed.{HasHeader}, Segments.{too_many, segments_text}};
 
 use npr_base::{EmitError, Ipv6Addr, check_len};
 use std::fmt;
 
-/// The length of the encoding of a header with a value of `len` bytes and with `count` segments, of
-/// which `most` fit.
+/// The length of the value of a header, which is `len`, with `count` segments, of which `most` fit.
 ///
 /// # Errors
 /// `TooLong` above 65,531 bytes, and then `TooManySegments`.
@@ -18,13 +17,13 @@ pub(crate) fn check_header(
     count: usize,
     most: usize,
 ) -> Result<usize, EmitError>
-    ensures { result ≡ checked (option_or (too_long kind len) (too_many most count)) (framed len) }
+    ensures { result ≡ checked (option_or (too_long kind len) (too_many most count)) len }
 {
-    let whole = check_len(kind, len)?;
+    check_len(kind, len)?;
     if most < count {
         return Err(EmitError::TooManySegments { count });
     }
-    Ok(whole)
+    Ok(len)
 }
 
 /// Whether the value has the lengths of a header of 8 bytes, the second of which counts the eights

@@ -1,6 +1,6 @@
 //! The framing of attributes, addresses of IP and address families.
 
-use crate::helpers::{FIRST, frames, holds, same};
+use crate::helpers::{FIRST, holds, same, writes};
 use netlink_packet_route::AddressFamily;
 use netlink_packet_route::framing::{
     DecodeError, DefaultNla, EmitError, Looks, Nla, NlaBuffer, NlasIterator, Parseable,
@@ -99,7 +99,7 @@ fn keeps_an_unknown_attribute(rt: HostRuntime) -> Result<(), Fail> {
     let nla = DefaultNla::parse(rt.alloc(), &item)?;
     same(&rt, nla.kind(), 0xc063);
     holds(&rt, nla.value() == [0xaa, 0xbb].as_slice());
-    frames(&rt, nla, &["060063c0 aabb0000"])
+    writes(&rt, nla, &["060063c0 aabb0000"])
 }
 
 #[test]

@@ -1,11 +1,8 @@
 //! Routing headers and traces, read and written, and what is refused.
 
-use crate::helpers::{
-    FIRST, FIRST_TEXT, SECOND, SECOND_TEXT, bytes_of, frames, holds, is_alone, is_member,
-    is_refused, same,
-};
+use crate::helpers::{FIRST, FIRST_TEXT, SECOND, SECOND_TEXT, bytes_of, holds, is_alone, is_member, is_refused, same, writes};
 use netlink_packet_route::framing::{
-    At, AttrFamily, DecodeError, DefaultNla, EmitError, Nla, NlaBuffer, Parseable, Seg6Fault,
+    At, AttrFamily, DecodeError, DefaultNla, EmitError, Emitable, NlaBuffer, Parseable, Seg6Fault,
 };
 use netlink_packet_route::net::Ipv6Addr;
 use netlink_packet_route::route::{
@@ -229,7 +226,7 @@ fn local_headers(rt: HostRuntime) -> Result<(), Fail> {
     let bytes = bytes_of(&rt, &LOCAL)?;
     let item = NlaBuffer::new_checked(bytes.as_slice())?;
     is_alone(&rt, &item, local(rt.alloc())?)?;
-    frames(&rt, local(rt.alloc())?, &LOCAL)
+    writes(&rt, local(rt.alloc())?, &LOCAL)
 }
 
 #[test]
@@ -284,7 +281,7 @@ fn rpl_nibbles(rt: HostRuntime) -> Result<(), Fail> {
     let mut header = rpl(rt.alloc())?;
     header.pad = 0x1f;
     header.cmpri = 0x20;
-    frames(&rt, header, &["1c000100 00020301 00f00000", FIRST_TEXT])
+    writes(&rt, header, &["1c000100 00020301 00f00000", FIRST_TEXT])
 }
 
 /// What the tunnel keeps of a header that is not read.
@@ -356,7 +353,7 @@ const TRACE: Ioam6TraceHdr = Ioam6TraceHdr {
 fn traces(rt: HostRuntime) -> Result<(), Fail> {
     let item = NlaBuffer::new_checked(&[12, 0, 3, 0, 0, 1, 0, 0x7f, 0xf0, 0, 0, 0])?;
     is_alone(&rt, &item, TRACE)?;
-    frames(&rt, TRACE, &["0c000300 0001007f f0000000"])
+    writes(&rt, TRACE, &["0c000300 0001007f f0000000"])
 }
 
 /// Bits of no field are dropped, and what doesn't fit its bits is written modulo their count.
@@ -378,7 +375,7 @@ fn bits_of_traces(rt: HostRuntime) -> Result<(), Fail> {
         trace_type: 0xff01_0203,
         ..fields
     };
-    frames(&rt, past, &written)
+    writes(&rt, past, &written)
 }
 
 #[test]

@@ -5,7 +5,7 @@
 ghost use Rattle.std.specs.Prelude.{◌≤◌, length, IfOk};
 
 use netlink_packet_route::framing::{
-    Attribute, DecodeError, EmitError, Emitable, Header, Looks, Message as Stored, Nla, NlaBuffer,
+    Attribute, DecodeError, EmitError, Emitable, Header, Looks, Message as Stored, NlaBuffer,
     Parseable,
 };
 use netlink_packet_route::route::MplsLabel;
@@ -143,19 +143,6 @@ pub(crate) fn writes<T: Emitable + Drop>(
     is_written(rt, out, texts)
 }
 
-/// `writes`, of an attribute.
-pub(crate) fn frames<A: Nla + Drop>(
-    rt: &(impl Abort + AllocGlobal),
-    value: A,
-    texts: &[&str],
-) -> Result<(), Fail> {
-    let count = value.check()?;
-    same(rt, value.buffer_len(), count);
-    let mut out = ones(rt.alloc(), count)?;
-    value.emit(out.as_mut_slice());
-    is_written(rt, out, texts)
-}
-
 /// The bytes are a message, whose canonical bytes are these.
 pub(crate) fn rewrites<M: Message>(
     rt: &(impl Abort + AllocGlobal),
@@ -249,7 +236,7 @@ pub(crate) fn is_member<A: Attribute + PartialEq + Drop>(
     let found = member_of::<A>(rt, context, texts)??;
     holds(rt, found == wanted);
     holds(rt, found.try_clone(rt.alloc())? == wanted);
-    frames(rt, found, canonical)
+    writes(rt, found, canonical)
 }
 
 /// The attribute is no member of a family, for this cause.

@@ -3,7 +3,7 @@
 use crate::helpers::{LABEL, bytes_of, holds, same};
 use netlink_packet_route::AddressFamily;
 use netlink_packet_route::framing::{
-    Attribute, DecodeError, Looks, Nla, check_list, clone_list, emit_list, parse_list,
+    Attribute, DecodeError, Emitable, Looks, Nla, check_list, clone_list, emit_list, parse_list,
 };
 use netlink_packet_route::route::{
     RouteAttribute, RouteLwEnCapType, RouteLwTunnelEncap, RouteMetric, RouteMplsIpTunnel,

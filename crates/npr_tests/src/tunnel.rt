@@ -2,7 +2,7 @@
 
 use crate::helpers::{FIRST, LABEL, is_member, is_refused, same, writes};
 use bitflags::Flags;
-use netlink_packet_route::framing::{DecodeError, DefaultNla, EmitError, Nla};
+use netlink_packet_route::framing::{DecodeError, DefaultNla, EmitError, Emitable};
 use netlink_packet_route::net::Ipv6Addr;
 use netlink_packet_route::route::{
     RouteErspanOpt, RouteGeneveOpt, RouteIp6Tunnel, RouteIp6TunnelFlags, RouteIpTunnel,

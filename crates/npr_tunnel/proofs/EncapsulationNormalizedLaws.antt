@@ -1,5 +1,6 @@
 -- Members of an encapsulation of an older table of SEG6 modes, brought up to the table of today.
 use Rattle.std.proofs.Common.{◌≡◌, refl, ap}
+use Rattle.npr_base.specs.Table.{written_by, unfit_by}
 use Rattle.npr_base.specs.Framing.{Item}
 use Rattle.npr_srh.specs.Seg6Mode.{ModeTable}
 use Rattle.npr_srh.specs.Seg6Tunnel as OfSeg6
@@ -9,11 +10,11 @@ use Rattle.npr_tunnel.specs.Encapsulation.{encapsulation, encapsulation_by, norm
 use Rattle.npr_tunnel.specs.declared.encap_type.RouteLwEnCapType.{RouteLwEnCapType}
 use Rattle.npr_tunnel.specs.declared.encap_type.RouteLwEnCapType.TheVariants.{Seg6}
 
-pub member-writes : (m : Meaning) → writing.writes (normalized m) ≡ writing.writes m
+pub member-writes : (m : Meaning) → written_by writing (normalized m) ≡ written_by writing m
 member-writes (seg6 m) = OfSeg6Laws.member-item m
 member-writes m = refl
 
-pub member-misfit : (m : Meaning) → writing.misfit (normalized m) ≡ writing.misfit m
+pub member-misfit : (m : Meaning) → unfit_by writing (normalized m) ≡ unfit_by writing m
 member-misfit (seg6 m) = OfSeg6Laws.member-misfit m
 member-misfit m = refl
 

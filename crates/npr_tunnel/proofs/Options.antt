@@ -2,7 +2,7 @@
 use Rattle.std.proofs.Common.{◌≡◌, ℕ, ◌+◌, ◌<◌, ◌≤◌, None, List, [], ◌∷◌, ◌++◌, length, map, get_or, take, drop, refl, sym, ap, ◌∙◌, arith, length-append}
 use Rattle.std.proofs.lemmas.List.{take_more, drop_more, take-append-drop}
 use Rattle.npr_base.specs.Family.{encodings, first_unfit, option_or}
-use Rattle.npr_base.specs.ListLaws.{none_both}
+use Rattle.npr_base.specs.FitLaws.{none_both}
 use Rattle.npr_base.proofs.Checking.{encodings-append}
 use Rattle.npr_tunnel.specs.Geneve.{Geneve, Child, children_of, child_item, child_misfit, option_bytes, option_misfit}
 

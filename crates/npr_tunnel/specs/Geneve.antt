@@ -1,13 +1,13 @@
 -- The options of Geneve (linux/lwtunnel.h, LWTUNNEL_IP_OPT_GENEVE_*): attributes, of which a class opens an option, and
 -- types and data that follow it stand in that option.
-use Rattle.std.specs.Prelude.{◌≡◌, ◌≢◌, ◌⊎◌, ℕ, ◌^◌, ◌<◌, Bool, true, false, List, [], ◌∷◌, ◌++◌, Option, codes, decimal}
+use Rattle.std.specs.Prelude.{◌≡◌, ◌≢◌, ◌⊎◌, ℕ, ◌^◌, ◌<◌, Bool, true, false, List, [], ◌∷◌, ◌++◌, Option, None, codes, decimal}
 use Rattle.npr_base.specs.declared.refusal.At.{At}
 use Rattle.npr_base.specs.declared.refusal.AttrFamily.TheVariants.{Geneve as OfGeneve}
 use Rattle.npr_base.specs.declared.refusal.DecodeError.{DecodeError}
 use Rattle.npr_base.specs.declared.refusal.DecodeError.TheVariants.{GeneveOrder, GeneveChild}
 use Rattle.npr_base.specs.declared.refusal.EmitError.{EmitError}
 use Rattle.npr_base.specs.Codec.{exactly, raw}
-use Rattle.npr_base.specs.Family.{ReadsList, ReadsTo, IsWrong, encodings, list_unfit}
+use Rattle.npr_base.specs.Family.{ReadsList, ReadsTo, IsWrong, encodings, list_unfit, misfit_of}
 use Rattle.npr_base.specs.Framing.{Item, IsBytes, number_of}
 use Rattle.npr_base.specs.Layout.{byte, be16}
 use Rattle.npr_base.specs.Text.{hex_text}
@@ -103,9 +103,7 @@ child_item (type_child n) = record { kind = 2; value = (exactly byte).writes n }
 child_item (data_child d) = record { kind = 3; value = d }
 
 abbrev pub child_misfit : Child → Option EmitError
-child_misfit (class_child n) = (exactly be16).misfit 1 n
-child_misfit (type_child n) = (exactly byte).misfit 2 n
-child_misfit (data_child d) = raw.misfit 3 d
+child_misfit c = misfit_of None (child_item c)
 
 abbrev pub option_bytes : List Geneve → List ℕ
 option_bytes os = encodings child_item (children_of os)

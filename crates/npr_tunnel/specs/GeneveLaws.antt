@@ -5,11 +5,11 @@ use Rattle.std.proofs.Common.{ap, subst, ◌∙◌, arith, inl, inr, length-appe
 use Rattle.npr_base.specs.declared.refusal.DecodeError.{DecodeError}
 use Rattle.npr_base.specs.Codec.{Codec, exactly, raw}
 use Rattle.npr_base.specs.Family.{Each, AllOf, ReadsList, ReadsTo, first_unfit, option_or, overlong, too_long}
-use Rattle.npr_base.specs.FitLaws.{too_long-short}
+use Rattle.npr_base.specs.FitLaws.{misfit_of-short, none_both}
 use Rattle.npr_base.specs.Framing.{Item, Small, Proper, IsBytes, Front, Passes, framed, number_of, encoding, pad}
 use Rattle.npr_base.specs.FrontLaws.{Front-same, Front-shrinks, Front-takes}
 use Rattle.npr_base.specs.Layout.{byte, be16}
-use Rattle.npr_base.specs.ListLaws.{none_both, ReadsList-one, FirstFault-excludes, ReadsList-known, encodings-read, length-encoding}
+use Rattle.npr_base.specs.ListLaws.{ReadsList-one, FirstFault-excludes, ReadsList-known, encodings-read, length-encoding}
 use Rattle.npr_tunnel.specs.Geneve.{at, Geneve, Child, class_child, type_child, data_child, ReadsChild, WrongChild, class_length, type_length}
 use Rattle.npr_tunnel.specs.Geneve.{order, child, Plain, last_type, last_data, AreGroups, AreOptions, OptionsFault}
 use Rattle.npr_tunnel.specs.Geneve.{children_of, child_item, child_misfit, option_bytes, options_unfit, IsOption}
@@ -183,15 +183,15 @@ options-known bytes os is (cs, p, g) = groups-known os cs (ReadsList-known IsChi
 -- ---- what is written is read again
 
 child-small : (c : Child) → IsChild c → child_misfit c ≡ None → Small (child_item c)
-child-small (class_child n) h fits = record { kind = omega arith; value = (exactly be16).fits_short 1 n fits }
-child-small (type_child n) h fits = record { kind = omega arith; value = (exactly byte).fits_short 2 n fits }
-child-small (data_child d) h fits = record { kind = omega arith; value = raw.fits_short 3 d fits }
+child-small (class_child n) h fits = record { kind = omega arith; value = misfit_of-short None (child_item (class_child n)) fits }
+child-small (type_child n) h fits = record { kind = omega arith; value = misfit_of-short None (child_item (type_child n)) fits }
+child-small (data_child d) h fits = record { kind = omega arith; value = misfit_of-short None (child_item (data_child d)) fits }
 
 child-back : (c : Child) → IsChild c → child_misfit c ≡ None → ReadsChild (child_item c) c
 unfolding IsChild
-child-back (class_child n) h fits = (refl, (exactly be16).reads_back 1 n h fits)
-child-back (type_child n) h fits = (refl, (exactly byte).reads_back 2 n h fits)
-child-back (data_child d) h fits = (refl, raw.reads_back 3 d h fits)
+child-back (class_child n) h fits = (refl, (exactly be16).reads_back 1 n h refl)
+child-back (type_child n) h fits = (refl, (exactly byte).reads_back 2 n h refl)
+child-back (data_child d) h fits = (refl, raw.reads_back 3 d h refl)
 
 children-known : (os : List Geneve) → AllOf IsOption os → AllOf IsChild (children_of os)
 unfolding IsChild
@@ -303,13 +303,12 @@ geneve_options = record {
   Reads = AreOptions;
   Wrong = λ at bytes e. OptionsFault bytes e;
   writes = option_bytes;
-  misfit = λ kind os. option_or (options_unfit os) (too_long kind (length (option_bytes os)));
+  inside = λ kind os. options_unfit os;
   Holds = AllOf IsOption;
   members = length;
   one_reading = options-one;
   no_fault = λ at bytes os e p q. options-sound bytes os e p q;
   reads_holds = options-known;
-  fits_short = λ kind os h. too_long-short kind (length (option_bytes os)) (none_both (options_unfit os) (too_long kind (length (option_bytes os))) h).1;
-  reads_back = λ kind os all h. options-back os all (none_both (options_unfit os) (too_long kind (length (option_bytes os))) h).0;
+  reads_back = λ kind os all h. options-back os all h;
   grows = options-grow;
 }

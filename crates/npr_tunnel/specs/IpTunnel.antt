@@ -6,15 +6,13 @@ use Rattle.std.specs.Net.Text.{ipv4_text, ipv6_text}
 use Rattle.std.proofs.Common.{refl, arith, rules}
 use Rattle.npr_base.specs.declared.refusal.AttrFamily.{AttrFamily}
 use Rattle.npr_base.specs.declared.refusal.AttrFamily.TheVariants.{Ip as OfIp, Ip6 as OfIp6}
-use Rattle.npr_base.specs.declared.refusal.EmitError.{EmitError}
 use Rattle.npr_base.specs.Codec.{exactly}
 use Rattle.npr_base.specs.DroppedCodec.{dropped}
-use Rattle.npr_base.specs.Family.{list_unfit}
 use Rattle.npr_base.specs.Framing.{Item, number_of}
 use Rattle.npr_base.specs.Layout.{byte, be16, be64, octets}
 use Rattle.npr_base.specs.ListCodec.{list_of}
 use Rattle.npr_base.specs.Table.{Writing, Reading, table_of, Row, row, Held, held, held_other, held_kind, held_value}
-use Rattle.npr_base.specs.Table.{held_misfit, held-reads, IsHeld, item_of, writing_by, IsOther, Aligned, ReadsAt}
+use Rattle.npr_base.specs.Table.{held_inside, held-reads, IsHeld, item_of, writing_by, IsOther, Aligned, ReadsAt}
 use Rattle.npr_base.specs.Looks.{Looking}
 use Rattle.npr_base.specs.LooksLaws.{no_looking, list_looking}
 use Rattle.npr_base.specs.TableLaws.{table_family, holding, looking_at, other-back}
@@ -86,11 +84,6 @@ held_of width (flags n) = held 6 (exactly be16) n
 held_of width (options xs) = held (2 ^ 15 + 8) (list_of OfOption.attributes) xs
 held_of width (other x) = held_other x
 
--- why the list inside can't be written, if so
-abbrev pub unfit_inside : Meaning → Option EmitError
-unfit_inside (options xs) = list_unfit OfOption.writing.misfit OfOption.writing.writes xs
-unfit_inside m = None
-
 -- what can be read
 abbrev pub Coherent : AttrFamily → ℕ → Meaning → Type 0
 Coherent family width (other x) = IsOther (rows family width) x
@@ -103,7 +96,7 @@ pub kinds : (family : AttrFamily) (width : ℕ) (m : Meaning) → Coherent famil
 kinds family width (other x) c = c.proper.kind
 kinds family width m c = omega arith
 
-pub back : (family : AttrFamily) (width : ℕ) (m : Meaning) → Coherent family width m → held_misfit (held_of width m) ≡ None
+pub back : (family : AttrFamily) (width : ℕ) (m : Meaning) → Coherent family width m → held_inside (held_of width m) ≡ None
     → ReadsAt other (rows family width) (number_of (item_of (held_of width m)).kind) (item_of (held_of width m)) m
 back family width (other x) c fits = other-back other (rows family width) (number_of x.kind) x c.alone
 back family width m c fits = (held_value (held_of width m), held-reads (held_of width m) c fits, refl)

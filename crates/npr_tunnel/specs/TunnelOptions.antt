@@ -4,18 +4,16 @@ use Rattle.std.specs.Prelude.{◌≡◌, ℕ, ◌+◌, ◌<◌, ◌^◌, List, [
 use Rattle.std.proofs.Common.{refl, arith, rules}
 use Rattle.npr_base.specs.declared.refusal.At.{At}
 use Rattle.npr_base.specs.declared.refusal.AttrFamily.TheVariants.{Opt as OfOption}
-use Rattle.npr_base.specs.declared.refusal.EmitError.{EmitError}
-use Rattle.npr_base.specs.Family.{list_unfit}
 use Rattle.npr_base.specs.Framing.{Item, number_of}
 use Rattle.npr_base.specs.ListCodec.{list_of}
 use Rattle.npr_base.specs.Table.{Writing, Reading, table_of, Row, row, Held, held, held_other, held_kind, held_value}
-use Rattle.npr_base.specs.Table.{held_misfit, held-reads, IsHeld, item_of, writing_by, IsOther, Aligned, ReadsAt}
+use Rattle.npr_base.specs.Table.{held_inside, held-reads, IsHeld, item_of, writing_by, IsOther, Aligned, ReadsAt}
 use Rattle.npr_base.specs.Looks.{Looking}
 use Rattle.npr_base.specs.LooksLaws.{no_looking, list_looking}
 use Rattle.npr_base.specs.TableLaws.{table_family, holding, looking_at, other-back}
 use Rattle.npr_base.specs.Text.{joined_by, nla_text}
 use Rattle.npr_tunnel.specs.ErspanOptions as OfErspan
-use Rattle.npr_tunnel.specs.Geneve.{Geneve as GeneveOption, option_of, options_unfit, geneve_text}
+use Rattle.npr_tunnel.specs.Geneve.{Geneve as GeneveOption, option_of, geneve_text}
 use Rattle.npr_tunnel.specs.GeneveLaws.{geneve_options}
 use Rattle.npr_tunnel.specs.GeneveLooks.{options_looking}
 use Rattle.npr_tunnel.specs.VxlanOptions as OfVxlan
@@ -53,13 +51,6 @@ held_of (vxlan xs) = held (2 ^ 15 + 2) (list_of OfVxlan.attributes) xs
 held_of (erspan xs) = held (2 ^ 15 + 3) (list_of OfErspan.attributes) xs
 held_of (other x) = held_other x
 
--- why the list inside can't be written, if so
-abbrev pub unfit_inside : Meaning → Option EmitError
-unfit_inside (geneve os) = options_unfit os
-unfit_inside (vxlan xs) = list_unfit OfVxlan.writing.misfit OfVxlan.writing.writes xs
-unfit_inside (erspan xs) = list_unfit OfErspan.writing.misfit OfErspan.writing.writes xs
-unfit_inside (other x) = None
-
 -- what can be read
 abbrev pub Coherent : Meaning → Type 0
 Coherent (other x) = IsOther rows x
@@ -72,7 +63,7 @@ pub kinds : (m : Meaning) → Coherent m → held_kind (held_of m) < 2 ^ 16
 kinds (other x) c = c.proper.kind
 kinds m c = omega arith
 
-pub back : (m : Meaning) → Coherent m → held_misfit (held_of m) ≡ None → ReadsAt other rows (number_of (item_of (held_of m)).kind) (item_of (held_of m)) m
+pub back : (m : Meaning) → Coherent m → held_inside (held_of m) ≡ None → ReadsAt other rows (number_of (item_of (held_of m)).kind) (item_of (held_of m)) m
 back (other x) c fits = other-back other rows (number_of x.kind) x c.alone
 back m c fits = (held_value (held_of m), held-reads (held_of m) c fits, refl)
 

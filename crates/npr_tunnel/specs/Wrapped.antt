@@ -4,16 +4,19 @@ use Rattle.std.proofs.Common.{refl, sym, ap, subst, ◌∙◌}
 use Rattle.npr_base.specs.Codec.{raw}
 use Rattle.npr_base.specs.Framing.{Item, Proper, framed}
 use Rattle.npr_base.specs.LooksLaws.{no_looking}
-use Rattle.npr_base.specs.Table.{Writing, Reading, held_other, writing_by}
+use Rattle.npr_base.specs.Table.{Writing, Reading, held_other, writing_by, written_as, unfit_as, written_by, unfit_by}
 
 -- `made` is the variant, and what is written of it is what the family writes
 module _ {M W : Type 0} {v : Writing M} (F : Reading v) (made : M → W) (w : Writing W)
-    (same_writes : (m : M) → w.writes (made m) ≡ v.writes m) (same_misfit : (m : M) → w.misfit (made m) ≡ v.misfit m) where
-  pub written-is : (x : W) (m : M) → x ≡ made m → w.writes x ≡ v.writes m
-  written-is x m e = ap w.writes e ∙ same_writes m
+    (same : (m : M) → w.shape (made m) ≡ v.shape m) where
+  pub shape-is : (x : W) (m : M) → x ≡ made m → w.shape x ≡ v.shape m
+  shape-is x m e = ap w.shape e ∙ same m
 
-  pub fits-is : (x : W) (m : M) → x ≡ made m → w.misfit x ≡ None → v.misfit m ≡ None
-  fits-is x m e h = sym (same_misfit m) ∙ sym (ap w.misfit e) ∙ h
+  pub written-is : (x : W) (m : M) → x ≡ made m → written_by w x ≡ written_by v m
+  written-is x m e = ap written_as (shape-is x m e)
+
+  pub fits-is : (x : W) (m : M) → x ≡ made m → unfit_by w x ≡ None → unfit_by v m ≡ None
+  fits-is x m e h = sym (ap unfit_as (shape-is x m e)) ∙ h
 
   abbrev pub wrapped : Reading w
   wrapped = record {

@@ -1,7 +1,6 @@
 //! The members of an encapsulation, by its type.
 
 ghost use Rattle.std.specs.Prelude.{◌≡◌, IfOk, refl};
-ghost use Rattle.npr_base.specs.Table.{shape_by};
 ghost use Rattle.npr_tunnel.specs.Encapsulation.{Meaning, meaning_of, normalized, writing, encapsulation};
 
 use crate::encap_type::RouteLwEnCapType;
@@ -107,7 +106,7 @@ impl RouteLwTunnelEncap {
 }
 
 impl Nla for RouteLwTunnelEncap {
-    ghost shape = { λ a. shape_by writing (meaning_of a) };
+    ghost shape = { λ a. writing.shape (meaning_of a) };
 
     fn kind(&self) -> u16 {
         members!(asked(self, kind()))
@@ -117,12 +116,8 @@ impl Nla for RouteLwTunnelEncap {
         false
     }
 
-    fn check(&self) -> Result<usize, EmitError> {
-        members!(asked(self, check()))
-    }
-
-    fn value_len(&self) -> usize {
-        members!(asked(self, value_len()))
+    fn check_value(&self) -> Result<usize, EmitError> {
+        members!(asked(self, check_value()))
     }
 
     fn write_value(&self, out: &mut [u8]) -> usize {
@@ -141,9 +136,7 @@ impl Attribute for RouteLwTunnelEncap {
 
     ghost reading = { encapsulation };
 
-    ghost item_is = { λ a. refl };
-
-    ghost misfit_is = { λ a. refl };
+    ghost shape_is = { λ a. refl };
 
     fn read(
         alloc: Global,

@@ -88,10 +88,6 @@ impl Emitable for RouteLwEnCapType {
         Ok(2)
     }
 
-    fn buffer_len(&self) -> usize {
-        2
-    }
-
     fn emit(&self, out: &mut [u8]) {
         write_array(u16::from(*self).to_le_bytes(), out);
     }

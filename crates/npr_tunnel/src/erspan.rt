@@ -1,7 +1,6 @@
 //! Options of ERSPAN: `LWTUNNEL_IP_OPT_ERSPAN_*` of `linux/lwtunnel.h`.
 
-ghost use Rattle.std.specs.{Prelude.{◌≡◌, length, map, IfOk, refl}, Fmt.{WritesOnOk}};
-ghost use Rattle.npr_base.specs.Table.{shape_by};
+ghost use Rattle.std.specs.{Prelude.{◌≡◌, map, IfOk, refl}, Fmt.{WritesOnOk}};
 ghost use Rattle.npr_tunnel.specs.ErspanOptions.{Meaning, meaning_of, writing, attributes, erspan_text};
 
 use npr_base::{
@@ -54,7 +53,7 @@ impl RouteErspanOpt {
 const FAMILY: AttrFamily = AttrFamily::Erspan;
 
 impl Nla for RouteErspanOpt {
-    ghost shape = { λ a. shape_by writing (meaning_of a) };
+    ghost shape = { λ a. writing.shape (meaning_of a) };
 
     fn kind(&self) -> u16 {
         rows!(kind_rows(self))
@@ -64,14 +63,8 @@ impl Nla for RouteErspanOpt {
         false
     }
 
-    fn check(&self) -> Result<usize, EmitError> {
-        self.check_len(self.value_len())
-    }
-
-    fn value_len(&self) -> usize
-        ensures { result ≡ length (writing.writes (meaning_of self.now)).value }
-    {
-        rows!(len_rows(self))
+    fn check_value(&self) -> Result<usize, EmitError> {
+        Ok(rows!(len_rows(self)))
     }
 
     fn write_value(&self, out: &mut [u8]) -> usize {
@@ -90,9 +83,7 @@ impl Attribute for RouteErspanOpt {
 
     ghost reading = { λ _. attributes };
 
-    ghost item_is = { λ a. refl };
-
-    ghost misfit_is = { λ a. refl };
+    ghost shape_is = { λ a. refl };
 
     fn read(
         alloc: Global,

@@ -12,14 +12,14 @@ ghost use Rattle.npr_base.specs.{
   declared.refusal.DecodeError.TheVariants.{OutOfMemory},
 };
 ghost use Rattle.npr_tunnel.specs.{
-  Geneve.{at, Child, child_item, child_misfit, option_bytes, option_misfit, options_unfit, class_child, type_child, data_child, option_of, ReadsChild, WrongChild, AreOptions, OptionsFault, geneve_text},
+  Geneve.{at, Child, option_bytes, option_misfit, options_unfit, class_child, type_child, data_child, option_of, ReadsChild, WrongChild, AreOptions, OptionsFault, geneve_text},
   GeneveLooks.{OptionsLooks},
   GeneveSteps.{seen, listed, is_some, Changes},
 };
 
 use npr_base::{
-    AttrFamily, DecodeError, EmitError, Looks, Nla, NlaBuffer, NlasIterator, check_len, read_bytes,
-    read_u8, read_u16_be, total_len, write_array, write_bytes, write_hex,
+    AttrFamily, DecodeError, EmitError, Emitable, Looks, Nla, NlaBuffer, NlasIterator, read_bytes,
+    read_u8, read_u16_be, total_len, write_array, write_attribute, write_bytes, write_hex,
 };
 use std::alloc::{AllocError, Global};
 use std::fmt;
@@ -212,12 +212,8 @@ impl<'a> Nla for Data<'a> {
         false
     }
 
-    fn check(&self) -> Result<usize, EmitError> {
-        check_len(LWTUNNEL_IP_OPT_GENEVE_DATA, self.0.len())
-    }
-
-    fn value_len(&self) -> usize {
-        self.0.len()
+    fn check_value(&self) -> Result<usize, EmitError> {
+        Ok(self.0.len())
     }
 
     fn write_value(&self, out: &mut [u8]) -> usize {
@@ -248,7 +244,7 @@ fn write_option(option: &RouteGeneveOpt, out: &mut [u8]) -> usize
     let typ = [5, 0, 2, 0, option.typ, 0, 0, 0];
     write_array(class, out);
     write_array(typ, &mut out[8..]);
-    16 + Data(option.opt_data.as_slice()).write(&mut out[16..])
+    16 + write_attribute(&Data(option.opt_data.as_slice()), &mut out[16..])
 }
 
 /// The length of the encodings in bytes, or the first cause why there are none.

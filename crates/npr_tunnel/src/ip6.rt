@@ -1,8 +1,7 @@
 //! Tunnels over IP version 6: `LWTUNNEL_IP6_*` of `linux/lwtunnel.h`.
 
-ghost use Rattle.std.specs.Prelude.{◌≡◌, length, IfOk, refl};
-ghost use Rattle.npr_base.specs.{Family.{checked}, Table.{held_bytes, shape_by}};
-ghost use Rattle.npr_tunnel.specs.IpTunnel.{Meaning, meaning6_of, writing, attributes6, held_of, unfit_inside, ip6_tunnel_text};
+ghost use Rattle.std.specs.Prelude.{◌≡◌, IfOk, refl};
+ghost use Rattle.npr_tunnel.specs.IpTunnel.{Meaning, meaning6_of, writing, attributes6, ip6_tunnel_text};
 
 use crate::flags::{RouteIp6TunnelFlags, write_flags};
 use crate::ip_rows;
@@ -56,20 +55,13 @@ impl RouteIp6Tunnel {
     {
         rows!(clone_rows(self, alloc))
     }
-
-    /// The length of the value, or the first cause why the list inside has none.
-    fn len(&self) -> Result<usize, EmitError>
-        ensures { result ≡ checked (unfit_inside (meaning6_of self.now)) (length (held_bytes (held_of 16 (meaning6_of self.now)))) }
-    {
-        Ok(rows!(len_rows(self)))
-    }
 }
 
 /// The family of these attributes.
 const FAMILY: AttrFamily = AttrFamily::Ip6;
 
 impl Nla for RouteIp6Tunnel {
-    ghost shape = { λ a. shape_by (writing 16) (meaning6_of a) };
+    ghost shape = { λ a. (writing 16).shape (meaning6_of a) };
 
     fn kind(&self) -> u16 {
         rows!(kind_rows(self))
@@ -79,15 +71,8 @@ impl Nla for RouteIp6Tunnel {
         false
     }
 
-    fn check(&self) -> Result<usize, EmitError> {
-        self.check_len(self.len()?)
-    }
-
-    fn value_len(&self) -> usize {
-        match self.len() {
-            Ok(len) => len,
-            Err(_) => unreachable!(),
-        }
+    fn check_value(&self) -> Result<usize, EmitError> {
+        Ok(rows!(len_rows(self)))
     }
 
     fn write_value(&self, out: &mut [u8]) -> usize {
@@ -106,9 +91,7 @@ impl Attribute for RouteIp6Tunnel {
 
     ghost reading = { λ _. attributes6 };
 
-    ghost item_is = { λ a. refl };
-
-    ghost misfit_is = { λ a. refl };
+    ghost shape_is = { λ a. refl };
 
     fn read(
         alloc: Global,

@@ -1,7 +1,6 @@
 //! The tunnel of MPLS: `MPLS_IPTUNNEL_*` of `linux/mpls_iptunnel.h`.
 
-ghost use Rattle.std.specs.Prelude.{◌≡◌, length, IfOk, refl};
-ghost use Rattle.npr_base.specs.Table.{shape_by};
+ghost use Rattle.std.specs.Prelude.{◌≡◌, IfOk, refl};
 ghost use Rattle.npr_tunnel.specs.MplsTunnel.{Meaning, meaning_of, writing, attributes};
 
 use npr_base::{
@@ -47,7 +46,7 @@ impl RouteMplsIpTunnel {
 const FAMILY: AttrFamily = AttrFamily::Mpls;
 
 impl Nla for RouteMplsIpTunnel {
-    ghost shape = { λ a. shape_by writing (meaning_of a) };
+    ghost shape = { λ a. writing.shape (meaning_of a) };
 
     fn kind(&self) -> u16 {
         rows!(kind_rows(self; RouteMplsIpTunnel::Destination(_) => 1,))
@@ -57,14 +56,8 @@ impl Nla for RouteMplsIpTunnel {
         false
     }
 
-    fn check(&self) -> Result<usize, EmitError> {
-        self.check_len(self.value_len())
-    }
-
-    fn value_len(&self) -> usize
-        ensures { result ≡ length (writing.writes (meaning_of self.now)).value }
-    {
-        rows!(len_rows(self; RouteMplsIpTunnel::Destination(x) => labels_len(x.as_slice()),))
+    fn check_value(&self) -> Result<usize, EmitError> {
+        Ok(rows!(len_rows(self; RouteMplsIpTunnel::Destination(x) => labels_len(x.as_slice()),)))
     }
 
     fn write_value(&self, out: &mut [u8]) -> usize {
@@ -83,9 +76,7 @@ impl Attribute for RouteMplsIpTunnel {
 
     ghost reading = { λ _. attributes };
 
-    ghost item_is = { λ a. refl };
-
-    ghost misfit_is = { λ a. refl };
+    ghost shape_is = { λ a. refl };
 
     fn read(
         alloc: Global,

@@ -1,8 +1,7 @@
 //! Options of tunnels over IP: `LWTUNNEL_IP_OPTS_*` of `linux/lwtunnel.h`.
 
-ghost use Rattle.std.specs.Prelude.{◌≡◌, length, IfOk, refl};
-ghost use Rattle.npr_base.specs.{Family.{checked}, Table.{held_bytes, shape_by}};
-ghost use Rattle.npr_tunnel.specs.TunnelOptions.{Meaning, meaning_of, writing, attributes, held_of, unfit_inside, tunnel_option_text};
+ghost use Rattle.std.specs.Prelude.{◌≡◌, IfOk, refl};
+ghost use Rattle.npr_tunnel.specs.TunnelOptions.{Meaning, meaning_of, writing, attributes, tunnel_option_text};
 
 use crate::erspan::{RouteErspanOpt, write_erspan};
 use crate::geneve::{RouteGeneveOpt, check_options, clone_options, read_options, write_options};
@@ -47,17 +46,10 @@ impl RouteLwTunnelOpt {
     {
         rows!(clone_rows(self, alloc; RouteLwTunnelOpt::Geneve(v) => clone_options(alloc, v.as_slice()).map(RouteLwTunnelOpt::Geneve),))
     }
-
-    /// The length of the value, or the first cause why the list inside has none.
-    fn len(&self) -> Result<usize, EmitError>
-        ensures { result ≡ checked (unfit_inside (meaning_of self.now)) (length (held_bytes (held_of (meaning_of self.now)))) }
-    {
-        Ok(rows!(len_rows(self; RouteLwTunnelOpt::Geneve(v) => check_options(v.as_slice())?,)))
-    }
 }
 
 impl Nla for RouteLwTunnelOpt {
-    ghost shape = { λ a. shape_by writing (meaning_of a) };
+    ghost shape = { λ a. writing.shape (meaning_of a) };
 
     fn kind(&self) -> u16 {
         rows!(kind_rows(self; RouteLwTunnelOpt::Geneve(_) => NLA_F_NESTED + 1,))
@@ -67,15 +59,8 @@ impl Nla for RouteLwTunnelOpt {
         false
     }
 
-    fn check(&self) -> Result<usize, EmitError> {
-        self.check_len(self.len()?)
-    }
-
-    fn value_len(&self) -> usize {
-        match self.len() {
-            Ok(len) => len,
-            Err(_) => unreachable!(),
-        }
+    fn check_value(&self) -> Result<usize, EmitError> {
+        Ok(rows!(len_rows(self; RouteLwTunnelOpt::Geneve(v) => check_options(v.as_slice())?,)))
     }
 
     fn write_value(&self, out: &mut [u8]) -> usize {
@@ -94,9 +79,7 @@ impl Attribute for RouteLwTunnelOpt {
 
     ghost reading = { λ _. attributes };
 
-    ghost item_is = { λ a. refl };
-
-    ghost misfit_is = { λ a. refl };
+    ghost shape_is = { λ a. refl };
 
     fn read(
         alloc: Global,

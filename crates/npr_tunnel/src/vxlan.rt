@@ -1,7 +1,6 @@
 //! Options of VXLAN: `LWTUNNEL_IP_OPT_VXLAN_*` of `linux/lwtunnel.h`.
 
-ghost use Rattle.std.specs.Prelude.{◌≡◌, length, IfOk, refl};
-ghost use Rattle.npr_base.specs.Table.{shape_by};
+ghost use Rattle.std.specs.Prelude.{◌≡◌, IfOk, refl};
 ghost use Rattle.npr_tunnel.specs.VxlanOptions.{Meaning, meaning_of, writing, attributes, vxlan_text};
 
 use npr_base::{
@@ -45,7 +44,7 @@ impl RouteVxlanOpt {
 const FAMILY: AttrFamily = AttrFamily::Vxlan;
 
 impl Nla for RouteVxlanOpt {
-    ghost shape = { λ a. shape_by writing (meaning_of a) };
+    ghost shape = { λ a. writing.shape (meaning_of a) };
 
     fn kind(&self) -> u16 {
         rows!(kind_rows(self))
@@ -55,14 +54,8 @@ impl Nla for RouteVxlanOpt {
         false
     }
 
-    fn check(&self) -> Result<usize, EmitError> {
-        self.check_len(self.value_len())
-    }
-
-    fn value_len(&self) -> usize
-        ensures { result ≡ length (writing.writes (meaning_of self.now)).value }
-    {
-        rows!(len_rows(self))
+    fn check_value(&self) -> Result<usize, EmitError> {
+        Ok(rows!(len_rows(self)))
     }
 
     fn write_value(&self, out: &mut [u8]) -> usize {
@@ -81,9 +74,7 @@ impl Attribute for RouteVxlanOpt {
 
     ghost reading = { λ _. attributes };
 
-    ghost item_is = { λ a. refl };
-
-    ghost misfit_is = { λ a. refl };
+    ghost shape_is = { λ a. refl };
 
     fn read(
         alloc: Global,

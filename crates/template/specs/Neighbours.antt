@@ -10,7 +10,7 @@ use Rattle.netlink_packet_route.specs.Layout.{Layout, le32}
 use Rattle.netlink_packet_route.specs.Codec.{exactly, leading, raw}
 use Rattle.netlink_packet_route.specs.IpCodec.{ip}
 use Rattle.netlink_packet_route.specs.Table.{Writing, Reading, table_of, Row, row, Held, held, held_other, held_kind, held_value}
-use Rattle.netlink_packet_route.specs.Table.{held_misfit, held-reads, IsHeld, item_of, writing_by, IsOther, Aligned, ReadsAt}
+use Rattle.netlink_packet_route.specs.Table.{held_inside, held-reads, IsHeld, item_of, writing_by, IsOther, Aligned, ReadsAt}
 use Rattle.netlink_packet_route.specs.TableLaws.{table_family, other-back}
 use Rattle.netlink_packet_route.specs.Found.{IsFirst}
 use Rattle.template.specs.declared.neighbour.NeighbourCacheInfo.{NeighbourCacheInfo}
@@ -72,7 +72,7 @@ pub kinds : (m : Meaning) → Coherent m → held_kind (held_of m) < 2 ^ 16
 kinds (other x) c = c.proper.kind
 kinds m c = omega arith
 
-pub back : (m : Meaning) → Coherent m → held_misfit (held_of m) ≡ None → ReadsAt other rows (number_of (item_of (held_of m)).kind) (item_of (held_of m)) m
+pub back : (m : Meaning) → Coherent m → held_inside (held_of m) ≡ None → ReadsAt other rows (number_of (item_of (held_of m)).kind) (item_of (held_of m)) m
 back (other x) c fits = other-back other rows (number_of x.kind) x c.alone
 back m c fits = (held_value (held_of m), held-reads (held_of m) c fits, refl)
 

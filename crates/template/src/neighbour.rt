@@ -1,8 +1,8 @@
 //! A family of one's own: attributes of a neighbour message, `NDA_*` of `linux/neighbour.h`.
 
-ghost use Rattle.std.specs.Prelude.{◌≡◌, length, IfOk, IfErr, refl};
+ghost use Rattle.std.specs.Prelude.{◌≡◌, IfOk, IfErr, refl};
 ghost use Rattle.template.specs.Neighbours.{Meaning, meaning_of, writing, attributes, cache_info};
-ghost use Rattle.netlink_packet_route.specs.{Codec.{leading}, Refusal.{no_place}, Table.{shape_by}};
+ghost use Rattle.netlink_packet_route.specs.{Codec.{leading}, Refusal.{no_place}};
 
 use netlink_packet_route::family::leading_octets;
 use netlink_packet_route::framing::{
@@ -89,7 +89,7 @@ macro_rules! rows {
 const FAMILY: AttrFamily = AttrFamily::Value;
 
 impl Nla for NeighbourAttribute {
-    ghost shape = { λ a. shape_by writing (meaning_of a) };
+    ghost shape = { λ a. writing.shape (meaning_of a) };
 
     fn kind(&self) -> u16 {
         rows!(kind_rows(self))
@@ -99,14 +99,8 @@ impl Nla for NeighbourAttribute {
         false
     }
 
-    fn check(&self) -> Result<usize, EmitError> {
-        self.check_len(self.value_len())
-    }
-
-    fn value_len(&self) -> usize
-        ensures { result ≡ length (writing.writes (meaning_of self.now)).value }
-    {
-        rows!(len_rows(self))
+    fn check_value(&self) -> Result<usize, EmitError> {
+        Ok(rows!(len_rows(self)))
     }
 
     fn write_value(&self, out: &mut [u8]) -> usize {
@@ -125,9 +119,7 @@ impl Attribute for NeighbourAttribute {
 
     ghost reading = { λ _. attributes };
 
-    ghost item_is = { λ a. refl };
-
-    ghost misfit_is = { λ a. refl };
+    ghost shape_is = { λ a. refl };
 
     fn read(
         alloc: Global,

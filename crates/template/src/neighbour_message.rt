@@ -50,10 +50,6 @@ impl Emitable for NeighbourHeader {
         Ok(12)
     }
 
-    fn buffer_len(&self) -> usize {
-        12
-    }
-
     fn emit(&self, out: &mut [u8]) {
         let [index_0, index_1, index_2, index_3] = self.ifindex.to_le_bytes();
         let [state_0, state_1] = self.state.to_le_bytes();

@@ -1,10 +1,11 @@
 use Rattle.std.proofs.Common.{◌≡◌, ◌++◌, map, take, drop, None, string_bytes}
+use Rattle.netlink_packet_route.specs.Table.{written_by, unfit_by}
 use Rattle.netlink_packet_route.specs.Family.{first_unfit}
 use Rattle.netlink_report.specs.Report.{lines_text}
 use Rattle.netlink_report.proofs.report.lines.Given as goal
 
 abbrev pub invariant-loop-attribute : goal.invariant-loop-attribute
 invariant-loop-attribute g l = record {
-  fit : first_unfit g.A.Attribute.writing.misfit (map g.A.Attribute.meaning (drop l.attribute-index l.attributes)) ≡ None;
-  text : string_bytes l.out ≡ string_bytes l.fn.out ++ lines_text (map g.A.Attribute.writing.writes (map g.A.Attribute.meaning (take l.attribute-index l.attributes)));
+  fit : first_unfit (unfit_by g.A.Attribute.writing) (map g.A.Attribute.meaning (drop l.attribute-index l.attributes)) ≡ None;
+  text : string_bytes l.out ≡ string_bytes l.fn.out ++ lines_text (map (written_by g.A.Attribute.writing) (map g.A.Attribute.meaning (take l.attribute-index l.attributes)));
 }

@@ -7,8 +7,8 @@ use Rattle.npr_base.specs.ListLaws.{length-encoding}
 use Rattle.npr_base.proofs.list.write_list_body.Goals as goal
 use Rattle.npr_base.specs.Table.{shaped_item, shaped_misfit}
 
-pub write-at-requires-clause-room : goal.write-at-requires-clause-room
-write-at-requires-clause-room g c =
+pub write_attribute-at-requires-clause-room : goal.write_attribute-at-requires-clause-room
+write_attribute-at-requires-clause-room g c =
     let x = c.x-item.result in
     let i = c.loop-x.x-index in
     let all = c.args.list.now in
@@ -30,6 +30,6 @@ loop-x-preserved g c =
     let below : length (encodings item (take i all)) ≤ length c.args.out.now = omega (arith, encodings-below item all i, c.requires.room) in
     record {
       fits = (first-none (shaped_misfit g.A.Nla.shape) all i x c.loop-x-test.true c.x-item.is past.fits).1;
-      len = omega (arith, encodings-more item all i x c.loop-x-test.true c.x-item.is, past.len, c.write-at.ensures.len, length-encoding (item x));
-      after = rw next (Writes-more c.args.out.now c.loop-x.out c.write-at.new.out (encodings item (take i all)) (encoding (item x)) c.loop-x.at past.len below past.after c.write-at.ensures.after);
+      len = omega (arith, encodings-more item all i x c.loop-x-test.true c.x-item.is, past.len, c.write_attribute-at.ensures.len, length-encoding (item x));
+      after = rw next (Writes-more c.args.out.now c.loop-x.out c.write_attribute-at.new.out (encodings item (take i all)) (encoding (item x)) c.loop-x.at past.len below past.after c.write_attribute-at.ensures.after);
     }

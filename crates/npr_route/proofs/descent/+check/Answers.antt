@@ -4,9 +4,9 @@ use Rattle.npr_base.specs.Framing.{framed}
 use Rattle.npr_base.specs.Family.{encodings}
 use Rattle.npr_base.proofs.Checking.{checked-ok, first-past, encodings-more}
 use Rattle.npr_base.specs.ListLaws.{length-encoding}
-use Rattle.npr_route.specs.Attribute.{misfit, plain_of}
+use Rattle.npr_route.specs.Attribute.{misfit, shape_of}
 use Rattle.npr_route.specs.AttributeView.{meaning_of, attribute_item, attribute_misfit, next_hop_bytes, next_hop_misfit, joined}
-use Rattle.npr_route.proofs.Views.{plain_value, joined-more, hop_unfit, hop_checked, multi_path-checked}
+use Rattle.npr_route.proofs.Views.{joined-more, hop_unfit, hop_checked, multi_path-checked}
 use Rattle.npr_route.proofs.descent.+check.Goals as goal
 
 pub check_attributes-loop-attribute-preserved : goal.check_attributes-loop-attribute-preserved
@@ -15,9 +15,9 @@ check_attributes-loop-attribute-preserved t c =
     let i = c.loop-attribute.attribute-index in
     let all = c.args.list.now in
     let m = meaning_of x in
-    let k = checked-ok (misfit m) (framed (length (plain_of m).value)) c.in_ok-total.field-0 (sym c.in_ok-total.was ∙ c.check_attribute.ensures) in
+    let k = checked-ok (misfit m) (framed (length (shape_of m).item.value)) c.in_ok-total.field-0 (sym c.in_ok-total.was ∙ c.check_attribute.ensures) in
     let done = length (encodings attribute_item (take i all)) in
-    let one : c.in_ok-total.field-0 ≡ framed (length (attribute_item x).value) = k.1 ∙ ap (λ w. framed (length w)) (plain_value m) in
+    let one : c.in_ok-total.field-0 ≡ framed (length (attribute_item x).value) = k.1 in
     let size : done + c.in_ok-total.field-0 ≡ length (encodings attribute_item (take (i + 1) all)) =
     ap (λ n. done + n) (one ∙ sym (length-encoding (attribute_item x))) ∙ sym (encodings-more attribute_item all i x c.loop-attribute-test.true c.attribute-item.is) in
     record {

@@ -6,26 +6,24 @@ use Rattle.npr_base.specs.Family.{encodings}
 use Rattle.npr_base.proofs.Checking.{first-none, encodings-more, encodings-next, encodings-below}
 use Rattle.npr_base.proofs.Writing.{Writes-more, Writes-encoding}
 use Rattle.npr_base.specs.ListLaws.{length-encoding}
-use Rattle.npr_route.specs.Attribute.{plain_of, nested_of}
-use Rattle.npr_route.specs.AttributeLaws.{item-is}
+use Rattle.npr_route.specs.Attribute.{shape_of}
 use Rattle.npr_route.specs.AttributeView.{meaning_of, attribute_item, attribute_misfit, next_hop_bytes, next_hop_misfit, joined}
 use Rattle.npr_route.specs.declared.attribute.RouteAttribute.TheViews.{the_lemmas}
-use Rattle.npr_route.proofs.Views.{head_of, plain_value, joined-next, joined-more, joined-below, hop_bytes-length}
+use Rattle.npr_route.proofs.Views.{head_of, joined-next, joined-more, joined-below, hop_bytes-length}
 use Rattle.npr_route.proofs.HopWriting.{Writes-before, next_hop_bytes-is, hop_fits, multi_path_fits, multi_path_value}
 use Rattle.npr_route.proofs.descent.+write.Goals as goal
 
 pub write_attribute-returns-clause-after : goal.write_attribute-returns-clause-after
 write_attribute-returns-clause-after t c =
     let m = meaning_of c.args.attribute.now in
-    let x : Item = plain_of m in
+    let x : Item = (shape_of m).item in
     let out = c.args.out.now in
     let body = c.write_inside-len.new.out in
     let len = c.write_inside-len.result in
     let mid = put_mid 4 (length out - 4) out body in
-    let kind : c.marked_kind-kind.result ≡ marked (nested_of m) x.kind = rw (c.marked_kind-kind.ensures, c.is_nested.ensures, c.kind.ensures) refl in
+    let kind : c.marked_kind-kind.result ≡ marked (shape_of m).nested x.kind = rw (c.marked_kind-kind.ensures, c.is_nested.ensures, c.kind.ensures) refl in
     let framed = subst (λ (k : ℕ). Writes mid c.frame.new.out (encoding (record { kind = k; value = take len (drop 4 mid) }))) kind c.frame.ensures.after in
-    let so = Writes-encoding out body c.frame.new.out x.value (marked (nested_of m) x.kind) len c.write_inside-len.ensures.len c.requires.room c.write_inside-len.ensures.after framed in
-    subst (λ (i : Item). Writes out c.frame.new.out (encoding i)) (item-is m) so
+    Writes-encoding out body c.frame.new.out x.value (marked (shape_of m).nested x.kind) len c.write_inside-len.ensures.len c.requires.room c.write_inside-len.ensures.after framed
 
 pub write_attributes-write_attribute-at-requires : goal.write_attributes-write_attribute-at-requires
 write_attributes-write_attribute-at-requires t c =
@@ -36,8 +34,8 @@ write_attributes-write_attribute-at-requires t c =
     let at = c.loop-attribute.at in
     let past = c.loop-attribute.invariant in
     let same : length out ≡ length c.args.out.now = c.loop-attribute.auto.out in
-    let size : framed (length (plain_of (meaning_of x)).value) ≡ length (encoding (attribute_item x)) = ap (λ w. framed (length w)) (plain_value (meaning_of x)) ∙ sym (length-encoding (attribute_item x)) in
-    let need : at + framed (length (plain_of (meaning_of x)).value) ≤ length out =
+    let size : framed (length (shape_of (meaning_of x)).item.value) ≡ length (encoding (attribute_item x)) = sym (length-encoding (attribute_item x)) in
+    let need : at + framed (length (shape_of (meaning_of x)).item.value) ≤ length out =
     omega (arith, encodings-more attribute_item all i x c.loop-attribute-test.true c.attribute-item.is, encodings-below attribute_item all (i + 1), size, past.len, c.requires.room, same) in (
       search (rules, the_lemmas),
       ((first-none attribute_misfit all i x c.loop-attribute-test.true c.attribute-item.is past.fits).0, omega (arith, need, length-take (length out - at) (drop at out), length-drop at out)),
@@ -51,7 +49,7 @@ write_attributes-loop-attribute-preserved t c =
     let past = c.loop-attribute.invariant in
     let next = encodings-next attribute_item all i x c.loop-attribute-test.true c.attribute-item.is in
     let below : length (encodings attribute_item (take i all)) ≤ length c.args.out.now = omega (arith, encodings-below attribute_item all i, c.requires.room) in
-    let size : framed (length (plain_of (meaning_of x)).value) ≡ length (encoding (attribute_item x)) = ap (λ w. framed (length w)) (plain_value (meaning_of x)) ∙ sym (length-encoding (attribute_item x)) in
+    let size : framed (length (shape_of (meaning_of x)).item.value) ≡ length (encoding (attribute_item x)) = sym (length-encoding (attribute_item x)) in
     record {
       fits = (first-none attribute_misfit all i x c.loop-attribute-test.true c.attribute-item.is past.fits).1;
       len = omega (arith, encodings-more attribute_item all i x c.loop-attribute-test.true c.attribute-item.is, past.len, c.write_attribute-at.ensures.len, size);

@@ -3,7 +3,7 @@ use Rattle.npr_base.specs.Family.{AllOf}
 use Rattle.npr_base.specs.V6ListLaws.{length-concat}
 use Rattle.npr_srh.specs.Seg6.{seg6_of}
 use Rattle.npr_srh.specs.Seg6Codec.{seg6-len}
-use Rattle.npr_srh.proofs.seg6_header.Seg6HeaderNla.value_len.Goals as goal
+use Rattle.npr_srh.proofs.seg6_header.Seg6Header.len.Goals as goal
 
 pub returns : goal.returns
 returns c =
