@@ -1,12 +1,8 @@
 //! A reader through a window of fixed length, so that memory does not grow with the input.
 
-ghost use Rattle.std.specs.{
-  Prelude.{◌≡◌, ◌≤◌, ◌++◌, ◌+◌, ◌-◌, ◌^◌, ◌==◌, ℕ, List, [], IfOk, IfErr, drop, min, vec_len},
-  Io.KnownBytes.{Consumes},
-};
-ghost use Rattle.byte_window.specs.{
-  declared.stop.Stop.TheVariants.{Read as ReadFailed},
-  Window.{between},
+ghost use Rattle.{
+  std.specs.{Prelude.{◌≡◌, ◌≤◌, ◌<◌, ◌↔◌, ◌++◌, ◌+◌, ◌-◌, ◌^◌, ◌==◌, ℕ, List, [], IfOk, IfErr, IsTrue, drop, length, min, vec_len}, Io.KnownBytes.{Consumes}},
+  byte_window.specs.{declared.stop.Stop.TheVariants.{Read as ReadFailed}, Window.{between}},
 };
 
 use crate::stop::Stop;
@@ -91,7 +87,7 @@ impl<R: Read + Drop> Window<R> {
     /// Reads once into the room that is left, and answers whether anything came. No failed read is
     /// tried again.
     pub fn fill(&mut self) -> Result<bool, Stop>
-        ensures more { IfOk result (λ _. (bytes : List ℕ) × (between self.new.room.items self.new.start self.new.end ≡ between self.old.room.items self.old.start self.old.end ++ bytes)
+        ensures more { IfOk result (λ more. (bytes : List ℕ) × (IsTrue more ↔ (0 < length bytes)) × (between self.new.room.items self.new.start self.new.end ≡ between self.old.room.items self.old.start self.old.end ++ bytes)
             × Consumes (R.remaining self.old.reader) (R.remaining self.new.reader) bytes) }
         ensures failed { IfErr result (λ stop. stop ≡ ReadFailed) }
         ensures passed { self.new.passed ≡ self.old.passed }

@@ -1,21 +1,15 @@
 //! Address messages that are read, changed and built.
 
-ghost use Rattle.std.specs.{
-  Prelude.{◌≡◌, ◌≢◌, ◌==◌, None, Some, IfOk, IfErr},
-  Int.RustNames.{bit_and},
-};
-ghost use Rattle.examples.specs.{
-  Addresses.{local_ipv4, loopback, loopback_written, with_priority},
-  declared.fault.Fault.TheVariants.{Refused, Unfit},
-};
-ghost use Rattle.netlink_packet_route.specs.{
-  AddressAttribute.{meaning_of},
-  AddressFlags.{header_flags_bits},
-  AddressMessage.{Address, AddressMessage, IsAddressMessage, AddressFault, address_bytes, address_misfit, message_of},
-  Found.{IsFirst},
-  declared.framing.DecodeError.{DecodeError},
-  declared.framing.DecodeError.TheVariants.{OutOfMemory},
-  declared.framing.EmitError.{EmitError},
+ghost use Rattle.{
+  std.specs.{Prelude.{◌≡◌, ◌≢◌, ◌==◌, None, Some, IfOk, IfErr}, Int.RustNames.{bit_and}},
+  examples.specs.{Addresses.{local_ipv4, loopback, loopback_written, with_priority}, declared.fault.Fault.TheVariants.{Refused, Unfit}},
+  netlink_packet_route.specs.{
+    AddressAttribute.{meaning_of},
+    AddressFlags.{header_flags_bits},
+    AddressMessage.{Address, AddressMessage, IsAddressMessage, AddressFault, address_bytes, address_misfit, message_of},
+    Found.{IsFirst},
+    declared.framing.{DecodeError.{DecodeError, TheVariants.{OutOfMemory}}, EmitError.{EmitError}},
+  },
 };
 
 use crate::fault::Fault;

@@ -1,13 +1,13 @@
 //! Messages read and written again: two inputs mean the same exactly if these bytes are equal.
 
-ghost use Rattle.std.specs.Prelude.{◌≡◌, ◌≢◌, None, Some, IfOk};
-ghost use Rattle.examples.specs.declared.fault.Fault.TheVariants.{Refused, Unfit};
-ghost use Rattle.netlink_packet_route.specs.{
-  Messages.{Message as Meant, IsMessage, MessageFault, message_misfit, spelling},
-  RouteMessage.{Route, IsRouteMessage, RouteFault, route_bytes, route_misfit},
-  declared.framing.DecodeError.{DecodeError},
-  declared.framing.DecodeError.TheVariants.{OutOfMemory},
-  declared.framing.EmitError.{EmitError},
+ghost use Rattle.{
+  std.specs.Prelude.{◌≡◌, ◌≢◌, None, Some, IfOk},
+  examples.specs.declared.fault.Fault.TheVariants.{Refused, Unfit},
+  netlink_packet_route.specs.{
+    Messages.{Message as Meant, IsMessage, MessageFault, message_misfit, spelling},
+    RouteMessage.{Route, IsRouteMessage, RouteFault, route_bytes, route_misfit},
+    declared.framing.{DecodeError.{DecodeError, TheVariants.{OutOfMemory}}, EmitError.{EmitError}},
+  },
 };
 
 use crate::fault::Fault;

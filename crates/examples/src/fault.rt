@@ -1,8 +1,10 @@
 //! Why no bytes come out.
 
-ghost use Rattle.std.specs.Prelude.{◌≡◌};
-ghost use Rattle.examples.specs.{Fault.{unwritten}, declared.fault.Fault.TheVariants.{Refused, Unfit}};
-ghost use Rattle.netlink_packet_route.specs.declared.framing.DecodeError.TheVariants.{OutOfMemory};
+ghost use Rattle.{
+  std.specs.Prelude.{◌≡◌},
+  examples.specs.{Fault.{unwritten}, declared.fault.Fault.TheVariants.{Refused, Unfit}},
+  netlink_packet_route.specs.declared.framing.DecodeError.TheVariants.{OutOfMemory},
+};
 
 use netlink_packet_route::framing::{DecodeError, EmitError, WriteError};
 use std::alloc::{AllocError, AllocFailed};

@@ -1,12 +1,14 @@
 //! Attributes that are read one after the other, without a list.
 
-ghost use Rattle.std.specs.Prelude.{◌≡◌, ◌≢◌, IfOk, IfErr};
-ghost use Rattle.netlink_packet_route.specs.{
-  AddressAttribute.{meaning_of},
-  AddressMessage.{Address, IsAddressMessage, AddressFault},
-  declared.framing.DecodeError.TheVariants.{OutOfMemory},
+ghost use Rattle.{
+  std.specs.Prelude.{◌≡◌, ◌≢◌, IfOk, IfErr},
+  netlink_packet_route.specs.{
+    AddressAttribute.{meaning_of},
+    AddressMessage.{Address, IsAddressMessage, AddressFault},
+    declared.framing.DecodeError.TheVariants.{OutOfMemory},
+  },
+  examples.specs.OneByOne.{last_of, priority_of},
 };
-ghost use Rattle.examples.specs.OneByOne.{last_of, priority_of};
 
 use netlink_packet_route::address::{AddressAttribute, AddressMessage};
 use netlink_packet_route::framing::DecodeError;

@@ -1,14 +1,16 @@
 //! Routes that are read, and built.
 
-ghost use Rattle.std.specs.Prelude.{◌≡◌, ◌≢◌, IfOk, IfErr};
-ghost use Rattle.netlink_packet_route.specs.{
-  Found.{IsFirst},
-  RouteAttributeView.{meaning_of},
-  RouteMessage.{RouteMessage, IsRouteMessage, RouteFault, message_of, route_bytes},
-  RoutePath.{gateway_ip},
-  declared.framing.DecodeError.TheVariants.{OutOfMemory},
+ghost use Rattle.{
+  std.specs.Prelude.{◌≡◌, ◌≢◌, IfOk, IfErr},
+  netlink_packet_route.specs.{
+    Found.{IsFirst},
+    RouteAttributeView.{meaning_of},
+    RouteMessage.{RouteMessage, IsRouteMessage, RouteFault, message_of, route_bytes},
+    RoutePath.{gateway_ip},
+    declared.framing.DecodeError.TheVariants.{OutOfMemory},
+  },
+  examples.specs.{Routes.{two_ways}, declared.fault.Fault.TheVariants.{Refused}},
 };
-ghost use Rattle.examples.specs.{Routes.{two_ways}, declared.fault.Fault.TheVariants.{Refused}};
 
 use crate::fault::Fault;
 use netlink_packet_route::AddressFamily;

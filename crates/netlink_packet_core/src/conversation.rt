@@ -1,9 +1,8 @@
 //! The answer to a request: which messages of the datagrams that come are of it, and how it ends.
 
-ghost use Rattle.std.specs.Prelude.{◌≡◌, false, Ok};
-ghost use Rattle.netlink_packet_core.specs.{
-  Conversation.{Talk, asked, event_of, outcome_of, said, after, own, belongs, changed, error_outcome, done_outcome, Hears},
-  Envelope.{Envelope, EnvelopeStep},
+ghost use Rattle.{
+  std.specs.Prelude.{◌≡◌, false, Ok},
+  netlink_packet_core.specs.Conversation.{Talk, asked, event_of, outcome_of, said, after, belongs, error_outcome, done_outcome, Hears},
 };
 
 use crate::buffer::NetlinkBuffer;

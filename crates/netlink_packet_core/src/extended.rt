@@ -1,8 +1,10 @@
 //! The attributes of an extended answer: `NLMSGERR_ATTR_*` of `linux/netlink.h`.
 
-ghost use Rattle.std.specs.Prelude.{◌≡◌, ◌<◌, ◌^◌, length, option_map, refl};
-ghost use Rattle.netlink_packet_core.specs.Extended.{Meaning, meaning_of, writing, attributes, has_flag, refused_length, refused_message, error_attributes, done_attributes, IsFirstText};
-ghost use Rattle.npr_base.specs.NameLaws.{IsUnterminated};
+ghost use Rattle.{
+  std.specs.Prelude.{◌≡◌, ◌<◌, ◌^◌, length, option_map, refl},
+  netlink_packet_core.specs.Extended.{Meaning, meaning_of, writing, attributes, has_flag, refused_length, refused_message, error_attributes, done_attributes, IsFirstText},
+  npr_base.specs.NameLaws.{IsUnterminated},
+};
 
 use crate::constants::{NETLINK_HEADER_LEN, NLM_F_ACK_TLVS, NLM_F_CAPPED, NLMSG_ALIGNTO};
 use crate::header::NetlinkHeader;

@@ -1,21 +1,19 @@
 //! The laws of this crate, over its definitions alone. Each function does nothing, and its contract
 //! is the law.
 
-ghost use Rattle.std.specs.Prelude.{◌≡◌, ◌≤◌, ◌%◌, ◌*◌, ◌+◌, ◌++◌, ◌∷◌, ◌↔◌, ◌⊎◌, ℕ, List, [], Result, Err, None, length, map, true};
-ghost use Rattle.npr_base.specs.{
-  declared.refusal.DecodeError.{DecodeError},
-  Equality.{IsEquality, IsEqualityOf},
-};
-ghost use Rattle.netlink_packet_core.specs.{
-  Conversation.{Talk, TalksOver, Stand, event_of, said, after, answers, kept, is_end},
-  declared.conversation.Answer.{Answer},
-  declared.refusal.EnvelopeError.{EnvelopeError},
-  Envelope.{Envelope, IsDatagram, EnvelopeStops, Place},
-  Extended.{meaning_of as attribute_of},
-  Header.{default_header},
-  Payload.{payload_of, error_of, done_of},
-  Message.{Meant, message_of, IsNetlinkMessage, NetlinkFault, IsCoherentMessage, netlink_misfit, message_bytes, envelope_of, finalized},
-  Walk.{HasOne, start, found, EnvelopeSteps, EnvelopeWalk, EnvelopeFinds},
+ghost use Rattle.{
+  std.specs.Prelude.{◌≡◌, ◌≤◌, ◌%◌, ◌*◌, ◌+◌, ◌++◌, ◌∷◌, ◌↔◌, ◌⊎◌, ℕ, List, [], Result, Err, None, length, map, true},
+  npr_base.specs.{declared.refusal.DecodeError.{DecodeError}, Equality.{IsEquality, IsEqualityOf}},
+  netlink_packet_core.specs.{
+    Conversation.{Talk, TalksOver, Stand, event_of, said, after, answers, kept, is_end},
+    declared.{conversation.Answer.{Answer}, refusal.EnvelopeError.{EnvelopeError}},
+    Envelope.{Envelope, IsDatagram, EnvelopeStops, Place},
+    Extended.{meaning_of as attribute_of},
+    Header.{default_header},
+    Payload.{payload_of, error_of, done_of},
+    Message.{Meant, message_of, IsNetlinkMessage, NetlinkFault, IsCoherentMessage, netlink_misfit, message_bytes, envelope_of, finalized},
+    Walk.{HasOne, start, found, EnvelopeSteps, EnvelopeWalk, EnvelopeFinds},
+  },
 };
 
 use crate::buffer::NetlinkBuffer;

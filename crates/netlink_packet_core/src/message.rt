@@ -1,13 +1,13 @@
 //! Messages: an envelope and what stands in it.
 
-ghost use Rattle.std.specs.Prelude.{◌≡◌, ◌≢◌, ◌+◌, ◌<◌, ◌≤◌, ◌^◌, None, length, replicate, IfOk, IfErr};
-ghost use Rattle.npr_base.specs.{
-  declared.refusal.DecodeError.TheVariants.{OutOfMemory},
-  Family.{checked},
-  Framing.{Writes, pad},
+ghost use Rattle.{
+  std.specs.Prelude.{◌≡◌, ◌≢◌, ◌+◌, ◌<◌, ◌≤◌, ◌^◌, None, length, replicate, IfOk, IfErr},
+  npr_base.specs.{declared.refusal.DecodeError.TheVariants.{OutOfMemory}, Family.{checked}, Framing.{Writes, pad}},
+  netlink_packet_core.specs.{
+    Message.{Meant, message_of, IsNetlinkMessage, NetlinkFault, IsCoherentMessage, final_header, finalized, envelope_of, message_bytes, oversized, netlink_misfit},
+    Payload.{payload_of, payload_bytes},
+  },
 };
-ghost use Rattle.netlink_packet_core.specs.Message.{Meant, message_of, IsNetlinkMessage, NetlinkFault, IsCoherentMessage, final_header, finalized, envelope_of, message_bytes, oversized, netlink_misfit};
-ghost use Rattle.netlink_packet_core.specs.Payload.{payload_of, payload_bytes};
 
 use crate::buffer::NetlinkBuffer;
 use crate::constants::{NETLINK_HEADER_LEN, NLMSG_ALIGNTO};

@@ -1,11 +1,10 @@
 //! What stands behind the header of an envelope.
 
-ghost use Rattle.std.specs.Prelude.{◌≡◌, ◌≢◌, ◌+◌, ◌≤◌, None, length, IfOk, IfErr};
-ghost use Rattle.npr_base.specs.{
-  declared.refusal.DecodeError.TheVariants.{OutOfMemory},
-  Framing.{Writes},
+ghost use Rattle.{
+  std.specs.Prelude.{◌≡◌, ◌≢◌, ◌+◌, ◌≤◌, None, length, IfOk, IfErr},
+  npr_base.specs.{declared.refusal.DecodeError.TheVariants.{OutOfMemory}, Framing.{Writes}},
+  netlink_packet_core.specs.Payload.{Payload, payload_of, error_of, done_of, IsCoherentPayload, payload_type, payload_bytes, payload_misfit, PayloadReads, PayloadFault, IsCoded, IsUncoded, code_of, coded},
 };
-ghost use Rattle.netlink_packet_core.specs.Payload.{Payload, payload_of, error_of, done_of, IsCoherentPayload, payload_type, payload_bytes, payload_misfit, PayloadReads, PayloadFault, IsCoded, IsUncoded, code_of, coded};
 
 use crate::constants::{NLMSG_DONE, NLMSG_ERROR, NLMSG_NOOP, NLMSG_OVERRUN};
 use crate::header::NetlinkHeader;

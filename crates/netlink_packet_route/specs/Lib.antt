@@ -13,6 +13,7 @@ pub use Rattle.npr_base.specs.Equality
 pub use Rattle.npr_base.specs.EqualityLaws
 pub use Rattle.npr_base.specs.Family
 pub use Rattle.npr_base.specs.Fields
+pub use Rattle.npr_base.specs.FitLaws
 pub use Rattle.npr_base.specs.Found
 pub use Rattle.npr_base.specs.Framing
 pub use Rattle.npr_base.specs.FrontLaws

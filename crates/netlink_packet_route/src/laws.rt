@@ -1,19 +1,16 @@
 //! The laws of messages, over their definitions alone. Each function does nothing, and
 //! its contract is the law.
 
-ghost use Rattle.std.specs.{Prelude.{◌≡◌}, List.{Contains}};
-ghost use Rattle.npr_base.specs.{Equality.{IsEquality, IsEqualityOf}, Walk.{CutsInTwo}};
-ghost use Rattle.npr_address.specs.Attribute.{attributes as address_attributes};
-ghost use Rattle.npr_base.specs.declared.address_family.AddressFamily.{AddressFamily};
-ghost use Rattle.npr_neighbour.specs.Attribute.{attributes as neighbour_attributes};
-ghost use Rattle.npr_route.specs.{
-  FlatAttribute.{Context},
-  AttributeLaws.{attributes as route_attributes},
+ghost use Rattle.{
+  std.specs.{Prelude.{◌≡◌}, List.{Contains}},
+  npr_base.specs.{Equality.{IsEquality, IsEqualityOf}, Walk.{CutsInTwo}, declared.address_family.AddressFamily.{AddressFamily}},
+  npr_address.specs.Attribute.{attributes as address_attributes},
+  npr_neighbour.specs.Attribute.{attributes as neighbour_attributes},
+  npr_route.specs.{FlatAttribute.{Context}, AttributeLaws.{attributes as route_attributes}},
+  npr_rule.specs.Attribute.{attributes as rule_attributes},
+  netlink_packet_core.specs.Message.{message_of},
+  netlink_packet_route.specs.{MessageKind.{kind_name}, RouteNetlinkMessage.{meaning_of, other_of}},
 };
-ghost use Rattle.npr_rule.specs.Attribute.{attributes as rule_attributes};
-ghost use Rattle.netlink_packet_core.specs.Message.{message_of};
-ghost use Rattle.netlink_packet_route.specs.MessageKind.{kind_name};
-ghost use Rattle.netlink_packet_route.specs.RouteNetlinkMessage.{meaning_of, other_of};
 
 use crate::kind::MessageKind;
 use crate::message::{OtherMessage, RouteNetlinkMessage};

@@ -1,13 +1,17 @@
 //! Messages of rtnetlink by their types: `RTM_*` of `linux/rtnetlink.h`.
 
-ghost use Rattle.std.specs.Prelude.{◌≡◌, ◌≢◌, IfOk, IfErr, refl};
-ghost use Rattle.npr_base.specs.declared.refusal.DecodeError.TheVariants.{OutOfMemory};
-ghost use Rattle.netlink_packet_route.specs.MessageKind.{kind_of_type};
-ghost use Rattle.netlink_packet_route.specs.RouteNetlinkMessage.{Meaning, meaning_of, other_of, address, route, neighbour, rule, rtnetlink, type_of, writes, misfit, address_type, route_type, neighbour_type, rule_type, ReadsUnder, FaultUnder};
-ghost use Rattle.npr_address.specs.Message.{message_of as address_of};
-ghost use Rattle.npr_neighbour.specs.Message.{message_of as neighbour_of};
-ghost use Rattle.npr_route.specs.Message.{message_of as route_of};
-ghost use Rattle.npr_rule.specs.Message.{message_of as rule_of};
+ghost use Rattle.{
+  std.specs.Prelude.{◌≡◌, ◌≢◌, IfOk, IfErr, refl},
+  npr_base.specs.declared.refusal.DecodeError.TheVariants.{OutOfMemory},
+  netlink_packet_route.specs.{
+    MessageKind.{kind_of_type},
+    RouteNetlinkMessage.{Meaning, meaning_of, other_of, address, route, neighbour, rule, rtnetlink, type_of, writes, misfit, ReadsUnder, FaultUnder},
+  },
+  npr_address.specs.Message.{message_of as address_of},
+  npr_neighbour.specs.Message.{message_of as neighbour_of},
+  npr_route.specs.Message.{message_of as route_of},
+  npr_rule.specs.Message.{message_of as rule_of},
+};
 
 use crate::kind::MessageKind;
 use netlink_packet_core::{NetlinkHeader, NetlinkInner};

@@ -1,29 +1,28 @@
 //! The numbers of values, for a crate that names this one alone: the conversions `u8::from` and
 //! their like are found only by a crate that names the one which has them.
 
-ghost use Rattle.std.specs.Prelude.{◌≡◌};
-ghost use Rattle.npr_address.specs.{
-  AddressProtocol.{protocol_number as address_protocol_number},
-  AddressScope.{scope_number as address_scope_number},
+ghost use Rattle.{
+  std.specs.Prelude.{◌≡◌},
+  npr_address.specs.{AddressProtocol.{protocol_number as address_protocol_number}, AddressScope.{scope_number as address_scope_number}},
+  npr_base.specs.AddressFamily.{family_number},
+  npr_rule.specs.Action.{action_number as rule_action_number},
+  npr_scalar.specs.{
+    IpProtocol.{ip_protocol_number},
+    Mpls.{label_number},
+    Realm.{realm_number},
+    RoutePreference.{route_preference_number},
+    RouteProtocol.{route_protocol_number},
+    RouteScope.{route_scope_number},
+    RouteType.{route_type_number},
+    TtlPropagation.{ttl_propagation_number},
+  },
+  npr_srh.specs.{
+    Ioam6Mode.{ioam6_mode_number},
+    Seg6LocalAction.{action_number as seg6_local_action_number},
+    Seg6Mode.{mode_number as seg6_mode_number},
+  },
+  npr_tunnel.specs.EncapType.{encap_type_number},
 };
-ghost use Rattle.npr_base.specs.AddressFamily.{family_number};
-ghost use Rattle.npr_rule.specs.Action.{action_number as rule_action_number};
-ghost use Rattle.npr_scalar.specs.{
-  IpProtocol.{ip_protocol_number},
-  Mpls.{label_number},
-  Realm.{realm_number},
-  RoutePreference.{route_preference_number},
-  RouteProtocol.{route_protocol_number},
-  RouteScope.{route_scope_number},
-  RouteType.{route_type_number},
-  TtlPropagation.{ttl_propagation_number},
-};
-ghost use Rattle.npr_srh.specs.{
-  Ioam6Mode.{ioam6_mode_number},
-  Seg6LocalAction.{action_number as seg6_local_action_number},
-  Seg6Mode.{mode_number as seg6_mode_number},
-};
-ghost use Rattle.npr_tunnel.specs.EncapType.{encap_type_number};
 
 use npr_address::{AddressProtocol, AddressScope};
 use npr_base::AddressFamily;

@@ -1,13 +1,14 @@
 //! Requests to the kernel on addresses, routes, neighbours and rules, with the flags that `ip` sets. A
 //! sequence number is one of the caller's choice, which the answer has again.
 
-ghost use Rattle.netlink_packet_core.specs.{
-  Message.{message_of},
-  Request.{IsRequest, dump_flags, get_flags, new_flags, replace_flags, delete_flags},
+ghost use Rattle.{
+  netlink_packet_core.specs.{Message.{message_of}, Request.{IsRequest, dump_flags, get_flags, new_flags, replace_flags, delete_flags}},
+  netlink_packet_route.specs.{
+    declared.message.Action.TheVariants.{New, Del, Get},
+    RouteNetlinkMessage.{meaning_of, rtnetlink, address, route, neighbour, rule},
+    Request.{addresses_of, routes_of, neighbours_of, rules_of},
+  },
 };
-ghost use Rattle.netlink_packet_route.specs.declared.message.Action.TheVariants.{New, Del, Get};
-ghost use Rattle.netlink_packet_route.specs.RouteNetlinkMessage.{meaning_of, rtnetlink, address, route, neighbour, rule};
-ghost use Rattle.netlink_packet_route.specs.Request.{addresses_of, routes_of, neighbours_of, rules_of};
 
 use crate::message::{Action, Entry, RouteNetlinkMessage};
 use netlink_packet_core::NetlinkMessage;

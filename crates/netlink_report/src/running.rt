@@ -1,25 +1,24 @@
 //! A run, from the text that is read to the report that is written.
 
-ghost use Rattle.std.specs.{
-  Prelude.{◌≡◌, ◌≢◌, ◌⊎◌, ◌<◌, ◌≤◌, None, Some, length, map, string_bytes, IfOk, IfErr, IfSome, OnOk, OnErr},
-  Io.KnownBytes.{IsAtEnd, Keeps},
-};
-ghost use Rattle.netlink_packet_route.specs.{
-  Family.{first_unfit},
-  MessageKind.{kind_name},
-  Messages.{Message as Meant, IsMessage, MessageFault, message_misfit, spelling, view},
-  declared.framing.DecodeError.{DecodeError},
-  declared.framing.DecodeError.TheVariants.{OutOfMemory},
-  declared.framing.EmitError.{EmitError},
-  declared.framing.Message.{Message},
-};
-ghost use Rattle.netlink_report.specs.{
-  Counted.{raised},
-  Error.{IsOfMessage},
-  HexText.{IsNoHexText},
-  Report.{report},
-  Run.{IsReport, IsRefused, IsUnfit, OfText, Reports, ReportsPart, SomethingLeft},
-  declared.error.RunError.TheVariants.{BadHex, Memory, Refused, Unfit, Read as ReadFailed, Write as WriteFailed},
+ghost use Rattle.{
+  std.specs.{
+    Prelude.{◌≡◌, ◌≢◌, ◌⊎◌, ◌<◌, ◌≤◌, None, Some, length, map, string_bytes, IfOk, IfErr, IfSome, OnOk, OnErr},
+    Io.KnownBytes.{IsAtEnd, Keeps},
+  },
+  netlink_packet_route.specs.{
+    Family.{first_unfit},
+    MessageKind.{kind_name},
+    Messages.{Message as Meant, IsMessage, MessageFault, message_misfit, spelling, view},
+    declared.framing.{DecodeError.{DecodeError, TheVariants.{OutOfMemory}}, EmitError.{EmitError}, Message.{Message}},
+  },
+  netlink_report.specs.{
+    Counted.{raised},
+    Error.{IsOfMessage},
+    HexText.{IsNoHexText},
+    Report.{report},
+    Run.{IsReport, IsRefused, IsUnfit, OfText, Reports, ReportsPart, SomethingLeft},
+    declared.error.RunError.TheVariants.{BadHex, Memory, Refused, Unfit, Read as ReadFailed, Write as WriteFailed},
+  },
 };
 
 use crate::counted::Counted;

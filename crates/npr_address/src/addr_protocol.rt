@@ -1,7 +1,6 @@
 //! What made an address: `IFAPROT_*` of `linux/if_addr.h`.
 
-ghost use Rattle.std.specs.Prelude.{◌≡◌, Some};
-ghost use Rattle.npr_address.specs.AddressProtocol.{protocol_of, protocol_number, protocol_text};
+ghost use Rattle.{std.specs.Prelude.{◌≡◌, Some}, npr_address.specs.AddressProtocol.{protocol_of, protocol_number, protocol_text}};
 
 use std::fmt;
 

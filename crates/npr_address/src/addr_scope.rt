@@ -1,7 +1,6 @@
 //! The scope of an address: `RT_SCOPE_*` of `linux/rtnetlink.h`.
 
-ghost use Rattle.std.specs.Prelude.{◌≡◌, Some};
-ghost use Rattle.npr_address.specs.AddressScope.{scope_of, scope_number, scope_text};
+ghost use Rattle.{std.specs.Prelude.{◌≡◌, Some}, npr_address.specs.AddressScope.{scope_of, scope_number, scope_text}};
 
 use std::fmt;
 

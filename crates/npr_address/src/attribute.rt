@@ -1,10 +1,9 @@
 //! The attributes of an address message: `IFA_*` of `linux/if_addr.h`.
 
-ghost use Rattle.std.specs.Prelude.{◌≡◌, ◌≢◌, ◌<◌, ◌*◌, IfOk, IfErr};
-ghost use Rattle.std.proofs.Common.{refl};
-ghost use Rattle.npr_base.specs.declared.refusal.DecodeError.TheVariants.{OutOfMemory};
-ghost use Rattle.npr_address.specs.{
-  Attribute.{Meaning, meaning_of, writing, attributes},
+ghost use Rattle.{
+  std.{specs.Prelude.{◌≡◌, ◌≢◌, ◌<◌, ◌*◌, IfOk, IfErr}, proofs.Common.{refl}},
+  npr_base.specs.declared.refusal.DecodeError.TheVariants.{OutOfMemory},
+  npr_address.specs.Attribute.{Meaning, meaning_of, writing, attributes},
 };
 
 use crate::addr_flags::AddressFlags;

@@ -1,11 +1,10 @@
 //! How long an address is preferred and valid: `struct ifa_cacheinfo` of `linux/if_addr.h`.
 
-ghost use Rattle.std.specs.Prelude.{◌≡◌, ◌<◌, None, IfOk, IfErr};
-ghost use Rattle.npr_base.specs.{
-  Codec.{leading},
-  Refusal.{no_place},
+ghost use Rattle.{
+  std.specs.Prelude.{◌≡◌, ◌<◌, None, IfOk, IfErr},
+  npr_base.specs.{Codec.{leading}, Refusal.{no_place}},
+  npr_address.specs.CacheInfo.{cache_info},
 };
-ghost use Rattle.npr_address.specs.CacheInfo.{cache_info};
 
 use npr_base::{DecodeError, EmitError, Emitable, leading_octets, write_array};
 

@@ -1,11 +1,10 @@
 //! The header of an address message: `struct ifaddrmsg` of `linux/if_addr.h`.
 
-ghost use Rattle.std.specs.Prelude.{◌≡◌, ◌≤◌, ◌<◌, None, length, IfOk, IfErr};
-ghost use Rattle.npr_base.specs.{
-  Codec.{leading},
-  Refusal.{no_place},
+ghost use Rattle.{
+  std.specs.Prelude.{◌≡◌, ◌≤◌, ◌<◌, None, length, IfOk, IfErr},
+  npr_base.specs.{Codec.{leading}, Refusal.{no_place}},
+  npr_address.specs.Header.{header_buffer, header, buffer_of},
 };
-ghost use Rattle.npr_address.specs.Header.{header_buffer, header, buffer_of};
 
 use crate::addr_flags::AddressHeaderFlags;
 use crate::addr_scope::AddressScope;

@@ -1,20 +1,17 @@
 //! The laws of address messages, over their definitions alone. Each function does nothing, and its
 //! contract is the law.
 
-ghost use Rattle.std.specs.Prelude.{◌≡◌, ◌^◌, ◌-◌, ℕ, List, length};
-ghost use Rattle.npr_base.specs.{
-  Counts.{Counts, AddsAtMostTwice, SawEach},
-  Equality.{IsEquality, IsEqualityOf},
-  Family.{list_members},
-  Message.{MessageLooks},
-};
-ghost use Rattle.npr_address.specs.{
-  AddressFlags.{address_flags_bits, header_flags_bits, header_flags_of},
-  AddressProtocol.{protocol_of, protocol_number},
-  AddressScope.{scope_of, scope_number},
-  Attribute.{meaning_of, writing},
-  Header.{default_header, header},
-  Message.{Address, body, message_of, IsAddressMessage},
+ghost use Rattle.{
+  std.specs.Prelude.{◌≡◌, ◌^◌, ◌-◌, ℕ, List, length},
+  npr_base.specs.{Counts.{Counts, AddsAtMostTwice, SawEach}, Equality.{IsEquality, IsEqualityOf}, Family.{list_members}, Message.{MessageLooks}},
+  npr_address.specs.{
+    AddressFlags.{address_flags_bits, header_flags_bits, header_flags_of},
+    AddressProtocol.{protocol_of, protocol_number},
+    AddressScope.{scope_of, scope_number},
+    Attribute.{meaning_of, writing},
+    Header.{default_header, header},
+    Message.{Address, body, message_of, IsAddressMessage},
+  },
 };
 
 use crate::addr_flags::{AddressFlags, AddressHeaderFlags};

@@ -1,5 +1,5 @@
 -- Bytes are one list at most, what is wrong with them is no list, and what is written is read again.
-use Rattle.std.specs.Prelude.{◌≢◌, IfErr, Option, Some, None, replicate}
+use Rattle.std.specs.Prelude.{◌≢◌, IfErr, Option, None, replicate}
 use Rattle.std.proofs.Common.{Result, Ok, Err, ◌≡◌, ℕ, suc, ◌+◌, ◌*◌, ◌%◌, ◌≤◌, List, [], ◌∷◌, ◌++◌, length, take}
 use Rattle.std.proofs.Common.{drop, refl, sym, ap, subst, ◌∙◌, arith, inl, inr, length-append}
 use Rattle.std.proofs.lemmas.Bool.{cases_lt}
@@ -8,7 +8,7 @@ use Rattle.npr_base.specs.declared.refusal.DecodeError.{DecodeError}
 use Rattle.npr_base.specs.declared.refusal.DecodeError.TheVariants.{OutOfMemory}
 use Rattle.npr_base.specs.declared.refusal.EmitError.{EmitError}
 use Rattle.npr_base.specs.Framing.{Item, Small, Proper, IsBytes, Front, Passes, text, pad, encoding, framed}
-use Rattle.npr_base.specs.Family.{Each, AllOf, ReadsList, IsWrong, FirstFault, encodings, first_unfit, option_or}
+use Rattle.npr_base.specs.Family.{Each, AllOf, ReadsList, IsWrong, FirstFault, encodings, first_unfit}
 use Rattle.npr_base.specs.FitLaws.{none_both}
 use Rattle.npr_base.specs.FrontLaws.{Front-same, Front-sound, Front-shrinks, Front-takes, Cut-same}
 

@@ -1,5 +1,5 @@
 -- Names: UTF-8 with one final zero, which may be missing where it is read.
-use Rattle.std.specs.Prelude.{◌≡◌, ℕ, List, [], ◌∷◌, ◌++◌, length, None}
+use Rattle.std.specs.Prelude.{◌≡◌, ℕ, List, [], ◌∷◌, ◌++◌, None}
 use Rattle.std.specs.Str.{IsUtf8}
 use Rattle.std.proofs.Common.{refl, inl}
 use Rattle.npr_base.specs.declared.refusal.DecodeError.TheVariants.{NotUtf8}

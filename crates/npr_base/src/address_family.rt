@@ -1,7 +1,6 @@
 //! Address families: `AF_*` of `linux/socket.h`.
 
-ghost use Rattle.std.specs.Prelude.{◌≡◌, Some};
-ghost use Rattle.npr_base.specs.AddressFamily.{family_of, family_number, family_text};
+ghost use Rattle.{std.specs.Prelude.{◌≡◌, Some}, npr_base.specs.AddressFamily.{family_of, family_number, family_text}};
 
 use std::fmt;
 

@@ -31,8 +31,7 @@ pub use framing::{
 };
 pub use ip::{IpAddr, Ipv4Addr, Ipv6Addr};
 pub use list::{
-    check_list, clone_list, emit_list, fill_list, make_room, parse_list, total_len,
-    write_list,
+    check_list, clone_list, emit_list, fill_list, make_room, parse_list, total_len, write_list,
 };
 pub use looks::Looks;
 pub use message::{Header, Message};

@@ -1,13 +1,13 @@
 //! What is parsed and what is emitted.
 
-ghost use Rattle.std.specs.Prelude.{◌≡◌, ◌≢◌, ◌≤◌, ℕ, List, Option, None, length, IfOk, IfErr};
-ghost use Rattle.npr_base.specs.{
-  declared.refusal.EmitError.{EmitError},
-  declared.refusal.DecodeError.{DecodeError},
-  declared.refusal.DecodeError.TheVariants.{OutOfMemory},
-  Framing.{Writes, encoding, framed},
-  Family.{checked, too_long},
-  Table.{Shape, shaped_item, shaped_misfit},
+ghost use Rattle.{
+  std.specs.Prelude.{◌≡◌, ◌≢◌, ◌≤◌, ℕ, List, Option, None, length, IfOk, IfErr},
+  npr_base.specs.{
+    declared.refusal.{EmitError.{EmitError}, DecodeError.{DecodeError, TheVariants.{OutOfMemory}}},
+    Framing.{Writes, encoding, framed},
+    Family.{checked, too_long},
+    Table.{Shape, shaped_item, shaped_misfit},
+  },
 };
 
 use crate::framing::{NLA_HEADER_SIZE, frame, framed_len, marked_kind};

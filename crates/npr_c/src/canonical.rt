@@ -1,16 +1,18 @@
 //! Canonical bytes of given bytes, into a given buffer.
 
-ghost use Rattle.std.specs.Prelude.{◌≡◌, ◌≢◌, ◌≤◌, ◌*◌, ℕ, List, length, drop};
-ghost use Rattle.netlink_packet_route.specs.{
-  AddressMessage.{IsAddressMessage, AddressFault, address_bytes, address_misfit},
-  Framing.{Item, Front},
-  Messages.{IsMessage, MessageFault, message_misfit, spelling},
-  NeighbourMessage.{IsNeighbourMessage, NeighbourFault, neighbour_bytes, neighbour_misfit},
-  RouteMessage.{IsRouteMessage, RouteFault, route_bytes, route_misfit},
-  RuleMessage.{IsRuleMessage, RuleFault, rule_bytes, rule_misfit},
-  declared.framing.DecodeError.TheVariants.{OutOfMemory},
+ghost use Rattle.{
+  std.specs.Prelude.{◌≡◌, ◌≢◌, ◌≤◌, ◌*◌, ℕ, List, length, drop},
+  netlink_packet_route.specs.{
+    AddressMessage.{IsAddressMessage, AddressFault, address_bytes, address_misfit},
+    Framing.{Item, Front},
+    Messages.{IsMessage, MessageFault, message_misfit, spelling},
+    NeighbourMessage.{IsNeighbourMessage, NeighbourFault, neighbour_bytes, neighbour_misfit},
+    RouteMessage.{IsRouteMessage, RouteFault, route_bytes, route_misfit},
+    RuleMessage.{IsRuleMessage, RuleFault, rule_bytes, rule_misfit},
+    declared.framing.DecodeError.TheVariants.{OutOfMemory},
+  },
+  npr_c.specs.Answers.{Spells, Tells, refused_answer},
 };
-ghost use Rattle.npr_c.specs.Answers.{Spells, Tells, refused_answer};
 
 use crate::answer::Answer;
 use netlink_packet_route::address::AddressHeader;

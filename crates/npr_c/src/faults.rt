@@ -1,19 +1,20 @@
 //! Whether bytes are a message, and what is wrong with them.
 
-ghost use Rattle.std.specs.Prelude.{◌≡◌, ℕ, List, drop};
-ghost use Rattle.netlink_packet_route.specs.{
-  AddressMessage.{IsAddressMessage, AddressFault},
-  Framing.{Item, Front},
-  Messages.{Message as Meant, IsMessage, MessageFault},
-  NeighbourMessage.{IsNeighbourMessage, NeighbourFault},
-  RouteMessage.{IsRouteMessage, RouteFault},
-  RuleMessage.{IsRuleMessage, RuleFault},
-  declared.framing.DecodeError.{DecodeError},
-  declared.framing.DecodeError.TheVariants.{OutOfMemory},
-};
-ghost use Rattle.npr_c.specs.{
-  Faults.{IsJudged, fault_of, no_fault, told, family_number, seg6_number},
-  Stops.{AddressStandsAt, IsPlaced, NeighbourStandsAt, RouteStandsAt, RuleStandsAt, StandsAt},
+ghost use Rattle.{
+  std.specs.Prelude.{◌≡◌, ℕ, List, drop},
+  netlink_packet_route.specs.{
+    AddressMessage.{IsAddressMessage, AddressFault},
+    Framing.{Item, Front},
+    Messages.{IsMessage, MessageFault},
+    NeighbourMessage.{IsNeighbourMessage, NeighbourFault},
+    RouteMessage.{IsRouteMessage, RouteFault},
+    RuleMessage.{IsRuleMessage, RuleFault},
+    declared.framing.DecodeError.{DecodeError, TheVariants.{OutOfMemory}},
+  },
+  npr_c.specs.{
+    Faults.{IsJudged, fault_of, told, family_number, seg6_number},
+    Stops.{AddressStandsAt, IsPlaced, NeighbourStandsAt, RouteStandsAt, RuleStandsAt, StandsAt},
+  },
 };
 
 use crate::answer::refusal_number;

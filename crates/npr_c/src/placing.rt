@@ -1,21 +1,18 @@
 //! Where in a message the first fault stands: its attributes are read one after the other.
 
-ghost use Rattle.std.specs.Prelude.{◌≡◌, ◌≢◌, ◌≤◌, ◌<◌, ◌⊎◌, ◌+◌, ℕ, List, [], Some, Err, length, drop, IfOk, IfErr};
-ghost use Rattle.std.proofs.Common.{subst};
-ghost use Rattle.netlink_packet_route.specs.{
-  AddressAttribute.{attributes as address_attributes},
-  Attributes.{AttributeStep, AttributeSteps},
-  Framing.{Item, Front},
-  Messages.{Message as Meant, IsMessage, MessageFault},
-  NeighbourAttribute.{attributes as neighbour_attributes},
-  RouteAttributeLaws.{attributes as route_attributes},
-  RuleAttribute.{attributes as rule_attributes},
-  declared.framing.DecodeError.{DecodeError},
-  declared.framing.DecodeError.TheVariants.{OutOfMemory},
-};
-ghost use Rattle.npr_c.specs.{
-  Stops.{StandsAt, StopsBefore, stops_of, route_stops},
-  StopsLaws.{stops-one, route-stops-one},
+ghost use Rattle.{
+  std.{specs.Prelude.{◌≡◌, ◌≢◌, ◌≤◌, ◌<◌, ◌⊎◌, ◌+◌, ℕ, List, [], Some, Err, length, drop, IfOk, IfErr}, proofs.Common.{subst}},
+  netlink_packet_route.specs.{
+    AddressAttribute.{attributes as address_attributes},
+    Attributes.{AttributeStep, AttributeSteps},
+    Framing.{Item, Front},
+    Messages.{Message as Meant, IsMessage, MessageFault},
+    NeighbourAttribute.{attributes as neighbour_attributes},
+    RouteAttributeLaws.{attributes as route_attributes},
+    RuleAttribute.{attributes as rule_attributes},
+    declared.framing.DecodeError.{DecodeError, TheVariants.{OutOfMemory}},
+  },
+  npr_c.specs.{Stops.{StandsAt, StopsBefore, stops_of, route_stops}, StopsLaws.{stops-one, route-stops-one}},
 };
 
 use netlink_packet_route::address::AddressHeader;

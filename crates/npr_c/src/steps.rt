@@ -1,6 +1,5 @@
 //! One step over attributes that stand one after the other, and the search for one of a number.
 
-ghost use Rattle.std.specs.Prelude.{◌≡◌};
 ghost use Rattle.npr_c.specs.Steps.{StepsAt, FindsAt};
 
 use crate::answer::refusal_number;

@@ -1,14 +1,12 @@
 //! The addresses of neighbours.
 
-ghost use Rattle.std.specs.Prelude.{◌≡◌, ◌≢◌, ◌≤◌, None, length, IfOk, IfErr};
-ghost use Rattle.npr_base.specs.{
-  declared.refusal.DecodeError.TheVariants.{OutOfMemory},
-  Framing.{Writes},
-  Refusal.{no_place},
-};
-ghost use Rattle.npr_neighbour.specs.{
-  NeighbourAddress.{address_of, address_bytes, address_of_ip, neighbour_address},
-  declared.address.NeighbourAddress.TheVariants.{Inet, Inet6},
+ghost use Rattle.{
+  std.specs.Prelude.{◌≡◌, ◌≢◌, ◌≤◌, None, length, IfOk, IfErr},
+  npr_base.specs.{declared.refusal.DecodeError.TheVariants.{OutOfMemory}, Framing.{Writes}, Refusal.{no_place}},
+  npr_neighbour.specs.{
+    NeighbourAddress.{address_of, address_bytes, address_of_ip, neighbour_address},
+    declared.address.NeighbourAddress.TheVariants.{Inet, Inet6},
+  },
 };
 
 use npr_base::{

@@ -1,11 +1,10 @@
 //! What the kernel remembers of a neighbour: `struct nda_cacheinfo` of `linux/neighbour.h`.
 
-ghost use Rattle.std.specs.Prelude.{◌≡◌, ◌<◌, None, IfOk, IfErr};
-ghost use Rattle.npr_base.specs.{
-  Codec.{leading},
-  Refusal.{no_place},
+ghost use Rattle.{
+  std.specs.Prelude.{◌≡◌, ◌<◌, None, IfOk, IfErr},
+  npr_base.specs.{Codec.{leading}, Refusal.{no_place}},
+  npr_neighbour.specs.CacheInfo.{cache_info},
 };
-ghost use Rattle.npr_neighbour.specs.CacheInfo.{cache_info};
 
 use npr_base::{DecodeError, EmitError, Emitable, leading_octets, write_array};
 

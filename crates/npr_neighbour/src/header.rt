@@ -1,11 +1,10 @@
 //! The header of a neighbour message: `struct ndmsg` of `linux/neighbour.h`.
 
-ghost use Rattle.std.specs.Prelude.{◌≡◌, ◌≤◌, ◌<◌, None, length, IfOk, IfErr};
-ghost use Rattle.npr_base.specs.{
-  Codec.{leading},
-  Refusal.{no_place},
+ghost use Rattle.{
+  std.specs.Prelude.{◌≡◌, ◌≤◌, ◌<◌, None, length, IfOk, IfErr},
+  npr_base.specs.{Codec.{leading}, Refusal.{no_place}},
+  npr_neighbour.specs.Header.{header_buffer, header, buffer_of},
 };
-ghost use Rattle.npr_neighbour.specs.Header.{header_buffer, header, buffer_of};
 
 use crate::flags::NeighbourFlags;
 use crate::state::NeighbourState;

@@ -1,20 +1,17 @@
 //! The laws of neighbour messages, over their definitions alone. Each function does nothing, and its
 //! contract is the law.
 
-ghost use Rattle.std.specs.Prelude.{◌≡◌, ◌^◌, ◌-◌, ℕ, List, length};
-ghost use Rattle.npr_base.specs.{
-  Counts.{Counts, AddsAtMostTwice, SawEach},
-  Equality.{IsEquality, IsEqualityOf},
-  Family.{list_members},
-  Message.{MessageLooks},
-};
-ghost use Rattle.npr_neighbour.specs.{
-  Attribute.{meaning_of, writing},
-  Flags.{flags_bits, flags_of, extended_flags_bits, extended_flags_of},
-  Header.{default_header, header},
-  Message.{Neighbour, body, message_of, IsNeighbourMessage},
-  NeighbourAddress.{Address, address_of, neighbour_address},
-  State.{state_bits, state_of},
+ghost use Rattle.{
+  std.specs.Prelude.{◌≡◌, ◌^◌, ◌-◌, ℕ, List, length},
+  npr_base.specs.{Counts.{Counts, AddsAtMostTwice, SawEach}, Equality.{IsEquality, IsEqualityOf}, Family.{list_members}, Message.{MessageLooks}},
+  npr_neighbour.specs.{
+    Attribute.{meaning_of, writing},
+    Flags.{flags_bits, flags_of, extended_flags_bits, extended_flags_of},
+    Header.{default_header, header},
+    Message.{Neighbour, body, message_of, IsNeighbourMessage},
+    NeighbourAddress.{Address, address_of, neighbour_address},
+    State.{state_bits, state_of},
+  },
 };
 
 use crate::address::NeighbourAddress;

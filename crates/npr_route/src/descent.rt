@@ -1,17 +1,16 @@
 //! What goes down attributes and next hops, which hold each other: measuring, writing and copying, in
 //! plain functions.
 
-ghost use Rattle.std.specs.Prelude.{◌≡◌, ◌≤◌, ◌<◌, ◌+◌, None, length, IfOk, OnErr, map};
-ghost use Rattle.npr_base.specs.{
-  Family.{checked, option_or, overlong, first_unfit, list_unfit, encodings},
-  Framing.{Writes, encoding, framed},
+ghost use Rattle.{
+  std.specs.Prelude.{◌≡◌, ◌≤◌, ◌<◌, ◌+◌, None, length, IfOk, OnErr, map},
+  npr_base.specs.{Family.{checked, option_or, overlong, first_unfit, list_unfit, encodings}, Framing.{Writes, encoding, framed}},
+  npr_route.specs.{
+    Attribute.{shape_of, misfit, hop_misfit, hop_bytes, hop_overlong},
+    AttributeView.{meaning_of, hop_of, attribute_item, attribute_misfit, next_hop_bytes, next_hop_misfit, joined},
+    FlatAttribute.{marks, any_marks},
+  },
+  npr_tunnel.specs.Encapsulation.{meaning_of as member_of},
 };
-ghost use Rattle.npr_route.specs.{
-  Attribute.{shape_of, misfit, hop_misfit, hop_bytes, hop_overlong},
-  AttributeView.{meaning_of, hop_of, attribute_item, attribute_misfit, next_hop_bytes, next_hop_misfit, joined},
-  FlatAttribute.{marks, any_marks},
-};
-ghost use Rattle.npr_tunnel.specs.Encapsulation.{meaning_of as member_of};
 
 use crate::attribute::RouteAttribute;
 use crate::next_hop_buffer::RouteNextHopBuffer;
@@ -19,8 +18,8 @@ use crate::next_hops::RouteNextHop;
 use crate::route_rows;
 use bitflags::Flags;
 use npr_base::{
-    EmitError, Nla, check_len, check_list, clone_list, clone_rows, frame, len_rows, marked_kind, total_len,
-    write_array, write_list, write_rows,
+    EmitError, Nla, check_len, check_list, clone_list, clone_rows, frame, len_rows, marked_kind,
+    total_len, write_array, write_list, write_rows,
 };
 use npr_scalar::{labels_len, write_labels};
 use npr_tunnel::{RouteIp6Tunnel, RouteIpTunnel, RouteLwTunnelEncap};

@@ -1,11 +1,10 @@
 //! The header of a route message: `struct rtmsg` of `linux/rtnetlink.h`.
 
-ghost use Rattle.std.specs.Prelude.{◌≡◌, ◌≤◌, ◌<◌, None, length, IfOk, IfErr};
-ghost use Rattle.npr_base.specs.{
-  Codec.{leading},
-  Refusal.{no_place},
+ghost use Rattle.{
+  std.specs.Prelude.{◌≡◌, ◌≤◌, ◌<◌, None, length, IfOk, IfErr},
+  npr_base.specs.{Codec.{leading}, Refusal.{no_place}},
+  npr_route.specs.Header.{header_buffer, header, buffer_of},
 };
-ghost use Rattle.npr_route.specs.Header.{header_buffer, header, buffer_of};
 
 use bitflags::Flags;
 use npr_base::{AddressFamily, DecodeError, EmitError, Emitable, leading_octets, write_array};

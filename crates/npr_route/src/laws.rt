@@ -1,29 +1,30 @@
 //! The laws of route messages, over their definitions alone. Each function does nothing, and its
 //! contract is the law.
 
-ghost use Rattle.std.specs.Prelude.{true, false, ◌-◌, ◌≡◌, ◌≤◌, ◌+◌, ◌*◌, ℕ, List, None, length, max};
-ghost use Rattle.npr_base.specs.{
-  Equality.{IsEquality, IsEqualityOf},
-  declared.refusal.DecodeError.{DecodeError},
-  Framing.{IsBytes},
-  Counts.{Counts, AddsAtMost, AddsAtMostTwice, SawEach},
-  Family.{list_members},
-  Message.{MessageLooks},
-};
-ghost use Rattle.npr_srh.specs.Seg6Mode.{first_modes};
-ghost use Rattle.npr_tunnel.specs.declared.encap_type.RouteLwEnCapType.{RouteLwEnCapType};
-ghost use Rattle.npr_route.specs.{
-  AttributeLaws.{writing},
-  AttributeLooks.{HopsLooks, HopsTake},
-  AttributeView.{meaning_of, hop_of},
-  FlatAttribute.{Context, Meaning as Flat},
-  Governing.{Governs},
-  Header.{default_header, header},
-  Metric.{metric_of},
-  Message.{Route, body, message_of, normalized_route, IsRouteMessage, IsRouteMessageBy, IsCoherentRoute, IsCoherentRouteBy, route_bytes, route_misfit},
-  Attribute.{Meaning, Attributes, attributes_of, first_type, AreGoverned, Hops, AreHops, HopsWrong, HopsCoherent, hops_bytes, hops_misfit},
-  Attribute.{HopHead, no_hops, hop, no_more, attribute, multi_path, flat, hops_depth, attributes_depth},
-  RouteList.{Under, IsRouteList},
+ghost use Rattle.{
+  std.specs.Prelude.{true, false, ◌-◌, ◌≡◌, ◌≤◌, ◌+◌, ◌*◌, ℕ, List, None, length, max},
+  npr_base.specs.{
+    Equality.{IsEquality, IsEqualityOf},
+    declared.refusal.DecodeError.{DecodeError},
+    Framing.{IsBytes},
+    Counts.{Counts, AddsAtMost, AddsAtMostTwice, SawEach},
+    Family.{list_members},
+    Message.{MessageLooks},
+  },
+  npr_srh.specs.Seg6Mode.{first_modes},
+  npr_tunnel.specs.declared.encap_type.RouteLwEnCapType.{RouteLwEnCapType},
+  npr_route.specs.{
+    AttributeLaws.{writing},
+    AttributeLooks.{HopsLooks, HopsTake},
+    AttributeView.{meaning_of, hop_of},
+    FlatAttribute.{Context, Meaning as Flat},
+    Governing.{Governs},
+    Header.{default_header, header},
+    Metric.{metric_of},
+    Message.{Route, body, message_of, normalized_route, IsRouteMessage, IsRouteMessageBy, IsCoherentRoute, IsCoherentRouteBy, route_bytes, route_misfit},
+    Attribute.{Meaning, Attributes, attributes_of, first_type, AreGoverned, Hops, AreHops, HopsWrong, HopsCoherent, hops_bytes, hops_misfit, HopHead, no_hops, hop, no_more, attribute, multi_path, flat, hops_depth, attributes_depth},
+    RouteList.{Under, IsRouteList},
+  },
 };
 
 use crate::attribute::RouteAttribute;

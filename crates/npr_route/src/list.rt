@@ -1,19 +1,21 @@
 //! Lists of route attributes: the type that governs them is found first, and then they are read.
 
-ghost use Rattle.std.specs.Prelude.{◌≡◌, ◌≢◌, ℕ, List, [], length, map, IfOk, IfErr, IsErrOf};
-ghost use Rattle.npr_base.specs.{
-  declared.refusal.DecodeError.TheVariants.{OutOfMemory},
-  Counts.{AddsAtMostTwice, SawEach},
-  Family.{list_members},
-  Framing.{Item, Front},
-  Looks.{Answered},
-};
-ghost use Rattle.npr_route.specs.{
-  Attribute.{Meaning},
-  AttributeView.{meaning_of},
-  AttributeLaws.{writing},
-  Governing.{told, Governs, Searches},
-  RouteList.{IsRouteList, RouteListFault, RouteListTakes},
+ghost use Rattle.{
+  std.specs.Prelude.{◌≡◌, ◌≢◌, ℕ, List, [], length, map, IfOk, IfErr, IsErrOf},
+  npr_base.specs.{
+    declared.refusal.DecodeError.TheVariants.{OutOfMemory},
+    Counts.{AddsAtMostTwice, SawEach},
+    Family.{list_members},
+    Framing.{Item, Front},
+    Looks.{Answered},
+  },
+  npr_route.specs.{
+    Attribute.{Meaning},
+    AttributeView.{meaning_of},
+    AttributeLaws.{writing},
+    Governing.{told, Governs, Searches},
+    RouteList.{IsRouteList, RouteListFault, RouteListTakes},
+  },
 };
 
 use crate::attribute::{RTA_ENCAP_TYPE, RouteAttribute};

@@ -1,17 +1,17 @@
 //! Route messages: `RTM_NEWROUTE`, `RTM_DELROUTE` and `RTM_GETROUTE`, without the envelope.
 
-ghost use Rattle.std.specs.Prelude.{◌≡◌, refl, map};
-ghost use Rattle.std.proofs.Common.{rules, subst};
-ghost use Rattle.npr_base.specs.Family.{ReadsList, FirstFault};
-ghost use Rattle.npr_tunnel.specs.declared.encap_type.RouteLwEnCapType.{RouteLwEnCapType};
-ghost use Rattle.npr_tunnel.specs.declared.encap_type.RouteLwEnCapType.TheVariants.{None as NoEncapsulation};
-ghost use Rattle.npr_route.specs.{
-  Attribute.{Meaning},
-  AttributeLaws.{writing, attributes},
-  AttributeView.{meaning_of},
-  Governing.{Governs},
-  Header.{default_header, header},
-  Message.{body},
+ghost use Rattle.{
+  std.{specs.Prelude.{◌≡◌, refl, map}, proofs.Common.{rules, subst}},
+  npr_base.specs.Family.{ReadsList, FirstFault},
+  npr_tunnel.specs.declared.encap_type.RouteLwEnCapType.{RouteLwEnCapType, TheVariants.{None as NoEncapsulation}},
+  npr_route.specs.{
+    Attribute.{Meaning},
+    AttributeLaws.{writing, attributes},
+    AttributeView.{meaning_of},
+    Governing.{Governs},
+    Header.{default_header, header},
+    Message.{body},
+  },
 };
 
 use crate::attribute::{Context, RouteAttribute};

@@ -1,11 +1,13 @@
 //! The header of a next hop: `struct rtnexthop` of `linux/rtnetlink.h`.
 
-ghost use Rattle.std.specs.Prelude.{◌≡◌, ◌≤◌, None, length, IfOk, IfErr};
-ghost use Rattle.npr_base.specs.{Codec.{leading}, Refusal.{no_place}};
-ghost use Rattle.npr_route.specs.{
-  Attribute.{HopFault},
-  AttributeView.{hop_of, next_hop_bytes, next_hop_misfit},
-  NextHopHeader.{next_hop_buffer, head_in, IsChecked},
+ghost use Rattle.{
+  std.specs.Prelude.{◌≡◌, ◌≤◌, None, length, IfOk, IfErr},
+  npr_base.specs.{Codec.{leading}, Refusal.{no_place}},
+  npr_route.specs.{
+    Attribute.{HopFault},
+    AttributeView.{hop_of, next_hop_bytes, next_hop_misfit},
+    NextHopHeader.{next_hop_buffer, head_in, IsChecked},
+  },
 };
 
 use crate::next_hops::RouteNextHop;

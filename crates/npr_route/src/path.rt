@@ -1,15 +1,17 @@
 //! What is asked most of a route and of a next hop, and built most, without the name of a variant.
 
-ghost use Rattle.std.specs.Prelude.{◌≡◌, List, map, option_map, IfOk};
-ghost use Rattle.npr_route.specs.{
-  Attribute.{flat, multi_path},
-  AttributeView.{meaning_of, hop_of, hops_of},
-  FlatAttribute.{table, oif},
-  Path.{ip_of, gateway_ip, destination_ip, table_number, interface_index, hops_inside, to_gateway, to_destination, hop_through},
-  declared.attribute.RouteAttribute.{RouteAttribute as Attribute},
+ghost use Rattle.{
+  std.specs.Prelude.{◌≡◌, List, map, option_map, IfOk},
+  npr_route.specs.{
+    Attribute.{flat, multi_path},
+    AttributeView.{meaning_of, hop_of, hops_of},
+    FlatAttribute.{table, oif},
+    Path.{ip_of, gateway_ip, destination_ip, table_number, interface_index, hops_inside, to_gateway, to_destination, hop_through},
+    declared.attribute.RouteAttribute.{RouteAttribute as Attribute},
+  },
+  npr_base.specs.Found.{IsFirst},
+  npr_scalar.specs.RouteAddress.{address_of},
 };
-ghost use Rattle.npr_base.specs.Found.{IsFirst};
-ghost use Rattle.npr_scalar.specs.RouteAddress.{address_of};
 
 use crate::attribute::RouteAttribute;
 use crate::header::RouteHeader;

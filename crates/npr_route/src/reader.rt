@@ -1,20 +1,18 @@
 //! Reading of next hops, by a loop and a stack: they alone nest without bound.
 
-ghost use Rattle.std.specs.Prelude.{◌≡◌, ◌≢◌, ◌<◌, ◌+◌, ◌++◌, ℕ, List, [], ◌∷◌, true, false, IsTrue, length, map, IfOk, IfErr, OnOk, OnErr, IsErrOf, MatchOption};
-ghost use Rattle.npr_base.specs.{
-  declared.refusal.DecodeError.TheVariants.{OutOfMemory},
-  Counts.{AddsAtMost, SawEach, hit, miss},
-  Looks.{Answered},
-};
-ghost use Rattle.npr_route.specs.{
-  Attribute.{HopHead, HopFront, HopFault, Hop, IsHop, HopWrong, Hops, AreHops, HopsWrong, hops_members},
-  AttributeLooks.{HopsTake},
-  AttributeView.{hop_of, hops_of},
-  FlatAttribute.{Context},
-  Governing.{Searches},
-  NextHopHeader.{head_in},
-  Reader.{Tied, Opens, SoughtIn, account, GoesOn, Ends, Ended},
-  ReaderLooks.{Follows, Finishes},
+ghost use Rattle.{
+  std.specs.Prelude.{◌≡◌, ◌≢◌, ◌<◌, ◌+◌, ◌++◌, ℕ, List, [], ◌∷◌, true, false, IsTrue, length, map, IfOk, IfErr, OnOk, OnErr, IsErrOf, MatchOption},
+  npr_base.specs.{declared.refusal.DecodeError.TheVariants.{OutOfMemory}, Counts.{AddsAtMost, SawEach, hit, miss}, Looks.{Answered}},
+  npr_route.specs.{
+    Attribute.{HopHead, HopFront, HopFault, Hop, IsHop, HopWrong, Hops, AreHops, HopsWrong, hops_members},
+    AttributeLooks.{HopsTake},
+    AttributeView.{hop_of, hops_of},
+    FlatAttribute.{Context},
+    Governing.{Searches},
+    NextHopHeader.{head_in},
+    Reader.{Tied, Opens, SoughtIn, account, GoesOn, Ends, Ended},
+    ReaderLooks.{Follows, Finishes},
+  },
 };
 
 use crate::attribute::{Context, RTA_MULTIPATH, RouteAttribute};

@@ -1,30 +1,31 @@
 //! The rows of route attributes: their list, those that stand beside it, and how each is read.
 
-ghost use Rattle.std.specs.Prelude.{true, false, ◌≡◌, ◌≢◌, [], ◌∷◌, ◌++◌, length, IfOk, IfErr, IsOk};
-ghost use Rattle.npr_base.specs.{
-  Counts.{AddsAtMost, SawEach},
-  Framing.{number_of},
-  Looks.{Answered},
-  LooksLaws.{list_looking},
-  Table.{RowReads, RowWrong},
-  declared.refusal.DecodeError.TheVariants.{OutOfMemory},
-};
-ghost use Rattle.npr_scalar.specs.{
-  RouteAddress.{form_of, address_of, route_address},
-  RouteVia.{via_of, via_value},
-  declared.address.RouteAddress.{RouteAddress},
-  declared.via.RouteVia.{RouteVia},
-};
-ghost use Rattle.npr_tunnel.specs.Encapsulation.{encapsulation};
-ghost use Rattle.npr_route.specs.{
-  Attribute.{flat, typed},
-  AttributeLooks.{AttributeLooks},
-  AttributeView.{meaning_of},
-  AttributeLaws.{writing, attributes},
-  declared.attribute.RouteAttribute.{RouteAttribute},
-  FlatAttributeLaws.{attributes as flat_attributes},
-  Metric.{metrics},
-  FlatAttribute.{Meaning as Flat, at, is_multicast, metrics_row, new_destination_row, encap_row, expires_row},
+ghost use Rattle.{
+  std.specs.Prelude.{true, false, ◌≡◌, ◌≢◌, [], ◌∷◌, ◌++◌, length, IfOk, IfErr, IsOk},
+  npr_base.specs.{
+    Counts.{AddsAtMost, SawEach},
+    Framing.{number_of},
+    Looks.{Answered},
+    LooksLaws.{list_looking},
+    Table.{RowReads, RowWrong},
+    declared.refusal.DecodeError.TheVariants.{OutOfMemory},
+  },
+  npr_scalar.specs.{
+    RouteAddress.{form_of, address_of, route_address},
+    RouteVia.{via_of, via_value},
+    declared.{address.RouteAddress.{RouteAddress}, via.RouteVia.{RouteVia}},
+  },
+  npr_tunnel.specs.Encapsulation.{encapsulation},
+  npr_route.specs.{
+    Attribute.{flat, typed},
+    AttributeLooks.{AttributeLooks},
+    AttributeView.{meaning_of},
+    AttributeLaws.{writing, attributes},
+    declared.attribute.RouteAttribute.{RouteAttribute},
+    FlatAttributeLaws.{attributes as flat_attributes},
+    Metric.{metrics},
+    FlatAttribute.{Meaning as Flat, at, is_multicast, metrics_row, new_destination_row, encap_row, expires_row},
+  },
 };
 
 use crate::attribute::{

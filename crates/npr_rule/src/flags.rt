@@ -1,7 +1,6 @@
 //! The flags of a rule: `FIB_RULE_*` of `linux/fib_rules.h`. Every bit is kept.
 
-ghost use Rattle.std.specs.Prelude.{⊤, [], ◌∷◌, codes};
-ghost use Rattle.npr_rule.specs.Flags.{rule_flags_bits};
+ghost use Rattle.{std.specs.Prelude.{⊤, [], ◌∷◌, codes}, npr_rule.specs.Flags.{rule_flags_bits}};
 
 use bitflags::{Flag, Flags};
 

@@ -1,11 +1,10 @@
 //! The header of a rule message: `struct fib_rule_hdr` of `linux/fib_rules.h`.
 
-ghost use Rattle.std.specs.Prelude.{◌≡◌, ◌≤◌, ◌<◌, None, length, IfOk, IfErr};
-ghost use Rattle.npr_base.specs.{
-  Codec.{leading},
-  Refusal.{no_place},
+ghost use Rattle.{
+  std.specs.Prelude.{◌≡◌, ◌≤◌, ◌<◌, None, length, IfOk, IfErr},
+  npr_base.specs.{Codec.{leading}, Refusal.{no_place}},
+  npr_rule.specs.Header.{header_buffer, header, buffer_of},
 };
-ghost use Rattle.npr_rule.specs.Header.{header_buffer, header, buffer_of};
 
 use crate::action::RuleAction;
 use crate::flags::RuleFlags;

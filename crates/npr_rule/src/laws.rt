@@ -1,19 +1,16 @@
 //! The laws of rule messages, over their definitions alone. Each function does nothing, and its
 //! contract is the law.
 
-ghost use Rattle.std.specs.Prelude.{◌≡◌, ◌^◌, ◌-◌, ℕ, List, length};
-ghost use Rattle.npr_base.specs.{
-  Counts.{Counts, AddsAtMostTwice, SawEach},
-  Equality.{IsEquality, IsEqualityOf},
-  Family.{list_members},
-  Message.{MessageLooks},
-};
-ghost use Rattle.npr_rule.specs.{
-  Action.{action_of, action_number},
-  Attribute.{meaning_of, writing},
-  Flags.{rule_flags_bits, rule_flags_of},
-  Header.{default_header, header},
-  Message.{Rule, body, message_of, IsRuleMessage},
+ghost use Rattle.{
+  std.specs.Prelude.{◌≡◌, ◌^◌, ◌-◌, ℕ, List, length},
+  npr_base.specs.{Counts.{Counts, AddsAtMostTwice, SawEach}, Equality.{IsEquality, IsEqualityOf}, Family.{list_members}, Message.{MessageLooks}},
+  npr_rule.specs.{
+    Action.{action_of, action_number},
+    Attribute.{meaning_of, writing},
+    Flags.{rule_flags_bits, rule_flags_of},
+    Header.{default_header, header},
+    Message.{Rule, body, message_of, IsRuleMessage},
+  },
 };
 
 use crate::action::RuleAction;

@@ -1,11 +1,6 @@
 //! A range of ports: `struct fib_rule_port_range` of `linux/fib_rules.h`.
 
-ghost use Rattle.std.specs.Prelude.{◌≡◌, ◌<◌, None, IfOk, IfErr};
-ghost use Rattle.npr_base.specs.{
-  Codec.{exactly},
-  Refusal.{no_place},
-};
-ghost use Rattle.npr_rule.specs.PortRange.{port_range};
+ghost use Rattle.{std.specs.Prelude.{◌≡◌, ◌<◌, None, IfOk, IfErr}, npr_base.specs.{Codec.{exactly}, Refusal.{no_place}}, npr_rule.specs.PortRange.{port_range}};
 
 use npr_base::{At, DecodeError, EmitError, Emitable, read_octets, write_array};
 

@@ -1,14 +1,12 @@
 //! The addresses of routes.
 
-ghost use Rattle.std.specs.Prelude.{◌≡◌, ◌≢◌, ◌≤◌, None, length, IfOk, IfErr};
-ghost use Rattle.npr_base.specs.{
-  declared.refusal.DecodeError.TheVariants.{OutOfMemory},
-  Framing.{Writes},
-  Refusal.{no_place},
-};
-ghost use Rattle.npr_scalar.specs.{
-  RouteAddress.{address_of, route_address_bytes, address_of_ip, route_address},
-  declared.address.RouteAddress.TheVariants.{Inet, Inet6, Mpls},
+ghost use Rattle.{
+  std.specs.Prelude.{◌≡◌, ◌≢◌, ◌≤◌, None, length, IfOk, IfErr},
+  npr_base.specs.{declared.refusal.DecodeError.TheVariants.{OutOfMemory}, Framing.{Writes}, Refusal.{no_place}},
+  npr_scalar.specs.{
+    RouteAddress.{address_of, route_address_bytes, address_of_ip, route_address},
+    declared.address.RouteAddress.TheVariants.{Inet, Inet6, Mpls},
+  },
 };
 
 use crate::mpls::MplsLabel;

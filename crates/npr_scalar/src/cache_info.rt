@@ -1,8 +1,10 @@
 //! What the kernel remembers of a route: `struct rta_cacheinfo` of `linux/rtnetlink.h`.
 
-ghost use Rattle.std.specs.Prelude.{◌≡◌, None, IfOk, IfErr};
-ghost use Rattle.npr_base.specs.{Codec.{leading}, Refusal.{no_place}};
-ghost use Rattle.npr_scalar.specs.RouteCacheInfo.{route_cache_info};
+ghost use Rattle.{
+  std.specs.Prelude.{◌≡◌, None, IfOk, IfErr},
+  npr_base.specs.{Codec.{leading}, Refusal.{no_place}},
+  npr_scalar.specs.RouteCacheInfo.{route_cache_info},
+};
 
 use npr_base::{DecodeError, EmitError, Emitable, leading_octets, write_array};
 

@@ -1,22 +1,24 @@
 //! The laws of this crate. Each function does nothing, and its contract is the law.
 
-ghost use Rattle.std.specs.Prelude.{◌≡◌, ◌*◌, ◌<◌, ◌^◌, ◌↔◌, ℕ, ℤ, List, length};
-ghost use Rattle.npr_base.specs.Equality.{IsEquality, IsEqualityOf};
-ghost use Rattle.npr_scalar.specs.{
-  IpProtocol.{ip_protocol, ip_protocol_of, ip_protocol_number},
-  Mpls.{label_of, label_number, IsInRange},
-  MplsLaws.{mpls_labels},
-  Realm.{realm_of, realm_number},
-  RouteAddress.{Address, address_of, route_address},
-  RouteCacheInfo.{route_cache_info},
-  RouteFlags.{route_flags, route_flags_bits, route_flags_of, next_hop_flags, next_hop_flags_bits, next_hop_flags_of},
-  RouteMfcStats.{route_mfc_stats},
-  RoutePreference.{route_preference, route_preference_of, route_preference_number},
-  RouteProtocol.{route_protocol_of, route_protocol_number},
-  RouteScope.{route_scope, route_scope_of, route_scope_number},
-  RouteType.{route_type, route_type_of, route_type_number},
-  RouteVia.{Via, via_of, via_value},
-  TtlPropagation.{ttl_propagation, ttl_propagation_of, ttl_propagation_number},
+ghost use Rattle.{
+  std.specs.Prelude.{◌≡◌, ◌*◌, ◌<◌, ◌^◌, ◌↔◌, ℕ, ℤ, List, length},
+  npr_base.specs.Equality.{IsEquality, IsEqualityOf},
+  npr_scalar.specs.{
+    IpProtocol.{ip_protocol, ip_protocol_of, ip_protocol_number},
+    Mpls.{label_of, label_number, IsInRange},
+    MplsLaws.{mpls_labels},
+    Realm.{realm_of, realm_number},
+    RouteAddress.{Address, address_of, route_address},
+    RouteCacheInfo.{route_cache_info},
+    RouteFlags.{route_flags, route_flags_bits, route_flags_of, next_hop_flags, next_hop_flags_bits, next_hop_flags_of},
+    RouteMfcStats.{route_mfc_stats},
+    RoutePreference.{route_preference, route_preference_of, route_preference_number},
+    RouteProtocol.{route_protocol_of, route_protocol_number},
+    RouteScope.{route_scope, route_scope_of, route_scope_number},
+    RouteType.{route_type, route_type_of, route_type_number},
+    RouteVia.{Via, via_of, via_value},
+    TtlPropagation.{ttl_propagation, ttl_propagation_of, ttl_propagation_number},
+  },
 };
 
 use crate::{

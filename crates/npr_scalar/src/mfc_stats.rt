@@ -1,8 +1,10 @@
 //! How much a multicast route forwarded: `struct rta_mfc_stats` of `linux/rtnetlink.h`.
 
-ghost use Rattle.std.specs.Prelude.{◌≡◌, None, IfOk, IfErr};
-ghost use Rattle.npr_base.specs.{Codec.{leading}, Refusal.{no_place}};
-ghost use Rattle.npr_scalar.specs.RouteMfcStats.{route_mfc_stats};
+ghost use Rattle.{
+  std.specs.Prelude.{◌≡◌, None, IfOk, IfErr},
+  npr_base.specs.{Codec.{leading}, Refusal.{no_place}},
+  npr_scalar.specs.RouteMfcStats.{route_mfc_stats},
+};
 
 use npr_base::{DecodeError, EmitError, Emitable, leading_octets, write_array};
 

@@ -1,15 +1,9 @@
 //! Entries of a label stack of MPLS (RFC 3032, section 2.1).
 
-ghost use Rattle.std.specs.Prelude.{◌≡◌, ◌≤◌, None, length, IfOk, IfErr, IsErr};
-ghost use Rattle.npr_base.specs.{
-  Codec.{exactly},
-  Framing.{Writes},
-  Refusal.{no_place},
-  declared.refusal.DecodeError.TheVariants.{OutOfMemory},
-};
-ghost use Rattle.npr_scalar.specs.{
-  Mpls.{label_of, label_number},
-  MplsLaws.{mpls_label, mpls_labels},
+ghost use Rattle.{
+  std.specs.Prelude.{◌≡◌, ◌≤◌, None, length, IfOk, IfErr, IsErr},
+  npr_base.specs.{Codec.{exactly}, Framing.{Writes}, Refusal.{no_place}, declared.refusal.DecodeError.TheVariants.{OutOfMemory}},
+  npr_scalar.specs.{Mpls.{label_of, label_number}, MplsLaws.{mpls_label, mpls_labels}},
 };
 
 use npr_base::{At, DecodeError, EmitError, Emitable, read_u32_be, write_array};

@@ -1,8 +1,10 @@
 //! Who made a route, and the numbers of that (`linux/rtnetlink.h`).
 
-ghost use Rattle.std.specs.Prelude.{◌≡◌, Some, None, IfOk, IfErr};
-ghost use Rattle.npr_base.specs.{Codec.{exactly}, Refusal.{no_place}};
-ghost use Rattle.npr_scalar.specs.RouteProtocol.{route_protocol, route_protocol_of, route_protocol_number, route_protocol_text};
+ghost use Rattle.{
+  std.specs.Prelude.{◌≡◌, Some, None, IfOk, IfErr},
+  npr_base.specs.{Codec.{exactly}, Refusal.{no_place}},
+  npr_scalar.specs.RouteProtocol.{route_protocol, route_protocol_of, route_protocol_number, route_protocol_text},
+};
 
 use npr_base::{At, DecodeError, EmitError, Emitable, read_u8, write_array};
 use std::fmt;

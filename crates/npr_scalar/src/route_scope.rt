@@ -1,7 +1,6 @@
 //! How far the destination of a route is, and the numbers of that (`linux/rtnetlink.h`).
 
-ghost use Rattle.std.specs.Prelude.{◌≡◌, Some};
-ghost use Rattle.npr_scalar.specs.RouteScope.{route_scope_of, route_scope_number, route_scope_text};
+ghost use Rattle.{std.specs.Prelude.{◌≡◌, Some}, npr_scalar.specs.RouteScope.{route_scope_of, route_scope_number, route_scope_text}};
 
 use std::fmt;
 

@@ -1,7 +1,6 @@
 //! What becomes of a packet on a route, and the numbers of that (`linux/rtnetlink.h`).
 
-ghost use Rattle.std.specs.Prelude.{◌≡◌};
-ghost use Rattle.npr_scalar.specs.RouteType.{route_type_of, route_type_number};
+ghost use Rattle.{std.specs.Prelude.{◌≡◌}, npr_scalar.specs.RouteType.{route_type_of, route_type_number}};
 
 /// What becomes of a packet on a route: `RTN_*` of `linux/rtnetlink.h`.
 #[derive(Clone, Copy, Debug, Default, PartialEq, Eq)]

@@ -1,20 +1,19 @@
 //! Gateways of a family of their own: `struct rtvia` of `linux/rtnetlink.h`.
 
-ghost use Rattle.std.specs.{
-  Prelude.{◌≡◌, ◌≢◌, ◌≤◌, ◌+◌, None, length, ◌++◌, IfOk, IfErr},
-  Int.{w16, to_le_bytes},
-};
-ghost use Rattle.npr_base.specs.{
-  AddressFamily.{family_number},
-  declared.refusal.DecodeError.TheVariants.{OutOfMemory},
-  Codec.{leading},
-  Framing.{Writes},
-  Refusal.{no_place},
-};
-ghost use Rattle.npr_scalar.specs.{
-  RouteVia.{via_of, via_bytes, via_value, via_of_ip, via_form_of, IsAddress, NotAddress},
-  ViaBuffer.{via_buffer},
-  declared.via.RouteVia.TheVariants.{Inet, Inet6},
+ghost use Rattle.{
+  std.specs.{Prelude.{◌≡◌, ◌≢◌, ◌≤◌, ◌+◌, None, length, ◌++◌, IfOk, IfErr}, Int.{w16, to_le_bytes}},
+  npr_base.specs.{
+    AddressFamily.{family_number},
+    declared.refusal.DecodeError.TheVariants.{OutOfMemory},
+    Codec.{leading},
+    Framing.{Writes},
+    Refusal.{no_place},
+  },
+  npr_scalar.specs.{
+    RouteVia.{via_of, via_bytes, via_value, via_of_ip, via_form_of, IsAddress, NotAddress},
+    ViaBuffer.{via_buffer},
+    declared.via.RouteVia.TheVariants.{Inet, Inet6},
+  },
 };
 
 use npr_base::{

@@ -7,7 +7,7 @@ use Rattle.npr_base.proofs.NormalizedLaws.{Normalizes, rows-normalized}
 use Rattle.npr_base.specs.RowLaws.{form_IsFormed}
 use Rattle.npr_base.specs.Table.{item_of, unfit_by}
 use Rattle.npr_srh.specs.Segments.{too_many}
-use Rattle.npr_srh.specs.Seg6.{Seg6, IsSeg6, IsSeg6By, HoldsSeg6By, seg6_bytes, seg6_misfit, most_segments, decode_message, normalized as normalized_header}
+use Rattle.npr_srh.specs.Seg6.{Seg6, IsSeg6, IsSeg6By, HoldsSeg6By, seg6_bytes, most_segments, decode_message, normalized as normalized_header}
 use Rattle.npr_srh.specs.Seg6Mode.{ModeTable, modes, mode_of, mode_number, mode_number-mode_in, mode_number-mode_of}
 use Rattle.npr_srh.specs.Seg6Tunnel.{Meaning, writing, header, src, table, other, normalized, rows, held_of, attributes, attributes_by}
 use Rattle.npr_srh.specs.declared.seg6_mode.Seg6Mode.{Seg6Mode}

@@ -1,16 +1,14 @@
 //! IOAM6: traces in packets (RFC 9197; `linux/ioam6.h` and `linux/ioam6_iptunnel.h`).
 
-ghost use Rattle.std.specs.{
-  Prelude.{◌≡◌, ◌≢◌, IfOk, IfErr, IfSome, IfNone, refl, Some},
-  Fmt.{WritesOnOk},
-};
-ghost use Rattle.npr_base.specs.Table.{shape_at, held};
-ghost use Rattle.npr_base.specs.declared.refusal.DecodeError.TheVariants.{OutOfMemory};
-ghost use Rattle.npr_srh.specs.{
-  Ioam6Mode.{ioam6_mode_of, ioam6_mode_number, ioam6_mode_text},
-  Trace.{trace, IsTrace, encode_trace, trace_text},
-  declared.ioam6.Ioam6TraceHdr.{Ioam6TraceHdr},
-  Ioam6Tunnel.{Meaning, meaning_of, writing, attributes, ioam6_text, at as place_at},
+ghost use Rattle.{
+  std.specs.{Prelude.{◌≡◌, ◌≢◌, IfOk, IfErr, IfSome, IfNone, refl, Some}, Fmt.{WritesOnOk}},
+  npr_base.specs.{Table.{shape_at, held}, declared.refusal.DecodeError.TheVariants.{OutOfMemory}},
+  npr_srh.specs.{
+    Ioam6Mode.{ioam6_mode_of, ioam6_mode_number, ioam6_mode_text},
+    Trace.{trace, IsTrace, encode_trace, trace_text},
+    declared.ioam6.Ioam6TraceHdr.{Ioam6TraceHdr},
+    Ioam6Tunnel.{Meaning, meaning_of, writing, attributes, ioam6_text, at as place_at},
+  },
 };
 
 use npr_base::{

@@ -1,18 +1,20 @@
 //! The laws of this crate. Each function does nothing, and its contract is the law.
 
-ghost use Rattle.std.specs.Prelude.{◌≡◌, ℕ, false};
-ghost use Rattle.npr_base.specs.Equality.{IsEquality, IsEqualityOf};
-ghost use Rattle.npr_srh.specs.{
-  Ioam6Mode.{ioam6_mode_of, ioam6_mode_number},
-  Seg6.{seg6_of},
-  Seg6LocalAction.{action_of, action_number},
-  Seg6Mode.{mode_of, mode_number},
-  Seg6Tunnel.{meaning_of as seg6_member},
-  Seg6Local.{local_of},
-  Seg6LocalTunnel.{meaning_of as local_member},
-  Rpl.{rpl_of},
-  RplTunnel.{meaning_of as rpl_member},
-  Ioam6Tunnel.{meaning_of as ioam6_member},
+ghost use Rattle.{
+  std.specs.Prelude.{◌≡◌, ℕ, false},
+  npr_base.specs.Equality.{IsEquality, IsEqualityOf},
+  npr_srh.specs.{
+    Ioam6Mode.{ioam6_mode_of, ioam6_mode_number},
+    Seg6.{seg6_of},
+    Seg6LocalAction.{action_of, action_number},
+    Seg6Mode.{mode_of, mode_number},
+    Seg6Tunnel.{meaning_of as seg6_member},
+    Seg6Local.{local_of},
+    Seg6LocalTunnel.{meaning_of as local_member},
+    Rpl.{rpl_of},
+    RplTunnel.{meaning_of as rpl_member},
+    Ioam6Tunnel.{meaning_of as ioam6_member},
+  },
 };
 
 use crate::ioam6::{Ioam6Mode, Ioam6TraceHdr, RouteIoam6Tunnel};

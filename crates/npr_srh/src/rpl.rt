@@ -1,13 +1,14 @@
 //! RPL: source routes of a network of low power (RFC 6554; `linux/rpl.h` and
 //! `linux/rpl_iptunnel.h`).
 
-ghost use Rattle.std.specs.Prelude.{◌≡◌, ◌≤◌, ◌*◌, length, [], IfOk, IfErr, IfSome, IfNone, refl};
-ghost use Rattle.npr_base.specs.Table.{shape_at, held};
-ghost use Rattle.npr_base.specs.declared.refusal.DecodeError.TheVariants.{OutOfMemory};
-ghost use Rattle.npr_srh.specs.{
-  Headed.{IsUnread},
-  Rpl.{rpl, rpl_of, rpl_front, encode_rpl},
-  RplTunnel.{Meaning, meaning_of, writing, attributes, rpl_text, at as place_at},
+ghost use Rattle.{
+  std.specs.Prelude.{◌≡◌, ◌≤◌, ◌*◌, length, [], IfOk, IfErr, IfSome, IfNone, refl},
+  npr_base.specs.{Table.{shape_at, held}, declared.refusal.DecodeError.TheVariants.{OutOfMemory}},
+  npr_srh.specs.{
+    Headed.{IsUnread},
+    Rpl.{rpl, rpl_of, rpl_front, encode_rpl},
+    RplTunnel.{Meaning, meaning_of, writing, attributes, rpl_text, at as place_at},
+  },
 };
 
 use crate::segments::{Segments, check_header, has_header};
@@ -136,7 +137,12 @@ impl Nla for RplSrh {
     }
 
     fn check_value(&self) -> Result<usize, EmitError> {
-        check_header(RPL_IPTUNNEL_SRH, 8 + v6_list_len(self.segments.as_slice()), self.segments.len(), 127)
+        check_header(
+            RPL_IPTUNNEL_SRH,
+            8 + v6_list_len(self.segments.as_slice()),
+            self.segments.len(),
+            127,
+        )
     }
 
     fn write_value(&self, out: &mut [u8]) -> usize {

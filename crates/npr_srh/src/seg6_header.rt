@@ -1,19 +1,18 @@
 //! SEG6's routing header of segments, behind its mode (RFC 8754; `linux/seg6.h`).
 
-ghost use Rattle.std.specs.{
-  Prelude.{◌≡◌, ◌≢◌, ◌≤◌, ◌*◌, ◌/◌, ◌%◌, None, length, take, reverse, [], Err, IfOk, IfErr},
-  List.{concat},
-};
-ghost use Rattle.npr_base.specs.{
-  Table.{shape_at, held},
-  Codec.{leading},
-  Framing.{Writes},
-  Refusal.{no_place},
-  declared.refusal.DecodeError.TheVariants.{OutOfMemory, Seg6Header as Refused},
-};
-ghost use Rattle.npr_srh.specs.{
-  Seg6.{message, seg6_of, normalized, IsSeg6, IsKey, HasFront, Seg6Wrong, front_of, key_bytes, key_eights, most_segments},
-  Seg6Codec.{seg6},
+ghost use Rattle.{
+  std.specs.{Prelude.{◌≡◌, ◌≢◌, ◌≤◌, ◌*◌, ◌/◌, ◌%◌, None, length, take, reverse, [], Err, IfOk, IfErr}, List.{concat}},
+  npr_base.specs.{
+    Table.{shape_at, held},
+    Codec.{leading},
+    Framing.{Writes},
+    Refusal.{no_place},
+    declared.refusal.DecodeError.TheVariants.{OutOfMemory, Seg6Header as Refused},
+  },
+  npr_srh.specs.{
+    Seg6.{message, seg6_of, normalized, IsSeg6, IsKey, HasFront, Seg6Wrong, front_of, key_bytes, key_eights, most_segments},
+    Seg6Codec.{seg6},
+  },
 };
 
 use crate::seg6_mode::Seg6Mode;

@@ -1,12 +1,9 @@
 //! SEG6 local's routing header of segments (RFC 8754; `linux/seg6_local.h`).
 
-ghost use Rattle.std.specs.Prelude.{◌≡◌, ◌≤◌, ◌*◌, length, [], IfOk, IfErr, IfSome, IfNone};
-ghost use Rattle.npr_base.specs.Table.{shape_at, held};
-ghost use Rattle.npr_base.specs.declared.refusal.DecodeError.TheVariants.{OutOfMemory};
-ghost use Rattle.npr_srh.specs.{
-  Headed.{IsUnread},
-  Seg6Local.{local, local_of, local_front, encode_local},
-  Seg6LocalTunnel.{at as place_at},
+ghost use Rattle.{
+  std.specs.Prelude.{◌≡◌, ◌≤◌, ◌*◌, length, [], IfOk, IfErr, IfSome, IfNone},
+  npr_base.specs.{Table.{shape_at, held}, declared.refusal.DecodeError.TheVariants.{OutOfMemory}},
+  npr_srh.specs.{Headed.{IsUnread}, Seg6Local.{local, local_of, local_front, encode_local}, Seg6LocalTunnel.{at as place_at}},
 };
 
 use crate::segments::{check_header, has_header};
@@ -127,7 +124,12 @@ impl Nla for Seg6LocalSrh {
     }
 
     fn check_value(&self) -> Result<usize, EmitError> {
-        check_header(SEG6_LOCAL_SRH, 8 + v6_list_len(self.segments.as_slice()), self.segments.len(), 127)
+        check_header(
+            SEG6_LOCAL_SRH,
+            8 + v6_list_len(self.segments.as_slice()),
+            self.segments.len(),
+            127,
+        )
     }
 
     fn write_value(&self, out: &mut [u8]) -> usize {

@@ -1,7 +1,6 @@
 //! Types of encapsulation: `LWTUNNEL_ENCAP_*` of `linux/lwtunnel.h`.
 
-ghost use Rattle.std.specs.Prelude.{◌≡◌, Some, None};
-ghost use Rattle.npr_tunnel.specs.EncapType.{encap_type, encap_type_of, encap_type_number, encap_type_text};
+ghost use Rattle.{std.specs.Prelude.{◌≡◌, Some, None}, npr_tunnel.specs.EncapType.{encap_type, encap_type_of, encap_type_number, encap_type_text}};
 
 use npr_base::{EmitError, Emitable, write_array};
 use std::fmt;

@@ -1,20 +1,22 @@
 //! Options of Geneve: `LWTUNNEL_IP_OPT_GENEVE_*` of `linux/lwtunnel.h`.
 
-ghost use Rattle.std.specs.Prelude.{false, ◌≡◌, ◌≢◌, ◌≤◌, ◌⊎◌, ◌+◌, ◌∷◌, ◌++◌, true, [], ℕ, Some, None, length, map, IfOk, IfErr, OnOk};
-ghost use Rattle.npr_base.specs.{
-  Table.{shape_at, held},
-  Codec.{exactly, raw},
-  Family.{checked},
-  Counts.{AddsAtMost, SawEach},
-  Looks.{Answered},
-  Framing.{Writes, number_of},
-  Layout.{byte, be16},
-  declared.refusal.DecodeError.TheVariants.{OutOfMemory},
-};
-ghost use Rattle.npr_tunnel.specs.{
-  Geneve.{at, Child, option_bytes, option_misfit, options_unfit, class_child, type_child, data_child, option_of, ReadsChild, WrongChild, AreOptions, OptionsFault, geneve_text},
-  GeneveLooks.{OptionsLooks},
-  GeneveSteps.{seen, listed, is_some, Changes},
+ghost use Rattle.{
+  std.specs.Prelude.{false, ◌≡◌, ◌≢◌, ◌≤◌, ◌⊎◌, ◌+◌, ◌∷◌, ◌++◌, true, [], ℕ, Some, None, length, map, IfOk, IfErr, OnOk},
+  npr_base.specs.{
+    Table.{shape_at, held},
+    Codec.{exactly, raw},
+    Family.{checked},
+    Counts.{AddsAtMost, SawEach},
+    Looks.{Answered},
+    Framing.{Writes, number_of},
+    Layout.{byte, be16},
+    declared.refusal.DecodeError.TheVariants.{OutOfMemory},
+  },
+  npr_tunnel.specs.{
+    Geneve.{at, Child, option_bytes, option_misfit, options_unfit, class_child, type_child, data_child, option_of, ReadsChild, WrongChild, AreOptions, OptionsFault, geneve_text},
+    GeneveLooks.{OptionsLooks},
+    GeneveSteps.{seen, listed, is_some, Changes},
+  },
 };
 
 use npr_base::{

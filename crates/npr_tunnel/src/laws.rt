@@ -1,18 +1,20 @@
 //! The laws of this crate. Each function does nothing, and its contract is the law.
 
-ghost use Rattle.std.specs.Prelude.{◌≡◌, ◌^◌, ℕ};
-ghost use Rattle.npr_base.specs.Equality.{IsEquality, IsEqualityOf};
-ghost use Rattle.npr_tunnel.specs.{
-  EncapType.{encap_type_of, encap_type_number},
-  Encapsulation.{meaning_of as encap_member},
-  ErspanOptions.{meaning_of as erspan_option},
-  Geneve.{option_of},
-  IpTunnel.{meaning_of as ip_member, meaning6_of as ip6_member},
-  MplsTunnel.{meaning_of as mpls_member},
-  TunnelFlags.{ip_flags_bits, ip_flags_of, ip6_flags_bits, ip6_flags_of},
-  TunnelOptions.{meaning_of as tunnel_option},
-  VxlanOptions.{meaning_of as vxlan_option},
-  XfrmTunnel.{meaning_of as xfrm_member},
+ghost use Rattle.{
+  std.specs.Prelude.{◌≡◌, ◌^◌, ℕ},
+  npr_base.specs.Equality.{IsEquality, IsEqualityOf},
+  npr_tunnel.specs.{
+    EncapType.{encap_type_of, encap_type_number},
+    Encapsulation.{meaning_of as encap_member},
+    ErspanOptions.{meaning_of as erspan_option},
+    Geneve.{option_of},
+    IpTunnel.{meaning_of as ip_member, meaning6_of as ip6_member},
+    MplsTunnel.{meaning_of as mpls_member},
+    TunnelFlags.{ip_flags_bits, ip_flags_of, ip6_flags_bits, ip6_flags_of},
+    TunnelOptions.{meaning_of as tunnel_option},
+    VxlanOptions.{meaning_of as vxlan_option},
+    XfrmTunnel.{meaning_of as xfrm_member},
+  },
 };
 
 use crate::encap::RouteLwTunnelEncap;

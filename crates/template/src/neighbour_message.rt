@@ -1,17 +1,13 @@
 //! A message of one's own: `RTM_NEWNEIGH` of `linux/neighbour.h`, without the envelope.
 
-ghost use Rattle.std.specs.Prelude.{◌≡◌, ◌≢◌, ◌≤◌, ℕ, List, Option, None, length, IfOk, IfErr, refl};
-ghost use Rattle.std.specs.Option.{option_map};
-ghost use Rattle.std.proofs.Common.{rules};
-ghost use Rattle.template.specs.{
-  NeighbourHeader.{header, default_header},
-  NeighbourMessage.{NeighbourMessage, IsNeighbourMessage, NeighbourFault, message_of, body},
-  Neighbours.{Meaning, meaning_of, writing, destination_in, link_layer_in, IsAddressOf},
-};
-ghost use Rattle.netlink_packet_route.specs.{
-  Codec.{leading},
-  Found.{IsFirst},
-  declared.framing.DecodeError.TheVariants.{OutOfMemory},
+ghost use Rattle.{
+  std.{specs.{Prelude.{◌≡◌, ◌≢◌, ℕ, List, Option, None, IfOk, IfErr, refl}, Option.{option_map}}, proofs.Common.{rules}},
+  template.specs.{
+    NeighbourHeader.{header, default_header},
+    NeighbourMessage.{NeighbourMessage, IsNeighbourMessage, NeighbourFault, message_of, body},
+    Neighbours.{Meaning, meaning_of, writing, destination_in, link_layer_in, IsAddressOf},
+  },
+  netlink_packet_route.specs.{Found.{IsFirst}, declared.framing.DecodeError.TheVariants.{OutOfMemory}},
 };
 
 use crate::neighbour::NeighbourAttribute;

@@ -23,4 +23,5 @@ returns-in-Ok-clause-more g c =
     let more = ap (λ n. take n (front ++ (buf ++ post))) end ∙ take-append-add front (buf ++ post) count ∙ ap (λ xs. front ++ xs) (take-append-le count buf post given) in
     let whole = front ++ (buf ++ post) in
     let moved = ap (λ xs. between xs window.start (window.end + count)) (with_items_is window.room whole room) ∙ ap (λ s. between whole s (window.end + count)) c.shift.ensures.front in
-    (take count buf, moved ∙ more ∙ ap (λ xs. xs ++ take count buf) kept, search rules)
+    let size : length (take count buf) ≡ count = omega (arith, length-take count buf, given) in
+    (take count buf, rw size (search rules), moved ∙ more ∙ ap (λ xs. xs ++ take count buf) kept, search rules)
