@@ -3,6 +3,7 @@
 ghost use Rattle.{std.specs.Prelude.{⊤, [], ◌∷◌, codes}, npr_address.specs.AddressFlags.{address_flags_bits, header_flags_bits}};
 
 use bitflags::{Flag, Flags};
+use npr_base::named_flags;
 
 /// The flags of an address, as the attribute `IFA_FLAGS` has them.
 #[derive(Clone, Copy, Debug, PartialEq, Eq)]
@@ -45,59 +46,10 @@ impl AddressFlags {
     /// `IFA_F_STABLE_PRIVACY`.
     pub const StablePrivacy: AddressFlags = AddressFlags(0x800);
 
-    const FLAGS: &'static [Flag<AddressFlags>] = &[
-        Flag {
-            name: "Secondary",
-            value: AddressFlags::Secondary,
-        },
-        Flag {
-            name: "Nodad",
-            value: AddressFlags::Nodad,
-        },
-        Flag {
-            name: "Optimistic",
-            value: AddressFlags::Optimistic,
-        },
-        Flag {
-            name: "Dadfailed",
-            value: AddressFlags::Dadfailed,
-        },
-        Flag {
-            name: "Homeaddress",
-            value: AddressFlags::Homeaddress,
-        },
-        Flag {
-            name: "Deprecated",
-            value: AddressFlags::Deprecated,
-        },
-        Flag {
-            name: "Tentative",
-            value: AddressFlags::Tentative,
-        },
-        Flag {
-            name: "Permanent",
-            value: AddressFlags::Permanent,
-        },
-        Flag {
-            name: "Managetempaddr",
-            value: AddressFlags::Managetempaddr,
-        },
-        Flag {
-            name: "Noprefixroute",
-            value: AddressFlags::Noprefixroute,
-        },
-        Flag {
-            name: "Mcautojoin",
-            value: AddressFlags::Mcautojoin,
-        },
-        Flag {
-            name: "StablePrivacy",
-            value: AddressFlags::StablePrivacy,
-        },
-        Flag {
-            name: "",
-            value: AddressFlags(u32::MAX),
-        },
+    const FLAGS: &'static [Flag<AddressFlags>] = named_flags![AddressFlags:
+        Secondary, Nodad, Optimistic, Dadfailed, Homeaddress, Deprecated, Tentative, Permanent,
+        Managetempaddr, Noprefixroute, Mcautojoin, StablePrivacy;
+        u32::MAX
     ];
 }
 
@@ -152,43 +104,9 @@ impl AddressHeaderFlags {
     /// `IFA_F_PERMANENT`.
     pub const Permanent: AddressHeaderFlags = AddressHeaderFlags(0x80);
 
-    const FLAGS: &'static [Flag<AddressHeaderFlags>] = &[
-        Flag {
-            name: "Secondary",
-            value: AddressHeaderFlags::Secondary,
-        },
-        Flag {
-            name: "Nodad",
-            value: AddressHeaderFlags::Nodad,
-        },
-        Flag {
-            name: "Optimistic",
-            value: AddressHeaderFlags::Optimistic,
-        },
-        Flag {
-            name: "Dadfailed",
-            value: AddressHeaderFlags::Dadfailed,
-        },
-        Flag {
-            name: "Homeaddress",
-            value: AddressHeaderFlags::Homeaddress,
-        },
-        Flag {
-            name: "Deprecated",
-            value: AddressHeaderFlags::Deprecated,
-        },
-        Flag {
-            name: "Tentative",
-            value: AddressHeaderFlags::Tentative,
-        },
-        Flag {
-            name: "Permanent",
-            value: AddressHeaderFlags::Permanent,
-        },
-        Flag {
-            name: "",
-            value: AddressHeaderFlags(u8::MAX),
-        },
+    const FLAGS: &'static [Flag<AddressHeaderFlags>] = named_flags![AddressHeaderFlags:
+        Secondary, Nodad, Optimistic, Dadfailed, Homeaddress, Deprecated, Tentative, Permanent;
+        u8::MAX
     ];
 }
 

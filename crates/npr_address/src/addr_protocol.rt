@@ -2,6 +2,7 @@
 
 ghost use Rattle.{std.specs.Prelude.{◌≡◌, Some}, npr_address.specs.AddressProtocol.{protocol_of, protocol_number, protocol_text}};
 
+use npr_base::{number_of_variant, variant_of_number, write_variant};
 use std::fmt;
 
 /// What made an address: `IFAPROT_*` of `linux/if_addr.h`.
@@ -17,16 +18,22 @@ pub enum AddressProtocol {
     Other(u8),
 }
 
+/// Their numbers and names.
+macro_rules! numbers {
+    ($body:ident ($($given:tt)*)) => {
+        $body!(($($given)*) AddressProtocol {
+            1 Loopback "kernel_lo";
+            2 RouterAnnouncement "kernel_ra";
+            3 LinkLocal "kernel_ll";
+        })
+    };
+}
+
 impl From<u8> for AddressProtocol {
     ghost from_gives = { λ number protocol. protocol ≡ protocol_of number };
 
     fn from(number: u8) -> AddressProtocol {
-        match number {
-            1 => AddressProtocol::Loopback,
-            2 => AddressProtocol::RouterAnnouncement,
-            3 => AddressProtocol::LinkLocal,
-            _ => AddressProtocol::Other(number),
-        }
+        numbers!(variant_of_number(number))
     }
 }
 
@@ -34,12 +41,7 @@ impl From<AddressProtocol> for u8 {
     ghost from_gives = { λ protocol number. number ≡ protocol_number protocol };
 
     fn from(protocol: AddressProtocol) -> u8 {
-        match protocol {
-            AddressProtocol::Loopback => 1,
-            AddressProtocol::RouterAnnouncement => 2,
-            AddressProtocol::LinkLocal => 3,
-            AddressProtocol::Other(number) => number,
-        }
+        numbers!(number_of_variant(protocol))
     }
 }
 
@@ -48,11 +50,6 @@ impl fmt::Display for AddressProtocol {
     ghost output = { λ protocol. Some (protocol_text protocol) };
 
     fn fmt<W: fmt::Write>(&self, f: &mut fmt::Formatter<W>) -> fmt::Result {
-        f.write_str(match self {
-            AddressProtocol::Loopback => "kernel_lo",
-            AddressProtocol::RouterAnnouncement => "kernel_ra",
-            AddressProtocol::LinkLocal => "kernel_ll",
-            AddressProtocol::Other(number) => return write!(f, "{number}"),
-        })
+        numbers!(write_variant(self, f, "{}"))
     }
 }

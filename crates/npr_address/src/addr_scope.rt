@@ -2,6 +2,7 @@
 
 ghost use Rattle.{std.specs.Prelude.{◌≡◌, Some}, npr_address.specs.AddressScope.{scope_of, scope_number, scope_text}};
 
+use npr_base::{number_of_variant, variant_of_number, write_variant};
 use std::fmt;
 
 /// The scope of an address: `RT_SCOPE_*` of `linux/rtnetlink.h`.
@@ -22,18 +23,24 @@ pub enum AddressScope {
     Other(u8),
 }
 
+/// Their numbers and names.
+macro_rules! numbers {
+    ($body:ident ($($given:tt)*)) => {
+        $body!(($($given)*) AddressScope {
+            0 Universe "universe";
+            200 Site "site";
+            253 Link "link";
+            254 Host "host";
+            255 Nowhere "nowhere";
+        })
+    };
+}
+
 impl From<u8> for AddressScope {
     ghost from_gives = { λ number scope. scope ≡ scope_of number };
 
     fn from(number: u8) -> AddressScope {
-        match number {
-            0 => AddressScope::Universe,
-            200 => AddressScope::Site,
-            253 => AddressScope::Link,
-            254 => AddressScope::Host,
-            255 => AddressScope::Nowhere,
-            _ => AddressScope::Other(number),
-        }
+        numbers!(variant_of_number(number))
     }
 }
 
@@ -41,14 +48,7 @@ impl From<AddressScope> for u8 {
     ghost from_gives = { λ scope number. number ≡ scope_number scope };
 
     fn from(scope: AddressScope) -> u8 {
-        match scope {
-            AddressScope::Universe => 0,
-            AddressScope::Site => 200,
-            AddressScope::Link => 253,
-            AddressScope::Host => 254,
-            AddressScope::Nowhere => 255,
-            AddressScope::Other(number) => number,
-        }
+        numbers!(number_of_variant(scope))
     }
 }
 
@@ -57,13 +57,6 @@ impl fmt::Display for AddressScope {
     ghost output = { λ scope. Some (scope_text scope) };
 
     fn fmt<W: fmt::Write>(&self, f: &mut fmt::Formatter<W>) -> fmt::Result {
-        f.write_str(match self {
-            AddressScope::Universe => "universe",
-            AddressScope::Site => "site",
-            AddressScope::Link => "link",
-            AddressScope::Host => "host",
-            AddressScope::Nowhere => "nowhere",
-            AddressScope::Other(number) => return write!(f, "{number}"),
-        })
+        numbers!(write_variant(self, f, "{}"))
     }
 }

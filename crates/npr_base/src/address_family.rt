@@ -2,6 +2,7 @@
 
 ghost use Rattle.{std.specs.Prelude.{◌≡◌, Some}, npr_base.specs.AddressFamily.{family_of, family_number, family_text}};
 
+use crate::{number_of_variant, variant_of_number, write_variant};
 use std::fmt;
 
 /// An address family: `AF_*` of `linux/socket.h`.
@@ -62,59 +63,68 @@ pub enum AddressFamily {
     Other(u8),
 }
 
+/// Their numbers and names.
+macro_rules! numbers {
+    ($body:ident ($($given:tt)*)) => {
+        $body!(($($given)*) AddressFamily {
+            0 Unspec "unspec";
+            1 Unix "unix";
+            2 Inet "inet";
+            3 Ax25 "ax25";
+            4 Ipx "ipx";
+            5 Appletalk "appletalk";
+            6 Netrom "netrom";
+            7 Bridge "bridge";
+            8 Atmpvc "atmpvc";
+            9 X25 "x25";
+            10 Inet6 "inet6";
+            11 Rose "rose";
+            12 Decnet "decnet";
+            13 Netbeui "netbeui";
+            14 Security "security";
+            15 Key "key";
+            16 Netlink "netlink";
+            17 Packet "packet";
+            18 Ash "ash";
+            19 Econet "econet";
+            20 Atmsvc "atmsvc";
+            21 Rds "rds";
+            22 Sna "sna";
+            23 Irda "irda";
+            24 Pppox "pppox";
+            25 Wanpipe "wanpipe";
+            26 Llc "llc";
+            27 Ib "ib";
+            28 Mpls "mpls";
+            29 Can "can";
+            30 Tipc "tipc";
+            31 Bluetooth "bluetooth";
+            32 Iucv "iucv";
+            33 Rxrpc "rxrpc";
+            34 Isdn "isdn";
+            35 Phonet "phonet";
+            36 Ieee802154 "ieee802154";
+            37 Caif "caif";
+            38 Alg "alg";
+            39 Nfc "nfc";
+            40 Vsock "vsock";
+            41 Kcm "kcm";
+            42 Qipcrtr "qipcrtr";
+            43 Smc "smc";
+            44 Xdp "xdp";
+            45 Mctp "mctp";
+        } {
+            1 Local "local";
+            16 Route "route";
+        })
+    };
+}
+
 impl From<u8> for AddressFamily {
     ghost from_gives = { λ number family. family ≡ family_of number };
 
     fn from(number: u8) -> AddressFamily {
-        match number {
-            0 => AddressFamily::Unspec,
-            1 => AddressFamily::Unix,
-            2 => AddressFamily::Inet,
-            3 => AddressFamily::Ax25,
-            4 => AddressFamily::Ipx,
-            5 => AddressFamily::Appletalk,
-            6 => AddressFamily::Netrom,
-            7 => AddressFamily::Bridge,
-            8 => AddressFamily::Atmpvc,
-            9 => AddressFamily::X25,
-            10 => AddressFamily::Inet6,
-            11 => AddressFamily::Rose,
-            12 => AddressFamily::Decnet,
-            13 => AddressFamily::Netbeui,
-            14 => AddressFamily::Security,
-            15 => AddressFamily::Key,
-            16 => AddressFamily::Netlink,
-            17 => AddressFamily::Packet,
-            18 => AddressFamily::Ash,
-            19 => AddressFamily::Econet,
-            20 => AddressFamily::Atmsvc,
-            21 => AddressFamily::Rds,
-            22 => AddressFamily::Sna,
-            23 => AddressFamily::Irda,
-            24 => AddressFamily::Pppox,
-            25 => AddressFamily::Wanpipe,
-            26 => AddressFamily::Llc,
-            27 => AddressFamily::Ib,
-            28 => AddressFamily::Mpls,
-            29 => AddressFamily::Can,
-            30 => AddressFamily::Tipc,
-            31 => AddressFamily::Bluetooth,
-            32 => AddressFamily::Iucv,
-            33 => AddressFamily::Rxrpc,
-            34 => AddressFamily::Isdn,
-            35 => AddressFamily::Phonet,
-            36 => AddressFamily::Ieee802154,
-            37 => AddressFamily::Caif,
-            38 => AddressFamily::Alg,
-            39 => AddressFamily::Nfc,
-            40 => AddressFamily::Vsock,
-            41 => AddressFamily::Kcm,
-            42 => AddressFamily::Qipcrtr,
-            43 => AddressFamily::Smc,
-            44 => AddressFamily::Xdp,
-            45 => AddressFamily::Mctp,
-            _ => AddressFamily::Other(number),
-        }
+        numbers!(variant_of_number(number))
     }
 }
 
@@ -122,57 +132,7 @@ impl From<AddressFamily> for u8 {
     ghost from_gives = { λ family number. number ≡ family_number family };
 
     fn from(family: AddressFamily) -> u8 {
-        match family {
-            AddressFamily::Unspec => 0,
-            AddressFamily::Unix => 1,
-            AddressFamily::Inet => 2,
-            AddressFamily::Ax25 => 3,
-            AddressFamily::Ipx => 4,
-            AddressFamily::Appletalk => 5,
-            AddressFamily::Netrom => 6,
-            AddressFamily::Bridge => 7,
-            AddressFamily::Atmpvc => 8,
-            AddressFamily::X25 => 9,
-            AddressFamily::Inet6 => 10,
-            AddressFamily::Rose => 11,
-            AddressFamily::Decnet => 12,
-            AddressFamily::Netbeui => 13,
-            AddressFamily::Security => 14,
-            AddressFamily::Key => 15,
-            AddressFamily::Netlink => 16,
-            AddressFamily::Packet => 17,
-            AddressFamily::Ash => 18,
-            AddressFamily::Econet => 19,
-            AddressFamily::Atmsvc => 20,
-            AddressFamily::Rds => 21,
-            AddressFamily::Sna => 22,
-            AddressFamily::Irda => 23,
-            AddressFamily::Pppox => 24,
-            AddressFamily::Wanpipe => 25,
-            AddressFamily::Llc => 26,
-            AddressFamily::Ib => 27,
-            AddressFamily::Mpls => 28,
-            AddressFamily::Can => 29,
-            AddressFamily::Tipc => 30,
-            AddressFamily::Bluetooth => 31,
-            AddressFamily::Iucv => 32,
-            AddressFamily::Rxrpc => 33,
-            AddressFamily::Isdn => 34,
-            AddressFamily::Phonet => 35,
-            AddressFamily::Ieee802154 => 36,
-            AddressFamily::Caif => 37,
-            AddressFamily::Alg => 38,
-            AddressFamily::Nfc => 39,
-            AddressFamily::Vsock => 40,
-            AddressFamily::Kcm => 41,
-            AddressFamily::Qipcrtr => 42,
-            AddressFamily::Smc => 43,
-            AddressFamily::Xdp => 44,
-            AddressFamily::Mctp => 45,
-            AddressFamily::Local => 1,
-            AddressFamily::Route => 16,
-            AddressFamily::Other(number) => number,
-        }
+        numbers!(number_of_variant(family))
     }
 }
 
@@ -181,56 +141,6 @@ impl fmt::Display for AddressFamily {
     ghost output = { λ family. Some (family_text family) };
 
     fn fmt<W: fmt::Write>(&self, f: &mut fmt::Formatter<W>) -> fmt::Result {
-        f.write_str(match self {
-            AddressFamily::Unspec => "unspec",
-            AddressFamily::Unix => "unix",
-            AddressFamily::Inet => "inet",
-            AddressFamily::Ax25 => "ax25",
-            AddressFamily::Ipx => "ipx",
-            AddressFamily::Appletalk => "appletalk",
-            AddressFamily::Netrom => "netrom",
-            AddressFamily::Bridge => "bridge",
-            AddressFamily::Atmpvc => "atmpvc",
-            AddressFamily::X25 => "x25",
-            AddressFamily::Inet6 => "inet6",
-            AddressFamily::Rose => "rose",
-            AddressFamily::Decnet => "decnet",
-            AddressFamily::Netbeui => "netbeui",
-            AddressFamily::Security => "security",
-            AddressFamily::Key => "key",
-            AddressFamily::Netlink => "netlink",
-            AddressFamily::Packet => "packet",
-            AddressFamily::Ash => "ash",
-            AddressFamily::Econet => "econet",
-            AddressFamily::Atmsvc => "atmsvc",
-            AddressFamily::Rds => "rds",
-            AddressFamily::Sna => "sna",
-            AddressFamily::Irda => "irda",
-            AddressFamily::Pppox => "pppox",
-            AddressFamily::Wanpipe => "wanpipe",
-            AddressFamily::Llc => "llc",
-            AddressFamily::Ib => "ib",
-            AddressFamily::Mpls => "mpls",
-            AddressFamily::Can => "can",
-            AddressFamily::Tipc => "tipc",
-            AddressFamily::Bluetooth => "bluetooth",
-            AddressFamily::Iucv => "iucv",
-            AddressFamily::Rxrpc => "rxrpc",
-            AddressFamily::Isdn => "isdn",
-            AddressFamily::Phonet => "phonet",
-            AddressFamily::Ieee802154 => "ieee802154",
-            AddressFamily::Caif => "caif",
-            AddressFamily::Alg => "alg",
-            AddressFamily::Nfc => "nfc",
-            AddressFamily::Vsock => "vsock",
-            AddressFamily::Kcm => "kcm",
-            AddressFamily::Qipcrtr => "qipcrtr",
-            AddressFamily::Smc => "smc",
-            AddressFamily::Xdp => "xdp",
-            AddressFamily::Mctp => "mctp",
-            AddressFamily::Local => "local",
-            AddressFamily::Route => "route",
-            AddressFamily::Other(number) => return write!(f, "{number}"),
-        })
+        numbers!(write_variant(self, f, "{}"))
     }
 }

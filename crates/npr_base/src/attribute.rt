@@ -8,7 +8,7 @@ ghost use Rattle.{
 use crate::framing::NlaBuffer;
 use crate::looks::Looks;
 use crate::refusal::DecodeError;
-use crate::traits::{Nla, Parseable};
+use crate::traits::{Nla, Parseable, ParseableParametrized};
 use std::alloc::{AllocError, Global};
 
 /// A family of attributes. Each is read in a context, as the family of the message's addresses.
@@ -93,5 +93,24 @@ impl<'a, A: Attribute<Context = ()>> Parseable<&'a NlaBuffer<'a>> for A {
     /// `OutOfMemory` where memory is refused, and else what is wrong with the value.
     fn parse(alloc: Global, input: &'a NlaBuffer<'a>) -> Result<Self, DecodeError> {
         A::read(alloc, (), input, &mut Looks::new())
+    }
+}
+
+/// A lone attribute of a family, read in a context.
+impl<'a, A: Attribute> ParseableParametrized<&'a NlaBuffer<'a>, A::Context> for A {
+    ghost parses = { λ context input a. (A.reading context).Reads input.now (A.meaning a) };
+
+    ghost misparses = { λ context input e. (A.reading context).Faulty input.now e };
+
+    /// What the attribute is in its family under the context: `read`, with looks that nobody counts.
+    ///
+    /// # Errors
+    /// `OutOfMemory` where memory is refused, and else what is wrong with the value.
+    fn parse_with_param(
+        alloc: Global,
+        input: &'a NlaBuffer<'a>,
+        context: A::Context,
+    ) -> Result<Self, DecodeError> {
+        A::read(alloc, context, input, &mut Looks::new())
     }
 }

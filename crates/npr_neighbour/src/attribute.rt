@@ -8,7 +8,7 @@ use crate::flags::NeighbourExtendedFlags;
 use bitflags::Flags;
 use npr_base::{
     AddressFamily, AttrFamily, Attribute, DecodeError, DefaultNla, EmitError, Looks, Nla,
-    NlaBuffer, Parseable, ParseableParametrized, clone_rows, kind_rows, len_rows, read_rows,
+    NlaBuffer, Parseable, clone_rows, kind_rows, len_rows, read_rows,
     write_rows,
 };
 use npr_scalar::RouteProtocol;
@@ -137,24 +137,5 @@ impl Attribute for NeighbourAttribute {
 
     fn try_clone(&self, alloc: Global) -> Result<Self, AllocError> {
         self.clone(alloc)
-    }
-}
-
-impl<'a> ParseableParametrized<&'a NlaBuffer<'a>, AddressFamily> for NeighbourAttribute {
-    ghost parses = { λ family input a. (attributes family).Reads input.now (meaning_of a) };
-
-    ghost misparses = { λ family input e. (attributes family).Faulty input.now e };
-
-    /// What the attribute is in a neighbour message of this family: `read`, with looks that nobody
-    /// counts.
-    ///
-    /// # Errors
-    /// `OutOfMemory` where memory is refused, and else what is wrong with the value.
-    fn parse_with_param(
-        alloc: Global,
-        input: &'a NlaBuffer<'a>,
-        family: AddressFamily,
-    ) -> Result<Self, DecodeError> {
-        Self::read(alloc, family, input, &mut Looks::new())
     }
 }

@@ -3,6 +3,7 @@
 ghost use Rattle.{std.specs.Prelude.{⊤, [], ◌∷◌, codes}, npr_neighbour.specs.Flags.{flags_bits, extended_flags_bits}};
 
 use bitflags::{Flag, Flags};
+use npr_base::named_flags;
 
 /// The flags of a neighbour, as the header has them.
 #[derive(Clone, Copy, Debug, Default, PartialEq, Eq)]
@@ -33,43 +34,9 @@ impl NeighbourFlags {
     /// `NTF_ROUTER`: it is a router.
     pub const Router: NeighbourFlags = NeighbourFlags(0x80);
 
-    const FLAGS: &'static [Flag<NeighbourFlags>] = &[
-        Flag {
-            name: "Use",
-            value: NeighbourFlags::Use,
-        },
-        Flag {
-            name: "Own",
-            value: NeighbourFlags::Own,
-        },
-        Flag {
-            name: "Controller",
-            value: NeighbourFlags::Controller,
-        },
-        Flag {
-            name: "Proxy",
-            value: NeighbourFlags::Proxy,
-        },
-        Flag {
-            name: "ExtLearned",
-            value: NeighbourFlags::ExtLearned,
-        },
-        Flag {
-            name: "Offloaded",
-            value: NeighbourFlags::Offloaded,
-        },
-        Flag {
-            name: "Sticky",
-            value: NeighbourFlags::Sticky,
-        },
-        Flag {
-            name: "Router",
-            value: NeighbourFlags::Router,
-        },
-        Flag {
-            name: "",
-            value: NeighbourFlags(u8::MAX),
-        },
+    const FLAGS: &'static [Flag<NeighbourFlags>] = named_flags![NeighbourFlags:
+        Use, Own, Controller, Proxy, ExtLearned, Offloaded, Sticky, Router;
+        u8::MAX
     ];
 }
 
@@ -103,15 +70,9 @@ impl NeighbourExtendedFlags {
     /// `NTF_EXT_MANAGED`: the kernel keeps it confirmed by itself.
     pub const Managed: NeighbourExtendedFlags = NeighbourExtendedFlags(0x1);
 
-    const FLAGS: &'static [Flag<NeighbourExtendedFlags>] = &[
-        Flag {
-            name: "Managed",
-            value: NeighbourExtendedFlags::Managed,
-        },
-        Flag {
-            name: "",
-            value: NeighbourExtendedFlags(u32::MAX),
-        },
+    const FLAGS: &'static [Flag<NeighbourExtendedFlags>] = named_flags![NeighbourExtendedFlags:
+        Managed;
+        u32::MAX
     ];
 }
 

@@ -3,6 +3,7 @@
 ghost use Rattle.{std.specs.Prelude.{⊤, [], ◌∷◌, codes}, npr_neighbour.specs.State.{state_bits}};
 
 use bitflags::{Flag, Flags};
+use npr_base::named_flags;
 
 /// How far a neighbour is known. The kernel sets one bit, or none; a request may name several.
 #[derive(Clone, Copy, Debug, Default, PartialEq, Eq)]
@@ -36,43 +37,9 @@ impl NeighbourState {
     /// `NUD_PERMANENT`: it was set by hand, and stays.
     pub const Permanent: NeighbourState = NeighbourState(0x80);
 
-    const FLAGS: &'static [Flag<NeighbourState>] = &[
-        Flag {
-            name: "Incomplete",
-            value: NeighbourState::Incomplete,
-        },
-        Flag {
-            name: "Reachable",
-            value: NeighbourState::Reachable,
-        },
-        Flag {
-            name: "Stale",
-            value: NeighbourState::Stale,
-        },
-        Flag {
-            name: "Delay",
-            value: NeighbourState::Delay,
-        },
-        Flag {
-            name: "Probe",
-            value: NeighbourState::Probe,
-        },
-        Flag {
-            name: "Failed",
-            value: NeighbourState::Failed,
-        },
-        Flag {
-            name: "Noarp",
-            value: NeighbourState::Noarp,
-        },
-        Flag {
-            name: "Permanent",
-            value: NeighbourState::Permanent,
-        },
-        Flag {
-            name: "",
-            value: NeighbourState(u16::MAX),
-        },
+    const FLAGS: &'static [Flag<NeighbourState>] = named_flags![NeighbourState:
+        Incomplete, Reachable, Stale, Delay, Probe, Failed, Noarp, Permanent;
+        u16::MAX
     ];
 }
 

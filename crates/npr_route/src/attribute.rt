@@ -13,7 +13,7 @@ use crate::route_rows;
 use crate::rows::{push_flat, read_flat};
 use npr_base::{
     AddressFamily, Attribute, DecodeError, DefaultNla, EmitError, Looks, Nla, NlaBuffer,
-    ParseableParametrized, kind_rows,
+    kind_rows,
 };
 use npr_scalar::{
     MplsLabel, RouteAddress, RouteCacheInfo, RouteMfcStats, RouteMplsTtlPropagation,
@@ -204,23 +204,5 @@ impl Attribute for RouteAttribute {
 
     fn try_clone(&self, alloc: Global) -> Result<Self, AllocError> {
         self.clone(alloc)
-    }
-}
-
-impl<'a> ParseableParametrized<&'a NlaBuffer<'a>, Context> for RouteAttribute {
-    ghost parses = { λ context input a. (attributes context).Reads input.now (meaning_of a) };
-
-    ghost misparses = { λ context input e. (attributes context).Faulty input.now e };
-
-    /// What the attribute is in a route message: `read`, with looks that nobody counts.
-    ///
-    /// # Errors
-    /// `OutOfMemory` where memory is refused, and else what is wrong with the value.
-    fn parse_with_param(
-        alloc: Global,
-        input: &'a NlaBuffer<'a>,
-        context: Context,
-    ) -> Result<Self, DecodeError> {
-        Self::read(alloc, context, input, &mut Looks::new())
     }
 }

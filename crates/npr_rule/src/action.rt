@@ -2,6 +2,8 @@
 
 ghost use Rattle.{std.specs.Prelude.{◌≡◌}, npr_rule.specs.Action.{action_of, action_number}};
 
+use npr_base::{number_of_variant, variant_of_number};
+
 /// What a rule does: `FR_ACT_*` of `linux/fib_rules.h`.
 #[derive(Clone, Copy, Debug, Default, PartialEq, Eq)]
 pub enum RuleAction {
@@ -24,20 +26,26 @@ pub enum RuleAction {
     Other(u8),
 }
 
+/// Their numbers.
+macro_rules! numbers {
+    ($body:ident ($($given:tt)*)) => {
+        $body!(($($given)*) RuleAction {
+            0 Unspec;
+            1 ToTable;
+            2 Goto;
+            3 Nop;
+            6 Blackhole;
+            7 Unreachable;
+            8 Prohibit;
+        })
+    };
+}
+
 impl From<u8> for RuleAction {
     ghost from_gives = { λ number action. action ≡ action_of number };
 
     fn from(number: u8) -> RuleAction {
-        match number {
-            0 => RuleAction::Unspec,
-            1 => RuleAction::ToTable,
-            2 => RuleAction::Goto,
-            3 => RuleAction::Nop,
-            6 => RuleAction::Blackhole,
-            7 => RuleAction::Unreachable,
-            8 => RuleAction::Prohibit,
-            _ => RuleAction::Other(number),
-        }
+        numbers!(variant_of_number(number))
     }
 }
 
@@ -45,15 +53,6 @@ impl From<RuleAction> for u8 {
     ghost from_gives = { λ action number. number ≡ action_number action };
 
     fn from(action: RuleAction) -> u8 {
-        match action {
-            RuleAction::Unspec => 0,
-            RuleAction::ToTable => 1,
-            RuleAction::Goto => 2,
-            RuleAction::Nop => 3,
-            RuleAction::Blackhole => 6,
-            RuleAction::Unreachable => 7,
-            RuleAction::Prohibit => 8,
-            RuleAction::Other(number) => number,
-        }
+        numbers!(number_of_variant(action))
     }
 }

@@ -3,6 +3,7 @@
 ghost use Rattle.{std.specs.Prelude.{⊤, [], ◌∷◌, codes}, npr_rule.specs.Flags.{rule_flags_bits}};
 
 use bitflags::{Flag, Flags};
+use npr_base::named_flags;
 
 /// The flags of a rule.
 #[derive(Clone, Copy, Debug, Default, PartialEq, Eq)]
@@ -27,35 +28,9 @@ impl RuleFlags {
     /// `FIB_RULE_OIF_DETACHED`.
     pub const OifDetached: RuleFlags = RuleFlags(0x10);
 
-    const FLAGS: &'static [Flag<RuleFlags>] = &[
-        Flag {
-            name: "Permanent",
-            value: RuleFlags::Permanent,
-        },
-        Flag {
-            name: "Invert",
-            value: RuleFlags::Invert,
-        },
-        Flag {
-            name: "Unresolved",
-            value: RuleFlags::Unresolved,
-        },
-        Flag {
-            name: "IifDetached",
-            value: RuleFlags::IifDetached,
-        },
-        Flag {
-            name: "DevDetached",
-            value: RuleFlags::DevDetached,
-        },
-        Flag {
-            name: "OifDetached",
-            value: RuleFlags::OifDetached,
-        },
-        Flag {
-            name: "",
-            value: RuleFlags(u32::MAX),
-        },
+    const FLAGS: &'static [Flag<RuleFlags>] = named_flags![RuleFlags:
+        Permanent, Invert, Unresolved, IifDetached, DevDetached, OifDetached;
+        u32::MAX
     ];
 }
 

@@ -7,6 +7,7 @@ ghost use Rattle.{
 };
 
 use bitflags::{Flag, Flags};
+use npr_base::named_flags;
 use std::fmt;
 
 /// The flags of a next hop: `RTNH_F_*` of `linux/rtnetlink.h`. Every bit is kept.
@@ -35,39 +36,9 @@ impl RouteNextHopFlags {
     /// The packets are trapped.
     pub const Trap: RouteNextHopFlags = RouteNextHopFlags(0x40);
 
-    const FLAGS: &'static [Flag<RouteNextHopFlags>] = &[
-        Flag {
-            name: "Dead",
-            value: RouteNextHopFlags::Dead,
-        },
-        Flag {
-            name: "Pervasive",
-            value: RouteNextHopFlags::Pervasive,
-        },
-        Flag {
-            name: "Onlink",
-            value: RouteNextHopFlags::Onlink,
-        },
-        Flag {
-            name: "Offload",
-            value: RouteNextHopFlags::Offload,
-        },
-        Flag {
-            name: "Linkdown",
-            value: RouteNextHopFlags::Linkdown,
-        },
-        Flag {
-            name: "Unresolved",
-            value: RouteNextHopFlags::Unresolved,
-        },
-        Flag {
-            name: "Trap",
-            value: RouteNextHopFlags::Trap,
-        },
-        Flag {
-            name: "",
-            value: RouteNextHopFlags(u8::MAX),
-        },
+    const FLAGS: &'static [Flag<RouteNextHopFlags>] = named_flags![RouteNextHopFlags:
+        Dead, Pervasive, Onlink, Offload, Linkdown, Unresolved, Trap;
+        u8::MAX
     ];
 }
 
@@ -146,75 +117,10 @@ impl RouteFlags {
     /// The route could not be put into hardware.
     pub const OffloadFailed: RouteFlags = RouteFlags(0x20000000);
 
-    const FLAGS: &'static [Flag<RouteFlags>] = &[
-        Flag {
-            name: "Dead",
-            value: RouteFlags::Dead,
-        },
-        Flag {
-            name: "Pervasive",
-            value: RouteFlags::Pervasive,
-        },
-        Flag {
-            name: "Onlink",
-            value: RouteFlags::Onlink,
-        },
-        Flag {
-            name: "Offload",
-            value: RouteFlags::Offload,
-        },
-        Flag {
-            name: "Linkdown",
-            value: RouteFlags::Linkdown,
-        },
-        Flag {
-            name: "Unresolved",
-            value: RouteFlags::Unresolved,
-        },
-        Flag {
-            name: "Trap",
-            value: RouteFlags::Trap,
-        },
-        Flag {
-            name: "Notify",
-            value: RouteFlags::Notify,
-        },
-        Flag {
-            name: "Cloned",
-            value: RouteFlags::Cloned,
-        },
-        Flag {
-            name: "Equalize",
-            value: RouteFlags::Equalize,
-        },
-        Flag {
-            name: "Prefix",
-            value: RouteFlags::Prefix,
-        },
-        Flag {
-            name: "LookupTable",
-            value: RouteFlags::LookupTable,
-        },
-        Flag {
-            name: "FibMatch",
-            value: RouteFlags::FibMatch,
-        },
-        Flag {
-            name: "RtOffload",
-            value: RouteFlags::RtOffload,
-        },
-        Flag {
-            name: "RtTrap",
-            value: RouteFlags::RtTrap,
-        },
-        Flag {
-            name: "OffloadFailed",
-            value: RouteFlags::OffloadFailed,
-        },
-        Flag {
-            name: "",
-            value: RouteFlags(u32::MAX),
-        },
+    const FLAGS: &'static [Flag<RouteFlags>] = named_flags![RouteFlags:
+        Dead, Pervasive, Onlink, Offload, Linkdown, Unresolved, Trap, Notify, Cloned, Equalize,
+        Prefix, LookupTable, FibMatch, RtOffload, RtTrap, OffloadFailed;
+        u32::MAX
     ];
 }
 

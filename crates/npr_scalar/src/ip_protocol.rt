@@ -2,6 +2,8 @@
 
 ghost use Rattle.{std.specs.Prelude.{◌≡◌, pos}, npr_scalar.specs.IpProtocol.{ip_protocol_of, ip_protocol_number, byte_of}};
 
+use npr_base::{number_of_variant, variant_of_number};
+
 /// A protocol over IP: `IPPROTO_*` of `linux/in.h`, a signed number of 32 bits.
 #[derive(Clone, Copy, Debug, Default, PartialEq, Eq)]
 pub enum IpProtocol {
@@ -39,41 +41,47 @@ pub enum IpProtocol {
     Other(i32),
 }
 
+/// Their numbers.
+macro_rules! numbers {
+    ($body:ident ($($given:tt)*)) => {
+        $body!(($($given)*) IpProtocol {
+            0 Hopopts;
+            1 Icmp;
+            2 Igmp;
+            4 Ipip;
+            6 Tcp;
+            8 Egp;
+            12 Pup;
+            17 Udp;
+            22 Idp;
+            29 Tp;
+            33 Dccp;
+            41 Ipv6;
+            46 Rsvp;
+            47 Gre;
+            50 Esp;
+            51 Ah;
+            92 Mtp;
+            94 Beetph;
+            98 Encap;
+            103 Pim;
+            108 Comp;
+            115 L2tp;
+            132 Sctp;
+            136 Udplite;
+            137 Mpls;
+            143 Ethernet;
+            255 Raw;
+            262 Mptcp;
+        })
+    };
+}
+
 impl From<i32> for IpProtocol {
     ghost from_gives = { λ number protocol. protocol ≡ ip_protocol_of number };
 
     fn from(number: i32) -> IpProtocol {
-        match number {
-            0 => IpProtocol::Hopopts,
-            1 => IpProtocol::Icmp,
-            2 => IpProtocol::Igmp,
-            4 => IpProtocol::Ipip,
-            6 => IpProtocol::Tcp,
-            8 => IpProtocol::Egp,
-            12 => IpProtocol::Pup,
-            17 => IpProtocol::Udp,
-            22 => IpProtocol::Idp,
-            29 => IpProtocol::Tp,
-            33 => IpProtocol::Dccp,
-            41 => IpProtocol::Ipv6,
-            46 => IpProtocol::Rsvp,
-            47 => IpProtocol::Gre,
-            50 => IpProtocol::Esp,
-            51 => IpProtocol::Ah,
-            92 => IpProtocol::Mtp,
-            94 => IpProtocol::Beetph,
-            98 => IpProtocol::Encap,
-            103 => IpProtocol::Pim,
-            108 => IpProtocol::Comp,
-            115 => IpProtocol::L2tp,
-            132 => IpProtocol::Sctp,
-            136 => IpProtocol::Udplite,
-            137 => IpProtocol::Mpls,
-            143 => IpProtocol::Ethernet,
-            255 => IpProtocol::Raw,
-            262 => IpProtocol::Mptcp,
-            _ => IpProtocol::Other(number),
-        }
+        numbers!(variant_of_number(number))
     }
 }
 
@@ -81,37 +89,7 @@ impl From<IpProtocol> for i32 {
     ghost from_gives = { λ protocol number. number ≡ ip_protocol_number protocol };
 
     fn from(protocol: IpProtocol) -> i32 {
-        match protocol {
-            IpProtocol::Hopopts => 0,
-            IpProtocol::Icmp => 1,
-            IpProtocol::Igmp => 2,
-            IpProtocol::Ipip => 4,
-            IpProtocol::Tcp => 6,
-            IpProtocol::Egp => 8,
-            IpProtocol::Pup => 12,
-            IpProtocol::Udp => 17,
-            IpProtocol::Idp => 22,
-            IpProtocol::Tp => 29,
-            IpProtocol::Dccp => 33,
-            IpProtocol::Ipv6 => 41,
-            IpProtocol::Rsvp => 46,
-            IpProtocol::Gre => 47,
-            IpProtocol::Esp => 50,
-            IpProtocol::Ah => 51,
-            IpProtocol::Mtp => 92,
-            IpProtocol::Beetph => 94,
-            IpProtocol::Encap => 98,
-            IpProtocol::Pim => 103,
-            IpProtocol::Comp => 108,
-            IpProtocol::L2tp => 115,
-            IpProtocol::Sctp => 132,
-            IpProtocol::Udplite => 136,
-            IpProtocol::Mpls => 137,
-            IpProtocol::Ethernet => 143,
-            IpProtocol::Raw => 255,
-            IpProtocol::Mptcp => 262,
-            IpProtocol::Other(number) => number,
-        }
+        numbers!(number_of_variant(protocol))
     }
 }
 

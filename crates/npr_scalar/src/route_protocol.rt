@@ -6,7 +6,10 @@ ghost use Rattle.{
   npr_scalar.specs.RouteProtocol.{route_protocol, route_protocol_of, route_protocol_number, route_protocol_text},
 };
 
-use npr_base::{At, DecodeError, EmitError, Emitable, read_u8, write_array};
+use npr_base::{
+    At, DecodeError, EmitError, Emitable, number_of_variant, read_u8, variant_of_number,
+    write_array, write_variant,
+};
 use std::fmt;
 
 /// Who made a route: `RTPROT_*` of `linux/rtnetlink.h`.
@@ -44,35 +47,41 @@ pub enum RouteProtocol {
     Other(u8),
 }
 
+/// Their numbers and names.
+macro_rules! numbers {
+    ($body:ident ($($given:tt)*)) => {
+        $body!(($($given)*) RouteProtocol {
+            0 Unspec "unspec";
+            1 IcmpRedirect "icmp_redirect";
+            2 Kernel "kernel";
+            3 Boot "boot";
+            4 Static "static";
+            8 Gated "gated";
+            9 Ra "ra";
+            10 Mrt "merit_mrt";
+            11 Zebra "zebra";
+            12 Bird "bird";
+            13 DnRouted "decnet_routing_daemon";
+            14 Xorp "xorp";
+            15 Ntk "netsukuku";
+            16 Dhcp "Dhcp";
+            17 Mrouted "multicast_daemon";
+            18 KeepAlived "keepalived_daemon";
+            42 Babel "babel";
+            186 Bgp "bgp";
+            187 Isis "isis";
+            188 Ospf "ospf";
+            189 Rip "rip";
+            192 Eigrp "eigrp";
+        })
+    };
+}
+
 impl From<u8> for RouteProtocol {
     ghost from_gives = { λ number protocol. protocol ≡ route_protocol_of number };
 
     fn from(number: u8) -> RouteProtocol {
-        match number {
-            0 => RouteProtocol::Unspec,
-            1 => RouteProtocol::IcmpRedirect,
-            2 => RouteProtocol::Kernel,
-            3 => RouteProtocol::Boot,
-            4 => RouteProtocol::Static,
-            8 => RouteProtocol::Gated,
-            9 => RouteProtocol::Ra,
-            10 => RouteProtocol::Mrt,
-            11 => RouteProtocol::Zebra,
-            12 => RouteProtocol::Bird,
-            13 => RouteProtocol::DnRouted,
-            14 => RouteProtocol::Xorp,
-            15 => RouteProtocol::Ntk,
-            16 => RouteProtocol::Dhcp,
-            17 => RouteProtocol::Mrouted,
-            18 => RouteProtocol::KeepAlived,
-            42 => RouteProtocol::Babel,
-            186 => RouteProtocol::Bgp,
-            187 => RouteProtocol::Isis,
-            188 => RouteProtocol::Ospf,
-            189 => RouteProtocol::Rip,
-            192 => RouteProtocol::Eigrp,
-            _ => RouteProtocol::Other(number),
-        }
+        numbers!(variant_of_number(number))
     }
 }
 
@@ -80,31 +89,7 @@ impl From<RouteProtocol> for u8 {
     ghost from_gives = { λ protocol number. number ≡ route_protocol_number protocol };
 
     fn from(protocol: RouteProtocol) -> u8 {
-        match protocol {
-            RouteProtocol::Unspec => 0,
-            RouteProtocol::IcmpRedirect => 1,
-            RouteProtocol::Kernel => 2,
-            RouteProtocol::Boot => 3,
-            RouteProtocol::Static => 4,
-            RouteProtocol::Gated => 8,
-            RouteProtocol::Ra => 9,
-            RouteProtocol::Mrt => 10,
-            RouteProtocol::Zebra => 11,
-            RouteProtocol::Bird => 12,
-            RouteProtocol::DnRouted => 13,
-            RouteProtocol::Xorp => 14,
-            RouteProtocol::Ntk => 15,
-            RouteProtocol::Dhcp => 16,
-            RouteProtocol::Mrouted => 17,
-            RouteProtocol::KeepAlived => 18,
-            RouteProtocol::Babel => 42,
-            RouteProtocol::Bgp => 186,
-            RouteProtocol::Isis => 187,
-            RouteProtocol::Ospf => 188,
-            RouteProtocol::Rip => 189,
-            RouteProtocol::Eigrp => 192,
-            RouteProtocol::Other(number) => number,
-        }
+        numbers!(number_of_variant(protocol))
     }
 }
 
@@ -140,30 +125,6 @@ impl fmt::Display for RouteProtocol {
     ghost output = { λ protocol. Some (route_protocol_text protocol) };
 
     fn fmt<W: fmt::Write>(&self, f: &mut fmt::Formatter<W>) -> fmt::Result {
-        f.write_str(match self {
-            RouteProtocol::Unspec => "unspec",
-            RouteProtocol::IcmpRedirect => "icmp_redirect",
-            RouteProtocol::Kernel => "kernel",
-            RouteProtocol::Boot => "boot",
-            RouteProtocol::Static => "static",
-            RouteProtocol::Gated => "gated",
-            RouteProtocol::Ra => "ra",
-            RouteProtocol::Mrt => "merit_mrt",
-            RouteProtocol::Zebra => "zebra",
-            RouteProtocol::Bird => "bird",
-            RouteProtocol::DnRouted => "decnet_routing_daemon",
-            RouteProtocol::Xorp => "xorp",
-            RouteProtocol::Ntk => "netsukuku",
-            RouteProtocol::Dhcp => "Dhcp",
-            RouteProtocol::Mrouted => "multicast_daemon",
-            RouteProtocol::KeepAlived => "keepalived_daemon",
-            RouteProtocol::Babel => "babel",
-            RouteProtocol::Bgp => "bgp",
-            RouteProtocol::Isis => "isis",
-            RouteProtocol::Ospf => "ospf",
-            RouteProtocol::Rip => "rip",
-            RouteProtocol::Eigrp => "eigrp",
-            RouteProtocol::Other(number) => return write!(f, "other({number})"),
-        })
+        numbers!(write_variant(self, f, "other({})"))
     }
 }

@@ -2,6 +2,7 @@
 
 ghost use Rattle.{std.specs.Prelude.{◌≡◌, Some}, npr_scalar.specs.RouteScope.{route_scope_of, route_scope_number, route_scope_text}};
 
+use npr_base::{number_of_variant, variant_of_number, write_variant};
 use std::fmt;
 
 /// How far the destination of a route is: `RT_SCOPE_*` of `linux/rtnetlink.h`.
@@ -22,18 +23,24 @@ pub enum RouteScope {
     Other(u8),
 }
 
+/// Their numbers and names.
+macro_rules! numbers {
+    ($body:ident ($($given:tt)*)) => {
+        $body!(($($given)*) RouteScope {
+            0 Universe "universe";
+            200 Site "site";
+            253 Link "link";
+            254 Host "host";
+            255 NoWhere "no_where";
+        })
+    };
+}
+
 impl From<u8> for RouteScope {
     ghost from_gives = { λ number scope. scope ≡ route_scope_of number };
 
     fn from(number: u8) -> RouteScope {
-        match number {
-            0 => RouteScope::Universe,
-            200 => RouteScope::Site,
-            253 => RouteScope::Link,
-            254 => RouteScope::Host,
-            255 => RouteScope::NoWhere,
-            _ => RouteScope::Other(number),
-        }
+        numbers!(variant_of_number(number))
     }
 }
 
@@ -41,14 +48,7 @@ impl From<RouteScope> for u8 {
     ghost from_gives = { λ scope number. number ≡ route_scope_number scope };
 
     fn from(scope: RouteScope) -> u8 {
-        match scope {
-            RouteScope::Universe => 0,
-            RouteScope::Site => 200,
-            RouteScope::Link => 253,
-            RouteScope::Host => 254,
-            RouteScope::NoWhere => 255,
-            RouteScope::Other(number) => number,
-        }
+        numbers!(number_of_variant(scope))
     }
 }
 
@@ -57,13 +57,6 @@ impl fmt::Display for RouteScope {
     ghost output = { λ scope. Some (route_scope_text scope) };
 
     fn fmt<W: fmt::Write>(&self, f: &mut fmt::Formatter<W>) -> fmt::Result {
-        f.write_str(match self {
-            RouteScope::Universe => "universe",
-            RouteScope::Site => "site",
-            RouteScope::Link => "link",
-            RouteScope::Host => "host",
-            RouteScope::NoWhere => "no_where",
-            RouteScope::Other(number) => return write!(f, "other({number})"),
-        })
+        numbers!(write_variant(self, f, "other({})"))
     }
 }

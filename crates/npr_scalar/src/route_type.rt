@@ -2,6 +2,8 @@
 
 ghost use Rattle.{std.specs.Prelude.{◌≡◌}, npr_scalar.specs.RouteType.{route_type_of, route_type_number}};
 
+use npr_base::{number_of_variant, variant_of_number};
+
 /// What becomes of a packet on a route: `RTN_*` of `linux/rtnetlink.h`.
 #[derive(Clone, Copy, Debug, Default, PartialEq, Eq)]
 pub enum RouteType {
@@ -34,25 +36,31 @@ pub enum RouteType {
     Other(u8),
 }
 
+/// Their numbers.
+macro_rules! numbers {
+    ($body:ident ($($given:tt)*)) => {
+        $body!(($($given)*) RouteType {
+            0 Unspec;
+            1 Unicast;
+            2 Local;
+            3 Broadcast;
+            4 Anycast;
+            5 Multicast;
+            6 BlackHole;
+            7 Unreachable;
+            8 Prohibit;
+            9 Throw;
+            10 Nat;
+            11 ExternalResolve;
+        })
+    };
+}
+
 impl From<u8> for RouteType {
     ghost from_gives = { λ number kind. kind ≡ route_type_of number };
 
     fn from(number: u8) -> RouteType {
-        match number {
-            0 => RouteType::Unspec,
-            1 => RouteType::Unicast,
-            2 => RouteType::Local,
-            3 => RouteType::Broadcast,
-            4 => RouteType::Anycast,
-            5 => RouteType::Multicast,
-            6 => RouteType::BlackHole,
-            7 => RouteType::Unreachable,
-            8 => RouteType::Prohibit,
-            9 => RouteType::Throw,
-            10 => RouteType::Nat,
-            11 => RouteType::ExternalResolve,
-            _ => RouteType::Other(number),
-        }
+        numbers!(variant_of_number(number))
     }
 }
 
@@ -60,20 +68,6 @@ impl From<RouteType> for u8 {
     ghost from_gives = { λ kind number. number ≡ route_type_number kind };
 
     fn from(kind: RouteType) -> u8 {
-        match kind {
-            RouteType::Unspec => 0,
-            RouteType::Unicast => 1,
-            RouteType::Local => 2,
-            RouteType::Broadcast => 3,
-            RouteType::Anycast => 4,
-            RouteType::Multicast => 5,
-            RouteType::BlackHole => 6,
-            RouteType::Unreachable => 7,
-            RouteType::Prohibit => 8,
-            RouteType::Throw => 9,
-            RouteType::Nat => 10,
-            RouteType::ExternalResolve => 11,
-            RouteType::Other(number) => number,
-        }
+        numbers!(number_of_variant(kind))
     }
 }

@@ -2,6 +2,8 @@
 
 ghost use Rattle.{std.specs.Prelude.{◌≡◌}, npr_srh.specs.Seg6Mode.{mode_of, mode_number}};
 
+use npr_base::{number_of_variant, variant_of_number};
+
 /// How a SEG6 header is put in: `SEG6_IPTUN_MODE_*` of `linux/seg6_iptunnel.h`.
 #[derive(Clone, Copy, Debug, Default, PartialEq, Eq)]
 pub enum Seg6Mode {
@@ -20,18 +22,24 @@ pub enum Seg6Mode {
     Other(u32),
 }
 
+/// Their numbers.
+macro_rules! numbers {
+    ($body:ident ($($given:tt)*)) => {
+        $body!(($($given)*) Seg6Mode {
+            0 Inline;
+            1 Encap;
+            2 L2Encap;
+            3 EncapRed;
+            4 L2EncapRed;
+        })
+    };
+}
+
 impl From<u32> for Seg6Mode {
     ghost from_gives = { λ number mode. mode ≡ mode_of number };
 
     fn from(number: u32) -> Seg6Mode {
-        match number {
-            0 => Seg6Mode::Inline,
-            1 => Seg6Mode::Encap,
-            2 => Seg6Mode::L2Encap,
-            3 => Seg6Mode::EncapRed,
-            4 => Seg6Mode::L2EncapRed,
-            _ => Seg6Mode::Other(number),
-        }
+        numbers!(variant_of_number(number))
     }
 }
 
@@ -39,13 +47,6 @@ impl From<Seg6Mode> for u32 {
     ghost from_gives = { λ mode number. number ≡ mode_number mode };
 
     fn from(mode: Seg6Mode) -> u32 {
-        match mode {
-            Seg6Mode::Inline => 0,
-            Seg6Mode::Encap => 1,
-            Seg6Mode::L2Encap => 2,
-            Seg6Mode::EncapRed => 3,
-            Seg6Mode::L2EncapRed => 4,
-            Seg6Mode::Other(number) => number,
-        }
+        numbers!(number_of_variant(mode))
     }
 }

@@ -2,6 +2,7 @@
 
 ghost use Rattle.{std.specs.Prelude.{◌≡◌, Some}, npr_srh.specs.Seg6LocalAction.{action_of, action_number, action_text}};
 
+use npr_base::{number_of_variant, variant_of_number, write_variant};
 use std::fmt;
 
 /// What is done at a local segment: `SEG6_LOCAL_ACTION_*` of `linux/seg6_local.h`.
@@ -46,29 +47,37 @@ pub enum Seg6LocalAction {
     Other(u32),
 }
 
+/// Their numbers and names.
+macro_rules! numbers {
+    ($body:ident ($($given:tt)*)) => {
+        $body!(($($given)*) Seg6LocalAction {
+            1 End "End";
+            2 EndX "End.X";
+            3 EndT "End.T";
+            4 EndDx2 "End.DX2";
+            5 EndDx6 "End.DX6";
+            6 EndDx4 "End.DX4";
+            7 EndDt6 "End.DT6";
+            8 EndDt4 "End.DT4";
+            9 EndB6 "End.B6";
+            10 EndB6Encap "End.B6.Encaps";
+            11 EndBm "End.BM";
+            12 EndS "End.S";
+            13 EndAs "End.AS";
+            14 EndAm "End.AM";
+            15 EndBpf "End.BPF";
+            16 EndDt46 "End.DT46";
+        } {
+            0 Unspec "unspec";
+        })
+    };
+}
+
 impl From<u32> for Seg6LocalAction {
     ghost from_gives = { λ number action. action ≡ action_of number };
 
     fn from(number: u32) -> Seg6LocalAction {
-        match number {
-            1 => Seg6LocalAction::End,
-            2 => Seg6LocalAction::EndX,
-            3 => Seg6LocalAction::EndT,
-            4 => Seg6LocalAction::EndDx2,
-            5 => Seg6LocalAction::EndDx6,
-            6 => Seg6LocalAction::EndDx4,
-            7 => Seg6LocalAction::EndDt6,
-            8 => Seg6LocalAction::EndDt4,
-            9 => Seg6LocalAction::EndB6,
-            10 => Seg6LocalAction::EndB6Encap,
-            11 => Seg6LocalAction::EndBm,
-            12 => Seg6LocalAction::EndS,
-            13 => Seg6LocalAction::EndAs,
-            14 => Seg6LocalAction::EndAm,
-            15 => Seg6LocalAction::EndBpf,
-            16 => Seg6LocalAction::EndDt46,
-            _ => Seg6LocalAction::Other(number),
-        }
+        numbers!(variant_of_number(number))
     }
 }
 
@@ -76,26 +85,7 @@ impl From<Seg6LocalAction> for u32 {
     ghost from_gives = { λ action number. number ≡ action_number action };
 
     fn from(action: Seg6LocalAction) -> u32 {
-        match action {
-            Seg6LocalAction::Unspec => 0,
-            Seg6LocalAction::End => 1,
-            Seg6LocalAction::EndX => 2,
-            Seg6LocalAction::EndT => 3,
-            Seg6LocalAction::EndDx2 => 4,
-            Seg6LocalAction::EndDx6 => 5,
-            Seg6LocalAction::EndDx4 => 6,
-            Seg6LocalAction::EndDt6 => 7,
-            Seg6LocalAction::EndDt4 => 8,
-            Seg6LocalAction::EndB6 => 9,
-            Seg6LocalAction::EndB6Encap => 10,
-            Seg6LocalAction::EndBm => 11,
-            Seg6LocalAction::EndS => 12,
-            Seg6LocalAction::EndAs => 13,
-            Seg6LocalAction::EndAm => 14,
-            Seg6LocalAction::EndBpf => 15,
-            Seg6LocalAction::EndDt46 => 16,
-            Seg6LocalAction::Other(number) => number,
-        }
+        numbers!(number_of_variant(action))
     }
 }
 
@@ -104,25 +94,6 @@ impl fmt::Display for Seg6LocalAction {
     ghost output = { λ action. Some (action_text action) };
 
     fn fmt<W: fmt::Write>(&self, f: &mut fmt::Formatter<W>) -> fmt::Result {
-        f.write_str(match self {
-            Seg6LocalAction::Unspec => "unspec",
-            Seg6LocalAction::End => "End",
-            Seg6LocalAction::EndX => "End.X",
-            Seg6LocalAction::EndT => "End.T",
-            Seg6LocalAction::EndDx2 => "End.DX2",
-            Seg6LocalAction::EndDx6 => "End.DX6",
-            Seg6LocalAction::EndDx4 => "End.DX4",
-            Seg6LocalAction::EndDt6 => "End.DT6",
-            Seg6LocalAction::EndDt4 => "End.DT4",
-            Seg6LocalAction::EndB6 => "End.B6",
-            Seg6LocalAction::EndB6Encap => "End.B6.Encaps",
-            Seg6LocalAction::EndBm => "End.BM",
-            Seg6LocalAction::EndS => "End.S",
-            Seg6LocalAction::EndAs => "End.AS",
-            Seg6LocalAction::EndAm => "End.AM",
-            Seg6LocalAction::EndBpf => "End.BPF",
-            Seg6LocalAction::EndDt46 => "End.DT46",
-            Seg6LocalAction::Other(number) => return write!(f, "other({number})"),
-        })
+        numbers!(write_variant(self, f, "other({})"))
     }
 }

@@ -7,10 +7,7 @@ use crate::ip::RouteIpTunnel;
 use crate::ip6::RouteIp6Tunnel;
 use crate::mpls::RouteMplsIpTunnel;
 use crate::xfrm::RouteXfrmTunnel;
-use npr_base::{
-    Attribute, DecodeError, DefaultNla, EmitError, Looks, Nla, NlaBuffer, Parseable,
-    ParseableParametrized,
-};
+use npr_base::{Attribute, DecodeError, DefaultNla, EmitError, Looks, Nla, NlaBuffer, Parseable};
 use npr_srh::{RouteIoam6Tunnel, RouteRplIpTunnel, RouteSeg6IpTunnel, RouteSeg6LocalTunnel};
 use std::alloc::{AllocError, Global};
 
@@ -148,23 +145,5 @@ impl Attribute for RouteLwTunnelEncap {
 
     fn try_clone(&self, alloc: Global) -> Result<Self, AllocError> {
         self.clone(alloc)
-    }
-}
-
-impl<'a> ParseableParametrized<&'a NlaBuffer<'a>, RouteLwEnCapType> for RouteLwTunnelEncap {
-    ghost parses = { λ kind input a. (encapsulation kind).Reads input.now (meaning_of a) };
-
-    ghost misparses = { λ kind input e. (encapsulation kind).Faulty input.now e };
-
-    /// The member that the attribute is: `read`, with looks that nobody counts.
-    ///
-    /// # Errors
-    /// `OutOfMemory` where memory is refused, and else what is wrong with the value.
-    fn parse_with_param(
-        alloc: Global,
-        input: &'a NlaBuffer<'a>,
-        kind: RouteLwEnCapType,
-    ) -> Result<Self, DecodeError> {
-        RouteLwTunnelEncap::read(alloc, kind, input, &mut Looks::new())
     }
 }

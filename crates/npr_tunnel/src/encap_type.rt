@@ -2,7 +2,9 @@
 
 ghost use Rattle.{std.specs.Prelude.{◌≡◌, Some, None}, npr_tunnel.specs.EncapType.{encap_type, encap_type_of, encap_type_number, encap_type_text}};
 
-use npr_base::{EmitError, Emitable, write_array};
+use npr_base::{
+    EmitError, Emitable, number_of_variant, variant_of_number, write_array, write_variant,
+};
 use std::fmt;
 
 /// The type of an encapsulation: `LWTUNNEL_ENCAP_*` of `linux/lwtunnel.h`. It is written as 2
@@ -36,24 +38,30 @@ pub enum RouteLwEnCapType {
     Other(u16),
 }
 
+/// Their numbers and names.
+macro_rules! numbers {
+    ($body:ident ($($given:tt)*)) => {
+        $body!(($($given)*) RouteLwEnCapType {
+            0 None "none";
+            1 Mpls "mpls";
+            2 Ip "ip";
+            3 Ila "ila";
+            4 Ip6 "ip6";
+            5 Seg6 "seg6";
+            6 Bpf "bpf";
+            7 Seg6Local "seg6local";
+            8 Rpl "rpl";
+            9 Ioam6 "ioam6";
+            10 Xfrm "xfrm";
+        })
+    };
+}
+
 impl From<u16> for RouteLwEnCapType {
     ghost from_gives = { λ number kind. kind ≡ encap_type_of number };
 
     fn from(number: u16) -> RouteLwEnCapType {
-        match number {
-            0 => RouteLwEnCapType::None,
-            1 => RouteLwEnCapType::Mpls,
-            2 => RouteLwEnCapType::Ip,
-            3 => RouteLwEnCapType::Ila,
-            4 => RouteLwEnCapType::Ip6,
-            5 => RouteLwEnCapType::Seg6,
-            6 => RouteLwEnCapType::Bpf,
-            7 => RouteLwEnCapType::Seg6Local,
-            8 => RouteLwEnCapType::Rpl,
-            9 => RouteLwEnCapType::Ioam6,
-            10 => RouteLwEnCapType::Xfrm,
-            _ => RouteLwEnCapType::Other(number),
-        }
+        numbers!(variant_of_number(number))
     }
 }
 
@@ -61,20 +69,7 @@ impl From<RouteLwEnCapType> for u16 {
     ghost from_gives = { λ kind number. number ≡ encap_type_number kind };
 
     fn from(kind: RouteLwEnCapType) -> u16 {
-        match kind {
-            RouteLwEnCapType::None => 0,
-            RouteLwEnCapType::Mpls => 1,
-            RouteLwEnCapType::Ip => 2,
-            RouteLwEnCapType::Ila => 3,
-            RouteLwEnCapType::Ip6 => 4,
-            RouteLwEnCapType::Seg6 => 5,
-            RouteLwEnCapType::Bpf => 6,
-            RouteLwEnCapType::Seg6Local => 7,
-            RouteLwEnCapType::Rpl => 8,
-            RouteLwEnCapType::Ioam6 => 9,
-            RouteLwEnCapType::Xfrm => 10,
-            RouteLwEnCapType::Other(number) => number,
-        }
+        numbers!(number_of_variant(kind))
     }
 }
 
@@ -97,19 +92,6 @@ impl fmt::Display for RouteLwEnCapType {
     ghost output = { λ kind. Some (encap_type_text kind) };
 
     fn fmt<W: fmt::Write>(&self, f: &mut fmt::Formatter<W>) -> fmt::Result {
-        f.write_str(match self {
-            RouteLwEnCapType::None => "none",
-            RouteLwEnCapType::Mpls => "mpls",
-            RouteLwEnCapType::Ip => "ip",
-            RouteLwEnCapType::Ila => "ila",
-            RouteLwEnCapType::Ip6 => "ip6",
-            RouteLwEnCapType::Seg6 => "seg6",
-            RouteLwEnCapType::Bpf => "bpf",
-            RouteLwEnCapType::Seg6Local => "seg6local",
-            RouteLwEnCapType::Rpl => "rpl",
-            RouteLwEnCapType::Ioam6 => "ioam6",
-            RouteLwEnCapType::Xfrm => "xfrm",
-            RouteLwEnCapType::Other(number) => return write!(f, "other({number})"),
-        })
+        numbers!(write_variant(self, f, "other({})"))
     }
 }

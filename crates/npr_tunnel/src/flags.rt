@@ -6,6 +6,7 @@ ghost use Rattle.{
 };
 
 use bitflags::{Flag, Flags};
+use npr_base::named_flags;
 use std::fmt;
 
 /// The flags of a tunnel over IP version 4: `TUNNEL_*` of `linux/if_tunnel.h`. Every bit is kept.
@@ -22,23 +23,9 @@ impl RouteIpTunnelFlags {
     /// Packets are numbered.
     pub const Sequence: RouteIpTunnelFlags = RouteIpTunnelFlags(0x8);
 
-    const FLAGS: &'static [Flag<RouteIpTunnelFlags>] = &[
-        Flag {
-            name: "Checksum",
-            value: RouteIpTunnelFlags::Checksum,
-        },
-        Flag {
-            name: "Key",
-            value: RouteIpTunnelFlags::Key,
-        },
-        Flag {
-            name: "Sequence",
-            value: RouteIpTunnelFlags::Sequence,
-        },
-        Flag {
-            name: "",
-            value: RouteIpTunnelFlags(u16::MAX),
-        },
+    const FLAGS: &'static [Flag<RouteIpTunnelFlags>] = named_flags![RouteIpTunnelFlags:
+        Checksum, Key, Sequence;
+        u16::MAX
     ];
 }
 
@@ -78,23 +65,9 @@ impl RouteIp6TunnelFlags {
     /// Packets are numbered.
     pub const Sequence: RouteIp6TunnelFlags = RouteIp6TunnelFlags(0x8);
 
-    const FLAGS: &'static [Flag<RouteIp6TunnelFlags>] = &[
-        Flag {
-            name: "Checksum",
-            value: RouteIp6TunnelFlags::Checksum,
-        },
-        Flag {
-            name: "Key",
-            value: RouteIp6TunnelFlags::Key,
-        },
-        Flag {
-            name: "Sequence",
-            value: RouteIp6TunnelFlags::Sequence,
-        },
-        Flag {
-            name: "",
-            value: RouteIp6TunnelFlags(u16::MAX),
-        },
+    const FLAGS: &'static [Flag<RouteIp6TunnelFlags>] = named_flags![RouteIp6TunnelFlags:
+        Checksum, Key, Sequence;
+        u16::MAX
     ];
 }
 
