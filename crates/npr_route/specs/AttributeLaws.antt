@@ -6,7 +6,7 @@ use Rattle.std.proofs.Common.{subst, ◌∙◌, arith, rules, inl, inr, length-a
 use Rattle.std.proofs.lemmas.Bool.{eqb-true, cases_lt, lt-ltb, le-ltb}
 use Rattle.npr_base.specs.declared.refusal.DecodeError.{DecodeError}
 use Rattle.npr_base.specs.declared.refusal.EmitError.TheVariants.{NextHopTooLong, Total}
-use Rattle.npr_base.specs.Framing.{Item, IsBytes, Proper, written, Small, Front, number_of, marked, encoding, framed}
+use Rattle.npr_base.specs.Framing.{Item, IsBytes, Proper, Small, Front, number_of, marked, encoding, framed}
 use Rattle.npr_base.specs.Family.{option_or, overlong}
 use Rattle.npr_base.specs.FitLaws.{misfit_of-none, misfit_of-short, none_both}
 use Rattle.npr_base.specs.FrontLaws.{Front-same, Front-shrinks, Front-sound, Front-takes}

@@ -4,7 +4,7 @@ use Rattle.std.proofs.Common.{◌≡◌, ℕ, ◌+◌, ◌*◌, ◌%◌, ◌^◌
 use Rattle.std.proofs.Common.{ap, subst, ◌∙◌, arith, inl, inr, length-append, true≢false}
 use Rattle.npr_base.specs.declared.refusal.DecodeError.{DecodeError}
 use Rattle.npr_base.specs.Codec.{Codec, exactly, raw}
-use Rattle.npr_base.specs.Family.{Each, AllOf, ReadsList, ReadsTo, first_unfit, option_or, overlong, too_long}
+use Rattle.npr_base.specs.Family.{Each, AllOf, ReadsList, ReadsTo, first_unfit, overlong}
 use Rattle.npr_base.specs.FitLaws.{misfit_of-short, none_both}
 use Rattle.npr_base.specs.Framing.{Item, Small, Proper, IsBytes, Front, Passes, framed, number_of, encoding, pad}
 use Rattle.npr_base.specs.FrontLaws.{Front-same, Front-shrinks, Front-takes}

@@ -1,8 +1,8 @@
 -- The looks that reading options of Geneve takes: one at the header of each child, up to the end or to the first that is faulty.
-use Rattle.std.proofs.Common.{◌≡◌, ℕ, ◌<◌, Bool, true, false, List, [], length, refl, sym, ap, subst, ◌∙◌, inl, inr, true≢false, arith}
+use Rattle.std.proofs.Common.{◌≡◌, ℕ, ◌<◌, Bool, true, false, List, [], length, sym, ap, subst, ◌∙◌, inl, inr, true≢false, arith}
 use Rattle.npr_base.specs.declared.refusal.DecodeError.{DecodeError}
 use Rattle.npr_base.specs.Codec.{exactly}
-use Rattle.npr_base.specs.Counts.{Counts, no_looks, hit, miss, raised}
+use Rattle.npr_base.specs.Counts.{Counts, no_looks, hit, miss}
 use Rattle.npr_base.specs.Framing.{Item, Front, Fault}
 use Rattle.npr_base.specs.FrontLaws.{Front-same, Front-shrinks, Front-sound}
 use Rattle.npr_base.specs.Layout.{byte, be16}
