@@ -2,7 +2,7 @@
 
 ghost use Rattle.{
   std.specs.Prelude.{◌≡◌, ◌++◌, None, length, map, string_bytes, IfErr, IfOk, OnOk},
-  netlink_packet_route.specs.Family.{first_unfit},
+  netlink_packet_route.specs.{Family.{first_unfit}, Table.{unfit_by, written_by}},
   netlink_report.specs.{Report.{closing_text, heading_text, line_text, lines_text, report}, declared.error.RunError.TheVariants.{Memory}},
 };
 
@@ -44,7 +44,7 @@ fn lines<A: Attribute>(out: &mut String, attributes: &[A]) -> Result<(), RunErro
 
 /// Appends the line of an attribute that can be written.
 fn attribute_line<A: Attribute>(out: &mut String, attribute: &A) -> Result<(), RunError>
-    requires { (unfit_by A.writing) (A.meaning attribute.now) ≡ None }
+    requires { unfit_by A.writing (A.meaning attribute.now) ≡ None }
     ensures ok { OnOk result (string_bytes out.new ≡ string_bytes out.old
         ++ line_text (written_by A.writing (A.meaning attribute.now)).kind (length (written_by A.writing (A.meaning attribute.now)).value)) }
     ensures errors { IfErr result (λ e. e ≡ Memory) }

@@ -7,6 +7,7 @@ ghost use Rattle.{
   },
   netlink_packet_route.specs.{
     Family.{first_unfit},
+    Table.{unfit_by, written_by},
     MessageKind.{kind_name},
     Messages.{Message as Meant, IsMessage, MessageFault, message_misfit, spelling, view},
     declared.framing.{DecodeError.{DecodeError, TheVariants.{OutOfMemory}}, EmitError.{EmitError}, Message.{Message}},

@@ -8,8 +8,7 @@ use crate::flags::NeighbourExtendedFlags;
 use bitflags::Flags;
 use npr_base::{
     AddressFamily, AttrFamily, Attribute, DecodeError, DefaultNla, EmitError, Looks, Nla,
-    NlaBuffer, Parseable, clone_rows, kind_rows, len_rows, read_rows,
-    write_rows,
+    NlaBuffer, Parseable, clone_rows, kind_rows, len_rows, read_rows, write_rows,
 };
 use npr_scalar::RouteProtocol;
 use std::alloc::{AllocError, Global};

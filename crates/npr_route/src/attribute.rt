@@ -12,8 +12,7 @@ use crate::reader::read_next_hops;
 use crate::route_rows;
 use crate::rows::{push_flat, read_flat};
 use npr_base::{
-    AddressFamily, Attribute, DecodeError, DefaultNla, EmitError, Looks, Nla, NlaBuffer,
-    kind_rows,
+    AddressFamily, Attribute, DecodeError, DefaultNla, EmitError, Looks, Nla, NlaBuffer, kind_rows,
 };
 use npr_scalar::{
     MplsLabel, RouteAddress, RouteCacheInfo, RouteMfcStats, RouteMplsTtlPropagation,
