@@ -1,9 +1,7 @@
 //! Why a run ends before its input does.
 
-ghost use Rattle.{
-  std.specs.{Prelude.{◌≡◌, option_map}, IoError.{error_kind}},
-  byte_window.specs.{declared.stop.Stop.TheVariants.{Memory}, Stop.{line_of, status_of, unwritten}},
-};
+ghost use Rattle.std.specs.{Prelude.{◌≡◌, option_map}, IoError.{error_kind}};
+ghost use Rattle.byte_window.specs.{declared.stop.Stop.TheVariants.{Memory}, Stop.{line_of, status_of, unwritten}};
 
 use std::alloc::{AllocError, AllocFailed};
 use std::io;

@@ -1,9 +1,10 @@
 //! A reader through a window of fixed length, so that memory does not grow with the input.
 
-ghost use Rattle.{
-  std.specs.{Prelude.{◌≡◌, ◌≤◌, ◌<◌, ◌↔◌, ◌++◌, ◌+◌, ◌-◌, ◌^◌, ◌==◌, ℕ, List, [], IfOk, IfErr, IsTrue, drop, length, min, vec_len}, Io.KnownBytes.{Consumes}},
-  byte_window.specs.{declared.stop.Stop.TheVariants.{Read as ReadFailed}, Window.{between}},
+ghost use Rattle.std.specs.{
+  Prelude.{◌≡◌, ◌≤◌, ◌<◌, ◌↔◌, ◌++◌, ◌+◌, ◌-◌, ◌^◌, ◌==◌, ℕ, List, [], IfOk, IfErr, IsTrue, drop, length, min, vec_len},
+  Io.KnownBytes.{Consumes},
 };
+ghost use Rattle.byte_window.specs.{declared.stop.Stop.TheVariants.{Read as ReadFailed}, Window.{between}};
 
 use crate::stop::Stop;
 use std::alloc::{AllocError, Global};

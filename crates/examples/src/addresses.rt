@@ -1,7 +1,7 @@
 //! Address messages that are read, changed and built.
 
+ghost use Rattle.std.specs.{Prelude.{◌≡◌, ◌≢◌, ◌==◌, None, Some, IfOk, IfErr}, Int.RustNames.{bit_and}};
 ghost use Rattle.{
-  std.specs.{Prelude.{◌≡◌, ◌≢◌, ◌==◌, None, Some, IfOk, IfErr}, Int.RustNames.{bit_and}},
   examples.specs.{Addresses.{local_ipv4, loopback, loopback_written, with_priority}, declared.fault.Fault.TheVariants.{Refused, Unfit}},
   netlink_packet_route.specs.{
     AddressAttribute.{meaning_of},

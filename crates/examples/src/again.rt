@@ -1,7 +1,7 @@
 //! Messages read and written again: two inputs mean the same exactly if these bytes are equal.
 
+ghost use Rattle.std.specs.Prelude.{◌≡◌, ◌≢◌, None, Some, IfOk};
 ghost use Rattle.{
-  std.specs.Prelude.{◌≡◌, ◌≢◌, None, Some, IfOk},
   examples.specs.declared.fault.Fault.TheVariants.{Refused, Unfit},
   netlink_packet_route.specs.{
     Messages.{Message as Meant, IsMessage, MessageFault, message_misfit, spelling},

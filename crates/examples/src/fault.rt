@@ -1,7 +1,7 @@
 //! Why no bytes come out.
 
+ghost use Rattle.std.specs.Prelude.{◌≡◌};
 ghost use Rattle.{
-  std.specs.Prelude.{◌≡◌},
   examples.specs.{Fault.{unwritten}, declared.fault.Fault.TheVariants.{Refused, Unfit}},
   netlink_packet_route.specs.declared.framing.DecodeError.TheVariants.{OutOfMemory},
 };

@@ -1,7 +1,7 @@
 //! Attributes that are read one after the other, without a list.
 
+ghost use Rattle.std.specs.Prelude.{◌≡◌, ◌≢◌, IfOk, IfErr};
 ghost use Rattle.{
-  std.specs.Prelude.{◌≡◌, ◌≢◌, IfOk, IfErr},
   netlink_packet_route.specs.{
     AddressAttribute.{meaning_of},
     AddressMessage.{Address, IsAddressMessage, AddressFault},

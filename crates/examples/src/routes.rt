@@ -1,7 +1,7 @@
 //! Routes that are read, and built.
 
+ghost use Rattle.std.specs.Prelude.{◌≡◌, ◌≢◌, IfOk, IfErr};
 ghost use Rattle.{
-  std.specs.Prelude.{◌≡◌, ◌≢◌, IfOk, IfErr},
   netlink_packet_route.specs.{
     Found.{IsFirst},
     RouteAttributeView.{meaning_of},

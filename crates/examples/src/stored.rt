@@ -1,6 +1,7 @@
 //! A route that a program has stored as a value, and that an older version of the library made.
 
-ghost use Rattle.{std.specs.Prelude.{◌≡◌}, netlink_packet_route.specs.RouteMessage.{message_of, normalized_route}};
+ghost use Rattle.std.specs.Prelude.{◌≡◌};
+ghost use Rattle.netlink_packet_route.specs.RouteMessage.{message_of, normalized_route};
 
 use netlink_packet_route::route::{RouteMessage, normalize};
 

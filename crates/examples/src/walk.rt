@@ -1,10 +1,7 @@
 //! A walk by hand over attributes of any family.
 
-ghost use Rattle.{
-  std.specs.Prelude.{◌≡◌, ℕ, List, None, Ok, IfOk, IfErr, IfSome},
-  examples.specs.Walk.{HasNone},
-  netlink_packet_route.specs.Framing.{Item, Front, Passes, Cut, Stops, number_of},
-};
+ghost use Rattle.std.specs.Prelude.{◌≡◌, ℕ, List, None, Ok, IfOk, IfErr, IfSome};
+ghost use Rattle.{examples.specs.Walk.{HasNone}, netlink_packet_route.specs.Framing.{Item, Front, Passes, Cut, Stops, number_of}};
 
 use netlink_packet_route::framing::{DecodeError, NlasIterator};
 

@@ -1,9 +1,7 @@
 //! The answer to a request: which messages of the datagrams that come are of it, and how it ends.
 
-ghost use Rattle.{
-  std.specs.Prelude.{◌≡◌, false, Ok},
-  netlink_packet_core.specs.Conversation.{Talk, asked, event_of, outcome_of, said, after, belongs, error_outcome, done_outcome, Hears},
-};
+ghost use Rattle.std.specs.Prelude.{◌≡◌, false, Ok};
+ghost use Rattle.netlink_packet_core.specs.Conversation.{Talk, asked, event_of, outcome_of, said, after, belongs, error_outcome, done_outcome, Hears};
 
 use crate::buffer::NetlinkBuffer;
 use crate::constants::{NLM_F_DUMP_INTR, NLMSG_DONE, NLMSG_ERROR, NLMSG_OVERRUN};

@@ -1,7 +1,7 @@
 //! The attributes of an extended answer: `NLMSGERR_ATTR_*` of `linux/netlink.h`.
 
+ghost use Rattle.std.specs.Prelude.{◌≡◌, ◌<◌, ◌^◌, length, option_map, refl};
 ghost use Rattle.{
-  std.specs.Prelude.{◌≡◌, ◌<◌, ◌^◌, length, option_map, refl},
   netlink_packet_core.specs.Extended.{Meaning, meaning_of, writing, attributes, has_flag, refused_length, refused_message, error_attributes, done_attributes, IsFirstText},
   npr_base.specs.NameLaws.{IsUnterminated},
 };

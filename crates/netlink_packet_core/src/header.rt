@@ -1,10 +1,7 @@
 //! The header of an envelope: `struct nlmsghdr` of `linux/netlink.h`.
 
-ghost use Rattle.{
-  std.specs.Prelude.{◌≡◌, ◌≤◌, None, length, IfOk, IfErr},
-  npr_base.specs.{Codec.{leading}, Refusal.{no_place}},
-  netlink_packet_core.specs.Header.{header},
-};
+ghost use Rattle.std.specs.Prelude.{◌≡◌, ◌≤◌, length, IfOk, IfErr};
+ghost use Rattle.{npr_base.specs.{Codec.{leading}, Refusal.{no_place}}, netlink_packet_core.specs.Header.{header}};
 
 use crate::constants::NETLINK_HEADER_LEN;
 use npr_base::{DecodeError, EmitError, Emitable, leading_octets, write_array};
@@ -71,8 +68,6 @@ impl NetlinkHeader {
 
 impl Emitable for NetlinkHeader {
     ghost bytes = { header.encode };
-
-    ghost unfit = { λ _. None };
 
     fn check(&self) -> Result<usize, EmitError> {
         Ok(NETLINK_HEADER_LEN)

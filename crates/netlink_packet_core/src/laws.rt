@@ -1,8 +1,8 @@
 //! The laws of this crate, over its definitions alone. Each function does nothing, and its contract
 //! is the law.
 
+ghost use Rattle.std.specs.Prelude.{◌≡◌, ◌≤◌, ◌%◌, ◌*◌, ◌+◌, ◌++◌, ◌∷◌, ◌↔◌, ◌⊎◌, ℕ, List, [], Result, Err, None, length, map, true};
 ghost use Rattle.{
-  std.specs.Prelude.{◌≡◌, ◌≤◌, ◌%◌, ◌*◌, ◌+◌, ◌++◌, ◌∷◌, ◌↔◌, ◌⊎◌, ℕ, List, [], Result, Err, None, length, map, true},
   npr_base.specs.{declared.refusal.DecodeError.{DecodeError}, Equality.{IsEquality, IsEqualityOf}},
   netlink_packet_core.specs.{
     Conversation.{Talk, TalksOver, Stand, event_of, said, after, answers, kept, is_end},

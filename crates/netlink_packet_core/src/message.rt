@@ -1,7 +1,7 @@
 //! Messages: an envelope and what stands in it.
 
+ghost use Rattle.std.specs.Prelude.{◌≡◌, ◌≢◌, ◌+◌, ◌<◌, ◌≤◌, ◌^◌, None, length, replicate, IfOk, IfErr};
 ghost use Rattle.{
-  std.specs.Prelude.{◌≡◌, ◌≢◌, ◌+◌, ◌<◌, ◌≤◌, ◌^◌, None, length, replicate, IfOk, IfErr},
   npr_base.specs.{declared.refusal.DecodeError.TheVariants.{OutOfMemory}, Family.{checked}, Framing.{Writes, pad}},
   netlink_packet_core.specs.{
     Message.{Meant, message_of, IsNetlinkMessage, NetlinkFault, IsCoherentMessage, final_header, finalized, envelope_of, message_bytes, oversized, netlink_misfit},

@@ -1,7 +1,7 @@
 //! What stands behind the header of an envelope.
 
+ghost use Rattle.std.specs.Prelude.{◌≡◌, ◌≢◌, ◌+◌, ◌≤◌, None, length, IfOk, IfErr};
 ghost use Rattle.{
-  std.specs.Prelude.{◌≡◌, ◌≢◌, ◌+◌, ◌≤◌, None, length, IfOk, IfErr},
   npr_base.specs.{declared.refusal.DecodeError.TheVariants.{OutOfMemory}, Framing.{Writes}},
   netlink_packet_core.specs.Payload.{Payload, payload_of, error_of, done_of, IsCoherentPayload, payload_type, payload_bytes, payload_misfit, PayloadReads, PayloadFault, IsCoded, IsUncoded, code_of, coded},
 };
@@ -110,8 +110,6 @@ impl ErrorMessage {
 impl Emitable for ErrorMessage {
     ghost bytes = { λ m. coded (code_of m.code) m.header.items };
 
-    ghost unfit = { λ _. None };
-
     fn check(&self) -> Result<usize, EmitError> {
         Ok(4 + self.header.len())
     }
@@ -153,8 +151,6 @@ impl DoneMessage {
 
 impl Emitable for DoneMessage {
     ghost bytes = { λ m. coded m.code m.extended_ack.items };
-
-    ghost unfit = { λ _. None };
 
     fn check(&self) -> Result<usize, EmitError> {
         Ok(4 + self.extended_ack.len())

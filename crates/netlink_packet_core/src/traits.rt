@@ -1,10 +1,7 @@
 //! What stands behind the header of an envelope, by its protocol.
 
-ghost use Rattle.{
-  std.specs.Prelude.{◌≡◌, ◌≢◌, IfOk, IfErr},
-  npr_base.specs.declared.refusal.DecodeError.TheVariants.{OutOfMemory},
-  netlink_packet_core.specs.Protocol.{Protocol},
-};
+ghost use Rattle.std.specs.Prelude.{◌≡◌, ◌≢◌, IfOk, IfErr};
+ghost use Rattle.{npr_base.specs.declared.refusal.DecodeError.TheVariants.{OutOfMemory}, netlink_packet_core.specs.Protocol.{Protocol}};
 
 use crate::header::NetlinkHeader;
 use npr_base::{DecodeError, Emitable};

@@ -1,9 +1,7 @@
 //! A walk over the messages of a datagram.
 
-ghost use Rattle.{
-  std.specs.{Prelude.{◌≡◌, ◌+◌, ◌/◌, ◌<◌, ◌≤◌, ◌^◌, length, drop}, Iterator.{at_most}},
-  netlink_packet_core.specs.Envelope.{Place, EnvelopeStep, looked},
-};
+ghost use Rattle.std.specs.{Prelude.{◌≡◌, ◌+◌, ◌/◌, ◌<◌, ◌≤◌, ◌^◌, length, drop}, Iterator.{at_most}};
+ghost use Rattle.netlink_packet_core.specs.Envelope.{Place, EnvelopeStep, looked};
 
 use crate::buffer::NetlinkBuffer;
 use crate::constants::NLMSG_ALIGNTO;

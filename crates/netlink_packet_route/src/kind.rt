@@ -1,6 +1,7 @@
 //! The kinds of messages, by their names.
 
-ghost use Rattle.{std.specs.Prelude.{◌≡◌, ◌≢◌, IfSome, IsNone}, netlink_packet_route.specs.{declared.kind.MessageKind.{MessageKind}, MessageKind.{kind_name}}};
+ghost use Rattle.std.specs.Prelude.{◌≡◌, ◌≢◌, IfSome, IsNone};
+ghost use Rattle.netlink_packet_route.specs.{declared.kind.MessageKind.{MessageKind}, MessageKind.{kind_name}};
 
 /// A kind of message.
 #[derive(Clone, Copy, Debug, PartialEq, Eq)]

@@ -1,8 +1,8 @@
 //! The laws of messages, over their definitions alone. Each function does nothing, and
 //! its contract is the law.
 
+ghost use Rattle.std.specs.{Prelude.{◌≡◌}, List.{Contains}};
 ghost use Rattle.{
-  std.specs.{Prelude.{◌≡◌}, List.{Contains}},
   npr_base.specs.{Equality.{IsEquality, IsEqualityOf}, Walk.{CutsInTwo}, declared.address_family.AddressFamily.{AddressFamily}},
   npr_address.specs.Attribute.{attributes as address_attributes},
   npr_neighbour.specs.Attribute.{attributes as neighbour_attributes},

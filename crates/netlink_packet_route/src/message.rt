@@ -1,7 +1,7 @@
 //! Messages of rtnetlink by their types: `RTM_*` of `linux/rtnetlink.h`.
 
+ghost use Rattle.std.specs.Prelude.{◌≡◌, ◌≢◌, IfOk, IfErr, refl};
 ghost use Rattle.{
-  std.specs.Prelude.{◌≡◌, ◌≢◌, IfOk, IfErr, refl},
   npr_base.specs.declared.refusal.DecodeError.TheVariants.{OutOfMemory},
   netlink_packet_route.specs.{
     MessageKind.{kind_of_type},

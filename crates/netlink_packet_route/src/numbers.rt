@@ -1,8 +1,8 @@
 //! The numbers of values, for a crate that names this one alone: the conversions `u8::from` and
 //! their like are found only by a crate that names the one which has them.
 
+ghost use Rattle.std.specs.Prelude.{◌≡◌};
 ghost use Rattle.{
-  std.specs.Prelude.{◌≡◌},
   npr_address.specs.{AddressProtocol.{protocol_number as address_protocol_number}, AddressScope.{scope_number as address_scope_number}},
   npr_base.specs.AddressFamily.{family_number},
   npr_rule.specs.Action.{action_number as rule_action_number},

@@ -1,9 +1,7 @@
 //! The words of a command line.
 
-ghost use Rattle.{
-  std.specs.Prelude.{◌≡◌, ◌≢◌, [], ◌∷◌, map, string_bytes, IfSome, IsNone},
-  netlink_packet_route.specs.{MessageKind.{kind_name}, declared.MessageKind.{MessageKind}},
-};
+ghost use Rattle.std.specs.Prelude.{◌≡◌, ◌≢◌, [], ◌∷◌, map, string_bytes, IfSome, IsNone};
+ghost use Rattle.netlink_packet_route.specs.{MessageKind.{kind_name}, declared.MessageKind.{MessageKind}};
 
 use netlink_packet_route::MessageKind;
 

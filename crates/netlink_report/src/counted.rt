@@ -1,9 +1,7 @@
 //! A reader or a writer whose failed calls are counted.
 
-ghost use Rattle.{
-  std.specs.{Prelude.{◌≡◌, ◌<◌, IfOk, length}, Io.{ReadsAtMost, WritesAtMost, KnownBytes.{Keeps, ReadConsumes, WriteAppends}}},
-  netlink_report.specs.Counted.{failures_after},
-};
+ghost use Rattle.std.specs.{Prelude.{◌≡◌, ◌<◌, IfOk, length}, Io.{ReadsAtMost, WritesAtMost, KnownBytes.{Keeps, ReadConsumes, WriteAppends}}};
+ghost use Rattle.netlink_report.specs.Counted.{failures_after};
 
 use std::io;
 use std::io::{ErrorKind, Read, Write};

@@ -1,7 +1,7 @@
 //! How a run ends that does not print a report.
 
+ghost use Rattle.std.specs.Prelude.{◌≡◌, ◌++◌};
 ghost use Rattle.{
-  std.specs.Prelude.{◌≡◌, ◌++◌},
   netlink_packet_route.specs.Equality.{IsEquality},
   netlink_report.specs.{declared.error.RunError.TheVariants.{Memory}, Error.{line_of, refusal_of, status_of, unwritten}},
 };

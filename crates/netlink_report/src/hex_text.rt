@@ -1,7 +1,7 @@
 //! Hexadecimal text, as standard input brings it.
 
+ghost use Rattle.std.specs.Prelude.{◌≡◌, ◌⊎◌, ◌↔◌, ◌<◌, ℕ, List, length, IfOk, IfErr};
 ghost use Rattle.{
-  std.specs.Prelude.{◌≡◌, ◌⊎◌, ◌↔◌, ◌<◌, ℕ, List, length, IfOk, IfErr},
   hex.specs.Hex.{decode_of},
   netlink_report.specs.{HexText.{HasOneReading, IsHexText, IsNoHexText, is_blank}, declared.error.RunError.TheVariants.{BadHex, Memory}},
 };

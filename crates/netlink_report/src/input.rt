@@ -1,9 +1,7 @@
 //! Reading a reader to its end.
 
-ghost use Rattle.{
-  std.specs.{Prelude.{◌≡◌, ◌≢◌, ◌⊎◌, ◌<◌, ◌++◌, List, ℕ, length, IfOk, IfErr, IfSome, OnOk}, Io.KnownBytes.{Consumes, IsAtEnd}},
-  netlink_report.specs.{Counted.{raised}, Run.{SomethingLeft}, declared.error.RunError.TheVariants.{Memory, Read as ReadFailed}},
-};
+ghost use Rattle.std.specs.{Prelude.{◌≡◌, ◌≢◌, ◌⊎◌, ◌<◌, ◌++◌, List, ℕ, length, IfOk, IfErr, IfSome, OnOk}, Io.KnownBytes.{Consumes, IsAtEnd}};
+ghost use Rattle.netlink_report.specs.{Counted.{raised}, Run.{SomethingLeft}, declared.error.RunError.TheVariants.{Memory, Read as ReadFailed}};
 
 use crate::counted::Counted;
 use crate::error::RunError;

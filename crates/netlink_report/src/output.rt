@@ -1,9 +1,7 @@
 //! Writing a whole text.
 
-ghost use Rattle.{
-  std.specs.{Prelude.{◌≡◌, ◌<◌, ℕ, length, take, IfErr, OnOk, OnErr}, Io.KnownBytes.{Appends, Keeps}},
-  netlink_report.specs.{Counted.{raised}, declared.error.RunError.TheVariants.{Write as WriteFailed}},
-};
+ghost use Rattle.std.specs.{Prelude.{◌≡◌, ◌<◌, ℕ, length, take, IfErr, OnOk, OnErr}, Io.KnownBytes.{Appends, Keeps}};
+ghost use Rattle.netlink_report.specs.{Counted.{raised}, declared.error.RunError.TheVariants.{Write as WriteFailed}};
 
 use crate::counted::Counted;
 use crate::error::RunError;

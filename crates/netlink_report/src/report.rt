@@ -1,7 +1,7 @@
 //! The report on a message that was read.
 
+ghost use Rattle.std.specs.Prelude.{◌≡◌, ◌++◌, None, length, map, string_bytes, IfErr, IfOk, OnOk};
 ghost use Rattle.{
-  std.specs.Prelude.{◌≡◌, ◌++◌, None, length, map, string_bytes, IfErr, IfOk, OnOk},
   netlink_packet_route.specs.{Family.{first_unfit}, Table.{unfit_by, written_by}},
   netlink_report.specs.{Report.{closing_text, heading_text, line_text, lines_text, report}, declared.error.RunError.TheVariants.{Memory}},
 };

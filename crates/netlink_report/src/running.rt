@@ -1,10 +1,10 @@
 //! A run, from the text that is read to the report that is written.
 
+ghost use Rattle.std.specs.{
+  Prelude.{◌≡◌, ◌≢◌, ◌⊎◌, ◌<◌, ◌≤◌, None, Some, length, map, string_bytes, IfOk, IfErr, IfSome, OnOk, OnErr},
+  Io.KnownBytes.{IsAtEnd, Keeps},
+};
 ghost use Rattle.{
-  std.specs.{
-    Prelude.{◌≡◌, ◌≢◌, ◌⊎◌, ◌<◌, ◌≤◌, None, Some, length, map, string_bytes, IfOk, IfErr, IfSome, OnOk, OnErr},
-    Io.KnownBytes.{IsAtEnd, Keeps},
-  },
   netlink_packet_route.specs.{
     Family.{first_unfit},
     Table.{unfit_by, written_by},

@@ -1,10 +1,8 @@
 //! Reads a message of rtnetlink as hexadecimal text, and reports on it.
 #![tactic(auto)]
 
-ghost use Rattle.{
-  std.specs.{Prelude.{◌≡◌, IfErr}, Process.{exit_status}},
-  netlink_report.specs.{Error.{status_of}, declared.error.RunError.TheVariants.{Memory}},
-};
+ghost use Rattle.std.specs.{Prelude.{◌≡◌, IfErr}, Process.{exit_status}};
+ghost use Rattle.netlink_report.specs.{Error.{status_of}, declared.error.RunError.TheVariants.{Memory}};
 
 use netlink_packet_route::MessageKind;
 use netlink_report::{Counted, RunError, USAGE, finish, kind_of, run};

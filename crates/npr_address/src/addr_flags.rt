@@ -1,6 +1,7 @@
 //! The flags of an address: `IFA_F_*` of `linux/if_addr.h`. Every bit is kept.
 
-ghost use Rattle.{std.specs.Prelude.{⊤, [], ◌∷◌, codes}, npr_address.specs.AddressFlags.{address_flags_bits, header_flags_bits}};
+ghost use Rattle.std.specs.Prelude.{⊤, [], ◌∷◌, codes};
+ghost use Rattle.npr_address.specs.AddressFlags.{address_flags_bits, header_flags_bits};
 
 use bitflags::{Flag, Flags};
 use npr_base::named_flags;

@@ -1,6 +1,7 @@
 //! What made an address: `IFAPROT_*` of `linux/if_addr.h`.
 
-ghost use Rattle.{std.specs.Prelude.{◌≡◌, Some}, npr_address.specs.AddressProtocol.{protocol_of, protocol_number, protocol_text}};
+ghost use Rattle.std.specs.Prelude.{◌≡◌, Some};
+ghost use Rattle.npr_address.specs.AddressProtocol.{protocol_of, protocol_number, protocol_text};
 
 use npr_base::{number_of_variant, variant_of_number, write_variant};
 use std::fmt;

@@ -1,6 +1,7 @@
 //! The scope of an address: `RT_SCOPE_*` of `linux/rtnetlink.h`.
 
-ghost use Rattle.{std.specs.Prelude.{◌≡◌, Some}, npr_address.specs.AddressScope.{scope_of, scope_number, scope_text}};
+ghost use Rattle.std.specs.Prelude.{◌≡◌, Some};
+ghost use Rattle.npr_address.specs.AddressScope.{scope_of, scope_number, scope_text};
 
 use npr_base::{number_of_variant, variant_of_number, write_variant};
 use std::fmt;

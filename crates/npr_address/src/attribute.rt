@@ -1,7 +1,7 @@
 //! The attributes of an address message: `IFA_*` of `linux/if_addr.h`.
 
+ghost use Rattle.std.{specs.Prelude.{◌≡◌, ◌≢◌, ◌<◌, ◌*◌, IfOk, IfErr}, proofs.Common.{refl}};
 ghost use Rattle.{
-  std.{specs.Prelude.{◌≡◌, ◌≢◌, ◌<◌, ◌*◌, IfOk, IfErr}, proofs.Common.{refl}},
   npr_base.specs.declared.refusal.DecodeError.TheVariants.{OutOfMemory},
   npr_address.specs.Attribute.{Meaning, meaning_of, writing, attributes},
 };

@@ -1,10 +1,7 @@
 //! How long an address is preferred and valid: `struct ifa_cacheinfo` of `linux/if_addr.h`.
 
-ghost use Rattle.{
-  std.specs.Prelude.{◌≡◌, ◌<◌, None, IfOk, IfErr},
-  npr_base.specs.{Codec.{leading}, Refusal.{no_place}},
-  npr_address.specs.CacheInfo.{cache_info},
-};
+ghost use Rattle.std.specs.Prelude.{◌≡◌, ◌<◌, IfOk, IfErr};
+ghost use Rattle.{npr_base.specs.{Codec.{leading}, Refusal.{no_place}}, npr_address.specs.CacheInfo.{cache_info}};
 
 use npr_base::{DecodeError, EmitError, Emitable, leading_octets, write_array};
 
@@ -67,8 +64,6 @@ impl<'a> From<&'a CacheInfo> for CacheInfoBuffer {
 
 impl Emitable for CacheInfo {
     ghost bytes = { cache_info.encode };
-
-    ghost unfit = { λ _. None };
 
     fn check(&self) -> Result<usize, EmitError> {
         Ok(16)

@@ -1,10 +1,7 @@
 //! The header of an address message: `struct ifaddrmsg` of `linux/if_addr.h`.
 
-ghost use Rattle.{
-  std.specs.Prelude.{◌≡◌, ◌≤◌, ◌<◌, None, length, IfOk, IfErr},
-  npr_base.specs.{Codec.{leading}, Refusal.{no_place}},
-  npr_address.specs.Header.{header_buffer, header, buffer_of},
-};
+ghost use Rattle.std.specs.Prelude.{◌≡◌, ◌≤◌, ◌<◌, length, IfOk, IfErr};
+ghost use Rattle.{npr_base.specs.{Codec.{leading}, Refusal.{no_place}}, npr_address.specs.Header.{header_buffer, header, buffer_of}};
 
 use crate::addr_flags::AddressHeaderFlags;
 use crate::addr_scope::AddressScope;
@@ -119,8 +116,6 @@ impl AddressHeader {
 
 impl Emitable for AddressHeader {
     ghost bytes = { header.encode };
-
-    ghost unfit = { λ _. None };
 
     fn check(&self) -> Result<usize, EmitError> {
         Ok(8)

@@ -1,9 +1,7 @@
 //! Address messages: `RTM_NEWADDR`, `RTM_DELADDR` and `RTM_GETADDR`, without the envelope.
 
-ghost use Rattle.{
-  std.{specs.Prelude.{refl}, proofs.Common.{rules}},
-  npr_address.specs.{Attribute.{Meaning, meaning_of, writing}, Header.{default_header, header}, Message.{body}},
-};
+ghost use Rattle.std.{specs.Prelude.{refl}, proofs.Common.{rules}};
+ghost use Rattle.npr_address.specs.{Attribute.{Meaning, meaning_of, writing}, Header.{default_header, header}, Message.{body}};
 
 use crate::attribute::AddressAttribute;
 use crate::header::AddressHeader;

@@ -1,6 +1,7 @@
 //! Address families: `AF_*` of `linux/socket.h`.
 
-ghost use Rattle.{std.specs.Prelude.{◌≡◌, Some}, npr_base.specs.AddressFamily.{family_of, family_number, family_text}};
+ghost use Rattle.std.specs.Prelude.{◌≡◌, Some};
+ghost use Rattle.npr_base.specs.AddressFamily.{family_of, family_number, family_text};
 
 use crate::{number_of_variant, variant_of_number, write_variant};
 use std::fmt;

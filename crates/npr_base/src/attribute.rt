@@ -1,8 +1,11 @@
 //! A family of attributes, with its laws.
 
-ghost use Rattle.{
-  std.specs.Prelude.{◌≡◌, ◌≢◌, [], ◌∷◌, ◌++◌, length, IfOk, IfErr},
-  npr_base.specs.{declared.refusal.DecodeError.TheVariants.{OutOfMemory}, Counts.{AddsAtMost, SawEach}, Looks.{Answered}, Table.{Writing, Reading}},
+ghost use Rattle.std.specs.Prelude.{◌≡◌, ◌≢◌, [], ◌∷◌, ◌++◌, length, IfOk, IfErr};
+ghost use Rattle.npr_base.specs.{
+  declared.refusal.DecodeError.TheVariants.{OutOfMemory},
+  Counts.{AddsAtMost, SawEach},
+  Looks.{Answered},
+  Table.{Writing, Reading},
 };
 
 use crate::framing::NlaBuffer;

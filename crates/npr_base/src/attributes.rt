@@ -1,13 +1,11 @@
 //! The attributes of a message, read one after the other.
 
-ghost use Rattle.{
-  std.specs.{Prelude.{◌≡◌, ◌≢◌, ◌+◌, ◌/◌, ◌<◌, ℕ, List, [], Some, Err, length, map, drop, IfOk, IfErr}, Iterator.{at_most}},
-  npr_base.specs.{
-    declared.refusal.DecodeError.{DecodeError, TheVariants.{OutOfMemory, HeaderTooShort}},
-    Attributes.{AttributeStep, AttributeSteps},
-    Codec.{leading},
-    Message.{IsMessage, MessageFault},
-  },
+ghost use Rattle.std.specs.{Prelude.{◌≡◌, ◌≢◌, ◌+◌, ◌/◌, ◌<◌, ℕ, List, [], Some, Err, length, map, drop, IfOk, IfErr}, Iterator.{at_most}};
+ghost use Rattle.npr_base.specs.{
+  declared.refusal.DecodeError.{DecodeError, TheVariants.{OutOfMemory, HeaderTooShort}},
+  Attributes.{AttributeStep, AttributeSteps},
+  Codec.{leading},
+  Message.{IsMessage, MessageFault},
 };
 
 use crate::attribute::Attribute;

@@ -1,9 +1,7 @@
 //! An attribute that is kept as it stands.
 
-ghost use Rattle.{
-  std.specs.{Prelude.{◌≡◌, None, IfOk, false}, Cmp.{decided, partial_equiv_from_equiv}},
-  npr_base.specs.{Framing.{Item}, ViewEquality.{same_item, item_equality}, Text.{nla_text}},
-};
+ghost use Rattle.std.specs.{Prelude.{◌≡◌, None, IfOk, false}, Cmp.{decided, partial_equiv_from_equiv}};
+ghost use Rattle.npr_base.specs.{Framing.{Item}, ViewEquality.{same_item, item_equality}, Text.{nla_text}};
 
 use crate::framing::NlaBuffer;
 use crate::refusal::{DecodeError, EmitError};

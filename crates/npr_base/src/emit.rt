@@ -1,9 +1,7 @@
 //! A value as bytes of its own, by one call.
 
-ghost use Rattle.{
-  std.specs.Prelude.{◌≡◌, None, Some, IfOk, OnOk},
-  npr_base.specs.declared.{refusal.EmitError.{EmitError}, emit.WriteError.TheVariants.{OutOfMemory, Unfit}},
-};
+ghost use Rattle.std.specs.Prelude.{◌≡◌, None, Some, IfOk, OnOk};
+ghost use Rattle.npr_base.specs.declared.{refusal.EmitError.{EmitError}, emit.WriteError.TheVariants.{OutOfMemory, Unfit}};
 
 use crate::refusal::EmitError;
 use crate::traits::Emitable;

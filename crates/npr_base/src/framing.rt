@@ -1,17 +1,15 @@
 //! The framing of attributes: four bytes of header, a value, and padding to a multiple of four.
 
-ghost use Rattle.{
-  std.specs.{
-    Prelude.{◌≡◌, ◌+◌, ◌%◌, ◌/◌, ◌^◌, ◌≤◌, ◌↔◌, ◌++◌, ◌<◌, [], IsTrue, length, take, drop, replicate, List, ℕ, Ok, Err, Some, None},
-    Int.{w16, to_le_bytes},
-    Iterator.{at_most},
-    Cmp.{decided, partial_equiv_from_equiv},
-  },
-  npr_base.specs.{
-    ViewEquality.{same_item, item_equality, same_bytes, bytes_equality},
-    Family.{checked, short_framed, too_long},
-    Framing.{Item, Begins, Step, Writes, encoding, framed, looked, marked, number_of},
-  },
+ghost use Rattle.std.specs.{
+  Prelude.{◌≡◌, ◌+◌, ◌%◌, ◌/◌, ◌^◌, ◌≤◌, ◌↔◌, ◌++◌, ◌<◌, [], IsTrue, length, take, drop, replicate, List, ℕ, Ok, Err, Some, None},
+  Int.{w16, to_le_bytes},
+  Iterator.{at_most},
+  Cmp.{decided, partial_equiv_from_equiv},
+};
+ghost use Rattle.npr_base.specs.{
+  ViewEquality.{same_item, item_equality, same_bytes, bytes_equality},
+  Family.{checked, short_framed, too_long},
+  Framing.{Item, Begins, Step, Writes, encoding, framed, looked, marked, number_of},
 };
 
 use crate::looks::Looks;

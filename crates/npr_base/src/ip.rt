@@ -1,9 +1,7 @@
 //! Addresses of IP, by their bytes in the order of the network.
 
-ghost use Rattle.{
-  std.specs.{Prelude.{◌≡◌, ◌∷◌, [], IsTrue, ◌↔◌, Some}, Net.{Addr.{segments_of}, Text.{ipv4_text, ipv6_text}}},
-  npr_base.specs.{declared.ip.IpAddr.TheVariants.{V4, V6}, Ip.{IsIpv4, IsIpv6, ip_text}},
-};
+ghost use Rattle.std.specs.{Prelude.{◌≡◌, ◌∷◌, [], IsTrue, ◌↔◌, Some}, Net.{Addr.{segments_of}, Text.{ipv4_text, ipv6_text}}};
+ghost use Rattle.npr_base.specs.{declared.ip.IpAddr.TheVariants.{V4, V6}, Ip.{IsIpv4, IsIpv6, ip_text}};
 
 use std::marker::Model;
 use std::{fmt, net};

@@ -1,18 +1,16 @@
 //! The laws of this crate, over its definitions alone. Each function does nothing, and its contract
 //! is the law.
 
-ghost use Rattle.{
-  std.specs.Prelude.{◌≡◌, ◌≤◌, ◌+◌, ◌*◌, ◌++◌, ◌∷◌, ◌↔◌, ℕ, List, [], Result, Err, None, length},
-  npr_base.specs.{
-    declared.refusal.DecodeError.{DecodeError},
-    AddressFamily.{family_of, family_number},
-    Equality.{IsEquality},
-    Framing.{Item, Cut, Stops},
-    Counts.{Counts},
-    Looks.{Adds},
-    Message.{Message as Meant, IsMessage, MessageLooks, IsCoherent, spelling, message_misfit},
-    Walk.{Steps, found, Finds, CutsInTwo},
-  },
+ghost use Rattle.std.specs.Prelude.{◌≡◌, ◌≤◌, ◌+◌, ◌*◌, ◌++◌, ◌∷◌, ◌↔◌, ℕ, List, [], Result, Err, None, length};
+ghost use Rattle.npr_base.specs.{
+  declared.refusal.DecodeError.{DecodeError},
+  AddressFamily.{family_of, family_number},
+  Equality.{IsEquality},
+  Framing.{Item, Cut, Stops},
+  Counts.{Counts},
+  Looks.{Adds},
+  Message.{Message as Meant, IsMessage, MessageLooks, IsCoherent, spelling, message_misfit},
+  Walk.{Steps, found, Finds, CutsInTwo},
 };
 
 use crate::attribute::Attribute;

@@ -1,16 +1,14 @@
 //! Lists of attributes, for any family.
 
-ghost use Rattle.{
-  std.specs.Prelude.{◌≡◌, ◌≢◌, ◌≤◌, ◌<◌, ℕ, List, [], None, length, map, min, ◌+◌, ◌/◌, IfOk, IfErr, IsErrOf, OnOk, OnErr, vec_capacity},
-  npr_base.specs.{
-    Counts.{AddsAtMost, SawEach},
-    Looks.{Answered, ListLooks},
-    Framing.{Item, Front, Writes},
-    Table.{shaped_item, shaped_misfit, written_by, unfit_by},
-    Walk.{Walked},
-    Family.{ReadsList, FirstFault, checked, list_unfit, list_members, encodings, overlong},
-    declared.refusal.DecodeError.TheVariants.{OutOfMemory},
-  },
+ghost use Rattle.std.specs.Prelude.{◌≡◌, ◌≢◌, ◌≤◌, ◌<◌, ℕ, List, [], None, length, map, min, ◌+◌, ◌/◌, IfOk, IfErr, IsErrOf, OnOk, OnErr, vec_capacity};
+ghost use Rattle.npr_base.specs.{
+  Counts.{AddsAtMost, SawEach},
+  Looks.{Answered, ListLooks},
+  Framing.{Item, Front, Writes},
+  Table.{shaped_item, shaped_misfit, written_by, unfit_by},
+  Walk.{Walked},
+  Family.{ReadsList, FirstFault, checked, list_unfit, list_members, encodings, overlong},
+  declared.refusal.DecodeError.TheVariants.{OutOfMemory},
 };
 
 use crate::attribute::Attribute;

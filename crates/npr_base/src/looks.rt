@@ -1,9 +1,7 @@
 //! Counts of looks at headers.
 
-ghost use Rattle.{
-  std.specs.{Prelude.{◌≡◌}, Cmp.{decided, partial_equiv_from_equiv}},
-  npr_base.specs.{Counts.{Counts, no_looks, hit, miss}, ViewEquality.{same_counts, counts_equality}},
-};
+ghost use Rattle.std.specs.{Prelude.{◌≡◌}, Cmp.{decided, partial_equiv_from_equiv}};
+ghost use Rattle.npr_base.specs.{Counts.{Counts, no_looks, hit, miss}, ViewEquality.{same_counts, counts_equality}};
 
 use std::marker::Model;
 

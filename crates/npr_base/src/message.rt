@@ -1,18 +1,16 @@
 //! Messages: a header of a fixed length, and attributes to the end.
 
-ghost use Rattle.{
-  std.specs.Prelude.{◌≡◌, ◌≢◌, ◌≤◌, ◌<◌, ◌*◌, ◌-◌, ℕ, List, None, [], length, drop, map, IfOk, IfErr, IsErrOf, OnErr},
-  npr_base.specs.{
-    declared.refusal.DecodeError.{DecodeError, TheVariants.{OutOfMemory, HeaderTooShort}},
-    Codec.{leading},
-    Counts.{AddsAtMostTwice, SawEach},
-    Family.{ReadsList, FirstFault, encodings, first_unfit, list_members},
-    Framing.{Item, Front},
-    Layout.{Layout},
-    Looks.{Answered},
-    Message.{Body, Message as Meant, view, IsMessage, MessageFault, MessageLooks, IsCoherent, spelling, message_misfit},
-    Table.{Writing, written_by, unfit_by},
-  },
+ghost use Rattle.std.specs.Prelude.{◌≡◌, ◌≢◌, ◌≤◌, ◌<◌, ◌*◌, ◌-◌, ℕ, List, None, [], length, drop, map, IfOk, IfErr, IsErrOf, OnErr};
+ghost use Rattle.npr_base.specs.{
+  declared.refusal.DecodeError.{DecodeError, TheVariants.{OutOfMemory, HeaderTooShort}},
+  Codec.{leading},
+  Counts.{AddsAtMostTwice, SawEach},
+  Family.{ReadsList, FirstFault, encodings, first_unfit, list_members},
+  Framing.{Item, Front},
+  Layout.{Layout},
+  Looks.{Answered},
+  Message.{Body, Message as Meant, view, IsMessage, MessageFault, MessageLooks, IsCoherent, spelling, message_misfit},
+  Table.{Writing, written_by, unfit_by},
 };
 
 use crate::attribute::Attribute;

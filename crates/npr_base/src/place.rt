@@ -1,6 +1,7 @@
 //! Places that values are put into, as they are read.
 
-ghost use Rattle.{std.specs.Prelude.{◌≡◌, ◌<◌, [], ◌∷◌, ◌++◌, Some, Ok, Err, IfOk, IfErr, vec_len, vec_capacity}, npr_base.specs.IpCodec.{ip}};
+ghost use Rattle.std.specs.Prelude.{◌≡◌, ◌<◌, [], ◌∷◌, ◌++◌, Some, Ok, Err, IfOk, IfErr, vec_len, vec_capacity};
+ghost use Rattle.npr_base.specs.IpCodec.{ip};
 
 use crate::ip::{IpAddr, Ipv6Addr};
 use crate::refusal::{At, DecodeError};

@@ -1,6 +1,7 @@
 //! Why bytes are refused, and why a value can't be written.
 
-ghost use Rattle.{std.specs.Prelude.{◌≡◌}, npr_base.specs.{declared.refusal.DecodeError.TheVariants.{OutOfMemory}, Refusal.{decode_name, emit_name}}};
+ghost use Rattle.std.specs.Prelude.{◌≡◌};
+ghost use Rattle.npr_base.specs.{declared.refusal.DecodeError.TheVariants.{OutOfMemory}, Refusal.{decode_name, emit_name}};
 
 use std::alloc::{AllocError, AllocFailed};
 use thiserror::Error;

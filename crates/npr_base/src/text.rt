@@ -1,6 +1,7 @@
 //! Parts of printed texts.
 
-ghost use Rattle.{std.specs.Fmt.{WritesOnOk, DisplaysOnOk}, npr_base.specs.Text.{each_after, joined_by, hex_text, padded_hex_text}};
+ghost use Rattle.std.specs.Fmt.{WritesOnOk, DisplaysOnOk};
+ghost use Rattle.npr_base.specs.Text.{each_after, joined_by, hex_text, padded_hex_text};
 
 use std::fmt;
 

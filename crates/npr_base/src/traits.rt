@@ -1,13 +1,11 @@
 //! What is parsed and what is emitted.
 
-ghost use Rattle.{
-  std.specs.Prelude.{◌≡◌, ◌≢◌, ◌≤◌, ℕ, List, Option, None, length, IfOk, IfErr},
-  npr_base.specs.{
-    declared.refusal.{EmitError.{EmitError}, DecodeError.{DecodeError, TheVariants.{OutOfMemory}}},
-    Framing.{Writes, encoding, framed},
-    Family.{checked, too_long},
-    Table.{Shape, shaped_item, shaped_misfit},
-  },
+ghost use Rattle.std.specs.Prelude.{◌≡◌, ◌≢◌, ◌≤◌, ℕ, List, Option, None, length, IfOk, IfErr};
+ghost use Rattle.npr_base.specs.{
+  declared.refusal.{EmitError.{EmitError}, DecodeError.{DecodeError, TheVariants.{OutOfMemory}}},
+  Framing.{Writes, encoding, framed},
+  Family.{checked, too_long},
+  Table.{Shape, shaped_item, shaped_misfit},
 };
 
 use crate::framing::{NLA_HEADER_SIZE, frame, framed_len, marked_kind};
@@ -67,8 +65,8 @@ pub trait Emitable {
     /// The bytes that are written.
     ghost bytes: { Self → List ℕ };
 
-    /// Why it can't be written, if so.
-    ghost unfit: { Self → Option EmitError };
+    /// Why it can't be written, if so. Without a word on it, it always can.
+    ghost unfit: { Self → Option EmitError } = { λ _. None };
 
     /// The length of the bytes, which is `buffer_len`, or the first cause why there are none.
     fn check(&self) -> Result<usize, EmitError>

@@ -1,10 +1,8 @@
 //! Lists of addresses of IP version 6, as routing headers have them (RFC 8754, RFC 6554): 16 bytes
 //! each, one after the other.
 
-ghost use Rattle.{
-  std.specs.{Prelude.{◌≡◌, ◌*◌, ◌%◌, ◌^◌, ◌<◌, ◌≤◌, ◌⊎◌, length, IfOk, IfErr}, List.{concat}},
-  npr_base.specs.{declared.refusal.DecodeError.TheVariants.{OutOfMemory}, Family.{AllOf}, Framing.{Writes}, V6List.{IsV6List}},
-};
+ghost use Rattle.std.specs.{Prelude.{◌≡◌, ◌*◌, ◌%◌, ◌^◌, ◌<◌, ◌≤◌, ◌⊎◌, length, IfOk, IfErr}, List.{concat}};
+ghost use Rattle.npr_base.specs.{declared.refusal.DecodeError.TheVariants.{OutOfMemory}, Family.{AllOf}, Framing.{Writes}, V6List.{IsV6List}};
 
 use crate::ip::Ipv6Addr;
 use crate::refusal::DecodeError;

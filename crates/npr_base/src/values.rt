@@ -1,18 +1,16 @@
 //! Values of attributes: numbers, bytes and names.
 
-ghost use Rattle.{
-  std.specs.{Prelude.{◌≡◌, ◌≢◌, ◌≤◌, ◌+◌, length, IfOk, IfErr}, String.{string_bytes}},
-  npr_base.specs.{
-    declared.refusal.DecodeError.TheVariants.{OutOfMemory},
-    Framing.{Writes},
-    Layout.{byte, le16, le32, le64, be16, be32, be64, signed32, boolean, octets},
-    Codec.{exactly, leading, raw},
-    Ip.{octets_of},
-    IpCodec.{ip},
-    Name.{name},
-    NameLaws.{IsUnterminated},
-    Refusal.{no_place},
-  },
+ghost use Rattle.std.specs.{Prelude.{◌≡◌, ◌≢◌, ◌≤◌, ◌+◌, length, IfOk, IfErr}, String.{string_bytes}};
+ghost use Rattle.npr_base.specs.{
+  declared.refusal.DecodeError.TheVariants.{OutOfMemory},
+  Framing.{Writes},
+  Layout.{byte, le16, le32, le64, be16, be32, be64, signed32, boolean, octets},
+  Codec.{exactly, leading, raw},
+  Ip.{octets_of},
+  IpCodec.{ip},
+  Name.{name},
+  NameLaws.{IsUnterminated},
+  Refusal.{no_place},
 };
 
 use crate::ip::{IpAddr, Ipv4Addr, Ipv6Addr};

@@ -1,9 +1,7 @@
 //! What a call for canonical bytes answers, and the numbers of refusals and causes.
 
-ghost use Rattle.{
-  std.specs.Prelude.{◌≡◌},
-  npr_c.specs.{Answers.{refused_answer, short_answer, unfit_answer, written_answer}, Numbers.{cause_number, refusal_number}},
-};
+ghost use Rattle.std.specs.Prelude.{◌≡◌};
+ghost use Rattle.npr_c.specs.{Answers.{refused_answer, short_answer, unfit_answer, written_answer}, Numbers.{cause_number, refusal_number}};
 
 use netlink_packet_route::framing::{DecodeError, EmitError};
 

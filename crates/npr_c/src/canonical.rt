@@ -1,7 +1,7 @@
 //! Canonical bytes of given bytes, into a given buffer.
 
+ghost use Rattle.std.specs.Prelude.{◌≡◌, ◌≢◌, ◌≤◌, ◌*◌, ℕ, List, length, drop};
 ghost use Rattle.{
-  std.specs.Prelude.{◌≡◌, ◌≢◌, ◌≤◌, ◌*◌, ℕ, List, length, drop},
   netlink_packet_route.specs.{
     AddressMessage.{IsAddressMessage, AddressFault, address_bytes, address_misfit},
     Framing.{Item, Front},

@@ -1,6 +1,7 @@
 //! One step over the messages of a datagram.
 
-ghost use Rattle.{std.specs.Prelude.{◌≡◌}, npr_c.specs.Envelopes.{EnvelopesAt, envelope_number}};
+ghost use Rattle.std.specs.Prelude.{◌≡◌};
+ghost use Rattle.npr_c.specs.Envelopes.{EnvelopesAt, envelope_number};
 
 use netlink_packet_core::{EnvelopeError, NETLINK_HEADER_LEN, NetlinkIterator};
 

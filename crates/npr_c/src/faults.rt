@@ -1,7 +1,7 @@
 //! Whether bytes are a message, and what is wrong with them.
 
+ghost use Rattle.std.specs.Prelude.{◌≡◌, ℕ, List, drop};
 ghost use Rattle.{
-  std.specs.Prelude.{◌≡◌, ℕ, List, drop},
   netlink_packet_route.specs.{
     AddressMessage.{IsAddressMessage, AddressFault},
     Framing.{Item, Front},

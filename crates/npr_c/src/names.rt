@@ -1,7 +1,7 @@
 //! The names of refusals and causes, by their numbers.
 
+ghost use Rattle.std.specs.Prelude.{◌≡◌, ◌≤◌, ◌<◌, length};
 ghost use Rattle.{
-  std.specs.Prelude.{◌≡◌, ◌≤◌, ◌<◌, length},
   netlink_packet_route.specs.{Refusal.{decode_name, emit_name}, declared.framing.{DecodeError.{DecodeError}, EmitError.{EmitError}}},
   netlink_packet_core.specs.declared.refusal.EnvelopeError.{EnvelopeError},
   npr_c.specs.{Envelopes.{envelope_name, envelope_number}, Names.{Puts, cause_name, refusal_name}, Numbers.{cause_number, refusal_number}},

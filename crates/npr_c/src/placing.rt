@@ -1,7 +1,7 @@
 //! Where in a message the first fault stands: its attributes are read one after the other.
 
+ghost use Rattle.std.{specs.Prelude.{◌≡◌, ◌≢◌, ◌≤◌, ◌<◌, ◌⊎◌, ◌+◌, ℕ, List, [], Some, Err, length, drop, IfOk, IfErr}, proofs.Common.{subst}};
 ghost use Rattle.{
-  std.{specs.Prelude.{◌≡◌, ◌≢◌, ◌≤◌, ◌<◌, ◌⊎◌, ◌+◌, ℕ, List, [], Some, Err, length, drop, IfOk, IfErr}, proofs.Common.{subst}},
   netlink_packet_route.specs.{
     AddressAttribute.{attributes as address_attributes},
     Attributes.{AttributeStep, AttributeSteps},

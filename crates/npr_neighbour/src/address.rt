@@ -1,7 +1,7 @@
 //! The addresses of neighbours.
 
+ghost use Rattle.std.specs.Prelude.{◌≡◌, ◌≢◌, ◌≤◌, length, IfOk, IfErr};
 ghost use Rattle.{
-  std.specs.Prelude.{◌≡◌, ◌≢◌, ◌≤◌, None, length, IfOk, IfErr},
   npr_base.specs.{declared.refusal.DecodeError.TheVariants.{OutOfMemory}, Framing.{Writes}, Refusal.{no_place}},
   npr_neighbour.specs.{
     NeighbourAddress.{address_of, address_bytes, address_of_ip, neighbour_address},
@@ -126,8 +126,6 @@ impl From<IpAddr> for NeighbourAddress {
 
 impl Emitable for NeighbourAddress {
     ghost bytes = { λ a. address_bytes (address_of a) };
-
-    ghost unfit = { λ _. None };
 
     fn check(&self) -> Result<usize, EmitError> {
         Ok(self.len())

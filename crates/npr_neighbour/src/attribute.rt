@@ -1,6 +1,7 @@
 //! The attributes of a neighbour message: `NDA_*` of `linux/neighbour.h`.
 
-ghost use Rattle.{std.{specs.Prelude.{◌≡◌, IfOk}, proofs.Common.{refl}}, npr_neighbour.specs.Attribute.{Meaning, meaning_of, writing, attributes}};
+ghost use Rattle.std.{specs.Prelude.{◌≡◌, IfOk}, proofs.Common.{refl}};
+ghost use Rattle.npr_neighbour.specs.Attribute.{Meaning, meaning_of, writing, attributes};
 
 use crate::address::NeighbourAddress;
 use crate::cache_info::NeighbourCacheInfo;

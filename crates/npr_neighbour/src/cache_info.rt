@@ -1,10 +1,7 @@
 //! What the kernel remembers of a neighbour: `struct nda_cacheinfo` of `linux/neighbour.h`.
 
-ghost use Rattle.{
-  std.specs.Prelude.{◌≡◌, ◌<◌, None, IfOk, IfErr},
-  npr_base.specs.{Codec.{leading}, Refusal.{no_place}},
-  npr_neighbour.specs.CacheInfo.{cache_info},
-};
+ghost use Rattle.std.specs.Prelude.{◌≡◌, ◌<◌, IfOk, IfErr};
+ghost use Rattle.{npr_base.specs.{Codec.{leading}, Refusal.{no_place}}, npr_neighbour.specs.CacheInfo.{cache_info}};
 
 use npr_base::{DecodeError, EmitError, Emitable, leading_octets, write_array};
 
@@ -67,8 +64,6 @@ impl<'a> From<&'a NeighbourCacheInfo> for NeighbourCacheInfoBuffer {
 
 impl Emitable for NeighbourCacheInfo {
     ghost bytes = { cache_info.encode };
-
-    ghost unfit = { λ _. None };
 
     fn check(&self) -> Result<usize, EmitError> {
         Ok(16)

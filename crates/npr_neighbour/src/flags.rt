@@ -1,6 +1,7 @@
 //! What a neighbour is besides: `NTF_*` of `linux/neighbour.h`. Every bit is kept.
 
-ghost use Rattle.{std.specs.Prelude.{⊤, [], ◌∷◌, codes}, npr_neighbour.specs.Flags.{flags_bits, extended_flags_bits}};
+ghost use Rattle.std.specs.Prelude.{⊤, [], ◌∷◌, codes};
+ghost use Rattle.npr_neighbour.specs.Flags.{flags_bits, extended_flags_bits};
 
 use bitflags::{Flag, Flags};
 use npr_base::named_flags;

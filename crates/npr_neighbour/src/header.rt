@@ -1,10 +1,7 @@
 //! The header of a neighbour message: `struct ndmsg` of `linux/neighbour.h`.
 
-ghost use Rattle.{
-  std.specs.Prelude.{◌≡◌, ◌≤◌, ◌<◌, None, length, IfOk, IfErr},
-  npr_base.specs.{Codec.{leading}, Refusal.{no_place}},
-  npr_neighbour.specs.Header.{header_buffer, header, buffer_of},
-};
+ghost use Rattle.std.specs.Prelude.{◌≡◌, ◌≤◌, ◌<◌, length, IfOk, IfErr};
+ghost use Rattle.{npr_base.specs.{Codec.{leading}, Refusal.{no_place}}, npr_neighbour.specs.Header.{header_buffer, header, buffer_of}};
 
 use crate::flags::NeighbourFlags;
 use crate::state::NeighbourState;
@@ -126,8 +123,6 @@ impl NeighbourHeader {
 
 impl Emitable for NeighbourHeader {
     ghost bytes = { header.encode };
-
-    ghost unfit = { λ _. None };
 
     fn check(&self) -> Result<usize, EmitError> {
         Ok(12)

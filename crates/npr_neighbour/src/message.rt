@@ -1,7 +1,7 @@
 //! Neighbour messages: `RTM_NEWNEIGH`, `RTM_DELNEIGH` and `RTM_GETNEIGH`, without the envelope.
 
+ghost use Rattle.std.{specs.Prelude.{◌≡◌, refl, map}, proofs.Common.{rules, subst}};
 ghost use Rattle.{
-  std.{specs.Prelude.{◌≡◌, refl, map}, proofs.Common.{rules, subst}},
   npr_base.specs.Family.{ReadsList, FirstFault},
   npr_neighbour.specs.{Attribute.{Meaning, meaning_of, writing, attributes}, Header.{default_header, header}, Message.{body}},
 };

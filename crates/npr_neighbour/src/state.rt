@@ -1,6 +1,7 @@
 //! How far a neighbour is known: `NUD_*` of `linux/neighbour.h`. Every bit is kept.
 
-ghost use Rattle.{std.specs.Prelude.{⊤, [], ◌∷◌, codes}, npr_neighbour.specs.State.{state_bits}};
+ghost use Rattle.std.specs.Prelude.{⊤, [], ◌∷◌, codes};
+ghost use Rattle.npr_neighbour.specs.State.{state_bits};
 
 use bitflags::{Flag, Flags};
 use npr_base::named_flags;

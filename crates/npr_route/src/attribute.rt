@@ -1,9 +1,7 @@
 //! The attributes of a route message: `RTA_*` of `linux/rtnetlink.h`.
 
-ghost use Rattle.{
-  std.{specs.Prelude.{◌≡◌, IfOk}, proofs.Common.{refl}},
-  npr_route.specs.{Attribute.{Meaning}, AttributeView.{meaning_of}, AttributeLaws.{writing, attributes}},
-};
+ghost use Rattle.std.{specs.Prelude.{◌≡◌, IfOk}, proofs.Common.{refl}};
+ghost use Rattle.npr_route.specs.{Attribute.{Meaning}, AttributeView.{meaning_of}, AttributeLaws.{writing, attributes}};
 
 use crate::descent::{check_inside, clone_attribute, is_marked, write_value};
 use crate::metrics::RouteMetric;

@@ -1,8 +1,8 @@
 //! What goes down attributes and next hops, which hold each other: measuring, writing and copying, in
 //! plain functions.
 
+ghost use Rattle.std.specs.Prelude.{◌≡◌, ◌≤◌, ◌<◌, ◌+◌, None, length, IfOk, OnErr, map};
 ghost use Rattle.{
-  std.specs.Prelude.{◌≡◌, ◌≤◌, ◌<◌, ◌+◌, None, length, IfOk, OnErr, map},
   npr_base.specs.{Family.{checked, option_or, overlong, first_unfit, list_unfit, encodings}, Framing.{Writes, encoding, framed}},
   npr_route.specs.{
     Attribute.{shape_of, misfit, hop_misfit, hop_bytes, hop_overlong},

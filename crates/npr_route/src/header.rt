@@ -1,10 +1,7 @@
 //! The header of a route message: `struct rtmsg` of `linux/rtnetlink.h`.
 
-ghost use Rattle.{
-  std.specs.Prelude.{◌≡◌, ◌≤◌, ◌<◌, None, length, IfOk, IfErr},
-  npr_base.specs.{Codec.{leading}, Refusal.{no_place}},
-  npr_route.specs.Header.{header_buffer, header, buffer_of},
-};
+ghost use Rattle.std.specs.Prelude.{◌≡◌, ◌≤◌, ◌<◌, length, IfOk, IfErr};
+ghost use Rattle.{npr_base.specs.{Codec.{leading}, Refusal.{no_place}}, npr_route.specs.Header.{header_buffer, header, buffer_of}};
 
 use bitflags::Flags;
 use npr_base::{AddressFamily, DecodeError, EmitError, Emitable, leading_octets, write_array};
@@ -152,8 +149,6 @@ impl RouteHeader {
 
 impl Emitable for RouteHeader {
     ghost bytes = { header.encode };
-
-    ghost unfit = { λ _. None };
 
     fn check(&self) -> Result<usize, EmitError> {
         Ok(12)

@@ -1,8 +1,8 @@
 //! The laws of route messages, over their definitions alone. Each function does nothing, and its
 //! contract is the law.
 
+ghost use Rattle.std.specs.Prelude.{true, false, ◌-◌, ◌≡◌, ◌≤◌, ◌+◌, ◌*◌, ℕ, List, None, length, max};
 ghost use Rattle.{
-  std.specs.Prelude.{true, false, ◌-◌, ◌≡◌, ◌≤◌, ◌+◌, ◌*◌, ℕ, List, None, length, max},
   npr_base.specs.{
     Equality.{IsEquality, IsEqualityOf},
     declared.refusal.DecodeError.{DecodeError},

@@ -1,7 +1,7 @@
 //! Lists of route attributes: the type that governs them is found first, and then they are read.
 
+ghost use Rattle.std.specs.Prelude.{◌≡◌, ◌≢◌, ℕ, List, [], length, map, IfOk, IfErr, IsErrOf};
 ghost use Rattle.{
-  std.specs.Prelude.{◌≡◌, ◌≢◌, ℕ, List, [], length, map, IfOk, IfErr, IsErrOf},
   npr_base.specs.{
     declared.refusal.DecodeError.TheVariants.{OutOfMemory},
     Counts.{AddsAtMostTwice, SawEach},

@@ -1,7 +1,7 @@
 //! Route messages: `RTM_NEWROUTE`, `RTM_DELROUTE` and `RTM_GETROUTE`, without the envelope.
 
+ghost use Rattle.std.{specs.Prelude.{◌≡◌, refl, map}, proofs.Common.{rules, subst}};
 ghost use Rattle.{
-  std.{specs.Prelude.{◌≡◌, refl, map}, proofs.Common.{rules, subst}},
   npr_base.specs.Family.{ReadsList, FirstFault},
   npr_tunnel.specs.declared.encap_type.RouteLwEnCapType.{RouteLwEnCapType, TheVariants.{None as NoEncapsulation}},
   npr_route.specs.{

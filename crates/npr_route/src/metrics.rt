@@ -1,6 +1,7 @@
 //! The metrics of a route: `RTAX_*` of `linux/rtnetlink.h`.
 
-ghost use Rattle.{std.{specs.Prelude.{◌≡◌, ◌<◌, ◌*◌, IfOk}, proofs.Common.{refl}}, npr_route.specs.Metric.{Metric, metric_of, writing, metrics}};
+ghost use Rattle.std.{specs.Prelude.{◌≡◌, ◌<◌, ◌*◌, IfOk}, proofs.Common.{refl}};
+ghost use Rattle.npr_route.specs.Metric.{Metric, metric_of, writing, metrics};
 
 use npr_base::{
     AttrFamily, Attribute, DecodeError, DefaultNla, EmitError, Looks, Nla, NlaBuffer, Parseable,

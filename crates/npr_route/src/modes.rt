@@ -1,8 +1,8 @@
 //! Values of an older table of SEG6 modes, brought up to the table of today. It goes down as
 //! checking and writing do, and takes no memory.
 
+ghost use Rattle.std.specs.Prelude.{◌≡◌, map, Vec};
 ghost use Rattle.{
-  std.specs.Prelude.{◌≡◌, map, Vec},
   npr_tunnel.specs.Encapsulation.{meaning_of as member_of, normalized as normalized_member},
   npr_route.specs.{Attribute.{normalized, normalized_hop}, AttributeView.{meaning_of, hop_of}, Message.{message_of, normalized_route}},
 };

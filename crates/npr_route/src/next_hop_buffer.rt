@@ -1,7 +1,7 @@
 //! The header of a next hop: `struct rtnexthop` of `linux/rtnetlink.h`.
 
+ghost use Rattle.std.specs.Prelude.{◌≡◌, ◌≤◌, None, length, IfOk, IfErr};
 ghost use Rattle.{
-  std.specs.Prelude.{◌≡◌, ◌≤◌, None, length, IfOk, IfErr},
   npr_base.specs.{Codec.{leading}, Refusal.{no_place}},
   npr_route.specs.{
     Attribute.{HopFault},

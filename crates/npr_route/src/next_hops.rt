@@ -1,10 +1,8 @@
 //! Next hops of a route by several paths: `struct rtnexthop` of `linux/rtnetlink.h`. They hold
 //! attributes, which may be next hops again.
 
-ghost use Rattle.{
-  std.specs.Prelude.{◌≡◌, ◌<◌, length, IfOk, OnErr},
-  npr_route.specs.{Attribute.{default_hop}, AttributeView.{hop_of, next_hop_bytes, next_hop_misfit}},
-};
+ghost use Rattle.std.specs.Prelude.{◌≡◌, ◌<◌, length, IfOk, OnErr};
+ghost use Rattle.npr_route.specs.{Attribute.{default_hop}, AttributeView.{hop_of, next_hop_bytes, next_hop_misfit}};
 
 use crate::attribute::RouteAttribute;
 use crate::descent::{check_hop, clone_hop, write_hop};

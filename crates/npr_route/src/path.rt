@@ -1,7 +1,7 @@
 //! What is asked most of a route and of a next hop, and built most, without the name of a variant.
 
+ghost use Rattle.std.specs.Prelude.{◌≡◌, List, map, option_map, IfOk};
 ghost use Rattle.{
-  std.specs.Prelude.{◌≡◌, List, map, option_map, IfOk},
   npr_route.specs.{
     Attribute.{flat, multi_path},
     AttributeView.{meaning_of, hop_of, hops_of},

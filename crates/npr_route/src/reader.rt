@@ -1,7 +1,7 @@
 //! Reading of next hops, by a loop and a stack: they alone nest without bound.
 
+ghost use Rattle.std.specs.Prelude.{◌≡◌, ◌≢◌, ◌<◌, ◌+◌, ◌++◌, ℕ, List, [], ◌∷◌, true, false, IsTrue, length, map, IfOk, IfErr, OnOk, OnErr, IsErrOf, MatchOption};
 ghost use Rattle.{
-  std.specs.Prelude.{◌≡◌, ◌≢◌, ◌<◌, ◌+◌, ◌++◌, ℕ, List, [], ◌∷◌, true, false, IsTrue, length, map, IfOk, IfErr, OnOk, OnErr, IsErrOf, MatchOption},
   npr_base.specs.{declared.refusal.DecodeError.TheVariants.{OutOfMemory}, Counts.{AddsAtMost, SawEach, hit, miss}, Looks.{Answered}},
   npr_route.specs.{
     Attribute.{HopHead, HopFront, HopFault, Hop, IsHop, HopWrong, Hops, AreHops, HopsWrong, hops_members},

@@ -1,7 +1,7 @@
 //! The rows of route attributes: their list, those that stand beside it, and how each is read.
 
+ghost use Rattle.std.specs.Prelude.{true, false, ◌≡◌, ◌≢◌, [], ◌∷◌, ◌++◌, length, IfOk, IfErr, IsOk};
 ghost use Rattle.{
-  std.specs.Prelude.{true, false, ◌≡◌, ◌≢◌, [], ◌∷◌, ◌++◌, length, IfOk, IfErr, IsOk},
   npr_base.specs.{
     Counts.{AddsAtMost, SawEach},
     Framing.{number_of},

@@ -1,6 +1,7 @@
 //! What a rule does: `FR_ACT_*` of `linux/fib_rules.h`.
 
-ghost use Rattle.{std.specs.Prelude.{◌≡◌}, npr_rule.specs.Action.{action_of, action_number}};
+ghost use Rattle.std.specs.Prelude.{◌≡◌};
+ghost use Rattle.npr_rule.specs.Action.{action_of, action_number};
 
 use npr_base::{number_of_variant, variant_of_number};
 

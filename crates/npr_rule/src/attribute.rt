@@ -1,7 +1,7 @@
 //! The attributes of a rule message: `FRA_*` of `linux/fib_rules.h`.
 
+ghost use Rattle.std.{specs.Prelude.{◌≡◌, ◌≢◌, ◌<◌, ◌*◌, None, IfOk, IfErr}, proofs.Common.{refl}};
 ghost use Rattle.{
-  std.{specs.Prelude.{◌≡◌, ◌≢◌, ◌<◌, ◌*◌, None, IfOk, IfErr}, proofs.Common.{refl}},
   npr_base.specs.{Family.{checked}, declared.refusal.DecodeError.TheVariants.{OutOfMemory}},
   npr_scalar.specs.IpProtocol.{above_zero, ip_protocol_number},
   npr_rule.specs.{IpProtocolByte.{protocol_misfit}, Attribute.{Meaning, meaning_of, writing, attributes}},

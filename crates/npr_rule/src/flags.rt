@@ -1,6 +1,7 @@
 //! The flags of a rule: `FIB_RULE_*` of `linux/fib_rules.h`. Every bit is kept.
 
-ghost use Rattle.{std.specs.Prelude.{⊤, [], ◌∷◌, codes}, npr_rule.specs.Flags.{rule_flags_bits}};
+ghost use Rattle.std.specs.Prelude.{⊤, [], ◌∷◌, codes};
+ghost use Rattle.npr_rule.specs.Flags.{rule_flags_bits};
 
 use bitflags::{Flag, Flags};
 use npr_base::named_flags;

@@ -1,10 +1,7 @@
 //! The header of a rule message: `struct fib_rule_hdr` of `linux/fib_rules.h`.
 
-ghost use Rattle.{
-  std.specs.Prelude.{◌≡◌, ◌≤◌, ◌<◌, None, length, IfOk, IfErr},
-  npr_base.specs.{Codec.{leading}, Refusal.{no_place}},
-  npr_rule.specs.Header.{header_buffer, header, buffer_of},
-};
+ghost use Rattle.std.specs.Prelude.{◌≡◌, ◌≤◌, ◌<◌, length, IfOk, IfErr};
+ghost use Rattle.{npr_base.specs.{Codec.{leading}, Refusal.{no_place}}, npr_rule.specs.Header.{header_buffer, header, buffer_of}};
 
 use crate::action::RuleAction;
 use crate::flags::RuleFlags;
@@ -141,8 +138,6 @@ impl RuleHeader {
 
 impl Emitable for RuleHeader {
     ghost bytes = { header.encode };
-
-    ghost unfit = { λ _. None };
 
     fn check(&self) -> Result<usize, EmitError> {
         Ok(12)

@@ -1,8 +1,8 @@
 //! The laws of rule messages, over their definitions alone. Each function does nothing, and its
 //! contract is the law.
 
+ghost use Rattle.std.specs.Prelude.{◌≡◌, ◌^◌, ◌-◌, ℕ, List, length};
 ghost use Rattle.{
-  std.specs.Prelude.{◌≡◌, ◌^◌, ◌-◌, ℕ, List, length},
   npr_base.specs.{Counts.{Counts, AddsAtMostTwice, SawEach}, Equality.{IsEquality, IsEqualityOf}, Family.{list_members}, Message.{MessageLooks}},
   npr_rule.specs.{
     Action.{action_of, action_number},

@@ -1,9 +1,7 @@
 //! Rule messages: `RTM_NEWRULE`, `RTM_DELRULE` and `RTM_GETRULE`, without the envelope.
 
-ghost use Rattle.{
-  std.{specs.Prelude.{refl}, proofs.Common.{rules}},
-  npr_rule.specs.{Attribute.{Meaning, meaning_of, writing}, Header.{default_header, header}, Message.{body}},
-};
+ghost use Rattle.std.{specs.Prelude.{refl}, proofs.Common.{rules}};
+ghost use Rattle.npr_rule.specs.{Attribute.{Meaning, meaning_of, writing}, Header.{default_header, header}, Message.{body}};
 
 use crate::attribute::RuleAttribute;
 use crate::header::RuleHeader;

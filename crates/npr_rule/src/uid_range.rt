@@ -1,6 +1,7 @@
 //! A range of users: `struct fib_rule_uid_range` of `linux/fib_rules.h`.
 
-ghost use Rattle.{std.specs.Prelude.{◌≡◌, ◌<◌, None, IfOk, IfErr}, npr_base.specs.{Codec.{exactly}, Refusal.{no_place}}, npr_rule.specs.UidRange.{uid_range}};
+ghost use Rattle.std.specs.Prelude.{◌≡◌, ◌<◌, IfOk, IfErr};
+ghost use Rattle.{npr_base.specs.{Codec.{exactly}, Refusal.{no_place}}, npr_rule.specs.UidRange.{uid_range}};
 
 use npr_base::{At, DecodeError, EmitError, Emitable, read_octets, write_array};
 
@@ -52,8 +53,6 @@ impl RuleUidRange {
 
 impl Emitable for RuleUidRange {
     ghost bytes = { uid_range.encode };
-
-    ghost unfit = { λ _. None };
 
     fn check(&self) -> Result<usize, EmitError> {
         Ok(8)

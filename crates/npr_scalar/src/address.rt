@@ -1,7 +1,7 @@
 //! The addresses of routes.
 
+ghost use Rattle.std.specs.Prelude.{◌≡◌, ◌≢◌, ◌≤◌, length, IfOk, IfErr};
 ghost use Rattle.{
-  std.specs.Prelude.{◌≡◌, ◌≢◌, ◌≤◌, None, length, IfOk, IfErr},
   npr_base.specs.{declared.refusal.DecodeError.TheVariants.{OutOfMemory}, Framing.{Writes}, Refusal.{no_place}},
   npr_scalar.specs.{
     RouteAddress.{address_of, route_address_bytes, address_of_ip, route_address},
@@ -148,8 +148,6 @@ impl From<MplsLabel> for RouteAddress {
 
 impl Emitable for RouteAddress {
     ghost bytes = { λ a. route_address_bytes (address_of a) };
-
-    ghost unfit = { λ _. None };
 
     fn check(&self) -> Result<usize, EmitError> {
         Ok(self.len())

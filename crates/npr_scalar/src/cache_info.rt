@@ -1,10 +1,7 @@
 //! What the kernel remembers of a route: `struct rta_cacheinfo` of `linux/rtnetlink.h`.
 
-ghost use Rattle.{
-  std.specs.Prelude.{◌≡◌, None, IfOk, IfErr},
-  npr_base.specs.{Codec.{leading}, Refusal.{no_place}},
-  npr_scalar.specs.RouteCacheInfo.{route_cache_info},
-};
+ghost use Rattle.std.specs.Prelude.{◌≡◌, IfOk, IfErr};
+ghost use Rattle.{npr_base.specs.{Codec.{leading}, Refusal.{no_place}}, npr_scalar.specs.RouteCacheInfo.{route_cache_info}};
 
 use npr_base::{DecodeError, EmitError, Emitable, leading_octets, write_array};
 
@@ -83,8 +80,6 @@ impl<'a> From<&'a RouteCacheInfo> for RouteCacheInfoBuffer {
 
 impl Emitable for RouteCacheInfo {
     ghost bytes = { route_cache_info.encode };
-
-    ghost unfit = { λ _. None };
 
     fn check(&self) -> Result<usize, EmitError> {
         Ok(32)

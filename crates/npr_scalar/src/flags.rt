@@ -1,10 +1,7 @@
 //! The flags of routes and next hops: `RTNH_F_*` and `RTM_F_*` of `linux/rtnetlink.h`.
 
-ghost use Rattle.{
-  std.specs.{Prelude.{⊤, [], ◌∷◌, ◌++◌, codes, map, Some, if◌then◌else◌}, Fmt.{DisplaysOnOk, WritesOnOk}},
-  npr_base.specs.Text.{joined_by},
-  npr_scalar.specs.RouteFlags.{route_flags_bits, next_hop_flags_bits, next_hop_flags_text, names_set},
-};
+ghost use Rattle.std.specs.{Prelude.{⊤, [], ◌∷◌, ◌++◌, codes, map, Some, if◌then◌else◌}, Fmt.{DisplaysOnOk, WritesOnOk}};
+ghost use Rattle.{npr_base.specs.Text.{joined_by}, npr_scalar.specs.RouteFlags.{route_flags_bits, next_hop_flags_bits, next_hop_flags_text, names_set}};
 
 use bitflags::{Flag, Flags};
 use npr_base::named_flags;

@@ -1,6 +1,7 @@
 //! Protocols over IP: `IPPROTO_*` of `linux/in.h`.
 
-ghost use Rattle.{std.specs.Prelude.{◌≡◌, pos}, npr_scalar.specs.IpProtocol.{ip_protocol_of, ip_protocol_number, byte_of}};
+ghost use Rattle.std.specs.Prelude.{◌≡◌, pos};
+ghost use Rattle.npr_scalar.specs.IpProtocol.{ip_protocol_of, ip_protocol_number, byte_of};
 
 use npr_base::{number_of_variant, variant_of_number};
 

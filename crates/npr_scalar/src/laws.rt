@@ -1,7 +1,7 @@
 //! The laws of this crate. Each function does nothing, and its contract is the law.
 
+ghost use Rattle.std.specs.Prelude.{◌≡◌, ◌*◌, ◌<◌, ◌^◌, ◌↔◌, ℕ, ℤ, List, length};
 ghost use Rattle.{
-  std.specs.Prelude.{◌≡◌, ◌*◌, ◌<◌, ◌^◌, ◌↔◌, ℕ, ℤ, List, length},
   npr_base.specs.Equality.{IsEquality, IsEqualityOf},
   npr_scalar.specs.{
     IpProtocol.{ip_protocol, ip_protocol_of, ip_protocol_number},

@@ -1,10 +1,7 @@
 //! How much a multicast route forwarded: `struct rta_mfc_stats` of `linux/rtnetlink.h`.
 
-ghost use Rattle.{
-  std.specs.Prelude.{◌≡◌, None, IfOk, IfErr},
-  npr_base.specs.{Codec.{leading}, Refusal.{no_place}},
-  npr_scalar.specs.RouteMfcStats.{route_mfc_stats},
-};
+ghost use Rattle.std.specs.Prelude.{◌≡◌, IfOk, IfErr};
+ghost use Rattle.{npr_base.specs.{Codec.{leading}, Refusal.{no_place}}, npr_scalar.specs.RouteMfcStats.{route_mfc_stats}};
 
 use npr_base::{DecodeError, EmitError, Emitable, leading_octets, write_array};
 
@@ -63,8 +60,6 @@ impl<'a> From<&'a RouteMfcStats> for RouteMfcStatsBuffer {
 
 impl Emitable for RouteMfcStats {
     ghost bytes = { route_mfc_stats.encode };
-
-    ghost unfit = { λ _. None };
 
     fn check(&self) -> Result<usize, EmitError> {
         Ok(24)

@@ -1,7 +1,7 @@
 //! Entries of a label stack of MPLS (RFC 3032, section 2.1).
 
+ghost use Rattle.std.specs.Prelude.{◌≡◌, ◌≤◌, length, IfOk, IfErr, IsErr};
 ghost use Rattle.{
-  std.specs.Prelude.{◌≡◌, ◌≤◌, None, length, IfOk, IfErr, IsErr},
   npr_base.specs.{Codec.{exactly}, Framing.{Writes}, Refusal.{no_place}, declared.refusal.DecodeError.TheVariants.{OutOfMemory}},
   npr_scalar.specs.{Mpls.{label_of, label_number}, MplsLaws.{mpls_label, mpls_labels}},
 };
@@ -65,8 +65,6 @@ impl MplsLabel {
 
 impl Emitable for MplsLabel {
     ghost bytes = { mpls_label.encode };
-
-    ghost unfit = { λ _. None };
 
     fn check(&self) -> Result<usize, EmitError> {
         Ok(4)

@@ -1,9 +1,7 @@
 //! The preference of a router's route, and whether a TTL goes on through a label.
 
-ghost use Rattle.{
-  std.specs.Prelude.{◌≡◌},
-  npr_scalar.specs.{RoutePreference.{route_preference_of, route_preference_number}, TtlPropagation.{ttl_propagation_of, ttl_propagation_number}},
-};
+ghost use Rattle.std.specs.Prelude.{◌≡◌};
+ghost use Rattle.npr_scalar.specs.{RoutePreference.{route_preference_of, route_preference_number}, TtlPropagation.{ttl_propagation_of, ttl_propagation_number}};
 
 /// The preference of a router (RFC 4191, section 2.1):
 /// `ICMPV6_ROUTER_PREF_*` of `linux/icmpv6.h`.

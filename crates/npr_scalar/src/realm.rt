@@ -1,10 +1,7 @@
 //! The realms of a route: the value of `RTA_FLOW` of `linux/rtnetlink.h`.
 
-ghost use Rattle.{
-  std.specs.Prelude.{◌≡◌, None, IfOk, IfErr},
-  npr_base.specs.{Codec.{exactly}, Refusal.{no_place}},
-  npr_scalar.specs.Realm.{realm_of, realm_number, route_realm},
-};
+ghost use Rattle.std.specs.Prelude.{◌≡◌, IfOk, IfErr};
+ghost use Rattle.{npr_base.specs.{Codec.{exactly}, Refusal.{no_place}}, npr_scalar.specs.Realm.{realm_of, realm_number, route_realm}};
 
 use npr_base::{At, DecodeError, EmitError, Emitable, read_u32, write_array};
 
@@ -54,8 +51,6 @@ impl RouteRealm {
 
 impl Emitable for RouteRealm {
     ghost bytes = { route_realm.encode };
-
-    ghost unfit = { λ _. None };
 
     fn check(&self) -> Result<usize, EmitError> {
         Ok(4)

@@ -1,7 +1,7 @@
 //! Who made a route, and the numbers of that (`linux/rtnetlink.h`).
 
+ghost use Rattle.std.specs.Prelude.{◌≡◌, Some, IfOk, IfErr};
 ghost use Rattle.{
-  std.specs.Prelude.{◌≡◌, Some, None, IfOk, IfErr},
   npr_base.specs.{Codec.{exactly}, Refusal.{no_place}},
   npr_scalar.specs.RouteProtocol.{route_protocol, route_protocol_of, route_protocol_number, route_protocol_text},
 };
@@ -108,8 +108,6 @@ impl RouteProtocol {
 
 impl Emitable for RouteProtocol {
     ghost bytes = { route_protocol.encode };
-
-    ghost unfit = { λ _. None };
 
     fn check(&self) -> Result<usize, EmitError> {
         Ok(1)

@@ -1,6 +1,7 @@
 //! How far the destination of a route is, and the numbers of that (`linux/rtnetlink.h`).
 
-ghost use Rattle.{std.specs.Prelude.{◌≡◌, Some}, npr_scalar.specs.RouteScope.{route_scope_of, route_scope_number, route_scope_text}};
+ghost use Rattle.std.specs.Prelude.{◌≡◌, Some};
+ghost use Rattle.npr_scalar.specs.RouteScope.{route_scope_of, route_scope_number, route_scope_text};
 
 use npr_base::{number_of_variant, variant_of_number, write_variant};
 use std::fmt;

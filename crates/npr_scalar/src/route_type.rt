@@ -1,6 +1,7 @@
 //! What becomes of a packet on a route, and the numbers of that (`linux/rtnetlink.h`).
 
-ghost use Rattle.{std.specs.Prelude.{◌≡◌}, npr_scalar.specs.RouteType.{route_type_of, route_type_number}};
+ghost use Rattle.std.specs.Prelude.{◌≡◌};
+ghost use Rattle.npr_scalar.specs.RouteType.{route_type_of, route_type_number};
 
 use npr_base::{number_of_variant, variant_of_number};
 

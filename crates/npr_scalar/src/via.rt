@@ -1,7 +1,7 @@
 //! Gateways of a family of their own: `struct rtvia` of `linux/rtnetlink.h`.
 
+ghost use Rattle.std.specs.{Prelude.{◌≡◌, ◌≢◌, ◌≤◌, ◌+◌, length, ◌++◌, IfOk, IfErr}, Int.{w16, to_le_bytes}};
 ghost use Rattle.{
-  std.specs.{Prelude.{◌≡◌, ◌≢◌, ◌≤◌, ◌+◌, None, length, ◌++◌, IfOk, IfErr}, Int.{w16, to_le_bytes}},
   npr_base.specs.{
     AddressFamily.{family_number},
     declared.refusal.DecodeError.TheVariants.{OutOfMemory},
@@ -206,8 +206,6 @@ impl From<IpAddr> for RouteVia {
 
 impl Emitable for RouteVia {
     ghost bytes = { λ via. via_bytes (via_of via) };
-
-    ghost unfit = { λ _. None };
 
     fn check(&self) -> Result<usize, EmitError> {
         Ok(self.len())

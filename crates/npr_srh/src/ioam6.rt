@@ -1,7 +1,7 @@
 //! IOAM6: traces in packets (RFC 9197; `linux/ioam6.h` and `linux/ioam6_iptunnel.h`).
 
+ghost use Rattle.std.specs.{Prelude.{◌≡◌, ◌≢◌, IfOk, IfErr, IfSome, IfNone, refl, Some}, Fmt.{WritesOnOk}};
 ghost use Rattle.{
-  std.specs.{Prelude.{◌≡◌, ◌≢◌, IfOk, IfErr, IfSome, IfNone, refl, Some}, Fmt.{WritesOnOk}},
   npr_base.specs.{Table.{shape_at, held}, declared.refusal.DecodeError.TheVariants.{OutOfMemory}},
   npr_srh.specs.{
     Ioam6Mode.{ioam6_mode_of, ioam6_mode_number, ioam6_mode_text},

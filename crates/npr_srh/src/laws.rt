@@ -1,7 +1,7 @@
 //! The laws of this crate. Each function does nothing, and its contract is the law.
 
+ghost use Rattle.std.specs.Prelude.{◌≡◌, ℕ, false};
 ghost use Rattle.{
-  std.specs.Prelude.{◌≡◌, ℕ, false},
   npr_base.specs.Equality.{IsEquality, IsEqualityOf},
   npr_srh.specs.{
     Ioam6Mode.{ioam6_mode_of, ioam6_mode_number},

@@ -1,8 +1,8 @@
 //! RPL: source routes of a network of low power (RFC 6554; `linux/rpl.h` and
 //! `linux/rpl_iptunnel.h`).
 
+ghost use Rattle.std.specs.Prelude.{◌≡◌, ◌≤◌, ◌*◌, length, [], IfOk, IfErr, IfSome, IfNone, refl};
 ghost use Rattle.{
-  std.specs.Prelude.{◌≡◌, ◌≤◌, ◌*◌, length, [], IfOk, IfErr, IfSome, IfNone, refl},
   npr_base.specs.{Table.{shape_at, held}, declared.refusal.DecodeError.TheVariants.{OutOfMemory}},
   npr_srh.specs.{
     Headed.{IsUnread},

@@ -1,6 +1,7 @@
 //! SEG6: members of its tunnel (RFC 8754; `linux/seg6_iptunnel.h`).
 
-ghost use Rattle.{std.specs.Prelude.{◌≡◌, IfOk, refl}, npr_srh.specs.Seg6Tunnel.{Meaning, meaning_of, writing, attributes}};
+ghost use Rattle.std.specs.Prelude.{◌≡◌, IfOk, refl};
+ghost use Rattle.npr_srh.specs.Seg6Tunnel.{Meaning, meaning_of, writing, attributes};
 
 use crate::seg6_header::Seg6Header;
 use npr_base::{

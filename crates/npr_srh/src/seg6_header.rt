@@ -1,7 +1,7 @@
 //! SEG6's routing header of segments, behind its mode (RFC 8754; `linux/seg6.h`).
 
+ghost use Rattle.std.specs.{Prelude.{◌≡◌, ◌≢◌, ◌≤◌, ◌*◌, ◌/◌, ◌%◌, None, length, take, reverse, [], Err, IfOk, IfErr}, List.{concat}};
 ghost use Rattle.{
-  std.specs.{Prelude.{◌≡◌, ◌≢◌, ◌≤◌, ◌*◌, ◌/◌, ◌%◌, None, length, take, reverse, [], Err, IfOk, IfErr}, List.{concat}},
   npr_base.specs.{
     Table.{shape_at, held},
     Codec.{leading},

@@ -1,6 +1,7 @@
 //! How a SEG6 header is put in, and its numbers (`linux/seg6_iptunnel.h`).
 
-ghost use Rattle.{std.specs.Prelude.{◌≡◌}, npr_srh.specs.Seg6Mode.{mode_of, mode_number}};
+ghost use Rattle.std.specs.Prelude.{◌≡◌};
+ghost use Rattle.npr_srh.specs.Seg6Mode.{mode_of, mode_number};
 
 use npr_base::{number_of_variant, variant_of_number};
 

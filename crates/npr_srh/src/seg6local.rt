@@ -1,6 +1,7 @@
 //! SEG6 local: members of its tunnel (RFC 8986; `linux/seg6_local.h`).
 
-ghost use Rattle.{std.specs.Prelude.{◌≡◌, IfOk, refl}, npr_srh.specs.Seg6LocalTunnel.{Meaning, meaning_of, writing, attributes, local_text}};
+ghost use Rattle.std.specs.Prelude.{◌≡◌, IfOk, refl};
+ghost use Rattle.npr_srh.specs.Seg6LocalTunnel.{Meaning, meaning_of, writing, attributes, local_text};
 
 use crate::seg6local_action::Seg6LocalAction;
 use crate::seg6local_srh::Seg6LocalSrh;

@@ -1,6 +1,7 @@
 //! What is done at a segment, and its numbers (RFC 8986; `linux/seg6_local.h`).
 
-ghost use Rattle.{std.specs.Prelude.{◌≡◌, Some}, npr_srh.specs.Seg6LocalAction.{action_of, action_number, action_text}};
+ghost use Rattle.std.specs.Prelude.{◌≡◌, Some};
+ghost use Rattle.npr_srh.specs.Seg6LocalAction.{action_of, action_number, action_text};
 
 use npr_base::{number_of_variant, variant_of_number, write_variant};
 use std::fmt;

@@ -1,7 +1,7 @@
 //! SEG6 local's routing header of segments (RFC 8754; `linux/seg6_local.h`).
 
+ghost use Rattle.std.specs.Prelude.{◌≡◌, ◌≤◌, ◌*◌, length, [], IfOk, IfErr, IfSome, IfNone};
 ghost use Rattle.{
-  std.specs.Prelude.{◌≡◌, ◌≤◌, ◌*◌, length, [], IfOk, IfErr, IfSome, IfNone},
   npr_base.specs.{Table.{shape_at, held}, declared.refusal.DecodeError.TheVariants.{OutOfMemory}},
   npr_srh.specs.{Headed.{IsUnread}, Seg6Local.{local, local_of, local_front, encode_local}, Seg6LocalTunnel.{at as place_at}},
 };

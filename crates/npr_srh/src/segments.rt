@@ -1,10 +1,7 @@
 //! What the families of routing headers share: their lengths, and the text of their segments.
 
-ghost use Rattle.{
-  std.specs.Prelude.{◌≡◌, ◌↔◌, IsTrue},
-  npr_base.specs.Family.{checked, option_or, too_long},
-  npr_srh.specs.{Headed.{HasHeader}, Segments.{too_many, segments_text}},
-};
+ghost use Rattle.std.specs.Prelude.{◌≡◌, ◌↔◌, IsTrue};
+ghost use Rattle.{npr_base.specs.Family.{checked, option_or, too_long}, npr_srh.specs.{Headed.{HasHeader}, Segments.{too_many, segments_text}}};
 
 use npr_base::{EmitError, Ipv6Addr, check_len};
 use std::fmt;

@@ -1,6 +1,7 @@
 //! The members of an encapsulation, by its type.
 
-ghost use Rattle.{std.specs.Prelude.{◌≡◌, IfOk, refl}, npr_tunnel.specs.Encapsulation.{Meaning, meaning_of, normalized, writing, encapsulation}};
+ghost use Rattle.std.specs.Prelude.{◌≡◌, IfOk, refl};
+ghost use Rattle.npr_tunnel.specs.Encapsulation.{Meaning, meaning_of, normalized, writing, encapsulation};
 
 use crate::encap_type::RouteLwEnCapType;
 use crate::ip::RouteIpTunnel;

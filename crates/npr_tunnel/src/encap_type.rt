@@ -1,6 +1,7 @@
 //! Types of encapsulation: `LWTUNNEL_ENCAP_*` of `linux/lwtunnel.h`.
 
-ghost use Rattle.{std.specs.Prelude.{◌≡◌, Some, None}, npr_tunnel.specs.EncapType.{encap_type, encap_type_of, encap_type_number, encap_type_text}};
+ghost use Rattle.std.specs.Prelude.{◌≡◌, Some, None};
+ghost use Rattle.npr_tunnel.specs.EncapType.{encap_type, encap_type_of, encap_type_number, encap_type_text};
 
 use npr_base::{
     EmitError, Emitable, number_of_variant, variant_of_number, write_array, write_variant,
@@ -75,8 +76,6 @@ impl From<RouteLwEnCapType> for u16 {
 
 impl Emitable for RouteLwEnCapType {
     ghost bytes = { encap_type.encode };
-
-    ghost unfit = { λ _. None };
 
     fn check(&self) -> Result<usize, EmitError> {
         Ok(2)

@@ -1,9 +1,7 @@
 //! Options of ERSPAN: `LWTUNNEL_IP_OPT_ERSPAN_*` of `linux/lwtunnel.h`.
 
-ghost use Rattle.{
-  std.specs.{Prelude.{◌≡◌, map, IfOk, refl}, Fmt.{WritesOnOk}},
-  npr_tunnel.specs.ErspanOptions.{Meaning, meaning_of, writing, attributes, erspan_text},
-};
+ghost use Rattle.std.specs.{Prelude.{◌≡◌, map, IfOk, refl}, Fmt.{WritesOnOk}};
+ghost use Rattle.npr_tunnel.specs.ErspanOptions.{Meaning, meaning_of, writing, attributes, erspan_text};
 
 use npr_base::{
     AttrFamily, Attribute, DecodeError, DefaultNla, EmitError, Looks, Nla, NlaBuffer, Parseable,

@@ -1,9 +1,7 @@
 //! The flags of tunnels over IP: `TUNNEL_*` of `linux/if_tunnel.h`.
 
-ghost use Rattle.{
-  std.specs.{Prelude.{⊤, [], ◌∷◌, codes}, Fmt.{WritesOnOk}},
-  npr_tunnel.specs.TunnelFlags.{ip_flags_bits, ip6_flags_bits, flag_text, flags_text},
-};
+ghost use Rattle.std.specs.{Prelude.{⊤, [], ◌∷◌, codes}, Fmt.{WritesOnOk}};
+ghost use Rattle.npr_tunnel.specs.TunnelFlags.{ip_flags_bits, ip6_flags_bits, flag_text, flags_text};
 
 use bitflags::{Flag, Flags};
 use npr_base::named_flags;

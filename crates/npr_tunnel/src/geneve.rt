@@ -1,7 +1,7 @@
 //! Options of Geneve: `LWTUNNEL_IP_OPT_GENEVE_*` of `linux/lwtunnel.h`.
 
+ghost use Rattle.std.specs.Prelude.{false, ◌≡◌, ◌≢◌, ◌≤◌, ◌⊎◌, ◌+◌, ◌∷◌, ◌++◌, true, [], ℕ, Some, None, length, map, IfOk, IfErr, OnOk};
 ghost use Rattle.{
-  std.specs.Prelude.{false, ◌≡◌, ◌≢◌, ◌≤◌, ◌⊎◌, ◌+◌, ◌∷◌, ◌++◌, true, [], ℕ, Some, None, length, map, IfOk, IfErr, OnOk},
   npr_base.specs.{
     Table.{shape_at, held},
     Codec.{exactly, raw},

@@ -1,6 +1,7 @@
 //! Tunnels over IP version 4: `LWTUNNEL_IP_*` of `linux/lwtunnel.h`.
 
-ghost use Rattle.{std.specs.Prelude.{◌≡◌, IfOk, refl}, npr_tunnel.specs.IpTunnel.{Meaning, meaning_of, writing, attributes, ip_tunnel_text}};
+ghost use Rattle.std.specs.Prelude.{◌≡◌, IfOk, refl};
+ghost use Rattle.npr_tunnel.specs.IpTunnel.{Meaning, meaning_of, writing, attributes, ip_tunnel_text};
 
 use crate::flags::{RouteIpTunnelFlags, write_flags};
 use crate::ip_rows;

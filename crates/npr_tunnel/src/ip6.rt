@@ -1,6 +1,7 @@
 //! Tunnels over IP version 6: `LWTUNNEL_IP6_*` of `linux/lwtunnel.h`.
 
-ghost use Rattle.{std.specs.Prelude.{◌≡◌, IfOk, refl}, npr_tunnel.specs.IpTunnel.{Meaning, meaning6_of, writing, attributes6, ip6_tunnel_text}};
+ghost use Rattle.std.specs.Prelude.{◌≡◌, IfOk, refl};
+ghost use Rattle.npr_tunnel.specs.IpTunnel.{Meaning, meaning6_of, writing, attributes6, ip6_tunnel_text};
 
 use crate::flags::{RouteIp6TunnelFlags, write_flags};
 use crate::ip_rows;

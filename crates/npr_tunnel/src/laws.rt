@@ -1,7 +1,7 @@
 //! The laws of this crate. Each function does nothing, and its contract is the law.
 
+ghost use Rattle.std.specs.Prelude.{◌≡◌, ◌^◌, ℕ};
 ghost use Rattle.{
-  std.specs.Prelude.{◌≡◌, ◌^◌, ℕ},
   npr_base.specs.Equality.{IsEquality, IsEqualityOf},
   npr_tunnel.specs.{
     EncapType.{encap_type_of, encap_type_number},

@@ -1,6 +1,7 @@
 //! The tunnel of MPLS: `MPLS_IPTUNNEL_*` of `linux/mpls_iptunnel.h`.
 
-ghost use Rattle.{std.specs.Prelude.{◌≡◌, IfOk, refl}, npr_tunnel.specs.MplsTunnel.{Meaning, meaning_of, writing, attributes}};
+ghost use Rattle.std.specs.Prelude.{◌≡◌, IfOk, refl};
+ghost use Rattle.npr_tunnel.specs.MplsTunnel.{Meaning, meaning_of, writing, attributes};
 
 use npr_base::{
     AttrFamily, Attribute, DecodeError, DefaultNla, EmitError, Looks, Nla, NlaBuffer, Parseable,

@@ -1,6 +1,7 @@
 //! Options of tunnels over IP: `LWTUNNEL_IP_OPTS_*` of `linux/lwtunnel.h`.
 
-ghost use Rattle.{std.specs.Prelude.{◌≡◌, IfOk, refl}, npr_tunnel.specs.TunnelOptions.{Meaning, meaning_of, writing, attributes, tunnel_option_text}};
+ghost use Rattle.std.specs.Prelude.{◌≡◌, IfOk, refl};
+ghost use Rattle.npr_tunnel.specs.TunnelOptions.{Meaning, meaning_of, writing, attributes, tunnel_option_text};
 
 use crate::erspan::{RouteErspanOpt, write_erspan};
 use crate::geneve::{RouteGeneveOpt, check_options, clone_options, read_options, write_options};

@@ -1,6 +1,7 @@
 //! Options of VXLAN: `LWTUNNEL_IP_OPT_VXLAN_*` of `linux/lwtunnel.h`.
 
-ghost use Rattle.{std.specs.Prelude.{◌≡◌, IfOk, refl}, npr_tunnel.specs.VxlanOptions.{Meaning, meaning_of, writing, attributes, vxlan_text}};
+ghost use Rattle.std.specs.Prelude.{◌≡◌, IfOk, refl};
+ghost use Rattle.npr_tunnel.specs.VxlanOptions.{Meaning, meaning_of, writing, attributes, vxlan_text};
 
 use npr_base::{
     AttrFamily, Attribute, DecodeError, DefaultNla, EmitError, Looks, Nla, NlaBuffer, Parseable,

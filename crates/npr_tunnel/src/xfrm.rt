@@ -1,6 +1,7 @@
 //! The tunnel of an IPsec interface: `LWT_XFRM_*` of `linux/lwtunnel.h`.
 
-ghost use Rattle.{std.specs.Prelude.{◌≡◌, IfOk, refl}, npr_tunnel.specs.XfrmTunnel.{Meaning, meaning_of, writing, attributes, xfrm_text}};
+ghost use Rattle.std.specs.Prelude.{◌≡◌, IfOk, refl};
+ghost use Rattle.npr_tunnel.specs.XfrmTunnel.{Meaning, meaning_of, writing, attributes, xfrm_text};
 
 use npr_base::{
     AttrFamily, Attribute, DecodeError, DefaultNla, EmitError, Looks, Nla, NlaBuffer, Parseable,

@@ -1,7 +1,7 @@
 //! A family of one's own: attributes of a neighbour message, `NDA_*` of `linux/neighbour.h`.
 
+ghost use Rattle.std.specs.Prelude.{◌≡◌, IfOk, IfErr, refl};
 ghost use Rattle.{
-  std.specs.Prelude.{◌≡◌, IfOk, IfErr, refl},
   template.specs.Neighbours.{Meaning, meaning_of, writing, attributes, cache_info},
   netlink_packet_route.specs.{Codec.{leading}, Refusal.{no_place}},
 };

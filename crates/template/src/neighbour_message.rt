@@ -1,7 +1,7 @@
 //! A message of one's own: `RTM_NEWNEIGH` of `linux/neighbour.h`, without the envelope.
 
+ghost use Rattle.std.{specs.{Prelude.{◌≡◌, ◌≢◌, ℕ, List, Option, None, IfOk, IfErr, refl}, Option.{option_map}}, proofs.Common.{rules}};
 ghost use Rattle.{
-  std.{specs.{Prelude.{◌≡◌, ◌≢◌, ℕ, List, Option, None, IfOk, IfErr, refl}, Option.{option_map}}, proofs.Common.{rules}},
   template.specs.{
     NeighbourHeader.{header, default_header},
     NeighbourMessage.{NeighbourMessage, IsNeighbourMessage, NeighbourFault, message_of, body},
@@ -39,8 +39,6 @@ pub struct NeighbourHeader {
 
 impl Emitable for NeighbourHeader {
     ghost bytes = { header.encode };
-
-    ghost unfit = { λ _. None };
 
     fn check(&self) -> Result<usize, EmitError> {
         Ok(12)
