@@ -1,5 +1,6 @@
 //! What `{:?}` prints of one value of each type, as a derive prints it.
 
+use crate::helpers::{LABEL, same};
 use bitflags::Flags;
 use netlink_packet_route::address::{
     AddressAttribute, AddressFlags, AddressHeader, AddressHeaderFlags, AddressProtocol,
@@ -22,7 +23,6 @@ use netlink_packet_route::{AddressFamily, IpProtocol, MessageKind};
 use std::fmt::Debug;
 use std::process::Abort;
 use std::test::Fail;
-use test_helpers::{LABEL, same};
 
 /// The value is printed so.
 fn shows<T: Debug + Drop>(

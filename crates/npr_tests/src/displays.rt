@@ -1,5 +1,6 @@
 //! The texts that values are printed as: enumerations, flags and addresses.
 
+use crate::helpers::says;
 use bitflags::Flags;
 use netlink_packet_route::AddressFamily;
 use netlink_packet_route::address::{AddressProtocol, AddressScope};
@@ -10,7 +11,6 @@ use netlink_packet_route::route::{
 use std::fmt;
 use std::process::Abort;
 use std::test::Fail;
-use test_helpers::says;
 
 /// What a number stands for is printed as the text beside it.
 fn says_each<T: From<u8> + fmt::Display + Drop>(

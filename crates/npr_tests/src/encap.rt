@@ -1,5 +1,6 @@
 //! Encapsulations of routes, and the type that governs them.
 
+use crate::helpers::{INET, LABEL, reads, refuses, rewrites, rewrites_lines};
 use netlink_packet_route::framing::{At, AttrFamily, DecodeError, DefaultNla};
 use netlink_packet_route::route::{
     RouteAttribute, RouteGeneveOpt, RouteIpTunnel, RouteLwEnCapType, RouteLwTunnelEncap,
@@ -7,7 +8,6 @@ use netlink_packet_route::route::{
 };
 use std::alloc::{AllocError, Global};
 use std::test::Fail;
-use test_helpers::{INET, LABEL, reads, refuses, rewrites, rewrites_lines};
 
 /// An encapsulation whose member 1 is `LABEL` under MPLS.
 const LABELS: &str = "0c001600 08000100 000641ff";

@@ -1,12 +1,12 @@
 //! The framing of attributes, addresses of IP and address families.
 
+use crate::helpers::{FIRST, holds, same, writes};
 use netlink_packet_route::AddressFamily;
 use netlink_packet_route::framing::{
     DecodeError, DefaultNla, EmitError, Looks, Nla, NlaBuffer, NlasIterator, Parseable,
 };
 use netlink_packet_route::net::{IpAddr, Ipv4Addr, Ipv6Addr, emit_v6_list, read_v6_list};
 use std::test::Fail;
-use test_helpers::{FIRST, holds, same, writes};
 
 #[test]
 fn reads_a_header(rt: HostRuntime) -> Result<(), Fail> {

@@ -1,5 +1,9 @@
 //! Routing headers and traces, read and written, and what is refused.
 
+use crate::helpers::{
+    FIRST, FIRST_TEXT, SECOND, SECOND_TEXT, bytes_of, holds, is_alone, is_member, is_refused, same,
+    writes,
+};
 use netlink_packet_route::framing::{
     At, AttrFamily, DecodeError, DefaultNla, EmitError, Emitable, NlaBuffer, Parseable, Seg6Fault,
 };
@@ -11,10 +15,6 @@ use netlink_packet_route::route::{
 use std::alloc::{AllocError, Global};
 use std::process::Abort;
 use std::test::Fail;
-use test_helpers::{
-    FIRST, FIRST_TEXT, SECOND, SECOND_TEXT, bytes_of, holds, is_alone, is_member, is_refused, same,
-    writes,
-};
 
 /// Eight zeros.
 const ZEROS: &str = "0000000000000000";

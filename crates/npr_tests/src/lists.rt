@@ -1,5 +1,6 @@
 //! Lists of attributes by themselves, and the count of looks at headers.
 
+use crate::helpers::{LABEL, bytes_of, holds, same};
 use netlink_packet_route::AddressFamily;
 use netlink_packet_route::framing::{
     Attribute, DecodeError, Emitable, Looks, Nla, check_list, clone_list, emit_list, parse_list,
@@ -11,7 +12,6 @@ use netlink_packet_route::route::{
 use std::alloc::{AllocError, Global};
 use std::process::Abort;
 use std::test::Fail;
-use test_helpers::{LABEL, bytes_of, holds, same};
 
 const UNDER: (AddressFamily, RouteType) = (AddressFamily::Inet, RouteType::Unicast);
 

@@ -1,5 +1,6 @@
 //! Attributes by themselves, each read by the `parse` of its family, with memory enough.
 
+use crate::helpers::{LABEL, holds, is_alone};
 use netlink_packet_route::AddressFamily;
 use netlink_packet_route::address::AddressAttribute;
 use netlink_packet_route::framing::{NlaBuffer, ParseableParametrized};
@@ -11,7 +12,6 @@ use netlink_packet_route::route::{
 };
 use netlink_packet_route::rule::RuleAttribute;
 use std::test::Fail;
-use test_helpers::{LABEL, holds, is_alone};
 
 /// Number 1 with four bytes means something in each of these.
 #[test]

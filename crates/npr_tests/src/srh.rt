@@ -1,5 +1,6 @@
 //! Members of the tunnels SEG6, SEG6 local, RPL and IOAM6 beside their headers.
 
+use crate::helpers::{FIRST, SECOND, is_member, same};
 use netlink_packet_route::framing::DefaultNla;
 use netlink_packet_route::net::{Ipv4Addr, Ipv6Addr};
 use netlink_packet_route::route::{
@@ -7,7 +8,6 @@ use netlink_packet_route::route::{
     Seg6LocalAction, Seg6Mode,
 };
 use std::test::Fail;
-use test_helpers::{FIRST, SECOND, is_member, same};
 
 const TO_F1: &str = "fc000000000000000000000000000001";
 

@@ -1,10 +1,10 @@
 //! The texts of refusals.
 
+use crate::helpers::says;
 use netlink_packet_route::framing::{
     At, AttrFamily, DecodeError, EmitError, Seg6Fault, WriteError,
 };
 use std::test::Fail;
-use test_helpers::says;
 
 /// The second attribute of a route.
 const PLACE: At = At {

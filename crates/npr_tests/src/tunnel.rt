@@ -1,5 +1,6 @@
 //! Members of encapsulations, as `ip` writes them, and damaged ones.
 
+use crate::helpers::{FIRST, LABEL, is_member, is_refused, same, writes};
 use bitflags::Flags;
 use netlink_packet_route::framing::{DecodeError, DefaultNla, EmitError, Emitable};
 use netlink_packet_route::net::Ipv6Addr;
@@ -11,7 +12,6 @@ use netlink_packet_route::route::{
 use std::alloc::{AllocError, Global};
 use std::process::Abort;
 use std::test::Fail;
-use test_helpers::{FIRST, LABEL, is_member, is_refused, same, writes};
 
 #[test]
 fn types_and_numbers(rt: HostRuntime) -> Result<(), Fail> {

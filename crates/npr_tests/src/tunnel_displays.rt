@@ -1,5 +1,6 @@
 //! The texts that tunnels, their members and options are printed as, and writers that fail.
 
+use crate::helpers::{FIRST, SECOND, holds, says};
 use bitflags::Flags;
 use netlink_packet_route::framing::DefaultNla;
 use netlink_packet_route::net::{Ipv4Addr, Ipv6Addr};
@@ -13,7 +14,6 @@ use std::fmt;
 use std::fmt::Write;
 use std::process::Abort;
 use std::test::Fail;
-use test_helpers::{FIRST, SECOND, holds, says};
 
 /// What upstream prints of an attribute that it doesn't know.
 const UNKNOWN: &str = "DefaultNla { kind: 99, value: [1, 2] }";

@@ -1,6 +1,7 @@
 //! Labels, realms, numbers and structures of routes: entries of RFC 3032, and layouts of
 //! `linux/rtnetlink.h`; and the names of kinds of messages.
 
+use crate::helpers::{LABEL, bytes_of, holds, same, writes};
 use bitflags::Flags;
 use netlink_packet_route::family::{read_bytes, read_name};
 use netlink_packet_route::framing::{At, DecodeError};
@@ -10,7 +11,6 @@ use netlink_packet_route::route::{
 };
 use netlink_packet_route::{IpProtocol, MessageKind};
 use std::test::Fail;
-use test_helpers::{LABEL, bytes_of, holds, same, writes};
 
 #[test]
 fn label_and_number(rt: HostRuntime) {

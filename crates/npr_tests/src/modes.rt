@@ -1,5 +1,6 @@
 //! Modes of SEG6 headers: their numbers, and values of a table in which fewer had a name.
 
+use crate::helpers::{INET, bytes_of, holds, reads, rewrites_lines, same};
 use netlink_packet_route::framing::Parseable;
 use netlink_packet_route::route::{
     RouteAttribute, RouteLwEnCapType, RouteLwTunnelEncap, RouteMessage, RouteNextHop,
@@ -7,7 +8,6 @@ use netlink_packet_route::route::{
 };
 use std::alloc::{AllocError, Global};
 use std::test::Fail;
-use test_helpers::{INET, bytes_of, holds, reads, rewrites_lines, same};
 
 /// An encapsulation with a header of mode 2 and no segments.
 const MODE_2: &str = "14001680 10000100 02000000 00000400 00000000 06001500 05000000";

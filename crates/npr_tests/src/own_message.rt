@@ -1,5 +1,6 @@
 //! The message of one's own: neighbours as a kernel dumped them, and what `ip` said of them.
 
+use crate::helpers::{bytes_of, reads, rewrites, same};
 use netlink_packet_route::AddressFamily;
 use netlink_packet_route::framing::{DefaultNla, Parseable};
 use netlink_packet_route::net::IpAddr;
@@ -7,7 +8,6 @@ use netlink_packet_route::route::RouteType;
 use std::test::Fail;
 use template::neighbour::{NeighbourAttribute, NeighbourCacheInfo};
 use template::neighbour_message::{NeighbourHeader, NeighbourMessage, read_link_layer_address};
-use test_helpers::{bytes_of, reads, rewrites, same};
 
 /// `192.0.2.3 dev d0 lladdr 02:00:00:00:00:13 ref 1 probes 1 PROBE proto static`; `d0` is 3.
 const PROBED: &str = "020000000300000010000001 08000100c0000203 0a000200020000000013 0000 \

@@ -1,7 +1,6 @@
 //! What all tests share: bytes as text, and what is asked of messages and attributes.
 //!
 //! Each helper takes what is wanted by value, since a test is proved sooner the less it holds.
-#![tactic(auto)]
 
 ghost use Rattle.std.specs.Prelude.{◌≤◌, length, IfOk};
 
@@ -16,10 +15,10 @@ use std::process::Abort;
 use std::test::Fail;
 
 /// A route header: family inet, the table main, unicast.
-pub const INET: &str = "02000000fe03000100000000";
+pub(crate) const INET: &str = "02000000fe03000100000000";
 
 /// The entry `000641ff`: label 100, class 0, the bottom of its stack, TTL 255.
-pub const LABEL: MplsLabel = MplsLabel {
+pub(crate) const LABEL: MplsLabel = MplsLabel {
     label: 100,
     traffic_class: 0,
     bottom_of_stack: true,
@@ -27,17 +26,17 @@ pub const LABEL: MplsLabel = MplsLabel {
 };
 
 /// `fc00::1` and `fc00::2`.
-pub const FIRST: [u8; 16] = [0xfc, 0, 0, 0, 0, 0, 0, 0, 0, 0, 0, 0, 0, 0, 0, 1];
+pub(crate) const FIRST: [u8; 16] = [0xfc, 0, 0, 0, 0, 0, 0, 0, 0, 0, 0, 0, 0, 0, 0, 1];
 
-pub const SECOND: [u8; 16] = [0xfc, 0, 0, 0, 0, 0, 0, 0, 0, 0, 0, 0, 0, 0, 0, 2];
+pub(crate) const SECOND: [u8; 16] = [0xfc, 0, 0, 0, 0, 0, 0, 0, 0, 0, 0, 0, 0, 0, 0, 2];
 
 /// Both as text.
-pub const FIRST_TEXT: &str = "fc000000000000000000000000000001";
+pub(crate) const FIRST_TEXT: &str = "fc000000000000000000000000000001";
 
-pub const SECOND_TEXT: &str = "fc000000000000000000000000000002";
+pub(crate) const SECOND_TEXT: &str = "fc000000000000000000000000000002";
 
 /// A message of any kind.
-pub trait Message: Emitable + PartialEq + Drop + Sized {
+pub(crate) trait Message: Emitable + PartialEq + Drop + Sized {
     type Attribute: PartialEq + Drop;
 
     fn of(alloc: Global, bytes: &[u8]) -> Result<Self, DecodeError>;
@@ -83,17 +82,17 @@ where
 }
 
 /// Both are equal.
-pub fn same<T: PartialEq + Debug + Drop>(rt: &impl Abort, left: T, right: T) {
+pub(crate) fn same<T: PartialEq + Debug + Drop>(rt: &impl Abort, left: T, right: T) {
     assert_eq!(rt; left, right);
 }
 
 /// It holds.
-pub fn holds(rt: &impl Abort, truth: bool) {
+pub(crate) fn holds(rt: &impl Abort, truth: bool) {
     assert!(rt; truth);
 }
 
 /// The value is printed so.
-pub fn says<T: Display + Drop>(
+pub(crate) fn says<T: Display + Drop>(
     rt: &(impl Abort + AllocGlobal),
     value: T,
     text: &str,
@@ -104,7 +103,7 @@ pub fn says<T: Display + Drop>(
 }
 
 /// The bytes of these texts, one after the other; spaces may stand between digits.
-pub fn bytes_of(rt: &impl AllocGlobal, texts: &[&str]) -> Result<Vec<u8>, Fail> {
+pub(crate) fn bytes_of(rt: &impl AllocGlobal, texts: &[&str]) -> Result<Vec<u8>, Fail> {
     let mut bytes = Vec::new(rt.alloc());
     for text in texts {
         for word in text.split_whitespace() {
@@ -132,7 +131,7 @@ fn is_written(rt: &(impl Abort + AllocGlobal), out: Vec<u8>, texts: &[&str]) -> 
 }
 
 /// The value is written as these bytes into a longer buffer of ones, whose rest stays.
-pub fn writes<T: Emitable + Drop>(
+pub(crate) fn writes<T: Emitable + Drop>(
     rt: &(impl Abort + AllocGlobal),
     value: T,
     texts: &[&str],
@@ -145,7 +144,7 @@ pub fn writes<T: Emitable + Drop>(
 }
 
 /// The bytes are a message, whose canonical bytes are these.
-pub fn rewrites<M: Message>(
+pub(crate) fn rewrites<M: Message>(
     rt: &(impl Abort + AllocGlobal),
     texts: &[&str],
     canonical: &[&str],
@@ -157,7 +156,7 @@ pub fn rewrites<M: Message>(
 
 /// Each line is a message behind the header. Behind an arrow stands what is written of it, where
 /// that is another way, and behind `#` a remark.
-pub fn rewrites_lines<M: Message>(
+pub(crate) fn rewrites_lines<M: Message>(
     rt: &(impl Abort + AllocGlobal),
     header: &str,
     lines: &str,
@@ -172,7 +171,7 @@ pub fn rewrites_lines<M: Message>(
 
 /// The bytes are a message of these attributes, and so is its copy; they come so one by one, and are
 /// so read into a message that stands.
-pub fn reads<M: Message, const N: usize>(
+pub(crate) fn reads<M: Message, const N: usize>(
     rt: &(impl Abort + AllocGlobal),
     texts: &[&str],
     attributes: [M::Attribute; N],
@@ -189,7 +188,7 @@ pub fn reads<M: Message, const N: usize>(
 }
 
 /// The bytes are no message, for this cause.
-pub fn refuses<M: Message>(
+pub(crate) fn refuses<M: Message>(
     rt: &(impl Abort + AllocGlobal),
     texts: &[&str],
     fault: DecodeError,
@@ -202,7 +201,7 @@ pub fn refuses<M: Message>(
 }
 
 /// What `check` answers of a message that ends in so many letters.
-pub fn check_of<M: Message>(
+pub(crate) fn check_of<M: Message>(
     rt: &impl AllocGlobal,
     texts: &[&str],
     letters: u32,
@@ -227,7 +226,7 @@ fn member_of<A: Attribute + PartialEq + Drop>(
 }
 
 /// The attribute is this member of a family, and so is its copy; it is written as `canonical`.
-pub fn is_member<A: Attribute + PartialEq + Drop>(
+pub(crate) fn is_member<A: Attribute + PartialEq + Drop>(
     rt: &(impl Abort + AllocGlobal),
     context: A::Context,
     texts: &[&str],
@@ -241,7 +240,7 @@ pub fn is_member<A: Attribute + PartialEq + Drop>(
 }
 
 /// The attribute is no member of a family, for this cause.
-pub fn is_refused<A: Attribute + PartialEq + Drop>(
+pub(crate) fn is_refused<A: Attribute + PartialEq + Drop>(
     rt: &(impl Abort + AllocGlobal),
     context: A::Context,
     texts: &[&str],
@@ -252,7 +251,7 @@ pub fn is_refused<A: Attribute + PartialEq + Drop>(
 }
 
 /// The attribute by itself is this value.
-pub fn is_alone<'a, A: Parseable<&'a NlaBuffer<'a>> + PartialEq + Drop>(
+pub(crate) fn is_alone<'a, A: Parseable<&'a NlaBuffer<'a>> + PartialEq + Drop>(
     rt: &(impl Abort + AllocGlobal),
     item: &'a NlaBuffer<'a>,
     wanted: A,

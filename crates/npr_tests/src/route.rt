@@ -1,5 +1,9 @@
 //! Routes of the kernel and of `ip`, and damaged ones.
 
+use crate::helpers::{
+    INET, LABEL, bytes_of, check_of, holds, is_member, reads, refuses, rewrites, rewrites_lines,
+    same, writes,
+};
 use netlink_packet_route::AddressFamily;
 use netlink_packet_route::framing::{
     At, AttrFamily, DecodeError, DefaultNla, EmitError, Emitable, Parseable,
@@ -11,10 +15,6 @@ use netlink_packet_route::route::{
     RoutePreference, RouteProtocol, RouteRealm, RouteScope, RouteType, RouteVia,
 };
 use std::test::Fail;
-use test_helpers::{
-    INET, LABEL, bytes_of, check_of, holds, is_member, reads, refuses, rewrites, rewrites_lines,
-    same, writes,
-};
 
 /// `INET` with the type multicast, and with the family mpls.
 const MULTICAST: &str = "02000000fe03000500000000";

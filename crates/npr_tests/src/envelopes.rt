@@ -1,5 +1,6 @@
 //! Datagrams as a kernel sent them, and what the standard says of their envelopes.
 
+use crate::helpers::{bytes_of, holds, same};
 use netlink_packet_route::envelope::{
     Answer, Conversation, End, EnvelopeError, ErrorAttribute, NLM_F_MULTIPART, NLMSG_DONE,
     NLMSG_NOOP, NetlinkBuffer, NetlinkHeader, NetlinkIterator, error_text,
@@ -7,7 +8,6 @@ use netlink_packet_route::envelope::{
 use netlink_packet_route::framing::{Looks, parse_list, to_vec};
 use std::process::Abort;
 use std::test::Fail;
-use test_helpers::{bytes_of, holds, same};
 
 /// Two rules of a dump (`RTM_NEWRULE`, 32), and its end, which answer the request of this number.
 fn dump(rt: &impl AllocGlobal, number: &str) -> Result<Vec<u8>, Fail> {

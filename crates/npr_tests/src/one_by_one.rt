@@ -1,11 +1,11 @@
 //! Attributes one after the other, and messages that are read into again.
 
+use crate::helpers::{INET, bytes_of, holds, same};
 use netlink_packet_route::framing::{DecodeError, Parseable};
 use netlink_packet_route::route::{RouteAttribute, RouteLwEnCapType, RouteMessage, RouteType};
 use netlink_packet_route::rule::RuleMessage;
 use netlink_packet_route::{AddressFamily, MessageKind, MessageType};
 use std::test::Fail;
-use test_helpers::{INET, bytes_of, holds, same};
 
 /// A rule header: family inet, action to table.
 const RULE: &str = "020000000000000001000000";

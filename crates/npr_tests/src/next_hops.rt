@@ -1,5 +1,6 @@
 //! Next hops of routes by several paths: their headers, lists of them, and lists inside lists.
 
+use crate::helpers::{INET, LABEL, bytes_of, holds, reads, refuses, rewrites_lines, same, writes};
 use netlink_packet_route::AddressFamily;
 use netlink_packet_route::framing::{
     DecodeError, DefaultNla, EmitError, Emitable, Looks, Nla, Parseable, ParseableParametrized,
@@ -12,7 +13,6 @@ use netlink_packet_route::route::{
 use std::alloc::{AllocError, Global};
 use std::process::Abort;
 use std::test::Fail;
-use test_helpers::{INET, LABEL, bytes_of, holds, reads, refuses, rewrites_lines, same, writes};
 
 /// A next hop of 13 bytes by interface 2, with one attribute of 5 bytes.
 const HOP: [u8; 14] = [13, 0, 4, 7, 2, 0, 0, 0, 5, 0, 20, 0, 1, 0];

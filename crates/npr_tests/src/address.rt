@@ -1,5 +1,6 @@
 //! Messages of the kernel and of `ip` on addresses, and damaged ones.
 
+use crate::helpers::{bytes_of, check_of, holds, reads, refuses, rewrites, rewrites_lines, same};
 use bitflags::Flags;
 use netlink_packet_route::AddressFamily;
 use netlink_packet_route::address::{
@@ -9,7 +10,6 @@ use netlink_packet_route::address::{
 use netlink_packet_route::framing::{At, AttrFamily, DecodeError, EmitError};
 use netlink_packet_route::net::{IpAddr, Ipv6Addr};
 use std::test::Fail;
-use test_helpers::{bytes_of, check_of, holds, reads, refuses, rewrites, rewrites_lines, same};
 
 /// A header: inet, prefix 8, permanent, host, interface 1.
 const HEADER: &str = "020880fe 01000000";

@@ -1,11 +1,11 @@
 //! Messages that were cut short, and lengths that no attribute has.
 
+use crate::helpers::{INET, Message, bytes_of, holds, refuses, same};
 use netlink_packet_route::address::AddressMessage;
 use netlink_packet_route::framing::DecodeError;
 use netlink_packet_route::route::RouteMessage;
 use std::process::Abort;
 use std::test::Fail;
-use test_helpers::{INET, Message, bytes_of, holds, refuses, same};
 
 /// The address of the loopback interface.
 const LOOPBACK: &str = "020880fe01000000 080001007f000001 080002007f000001 070003006c6f0000

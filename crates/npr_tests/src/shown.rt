@@ -1,12 +1,12 @@
 //! What is shown of a message: its line, its object and its count.
 
+use crate::helpers::{INET, bytes_of};
 use netlink_packet_core::{NetlinkHeader, NetlinkMessage, NetlinkPayload};
 use netlink_packet_route::RouteNetlinkMessage;
 use netlink_packet_route::framing::{AttrFamily, Parseable};
 use netlink_packet_route::route::RouteMessage;
 use netlink_show::{Counts, Manner, append_lines, append_object, attribute_name};
 use std::test::Fail;
-use test_helpers::{INET, bytes_of};
 
 /// Two labels, 100 of class 3 and 200 with a time to live of 255 at the end of the stack.
 const LABELS: &str = "10001600 0c000100 00064600 000c81ff 0600150001000000";

@@ -1,5 +1,8 @@
 //! Rules of the kernel and of `ip`, and damaged ones.
 
+use crate::helpers::{
+    bytes_of, check_of, holds, reads, refuses, rewrites, rewrites_lines, same, writes,
+};
 use bitflags::Flags;
 use netlink_packet_route::framing::{
     At, AttrFamily, DecodeError, EmitError, Emitable, Nla, Parseable, WriteError, to_vec,
@@ -12,9 +15,6 @@ use netlink_packet_route::rule::{
 };
 use netlink_packet_route::{AddressFamily, IpProtocol};
 use std::test::Fail;
-use test_helpers::{
-    bytes_of, check_of, holds, reads, refuses, rewrites, rewrites_lines, same, writes,
-};
 
 /// A header: inet, the table main, look up.
 const HEADER: &str = "02000000 fe000001 00000000";

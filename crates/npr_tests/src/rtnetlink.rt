@@ -1,11 +1,11 @@
 //! Messages of rtnetlink as a kernel sent them, envelopes included.
 
+use crate::helpers::writes;
 use netlink_packet_route::envelope::{NetlinkIterator, NetlinkMessage, NetlinkPayload};
 use netlink_packet_route::framing::{Parseable, to_vec};
 use netlink_packet_route::request::{dump_addresses, dump_neighbours, dump_routes, dump_rules};
 use netlink_packet_route::{AddressFamily, RouteNetlinkMessage};
 use std::test::Fail;
-use test_helpers::writes;
 
 /// A rule of a dump, the end of the dump, and a message on a link with a payload of 17 bytes.
 const DATAGRAM: [u8; 108] = [

@@ -1,12 +1,12 @@
 //! How often headers are looked at, over a message with a row of each kind. Each attribute of a
 //! message is looked at once, and that of a route or of a next hop once more up to its type.
 
+use crate::helpers::{INET, bytes_of, same};
 use netlink_packet_route::address::AddressHeader;
 use netlink_packet_route::framing::{Header, Looks, Message};
 use netlink_packet_route::route::RouteHeader;
 use netlink_packet_route::rule::RuleHeader;
 use std::test::Fail;
-use test_helpers::{INET, bytes_of, same};
 
 /// The looks that the reading of a message takes, those that found a header and those that found
 /// none.

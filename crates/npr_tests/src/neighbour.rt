@@ -1,5 +1,9 @@
 //! Neighbours of a kernel and of `ip`, and damaged ones.
 
+use crate::helpers::{
+    FIRST, FIRST_TEXT, bytes_of, check_of, holds, is_member, is_refused, reads, refuses, rewrites,
+    same, writes,
+};
 use bitflags::Flags;
 use netlink_packet_route::framing::{
     At, AttrFamily, DecodeError, DefaultNla, EmitError, Emitable, NlaBuffer, Parseable,
@@ -16,10 +20,6 @@ use std::alloc::{AllocError, Global};
 use std::fmt::Debug;
 use std::process::Abort;
 use std::test::Fail;
-use test_helpers::{
-    FIRST, FIRST_TEXT, bytes_of, check_of, holds, is_member, is_refused, reads, refuses, rewrites,
-    same, writes,
-};
 
 /// A header: inet, the third interface, reachable.
 const HEADER: &str = "02000000 03000000 0200 00 00";

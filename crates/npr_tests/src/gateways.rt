@@ -1,5 +1,6 @@
 //! Addresses and gateways of routes, each by its family.
 
+use crate::helpers::{INET, LABEL, bytes_of, holds, same, writes};
 use netlink_packet_route::AddressFamily;
 use netlink_packet_route::framing::{At, AttrFamily, DecodeError, Looks, Parseable};
 use netlink_packet_route::net::{IpAddr, Ipv4Addr, Ipv6Addr};
@@ -9,7 +10,6 @@ use netlink_packet_route::route::{
 };
 use std::process::Abort;
 use std::test::Fail;
-use test_helpers::{INET, LABEL, bytes_of, holds, same, writes};
 
 /// The destination of a route.
 const PLACE: At = At {
