@@ -6,9 +6,6 @@ use Rattle.npr_base.specs.declared.refusal.EmitError.{EmitError}
 use Rattle.npr_base.specs.FitLaws.{none_both}
 use Rattle.npr_base.specs.Family.{encodings, first_unfit, option_or, checked, overlong, list_unfit}
 
-pub none_first : {A : Type 0} (o p : Option A) → option_or o p ≡ None → o ≡ None
-none_first o p h = (none_both o p h).0
-
 pub encodings-append : {A : Type 0} (item : A → Item) (xs ys : List A) → encodings item (xs ++ ys) ≡ encodings item xs ++ encodings item ys
 encodings-append item [] ys = refl
 encodings-append item (x ∷ xs) ys = ap (λ (w : List ℕ). encoding (item x) ++ w) (encodings-append item xs ys) ∙ sym (append_assoc (encoding (item x)) (encodings item xs) (encodings item ys))

@@ -18,7 +18,8 @@ pub record Codec (V : Type 0) : Type 1 where
   pub Wrong : At → List ℕ → DecodeError → Type 0
   -- the bytes that are written
   pub writes : V → List ℕ
-  -- why it can't be written under a kind, if so, be its length or not
+  -- why it can't be written under a kind, if so, beside its length, which is asked of each; one that has a cause after its
+  -- length has both here
   pub inside : ℕ → V → Option EmitError
   -- what can be read
   pub Holds : V → Type 0

@@ -9,7 +9,8 @@ use Rattle.npr_base.specs.FitLaws.{misfit_of-none}
 use Rattle.npr_base.specs.Counts.{Counts}
 use Rattle.npr_base.specs.Looks.{Adds, Looking, LooksAt}
 use Rattle.npr_base.specs.LooksLaws.{no_looking}
-use Rattle.npr_base.specs.Table.{Writing, Reading, Row, ReadsAt, WrongAt, has_row, item_of, plain_item, held_inside, held_kind, held_nested, writing_by, Aligned, Table}
+use Rattle.npr_base.specs.Table.{Writing, Reading, Row, ReadsAt, WrongAt, has_row}
+use Rattle.npr_base.specs.Table.{item_of, plain_item, held_inside, held_kind, held_nested, writing_by, Aligned, Table}
 
 -- two facts on the same test
 pub both : {P Q S T R : Type 0} (b : Bool) → (P → S → R) → (Q → T → R) → MatchBool b P Q → MatchBool b S T → R

@@ -26,8 +26,8 @@ pub trait Nla: Sized {
     fn is_nested(&self) -> bool
         ensures { result ≡ (shape self.now).nested };
 
-    /// The length of the value in bytes, however long, or the first cause why what is inside can't
-    /// be written.
+    /// The length of the value in bytes, or the first cause inside it why it can't be written.
+    /// `check` tests the length besides.
     fn check_value(&self) -> Result<usize, EmitError>
         ensures { result ≡ checked (shape self.now).inside (length (shape self.now).item.value) };
 
