@@ -38,7 +38,7 @@
 #define NPR_VERSION_MAJOR 0
 #define NPR_VERSION_MINOR 4
 #define NPR_VERSION_PATCH 1
-#define NPR_VERSION "0.4.3"
+#define NPR_VERSION "0.4.4"
 
 /* The stack of a thread that is enough for every call and every input, in bytes: 1 MiB. The deepest
  * message takes some 773 KiB (measured). */

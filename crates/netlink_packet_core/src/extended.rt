@@ -9,8 +9,7 @@ ghost use Rattle.{
 use crate::constants::{NETLINK_HEADER_LEN, NLM_F_ACK_TLVS, NLM_F_CAPPED, NLMSG_ALIGNTO};
 use crate::header::NetlinkHeader;
 use npr_base::{
-    AttrFamily, Attribute, DecodeError, DefaultNla, EmitError, Looks, Nla, NlaBuffer, NlasIterator,
-    Parseable, clone_rows, kind_rows, len_rows, read_rows, write_rows,
+    Attribute, DecodeError, DefaultNla, EmitError, Looks, Nla, NlaBuffer, NlasIterator, Place,
 };
 use std::alloc::{AllocError, Global};
 
@@ -34,10 +33,10 @@ pub enum ErrorAttribute {
     Other(DefaultNla),
 }
 
-/// The rows of the table.
+/// The rows of the table. Refusals name no family of the library.
 macro_rules! rows {
     ($body:ident ($($given:tt)*)) => {
-        $body!(($($given)*) ErrorAttribute {
+        npr_base::$body!(($($given)*) ErrorAttribute of Value {
             1 Message(name);
             2 Offset(le32);
             3 Cookie(raw);
@@ -47,9 +46,6 @@ macro_rules! rows {
         })
     };
 }
-
-/// What refusals name: no family of attributes.
-const FAMILY: AttrFamily = AttrFamily::Value;
 
 impl Nla for ErrorAttribute {
     ghost shape = { λ a. writing.shape (meaning_of a) };
@@ -84,16 +80,17 @@ impl Attribute for ErrorAttribute {
 
     ghost shape_is = { λ a. refl };
 
-    fn read(
+    fn read_into<P: Place<Self>>(
+        place: &mut P,
         alloc: Global,
         _context: (),
         item: &NlaBuffer<'_>,
         looks: &mut Looks,
-    ) -> Result<Self, DecodeError> {
-        rows!(read_rows(alloc, item, looks))
+    ) -> Result<(), DecodeError> {
+        rows!(put_rows(place, alloc, item, looks))
     }
 
-    fn try_clone(&self, alloc: Global) -> Result<Self, AllocError> {
+    fn clone(&self, alloc: Global) -> Result<Self, AllocError> {
         rows!(clone_rows(self, alloc))
     }
 }

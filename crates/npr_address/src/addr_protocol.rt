@@ -3,7 +3,6 @@
 ghost use Rattle.std.specs.Prelude.{◌≡◌, Some};
 ghost use Rattle.npr_address.specs.AddressProtocol.{protocol_of, protocol_number, protocol_text};
 
-use npr_base::{number_of_variant, variant_of_number, write_variant};
 use std::fmt;
 
 /// What made an address: `IFAPROT_*` of `linux/if_addr.h`.
@@ -22,7 +21,7 @@ pub enum AddressProtocol {
 /// Their numbers and names.
 macro_rules! numbers {
     ($body:ident ($($given:tt)*)) => {
-        $body!(($($given)*) AddressProtocol {
+        npr_base::$body!(($($given)*) AddressProtocol {
             1 Loopback "kernel_lo";
             2 RouterAnnouncement "kernel_ra";
             3 LinkLocal "kernel_ll";

@@ -3,7 +3,6 @@
 ghost use Rattle.std.specs.Prelude.{◌≡◌, Some};
 ghost use Rattle.npr_address.specs.AddressScope.{scope_of, scope_number, scope_text};
 
-use npr_base::{number_of_variant, variant_of_number, write_variant};
 use std::fmt;
 
 /// The scope of an address: `RT_SCOPE_*` of `linux/rtnetlink.h`.
@@ -27,7 +26,7 @@ pub enum AddressScope {
 /// Their numbers and names.
 macro_rules! numbers {
     ($body:ident ($($given:tt)*)) => {
-        $body!(($($given)*) AddressScope {
+        npr_base::$body!(($($given)*) AddressScope {
             0 Universe "universe";
             200 Site "site";
             253 Link "link";

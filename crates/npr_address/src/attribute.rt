@@ -1,18 +1,15 @@
 //! The attributes of an address message: `IFA_*` of `linux/if_addr.h`.
 
-ghost use Rattle.std.{specs.Prelude.{◌≡◌, ◌≢◌, ◌<◌, ◌*◌, IfOk, IfErr}, proofs.Common.{refl}};
-ghost use Rattle.{
-  npr_base.specs.declared.refusal.DecodeError.TheVariants.{OutOfMemory},
-  npr_address.specs.Attribute.{Meaning, meaning_of, writing, attributes},
-};
+ghost use Rattle.std.specs.Prelude.{refl};
+ghost use Rattle.npr_address.specs.Attribute.{Meaning, meaning_of, writing, attributes};
 
 use crate::addr_flags::AddressFlags;
 use crate::addr_protocol::AddressProtocol;
 use crate::cache_info::{CacheInfo, CacheInfoBuffer};
 use bitflags::Flags;
 use npr_base::{
-    AttrFamily, Attribute, DecodeError, DefaultNla, EmitError, IpAddr, Ipv4Addr, Ipv6Addr, Looks,
-    Nla, NlaBuffer, Parseable, Place, clone_rows, kind_rows, len_rows, put_rows, write_rows,
+    Attribute, DecodeError, DefaultNla, EmitError, IpAddr, Ipv4Addr, Ipv6Addr, Looks, Nla,
+    NlaBuffer, Place,
 };
 use std::alloc::{AllocError, Global};
 
@@ -48,7 +45,7 @@ pub enum AddressAttribute {
 /// The rows of the table.
 macro_rules! rows {
     ($body:ident ($($given:tt)*)) => {
-        $body!(($($given)*) AddressAttribute {
+        npr_base::$body!(($($given)*) AddressAttribute of Address {
             1 Address(ip);
             2 Local(ip);
             3 Label(name);
@@ -63,20 +60,6 @@ macro_rules! rows {
         })
     };
 }
-
-impl AddressAttribute {
-    /// An equal attribute.
-    ///
-    /// # Errors
-    /// `AllocError` where memory is refused.
-    pub fn clone(&self, alloc: Global) -> Result<Self, AllocError>
-        ensures { IfOk result (λ a. meaning_of a ≡ meaning_of self.now) }
-    {
-        rows!(clone_rows(self, alloc))
-    }
-}
-
-const FAMILY: AttrFamily = AttrFamily::Address;
 
 impl Nla for AddressAttribute {
     ghost shape = { λ a. writing.shape (meaning_of a) };
@@ -98,19 +81,6 @@ impl Nla for AddressAttribute {
     }
 }
 
-/// Puts what the attribute is into a place.
-fn read_into<P: Place<AddressAttribute>>(
-    place: &mut P,
-    alloc: Global,
-    item: &NlaBuffer<'_>,
-) -> Result<(), DecodeError>
-    requires { P.ready place.old }
-    ensures ok { IfOk result (λ _. (a : _) × P.puts place.old a place.new × attributes.Reads item.now (meaning_of a)) }
-    ensures refused { IfErr result (λ e. e ≢ OutOfMemory → attributes.Faulty item.now e) }
-{
-    rows!(put_rows(place, alloc, item))
-}
-
 impl Attribute for AddressAttribute {
     type Context = ();
 
@@ -124,32 +94,17 @@ impl Attribute for AddressAttribute {
 
     ghost shape_is = { λ a. refl };
 
-    fn read(
+    fn read_into<P: Place<Self>>(
+        place: &mut P,
         alloc: Global,
         _context: (),
         item: &NlaBuffer<'_>,
-        _looks: &mut Looks,
-    ) -> Result<Self, DecodeError> {
-        let mut place = None;
-        read_into(&mut place, alloc, item)?;
-        match place {
-            Some(attribute) => Ok(attribute),
-            None => unreachable!(),
-        }
-    }
-
-    fn read_onto(
-        list: &mut Vec<Self>,
-        alloc: Global,
-        _context: (),
-        item: &NlaBuffer<'_>,
-        _looks: &mut Looks,
+        looks: &mut Looks,
     ) -> Result<(), DecodeError> {
-        list.reserve(1)?;
-        read_into(list, alloc, item)
+        rows!(put_rows(place, alloc, item, looks))
     }
 
-    fn try_clone(&self, alloc: Global) -> Result<Self, AllocError> {
-        self.clone(alloc)
+    fn clone(&self, alloc: Global) -> Result<Self, AllocError> {
+        rows!(clone_rows(self, alloc))
     }
 }

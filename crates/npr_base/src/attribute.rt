@@ -10,6 +10,7 @@ ghost use Rattle.npr_base.specs.{
 
 use crate::framing::NlaBuffer;
 use crate::looks::Looks;
+use crate::place::Place;
 use crate::refusal::DecodeError;
 use crate::traits::{Nla, Parseable, ParseableParametrized};
 use std::alloc::{AllocError, Global};
@@ -33,12 +34,30 @@ pub trait Attribute: Nla + Drop {
     /// What attributes mean in a context, with the laws of reading and writing.
     ghost reading: { Self.Context → Reading writing };
 
-    /// The value that the attribute means in the context. Each look at a header inside it is
-    /// counted.
+    /// Puts the value that the attribute means in the context into a place. Each look at a header
+    /// inside it is counted.
     ///
     /// # Errors
     /// `OutOfMemory` where memory is refused, and else the first fault in reading order.
-    fn read(
+    fn read_into<P: Place<Self>>(
+        place: &mut P,
+        alloc: Global,
+        context: Self::Context,
+        item: &NlaBuffer<'_>,
+        looks: &mut Looks,
+    ) -> Result<(), DecodeError>
+        requires { P.ready place.old }
+        ensures ok { IfOk result (λ _. (a : Self) × P.puts place.old a place.new × (reading context).Reads item.now (meaning a)
+            × SawEach looks.old looks.new (writing.members (meaning a))) }
+        ensures refused { IfErr result (λ e. e ≢ OutOfMemory → (reading context).Faulty item.now e) }
+        ensures exact { Answered result → (reading context).looks.Takes item.now looks.old looks.new }
+        ensures bounded { AddsAtMost looks.old looks.new (length (item.now).value) };
+
+    /// What `read_into` puts, by itself.
+    ///
+    /// # Errors
+    /// `OutOfMemory` where memory is refused, and else the first fault in reading order.
+    final fn read(
         alloc: Global,
         context: Self::Context,
         item: &NlaBuffer<'_>,
@@ -48,10 +67,17 @@ pub trait Attribute: Nla + Drop {
         ensures refused { IfErr result (λ e. e ≢ OutOfMemory → (reading context).Faulty item.now e) }
         ensures exact { Answered result → (reading context).looks.Takes item.now looks.old looks.new }
         ensures bounded { AddsAtMost looks.old looks.new (length (item.now).value) }
-        ensures counted { IfOk result (λ a. SawEach looks.old looks.new (writing.members (meaning a))) };
+        ensures counted { IfOk result (λ a. SawEach looks.old looks.new (writing.members (meaning a))) }
+    {
+        let mut place = None;
+        Self::read_into(&mut place, alloc, context, item, looks)?;
+        match place {
+            Some(attribute) => Ok(attribute),
+            None => unreachable!(),
+        }
+    }
 
-    /// What `read` gives, put behind the attributes of a list. A family with large values makes each
-    /// in its place, which moves it less often.
+    /// What `read_into` puts, behind the attributes of a list.
     ///
     /// # Errors
     /// `OutOfMemory` where memory is refused, and else the first fault in reading order.
@@ -68,16 +94,15 @@ pub trait Attribute: Nla + Drop {
         ensures exact { Answered result → (reading context).looks.Takes item.now looks.old looks.new }
         ensures bounded { AddsAtMost looks.old looks.new (length (item.now).value) }
     {
-        let attribute = Self::read(alloc, context, item, looks)?;
-        list.push(attribute)?;
-        Ok(())
+        list.reserve(1)?;
+        Self::read_into(list, alloc, context, item, looks)
     }
 
-    /// An equal value, as the type's own `clone` makes it.
+    /// An equal value.
     ///
     /// # Errors
     /// `AllocError` where memory is refused.
-    fn try_clone(&self, alloc: Global) -> Result<Self, AllocError>
+    fn clone(&self, alloc: Global) -> Result<Self, AllocError>
         ensures { IfOk result (λ a. meaning a ≡ meaning self.now) };
 
     /// It is written as its meaning is.

@@ -1,7 +1,7 @@
 //! An attribute that is kept as it stands.
 
-ghost use Rattle.std.specs.{Prelude.{◌≡◌, None, IfOk, false}, Cmp.{decided, partial_equiv_from_equiv}};
-ghost use Rattle.npr_base.specs.{Framing.{Item}, ViewEquality.{same_item, item_equality}, Text.{nla_text}};
+ghost use Rattle.std.specs.{Prelude.{◌≡◌, None, IfOk, IfErr, false}, Cmp.{decided, partial_equiv_from_equiv}};
+ghost use Rattle.npr_base.specs.{declared.refusal.DecodeError.TheVariants.{OutOfMemory}, Framing.{Item}, ViewEquality.{same_item, item_equality}, Text.{nla_text}};
 
 use crate::framing::NlaBuffer;
 use crate::refusal::{DecodeError, EmitError};
@@ -30,6 +30,20 @@ impl DefaultNla {
         ensures { result ≡ record { kind = kind; value = value.items } }
     {
         DefaultNla { kind, value }
+    }
+
+    /// The attribute as it stands.
+    ///
+    /// # Errors
+    /// `OutOfMemory` where memory is refused.
+    pub fn read(alloc: Global, item: &NlaBuffer<'_>) -> Result<Self, DecodeError>
+        ensures ok { IfOk result (λ d. d ≡ item.now) }
+        ensures refused { IfErr result (λ e. e ≡ OutOfMemory) }
+    {
+        Ok(DefaultNla {
+            kind: item.raw_kind(),
+            value: Vec::from_slice(alloc, item.value())?,
+        })
     }
 
     /// The value, without header and padding.
@@ -84,10 +98,7 @@ impl<'a> Parseable<&'a NlaBuffer<'a>> for DefaultNla {
     ghost misparses = { λ input e. ⊥ };
 
     fn parse(alloc: Global, input: &'a NlaBuffer<'a>) -> Result<Self, DecodeError> {
-        Ok(DefaultNla {
-            kind: input.raw_kind(),
-            value: Vec::from_slice(alloc, input.value())?,
-        })
+        DefaultNla::read(alloc, input)
     }
 }
 

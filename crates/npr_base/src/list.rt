@@ -181,7 +181,7 @@ pub fn clone_list<A: Attribute>(alloc: Global, list: &[A]) -> Result<Vec<A>, All
 {
     let mut copies = Vec::new(alloc);
     for x in list {
-        copies.push(x.try_clone(alloc)?)?;
+        copies.push(x.clone(alloc)?)?;
     }
     Ok(copies)
 }

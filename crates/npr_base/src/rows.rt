@@ -17,7 +17,7 @@
 /// An equal attribute.
 #[macro_export]
 macro_rules! clone_rows {
-    (($of:expr, $alloc:expr $(; $($more:tt)*)?) $family:ident { $($number:tt $variant:ident $(($($codec:tt)+))? $(as $kind:expr)?;)* }) => {
+    (($of:expr, $alloc:expr $(; $($more:tt)*)?) $family:ident of $at:ident { $($number:tt $variant:ident $(($($codec:tt)+))? $(as $kind:expr)?;)* }) => {
         match $of {
             $($($more)*)?
             $($family::$variant $(($crate::bound!([$($codec)+] x)))? =>
@@ -53,7 +53,7 @@ macro_rules! clone_row {
 /// The kind, with the flags that it has by itself.
 #[macro_export]
 macro_rules! kind_rows {
-    (($of:expr $(; $($more:tt)*)?) $family:ident { $($number:tt $variant:ident $(($($codec:tt)+))? $(as $kind:expr)?;)* }) => {
+    (($of:expr $(; $($more:tt)*)?) $family:ident of $at:ident { $($number:tt $variant:ident $(($($codec:tt)+))? $(as $kind:expr)?;)* }) => {
         match $of {
             $($($more)*)?
             $($family::$variant $(($crate::bound!([$($codec)+] _)))? => $crate::last!($number $(, $kind)?),)*
@@ -65,7 +65,7 @@ macro_rules! kind_rows {
 /// The length of the value, in bytes. The first cause why a list inside has none goes out by `?`.
 #[macro_export]
 macro_rules! len_rows {
-    (($of:expr $(; $($more:tt)*)?) $family:ident { $($number:tt $variant:ident $(($($codec:tt)+))? $(as $kind:expr)?;)* }) => {
+    (($of:expr $(; $($more:tt)*)?) $family:ident of $at:ident { $($number:tt $variant:ident $(($($codec:tt)+))? $(as $kind:expr)?;)* }) => {
         match $of {
             $($($more)*)?
             $($family::$variant $(($crate::bound!([$($codec)+] x)))? => $crate::len_row!([x] $($($codec)+)?),)*
@@ -147,7 +147,7 @@ macro_rules! number_len {
 /// Writes the value, and answers its length.
 #[macro_export]
 macro_rules! write_rows {
-    (($of:expr, $out:expr $(; $($more:tt)*)?) $family:ident { $($number:tt $variant:ident $(($($codec:tt)+))? $(as $kind:expr)?;)* }) => {
+    (($of:expr, $out:expr $(; $($more:tt)*)?) $family:ident of $at:ident { $($number:tt $variant:ident $(($($codec:tt)+))? $(as $kind:expr)?;)* }) => {
         match $of {
             $($($more)*)?
             $($family::$variant $(($crate::bound!([$($codec)+] x)))? => $crate::write_row!([x, $out] $($($codec)+)?),)*
@@ -240,54 +240,15 @@ macro_rules! number_of {
     };
 }
 
-/// What the attribute is. The codecs that may keep it as it stands go out by `?`.
-#[macro_export]
-macro_rules! read_rows {
-    (($alloc:expr, $item:expr, $looks:expr $(; $($more:tt)*)?) $family:ident { $($number:tt $variant:ident $(($($codec:tt)+))? $(as $kind:expr)?;)* }) => {{
-        let value = $item.value();
-        match $item.kind() {
-            $($($more)*)?
-            $($number => $crate::read_row!([$family::$variant, $alloc, $item, value, FAMILY.at($number), $looks] $($($codec)+)?),)*
-            _ => DefaultNla::parse($alloc, $item).map($family::Other),
-        }
-    }};
-}
-
-/// A row's part of it.
-#[macro_export]
-macro_rules! read_row {
-    ([$family:ident::$variant:ident, $alloc:expr, $item:expr, $value:expr, $at:expr, $looks:expr]) => {
-        Ok($family::$variant)
-    };
-    ([$family:ident::$variant:ident, $alloc:expr, $item:expr, $value:expr, $at:expr, $looks:expr] raw) => {
-        Ok($family::$variant($crate::read_bytes($alloc, $value)?))
-    };
-    ([$family:ident::$variant:ident, $alloc:expr, $item:expr, $value:expr, $at:expr, $looks:expr] list) => {
-        match $crate::parse_list($alloc, (), $value, $looks) {
-            Ok(list) => Ok($family::$variant(list)),
-            Err(e) => Err(e),
-        }
-    };
-    ([$family:ident::$variant:ident, $alloc:expr, $item:expr, $value:expr, $at:expr, $looks:expr] $of:ident as $number:ident $(by $by:ident)?) => {
-        $crate::read_value!([$alloc, $value, $at] $number).map(|n| $family::$variant($of::from(n)))
-    };
-    ([$family:ident::$variant:ident, $alloc:expr, $item:expr, $value:expr, $at:expr, $looks:expr] $of:ident flags $number:ident) => {
-        $crate::read_value!([$alloc, $value, $at] $number).map(|bits| $family::$variant($of::from_bits_retain(bits)))
-    };
-    ([$family:ident::$variant:ident, $alloc:expr, $item:expr, $value:expr, $at:expr, $looks:expr] $($codec:tt)+) => {
-        $crate::read_value!([$alloc, $value, $at] $($codec)+).map($family::$variant)
-    };
-}
-
-/// Puts what the attribute is into a place.
+/// Puts what the attribute is into a place. The codecs that take memory go out by `?`.
 #[macro_export]
 macro_rules! put_rows {
-    (($place:expr, $alloc:expr, $item:expr $(; $($more:tt)*)?) $family:ident { $($number:tt $variant:ident $(($($codec:tt)+))? $(as $kind:expr)?;)* }) => {{
+    (($place:expr, $alloc:expr, $item:expr, $looks:expr $(; $($more:tt)*)?) $family:ident of $at:ident { $($number:tt $variant:ident $(($($codec:tt)+))? $(as $kind:expr)?;)* }) => {{
         let value = $item.value();
         match $item.kind() {
             $($($more)*)?
-            $($number => $crate::put_row!([$place, $family::$variant, $alloc, value, FAMILY.at($number)] $($($codec)+)?),)*
-            _ => $crate::put_read($place, DefaultNla::parse($alloc, $item), $family::Other),
+            $($number => $crate::put_row!([$place, $family::$variant, $alloc, value, $crate::AttrFamily::$at.at($number), $looks] $($($codec)+)?),)*
+            _ => $crate::put_read($place, $crate::DefaultNla::read($alloc, $item), $family::Other),
         }
     }};
 }
@@ -295,20 +256,31 @@ macro_rules! put_rows {
 /// A row's part of it: an address goes without a move.
 #[macro_export]
 macro_rules! put_row {
-    ([$place:expr, $family:ident::$variant:ident, $alloc:expr, $value:expr, $at:expr] ip) => {
+    ([$place:expr, $family:ident::$variant:ident, $alloc:expr, $value:expr, $at:expr, $looks:expr]) => {{
+        $place.put($family::$variant);
+        Ok(())
+    }};
+    ([$place:expr, $family:ident::$variant:ident, $alloc:expr, $value:expr, $at:expr, $looks:expr] ip) => {
         $crate::put_ip($place, $value, $at, $family::$variant)
     };
-    ([$place:expr, $family:ident::$variant:ident, $alloc:expr, $value:expr, $at:expr] name) => {{
+    ([$place:expr, $family:ident::$variant:ident, $alloc:expr, $value:expr, $at:expr, $looks:expr] name) => {{
         $place.put($family::$variant($crate::read_name($alloc, $value, $at)?));
         Ok(())
     }};
-    ([$place:expr, $family:ident::$variant:ident, $alloc:expr, $value:expr, $at:expr] $of:ident as $number:ident $(by $by:ident)?) => {
+    ([$place:expr, $family:ident::$variant:ident, $alloc:expr, $value:expr, $at:expr, $looks:expr] raw) => {{
+        $place.put($family::$variant($crate::read_bytes($alloc, $value)?));
+        Ok(())
+    }};
+    ([$place:expr, $family:ident::$variant:ident, $alloc:expr, $value:expr, $at:expr, $looks:expr] list) => {
+        $crate::put_read($place, $crate::parse_list($alloc, (), $value, $looks), $family::$variant)
+    };
+    ([$place:expr, $family:ident::$variant:ident, $alloc:expr, $value:expr, $at:expr, $looks:expr] $of:ident as $number:ident $(by $by:ident)?) => {
         $crate::put_read($place, $crate::read_value!([$alloc, $value, $at] $number), |n| $family::$variant($of::from(n)))
     };
-    ([$place:expr, $family:ident::$variant:ident, $alloc:expr, $value:expr, $at:expr] $of:ident flags $number:ident) => {
+    ([$place:expr, $family:ident::$variant:ident, $alloc:expr, $value:expr, $at:expr, $looks:expr] $of:ident flags $number:ident) => {
         $crate::put_read($place, $crate::read_value!([$alloc, $value, $at] $number), |bits| $family::$variant($of::from_bits_retain(bits)))
     };
-    ([$place:expr, $family:ident::$variant:ident, $alloc:expr, $value:expr, $at:expr] $($codec:tt)+) => {
+    ([$place:expr, $family:ident::$variant:ident, $alloc:expr, $value:expr, $at:expr, $looks:expr] $($codec:tt)+) => {
         $crate::put_read($place, $crate::read_value!([$alloc, $value, $at] $($codec)+), $family::$variant)
     };
 }

@@ -1,6 +1,6 @@
 //! The attributes of a neighbour message: `NDA_*` of `linux/neighbour.h`.
 
-ghost use Rattle.std.{specs.Prelude.{◌≡◌, IfOk}, proofs.Common.{refl}};
+ghost use Rattle.std.specs.Prelude.{refl};
 ghost use Rattle.npr_neighbour.specs.Attribute.{Meaning, meaning_of, writing, attributes};
 
 use crate::address::NeighbourAddress;
@@ -8,8 +8,8 @@ use crate::cache_info::NeighbourCacheInfo;
 use crate::flags::NeighbourExtendedFlags;
 use bitflags::Flags;
 use npr_base::{
-    AddressFamily, AttrFamily, Attribute, DecodeError, DefaultNla, EmitError, Looks, Nla,
-    NlaBuffer, Parseable, clone_rows, kind_rows, len_rows, read_rows, write_rows,
+    AddressFamily, AttrFamily, Attribute, DecodeError, DefaultNla, EmitError, Looks, Nla, NlaBuffer,
+    Place, put_read,
 };
 use npr_scalar::RouteProtocol;
 use std::alloc::{AllocError, Global};
@@ -56,7 +56,7 @@ const NDA_DST: u16 = 1;
 /// The rows of the table that stand for themselves. Number 1 stands beside them in each match.
 macro_rules! rows {
     ($body:ident ($($given:tt)*)) => {
-        $body!(($($given)*) NeighbourAttribute {
+        npr_base::$body!(($($given)*) NeighbourAttribute of Neighbour {
             2 LinkLayerAddress(raw);
             3 CacheInfo(NeighbourCacheInfo leading 16);
             4 Probes(le32);
@@ -73,22 +73,6 @@ macro_rules! rows {
         })
     };
 }
-
-impl NeighbourAttribute {
-    /// An equal attribute.
-    ///
-    /// # Errors
-    /// `AllocError` where memory is refused.
-    pub fn clone(&self, alloc: Global) -> Result<Self, AllocError>
-        ensures { IfOk result (λ a. meaning_of a ≡ meaning_of self.now) }
-    {
-        rows!(clone_rows(self, alloc;
-            NeighbourAttribute::Destination(a) => a.clone(alloc).map(NeighbourAttribute::Destination),
-        ))
-    }
-}
-
-const FAMILY: AttrFamily = AttrFamily::Neighbour;
 
 impl Nla for NeighbourAttribute {
     ghost shape = { λ a. writing.shape (meaning_of a) };
@@ -123,19 +107,25 @@ impl Attribute for NeighbourAttribute {
 
     ghost shape_is = { λ a. refl };
 
-    fn read(
+    fn read_into<P: Place<Self>>(
+        place: &mut P,
         alloc: Global,
         family: AddressFamily,
         item: &NlaBuffer<'_>,
         looks: &mut Looks,
-    ) -> Result<Self, DecodeError> {
-        rows!(read_rows(alloc, item, looks;
-            NDA_DST => NeighbourAddress::read(alloc, family, item.value(), FAMILY.at(NDA_DST))
-                .map(NeighbourAttribute::Destination),
+    ) -> Result<(), DecodeError> {
+        rows!(put_rows(place, alloc, item, looks;
+            NDA_DST => put_read(
+                place,
+                NeighbourAddress::read(alloc, family, item.value(), AttrFamily::Neighbour.at(NDA_DST)),
+                NeighbourAttribute::Destination,
+            ),
         ))
     }
 
-    fn try_clone(&self, alloc: Global) -> Result<Self, AllocError> {
-        self.clone(alloc)
+    fn clone(&self, alloc: Global) -> Result<Self, AllocError> {
+        rows!(clone_rows(self, alloc;
+            NeighbourAttribute::Destination(a) => a.clone(alloc).map(NeighbourAttribute::Destination),
+        ))
     }
 }

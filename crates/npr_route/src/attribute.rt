@@ -1,6 +1,6 @@
 //! The attributes of a route message: `RTA_*` of `linux/rtnetlink.h`.
 
-ghost use Rattle.std.{specs.Prelude.{◌≡◌, IfOk}, proofs.Common.{refl}};
+ghost use Rattle.std.specs.Prelude.{refl};
 ghost use Rattle.npr_route.specs.{Attribute.{Meaning}, AttributeView.{meaning_of}, AttributeLaws.{writing, attributes}};
 
 use crate::descent::{check_inside, clone_attribute, is_marked, write_value};
@@ -10,7 +10,8 @@ use crate::reader::read_next_hops;
 use crate::route_rows;
 use crate::rows::{push_flat, read_flat};
 use npr_base::{
-    AddressFamily, Attribute, DecodeError, DefaultNla, EmitError, Looks, Nla, NlaBuffer, kind_rows,
+    AddressFamily, Attribute, DecodeError, DefaultNla, EmitError, Looks, Nla, NlaBuffer, Place,
+    kind_rows,
 };
 use npr_scalar::{
     MplsLabel, RouteAddress, RouteCacheInfo, RouteMfcStats, RouteMplsTtlPropagation,
@@ -111,18 +112,6 @@ pub enum RouteAttribute {
     Other(DefaultNla),
 }
 
-impl RouteAttribute {
-    /// An equal attribute.
-    ///
-    /// # Errors
-    /// `AllocError` where memory is refused.
-    pub fn clone(&self, alloc: Global) -> Result<Self, AllocError>
-        ensures { IfOk result (λ a. meaning_of a ≡ meaning_of self.now) }
-    {
-        clone_attribute(alloc, self)
-    }
-}
-
 impl Nla for RouteAttribute {
     ghost shape = { λ a. writing.shape (meaning_of a) };
 
@@ -169,18 +158,22 @@ impl Attribute for RouteAttribute {
 
     ghost shape_is = { λ a. refl };
 
-    fn read(
+    fn read_into<P: Place<Self>>(
+        place: &mut P,
         alloc: Global,
         context: Context,
         item: &NlaBuffer<'_>,
         looks: &mut Looks,
-    ) -> Result<Self, DecodeError> {
+    ) -> Result<(), DecodeError> {
         if item.kind() == RTA_MULTIPATH {
-            return read_next_hops(alloc, item.value(), context, looks).map(Self::MultiPath);
+            let next_hops = read_next_hops(alloc, item.value(), context, looks)?;
+            place.put(Self::MultiPath(next_hops));
+            return Ok(());
         }
-        let mut place = Self::Uid(0);
-        read_flat(&mut place, alloc, context, context.2, item, looks)?;
-        Ok(place)
+        let mut attribute = Self::Uid(0);
+        read_flat(&mut attribute, alloc, context, context.2, item, looks)?;
+        place.put(attribute);
+        Ok(())
     }
 
     fn read_onto(
@@ -199,7 +192,7 @@ impl Attribute for RouteAttribute {
         }
     }
 
-    fn try_clone(&self, alloc: Global) -> Result<Self, AllocError> {
-        self.clone(alloc)
+    fn clone(&self, alloc: Global) -> Result<Self, AllocError> {
+        clone_attribute(alloc, self)
     }
 }

@@ -1,12 +1,9 @@
 //! The metrics of a route: `RTAX_*` of `linux/rtnetlink.h`.
 
-ghost use Rattle.std.{specs.Prelude.{◌≡◌, ◌<◌, ◌*◌, IfOk}, proofs.Common.{refl}};
+ghost use Rattle.std.specs.Prelude.{refl};
 ghost use Rattle.npr_route.specs.Metric.{Metric, metric_of, writing, metrics};
 
-use npr_base::{
-    AttrFamily, Attribute, DecodeError, DefaultNla, EmitError, Looks, Nla, NlaBuffer, Parseable,
-    clone_rows, kind_rows, len_rows, read_rows, write_rows,
-};
+use npr_base::{Attribute, DecodeError, DefaultNla, EmitError, Looks, Nla, NlaBuffer, Place};
 use std::alloc::{AllocError, Global};
 
 /// A metric of a route.
@@ -53,7 +50,7 @@ pub enum RouteMetric {
 /// The rows of the table.
 macro_rules! rows {
     ($body:ident ($($given:tt)*)) => {
-        $body!(($($given)*) RouteMetric {
+        npr_base::$body!(($($given)*) RouteMetric of Metric {
             1 Lock(le32);
             2 Mtu(le32);
             3 Window(le32);
@@ -74,20 +71,6 @@ macro_rules! rows {
         })
     };
 }
-
-impl RouteMetric {
-    /// An equal metric.
-    ///
-    /// # Errors
-    /// `AllocError` where memory is refused.
-    pub fn clone(&self, alloc: Global) -> Result<Self, AllocError>
-        ensures { IfOk result (λ a. metric_of a ≡ metric_of self.now) }
-    {
-        rows!(clone_rows(self, alloc))
-    }
-}
-
-const FAMILY: AttrFamily = AttrFamily::Metric;
 
 impl Nla for RouteMetric {
     ghost shape = { λ a. writing.shape (metric_of a) };
@@ -122,16 +105,17 @@ impl Attribute for RouteMetric {
 
     ghost shape_is = { λ a. refl };
 
-    fn read(
+    fn read_into<P: Place<Self>>(
+        place: &mut P,
         alloc: Global,
         _context: (),
         item: &NlaBuffer<'_>,
         looks: &mut Looks,
-    ) -> Result<Self, DecodeError> {
-        rows!(read_rows(alloc, item, looks))
+    ) -> Result<(), DecodeError> {
+        rows!(put_rows(place, alloc, item, looks))
     }
 
-    fn try_clone(&self, alloc: Global) -> Result<Self, AllocError> {
-        self.clone(alloc)
+    fn clone(&self, alloc: Global) -> Result<Self, AllocError> {
+        rows!(clone_rows(self, alloc))
     }
 }

@@ -51,7 +51,7 @@ const FAMILY: AttrFamily = AttrFamily::Route;
 #[macro_export]
 macro_rules! route_rows {
     ($body:ident ($($given:tt)*)) => {
-        $body!(($($given)*) RouteAttribute {
+        $body!(($($given)*) RouteAttribute of Route {
             1 Destination(RouteAddress value);
             2 Source(RouteAddress value);
             3 Iif(le32);
@@ -216,7 +216,7 @@ fn put_expires(place: &mut RouteAttribute, kind: RouteType, value: &[u8]) -> Res
 /// The arms of the rows, behind those that are given. Each puts its variant into the place by itself,
 /// and a refusal goes out at once: an answer that arms share is kept in memory and asked for again.
 macro_rules! put_rows {
-    (($place:expr, $alloc:expr, $family:expr, $item:expr; $($more:tt)*) RouteAttribute { $($number:tt $variant:ident($($codec:tt)+);)* }) => {{
+    (($place:expr, $alloc:expr, $family:expr, $item:expr; $($more:tt)*) RouteAttribute of $at:ident { $($number:tt $variant:ident($($codec:tt)+);)* }) => {{
         let value = $item.value();
         match $item.kind() {
             $($more)*

@@ -3,7 +3,6 @@
 ghost use Rattle.std.specs.Prelude.{◌≡◌};
 ghost use Rattle.npr_rule.specs.Action.{action_of, action_number};
 
-use npr_base::{number_of_variant, variant_of_number};
 
 /// What a rule does: `FR_ACT_*` of `linux/fib_rules.h`.
 #[derive(Clone, Copy, Debug, Default, PartialEq, Eq)]
@@ -30,7 +29,7 @@ pub enum RuleAction {
 /// Their numbers.
 macro_rules! numbers {
     ($body:ident ($($given:tt)*)) => {
-        $body!(($($given)*) RuleAction {
+        npr_base::$body!(($($given)*) RuleAction {
             0 Unspec;
             1 ToTable;
             2 Goto;

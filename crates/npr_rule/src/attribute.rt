@@ -1,18 +1,15 @@
 //! The attributes of a rule message: `FRA_*` of `linux/fib_rules.h`.
 
-ghost use Rattle.std.{specs.Prelude.{◌≡◌, ◌≢◌, ◌<◌, ◌*◌, None, IfOk, IfErr}, proofs.Common.{refl}};
+ghost use Rattle.std.specs.Prelude.{◌≡◌, None, refl};
 ghost use Rattle.{
-  npr_base.specs.{Family.{checked}, declared.refusal.DecodeError.TheVariants.{OutOfMemory}},
+  npr_base.specs.Family.{checked},
   npr_scalar.specs.IpProtocol.{above_zero, ip_protocol_number},
   npr_rule.specs.{IpProtocolByte.{protocol_misfit}, Attribute.{Meaning, meaning_of, writing, attributes}},
 };
 
 use crate::port_range::RulePortRange;
 use crate::uid_range::RuleUidRange;
-use npr_base::{
-    AttrFamily, Attribute, DecodeError, DefaultNla, EmitError, IpAddr, Looks, Nla, NlaBuffer,
-    Parseable, Place, clone_rows, kind_rows, len_rows, put_rows, write_rows,
-};
+use npr_base::{Attribute, DecodeError, DefaultNla, EmitError, IpAddr, Looks, Nla, NlaBuffer, Place};
 use npr_scalar::{IpProtocol, RouteProtocol, RouteRealm};
 use std::alloc::{AllocError, Global};
 
@@ -64,7 +61,7 @@ pub enum RuleAttribute {
 /// The rows of the table.
 macro_rules! rows {
     ($body:ident ($($given:tt)*)) => {
-        $body!(($($given)*) RuleAttribute {
+        npr_base::$body!(($($given)*) RuleAttribute of Rule {
             1 Destination(ip);
             2 Source(ip);
             3 Iifname(name);
@@ -87,20 +84,6 @@ macro_rules! rows {
         })
     };
 }
-
-impl RuleAttribute {
-    /// An equal attribute.
-    ///
-    /// # Errors
-    /// `AllocError` where memory is refused.
-    pub fn clone(&self, alloc: Global) -> Result<Self, AllocError>
-        ensures { IfOk result (λ a. meaning_of a ≡ meaning_of self.now) }
-    {
-        rows!(clone_rows(self, alloc))
-    }
-}
-
-const FAMILY: AttrFamily = AttrFamily::Rule;
 
 impl Nla for RuleAttribute {
     ghost shape = { λ a. writing.shape (meaning_of a) };
@@ -151,19 +134,6 @@ fn protocol_byte(protocol: IpProtocol) -> u8
     }
 }
 
-/// Puts what the attribute is into a place.
-fn read_into<P: Place<RuleAttribute>>(
-    place: &mut P,
-    alloc: Global,
-    item: &NlaBuffer<'_>,
-) -> Result<(), DecodeError>
-    requires { P.ready place.old }
-    ensures ok { IfOk result (λ _. (a : _) × P.puts place.old a place.new × attributes.Reads item.now (meaning_of a)) }
-    ensures refused { IfErr result (λ e. e ≢ OutOfMemory → attributes.Faulty item.now e) }
-{
-    rows!(put_rows(place, alloc, item))
-}
-
 impl Attribute for RuleAttribute {
     type Context = ();
 
@@ -177,32 +147,17 @@ impl Attribute for RuleAttribute {
 
     ghost shape_is = { λ a. refl };
 
-    fn read(
+    fn read_into<P: Place<Self>>(
+        place: &mut P,
         alloc: Global,
         _context: (),
         item: &NlaBuffer<'_>,
-        _looks: &mut Looks,
-    ) -> Result<Self, DecodeError> {
-        let mut place = None;
-        read_into(&mut place, alloc, item)?;
-        match place {
-            Some(attribute) => Ok(attribute),
-            None => unreachable!(),
-        }
-    }
-
-    fn read_onto(
-        list: &mut Vec<Self>,
-        alloc: Global,
-        _context: (),
-        item: &NlaBuffer<'_>,
-        _looks: &mut Looks,
+        looks: &mut Looks,
     ) -> Result<(), DecodeError> {
-        list.reserve(1)?;
-        read_into(list, alloc, item)
+        rows!(put_rows(place, alloc, item, looks))
     }
 
-    fn try_clone(&self, alloc: Global) -> Result<Self, AllocError> {
-        self.clone(alloc)
+    fn clone(&self, alloc: Global) -> Result<Self, AllocError> {
+        rows!(clone_rows(self, alloc))
     }
 }

@@ -3,7 +3,6 @@
 ghost use Rattle.std.specs.Prelude.{◌≡◌, pos};
 ghost use Rattle.npr_scalar.specs.IpProtocol.{ip_protocol_of, ip_protocol_number, byte_of};
 
-use npr_base::{number_of_variant, variant_of_number};
 
 /// A protocol over IP: `IPPROTO_*` of `linux/in.h`, a signed number of 32 bits.
 #[derive(Clone, Copy, Debug, Default, PartialEq, Eq)]
@@ -45,7 +44,7 @@ pub enum IpProtocol {
 /// Their numbers.
 macro_rules! numbers {
     ($body:ident ($($given:tt)*)) => {
-        $body!(($($given)*) IpProtocol {
+        npr_base::$body!(($($given)*) IpProtocol {
             0 Hopopts;
             1 Icmp;
             2 Igmp;

@@ -6,10 +6,7 @@ ghost use Rattle.{
   npr_scalar.specs.RouteProtocol.{route_protocol, route_protocol_of, route_protocol_number, route_protocol_text},
 };
 
-use npr_base::{
-    At, DecodeError, EmitError, Emitable, number_of_variant, read_u8, variant_of_number,
-    write_array, write_variant,
-};
+use npr_base::{At, DecodeError, EmitError, Emitable, read_u8, write_array};
 use std::fmt;
 
 /// Who made a route: `RTPROT_*` of `linux/rtnetlink.h`.
@@ -50,7 +47,7 @@ pub enum RouteProtocol {
 /// Their numbers and names.
 macro_rules! numbers {
     ($body:ident ($($given:tt)*)) => {
-        $body!(($($given)*) RouteProtocol {
+        npr_base::$body!(($($given)*) RouteProtocol {
             0 Unspec "unspec";
             1 IcmpRedirect "icmp_redirect";
             2 Kernel "kernel";

@@ -3,7 +3,6 @@
 ghost use Rattle.std.specs.Prelude.{◌≡◌, Some};
 ghost use Rattle.npr_scalar.specs.RouteScope.{route_scope_of, route_scope_number, route_scope_text};
 
-use npr_base::{number_of_variant, variant_of_number, write_variant};
 use std::fmt;
 
 /// How far the destination of a route is: `RT_SCOPE_*` of `linux/rtnetlink.h`.
@@ -27,7 +26,7 @@ pub enum RouteScope {
 /// Their numbers and names.
 macro_rules! numbers {
     ($body:ident ($($given:tt)*)) => {
-        $body!(($($given)*) RouteScope {
+        npr_base::$body!(($($given)*) RouteScope {
             0 Universe "universe";
             200 Site "site";
             253 Link "link";

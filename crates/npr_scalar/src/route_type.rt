@@ -3,7 +3,6 @@
 ghost use Rattle.std.specs.Prelude.{◌≡◌};
 ghost use Rattle.npr_scalar.specs.RouteType.{route_type_of, route_type_number};
 
-use npr_base::{number_of_variant, variant_of_number};
 
 /// What becomes of a packet on a route: `RTN_*` of `linux/rtnetlink.h`.
 #[derive(Clone, Copy, Debug, Default, PartialEq, Eq)]
@@ -40,7 +39,7 @@ pub enum RouteType {
 /// Their numbers.
 macro_rules! numbers {
     ($body:ident ($($given:tt)*)) => {
-        $body!(($($given)*) RouteType {
+        npr_base::$body!(($($given)*) RouteType {
             0 Unspec;
             1 Unicast;
             2 Local;

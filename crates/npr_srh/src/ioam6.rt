@@ -13,8 +13,7 @@ ghost use Rattle.{
 
 use npr_base::{
     AttrFamily, Attribute, DecodeError, DefaultNla, EmitError, Ipv6Addr, Looks, Nla, NlaBuffer,
-    Parseable, check_len, clone_rows, kind_rows, len_rows, read_rows, write_array, write_rows,
-    write_six_hex_digits,
+    Parseable, Place, put_read, write_array, write_six_hex_digits,
 };
 use std::alloc::{AllocError, Global};
 use std::fmt;
@@ -184,7 +183,7 @@ pub enum RouteIoam6Tunnel {
 /// The rows of the table.
 macro_rules! rows {
     ($body:ident ($($given:tt)*)) => {
-        $body!(($($given)*) RouteIoam6Tunnel {
+        npr_base::$body!(($($given)*) RouteIoam6Tunnel of Ioam6 {
             0 Unspecified;
             1 Mode(Ioam6Mode as byte);
             2 Dst(octets16);
@@ -193,18 +192,6 @@ macro_rules! rows {
             6 Src(octets16);
         })
     };
-}
-
-impl RouteIoam6Tunnel {
-    /// An equal member.
-    ///
-    /// # Errors
-    /// `AllocError` where memory is refused.
-    pub fn clone(&self, alloc: Global) -> Result<Self, AllocError>
-        ensures { IfOk result (λ a. meaning_of a ≡ meaning_of self.now) }
-    {
-        rows!(clone_rows(self, alloc; RouteIoam6Tunnel::Trace(trace) => Ok(RouteIoam6Tunnel::Trace(*trace)),))
-    }
 }
 
 impl Nla for RouteIoam6Tunnel {
@@ -240,22 +227,26 @@ impl Attribute for RouteIoam6Tunnel {
 
     ghost shape_is = { λ a. refl };
 
-    fn read(
+    fn read_into<P: Place<Self>>(
+        place: &mut P,
         alloc: Global,
         _context: (),
         item: &NlaBuffer<'_>,
         looks: &mut Looks,
-    ) -> Result<Self, DecodeError> {
-        rows!(read_rows(alloc, item, looks;
-            3 => match Ioam6TraceHdr::read(item.value()) {
-                Some(trace) => Ok(RouteIoam6Tunnel::Trace(trace)),
-                None => Ok(RouteIoam6Tunnel::Other(DefaultNla::parse(alloc, item)?)),
+    ) -> Result<(), DecodeError> {
+        rows!(put_rows(place, alloc, item, looks;
+            IOAM6_IPTUNNEL_TRACE => match Ioam6TraceHdr::read(item.value()) {
+                Some(trace) => {
+                    place.put(RouteIoam6Tunnel::Trace(trace));
+                    Ok(())
+                }
+                None => put_read(place, DefaultNla::read(alloc, item), RouteIoam6Tunnel::Other),
             },
         ))
     }
 
-    fn try_clone(&self, alloc: Global) -> Result<Self, AllocError> {
-        self.clone(alloc)
+    fn clone(&self, alloc: Global) -> Result<Self, AllocError> {
+        rows!(clone_rows(self, alloc; RouteIoam6Tunnel::Trace(trace) => Ok(RouteIoam6Tunnel::Trace(*trace)),))
     }
 }
 

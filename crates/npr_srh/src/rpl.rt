@@ -14,8 +14,7 @@ ghost use Rattle.{
 use crate::segments::{Segments, check_header, has_header};
 use npr_base::{
     AttrFamily, Attribute, DecodeError, DefaultNla, EmitError, Ipv6Addr, Looks, Nla, NlaBuffer,
-    Parseable, clone_rows, kind_rows, len_rows, read_rows, read_v6_list, v6_list_len, write_array,
-    write_rows, write_v6_list,
+    Parseable, Place, read_v6_list, v6_list_len, write_array, write_v6_list,
 };
 use std::alloc::{AllocError, Global};
 use std::fmt;
@@ -185,22 +184,10 @@ pub enum RouteRplIpTunnel {
 /// The rows of the table.
 macro_rules! rows {
     ($body:ident ($($given:tt)*)) => {
-        $body!(($($given)*) RouteRplIpTunnel {
+        npr_base::$body!(($($given)*) RouteRplIpTunnel of Rpl {
             0 Unspecified;
         })
     };
-}
-
-impl RouteRplIpTunnel {
-    /// An equal member.
-    ///
-    /// # Errors
-    /// `AllocError` where memory is refused.
-    pub fn clone(&self, alloc: Global) -> Result<Self, AllocError>
-        ensures { IfOk result (λ a. meaning_of a ≡ meaning_of self.now) }
-    {
-        rows!(clone_rows(self, alloc; RouteRplIpTunnel::Srh(header) => header.clone(alloc).map(RouteRplIpTunnel::Srh),))
-    }
 }
 
 impl Nla for RouteRplIpTunnel {
@@ -236,23 +223,30 @@ impl Attribute for RouteRplIpTunnel {
 
     ghost shape_is = { λ a. refl };
 
-    fn read(
+    fn read_into<P: Place<Self>>(
+        place: &mut P,
         alloc: Global,
         _context: (),
         item: &NlaBuffer<'_>,
         looks: &mut Looks,
-    ) -> Result<Self, DecodeError> {
+    ) -> Result<(), DecodeError> {
         match item.kind() {
             1 => match RplSrh::read(alloc, item.value())? {
-                Some(header) => Ok(RouteRplIpTunnel::Srh(header)),
-                None => Ok(RouteRplIpTunnel::Other(DefaultNla::parse(alloc, item)?)),
+                Some(header) => {
+                    place.put(RouteRplIpTunnel::Srh(header));
+                    Ok(())
+                }
+                None => {
+                    place.put(RouteRplIpTunnel::Other(DefaultNla::read(alloc, item)?));
+                    Ok(())
+                }
             },
-            _ => rows!(read_rows(alloc, item, looks)),
+            _ => rows!(put_rows(place, alloc, item, looks)),
         }
     }
 
-    fn try_clone(&self, alloc: Global) -> Result<Self, AllocError> {
-        self.clone(alloc)
+    fn clone(&self, alloc: Global) -> Result<Self, AllocError> {
+        rows!(clone_rows(self, alloc; RouteRplIpTunnel::Srh(header) => header.clone(alloc).map(RouteRplIpTunnel::Srh),))
     }
 }
 

@@ -1,12 +1,11 @@
 //! SEG6: members of its tunnel (RFC 8754; `linux/seg6_iptunnel.h`).
 
-ghost use Rattle.std.specs.Prelude.{◌≡◌, IfOk, refl};
+ghost use Rattle.std.specs.Prelude.{refl};
 ghost use Rattle.npr_srh.specs.Seg6Tunnel.{Meaning, meaning_of, writing, attributes};
 
 use crate::seg6_header::Seg6Header;
 use npr_base::{
-    AttrFamily, Attribute, DecodeError, DefaultNla, EmitError, Ipv6Addr, Looks, Nla, NlaBuffer,
-    Parseable, clone_rows, kind_rows, len_rows, read_rows, write_rows,
+    Attribute, DecodeError, DefaultNla, EmitError, Ipv6Addr, Looks, Nla, NlaBuffer, Place, put_read,
 };
 use std::alloc::{AllocError, Global};
 
@@ -26,27 +25,12 @@ pub enum RouteSeg6IpTunnel {
 /// The rows of the table.
 macro_rules! rows {
     ($body:ident ($($given:tt)*)) => {
-        $body!(($($given)*) RouteSeg6IpTunnel {
+        npr_base::$body!(($($given)*) RouteSeg6IpTunnel of Seg6 {
             2 Src(octets16);
             3 Table(le32);
         })
     };
 }
-
-impl RouteSeg6IpTunnel {
-    /// An equal member.
-    ///
-    /// # Errors
-    /// `AllocError` where memory is refused.
-    pub fn clone(&self, alloc: Global) -> Result<Self, AllocError>
-        ensures { IfOk result (λ a. meaning_of a ≡ meaning_of self.now) }
-    {
-        rows!(clone_rows(self, alloc; RouteSeg6IpTunnel::Seg6(header) => header.clone(alloc).map(RouteSeg6IpTunnel::Seg6),))
-    }
-}
-
-/// The family of these attributes.
-const FAMILY: AttrFamily = AttrFamily::Seg6;
 
 impl Nla for RouteSeg6IpTunnel {
     ghost shape = { λ a. writing.shape (meaning_of a) };
@@ -81,16 +65,17 @@ impl Attribute for RouteSeg6IpTunnel {
 
     ghost shape_is = { λ a. refl };
 
-    fn read(
+    fn read_into<P: Place<Self>>(
+        place: &mut P,
         alloc: Global,
         _context: (),
         item: &NlaBuffer<'_>,
         looks: &mut Looks,
-    ) -> Result<Self, DecodeError> {
-        rows!(read_rows(alloc, item, looks; 1 => Seg6Header::read(alloc, item.value()).map(RouteSeg6IpTunnel::Seg6),))
+    ) -> Result<(), DecodeError> {
+        rows!(put_rows(place, alloc, item, looks; 1 => put_read(place, Seg6Header::read(alloc, item.value()), RouteSeg6IpTunnel::Seg6),))
     }
 
-    fn try_clone(&self, alloc: Global) -> Result<Self, AllocError> {
-        self.clone(alloc)
+    fn clone(&self, alloc: Global) -> Result<Self, AllocError> {
+        rows!(clone_rows(self, alloc; RouteSeg6IpTunnel::Seg6(header) => header.clone(alloc).map(RouteSeg6IpTunnel::Seg6),))
     }
 }

@@ -3,7 +3,6 @@
 ghost use Rattle.std.specs.Prelude.{◌≡◌};
 ghost use Rattle.npr_srh.specs.Seg6Mode.{mode_of, mode_number};
 
-use npr_base::{number_of_variant, variant_of_number};
 
 /// How a SEG6 header is put in: `SEG6_IPTUN_MODE_*` of `linux/seg6_iptunnel.h`.
 #[derive(Clone, Copy, Debug, Default, PartialEq, Eq)]
@@ -26,7 +25,7 @@ pub enum Seg6Mode {
 /// Their numbers.
 macro_rules! numbers {
     ($body:ident ($($given:tt)*)) => {
-        $body!(($($given)*) Seg6Mode {
+        npr_base::$body!(($($given)*) Seg6Mode {
             0 Inline;
             1 Encap;
             2 L2Encap;

@@ -1,14 +1,13 @@
 //! SEG6 local: members of its tunnel (RFC 8986; `linux/seg6_local.h`).
 
-ghost use Rattle.std.specs.Prelude.{◌≡◌, IfOk, refl};
+ghost use Rattle.std.specs.Prelude.{refl};
 ghost use Rattle.npr_srh.specs.Seg6LocalTunnel.{Meaning, meaning_of, writing, attributes, local_text};
 
 use crate::seg6local_action::Seg6LocalAction;
 use crate::seg6local_srh::Seg6LocalSrh;
 use crate::segments::Segments;
 use npr_base::{
-    AttrFamily, Attribute, DecodeError, DefaultNla, EmitError, Ipv4Addr, Ipv6Addr, Looks, Nla,
-    NlaBuffer, Parseable, clone_rows, kind_rows, len_rows, read_rows, write_rows,
+    Attribute, DecodeError, DefaultNla, EmitError, Ipv4Addr, Ipv6Addr, Looks, Nla, NlaBuffer, Place,
 };
 use std::alloc::{AllocError, Global};
 use std::fmt;
@@ -42,7 +41,7 @@ pub enum RouteSeg6LocalTunnel {
 /// The rows of the table.
 macro_rules! rows {
     ($body:ident ($($given:tt)*)) => {
-        $body!(($($given)*) RouteSeg6LocalTunnel {
+        npr_base::$body!(($($given)*) RouteSeg6LocalTunnel of Seg6Local {
             0 Unspecified;
             1 Action(Seg6LocalAction as le32);
             3 Table(le32);
@@ -54,21 +53,6 @@ macro_rules! rows {
         })
     };
 }
-
-impl RouteSeg6LocalTunnel {
-    /// An equal member.
-    ///
-    /// # Errors
-    /// `AllocError` where memory is refused.
-    pub fn clone(&self, alloc: Global) -> Result<Self, AllocError>
-        ensures { IfOk result (λ a. meaning_of a ≡ meaning_of self.now) }
-    {
-        rows!(clone_rows(self, alloc; RouteSeg6LocalTunnel::Srh(header) => header.clone(alloc).map(RouteSeg6LocalTunnel::Srh),))
-    }
-}
-
-/// The family of these attributes.
-const FAMILY: AttrFamily = AttrFamily::Seg6Local;
 
 impl Nla for RouteSeg6LocalTunnel {
     ghost shape = { λ a. writing.shape (meaning_of a) };
@@ -103,23 +87,30 @@ impl Attribute for RouteSeg6LocalTunnel {
 
     ghost shape_is = { λ a. refl };
 
-    fn read(
+    fn read_into<P: Place<Self>>(
+        place: &mut P,
         alloc: Global,
         _context: (),
         item: &NlaBuffer<'_>,
         looks: &mut Looks,
-    ) -> Result<Self, DecodeError> {
+    ) -> Result<(), DecodeError> {
         match item.kind() {
             2 => match Seg6LocalSrh::read(alloc, item.value())? {
-                Some(header) => Ok(RouteSeg6LocalTunnel::Srh(header)),
-                None => Ok(RouteSeg6LocalTunnel::Other(DefaultNla::parse(alloc, item)?)),
+                Some(header) => {
+                    place.put(RouteSeg6LocalTunnel::Srh(header));
+                    Ok(())
+                }
+                None => {
+                    place.put(RouteSeg6LocalTunnel::Other(DefaultNla::read(alloc, item)?));
+                    Ok(())
+                }
             },
-            _ => rows!(read_rows(alloc, item, looks)),
+            _ => rows!(put_rows(place, alloc, item, looks)),
         }
     }
 
-    fn try_clone(&self, alloc: Global) -> Result<Self, AllocError> {
-        self.clone(alloc)
+    fn clone(&self, alloc: Global) -> Result<Self, AllocError> {
+        rows!(clone_rows(self, alloc; RouteSeg6LocalTunnel::Srh(header) => header.clone(alloc).map(RouteSeg6LocalTunnel::Srh),))
     }
 }
 

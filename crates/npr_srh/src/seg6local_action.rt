@@ -3,7 +3,6 @@
 ghost use Rattle.std.specs.Prelude.{◌≡◌, Some};
 ghost use Rattle.npr_srh.specs.Seg6LocalAction.{action_of, action_number, action_text};
 
-use npr_base::{number_of_variant, variant_of_number, write_variant};
 use std::fmt;
 
 /// What is done at a local segment: `SEG6_LOCAL_ACTION_*` of `linux/seg6_local.h`.
@@ -51,7 +50,7 @@ pub enum Seg6LocalAction {
 /// Their numbers and names.
 macro_rules! numbers {
     ($body:ident ($($given:tt)*)) => {
-        $body!(($($given)*) Seg6LocalAction {
+        npr_base::$body!(($($given)*) Seg6LocalAction {
             1 End "End";
             2 EndX "End.X";
             3 EndT "End.T";

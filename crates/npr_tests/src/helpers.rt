@@ -235,7 +235,7 @@ pub(crate) fn is_member<A: Attribute + PartialEq + Drop>(
 ) -> Result<(), Fail> {
     let found = member_of::<A>(rt, context, texts)??;
     holds(rt, found == wanted);
-    holds(rt, found.try_clone(rt.alloc())? == wanted);
+    holds(rt, found.clone(rt.alloc())? == wanted);
     writes(rt, found, canonical)
 }
 

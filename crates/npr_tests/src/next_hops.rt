@@ -3,7 +3,8 @@
 use crate::helpers::{INET, LABEL, bytes_of, holds, reads, refuses, rewrites_lines, same, writes};
 use netlink_packet_route::AddressFamily;
 use netlink_packet_route::framing::{
-    DecodeError, DefaultNla, EmitError, Emitable, Looks, Nla, Parseable, ParseableParametrized,
+    Attribute, DecodeError, DefaultNla, EmitError, Emitable, Looks, Nla, Parseable,
+    ParseableParametrized,
 };
 use netlink_packet_route::route::{
     RouteAttribute, RouteLwEnCapType, RouteLwTunnelEncap, RouteMessage, RouteMplsIpTunnel,

@@ -1,6 +1,6 @@
 //! The members of an encapsulation, by its type.
 
-ghost use Rattle.std.specs.Prelude.{◌≡◌, IfOk, refl};
+ghost use Rattle.std.specs.Prelude.{◌≡◌, refl};
 ghost use Rattle.npr_tunnel.specs.Encapsulation.{Meaning, meaning_of, normalized, writing, encapsulation};
 
 use crate::encap_type::RouteLwEnCapType;
@@ -8,7 +8,9 @@ use crate::ip::RouteIpTunnel;
 use crate::ip6::RouteIp6Tunnel;
 use crate::mpls::RouteMplsIpTunnel;
 use crate::xfrm::RouteXfrmTunnel;
-use npr_base::{Attribute, DecodeError, DefaultNla, EmitError, Looks, Nla, NlaBuffer, Parseable};
+use npr_base::{
+    Attribute, DecodeError, DefaultNla, EmitError, Looks, Nla, NlaBuffer, Place, put_read,
+};
 use npr_srh::{RouteIoam6Tunnel, RouteRplIpTunnel, RouteSeg6IpTunnel, RouteSeg6LocalTunnel};
 use std::alloc::{AllocError, Global};
 
@@ -71,27 +73,18 @@ macro_rules! cloned {
     };
 }
 
-/// The member of the family of a type.
-macro_rules! member_of {
-    (($kind:expr, $alloc:expr, $item:expr, $looks:expr) { $($variant:ident($family:ident);)* }) => {
+/// Puts the member of the family of a type.
+macro_rules! put_member {
+    (($place:expr, $kind:expr, $alloc:expr, $item:expr, $looks:expr) { $($variant:ident($family:ident);)* }) => {
         match $kind {
-            $(RouteLwEnCapType::$variant => $family::read($alloc, (), $item, $looks).map(RouteLwTunnelEncap::$variant),)*
-            _ => DefaultNla::parse($alloc, $item).map(RouteLwTunnelEncap::Other),
+            $(RouteLwEnCapType::$variant =>
+                put_read($place, $family::read($alloc, (), $item, $looks), RouteLwTunnelEncap::$variant),)*
+            _ => put_read($place, DefaultNla::read($alloc, $item), RouteLwTunnelEncap::Other),
         }
     };
 }
 
 impl RouteLwTunnelEncap {
-    /// An equal member.
-    ///
-    /// # Errors
-    /// `AllocError` where memory is refused.
-    pub fn clone(&self, alloc: Global) -> Result<Self, AllocError>
-        ensures { IfOk result (λ a. meaning_of a ≡ meaning_of self.now) }
-    {
-        members!(cloned(self, alloc))
-    }
-
     /// Gives the mode of a SEG6 header the name that its number has today: `Seg6Header::normalize`.
     pub fn normalize(&mut self)
         ensures { meaning_of self.new ≡ normalized (meaning_of self.old) }
@@ -135,16 +128,17 @@ impl Attribute for RouteLwTunnelEncap {
 
     ghost shape_is = { λ a. refl };
 
-    fn read(
+    fn read_into<P: Place<Self>>(
+        place: &mut P,
         alloc: Global,
         kind: RouteLwEnCapType,
         item: &NlaBuffer<'_>,
         looks: &mut Looks,
-    ) -> Result<Self, DecodeError> {
-        members!(member_of(kind, alloc, item, looks))
+    ) -> Result<(), DecodeError> {
+        members!(put_member(place, kind, alloc, item, looks))
     }
 
-    fn try_clone(&self, alloc: Global) -> Result<Self, AllocError> {
-        self.clone(alloc)
+    fn clone(&self, alloc: Global) -> Result<Self, AllocError> {
+        members!(cloned(self, alloc))
     }
 }

@@ -3,9 +3,7 @@
 ghost use Rattle.std.specs.Prelude.{◌≡◌, Some, None};
 ghost use Rattle.npr_tunnel.specs.EncapType.{encap_type, encap_type_of, encap_type_number, encap_type_text};
 
-use npr_base::{
-    EmitError, Emitable, number_of_variant, variant_of_number, write_array, write_variant,
-};
+use npr_base::{EmitError, Emitable, write_array};
 use std::fmt;
 
 /// The type of an encapsulation: `LWTUNNEL_ENCAP_*` of `linux/lwtunnel.h`. It is written as 2
@@ -42,7 +40,7 @@ pub enum RouteLwEnCapType {
 /// Their numbers and names.
 macro_rules! numbers {
     ($body:ident ($($given:tt)*)) => {
-        $body!(($($given)*) RouteLwEnCapType {
+        npr_base::$body!(($($given)*) RouteLwEnCapType {
             0 None "none";
             1 Mpls "mpls";
             2 Ip "ip";

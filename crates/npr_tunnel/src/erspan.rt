@@ -1,12 +1,9 @@
 //! Options of ERSPAN: `LWTUNNEL_IP_OPT_ERSPAN_*` of `linux/lwtunnel.h`.
 
-ghost use Rattle.std.specs.{Prelude.{◌≡◌, map, IfOk, refl}, Fmt.{WritesOnOk}};
+ghost use Rattle.std.specs.{Prelude.{map, refl}, Fmt.{WritesOnOk}};
 ghost use Rattle.npr_tunnel.specs.ErspanOptions.{Meaning, meaning_of, writing, attributes, erspan_text};
 
-use npr_base::{
-    AttrFamily, Attribute, DecodeError, DefaultNla, EmitError, Looks, Nla, NlaBuffer, Parseable,
-    clone_rows, kind_rows, len_rows, read_rows, write_rows,
-};
+use npr_base::{Attribute, DecodeError, DefaultNla, EmitError, Looks, Nla, NlaBuffer, Place};
 use std::alloc::{AllocError, Global};
 use std::fmt;
 
@@ -28,7 +25,7 @@ pub enum RouteErspanOpt {
 /// The rows of the table.
 macro_rules! rows {
     ($body:ident ($($given:tt)*)) => {
-        $body!(($($given)*) RouteErspanOpt {
+        npr_base::$body!(($($given)*) RouteErspanOpt of Erspan {
             1 Ver(byte);
             2 Index(be32);
             3 Dir(byte);
@@ -36,21 +33,6 @@ macro_rules! rows {
         })
     };
 }
-
-impl RouteErspanOpt {
-    /// An equal option.
-    ///
-    /// # Errors
-    /// `AllocError` where memory is refused.
-    pub fn clone(&self, alloc: Global) -> Result<Self, AllocError>
-        ensures { IfOk result (λ a. meaning_of a ≡ meaning_of self.now) }
-    {
-        rows!(clone_rows(self, alloc))
-    }
-}
-
-/// The family of these attributes.
-const FAMILY: AttrFamily = AttrFamily::Erspan;
 
 impl Nla for RouteErspanOpt {
     ghost shape = { λ a. writing.shape (meaning_of a) };
@@ -85,17 +67,18 @@ impl Attribute for RouteErspanOpt {
 
     ghost shape_is = { λ a. refl };
 
-    fn read(
+    fn read_into<P: Place<Self>>(
+        place: &mut P,
         alloc: Global,
         _context: (),
         item: &NlaBuffer<'_>,
         looks: &mut Looks,
-    ) -> Result<Self, DecodeError> {
-        rows!(read_rows(alloc, item, looks))
+    ) -> Result<(), DecodeError> {
+        rows!(put_rows(place, alloc, item, looks))
     }
 
-    fn try_clone(&self, alloc: Global) -> Result<Self, AllocError> {
-        self.clone(alloc)
+    fn clone(&self, alloc: Global) -> Result<Self, AllocError> {
+        rows!(clone_rows(self, alloc))
     }
 }
 

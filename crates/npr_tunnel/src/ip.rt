@@ -1,6 +1,6 @@
 //! Tunnels over IP version 4: `LWTUNNEL_IP_*` of `linux/lwtunnel.h`.
 
-ghost use Rattle.std.specs.Prelude.{◌≡◌, IfOk, refl};
+ghost use Rattle.std.specs.Prelude.{refl};
 ghost use Rattle.npr_tunnel.specs.IpTunnel.{Meaning, meaning_of, writing, attributes, ip_tunnel_text};
 
 use crate::flags::{RouteIpTunnelFlags, write_flags};
@@ -8,8 +8,8 @@ use crate::ip_rows;
 use crate::tunnel_opts::RouteLwTunnelOpt;
 use bitflags::Flags;
 use npr_base::{
-    AttrFamily, Attribute, DecodeError, DefaultNla, EmitError, Ipv4Addr, Looks, NLA_F_NESTED, Nla,
-    NlaBuffer, Parseable, clone_rows, kind_rows, len_rows, read_rows, write_joined, write_rows,
+    Attribute, DecodeError, DefaultNla, EmitError, Ipv4Addr, Looks, Nla, NlaBuffer, Place,
+    write_joined,
 };
 use std::alloc::{AllocError, Global};
 use std::fmt;
@@ -41,24 +41,9 @@ pub enum RouteIpTunnel {
 /// The rows of the table.
 macro_rules! rows {
     ($body:ident ($($given:tt)*)) => {
-        ip_rows!($body($($given)*) RouteIpTunnel, octets4, Ttl, Tos, RouteIpTunnelFlags)
+        ip_rows!($body($($given)*) RouteIpTunnel of Ip, octets4, Ttl, Tos, RouteIpTunnelFlags)
     };
 }
-
-impl RouteIpTunnel {
-    /// An equal member.
-    ///
-    /// # Errors
-    /// `AllocError` where memory is refused.
-    pub fn clone(&self, alloc: Global) -> Result<Self, AllocError>
-        ensures { IfOk result (λ a. meaning_of a ≡ meaning_of self.now) }
-    {
-        rows!(clone_rows(self, alloc))
-    }
-}
-
-/// The family of these attributes.
-const FAMILY: AttrFamily = AttrFamily::Ip;
 
 impl Nla for RouteIpTunnel {
     ghost shape = { λ a. (writing 4).shape (meaning_of a) };
@@ -93,17 +78,18 @@ impl Attribute for RouteIpTunnel {
 
     ghost shape_is = { λ a. refl };
 
-    fn read(
+    fn read_into<P: Place<Self>>(
+        place: &mut P,
         alloc: Global,
         _context: (),
         item: &NlaBuffer<'_>,
         looks: &mut Looks,
-    ) -> Result<Self, DecodeError> {
-        rows!(read_rows(alloc, item, looks))
+    ) -> Result<(), DecodeError> {
+        rows!(put_rows(place, alloc, item, looks))
     }
 
-    fn try_clone(&self, alloc: Global) -> Result<Self, AllocError> {
-        self.clone(alloc)
+    fn clone(&self, alloc: Global) -> Result<Self, AllocError> {
+        rows!(clone_rows(self, alloc))
     }
 }
 

@@ -1,6 +1,6 @@
 //! Tunnels over IP version 6: `LWTUNNEL_IP6_*` of `linux/lwtunnel.h`.
 
-ghost use Rattle.std.specs.Prelude.{◌≡◌, IfOk, refl};
+ghost use Rattle.std.specs.Prelude.{refl};
 ghost use Rattle.npr_tunnel.specs.IpTunnel.{Meaning, meaning6_of, writing, attributes6, ip6_tunnel_text};
 
 use crate::flags::{RouteIp6TunnelFlags, write_flags};
@@ -8,8 +8,8 @@ use crate::ip_rows;
 use crate::tunnel_opts::RouteLwTunnelOpt;
 use bitflags::Flags;
 use npr_base::{
-    AttrFamily, Attribute, DecodeError, DefaultNla, EmitError, Ipv6Addr, Looks, NLA_F_NESTED, Nla,
-    NlaBuffer, Parseable, clone_rows, kind_rows, len_rows, read_rows, write_joined, write_rows,
+    Attribute, DecodeError, DefaultNla, EmitError, Ipv6Addr, Looks, Nla, NlaBuffer, Place,
+    write_joined,
 };
 use std::alloc::{AllocError, Global};
 use std::fmt;
@@ -41,24 +41,9 @@ pub enum RouteIp6Tunnel {
 /// The rows of the table.
 macro_rules! rows {
     ($body:ident ($($given:tt)*)) => {
-        ip_rows!($body($($given)*) RouteIp6Tunnel, octets16, Hoplimit, Tc, RouteIp6TunnelFlags)
+        ip_rows!($body($($given)*) RouteIp6Tunnel of Ip6, octets16, Hoplimit, Tc, RouteIp6TunnelFlags)
     };
 }
-
-impl RouteIp6Tunnel {
-    /// An equal member.
-    ///
-    /// # Errors
-    /// `AllocError` where memory is refused.
-    pub fn clone(&self, alloc: Global) -> Result<Self, AllocError>
-        ensures { IfOk result (λ a. meaning6_of a ≡ meaning6_of self.now) }
-    {
-        rows!(clone_rows(self, alloc))
-    }
-}
-
-/// The family of these attributes.
-const FAMILY: AttrFamily = AttrFamily::Ip6;
 
 impl Nla for RouteIp6Tunnel {
     ghost shape = { λ a. (writing 16).shape (meaning6_of a) };
@@ -93,17 +78,18 @@ impl Attribute for RouteIp6Tunnel {
 
     ghost shape_is = { λ a. refl };
 
-    fn read(
+    fn read_into<P: Place<Self>>(
+        place: &mut P,
         alloc: Global,
         _context: (),
         item: &NlaBuffer<'_>,
         looks: &mut Looks,
-    ) -> Result<Self, DecodeError> {
-        rows!(read_rows(alloc, item, looks))
+    ) -> Result<(), DecodeError> {
+        rows!(put_rows(place, alloc, item, looks))
     }
 
-    fn try_clone(&self, alloc: Global) -> Result<Self, AllocError> {
-        self.clone(alloc)
+    fn clone(&self, alloc: Global) -> Result<Self, AllocError> {
+        rows!(clone_rows(self, alloc))
     }
 }
 

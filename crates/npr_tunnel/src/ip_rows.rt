@@ -4,8 +4,8 @@
 /// The rows, given these five.
 #[macro_export]
 macro_rules! ip_rows {
-    ($body:ident ($($given:tt)*) $family:ident, $address:ident, $hops:ident, $service:ident, $flags:ident) => {
-        $body!(($($given)*) $family {
+    ($body:ident ($($given:tt)*) $family:ident of $at:ident, $address:ident, $hops:ident, $service:ident, $flags:ident) => {
+        npr_base::$body!(($($given)*) $family of $at {
             0 Unspecified;
             1 Id(be64);
             2 Destination($address);
@@ -13,7 +13,7 @@ macro_rules! ip_rows {
             4 $hops(byte);
             5 $service(byte);
             6 Flags($flags flags be16);
-            8 Opts(list) as NLA_F_NESTED + 8;
+            8 Opts(list) as npr_base::NLA_F_NESTED + 8;
         })
     };
 }

@@ -1,11 +1,10 @@
 //! The tunnel of MPLS: `MPLS_IPTUNNEL_*` of `linux/mpls_iptunnel.h`.
 
-ghost use Rattle.std.specs.Prelude.{◌≡◌, IfOk, refl};
+ghost use Rattle.std.specs.Prelude.{refl};
 ghost use Rattle.npr_tunnel.specs.MplsTunnel.{Meaning, meaning_of, writing, attributes};
 
 use npr_base::{
-    AttrFamily, Attribute, DecodeError, DefaultNla, EmitError, Looks, Nla, NlaBuffer, Parseable,
-    clone_rows, kind_rows, len_rows, read_rows, write_rows,
+    Attribute, DecodeError, DefaultNla, EmitError, Looks, Nla, NlaBuffer, Place, put_read,
 };
 use npr_scalar::{MplsLabel, labels_len, read_labels, write_labels};
 use std::alloc::{AllocError, Global};
@@ -24,26 +23,11 @@ pub enum RouteMplsIpTunnel {
 /// The rows of the table.
 macro_rules! rows {
     ($body:ident ($($given:tt)*)) => {
-        $body!(($($given)*) RouteMplsIpTunnel {
+        npr_base::$body!(($($given)*) RouteMplsIpTunnel of Mpls {
             2 Ttl(byte);
         })
     };
 }
-
-impl RouteMplsIpTunnel {
-    /// An equal member.
-    ///
-    /// # Errors
-    /// `AllocError` where memory is refused.
-    pub fn clone(&self, alloc: Global) -> Result<Self, AllocError>
-        ensures { IfOk result (λ a. meaning_of a ≡ meaning_of self.now) }
-    {
-        rows!(clone_rows(self, alloc; RouteMplsIpTunnel::Destination(x) => Vec::from_slice(alloc, x.as_slice()).map(RouteMplsIpTunnel::Destination),))
-    }
-}
-
-/// The family of these attributes.
-const FAMILY: AttrFamily = AttrFamily::Mpls;
 
 impl Nla for RouteMplsIpTunnel {
     ghost shape = { λ a. writing.shape (meaning_of a) };
@@ -78,16 +62,17 @@ impl Attribute for RouteMplsIpTunnel {
 
     ghost shape_is = { λ a. refl };
 
-    fn read(
+    fn read_into<P: Place<Self>>(
+        place: &mut P,
         alloc: Global,
         _context: (),
         item: &NlaBuffer<'_>,
         looks: &mut Looks,
-    ) -> Result<Self, DecodeError> {
-        rows!(read_rows(alloc, item, looks; 1 => read_labels(alloc, item.value()).map(RouteMplsIpTunnel::Destination),))
+    ) -> Result<(), DecodeError> {
+        rows!(put_rows(place, alloc, item, looks; 1 => put_read(place, read_labels(alloc, item.value()), RouteMplsIpTunnel::Destination),))
     }
 
-    fn try_clone(&self, alloc: Global) -> Result<Self, AllocError> {
-        self.clone(alloc)
+    fn clone(&self, alloc: Global) -> Result<Self, AllocError> {
+        rows!(clone_rows(self, alloc; RouteMplsIpTunnel::Destination(x) => Vec::from_slice(alloc, x.as_slice()).map(RouteMplsIpTunnel::Destination),))
     }
 }

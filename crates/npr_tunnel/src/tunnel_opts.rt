@@ -1,14 +1,14 @@
 //! Options of tunnels over IP: `LWTUNNEL_IP_OPTS_*` of `linux/lwtunnel.h`.
 
-ghost use Rattle.std.specs.Prelude.{◌≡◌, IfOk, refl};
+ghost use Rattle.std.specs.Prelude.{refl};
 ghost use Rattle.npr_tunnel.specs.TunnelOptions.{Meaning, meaning_of, writing, attributes, tunnel_option_text};
 
 use crate::erspan::{RouteErspanOpt, write_erspan};
 use crate::geneve::{RouteGeneveOpt, check_options, clone_options, read_options, write_options};
 use crate::vxlan::RouteVxlanOpt;
 use npr_base::{
-    Attribute, DecodeError, DefaultNla, EmitError, Looks, NLA_F_NESTED, Nla, NlaBuffer, Parseable,
-    clone_rows, kind_rows, len_rows, read_rows, write_joined, write_rows,
+    Attribute, DecodeError, DefaultNla, EmitError, Looks, NLA_F_NESTED, Nla, NlaBuffer, Place,
+    put_read, write_joined,
 };
 use std::alloc::{AllocError, Global};
 use std::fmt;
@@ -29,23 +29,11 @@ pub enum RouteLwTunnelOpt {
 /// The rows of the table.
 macro_rules! rows {
     ($body:ident ($($given:tt)*)) => {
-        $body!(($($given)*) RouteLwTunnelOpt {
+        npr_base::$body!(($($given)*) RouteLwTunnelOpt of Opt {
             2 Vxlan(list) as NLA_F_NESTED + 2;
             3 Erspan(list) as NLA_F_NESTED + 3;
         })
     };
-}
-
-impl RouteLwTunnelOpt {
-    /// An equal option.
-    ///
-    /// # Errors
-    /// `AllocError` where memory is refused.
-    pub fn clone(&self, alloc: Global) -> Result<Self, AllocError>
-        ensures { IfOk result (λ a. meaning_of a ≡ meaning_of self.now) }
-    {
-        rows!(clone_rows(self, alloc; RouteLwTunnelOpt::Geneve(v) => clone_options(alloc, v.as_slice()).map(RouteLwTunnelOpt::Geneve),))
-    }
 }
 
 impl Nla for RouteLwTunnelOpt {
@@ -81,17 +69,18 @@ impl Attribute for RouteLwTunnelOpt {
 
     ghost shape_is = { λ a. refl };
 
-    fn read(
+    fn read_into<P: Place<Self>>(
+        place: &mut P,
         alloc: Global,
         _context: (),
         item: &NlaBuffer<'_>,
         looks: &mut Looks,
-    ) -> Result<Self, DecodeError> {
-        rows!(read_rows(alloc, item, looks; 1 => read_options(alloc, item.value(), looks).map(RouteLwTunnelOpt::Geneve),))
+    ) -> Result<(), DecodeError> {
+        rows!(put_rows(place, alloc, item, looks; 1 => put_read(place, read_options(alloc, item.value(), looks), RouteLwTunnelOpt::Geneve),))
     }
 
-    fn try_clone(&self, alloc: Global) -> Result<Self, AllocError> {
-        self.clone(alloc)
+    fn clone(&self, alloc: Global) -> Result<Self, AllocError> {
+        rows!(clone_rows(self, alloc; RouteLwTunnelOpt::Geneve(v) => clone_options(alloc, v.as_slice()).map(RouteLwTunnelOpt::Geneve),))
     }
 }
 

@@ -1,12 +1,9 @@
 //! Options of VXLAN: `LWTUNNEL_IP_OPT_VXLAN_*` of `linux/lwtunnel.h`.
 
-ghost use Rattle.std.specs.Prelude.{◌≡◌, IfOk, refl};
+ghost use Rattle.std.specs.Prelude.{refl};
 ghost use Rattle.npr_tunnel.specs.VxlanOptions.{Meaning, meaning_of, writing, attributes, vxlan_text};
 
-use npr_base::{
-    AttrFamily, Attribute, DecodeError, DefaultNla, EmitError, Looks, Nla, NlaBuffer, Parseable,
-    clone_rows, kind_rows, len_rows, read_rows, write_rows,
-};
+use npr_base::{Attribute, DecodeError, DefaultNla, EmitError, Looks, Nla, NlaBuffer, Place};
 use std::alloc::{AllocError, Global};
 use std::fmt;
 
@@ -22,26 +19,11 @@ pub enum RouteVxlanOpt {
 /// The rows of the table.
 macro_rules! rows {
     ($body:ident ($($given:tt)*)) => {
-        $body!(($($given)*) RouteVxlanOpt {
+        npr_base::$body!(($($given)*) RouteVxlanOpt of Vxlan {
             1 Gbp(le32);
         })
     };
 }
-
-impl RouteVxlanOpt {
-    /// An equal option.
-    ///
-    /// # Errors
-    /// `AllocError` where memory is refused.
-    pub fn clone(&self, alloc: Global) -> Result<Self, AllocError>
-        ensures { IfOk result (λ a. meaning_of a ≡ meaning_of self.now) }
-    {
-        rows!(clone_rows(self, alloc))
-    }
-}
-
-/// The family of these attributes.
-const FAMILY: AttrFamily = AttrFamily::Vxlan;
 
 impl Nla for RouteVxlanOpt {
     ghost shape = { λ a. writing.shape (meaning_of a) };
@@ -76,17 +58,18 @@ impl Attribute for RouteVxlanOpt {
 
     ghost shape_is = { λ a. refl };
 
-    fn read(
+    fn read_into<P: Place<Self>>(
+        place: &mut P,
         alloc: Global,
         _context: (),
         item: &NlaBuffer<'_>,
         looks: &mut Looks,
-    ) -> Result<Self, DecodeError> {
-        rows!(read_rows(alloc, item, looks))
+    ) -> Result<(), DecodeError> {
+        rows!(put_rows(place, alloc, item, looks))
     }
 
-    fn try_clone(&self, alloc: Global) -> Result<Self, AllocError> {
-        self.clone(alloc)
+    fn clone(&self, alloc: Global) -> Result<Self, AllocError> {
+        rows!(clone_rows(self, alloc))
     }
 }
 

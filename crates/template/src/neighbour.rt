@@ -6,12 +6,11 @@ ghost use Rattle.{
   netlink_packet_route.specs.{Codec.{leading}, Refusal.{no_place}},
 };
 
-use netlink_packet_route::family::leading_octets;
+use netlink_packet_route::family::{Place, leading_octets};
 use netlink_packet_route::framing::{
-    AttrFamily, Attribute, DecodeError, DefaultNla, EmitError, Looks, Nla, NlaBuffer, Parseable,
+    Attribute, DecodeError, DefaultNla, EmitError, Looks, Nla, NlaBuffer,
 };
 use netlink_packet_route::net::IpAddr;
-use npr_base::{clone_rows, kind_rows, len_rows, read_rows, write_rows};
 use std::alloc::{AllocError, Global};
 
 /// When a neighbour was last confirmed, used and changed, in hundredths of a second before now, and
@@ -75,10 +74,10 @@ pub enum NeighbourAttribute {
     Other(DefaultNla),
 }
 
-/// The rows of the table.
+/// The rows of the table. Refusals name no family of the library.
 macro_rules! rows {
     ($body:ident ($($given:tt)*)) => {
-        $body!(($($given)*) NeighbourAttribute {
+        npr_base::$body!(($($given)*) NeighbourAttribute of Value {
             1 Destination(ip);
             2 LinkLayerAddress(raw);
             3 CacheInfo(NeighbourCacheInfo leading 16);
@@ -86,9 +85,6 @@ macro_rules! rows {
         })
     };
 }
-
-/// What refusals name: no family of the library.
-const FAMILY: AttrFamily = AttrFamily::Value;
 
 impl Nla for NeighbourAttribute {
     ghost shape = { λ a. writing.shape (meaning_of a) };
@@ -123,16 +119,17 @@ impl Attribute for NeighbourAttribute {
 
     ghost shape_is = { λ a. refl };
 
-    fn read(
+    fn read_into<P: Place<Self>>(
+        place: &mut P,
         alloc: Global,
         _context: (),
         item: &NlaBuffer<'_>,
         looks: &mut Looks,
-    ) -> Result<Self, DecodeError> {
-        rows!(read_rows(alloc, item, looks))
+    ) -> Result<(), DecodeError> {
+        rows!(put_rows(place, alloc, item, looks))
     }
 
-    fn try_clone(&self, alloc: Global) -> Result<Self, AllocError> {
+    fn clone(&self, alloc: Global) -> Result<Self, AllocError> {
         rows!(clone_rows(self, alloc))
     }
 }

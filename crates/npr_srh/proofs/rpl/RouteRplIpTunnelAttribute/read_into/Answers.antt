@@ -1,0 +1,11 @@
+use Rattle.std.proofs.Common.{inr, ap, ◌∙◌, sym, rules}
+use Rattle.npr_srh.specs.Keeping.{IsUnreadable}
+use Rattle.npr_srh.specs.RplTunnel.{other, srh_row}
+use Rattle.npr_srh.proofs.rpl.RouteRplIpTunnelAttribute.read_into.Goals as goal
+
+pub returns-in_ok-read-in-None-clause-ok : goal.returns-in_ok-read-in-None-clause-ok
+returns-in_ok-read-in-None-clause-ok g c =
+    let unread = rw c.in-None.is at c.in_ok-header-in-1.ensures.none in
+    let unread_here = rw c.value.ensures at unread in
+    let unreadable : IsUnreadable srh_row c.args.item.now = record { number = sym c.kind.ensures ∙ c.in-1.is; unread = unread_here } in
+    (_, c.put-in-None.ensures, inr (record { unreadable = unreadable; is = ap other c.in_ok-read-in-None.ensures.ok }), search rules)
