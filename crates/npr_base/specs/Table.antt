@@ -1,6 +1,7 @@
 -- Families of attributes, and those that are read by a table of numbers.
 use Rattle.std.specs.Prelude.{◌≡◌, ℕ, ◌+◌, ◌*◌, ◌<◌, ◌≤◌, ◌^◌, ◌==◌, Bool, true, false, List, [], ◌∷◌, length, Option, None, if◌then◌else◌}
 use Rattle.std.specs.Bool.{MatchBool}
+use Rattle.std.proofs.Common.{refl}
 use Rattle.npr_base.specs.declared.refusal.At.{At}
 use Rattle.npr_base.specs.declared.refusal.DecodeError.{DecodeError}
 use Rattle.npr_base.specs.declared.refusal.EmitError.{EmitError}
@@ -95,48 +96,57 @@ pub record IsOther {M : Type 0} (rows : List (Row M)) (x : Item) : Type 0 where
   pub proper : Proper x
   pub alone : has_row rows (number_of x.kind) ≡ false
 
--- a value in its place: the kind that is written, whether NESTED is set in it besides, and the value
--- under its codec
+-- a value in its place: the kind that is written, whether NESTED is set in it besides, and the value under its codec; or an
+-- attribute that is kept as it stands
 pub data Held : Type 1 where
   held_marked : {V : Type 0} → Bool → ℕ → Codec V → V → Held
-
-abbrev pub held_kind : Held → ℕ
-held_kind (held_marked nested kind codec value) = kind
-
-abbrev pub held_nested : Held → Bool
-held_nested (held_marked nested kind codec value) = nested
-
-abbrev pub HeldType : Held → Type 0
-HeldType (held_marked {V} nested kind codec value) = V
-
-abbrev pub held_codec : (h : Held) → Codec (HeldType h)
-held_codec (held_marked nested kind codec value) = codec
-
-abbrev pub held_value : (h : Held) → HeldType h
-held_value (held_marked nested kind codec value) = value
-
--- what its codec says of it
-abbrev pub held_bytes : Held → List ℕ
-held_bytes (held_marked nested kind codec value) = codec.writes value
-
-abbrev pub held_inside : Held → Option EmitError
-held_inside (held_marked nested kind codec value) = codec.inside kind value
-
-abbrev pub IsHeld : Held → Type 0
-IsHeld (held_marked nested kind codec value) = codec.Holds value
-
-abbrev pub held_members : Held → ℕ
-held_members (held_marked nested kind codec value) = codec.members value
-
--- where nothing inside forbids it, its bytes mean it again
-pub held-reads : (h : Held) → IsHeld h → held_inside h ≡ None → (held_codec h).Reads (held_bytes h) (held_value h)
-held-reads (held_marked nested kind codec value) is fits = codec.reads_back kind value is fits
+  held_other : Item → Held
 
 abbrev pub held : {V : Type 0} → ℕ → Codec V → V → Held
 held kind codec value = held_marked false kind codec value
 
-abbrev pub held_other : Item → Held
-held_other x = held x.kind raw x.value
+abbrev pub held_kind : Held → ℕ
+held_kind (held_marked nested kind codec value) = kind
+held_kind (held_other x) = x.kind
+
+abbrev pub held_nested : Held → Bool
+held_nested (held_marked nested kind codec value) = nested
+held_nested (held_other x) = false
+
+abbrev pub HeldType : Held → Type 0
+HeldType (held_marked {V} nested kind codec value) = V
+HeldType (held_other x) = List ℕ
+
+abbrev pub held_codec : (h : Held) → Codec (HeldType h)
+held_codec (held_marked nested kind codec value) = codec
+held_codec (held_other x) = raw
+
+abbrev pub held_value : (h : Held) → HeldType h
+held_value (held_marked nested kind codec value) = value
+held_value (held_other x) = x.value
+
+-- what its codec says of it
+abbrev pub held_bytes : Held → List ℕ
+held_bytes (held_marked nested kind codec value) = codec.writes value
+held_bytes (held_other x) = x.value
+
+abbrev pub held_inside : Held → Option EmitError
+held_inside (held_marked nested kind codec value) = codec.inside kind value
+held_inside (held_other x) = None
+
+abbrev pub held_members : Held → ℕ
+held_members (held_marked nested kind codec value) = codec.members value
+held_members (held_other x) = 0
+
+-- its codec can hold it, or no row has its number
+abbrev pub IsHeld : {M : Type 0} → List (Row M) → Held → Type 0
+IsHeld rows (held_marked nested kind codec value) = codec.Holds value
+IsHeld rows (held_other x) = IsOther rows x
+
+-- where nothing inside forbids it, its bytes mean it again
+pub held-reads : {M : Type 0} (rows : List (Row M)) (h : Held) → IsHeld rows h → held_inside h ≡ None → (held_codec h).Reads (held_bytes h) (held_value h)
+held-reads rows (held_marked nested kind codec value) is fits = codec.reads_back kind value is fits
+held-reads rows (held_other x) is fits = refl
 
 -- before NESTED is set in its kind, and after
 abbrev pub plain_item : Held → Item
@@ -162,6 +172,16 @@ Aligned writes Coherent [] = Unit {0}
 Aligned writes Coherent (r ∷ rows) =
     ((v : r.V) → ((writes (r.variant v)).value ≡ r.codec.writes v) × (r.codec.Holds v → Coherent (r.variant v))) × Aligned writes Coherent rows
 
+-- so for places in rows
+abbrev pub IsAligned : {M : Type 0} → List (Row M) → (M → Held) → Type 0
+IsAligned rows held_of = Aligned (λ m. item_of (held_of m)) (λ m. IsHeld rows (held_of m)) rows
+
+-- a meaning stands in the row of its place: its kind is one, and what its bytes are read as by its codec, they mean by the rows
+abbrev pub IsPlaced : {M : Type 0} → (Item → M) → List (Row M) → Held → M → Type 0
+IsPlaced other rows (held_marked nested kind codec value) m = (kind < 2 ^ 16) × (codec.Reads (codec.writes value) value
+    → ReadsAt other rows (number_of (marked nested kind)) (record { kind = marked nested kind; value = codec.writes value }) m)
+IsPlaced other rows (held_other x) m = m ≡ other x
+
 -- a table: its rows, what an attribute of another number means, the place of each meaning, and which are coherent
 pub record Table (M : Type 0) : Type 1 where
   pub rows : List (Row M)
@@ -174,12 +194,12 @@ pub record Table (M : Type 0) : Type 1 where
   pub kinds : (m : M) → Coherent m → held_kind (held_of m) < 2 ^ 16
   pub back : (m : M) → Coherent m → held_inside (held_of m) ≡ None → ReadsAt other rows (number_of (item_of (held_of m)).kind) (item_of (held_of m)) m
 
--- a table from its parts; where `place` says how what other attributes mean is written, the two laws of `other` hold by themselves
-abbrev pub table_of : {M : Type 0} (rows : List (Row M)) (other : Item → M) (held_of : M → Held) (Coherent : M → Type 0)
+-- a table whose coherent meanings rest on more than their places
+abbrev pub table_with : {M : Type 0} (rows : List (Row M)) (other : Item → M) (held_of : M → Held) (Coherent : M → Type 0)
     → Aligned (λ m. item_of (held_of m)) Coherent rows → ((x : Item) → item_of (held_of (other x)) ≡ x) → ((x : Item) → IsOther rows x → Coherent (other x))
     → ((m : M) → Coherent m → held_kind (held_of m) < 2 ^ 16)
     → ((m : M) → Coherent m → held_inside (held_of m) ≡ None → ReadsAt other rows (number_of (item_of (held_of m)).kind) (item_of (held_of m)) m) → Table M
-table_of rows other held_of Coherent aligned other_is other_coherent kinds back = record {
+table_with rows other held_of Coherent aligned other_is other_coherent kinds back = record {
   rows = rows;
   other = other;
   held_of = held_of;

@@ -7,8 +7,8 @@ use Rattle.npr_base.specs.declared.refusal.AttrFamily.TheVariants.{Neighbour}
 use Rattle.npr_base.specs.Framing.{Item, number_of}
 use Rattle.npr_base.specs.Layout.{le16, le32, be16}
 use Rattle.npr_base.specs.Codec.{exactly, leading, raw}
-use Rattle.npr_base.specs.Table.{Writing, Reading, table_of, Row, row, Held, held, held_other, held_kind, held_value, held_inside, held-reads, IsHeld}
-use Rattle.npr_base.specs.Table.{item_of, writing_by, IsOther, Aligned, ReadsAt}
+use Rattle.npr_base.specs.Table.{Writing, Reading, Row, row, Held, held, held_other, held_kind, held_value, held_inside, held-reads, IsHeld, table_with}
+use Rattle.npr_base.specs.Table.{item_of, writing_by, Aligned, ReadsAt}
 use Rattle.npr_base.specs.TableLaws.{table_family, other-back}
 use Rattle.npr_scalar.specs.RouteProtocol.{route_protocol}
 use Rattle.npr_scalar.specs.declared.route_protocol.RouteProtocol.{RouteProtocol}
@@ -100,8 +100,7 @@ held_of (other x) = held_other x
 -- what can be read
 abbrev pub Coherent : Form → Meaning → Type 0
 Coherent form (destination a) = (address_in form).Holds a
-Coherent form (other x) = IsOther (rows form) x
-Coherent form m = IsHeld (held_of m)
+Coherent form m = IsHeld (rows form) (held_of m)
 
 pub aligned : (form : Form) → Aligned (λ m. item_of (held_of m)) (Coherent form) (rows form)
 aligned form = search rules
@@ -114,7 +113,7 @@ pub back : (form : Form) (m : Meaning) → Coherent form m → held_inside (held
     → ReadsAt other (rows form) (number_of (item_of (held_of m)).kind) (item_of (held_of m)) m
 back form (other x) c fits = other-back other (rows form) (number_of x.kind) x c.alone
 back form (destination a) c fits = (a, (address_in form).reads_back 1 a c fits, refl)
-back form m c fits = (held_value (held_of m), held-reads (held_of m) c fits, refl)
+back form m c fits = (held_value (held_of m), held-reads (rows form) (held_of m) c fits, refl)
 
 -- how each is written
 abbrev pub writing : Writing Meaning
@@ -124,4 +123,4 @@ writing = writing_by held_of
 abbrev pub attributes : AddressFamily → Reading writing
 attributes family =
     let form = form_of family in
-    table_family (table_of (rows form) other held_of (Coherent form) (aligned form) (λ x. refl) (λ x is. is) (kinds form) (back form))
+    table_family (table_with (rows form) other held_of (Coherent form) (aligned form) (λ x. refl) (λ x is. is) (kinds form) (back form))

@@ -7,7 +7,7 @@ use Rattle.npr_base.specs.Framing.{Item}
 use Rattle.npr_base.specs.Layout.{Layout, byte, le32, le64, be16, be32}
 use Rattle.npr_base.specs.Codec.{Codec, exactly, leading, raw}
 use Rattle.npr_base.specs.ListCodec.{list_of}
-use Rattle.npr_base.specs.Table.{Reading, Row, row, Held, held, held_marked, held_other, IsHeld, IsOther}
+use Rattle.npr_base.specs.Table.{Reading, Row, row, Held, held, held_marked, held_other, IsHeld}
 use Rattle.npr_scalar.specs.MplsLaws.{mpls_labels}
 use Rattle.npr_scalar.specs.Realm.{route_realm}
 use Rattle.npr_scalar.specs.RouteAddress.{Address as AddressMeaning, route_address_bytes, address_in, Form, four, sixteen, label, any}
@@ -206,8 +206,7 @@ Coherent form multicast family (new_destination_address a) = (form ≢ label) ×
 Coherent form multicast family (encap xs) = (list_of family).Holds xs
 Coherent form multicast family (expires n) = (multicast ≡ false) × (n < 2 ^ 32)
 Coherent form multicast family (multicast_expires n) = (multicast ≡ true) × (n < 2 ^ 64)
-Coherent form multicast family (other x) = IsOther (rows form multicast family) x
-Coherent form multicast family m = IsHeld (held_of m)
+Coherent form multicast family m = IsHeld (rows form multicast family) (held_of m)
 
 -- the attribute with each SEG6 header of its encapsulation brought up to the table of modes of today
 abbrev pub normalized : Meaning → Meaning

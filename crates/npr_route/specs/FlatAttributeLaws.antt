@@ -67,7 +67,7 @@ back form false family (expires n) c fits = (n, (exactly le32).reads_back 23 n c
 back form true family (expires n) c fits = absurd (let e = c.0 in cc)
 back form true family (multicast_expires n) c fits = (n, (exactly le64).reads_back 23 n c.1 fits, refl)
 back form false family (multicast_expires n) c fits = absurd (let e = c.0 in cc)
-back form multicast family m c fits = (held_value (held_of m), held-reads (held_of m) c fits, refl)
+back form multicast family m c fits = (held_value (held_of m), held-reads (rows form multicast family) (held_of m) c fits, refl)
 
 -- how each is written, whatever the context
 abbrev pub writing : Writing Meaning

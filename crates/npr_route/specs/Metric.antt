@@ -1,16 +1,15 @@
 -- The metrics of a route (linux/rtnetlink.h, RTAX_*), by their table.
-use Rattle.std.specs.Prelude.{◌≡◌, ℕ, ◌<◌, ◌^◌, List, [], ◌∷◌, None}
+use Rattle.std.specs.Prelude.{ℕ, List, [], ◌∷◌}
 use Rattle.std.specs.String.{string_bytes}
 use Rattle.std.proofs.Common.{refl, arith, rules}
 use Rattle.npr_base.specs.declared.refusal.At.{At}
 use Rattle.npr_base.specs.declared.refusal.AttrFamily.TheVariants.{Metric as OfMetric}
-use Rattle.npr_base.specs.Framing.{Item, number_of}
+use Rattle.npr_base.specs.Framing.{Item}
 use Rattle.npr_base.specs.Layout.{le32}
 use Rattle.npr_base.specs.Codec.{exactly}
 use Rattle.npr_base.specs.Name.{name}
-use Rattle.npr_base.specs.Table.{Writing, Reading, table_of, Row, row, Held, held, held_other, held_kind, held_value, held_inside, held-reads, IsHeld}
-use Rattle.npr_base.specs.Table.{item_of, writing_by, IsOther, Aligned, ReadsAt}
-use Rattle.npr_base.specs.TableLaws.{table_family, other-back}
+use Rattle.npr_base.specs.Table.{Writing, Reading, Row, row, Held, held, held_other, held_value, IsAligned, IsPlaced, writing_by}
+use Rattle.npr_base.specs.TableLaws.{table_family, table_of}
 use Rattle.npr_route.specs.declared.metrics.RouteMetric.{RouteMetric}
 use Rattle.npr_route.specs.declared.metrics.RouteMetric.TheVariants.{Lock, Mtu, Window, Rtt, RttVar, SsThresh, Cwnd, Advmss, Reordering}
 use Rattle.npr_route.specs.declared.metrics.RouteMetric.TheVariants.{Hoplimit, InitCwnd, Features, RtoMin, InitRwnd, QuickAck, CcAlgo}
@@ -103,21 +102,13 @@ held_of (cc_algo a) = held 16 name a
 held_of (fastopen_no_cookie a) = held 17 (exactly le32) a
 held_of (other x) = held_other x
 
--- what can be read
-abbrev pub Coherent : Metric → Type 0
-Coherent (other x) = IsOther rows x
-Coherent m = IsHeld (held_of m)
-
-pub aligned : Aligned (λ m. item_of (held_of m)) Coherent rows
+pub aligned : IsAligned rows held_of
 aligned = search rules
 
-pub kinds : (m : Metric) → Coherent m → held_kind (held_of m) < 2 ^ 16
-kinds (other x) c = c.proper.kind
-kinds m c = omega arith
-
-pub back : (m : Metric) → Coherent m → held_inside (held_of m) ≡ None → ReadsAt other rows (number_of (item_of (held_of m)).kind) (item_of (held_of m)) m
-back (other x) c fits = other-back other rows (number_of x.kind) x c.alone
-back m c fits = (held_value (held_of m), held-reads (held_of m) c fits, refl)
+-- each meaning stands there
+pub placed : (m : Metric) → IsPlaced other rows (held_of m) m
+placed (other x) = refl
+placed m = (omega arith, λ reads. (held_value (held_of m), reads, refl))
 
 -- how each is written
 abbrev pub writing : Writing Metric
@@ -125,4 +116,4 @@ writing = writing_by held_of
 
 -- the family
 abbrev pub metrics : Reading writing
-metrics = table_family (table_of rows other held_of Coherent aligned (λ x. refl) (λ x is. is) kinds back)
+metrics = table_family (table_of rows other held_of aligned (λ x. refl) (λ x is. is) placed)

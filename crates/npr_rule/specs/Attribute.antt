@@ -1,18 +1,17 @@
 -- The attributes of a rule message (linux/fib_rules.h, FRA_*), by their table.
-use Rattle.std.specs.Prelude.{◌≡◌, ℕ, Bool, ◌<◌, ◌^◌, List, [], ◌∷◌, None}
+use Rattle.std.specs.Prelude.{ℕ, Bool, List, [], ◌∷◌}
 use Rattle.std.specs.String.{string_bytes}
 use Rattle.std.proofs.Common.{refl, arith, rules}
 use Rattle.npr_base.specs.declared.refusal.At.{At}
 use Rattle.npr_base.specs.declared.refusal.AttrFamily.TheVariants.{Rule}
 use Rattle.npr_base.specs.declared.ip.IpAddr.{IpAddr}
-use Rattle.npr_base.specs.Framing.{Item, number_of}
+use Rattle.npr_base.specs.Framing.{Item}
 use Rattle.npr_base.specs.Layout.{le32, be64, boolean}
 use Rattle.npr_base.specs.Codec.{exactly}
 use Rattle.npr_base.specs.IpCodec.{ip}
 use Rattle.npr_base.specs.Name.{name}
-use Rattle.npr_base.specs.Table.{Writing, Reading, table_of, Row, row, Held, held, held_other, held_kind, held_value, held_inside, held-reads, IsHeld}
-use Rattle.npr_base.specs.Table.{item_of, writing_by, IsOther, Aligned, ReadsAt}
-use Rattle.npr_base.specs.TableLaws.{table_family, other-back}
+use Rattle.npr_base.specs.Table.{Writing, Reading, Row, row, Held, held, held_other, held_value, IsAligned, IsPlaced, writing_by}
+use Rattle.npr_base.specs.TableLaws.{table_family, table_of}
 use Rattle.npr_scalar.specs.Realm.{route_realm}
 use Rattle.npr_scalar.specs.RouteProtocol.{route_protocol}
 use Rattle.npr_scalar.specs.declared.realm.RouteRealm.{RouteRealm}
@@ -124,21 +123,13 @@ held_of (source_port_range a) = held 23 (exactly port_range) a
 held_of (destination_port_range a) = held 24 (exactly port_range) a
 held_of (other x) = held_other x
 
--- what can be read
-abbrev pub Coherent : Meaning → Type 0
-Coherent (other x) = IsOther rows x
-Coherent m = IsHeld (held_of m)
-
-pub aligned : Aligned (λ m. item_of (held_of m)) Coherent rows
+pub aligned : IsAligned rows held_of
 aligned = search rules
 
-pub kinds : (m : Meaning) → Coherent m → held_kind (held_of m) < 2 ^ 16
-kinds (other x) c = c.proper.kind
-kinds m c = omega arith
-
-pub back : (m : Meaning) → Coherent m → held_inside (held_of m) ≡ None → ReadsAt other rows (number_of (item_of (held_of m)).kind) (item_of (held_of m)) m
-back (other x) c fits = other-back other rows (number_of x.kind) x c.alone
-back m c fits = (held_value (held_of m), held-reads (held_of m) c fits, refl)
+-- each meaning stands there
+pub placed : (m : Meaning) → IsPlaced other rows (held_of m) m
+placed (other x) = refl
+placed m = (omega arith, λ reads. (held_value (held_of m), reads, refl))
 
 -- how each is written
 abbrev pub writing : Writing Meaning
@@ -146,4 +137,4 @@ writing = writing_by held_of
 
 -- the family
 abbrev pub attributes : Reading writing
-attributes = table_family (table_of rows other held_of Coherent aligned (λ x. refl) (λ x is. is) kinds back)
+attributes = table_family (table_of rows other held_of aligned (λ x. refl) (λ x is. is) placed)

@@ -1,13 +1,12 @@
 -- The members of an RPL tunnel (linux/rpl_iptunnel.h, RPL_IPTUNNEL_*), by their table.
-use Rattle.std.specs.Prelude.{◌≡◌, ℕ, ◌<◌, ◌^◌, List, [], ◌∷◌, None, ◌++◌, Option, Some, codes, decimal}
+use Rattle.std.specs.Prelude.{ℕ, List, [], ◌∷◌, ◌++◌, Option, Some, codes, decimal}
 use Rattle.std.specs.Fmt.{◌++?◌}
 use Rattle.npr_base.specs.declared.refusal.At.{At}
 use Rattle.npr_base.specs.declared.refusal.AttrFamily.TheVariants.{Rpl as OfRpl}
-use Rattle.npr_base.specs.Framing.{Item, number_of}
+use Rattle.npr_base.specs.Framing.{Item}
 use Rattle.npr_base.specs.DroppedCodec.{dropped}
-use Rattle.npr_base.specs.Table.{Writing, Reading, Table, table_of, Row, row, Held, held, held_other, held_kind, held_value}
-use Rattle.npr_base.specs.Table.{held_inside, held-reads, IsHeld, item_of, writing_by, IsOther, Aligned, ReadsAt}
-use Rattle.npr_base.specs.TableLaws.{other-back}
+use Rattle.npr_base.specs.Table.{Writing, Reading, Table, Row, row, Held, held, held_other, held_value, IsAligned, IsPlaced, writing_by}
+use Rattle.npr_base.specs.TableLaws.{table_of}
 use Rattle.npr_base.specs.Text.{nla_text}
 use Rattle.npr_srh.specs.Keeping.{keeping, IsRowOf}
 use Rattle.npr_srh.specs.Rpl.{Rpl, rpl, rpl_of}
@@ -47,24 +46,16 @@ held_of unspecified = held 0 dropped tt
 held_of (srh h) = held 1 rpl h
 held_of (other x) = held_other x
 
--- what can be read by it
-abbrev pub Coherent : Meaning → Type 0
-Coherent (other x) = IsOther rows x
-Coherent m = IsHeld (held_of m)
-
-pub aligned : Aligned (λ m. item_of (held_of m)) Coherent rows
+pub aligned : IsAligned rows held_of
 aligned = search rules
 
-pub kinds : (m : Meaning) → Coherent m → held_kind (held_of m) < 2 ^ 16
-kinds (other x) c = c.proper.kind
-kinds m c = omega arith
-
-pub back : (m : Meaning) → Coherent m → held_inside (held_of m) ≡ None → ReadsAt other rows (number_of (item_of (held_of m)).kind) (item_of (held_of m)) m
-back (other x) c fits = other-back other rows (number_of x.kind) x c.alone
-back m c fits = (held_value (held_of m), held-reads (held_of m) c fits, refl)
+-- each meaning stands there
+pub placed : (m : Meaning) → IsPlaced other rows (held_of m) m
+placed (other x) = refl
+placed m = (omega arith, λ reads. (held_value (held_of m), reads, refl))
 
 abbrev pub table_of_rows : Table Meaning
-table_of_rows = table_of rows other held_of Coherent aligned (λ x. refl) (λ x is. is) kinds back
+table_of_rows = table_of rows other held_of aligned (λ x. refl) (λ x is. is) placed
 
 pub here : IsRowOf table_of_rows srh_row
 here x m e p = let q = rw e at p in (q.0, q.1)

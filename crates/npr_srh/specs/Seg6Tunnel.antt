@@ -5,8 +5,8 @@ use Rattle.npr_base.specs.declared.refusal.AttrFamily.TheVariants.{Seg6 as OfSeg
 use Rattle.npr_base.specs.Framing.{Item, number_of}
 use Rattle.npr_base.specs.Codec.{exactly}
 use Rattle.npr_base.specs.Layout.{le32, octets}
-use Rattle.npr_base.specs.Table.{Writing, Reading, table_of, Row, row, Held, held, held_other, held_kind, held_value}
-use Rattle.npr_base.specs.Table.{held_inside, held-reads, IsHeld, item_of, writing_by, IsOther, Aligned, ReadsAt}
+use Rattle.npr_base.specs.Table.{Writing, Reading, Row, row, Held, held, held_other, held_kind, held_value, table_with}
+use Rattle.npr_base.specs.Table.{held_inside, held-reads, IsHeld, item_of, writing_by, Aligned, ReadsAt}
 use Rattle.npr_base.specs.TableLaws.{table_family, other-back}
 use Rattle.npr_srh.specs.Seg6.{Seg6 as Header, seg6_of, normalized as normalized_header}
 use Rattle.npr_srh.specs.Seg6Codec.{seg6, seg6_by}
@@ -54,8 +54,7 @@ held_of (other x) = held_other x
 -- what can be read
 abbrev pub Coherent : ModeTable → Meaning → Type 0
 Coherent by (header h) = (seg6_by by).Holds h
-Coherent by (other x) = IsOther (rows by) x
-Coherent by m = IsHeld (held_of m)
+Coherent by m = IsHeld (rows by) (held_of m)
 
 pub aligned : (by : ModeTable) → Aligned (λ m. item_of (held_of m)) (Coherent by) (rows by)
 aligned by = search rules
@@ -68,7 +67,7 @@ pub back : (by : ModeTable) (m : Meaning) → Coherent by m → held_inside (hel
     → ReadsAt other (rows by) (number_of (item_of (held_of m)).kind) (item_of (held_of m)) m
 back by (other x) c fits = other-back other (rows by) (number_of x.kind) x c.alone
 back by (header h) c fits = (h, (seg6_by by).reads_back 1 h c fits, refl)
-back by m c fits = (held_value (held_of m), held-reads (held_of m) c fits, refl)
+back by m c fits = (held_value (held_of m), held-reads (rows by) (held_of m) c fits, refl)
 
 -- how each is written
 abbrev pub writing : Writing Meaning
@@ -76,7 +75,7 @@ writing = writing_by held_of
 
 -- the family, by a table of modes and by that of today
 abbrev pub attributes_by : ModeTable → Reading writing
-attributes_by by = table_family (table_of (rows by) other held_of (Coherent by) (aligned by) (λ x. refl) (λ x is. is) (kinds by) (back by))
+attributes_by by = table_family (table_with (rows by) other held_of (Coherent by) (aligned by) (λ x. refl) (λ x is. is) (kinds by) (back by))
 
 abbrev pub attributes : Reading writing
 attributes = attributes_by modes

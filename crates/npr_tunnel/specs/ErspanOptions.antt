@@ -1,16 +1,15 @@
 -- The options of ERSPAN (linux/lwtunnel.h, LWTUNNEL_IP_OPT_ERSPAN_*), by their table.
-use Rattle.std.specs.Prelude.{◌≡◌, ◌==◌, if◌then◌else◌, ℕ, ◌<◌, ◌^◌, List, [], ◌∷◌, ◌++◌, Option, Some, None, codes, decimal}
+use Rattle.std.specs.Prelude.{◌==◌, if◌then◌else◌, ℕ, List, [], ◌∷◌, ◌++◌, Option, Some, None, codes, decimal}
 use Rattle.std.specs.Prelude.{unwrap_or, filter_map}
 use Rattle.std.specs.List.{last_or}
 use Rattle.std.proofs.Common.{refl, arith, rules}
 use Rattle.npr_base.specs.declared.refusal.At.{At}
 use Rattle.npr_base.specs.declared.refusal.AttrFamily.TheVariants.{Erspan as OfErspan}
-use Rattle.npr_base.specs.Framing.{Item, number_of}
+use Rattle.npr_base.specs.Framing.{Item}
 use Rattle.npr_base.specs.Layout.{be32, byte}
 use Rattle.npr_base.specs.Codec.{exactly}
-use Rattle.npr_base.specs.Table.{Writing, Reading, table_of, Row, row, Held, held, held_other, held_kind, held_value}
-use Rattle.npr_base.specs.Table.{held_inside, held-reads, IsHeld, item_of, writing_by, IsOther, Aligned, ReadsAt}
-use Rattle.npr_base.specs.TableLaws.{table_family, other-back}
+use Rattle.npr_base.specs.Table.{Writing, Reading, Row, row, Held, held, held_other, held_value, IsAligned, IsPlaced, writing_by}
+use Rattle.npr_base.specs.TableLaws.{table_family, table_of}
 use Rattle.npr_tunnel.specs.declared.erspan.RouteErspanOpt.{RouteErspanOpt}
 use Rattle.npr_tunnel.specs.declared.erspan.RouteErspanOpt.TheVariants.{Ver, Index, Dir, Hwid, Other}
 
@@ -49,21 +48,13 @@ held_of (direction a) = held 3 (exactly byte) a
 held_of (hardware_id a) = held 4 (exactly byte) a
 held_of (other x) = held_other x
 
--- what can be read
-abbrev pub Coherent : Meaning → Type 0
-Coherent (other x) = IsOther rows x
-Coherent m = IsHeld (held_of m)
-
-pub aligned : Aligned (λ m. item_of (held_of m)) Coherent rows
+pub aligned : IsAligned rows held_of
 aligned = search rules
 
-pub kinds : (m : Meaning) → Coherent m → held_kind (held_of m) < 2 ^ 16
-kinds (other x) c = c.proper.kind
-kinds m c = omega arith
-
-pub back : (m : Meaning) → Coherent m → held_inside (held_of m) ≡ None → ReadsAt other rows (number_of (item_of (held_of m)).kind) (item_of (held_of m)) m
-back (other x) c fits = other-back other rows (number_of x.kind) x c.alone
-back m c fits = (held_value (held_of m), held-reads (held_of m) c fits, refl)
+-- each meaning stands there
+pub placed : (m : Meaning) → IsPlaced other rows (held_of m) m
+placed (other x) = refl
+placed m = (omega arith, λ reads. (held_value (held_of m), reads, refl))
 
 -- how each is written
 abbrev pub writing : Writing Meaning
@@ -71,7 +62,7 @@ writing = writing_by held_of
 
 -- the family
 abbrev pub attributes : Reading writing
-attributes = table_family (table_of rows other held_of Coherent aligned (λ x. refl) (λ x is. is) kinds back)
+attributes = table_family (table_of rows other held_of aligned (λ x. refl) (λ x is. is) placed)
 
 -- the value of an option, where it is of one kind
 abbrev pub version_of : Meaning → Option ℕ

@@ -1,6 +1,6 @@
 -- The members of a tunnel over IP (linux/lwtunnel.h, LWTUNNEL_IP_* and LWTUNNEL_IP6_*), by a table that is the same for
 -- both versions but for the width of an address.
-use Rattle.std.specs.Prelude.{◌≡◌, ℕ, ◌+◌, ◌<◌, ◌^◌, List, [], ◌∷◌, ◌++◌, map, Option, Some, None, codes, decimal}
+use Rattle.std.specs.Prelude.{ℕ, ◌+◌, ◌^◌, List, [], ◌∷◌, ◌++◌, map, Option, Some, codes, decimal}
 use Rattle.std.specs.Net.Addr.{segments_of}
 use Rattle.std.specs.Net.Text.{ipv4_text, ipv6_text}
 use Rattle.std.proofs.Common.{refl, arith, rules}
@@ -8,14 +8,13 @@ use Rattle.npr_base.specs.declared.refusal.AttrFamily.{AttrFamily}
 use Rattle.npr_base.specs.declared.refusal.AttrFamily.TheVariants.{Ip as OfIp, Ip6 as OfIp6}
 use Rattle.npr_base.specs.Codec.{exactly}
 use Rattle.npr_base.specs.DroppedCodec.{dropped}
-use Rattle.npr_base.specs.Framing.{Item, number_of}
+use Rattle.npr_base.specs.Framing.{Item}
 use Rattle.npr_base.specs.Layout.{byte, be16, be64, octets}
 use Rattle.npr_base.specs.ListCodec.{list_of}
-use Rattle.npr_base.specs.Table.{Writing, Reading, table_of, Row, row, Held, held, held_other, held_kind, held_value}
-use Rattle.npr_base.specs.Table.{held_inside, held-reads, IsHeld, item_of, writing_by, IsOther, Aligned, ReadsAt}
+use Rattle.npr_base.specs.Table.{Writing, Reading, Row, row, Held, held, held_other, held_value, IsAligned, IsPlaced, writing_by}
 use Rattle.npr_base.specs.Looks.{Looking}
 use Rattle.npr_base.specs.LooksLaws.{no_looking, list_looking}
-use Rattle.npr_base.specs.TableLaws.{table_family, holding, looking_at, other-back}
+use Rattle.npr_base.specs.TableLaws.{table_family, holding, looking_at, table_of}
 use Rattle.npr_base.specs.Text.{joined_by, nla_text}
 use Rattle.npr_tunnel.specs.TunnelFlags.{ip_flags_bits, ip6_flags_bits, flags_text}
 use Rattle.npr_tunnel.specs.TunnelOptions as OfOption
@@ -84,22 +83,13 @@ held_of width (flags n) = held 6 (exactly be16) n
 held_of width (options xs) = held (2 ^ 15 + 8) (list_of OfOption.attributes) xs
 held_of width (other x) = held_other x
 
--- what can be read
-abbrev pub Coherent : AttrFamily → ℕ → Meaning → Type 0
-Coherent family width (other x) = IsOther (rows family width) x
-Coherent family width m = IsHeld (held_of width m)
-
-pub aligned : (family : AttrFamily) (width : ℕ) → Aligned (λ m. item_of (held_of width m)) (Coherent family width) (rows family width)
+pub aligned : (family : AttrFamily) (width : ℕ) → IsAligned (rows family width) (held_of width)
 aligned family width = search rules
 
-pub kinds : (family : AttrFamily) (width : ℕ) (m : Meaning) → Coherent family width m → held_kind (held_of width m) < 2 ^ 16
-kinds family width (other x) c = c.proper.kind
-kinds family width m c = omega arith
-
-pub back : (family : AttrFamily) (width : ℕ) (m : Meaning) → Coherent family width m → held_inside (held_of width m) ≡ None
-    → ReadsAt other (rows family width) (number_of (item_of (held_of width m)).kind) (item_of (held_of width m)) m
-back family width (other x) c fits = other-back other (rows family width) (number_of x.kind) x c.alone
-back family width m c fits = (held_value (held_of width m), held-reads (held_of width m) c fits, refl)
+-- each meaning stands there
+pub placed : (family : AttrFamily) (width : ℕ) (m : Meaning) → IsPlaced other (rows family width) (held_of width m) m
+placed family width (other x) = refl
+placed family width m = (omega arith, λ reads. (held_value (held_of width m), reads, refl))
 
 -- how each is written
 abbrev pub writing : ℕ → Writing Meaning
@@ -112,8 +102,7 @@ looks = looking_at 8 (list_looking OfOption.attributes) no_looking
 abbrev pub attributes_over : AttrFamily → (width : ℕ) → Reading (writing width)
 attributes_over family width =
     holding looks (
-    table_family (table_of (rows family width) other (held_of width) (Coherent family width) (aligned family width) (λ x. refl) (λ x is. is)
-    (kinds family width) (back family width))
+    table_family (table_of (rows family width) other (held_of width) (aligned family width) (λ x. refl) (λ x is. is) (placed family width))
     )
 
 -- the families

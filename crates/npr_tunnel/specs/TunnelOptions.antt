@@ -1,16 +1,15 @@
 -- The options of a tunnel over IP (linux/lwtunnel.h, LWTUNNEL_IP_OPTS_*), by their table. Each is written with NESTED,
 -- which is bit 15 of its kind.
-use Rattle.std.specs.Prelude.{◌≡◌, ℕ, ◌+◌, ◌<◌, ◌^◌, List, [], ◌∷◌, map, Option, Some, None, codes}
+use Rattle.std.specs.Prelude.{ℕ, ◌+◌, ◌^◌, List, [], ◌∷◌, map, Option, Some, codes}
 use Rattle.std.proofs.Common.{refl, arith, rules}
 use Rattle.npr_base.specs.declared.refusal.At.{At}
 use Rattle.npr_base.specs.declared.refusal.AttrFamily.TheVariants.{Opt as OfOption}
-use Rattle.npr_base.specs.Framing.{Item, number_of}
+use Rattle.npr_base.specs.Framing.{Item}
 use Rattle.npr_base.specs.ListCodec.{list_of}
-use Rattle.npr_base.specs.Table.{Writing, Reading, table_of, Row, row, Held, held, held_other, held_kind, held_value}
-use Rattle.npr_base.specs.Table.{held_inside, held-reads, IsHeld, item_of, writing_by, IsOther, Aligned, ReadsAt}
+use Rattle.npr_base.specs.Table.{Writing, Reading, Row, row, Held, held, held_other, held_value, IsAligned, IsPlaced, writing_by}
 use Rattle.npr_base.specs.Looks.{Looking}
 use Rattle.npr_base.specs.LooksLaws.{no_looking, list_looking}
-use Rattle.npr_base.specs.TableLaws.{table_family, holding, looking_at, other-back}
+use Rattle.npr_base.specs.TableLaws.{table_family, holding, looking_at, table_of}
 use Rattle.npr_base.specs.Text.{joined_by, nla_text}
 use Rattle.npr_tunnel.specs.ErspanOptions as OfErspan
 use Rattle.npr_tunnel.specs.Geneve.{Geneve as GeneveOption, option_of, geneve_text}
@@ -51,21 +50,13 @@ held_of (vxlan xs) = held (2 ^ 15 + 2) (list_of OfVxlan.attributes) xs
 held_of (erspan xs) = held (2 ^ 15 + 3) (list_of OfErspan.attributes) xs
 held_of (other x) = held_other x
 
--- what can be read
-abbrev pub Coherent : Meaning → Type 0
-Coherent (other x) = IsOther rows x
-Coherent m = IsHeld (held_of m)
-
-pub aligned : Aligned (λ m. item_of (held_of m)) Coherent rows
+pub aligned : IsAligned rows held_of
 aligned = search rules
 
-pub kinds : (m : Meaning) → Coherent m → held_kind (held_of m) < 2 ^ 16
-kinds (other x) c = c.proper.kind
-kinds m c = omega arith
-
-pub back : (m : Meaning) → Coherent m → held_inside (held_of m) ≡ None → ReadsAt other rows (number_of (item_of (held_of m)).kind) (item_of (held_of m)) m
-back (other x) c fits = other-back other rows (number_of x.kind) x c.alone
-back m c fits = (held_value (held_of m), held-reads (held_of m) c fits, refl)
+-- each meaning stands there
+pub placed : (m : Meaning) → IsPlaced other rows (held_of m) m
+placed (other x) = refl
+placed m = (omega arith, λ reads. (held_value (held_of m), reads, refl))
 
 -- how each is written
 abbrev pub writing : Writing Meaning
@@ -77,7 +68,7 @@ looks = looking_at 1 options_looking (looking_at 2 (list_looking OfVxlan.attribu
 
 -- the family
 abbrev pub attributes : Reading writing
-attributes = holding looks (table_family (table_of rows other held_of Coherent aligned (λ x. refl) (λ x is. is) kinds back))
+attributes = holding looks (table_family (table_of rows other held_of aligned (λ x. refl) (λ x is. is) placed))
 
 -- the text of an option
 abbrev pub tunnel_option_text : Meaning → Option (List ℕ)

@@ -1,17 +1,16 @@
 -- The attributes of a neighbour message (linux/neighbour.h, NDA_*), by their table.
-use Rattle.std.specs.Prelude.{◌≡◌, ◌≢◌, ℕ, ◌<◌, ◌^◌, List, [], ◌∷◌, Option, Some, None}
+use Rattle.std.specs.Prelude.{◌≡◌, ◌≢◌, ℕ, List, [], ◌∷◌, Option, Some, None}
 use Rattle.std.proofs.Common.{refl, arith, rules}
 use Rattle.netlink_packet_route.specs.Fields.{le_four, ◌then◌, structure}
 use Rattle.netlink_packet_route.specs.declared.framing.At.{At}
 use Rattle.netlink_packet_route.specs.declared.framing.AttrFamily.TheVariants.{Value}
 use Rattle.netlink_packet_route.specs.declared.net.IpAddr.{IpAddr}
-use Rattle.netlink_packet_route.specs.Framing.{Item, number_of}
+use Rattle.netlink_packet_route.specs.Framing.{Item}
 use Rattle.netlink_packet_route.specs.Layout.{Layout, le32}
 use Rattle.netlink_packet_route.specs.Codec.{exactly, leading, raw}
 use Rattle.netlink_packet_route.specs.IpCodec.{ip}
-use Rattle.netlink_packet_route.specs.Table.{Writing, Reading, table_of, Row, row, Held, held, held_other, held_kind, held_value}
-use Rattle.netlink_packet_route.specs.Table.{held_inside, held-reads, IsHeld, item_of, writing_by, IsOther, Aligned, ReadsAt}
-use Rattle.netlink_packet_route.specs.TableLaws.{table_family, other-back}
+use Rattle.netlink_packet_route.specs.Table.{Writing, Reading, Row, row, Held, held, held_other, held_value, IsAligned, IsPlaced, writing_by}
+use Rattle.netlink_packet_route.specs.TableLaws.{table_family, table_of}
 use Rattle.netlink_packet_route.specs.Found.{IsFirst}
 use Rattle.template.specs.declared.neighbour.NeighbourCacheInfo.{NeighbourCacheInfo}
 use Rattle.template.specs.declared.neighbour.NeighbourAttribute.{NeighbourAttribute}
@@ -60,21 +59,13 @@ held_of (remembered x) = held 3 (leading cache_info) x
 held_of (probes n) = held 4 (exactly le32) n
 held_of (other x) = held_other x
 
--- what can be read
-abbrev pub Coherent : Meaning → Type 0
-Coherent (other x) = IsOther rows x
-Coherent m = IsHeld (held_of m)
-
-pub aligned : Aligned (λ m. item_of (held_of m)) Coherent rows
+pub aligned : IsAligned rows held_of
 aligned = search rules
 
-pub kinds : (m : Meaning) → Coherent m → held_kind (held_of m) < 2 ^ 16
-kinds (other x) c = c.proper.kind
-kinds m c = omega arith
-
-pub back : (m : Meaning) → Coherent m → held_inside (held_of m) ≡ None → ReadsAt other rows (number_of (item_of (held_of m)).kind) (item_of (held_of m)) m
-back (other x) c fits = other-back other rows (number_of x.kind) x c.alone
-back m c fits = (held_value (held_of m), held-reads (held_of m) c fits, refl)
+-- each meaning stands there
+pub placed : (m : Meaning) → IsPlaced other rows (held_of m) m
+placed (other x) = refl
+placed m = (omega arith, λ reads. (held_value (held_of m), reads, refl))
 
 -- how each is written
 abbrev pub writing : Writing Meaning
@@ -82,7 +73,7 @@ writing = writing_by held_of
 
 -- the family
 abbrev pub attributes : Reading writing
-attributes = table_family (table_of rows other held_of Coherent aligned (λ x. refl) (λ x is. is) kinds back)
+attributes = table_family (table_of rows other held_of aligned (λ x. refl) (λ x is. is) placed)
 
 -- the address of a destination
 abbrev pub destination_in : Meaning → Option IpAddr
