@@ -37,7 +37,7 @@
 /* The version of the library. */
 #define NPR_VERSION_MAJOR 0
 #define NPR_VERSION_MINOR 4
-#define NPR_VERSION_PATCH 1
+#define NPR_VERSION_PATCH 4
 #define NPR_VERSION "0.4.4"
 
 /* The stack of a thread that is enough for every call and every input, in bytes: 1 MiB. The deepest

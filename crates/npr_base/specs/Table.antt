@@ -176,7 +176,7 @@ Aligned writes Coherent (r ∷ rows) =
 abbrev pub IsAligned : {M : Type 0} → List (Row M) → (M → Held) → Type 0
 IsAligned rows held_of = Aligned (λ m. item_of (held_of m)) (λ m. IsHeld rows (held_of m)) rows
 
--- a meaning stands in the row of its place: its kind is one, and what its bytes are read as by its codec, they mean by the rows
+-- a meaning stands in the row of its place: its kind has 16 bits, and where its bytes are read by its codec, they mean it by the rows
 abbrev pub IsPlaced : {M : Type 0} → (Item → M) → List (Row M) → Held → M → Type 0
 IsPlaced other rows (held_marked nested kind codec value) m = (kind < 2 ^ 16) × (codec.Reads (codec.writes value) value
     → ReadsAt other rows (number_of (marked nested kind)) (record { kind = marked nested kind; value = codec.writes value }) m)

@@ -68,7 +68,8 @@ module _ {M : Type 0} (other : Item → M) (rows : List (Row M)) where
   placed-kind (held_marked nested kind codec value) m placed is = placed.0
   placed-kind (held_other x) m placed is = is.proper.kind
 
-  pub placed-back : (h : Held) (m : M) → IsPlaced other rows h m → IsHeld rows h → held_inside h ≡ None → ReadsAt other rows (number_of (item_of h).kind) (item_of h) m
+  pub placed-back : (h : Held) (m : M) → IsPlaced other rows h m → IsHeld rows h → held_inside h ≡ None
+      → ReadsAt other rows (number_of (item_of h).kind) (item_of h) m
   placed-back (held_marked nested kind codec value) m placed is fits = placed.1 (codec.reads_back kind value is fits)
   placed-back (held_other x) m placed is fits =
       subst (ReadsAt other rows (number_of x.kind) x) (sym placed) (other-back other rows (number_of x.kind) x is.alone)

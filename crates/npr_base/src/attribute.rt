@@ -77,7 +77,8 @@ pub trait Attribute: Nla + Drop {
         }
     }
 
-    /// What `read_into` puts, behind the attributes of a list.
+    /// What `read_into` puts, behind the attributes of a list. A family with large values makes each
+    /// in its place, which moves it less often.
     ///
     /// # Errors
     /// `OutOfMemory` where memory is refused, and else the first fault in reading order.

@@ -1,4 +1,5 @@
-//! The bodies of a family's functions, from its one list of rows. A row is a number, a variant, and
+//! The bodies of a family's functions, from its one list of rows. The list begins with the type and
+//! with the family's name in refusals, as `RuleAttribute of Rule`. A row is a number, a variant, and
 //! in parentheses the codec of its value; a number without one drops what stood there. `as` and a
 //! kind follow where another kind than the number is written. `Other` is what no row says. Arms of
 //! a match that stand behind a semicolon go before those of the rows.
@@ -240,7 +241,7 @@ macro_rules! number_of {
     };
 }
 
-/// Puts what the attribute is into a place. The codecs that take memory go out by `?`.
+/// Puts what the attribute is into a place. Where a name or bytes can't be read, it goes out by `?`.
 #[macro_export]
 macro_rules! put_rows {
     (($place:expr, $alloc:expr, $item:expr, $looks:expr $(; $($more:tt)*)?) $family:ident of $at:ident { $($number:tt $variant:ident $(($($codec:tt)+))? $(as $kind:expr)?;)* }) => {{

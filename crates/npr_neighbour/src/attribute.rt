@@ -8,8 +8,8 @@ use crate::cache_info::NeighbourCacheInfo;
 use crate::flags::NeighbourExtendedFlags;
 use bitflags::Flags;
 use npr_base::{
-    AddressFamily, AttrFamily, Attribute, DecodeError, DefaultNla, EmitError, Looks, Nla, NlaBuffer,
-    Place, put_read,
+    AddressFamily, AttrFamily, Attribute, DecodeError, DefaultNla, EmitError, Looks, Nla,
+    NlaBuffer, Place, put_read,
 };
 use npr_scalar::RouteProtocol;
 use std::alloc::{AllocError, Global};

@@ -3,7 +3,6 @@
 ghost use Rattle.std.specs.Prelude.{◌≡◌};
 ghost use Rattle.npr_rule.specs.Action.{action_of, action_number};
 
-
 /// What a rule does: `FR_ACT_*` of `linux/fib_rules.h`.
 #[derive(Clone, Copy, Debug, Default, PartialEq, Eq)]
 pub enum RuleAction {

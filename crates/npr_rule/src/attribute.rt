@@ -9,7 +9,9 @@ ghost use Rattle.{
 
 use crate::port_range::RulePortRange;
 use crate::uid_range::RuleUidRange;
-use npr_base::{Attribute, DecodeError, DefaultNla, EmitError, IpAddr, Looks, Nla, NlaBuffer, Place};
+use npr_base::{
+    Attribute, DecodeError, DefaultNla, EmitError, IpAddr, Looks, Nla, NlaBuffer, Place,
+};
 use npr_scalar::{IpProtocol, RouteProtocol, RouteRealm};
 use std::alloc::{AllocError, Global};
 

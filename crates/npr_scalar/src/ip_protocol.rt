@@ -3,7 +3,6 @@
 ghost use Rattle.std.specs.Prelude.{◌≡◌, pos};
 ghost use Rattle.npr_scalar.specs.IpProtocol.{ip_protocol_of, ip_protocol_number, byte_of};
 
-
 /// A protocol over IP: `IPPROTO_*` of `linux/in.h`, a signed number of 32 bits.
 #[derive(Clone, Copy, Debug, Default, PartialEq, Eq)]
 pub enum IpProtocol {

@@ -3,7 +3,6 @@
 ghost use Rattle.std.specs.Prelude.{◌≡◌};
 ghost use Rattle.npr_scalar.specs.RouteType.{route_type_of, route_type_number};
 
-
 /// What becomes of a packet on a route: `RTN_*` of `linux/rtnetlink.h`.
 #[derive(Clone, Copy, Debug, Default, PartialEq, Eq)]
 pub enum RouteType {

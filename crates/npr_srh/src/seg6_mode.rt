@@ -3,7 +3,6 @@
 ghost use Rattle.std.specs.Prelude.{◌≡◌};
 ghost use Rattle.npr_srh.specs.Seg6Mode.{mode_of, mode_number};
 
-
 /// How a SEG6 header is put in: `SEG6_IPTUN_MODE_*` of `linux/seg6_iptunnel.h`.
 #[derive(Clone, Copy, Debug, Default, PartialEq, Eq)]
 pub enum Seg6Mode {
