@@ -20,11 +20,11 @@ use std::alloc::Global;
 /// # Errors
 /// Why the bytes are no message, or why it can't be written.
 pub fn again<H: Header>(alloc: Global, bytes: &[u8]) -> Result<Vec<u8>, Fault>
-    ensures ok { IfOk result (λ out. (m : Meant H H.Meaning) × IsMessage H.layout H.body bytes.now m
-        × (message_misfit H.layout H.writing m ≡ None) × (out.items ≡ spelling H.layout H.writing m)) }
-    ensures refused { (e : DecodeError) → result ≡ Err (Refused e) → e ≢ OutOfMemory → MessageFault H.layout H.body bytes.now e }
-    ensures unfit { (e : EmitError) → result ≡ Err (Unfit e) → (m : Meant H H.Meaning) × IsMessage H.layout H.body bytes.now m
-        × (message_misfit H.layout H.writing m ≡ Some e) }
+    ensures ok { IfOk result (λ out. (m : Meant H H.grammar.Meaning) × IsMessage H.grammar bytes.now m
+        × (message_misfit H.grammar m ≡ None) × (out.items ≡ spelling H.grammar m)) }
+    ensures refused { (e : DecodeError) → result ≡ Err (Refused e) → e ≢ OutOfMemory → MessageFault H.grammar bytes.now e }
+    ensures unfit { (e : EmitError) → result ≡ Err (Unfit e) → (m : Meant H H.grammar.Meaning) × IsMessage H.grammar bytes.now m
+        × (message_misfit H.grammar m ≡ Some e) }
 {
     let message = Message::<H, H::Attribute>::parse(alloc, bytes)?;
     Ok(to_vec(alloc, &message)?)

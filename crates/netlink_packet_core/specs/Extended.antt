@@ -2,7 +2,6 @@
 use Rattle.std.specs.Prelude.{◌≡◌, ℕ, ◌+◌, ◌/◌, ◌%◌, ◌==◌, ◌||◌, nat_lt, Bool, List, [], ◌∷◌, length, take, drop, max, if◌then◌else◌}
 use Rattle.std.proofs.Common.{refl, arith, rules}
 use Rattle.std.specs.String.{string_bytes}
-use Rattle.npr_base.specs.declared.refusal.At.{At}
 use Rattle.npr_base.specs.declared.refusal.AttrFamily.TheVariants.{Value}
 use Rattle.npr_base.specs.Framing.{Item, Front, Passes, Fault, number_of, pad}
 use Rattle.npr_base.specs.Layout.{le32}
@@ -59,18 +58,15 @@ meaning_of (MissingNest n) = missing_nest n
 meaning_of (Other d) = other d
 
 -- a place that a refusal names: no family
-abbrev pub at : ℕ → At
-at number = record { family = Value; kind = number }
-
 -- the table
 abbrev pub rows : List (Row Meaning)
 rows =
-    row (at 1) name message
-    ∷ row (at 2) (exactly le32) offset
-    ∷ row (at 3) raw cookie
-    ∷ row (at 4) raw policy
-    ∷ row (at 5) (exactly le32) missing_type
-    ∷ row (at 6) (exactly le32) missing_nest
+    row Value 1 name message
+    ∷ row Value 2 (exactly le32) offset
+    ∷ row Value 3 raw cookie
+    ∷ row Value 4 raw policy
+    ∷ row Value 5 (exactly le32) missing_type
+    ∷ row Value 6 (exactly le32) missing_nest
     ∷ []
 
 -- where each meaning stands in it

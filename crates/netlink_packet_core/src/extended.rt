@@ -2,8 +2,8 @@
 
 ghost use Rattle.std.specs.Prelude.{◌≡◌, ◌<◌, ◌^◌, length, option_map, refl};
 ghost use Rattle.{
-  netlink_packet_core.specs.Extended.{Meaning, meaning_of, writing, attributes, has_flag, refused_length, refused_message, error_attributes, done_attributes, IsFirstText},
-  npr_base.specs.NameLaws.{IsUnterminated},
+  netlink_packet_core.specs.Extended.{meaning_of, writing, attributes, has_flag, refused_length, refused_message, error_attributes, done_attributes, IsFirstText},
+  npr_base.specs.{NameLaws.{IsUnterminated}, Table.{family_of}},
 };
 
 use crate::constants::{NETLINK_HEADER_LEN, NLM_F_ACK_TLVS, NLM_F_CAPPED, NLMSG_ALIGNTO};
@@ -70,13 +70,7 @@ impl Nla for ErrorAttribute {
 impl Attribute for ErrorAttribute {
     type Context = ();
 
-    ghost Meaning = { Meaning };
-
-    ghost meaning = { meaning_of };
-
-    ghost writing = { writing };
-
-    ghost reading = { λ _. attributes };
+    ghost family = { family_of meaning_of (λ _. attributes) };
 
     ghost shape_is = { λ a. refl };
 

@@ -25,6 +25,7 @@ pub use Rattle.npr_base.specs.ListCodec
 pub use Rattle.npr_base.specs.ListLaws
 pub use Rattle.npr_base.specs.Looks
 pub use Rattle.npr_base.specs.LooksLaws
+pub use Rattle.npr_base.specs.MessageLaws
 pub mod MessageKind
 pub mod Messages
 pub mod Request
@@ -127,6 +128,7 @@ pub use Rattle.npr_route.specs.FlatAttributeLaws as FlatRouteAttributeLaws
 pub use Rattle.npr_route.specs.Governing
 pub use Rattle.npr_route.specs.Header as RouteHeader
 pub mod RouteMessage
+pub use Rattle.npr_route.specs.MessageLaws as RouteMessageLaws
 pub use Rattle.npr_route.specs.Metric as RouteMetric
 pub use Rattle.npr_route.specs.NextHopFrontLaws
 pub use Rattle.npr_route.specs.NextHopHeader

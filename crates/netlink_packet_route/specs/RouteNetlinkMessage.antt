@@ -6,16 +6,13 @@ use Rattle.npr_base.specs.declared.refusal.DecodeError.{DecodeError}
 use Rattle.npr_base.specs.declared.refusal.EmitError.{EmitError}
 use Rattle.npr_base.specs.Framing.{IsBytes}
 use Rattle.npr_base.proofs.Messages.{message-one, message-sound, message-coherent, message-back}
-use Rattle.npr_address.specs.Header.{header as address_header}
-use Rattle.npr_address.specs.Message.{Address, body as address_body, message_of as address_of}
+use Rattle.npr_address.specs.Message.{Address, grammar as address_grammar, message_of as address_of}
 use Rattle.npr_address.specs.Message.{IsAddressMessage, AddressFault, IsCoherentAddress, address_bytes, address_misfit}
-use Rattle.npr_neighbour.specs.Header.{header as neighbour_header}
-use Rattle.npr_neighbour.specs.Message.{Neighbour, body as neighbour_body, message_of as neighbour_of}
+use Rattle.npr_neighbour.specs.Message.{Neighbour, grammar as neighbour_grammar, message_of as neighbour_of}
 use Rattle.npr_neighbour.specs.Message.{IsNeighbourMessage, NeighbourFault, IsCoherentNeighbour, neighbour_bytes, neighbour_misfit}
-use Rattle.npr_route.specs.Header.{header as route_header}
-use Rattle.npr_route.specs.Message.{Route, body as route_body, message_of as route_of, IsRouteMessage, RouteFault, IsCoherentRoute, route_bytes, route_misfit}
-use Rattle.npr_rule.specs.Header.{header as rule_header}
-use Rattle.npr_rule.specs.Message.{Rule, body as rule_body, message_of as rule_of, IsRuleMessage, RuleFault, IsCoherentRule, rule_bytes, rule_misfit}
+use Rattle.npr_route.specs.Message.{Route, grammar as route_grammar, message_of as route_of}
+use Rattle.npr_route.specs.Message.{IsRouteMessage, RouteFault, IsCoherentRoute, route_bytes, route_misfit}
+use Rattle.npr_rule.specs.Message.{Rule, grammar as rule_grammar, message_of as rule_of, IsRuleMessage, RuleFault, IsCoherentRule, rule_bytes, rule_misfit}
 use Rattle.netlink_packet_core.specs.Protocol.{Protocol}
 use Rattle.netlink_packet_route.specs.declared.message.OtherMessage.{OtherMessage}
 use Rattle.netlink_packet_route.specs.declared.message.RouteNetlinkMessage.{RouteNetlinkMessage}
@@ -150,17 +147,17 @@ number-is kind =
     (in_row (kind == 33) (OfRule Del) _ kind 33 refl refl (in_row (kind == 34) (OfRule Get) Unknown kind 34 refl refl tt)))))))))))
 
 pub one : (t : MessageType) (kind : ℕ) (bytes : List ℕ) (x y : Meaning) → ReadsUnder t kind bytes x → ReadsUnder t kind bytes y → x ≡ y
-one (OfAddress a) kind bytes x y (m, p, e) (n, q, f) = e ∙ ap (address a) (message-one address_header address_body bytes m n p q) ∙ sym f
-one (OfRoute a) kind bytes x y (m, p, e) (n, q, f) = e ∙ ap (route a) (message-one route_header route_body bytes m n p q) ∙ sym f
-one (OfNeighbour a) kind bytes x y (m, p, e) (n, q, f) = e ∙ ap (neighbour a) (message-one neighbour_header neighbour_body bytes m n p q) ∙ sym f
-one (OfRule a) kind bytes x y (m, p, e) (n, q, f) = e ∙ ap (rule a) (message-one rule_header rule_body bytes m n p q) ∙ sym f
+one (OfAddress a) kind bytes x y (m, p, e) (n, q, f) = e ∙ ap (address a) (message-one address_grammar bytes m n p q) ∙ sym f
+one (OfRoute a) kind bytes x y (m, p, e) (n, q, f) = e ∙ ap (route a) (message-one route_grammar bytes m n p q) ∙ sym f
+one (OfNeighbour a) kind bytes x y (m, p, e) (n, q, f) = e ∙ ap (neighbour a) (message-one neighbour_grammar bytes m n p q) ∙ sym f
+one (OfRule a) kind bytes x y (m, p, e) (n, q, f) = e ∙ ap (rule a) (message-one rule_grammar bytes m n p q) ∙ sym f
 one Unknown kind bytes x y p q = p ∙ sym q
 
 pub sound : (t : MessageType) (kind : ℕ) (bytes : List ℕ) (x : Meaning) (e : DecodeError) → ReadsUnder t kind bytes x → FaultUnder t bytes e → ⊥
-sound (OfAddress a) kind bytes x e (m, p, _) bad = message-sound address_header address_body bytes m e bad p
-sound (OfRoute a) kind bytes x e (m, p, _) bad = message-sound route_header route_body bytes m e bad p
-sound (OfNeighbour a) kind bytes x e (m, p, _) bad = message-sound neighbour_header neighbour_body bytes m e bad p
-sound (OfRule a) kind bytes x e (m, p, _) bad = message-sound rule_header rule_body bytes m e bad p
+sound (OfAddress a) kind bytes x e (m, p, _) bad = message-sound address_grammar bytes m e bad p
+sound (OfRoute a) kind bytes x e (m, p, _) bad = message-sound route_grammar bytes m e bad p
+sound (OfNeighbour a) kind bytes x e (m, p, _) bad = message-sound neighbour_grammar bytes m e bad p
+sound (OfRule a) kind bytes x e (m, p, _) bad = message-sound rule_grammar bytes m e bad p
 sound Unknown kind bytes x e p bad = bad
 
 abbrev pub IsKnown : ℕ → Meaning → Type 0
@@ -170,10 +167,10 @@ pub known : (t : MessageType) (kind : ℕ) (bytes : List ℕ) (x : Meaning) → 
     → IsBytes bytes → ReadsUnder t kind bytes x → IsKnown kind x
 unfolding HasNumber
 known (OfAddress a) kind bytes x t has is (m, p, e) =
-    subst (IsKnown kind) (sym e) (message-coherent address_header address_body bytes m is p, sym has)
-known (OfRoute a) kind bytes x t has is (m, p, e) = subst (IsKnown kind) (sym e) (message-coherent route_header route_body bytes m is p, sym has)
-known (OfNeighbour a) kind bytes x t has is (m, p, e) = subst (IsKnown kind) (sym e) (message-coherent neighbour_header neighbour_body bytes m is p, sym has)
-known (OfRule a) kind bytes x t has is (m, p, e) = subst (IsKnown kind) (sym e) (message-coherent rule_header rule_body bytes m is p, sym has)
+    subst (IsKnown kind) (sym e) (message-coherent address_grammar bytes m is p, sym has)
+known (OfRoute a) kind bytes x t has is (m, p, e) = subst (IsKnown kind) (sym e) (message-coherent route_grammar bytes m is p, sym has)
+known (OfNeighbour a) kind bytes x t has is (m, p, e) = subst (IsKnown kind) (sym e) (message-coherent neighbour_grammar bytes m is p, sym has)
+known (OfRule a) kind bytes x t has is (m, p, e) = subst (IsKnown kind) (sym e) (message-coherent rule_grammar bytes m is p, sym has)
 known Unknown kind bytes x t has is p = subst (IsKnown kind) (sym p) ((t, is), refl)
 
 type-address : (a : Action) → type_of (address_type a) ≡ OfAddress a
@@ -199,16 +196,16 @@ type-rule Get = refl
 pub back : (x : Meaning) → Coherent x → misfit x ≡ None → ReadsUnder (type_of (number x)) (number x) (writes x) x
 back (address a m) c fits =
     subst (λ (t : MessageType). ReadsUnder t (address_type a) (address_bytes m) (address a m)) (sym (type-address a))
-    (m, message-back address_header address_body m c fits, refl)
+    (m, message-back address_grammar m c fits, refl)
 back (route a m) c fits =
     subst (λ (t : MessageType). ReadsUnder t (route_type a) (route_bytes m) (route a m)) (sym (type-route a))
-    (m, message-back route_header route_body m c fits, refl)
+    (m, message-back route_grammar m c fits, refl)
 back (neighbour a m) c fits =
     subst (λ (t : MessageType). ReadsUnder t (neighbour_type a) (neighbour_bytes m) (neighbour a m)) (sym (type-neighbour a))
-    (m, message-back neighbour_header neighbour_body m c fits, refl)
+    (m, message-back neighbour_grammar m c fits, refl)
 back (rule a m) c fits =
     subst (λ (t : MessageType). ReadsUnder t (rule_type a) (rule_bytes m) (rule a m)) (sym (type-rule a))
-    (m, message-back rule_header rule_body m c fits, refl)
+    (m, message-back rule_grammar m c fits, refl)
 back (other kind bytes) c fits = subst (λ (t : MessageType). ReadsUnder t kind bytes (other kind bytes)) (sym c.0) refl
 
 -- rtnetlink

@@ -15,18 +15,18 @@ use Rattle.netlink_report.specs.Report.{report}
 unfoldable pub IsReport : MessageKind → List ℕ → List ℕ → Type 0
 IsReport kind bytes text =
     let f = form_of kind in
-    (m : Message f.Header f.Meaning) × IsMessage f.layout f.body bytes m × (message_misfit f.layout f.writing m ≡ None)
-    × (text ≡ report (kind_name kind) (length bytes) (map (written_by f.writing) m.attributes) (spelling f.layout f.writing m))
+    (m : Message f.Header f.grammar.Meaning) × IsMessage f.grammar bytes m × (message_misfit f.grammar m ≡ None)
+    × (text ≡ report (kind_name kind) (length bytes) (map (written_by f.grammar.writing) m.attributes) (spelling f.grammar m))
 
 -- the bytes are no message of this kind, and this is their first fault
 unfoldable pub IsRefused : MessageKind → List ℕ → DecodeError → Type 0
-IsRefused kind bytes e = let f = form_of kind in (e ≢ OutOfMemory) × MessageFault f.layout f.body bytes e
+IsRefused kind bytes e = let f = form_of kind in (e ≢ OutOfMemory) × MessageFault f.grammar bytes e
 
 -- the bytes are a message of this kind that can't be written, and this is the first cause
 unfoldable pub IsUnfit : MessageKind → List ℕ → EmitError → Type 0
 IsUnfit kind bytes e =
     let f = form_of kind in
-    (m : Message f.Header f.Meaning) × IsMessage f.layout f.body bytes m × (message_misfit f.layout f.writing m ≡ Some e)
+    (m : Message f.Header f.grammar.Meaning) × IsMessage f.grammar bytes m × (message_misfit f.grammar m ≡ Some e)
 
 -- the text that was left to read stands for bytes of which this holds
 abbrev pub OfText : Option (List ℕ) → (List ℕ → Type 0) → Type 0

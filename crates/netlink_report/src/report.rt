@@ -19,8 +19,8 @@ pub fn whole<A: Attribute>(
     attributes: &[A],
     canonical: &[u8],
 ) -> Result<String, RunError>
-    requires { first_unfit (unfit_by A.writing) (map A.meaning attributes.now) ≡ None }
-    ensures ok { IfOk result (λ text. string_bytes text ≡ report name.now bytes (map (written_by A.writing) (map A.meaning attributes.now)) canonical.now) }
+    requires { first_unfit (unfit_by A.family.writing) (map A.family.meaning attributes.now) ≡ None }
+    ensures ok { IfOk result (λ text. string_bytes text ≡ report name.now bytes (map (written_by A.family.writing) (map A.family.meaning attributes.now)) canonical.now) }
     ensures errors { IfErr result (λ e. e ≡ Memory) }
 {
     let mut out = String::new(alloc);
@@ -32,8 +32,8 @@ pub fn whole<A: Attribute>(
 
 /// Appends the lines of attributes that can be written.
 fn lines<A: Attribute>(out: &mut String, attributes: &[A]) -> Result<(), RunError>
-    requires { first_unfit (unfit_by A.writing) (map A.meaning attributes.now) ≡ None }
-    ensures ok { OnOk result (string_bytes out.new ≡ string_bytes out.old ++ lines_text (map (written_by A.writing) (map A.meaning attributes.now))) }
+    requires { first_unfit (unfit_by A.family.writing) (map A.family.meaning attributes.now) ≡ None }
+    ensures ok { OnOk result (string_bytes out.new ≡ string_bytes out.old ++ lines_text (map (written_by A.family.writing) (map A.family.meaning attributes.now))) }
     ensures errors { IfErr result (λ e. e ≡ Memory) }
 {
     for attribute in attributes {
@@ -44,9 +44,9 @@ fn lines<A: Attribute>(out: &mut String, attributes: &[A]) -> Result<(), RunErro
 
 /// Appends the line of an attribute that can be written.
 fn attribute_line<A: Attribute>(out: &mut String, attribute: &A) -> Result<(), RunError>
-    requires { unfit_by A.writing (A.meaning attribute.now) ≡ None }
+    requires { unfit_by A.family.writing (A.family.meaning attribute.now) ≡ None }
     ensures ok { OnOk result (string_bytes out.new ≡ string_bytes out.old
-        ++ line_text (written_by A.writing (A.meaning attribute.now)).kind (length (written_by A.writing (A.meaning attribute.now)).value)) }
+        ++ line_text (written_by A.family.writing (A.family.meaning attribute.now)).kind (length (written_by A.family.writing (A.family.meaning attribute.now)).value)) }
     ensures errors { IfErr result (λ e. e ≡ Memory) }
 {
     let kind = marked_kind(attribute.kind(), attribute.is_nested());

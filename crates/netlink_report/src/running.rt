@@ -87,12 +87,12 @@ fn answer(alloc: Global, kind: MessageKind, bytes: &[u8]) -> Result<String, RunE
 
 /// The report, under the name of this kind, on a message with such a header.
 fn answer_by<H: Header>(alloc: Global, kind: MessageKind, bytes: &[u8]) -> Result<String, RunError>
-    ensures ok { IfOk result (λ text. (m : Message H H.Attribute) × IsMessage H.layout H.body bytes.now (view H.meaning m)
-        × (message_misfit H.layout H.writing (view H.meaning m) ≡ None)
-        × (string_bytes text ≡ report (kind_name kind) (length bytes.now) (map (written_by H.Attribute.writing) (map H.Attribute.meaning m.attributes.items)) (spelling H.layout H.writing (view H.meaning m)))) }
-    ensures refused { (e : DecodeError) → result ≡ Err (Refused e) → (e ≢ OutOfMemory) × MessageFault H.layout H.body bytes.now e }
-    ensures unfit { (e : EmitError) → result ≡ Err (Unfit e) → (m : Meant H H.Meaning) × IsMessage H.layout H.body bytes.now m × (message_misfit H.layout H.writing m ≡ Some e) }
-    ensures memory { result ≡ Err Memory → H.layout.size ≤ length bytes.now }
+    ensures ok { IfOk result (λ text. (m : Message H H.Attribute) × IsMessage H.grammar bytes.now (view H.grammar m)
+        × (message_misfit H.grammar (view H.grammar m) ≡ None)
+        × (string_bytes text ≡ report (kind_name kind) (length bytes.now) (map (written_by H.Attribute.family.writing) (map H.Attribute.family.meaning m.attributes.items)) (spelling H.grammar (view H.grammar m)))) }
+    ensures refused { (e : DecodeError) → result ≡ Err (Refused e) → (e ≢ OutOfMemory) × MessageFault H.grammar bytes.now e }
+    ensures unfit { (e : EmitError) → result ≡ Err (Unfit e) → (m : Meant H H.grammar.Meaning) × IsMessage H.grammar bytes.now m × (message_misfit H.grammar m ≡ Some e) }
+    ensures memory { result ≡ Err Memory → H.grammar.layout.size ≤ length bytes.now }
     ensures errors { IfErr result IsOfMessage }
 {
     let message = Message::<H, H::Attribute>::parse(alloc, bytes)?;
@@ -108,9 +108,9 @@ fn written<M: Emitable, A: Attribute>(
     message: &M,
     attributes: &[A],
 ) -> Result<String, RunError>
-    requires { M.unfit message.now ≡ None → first_unfit (unfit_by A.writing) (map A.meaning attributes.now) ≡ None }
+    requires { M.unfit message.now ≡ None → first_unfit (unfit_by A.family.writing) (map A.family.meaning attributes.now) ≡ None }
     ensures ok { IfOk result (λ text. (M.unfit message.now ≡ None)
-        × (string_bytes text ≡ report (kind_name kind) (length bytes.now) (map (written_by A.writing) (map A.meaning attributes.now)) (M.bytes message.now))) }
+        × (string_bytes text ≡ report (kind_name kind) (length bytes.now) (map (written_by A.family.writing) (map A.family.meaning attributes.now)) (M.bytes message.now))) }
     ensures unfit { (e : EmitError) → result ≡ Err (Unfit e) → M.unfit message.now ≡ Some e }
     ensures errors { IfErr result (λ e. (e ≡ Memory) ⊎ ((cause : EmitError) × (e ≡ Unfit cause))) }
 {

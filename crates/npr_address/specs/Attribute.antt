@@ -1,7 +1,6 @@
 -- The attributes of an address message (linux/if_addr.h, IFA_*), by their table.
 use Rattle.std.specs.Prelude.{ℕ, ℤ, List, [], ◌∷◌}
 use Rattle.std.specs.String.{string_bytes}
-use Rattle.npr_base.specs.declared.refusal.At.{At}
 use Rattle.npr_base.specs.declared.refusal.AttrFamily.TheVariants.{Address as OfAddress}
 use Rattle.npr_base.specs.declared.ip.IpAddr.{IpAddr}
 use Rattle.npr_base.specs.Framing.{Item}
@@ -9,7 +8,7 @@ use Rattle.npr_base.specs.Layout.{le32, octets, signed32}
 use Rattle.npr_base.specs.Codec.{exactly, leading}
 use Rattle.npr_base.specs.IpCodec.{ip}
 use Rattle.npr_base.specs.Name.{name}
-use Rattle.npr_base.specs.Table.{Writing, Reading, Row, row, Held, held, held_other, held_value, IsAligned, IsPlaced, writing_by}
+use Rattle.npr_base.specs.Table.{Writing, Reading, Family, family_of, Row, row, Held, held, held_other, held_value, IsAligned, IsPlaced, writing_by}
 use Rattle.npr_base.specs.TableLaws.{table_family, table_of}
 use Rattle.npr_address.specs.AddressFlags.{address_flags}
 use Rattle.npr_address.specs.AddressProtocol.{protocol as address_protocol}
@@ -52,23 +51,20 @@ meaning_of (TargetNetNsId n) = target_net_ns_id n
 meaning_of (Protocol p) = protocol p
 meaning_of (Other d) = other d
 
-abbrev pub at : ℕ → At
-at number = record { family = OfAddress; kind = number }
-
 -- the table
 abbrev pub rows : List (Row Meaning)
 rows =
-    row (at 1) ip address
-    ∷ row (at 2) ip local
-    ∷ row (at 3) name label
-    ∷ row (at 4) (exactly (octets 4)) broadcast
-    ∷ row (at 5) (exactly (octets 16)) anycast
-    ∷ row (at 6) (leading cache_info) info
-    ∷ row (at 7) (exactly (octets 16)) multicast
-    ∷ row (at 8) (exactly address_flags) flags
-    ∷ row (at 9) (exactly le32) route_priority
-    ∷ row (at 10) (exactly signed32) target_net_ns_id
-    ∷ row (at 11) (exactly address_protocol) protocol
+    row OfAddress 1 ip address
+    ∷ row OfAddress 2 ip local
+    ∷ row OfAddress 3 name label
+    ∷ row OfAddress 4 (exactly (octets 4)) broadcast
+    ∷ row OfAddress 5 (exactly (octets 16)) anycast
+    ∷ row OfAddress 6 (leading cache_info) info
+    ∷ row OfAddress 7 (exactly (octets 16)) multicast
+    ∷ row OfAddress 8 (exactly address_flags) flags
+    ∷ row OfAddress 9 (exactly le32) route_priority
+    ∷ row OfAddress 10 (exactly signed32) target_net_ns_id
+    ∷ row OfAddress 11 (exactly address_protocol) protocol
     ∷ []
 
 -- where each meaning stands in it
@@ -101,3 +97,6 @@ writing = writing_by held_of
 -- the family
 abbrev pub attributes : Reading writing
 attributes = table_family (table_of rows other held_of aligned (λ x. refl) (λ x is. is) placed)
+
+abbrev pub family : Family AddressAttribute (Unit {0})
+family = family_of meaning_of (λ c. attributes)

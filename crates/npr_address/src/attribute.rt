@@ -1,7 +1,7 @@
 //! The attributes of an address message: `IFA_*` of `linux/if_addr.h`.
 
 ghost use Rattle.std.specs.Prelude.{refl};
-ghost use Rattle.npr_address.specs.Attribute.{Meaning, meaning_of, writing, attributes};
+ghost use Rattle.npr_address.specs.Attribute.{meaning_of, writing, family};
 
 use crate::addr_flags::AddressFlags;
 use crate::addr_protocol::AddressProtocol;
@@ -84,13 +84,7 @@ impl Nla for AddressAttribute {
 impl Attribute for AddressAttribute {
     type Context = ();
 
-    ghost Meaning = { Meaning };
-
-    ghost meaning = { meaning_of };
-
-    ghost writing = { writing };
-
-    ghost reading = { λ _. attributes };
+    ghost family = { family };
 
     ghost shape_is = { λ a. refl };
 

@@ -10,7 +10,7 @@ ghost use Rattle.{
     AddressScope.{scope_of, scope_number},
     Attribute.{meaning_of, writing},
     Header.{default_header, header},
-    Message.{Address, body, message_of, IsAddressMessage},
+    Message.{Address, grammar, message_of, IsAddressMessage},
   },
 };
 
@@ -56,9 +56,9 @@ pub fn law_address_flags()
 /// The looks that reading a message takes, over their definition.
 pub fn law_looks()
     // At most two for four bytes behind the header, and one for twelve and two that fail.
-    ensures bounded { (bytes : List ℕ) (old new : Counts) → MessageLooks header body bytes old new → AddsAtMostTwice old new (length bytes - 8) }
+    ensures bounded { (bytes : List ℕ) (old new : Counts) → MessageLooks grammar bytes old new → AddsAtMostTwice old new (length bytes - 8) }
     // Each attribute has one.
-    ensures counted { (bytes : List ℕ) (m : Address) (old new : Counts) → IsAddressMessage bytes m → MessageLooks header body bytes old new
+    ensures counted { (bytes : List ℕ) (m : Address) (old new : Counts) → IsAddressMessage bytes m → MessageLooks grammar bytes old new
         → SawEach old new (list_members writing.members m.attributes) }
 {}
 

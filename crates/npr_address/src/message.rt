@@ -1,12 +1,14 @@
 //! Address messages: `RTM_NEWADDR`, `RTM_DELADDR` and `RTM_GETADDR`, without the envelope.
 
 ghost use Rattle.std.{specs.Prelude.{refl}, proofs.Common.{rules}};
-ghost use Rattle.npr_address.specs.{Attribute.{Meaning, meaning_of, writing}, Header.{default_header, header}, Message.{body}};
+ghost use Rattle.{
+  npr_base.specs.{Message.{governs_by, none_searched}, MessageLaws.{of_family, under_by}},
+  npr_address.specs.{Attribute.{family}, Header.{default_header, header}, Message.{grammar}},
+};
 
 use crate::attribute::AddressAttribute;
 use crate::header::AddressHeader;
-use npr_base::{DecodeError, Header, Looks, Message, fill_list};
-use std::alloc::Global;
+use npr_base::{Header, Looks, Message};
 
 /// The bytes of `struct ifaddrmsg` of `linux/if_addr.h`.
 const IFADDRMSG_SIZE: usize = 8;
@@ -17,29 +19,17 @@ pub type AddressMessage = Message<AddressHeader, AddressAttribute>;
 impl Header for AddressHeader {
     type Attribute = AddressAttribute;
 
-    ghost Meaning = { Meaning };
+    ghost grammar = { grammar };
 
-    ghost meaning = { meaning_of };
+    ghost governs = { governs_by (λ h. tt) };
 
-    ghost writing = { writing };
-
-    ghost layout = { header };
-
-    ghost body = { body };
-
-    ghost standard = { default_header };
+    ghost searches = { λ h bytes context. none_searched };
 
     ghost by_layout = { λ h. (refl, refl, refl, Prim.search rules) };
 
-    ghost by_family = { λ xs. (refl, refl) };
+    ghost by_family = { of_family family header default_header grammar.body };
 
-    ghost meanings_are = { λ xs ys e. e };
-
-    ghost governs = { λ h bytes context. Unit {0} };
-
-    ghost reads_under = { λ h bytes context xs governs reads. reads };
-
-    ghost faulty_under = { λ h bytes context e governs wrong. wrong };
+    ghost under = { under_by family header default_header (λ h. tt) };
 
     fn size() -> usize {
         IFADDRMSG_SIZE
@@ -50,15 +40,5 @@ impl Header for AddressHeader {
         AddressHeader::in_front(bytes)
     }
 
-    fn context(&self, _bytes: &[u8]) {}
-
-    fn read_list(
-        &self,
-        list: &mut Vec<AddressAttribute>,
-        alloc: Global,
-        bytes: &[u8],
-        looks: &mut Looks,
-    ) -> Result<(), DecodeError> {
-        fill_list(list, alloc, (), bytes, looks)
-    }
+    fn context(&self, _bytes: &[u8], _looks: &mut Looks) {}
 }

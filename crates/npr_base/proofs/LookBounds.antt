@@ -1,19 +1,20 @@
 -- What the looks that a reading takes are at most and at least, by their definition.
+use Rattle.std.specs.Prelude.{IfOk}
 use Rattle.std.specs.Bool.{MatchBool}
-use Rattle.std.proofs.Common.{◌≡◌, ℕ, ◌-◌, Bool, true, false, List, [], ◌∷◌, length, drop, refl, sym, ap, subst, ◌∙◌, arith, inl, inr, length-append}
+use Rattle.std.proofs.Common.{◌≡◌, ℕ, ◌-◌, Bool, true, false, Result, Ok, Err, List, [], ◌∷◌, length, drop, refl, sym, ap, subst, ◌∙◌, arith, inl, inr, length-append}
 use Rattle.npr_base.specs.Counts.{Counts, AddsAtMost, AddsAtMostTwice, SawEach, hit}
-use Rattle.npr_base.specs.Framing.{Item, Front, Passes}
+use Rattle.npr_base.specs.declared.refusal.DecodeError.{DecodeError}
+use Rattle.npr_base.specs.Framing.{Item, Front, Passes, Cut}
 use Rattle.npr_base.specs.Family.{Each, ReadsList, list_members}
 use Rattle.npr_base.specs.FrontLaws.{Front-takes, Front-same, Front-shrinks, Front-sound}
-use Rattle.npr_base.specs.Layout.{Layout}
-use Rattle.npr_base.specs.Message.{Message, Body, IsMessage, MessageLooks}
+use Rattle.npr_base.specs.Message.{Message, Grammar, IsMessage, MessageLooks}
 use Rattle.npr_base.proofs.Messages.{front_is, header_is, rest_reads, has_header}
 use Rattle.npr_base.specs.Looks.{Looking, ListLooks, list_ends, none_stands, faulty_stands, passed}
 use Rattle.npr_base.specs.LooksLaws.{no_looking, list_looking}
 use Rattle.npr_base.specs.Table.{Writing, Reading}
 use Rattle.npr_base.specs.TableLaws.{looking_at}
-use Rattle.npr_base.specs.Walk.{Walked}
-use Rattle.npr_base.proofs.WalkLaws.{Passes-length, Walked-bounds}
+use Rattle.npr_base.specs.Walk.{Walked, Searched}
+use Rattle.npr_base.proofs.WalkLaws.{Passes-length, Passes-ahead, Walked-bounds}
 
 -- what a value takes is at most what its length allows
 abbrev pub Bounded : Looking Item → Type 0
@@ -116,30 +117,56 @@ module _ {M : Type 0} {w : Writing M} (f : Reading w) (bounded : Bounded f.looks
       → SawEach old new (list_members w.members xs)
   list-saw bytes xs old new (items, is, each) p = saw-items items xs bytes old new is each p
 
+-- ---- a search through a list, and then its reading
+
+pub searched-read : (bytes : List ℕ) (old mid new : Counts) → Searched bytes old mid → Walked bytes mid new → AddsAtMostTwice old new (length bytes)
+searched-read bytes old mid new s w =
+    let ahead = Passes-ahead s.passed w.passed bytes s.rest w.rest s.passes w.passes in
+    let far = Passes-length w.passed bytes w.rest w.passes in
+    record {
+      kept = omega (arith, s.kept, w.kept);
+      successful = omega (arith, s.successful, w.successful, ahead, far);
+      failed_kept = omega (arith, s.failed_kept, w.failed_kept);
+      failed = omega (arith, s.failed, w.failed);
+    }
+
+pub searched-saw : (bytes : List ℕ) (items : List Item) (old mid new : Counts) (members : ℕ) → Cut bytes items → Searched bytes old mid → SawEach mid new members
+    → SawEach old new members
+searched-saw bytes items old mid new members cut s saw = record {
+  failed = saw.failed ∙ s.whole items cut;
+  each = λ below. omega (arith, saw.each below, s.kept);
+}
+
+-- of what a reading answers
+pub searched-saw_ok : {V M : Type 0} (xs : V → List M) (count : List M → ℕ) (R : Item → M → Type 0) (bytes : List ℕ) (old mid new : Counts) → Searched bytes old mid
+    → (r : Result V DecodeError) → IfOk r (λ v. ReadsList R bytes (xs v)) → IfOk r (λ v. SawEach mid new (count (xs v))) → IfOk r (λ v. SawEach old new (count (xs v)))
+searched-saw_ok xs count R bytes old mid new s (Ok v) reads saw = searched-saw bytes reads.0 old mid new (count (xs v)) reads.1 s saw
+searched-saw_ok xs count R bytes old mid new s (Err e) reads saw = tt
+
 -- ---- a message
 
-module _ {H M : Type 0} {w : Writing M} (L : Layout H) (B : Body H w) where
-  pub message-bounded : ((h : H) (bytes : List ℕ) (old new : Counts) → (B.looks h).Takes bytes old new → AddsAtMostTwice old new (length bytes))
-      → (bytes : List ℕ) (old new : Counts) → MessageLooks L B bytes old new → AddsAtMostTwice old new (length bytes - L.size)
+module _ {H A : Type 0} (g : Grammar H A) where
+  pub message-bounded : ((h : H) (bytes : List ℕ) (old new : Counts) → (g.body.looks h).Takes bytes old new → AddsAtMostTwice old new (length bytes))
+      → (bytes : List ℕ) (old new : Counts) → MessageLooks g bytes old new → AddsAtMostTwice old new (length bytes - g.layout.size)
   unfolding MessageLooks
   message-bounded most bytes old new (inl (short, p)) =
       let s = ap (λ (c : Counts). c.successful) p in
       let t = ap (λ (c : Counts). c.failed) p in
       record { kept = omega (arith, s); successful = omega (arith, s); failed_kept = omega (arith, t); failed = omega (arith, t) }
   message-bounded most bytes old new (inr (front, rest, is, size, t)) =
-      let a = most (L.decode front) rest old new t in
-      let len : length rest ≡ length bytes - L.size = omega (arith, ap length is, length-append front rest, size) in
+      let a = most (g.layout.decode front) rest old new t in
+      let len : length rest ≡ length bytes - g.layout.size = omega (arith, ap length is, length-append front rest, size) in
       subst (λ (n : ℕ). AddsAtMostTwice old new n) len a
 
-  pub message-saw : ((h : H) (bytes : List ℕ) (xs : List M) (old new : Counts) → B.Reads h bytes xs → (B.looks h).Takes bytes old new → SawEach old new (list_members w.members xs))
-      → (bytes : List ℕ) (m : Message H M) (old new : Counts) → IsMessage L B bytes m → MessageLooks L B bytes old new → SawEach old new (list_members w.members m.attributes)
+  pub message-saw : ((h : H) (bytes : List ℕ) (xs : List g.Meaning) (old new : Counts) → g.body.Reads h bytes xs → (g.body.looks h).Takes bytes old new → SawEach old new (list_members g.writing.members xs))
+      → (bytes : List ℕ) (m : Message H g.Meaning) (old new : Counts) → IsMessage g bytes m → MessageLooks g bytes old new → SawEach old new (list_members g.writing.members m.attributes)
   unfolding MessageLooks
-  message-saw saw bytes m old new is (inl (short, p)) = absurd (omega (arith, has_header L B bytes m is, short))
+  message-saw saw bytes m old new is (inl (short, p)) = absurd (omega (arith, has_header g bytes m is, short))
   message-saw saw bytes m old new is (inr (front, rest, js, size, t)) =
-      let same = front_is L B bytes front rest js size in
-      let h : L.decode front ≡ m.header = ap L.decode same.0 ∙ sym (header_is L B bytes m is) in
-      let looks = subst (λ (b : List ℕ). (B.looks m.header).Takes b old new) same.1 (subst (λ (k : H). (B.looks k).Takes rest old new) h t) in
-      saw m.header (drop L.size bytes) m.attributes old new (rest_reads L B bytes m is) looks
+      let same = front_is g bytes front rest js size in
+      let h : g.layout.decode front ≡ m.header = ap g.layout.decode same.0 ∙ sym (header_is g bytes m is) in
+      let looks = subst (λ (b : List ℕ). (g.body.looks m.header).Takes b old new) same.1 (subst (λ (k : H). (g.body.looks k).Takes rest old new) h t) in
+      saw m.header (drop g.layout.size bytes) m.attributes old new (rest_reads g bytes m is) looks
 
 -- of one family without lists inside
 pub family-bounded : {M : Type 0} {w : Writing M} (f : Reading w) → Bounded f.looks → Saw f → (bytes : List ℕ) (old new : Counts)

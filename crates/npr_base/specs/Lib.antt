@@ -22,6 +22,7 @@ pub mod Codec
 pub mod Layout
 pub mod Fields
 pub mod Message
+pub mod MessageLaws
 pub mod Rows
 pub mod RowLaws
 pub mod AddressFamily

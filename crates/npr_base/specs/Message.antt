@@ -4,13 +4,14 @@ use Rattle.npr_base.specs.declared.refusal.DecodeError.{DecodeError}
 use Rattle.npr_base.specs.declared.refusal.DecodeError.TheVariants.{HeaderTooShort}
 use Rattle.npr_base.specs.declared.refusal.EmitError.{EmitError}
 use Rattle.npr_base.specs.Framing.{IsBytes}
-use Rattle.npr_base.specs.Family.{AllOf, ReadsList, FirstFault, encodings, first_unfit, option_or, overlong}
+use Rattle.npr_base.specs.Family.{AllOf, ReadsList, FirstFault, encodings, first_unfit, list_members, option_or, overlong}
 use Rattle.npr_base.specs.ListLaws.{ReadsList-one, FirstFault-excludes, ReadsList-known, encodings-read, ReadsList-grows}
 use Rattle.npr_base.specs.Layout.{Layout}
 use Rattle.npr_base.specs.Looks.{Looking}
 use Rattle.npr_base.specs.LooksLaws.{list_looking}
 use Rattle.npr_base.specs.Counts.{Counts}
-use Rattle.npr_base.specs.Table.{Writing, Reading, fits-small, written_by, unfit_by}
+use Rattle.npr_base.specs.Walk.{Searched}
+use Rattle.npr_base.specs.Table.{Writing, Reading, Family, fits-small, written_by, unfit_by}
 use Rattle.npr_base.specs.declared.message.Message.{Message as Stored}
 use Rattle.std.proofs.Common.{arith}
 
@@ -18,9 +19,6 @@ use Rattle.std.proofs.Common.{arith}
 pub record Message (H M : Type 0) : Type 0 where
   pub header : H
   pub attributes : List M
-
-abbrev pub view : {H A M : Type 0} → (A → M) → Stored H A → Message H M
-view meaning m = record { header = m.header; attributes = map meaning m.attributes.items }
 
 -- what the bytes after a header mean, where attributes are written so, and the looks that reading them takes, with the laws of all
 pub record Body (H : Type 0) {M : Type 0} (w : Writing M) : Type 1 where
@@ -37,21 +35,44 @@ pub record Body (H : Type 0) {M : Type 0} (w : Writing M) : Type 1 where
   pub depth : List M → ℕ
   pub deep : (h : H) (bytes : List ℕ) (xs : List M) → Reads h bytes xs → 12 * depth xs ≤ length bytes
 
--- attributes of one family, whatever the header says
-abbrev pub body_of : {H M : Type 0} {w : Writing M} → Reading w → Body H w
-body_of {H} {M} {w} f = record {
-  Reads = λ h bytes xs. ReadsList f.Reads bytes xs;
-  Faulty = λ h bytes e. FirstFault f.Reads f.Faulty bytes e;
-  looks = λ h. list_looking f;
-  Coherent = λ h xs. AllOf f.Coherent xs;
-  one_reading = λ h bytes xs ys p q. ReadsList-one f.Reads f.one_reading bytes xs ys p q;
-  no_fault = λ h bytes xs e p q. FirstFault-excludes f.Reads f.Faulty f.no_fault bytes e xs q p;
-  reads_coherent = λ h bytes xs is p. ReadsList-known f.Coherent f.Reads f.reads_coherent bytes xs is p;
-  reads_back = λ h xs all fits. encodings-read f.Coherent (unfit_by w) (written_by w) f.Reads (fits-small f) f.reads_back xs all fits;
-  grows = λ h bytes xs is p. ReadsList-grows (written_by w) f.Reads f.grows bytes xs is p;
+-- attributes of one family, in a context that the header tells
+abbrev pub body_by : {H C M : Type 0} {w : Writing M} → (H → C) → (C → Reading w) → Body H w
+body_by {H} {C} {M} {w} told r = record {
+  Reads = λ h bytes xs. ReadsList (r (told h)).Reads bytes xs;
+  Faulty = λ h bytes e. FirstFault (r (told h)).Reads (r (told h)).Faulty bytes e;
+  looks = λ h. list_looking (r (told h));
+  Coherent = λ h xs. AllOf (r (told h)).Coherent xs;
+  one_reading = λ h bytes xs ys p q. let f = r (told h) in ReadsList-one f.Reads f.one_reading bytes xs ys p q;
+  no_fault = λ h bytes xs e p q. let f = r (told h) in FirstFault-excludes f.Reads f.Faulty f.no_fault bytes e xs q p;
+  reads_coherent = λ h bytes xs is p. let f = r (told h) in ReadsList-known f.Coherent f.Reads f.reads_coherent bytes xs is p;
+  reads_back =
+      λ h xs all fits.
+      let f = r (told h) in
+      encodings-read f.Coherent (unfit_by w) (written_by w) f.Reads (fits-small f) f.reads_back xs all fits;
+  grows = λ h bytes xs is p. ReadsList-grows (written_by w) (r (told h)).Reads (r (told h)).grows bytes xs is p;
   depth = λ xs. 0;
   deep = λ h bytes xs p. omega arith;
 }
+
+-- a kind of message: what an attribute is, without where it lies in memory, and how that is written; how the header is read and
+-- written, and which is the default; and what the bytes after it mean
+pub record Grammar (H A : Type 0) : Type 1 where
+  pub Meaning : Type 0
+  pub meaning : A → Meaning
+  pub writing : Writing Meaning
+  pub layout : Layout H
+  pub standard : H
+  pub body : Body H writing
+
+abbrev pub grammar_of : {H A C : Type 0} (f : Family A C) → Layout H → H → Body H f.writing → Grammar H A
+grammar_of f L standard body = record { Meaning = f.Meaning; meaning = f.meaning; writing = f.writing; layout = L; standard = standard; body = body }
+
+-- of one family, in a context that the header tells
+abbrev pub grammar_by : {H A C : Type 0} (f : Family A C) → Layout H → H → (H → C) → Grammar H A
+grammar_by f L standard told = grammar_of f L standard (body_by told f.reading)
+
+abbrev pub view : {H A : Type 0} (g : Grammar H A) → Stored H A → Message H g.Meaning
+view g m = record { header = m.header; attributes = map g.meaning m.attributes.items }
 
 -- the bytes are the message: a header, and then its attributes
 pub record IsMessageOf {H M : Type 0} (L : Layout H) (Reads : H → List ℕ → List M → Type 0) (bytes : List ℕ) (m : Message H M) : Type 0 where
@@ -62,32 +83,59 @@ pub record IsMessageOf {H M : Type 0} (L : Layout H) (Reads : H → List ℕ →
   pub header : m.header ≡ L.decode front
   pub attributes : Reads m.header rest m.attributes
 
-unfoldable pub IsMessage : {H M : Type 0} {w : Writing M} → Layout H → Body H w → List ℕ → Message H M → Type 0
-IsMessage L B bytes m = IsMessageOf L B.Reads bytes m
+unfoldable pub IsMessage : {H A : Type 0} (g : Grammar H A) → List ℕ → Message H g.Meaning → Type 0
+IsMessage g bytes m = IsMessageOf g.layout g.body.Reads bytes m
 
 -- the first fault of bytes that are no message: too few for the header, or a fault after it
-unfoldable pub MessageFault : {H M : Type 0} {w : Writing M} → Layout H → Body H w → List ℕ → DecodeError → Type 0
-MessageFault L B bytes e =
+unfoldable pub MessageFault : {H A : Type 0} → Grammar H A → List ℕ → DecodeError → Type 0
+MessageFault g bytes e =
+    let L = g.layout in
     ((length bytes < L.size) × (e ≡ HeaderTooShort (length bytes) L.size))
-    ⊎ ((front : List ℕ) × (rest : List ℕ) × (bytes ≡ front ++ rest) × (length front ≡ L.size) × B.Faulty (L.decode front) rest e)
+    ⊎ ((front : List ℕ) × (rest : List ℕ) × (bytes ≡ front ++ rest) × (length front ≡ L.size) × g.body.Faulty (L.decode front) rest e)
 
 -- the looks at the headers behind that of a message: none where there are too few bytes for it
-unfoldable pub MessageLooks : {H M : Type 0} {w : Writing M} → Layout H → Body H w → List ℕ → Counts → Counts → Type 0
-MessageLooks L B bytes old new =
+unfoldable pub MessageLooks : {H A : Type 0} → Grammar H A → List ℕ → Counts → Counts → Type 0
+MessageLooks g bytes old new =
+    let L = g.layout in
     ((length bytes < L.size) × (new ≡ old))
-    ⊎ ((front : List ℕ) × (rest : List ℕ) × (bytes ≡ front ++ rest) × (length front ≡ L.size) × (B.looks (L.decode front)).Takes rest old new)
+    ⊎ ((front : List ℕ) × (rest : List ℕ) × (bytes ≡ front ++ rest) × (length front ≡ L.size) × (g.body.looks (L.decode front)).Takes rest old new)
 
 pub record IsCoherentOf {H M : Type 0} (L : Layout H) (Coherent : H → List M → Type 0) (m : Message H M) : Type 0 where
   pub header : L.Holds m.header
   pub attributes : Coherent m.header m.attributes
 
-unfoldable pub IsCoherent : {H M : Type 0} {w : Writing M} → Layout H → Body H w → Message H M → Type 0
-IsCoherent L B m = IsCoherentOf L B.Coherent m
+unfoldable pub IsCoherent : {H A : Type 0} (g : Grammar H A) → Message H g.Meaning → Type 0
+IsCoherent g m = IsCoherentOf g.layout g.body.Coherent m
 
 -- the canonical bytes
-unfoldable pub spelling : {H M : Type 0} → Layout H → Writing M → Message H M → List ℕ
-spelling L w m = L.encode m.header ++ encodings (written_by w) m.attributes
+unfoldable pub spelling : {H A : Type 0} (g : Grammar H A) → Message H g.Meaning → List ℕ
+spelling g m = g.layout.encode m.header ++ encodings (written_by g.writing) m.attributes
 
 -- why there are none: the first attribute that can't be written, or a length that no usize holds
-unfoldable pub message_misfit : {H M : Type 0} → Layout H → Writing M → Message H M → Option EmitError
-message_misfit L w m = option_or (first_unfit (unfit_by w) m.attributes) (overlong (length (spelling L w m)))
+unfoldable pub message_misfit : {H A : Type 0} (g : Grammar H A) → Message H g.Meaning → Option EmitError
+message_misfit g m = option_or (first_unfit (unfit_by g.writing) m.attributes) (overlong (length (spelling g m)))
+
+-- attributes are written, and counted, as their family says, and mean what it says
+pub record IsOfFamily {H A C : Type 0} (g : Grammar H A) (f : Family A C) : Type 0 where
+  pub written : (xs : List A) → encodings (written_by f.writing) (map f.meaning xs) ≡ encodings (written_by g.writing) (map g.meaning xs)
+  pub unfit : (xs : List A) → first_unfit (unfit_by f.writing) (map f.meaning xs) ≡ first_unfit (unfit_by g.writing) (map g.meaning xs)
+  pub members : (xs : List A) → list_members f.writing.members (map f.meaning xs) ≡ list_members g.writing.members (map g.meaning xs)
+  pub alike : (xs ys : List A) → map f.meaning xs ≡ map f.meaning ys → map g.meaning xs ≡ map g.meaning ys
+
+-- behind this header the bytes mean what the family reads in this context, which alone governs them, after a search for it that
+-- takes such looks
+pub record IsUnder {H A C : Type 0} (g : Grammar H A) (f : Family A C) (h : H) (bytes : List ℕ) (c : C) (governs : C → Type 0)
+    (searches : Counts → Counts → Type 0) : Type 0 where
+  pub alone : (d : C) → governs d → d ≡ c
+  pub reads : (xs : List A) → ReadsList (f.reading c).Reads bytes (map f.meaning xs) → g.body.Reads h bytes (map g.meaning xs)
+  pub faulty : (e : DecodeError) → FirstFault (f.reading c).Reads (f.reading c).Faulty bytes e → g.body.Faulty h bytes e
+  pub searched : (old mid : Counts) → searches old mid → Searched bytes old mid
+  pub looks : (old mid new : Counts) → searches old mid → (list_looking (f.reading c)).Takes bytes mid new → (g.body.looks h).Takes bytes old new
+
+-- the header tells the context
+abbrev pub governs_by : {H C : Type 0} → (H → C) → H → List ℕ → C → Type 0
+governs_by told h bytes c = c ≡ told h
+
+-- no search is made
+abbrev pub none_searched : Counts → Counts → Type 0
+none_searched old new = new ≡ old

@@ -1,6 +1,7 @@
 -- The names of refusals, as a program prints them.
 use Rattle.std.specs.Prelude.{ℕ, List, codes}
 use Rattle.npr_base.specs.declared.refusal.At.{At}
+use Rattle.npr_base.specs.declared.refusal.AttrFamily.{AttrFamily}
 use Rattle.npr_base.specs.declared.refusal.AttrFamily.TheVariants.{Value}
 use Rattle.npr_base.specs.declared.refusal.DecodeError.{DecodeError}
 use Rattle.npr_base.specs.declared.refusal.DecodeError.TheVariants.{OutOfMemory, HeaderTooShort, AttributeTooShort, AttributeLength, NextHopTooShort}
@@ -31,6 +32,10 @@ emit_name (TooManySegments count) = codes "TooManySegments"
 emit_name (IpProtocol number) = codes "IpProtocol"
 emit_name Total = codes "Total"
 
--- the place of a value that is read by itself
+-- where a value stands: at a number of a family
+abbrev pub at_number : AttrFamily → ℕ → At
+at_number family number = record { family = family; kind = number }
+
+-- where one is read by itself
 abbrev pub no_place : At
-no_place = record { family = Value; kind = 0 }
+no_place = at_number Value 0

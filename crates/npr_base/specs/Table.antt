@@ -3,6 +3,7 @@ use Rattle.std.specs.Prelude.{◌≡◌, ℕ, ◌+◌, ◌*◌, ◌<◌, ◌≤�
 use Rattle.std.specs.Bool.{MatchBool}
 use Rattle.std.proofs.Common.{refl}
 use Rattle.npr_base.specs.declared.refusal.At.{At}
+use Rattle.npr_base.specs.declared.refusal.AttrFamily.{AttrFamily}
 use Rattle.npr_base.specs.declared.refusal.DecodeError.{DecodeError}
 use Rattle.npr_base.specs.declared.refusal.EmitError.{EmitError}
 use Rattle.npr_base.specs.Framing.{Item, Small, Proper, framed, marked, number_of, written}
@@ -10,6 +11,7 @@ use Rattle.npr_base.specs.Family.{misfit_of}
 use Rattle.npr_base.specs.FitLaws.{misfit_of-short}
 use Rattle.npr_base.specs.Codec.{Codec, raw}
 use Rattle.npr_base.specs.Looks.{Looking}
+use Rattle.npr_base.specs.Refusal.{at_number}
 
 -- what is written of a value as an attribute: its kind and value, whether NESTED is set in the kind besides, and why what is
 -- inside can't be written, if so
@@ -56,6 +58,20 @@ pub record Reading {M : Type 0} (w : Writing M) : Type 1 where
   pub reads_back : (m : M) → Coherent m → unfit_by w m ≡ None → Reads (written_by w m) m
   pub grows : (x : Item) (m : M) → Proper x → Reads x m → 2 * framed (length (written_by w m).value) ≤ 5 * (4 + length x.value)
 
+-- a family of values: what one is, without where it lies in memory, how that is written, and what attributes mean in a context
+pub record Family (A C : Type 0) : Type 1 where
+  pub Meaning : Type 0
+  pub meaning : A → Meaning
+  pub writing : Writing Meaning
+  pub reading : C → Reading writing
+
+abbrev pub family_of : {A C M : Type 0} {w : Writing M} → (A → M) → (C → Reading w) → Family A C
+family_of {A} {C} {M} {w} meaning reading = record { Meaning = M; meaning = meaning; writing = w; reading = reading }
+
+-- what is written of a value
+abbrev pub shaped : {A C : Type 0} → Family A C → A → Shape
+shaped f a = f.writing.shape (f.meaning a)
+
 -- what can be read and fits is an attribute that a text can hold
 pub fits-small : {M : Type 0} {w : Writing M} (r : Reading w) (m : M) → r.Coherent m → unfit_by w m ≡ None → Small (written_by w m)
 fits-small {M} {w} r m c h = record { kind = r.kinds m c; value = misfit_of-short (w.shape m).inside (w.shape m).item h }
@@ -67,8 +83,8 @@ pub record Row (M : Type 0) : Type 1 where
   pub codec : Codec V
   pub variant : V → M
 
-abbrev pub row : {M V : Type 0} → At → Codec V → (V → M) → Row M
-row {M} {V} at codec variant = record { at = at; V = V; codec = codec; variant = variant }
+abbrev pub row : {M V : Type 0} → AttrFamily → ℕ → Codec V → (V → M) → Row M
+row {M} {V} family number codec variant = record { at = at_number family number; V = V; codec = codec; variant = variant }
 
 -- what bytes mean by a row, and why they mean nothing
 abbrev pub RowReads : {M : Type 0} → Row M → List ℕ → M → Type 0

@@ -30,6 +30,18 @@ pub record Walked (bytes : List ℕ) (old new : Counts) : Type 0 where
   pub failed_kept : old.failed ≤ new.failed
   pub failed : new.failed ≤ old.failed + most_failed (length bytes)
 
+-- what a search through the bytes adds to the counts: a look at each attribute that it passed, and one that failed at most, and
+-- none where the bytes are attributes to the end
+pub record Searched (bytes : List ℕ) (old new : Counts) : Type 0 where
+  pub passed : List Item
+  pub rest : List ℕ
+  pub passes : Passes bytes passed rest
+  pub kept : old.successful ≤ new.successful
+  pub successful : new.successful ≤ old.successful + length passed
+  pub failed_kept : old.failed ≤ new.failed
+  pub failed : new.failed ≤ old.failed + 1
+  pub whole : (items : List Item) → Cut bytes items → new.failed ≡ old.failed
+
 -- a list whose beginning is a multiple of four bytes, and is cut into attributes by itself, is the list of that beginning
 -- and then the list of the rest
 abbrev pub CutsInTwo : {M : Type 0} → (Item → M → Type 0) → Type 0

@@ -5,7 +5,7 @@ ghost use Rattle.npr_base.specs.{
   declared.refusal.DecodeError.TheVariants.{OutOfMemory},
   Counts.{AddsAtMost, SawEach},
   Looks.{Answered},
-  Table.{Writing, Reading},
+  Table.{Family, shaped},
 };
 
 use crate::framing::NlaBuffer;
@@ -22,17 +22,9 @@ pub trait Attribute: Nla + Drop {
     /// What the reading of an attribute rests on besides its bytes.
     type Context: Copy;
 
-    /// What a value is, without where it lies in memory.
-    ghost Meaning: { Type 0 };
-
-    /// What this value is.
-    ghost meaning: { Self → Meaning };
-
-    /// How meanings are written, whatever the context.
-    ghost writing: { Writing Meaning };
-
-    /// What attributes mean in a context, with the laws of reading and writing.
-    ghost reading: { Self.Context → Reading writing };
+    /// What a value is, without where it lies in memory, how that is written, and what attributes mean
+    /// in a context.
+    ghost family: { Family Self Self.Context };
 
     /// Puts the value that the attribute means in the context into a place. Each look at a header
     /// inside it is counted.
@@ -47,10 +39,10 @@ pub trait Attribute: Nla + Drop {
         looks: &mut Looks,
     ) -> Result<(), DecodeError>
         requires { P.ready place.old }
-        ensures ok { IfOk result (λ _. (a : Self) × P.puts place.old a place.new × (reading context).Reads item.now (meaning a)
-            × SawEach looks.old looks.new (writing.members (meaning a))) }
-        ensures refused { IfErr result (λ e. e ≢ OutOfMemory → (reading context).Faulty item.now e) }
-        ensures exact { Answered result → (reading context).looks.Takes item.now looks.old looks.new }
+        ensures ok { IfOk result (λ _. (a : Self) × P.puts place.old a place.new × (family.reading context).Reads item.now (family.meaning a)
+            × SawEach looks.old looks.new (family.writing.members (family.meaning a))) }
+        ensures refused { IfErr result (λ e. e ≢ OutOfMemory → (family.reading context).Faulty item.now e) }
+        ensures exact { Answered result → (family.reading context).looks.Takes item.now looks.old looks.new }
         ensures bounded { AddsAtMost looks.old looks.new (length (item.now).value) };
 
     /// What `read_into` puts, by itself.
@@ -63,11 +55,11 @@ pub trait Attribute: Nla + Drop {
         item: &NlaBuffer<'_>,
         looks: &mut Looks,
     ) -> Result<Self, DecodeError>
-        ensures ok { IfOk result (λ a. (reading context).Reads item.now (meaning a)) }
-        ensures refused { IfErr result (λ e. e ≢ OutOfMemory → (reading context).Faulty item.now e) }
-        ensures exact { Answered result → (reading context).looks.Takes item.now looks.old looks.new }
+        ensures ok { IfOk result (λ a. (family.reading context).Reads item.now (family.meaning a)) }
+        ensures refused { IfErr result (λ e. e ≢ OutOfMemory → (family.reading context).Faulty item.now e) }
+        ensures exact { Answered result → (family.reading context).looks.Takes item.now looks.old looks.new }
         ensures bounded { AddsAtMost looks.old looks.new (length (item.now).value) }
-        ensures counted { IfOk result (λ a. SawEach looks.old looks.new (writing.members (meaning a))) }
+        ensures counted { IfOk result (λ a. SawEach looks.old looks.new (family.writing.members (family.meaning a))) }
     {
         let mut place = None;
         Self::read_into(&mut place, alloc, context, item, looks)?;
@@ -89,10 +81,10 @@ pub trait Attribute: Nla + Drop {
         item: &NlaBuffer<'_>,
         looks: &mut Looks,
     ) -> Result<(), DecodeError>
-        ensures ok { IfOk result (λ _. (a : Self) × (list.new.items ≡ list.old.items ++ a ∷ []) × (reading context).Reads item.now (meaning a)
-            × SawEach looks.old looks.new (writing.members (meaning a))) }
-        ensures refused { IfErr result (λ e. e ≢ OutOfMemory → (reading context).Faulty item.now e) }
-        ensures exact { Answered result → (reading context).looks.Takes item.now looks.old looks.new }
+        ensures ok { IfOk result (λ _. (a : Self) × (list.new.items ≡ list.old.items ++ a ∷ []) × (family.reading context).Reads item.now (family.meaning a)
+            × SawEach looks.old looks.new (family.writing.members (family.meaning a))) }
+        ensures refused { IfErr result (λ e. e ≢ OutOfMemory → (family.reading context).Faulty item.now e) }
+        ensures exact { Answered result → (family.reading context).looks.Takes item.now looks.old looks.new }
         ensures bounded { AddsAtMost looks.old looks.new (length (item.now).value) }
     {
         list.reserve(1)?;
@@ -104,17 +96,17 @@ pub trait Attribute: Nla + Drop {
     /// # Errors
     /// `AllocError` where memory is refused.
     fn clone(&self, alloc: Global) -> Result<Self, AllocError>
-        ensures { IfOk result (λ a. meaning a ≡ meaning self.now) };
+        ensures { IfOk result (λ a. family.meaning a ≡ family.meaning self.now) };
 
     /// It is written as its meaning is.
-    ghost shape_is: { (a : Self) → Self.shape a ≡ writing.shape (meaning a) };
+    ghost shape_is: { (a : Self) → Self.shape a ≡ shaped family a };
 }
 
 /// A lone attribute of a family that is read in no context.
 impl<'a, A: Attribute<Context = ()>> Parseable<&'a NlaBuffer<'a>> for A {
-    ghost parses = { λ input a. (A.reading tt).Reads input.now (A.meaning a) };
+    ghost parses = { λ input a. (A.family.reading tt).Reads input.now (A.family.meaning a) };
 
-    ghost misparses = { λ input e. (A.reading tt).Faulty input.now e };
+    ghost misparses = { λ input e. (A.family.reading tt).Faulty input.now e };
 
     /// What the attribute is in its family: `read`, with looks that nobody counts.
     ///
@@ -127,9 +119,9 @@ impl<'a, A: Attribute<Context = ()>> Parseable<&'a NlaBuffer<'a>> for A {
 
 /// A lone attribute of a family, read in a context.
 impl<'a, A: Attribute> ParseableParametrized<&'a NlaBuffer<'a>, A::Context> for A {
-    ghost parses = { λ context input a. (A.reading context).Reads input.now (A.meaning a) };
+    ghost parses = { λ context input a. (A.family.reading context).Reads input.now (A.family.meaning a) };
 
-    ghost misparses = { λ context input e. (A.reading context).Faulty input.now e };
+    ghost misparses = { λ context input e. (A.family.reading context).Faulty input.now e };
 
     /// What the attribute is in its family under the context: `read`, with looks that nobody counts.
     ///

@@ -32,26 +32,26 @@ impl<H: Header> Message<H, H::Attribute> {
     /// # Errors
     /// `HeaderTooShort` where there is no whole header.
     pub fn attributes<'a>(alloc: Global, bytes: &'a [u8]) -> Result<Attributes<'a, H>, DecodeError>
-        ensures begins { IfOk result (λ s. (leading H.layout).Reads bytes.now s.header × (s.walk ≡ drop H.layout.size bytes.now)
+        ensures begins { IfOk result (λ s. (leading H.grammar.layout).Reads bytes.now s.header × (s.walk ≡ drop H.grammar.layout.size bytes.now)
             × H.governs s.header s.walk s.context) }
         // The steps to the end answer the message that the bytes are.
-        ensures all { IfOk result (λ s. (xs : List H.Attribute) → AttributeSteps H.Attribute.meaning (H.Attribute.reading s.context) s.walk xs []
-            → IsMessage H.layout H.body bytes.now (record { header = s.header; attributes = map H.meaning xs })) }
+        ensures all { IfOk result (λ s. (xs : List H.Attribute) → AttributeSteps H.Attribute.family.meaning (H.Attribute.family.reading s.context) s.walk xs []
+            → IsMessage H.grammar bytes.now (record { header = s.header; attributes = map H.grammar.meaning xs })) }
         // What a step refuses is the first fault.
         ensures fault { IfOk result (λ s. (xs : List H.Attribute) (rest left : List ℕ) (e : DecodeError)
-            → AttributeSteps H.Attribute.meaning (H.Attribute.reading s.context) s.walk xs rest
-            → AttributeStep H.Attribute.meaning (H.Attribute.reading s.context) rest (Some (Err e)) left
-            → e ≢ OutOfMemory → MessageFault H.layout H.body bytes.now e) }
+            → AttributeSteps H.Attribute.family.meaning (H.Attribute.family.reading s.context) s.walk xs rest
+            → AttributeStep H.Attribute.family.meaning (H.Attribute.family.reading s.context) rest (Some (Err e)) left
+            → e ≢ OutOfMemory → MessageFault H.grammar bytes.now e) }
         // Only a header can be refused before the first step.
-        ensures refused { IfErr result (λ e. MessageFault H.layout H.body bytes.now e) }
-        ensures short { IfErr result (λ e. (length bytes.now < H.layout.size) × (e ≡ HeaderTooShort (length bytes.now) H.layout.size)) }
+        ensures refused { IfErr result (λ e. MessageFault H.grammar bytes.now e) }
+        ensures short { IfErr result (λ e. (length bytes.now < H.grammar.layout.size) × (e ≡ HeaderTooShort (length bytes.now) H.grammar.layout.size)) }
     {
         let header = header_of::<H>(bytes)?;
         let behind = &bytes[H::size()..];
         Ok(Attributes {
             alloc,
             header,
-            context: header.context(behind),
+            context: header.context(behind, &mut Looks::new()),
             walk: NlasIterator::new(behind),
         })
     }
@@ -86,7 +86,7 @@ impl<'a, H: Header> Iterator for Attributes<'a, H> {
     ghost can_next = { λ _. Unit {0} };
 
     // the attribute that stands there, as the grammar reads it in the context; or what is wrong
-    ghost next_gives = { λ s r t. AttributeStep H.Attribute.meaning (H.Attribute.reading s.context) s.walk r t.walk
+    ghost next_gives = { λ s r t. AttributeStep H.Attribute.family.meaning (H.Attribute.family.reading s.context) s.walk r t.walk
         × (t.header ≡ s.header) × (t.context ≡ s.context) };
 
     // an attribute takes four bytes, and the bytes after the last leave room for one fault

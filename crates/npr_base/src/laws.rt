@@ -36,7 +36,7 @@ pub fn law_walk()
 /// A list whose beginning is a multiple of four bytes and is cut into attributes by itself is the
 /// list of that beginning and then that of the rest, in the same context.
 pub fn law_cut<A: Attribute>()
-    ensures { (context : A.Context) → CutsInTwo (A.reading context).Reads }
+    ensures { (context : A.Context) → CutsInTwo (A.family.reading context).Reads }
 {}
 
 /// What a number reads as is written as that number.
@@ -78,24 +78,24 @@ pub fn law_equality()
 
 /// Bytes are one message at most.
 pub fn law_one_reading<H: Header>()
-    ensures { (bytes : List ℕ) (m n : Meant H H.Meaning) → IsMessage H.layout H.body bytes m → IsMessage H.layout H.body bytes n → m ≡ n }
+    ensures { (bytes : List ℕ) (m n : Meant H H.grammar.Meaning) → IsMessage H.grammar bytes m → IsMessage H.grammar bytes n → m ≡ n }
 {}
 
 /// The canonical bytes of a coherent message that fits are that message.
 pub fn law_read_back<H: Header>()
-    ensures { (m : Meant H H.Meaning) → IsCoherent H.layout H.body m → message_misfit H.layout H.writing m ≡ None → IsMessage H.layout H.body (spelling H.layout H.writing m) m }
+    ensures { (m : Meant H H.grammar.Meaning) → IsCoherent H.grammar m → message_misfit H.grammar m ≡ None → IsMessage H.grammar (spelling H.grammar m) m }
 {}
 
 /// Coherent messages of one kind that fit are equal where their canonical bytes are.
 pub fn law_canonical<H: Header>()
-    ensures { (m n : Meant H H.Meaning) → IsCoherent H.layout H.body m → message_misfit H.layout H.writing m ≡ None → IsCoherent H.layout H.body n → message_misfit H.layout H.writing n ≡ None
-        → spelling H.layout H.writing m ≡ spelling H.layout H.writing n → m ≡ n }
+    ensures { (m n : Meant H H.grammar.Meaning) → IsCoherent H.grammar m → message_misfit H.grammar m ≡ None → IsCoherent H.grammar n → message_misfit H.grammar n ≡ None
+        → spelling H.grammar m ≡ spelling H.grammar n → m ≡ n }
 {}
 
 /// The looks that reading a message takes are one number, by its bytes alone.
 pub fn law_looks<H: Header>()
     // From the same counts it goes to the same counts,
-    ensures one { (bytes : List ℕ) (old new other : Counts) → MessageLooks H.layout H.body bytes old new → MessageLooks H.layout H.body bytes old other → new ≡ other }
+    ensures one { (bytes : List ℕ) (old new other : Counts) → MessageLooks H.grammar bytes old new → MessageLooks H.grammar bytes old other → new ≡ other }
     // and what it adds to these counts, it adds to all.
-    ensures number { (bytes : List ℕ) (old new : Counts) → MessageLooks H.layout H.body bytes old new → Adds (MessageLooks H.layout H.body bytes) old new }
+    ensures number { (bytes : List ℕ) (old new : Counts) → MessageLooks H.grammar bytes old new → Adds (MessageLooks H.grammar bytes) old new }
 {}

@@ -30,19 +30,19 @@ pub fn parse_list<A: Attribute>(
     looks: &mut Looks,
 ) -> Result<Vec<A>, DecodeError>
     // What is read is what the bytes mean.
-    ensures ok { IfOk result (λ v. ReadsList (A.reading context).Reads bytes.now (map A.meaning v.items)) }
+    ensures ok { IfOk result (λ v. ReadsList (A.family.reading context).Reads bytes.now (map A.family.meaning v.items)) }
     // A refusal is the first fault.
-    ensures refused { IfErr result (λ e. e ≢ OutOfMemory → FirstFault (A.reading context).Reads (A.reading context).Faulty bytes.now e) }
+    ensures refused { IfErr result (λ e. e ≢ OutOfMemory → FirstFault (A.family.reading context).Reads (A.family.reading context).Faulty bytes.now e) }
     // Then the bytes mean nothing.
-    ensures none { IfErr result (λ e. e ≢ OutOfMemory → (xs : List A.Meaning) → ReadsList (A.reading context).Reads bytes.now xs → ⊥) }
+    ensures none { IfErr result (λ e. e ≢ OutOfMemory → (xs : List A.family.Meaning) → ReadsList (A.family.reading context).Reads bytes.now xs → ⊥) }
     // Memory is taken behind a first whole attribute alone.
     ensures memory { IsErrOf result OutOfMemory → (x : Item) × (rest : List ℕ) × Front bytes.now x rest }
     // The looks are those that the bytes take.
-    ensures exact { Answered result → ListLooks (A.reading context).Reads (A.reading context).Faulty (A.reading context).looks.Takes bytes.now looks.old looks.new }
+    ensures exact { Answered result → ListLooks (A.family.reading context).Reads (A.family.reading context).Faulty (A.family.reading context).looks.Takes bytes.now looks.old looks.new }
     // The looks and the attributes passed are together at most what the bytes passed allow.
     ensures walked { Walked bytes.now looks.old looks.new }
     ensures bounded { AddsAtMost looks.old looks.new (length bytes.now) }
-    ensures counted { IfOk result (λ v. SawEach looks.old looks.new (list_members A.writing.members (map A.meaning v.items))) }
+    ensures counted { IfOk result (λ v. SawEach looks.old looks.new (list_members A.family.writing.members (map A.family.meaning v.items))) }
 {
     let mut found = Vec::new(alloc);
     fill_list(&mut found, alloc, context, bytes, looks)?;
@@ -85,16 +85,16 @@ pub fn fill_list<A: Attribute>(
 ) -> Result<(), DecodeError>
     requires { list.old.items ≡ [] }
     // What is read is what the bytes mean.
-    ensures ok { IfOk result (λ _. ReadsList (A.reading context).Reads bytes.now (map A.meaning list.new.items)) }
+    ensures ok { IfOk result (λ _. ReadsList (A.family.reading context).Reads bytes.now (map A.family.meaning list.new.items)) }
     // A refusal is the first fault.
-    ensures refused { IfErr result (λ e. e ≢ OutOfMemory → FirstFault (A.reading context).Reads (A.reading context).Faulty bytes.now e) }
+    ensures refused { IfErr result (λ e. e ≢ OutOfMemory → FirstFault (A.family.reading context).Reads (A.family.reading context).Faulty bytes.now e) }
     // Memory is taken behind a first whole attribute alone.
     ensures memory { IsErrOf result OutOfMemory → (x : Item) × (rest : List ℕ) × Front bytes.now x rest }
     // The looks are those that the bytes take.
-    ensures exact { Answered result → ListLooks (A.reading context).Reads (A.reading context).Faulty (A.reading context).looks.Takes bytes.now looks.old looks.new }
+    ensures exact { Answered result → ListLooks (A.family.reading context).Reads (A.family.reading context).Faulty (A.family.reading context).looks.Takes bytes.now looks.old looks.new }
     // The looks and the attributes passed are together at most what the bytes passed allow.
     ensures walked { Walked bytes.now looks.old looks.new }
-    ensures counted { IfOk result (λ _. SawEach looks.old looks.new (list_members A.writing.members (map A.meaning list.new.items))) }
+    ensures counted { IfOk result (λ _. SawEach looks.old looks.new (list_members A.family.writing.members (map A.family.meaning list.new.items))) }
 {
     // A list of the caller's would be read and written in memory at each attribute.
     let mut found = mem::replace(list, Vec::new(alloc));
@@ -146,17 +146,17 @@ fn write_list_body<A: Nla>(list: &[A], out: &mut [u8]) -> usize
 /// The length of the encodings in bytes, or the first cause why there are none: the first member
 /// that can't be written, or `Total`.
 pub fn check_list<A: Attribute>(list: &[A]) -> Result<usize, EmitError>
-    ensures { result ≡ checked (list_unfit (unfit_by A.writing) (written_by A.writing) (map A.meaning list.now)) (length (encodings (written_by A.writing) (map A.meaning list.now))) }
+    ensures { result ≡ checked (list_unfit (unfit_by A.family.writing) (written_by A.family.writing) (map A.family.meaning list.now)) (length (encodings (written_by A.family.writing) (map A.family.meaning list.now))) }
 {
     check_list_body(list)
 }
 
 /// `emit_list`, with the length of what is written.
 pub fn write_list<A: Attribute>(list: &[A], out: &mut [u8]) -> usize
-    requires fits { list_unfit (unfit_by A.writing) (written_by A.writing) (map A.meaning list.now) ≡ None }
-    requires room { length (encodings (written_by A.writing) (map A.meaning list.now)) ≤ length out.old }
-    ensures len { result ≡ length (encodings (written_by A.writing) (map A.meaning list.now)) }
-    ensures after { Writes out.old out.new (encodings (written_by A.writing) (map A.meaning list.now)) }
+    requires fits { list_unfit (unfit_by A.family.writing) (written_by A.family.writing) (map A.family.meaning list.now) ≡ None }
+    requires room { length (encodings (written_by A.family.writing) (map A.family.meaning list.now)) ≤ length out.old }
+    ensures len { result ≡ length (encodings (written_by A.family.writing) (map A.family.meaning list.now)) }
+    ensures after { Writes out.old out.new (encodings (written_by A.family.writing) (map A.family.meaning list.now)) }
 {
     write_list_body(list, out)
 }
@@ -164,9 +164,9 @@ pub fn write_list<A: Attribute>(list: &[A], out: &mut [u8]) -> usize
 /// Writes the encodings one after the other at the front of the slice, and leaves the rest. Asks
 /// that `check_list` accepts, and room for the length that it answers.
 pub fn emit_list<A: Attribute>(list: &[A], out: &mut [u8])
-    requires fits { list_unfit (unfit_by A.writing) (written_by A.writing) (map A.meaning list.now) ≡ None }
-    requires room { length (encodings (written_by A.writing) (map A.meaning list.now)) ≤ length out.old }
-    ensures { Writes out.old out.new (encodings (written_by A.writing) (map A.meaning list.now)) }
+    requires fits { list_unfit (unfit_by A.family.writing) (written_by A.family.writing) (map A.family.meaning list.now) ≡ None }
+    requires room { length (encodings (written_by A.family.writing) (map A.family.meaning list.now)) ≤ length out.old }
+    ensures { Writes out.old out.new (encodings (written_by A.family.writing) (map A.family.meaning list.now)) }
 {
     write_list(list, out);
 }
@@ -176,7 +176,7 @@ pub fn emit_list<A: Attribute>(list: &[A], out: &mut [u8])
 /// # Errors
 /// `AllocError` where memory is refused; an empty list takes none.
 pub fn clone_list<A: Attribute>(alloc: Global, list: &[A]) -> Result<Vec<A>, AllocError>
-    ensures ok { IfOk result (λ v. map A.meaning v.items ≡ map A.meaning list.now) }
+    ensures ok { IfOk result (λ v. map A.family.meaning v.items ≡ map A.family.meaning list.now) }
     ensures memory { OnErr result (0 < length list.now) }
 {
     let mut copies = Vec::new(alloc);

@@ -4,17 +4,15 @@ ghost use Rattle.std.specs.Prelude.{◌≡◌, ◌≢◌, ◌≤◌, ◌<◌, �
 ghost use Rattle.npr_base.specs.{
   declared.refusal.DecodeError.{DecodeError, TheVariants.{OutOfMemory, HeaderTooShort}},
   Codec.{leading},
-  Counts.{AddsAtMostTwice, SawEach},
-  Family.{ReadsList, FirstFault, encodings, first_unfit, list_members},
+  Counts.{Counts, AddsAtMostTwice, SawEach},
+  Family.{list_members},
   Framing.{Item, Front},
-  Layout.{Layout},
   Looks.{Answered},
-  Message.{Body, Message as Meant, view, IsMessage, MessageFault, MessageLooks, IsCoherent, spelling, message_misfit},
-  Table.{Writing, written_by, unfit_by},
+  Message.{Grammar, Message as Meant, IsOfFamily, IsUnder, view, IsMessage, MessageFault, MessageLooks, IsCoherent, spelling, message_misfit},
 };
 
 use crate::attribute::Attribute;
-use crate::list::{check_list, clone_list, write_list};
+use crate::list::{check_list, clone_list, fill_list, write_list};
 use crate::looks::Looks;
 use crate::refusal::{DecodeError, EmitError};
 use crate::traits::{Emitable, Parseable};
@@ -25,76 +23,40 @@ pub trait Header: Emitable + Copy + Default {
     /// What stands behind the header.
     type Attribute: Attribute;
 
-    /// What an attribute is, and how it is written: as its family says, by the laws below.
-    ghost Meaning: { Type 0 };
-
-    ghost meaning: { Self.Attribute → Meaning };
-
-    ghost writing: { Writing Meaning };
-
-    /// How the header is read and written.
-    ghost layout: { Layout Self };
-
-    /// What the bytes after it mean.
-    ghost body: { Body Self writing };
-
-    /// The header with each field at its default.
-    ghost standard: { Self };
-
-    /// The length of the header, in bytes.
-    fn size() -> usize
-        ensures { result ≡ layout.size };
-
-    /// The header in the first bytes, which are there.
-    fn in_front(bytes: &[u8]) -> Self
-        requires { layout.size ≤ length bytes.now }
-        ensures { (leading layout).Reads bytes.now result };
+    /// How the header is read and written, and what the bytes after it mean.
+    ghost grammar: { Grammar Self Self.Attribute };
 
     /// Behind a header, the bytes are attributes that are read in this context.
     ghost governs: { Self → List ℕ → Self.Attribute.Context → Type 0 };
 
-    /// The context that the attributes in the bytes are read in.
-    fn context(&self, bytes: &[u8]) -> <Self::Attribute as Attribute>::Context
-        ensures { governs self.now bytes.now result };
+    /// The search for it takes the counts of looks from these to those.
+    ghost searches: { Self → List ℕ → Self.Attribute.Context → Counts → Counts → Type 0 };
 
-    /// Puts the attributes after the header into an empty list. Each look at a header of theirs is
-    /// counted.
-    ///
-    /// # Errors
-    /// `OutOfMemory` where memory is refused, and else the first fault in reading order.
-    fn read_list(
-        &self,
-        list: &mut Vec<Self::Attribute>,
-        alloc: Global,
-        bytes: &[u8],
-        looks: &mut Looks,
-    ) -> Result<(), DecodeError>
-        requires { list.old.items ≡ [] }
-        ensures ok { IfOk result (λ _. body.Reads self.now bytes.now (map meaning list.new.items)) }
-        ensures refused { IfErr result (λ e. e ≢ OutOfMemory → body.Faulty self.now bytes.now e) }
-        ensures memory { IsErrOf result OutOfMemory → (x : Item) × (rest : List ℕ) × Front bytes.now x rest }
-        ensures exact { Answered result → (body.looks self.now).Takes bytes.now looks.old looks.new }
-        ensures bounded { AddsAtMostTwice looks.old looks.new (length bytes.now) }
-        ensures counted { IfOk result (λ _. SawEach looks.old looks.new (list_members writing.members (map meaning list.new.items))) };
+    /// The length of the header, in bytes.
+    fn size() -> usize
+        ensures { result ≡ grammar.layout.size };
+
+    /// The header in the first bytes, which are there.
+    fn in_front(bytes: &[u8]) -> Self
+        requires { grammar.layout.size ≤ length bytes.now }
+        ensures { (leading grammar.layout).Reads bytes.now result };
+
+    /// The context that the attributes in the bytes are read in. Each look at a header on the way to it
+    /// is counted.
+    fn context(&self, bytes: &[u8], looks: &mut Looks) -> <Self::Attribute as Attribute>::Context
+        ensures governs { governs self.now bytes.now result }
+        ensures searches { searches self.now bytes.now result looks.old looks.new };
 
     /// It is written as its layout says, and so is its default.
-    ghost by_layout: { (h : Self) → (Self.bytes h ≡ layout.encode h) × (Self.unfit h ≡ None) × (length (layout.encode h) ≡ layout.size)
-        × (Self.is_default h → h ≡ standard) };
+    ghost by_layout: { (h : Self) → (Self.bytes h ≡ grammar.layout.encode h) × (Self.unfit h ≡ None) × (length (grammar.layout.encode h) ≡ grammar.layout.size)
+        × (Self.is_default h → h ≡ grammar.standard) };
 
-    /// Attributes are written as their family says,
-    ghost by_family: { (xs : List Self.Attribute) → (encodings (written_by Self.Attribute.writing) (map Self.Attribute.meaning xs) ≡ encodings (written_by writing) (map meaning xs))
-        × (first_unfit (unfit_by Self.Attribute.writing) (map Self.Attribute.meaning xs) ≡ first_unfit (unfit_by writing) (map meaning xs)) };
+    /// Attributes are written, and counted, as their family says, and mean what it says.
+    ghost by_family: { IsOfFamily grammar Self.Attribute.family };
 
-    /// and mean what it says.
-    ghost meanings_are: { (xs ys : List Self.Attribute) → map Self.Attribute.meaning xs ≡ map Self.Attribute.meaning ys → map meaning xs ≡ map meaning ys };
-
-    /// In the context that governs them they are what the bytes mean,
-    ghost reads_under: { (h : Self) (bytes : List ℕ) (context : Self.Attribute.Context) (xs : List Self.Attribute) → governs h bytes context
-        → ReadsList (Self.Attribute.reading context).Reads bytes (map Self.Attribute.meaning xs) → body.Reads h bytes (map meaning xs) };
-
-    /// and what is wrong with them is the fault.
-    ghost faulty_under: { (h : Self) (bytes : List ℕ) (context : Self.Attribute.Context) (e : DecodeError) → governs h bytes context
-        → FirstFault (Self.Attribute.reading context).Reads (Self.Attribute.reading context).Faulty bytes e → body.Faulty h bytes e };
+    /// In the context that governs them they are what the bytes mean.
+    ghost under: { (h : Self) (bytes : List ℕ) (context : Self.Attribute.Context) → governs h bytes context
+        → IsUnder grammar Self.Attribute.family h bytes context (governs h bytes) (searches h bytes context) };
 }
 
 /// A message: a header, and attributes to the end.
@@ -110,7 +72,7 @@ impl<H: Header> Message<H, H::Attribute> {
     /// A message with each field of the header at its default, and no attributes. It takes no
     /// memory.
     pub fn new(alloc: Global) -> Self
-        ensures { view H.meaning result ≡ record { header = H.standard; attributes = [] } }
+        ensures { view H.grammar result ≡ record { header = H.grammar.standard; attributes = [] } }
     {
         Message {
             header: H::default(),
@@ -123,7 +85,7 @@ impl<H: Header> Message<H, H::Attribute> {
     /// # Errors
     /// `AllocError` where memory is refused; without attributes none is taken.
     pub fn clone(&self, alloc: Global) -> Result<Self, AllocError>
-        ensures ok { IfOk result (λ m. view H.meaning m ≡ view H.meaning self.now) }
+        ensures ok { IfOk result (λ m. view H.grammar m ≡ view H.grammar self.now) }
         ensures memory { OnErr result (0 < length self.now.attributes.items) }
     {
         Ok(Message {
@@ -142,31 +104,31 @@ impl<H: Header> Message<H, H::Attribute> {
         looks: &mut Looks,
     ) -> Result<Self, DecodeError>
         // What is read is what the bytes mean.
-        ensures ok { IfOk result (λ m. IsMessage H.layout H.body bytes.now (view H.meaning m)) }
+        ensures ok { IfOk result (λ m. IsMessage H.grammar bytes.now (view H.grammar m)) }
         // They mean nothing else.
-        ensures one { IfOk result (λ m. (n : Meant H H.Meaning) → IsMessage H.layout H.body bytes.now n → view H.meaning m ≡ n) }
-        ensures coherent { IfOk result (λ m. IsCoherent H.layout H.body (view H.meaning m)) }
+        ensures one { IfOk result (λ m. (n : Meant H H.grammar.Meaning) → IsMessage H.grammar bytes.now n → view H.grammar m ≡ n) }
+        ensures coherent { IfOk result (λ m. IsCoherent H.grammar (view H.grammar m)) }
         // A refusal is the first fault.
-        ensures refused { IfErr result (λ e. e ≢ OutOfMemory → MessageFault H.layout H.body bytes.now e) }
+        ensures refused { IfErr result (λ e. e ≢ OutOfMemory → MessageFault H.grammar bytes.now e) }
         // Then the bytes mean nothing.
-        ensures none { IfErr result (λ e. e ≢ OutOfMemory → (n : Meant H H.Meaning) → IsMessage H.layout H.body bytes.now n → ⊥) }
+        ensures none { IfErr result (λ e. e ≢ OutOfMemory → (n : Meant H H.grammar.Meaning) → IsMessage H.grammar bytes.now n → ⊥) }
         // Canonical bytes give back their message.
-        ensures again { IfOk result (λ m. (n : Meant H H.Meaning) → IsCoherent H.layout H.body n → message_misfit H.layout H.writing n ≡ None
-            → bytes.now ≡ spelling H.layout H.writing n → view H.meaning m ≡ n) }
+        ensures again { IfOk result (λ m. (n : Meant H H.grammar.Meaning) → IsCoherent H.grammar n → message_misfit H.grammar n ≡ None
+            → bytes.now ≡ spelling H.grammar n → view H.grammar m ≡ n) }
         // Memory is taken behind a first whole attribute alone.
-        ensures memory { IsErrOf result OutOfMemory → (x : Item) × (rest : List ℕ) × Front (drop H.layout.size bytes.now) x rest }
+        ensures memory { IsErrOf result OutOfMemory → (x : Item) × (rest : List ℕ) × Front (drop H.grammar.layout.size bytes.now) x rest }
         // Canonical bytes are at most five halves as long as what was read.
-        ensures growth { IfOk result (λ m. 2 * length (spelling H.layout H.writing (view H.meaning m)) ≤ 5 * length bytes.now) }
+        ensures growth { IfOk result (λ m. 2 * length (spelling H.grammar (view H.grammar m)) ≤ 5 * length bytes.now) }
         // Each level of lists takes 12 bytes behind the header.
-        ensures depth { IfOk result (λ m. 12 * H.body.depth (view H.meaning m).attributes ≤ length bytes.now - H.layout.size) }
+        ensures depth { IfOk result (λ m. 12 * H.grammar.body.depth (view H.grammar m).attributes ≤ length bytes.now - H.grammar.layout.size) }
         // The looks are those that the bytes take:
-        ensures exact { Answered result → MessageLooks H.layout H.body bytes.now looks.old looks.new }
+        ensures exact { Answered result → MessageLooks H.grammar bytes.now looks.old looks.new }
         // at most two for four bytes behind the header, and one for twelve and two that fail,
-        ensures bounded { AddsAtMostTwice looks.old looks.new (length bytes.now - H.layout.size) }
+        ensures bounded { AddsAtMostTwice looks.old looks.new (length bytes.now - H.grammar.layout.size) }
         // and none where there is no whole header.
-        ensures short { length bytes.now < H.layout.size → looks.new ≡ looks.old }
+        ensures short { length bytes.now < H.grammar.layout.size → looks.new ≡ looks.old }
         // Each attribute of a message, and each member inside one, had a look.
-        ensures counted { IfOk result (λ m. SawEach looks.old looks.new (list_members H.writing.members (view H.meaning m).attributes)) }
+        ensures counted { IfOk result (λ m. SawEach looks.old looks.new (list_members H.grammar.writing.members (view H.grammar m).attributes)) }
     {
         parse_counted_body::<H>(alloc, bytes, looks)
     }
@@ -178,18 +140,18 @@ impl<H: Header> Message<H, H::Attribute> {
     /// `OutOfMemory` where memory is refused, and else the first fault in reading order.
     pub fn parse_into(&mut self, alloc: Global, bytes: &[u8]) -> Result<(), DecodeError>
         // What is read is what the bytes mean.
-        ensures ok { IfOk result (λ _. IsMessage H.layout H.body bytes.now (view H.meaning self.new)) }
+        ensures ok { IfOk result (λ _. IsMessage H.grammar bytes.now (view H.grammar self.new)) }
         // They mean nothing else.
-        ensures one { IfOk result (λ _. (n : Meant H H.Meaning) → IsMessage H.layout H.body bytes.now n → view H.meaning self.new ≡ n) }
-        ensures coherent { IfOk result (λ _. IsCoherent H.layout H.body (view H.meaning self.new)) }
+        ensures one { IfOk result (λ _. (n : Meant H H.grammar.Meaning) → IsMessage H.grammar bytes.now n → view H.grammar self.new ≡ n) }
+        ensures coherent { IfOk result (λ _. IsCoherent H.grammar (view H.grammar self.new)) }
         // A refusal is the first fault.
-        ensures refused { IfErr result (λ e. e ≢ OutOfMemory → MessageFault H.layout H.body bytes.now e) }
+        ensures refused { IfErr result (λ e. e ≢ OutOfMemory → MessageFault H.grammar bytes.now e) }
         // Then the bytes mean nothing,
-        ensures none { IfErr result (λ e. e ≢ OutOfMemory → (n : Meant H H.Meaning) → IsMessage H.layout H.body bytes.now n → ⊥) }
+        ensures none { IfErr result (λ e. e ≢ OutOfMemory → (n : Meant H H.grammar.Meaning) → IsMessage H.grammar bytes.now n → ⊥) }
         // and nothing is left of what was there.
-        ensures new { IfErr result (λ _. view H.meaning self.new ≡ record { header = H.standard; attributes = [] }) }
+        ensures new { IfErr result (λ _. view H.grammar self.new ≡ record { header = H.grammar.standard; attributes = [] }) }
         // Memory is taken behind a first whole attribute alone.
-        ensures memory { IsErrOf result OutOfMemory → (x : Item) × (rest : List ℕ) × Front (drop H.layout.size bytes.now) x rest }
+        ensures memory { IsErrOf result OutOfMemory → (x : Item) × (rest : List ℕ) × Front (drop H.grammar.layout.size bytes.now) x rest }
     {
         self.attributes.clear();
         match read_onto_list::<H>(&mut self.attributes, alloc, bytes, &mut Looks::new()) {
@@ -211,13 +173,13 @@ fn parse_counted_body<H: Header>(
     bytes: &[u8],
     looks: &mut Looks,
 ) -> Result<Message<H, H::Attribute>, DecodeError>
-    ensures ok { IfOk result (λ m. IsMessage H.layout H.body bytes.now (view H.meaning m)) }
-    ensures refused { IfErr result (λ e. e ≢ OutOfMemory → MessageFault H.layout H.body bytes.now e) }
-    ensures memory { IsErrOf result OutOfMemory → (x : Item) × (rest : List ℕ) × Front (drop H.layout.size bytes.now) x rest }
-    ensures exact { Answered result → MessageLooks H.layout H.body bytes.now looks.old looks.new }
-    ensures bounded { AddsAtMostTwice looks.old looks.new (length bytes.now - H.layout.size) }
-    ensures short { length bytes.now < H.layout.size → looks.new ≡ looks.old }
-    ensures counted { IfOk result (λ m. SawEach looks.old looks.new (list_members H.writing.members (view H.meaning m).attributes)) }
+    ensures ok { IfOk result (λ m. IsMessage H.grammar bytes.now (view H.grammar m)) }
+    ensures refused { IfErr result (λ e. e ≢ OutOfMemory → MessageFault H.grammar bytes.now e) }
+    ensures memory { IsErrOf result OutOfMemory → (x : Item) × (rest : List ℕ) × Front (drop H.grammar.layout.size bytes.now) x rest }
+    ensures exact { Answered result → MessageLooks H.grammar bytes.now looks.old looks.new }
+    ensures bounded { AddsAtMostTwice looks.old looks.new (length bytes.now - H.grammar.layout.size) }
+    ensures short { length bytes.now < H.grammar.layout.size → looks.new ≡ looks.old }
+    ensures counted { IfOk result (λ m. SawEach looks.old looks.new (list_members H.grammar.writing.members (view H.grammar m).attributes)) }
 {
     let mut attributes = Vec::new(alloc);
     let header = read_onto_list::<H>(&mut attributes, alloc, bytes, looks)?;
@@ -233,16 +195,18 @@ fn read_onto_list<H: Header>(
     looks: &mut Looks,
 ) -> Result<H, DecodeError>
     requires { list.old.items ≡ [] }
-    ensures ok { IfOk result (λ h. IsMessage H.layout H.body bytes.now (record { header = h; attributes = map H.meaning list.new.items })) }
-    ensures refused { IfErr result (λ e. e ≢ OutOfMemory → MessageFault H.layout H.body bytes.now e) }
-    ensures memory { IsErrOf result OutOfMemory → (x : Item) × (rest : List ℕ) × Front (drop H.layout.size bytes.now) x rest }
-    ensures exact { Answered result → MessageLooks H.layout H.body bytes.now looks.old looks.new }
-    ensures bounded { AddsAtMostTwice looks.old looks.new (length bytes.now - H.layout.size) }
-    ensures short { length bytes.now < H.layout.size → looks.new ≡ looks.old }
-    ensures counted { IfOk result (λ _. SawEach looks.old looks.new (list_members H.writing.members (map H.meaning list.new.items))) }
+    ensures ok { IfOk result (λ h. IsMessage H.grammar bytes.now (record { header = h; attributes = map H.grammar.meaning list.new.items })) }
+    ensures refused { IfErr result (λ e. e ≢ OutOfMemory → MessageFault H.grammar bytes.now e) }
+    ensures memory { IsErrOf result OutOfMemory → (x : Item) × (rest : List ℕ) × Front (drop H.grammar.layout.size bytes.now) x rest }
+    ensures exact { Answered result → MessageLooks H.grammar bytes.now looks.old looks.new }
+    ensures bounded { AddsAtMostTwice looks.old looks.new (length bytes.now - H.grammar.layout.size) }
+    ensures short { length bytes.now < H.grammar.layout.size → looks.new ≡ looks.old }
+    ensures counted { IfOk result (λ _. SawEach looks.old looks.new (list_members H.grammar.writing.members (map H.grammar.meaning list.new.items))) }
 {
     let header = header_of::<H>(bytes)?;
-    header.read_list(list, alloc, &bytes[H::size()..], looks)?;
+    let behind = &bytes[H::size()..];
+    let context = header.context(behind, looks);
+    fill_list(list, alloc, context, behind, looks)?;
     Ok(header)
 }
 
@@ -252,8 +216,8 @@ fn read_onto_list<H: Header>(
 /// `HeaderTooShort` where they are fewer.
 #[inline(always)]
 pub(crate) fn header_of<H: Header>(bytes: &[u8]) -> Result<H, DecodeError>
-    ensures ok { IfOk result (λ h. (leading H.layout).Reads bytes.now h) }
-    ensures refused { IfErr result (λ e. (length bytes.now < H.layout.size) × (e ≡ HeaderTooShort (length bytes.now) H.layout.size)) }
+    ensures ok { IfOk result (λ h. (leading H.grammar.layout).Reads bytes.now h) }
+    ensures refused { IfErr result (λ e. (length bytes.now < H.grammar.layout.size) × (e ≡ HeaderTooShort (length bytes.now) H.grammar.layout.size)) }
 {
     let size = H::size();
     if bytes.len() < size {
@@ -266,9 +230,9 @@ pub(crate) fn header_of<H: Header>(bytes: &[u8]) -> Result<H, DecodeError>
 }
 
 impl<'a, H: Header> Parseable<&'a [u8]> for Message<H, H::Attribute> {
-    ghost parses = { λ bytes m. IsMessage H.layout H.body bytes.now (view H.meaning m) };
+    ghost parses = { λ bytes m. IsMessage H.grammar bytes.now (view H.grammar m) };
 
-    ghost misparses = { λ bytes e. MessageFault H.layout H.body bytes.now e };
+    ghost misparses = { λ bytes e. MessageFault H.grammar bytes.now e };
 
     /// The message that the bytes are.
     ///
@@ -276,23 +240,23 @@ impl<'a, H: Header> Parseable<&'a [u8]> for Message<H, H::Attribute> {
     /// `OutOfMemory` where memory is refused, and else the first fault in reading order.
     fn parse(alloc: Global, bytes: &'a [u8]) -> Result<Self, DecodeError>
         // What is read is what the bytes mean.
-        ensures ok { IfOk result (λ m. IsMessage H.layout H.body bytes.now (view H.meaning m)) }
+        ensures ok { IfOk result (λ m. IsMessage H.grammar bytes.now (view H.grammar m)) }
         // They mean nothing else.
-        ensures one { IfOk result (λ m. (n : Meant H H.Meaning) → IsMessage H.layout H.body bytes.now n → view H.meaning m ≡ n) }
-        ensures coherent { IfOk result (λ m. IsCoherent H.layout H.body (view H.meaning m)) }
+        ensures one { IfOk result (λ m. (n : Meant H H.grammar.Meaning) → IsMessage H.grammar bytes.now n → view H.grammar m ≡ n) }
+        ensures coherent { IfOk result (λ m. IsCoherent H.grammar (view H.grammar m)) }
         // A refusal is the first fault.
-        ensures refused { IfErr result (λ e. e ≢ OutOfMemory → MessageFault H.layout H.body bytes.now e) }
+        ensures refused { IfErr result (λ e. e ≢ OutOfMemory → MessageFault H.grammar bytes.now e) }
         // Then the bytes mean nothing.
-        ensures none { IfErr result (λ e. e ≢ OutOfMemory → (n : Meant H H.Meaning) → IsMessage H.layout H.body bytes.now n → ⊥) }
+        ensures none { IfErr result (λ e. e ≢ OutOfMemory → (n : Meant H H.grammar.Meaning) → IsMessage H.grammar bytes.now n → ⊥) }
         // Canonical bytes give back their message.
-        ensures again { IfOk result (λ m. (n : Meant H H.Meaning) → IsCoherent H.layout H.body n → message_misfit H.layout H.writing n ≡ None
-            → bytes.now ≡ spelling H.layout H.writing n → view H.meaning m ≡ n) }
+        ensures again { IfOk result (λ m. (n : Meant H H.grammar.Meaning) → IsCoherent H.grammar n → message_misfit H.grammar n ≡ None
+            → bytes.now ≡ spelling H.grammar n → view H.grammar m ≡ n) }
         // Memory is taken behind a first whole attribute alone.
-        ensures memory { IsErrOf result OutOfMemory → (x : Item) × (rest : List ℕ) × Front (drop H.layout.size bytes.now) x rest }
+        ensures memory { IsErrOf result OutOfMemory → (x : Item) × (rest : List ℕ) × Front (drop H.grammar.layout.size bytes.now) x rest }
         // Canonical bytes are at most five halves as long as what was read.
-        ensures growth { IfOk result (λ m. 2 * length (spelling H.layout H.writing (view H.meaning m)) ≤ 5 * length bytes.now) }
+        ensures growth { IfOk result (λ m. 2 * length (spelling H.grammar (view H.grammar m)) ≤ 5 * length bytes.now) }
         // Each level of lists takes 12 bytes behind the header.
-        ensures depth { IfOk result (λ m. 12 * H.body.depth (view H.meaning m).attributes ≤ length bytes.now - H.layout.size) }
+        ensures depth { IfOk result (λ m. 12 * H.grammar.body.depth (view H.grammar m).attributes ≤ length bytes.now - H.grammar.layout.size) }
     {
         Message::<H, H::Attribute>::parse_counted(alloc, bytes, &mut Looks::new())
     }
@@ -300,9 +264,9 @@ impl<'a, H: Header> Parseable<&'a [u8]> for Message<H, H::Attribute> {
 
 #[tactic(auto, unfolding(crate::specs::Message::spelling, crate::specs::Message::message_misfit))]
 impl<H: Header> Emitable for Message<H, H::Attribute> {
-    ghost bytes = { λ m. spelling H.layout H.writing (view H.meaning m) };
+    ghost bytes = { λ m. spelling H.grammar (view H.grammar m) };
 
-    ghost unfit = { λ m. message_misfit H.layout H.writing (view H.meaning m) };
+    ghost unfit = { λ m. message_misfit H.grammar (view H.grammar m) };
 
     fn check(&self) -> Result<usize, EmitError> {
         let len = check_list(self.attributes.as_slice())?;

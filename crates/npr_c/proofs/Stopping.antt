@@ -1,23 +1,24 @@
 -- What stops the reading of attributes stands in the message.
 use Rattle.std.proofs.Common.{◌≡◌, ◌≢◌, ◌⊎◌, ℕ, ◌+◌, ◌<◌, ◌≤◌, List, length, take, drop, sym, ap, subst, ◌∙◌, inr}
 use Rattle.netlink_packet_route.specs.Layout.{Layout}
-use Rattle.netlink_packet_route.specs.Messages.{Message, Body, IsMessage}
-use Rattle.netlink_packet_route.specs.Table.{Writing}
+use Rattle.netlink_packet_route.specs.Table.{Family}
 use Rattle.netlink_packet_route.specs.declared.framing.DecodeError.{DecodeError}
-use Rattle.npr_base.proofs.Messages.{message_read}
 use Rattle.netlink_packet_route.specs.declared.framing.DecodeError.TheVariants.{OutOfMemory}
 use Rattle.npr_c.specs.Faults.{fault_of, told}
-use Rattle.npr_c.specs.Stops.{StandsAt, IsPlaced}
+use Rattle.npr_c.specs.Stops.{StopsBefore, StandsAt, IsPlaced}
 use Rattle.npr_c.specs.declared.faults.Fault.{Fault}
 
-pub stands_there : {H : Type 0} (L : Layout H) (Stops : H → List ℕ → List ℕ → DecodeError → Type 0) (bytes rest : List ℕ) (h : H) (offset : ℕ)
-    (d e : DecodeError) → L.size ≤ length bytes → h ≡ L.decode (take L.size bytes) → Stops h (drop L.size bytes) rest e → length bytes ≡ offset + length rest → d ≡ e
-    → StandsAt L Stops bytes offset d
-stands_there {H} L Stops bytes rest h offset d e long header stops place same = record {
+pub stands_there : {H A C : Type 0} (L : Layout H) (governs : H → List ℕ → C → Type 0) (f : Family A C) (bytes rest : List ℕ) (h : H) (c : C) (offset : ℕ)
+    (d e : DecodeError) → L.size ≤ length bytes → h ≡ L.decode (take L.size bytes) → governs h (drop L.size bytes) c
+    → StopsBefore (f.reading c).Reads (f.reading c).Faulty (drop L.size bytes) rest e → length bytes ≡ offset + length rest → d ≡ e
+    → StandsAt L governs f bytes offset d
+stands_there {H} L governs f bytes rest h c offset d e long header governed stops place same = record {
   header = long;
+  context = c;
+  governed = subst (λ (k : H). governs k (drop L.size bytes) c) header governed;
   rest = rest;
   place = place;
-  stops = subst (λ (k : H). Stops k (drop L.size bytes) rest d) header (subst (λ (x : DecodeError). Stops h (drop L.size bytes) rest x) (sym same) stops);
+  stops = subst (λ (x : DecodeError). StopsBefore (f.reading c).Reads (f.reading c).Faulty (drop L.size bytes) rest x) (sym same) stops;
 }
 
 -- a fault that is told with its place

@@ -4,14 +4,9 @@ use Rattle.netlink_packet_route.specs.Family.{Each, IsWrong}
 use Rattle.netlink_packet_route.specs.Framing.{Item, Front, Passes}
 use Rattle.netlink_packet_route.specs.FrontLaws.{Front-same, Front-sound}
 use Rattle.netlink_packet_route.specs.Layout.{Layout}
-use Rattle.netlink_packet_route.specs.Table.{Writing, Reading}
-use Rattle.netlink_packet_route.specs.RouteAttributeLaws as OfRoute
+use Rattle.netlink_packet_route.specs.Table.{Family}
 use Rattle.netlink_packet_route.specs.declared.framing.DecodeError.{DecodeError}
-use Rattle.netlink_packet_route.specs.declared.route.RouteHeader.{RouteHeader}
-use Rattle.netlink_packet_route.specs.declared.route.RouteLwEnCapType.{RouteLwEnCapType}
-use Rattle.netlink_packet_route.specs.declared.route.RouteLwEnCapType.TheVariants.{None as NoEncapsulation}
-use Rattle.npr_route.specs.GoverningLaws.{governs-one}
-use Rattle.npr_c.specs.Stops.{StopsBefore, stops_of, route_stops, StandsAt}
+use Rattle.npr_c.specs.Stops.{StopsBefore, StandsAt}
 
 module _ {M : Type 0} (R : Item → M → Type 0) (F : Item → DecodeError → Type 0) (sound : (x : Item) (m : M) (e : DecodeError) → R x m → F x e → ⊥) where
   -- where an attribute stands that reads, nothing is wrong
@@ -35,21 +30,12 @@ module _ {M : Type 0} (R : Item → M → Type 0) (F : Item → DecodeError → 
   pub one_stop : (bs r s : List ℕ) (d e : DecodeError) → StopsBefore R F bs r d → StopsBefore R F bs s e → r ≡ s
   one_stop bs r s d e (ms, (before, p, h), v) (ns, (after, q, i), w) = one_rest before after ms ns bs r s d e p h v q i w
 
--- attributes of one family
-pub stops-one : {H M : Type 0} {w : Writing M} (f : Reading w) (h : H) (bs r s : List ℕ) (d e : DecodeError) → stops_of f h bs r d → stops_of f h bs s e → r ≡ s
-stops-one {H} {M} {w} f h bs r s d e p q = one_stop f.Reads f.Faulty f.no_fault bs r s d e p q
-
--- route attributes
-pub route-stops-one : (h : RouteHeader) (bs r s : List ℕ) (d e : DecodeError) → route_stops h bs r d → route_stops h bs s e → r ≡ s
-route-stops-one h bs r s d e (a, g, p) (b, k, q) =
-    let read : RouteLwEnCapType → Reading OfRoute.writing = λ type. OfRoute.attributes (h.address_family, h.kind, type) in
-    let other = subst (λ (type : RouteLwEnCapType). StopsBefore (read type).Reads (read type).Faulty bs s e) (governs-one NoEncapsulation bs b a k g) q in
-    one_stop (read a).Reads (read a).Faulty (read a).no_fault bs r s d e p other
-
--- so a message has its fault at one place
-pub stands-one : {H : Type 0} (L : Layout H) (Stops : H → List ℕ → List ℕ → DecodeError → Type 0)
-    → ((h : H) (bs r s : List ℕ) (d e : DecodeError) → Stops h bs r d → Stops h bs s e → r ≡ s)
-    → (bs : List ℕ) (j k : ℕ) (d e : DecodeError) → StandsAt L Stops bs j d → StandsAt L Stops bs k e → j ≡ k
-stands-one L Stops one bs j k d e p q =
-    let same = one (L.decode (take L.size bs)) (drop L.size bs) p.rest q.rest d e p.stops q.stops in
-    omega (arith, p.place, q.place, ap length same)
+-- so a message has its fault at one place, where one context governs
+pub stands-one : {H A C : Type 0} (L : Layout H) (governs : H → List ℕ → C → Type 0) (f : Family A C)
+    → ((h : H) (bs : List ℕ) (c d : C) → governs h bs c → governs h bs d → c ≡ d)
+    → (bs : List ℕ) (j k : ℕ) (d e : DecodeError) → StandsAt L governs f bs j d → StandsAt L governs f bs k e → j ≡ k
+stands-one {H} {A} {C} L governs f one bs j k d e p q =
+    let r = f.reading p.context in
+    let same : q.context ≡ p.context = one (L.decode (take L.size bs)) (drop L.size bs) q.context p.context q.governed p.governed in
+    let other = subst (λ (c : C). StopsBefore (f.reading c).Reads (f.reading c).Faulty (drop L.size bs) q.rest e) same q.stops in
+    omega (arith, p.place, q.place, ap length (one_stop r.Reads r.Faulty r.no_fault (drop L.size bs) p.rest q.rest d e p.stops other))

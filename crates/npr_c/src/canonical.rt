@@ -38,8 +38,8 @@ fn spell<M: Emitable>(message: &M, out: &mut [u8]) -> Answer
 
 /// Writes the canonical bytes of the message that the bytes are to the front of the buffer.
 fn canonical<H: Header>(alloc: Global, bytes: &[u8], out: &mut [u8]) -> Answer
-    ensures answer { Tells (IsMessage H.layout H.body) (MessageFault H.layout H.body) (message_misfit H.layout H.writing) (spelling H.layout H.writing) bytes.now out.old out.new result }
-    ensures memory { result ≡ refused_answer OutOfMemory → (x : Item) × (rest : List ℕ) × Front (drop H.layout.size bytes.now) x rest }
+    ensures answer { Tells (IsMessage H.grammar) (MessageFault H.grammar) (message_misfit H.grammar) (spelling H.grammar) bytes.now out.old out.new result }
+    ensures memory { result ≡ refused_answer OutOfMemory → (x : Item) × (rest : List ℕ) × Front (drop H.grammar.layout.size bytes.now) x rest }
     ensures room { 5 * length bytes.now ≤ 2 * length out.old → result.status ≢ 3 }
 {
     match Message::<H, H::Attribute>::parse(alloc, bytes) {

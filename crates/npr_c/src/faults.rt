@@ -9,18 +9,18 @@ ghost use Rattle.{
     NeighbourMessage.{IsNeighbourMessage, NeighbourFault},
     RouteMessage.{IsRouteMessage, RouteFault},
     RuleMessage.{IsRuleMessage, RuleFault},
-    declared.framing.DecodeError.{DecodeError, TheVariants.{OutOfMemory}},
+    declared.framing.DecodeError.TheVariants.{OutOfMemory},
   },
   npr_c.specs.{
-    Faults.{IsJudged, fault_of, told, family_number, seg6_number},
+    Faults.{IsJudged, fault_of, family_number, seg6_number},
     Stops.{AddressStandsAt, IsPlaced, NeighbourStandsAt, RouteStandsAt, RuleStandsAt, StandsAt},
   },
 };
 
 use crate::answer::refusal_number;
-use crate::placing::{Placed, read_through};
+use crate::placing::read_through;
 use netlink_packet_route::address::AddressHeader;
-use netlink_packet_route::framing::{At, AttrFamily, DecodeError, Seg6Fault};
+use netlink_packet_route::framing::{At, AttrFamily, DecodeError, Header, Seg6Fault};
 use netlink_packet_route::neighbour::NeighbourHeader;
 use netlink_packet_route::route::RouteHeader;
 use netlink_packet_route::rule::RuleHeader;
@@ -164,12 +164,10 @@ impl Fault {
 }
 
 /// What is wrong with the bytes as a message of this kind.
-fn judged<H: Placed>(alloc: Global, bytes: &[u8]) -> Fault
-    ensures fault { IsJudged (IsMessage H.layout H.body) (MessageFault H.layout H.body) bytes.now result }
-    ensures place { IsPlaced H.layout.size (StandsAt H.layout H.stops) bytes.now result }
-    ensures one_place { (j k : ℕ) (d e : DecodeError) → StandsAt H.layout H.stops bytes.now j d → StandsAt H.layout H.stops bytes.now k e → j ≡ k }
-    ensures told { (d e : DecodeError) (j k : ℕ) → told d j ≡ told e k → d ≡ e }
-    ensures memory { result ≡ fault_of OutOfMemory → (x : Item) × (rest : List ℕ) × Front (drop H.layout.size bytes.now) x rest }
+fn judged<H: Header>(alloc: Global, bytes: &[u8]) -> Fault
+    ensures fault { IsJudged (IsMessage H.grammar) (MessageFault H.grammar) bytes.now result }
+    ensures place { IsPlaced H.grammar.layout.size (StandsAt H.grammar.layout H.governs H.Attribute.family) bytes.now result }
+    ensures memory { result ≡ fault_of OutOfMemory → (x : Item) × (rest : List ℕ) × Front (drop H.grammar.layout.size bytes.now) x rest }
 {
     match read_through::<H>(alloc, bytes) {
         Ok(()) => NO_FAULT,
@@ -183,10 +181,6 @@ pub extern "C" fn npr_address_fault(alloc: Global, bytes: &[u8]) -> Fault
     ensures fault { IsJudged IsAddressMessage AddressFault bytes.now result }
     // Up to the place attributes read, and what stands there is wrong.
     ensures place { IsPlaced 8 AddressStandsAt bytes.now result }
-    // There is one such place.
-    ensures one_place { (j k : ℕ) (d e : DecodeError) → AddressStandsAt bytes.now j d → AddressStandsAt bytes.now k e → j ≡ k }
-    // Two refusals that are told alike are one.
-    ensures told { (d e : DecodeError) (j k : ℕ) → told d j ≡ told e k → d ≡ e }
     // Memory is refused behind a first whole attribute alone.
     ensures memory { result ≡ fault_of OutOfMemory → (x : Item) × (rest : List ℕ) × Front (drop 8 bytes.now) x rest }
 {
@@ -199,10 +193,6 @@ pub extern "C" fn npr_route_fault(alloc: Global, bytes: &[u8]) -> Fault
     ensures fault { IsJudged IsRouteMessage RouteFault bytes.now result }
     // Up to the place attributes read, and what stands there is wrong.
     ensures place { IsPlaced 12 RouteStandsAt bytes.now result }
-    // There is one such place.
-    ensures one_place { (j k : ℕ) (d e : DecodeError) → RouteStandsAt bytes.now j d → RouteStandsAt bytes.now k e → j ≡ k }
-    // Two refusals that are told alike are one.
-    ensures told { (d e : DecodeError) (j k : ℕ) → told d j ≡ told e k → d ≡ e }
     // Memory is refused behind a first whole attribute alone.
     ensures memory { result ≡ fault_of OutOfMemory → (x : Item) × (rest : List ℕ) × Front (drop 12 bytes.now) x rest }
 {
@@ -215,10 +205,6 @@ pub extern "C" fn npr_rule_fault(alloc: Global, bytes: &[u8]) -> Fault
     ensures fault { IsJudged IsRuleMessage RuleFault bytes.now result }
     // Up to the place attributes read, and what stands there is wrong.
     ensures place { IsPlaced 12 RuleStandsAt bytes.now result }
-    // There is one such place.
-    ensures one_place { (j k : ℕ) (d e : DecodeError) → RuleStandsAt bytes.now j d → RuleStandsAt bytes.now k e → j ≡ k }
-    // Two refusals that are told alike are one.
-    ensures told { (d e : DecodeError) (j k : ℕ) → told d j ≡ told e k → d ≡ e }
     // Memory is refused behind a first whole attribute alone.
     ensures memory { result ≡ fault_of OutOfMemory → (x : Item) × (rest : List ℕ) × Front (drop 12 bytes.now) x rest }
 {
@@ -231,10 +217,6 @@ pub extern "C" fn npr_neighbour_fault(alloc: Global, bytes: &[u8]) -> Fault
     ensures fault { IsJudged IsNeighbourMessage NeighbourFault bytes.now result }
     // Up to the place attributes read, and what stands there is wrong.
     ensures place { IsPlaced 12 NeighbourStandsAt bytes.now result }
-    // There is one such place.
-    ensures one_place { (j k : ℕ) (d e : DecodeError) → NeighbourStandsAt bytes.now j d → NeighbourStandsAt bytes.now k e → j ≡ k }
-    // Two refusals that are told alike are one.
-    ensures told { (d e : DecodeError) (j k : ℕ) → told d j ≡ told e k → d ≡ e }
     // Memory is refused behind a first whole attribute alone.
     ensures memory { result ≡ fault_of OutOfMemory → (x : Item) × (rest : List ℕ) × Front (drop 12 bytes.now) x rest }
 {

@@ -10,6 +10,7 @@ mod answer;
 mod canonical;
 mod envelopes;
 mod faults;
+pub mod laws;
 mod names;
 mod next_hops;
 mod placing;

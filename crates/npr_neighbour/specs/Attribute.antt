@@ -2,12 +2,12 @@
 use Rattle.std.specs.Prelude.{◌≡◌, ℕ, ◌<◌, ◌^◌, List, [], ◌∷◌, None}
 use Rattle.std.proofs.Common.{refl, arith, rules}
 use Rattle.npr_base.specs.declared.address_family.AddressFamily.{AddressFamily}
-use Rattle.npr_base.specs.declared.refusal.At.{At}
 use Rattle.npr_base.specs.declared.refusal.AttrFamily.TheVariants.{Neighbour}
 use Rattle.npr_base.specs.Framing.{Item, number_of}
 use Rattle.npr_base.specs.Layout.{le16, le32, be16}
 use Rattle.npr_base.specs.Codec.{exactly, leading, raw}
-use Rattle.npr_base.specs.Table.{Writing, Reading, Row, row, Held, held, held_other, held_kind, held_value, held_inside, held-reads, IsHeld, table_with}
+use Rattle.npr_base.specs.Table.{Writing, Reading, Family, family_of, Row, row, Held, held}
+use Rattle.npr_base.specs.Table.{held_other, held_kind, held_value, held_inside, held-reads, IsHeld, table_with}
 use Rattle.npr_base.specs.Table.{item_of, writing_by, Aligned, ReadsAt}
 use Rattle.npr_base.specs.TableLaws.{table_family, other-back}
 use Rattle.npr_scalar.specs.RouteProtocol.{route_protocol}
@@ -57,26 +57,23 @@ meaning_of (NhId a) = nh_id a
 meaning_of (FlagsExt a) = flags_ext a
 meaning_of (Other d) = other d
 
-abbrev pub at : ℕ → At
-at number = record { family = Neighbour; kind = number }
-
 -- the table
 abbrev pub rows : Form → List (Row Meaning)
 rows form =
-    row (at 1) (address_in form) destination
-    ∷ row (at 2) raw link_layer
-    ∷ row (at 3) (leading cache_info) info
-    ∷ row (at 4) (exactly le32) probes
-    ∷ row (at 5) (exactly le16) vlan
-    ∷ row (at 6) (exactly be16) port
-    ∷ row (at 7) (exactly le32) vni
-    ∷ row (at 8) (exactly le32) if_index
-    ∷ row (at 9) (exactly le32) controller
-    ∷ row (at 10) (exactly le32) link_net_ns_id
-    ∷ row (at 11) (exactly le32) source_vni
-    ∷ row (at 12) (exactly route_protocol) protocol
-    ∷ row (at 13) (exactly le32) nh_id
-    ∷ row (at 15) (exactly extended_flags) flags_ext
+    row Neighbour 1 (address_in form) destination
+    ∷ row Neighbour 2 raw link_layer
+    ∷ row Neighbour 3 (leading cache_info) info
+    ∷ row Neighbour 4 (exactly le32) probes
+    ∷ row Neighbour 5 (exactly le16) vlan
+    ∷ row Neighbour 6 (exactly be16) port
+    ∷ row Neighbour 7 (exactly le32) vni
+    ∷ row Neighbour 8 (exactly le32) if_index
+    ∷ row Neighbour 9 (exactly le32) controller
+    ∷ row Neighbour 10 (exactly le32) link_net_ns_id
+    ∷ row Neighbour 11 (exactly le32) source_vni
+    ∷ row Neighbour 12 (exactly route_protocol) protocol
+    ∷ row Neighbour 13 (exactly le32) nh_id
+    ∷ row Neighbour 15 (exactly extended_flags) flags_ext
     ∷ []
 
 -- where each meaning stands in it, whatever the family
@@ -124,3 +121,6 @@ abbrev pub attributes : AddressFamily → Reading writing
 attributes family =
     let form = form_of family in
     table_family (table_with (rows form) other held_of (Coherent form) (aligned form) (λ x. refl) (λ x is. is) (kinds form) (back form))
+
+abbrev pub family : Family NeighbourAttribute AddressFamily
+family = family_of meaning_of attributes

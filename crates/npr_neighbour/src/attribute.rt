@@ -1,7 +1,7 @@
 //! The attributes of a neighbour message: `NDA_*` of `linux/neighbour.h`.
 
 ghost use Rattle.std.specs.Prelude.{refl};
-ghost use Rattle.npr_neighbour.specs.Attribute.{Meaning, meaning_of, writing, attributes};
+ghost use Rattle.npr_neighbour.specs.Attribute.{meaning_of, writing, family};
 
 use crate::address::NeighbourAddress;
 use crate::cache_info::NeighbourCacheInfo;
@@ -97,13 +97,7 @@ impl Nla for NeighbourAttribute {
 impl Attribute for NeighbourAttribute {
     type Context = AddressFamily;
 
-    ghost Meaning = { Meaning };
-
-    ghost meaning = { meaning_of };
-
-    ghost writing = { writing };
-
-    ghost reading = { attributes };
+    ghost family = { family };
 
     ghost shape_is = { λ a. refl };
 

@@ -8,7 +8,7 @@ ghost use Rattle.{
     Attribute.{meaning_of, writing},
     Flags.{flags_bits, flags_of, extended_flags_bits, extended_flags_of},
     Header.{default_header, header},
-    Message.{Neighbour, body, message_of, IsNeighbourMessage},
+    Message.{Neighbour, grammar, message_of, IsNeighbourMessage},
     NeighbourAddress.{Address, address_of, neighbour_address},
     State.{state_bits, state_of},
   },
@@ -52,9 +52,9 @@ pub fn law_neighbour_flags()
 /// The looks that reading a message takes, over their definition.
 pub fn law_looks()
     // At most two for four bytes behind the header, and one for twelve and two that fail.
-    ensures bounded { (bytes : List ℕ) (old new : Counts) → MessageLooks header body bytes old new → AddsAtMostTwice old new (length bytes - 12) }
+    ensures bounded { (bytes : List ℕ) (old new : Counts) → MessageLooks grammar bytes old new → AddsAtMostTwice old new (length bytes - 12) }
     // Each attribute has one.
-    ensures counted { (bytes : List ℕ) (m : Neighbour) (old new : Counts) → IsNeighbourMessage bytes m → MessageLooks header body bytes old new
+    ensures counted { (bytes : List ℕ) (m : Neighbour) (old new : Counts) → IsNeighbourMessage bytes m → MessageLooks grammar bytes old new
         → SawEach old new (list_members writing.members m.attributes) }
 {}
 

@@ -1,15 +1,14 @@
 //! Neighbour messages: `RTM_NEWNEIGH`, `RTM_DELNEIGH` and `RTM_GETNEIGH`, without the envelope.
 
-ghost use Rattle.std.{specs.Prelude.{◌≡◌, refl, map}, proofs.Common.{rules, subst}};
+ghost use Rattle.std.{specs.Prelude.{refl}, proofs.Common.{rules}};
 ghost use Rattle.{
-  npr_base.specs.Family.{ReadsList, FirstFault},
-  npr_neighbour.specs.{Attribute.{Meaning, meaning_of, writing, attributes}, Header.{default_header, header}, Message.{body}},
+  npr_base.specs.{Message.{governs_by, none_searched}, MessageLaws.{of_family, under_by}},
+  npr_neighbour.specs.{Attribute.{family}, Header.{default_header, header}, Message.{grammar}},
 };
 
 use crate::attribute::NeighbourAttribute;
 use crate::header::NeighbourHeader;
-use npr_base::{AddressFamily, DecodeError, Header, Looks, Message, fill_list};
-use std::alloc::Global;
+use npr_base::{AddressFamily, Header, Looks, Message};
 
 /// The bytes of `struct ndmsg` of `linux/neighbour.h`.
 const NDMSG_SIZE: usize = 12;
@@ -20,29 +19,17 @@ pub type NeighbourMessage = Message<NeighbourHeader, NeighbourAttribute>;
 impl Header for NeighbourHeader {
     type Attribute = NeighbourAttribute;
 
-    ghost Meaning = { Meaning };
+    ghost grammar = { grammar };
 
-    ghost meaning = { meaning_of };
+    ghost governs = { governs_by (λ h. h.family) };
 
-    ghost writing = { writing };
-
-    ghost layout = { header };
-
-    ghost body = { body };
-
-    ghost standard = { default_header };
+    ghost searches = { λ h bytes context. none_searched };
 
     ghost by_layout = { λ h. (refl, refl, refl, Prim.search rules) };
 
-    ghost by_family = { λ xs. (refl, refl) };
+    ghost by_family = { of_family family header default_header grammar.body };
 
-    ghost meanings_are = { λ xs ys e. e };
-
-    ghost governs = { λ h bytes context. context ≡ h.family };
-
-    ghost reads_under = { λ h bytes context xs governs reads. subst (λ family. ReadsList (attributes family).Reads bytes (map meaning_of xs)) governs reads };
-
-    ghost faulty_under = { λ h bytes context e governs wrong. subst (λ family. FirstFault (attributes family).Reads (attributes family).Faulty bytes e) governs wrong };
+    ghost under = { under_by family header default_header (λ h. h.family) };
 
     fn size() -> usize {
         NDMSG_SIZE
@@ -53,17 +40,7 @@ impl Header for NeighbourHeader {
         NeighbourHeader::in_front(bytes)
     }
 
-    fn context(&self, _bytes: &[u8]) -> AddressFamily {
+    fn context(&self, _bytes: &[u8], _looks: &mut Looks) -> AddressFamily {
         self.family
-    }
-
-    fn read_list(
-        &self,
-        list: &mut Vec<NeighbourAttribute>,
-        alloc: Global,
-        bytes: &[u8],
-        looks: &mut Looks,
-    ) -> Result<(), DecodeError> {
-        fill_list(list, alloc, self.family, bytes, looks)
     }
 }

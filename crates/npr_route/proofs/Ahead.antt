@@ -10,7 +10,7 @@ use Rattle.npr_base.specs.FrontLaws.{length_at, length_at-is, rest_at, two_bytes
 use Rattle.npr_tunnel.specs.declared.encap_type.RouteLwEnCapType.{RouteLwEnCapType}
 use Rattle.npr_route.specs.Governing.{hit_each, Searches}
 use Rattle.npr_route.specs.Reader.{stands, along, ahead, stopped, walk_room, SoughtIn}
-use Rattle.npr_route.proofs.Searching.{hit_each-counts, search_passed}
+use Rattle.npr_route.specs.SearchLaws.{hit_each-counts, searched}
 
 -- an attribute stands in front
 front_stands : (bs : List ℕ) (x : Item) (rest : List ℕ) → Front bs x rest → stands bs ≡ true
@@ -127,13 +127,13 @@ search_failed bytes items rest left (Some (Err e)) old new p step is =
 -- the header of a next hop, and the search through its attributes
 pub sought : (outer type : RouteLwEnCapType) (inside : List ℕ) (old mid new : Counts) → mid ≡ hit old → Searches outer inside type mid new → SoughtIn inside old new
 sought outer type inside old mid new is s =
-    let p = search_passed inside mid s.before s.rest s.left s.last new s.passes s.step s.looks in
+    let p = searched outer inside type mid new s in
     let failed = search_failed inside s.before s.rest s.left s.last mid new s.passes s.step s.looks in
     let a = ap (λ (c : Counts). c.successful) is in
     let b = ap (λ (c : Counts). c.failed) is in
     record {
       kept = omega (arith, a, p.kept);
-      most = omega (arith, a, p.most, ahead_passed p.items inside p.rest p.passes);
+      most = omega (arith, a, p.successful, ahead_passed p.passed inside p.rest p.passes);
       failed_kept = omega (arith, b, p.failed_kept);
       failed = omega (arith, b, failed);
       header = λ below. omega (arith, a, p.kept, below);

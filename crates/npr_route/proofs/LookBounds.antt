@@ -7,7 +7,7 @@ use Rattle.npr_base.specs.Counts.{Counts, AddsAtMost, AddsAtMostTwice, SawEach, 
 use Rattle.npr_base.specs.Family.{ReadsList, list_members}
 use Rattle.npr_base.specs.Framing.{Item, Front, Step}
 use Rattle.npr_base.specs.FrontLaws.{Front-takes, Front-same, Front-shrinks, Front-sound}
-use Rattle.npr_base.proofs.LookBounds.{Bounded, Saw, list-walked, list-saw, none-saw}
+use Rattle.npr_base.proofs.LookBounds.{Bounded, Saw, list-walked, list-saw, none-saw, searched-read, searched-saw}
 use Rattle.npr_route.specs.Attribute.{HopHead, HopFront, typed, Meaning, flat, multi_path, Attributes, no_more, attribute, Hops, no_hops, hop, Reads, AreAttributes, AreHops}
 use Rattle.npr_route.specs.Attribute.{Wrong, value_wrong, hops_wrong, AttributesWrong, none_in_front, first_wrong, later_wrong, governed_wrong, HopsWrong, no_hop_in_front, first_hop_wrong, later_hop_wrong}
 use Rattle.npr_route.specs.Attribute.{members, attributes_members, hops_members}
@@ -20,9 +20,9 @@ use Rattle.npr_route.specs.Governing.{EndsSearch, Tells, Governs, Searches}
 use Rattle.npr_route.specs.GoverningLaws.{governs-one}
 use Rattle.npr_route.specs.NextHopFrontLaws.{HopFront-same, HopFront-sound, HopFront-length}
 use Rattle.npr_route.specs.Reader.{stopped, walk_room}
+use Rattle.npr_route.specs.SearchLaws.{searched}
 use Rattle.npr_route.specs.RouteList.{Under, IsRouteList, RouteListTakes}
 use Rattle.npr_route.proofs.Ahead.{room_front, room_opened, stopped_front, stopped_once, sought}
-use Rattle.npr_route.proofs.Searching.{search_and_reading, search_and_saw}
 use Rattle.npr_route.proofs.TunnelLooks.{flat-bounded, flat-saw}
 use Rattle.npr_tunnel.specs.declared.encap_type.RouteLwEnCapType.{RouteLwEnCapType}
 use Rattle.npr_tunnel.specs.declared.encap_type.RouteLwEnCapType.TheVariants.{None as NoEncapsulation}
@@ -277,7 +277,7 @@ next-hops-bounded c bytes old new t = (hops-few c bytes t.0 old new t.1).most
 pub route-bounded : (under : Under) (bytes : List ℕ) (old new : Counts) → RouteListTakes under bytes old new → AddsAtMostTwice old new (length bytes)
 route-bounded under bytes old new (type, mid, s, p) =
     let c : Context = (under.0, under.1, type) in
-    search_and_reading NoEncapsulation bytes type old mid new s (list-walked (attributes c) (attributes-bounded c) (attributes-saw c) bytes mid new p)
+    searched-read bytes old mid new (searched NoEncapsulation bytes type old mid s) (list-walked (attributes c) (attributes-bounded c) (attributes-saw c) bytes mid new p)
 
 pub route-saw : (under : Under) (bytes : List ℕ) (xs : List Meaning) (old new : Counts) → IsRouteList under bytes xs → RouteListTakes under bytes old new
     → SawEach old new (list_members members xs)
@@ -286,4 +286,4 @@ route-saw under bytes xs old new (a, g, reads) (type, mid, s, p) =
     let one = governs-one NoEncapsulation bytes a type g (governed NoEncapsulation bytes type old mid s) in
     let read = subst (λ (t : RouteLwEnCapType). ReadsList (Reads (under.0, under.1, t)) bytes xs) one reads in
     let saw = list-saw (attributes c) (attributes-bounded c) (attributes-saw c) bytes xs mid new read p in
-    search_and_saw NoEncapsulation bytes type read.0 old mid new (list_members members xs) read.1 s saw
+    searched-saw bytes read.0 old mid new (list_members members xs) read.1 (searched NoEncapsulation bytes type old mid s) saw

@@ -2,14 +2,16 @@
 use Rattle.std.proofs.Common.{◌≡◌, ℕ, List, refl}
 use Rattle.npr_base.specs.declared.address_family.AddressFamily.{AddressFamily}
 use Rattle.npr_base.specs.declared.address_family.AddressFamily.TheVariants.{Inet, Inet6, Mpls}
+use Rattle.npr_base.specs.declared.refusal.AttrFamily.TheVariants.{Route as OfRoute}
 use Rattle.npr_base.specs.declared.refusal.DecodeError.{DecodeError}
+use Rattle.npr_base.specs.Refusal.{at_number}
 use Rattle.npr_base.specs.Table.{RowReads, RowWrong}
 use Rattle.npr_scalar.specs.RouteAddress.{form_of, route_address, Address}
 use Rattle.npr_base.specs.Codec.{exactly}
 use Rattle.npr_base.specs.Layout.{le32}
 use Rattle.npr_scalar.specs.declared.route_type.RouteType.{RouteType}
 use Rattle.npr_scalar.specs.declared.route_type.RouteType.TheVariants.{Multicast}
-use Rattle.npr_route.specs.FlatAttribute.{at, is_multicast, expires, expires_row, new_destination_address, new_destination_row}
+use Rattle.npr_route.specs.FlatAttribute.{is_multicast, expires, expires_row, new_destination_address, new_destination_row}
 
 pub address_reads : (family : AddressFamily) → (family ≡ Mpls → ⊥) → (bytes : List ℕ) (a : Address) → (route_address family).Reads bytes a → RowReads (new_destination_row (form_of family)) bytes (new_destination_address a)
 address_reads Inet not bytes a p = (a, p, refl)
@@ -17,7 +19,7 @@ address_reads Inet6 not bytes a p = (a, p, refl)
 address_reads Mpls not bytes a p = absurd (not refl)
 address_reads family not bytes a p = (a, p, refl)
 
-pub address_wrong : (family : AddressFamily) → (family ≡ Mpls → ⊥) → (bytes : List ℕ) (e : DecodeError) → (route_address family).Wrong (at 19) bytes e → RowWrong (new_destination_row (form_of family)) bytes e
+pub address_wrong : (family : AddressFamily) → (family ≡ Mpls → ⊥) → (bytes : List ℕ) (e : DecodeError) → (route_address family).Wrong (at_number OfRoute 19) bytes e → RowWrong (new_destination_row (form_of family)) bytes e
 address_wrong Inet not bytes e p = p
 address_wrong Inet6 not bytes e p = p
 address_wrong Mpls not bytes e p = absurd (not refl)

@@ -2,12 +2,15 @@
 use Rattle.std.specs.Prelude.{ℕ, List, [], ◌∷◌, ◌++◌, map, Option}
 use Rattle.npr_base.specs.declared.refusal.EmitError.{EmitError}
 use Rattle.npr_base.specs.Framing.{Item}
+use Rattle.npr_base.specs.Table.{Family, family_of}
 use Rattle.npr_scalar.specs.RouteAddress.{address_of}
 use Rattle.npr_scalar.specs.RouteFlags.{next_hop_flags_bits}
 use Rattle.npr_scalar.specs.RouteVia.{via_of}
 use Rattle.npr_tunnel.specs.Encapsulation as OfEncap
 use Rattle.npr_route.specs.Metric.{metric_of}
 use Rattle.npr_route.specs.FlatAttribute as Flat
+use Rattle.npr_route.specs.FlatAttribute.{Context}
+use Rattle.npr_route.specs.AttributeLaws.{attributes}
 use Rattle.npr_route.specs.Attribute.{Meaning, flat, multi_path, attributes_of, Hops, no_hops, hop, Hop, writes, misfit}
 use Rattle.npr_route.specs.Attribute.{hop_bytes, hop_misfit}
 use Rattle.npr_route.specs.declared.attribute.RouteAttribute.{RouteAttribute, fold-RouteAttribute}
@@ -63,6 +66,10 @@ meaning_of = fold-RouteAttribute Meaning Hop attribute_step hop_step
 
 abbrev pub hop_of : RouteNextHop → Hop
 hop_of = fold-RouteNextHop Meaning Hop attribute_step hop_step
+
+-- the family of route attributes
+abbrev pub family : Family RouteAttribute Context
+family = family_of meaning_of attributes
 
 -- what is written of a value, and why it can't be
 abbrev pub attribute_item : RouteAttribute → Item

@@ -1,6 +1,5 @@
 -- The attributes of a route message but next hops (linux/rtnetlink.h, RTA_*), by their table under the header.
 use Rattle.std.specs.Prelude.{◌≡◌, ◌≢◌, ℕ, ◌<◌, ◌^◌, Bool, true, false, List, [], ◌∷◌, map, if◌then◌else◌}
-use Rattle.npr_base.specs.declared.refusal.At.{At}
 use Rattle.npr_base.specs.declared.refusal.AttrFamily.TheVariants.{Route as OfRoute}
 use Rattle.npr_base.specs.declared.address_family.AddressFamily.{AddressFamily}
 use Rattle.npr_base.specs.Framing.{Item}
@@ -63,9 +62,6 @@ pub data Meaning : Type 0 where
   flowlabel : ℕ → Meaning
   other : Item → Meaning
 
-abbrev pub at : ℕ → At
-at number = record { family = OfRoute; kind = number }
-
 -- a route type counts by its variant
 abbrev pub is_multicast : RouteType → Bool
 is_multicast Multicast = true
@@ -78,7 +74,7 @@ Context = AddressFamily × RouteType × RouteLwEnCapType
 
 -- number 8: metrics
 abbrev pub metrics_row : Row Meaning
-metrics_row = row (at 8) (list_of metric_family) metrics
+metrics_row = row OfRoute 8 (list_of metric_family) metrics
 
 -- number 19: labels for family mpls, else an address
 abbrev pub NewDestinationValue : Form → Type 0
@@ -100,7 +96,7 @@ new_destination_variant label a = new_destination a
 new_destination_variant any a = new_destination_address a
 
 abbrev pub new_destination_row : Form → Row Meaning
-new_destination_row form = row (at 19) (new_destination_codec form) (new_destination_variant form)
+new_destination_row form = row OfRoute 19 (new_destination_codec form) (new_destination_variant form)
 
 -- number 23: eight bytes of a multicast route, else four
 abbrev pub expires_layout : Bool → Layout ℕ
@@ -112,11 +108,11 @@ expires_variant true n = multicast_expires n
 expires_variant false n = expires n
 
 abbrev pub expires_row : Bool → Row Meaning
-expires_row multicast = row (at 23) (exactly (expires_layout multicast)) (expires_variant multicast)
+expires_row multicast = row OfRoute 23 (exactly (expires_layout multicast)) (expires_variant multicast)
 
 -- number 22: members of the family of the type that governs
 abbrev pub encap_row : Reading OfEncap.writing → Row Meaning
-encap_row family = row (at 22) (list_of family) encap
+encap_row family = row OfRoute 22 (list_of family) encap
 
 -- the members beside which it is written with NESTED
 abbrev pub marks : OfEncap.Meaning → Bool
@@ -135,32 +131,32 @@ any_marks (m ∷ ms) = if marks m then true else any_marks ms
 -- the table
 abbrev pub rows : Form → Bool → Reading OfEncap.writing → List (Row Meaning)
 rows form multicast family =
-    row (at 1) (address_in form) destination
-    ∷ row (at 2) (address_in form) source
-    ∷ row (at 3) (exactly le32) iif
-    ∷ row (at 4) (exactly le32) oif
-    ∷ row (at 5) (address_in form) gateway
-    ∷ row (at 6) (exactly le32) priority
-    ∷ row (at 7) (address_in form) pref_source
+    row OfRoute 1 (address_in form) destination
+    ∷ row OfRoute 2 (address_in form) source
+    ∷ row OfRoute 3 (exactly le32) iif
+    ∷ row OfRoute 4 (exactly le32) oif
+    ∷ row OfRoute 5 (address_in form) gateway
+    ∷ row OfRoute 6 (exactly le32) priority
+    ∷ row OfRoute 7 (address_in form) pref_source
     ∷ metrics_row
-    ∷ row (at 11) (exactly route_realm) realm
-    ∷ row (at 12) (leading route_cache_info) cache_info
-    ∷ row (at 15) (exactly le32) table
-    ∷ row (at 16) (exactly le32) mark
-    ∷ row (at 17) (leading route_mfc_stats) mfc_stats
-    ∷ row (at 18) via_value via
+    ∷ row OfRoute 11 (exactly route_realm) realm
+    ∷ row OfRoute 12 (leading route_cache_info) cache_info
+    ∷ row OfRoute 15 (exactly le32) table
+    ∷ row OfRoute 16 (exactly le32) mark
+    ∷ row OfRoute 17 (leading route_mfc_stats) mfc_stats
+    ∷ row OfRoute 18 via_value via
     ∷ new_destination_row form
-    ∷ row (at 20) (exactly route_preference) preference
-    ∷ row (at 21) (exactly encap_type_layout) encap_type
+    ∷ row OfRoute 20 (exactly route_preference) preference
+    ∷ row OfRoute 21 (exactly encap_type_layout) encap_type
     ∷ encap_row family
     ∷ expires_row multicast
-    ∷ row (at 25) (exactly le32) uid
-    ∷ row (at 26) (exactly ttl_propagation) ttl_propagate
-    ∷ row (at 27) (exactly byte) ip_proto
-    ∷ row (at 28) (exactly be16) sport
-    ∷ row (at 29) (exactly be16) dport
-    ∷ row (at 30) (exactly le32) nh_id
-    ∷ row (at 31) (exactly be32) flowlabel
+    ∷ row OfRoute 25 (exactly le32) uid
+    ∷ row OfRoute 26 (exactly ttl_propagation) ttl_propagate
+    ∷ row OfRoute 27 (exactly byte) ip_proto
+    ∷ row OfRoute 28 (exactly be16) sport
+    ∷ row OfRoute 29 (exactly be16) dport
+    ∷ row OfRoute 30 (exactly le32) nh_id
+    ∷ row OfRoute 31 (exactly be32) flowlabel
     ∷ []
 
 -- how each meaning is written, whatever the context

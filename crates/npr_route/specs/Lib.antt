@@ -8,8 +8,10 @@ pub mod FlatAttributeLaws
 pub mod Path
 pub mod Governing
 pub mod GoverningLaws
+pub mod SearchLaws
 pub mod Header
 pub mod Message
+pub mod MessageLaws
 pub mod Metric
 pub mod NextHopFrontLaws
 pub mod NextHopHeader

@@ -4,12 +4,13 @@ use Rattle.std.specs.Prelude.{ℕ, List, map, Option}
 use Rattle.npr_base.specs.declared.refusal.DecodeError.{DecodeError}
 use Rattle.npr_base.specs.declared.refusal.EmitError.{EmitError}
 use Rattle.npr_base.specs.declared.message.Message.{Message as Stored}
-use Rattle.npr_base.specs.Message.{Message, Body, view, IsMessage, IsMessageOf, MessageFault, IsCoherent, IsCoherentOf, spelling, message_misfit}
+use Rattle.npr_base.specs.Message.{Message, Body, Grammar, grammar_of, view, IsMessage, IsMessageOf, MessageFault}
+use Rattle.npr_base.specs.Message.{IsCoherent, IsCoherentOf, spelling, message_misfit}
 use Rattle.npr_srh.specs.Seg6Mode.{ModeTable}
 use Rattle.npr_route.specs.Attribute.{Meaning, normalized, attributes_depth, attributes_of}
-use Rattle.npr_route.specs.AttributeView.{meaning_of}
 use Rattle.npr_route.specs.AttributeLaws.{writing}
-use Rattle.npr_route.specs.Header.{header}
+use Rattle.npr_route.specs.AttributeView.{family}
+use Rattle.npr_route.specs.Header.{header, default_header}
 use Rattle.npr_route.specs.RouteList.{Under, IsRouteList, IsRouteListBy, RouteListFault, IsCoherentList, IsCoherentListBy}
 use Rattle.npr_route.specs.RouteListLaws.{route-list-one, route-list-sound, route-list-coherent, route-list-back, route-list-grows}
 use Rattle.npr_route.specs.RouteListLaws.{route-list-deep, route_list_looking}
@@ -22,9 +23,6 @@ Route = Message RouteHeader Meaning
 
 abbrev pub RouteMessage : Type 0
 RouteMessage = Stored RouteHeader RouteAttribute
-
-abbrev pub message_of : RouteMessage → Route
-message_of m = view meaning_of m
 
 -- what the header says of its list
 abbrev pub under : RouteHeader → Under
@@ -45,6 +43,13 @@ body = record {
   deep = λ h bytes xs p. route-list-deep (under h) bytes xs p;
 }
 
+-- what it is made of
+abbrev pub grammar : Grammar RouteHeader RouteAttribute
+grammar = grammar_of family header default_header body
+
+abbrev pub message_of : RouteMessage → Route
+message_of m = view grammar m
+
 -- the message with each SEG6 header in it brought up to the table of modes of today
 abbrev pub normalized_route : Route → Route
 normalized_route m = record { header = m.header; attributes = map normalized m.attributes }
@@ -58,23 +63,23 @@ IsCoherentRouteBy by m = IsCoherentOf header (λ h. IsCoherentListBy by (under h
 
 -- by the table of today the bytes are the message
 abbrev pub IsRouteMessage : List ℕ → Route → Type 0
-IsRouteMessage bytes m = IsMessage header body bytes m
+IsRouteMessage bytes m = IsMessage grammar bytes m
 
 -- the first fault of bytes that are none
 abbrev pub RouteFault : List ℕ → DecodeError → Type 0
-RouteFault bytes e = MessageFault header body bytes e
+RouteFault bytes e = MessageFault grammar bytes e
 
 -- what can be read
 abbrev pub IsCoherentRoute : Route → Type 0
-IsCoherentRoute m = IsCoherent header body m
+IsCoherentRoute m = IsCoherent grammar m
 
 -- the canonical bytes
 abbrev pub route_bytes : Route → List ℕ
-route_bytes m = spelling header writing m
+route_bytes m = spelling grammar m
 
 -- the first cause why there are none
 abbrev pub route_misfit : Route → Option EmitError
-route_misfit m = message_misfit header writing m
+route_misfit m = message_misfit grammar m
 
 -- how deep next hops stand inside one another
 abbrev pub route_depth : Route → ℕ

@@ -2,7 +2,6 @@
 use Rattle.std.specs.Prelude.{ℕ, List, [], ◌∷◌}
 use Rattle.std.specs.String.{string_bytes}
 use Rattle.std.proofs.Common.{refl, arith, rules}
-use Rattle.npr_base.specs.declared.refusal.At.{At}
 use Rattle.npr_base.specs.declared.refusal.AttrFamily.TheVariants.{Metric as OfMetric}
 use Rattle.npr_base.specs.Framing.{Item}
 use Rattle.npr_base.specs.Layout.{le32}
@@ -56,29 +55,26 @@ metric_of (CcAlgo a) = cc_algo (string_bytes a)
 metric_of (FastopenNoCookie a) = fastopen_no_cookie a
 metric_of (Other d) = other d
 
-abbrev pub at : ℕ → At
-at number = record { family = OfMetric; kind = number }
-
 -- the table
 abbrev pub rows : List (Row Metric)
 rows =
-    row (at 1) (exactly le32) lock
-    ∷ row (at 2) (exactly le32) mtu
-    ∷ row (at 3) (exactly le32) window
-    ∷ row (at 4) (exactly le32) rtt
-    ∷ row (at 5) (exactly le32) rtt_var
-    ∷ row (at 6) (exactly le32) ss_thresh
-    ∷ row (at 7) (exactly le32) cwnd
-    ∷ row (at 8) (exactly le32) advmss
-    ∷ row (at 9) (exactly le32) reordering
-    ∷ row (at 10) (exactly le32) hoplimit
-    ∷ row (at 11) (exactly le32) init_cwnd
-    ∷ row (at 12) (exactly le32) features
-    ∷ row (at 13) (exactly le32) rto_min
-    ∷ row (at 14) (exactly le32) init_rwnd
-    ∷ row (at 15) (exactly le32) quick_ack
-    ∷ row (at 16) name cc_algo
-    ∷ row (at 17) (exactly le32) fastopen_no_cookie
+    row OfMetric 1 (exactly le32) lock
+    ∷ row OfMetric 2 (exactly le32) mtu
+    ∷ row OfMetric 3 (exactly le32) window
+    ∷ row OfMetric 4 (exactly le32) rtt
+    ∷ row OfMetric 5 (exactly le32) rtt_var
+    ∷ row OfMetric 6 (exactly le32) ss_thresh
+    ∷ row OfMetric 7 (exactly le32) cwnd
+    ∷ row OfMetric 8 (exactly le32) advmss
+    ∷ row OfMetric 9 (exactly le32) reordering
+    ∷ row OfMetric 10 (exactly le32) hoplimit
+    ∷ row OfMetric 11 (exactly le32) init_cwnd
+    ∷ row OfMetric 12 (exactly le32) features
+    ∷ row OfMetric 13 (exactly le32) rto_min
+    ∷ row OfMetric 14 (exactly le32) init_rwnd
+    ∷ row OfMetric 15 (exactly le32) quick_ack
+    ∷ row OfMetric 16 name cc_algo
+    ∷ row OfMetric 17 (exactly le32) fastopen_no_cookie
     ∷ []
 
 -- where each meaning stands in it

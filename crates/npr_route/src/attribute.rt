@@ -1,7 +1,7 @@
 //! The attributes of a route message: `RTA_*` of `linux/rtnetlink.h`.
 
 ghost use Rattle.std.specs.Prelude.{refl};
-ghost use Rattle.npr_route.specs.{Attribute.{Meaning}, AttributeView.{meaning_of}, AttributeLaws.{writing, attributes}};
+ghost use Rattle.npr_route.specs.{AttributeView.{meaning_of, family}, AttributeLaws.{writing}};
 
 use crate::descent::{check_inside, clone_attribute, is_marked, write_value};
 use crate::metrics::RouteMetric;
@@ -148,13 +148,7 @@ impl Nla for RouteAttribute {
 impl Attribute for RouteAttribute {
     type Context = Context;
 
-    ghost Meaning = { Meaning };
-
-    ghost meaning = { meaning_of };
-
-    ghost writing = { writing };
-
-    ghost reading = { attributes };
+    ghost family = { family };
 
     ghost shape_is = { λ a. refl };
 

@@ -21,7 +21,7 @@ ghost use Rattle.{
     Governing.{Governs},
     Header.{default_header, header},
     Metric.{metric_of},
-    Message.{Route, body, message_of, normalized_route, IsRouteMessage, IsRouteMessageBy, IsCoherentRoute, IsCoherentRouteBy, route_bytes, route_misfit},
+    Message.{Route, grammar, message_of, normalized_route, IsRouteMessage, IsRouteMessageBy, IsCoherentRoute, IsCoherentRouteBy, route_bytes, route_misfit},
     Attribute.{Meaning, Attributes, attributes_of, first_type, AreGoverned, Hops, AreHops, HopsWrong, HopsCoherent, hops_bytes, hops_misfit, HopHead, no_hops, hop, no_more, attribute, multi_path, flat, hops_depth, attributes_depth},
     RouteList.{Under, IsRouteList},
   },
@@ -64,9 +64,9 @@ pub fn law_next_hops()
 /// The looks that reading a message, or next hops, takes, over their definitions.
 pub fn law_looks()
     // At most two for four bytes behind the header, and one for twelve and two that fail.
-    ensures bounded { (bytes : List ℕ) (old new : Counts) → MessageLooks header body bytes old new → AddsAtMostTwice old new (length bytes - 12) }
+    ensures bounded { (bytes : List ℕ) (old new : Counts) → MessageLooks grammar bytes old new → AddsAtMostTwice old new (length bytes - 12) }
     // Each attribute of a message has one, and each member and next hop inside one.
-    ensures counted { (bytes : List ℕ) (m : Route) (old new : Counts) → IsRouteMessage bytes m → MessageLooks header body bytes old new
+    ensures counted { (bytes : List ℕ) (m : Route) (old new : Counts) → IsRouteMessage bytes m → MessageLooks grammar bytes old new
         → SawEach old new (list_members writing.members m.attributes) }
     ensures next_hops { (c : Context) (bytes : List ℕ) (old new : Counts) → HopsTake c bytes old new → AddsAtMost old new (length bytes) }
     // Next hops are read where their looks say so, and else there is a fault.

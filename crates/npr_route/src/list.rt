@@ -1,6 +1,6 @@
 //! Lists of route attributes: the type that governs them is found first, and then they are read.
 
-ghost use Rattle.std.specs.Prelude.{◌≡◌, ◌≢◌, ℕ, List, [], length, map, IfOk, IfErr, IsErrOf};
+ghost use Rattle.std.specs.Prelude.{◌≡◌, ◌≢◌, ℕ, List, length, map, IfOk, IfErr, IsErrOf};
 ghost use Rattle.{
   npr_base.specs.{
     declared.refusal.DecodeError.TheVariants.{OutOfMemory},
@@ -19,7 +19,7 @@ ghost use Rattle.{
 };
 
 use crate::attribute::{RTA_ENCAP_TYPE, RouteAttribute};
-use npr_base::{AddressFamily, DecodeError, Looks, NlaBuffer, NlasIterator, fill_list};
+use npr_base::{AddressFamily, DecodeError, Looks, NlaBuffer, NlasIterator, parse_list};
 use npr_scalar::RouteType;
 use npr_tunnel::RouteLwEnCapType;
 use std::alloc::Global;
@@ -78,36 +78,6 @@ pub fn read_route_list(
     ensures bounded { AddsAtMostTwice looks.old looks.new (length bytes.now) }
     ensures counted { IfOk result (λ v. SawEach looks.old looks.new (list_members writing.members (map meaning_of v.items))) }
 {
-    let mut found = Vec::new(alloc);
-    fill_route_list(&mut found, alloc, bytes, under, looks)?;
-    Ok(found)
-}
-
-/// `read_route_list` into an empty list, whose room is used again.
-///
-/// # Errors
-/// `OutOfMemory` where memory is refused, and else the first fault in reading order. The attributes
-/// before it stand in the list.
-pub(crate) fn fill_route_list(
-    found: &mut Vec<RouteAttribute>,
-    alloc: Global,
-    bytes: &[u8],
-    under: (AddressFamily, RouteType),
-    looks: &mut Looks,
-) -> Result<(), DecodeError>
-    requires { found.old.items ≡ [] }
-    // What is read is what the bytes mean.
-    ensures ok { IfOk result (λ _. IsRouteList under bytes.now (map meaning_of found.new.items)) }
-    // A refusal is the first fault.
-    ensures refused { IfErr result (λ e. e ≢ OutOfMemory → RouteListFault under bytes.now e) }
-    // Memory is taken behind a first whole attribute alone.
-    ensures memory { IsErrOf result OutOfMemory → (x : Item) × (rest : List ℕ) × Front bytes.now x rest }
-    // The looks are those that the bytes take.
-    ensures exact { Answered result → RouteListTakes under bytes.now looks.old looks.new }
-    // The search and the reading together look no more often than a reading may.
-    ensures bounded { AddsAtMostTwice looks.old looks.new (length bytes.now) }
-    ensures counted { IfOk result (λ _. SawEach looks.old looks.new (list_members writing.members (map meaning_of found.new.items))) }
-{
     let kind = governing_type(bytes, RouteLwEnCapType::None, looks);
-    fill_list(found, alloc, (under.0, under.1, kind), bytes, looks)
+    parse_list(alloc, (under.0, under.1, kind), bytes, looks)
 }

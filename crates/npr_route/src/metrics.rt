@@ -1,7 +1,7 @@
 //! The metrics of a route: `RTAX_*` of `linux/rtnetlink.h`.
 
 ghost use Rattle.std.specs.Prelude.{refl};
-ghost use Rattle.npr_route.specs.Metric.{Metric, metric_of, writing, metrics};
+ghost use Rattle.{npr_base.specs.Table.{family_of}, npr_route.specs.Metric.{metric_of, writing, metrics}};
 
 use npr_base::{Attribute, DecodeError, DefaultNla, EmitError, Looks, Nla, NlaBuffer, Place};
 use std::alloc::{AllocError, Global};
@@ -95,13 +95,7 @@ impl Nla for RouteMetric {
 impl Attribute for RouteMetric {
     type Context = ();
 
-    ghost Meaning = { Metric };
-
-    ghost meaning = { metric_of };
-
-    ghost writing = { writing };
-
-    ghost reading = { λ _. metrics };
+    ghost family = { family_of metric_of (λ _. metrics) };
 
     ghost shape_is = { λ a. refl };
 

@@ -7,6 +7,7 @@ ghost use Rattle.{
     Framing.{number_of},
     Looks.{Answered},
     LooksLaws.{list_looking},
+    Refusal.{at_number},
     Table.{RowReads, RowWrong},
     declared.refusal.DecodeError.TheVariants.{OutOfMemory},
   },
@@ -24,7 +25,7 @@ ghost use Rattle.{
     declared.attribute.RouteAttribute.{RouteAttribute},
     FlatAttributeLaws.{attributes as flat_attributes},
     Metric.{metrics},
-    FlatAttribute.{Meaning as Flat, at, is_multicast, metrics_row, new_destination_row, encap_row, expires_row},
+    FlatAttribute.{Meaning as Flat, is_multicast, metrics_row, new_destination_row, encap_row, expires_row},
   },
 };
 
@@ -98,7 +99,7 @@ fn put_address<V: FnOnce(RouteAddress) -> RouteAttribute>(
     requires blank { place.old ≡ RouteAttribute.Uid 0 }
     requires variant { V.IsAlwaysCallable variant }
     ensures ok { IfOk result (λ _. (address : RouteAddress) × (route_address family).Reads (item.now).value (address_of address) × V.post variant address place.new) }
-    ensures refused { IfErr result (λ e. e ≢ OutOfMemory → (route_address family).Wrong (at (number_of (item.now).kind)) (item.now).value e) }
+    ensures refused { IfErr result (λ e. e ≢ OutOfMemory → (route_address family).Wrong (at_number AttrFamily.Route (number_of (item.now).kind)) (item.now).value e) }
 {
     let value = item.value();
     let at = FAMILY.at(item.kind());
@@ -163,7 +164,7 @@ fn put_encapsulation(
 fn put_via(place: &mut RouteAttribute, alloc: Global, value: &[u8]) -> Result<(), DecodeError>
     requires { place.old ≡ RouteAttribute.Uid 0 }
     ensures ok { IfOk result (λ _. (via : RouteVia) × (place.new ≡ RouteAttribute.Via via) × via_value.Reads value.now (via_of via)) }
-    ensures refused { IfErr result (λ e. e ≢ OutOfMemory → via_value.Wrong (at 18) value.now e) }
+    ensures refused { IfErr result (λ e. e ≢ OutOfMemory → via_value.Wrong (at_number AttrFamily.Route 18) value.now e) }
 {
     let via = RouteVia::read(alloc, value, FAMILY.at(RTA_VIA))?;
     put(place, RouteAttribute::Via(via));

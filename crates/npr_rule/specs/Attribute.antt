@@ -2,7 +2,6 @@
 use Rattle.std.specs.Prelude.{ℕ, Bool, List, [], ◌∷◌}
 use Rattle.std.specs.String.{string_bytes}
 use Rattle.std.proofs.Common.{refl, arith, rules}
-use Rattle.npr_base.specs.declared.refusal.At.{At}
 use Rattle.npr_base.specs.declared.refusal.AttrFamily.TheVariants.{Rule}
 use Rattle.npr_base.specs.declared.ip.IpAddr.{IpAddr}
 use Rattle.npr_base.specs.Framing.{Item}
@@ -10,7 +9,7 @@ use Rattle.npr_base.specs.Layout.{le32, be64, boolean}
 use Rattle.npr_base.specs.Codec.{exactly}
 use Rattle.npr_base.specs.IpCodec.{ip}
 use Rattle.npr_base.specs.Name.{name}
-use Rattle.npr_base.specs.Table.{Writing, Reading, Row, row, Held, held, held_other, held_value, IsAligned, IsPlaced, writing_by}
+use Rattle.npr_base.specs.Table.{Writing, Reading, Family, family_of, Row, row, Held, held, held_other, held_value, IsAligned, IsPlaced, writing_by}
 use Rattle.npr_base.specs.TableLaws.{table_family, table_of}
 use Rattle.npr_scalar.specs.Realm.{route_realm}
 use Rattle.npr_scalar.specs.RouteProtocol.{route_protocol}
@@ -73,31 +72,28 @@ meaning_of (SourcePortRange a) = source_port_range a
 meaning_of (DestinationPortRange a) = destination_port_range a
 meaning_of (Other d) = other d
 
-abbrev pub at : ℕ → At
-at number = record { family = Rule; kind = number }
-
 -- the table
 abbrev pub rows : List (Row Meaning)
 rows =
-    row (at 1) ip destination
-    ∷ row (at 2) ip source
-    ∷ row (at 3) name iifname
-    ∷ row (at 4) (exactly le32) goto
-    ∷ row (at 6) (exactly le32) priority
-    ∷ row (at 10) (exactly le32) fw_mark
-    ∷ row (at 11) (exactly route_realm) realm
-    ∷ row (at 12) (exactly be64) tun_id
-    ∷ row (at 13) (exactly le32) suppress_if_group
-    ∷ row (at 14) (exactly le32) suppress_prefix_len
-    ∷ row (at 15) (exactly le32) table
-    ∷ row (at 16) (exactly le32) fw_mask
-    ∷ row (at 17) name oifname
-    ∷ row (at 19) (exactly boolean) l3mdev
-    ∷ row (at 20) (exactly uid_range_layout) uid_range
-    ∷ row (at 21) (exactly route_protocol) protocol
-    ∷ row (at 22) ip_protocol_byte ip_protocol
-    ∷ row (at 23) (exactly port_range) source_port_range
-    ∷ row (at 24) (exactly port_range) destination_port_range
+    row Rule 1 ip destination
+    ∷ row Rule 2 ip source
+    ∷ row Rule 3 name iifname
+    ∷ row Rule 4 (exactly le32) goto
+    ∷ row Rule 6 (exactly le32) priority
+    ∷ row Rule 10 (exactly le32) fw_mark
+    ∷ row Rule 11 (exactly route_realm) realm
+    ∷ row Rule 12 (exactly be64) tun_id
+    ∷ row Rule 13 (exactly le32) suppress_if_group
+    ∷ row Rule 14 (exactly le32) suppress_prefix_len
+    ∷ row Rule 15 (exactly le32) table
+    ∷ row Rule 16 (exactly le32) fw_mask
+    ∷ row Rule 17 name oifname
+    ∷ row Rule 19 (exactly boolean) l3mdev
+    ∷ row Rule 20 (exactly uid_range_layout) uid_range
+    ∷ row Rule 21 (exactly route_protocol) protocol
+    ∷ row Rule 22 ip_protocol_byte ip_protocol
+    ∷ row Rule 23 (exactly port_range) source_port_range
+    ∷ row Rule 24 (exactly port_range) destination_port_range
     ∷ []
 
 -- where each meaning stands in it
@@ -138,3 +134,6 @@ writing = writing_by held_of
 -- the family
 abbrev pub attributes : Reading writing
 attributes = table_family (table_of rows other held_of aligned (λ x. refl) (λ x is. is) placed)
+
+abbrev pub family : Family RuleAttribute (Unit {0})
+family = family_of meaning_of (λ c. attributes)

@@ -4,7 +4,7 @@ ghost use Rattle.std.specs.Prelude.{◌≡◌, None, refl};
 ghost use Rattle.{
   npr_base.specs.Family.{checked},
   npr_scalar.specs.IpProtocol.{above_zero, ip_protocol_number},
-  npr_rule.specs.{IpProtocolByte.{protocol_misfit}, Attribute.{Meaning, meaning_of, writing, attributes}},
+  npr_rule.specs.{IpProtocolByte.{protocol_misfit}, Attribute.{meaning_of, writing, family}},
 };
 
 use crate::port_range::RulePortRange;
@@ -139,13 +139,7 @@ fn protocol_byte(protocol: IpProtocol) -> u8
 impl Attribute for RuleAttribute {
     type Context = ();
 
-    ghost Meaning = { Meaning };
-
-    ghost meaning = { meaning_of };
-
-    ghost writing = { writing };
-
-    ghost reading = { λ _. attributes };
+    ghost family = { family };
 
     ghost shape_is = { λ a. refl };
 

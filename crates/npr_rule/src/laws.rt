@@ -9,7 +9,7 @@ ghost use Rattle.{
     Attribute.{meaning_of, writing},
     Flags.{rule_flags_bits, rule_flags_of},
     Header.{default_header, header},
-    Message.{Rule, body, message_of, IsRuleMessage},
+    Message.{Rule, grammar, message_of, IsRuleMessage},
   },
 };
 
@@ -39,9 +39,9 @@ pub fn law_rule_flags()
 /// The looks that reading a message takes, over their definition.
 pub fn law_looks()
     // At most two for four bytes behind the header, and one for twelve and two that fail.
-    ensures bounded { (bytes : List ℕ) (old new : Counts) → MessageLooks header body bytes old new → AddsAtMostTwice old new (length bytes - 12) }
+    ensures bounded { (bytes : List ℕ) (old new : Counts) → MessageLooks grammar bytes old new → AddsAtMostTwice old new (length bytes - 12) }
     // Each attribute has one.
-    ensures counted { (bytes : List ℕ) (m : Rule) (old new : Counts) → IsRuleMessage bytes m → MessageLooks header body bytes old new
+    ensures counted { (bytes : List ℕ) (m : Rule) (old new : Counts) → IsRuleMessage bytes m → MessageLooks grammar bytes old new
         → SawEach old new (list_members writing.members m.attributes) }
 {}
 

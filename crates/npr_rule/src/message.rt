@@ -1,12 +1,14 @@
 //! Rule messages: `RTM_NEWRULE`, `RTM_DELRULE` and `RTM_GETRULE`, without the envelope.
 
 ghost use Rattle.std.{specs.Prelude.{refl}, proofs.Common.{rules}};
-ghost use Rattle.npr_rule.specs.{Attribute.{Meaning, meaning_of, writing}, Header.{default_header, header}, Message.{body}};
+ghost use Rattle.{
+  npr_base.specs.{Message.{governs_by, none_searched}, MessageLaws.{of_family, under_by}},
+  npr_rule.specs.{Attribute.{family}, Header.{default_header, header}, Message.{grammar}},
+};
 
 use crate::attribute::RuleAttribute;
 use crate::header::RuleHeader;
-use npr_base::{DecodeError, Header, Looks, Message, fill_list};
-use std::alloc::Global;
+use npr_base::{Header, Looks, Message};
 
 /// The bytes of `struct fib_rule_hdr` of `linux/fib_rules.h`.
 const FIB_RULE_HDR_SIZE: usize = 12;
@@ -17,29 +19,17 @@ pub type RuleMessage = Message<RuleHeader, RuleAttribute>;
 impl Header for RuleHeader {
     type Attribute = RuleAttribute;
 
-    ghost Meaning = { Meaning };
+    ghost grammar = { grammar };
 
-    ghost meaning = { meaning_of };
+    ghost governs = { governs_by (λ h. tt) };
 
-    ghost writing = { writing };
-
-    ghost layout = { header };
-
-    ghost body = { body };
-
-    ghost standard = { default_header };
+    ghost searches = { λ h bytes context. none_searched };
 
     ghost by_layout = { λ h. (refl, refl, refl, Prim.search rules) };
 
-    ghost by_family = { λ xs. (refl, refl) };
+    ghost by_family = { of_family family header default_header grammar.body };
 
-    ghost meanings_are = { λ xs ys e. e };
-
-    ghost governs = { λ h bytes context. Unit {0} };
-
-    ghost reads_under = { λ h bytes context xs governs reads. reads };
-
-    ghost faulty_under = { λ h bytes context e governs wrong. wrong };
+    ghost under = { under_by family header default_header (λ h. tt) };
 
     fn size() -> usize {
         FIB_RULE_HDR_SIZE
@@ -50,15 +40,5 @@ impl Header for RuleHeader {
         RuleHeader::in_front(bytes)
     }
 
-    fn context(&self, _bytes: &[u8]) {}
-
-    fn read_list(
-        &self,
-        list: &mut Vec<RuleAttribute>,
-        alloc: Global,
-        bytes: &[u8],
-        looks: &mut Looks,
-    ) -> Result<(), DecodeError> {
-        fill_list(list, alloc, (), bytes, looks)
-    }
+    fn context(&self, _bytes: &[u8], _looks: &mut Looks) {}
 }

@@ -2,7 +2,6 @@
 use Rattle.std.specs.Prelude.{ℕ, List, [], ◌∷◌, ◌++◌, Option, Some, codes, decimal}
 use Rattle.std.specs.Net.Addr.{segments_of}
 use Rattle.std.specs.Net.Text.{ipv6_text}
-use Rattle.npr_base.specs.declared.refusal.At.{At}
 use Rattle.npr_base.specs.declared.refusal.AttrFamily.TheVariants.{Ioam6 as OfIoam6}
 use Rattle.npr_base.specs.Framing.{Item}
 use Rattle.npr_base.specs.Codec.{exactly}
@@ -41,23 +40,20 @@ meaning_of (FreqN n) = freq_n n
 meaning_of (Src a) = src a
 meaning_of (Other d) = other d
 
-abbrev pub at : ℕ → At
-at number = record { family = OfIoam6; kind = number }
-
 -- the row whose value may be kept
 abbrev pub trace_row : Row Meaning
-trace_row = row (at 3) trace traced
+trace_row = row OfIoam6 3 trace traced
 
 -- the table
 abbrev pub rows : List (Row Meaning)
 rows =
-    row (at 0) dropped (λ u. unspecified)
-    ∷ row (at 1) (exactly ioam6_mode) mode
-    ∷ row (at 2) (exactly (octets 16)) dst
+    row OfIoam6 0 dropped (λ u. unspecified)
+    ∷ row OfIoam6 1 (exactly ioam6_mode) mode
+    ∷ row OfIoam6 2 (exactly (octets 16)) dst
     ∷ trace_row
-    ∷ row (at 4) (exactly le32) freq_k
-    ∷ row (at 5) (exactly le32) freq_n
-    ∷ row (at 6) (exactly (octets 16)) src
+    ∷ row OfIoam6 4 (exactly le32) freq_k
+    ∷ row OfIoam6 5 (exactly le32) freq_n
+    ∷ row OfIoam6 6 (exactly (octets 16)) src
     ∷ []
 
 -- where each meaning stands in it

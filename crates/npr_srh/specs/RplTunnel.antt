@@ -1,7 +1,6 @@
 -- The members of an RPL tunnel (linux/rpl_iptunnel.h, RPL_IPTUNNEL_*), by their table.
 use Rattle.std.specs.Prelude.{ℕ, List, [], ◌∷◌, ◌++◌, Option, Some, codes, decimal}
 use Rattle.std.specs.Fmt.{◌++?◌}
-use Rattle.npr_base.specs.declared.refusal.At.{At}
 use Rattle.npr_base.specs.declared.refusal.AttrFamily.TheVariants.{Rpl as OfRpl}
 use Rattle.npr_base.specs.Framing.{Item}
 use Rattle.npr_base.specs.DroppedCodec.{dropped}
@@ -26,17 +25,14 @@ meaning_of Unspecified = unspecified
 meaning_of (Srh h) = srh (rpl_of h)
 meaning_of (Other d) = other d
 
-abbrev pub at : ℕ → At
-at number = record { family = OfRpl; kind = number }
-
 -- the row whose value may be kept
 abbrev pub srh_row : Row Meaning
-srh_row = row (at 1) rpl srh
+srh_row = row OfRpl 1 rpl srh
 
 -- the table
 abbrev pub rows : List (Row Meaning)
 rows =
-    row (at 0) dropped (λ u. unspecified)
+    row OfRpl 0 dropped (λ u. unspecified)
     ∷ srh_row
     ∷ []
 

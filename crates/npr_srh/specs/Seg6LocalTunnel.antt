@@ -3,7 +3,6 @@ use Rattle.std.specs.Prelude.{ℕ, List, [], ◌∷◌, ◌+◌, ◌++◌, Optio
 use Rattle.std.specs.Fmt.{◌++?◌}
 use Rattle.std.specs.Net.Addr.{segments_of}
 use Rattle.std.specs.Net.Text.{ipv4_text, ipv6_text}
-use Rattle.npr_base.specs.declared.refusal.At.{At}
 use Rattle.npr_base.specs.declared.refusal.AttrFamily.TheVariants.{Seg6Local as OfSeg6Local}
 use Rattle.npr_base.specs.Framing.{Item}
 use Rattle.npr_base.specs.Codec.{exactly}
@@ -47,25 +46,22 @@ meaning_of (Oif n) = oif n
 meaning_of (VrfTable n) = vrf_table n
 meaning_of (Other d) = other d
 
-abbrev pub at : ℕ → At
-at number = record { family = OfSeg6Local; kind = number }
-
 -- the row whose value may be kept
 abbrev pub srh_row : Row Meaning
-srh_row = row (at 2) local srh
+srh_row = row OfSeg6Local 2 local srh
 
 -- the table
 abbrev pub rows : List (Row Meaning)
 rows =
-    row (at 0) dropped (λ u. unspecified)
-    ∷ row (at 1) (exactly action) act
+    row OfSeg6Local 0 dropped (λ u. unspecified)
+    ∷ row OfSeg6Local 1 (exactly action) act
     ∷ srh_row
-    ∷ row (at 3) (exactly le32) table
-    ∷ row (at 4) (exactly (octets 4)) nh4
-    ∷ row (at 5) (exactly (octets 16)) nh6
-    ∷ row (at 6) (exactly le32) iif
-    ∷ row (at 7) (exactly le32) oif
-    ∷ row (at 9) (exactly le32) vrf_table
+    ∷ row OfSeg6Local 3 (exactly le32) table
+    ∷ row OfSeg6Local 4 (exactly (octets 4)) nh4
+    ∷ row OfSeg6Local 5 (exactly (octets 16)) nh6
+    ∷ row OfSeg6Local 6 (exactly le32) iif
+    ∷ row OfSeg6Local 7 (exactly le32) oif
+    ∷ row OfSeg6Local 9 (exactly le32) vrf_table
     ∷ []
 
 -- where each meaning stands in it

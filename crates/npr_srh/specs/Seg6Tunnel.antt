@@ -1,6 +1,5 @@
 -- The members of a SEG6 tunnel (linux/seg6_iptunnel.h, SEG6_IPTUNNEL_*), by their table.
 use Rattle.std.specs.Prelude.{◌≡◌, ℕ, ◌<◌, ◌^◌, List, [], ◌∷◌, None}
-use Rattle.npr_base.specs.declared.refusal.At.{At}
 use Rattle.npr_base.specs.declared.refusal.AttrFamily.TheVariants.{Seg6 as OfSeg6}
 use Rattle.npr_base.specs.Framing.{Item, number_of}
 use Rattle.npr_base.specs.Codec.{exactly}
@@ -33,15 +32,12 @@ abbrev pub normalized : Meaning → Meaning
 normalized (header h) = header (normalized_header h)
 normalized m = m
 
-abbrev pub at : ℕ → At
-at number = record { family = OfSeg6; kind = number }
-
 -- the table, by a table of modes
 abbrev pub rows : ModeTable → List (Row Meaning)
 rows by =
-    row (at 1) (seg6_by by) header
-    ∷ row (at 2) (exactly (octets 16)) src
-    ∷ row (at 3) (exactly le32) table
+    row OfSeg6 1 (seg6_by by) header
+    ∷ row OfSeg6 2 (exactly (octets 16)) src
+    ∷ row OfSeg6 3 (exactly le32) table
     ∷ []
 
 -- where each meaning stands in it

@@ -2,12 +2,12 @@
 
 ghost use Rattle.std.specs.{Prelude.{◌≡◌, ◌≢◌, IfOk, IfErr, IfSome, IfNone, refl, Some}, Fmt.{WritesOnOk}};
 ghost use Rattle.{
-  npr_base.specs.{Table.{shape_at, held}, declared.refusal.DecodeError.TheVariants.{OutOfMemory}},
+  npr_base.specs.{Table.{family_of, shape_at, held}, declared.refusal.DecodeError.TheVariants.{OutOfMemory}},
   npr_srh.specs.{
     Ioam6Mode.{ioam6_mode_of, ioam6_mode_number, ioam6_mode_text},
     Trace.{trace, IsTrace, encode_trace, trace_text},
     declared.ioam6.Ioam6TraceHdr.{Ioam6TraceHdr},
-    Ioam6Tunnel.{Meaning, meaning_of, writing, attributes, ioam6_text, at as place_at},
+    Ioam6Tunnel.{meaning_of, writing, attributes, ioam6_text, trace_row},
   },
 };
 
@@ -140,7 +140,7 @@ impl Nla for Ioam6TraceHdr {
 impl<'a> Parseable<&'a NlaBuffer<'a>> for Ioam6TraceHdr {
     ghost parses = { λ input t. trace.Reads input.now.value t };
 
-    ghost misparses = { λ input e. trace.Wrong (place_at 3) input.now.value e };
+    ghost misparses = { λ input e. trace.Wrong trace_row.at input.now.value e };
 
     /// The header that the value is.
     ///
@@ -148,7 +148,7 @@ impl<'a> Parseable<&'a NlaBuffer<'a>> for Ioam6TraceHdr {
     /// `Unsupported` at a length other than 8 bytes.
     fn parse(_alloc: Global, input: &'a NlaBuffer<'a>) -> Result<Self, DecodeError>
         ensures ok { IfOk result (λ t. trace.Reads input.now.value t) }
-        ensures refused { IfErr result (λ e. e ≢ OutOfMemory → trace.Wrong (place_at 3) input.now.value e) }
+        ensures refused { IfErr result (λ e. e ≢ OutOfMemory → trace.Wrong trace_row.at input.now.value e) }
         // It takes no memory.
         ensures memory { IfErr result (λ e. e ≢ OutOfMemory) }
     {
@@ -217,13 +217,7 @@ impl Nla for RouteIoam6Tunnel {
 impl Attribute for RouteIoam6Tunnel {
     type Context = ();
 
-    ghost Meaning = { Meaning };
-
-    ghost meaning = { meaning_of };
-
-    ghost writing = { writing };
-
-    ghost reading = { λ _. attributes };
+    ghost family = { family_of meaning_of (λ _. attributes) };
 
     ghost shape_is = { λ a. refl };
 

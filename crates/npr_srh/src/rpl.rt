@@ -3,11 +3,11 @@
 
 ghost use Rattle.std.specs.Prelude.{◌≡◌, ◌≤◌, ◌*◌, length, [], IfOk, IfErr, IfSome, IfNone, refl};
 ghost use Rattle.{
-  npr_base.specs.{Table.{shape_at, held}, declared.refusal.DecodeError.TheVariants.{OutOfMemory}},
+  npr_base.specs.{Table.{family_of, shape_at, held}, declared.refusal.DecodeError.TheVariants.{OutOfMemory}},
   npr_srh.specs.{
     Headed.{IsUnread},
     Rpl.{rpl, rpl_of, rpl_front, encode_rpl},
-    RplTunnel.{Meaning, meaning_of, writing, attributes, rpl_text, at as place_at},
+    RplTunnel.{meaning_of, writing, attributes, rpl_text, srh_row},
   },
 };
 
@@ -153,7 +153,7 @@ impl Nla for RplSrh {
 impl<'a> Parseable<&'a NlaBuffer<'a>> for RplSrh {
     ghost parses = { λ input h. rpl.Reads input.now.value (rpl_of h) };
 
-    ghost misparses = { λ input e. rpl.Wrong (place_at 1) input.now.value e };
+    ghost misparses = { λ input e. rpl.Wrong srh_row.at input.now.value e };
 
     /// The header that the value is.
     ///
@@ -213,13 +213,7 @@ impl Nla for RouteRplIpTunnel {
 impl Attribute for RouteRplIpTunnel {
     type Context = ();
 
-    ghost Meaning = { Meaning };
-
-    ghost meaning = { meaning_of };
-
-    ghost writing = { writing };
-
-    ghost reading = { λ _. attributes };
+    ghost family = { family_of meaning_of (λ _. attributes) };
 
     ghost shape_is = { λ a. refl };
 

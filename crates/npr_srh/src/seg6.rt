@@ -1,7 +1,7 @@
 //! SEG6: members of its tunnel (RFC 8754; `linux/seg6_iptunnel.h`).
 
 ghost use Rattle.std.specs.Prelude.{refl};
-ghost use Rattle.npr_srh.specs.Seg6Tunnel.{Meaning, meaning_of, writing, attributes};
+ghost use Rattle.{npr_base.specs.Table.{family_of}, npr_srh.specs.Seg6Tunnel.{meaning_of, writing, attributes}};
 
 use crate::seg6_header::Seg6Header;
 use npr_base::{
@@ -55,13 +55,7 @@ impl Nla for RouteSeg6IpTunnel {
 impl Attribute for RouteSeg6IpTunnel {
     type Context = ();
 
-    ghost Meaning = { Meaning };
-
-    ghost meaning = { meaning_of };
-
-    ghost writing = { writing };
-
-    ghost reading = { λ _. attributes };
+    ghost family = { family_of meaning_of (λ _. attributes) };
 
     ghost shape_is = { λ a. refl };
 

@@ -1,7 +1,7 @@
 //! SEG6 local: members of its tunnel (RFC 8986; `linux/seg6_local.h`).
 
 ghost use Rattle.std.specs.Prelude.{refl};
-ghost use Rattle.npr_srh.specs.Seg6LocalTunnel.{Meaning, meaning_of, writing, attributes, local_text};
+ghost use Rattle.{npr_base.specs.Table.{family_of}, npr_srh.specs.Seg6LocalTunnel.{meaning_of, writing, attributes, local_text}};
 
 use crate::seg6local_action::Seg6LocalAction;
 use crate::seg6local_srh::Seg6LocalSrh;
@@ -77,13 +77,7 @@ impl Nla for RouteSeg6LocalTunnel {
 impl Attribute for RouteSeg6LocalTunnel {
     type Context = ();
 
-    ghost Meaning = { Meaning };
-
-    ghost meaning = { meaning_of };
-
-    ghost writing = { writing };
-
-    ghost reading = { λ _. attributes };
+    ghost family = { family_of meaning_of (λ _. attributes) };
 
     ghost shape_is = { λ a. refl };
 

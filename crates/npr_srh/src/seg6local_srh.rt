@@ -3,7 +3,7 @@
 ghost use Rattle.std.specs.Prelude.{◌≡◌, ◌≤◌, ◌*◌, length, [], IfOk, IfErr, IfSome, IfNone};
 ghost use Rattle.{
   npr_base.specs.{Table.{shape_at, held}, declared.refusal.DecodeError.TheVariants.{OutOfMemory}},
-  npr_srh.specs.{Headed.{IsUnread}, Seg6Local.{local, local_of, local_front, encode_local}, Seg6LocalTunnel.{at as place_at}},
+  npr_srh.specs.{Headed.{IsUnread}, Seg6Local.{local, local_of, local_front, encode_local}, Seg6LocalTunnel.{srh_row}},
 };
 
 use crate::segments::{check_header, has_header};
@@ -141,7 +141,7 @@ impl Nla for Seg6LocalSrh {
 impl<'a> Parseable<&'a NlaBuffer<'a>> for Seg6LocalSrh {
     ghost parses = { λ input h. local.Reads input.now.value (local_of h) };
 
-    ghost misparses = { λ input e. local.Wrong (place_at 2) input.now.value e };
+    ghost misparses = { λ input e. local.Wrong srh_row.at input.now.value e };
 
     /// The header that the value is.
     ///

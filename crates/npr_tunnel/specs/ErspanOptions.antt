@@ -3,7 +3,6 @@ use Rattle.std.specs.Prelude.{◌==◌, if◌then◌else◌, ℕ, List, [], ◌�
 use Rattle.std.specs.Prelude.{unwrap_or, filter_map}
 use Rattle.std.specs.List.{last_or}
 use Rattle.std.proofs.Common.{refl, arith, rules}
-use Rattle.npr_base.specs.declared.refusal.At.{At}
 use Rattle.npr_base.specs.declared.refusal.AttrFamily.TheVariants.{Erspan as OfErspan}
 use Rattle.npr_base.specs.Framing.{Item}
 use Rattle.npr_base.specs.Layout.{be32, byte}
@@ -28,16 +27,13 @@ meaning_of (Dir a) = direction a
 meaning_of (Hwid a) = hardware_id a
 meaning_of (Other d) = other d
 
-abbrev pub at : ℕ → At
-at number = record { family = OfErspan; kind = number }
-
 -- the table
 abbrev pub rows : List (Row Meaning)
 rows =
-    row (at 1) (exactly byte) version
-    ∷ row (at 2) (exactly be32) index
-    ∷ row (at 3) (exactly byte) direction
-    ∷ row (at 4) (exactly byte) hardware_id
+    row OfErspan 1 (exactly byte) version
+    ∷ row OfErspan 2 (exactly be32) index
+    ∷ row OfErspan 3 (exactly byte) direction
+    ∷ row OfErspan 4 (exactly byte) hardware_id
     ∷ []
 
 -- where each meaning stands in it

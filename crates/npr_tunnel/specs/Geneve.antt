@@ -1,7 +1,6 @@
 -- The options of Geneve (linux/lwtunnel.h, LWTUNNEL_IP_OPT_GENEVE_*): attributes, of which a class opens an option, and
 -- types and data that follow it stand in that option.
 use Rattle.std.specs.Prelude.{◌≡◌, ◌≢◌, ◌⊎◌, ℕ, ◌^◌, ◌<◌, Bool, true, false, List, [], ◌∷◌, ◌++◌, Option, None, codes, decimal}
-use Rattle.npr_base.specs.declared.refusal.At.{At}
 use Rattle.npr_base.specs.declared.refusal.AttrFamily.TheVariants.{Geneve as OfGeneve}
 use Rattle.npr_base.specs.declared.refusal.DecodeError.{DecodeError}
 use Rattle.npr_base.specs.declared.refusal.DecodeError.TheVariants.{GeneveOrder, GeneveChild}
@@ -10,6 +9,7 @@ use Rattle.npr_base.specs.Codec.{exactly, raw}
 use Rattle.npr_base.specs.Family.{ReadsList, ReadsTo, IsWrong, encodings, list_unfit, misfit_of}
 use Rattle.npr_base.specs.Framing.{Item, IsBytes, number_of}
 use Rattle.npr_base.specs.Layout.{byte, be16}
+use Rattle.npr_base.specs.Refusal.{at_number}
 use Rattle.npr_base.specs.Text.{hex_text}
 use Rattle.npr_tunnel.specs.declared.geneve.RouteGeneveOpt.{RouteGeneveOpt}
 
@@ -28,9 +28,6 @@ pub data Child : Type 0 where
   type_child : ℕ → Child
   data_child : List ℕ → Child
 
-abbrev pub at : ℕ → At
-at number = record { family = OfGeneve; kind = number }
-
 -- what it means
 abbrev pub ReadsChild : Item → Child → Type 0
 ReadsChild x (class_child n) = (number_of x.kind ≡ 1) × (exactly be16).Reads x.value n
@@ -39,8 +36,8 @@ ReadsChild x (data_child d) = (number_of x.kind ≡ 3) × raw.Reads x.value d
 
 -- why it means nothing: it has the wrong length, it changes an option where none is open, or it has another number
 pub data WrongChild (inside : Bool) (x : Item) : DecodeError → Type 0 where
-  class_length : (e : DecodeError) → number_of x.kind ≡ 1 → (exactly be16).Wrong (at 1) x.value e → WrongChild inside x e
-  type_length : (e : DecodeError) → number_of x.kind ≡ 2 → inside ≡ true → (exactly byte).Wrong (at 2) x.value e → WrongChild inside x e
+  class_length : (e : DecodeError) → number_of x.kind ≡ 1 → (exactly be16).Wrong (at_number OfGeneve 1) x.value e → WrongChild inside x e
+  type_length : (e : DecodeError) → number_of x.kind ≡ 2 → inside ≡ true → (exactly byte).Wrong (at_number OfGeneve 2) x.value e → WrongChild inside x e
   order : inside ≡ false → (number_of x.kind ≡ 2) ⊎ (number_of x.kind ≡ 3) → WrongChild inside x (GeneveOrder (number_of x.kind))
   child : number_of x.kind ≢ 1 → number_of x.kind ≢ 2 → number_of x.kind ≢ 3 → WrongChild inside x (GeneveChild (number_of x.kind))
 

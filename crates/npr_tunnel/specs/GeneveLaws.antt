@@ -2,6 +2,7 @@
 use Rattle.std.specs.Prelude.{None}
 use Rattle.std.proofs.Common.{◌≡◌, ℕ, ◌+◌, ◌*◌, ◌%◌, ◌^◌, ◌<◌, ◌≤◌, true, false, List, [], ◌∷◌, ◌++◌, length, refl, sym}
 use Rattle.std.proofs.Common.{ap, subst, ◌∙◌, arith, inl, inr, length-append, true≢false}
+use Rattle.npr_base.specs.declared.refusal.AttrFamily.TheVariants.{Geneve as OfGeneve}
 use Rattle.npr_base.specs.declared.refusal.DecodeError.{DecodeError}
 use Rattle.npr_base.specs.Codec.{Codec, exactly, raw}
 use Rattle.npr_base.specs.Family.{Each, AllOf, ReadsList, ReadsTo, first_unfit, overlong}
@@ -9,8 +10,9 @@ use Rattle.npr_base.specs.FitLaws.{misfit_of-short, none_both}
 use Rattle.npr_base.specs.Framing.{Item, Small, Proper, IsBytes, Front, Passes, framed, number_of, encoding, pad}
 use Rattle.npr_base.specs.FrontLaws.{Front-same, Front-shrinks, Front-takes}
 use Rattle.npr_base.specs.Layout.{byte, be16}
+use Rattle.npr_base.specs.Refusal.{at_number}
 use Rattle.npr_base.specs.ListLaws.{ReadsList-one, FirstFault-excludes, ReadsList-known, encodings-read, length-encoding}
-use Rattle.npr_tunnel.specs.Geneve.{at, Geneve, Child, class_child, type_child, data_child, ReadsChild, WrongChild, class_length, type_length}
+use Rattle.npr_tunnel.specs.Geneve.{Geneve, Child, class_child, type_child, data_child, ReadsChild, WrongChild, class_length, type_length}
 use Rattle.npr_tunnel.specs.Geneve.{order, child, Plain, last_type, last_data, AreGroups, AreOptions, OptionsFault}
 use Rattle.npr_tunnel.specs.Geneve.{children_of, child_item, child_misfit, option_bytes, options_unfit, IsOption}
 
@@ -70,12 +72,12 @@ options-one bytes os ps (cs, p, g) (ds, q, h) =
 -- ---- what is wrong is no list of options
 
 child-sound : (x : Item) (c : Child) (e : DecodeError) → ReadsChild x c → WrongChild true x e → ⊥
-child-sound x (class_child n) f p (class_length e k w) = (exactly be16).no_fault (at 1) x.value n e p.1 w
+child-sound x (class_child n) f p (class_length e k w) = (exactly be16).no_fault (at_number OfGeneve 1) x.value n e p.1 w
 child-sound x (class_child n) f p (type_length e k o w) = absurd (omega (arith, p.0, k))
 child-sound x (class_child n) f p (order o k) = absurd (true≢false o)
 child-sound x (class_child n) f p (child i j k) = i p.0
 child-sound x (type_child n) f p (class_length e k w) = absurd (omega (arith, p.0, k))
-child-sound x (type_child n) f p (type_length e k o w) = (exactly byte).no_fault (at 2) x.value n e p.1 w
+child-sound x (type_child n) f p (type_length e k o w) = (exactly byte).no_fault (at_number OfGeneve 2) x.value n e p.1 w
 child-sound x (type_child n) f p (order o k) = absurd (true≢false o)
 child-sound x (type_child n) f p (child i j k) = j p.0
 child-sound x (data_child n) f p (class_length e k w) = absurd (omega (arith, p.0, k))

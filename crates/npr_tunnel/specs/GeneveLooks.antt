@@ -1,5 +1,6 @@
 -- The looks that reading options of Geneve takes: one at the header of each child, up to the end or to the first that is faulty.
 use Rattle.std.proofs.Common.{◌≡◌, ℕ, ◌<◌, Bool, true, false, List, [], length, sym, ap, subst, ◌∙◌, inl, inr, true≢false, arith}
+use Rattle.npr_base.specs.declared.refusal.AttrFamily.TheVariants.{Geneve as OfGeneve}
 use Rattle.npr_base.specs.declared.refusal.DecodeError.{DecodeError}
 use Rattle.npr_base.specs.Codec.{exactly}
 use Rattle.npr_base.specs.Counts.{Counts, no_looks, hit, miss}
@@ -8,7 +9,8 @@ use Rattle.npr_base.specs.FrontLaws.{Front-same, Front-shrinks, Front-sound}
 use Rattle.npr_base.specs.Layout.{byte, be16}
 use Rattle.npr_base.specs.Looks.{Adds, Looking}
 use Rattle.npr_base.specs.LooksLaws.{plus, one_hit, one_miss, raised-none, raised-hit, raised-miss, raised-inside}
-use Rattle.npr_tunnel.specs.Geneve.{at, Child, class_child, type_child, data_child, ReadsChild, WrongChild, class_length, type_length, order, child}
+use Rattle.npr_base.specs.Refusal.{at_number}
+use Rattle.npr_tunnel.specs.Geneve.{Child, class_child, type_child, data_child, ReadsChild, WrongChild, class_length, type_length, order, child}
 
 -- where a child may stand: a class anywhere, and the others in an option that is open
 abbrev pub Stands : Bool → Child → Type 0
@@ -30,13 +32,13 @@ no_front : {A : Type 0} (bytes rest : List ℕ) (x : Item) → bytes ≡ [] → 
 no_front bytes rest x is f = absurd (omega (arith, ap length is, Front-shrinks bytes x rest f))
 
 child-stands : (inside : Bool) (x : Item) (c : Child) (e : DecodeError) → ReadsChild x c → Stands inside c → WrongChild inside x e → ⊥
-child-stands inside x (class_child n) f p s (class_length e k w) = (exactly be16).no_fault (at 1) x.value n e p.1 w
+child-stands inside x (class_child n) f p s (class_length e k w) = (exactly be16).no_fault (at_number OfGeneve 1) x.value n e p.1 w
 child-stands inside x (class_child n) f p s (type_length e k o w) = absurd (omega (arith, p.0, k))
 child-stands inside x (class_child n) f p s (order o (inl k)) = absurd (omega (arith, p.0, k))
 child-stands inside x (class_child n) f p s (order o (inr k)) = absurd (omega (arith, p.0, k))
 child-stands inside x (class_child n) f p s (child i j k) = i p.0
 child-stands inside x (type_child n) f p s (class_length e k w) = absurd (omega (arith, p.0, k))
-child-stands inside x (type_child n) f p s (type_length e k o w) = (exactly byte).no_fault (at 2) x.value n e p.1 w
+child-stands inside x (type_child n) f p s (type_length e k o w) = (exactly byte).no_fault (at_number OfGeneve 2) x.value n e p.1 w
 child-stands inside x (type_child n) f p s (order o k) = true≢false (sym s ∙ o)
 child-stands inside x (type_child n) f p s (child i j k) = j p.0
 child-stands inside x (data_child d) f p s (class_length e k w) = absurd (omega (arith, p.0, k))

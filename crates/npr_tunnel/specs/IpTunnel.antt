@@ -61,14 +61,14 @@ meaning6_of (Other6 d) = other d
 -- the table, where an address has so many bytes
 abbrev pub rows : AttrFamily → ℕ → List (Row Meaning)
 rows family width =
-    row (record { family = family; kind = 0 }) dropped (λ u. unspecified)
-    ∷ row (record { family = family; kind = 1 }) (exactly be64) id
-    ∷ row (record { family = family; kind = 2 }) (exactly (octets width)) destination
-    ∷ row (record { family = family; kind = 3 }) (exactly (octets width)) source
-    ∷ row (record { family = family; kind = 4 }) (exactly byte) hops
-    ∷ row (record { family = family; kind = 5 }) (exactly byte) service
-    ∷ row (record { family = family; kind = 6 }) (exactly be16) flags
-    ∷ row (record { family = family; kind = 8 }) (list_of OfOption.attributes) options
+    row family 0 dropped (λ u. unspecified)
+    ∷ row family 1 (exactly be64) id
+    ∷ row family 2 (exactly (octets width)) destination
+    ∷ row family 3 (exactly (octets width)) source
+    ∷ row family 4 (exactly byte) hops
+    ∷ row family 5 (exactly byte) service
+    ∷ row family 6 (exactly be16) flags
+    ∷ row family 8 (list_of OfOption.attributes) options
     ∷ []
 
 -- where each meaning stands in it: options are written with NESTED, which is bit 15 of the kind

@@ -1,7 +1,6 @@
 -- The members of an MPLS tunnel (linux/mpls_iptunnel.h, MPLS_IPTUNNEL_*), by their table.
 use Rattle.std.specs.Prelude.{ℕ, List, [], ◌∷◌}
 use Rattle.std.proofs.Common.{refl, arith, rules}
-use Rattle.npr_base.specs.declared.refusal.At.{At}
 use Rattle.npr_base.specs.declared.refusal.AttrFamily.TheVariants.{Mpls as OfMpls}
 use Rattle.npr_base.specs.Framing.{Item}
 use Rattle.npr_base.specs.Layout.{byte}
@@ -24,14 +23,11 @@ meaning_of (Destination a) = destination a.items
 meaning_of (Ttl a) = ttl a
 meaning_of (Other d) = other d
 
-abbrev pub at : ℕ → At
-at number = record { family = OfMpls; kind = number }
-
 -- the table
 abbrev pub rows : List (Row Meaning)
 rows =
-    row (at 1) mpls_labels destination
-    ∷ row (at 2) (exactly byte) ttl
+    row OfMpls 1 mpls_labels destination
+    ∷ row OfMpls 2 (exactly byte) ttl
     ∷ []
 
 -- where each meaning stands in it

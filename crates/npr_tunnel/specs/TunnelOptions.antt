@@ -2,7 +2,6 @@
 -- which is bit 15 of its kind.
 use Rattle.std.specs.Prelude.{ℕ, ◌+◌, ◌^◌, List, [], ◌∷◌, map, Option, Some, codes}
 use Rattle.std.proofs.Common.{refl, arith, rules}
-use Rattle.npr_base.specs.declared.refusal.At.{At}
 use Rattle.npr_base.specs.declared.refusal.AttrFamily.TheVariants.{Opt as OfOption}
 use Rattle.npr_base.specs.Framing.{Item}
 use Rattle.npr_base.specs.ListCodec.{list_of}
@@ -32,15 +31,12 @@ meaning_of (Vxlan v) = vxlan (map OfVxlan.meaning_of v.items)
 meaning_of (Erspan v) = erspan (map OfErspan.meaning_of v.items)
 meaning_of (Other d) = other d
 
-abbrev pub at : ℕ → At
-at number = record { family = OfOption; kind = number }
-
 -- the table
 abbrev pub rows : List (Row Meaning)
 rows =
-    row (at 1) geneve_options geneve
-    ∷ row (at 2) (list_of OfVxlan.attributes) vxlan
-    ∷ row (at 3) (list_of OfErspan.attributes) erspan
+    row OfOption 1 geneve_options geneve
+    ∷ row OfOption 2 (list_of OfVxlan.attributes) vxlan
+    ∷ row OfOption 3 (list_of OfErspan.attributes) erspan
     ∷ []
 
 -- where each meaning stands in it

@@ -1,7 +1,6 @@
 -- The options of VXLAN (linux/lwtunnel.h, LWTUNNEL_IP_OPT_VXLAN_*), by their table.
 use Rattle.std.specs.Prelude.{ℕ, List, [], ◌∷◌, ◌++◌, Option, Some, codes, decimal}
 use Rattle.std.proofs.Common.{refl, arith, rules}
-use Rattle.npr_base.specs.declared.refusal.At.{At}
 use Rattle.npr_base.specs.declared.refusal.AttrFamily.TheVariants.{Vxlan as OfVxlan}
 use Rattle.npr_base.specs.Framing.{Item}
 use Rattle.npr_base.specs.Layout.{le32}
@@ -21,13 +20,10 @@ abbrev pub meaning_of : RouteVxlanOpt → Meaning
 meaning_of (Gbp a) = gbp a
 meaning_of (Other d) = other d
 
-abbrev pub at : ℕ → At
-at number = record { family = OfVxlan; kind = number }
-
 -- the table
 abbrev pub rows : List (Row Meaning)
 rows =
-    row (at 1) (exactly le32) gbp
+    row OfVxlan 1 (exactly le32) gbp
     ∷ []
 
 -- where each meaning stands in it

@@ -1,7 +1,6 @@
 -- The members of an XFRM tunnel (linux/lwtunnel.h, LWT_XFRM_*), by their table.
 use Rattle.std.specs.Prelude.{ℕ, List, [], ◌∷◌, ◌++◌, Option, Some, codes, decimal}
 use Rattle.std.proofs.Common.{refl, arith, rules}
-use Rattle.npr_base.specs.declared.refusal.At.{At}
 use Rattle.npr_base.specs.declared.refusal.AttrFamily.TheVariants.{Xfrm as OfXfrm}
 use Rattle.npr_base.specs.Framing.{Item}
 use Rattle.npr_base.specs.Layout.{le32}
@@ -26,15 +25,12 @@ meaning_of (IfId a) = if_id a
 meaning_of (Link a) = link a
 meaning_of (Other d) = other d
 
-abbrev pub at : ℕ → At
-at number = record { family = OfXfrm; kind = number }
-
 -- the table
 abbrev pub rows : List (Row Meaning)
 rows =
-    row (at 0) dropped (λ u. unspecified)
-    ∷ row (at 1) (exactly le32) if_id
-    ∷ row (at 2) (exactly le32) link
+    row OfXfrm 0 dropped (λ u. unspecified)
+    ∷ row OfXfrm 1 (exactly le32) if_id
+    ∷ row OfXfrm 2 (exactly le32) link
     ∷ []
 
 -- where each meaning stands in it

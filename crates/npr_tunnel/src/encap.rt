@@ -1,7 +1,7 @@
 //! The members of an encapsulation, by its type.
 
 ghost use Rattle.std.specs.Prelude.{◌≡◌, refl};
-ghost use Rattle.npr_tunnel.specs.Encapsulation.{Meaning, meaning_of, normalized, writing, encapsulation};
+ghost use Rattle.{npr_base.specs.Table.{family_of}, npr_tunnel.specs.Encapsulation.{meaning_of, normalized, writing, encapsulation}};
 
 use crate::encap_type::RouteLwEnCapType;
 use crate::ip::RouteIpTunnel;
@@ -118,13 +118,7 @@ impl Nla for RouteLwTunnelEncap {
 impl Attribute for RouteLwTunnelEncap {
     type Context = RouteLwEnCapType;
 
-    ghost Meaning = { Meaning };
-
-    ghost meaning = { meaning_of };
-
-    ghost writing = { writing };
-
-    ghost reading = { encapsulation };
+    ghost family = { family_of meaning_of encapsulation };
 
     ghost shape_is = { λ a. refl };
 

@@ -1,7 +1,7 @@
 //! Options of ERSPAN: `LWTUNNEL_IP_OPT_ERSPAN_*` of `linux/lwtunnel.h`.
 
 ghost use Rattle.std.specs.{Prelude.{map, refl}, Fmt.{WritesOnOk}};
-ghost use Rattle.npr_tunnel.specs.ErspanOptions.{Meaning, meaning_of, writing, attributes, erspan_text};
+ghost use Rattle.{npr_base.specs.Table.{family_of}, npr_tunnel.specs.ErspanOptions.{meaning_of, writing, attributes, erspan_text}};
 
 use npr_base::{Attribute, DecodeError, DefaultNla, EmitError, Looks, Nla, NlaBuffer, Place};
 use std::alloc::{AllocError, Global};
@@ -57,13 +57,7 @@ impl Nla for RouteErspanOpt {
 impl Attribute for RouteErspanOpt {
     type Context = ();
 
-    ghost Meaning = { Meaning };
-
-    ghost meaning = { meaning_of };
-
-    ghost writing = { writing };
-
-    ghost reading = { λ _. attributes };
+    ghost family = { family_of meaning_of (λ _. attributes) };
 
     ghost shape_is = { λ a. refl };
 

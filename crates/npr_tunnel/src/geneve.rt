@@ -10,10 +10,11 @@ ghost use Rattle.{
     Looks.{Answered},
     Framing.{Writes, number_of},
     Layout.{byte, be16},
+    Refusal.{at_number},
     declared.refusal.DecodeError.TheVariants.{OutOfMemory},
   },
   npr_tunnel.specs.{
-    Geneve.{at, Child, option_bytes, option_misfit, options_unfit, class_child, type_child, data_child, option_of, ReadsChild, WrongChild, AreOptions, OptionsFault, geneve_text},
+    Geneve.{Child, option_bytes, option_misfit, options_unfit, class_child, type_child, data_child, option_of, ReadsChild, WrongChild, AreOptions, OptionsFault, geneve_text},
     GeneveLooks.{OptionsLooks},
     GeneveSteps.{seen, listed, is_some, Changes},
   },
@@ -84,7 +85,7 @@ fn read_class(
     value: &[u8],
 ) -> Result<(Option<RouteGeneveOpt>, RouteGeneveOpt), DecodeError>
     ensures ok { IfOk result (λ p. (n : ℕ) × (exactly be16).Reads value.now n × Changes (seen current) (class_child n) (seen p.0) (option_of p.1)) }
-    ensures refused { IfErr result (λ e. (exactly be16).Wrong (at 1) value.now e) }
+    ensures refused { IfErr result (λ e. (exactly be16).Wrong (at_number AttrFamily.Geneve 1) value.now e) }
 {
     let class = read_u16_be(value, FAMILY.at(LWTUNNEL_IP_OPT_GENEVE_CLASS))?;
     let opened = RouteGeneveOpt {
@@ -97,7 +98,7 @@ fn read_class(
 /// A type changes the option that is open.
 fn read_type(option: RouteGeneveOpt, value: &[u8]) -> Result<RouteGeneveOpt, DecodeError>
     ensures ok { IfOk result (λ o. (n : ℕ) × (exactly byte).Reads value.now n × Changes (Some (option_of option)) (type_child n) None (option_of o)) }
-    ensures refused { IfErr result (λ e. (exactly byte).Wrong (at 2) value.now e) }
+    ensures refused { IfErr result (λ e. (exactly byte).Wrong (at_number AttrFamily.Geneve 2) value.now e) }
 {
     let typ = read_u8(value, FAMILY.at(LWTUNNEL_IP_OPT_GENEVE_TYPE))?;
     Ok(RouteGeneveOpt { typ, ..option })

@@ -1,7 +1,7 @@
 //! Tunnels over IP version 4: `LWTUNNEL_IP_*` of `linux/lwtunnel.h`.
 
 ghost use Rattle.std.specs.Prelude.{refl};
-ghost use Rattle.npr_tunnel.specs.IpTunnel.{Meaning, meaning_of, writing, attributes, ip_tunnel_text};
+ghost use Rattle.{npr_base.specs.Table.{family_of}, npr_tunnel.specs.IpTunnel.{meaning_of, writing, attributes, ip_tunnel_text}};
 
 use crate::flags::{RouteIpTunnelFlags, write_flags};
 use crate::ip_rows;
@@ -68,13 +68,7 @@ impl Nla for RouteIpTunnel {
 impl Attribute for RouteIpTunnel {
     type Context = ();
 
-    ghost Meaning = { Meaning };
-
-    ghost meaning = { meaning_of };
-
-    ghost writing = { writing 4 };
-
-    ghost reading = { λ _. attributes };
+    ghost family = { family_of meaning_of (λ _. attributes) };
 
     ghost shape_is = { λ a. refl };
 

@@ -1,7 +1,7 @@
 //! Tunnels over IP version 6: `LWTUNNEL_IP6_*` of `linux/lwtunnel.h`.
 
 ghost use Rattle.std.specs.Prelude.{refl};
-ghost use Rattle.npr_tunnel.specs.IpTunnel.{Meaning, meaning6_of, writing, attributes6, ip6_tunnel_text};
+ghost use Rattle.{npr_base.specs.Table.{family_of}, npr_tunnel.specs.IpTunnel.{meaning6_of, writing, attributes6, ip6_tunnel_text}};
 
 use crate::flags::{RouteIp6TunnelFlags, write_flags};
 use crate::ip_rows;
@@ -68,13 +68,7 @@ impl Nla for RouteIp6Tunnel {
 impl Attribute for RouteIp6Tunnel {
     type Context = ();
 
-    ghost Meaning = { Meaning };
-
-    ghost meaning = { meaning6_of };
-
-    ghost writing = { writing 16 };
-
-    ghost reading = { λ _. attributes6 };
+    ghost family = { family_of meaning6_of (λ _. attributes6) };
 
     ghost shape_is = { λ a. refl };
 

@@ -1,7 +1,7 @@
 //! The tunnel of MPLS: `MPLS_IPTUNNEL_*` of `linux/mpls_iptunnel.h`.
 
 ghost use Rattle.std.specs.Prelude.{refl};
-ghost use Rattle.npr_tunnel.specs.MplsTunnel.{Meaning, meaning_of, writing, attributes};
+ghost use Rattle.{npr_base.specs.Table.{family_of}, npr_tunnel.specs.MplsTunnel.{meaning_of, writing, attributes}};
 
 use npr_base::{
     Attribute, DecodeError, DefaultNla, EmitError, Looks, Nla, NlaBuffer, Place, put_read,
@@ -52,13 +52,7 @@ impl Nla for RouteMplsIpTunnel {
 impl Attribute for RouteMplsIpTunnel {
     type Context = ();
 
-    ghost Meaning = { Meaning };
-
-    ghost meaning = { meaning_of };
-
-    ghost writing = { writing };
-
-    ghost reading = { λ _. attributes };
+    ghost family = { family_of meaning_of (λ _. attributes) };
 
     ghost shape_is = { λ a. refl };
 

@@ -1,7 +1,7 @@
 //! Options of tunnels over IP: `LWTUNNEL_IP_OPTS_*` of `linux/lwtunnel.h`.
 
 ghost use Rattle.std.specs.Prelude.{refl};
-ghost use Rattle.npr_tunnel.specs.TunnelOptions.{Meaning, meaning_of, writing, attributes, tunnel_option_text};
+ghost use Rattle.{npr_base.specs.Table.{family_of}, npr_tunnel.specs.TunnelOptions.{meaning_of, writing, attributes, tunnel_option_text}};
 
 use crate::erspan::{RouteErspanOpt, write_erspan};
 use crate::geneve::{RouteGeneveOpt, check_options, clone_options, read_options, write_options};
@@ -59,13 +59,7 @@ impl Nla for RouteLwTunnelOpt {
 impl Attribute for RouteLwTunnelOpt {
     type Context = ();
 
-    ghost Meaning = { Meaning };
-
-    ghost meaning = { meaning_of };
-
-    ghost writing = { writing };
-
-    ghost reading = { λ _. attributes };
+    ghost family = { family_of meaning_of (λ _. attributes) };
 
     ghost shape_is = { λ a. refl };
 

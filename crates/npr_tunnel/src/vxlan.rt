@@ -1,7 +1,7 @@
 //! Options of VXLAN: `LWTUNNEL_IP_OPT_VXLAN_*` of `linux/lwtunnel.h`.
 
 ghost use Rattle.std.specs.Prelude.{refl};
-ghost use Rattle.npr_tunnel.specs.VxlanOptions.{Meaning, meaning_of, writing, attributes, vxlan_text};
+ghost use Rattle.{npr_base.specs.Table.{family_of}, npr_tunnel.specs.VxlanOptions.{meaning_of, writing, attributes, vxlan_text}};
 
 use npr_base::{Attribute, DecodeError, DefaultNla, EmitError, Looks, Nla, NlaBuffer, Place};
 use std::alloc::{AllocError, Global};
@@ -48,13 +48,7 @@ impl Nla for RouteVxlanOpt {
 impl Attribute for RouteVxlanOpt {
     type Context = ();
 
-    ghost Meaning = { Meaning };
-
-    ghost meaning = { meaning_of };
-
-    ghost writing = { writing };
-
-    ghost reading = { λ _. attributes };
+    ghost family = { family_of meaning_of (λ _. attributes) };
 
     ghost shape_is = { λ a. refl };
 

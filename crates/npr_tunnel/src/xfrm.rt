@@ -1,7 +1,7 @@
 //! The tunnel of an IPsec interface: `LWT_XFRM_*` of `linux/lwtunnel.h`.
 
 ghost use Rattle.std.specs.Prelude.{refl};
-ghost use Rattle.npr_tunnel.specs.XfrmTunnel.{Meaning, meaning_of, writing, attributes, xfrm_text};
+ghost use Rattle.{npr_base.specs.Table.{family_of}, npr_tunnel.specs.XfrmTunnel.{meaning_of, writing, attributes, xfrm_text}};
 
 use npr_base::{Attribute, DecodeError, DefaultNla, EmitError, Looks, Nla, NlaBuffer, Place};
 use std::alloc::{AllocError, Global};
@@ -55,13 +55,7 @@ impl Nla for RouteXfrmTunnel {
 impl Attribute for RouteXfrmTunnel {
     type Context = ();
 
-    ghost Meaning = { Meaning };
-
-    ghost meaning = { meaning_of };
-
-    ghost writing = { writing };
-
-    ghost reading = { λ _. attributes };
+    ghost family = { family_of meaning_of (λ _. attributes) };
 
     ghost shape_is = { λ a. refl };
 

@@ -2,9 +2,9 @@
 use Rattle.std.specs.Prelude.{ℕ, List}
 use Rattle.netlink_packet_route.specs.declared.framing.DecodeError.{DecodeError}
 use Rattle.netlink_packet_route.specs.declared.framing.Message.{Message as Stored}
-use Rattle.netlink_packet_route.specs.Messages.{Message, Body, view, body_of, IsMessage, MessageFault}
-use Rattle.template.specs.NeighbourHeader.{header}
-use Rattle.template.specs.Neighbours.{Meaning, meaning_of, writing, attributes}
+use Rattle.netlink_packet_route.specs.Messages.{Message, Grammar, grammar_by, view, IsMessage, MessageFault}
+use Rattle.template.specs.NeighbourHeader.{header, default_header}
+use Rattle.template.specs.Neighbours.{Meaning, family}
 use Rattle.template.specs.declared.neighbour.NeighbourAttribute.{NeighbourAttribute}
 use Rattle.template.specs.declared.neighbour_message.NeighbourHeader.{NeighbourHeader}
 
@@ -15,16 +15,17 @@ Neighbour = Message NeighbourHeader Meaning
 abbrev pub NeighbourMessage : Type 0
 NeighbourMessage = Stored NeighbourHeader NeighbourAttribute
 
-abbrev pub message_of : NeighbourMessage → Neighbour
-message_of m = view meaning_of m
+-- what it is made of
+abbrev pub grammar : Grammar NeighbourHeader NeighbourAttribute
+grammar = grammar_by family header default_header (λ h. tt)
 
-abbrev pub body : Body NeighbourHeader writing
-body = body_of attributes
+abbrev pub message_of : NeighbourMessage → Neighbour
+message_of m = view grammar m
 
 -- the bytes are the message
 abbrev pub IsNeighbourMessage : List ℕ → Neighbour → Type 0
-IsNeighbourMessage bytes m = IsMessage header body bytes m
+IsNeighbourMessage bytes m = IsMessage grammar bytes m
 
 -- the first fault of bytes that are none
 abbrev pub NeighbourFault : List ℕ → DecodeError → Type 0
-NeighbourFault bytes e = MessageFault header body bytes e
+NeighbourFault bytes e = MessageFault grammar bytes e

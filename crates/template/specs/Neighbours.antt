@@ -2,14 +2,13 @@
 use Rattle.std.specs.Prelude.{◌≡◌, ◌≢◌, ℕ, List, [], ◌∷◌, Option, Some, None}
 use Rattle.std.proofs.Common.{refl, arith, rules}
 use Rattle.netlink_packet_route.specs.Fields.{le_four, ◌then◌, structure}
-use Rattle.netlink_packet_route.specs.declared.framing.At.{At}
 use Rattle.netlink_packet_route.specs.declared.framing.AttrFamily.TheVariants.{Value}
 use Rattle.netlink_packet_route.specs.declared.net.IpAddr.{IpAddr}
 use Rattle.netlink_packet_route.specs.Framing.{Item}
 use Rattle.netlink_packet_route.specs.Layout.{Layout, le32}
 use Rattle.netlink_packet_route.specs.Codec.{exactly, leading, raw}
 use Rattle.netlink_packet_route.specs.IpCodec.{ip}
-use Rattle.netlink_packet_route.specs.Table.{Writing, Reading, Row, row, Held, held, held_other, held_value, IsAligned, IsPlaced, writing_by}
+use Rattle.netlink_packet_route.specs.Table.{Writing, Reading, Family, family_of, Row, row, Held, held, held_other, held_value, IsAligned, IsPlaced, writing_by}
 use Rattle.netlink_packet_route.specs.TableLaws.{table_family, table_of}
 use Rattle.netlink_packet_route.specs.Found.{IsFirst}
 use Rattle.template.specs.declared.neighbour.NeighbourCacheInfo.{NeighbourCacheInfo}
@@ -39,16 +38,13 @@ meaning_of (Probes n) = probes n
 meaning_of (Other d) = other d
 
 -- a place that a refusal names: no family of the library
-abbrev pub at : ℕ → At
-at number = record { family = Value; kind = number }
-
 -- the table
 abbrev pub rows : List (Row Meaning)
 rows =
-    row (at 1) ip destination
-    ∷ row (at 2) raw link_layer
-    ∷ row (at 3) (leading cache_info) remembered
-    ∷ row (at 4) (exactly le32) probes
+    row Value 1 ip destination
+    ∷ row Value 2 raw link_layer
+    ∷ row Value 3 (leading cache_info) remembered
+    ∷ row Value 4 (exactly le32) probes
     ∷ []
 
 -- where each meaning stands in it
@@ -74,6 +70,9 @@ writing = writing_by held_of
 -- the family
 abbrev pub attributes : Reading writing
 attributes = table_family (table_of rows other held_of aligned (λ x. refl) (λ x is. is) placed)
+
+abbrev pub family : Family NeighbourAttribute (Unit {0})
+family = family_of meaning_of (λ c. attributes)
 
 -- the address of a destination
 abbrev pub destination_in : Meaning → Option IpAddr

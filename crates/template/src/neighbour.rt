@@ -2,7 +2,7 @@
 
 ghost use Rattle.std.specs.Prelude.{◌≡◌, IfOk, IfErr, refl};
 ghost use Rattle.{
-  template.specs.Neighbours.{Meaning, meaning_of, writing, attributes, cache_info},
+  template.specs.Neighbours.{meaning_of, writing, family, cache_info},
   netlink_packet_route.specs.{Codec.{leading}, Refusal.{no_place}},
 };
 
@@ -109,13 +109,7 @@ impl Nla for NeighbourAttribute {
 impl Attribute for NeighbourAttribute {
     type Context = ();
 
-    ghost Meaning = { Meaning };
-
-    ghost meaning = { meaning_of };
-
-    ghost writing = { writing };
-
-    ghost reading = { λ _. attributes };
+    ghost family = { family };
 
     ghost shape_is = { λ a. refl };
 

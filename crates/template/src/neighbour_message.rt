@@ -4,16 +4,16 @@ ghost use Rattle.std.{specs.{Prelude.{◌≡◌, ◌≢◌, ℕ, List, Option, N
 ghost use Rattle.{
   template.specs.{
     NeighbourHeader.{header, default_header},
-    NeighbourMessage.{NeighbourMessage, IsNeighbourMessage, NeighbourFault, message_of, body},
-    Neighbours.{Meaning, meaning_of, writing, destination_in, link_layer_in, IsAddressOf},
+    NeighbourMessage.{NeighbourMessage, IsNeighbourMessage, NeighbourFault, message_of, grammar},
+    Neighbours.{meaning_of, family, destination_in, link_layer_in, IsAddressOf},
   },
-  netlink_packet_route.specs.{Found.{IsFirst}, declared.framing.DecodeError.TheVariants.{OutOfMemory}},
+  netlink_packet_route.specs.{Found.{IsFirst}, Messages.{governs_by, none_searched}, MessageLaws.{of_family, under_by}, declared.framing.DecodeError.TheVariants.{OutOfMemory}},
 };
 
 use crate::neighbour::NeighbourAttribute;
 use netlink_packet_route::family::write_array;
 use netlink_packet_route::framing::{
-    DecodeError, EmitError, Emitable, Header, Looks, Message, Parseable, fill_list,
+    DecodeError, EmitError, Emitable, Header, Looks, Message, Parseable,
 };
 use netlink_packet_route::net::IpAddr;
 use netlink_packet_route::route::RouteType;
@@ -62,29 +62,17 @@ pub type NeighbourMessage = Message<NeighbourHeader, NeighbourAttribute>;
 impl Header for NeighbourHeader {
     type Attribute = NeighbourAttribute;
 
-    ghost Meaning = { Meaning };
+    ghost grammar = { grammar };
 
-    ghost meaning = { meaning_of };
+    ghost governs = { governs_by (λ h. tt) };
 
-    ghost writing = { writing };
-
-    ghost layout = { header };
-
-    ghost body = { body };
-
-    ghost standard = { default_header };
+    ghost searches = { λ h bytes context. none_searched };
 
     ghost by_layout = { λ h. (refl, refl, refl, Prim.search rules) };
 
-    ghost by_family = { λ xs. (refl, refl) };
+    ghost by_family = { of_family family header default_header grammar.body };
 
-    ghost meanings_are = { λ xs ys e. e };
-
-    ghost governs = { λ h bytes context. Unit {0} };
-
-    ghost reads_under = { λ h bytes context xs governs reads. reads };
-
-    ghost faulty_under = { λ h bytes context e governs wrong. wrong };
+    ghost under = { under_by family header default_header (λ h. tt) };
 
     fn size() -> usize {
         12
@@ -101,17 +89,7 @@ impl Header for NeighbourHeader {
         }
     }
 
-    fn context(&self, _bytes: &[u8]) {}
-
-    fn read_list(
-        &self,
-        list: &mut Vec<NeighbourAttribute>,
-        alloc: Global,
-        bytes: &[u8],
-        looks: &mut Looks,
-    ) -> Result<(), DecodeError> {
-        fill_list(list, alloc, (), bytes, looks)
-    }
+    fn context(&self, _bytes: &[u8], _looks: &mut Looks) {}
 }
 
 /// The link-layer address of the neighbour with this destination, if the neighbour message that the

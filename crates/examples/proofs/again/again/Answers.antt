@@ -5,4 +5,4 @@ use Rattle.netlink_packet_route.specs.Messages.{view}
 use Rattle.examples.proofs.again.again.Goals as goal
 
 pub returns-in_err-to_vec-clause-unfit : goal.returns-in_err-to_vec-clause-unfit
-returns-in_err-to_vec-clause-unfit g c = λ e is. (view g.H.Header.meaning c.in_ok-message.message, c.in_ok-message.ensures.ok, grind (arith, common_steps))
+returns-in_err-to_vec-clause-unfit g c = λ e is. (view g.H.Header.grammar c.in_ok-message.message, c.in_ok-message.ensures.ok, grind (arith, common_steps))

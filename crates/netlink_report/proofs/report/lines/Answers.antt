@@ -6,7 +6,7 @@ use Rattle.netlink_report.proofs.report.lines.Goals as goal
 
 pub loop-attribute-preserved : goal.loop-attribute-preserved
 loop-attribute-preserved g c =
-    let family = g.A.Attribute in
+    let family = g.A.Attribute.family in
     let x = c.attribute-item.result in
     let i = c.loop-attribute.attribute-index in
     let all = c.args.attributes.now in

@@ -7,8 +7,8 @@ use Rattle.netlink_report.proofs.running.answer_by.Goals as goal
 
 pub written-requires : goal.written-requires
 written-requires g c = λ fits.
-    let message = view g.H.Header.meaning c.in_ok-message.message in
-    rw c.as_slice-attributes.ensures.value ((g.met.H.Header.by_family c.in_ok-message.message.attributes.items).1 ∙ attributes_fit g.H.Header.layout g.H.Header.body message fits)
+    let message = view g.H.Header.grammar c.in_ok-message.message in
+    rw c.as_slice-attributes.ensures.value (g.met.H.Header.by_family.unfit c.in_ok-message.message.attributes.items ∙ attributes_fit g.H.Header.grammar message fits)
 
 pub returns-clause-ok : goal.returns-clause-ok
 returns-clause-ok g c =
@@ -17,7 +17,7 @@ returns-clause-ok g c =
     c.written.ensures.ok
 
 pub returns-clause-unfit : goal.returns-clause-unfit
-returns-clause-unfit g c = λ e is. (view g.H.Header.meaning c.in_ok-message.message, c.in_ok-message.ensures.ok, c.written.ensures.unfit e is)
+returns-clause-unfit g c = λ e is. (view g.H.Header.grammar c.in_ok-message.message, c.in_ok-message.ensures.ok, c.written.ensures.unfit e is)
 
 pub returns-clause-memory : goal.returns-clause-memory
-returns-clause-memory g c = λ failed. omega (arith, has_header g.H.Header.layout g.H.Header.body c.args.bytes.now _ c.in_ok-message.ensures.ok)
+returns-clause-memory g c = λ failed. omega (arith, has_header g.H.Header.grammar c.args.bytes.now _ c.in_ok-message.ensures.ok)

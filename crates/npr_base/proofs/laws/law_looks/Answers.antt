@@ -2,7 +2,7 @@ use Rattle.npr_base.proofs.Messages.{message-looks-one, message-looks-add}
 use Rattle.npr_base.proofs.laws.law_looks.Goals as goal
 
 pub returns-clause-one : goal.returns-clause-one
-returns-clause-one g c = message-looks-one g.H.Header.layout g.H.Header.body
+returns-clause-one g c = message-looks-one g.H.Header.grammar
 
 pub returns-clause-number : goal.returns-clause-number
-returns-clause-number g c = message-looks-add g.H.Header.layout g.H.Header.body
+returns-clause-number g c = message-looks-add g.H.Header.grammar

@@ -13,12 +13,12 @@ use Rattle.npr_base.proofs.list.fill_list.Goals as goal
 pub returns-in_err-read_onto-clause-memory : goal.returns-in_err-read_onto-clause-memory
 returns-in_err-read_onto-clause-memory g c = λ h.
     let f : Front c.loop-next.walk c.in_ok-item.item c.next_counted.new.self = rw c.in_ok-item.was at c.in-Some.ensures.step in
-    begins_so (g.A.Attribute.reading c.args.context).Reads c.args.bytes.now (map g.A.Attribute.meaning c.loop-next.found.items) c.loop-next.walk c.in_ok-item.item c.next_counted.new.self c.loop-next.invariant.read f
+    begins_so (g.A.Attribute.family.reading c.args.context).Reads c.args.bytes.now (map g.A.Attribute.family.meaning c.loop-next.found.items) c.loop-next.walk c.in_ok-item.item c.next_counted.new.self c.loop-next.invariant.read f
 
 pub returns-in_err-make_room-clause-memory : goal.returns-in_err-make_room-clause-memory
 returns-in_err-make_room-clause-memory g c = λ h.
     let f : Front c.loop-next.walk c.in_ok-item.item c.next_counted.new.self = rw c.in_ok-item.was at c.in-Some.ensures.step in
-    begins_so (g.A.Attribute.reading c.args.context).Reads c.args.bytes.now (map g.A.Attribute.meaning c.loop-next.found.items) c.loop-next.walk c.in_ok-item.item c.next_counted.new.self c.loop-next.invariant.read f
+    begins_so (g.A.Attribute.family.reading c.args.context).Reads c.args.bytes.now (map g.A.Attribute.family.meaning c.loop-next.found.items) c.loop-next.walk c.in_ok-item.item c.next_counted.new.self c.loop-next.invariant.read f
 
 -- ---- the looks
 
@@ -35,7 +35,7 @@ returns-in_err-item-clause-exact g c = λ answered.
 pub returns-in_err-read_onto-clause-exact : goal.returns-in_err-read_onto-clause-exact
 returns-in_err-read_onto-clause-exact g c =
     let p = err_from_is_err_and c.from_residual-in_err-read_onto.result c.from_residual-in_err-read_onto.ensures.1 in
-    let family = g.A.Attribute.reading c.args.context in
+    let family = g.A.Attribute.family.reading c.args.context in
     let item = c.in_ok-item.item in
     let after = c.read_onto.new.looks in
     let f : Front c.loop-next.walk item c.next_counted.new.self = rw c.in_ok-item.was at c.in-Some.ensures.step in
@@ -48,7 +48,7 @@ returns-in_err-read_onto-clause-exact g c =
 
 pub returns-clause-walked : goal.returns-clause-walked
 returns-clause-walked g c =
-    let family = g.A.Attribute in
+    let family = g.A.Attribute.family in
     let past = c.loop-next.invariant in
     let done = map family.meaning c.loop-next.found.items in
     let w = Walked-so (family.reading c.args.context).Reads c.args.bytes.now done c.loop-next.walk c.args.looks.now c.loop-next.looks (list_members family.writing.members done) past.read past.looks in
@@ -56,7 +56,7 @@ returns-clause-walked g c =
 
 pub returns-in_err-item-clause-walked : goal.returns-in_err-item-clause-walked
 returns-in_err-item-clause-walked g c =
-    let family = g.A.Attribute in
+    let family = g.A.Attribute.family in
     let past = c.loop-next.invariant in
     let done = map family.meaning c.loop-next.found.items in
     let look : c.next_counted.new.looks ≡ miss c.loop-next.looks = rw c.in_err-item.was at c.in-Some.ensures.counted in
@@ -65,7 +65,7 @@ returns-in_err-item-clause-walked g c =
 
 pub returns-in_err-make_room-clause-walked : goal.returns-in_err-make_room-clause-walked
 returns-in_err-make_room-clause-walked g c =
-    let family = g.A.Attribute in
+    let family = g.A.Attribute.family in
     let past = c.loop-next.invariant in
     let item = c.in_ok-item.item in
     let rest = c.next_counted.new.self in
@@ -78,7 +78,7 @@ returns-in_err-make_room-clause-walked g c =
 
 pub returns-in_err-read_onto-clause-walked : goal.returns-in_err-read_onto-clause-walked
 returns-in_err-read_onto-clause-walked g c =
-    let family = g.A.Attribute in
+    let family = g.A.Attribute.family in
     let past = c.loop-next.invariant in
     let item = c.in_ok-item.item in
     let rest = c.next_counted.new.self in
@@ -92,7 +92,7 @@ returns-in_err-read_onto-clause-walked g c =
 
 pub loop-next-preserved : goal.loop-next-preserved
 loop-next-preserved g c =
-    let family = g.A.Attribute in
+    let family = g.A.Attribute.family in
     let (a, pushed, read, counted) = c.in_ok-read_onto.ensures.ok in
     let item = c.in_ok-item.item in
     let past = c.loop-next.invariant in

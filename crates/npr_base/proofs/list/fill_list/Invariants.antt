@@ -7,11 +7,11 @@ use Rattle.npr_base.proofs.list.fill_list.Given as goal
 
 abbrev pub invariant-loop-next : goal.invariant-loop-next
 invariant-loop-next g l = record {
-  read : ReadsTo (g.A.Attribute.reading l.context).Reads l.bytes (map g.A.Attribute.meaning l.found.items) l.walk;
-  exact : (end : Counts) → ListLooks (g.A.Attribute.reading l.context).Reads (g.A.Attribute.reading l.context).Faulty (g.A.Attribute.reading l.context).looks.Takes l.walk l.looks end
-      → ListLooks (g.A.Attribute.reading l.context).Reads (g.A.Attribute.reading l.context).Faulty (g.A.Attribute.reading l.context).looks.Takes l.bytes l.fn.looks end;
+  read : ReadsTo (g.A.Attribute.family.reading l.context).Reads l.bytes (map g.A.Attribute.family.meaning l.found.items) l.walk;
+  exact : (end : Counts) → ListLooks (g.A.Attribute.family.reading l.context).Reads (g.A.Attribute.family.reading l.context).Faulty (g.A.Attribute.family.reading l.context).looks.Takes l.walk l.looks end
+      → ListLooks (g.A.Attribute.family.reading l.context).Reads (g.A.Attribute.family.reading l.context).Faulty (g.A.Attribute.family.reading l.context).looks.Takes l.bytes l.fn.looks end;
   left : length l.walk ≤ length l.bytes;
-  looks : SoFar l.fn.looks l.looks (length l.bytes - length l.walk) (length (map g.A.Attribute.meaning l.found.items)) (list_members g.A.Attribute.writing.members (map g.A.Attribute.meaning l.found.items));
+  looks : SoFar l.fn.looks l.looks (length l.bytes - length l.walk) (length (map g.A.Attribute.family.meaning l.found.items)) (list_members g.A.Attribute.family.writing.members (map g.A.Attribute.family.meaning l.found.items));
 }
 
 abbrev pub decreases-loop-next : goal.decreases-loop-next

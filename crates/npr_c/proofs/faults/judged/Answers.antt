@@ -14,6 +14,6 @@ returns-in-Err-clause-fault g c =
 pub returns-in-Err-clause-place : goal.returns-in-Err-clause-place
 returns-in-Err-clause-place g c =
     let place = c.in-Err.place in
-    let stands = StandsAt g.H.Header.layout g.H.Placed.stops in
-    placed g.H.Header.layout.size stands c.args.bytes.now c.standing.result c.of.result place.refusal place.offset c.of.ensures c.standing.ensures
+    let stands = StandsAt g.H.Header.grammar.layout g.H.Header.governs g.H.Attribute.Attribute.family in
+    placed g.H.Header.grammar.layout.size stands c.args.bytes.now c.standing.result c.of.result place.refusal place.offset c.of.ensures c.standing.ensures
     (λ refused. (c.in-Err.ensures.memory refused).0) c.in-Err.ensures.place

@@ -6,7 +6,7 @@ use Rattle.npr_c.proofs.placing.read_each.Given as goal
 abbrev pub invariant-attributes : goal.invariant-attributes
 invariant-attributes g l = record {
   steps : (xs : List g.row.H-Attribute.Denot)
-      × AttributeSteps g.H.Attribute.Attribute.meaning (g.H.Attribute.Attribute.reading l.fn.attributes.context) l.fn.attributes.walk xs l.attributes.walk;
+      × AttributeSteps g.H.Attribute.Attribute.family.meaning (g.H.Attribute.Attribute.family.reading l.fn.attributes.context) l.fn.attributes.walk xs l.attributes.walk;
   context : l.attributes.context ≡ l.fn.attributes.context;
   left : length l.attributes.walk ≤ length l.fn.attributes.walk;
 }

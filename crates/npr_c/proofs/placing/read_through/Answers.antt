@@ -4,6 +4,7 @@ use Rattle.netlink_packet_route.specs.declared.framing.DecodeError.{DecodeError}
 use Rattle.netlink_packet_route.specs.declared.framing.DecodeError.TheVariants.{OutOfMemory}
 use Rattle.npr_base.specs.Message.{MessageFault}
 use Rattle.netlink_packet_route.specs.AttributesLaws.{steps-read}
+use Rattle.npr_c.specs.Stops.{StopsBefore}
 use Rattle.npr_c.proofs.Stopping.{stands_there}
 use Rattle.npr_c.proofs.placing.read_through.Goals as goal
 
@@ -14,7 +15,7 @@ returns-in-Err-clause-refused g c = λ other. inl c.in-Err.ensures.short
 pub returns-in-Ok-read_each-clause-ok : goal.returns-in-Ok-read_each-clause-ok
 returns-in-Ok-read_each-clause-ok g c =
     let (xs, steps) = c.in-Ok-read_each.ensures.ok in
-    (record { header = c.in-Ok.attributes.header; attributes = map g.H.Header.meaning xs }, c.in-Ok.ensures.all xs steps)
+    (record { header = c.in-Ok.attributes.header; attributes = map g.H.Header.grammar.meaning xs }, c.in-Ok.ensures.all xs steps)
 
 pub returns-in-Err-read_each-clause-refused : goal.returns-in-Err-read_each-clause-refused
 returns-in-Err-read_each-clause-refused g c = λ other.
@@ -22,7 +23,7 @@ returns-in-Err-read_each-clause-refused g c = λ other.
     let mine = subst (λ (d : DecodeError). d ≢ OutOfMemory) same other in
     let (xs, rest, steps, step, left) = c.in-Err-read_each.ensures.stopped in
     let fault = c.in-Ok.ensures.fault xs rest [] c.in-Err-read_each.stop.refusal steps step mine in
-    subst (λ (d : DecodeError). MessageFault g.H.Header.layout g.H.Header.body c.args.bytes.now d) (sym same) fault
+    subst (λ (d : DecodeError). MessageFault g.H.Header.grammar c.args.bytes.now d) (sym same) fault
 
 pub returns-in-Err-read_each-clause-place : goal.returns-in-Err-read_each-clause-place
 returns-in-Err-read_each-clause-place g c = λ other.
@@ -33,12 +34,12 @@ returns-in-Err-read_each-clause-place g c = λ other.
     let mine : e ≢ OutOfMemory = subst (λ (d : DecodeError). d ≢ OutOfMemory) same other in
     let (head, walk, governs) = c.in-Ok.ensures.begins in
     let (xs, rest, steps, step, left) = c.in-Err-read_each.ensures.stopped in
-    let passed = steps-read A.meaning (A.reading s.context) xs s.walk rest steps in
-    let there = g.met.H.Placed.stops_under s.header s.walk s.context rest e governs (map A.meaning xs, passed, step.0 mine) in
-    let stops = subst (λ (b : List ℕ). g.H.Placed.stops s.header b rest e) walk there in
+    let passed = steps-read A.family.meaning (A.family.reading s.context) xs s.walk rest steps in
+    let behind : List ℕ → Type 0 = λ (b : List ℕ). g.H.Header.governs s.header b s.context × StopsBefore (A.family.reading s.context).Reads (A.family.reading s.context).Faulty b rest e in
+    let there = subst behind walk (governs, (map A.family.meaning xs, passed, step.0 mine)) in
     let place = c.among.ensures.place mine ∙ ap (λ n. c.among.result.offset + n) left in
-    inr (stands_there g.H.Header.layout g.H.Placed.stops c.args.bytes.now rest s.header c.among.result.offset c.among.result.refusal e
-    head.0 head.1 stops place same)
+    inr (stands_there g.H.Header.grammar.layout g.H.Header.governs A.family c.args.bytes.now rest s.header s.context c.among.result.offset c.among.result.refusal e
+    head.0 head.1 there.0 there.1 place same)
 
 pub returns-in-Err-read_each-clause-memory : goal.returns-in-Err-read_each-clause-memory
 returns-in-Err-read_each-clause-memory g c = λ refused.

@@ -2,8 +2,7 @@ use Rattle.std.proofs.Common.{◌≡◌, refl}
 use Rattle.npr_base.specs.declared.address_family.AddressFamily.{AddressFamily}
 use Rattle.npr_base.proofs.LookBounds.{Saw, none-bounded, none-saw, family-bounded, list-saw, message-bounded, message-saw}
 use Rattle.npr_neighbour.specs.Attribute.{Meaning, other, attributes, writing}
-use Rattle.npr_neighbour.specs.Header.{header}
-use Rattle.npr_neighbour.specs.Message.{body}
+use Rattle.npr_neighbour.specs.Message.{grammar}
 use Rattle.npr_neighbour.proofs.laws.law_looks.Goals as goal
 
 no_members : (m : Meaning) → writing.members m ≡ 0
@@ -14,7 +13,7 @@ saw : (family : AddressFamily) → Saw (attributes family)
 saw family x m old new r t = none-saw (writing.members m) old new (no_members m) t
 
 pub returns-clause-bounded : goal.returns-clause-bounded
-returns-clause-bounded c = message-bounded header body (λ h bytes old new t. family-bounded (attributes h.family) none-bounded (saw h.family) bytes old new t)
+returns-clause-bounded c = message-bounded grammar (λ h bytes old new t. family-bounded (attributes h.family) none-bounded (saw h.family) bytes old new t)
 
 pub returns-clause-counted : goal.returns-clause-counted
-returns-clause-counted c = message-saw header body (λ h bytes xs old new r t. list-saw (attributes h.family) none-bounded (saw h.family) bytes xs old new r t)
+returns-clause-counted c = message-saw grammar (λ h bytes xs old new r t. list-saw (attributes h.family) none-bounded (saw h.family) bytes xs old new r t)

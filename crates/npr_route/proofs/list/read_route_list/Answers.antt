@@ -1,13 +1,32 @@
-use Rattle.std.proofs.lemmas.Result.{err_from_is_err_and}
+use Rattle.std.proofs.Common.{map}
+use Rattle.std.proofs.lemmas.Result.{IfErr-weaker}
+use Rattle.npr_base.proofs.LookBounds.{searched-read, searched-saw_ok}
+use Rattle.npr_base.specs.Family.{list_members}
+use Rattle.npr_tunnel.specs.declared.encap_type.RouteLwEnCapType.TheVariants.{None as NoEncapsulation}
+use Rattle.npr_route.specs.AttributeView.{meaning_of}
+use Rattle.npr_route.specs.AttributeLaws.{attributes, writing}
 use Rattle.npr_route.specs.RouteListLaws.{route-list-sound}
+use Rattle.npr_route.specs.SearchLaws.{searched}
 use Rattle.npr_route.proofs.list.read_route_list.Goals as goal
 
-pub returns-in_err-fill_route_list-clause-none : goal.returns-in_err-fill_route_list-clause-none
-returns-in_err-fill_route_list-clause-none c =
-    let p = err_from_is_err_and c.from_residual.result c.from_residual.ensures.1 in
-    rw (p.1, p.2) (λ other xs is. route-list-sound c.args.under c.args.bytes.now xs c.in_err-fill_route_list.field-0.0 is (c.in_err-fill_route_list.ensures.refused other))
+pub returns-clause-none : goal.returns-clause-none
+returns-clause-none c =
+    IfErr-weaker c.parse_list.result _ _
+    (λ e refused other xs is. route-list-sound c.args.under c.args.bytes.now xs e is (c.governing_type-kind.result, c.governing_type-kind.ensures.governs, refused other))
+    c.parse_list.ensures.refused
 
-pub returns-in_err-fill_route_list-clause-exact : goal.returns-in_err-fill_route_list-clause-exact
-returns-in_err-fill_route_list-clause-exact c =
-    let p = err_from_is_err_and c.from_residual.result c.from_residual.ensures.1 in
-    rw (p.1, p.2) (λ other. c.in_err-fill_route_list.ensures.exact other)
+pub returns-clause-bounded : goal.returns-clause-bounded
+returns-clause-bounded c =
+    let looks = c.governing_type-kind.new.looks in
+    let s = searched NoEncapsulation c.args.bytes.now c.governing_type-kind.result c.args.looks.now looks c.governing_type-kind.ensures.looks in
+    searched-read c.args.bytes.now c.args.looks.now looks c.parse_list.new.looks s c.parse_list.ensures.walked
+
+pub returns-clause-counted : goal.returns-clause-counted
+returns-clause-counted c =
+    let looks = c.governing_type-kind.new.looks in
+    let s = searched NoEncapsulation c.args.bytes.now c.governing_type-kind.result c.args.looks.now looks c.governing_type-kind.ensures.looks in
+    searched-saw_ok (λ v. map meaning_of v.items) (list_members writing.members) (attributes (c.args.under.0, c.args.under.1, c.governing_type-kind.result)).Reads c.args.bytes.now
+    c.args.looks.now looks c.parse_list.new.looks s c.parse_list.result c.parse_list.ensures.ok c.parse_list.ensures.counted
+
+pub returns-clause-exact : goal.returns-clause-exact
+returns-clause-exact c = λ answered. (c.governing_type-kind.result, c.governing_type-kind.new.looks, c.governing_type-kind.ensures.looks, c.parse_list.ensures.exact answered)

@@ -11,18 +11,18 @@ returns-clause-all g c = λ xs steps.
     let A = g.H.Attribute.Attribute in
     let h = c.in_ok-header.header in
     let head = c.in_ok-header.ensures.ok in
-    let behind = rw c.new.ensures at (steps-read A.meaning (A.reading c.context.result) xs c.new.result [] steps) in
-    let list = rw (take_rest, c.size.ensures) at (g.met.H.Header.reads_under h _ c.context.result xs c.context.ensures behind) in
-    message_read g.H.Header.layout g.H.Header.body c.args.bytes.now (record { header = h; attributes = map g.H.Header.meaning xs }) head.0 head.1 list
+    let behind = rw c.new-2.ensures at (steps-read A.family.meaning (A.family.reading c.context.result) xs c.new-2.result [] steps) in
+    let list = rw (take_rest, c.size.ensures) at ((g.met.H.Header.under h _ c.context.result c.context.ensures.governs).reads xs behind) in
+    message_read g.H.Header.grammar c.args.bytes.now (record { header = h; attributes = map g.H.Header.grammar.meaning xs }) head.0 head.1 list
 
 pub returns-clause-fault : goal.returns-clause-fault
 returns-clause-fault g c = λ xs rest left e steps step other.
     let A = g.H.Attribute.Attribute in
     let h = c.in_ok-header.header in
     let head = c.in_ok-header.ensures.ok in
-    let passed = rw c.new.ensures at (steps-read A.meaning (A.reading c.context.result) xs c.new.result rest steps) in
-    let bad = rw (take_rest, c.size.ensures) at (g.met.H.Header.faulty_under h _ c.context.result e c.context.ensures (map A.meaning xs, rest, passed, step.0 other)) in
-    fault_after g.H.Header.layout g.H.Header.body c.args.bytes.now h e head.0 head.1 bad
+    let passed = rw c.new-2.ensures at (steps-read A.family.meaning (A.family.reading c.context.result) xs c.new-2.result rest steps) in
+    let bad = rw (take_rest, c.size.ensures) at ((g.met.H.Header.under h _ c.context.result c.context.ensures.governs).faulty e (map A.family.meaning xs, rest, passed, step.0 other)) in
+    fault_after g.H.Header.grammar c.args.bytes.now h e head.0 head.1 bad
 
 pub returns-in_err-header-clause-refused : goal.returns-in_err-header-clause-refused
 unfolding MessageFault

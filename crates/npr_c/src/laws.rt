@@ -1,0 +1,21 @@
+//! What faults tell, over their definitions alone. Each function does nothing, and its contract is
+//! the law.
+
+ghost use Rattle.std.specs.Prelude.{◌≡◌, ℕ, List};
+ghost use Rattle.{
+  netlink_packet_route.specs.declared.framing.DecodeError.{DecodeError},
+  npr_c.specs.{Faults.{told}, Stops.{AddressStandsAt, NeighbourStandsAt, RouteStandsAt, RuleStandsAt}},
+};
+
+/// The first fault of a message stands at one place.
+pub fn law_places()
+    ensures address { (bytes : List ℕ) (j k : ℕ) (d e : DecodeError) → AddressStandsAt bytes j d → AddressStandsAt bytes k e → j ≡ k }
+    ensures route { (bytes : List ℕ) (j k : ℕ) (d e : DecodeError) → RouteStandsAt bytes j d → RouteStandsAt bytes k e → j ≡ k }
+    ensures rule { (bytes : List ℕ) (j k : ℕ) (d e : DecodeError) → RuleStandsAt bytes j d → RuleStandsAt bytes k e → j ≡ k }
+    ensures neighbour { (bytes : List ℕ) (j k : ℕ) (d e : DecodeError) → NeighbourStandsAt bytes j d → NeighbourStandsAt bytes k e → j ≡ k }
+{}
+
+/// Two refusals that are told alike are one.
+pub fn law_told()
+    ensures { (d e : DecodeError) (j k : ℕ) → told d j ≡ told e k → d ≡ e }
+{}

@@ -1,0 +1,37 @@
+-- A route message is read under the type that its list is searched for.
+use Rattle.std.proofs.Common.{◌≡◌, ℕ, List, sym, ap, subst, ◌∙◌}
+use Rattle.npr_base.specs.Counts.{Counts}
+use Rattle.npr_base.specs.Message.{IsUnder}
+use Rattle.npr_tunnel.specs.declared.encap_type.RouteLwEnCapType.{RouteLwEnCapType}
+use Rattle.npr_tunnel.specs.declared.encap_type.RouteLwEnCapType.TheVariants.{None as NoEncapsulation}
+use Rattle.npr_route.specs.FlatAttribute.{Context}
+use Rattle.npr_route.specs.AttributeView.{family}
+use Rattle.npr_route.specs.Governing.{Governs, Searches}
+use Rattle.npr_route.specs.GoverningLaws.{governs-one}
+use Rattle.npr_route.specs.Message.{grammar}
+use Rattle.npr_route.specs.SearchLaws.{searched}
+use Rattle.npr_route.specs.declared.header.RouteHeader.{RouteHeader}
+
+-- the context of a list: what the header says, and the type that governs
+abbrev pub IsContext : RouteHeader → List ℕ → Context → Type 0
+IsContext h bytes context = (type : RouteLwEnCapType) × Governs NoEncapsulation bytes type × (context ≡ (h.address_family, h.kind, type))
+
+abbrev pub SearchesIt : RouteHeader → List ℕ → Context → Counts → Counts → Type 0
+SearchesIt h bytes context = Searches NoEncapsulation bytes context.2
+
+under_type : (h : RouteHeader) (bytes : List ℕ) (type : RouteLwEnCapType) → Governs NoEncapsulation bytes type
+    → IsUnder grammar family h bytes (h.address_family, h.kind, type) (IsContext h bytes) (Searches NoEncapsulation bytes type)
+under_type h bytes type governs = record {
+  alone =
+      λ d (other, told, is).
+      is ∙ ap (λ (t : RouteLwEnCapType). (h.address_family, h.kind, t)) (governs-one NoEncapsulation bytes other type told governs);
+  reads = λ xs reads. (type, governs, reads);
+  faulty = λ e wrong. (type, governs, wrong);
+  searched = searched NoEncapsulation bytes type;
+  looks = λ old mid new searches takes. (type, mid, searches, takes);
+}
+
+pub under_context : (h : RouteHeader) (bytes : List ℕ) (context : Context) → IsContext h bytes context
+    → IsUnder grammar family h bytes context (IsContext h bytes) (SearchesIt h bytes context)
+under_context h bytes context (type, governs, is) =
+    subst (λ (c : Context). IsUnder grammar family h bytes c (IsContext h bytes) (SearchesIt h bytes c)) (sym is) (under_type h bytes type governs)
