@@ -1,7 +1,7 @@
 -- The laws of messages.
-use Rattle.std.proofs.Common.{◌≡◌, ℕ, ◌+◌, ◌%◌, ◌<◌, ◌^◌, List, [], ◌++◌, length, None, replicate, refl, sym, ap, subst, ◌∙◌, arith, append_assoc, length-append}
+use Rattle.std.proofs.Common.{◌≡◌, ℕ, ◌+◌, ◌%◌, ◌<◌, ◌^◌, List, [], ◌++◌, length, None, replicate, refl, sym, subst, ◌∙◌, arith, append_assoc, length-append}
 use Rattle.std.proofs.lemmas.List.{append-nil, length-replicate}
-use Rattle.npr_base.specs.Framing.{IsBytes, pad}
+use Rattle.npr_base.specs.Framing.{pad}
 use Rattle.npr_base.specs.FitLaws.{none_both}
 use Rattle.npr_base.specs.declared.refusal.DecodeError.{DecodeError}
 use Rattle.netlink_packet_core.specs.Header.{header}
@@ -9,9 +9,8 @@ use Rattle.netlink_packet_core.specs.Envelope.{Envelope, EnvelopeFront}
 use Rattle.netlink_packet_core.specs.Protocol.{Protocol}
 use Rattle.netlink_packet_core.specs.Payload.{payload_type, payload_bytes, payload_misfit}
 use Rattle.netlink_packet_core.specs.Message.{Meant, IsNetlinkMessage, NetlinkFault, IsCoherentMessage, finalized, final_header, envelope_of, netlink_misfit, message_bytes, oversized}
-use Rattle.netlink_packet_core.specs.declared.header.NetlinkHeader.{NetlinkHeader}
 use Rattle.netlink_packet_core.proofs.FrontLaws.{Front-same}
-use Rattle.netlink_packet_core.proofs.Payloads.{Payload-one, Payload-sound, Payload-known, Payload-back}
+use Rattle.netlink_packet_core.proofs.Payloads.{Payload-one, Payload-sound, Payload-back}
 
 -- what a length that fits is
 pub oversized-fits : (n : ℕ) → oversized n ≡ None → 16 + n < 2 ^ 32
@@ -26,15 +25,6 @@ module _ {M : Type 0} (P : Protocol M) where
 
   pub Message-sound : (x : Envelope) (m : Meant M) (e : DecodeError) → IsNetlinkMessage P x m → NetlinkFault P x e → ⊥
   Message-sound x m e p bad = Payload-sound P x.header.message_type x.payload m.payload e p.1 bad
-
-  pub Message-known : (x : Envelope) (m : Meant M) → header.Holds x.header → x.header.message_type < 2 ^ 16 → IsBytes x.payload → IsNetlinkMessage P x m → IsCoherentMessage P m
-  Message-known x m holds small is p =
-      let k = Payload-known P x.header.message_type x.payload m.payload small is p.1 in
-      record {
-        header = subst header.Holds (sym p.0) holds;
-        kind = ap (λ (h : NetlinkHeader). h.message_type) p.0 ∙ sym k.1;
-        payload = k.0;
-      }
 
   pub Message-back : (m : Meant M) → IsCoherentMessage P m → netlink_misfit P m ≡ None → IsNetlinkMessage P (envelope_of P m) (finalized P m)
   Message-back m c fits =

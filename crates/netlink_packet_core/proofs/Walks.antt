@@ -18,9 +18,6 @@ no_step_past_the_end old (Err g) new e (left, _, _, _) = absurd (omega (arith, a
 told : (n : ℕ) (w : Place) (e : EnvelopeError) → At n w → EnvelopeFault w.offset w.bytes e → EnvelopeFault (n - length w.bytes) w.bytes e
 told n w e at bad = let o : w.offset ≡ n - length w.bytes = omega arith in subst (λ (k : ℕ). EnvelopeFault k w.bytes e) o bad
 
-untold : (n : ℕ) (w : Place) (e : EnvelopeError) → At n w → EnvelopeFault (n - length w.bytes) w.bytes e → EnvelopeFault w.offset w.bytes e
-untold n w e at bad = let o : n - length w.bytes ≡ w.offset = omega arith in subst (λ (k : ℕ). EnvelopeFault k w.bytes e) o bad
-
 -- what steps find from a place on: messages up to the rest, or those before a stop and then the fault
 abbrev Finds : ℕ → Place → List (Result Envelope EnvelopeError) → Place → List Envelope → Type 0
 Finds n old steps new xs =

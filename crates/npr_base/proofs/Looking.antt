@@ -17,9 +17,6 @@ pub record SoFar (start now : Counts) (consumed count members : ℕ) : Type 0 wh
   pub successful : now.successful + count ≤ start.successful + 2 * (consumed / 4)
   pub saw : SawEach start now members
 
-pub SoFar-none : (c : Counts) → SoFar c c 0 0 0
-SoFar-none c = record { kept = omega arith; successful = omega arith; saw = record { failed = refl; each = λ h. omega arith } }
-
 -- one member more
 pub SoFar-more : (start now after : Counts) (consumed count members size more inner : ℕ) → SoFar start now consumed count members → AddsAtMost (hit now) after size → SawEach (hit now) after inner
     → consumed + (4 + size) ≤ more → SoFar start after more (count + 1) (members + (1 + inner))

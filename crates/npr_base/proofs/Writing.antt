@@ -7,9 +7,6 @@ use borrow.Rule.Slice.PartMut.{put_mid}
 use Rattle.npr_base.specs.Framing.{Writes, encoding, framed, pad}
 use Rattle.npr_base.specs.ListLaws.{length-encoding}
 
-pub Writes-length : (old new bytes : List ℕ) → length bytes ≤ length old → Writes old new bytes → length new ≡ length old
-Writes-length old new bytes le w = ap length w ∙ omega (arith, length-append bytes (drop (length bytes) old), length-drop (length bytes) old)
-
 -- bytes more, written behind those that stand
 pub Writes-more : (old cur part done x : List ℕ) (at : ℕ) → at ≡ length done → length done ≤ length old → Writes old cur done → Writes (take (length cur - at) (drop at cur)) part x → Writes old (put_mid at (length cur - at) cur part) (done ++ x)
 Writes-more old cur part done x at e le w p =

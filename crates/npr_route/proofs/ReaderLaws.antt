@@ -201,15 +201,6 @@ Added-inner inside old mid new before after is s r t b =
       each = λ below. omega (arith, a, s.header below, s.kept, b, below);
     }
 
-pub Ended-none : (c : Counts) (before : Account) (walk : ℕ) → Ended c c before walk
-Ended-none c before walk = record { kept = omega arith; most = omega arith; failed_kept = omega arith; failed = omega arith }
-
-pub Ended-miss : (old new : Counts) (before : Account) (walk : ℕ) → new ≡ miss old → Ended old new before walk
-Ended-miss old new before walk is =
-    let s = ap (λ (c : Counts). c.successful) is in
-    let f = ap (λ (c : Counts). c.failed) is in
-    record { kept = omega (arith, s); most = omega (arith, s); failed_kept = omega (arith, f); failed = omega (arith, f) }
-
 -- a look that found an attribute, and one at what is no next hop in its value
 pub Ended-hit-miss : (old mid new : Counts) (before : Account) (walk : ℕ) → mid ≡ hit old → new ≡ miss mid → 1 ≤ before.room → Ended old new before walk
 Ended-hit-miss old mid new before walk is so r =
@@ -269,9 +260,6 @@ Added-more start old new all before after p q = record {
 }
 
 -- what a whole reading adds
-pub Added-bounds : (start new : Counts) (len : ℕ) (hops : List Hop) → Added start new (unread len) (all_built hops) → AddsAtMost start new len
-Added-bounds start new len hops p = record { kept = p.kept; successful = omega (arith, p.most); failed_kept = p.failed_kept; failed = omega (arith, p.failed) }
-
 pub Added-saw : (start new : Counts) (len : ℕ) (hops : List Hop) → Added start new (unread len) (all_built hops) → SawEach start new (list_members hop_members hops)
 Added-saw start new len hops p = record { failed = omega (arith, p.failed, p.failed_kept); each = λ below. omega (arith, p.each below) }
 

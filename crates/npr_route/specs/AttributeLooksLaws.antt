@@ -10,7 +10,7 @@ use Rattle.npr_base.specs.Looks.{Adds, Looking}
 use Rattle.npr_base.specs.LooksLaws.{plus, one_hit, one_miss, raised-none, raised-hit, raised-miss, raised-more, raised-behind, raised-inside}
 use Rattle.npr_route.specs.Attribute.{HopHead, HopFront, typed}
 use Rattle.npr_route.specs.AttributeLooks.{AttributeLooks, value_read, value_faulty, hops_inside, HopLooks, hop_ends, none_in_hop, faulty_in_hop}
-use Rattle.npr_route.specs.AttributeLooks.{passed_in_hop, HopsLooks, hops_end, no_hop_stands, hop_stands, AttributeTakes, HopsTake}
+use Rattle.npr_route.specs.AttributeLooks.{passed_in_hop, HopsLooks, hops_end, no_hop_stands, hop_stands, AttributeTakes}
 use Rattle.npr_route.specs.FlatAttribute.{Context}
 use Rattle.npr_route.specs.FlatAttributeLaws as Flats
 use Rattle.npr_route.specs.Governing.{told, hit_each, EndsSearch, Searches}
@@ -241,15 +241,5 @@ attribute_looking c = record {
   one = λ x old new other p q. (attribute-looks-one c x p.0 q.0 old new other p.1 q.1).1;
   adds = λ x old new p.
       let a = attribute-looks-add c x p.0 old new p.1 in
-      record { number = a.number; is = a.is; alike = λ d. (p.0, a.alike d) };
-}
-
--- and those of next hops
-abbrev pub hops_looking : Context → Looking (List ℕ)
-hops_looking c = record {
-  Takes = HopsTake c;
-  one = λ bytes old new other p q. (hops-looks-one c bytes p.0 q.0 old new other p.1 q.1).1;
-  adds = λ bytes old new p.
-      let a = hops-looks-add c bytes p.0 old new p.1 in
       record { number = a.number; is = a.is; alike = λ d. (p.0, a.alike d) };
 }

@@ -1,14 +1,13 @@
 -- Options of Geneve that were read so far.
-use Rattle.std.proofs.Common.{◌≡◌, ℕ, ◌+◌, ◌-◌, ◌≤◌, Bool, true, List, [], ◌∷◌, ◌++◌, false, Option, Some, None, length, refl, sym, ap, subst, ◌∙◌, append_assoc, arith, length-append}
+use Rattle.std.proofs.Common.{◌≡◌, ℕ, ◌+◌, ◌-◌, ◌≤◌, List, [], ◌∷◌, ◌++◌, false, Option, Some, None, length, refl, sym, ap, ◌∙◌, append_assoc, arith, length-append}
 use Rattle.std.proofs.lemmas.List.{append-nil, length_push}
-use Rattle.npr_base.specs.declared.refusal.DecodeError.{DecodeError}
 use Rattle.npr_base.specs.Counts.{Counts, AddsAtMost, SawEach, hit}
-use Rattle.npr_base.specs.Family.{ReadsTo, IsWrong, list_members}
+use Rattle.npr_base.specs.Family.{ReadsTo, list_members}
 use Rattle.npr_base.specs.Framing.{Item, Front}
 use Rattle.npr_base.specs.FrontLaws.{Front-takes}
-use Rattle.npr_base.proofs.Lists.{ReadsTo-none, ReadsTo-more}
-use Rattle.npr_base.proofs.Looking.{SoFar, SoFar-none, SoFar-more, list_members-more}
-use Rattle.npr_tunnel.specs.Geneve.{Geneve, Child, class_child, type_child, data_child, ReadsChild, WrongChild, Plain, last_type, last_data, IsGroup, AreGroups, AreOptions, is_open, OptionsFault}
+use Rattle.npr_base.proofs.Lists.{ReadsTo-more}
+use Rattle.npr_base.proofs.Looking.{SoFar, SoFar-more, list_members-more}
+use Rattle.npr_tunnel.specs.Geneve.{Geneve, Child, class_child, type_child, data_child, ReadsChild, Plain, last_type, last_data, IsGroup, AreGroups, AreOptions}
 use Rattle.npr_tunnel.specs.GeneveLooks.{Stands, OptionsLooks, child_passed}
 use Rattle.npr_tunnel.specs.GeneveSteps.{listed, is_some, Changes}
 
@@ -73,20 +72,6 @@ pub record SoFarRead (bytes : List ℕ) (start now : Counts) (options : List Gen
   pub exact : (end : Counts) → OptionsLooks (is_some current) rest now end → OptionsLooks false bytes start end
   pub looks : SoFar start now (length bytes - length rest) (length children) (list_members (λ (c : Child). 0) children)
 
-no-more : (n : ℕ) → n - n ≡ 0
-no-more n = omega arith
-
-pub nothing_read : (bytes : List ℕ) (c : Counts) → SoFarRead bytes c c [] None bytes
-nothing_read bytes c = record {
-  children = [];
-  read = ReadsTo-none ReadsChild bytes;
-  groups = refl;
-  begun = λ e. refl;
-  left = omega arith;
-  exact = λ end later. later;
-  looks = rw (no-more (length bytes)) (SoFar-none c);
-}
-
 may-stand : (before : Option Geneve) (c : Child) (closed : Option Geneve) (opened : Geneve) → Changes before c closed opened → Stands (is_some before) c
 may-stand before (class_child n) closed opened change = tt
 may-stand (Some o) (type_child n) closed opened change = refl
@@ -111,18 +96,6 @@ child_read bytes start now os before closed opened walk rest x c past f reads ch
       exact = λ end later. past.exact end (child_passed x rest c f reads (may-stand before c closed opened change) later);
       looks = rw (length_push past.children c, list_members-more (λ (d : Child). 0) past.children c) (SoFar-more start now (hit now) (length bytes - length walk) (length past.children) (list_members (λ (d : Child). 0) past.children) (length x.value) (length bytes - length rest) 0 past.looks adds saw fewer);
     }
-
-open-last : (os : List Geneve) (o : Geneve) → is_open (os ++ o ∷ []) ≡ true
-open-last [] o = refl
-open-last (p ∷ os) o = refl
-
-is-open : (os : List Geneve) (current : Option Geneve) → (current ≡ None → os ≡ []) → is_open (os ++ listed current) ≡ is_some current
-is-open os None begun = ap (λ (x : List Geneve). is_open (x ++ [])) (begun refl)
-is-open os (Some o) begun = open-last os o
-
-pub child_wrong : (bytes : List ℕ) (start now : Counts) (os : List Geneve) (current : Option Geneve) (walk : List ℕ) (e : DecodeError) → SoFarRead bytes start now os current walk → IsWrong (WrongChild (is_some current)) walk e → OptionsFault bytes e
-child_wrong bytes start now os current walk e past wrong =
-    (past.children, os ++ listed current, walk, past.read, past.groups, subst (λ (b : Bool). IsWrong (WrongChild b) walk e) (sym (is-open os current past.begun)) wrong)
 
 groups-fewer : (os : List Geneve) (cs : List Child) → AreGroups cs os → length os ≤ length cs
 groups-fewer [] cs g = omega arith
