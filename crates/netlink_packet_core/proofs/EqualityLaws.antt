@@ -8,7 +8,7 @@ use Rattle.std.specs.contracts.prelude.NonZeroI32PartialEq.TheImpl as CodeEq
 use Rattle.std.specs.declared.num.NonZeroI32.{NonZeroI32}
 use Rattle.std.proofs.Common.{refl, sym, ap, subst, arith, true≢false}
 use Rattle.npr_base.specs.Equality.{IsEqualityOf}
-use Rattle.npr_base.specs.MeaningLaws.{enum_meaning, ◌also◌, one_meaning, text_equality, items_equality}
+use Rattle.npr_base.specs.MeaningLaws.{enum_meaning, row_order, ◌also◌, one_meaning, text_equality, items_equality}
 use Rattle.npr_base.specs.StructLaws.{and_decides, decides_as}
 use Rattle.npr_base.specs.ViewEquality.{item_equality}
 use Rattle.netlink_packet_core.specs.Extended as OfAttribute
@@ -26,19 +26,9 @@ use Rattle.std.specs.declared.cmp.PartialEq.{Ghosts as PartialEqGhosts}
 use denote.RattleType.{RattleType}
 use mir.Syntax.{Dict}
 
-attribute_order : OfAttribute.Meaning → ℕ
-attribute_order (OfAttribute.message x) = 0
-attribute_order (OfAttribute.offset x) = 1
-attribute_order (OfAttribute.cookie x) = 2
-attribute_order (OfAttribute.policy x) = 3
-attribute_order (OfAttribute.missing_type x) = 4
-attribute_order (OfAttribute.missing_nest x) = 5
-attribute_order (OfAttribute.other x) = 6
-
 pub attribute_equality : IsEqualityOf OfAttribute.meaning_of AttributeEq.ghosts.eq
-unfolding attribute_order
 attribute_equality =
-    enum_meaning attribute_order attribute_enum OfAttribute.meaning_of _ (λ t.
+    enum_meaning (row_order OfAttribute.rows OfAttribute.held_of) attribute_enum OfAttribute.meaning_of _ (λ t.
     (λ x. refl, one_meaning string_bytes OfAttribute.message text_equality (λ p q e. cc)) also
     (λ x. refl, one_meaning (λ n. n) OfAttribute.offset unsigned_Decides (λ p q e. cc)) also
     (λ x. refl, one_meaning (λ v. v.items) OfAttribute.cookie (items_equality unsigned_Decides) (λ p q e. cc)) also

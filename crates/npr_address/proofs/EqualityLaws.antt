@@ -1,17 +1,16 @@
 -- What `==` answers of attributes and messages: whether they mean the same.
-use Rattle.std.specs.Prelude.{ℕ}
 use Rattle.std.specs.String.{string_bytes}
 use Rattle.std.proofs.Common.{refl, rules, ap}
 use Rattle.npr_base.specs.Equality.{IsEquality, IsEqualityOf}
 use Rattle.npr_base.specs.ViewEquality.{item_equality}
 use Rattle.npr_base.specs.IpLaws.{ip_equality, ipv4_equality, ipv6_equality}
-use Rattle.npr_base.specs.MeaningLaws.{enum_meaning, ◌also◌, one_meaning, text_equality}
+use Rattle.npr_base.specs.MeaningLaws.{enum_meaning, row_order, ◌also◌, one_meaning, text_equality}
 use Rattle.npr_base.specs.StructLaws.{and_decides, decides_as}
 use Rattle.npr_base.specs.AddressFamilyLaws.{family_equality}
 use Rattle.std.specs.Cmp.{unsigned_Decides, signed_Decides}
 use Rattle.npr_address.specs.declared.header.AddressHeader.{AddressHeader}
 use Rattle.npr_address.specs.contracts.addr_protocol.AddressProtocolPartialEq.TheImpl as ProtocolEq
-use Rattle.npr_address.specs.Attribute.{Meaning, address, local, label, broadcast, anycast, info, multicast, flags, route_priority, target_net_ns_id, protocol, other, meaning_of}
+use Rattle.npr_address.specs.Attribute.{address, local, label, broadcast, anycast, info, multicast, flags, route_priority, target_net_ns_id, protocol, other, meaning_of, rows, held_of}
 use Rattle.npr_address.specs.contracts.attribute.AddressAttribute.{enum}
 use Rattle.npr_address.specs.contracts.attribute.AddressAttributePartialEq.TheImpl as AttributeEq
 use Rattle.npr_address.specs.contracts.addr_flags.AddressFlagsPartialEq.TheImpl as FlagsEq
@@ -19,20 +18,6 @@ use Rattle.npr_address.specs.contracts.addr_flags.AddressHeaderFlagsPartialEq.Th
 use Rattle.npr_address.specs.contracts.addr_scope.AddressScopePartialEq.TheImpl as ScopeEq
 use Rattle.npr_address.specs.contracts.cache_info.CacheInfoPartialEq.TheImpl as InfoEq
 use Rattle.npr_address.specs.contracts.header.AddressHeaderPartialEq.TheImpl as HeaderEq
-
-order : Meaning → ℕ
-order (address a) = 0
-order (local a) = 1
-order (label s) = 2
-order (broadcast a) = 3
-order (anycast a) = 4
-order (info c) = 5
-order (multicast a) = 6
-order (flags f) = 7
-order (route_priority n) = 8
-order (target_net_ns_id n) = 9
-order (protocol p) = 10
-order (other x) = 11
 
 protocol_equality : IsEquality ProtocolEq.ghosts.eq
 protocol_equality = search rules
@@ -60,9 +45,8 @@ header_equality a b =
     (and_decides (scope_equality a.scope b.scope) (unsigned_Decides a.index b.index)))))
 
 pub attribute_equality : IsEqualityOf meaning_of AttributeEq.ghosts.eq
-unfolding order
 attribute_equality =
-    enum_meaning order enum meaning_of _ (λ t.
+    enum_meaning (row_order rows held_of) enum meaning_of _ (λ t.
     (λ x. refl, one_meaning (λ f. f) address ip_equality (λ p q e. cc)) also
     (λ x. refl, one_meaning (λ f. f) local ip_equality (λ p q e. cc)) also
     (λ x. refl, one_meaning string_bytes label text_equality (λ p q e. cc)) also

@@ -249,7 +249,10 @@ macro_rules! put_rows {
         match $item.kind() {
             $($($more)*)?
             $($number => $crate::put_row!([$place, $family::$variant, $alloc, value, $crate::AttrFamily::$at.at($number), $looks] $($($codec)+)?),)*
-            _ => $crate::put_read($place, $crate::DefaultNla::read($alloc, $item), $family::Other),
+            _ => {
+                $place.put($family::Other($crate::DefaultNla::read($alloc, $item)?));
+                Ok(())
+            }
         }
     }};
 }

@@ -5,11 +5,11 @@ use Rattle.std.proofs.Common.{refl, rules, ap}
 use Rattle.npr_base.specs.AddressFamilyLaws.{family_equality}
 use Rattle.npr_base.specs.Equality.{IsEquality, IsEqualityOf}
 use Rattle.npr_base.specs.IpLaws.{ipv4_equality, ipv6_equality}
-use Rattle.npr_base.specs.MeaningLaws.{enum_meaning, ◌also◌, one_meaning, items_equality}
+use Rattle.npr_base.specs.MeaningLaws.{enum_meaning, row_order, ◌also◌, one_meaning, items_equality}
 use Rattle.npr_base.specs.StructLaws.{and_decides, decides_as}
 use Rattle.npr_base.specs.ViewEquality.{item_equality}
 use Rattle.npr_scalar.specs.EqualityLaws.{route_protocol_equality, route_type_equality}
-use Rattle.npr_neighbour.specs.Attribute.{Meaning, destination, link_layer, info, probes, vlan, port, vni, if_index, controller, link_net_ns_id, source_vni, protocol, nh_id, flags_ext, other, meaning_of}
+use Rattle.npr_neighbour.specs.Attribute.{destination, link_layer, info, probes, vlan, port, vni, if_index, controller, link_net_ns_id, source_vni, protocol, nh_id, flags_ext, other, meaning_of, rows, held_of}
 use Rattle.npr_neighbour.specs.NeighbourAddress as A
 use Rattle.npr_neighbour.specs.contracts.address.NeighbourAddress.{enum as address_enum}
 use Rattle.npr_neighbour.specs.contracts.address.NeighbourAddressPartialEq.TheImpl as AddressEq
@@ -58,27 +58,9 @@ header_equality a b =
     (and_decides (state_equality a.state b.state)
     (and_decides (flags_equality a.flags b.flags) (route_type_equality a.kind b.kind)))))
 
-order : Meaning → ℕ
-order (destination a) = 0
-order (link_layer a) = 1
-order (info a) = 2
-order (probes a) = 3
-order (vlan a) = 4
-order (port a) = 5
-order (vni a) = 6
-order (if_index a) = 7
-order (controller a) = 8
-order (link_net_ns_id a) = 9
-order (source_vni a) = 10
-order (protocol a) = 11
-order (nh_id a) = 12
-order (flags_ext a) = 13
-order (other x) = 14
-
 pub attribute_equality : IsEqualityOf meaning_of AttributeEq.ghosts.eq
-unfolding order
 attribute_equality =
-    enum_meaning order enum meaning_of _ (λ t.
+    enum_meaning (row_order (rows A.any) held_of) enum meaning_of _ (λ t.
     (λ x. refl, one_meaning A.address_of destination address_equality (λ p q e. cc)) also
     (λ x. refl, one_meaning (λ v. v.items) link_layer (items_equality unsigned_Decides) (λ p q e. cc)) also
     (λ x. refl, one_meaning (λ f. f) info info_equality (λ p q e. cc)) also

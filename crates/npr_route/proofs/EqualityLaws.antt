@@ -10,7 +10,7 @@ use Rattle.std.proofs.Common.{refl, sym, ap, ◌∙◌}
 use Rattle.npr_base.specs.AddressFamilyLaws.{family_equality}
 use Rattle.npr_base.specs.Equality.{IsEquality, IsEqualityOf}
 use Rattle.npr_base.specs.ViewEquality.{item_equality}
-use Rattle.npr_base.specs.MeaningLaws.{enum_meaning, enum_meaning_at, ◌also◌, one_meaning, one_meaning_by, text_equality, items_equality, items_meaning}
+use Rattle.npr_base.specs.MeaningLaws.{enum_meaning, enum_meaning_at, row_order, ◌also◌, one_meaning, one_meaning_by, text_equality, items_equality, items_meaning}
 use Rattle.npr_base.specs.StructLaws.{and_decides, decides_as}
 use Rattle.npr_scalar.specs.EqualityLaws.{address_equality, cache_info_equality, label_equality, mfc_stats_equality, realm_equality, route_flags_equality, via_equality, route_protocol_equality, route_scope_equality, route_type_equality, route_preference_equality, ttl_propagation_equality}
 use Rattle.npr_scalar.specs.RouteAddress.{address_of}
@@ -52,31 +52,9 @@ header_equality a b =
     (and_decides (route_scope_equality a.scope b.scope)
     (and_decides (route_type_equality a.kind b.kind) (route_flags_equality a.flags b.flags)))))))))
 
--- the places of the meanings' variants
-metric_order : Metrics.Metric → ℕ
-metric_order (Metrics.lock a) = 0
-metric_order (Metrics.mtu a) = 1
-metric_order (Metrics.window a) = 2
-metric_order (Metrics.rtt a) = 3
-metric_order (Metrics.rtt_var a) = 4
-metric_order (Metrics.ss_thresh a) = 5
-metric_order (Metrics.cwnd a) = 6
-metric_order (Metrics.advmss a) = 7
-metric_order (Metrics.reordering a) = 8
-metric_order (Metrics.hoplimit a) = 9
-metric_order (Metrics.init_cwnd a) = 10
-metric_order (Metrics.features a) = 11
-metric_order (Metrics.rto_min a) = 12
-metric_order (Metrics.init_rwnd a) = 13
-metric_order (Metrics.quick_ack a) = 14
-metric_order (Metrics.cc_algo a) = 15
-metric_order (Metrics.fastopen_no_cookie a) = 16
-metric_order (Metrics.other a) = 17
-
 pub metric_equality : IsEqualityOf metric_of MetricEq.ghosts.eq
-unfolding metric_order
 metric_equality =
-    enum_meaning metric_order metric_enum metric_of _ (λ t.
+    enum_meaning (row_order Metrics.rows Metrics.held_of) metric_enum metric_of _ (λ t.
     (λ x. refl, one_meaning (λ n. n) Metrics.lock unsigned_Decides (λ p q e. cc)) also
     (λ x. refl, one_meaning (λ n. n) Metrics.mtu unsigned_Decides (λ p q e. cc)) also
     (λ x. refl, one_meaning (λ n. n) Metrics.window unsigned_Decides (λ p q e. cc)) also

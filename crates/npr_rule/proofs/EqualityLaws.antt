@@ -1,5 +1,4 @@
 -- What `==` answers of attributes and messages: whether they mean the same.
-use Rattle.std.specs.Prelude.{ℕ}
 use Rattle.std.specs.Cmp.{booleans_Decides, unsigned_Decides}
 use Rattle.std.specs.String.{string_bytes}
 use Rattle.std.proofs.Common.{refl, rules, ap}
@@ -7,10 +6,10 @@ use Rattle.npr_base.specs.AddressFamilyLaws.{family_equality}
 use Rattle.npr_base.specs.Equality.{IsEquality, IsEqualityOf}
 use Rattle.npr_base.specs.ViewEquality.{item_equality}
 use Rattle.npr_base.specs.IpLaws.{ip_equality}
-use Rattle.npr_base.specs.MeaningLaws.{enum_meaning, ◌also◌, one_meaning, text_equality}
+use Rattle.npr_base.specs.MeaningLaws.{enum_meaning, row_order, ◌also◌, one_meaning, text_equality}
 use Rattle.npr_base.specs.StructLaws.{and_decides, decides_as}
 use Rattle.npr_scalar.specs.EqualityLaws.{realm_equality, ip_protocol_equality, route_protocol_equality}
-use Rattle.npr_rule.specs.Attribute.{Meaning, destination, source, iifname, goto, priority, fw_mark, realm, tun_id, suppress_if_group, suppress_prefix_len, table, fw_mask, oifname, l3mdev, uid_range, protocol, ip_protocol, source_port_range, destination_port_range, other, meaning_of}
+use Rattle.npr_rule.specs.Attribute.{destination, source, iifname, goto, priority, fw_mark, realm, tun_id, suppress_if_group, suppress_prefix_len, table, fw_mask, oifname, l3mdev, uid_range, protocol, ip_protocol, source_port_range, destination_port_range, other, meaning_of, rows, held_of}
 use Rattle.npr_rule.specs.contracts.action.RuleActionPartialEq.TheImpl as ActionEq
 use Rattle.npr_rule.specs.contracts.attribute.RuleAttribute.{enum}
 use Rattle.npr_rule.specs.contracts.attribute.RuleAttributePartialEq.TheImpl as AttributeEq
@@ -19,28 +18,6 @@ use Rattle.npr_rule.specs.contracts.header.RuleHeaderPartialEq.TheImpl as Header
 use Rattle.npr_rule.specs.contracts.port_range.RulePortRangePartialEq.TheImpl as PortEq
 use Rattle.npr_rule.specs.contracts.uid_range.RuleUidRangePartialEq.TheImpl as UidEq
 use Rattle.npr_rule.specs.declared.header.RuleHeader.{RuleHeader}
-
-order : Meaning → ℕ
-order (destination a) = 0
-order (source a) = 1
-order (iifname a) = 2
-order (goto a) = 3
-order (priority a) = 4
-order (fw_mark a) = 5
-order (realm a) = 6
-order (tun_id a) = 7
-order (suppress_if_group a) = 8
-order (suppress_prefix_len a) = 9
-order (table a) = 10
-order (fw_mask a) = 11
-order (oifname a) = 12
-order (l3mdev a) = 13
-order (uid_range a) = 14
-order (protocol a) = 15
-order (ip_protocol a) = 16
-order (source_port_range a) = 17
-order (destination_port_range a) = 18
-order (other x) = 19
 
 port_equality : IsEquality PortEq.ghosts.eq
 port_equality = search rules
@@ -67,9 +44,8 @@ header_equality a b =
     (and_decides (action_equality a.action b.action) (flags_equality a.flags b.flags)))))))
 
 pub attribute_equality : IsEqualityOf meaning_of AttributeEq.ghosts.eq
-unfolding order
 attribute_equality =
-    enum_meaning order enum meaning_of _ (λ t.
+    enum_meaning (row_order rows held_of) enum meaning_of _ (λ t.
     (λ x. refl, one_meaning (λ f. f) destination ip_equality (λ p q e. cc)) also
     (λ x. refl, one_meaning (λ f. f) source ip_equality (λ p q e. cc)) also
     (λ x. refl, one_meaning string_bytes iifname text_equality (λ p q e. cc)) also

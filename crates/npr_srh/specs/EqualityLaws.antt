@@ -7,9 +7,10 @@ use Rattle.std.proofs.Common.{refl, sym, rules, ap, true≢false}
 use Rattle.npr_base.specs.Equality.{IsEquality, IsEqualityOf}
 use Rattle.npr_base.specs.ViewEquality.{item_equality}
 use Rattle.npr_base.specs.IpLaws.{ipv4_equality, ipv6_equality}
-use Rattle.npr_base.specs.MeaningLaws.{enum_meaning, ◌also◌, one_meaning, items_equality}
+use Rattle.npr_base.specs.MeaningLaws.{enum_meaning, row_order, ◌also◌, one_meaning, items_equality}
 use Rattle.npr_base.specs.StructLaws.{and_decides, decides_as}
 use Rattle.npr_srh.specs.Seg6.{Seg6, seg6_of}
+use Rattle.npr_srh.specs.Seg6Mode.{modes}
 use Rattle.npr_srh.specs.Seg6Tunnel as OfSeg6
 use Rattle.npr_srh.specs.Seg6Local.{Local, LocalFront, local_of}
 use Rattle.npr_srh.specs.Seg6LocalTunnel as OfLocal
@@ -91,37 +92,17 @@ rpl_header_equality a b =
 
 -- ---- the members
 
-seg6_order : OfSeg6.Meaning → ℕ
-seg6_order (OfSeg6.header h) = 0
-seg6_order (OfSeg6.src a) = 1
-seg6_order (OfSeg6.table n) = 2
-seg6_order (OfSeg6.other x) = 3
-
 pub seg6_equality : IsEqualityOf OfSeg6.meaning_of Seg6Eq.ghosts.eq
-unfolding seg6_order
 seg6_equality =
-    enum_meaning seg6_order seg6_enum OfSeg6.meaning_of _ (λ t.
+    enum_meaning (row_order (OfSeg6.rows modes) OfSeg6.held_of) seg6_enum OfSeg6.meaning_of _ (λ t.
     (λ x. refl, one_meaning seg6_of OfSeg6.header seg6_header_equality (λ p q e. cc)) also
     (λ x. refl, one_meaning (λ f. f) OfSeg6.src ipv6_equality (λ p q e. cc)) also
     (λ x. refl, one_meaning (λ f. f) OfSeg6.table unsigned_Decides (λ p q e. cc)) also
     (λ x. refl, one_meaning (λ f. f) OfSeg6.other item_equality (λ p q e. cc)) also tt)
 
-local_order : OfLocal.Meaning → ℕ
-local_order OfLocal.unspecified = 0
-local_order (OfLocal.act a) = 1
-local_order (OfLocal.srh h) = 2
-local_order (OfLocal.table n) = 3
-local_order (OfLocal.nh4 a) = 4
-local_order (OfLocal.nh6 a) = 5
-local_order (OfLocal.iif n) = 6
-local_order (OfLocal.oif n) = 7
-local_order (OfLocal.vrf_table n) = 8
-local_order (OfLocal.other x) = 9
-
 pub local_equality : IsEqualityOf OfLocal.meaning_of LocalEq.ghosts.eq
-unfolding local_order
 local_equality =
-    enum_meaning local_order local_enum OfLocal.meaning_of _ (λ t.
+    enum_meaning (row_order OfLocal.rows OfLocal.held_of) local_enum OfLocal.meaning_of _ (λ t.
     (λ x. refl, λ x y is. (λ e. refl, λ e. refl)) also
     (λ x. refl, one_meaning (λ f. f) OfLocal.act action_equality (λ p q e. cc)) also
     (λ x. refl, one_meaning local_of OfLocal.srh local_header_equality (λ p q e. cc)) also
@@ -133,33 +114,16 @@ local_equality =
     (λ x. refl, one_meaning (λ f. f) OfLocal.vrf_table unsigned_Decides (λ p q e. cc)) also
     (λ x. refl, one_meaning (λ f. f) OfLocal.other item_equality (λ p q e. cc)) also tt)
 
-rpl_order : OfRpl.Meaning → ℕ
-rpl_order OfRpl.unspecified = 0
-rpl_order (OfRpl.srh h) = 1
-rpl_order (OfRpl.other x) = 2
-
 pub rpl_equality : IsEqualityOf OfRpl.meaning_of RplEq.ghosts.eq
-unfolding rpl_order
 rpl_equality =
-    enum_meaning rpl_order rpl_enum OfRpl.meaning_of _ (λ t.
+    enum_meaning (row_order OfRpl.rows OfRpl.held_of) rpl_enum OfRpl.meaning_of _ (λ t.
     (λ x. refl, λ x y is. (λ e. refl, λ e. refl)) also
     (λ x. refl, one_meaning rpl_of OfRpl.srh rpl_header_equality (λ p q e. cc)) also
     (λ x. refl, one_meaning (λ f. f) OfRpl.other item_equality (λ p q e. cc)) also tt)
 
-ioam6_order : OfIoam6.Meaning → ℕ
-ioam6_order OfIoam6.unspecified = 0
-ioam6_order (OfIoam6.mode m) = 1
-ioam6_order (OfIoam6.dst a) = 2
-ioam6_order (OfIoam6.traced t) = 3
-ioam6_order (OfIoam6.freq_k n) = 4
-ioam6_order (OfIoam6.freq_n n) = 5
-ioam6_order (OfIoam6.src a) = 6
-ioam6_order (OfIoam6.other x) = 7
-
 pub ioam6_equality : IsEqualityOf OfIoam6.meaning_of Ioam6Eq.ghosts.eq
-unfolding ioam6_order
 ioam6_equality =
-    enum_meaning ioam6_order ioam6_enum OfIoam6.meaning_of _ (λ t.
+    enum_meaning (row_order OfIoam6.rows OfIoam6.held_of) ioam6_enum OfIoam6.meaning_of _ (λ t.
     (λ x. refl, λ x y is. (λ e. refl, λ e. refl)) also
     (λ x. refl, one_meaning (λ f. f) OfIoam6.mode ioam6_mode_equality (λ p q e. cc)) also
     (λ x. refl, one_meaning (λ f. f) OfIoam6.dst ipv6_equality (λ p q e. cc)) also

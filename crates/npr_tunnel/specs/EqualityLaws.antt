@@ -2,10 +2,11 @@
 use Rattle.std.specs.Prelude.{ℕ, map}
 use Rattle.std.specs.Cmp.{unsigned_Decides}
 use Rattle.std.proofs.Common.{refl, rules, ap}
+use Rattle.npr_base.specs.declared.refusal.AttrFamily.TheVariants.{Ip, Ip6}
 use Rattle.npr_base.specs.Equality.{IsEquality, IsEqualityOf}
 use Rattle.npr_base.specs.ViewEquality.{item_equality}
 use Rattle.npr_base.specs.IpLaws.{ipv4_equality, ipv6_equality}
-use Rattle.npr_base.specs.MeaningLaws.{enum_meaning, ◌also◌, one_meaning, items_equality, items_meaning}
+use Rattle.npr_base.specs.MeaningLaws.{enum_meaning, row_order, ◌also◌, one_meaning, items_equality, items_meaning}
 use Rattle.npr_base.specs.StructLaws.{and_decides, decides_as}
 use Rattle.npr_scalar.specs.EqualityLaws.{label_equality}
 use Rattle.npr_srh.specs.EqualityLaws.{seg6_equality, local_equality, rpl_equality, ioam6_equality}
@@ -64,92 +65,47 @@ geneve_equality a b =
 
 -- ---- the members and options
 
-xfrm_order : OfXfrm.Meaning → ℕ
-xfrm_order OfXfrm.unspecified = 0
-xfrm_order (OfXfrm.if_id x) = 1
-xfrm_order (OfXfrm.link x) = 2
-xfrm_order (OfXfrm.other x) = 3
-
 pub xfrm_equality : IsEqualityOf OfXfrm.meaning_of XfrmEq.ghosts.eq
-unfolding xfrm_order
 xfrm_equality =
-    enum_meaning xfrm_order xfrm_enum OfXfrm.meaning_of _ (λ t.
+    enum_meaning (row_order OfXfrm.rows OfXfrm.held_of) xfrm_enum OfXfrm.meaning_of _ (λ t.
     (λ x. refl, λ x y is. (λ e. refl, λ e. refl)) also
     (λ x. refl, one_meaning (λ n. n) OfXfrm.if_id unsigned_Decides (λ p q e. cc)) also
     (λ x. refl, one_meaning (λ n. n) OfXfrm.link unsigned_Decides (λ p q e. cc)) also
     (λ x. refl, one_meaning (λ d. d) OfXfrm.other item_equality (λ p q e. cc)) also tt)
 
-mpls_order : OfMpls.Meaning → ℕ
-mpls_order (OfMpls.destination x) = 0
-mpls_order (OfMpls.ttl x) = 1
-mpls_order (OfMpls.other x) = 2
-
 pub mpls_equality : IsEqualityOf OfMpls.meaning_of MplsEq.ghosts.eq
-unfolding mpls_order
 mpls_equality =
-    enum_meaning mpls_order mpls_enum OfMpls.meaning_of _ (λ t.
+    enum_meaning (row_order OfMpls.rows OfMpls.held_of) mpls_enum OfMpls.meaning_of _ (λ t.
     (λ x. refl, one_meaning (λ v. v.items) OfMpls.destination (items_equality label_equality) (λ p q e. cc)) also
     (λ x. refl, one_meaning (λ n. n) OfMpls.ttl unsigned_Decides (λ p q e. cc)) also
     (λ x. refl, one_meaning (λ d. d) OfMpls.other item_equality (λ p q e. cc)) also tt)
 
-vxlan_order : OfVxlan.Meaning → ℕ
-vxlan_order (OfVxlan.gbp x) = 0
-vxlan_order (OfVxlan.other x) = 1
-
 pub vxlan_equality : IsEqualityOf OfVxlan.meaning_of VxlanEq.ghosts.eq
-unfolding vxlan_order
 vxlan_equality =
-    enum_meaning vxlan_order vxlan_enum OfVxlan.meaning_of _ (λ t.
+    enum_meaning (row_order OfVxlan.rows OfVxlan.held_of) vxlan_enum OfVxlan.meaning_of _ (λ t.
     (λ x. refl, one_meaning (λ n. n) OfVxlan.gbp unsigned_Decides (λ p q e. cc)) also
     (λ x. refl, one_meaning (λ d. d) OfVxlan.other item_equality (λ p q e. cc)) also tt)
 
-erspan_order : OfErspan.Meaning → ℕ
-erspan_order (OfErspan.version x) = 0
-erspan_order (OfErspan.index x) = 1
-erspan_order (OfErspan.direction x) = 2
-erspan_order (OfErspan.hardware_id x) = 3
-erspan_order (OfErspan.other x) = 4
-
 pub erspan_equality : IsEqualityOf OfErspan.meaning_of ErspanEq.ghosts.eq
-unfolding erspan_order
 erspan_equality =
-    enum_meaning erspan_order erspan_enum OfErspan.meaning_of _ (λ t.
+    enum_meaning (row_order OfErspan.rows OfErspan.held_of) erspan_enum OfErspan.meaning_of _ (λ t.
     (λ x. refl, one_meaning (λ n. n) OfErspan.version unsigned_Decides (λ p q e. cc)) also
     (λ x. refl, one_meaning (λ n. n) OfErspan.index unsigned_Decides (λ p q e. cc)) also
     (λ x. refl, one_meaning (λ n. n) OfErspan.direction unsigned_Decides (λ p q e. cc)) also
     (λ x. refl, one_meaning (λ n. n) OfErspan.hardware_id unsigned_Decides (λ p q e. cc)) also
     (λ x. refl, one_meaning (λ d. d) OfErspan.other item_equality (λ p q e. cc)) also tt)
 
-tunnel_option_order : OfOption.Meaning → ℕ
-tunnel_option_order (OfOption.geneve x) = 0
-tunnel_option_order (OfOption.vxlan x) = 1
-tunnel_option_order (OfOption.erspan x) = 2
-tunnel_option_order (OfOption.other x) = 3
-
 pub tunnel_option_equality : IsEqualityOf OfOption.meaning_of TunnelOptionEq.ghosts.eq
-unfolding tunnel_option_order
 tunnel_option_equality =
-    enum_meaning tunnel_option_order tunnel_option_enum OfOption.meaning_of _ (λ t.
+    enum_meaning (row_order OfOption.rows OfOption.held_of) tunnel_option_enum OfOption.meaning_of _ (λ t.
     (λ x. refl, one_meaning (λ v. map option_of v.items) OfOption.geneve (items_meaning option_of geneve_equality) (λ p q e. cc)) also
     (λ x. refl, one_meaning (λ v. map OfVxlan.meaning_of v.items) OfOption.vxlan (items_meaning OfVxlan.meaning_of vxlan_equality) (λ p q e. cc)) also
     (λ x. refl, one_meaning (λ v. map OfErspan.meaning_of v.items) OfOption.erspan (items_meaning OfErspan.meaning_of erspan_equality) (λ p q e. cc)) also
     (λ x. refl, one_meaning (λ d. d) OfOption.other item_equality (λ p q e. cc)) also tt)
 
-ip_order : OfIp.Meaning → ℕ
-ip_order OfIp.unspecified = 0
-ip_order (OfIp.id x) = 1
-ip_order (OfIp.destination x) = 2
-ip_order (OfIp.source x) = 3
-ip_order (OfIp.hops x) = 4
-ip_order (OfIp.service x) = 5
-ip_order (OfIp.flags x) = 6
-ip_order (OfIp.options x) = 7
-ip_order (OfIp.other x) = 8
-
 pub ip_equality : IsEqualityOf OfIp.meaning_of IpEq.ghosts.eq
-unfolding ip_order
 ip_equality =
-    enum_meaning ip_order ip_enum OfIp.meaning_of _ (λ t.
+    enum_meaning (row_order (OfIp.rows Ip 4) (OfIp.held_of 4)) ip_enum OfIp.meaning_of _ (λ t.
     (λ x. refl, λ x y is. (λ e. refl, λ e. refl)) also
     (λ x. refl, one_meaning (λ n. n) OfIp.id unsigned_Decides (λ p q e. cc)) also
     (λ x. refl, one_meaning (λ a. a) OfIp.destination ipv4_equality (λ p q e. cc)) also
@@ -161,9 +117,8 @@ ip_equality =
     (λ x. refl, one_meaning (λ d. d) OfIp.other item_equality (λ p q e. cc)) also tt)
 
 pub ip6_equality : IsEqualityOf OfIp.meaning6_of Ip6Eq.ghosts.eq
-unfolding ip_order
 ip6_equality =
-    enum_meaning ip_order ip6_enum OfIp.meaning6_of _ (λ t.
+    enum_meaning (row_order (OfIp.rows Ip6 16) (OfIp.held_of 16)) ip6_enum OfIp.meaning6_of _ (λ t.
     (λ x. refl, λ x y is. (λ e. refl, λ e. refl)) also
     (λ x. refl, one_meaning (λ n. n) OfIp.id unsigned_Decides (λ p q e. cc)) also
     (λ x. refl, one_meaning (λ a. a) OfIp.destination ipv6_equality (λ p q e. cc)) also
