@@ -7,19 +7,19 @@ use std::marker::Model;
 use std::{fmt, net};
 
 /// An address of IP version 4 (RFC 791). A contract sees the list of its four bytes.
-#[derive(Clone, Copy, Debug, PartialEq, Eq)]
+#[derive(Clone, Copy, PartialEq, Eq)]
 pub struct Ipv4Addr {
     octets: [u8; 4],
 }
 
 /// An address of IP version 6 (RFC 4291). A contract sees the list of its sixteen bytes.
-#[derive(Clone, Copy, Debug, PartialEq, Eq)]
+#[derive(Clone, Copy, PartialEq, Eq)]
 pub struct Ipv6Addr {
     octets: [u8; 16],
 }
 
 /// An address of IP.
-#[derive(Clone, Copy, Debug, PartialEq, Eq)]
+#[derive(Clone, Copy, PartialEq, Eq)]
 pub enum IpAddr {
     /// Of version 4.
     V4(Ipv4Addr),
@@ -138,6 +138,15 @@ impl IpAddr {
     }
 }
 
+/// The text of `Display`, as for the addresses of the standard library.
+impl fmt::Debug for Ipv4Addr {
+    ghost debug_output = { λ address. Some (ipv4_text address) };
+
+    fn fmt<W: fmt::Write>(&self, f: &mut fmt::Formatter<W>) -> fmt::Result {
+        fmt::Display::fmt(self, f)
+    }
+}
+
 /// Four decimal numbers with dots between them.
 impl fmt::Display for Ipv4Addr {
     ghost output = { λ address. Some (ipv4_text address) };
@@ -147,12 +156,30 @@ impl fmt::Display for Ipv4Addr {
     }
 }
 
+/// The text of `Display`, as for the addresses of the standard library.
+impl fmt::Debug for Ipv6Addr {
+    ghost debug_output = { λ address. Some (ipv6_text (segments_of address)) };
+
+    fn fmt<W: fmt::Write>(&self, f: &mut fmt::Formatter<W>) -> fmt::Result {
+        fmt::Display::fmt(self, f)
+    }
+}
+
 /// The text of RFC 5952, sections 4 and 5: a mapped address ends in its IPv4 address.
 impl fmt::Display for Ipv6Addr {
     ghost output = { λ address. Some (ipv6_text (segments_of address)) };
 
     fn fmt<W: fmt::Write>(&self, f: &mut fmt::Formatter<W>) -> fmt::Result {
         fmt::Display::fmt(&net::Ipv6Addr::from(self.octets), f)
+    }
+}
+
+/// The text of `Display`, as for the addresses of the standard library.
+impl fmt::Debug for IpAddr {
+    ghost debug_output = { λ address. Some (ip_text address) };
+
+    fn fmt<W: fmt::Write>(&self, f: &mut fmt::Formatter<W>) -> fmt::Result {
+        fmt::Display::fmt(self, f)
     }
 }
 
