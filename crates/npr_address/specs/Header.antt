@@ -9,7 +9,7 @@ use Rattle.npr_address.specs.declared.addr_scope.AddressScope.{AddressScope}
 use Rattle.npr_address.specs.declared.addr_scope.AddressScope.TheVariants.{Universe}
 use Rattle.npr_address.specs.AddressFlags.{header_flags_bits, header_flags_of}
 use Rattle.npr_address.specs.AddressScope.{scope_of, scope_number}
-use Rattle.npr_address.specs.AddressScopeLaws.{scope_number-scope_of}
+use Rattle.npr_address.specs.AddressScope.{scope_number-scope_of}
 use Rattle.npr_address.specs.declared.header.AddressHeader.{AddressHeader}
 use Rattle.npr_address.specs.declared.header.AddressMessageBuffer.{AddressMessageBuffer}
 

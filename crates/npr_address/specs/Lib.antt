@@ -1,7 +1,6 @@
 pub mod AddressFlags
 pub mod AddressProtocol
 pub mod AddressScope
-pub mod AddressScopeLaws
 pub mod Attribute
 pub mod CacheInfo
 pub mod Header

@@ -6,16 +6,16 @@ use Rattle.std.specs.Prelude.{◌≡◌, ℕ}
 use Rattle.std.specs.Cmp.{unsigned_Decides}
 use Rattle.std.proofs.Common.{refl}
 use Rattle.npr_base.specs.declared.address_family.AddressFamily.TheVariants.{Other}
-use Rattle.npr_base.specs.AddressFamily.{family_rows, family_of, family_number}
+use Rattle.npr_base.specs.AddressFamily.{families, family_of, family_number}
 use Rattle.npr_base.specs.Equality.{IsEquality}
 use Rattle.npr_base.specs.EqualityLaws.{enum_equality, one_equality}
 use Rattle.npr_base.specs.RowLaws.{number-form, form_IsFormed}
-use Rattle.npr_base.specs.Rows.{IsFormed}
+use Rattle.npr_base.specs.Rows.{IsFormed, numbered}
 use Rattle.npr_base.specs.contracts.address_family.AddressFamily.{enum}
 use Rattle.npr_base.specs.contracts.address_family.AddressFamilyPartialEq.TheImpl.{ghosts}
 
 pub family_number-family_of : (d : ℕ) → family_number (family_of d) ≡ d
-family_number-family_of = number-form family_number Other (λ d. refl) family_rows refl
+family_number-family_of = number-form family_number Other (λ d. refl) (numbered families) refl
 
 pub family_of_IsFormed : (d : ℕ) → IsFormed family_of family_number (family_of d)
 family_of_IsFormed = form_IsFormed family_of family_number family_number-family_of

@@ -2,9 +2,14 @@
 --     form_by       what a number reads as
 --     agrees_by     each row's value is written as the row's number
 --     form_in, agrees, signed_form_in, signed_agrees      the two for unsigned and for signed numbers
+--     number_by, number_in      the number of a value, where the rows stand in the order of its enum's variants
+--     Named, numbered, text_in  rows with texts, and the text of a value by them
 --     IsFormed      a value that its own number reads as
-use Rattle.std.specs.Prelude.{◌≡◌, ℕ, ℤ, Bool, true, ◌&&◌, List, [], ◌∷◌, nat_eq, if◌then◌else◌}
+use Rattle.std.specs.Prelude.{◌≡◌, ℕ, ℤ, Bool, true, ◌&&◌, List, [], ◌∷◌, map, nat_eq, if◌then◌else◌}
 use Rattle.std.specs.Ordering.{int_eq}
+use Rattle.std.proofs.Common.{inl, inr}
+use denote.Struct.Field.{Field}
+use denote.Enum.Declared.{Record, Choice}
 
 -- the value of the first row with the number, or else what `other` makes of the number
 abbrev pub form_by : {K V : Type 0} → (K → K → Bool) → (K → V) → List (K × V) → K → V
@@ -26,6 +31,34 @@ signed_form_in other rows d = form_by int_eq other rows d
 
 abbrev pub signed_agrees : {V : Type 0} → (V → ℤ) → List (ℤ × V) → Bool
 signed_agrees number rows = agrees_by int_eq number rows
+
+-- of a list in the order of an enum's variants, what stands at a value's variant; N is `enum` of the type's module in
+-- `specs.contracts`
+abbrev in_order : {A : Type 0} (Fss : List (List Field)) → A → List A → Choice Fss → A
+in_order Fss none [] c = none
+in_order [] none (x ∷ xs) c = none
+in_order (Fs ∷ Fss) none (x ∷ xs) (inl values) = x
+in_order (Fs ∷ Fss) none (x ∷ xs) (inr c) = in_order Fss none xs c
+
+abbrev pub at_variant : {A : Type 0} (N : Record) → A → List A → N.D → A
+at_variant N none xs x = in_order N.parts none xs (N.as_values x)
+
+-- the number of a value whose variant has a row
+abbrev pub number_by : {K : Type 0} (N : Record) → K → List (K × N.D) → N.D → K
+number_by N none rows x = at_variant N none (map (λ row. row.0) rows) x
+
+abbrev pub number_in : (N : Record) → List (ℕ × N.D) → N.D → ℕ
+number_in N rows x = number_by N 0 rows x
+
+-- a row with a text besides
+abbrev pub Named : Type 0 → Type 0
+Named V = ℕ × V × List ℕ
+
+abbrev pub numbered : {V : Type 0} → List (Named V) → List (ℕ × V)
+numbered rows = map (λ row. (row.0, row.1)) rows
+
+abbrev pub text_in : (N : Record) → List (Named N.D) → N.D → List ℕ
+text_in N rows x = at_variant N [] (map (λ row. row.2) rows) x
 
 -- the value is what its own number reads as
 abbrev pub IsFormed : {K V : Type 0} → (K → V) → (V → K) → V → Type 0
