@@ -1,23 +1,11 @@
--- How a routing header is read and written, part by part.
+-- How a SEG6 header is read, part by part.
 use Rattle.std.specs.List.{concat}
-use Rattle.std.proofs.Common.{◌≡◌, ℕ, ◌+◌, ◌-◌, ◌≤◌, List, ◌++◌, length, take, drop, reverse, sym, ap, ◌∙◌, arith, length-append, length-take, length-drop, append_assoc}
+use Rattle.std.proofs.Common.{◌≡◌, ℕ, ◌+◌, List, ◌++◌, length, take, drop, reverse, sym, ap, ◌∙◌, arith, length-take, length-drop}
 use Rattle.std.proofs.lemmas.List.{take-append-drop, drop-drop}
-use borrow.Rule.Slice.PartMut.{put_mid}
-use Rattle.npr_base.specs.Framing.{Writes}
 use Rattle.npr_base.specs.V6List.{IsV6List}
-use Rattle.npr_base.proofs.Writing.{Writes-more}
 use Rattle.npr_srh.specs.declared.seg6_header.Seg6MessageBuffer.{Seg6MessageBuffer}
 use Rattle.npr_srh.specs.Seg6Mode.{mode_of}
 use Rattle.npr_srh.specs.Seg6.{Seg6, IsSeg6, IsKey, HasFront, hmac_len, header_len}
-
--- three parts, written one behind the other
-pub Writes-three : (old one two three a b c : List ℕ) (at end : ℕ) → at ≡ length a → end ≡ at + length b → length a + length b ≤ length old → Writes old one a
-    → Writes (take (length one - at) (drop at one)) two b → Writes (take (length (put_mid at (length one - at) one two) - end) (drop end (put_mid at (length one - at) one two))) three c
-    → Writes old (put_mid end (length (put_mid at (length one - at) one two) - end) (put_mid at (length one - at) one two) three) (a ++ (b ++ c))
-Writes-three old one two three a b c at end e f le p q r =
-    let first = Writes-more old one two a b at e (omega arith) p q in
-    let whole = Writes-more old (put_mid at (length one - at) one two) three (a ++ b) c end (omega (arith, length-append a b)) (omega (arith, length-append a b)) first r in
-    rw (← append_assoc a b c) whole
 
 -- the parts of a SEG6 header
 pub seg6_read : (bytes : List ℕ) (b : Seg6MessageBuffer) (len : ℕ) (wire : List (List ℕ)) (h : Seg6) → HasFront bytes b len → IsV6List (take len (drop 12 bytes)) wire

@@ -1,5 +1,5 @@
 -- What `==` answers of routing headers and of members of tunnels: whether they mean the same.
-use Rattle.std.specs.Prelude.{◌≡◌, ℕ, Option, Some, None, nat_eq}
+use Rattle.std.specs.Prelude.{◌≡◌, ℕ, Bool, ◌&&◌, Option, Some, None, nat_eq}
 use Rattle.std.specs.Bool.{Decides}
 use Rattle.std.specs.Option.{option_eq}
 use Rattle.std.specs.Cmp.{unsigned_Decides}
@@ -62,6 +62,10 @@ seg6_header_equality a b =
     (λ e. (ap (λ (h : Seg6). h.mode) e, (ap (λ (h : Seg6). h.segments) e, ap (λ (h : Seg6). h.hmac) e)))
     (and_decides (mode_equality a.mode b.mode) (and_decides (items_equality ipv6_equality a.segments b.segments) (key_equality a.hmac b.hmac)))
 
+-- a number, and what stands behind it
+number : {P : Type 0} {p : Bool} (x y : ℕ) → Decides p P → Decides (nat_eq x y && p) ((x ≡ y) × P)
+number x y h = and_decides (unsigned_Decides x y) h
+
 pub local_header_equality : IsEqualityOf local_of LocalHeaderEq.ghosts.eq
 local_header_equality a b =
     decides_as
@@ -69,12 +73,8 @@ local_header_equality a b =
     (λ e. let is : (get : LocalFront → ℕ) → get (local_of a).front ≡ get (local_of b).front = λ get. ap (λ (h : Local). get h.front) e in
     let s = ap (λ (h : Local). h.segments) e in
     (is (λ f. f.next_header), (is (λ f. f.routing_type), (is (λ f. f.segments_left), (is (λ f. f.first_segment), (is (λ f. f.flags), (is (λ f. f.tag), s)))))))
-    (and_decides (unsigned_Decides a.next_header b.next_header)
-    (and_decides (unsigned_Decides a.routing_type b.routing_type)
-    (and_decides (unsigned_Decides a.segments_left b.segments_left)
-    (and_decides (unsigned_Decides a.first_segment b.first_segment)
-    (and_decides (unsigned_Decides a.flags b.flags)
-    (and_decides (unsigned_Decides a.tag b.tag) (items_equality ipv6_equality a.segments b.segments)))))))
+    (number a.next_header b.next_header (number a.routing_type b.routing_type (number a.segments_left b.segments_left
+    (number a.first_segment b.first_segment (number a.flags b.flags (number a.tag b.tag (items_equality ipv6_equality a.segments b.segments)))))))
 
 pub rpl_header_equality : IsEqualityOf rpl_of RplHeaderEq.ghosts.eq
 rpl_header_equality a b =
@@ -83,12 +83,8 @@ rpl_header_equality a b =
     (λ e. let is : (get : RplFront → ℕ) → get (rpl_of a).front ≡ get (rpl_of b).front = λ get. ap (λ (h : Rpl). get h.front) e in
     let segments = ap (λ (h : Rpl). h.segments) e in
     (is (λ f. f.next_header), (is (λ f. f.routing_type), (is (λ f. f.segments_left), (is (λ f. f.cmpri), (is (λ f. f.cmpre), (is (λ f. f.pad), segments)))))))
-    (and_decides (unsigned_Decides a.next_header b.next_header)
-    (and_decides (unsigned_Decides a.routing_type b.routing_type)
-    (and_decides (unsigned_Decides a.segments_left b.segments_left)
-    (and_decides (unsigned_Decides a.cmpri b.cmpri)
-    (and_decides (unsigned_Decides a.cmpre b.cmpre)
-    (and_decides (unsigned_Decides a.pad b.pad) (items_equality ipv6_equality a.segments b.segments)))))))
+    (number a.next_header b.next_header (number a.routing_type b.routing_type (number a.segments_left b.segments_left
+    (number a.cmpri b.cmpri (number a.cmpre b.cmpre (number a.pad b.pad (items_equality ipv6_equality a.segments b.segments)))))))
 
 -- ---- the members
 

@@ -1,22 +1,22 @@
 -- A header of eight bytes, the second of which counts the eights behind it, and addresses to the end of the value in
 -- the order of the wire: the form that SEG6 local and RPL share.
 --     Fixed          how the eight bytes are read and written
---     IsHeaded       what a value means
---     HasHeader      the lengths without which it means nothing
+--     IsParted       the parts of a value
+--     IsHeaded       what it means
 --     headed         the values, with their laws
 use Rattle.std.specs.List.{concat}
-use Rattle.std.proofs.Common.{◌≡◌, ℕ, ◌+◌, ◌-◌, ◌*◌, ◌%◌, ◌≤◌, List, ◌++◌, length, take, drop, slice_index, Option}
-use Rattle.std.proofs.Common.{refl, sym, ap, subst, ◌∙◌, arith, length-append, length-take}
-use Rattle.std.proofs.lemmas.List.{get_or_append_left, get_or-take, take-append-drop}
+use Rattle.std.proofs.Common.{◌≡◌, ℕ, ◌+◌, ◌-◌, ◌*◌, ◌%◌, ◌≤◌, List, ◌++◌, length, slice_index, Option}
+use Rattle.std.proofs.Common.{refl, sym, ap, subst, ◌∙◌, arith, length-append}
+use Rattle.std.proofs.lemmas.List.{get_or_append_left}
 use Rattle.npr_base.specs.declared.refusal.DecodeError.TheVariants.{Unsupported}
 use Rattle.npr_base.specs.declared.refusal.EmitError.{EmitError}
 use Rattle.npr_base.specs.Framing.{IsBytes, framed}
 use Rattle.npr_base.specs.Family.{AllOf, option_or, too_long}
 use Rattle.npr_base.specs.CodecLaws.{framed-grows}
 use Rattle.npr_base.specs.ListLaws.{IsBytes-left, IsBytes-right}
-use Rattle.npr_base.specs.V6List.{IsV6List}
 use Rattle.npr_base.specs.V6ListLaws.{same_parts, length-concat, v6_list-one, v6_list-bytes}
-use Rattle.npr_base.specs.Codec.{Codec}
+use Rattle.npr_base.specs.Codec.{Codec, no_members}
+use Rattle.npr_srh.specs.Keeping.{IsUnread}
 use Rattle.npr_srh.specs.Segments.{too_many}
 
 -- the eight bytes: the fields that they hold, and how the fields are written with a number of eights
@@ -37,24 +37,18 @@ pub record Headed (F : Type 0) : Type 0 where
   pub front : F
   pub segments : List (List ℕ)
 
+-- eight bytes in front, as many eights behind them as the second says, and these are whole addresses
+pub record IsParted (bytes : List ℕ) (p : Headed (List ℕ)) : Type 0 where
+  pub is : bytes ≡ p.front ++ concat p.segments
+  pub size : length p.front ≡ 8
+  pub whole : AllOf (λ a. length a ≡ 16) p.segments
+  pub len : length bytes ≡ 8 * (slice_index p.front 1 + 1)
+
 pub record IsHeaded {F : Type 0} (L : Fixed F) (bytes : List ℕ) (h : Headed F) : Type 0 where
   pub head : List ℕ
-  pub is : bytes ≡ head ++ concat h.segments
-  pub size : length head ≡ 8
-  pub whole : AllOf (λ a. length a ≡ 16) h.segments
-  pub len : length bytes ≡ 8 * (slice_index head 1 + 1)
+  pub parts : IsParted bytes (record { front = head; segments = h.segments })
   pub front : h.front ≡ L.decode head
   pub readable : L.Readable h.front
-
--- it means nothing
-abbrev pub IsUnread : {F : Type 0} → Fixed F → List ℕ → Type 0
-IsUnread {F} L bytes = (h : Headed F) → IsHeaded L bytes h → ⊥
-
--- eight bytes, as many eights behind them as the second says, and no part of an address
-pub record HasHeader (bytes : List ℕ) : Type 0 where
-  pub long : 8 ≤ length bytes
-  pub len : length bytes ≡ 8 * (slice_index bytes 1 + 1)
-  pub whole : (length bytes - 8) % 16 ≡ 0
 
 -- two eights for each address
 abbrev pub headed_bytes : {F : Type 0} → Fixed F → Headed F → List ℕ
@@ -70,49 +64,35 @@ pub record HoldsHeaded {F : Type 0} (L : Fixed F) (h : Headed F) : Type 0 where
   pub whole : AllOf (λ a. length a ≡ 16) h.segments
   pub segments : AllOf IsBytes h.segments
 
+-- what parts has the lengths
+pub parted_sizes : (bytes : List ℕ) (p : Headed (List ℕ)) → IsParted bytes p
+    → (8 ≤ length bytes) × (length bytes ≡ 8 * (slice_index bytes 1 + 1)) × ((length bytes - 8) % 16 ≡ 0)
+parted_sizes bytes p is =
+    let one = ap (λ (b : List ℕ). slice_index b 1) is.is ∙ get_or_append_left p.front (concat p.segments) 0 1 (omega (arith, is.size)) in
+    let all = ap length is.is in
+    let parts = length-append p.front (concat p.segments) in
+    let whole = length-concat p.segments is.whole in
+    (omega (arith, all, parts, is.size), omega (arith, is.len, one), omega (arith, all, parts, is.size, whole))
+
 module _ {F : Type 0} (L : Fixed F) where
+  -- what does not part means nothing
+  pub unread_headed : (bytes : List ℕ) → IsUnread IsParted bytes → IsUnread (IsHeaded L) bytes
+  unread_headed bytes unread = record { no = λ h is. unread.no (record { front = is.head; segments = h.segments }) is.parts }
+
   pub headed-one : (bytes : List ℕ) (h k : Headed F) → IsHeaded L bytes h → IsHeaded L bytes k → h ≡ k
   headed-one bytes h k p q =
-      let s = same_parts p.head (concat h.segments) q.head (concat k.segments) (p.size ∙ sym q.size) (sym p.is ∙ q.is) in
+      let s = same_parts p.head (concat h.segments) q.head (concat k.segments) (p.parts.size ∙ sym q.parts.size) (sym p.parts.is ∙ q.parts.is) in
       let front : h.front ≡ k.front = p.front ∙ ap L.decode s.0 ∙ sym q.front in
-      let segments : h.segments ≡ k.segments = v6_list-one h.segments k.segments p.whole q.whole s.1 in
+      let segments : h.segments ≡ k.segments = v6_list-one h.segments k.segments p.parts.whole q.parts.whole s.1 in
       λ i. record { front = front i; segments = segments i }
-
-  -- a value that means something has the lengths
-  pub headed-sizes : (bytes : List ℕ) (h : Headed F) → IsHeaded L bytes h → HasHeader bytes
-  headed-sizes bytes h p =
-      let one : slice_index bytes 1 ≡ slice_index p.head 1 = ap (λ (b : List ℕ). slice_index b 1) p.is
-      ∙ get_or_append_left p.head (concat h.segments) 0 1 (omega (arith, p.size)) in
-      let all = ap length p.is in
-      let parts = length-append p.head (concat h.segments) in
-      record {
-        long = omega (arith, all, parts, p.size);
-        len = omega (arith, p.len, one);
-        whole = omega (arith, all, parts, p.size, length-concat h.segments p.whole);
-      }
-
-  -- and with them it means what its parts mean
-  pub headed-is : (bytes : List ℕ) (h : Headed F) → HasHeader bytes → IsV6List (drop 8 bytes) h.segments → h.front ≡ L.decode (take 8 bytes)
-      → L.Readable h.front → IsHeaded L bytes h
-  headed-is bytes h has list front readable =
-      let one : slice_index (take 8 bytes) 1 ≡ slice_index bytes 1 = get_or-take 8 bytes 1 0 (omega arith) in
-      record {
-        head = take 8 bytes;
-        is = sym (take-append-drop 8 bytes) ∙ ap (λ (b : List ℕ). take 8 bytes ++ b) list.0;
-        size = omega (arith, length-take 8 bytes, has.long);
-        whole = list.1;
-        len = omega (arith, has.len, one);
-        front = front;
-        readable = readable;
-      }
 
   pub headed-holds : (bytes : List ℕ) (h : Headed F) → IsBytes bytes → IsHeaded L bytes h → HoldsHeaded L h
   headed-holds bytes h is p =
-      let all : IsBytes (p.head ++ concat h.segments) = subst IsBytes p.is is in
+      let all : IsBytes (p.head ++ concat h.segments) = subst IsBytes p.parts.is is in
       record {
-        range = subst L.Range (sym p.front) (L.Range-decode p.head (IsBytes-left p.head (concat h.segments) all) p.size);
+        range = subst L.Range (sym p.front) (L.Range-decode p.head (IsBytes-left p.head (concat h.segments) all) p.parts.size);
         readable = p.readable;
-        whole = p.whole;
+        whole = p.parts.whole;
         segments = v6_list-bytes h.segments (IsBytes-right p.head (concat h.segments) all);
       }
 
@@ -122,31 +102,36 @@ module _ {F : Type 0} (L : Fixed F) where
       omega (arith, length-append (L.encode eights h.front) (concat h.segments), L.length-encode eights h.front, length-concat h.segments whole)
 
   pub headed-back : (h : Headed F) → HoldsHeaded L h → IsHeaded L (headed_bytes L h) h
-  headed-back h holds = record {
-    head = L.encode (2 * length h.segments) h.front;
-    is = refl;
-    size = L.length-encode (2 * length h.segments) h.front;
-    whole = holds.whole;
-    len = omega (arith, headed-len h holds.whole, L.second (2 * length h.segments) h.front);
-    front = sym (L.decode-encode (2 * length h.segments) h.front holds.range holds.readable);
-    readable = holds.readable;
-  }
+  headed-back h holds =
+      let eights = 2 * length h.segments in
+      record {
+        head = L.encode eights h.front;
+        parts = record {
+          is = refl;
+          size = L.length-encode eights h.front;
+          whole = holds.whole;
+          len = omega (arith, headed-len h holds.whole, L.second eights h.front);
+        };
+        front = sym (L.decode-encode eights h.front holds.range holds.readable);
+        readable = holds.readable;
+      }
 
   pub headed-grows : (bytes : List ℕ) (h : Headed F) → IsBytes bytes → IsHeaded L bytes h → 2 * framed (length (headed_bytes L h)) ≤ 5 * (4 + length bytes)
   headed-grows bytes h is p =
+      let whole = length-concat h.segments p.parts.whole in
       framed-grows (length (headed_bytes L h)) (length bytes)
-      (omega (arith, headed-len h p.whole, ap length p.is, length-append p.head (concat h.segments), length-concat h.segments p.whole, p.size))
+      (omega (arith, headed-len h p.parts.whole, ap length p.parts.is, length-append p.head (concat h.segments), whole, p.parts.size))
 
 abbrev pub headed : {F : Type 0} → Fixed F → Codec (Headed F)
 headed L = record {
   Reads = IsHeaded L;
-  Wrong = λ at bytes e. IsUnread L bytes × (e ≡ Unsupported at);
+  Wrong = λ at bytes e. IsUnread (IsHeaded L) bytes × (e ≡ Unsupported at);
   writes = headed_bytes L;
   inside = headed_misfit L;
   Holds = HoldsHeaded L;
-  members = λ h. 0;
+  members = no_members;
   one_reading = headed-one L;
-  no_fault = λ at bytes h e p q. q.0 h p;
+  no_fault = λ at bytes h e p q. q.0.no h p;
   reads_holds = headed-holds L;
   reads_back = λ kind h holds fits. headed-back L h holds;
   grows = headed-grows L;

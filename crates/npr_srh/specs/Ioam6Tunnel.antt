@@ -76,7 +76,7 @@ placed (other x) = refl
 placed m = (omega arith, λ reads. (held_value (held_of m), reads, refl))
 
 abbrev pub table_of_rows : Table Meaning
-table_of_rows = table_of rows other held_of aligned (λ x. refl) (λ x is. is) placed
+table_of_rows = table_of rows other held_of aligned (λ x. refl) placed
 
 pub here : IsRowOf table_of_rows trace_row
 here x m e p = let q = rw e at p in (q.0, q.1)
@@ -87,7 +87,7 @@ writing = writing_by held_of
 
 -- the family: where the routing header can't be read, the attribute is kept
 abbrev pub attributes : Reading writing
-attributes = keeping table_of_rows trace_row here
+attributes = keeping table_of_rows trace_row here (λ x old new looks. looks)
 
 -- the text of a member
 abbrev pub ioam6_text : Meaning → Option (List ℕ)

@@ -1,6 +1,5 @@
 -- The members of an RPL tunnel (linux/rpl_iptunnel.h, RPL_IPTUNNEL_*), by their table.
-use Rattle.std.specs.Prelude.{ℕ, List, [], ◌∷◌, ◌++◌, Option, Some, codes, decimal}
-use Rattle.std.specs.Fmt.{◌++?◌}
+use Rattle.std.specs.Prelude.{ℕ, List, [], ◌∷◌, Option, Some, codes}
 use Rattle.npr_base.specs.declared.refusal.AttrFamily.TheVariants.{Rpl as OfRpl}
 use Rattle.npr_base.specs.Framing.{Item}
 use Rattle.npr_base.specs.DroppedCodec.{dropped}
@@ -9,7 +8,7 @@ use Rattle.npr_base.specs.TableLaws.{table_of}
 use Rattle.npr_base.specs.Text.{nla_text}
 use Rattle.npr_srh.specs.Keeping.{keeping, IsRowOf}
 use Rattle.npr_srh.specs.Rpl.{Rpl, rpl, rpl_of}
-use Rattle.npr_srh.specs.Segments.{segments_text}
+use Rattle.npr_srh.specs.Segments.{header_text}
 use Rattle.npr_srh.specs.declared.rpl.RouteRplIpTunnel.{RouteRplIpTunnel}
 use Rattle.npr_srh.specs.declared.rpl.RouteRplIpTunnel.TheVariants.{Unspecified, Srh, Other}
 use Rattle.std.proofs.Common.{refl, arith, rules}
@@ -51,7 +50,7 @@ placed (other x) = refl
 placed m = (omega arith, λ reads. (held_value (held_of m), reads, refl))
 
 abbrev pub table_of_rows : Table Meaning
-table_of_rows = table_of rows other held_of aligned (λ x. refl) (λ x is. is) placed
+table_of_rows = table_of rows other held_of aligned (λ x. refl) placed
 
 pub here : IsRowOf table_of_rows srh_row
 here x m e p = let q = rw e at p in (q.0, q.1)
@@ -62,10 +61,10 @@ writing = writing_by held_of
 
 -- the family: where the routing header can't be read, the attribute is kept
 abbrev pub attributes : Reading writing
-attributes = keeping table_of_rows srh_row here
+attributes = keeping table_of_rows srh_row here (λ x old new looks. looks)
 
 -- the text of a member
 abbrev pub rpl_text : Meaning → Option (List ℕ)
 rpl_text unspecified = Some (codes "unspecified")
-rpl_text (srh h) = Some (codes "srh segs " ++ decimal h.front.segments_left ++ codes " [ ") ++? segments_text h.segments ++? Some (codes " ]")
+rpl_text (srh h) = header_text h.front.segments_left h.segments
 rpl_text (other x) = nla_text x

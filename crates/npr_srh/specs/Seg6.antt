@@ -142,8 +142,11 @@ front_of h = record {
   tag = 0;
 }
 
+abbrev pub body_bytes : Seg6 → List ℕ
+body_bytes h = concat (reverse h.segments) ++ key_bytes h.hmac
+
 abbrev pub seg6_bytes : Seg6 → List ℕ
-seg6_bytes h = encode_message (front_of h) ++ (concat (reverse h.segments) ++ key_bytes h.hmac)
+seg6_bytes h = encode_message (front_of h) ++ body_bytes h
 
 -- so many segments can the length byte say
 abbrev pub most_segments : Option ℕ → ℕ

@@ -18,11 +18,11 @@ use Rattle.npr_base.specs.ListLaws.{IsBytes-left, IsBytes-right, IsBytes-take}
 use Rattle.npr_base.specs.V6ListLaws.{same_parts, AllOf-reverse, length-concat, v6_list-one, v6_list-bytes}
 use Rattle.npr_base.specs.RowLaws.{form_IsFormed}
 use Rattle.npr_base.specs.Rows.{IsFormed}
-use Rattle.npr_base.specs.Codec.{Codec}
+use Rattle.npr_base.specs.Codec.{Codec, no_members}
 use Rattle.npr_srh.specs.Seg6Mode.{ModeTable, modes, mode_in, mode_number, mode_number-mode_in}
 use Rattle.npr_srh.specs.declared.seg6_header.Seg6MessageBuffer.{Seg6MessageBuffer}
 use Rattle.npr_srh.specs.Segments.{too_many, few}
-use Rattle.npr_srh.specs.Seg6.{Seg6, IsSeg6By, IsKey, Seg6Wrong, Seg6Faulty, HoldsSeg6By, HoldsKey, message, decode_message, encode_message}
+use Rattle.npr_srh.specs.Seg6.{Seg6, IsSeg6By, IsKey, HasFront, Seg6Wrong, Seg6Faulty, HoldsSeg6By, HoldsKey, message, decode_message, encode_message}
 use Rattle.npr_srh.specs.Seg6.{header_len, hmac_len, front_of, seg6_bytes, key_bytes, key_eights, key_flags, most_segments, seg6_misfit}
 
 -- ---- one reading
@@ -49,38 +49,33 @@ seg6-one table bytes h k p q =
 
 -- ---- a fault is no reading
 
-record Sizes (bytes : List ℕ) (b : Seg6MessageBuffer) : Type 0 where
-  long : 12 ≤ length bytes
-  room : 4 + header_len b ≤ length bytes
-  hmac : 8 + hmac_len b ≤ header_len b
-  whole : (header_len b - (8 + hmac_len b)) % 16 ≡ 0
-
-sizes : (table : ModeTable) (bytes : List ℕ) (h : Seg6) → IsSeg6By table bytes h → Sizes bytes (decode_message (take 12 bytes))
+sizes : (table : ModeTable) (bytes : List ℕ) (h : Seg6) (p : IsSeg6By table bytes h)
+    → HasFront bytes (decode_message (take 12 bytes)) (length (concat p.wire))
 sizes table bytes h p =
     let tail : List ℕ = concat p.wire ++ (p.hmac ++ p.rest) in
     let same : decode_message (take 12 bytes) ≡ decode_message p.front = ap decode_message (ap (take 12) p.is ∙ take_at p.front tail 12 p.size) in
     let len : header_len (decode_message (take 12 bytes)) ≡ header_len (decode_message p.front) = ap header_len same in
     let hmac : hmac_len (decode_message (take 12 bytes)) ≡ hmac_len (decode_message p.front) = ap hmac_len same in
     let all = ap length p.is in
-    let blocks = length-concat p.wire p.whole in
     let parts = length-append p.front tail in
     let more = length-append (concat p.wire) (p.hmac ++ p.rest) in
     let last = length-append p.hmac p.rest in
     record {
       long = omega (arith, all, parts, p.size);
+      front = refl;
       room = omega (arith, all, parts, more, last, p.size, p.len, len);
-      hmac = omega (arith, p.len, p.hmac_size, len, hmac);
-      whole = omega (arith, p.len, p.hmac_size, len, hmac, blocks);
+      split = omega (arith, p.len, p.hmac_size, len, hmac);
+      whole = omega (arith, length-concat p.wire p.whole);
     }
 
-fault-sound : (bytes : List ℕ) (b : Seg6MessageBuffer) (fault : Seg6Fault) → Sizes bytes b → Seg6Faulty bytes b fault → ⊥
-fault-sound bytes b Short s q = omega (arith, s.long, q)
-fault-sound bytes b Length s q = omega (arith, s.room, q.1)
-fault-sound bytes b Hmac s q = omega (arith, s.hmac, q.2, q.3)
-fault-sound bytes b Segments s q = q.3 s.whole
+fault-sound : (bytes : List ℕ) (b : Seg6MessageBuffer) (len : ℕ) (fault : Seg6Fault) → HasFront bytes b len → Seg6Faulty bytes b fault → ⊥
+fault-sound bytes b len Short s q = omega (arith, s.long, q)
+fault-sound bytes b len Length s q = omega (arith, s.room, q.1)
+fault-sound bytes b len Hmac s q = omega (arith, s.split, q.2, q.3)
+fault-sound bytes b len Segments s q = q.3 (omega (arith, s.split, s.whole))
 
 pub seg6-sound : (table : ModeTable) (at : At) (bytes : List ℕ) (h : Seg6) (e : DecodeError) → IsSeg6By table bytes h → Seg6Wrong bytes e → ⊥
-seg6-sound table at bytes h (Refused fault) p q = fault-sound bytes (decode_message (take 12 bytes)) fault (sizes table bytes h p) q
+seg6-sound table at bytes h (Refused fault) p q = fault-sound bytes (decode_message (take 12 bytes)) (length (concat p.wire)) fault (sizes table bytes h p) q
 seg6-sound table at bytes h _ p q = q
 
 -- ---- what is read can be held
@@ -182,7 +177,7 @@ seg6_by table = record {
   writes = seg6_bytes;
   inside = seg6_misfit;
   Holds = HoldsSeg6By table;
-  members = λ h. 0;
+  members = no_members;
   one_reading = seg6-one table;
   no_fault = seg6-sound table;
   reads_holds = seg6-holds table;

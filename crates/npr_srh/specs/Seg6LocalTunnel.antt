@@ -1,6 +1,5 @@
 -- The members of a SEG6 local tunnel (linux/seg6_local.h, SEG6_LOCAL_*), by their table.
 use Rattle.std.specs.Prelude.{ℕ, List, [], ◌∷◌, ◌+◌, ◌++◌, Option, Some, codes, decimal}
-use Rattle.std.specs.Fmt.{◌++?◌}
 use Rattle.std.specs.Net.Addr.{segments_of}
 use Rattle.std.specs.Net.Text.{ipv4_text, ipv6_text}
 use Rattle.npr_base.specs.declared.refusal.AttrFamily.TheVariants.{Seg6Local as OfSeg6Local}
@@ -14,7 +13,7 @@ use Rattle.npr_base.specs.Text.{nla_text}
 use Rattle.npr_srh.specs.Keeping.{keeping, IsRowOf}
 use Rattle.npr_srh.specs.Seg6LocalAction.{action, action_text}
 use Rattle.npr_srh.specs.Seg6Local.{Local, local, local_of}
-use Rattle.npr_srh.specs.Segments.{segments_text}
+use Rattle.npr_srh.specs.Segments.{header_text}
 use Rattle.npr_srh.specs.declared.seg6local_action.Seg6LocalAction.{Seg6LocalAction}
 use Rattle.npr_srh.specs.declared.seg6local.RouteSeg6LocalTunnel.{RouteSeg6LocalTunnel}
 use Rattle.npr_srh.specs.declared.seg6local.RouteSeg6LocalTunnel.TheVariants.{Unspecified, Action, Srh, Table as RouteTable, Nh4, Nh6}
@@ -86,7 +85,7 @@ placed (other x) = refl
 placed m = (omega arith, λ reads. (held_value (held_of m), reads, refl))
 
 abbrev pub table_of_rows : Table Meaning
-table_of_rows = table_of rows other held_of aligned (λ x. refl) (λ x is. is) placed
+table_of_rows = table_of rows other held_of aligned (λ x. refl) placed
 
 pub here : IsRowOf table_of_rows srh_row
 here x m e p = let q = rw e at p in (q.0, q.1)
@@ -97,13 +96,13 @@ writing = writing_by held_of
 
 -- the family: where the routing header can't be read, the attribute is kept
 abbrev pub attributes : Reading writing
-attributes = keeping table_of_rows srh_row here
+attributes = keeping table_of_rows srh_row here (λ x old new looks. looks)
 
 -- the text of a member
 abbrev pub local_text : Meaning → Option (List ℕ)
 local_text unspecified = Some (codes "unspecified")
 local_text (act a) = Some (codes "action " ++ action_text a)
-local_text (srh h) = Some (codes "srh segs " ++ decimal (h.front.first_segment + 1) ++ codes " [ ") ++? segments_text h.segments ++? Some (codes " ]")
+local_text (srh h) = header_text (h.front.first_segment + 1) h.segments
 local_text (table n) = Some (codes "table " ++ decimal n)
 local_text (nh4 a) = Some (codes "nh4 " ++ ipv4_text a)
 local_text (nh6 a) = Some (codes "nh6 " ++ ipv6_text (segments_of a))

@@ -52,7 +52,7 @@ abbrev pub Coherent : ModeTable → Meaning → Type 0
 Coherent by (header h) = (seg6_by by).Holds h
 Coherent by m = IsHeld (rows by) (held_of m)
 
-pub aligned : (by : ModeTable) → Aligned (λ m. item_of (held_of m)) (Coherent by) (rows by)
+pub aligned : (by : ModeTable) → Aligned (writing_by held_of) (Coherent by) (rows by)
 aligned by = search rules
 
 pub kinds : (by : ModeTable) (m : Meaning) → Coherent by m → held_kind (held_of m) < 2 ^ 16

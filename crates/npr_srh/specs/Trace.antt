@@ -7,8 +7,9 @@ use Rattle.npr_base.specs.declared.refusal.DecodeError.TheVariants.{Unsupported}
 use Rattle.npr_base.specs.Framing.{IsBytes}
 use Rattle.npr_base.specs.Layout.{Layout, be16_at, be32_at, truth_byte}
 use Rattle.npr_base.specs.CodecLaws.{exactly-one, exactly-holds, exactly-back, exactly-grows}
-use Rattle.npr_base.specs.Codec.{Codec}
+use Rattle.npr_base.specs.Codec.{Codec, no_members}
 use Rattle.npr_base.specs.Text.{padded_hex_text}
+use Rattle.npr_srh.specs.Keeping.{IsUnread}
 use Rattle.npr_srh.specs.declared.ioam6.Ioam6TraceHdr.{Ioam6TraceHdr}
 
 -- big endian: the number of the namespace; five bits of the length of a node's data, and one that says that no room was
@@ -79,13 +80,13 @@ IsTrace bytes t = (length bytes ≡ 8) × (t ≡ decode_trace bytes)
 abbrev pub trace : Codec Ioam6TraceHdr
 trace = record {
   Reads = IsTrace;
-  Wrong = λ at bytes e. ((t : Ioam6TraceHdr) → IsTrace bytes t → ⊥) × (e ≡ Unsupported at);
+  Wrong = λ at bytes e. IsUnread IsTrace bytes × (e ≡ Unsupported at);
   writes = encode_trace;
   inside = λ kind t. None;
   Holds = HoldsTrace;
-  members = λ t. 0;
+  members = no_members;
   one_reading = exactly-one trace_layout;
-  no_fault = λ at bytes t e p q. q.0 t p;
+  no_fault = λ at bytes t e p q. q.0.no t p;
   reads_holds = exactly-holds trace_layout;
   reads_back = λ kind t h fits. exactly-back trace_layout t h;
   grows = exactly-grows trace_layout;

@@ -5,8 +5,8 @@ ghost use Rattle.{
   npr_base.specs.{Table.{family_of, shape_at, held}, declared.refusal.DecodeError.TheVariants.{OutOfMemory}},
   npr_srh.specs.{
     Ioam6Mode.{ioam6_mode_of, ioam6_mode_number, ioam6_mode_text},
+    Keeping.{IsUnread},
     Trace.{trace, IsTrace, encode_trace, trace_text},
-    declared.ioam6.Ioam6TraceHdr.{Ioam6TraceHdr},
     Ioam6Tunnel.{meaning_of, writing, attributes, ioam6_text, trace_row},
   },
 };
@@ -32,16 +32,22 @@ pub enum Ioam6Mode {
     Other(u8),
 }
 
+/// Their numbers and names.
+macro_rules! numbers {
+    ($body:ident ($($given:tt)*)) => {
+        npr_base::$body!(($($given)*) Ioam6Mode {
+            1 Inline "inline";
+            2 Encap "encap";
+            3 Auto "auto";
+        })
+    };
+}
+
 impl From<u8> for Ioam6Mode {
     ghost from_gives = { λ number mode. mode ≡ ioam6_mode_of number };
 
     fn from(number: u8) -> Ioam6Mode {
-        match number {
-            1 => Ioam6Mode::Inline,
-            2 => Ioam6Mode::Encap,
-            3 => Ioam6Mode::Auto,
-            _ => Ioam6Mode::Other(number),
-        }
+        numbers!(variant_of_number(number))
     }
 }
 
@@ -49,12 +55,7 @@ impl From<Ioam6Mode> for u8 {
     ghost from_gives = { λ mode number. number ≡ ioam6_mode_number mode };
 
     fn from(mode: Ioam6Mode) -> u8 {
-        match mode {
-            Ioam6Mode::Inline => 1,
-            Ioam6Mode::Encap => 2,
-            Ioam6Mode::Auto => 3,
-            Ioam6Mode::Other(number) => number,
-        }
+        numbers!(number_of_variant(mode))
     }
 }
 
@@ -73,9 +74,6 @@ pub struct Ioam6TraceHdr {
     pub trace_type: u32,
 }
 
-/// The family of these attributes.
-const FAMILY: AttrFamily = AttrFamily::Ioam6;
-
 /// `IOAM6_IPTUNNEL_TRACE` of `linux/ioam6_iptunnel.h`.
 const IOAM6_IPTUNNEL_TRACE: u16 = 3;
 
@@ -83,7 +81,7 @@ impl Ioam6TraceHdr {
     /// The header that a value is: exactly 8 bytes.
     pub(crate) fn read(value: &[u8]) -> Option<Self>
         ensures some { IfSome result (λ t. IsTrace value.now t) }
-        ensures none { IfNone result ((t : Ioam6TraceHdr) → IsTrace value.now t → ⊥) }
+        ensures none { IfNone result (IsUnread IsTrace value.now) }
     {
         let [a, b, node, rem, c, d, e, f] = value else {
             return None;
@@ -153,7 +151,7 @@ impl<'a> Parseable<&'a NlaBuffer<'a>> for Ioam6TraceHdr {
         ensures memory { IfErr result (λ e. e ≢ OutOfMemory) }
     {
         Ioam6TraceHdr::read(input.value()).ok_or(DecodeError::Unsupported {
-            at: FAMILY.at(IOAM6_IPTUNNEL_TRACE),
+            at: AttrFamily::Ioam6.at(IOAM6_IPTUNNEL_TRACE),
         })
     }
 }
@@ -230,10 +228,7 @@ impl Attribute for RouteIoam6Tunnel {
     ) -> Result<(), DecodeError> {
         rows!(put_rows(place, alloc, item, looks;
             IOAM6_IPTUNNEL_TRACE => match Ioam6TraceHdr::read(item.value()) {
-                Some(trace) => {
-                    place.put(RouteIoam6Tunnel::Trace(trace));
-                    Ok(())
-                }
+                Some(trace) => put_read(place, Ok(trace), RouteIoam6Tunnel::Trace),
                 None => put_read(place, DefaultNla::read(alloc, item), RouteIoam6Tunnel::Other),
             },
         ))
@@ -249,12 +244,7 @@ impl fmt::Display for Ioam6Mode {
     ghost output = { λ mode. Some (ioam6_mode_text mode) };
 
     fn fmt<W: fmt::Write>(&self, f: &mut fmt::Formatter<W>) -> fmt::Result {
-        f.write_str(match self {
-            Ioam6Mode::Inline => "inline",
-            Ioam6Mode::Encap => "encap",
-            Ioam6Mode::Auto => "auto",
-            Ioam6Mode::Other(number) => return write!(f, "other({number})"),
-        })
+        numbers!(write_variant(self, f, "other({})"))
     }
 }
 

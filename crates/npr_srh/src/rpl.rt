@@ -5,16 +5,16 @@ ghost use Rattle.std.specs.Prelude.{◌≡◌, ◌≤◌, ◌*◌, length, [], I
 ghost use Rattle.{
   npr_base.specs.{Table.{family_of, shape_at, held}, declared.refusal.DecodeError.TheVariants.{OutOfMemory}},
   npr_srh.specs.{
-    Headed.{IsUnread},
-    Rpl.{rpl, rpl_of, rpl_front, encode_rpl},
+    Keeping.{IsUnread},
+    Rpl.{rpl, rpl_of, encode_rpl},
     RplTunnel.{meaning_of, writing, attributes, rpl_text, srh_row},
   },
 };
 
-use crate::segments::{Segments, check_header, has_header};
+use crate::segments::{check_header, read_parts, write_header};
 use npr_base::{
     AttrFamily, Attribute, DecodeError, DefaultNla, EmitError, Ipv6Addr, Looks, Nla, NlaBuffer,
-    Parseable, Place, read_v6_list, v6_list_len, write_array, write_v6_list,
+    Parseable, Place, put_read, write_array, write_v6_list,
 };
 use std::alloc::{AllocError, Global};
 use std::fmt;
@@ -65,42 +65,32 @@ impl RplSrh {
         ensures { IfOk result (λ h. rpl_of h ≡ rpl_of self.now) }
     {
         Ok(RplSrh {
-            next_header: self.next_header,
-            routing_type: self.routing_type,
-            segments_left: self.segments_left,
-            cmpri: self.cmpri,
-            cmpre: self.cmpre,
-            pad: self.pad,
             segments: Vec::from_slice(alloc, self.segments.as_slice())?,
+            ..*self
         })
     }
 
-    /// The header that a value is, or `None` where it can't be read.
-    ///
-    /// # Errors
-    /// `OutOfMemory` alone, where memory is refused.
-    pub(crate) fn read(alloc: Global, value: &[u8]) -> Result<Option<Self>, DecodeError>
-        ensures some { IfOk result (λ o. IfSome o (λ h. rpl.Reads value.now (rpl_of h))) }
-        ensures none { IfOk result (λ o. IfNone o (IsUnread rpl_front value.now)) }
-        ensures refused { IfErr result (λ e. e ≡ OutOfMemory) }
+    /// The header that a value is, or `None` where it can't be read. The refusal is `OutOfMemory`
+    /// alone, where memory is refused.
+    #[tactic(auto, using(crate::specs::Headed::unread_headed))]
+    pub(crate) fn read(alloc: Global, value: &[u8]) -> Option<Result<Self, DecodeError>>
+        ensures ok { IfSome result (λ r. IfOk r (λ h. rpl.Reads value.now (rpl_of h))) }
+        ensures none { IfNone result (IsUnread rpl.Reads value.now) }
+        ensures refused { IfSome result (λ r. IfErr r (λ e. e ≡ OutOfMemory)) }
     {
-        if !has_header(value) {
-            return Ok(None);
+        // Bytes are left out of addresses.
+        if *value.get(4)? != 0 {
+            return None;
         }
-        let head = &value[..8];
-        let word = u32::from_le_bytes([head[4], head[5], head[6], head[7]]);
-        let (cmpri, cmpre) = ((word / 16 % 16) as u8, (word % 16) as u8);
-        if cmpri != 0 || cmpre != 0 {
-            return Ok(None);
-        }
-        Ok(Some(RplSrh {
+        let parts = read_parts(alloc, value)?;
+        Some(parts.map(|(head, segments)| RplSrh {
             next_header: head[0],
             routing_type: head[2],
             segments_left: head[3],
-            cmpri,
-            cmpre,
-            pad: (word / 4096 % 16) as u8,
-            segments: read_v6_list(alloc, &value[8..])?,
+            cmpri: 0,
+            cmpre: 0,
+            pad: head[5] / 16,
+            segments,
         }))
     }
 
@@ -109,17 +99,15 @@ impl RplSrh {
         requires { length self.now.segments.items ≤ 127 }
         ensures { result ≡ encode_rpl (2 * length self.now.segments.items) (rpl_of self.now).front }
     {
-        let low = (self.cmpre % 16) as u32 + 16 * (self.cmpri % 16) as u32;
-        let [a, b, c, d] = (low + 4096 * (self.pad % 16) as u32).to_le_bytes();
         [
             self.next_header,
             (2 * self.segments.len()) as u8,
             self.routing_type,
             self.segments_left,
-            a,
-            b,
-            c,
-            d,
+            16 * (self.cmpri % 16) + self.cmpre % 16,
+            16 * (self.pad % 16),
+            0,
+            0,
         ]
     }
 }
@@ -136,12 +124,7 @@ impl Nla for RplSrh {
     }
 
     fn check_value(&self) -> Result<usize, EmitError> {
-        check_header(
-            RPL_IPTUNNEL_SRH,
-            8 + v6_list_len(self.segments.as_slice()),
-            self.segments.len(),
-            127,
-        )
+        check_header(RPL_IPTUNNEL_SRH, 8, self.segments.as_slice(), 127)
     }
 
     fn write_value(&self, out: &mut [u8]) -> usize {
@@ -160,12 +143,9 @@ impl<'a> Parseable<&'a NlaBuffer<'a>> for RplSrh {
     /// # Errors
     /// `OutOfMemory` where memory is refused, and else `Unsupported`.
     fn parse(alloc: Global, input: &'a NlaBuffer<'a>) -> Result<Self, DecodeError> {
-        match RplSrh::read(alloc, input.value())? {
-            Some(header) => Ok(header),
-            None => Err(DecodeError::Unsupported {
-                at: AttrFamily::Rpl.at(RPL_IPTUNNEL_SRH),
-            }),
-        }
+        RplSrh::read(alloc, input.value()).unwrap_or(Err(DecodeError::Unsupported {
+            at: AttrFamily::Rpl.at(RPL_IPTUNNEL_SRH),
+        }))
     }
 }
 
@@ -224,19 +204,12 @@ impl Attribute for RouteRplIpTunnel {
         item: &NlaBuffer<'_>,
         looks: &mut Looks,
     ) -> Result<(), DecodeError> {
-        match item.kind() {
-            1 => match RplSrh::read(alloc, item.value())? {
-                Some(header) => {
-                    place.put(RouteRplIpTunnel::Srh(header));
-                    Ok(())
-                }
-                None => {
-                    place.put(RouteRplIpTunnel::Other(DefaultNla::read(alloc, item)?));
-                    Ok(())
-                }
+        rows!(put_rows(place, alloc, item, looks;
+            RPL_IPTUNNEL_SRH => match RplSrh::read(alloc, item.value()) {
+                Some(header) => put_read(place, header, RouteRplIpTunnel::Srh),
+                None => put_read(place, DefaultNla::read(alloc, item), RouteRplIpTunnel::Other),
             },
-            _ => rows!(put_rows(place, alloc, item, looks)),
-        }
+        ))
     }
 
     fn clone(&self, alloc: Global) -> Result<Self, AllocError> {
@@ -252,9 +225,8 @@ impl fmt::Display for RouteRplIpTunnel {
         match self {
             RouteRplIpTunnel::Unspecified => f.write_str("unspecified"),
             RouteRplIpTunnel::Srh(header) => {
-                let left = header.segments_left;
-                let segments = Segments(header.segments.as_slice());
-                write!(f, "srh segs {left} [ {segments} ]")
+                let left = u16::from(header.segments_left);
+                write_header(f, left, header.segments.as_slice())
             }
             RouteRplIpTunnel::Other(nla) => fmt::Debug::fmt(nla, f),
         }

@@ -10,7 +10,7 @@ ghost use Rattle.{
     declared.refusal.DecodeError.TheVariants.{OutOfMemory, Seg6Header as Refused},
   },
   npr_srh.specs.{
-    Seg6.{message, seg6_of, normalized, IsSeg6, IsKey, HasFront, Seg6Wrong, front_of, key_bytes, key_eights, most_segments},
+    Seg6.{message, seg6_of, normalized, IsSeg6, IsKey, HasFront, Seg6Wrong, front_of, key_bytes, body_bytes, key_eights, most_segments},
     Seg6Codec.{seg6},
   },
 };
@@ -18,8 +18,7 @@ ghost use Rattle.{
 use crate::seg6_mode::Seg6Mode;
 use crate::segments::check_header;
 use npr_base::{
-    DecodeError, EmitError, Ipv6Addr, Nla, Seg6Fault, leading_octets, read_v6_list, v6_list_len,
-    write_array,
+    DecodeError, EmitError, Ipv6Addr, Nla, Seg6Fault, leading_octets, read_v6_list, write_array,
 };
 use std::alloc::{AllocError, Global};
 
@@ -180,9 +179,8 @@ impl Seg6Header {
         ensures { IfOk result (λ h. seg6_of h ≡ seg6_of self.now) }
     {
         Ok(Seg6Header {
-            mode: self.mode,
             segments: Vec::from_slice(alloc, self.segments.as_slice())?,
-            hmac: self.hmac,
+            ..*self
         })
     }
 
@@ -214,17 +212,10 @@ impl Seg6Header {
         }
     }
 
-    /// The length of the value, in bytes.
-    fn len(&self) -> usize
-        ensures { result ≡ length (seg6.writes (seg6_of self.now)) }
-    {
-        12 + v6_list_len(self.segments.as_slice()) + self.hmac_len()
-    }
-
     /// The layout that is written in front.
-    fn front(&self) -> Seg6MessageBuffer
+    fn front(&self) -> [u8; 12]
         requires { length self.now.segments.items ≤ most_segments self.now.hmac }
-        ensures { result ≡ front_of (seg6_of self.now) }
+        ensures { result ≡ message.encode (front_of (seg6_of self.now)) }
     {
         let count = self.segments.len();
         let last = count.saturating_sub(1) as u8;
@@ -242,6 +233,18 @@ impl Seg6Header {
             flags,
             tag: 0,
         }
+        .to_bytes()
+    }
+
+    /// Writes what stands behind the layout at the front of the slice, leaves the rest, and answers
+    /// its length.
+    fn write_body(&self, out: &mut [u8]) -> usize
+        requires { length (body_bytes (seg6_of self.now)) ≤ length out.old }
+        ensures len { result ≡ length (body_bytes (seg6_of self.now)) }
+        ensures after { Writes out.old out.new (body_bytes (seg6_of self.now)) }
+    {
+        let end = write_reversed(self.segments.as_slice(), out);
+        end + write_key(self.hmac, &mut out[end..])
     }
 }
 
@@ -297,15 +300,14 @@ impl Nla for Seg6Header {
     fn check_value(&self) -> Result<usize, EmitError> {
         check_header(
             SEG6_IPTUNNEL_SRH,
-            self.len(),
-            self.segments.len(),
+            12 + self.hmac_len(),
+            self.segments.as_slice(),
             self.most_segments(),
         )
     }
 
     fn write_value(&self, out: &mut [u8]) -> usize {
-        let front = write_array(self.front().to_bytes(), out);
-        let end = front + write_reversed(self.segments.as_slice(), &mut out[front..]);
-        end + write_key(self.hmac, &mut out[end..])
+        let front = write_array(self.front(), out);
+        front + self.write_body(&mut out[front..])
     }
 }

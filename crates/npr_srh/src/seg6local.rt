@@ -5,9 +5,10 @@ ghost use Rattle.{npr_base.specs.Table.{family_of}, npr_srh.specs.Seg6LocalTunne
 
 use crate::seg6local_action::Seg6LocalAction;
 use crate::seg6local_srh::Seg6LocalSrh;
-use crate::segments::Segments;
+use crate::segments::write_header;
 use npr_base::{
-    Attribute, DecodeError, DefaultNla, EmitError, Ipv4Addr, Ipv6Addr, Looks, Nla, NlaBuffer, Place,
+    Attribute, DecodeError, DefaultNla, EmitError, Ipv4Addr, Ipv6Addr, Looks, Nla, NlaBuffer,
+    Place, put_read,
 };
 use std::alloc::{AllocError, Global};
 use std::fmt;
@@ -88,19 +89,12 @@ impl Attribute for RouteSeg6LocalTunnel {
         item: &NlaBuffer<'_>,
         looks: &mut Looks,
     ) -> Result<(), DecodeError> {
-        match item.kind() {
-            2 => match Seg6LocalSrh::read(alloc, item.value())? {
-                Some(header) => {
-                    place.put(RouteSeg6LocalTunnel::Srh(header));
-                    Ok(())
-                }
-                None => {
-                    place.put(RouteSeg6LocalTunnel::Other(DefaultNla::read(alloc, item)?));
-                    Ok(())
-                }
+        rows!(put_rows(place, alloc, item, looks;
+            2 => match Seg6LocalSrh::read(alloc, item.value()) {
+                Some(header) => put_read(place, header, RouteSeg6LocalTunnel::Srh),
+                None => put_read(place, DefaultNla::read(alloc, item), RouteSeg6LocalTunnel::Other),
             },
-            _ => rows!(put_rows(place, alloc, item, looks)),
-        }
+        ))
     }
 
     fn clone(&self, alloc: Global) -> Result<Self, AllocError> {
@@ -118,8 +112,7 @@ impl fmt::Display for RouteSeg6LocalTunnel {
             RouteSeg6LocalTunnel::Action(action) => write!(f, "action {action}"),
             RouteSeg6LocalTunnel::Srh(header) => {
                 let count = u16::from(header.first_segment) + 1;
-                let segments = Segments(header.segments.as_slice());
-                write!(f, "srh segs {count} [ {segments} ]")
+                write_header(f, count, header.segments.as_slice())
             }
             RouteSeg6LocalTunnel::Table(table) => write!(f, "table {table}"),
             RouteSeg6LocalTunnel::Nh4(address) => write!(f, "nh4 {address}"),

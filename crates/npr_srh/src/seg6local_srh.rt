@@ -3,13 +3,13 @@
 ghost use Rattle.std.specs.Prelude.{◌≡◌, ◌≤◌, ◌*◌, length, [], IfOk, IfErr, IfSome, IfNone};
 ghost use Rattle.{
   npr_base.specs.{Table.{shape_at, held}, declared.refusal.DecodeError.TheVariants.{OutOfMemory}},
-  npr_srh.specs.{Headed.{IsUnread}, Seg6Local.{local, local_of, local_front, encode_local}, Seg6LocalTunnel.{srh_row}},
+  npr_srh.specs.{Keeping.{IsUnread}, Seg6Local.{local, local_of, encode_local}, Seg6LocalTunnel.{srh_row}},
 };
 
-use crate::segments::{check_header, has_header};
+use crate::segments::{check_header, read_parts};
 use npr_base::{
-    AttrFamily, DecodeError, EmitError, Ipv6Addr, Nla, NlaBuffer, Parseable, read_v6_list,
-    v6_list_len, write_array, write_v6_list,
+    AttrFamily, DecodeError, EmitError, Ipv6Addr, Nla, NlaBuffer, Parseable, write_array,
+    write_v6_list,
 };
 use std::alloc::{AllocError, Global};
 
@@ -59,37 +59,28 @@ impl Seg6LocalSrh {
         ensures { IfOk result (λ h. local_of h ≡ local_of self.now) }
     {
         Ok(Seg6LocalSrh {
-            next_header: self.next_header,
-            routing_type: self.routing_type,
-            segments_left: self.segments_left,
-            first_segment: self.first_segment,
-            flags: self.flags,
-            tag: self.tag,
             segments: Vec::from_slice(alloc, self.segments.as_slice())?,
+            ..*self
         })
     }
 
-    /// The header that a value is, or `None` where it can't be read.
-    ///
-    /// # Errors
-    /// `OutOfMemory` alone, where memory is refused.
-    pub(crate) fn read(alloc: Global, value: &[u8]) -> Result<Option<Self>, DecodeError>
-        ensures some { IfOk result (λ o. IfSome o (λ h. local.Reads value.now (local_of h))) }
-        ensures none { IfOk result (λ o. IfNone o (IsUnread local_front value.now)) }
-        ensures refused { IfErr result (λ e. e ≡ OutOfMemory) }
+    /// The header that a value is, or `None` where it can't be read. The refusal is `OutOfMemory`
+    /// alone, where memory is refused.
+    #[tactic(auto, using(crate::specs::Headed::unread_headed))]
+    pub(crate) fn read(alloc: Global, value: &[u8]) -> Option<Result<Self, DecodeError>>
+        ensures ok { IfSome result (λ r. IfOk r (λ h. local.Reads value.now (local_of h))) }
+        ensures none { IfNone result (IsUnread local.Reads value.now) }
+        ensures refused { IfSome result (λ r. IfErr r (λ e. e ≡ OutOfMemory)) }
     {
-        if !has_header(value) {
-            return Ok(None);
-        }
-        let head = &value[..8];
-        Ok(Some(Seg6LocalSrh {
+        let parts = read_parts(alloc, value)?;
+        Some(parts.map(|(head, segments)| Seg6LocalSrh {
             next_header: head[0],
             routing_type: head[2],
             segments_left: head[3],
             first_segment: head[4],
             flags: head[5],
             tag: u16::from_be_bytes([head[6], head[7]]),
-            segments: read_v6_list(alloc, &value[8..])?,
+            segments,
         }))
     }
 
@@ -124,12 +115,7 @@ impl Nla for Seg6LocalSrh {
     }
 
     fn check_value(&self) -> Result<usize, EmitError> {
-        check_header(
-            SEG6_LOCAL_SRH,
-            8 + v6_list_len(self.segments.as_slice()),
-            self.segments.len(),
-            127,
-        )
+        check_header(SEG6_LOCAL_SRH, 8, self.segments.as_slice(), 127)
     }
 
     fn write_value(&self, out: &mut [u8]) -> usize {
@@ -148,11 +134,8 @@ impl<'a> Parseable<&'a NlaBuffer<'a>> for Seg6LocalSrh {
     /// # Errors
     /// `OutOfMemory` where memory is refused, and else `Unsupported`.
     fn parse(alloc: Global, input: &'a NlaBuffer<'a>) -> Result<Self, DecodeError> {
-        match Seg6LocalSrh::read(alloc, input.value())? {
-            Some(header) => Ok(header),
-            None => Err(DecodeError::Unsupported {
-                at: AttrFamily::Seg6Local.at(SEG6_LOCAL_SRH),
-            }),
-        }
+        Seg6LocalSrh::read(alloc, input.value()).unwrap_or(Err(DecodeError::Unsupported {
+            at: AttrFamily::Seg6Local.at(SEG6_LOCAL_SRH),
+        }))
     }
 }

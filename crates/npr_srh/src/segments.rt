@@ -1,23 +1,30 @@
 //! What the families of routing headers share: their lengths, and the text of their segments.
 
-ghost use Rattle.std.specs.Prelude.{◌≡◌, ◌↔◌, IsTrue};
-ghost use Rattle.{npr_base.specs.Family.{checked, option_or, too_long}, npr_srh.specs.{Headed.{HasHeader}, Segments.{too_many, segments_text}}};
+ghost use Rattle.std.specs.{Prelude.{◌≡◌, ◌≤◌, ◌+◌, length, IfSome, IfNone, IfOk, IfErr}, List.{concat}, Fmt.{DisplaysOnOk}};
+ghost use Rattle.{
+  npr_base.specs.{Family.{AllOf, checked, option_or, too_long}, declared.refusal.DecodeError.TheVariants.{OutOfMemory}},
+  npr_srh.specs.{Headed.{IsParted}, Keeping.{IsUnread}, Segments.{too_many, header_text, segments_text}},
+};
 
-use npr_base::{EmitError, Ipv6Addr, check_len};
+use npr_base::{DecodeError, EmitError, Ipv6Addr, check_len, read_v6_list, v6_list_len};
+use std::alloc::Global;
 use std::fmt;
 
-/// The length of the value of a header, which is `len`, with `count` segments, of which `most` fit.
+/// The length of the value of a header: its segments, of which `most` fit, and `beside` bytes.
 ///
 /// # Errors
 /// `TooLong` above 65,531 bytes, and then `TooManySegments`.
 pub(crate) fn check_header(
     kind: u16,
-    len: usize,
-    count: usize,
+    beside: usize,
+    segments: &[Ipv6Addr],
     most: usize,
 ) -> Result<usize, EmitError>
-    ensures { result ≡ checked (option_or (too_long kind len) (too_many most count)) len }
+    requires { beside ≤ 52 }
+    ensures each { AllOf (λ a. length a ≡ 16) segments.now }
+    ensures is { let len = beside + length (concat segments.now) in result ≡ checked (option_or (too_long kind len) (too_many most (length segments.now))) len }
 {
+    let (len, count) = (beside + v6_list_len(segments), segments.len());
     check_len(kind, len)?;
     if most < count {
         return Err(EmitError::TooManySegments { count });
@@ -25,29 +32,49 @@ pub(crate) fn check_header(
     Ok(len)
 }
 
-/// Whether the value has the lengths of a header of 8 bytes, the second of which counts the eights
-/// behind it, and of whole addresses to the end.
-pub(crate) fn has_header(value: &[u8]) -> bool
-    ensures { IsTrue result ↔ HasHeader value.now }
+/// The eight bytes in front of a routing header and its segments, or `None` where the value has not
+/// the lengths of both. The refusal is `OutOfMemory` alone, where memory is refused.
+#[tactic(auto, using(crate::specs::Headed::parted_sizes))]
+pub(crate) fn read_parts(
+    alloc: Global,
+    value: &[u8],
+) -> Option<Result<([u8; 8], Vec<Ipv6Addr>), DecodeError>>
+    ensures ok { IfSome result (λ r. IfOk r (λ p. IsParted value.now (record { front = p.0; segments = p.1.items }))) }
+    ensures none { IfNone result (IsUnread IsParted value.now) }
+    ensures refused { IfSome result (λ r. IfErr r (λ e. e ≡ OutOfMemory)) }
 {
-    8 <= value.len() && value.len() == 8 * (value[1] as usize + 1) && (value.len() - 8) % 16 == 0
+    let head = *value.first_chunk::<8>()?;
+    if value.len() != 8 * (value[1] as usize + 1) {
+        return None;
+    }
+    if (value.len() - 8) % 16 != 0 {
+        return None;
+    }
+    Some(read_v6_list(alloc, &value[8..]).map(|segments| (head, segments)))
 }
 
-/// Segments of a routing header, in the order of the wire.
-#[derive(Clone, Copy)]
-pub(crate) struct Segments<'a>(pub(crate) &'a [Ipv6Addr]);
+/// Writes a header in the words of `ip`: a count, and the segments.
+pub(crate) fn write_header<W: fmt::Write>(
+    f: &mut fmt::Formatter<W>,
+    count: u16,
+    segments: &[Ipv6Addr],
+) -> fmt::Result
+    ensures { DisplaysOnOk W.write_str_gives f.old result (header_text count segments.now) f.new }
+{
+    write!(f, "srh segs {count} [ ")?;
+    write_segments(f, segments)?;
+    f.write_str(" ]")
+}
 
-/// The addresses, the last one first, with a space between them.
-impl fmt::Display for Segments<'_> {
-    ghost output = { λ segments. segments_text segments.0.now };
-
-    fn fmt<W: fmt::Write>(&self, f: &mut fmt::Formatter<W>) -> fmt::Result {
-        if let [rest @ .., last] = self.0 {
-            write!(f, "{last}")?;
-            for segment in rest.iter().rev() {
-                write!(f, " {segment}")?;
-            }
+/// Writes the addresses, the last one first, with a space between them.
+fn write_segments<W: fmt::Write>(f: &mut fmt::Formatter<W>, segments: &[Ipv6Addr]) -> fmt::Result
+    ensures { DisplaysOnOk W.write_str_gives f.old result (segments_text segments.now) f.new }
+{
+    if let [rest @ .., last] = segments {
+        fmt::Display::fmt(last, f)?;
+        for segment in rest.iter().rev() {
+            write!(f, " {segment}")?;
         }
-        Ok(())
     }
+    Ok(())
 }
