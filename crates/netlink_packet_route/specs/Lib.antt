@@ -24,7 +24,7 @@ pub use Rattle.npr_base.specs.Layout
 pub use Rattle.npr_base.specs.ListCodec
 pub use Rattle.npr_base.specs.ListLaws
 pub use Rattle.npr_base.specs.Looks
-pub use Rattle.npr_base.specs.LooksLaws
+pub use Rattle.npr_base.specs.LookBounds
 pub use Rattle.npr_base.specs.MessageLaws
 pub mod MessageKind
 pub mod Messages
@@ -120,7 +120,7 @@ pub use Rattle.npr_rule.specs.PortRange as RulePortRange
 pub use Rattle.npr_rule.specs.UidRange as RuleUidRange
 -- route messages
 pub use Rattle.npr_route.specs.Attribute as RouteAttribute
-pub use Rattle.npr_route.specs.AttributeLaws as RouteAttributeLaws
+pub use Rattle.npr_route.specs.AttributeFamily as RouteAttributeFamily
 pub use Rattle.npr_route.specs.AttributeLooks as RouteAttributeLooks
 pub use Rattle.npr_route.specs.AttributeView as RouteAttributeView
 pub use Rattle.npr_route.specs.FlatAttribute as FlatRouteAttribute

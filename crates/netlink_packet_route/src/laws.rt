@@ -6,7 +6,7 @@ ghost use Rattle.{
   npr_base.specs.{Equality.{IsEquality, IsEqualityOf}, Walk.{CutsInTwo}, declared.address_family.AddressFamily.{AddressFamily}},
   npr_address.specs.Attribute.{attributes as address_attributes},
   npr_neighbour.specs.Attribute.{attributes as neighbour_attributes},
-  npr_route.specs.{FlatAttribute.{Context}, AttributeLaws.{attributes as route_attributes}},
+  npr_route.specs.{FlatAttribute.{Context}, AttributeFamily.{attributes as route_attributes}},
   npr_rule.specs.Attribute.{attributes as rule_attributes},
   netlink_packet_core.specs.Message.{message_of},
   netlink_packet_route.specs.{MessageKind.{kind_name}, RouteNetlinkMessage.{meaning_of, other_of}},
@@ -23,7 +23,7 @@ pub use netlink_packet_core::laws::{
 use npr_address::AddressAttribute;
 pub use npr_address::laws::{
     law_address_flags, law_default as law_address_default, law_equality as law_address_equality,
-    law_looks as law_address_looks, law_numbers as law_address_numbers,
+    law_numbers as law_address_numbers,
 };
 pub use npr_base::laws::{
     law_canonical, law_constants as law_framing_constants, law_cut as law_cut_in_two,
@@ -33,8 +33,7 @@ pub use npr_base::laws::{
 use npr_neighbour::NeighbourAttribute;
 pub use npr_neighbour::laws::{
     law_default as law_neighbour_default, law_equality as law_neighbour_equality,
-    law_looks as law_neighbour_looks, law_neighbour_flags, law_neighbour_states,
-    law_read_back as law_neighbour_read_back,
+    law_neighbour_flags, law_neighbour_states, law_read_back as law_neighbour_read_back,
 };
 use npr_route::RouteAttribute;
 pub use npr_route::laws::{
@@ -45,7 +44,7 @@ pub use npr_route::laws::{
 use npr_rule::RuleAttribute;
 pub use npr_rule::laws::{
     law_default as law_rule_default, law_equality as law_rule_equality,
-    law_looks as law_rule_looks, law_numbers as law_rule_numbers, law_rule_flags,
+    law_numbers as law_rule_numbers, law_rule_flags,
 };
 pub use npr_scalar::laws::{
     law_default as law_value_default, law_equality as law_value_equality, law_label_number,

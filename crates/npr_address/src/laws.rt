@@ -1,16 +1,16 @@
 //! The laws of address messages, over their definitions alone. Each function does nothing, and its
 //! contract is the law.
 
-ghost use Rattle.std.specs.Prelude.{◌≡◌, ◌^◌, ◌-◌, ℕ, List, length};
+ghost use Rattle.std.specs.Prelude.{◌≡◌, ◌^◌, ℕ};
 ghost use Rattle.{
-  npr_base.specs.{Counts.{Counts, AddsAtMostTwice, SawEach}, Equality.{IsEquality, IsEqualityOf}, Family.{list_members}, Message.{MessageLooks}},
+  npr_base.specs.Equality.{IsEquality, IsEqualityOf},
   npr_address.specs.{
     AddressFlags.{address_flags_bits, header_flags_bits, header_flags_of},
     AddressProtocol.{protocol_of, protocol_number},
     AddressScope.{scope_of, scope_number},
-    Attribute.{meaning_of, writing},
+    Attribute.{meaning_of},
     Header.{default_header, header},
-    Message.{Address, grammar, message_of, IsAddressMessage},
+    Message.{message_of},
   },
 };
 
@@ -51,15 +51,6 @@ pub fn law_address_flags()
     ensures header_deprecated { header_flags_bits AddressHeaderFlags.Deprecated ≡ 2 ^ 5 }
     ensures header_tentative { header_flags_bits AddressHeaderFlags.Tentative ≡ 2 ^ 6 }
     ensures header_permanent { header_flags_bits AddressHeaderFlags.Permanent ≡ 2 ^ 7 }
-{}
-
-/// The looks that reading a message takes, over their definition.
-pub fn law_looks()
-    // At most two for four bytes behind the header, and one for twelve and two that fail.
-    ensures bounded { (bytes : List ℕ) (old new : Counts) → MessageLooks grammar bytes old new → AddsAtMostTwice old new (length bytes - 8) }
-    // Each attribute has one.
-    ensures counted { (bytes : List ℕ) (m : Address) (old new : Counts) → IsAddressMessage bytes m → MessageLooks grammar bytes old new
-        → SawEach old new (list_members writing.members m.attributes) }
 {}
 
 /// Which value is the default.

@@ -3,7 +3,6 @@ pub mod Writing
 pub mod Checking
 pub mod Lists
 pub mod Looking
-pub mod LookBounds
 pub mod Names
 pub mod Messages
 pub mod Mapped

@@ -5,9 +5,9 @@ use Rattle.std.proofs.Common.{◌≡◌, ℕ, ◌*◌, ◌-◌, ◌≤◌, List,
 use Rattle.std.proofs.lemmas.List.{take-append-drop, take_at, drop_at}
 use Rattle.npr_base.specs.declared.refusal.DecodeError.{DecodeError}
 use Rattle.npr_base.specs.declared.refusal.DecodeError.TheVariants.{OutOfMemory}
-use Rattle.npr_base.specs.Counts.{Counts, no_looks}
+use Rattle.npr_base.specs.Counts.{Counts, AddsAtMostTwice, SawEach, no_looks}
 use Rattle.npr_base.specs.Framing.{IsBytes}
-use Rattle.npr_base.specs.Family.{first_unfit, overlong, encodings}
+use Rattle.npr_base.specs.Family.{first_unfit, overlong, encodings, list_members}
 use Rattle.npr_base.specs.FitLaws.{none_both}
 use Rattle.npr_base.specs.ListLaws.{IsBytes-left, IsBytes-right}
 use Rattle.npr_base.specs.Looks.{Adds}
@@ -161,6 +161,28 @@ module _ {H A : Type 0} (g : Grammar H A) where
   pub has_header : (bytes : List ℕ) (m : Message H g.Meaning) → IsMessage g bytes m → g.layout.size ≤ length bytes
   unfolding IsMessage
   has_header bytes m is = omega (arith, ap length is.is, length-append is.front is.rest, is.size)
+
+  -- ---- the looks at what stands behind the header
+
+  pub message-bounded : (bytes : List ℕ) (old new : Counts) → MessageLooks g bytes old new → AddsAtMostTwice old new (length bytes - g.layout.size)
+  unfolding MessageLooks
+  message-bounded bytes old new (inl (short, p)) =
+      let s = ap (λ (c : Counts). c.successful) p in
+      let t = ap (λ (c : Counts). c.failed) p in
+      record { kept = omega (arith, s); successful = omega (arith, s); failed_kept = omega (arith, t); failed = omega (arith, t) }
+  message-bounded bytes old new (inr (front, rest, is, size, t)) =
+      let a = g.body.bounded (g.layout.decode front) rest old new t in
+      let len : length rest ≡ length bytes - g.layout.size = omega (arith, ap length is, length-append front rest, size) in
+      subst (λ (n : ℕ). AddsAtMostTwice old new n) len a
+
+  pub message-saw : (bytes : List ℕ) (m : Message H g.Meaning) (old new : Counts) → IsMessage g bytes m → MessageLooks g bytes old new → SawEach old new (list_members g.writing.members m.attributes)
+  unfolding MessageLooks
+  message-saw bytes m old new is (inl (short, p)) = absurd (omega (arith, has_header bytes m is, short))
+  message-saw bytes m old new is (inr (front, rest, js, size, t)) =
+      let same = front_is bytes front rest js size in
+      let h : g.layout.decode front ≡ m.header = ap g.layout.decode same.0 ∙ sym (header_is bytes m is) in
+      let looks = subst (λ (b : List ℕ). (g.body.looks m.header).Takes b old new) same.1 (subst (λ (k : H). (g.body.looks k).Takes rest old new) h t) in
+      g.body.saw m.header (drop g.layout.size bytes) m.attributes old new (rest_reads bytes m is) looks
 
 -- `==` of a message, from that of the header and of an attribute
 pub message_equality : {H A : Type 0} {same_header : H → H → Bool} {same : A → A → Bool} (g : Grammar H A) → IsEquality same_header → IsEqualityOf g.meaning same

@@ -1,14 +1,14 @@
--- How far walks of one list come, and what they have looked at.
+-- How far walks of one list come.
 use Rattle.std.specs.Prelude.{Some}
 use Rattle.std.proofs.lemmas.Bool.{cases_lt}
 use Rattle.std.proofs.Common.{◌≡◌, ℕ, ◌+◌, ◌-◌, ◌*◌, ◌%◌, ◌<◌, ◌≤◌, List, [], ◌∷◌, ◌++◌, length}
 use Rattle.std.proofs.Common.{Result, Ok, Err, refl, sym, ap, subst, ◌∙◌, arith, inl, inr, append_assoc}
 use Rattle.std.proofs.Common.{length-append}
-use Rattle.npr_base.specs.Counts.{Counts, AddsAtMost}
 use Rattle.npr_base.specs.Framing.{Item, Front, Passes, Cut, Stops, Step, text}
 use Rattle.npr_base.specs.Family.{ReadsList}
 use Rattle.npr_base.specs.FrontLaws.{Front-same, Front-shrinks}
-use Rattle.npr_base.specs.Walk.{Steps, found, Finds, Walked}
+use Rattle.npr_base.specs.LookBounds.{Passes-length}
+use Rattle.npr_base.specs.Walk.{Steps, found, Finds}
 use Rattle.npr_base.specs.declared.refusal.DecodeError.{DecodeError}
 
 -- ---- the steps of a walk
@@ -49,33 +49,10 @@ pub Stops-are-steps : (items : List Item) (bytes : List ℕ) (e : DecodeError) �
 Stops-are-steps [] bytes e (rest, p, left, bad) = ([], subst (λ (b : List ℕ). Step b (Some (Err e)) []) (sym p) (left, bad, refl), refl)
 Stops-are-steps (x ∷ items) bytes e (rest, (more, f, p), left, bad) = (more, f, Stops-are-steps items more e (rest, p, left, bad))
 
--- attributes take four bytes each at least
-pub Passes-length : (items : List Item) (bytes rest : List ℕ) → Passes bytes items rest → 4 * length items + length rest ≤ length bytes
-Passes-length [] bytes rest p = omega (arith, ap length p)
-Passes-length (x ∷ items) bytes rest (more, f, p) = omega (arith, Passes-length items more rest p, Front-shrinks bytes x more f)
-
 pub Finds-length : (bytes : List ℕ) (steps : List (Result Item DecodeError)) (rest : List ℕ) (items : List Item) → Finds bytes steps rest items
     → 4 * length items ≤ length bytes
 Finds-length bytes steps rest items (inl (is, p)) = omega (arith, Passes-length items bytes rest p)
 Finds-length bytes steps rest items (inr (e, is, (r, p, left, bad), end)) = omega (arith, Passes-length items bytes r p)
-
--- of two walks of one list, the one that came farther has passed no more than the rest of the other has room for
-pub Passes-ahead : (xs ys : List Item) (bytes r s : List ℕ) → Passes bytes xs r → Passes bytes ys s → 4 * length xs ≤ 4 * length ys + length s
-Passes-ahead [] ys bytes r s p q = omega arith
-Passes-ahead (x ∷ xs) [] bytes r s p q = omega (arith, Passes-length (x ∷ xs) bytes r p, ap length q)
-Passes-ahead (x ∷ xs) (y ∷ ys) bytes r s (m, f, p) (n, g, q) =
-    omega (arith, Passes-ahead xs ys m r s p (subst (λ (b : List ℕ). Passes b ys s) (sym (Front-same bytes x y m n f g).1) q))
-
--- ---- looks
-
--- a list is a value, if an attribute holds it
-pub Walked-bounds : (bytes : List ℕ) (old new : Counts) → Walked bytes old new → AddsAtMost old new (length bytes)
-Walked-bounds bytes old new w = record {
-  kept = w.kept;
-  successful = omega (arith, w.successful);
-  failed_kept = w.failed_kept;
-  failed = omega (arith, w.failed);
-}
 
 -- ---- a list that is cut in two
 

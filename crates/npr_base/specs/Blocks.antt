@@ -11,7 +11,7 @@ use Rattle.npr_base.specs.Family.{AllOf}
 use Rattle.npr_base.specs.ListLaws.{IsBytes-take, IsBytes-right}
 use Rattle.npr_base.specs.CodecLaws.{framed-grows}
 use Rattle.npr_base.specs.Layout.{Layout}
-use Rattle.npr_base.specs.Codec.{Codec}
+use Rattle.npr_base.specs.Codec.{Codec, no_members}
 
 -- a value stands in front, in as many bytes as the layout has
 pub record IsBlock {V : Type 0} (L : Layout V) (bytes : List ℕ) (x : V) : Type 0 where
@@ -80,7 +80,7 @@ blocks L positive = record {
   writes = block_bytes L;
   inside = λ kind xs. None;
   Holds = AllOf L.Holds;
-  members = λ xs. 0;
+  members = no_members;
   one_reading = blocks-one L;
   no_fault = λ at bytes xs e p q. q;
   reads_holds = blocks-hold L;

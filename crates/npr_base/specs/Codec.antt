@@ -4,12 +4,31 @@ use Rattle.npr_base.specs.declared.refusal.At.{At}
 use Rattle.npr_base.specs.declared.refusal.DecodeError.{DecodeError}
 use Rattle.npr_base.specs.declared.refusal.DecodeError.TheVariants.{ValueLength, HeaderTooShort}
 use Rattle.npr_base.specs.declared.refusal.EmitError.{EmitError}
+use Rattle.npr_base.specs.Counts.{Counts, AddsAtMost, SawEach}
 use Rattle.npr_base.specs.Framing.{IsBytes, framed}
 use Rattle.npr_base.specs.Layout.{Layout}
+use Rattle.npr_base.specs.Looks.{Inside, nothing, TakesInside}
+use Rattle.npr_base.specs.LooksLaws.{none-most, none-saw}
 use Rattle.npr_base.specs.CodecLaws.{exactly-one, exactly-sound, exactly-holds, exactly-back, exactly-grows}
 use Rattle.npr_base.specs.CodecLaws.{leading-one, leading-sound, leading-holds, leading-back, leading-grows}
 use Rattle.npr_base.specs.CodecLaws.{raw-grows}
 use Rattle.std.proofs.Common.{refl, sym, ◌∙◌, subst}
+
+-- the attributes inside values that are read so: how many, at all depths, and the looks that reading takes at their headers,
+-- which are no more than the bytes allow, and one for each where all are read
+pub record Members {V : Type 0} (Reads : List ℕ → V → Type 0) : Type 1 where
+  pub count : V → ℕ
+  pub looks : Inside
+  pub bounded : (bytes : List ℕ) (old new : Counts) → TakesInside looks bytes old new → AddsAtMost old new (length bytes)
+  pub saw : (bytes : List ℕ) (x : V) (old new : Counts) → Reads bytes x → TakesInside looks bytes old new → SawEach old new (count x)
+
+abbrev pub no_members : {V : Type 0} {Reads : List ℕ → V → Type 0} → Members Reads
+no_members = record {
+  count = λ x. 0;
+  looks = nothing;
+  bounded = λ bytes old new is. none-most (length bytes) old new is;
+  saw = λ bytes x old new reads is. none-saw old new is;
+}
 
 pub record Codec (V : Type 0) : Type 1 where
   -- what the bytes of a value mean
@@ -23,8 +42,8 @@ pub record Codec (V : Type 0) : Type 1 where
   pub inside : ℕ → V → Option EmitError
   -- what can be read
   pub Holds : V → Type 0
-  -- the members inside it
-  pub members : V → ℕ
+  -- the attributes inside it
+  pub members : Members Reads
   -- and the laws
   pub one_reading : (bytes : List ℕ) (x y : V) → Reads bytes x → Reads bytes y → x ≡ y
   pub no_fault : (at : At) (bytes : List ℕ) (x : V) (e : DecodeError) → Reads bytes x → Wrong at bytes e → ⊥
@@ -40,7 +59,7 @@ exactly L = record {
   writes = L.encode;
   inside = λ kind x. None;
   Holds = L.Holds;
-  members = λ x. 0;
+  members = no_members;
   one_reading = exactly-one L;
   no_fault = exactly-sound L;
   reads_holds = exactly-holds L;
@@ -56,7 +75,7 @@ leading L = record {
   writes = L.encode;
   inside = λ kind x. None;
   Holds = L.Holds;
-  members = λ x. 0;
+  members = no_members;
   one_reading = leading-one L;
   no_fault = leading-sound L;
   reads_holds = leading-holds L;
@@ -72,7 +91,7 @@ raw = record {
   writes = λ x. x;
   inside = λ kind x. None;
   Holds = IsBytes;
-  members = λ x. 0;
+  members = no_members;
   one_reading = λ bytes x y p q. p ∙ sym q;
   no_fault = λ at bytes x e p q. q;
   reads_holds = λ bytes x is p. subst IsBytes (sym p) is;

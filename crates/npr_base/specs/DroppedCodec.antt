@@ -2,7 +2,7 @@
 use Rattle.std.specs.Prelude.{ℕ, ◌+◌, ◌*◌, ◌≤◌, List, [], length, None}
 use Rattle.std.proofs.Common.{refl, arith}
 use Rattle.npr_base.specs.Framing.{framed}
-use Rattle.npr_base.specs.Codec.{Codec}
+use Rattle.npr_base.specs.Codec.{Codec, no_members}
 
 pub dropped-grows : (bytes : List ℕ) → 2 * framed 0 ≤ 5 * (4 + length bytes)
 dropped-grows bytes = omega arith
@@ -14,7 +14,7 @@ dropped = record {
   writes = λ x. [];
   inside = λ kind x. None;
   Holds = λ x. Unit {0};
-  members = λ x. 0;
+  members = no_members;
   one_reading = λ bytes x y p q. refl;
   no_fault = λ at bytes x e p q. q;
   reads_holds = λ bytes x is p. tt;

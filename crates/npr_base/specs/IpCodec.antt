@@ -9,7 +9,7 @@ use Rattle.npr_base.specs.declared.ip.IpAddr.TheVariants.{V4, V6}
 use Rattle.npr_base.specs.Framing.{IsBytes, framed}
 use Rattle.npr_base.specs.CodecLaws.{framed-grows}
 use Rattle.npr_base.specs.Ip.{octets_of}
-use Rattle.npr_base.specs.Codec.{Codec}
+use Rattle.npr_base.specs.Codec.{Codec, no_members}
 
 abbrev pub IsIp : List ℕ → IpAddr → Type 0
 IsIp bytes (V4 octets) = (length bytes ≡ 4) × (octets ≡ bytes)
@@ -50,7 +50,7 @@ ip = record {
   writes = octets_of;
   inside = λ kind a. None;
   Holds = HoldsIp;
-  members = λ a. 0;
+  members = no_members;
   one_reading = ip-one;
   no_fault = ip-sound;
   reads_holds = ip-holds;

@@ -11,6 +11,7 @@ pub mod FrontLaws
 pub mod ListLaws
 pub mod Looks
 pub mod LooksLaws
+pub mod LookBounds
 pub mod Name
 pub mod NameLaws
 pub mod Table

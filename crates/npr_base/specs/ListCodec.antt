@@ -4,6 +4,8 @@ use Rattle.npr_base.specs.Family.{AllOf, ReadsList, FirstFault, encodings, first
 use Rattle.npr_base.specs.FitLaws.{none_both}
 use Rattle.npr_base.specs.ListLaws.{ReadsList-one, FirstFault-excludes, ReadsList-known, encodings-read, list-grows}
 use Rattle.npr_base.specs.Codec.{Codec}
+use Rattle.npr_base.specs.LookBounds.{list_looking, list-bounded, list-saw}
+use Rattle.npr_base.specs.Looks.{looked_through}
 use Rattle.npr_base.specs.Table.{Writing, Reading, fits-small, written_by, unfit_by}
 
 abbrev pub list_of : {M : Type 0} {w : Writing M} → Reading w → Codec (List M)
@@ -13,7 +15,12 @@ list_of {M} {w} f = record {
   writes = encodings (written_by w);
   inside = λ kind xs. list_unfit (unfit_by w) (written_by w) xs;
   Holds = AllOf f.Coherent;
-  members = list_members w.members;
+  members = record {
+    count = list_members w.members;
+    looks = looked_through (list_looking f);
+    bounded = list-bounded f;
+    saw = list-saw f;
+  };
   one_reading = λ bytes xs ys p q. ReadsList-one f.Reads f.one_reading bytes xs ys p q;
   no_fault = λ at bytes xs e p q. FirstFault-excludes f.Reads f.Faulty f.no_fault bytes e xs q p;
   reads_holds = λ bytes xs is p. ReadsList-known f.Coherent f.Reads f.reads_coherent bytes xs is p;

@@ -23,6 +23,15 @@ pub record Looking (V : Type 0) : Type 1 where
   pub one : (x : V) (old new other : Counts) → Takes x old new → Takes x old other → new ≡ other
   pub adds : (x : V) (old new : Counts) → Takes x old new → Adds (Takes x) old new
 
+-- the headers inside values: there can be none, or these looks are taken at them
+pub data Inside : Type 1 where
+  nothing : Inside
+  looked_through : Looking (List ℕ) → Inside
+
+abbrev pub TakesInside : Inside → List ℕ → Counts → Counts → Type 0
+TakesInside nothing bytes old new = new ≡ old
+TakesInside (looked_through looking) bytes old new = looking.Takes bytes old new
+
 -- attributes that read so, are faulty so and take so many looks inside, one after the other: a look at each header and those
 -- inside its value, up to the end or to the first that is faulty; and a failed look where bytes are left and none stands
 pub data ListLooks {M : Type 0} (reads : Item → M → Type 0) (faulty : Item → DecodeError → Type 0) (takes : Item → Counts → Counts → Type 0)

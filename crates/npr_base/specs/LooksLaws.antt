@@ -1,11 +1,10 @@
 -- The looks of a reading are one number.
 use Rattle.std.proofs.Common.{◌≡◌, ℕ, ◌+◌, List, [], length, sym, ap, subst, ◌∙◌, arith}
 use Rattle.npr_base.specs.declared.refusal.DecodeError.{DecodeError}
-use Rattle.npr_base.specs.Counts.{Counts, no_looks, hit, miss, raised}
+use Rattle.npr_base.specs.Counts.{Counts, AddsAtMost, SawEach, no_looks, hit, miss, raised}
 use Rattle.npr_base.specs.Framing.{Item, Front}
 use Rattle.npr_base.specs.FrontLaws.{Front-same, Front-shrinks, Front-sound}
 use Rattle.npr_base.specs.Looks.{Adds, Looking, ListLooks, list_ends, none_stands, faulty_stands, passed}
-use Rattle.npr_base.specs.Table.{Writing, Reading}
 
 -- ---- counts
 
@@ -45,6 +44,17 @@ raised-inside a c = same_counts (raised a (hit c)) (raised (plus one_hit a) c) (
 
 pub none-adds : (old new : Counts) → new ≡ old → Adds (λ (s t : Counts). t ≡ s) old new
 none-adds old new is = record { number = no_looks; is = is ∙ sym (raised-none old); alike = raised-none }
+
+pub none-most : (len : ℕ) (old new : Counts) → new ≡ old → AddsAtMost old new len
+none-most len old new is =
+    let s = ap (λ (c : Counts). c.successful) is in
+    let f = ap (λ (c : Counts). c.failed) is in
+    record { kept = omega (arith, s); successful = omega (arith, s); failed_kept = omega (arith, f); failed = omega (arith, f) }
+
+pub none-saw : (old new : Counts) → new ≡ old → SawEach old new 0
+none-saw old new is =
+    let s = ap (λ (c : Counts). c.successful) is in
+    record { failed = ap (λ (c : Counts). c.failed) is; each = λ below. omega (arith, s) }
 
 -- a value without headers inside
 abbrev pub no_looking : {V : Type 0} → Looking V
@@ -112,11 +122,3 @@ module _ {M : Type 0} (reads : Item → M → Type 0) (faulty : Item → DecodeE
             let there = subst (λ (d : Counts). ListLooks reads faulty takes rest far d) (raised-behind a.number b.number c) (b.alike far) in
             passed x rest m far f r (a.alike (hit c)) there;
       }
-
--- a list of attributes of a family
-abbrev pub list_looking : {M : Type 0} {w : Writing M} → Reading w → Looking (List ℕ)
-list_looking f = record {
-  Takes = ListLooks f.Reads f.Faulty f.looks.Takes;
-  one = λ bytes old new other p q. list-one f.Reads f.Faulty f.looks.Takes f.no_fault f.looks.one bytes old new other p q;
-  adds = λ bytes old new p. list-adds f.Reads f.Faulty f.looks.Takes f.looks.adds bytes old new p;
-}

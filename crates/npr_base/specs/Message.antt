@@ -8,8 +8,8 @@ use Rattle.npr_base.specs.Family.{AllOf, ReadsList, FirstFault, encodings, first
 use Rattle.npr_base.specs.ListLaws.{ReadsList-one, FirstFault-excludes, ReadsList-known, encodings-read, ReadsList-grows}
 use Rattle.npr_base.specs.Layout.{Layout}
 use Rattle.npr_base.specs.Looks.{Looking}
-use Rattle.npr_base.specs.LooksLaws.{list_looking}
-use Rattle.npr_base.specs.Counts.{Counts}
+use Rattle.npr_base.specs.LookBounds.{list_looking, list-saw, family-bounded}
+use Rattle.npr_base.specs.Counts.{Counts, AddsAtMostTwice, SawEach}
 use Rattle.npr_base.specs.Walk.{Searched}
 use Rattle.npr_base.specs.Table.{Writing, Reading, Family, fits-small, written_by, unfit_by}
 use Rattle.npr_base.specs.declared.message.Message.{Message as Stored}
@@ -31,6 +31,10 @@ pub record Body (H : Type 0) {M : Type 0} (w : Writing M) : Type 1 where
   pub reads_coherent : (h : H) (bytes : List ℕ) (xs : List M) → IsBytes bytes → Reads h bytes xs → Coherent h xs
   pub reads_back : (h : H) (xs : List M) → Coherent h xs → first_unfit (unfit_by w) xs ≡ None → Reads h (encodings (written_by w) xs) xs
   pub grows : (h : H) (bytes : List ℕ) (xs : List M) → IsBytes bytes → Reads h bytes xs → 2 * length (encodings (written_by w) xs) ≤ 5 * length bytes
+  -- the looks are at most two for four bytes and one for twelve, and two that fail, and one for each attribute where all are read
+  pub bounded : (h : H) (bytes : List ℕ) (old new : Counts) → (looks h).Takes bytes old new → AddsAtMostTwice old new (length bytes)
+  pub saw : (h : H) (bytes : List ℕ) (xs : List M) (old new : Counts) → Reads h bytes xs → (looks h).Takes bytes old new
+      → SawEach old new (list_members w.members xs)
   -- how deep lists stand inside one another; each level takes 12 bytes
   pub depth : List M → ℕ
   pub deep : (h : H) (bytes : List ℕ) (xs : List M) → Reads h bytes xs → 12 * depth xs ≤ length bytes
@@ -50,6 +54,8 @@ body_by {H} {C} {M} {w} told r = record {
       let f = r (told h) in
       encodings-read f.Coherent (unfit_by w) (written_by w) f.Reads (fits-small f) f.reads_back xs all fits;
   grows = λ h bytes xs is p. ReadsList-grows (written_by w) (r (told h)).Reads (r (told h)).grows bytes xs is p;
+  bounded = λ h bytes old new t. family-bounded (r (told h)) bytes old new t;
+  saw = λ h bytes xs old new p t. list-saw (r (told h)) bytes xs old new p t;
   depth = λ xs. 0;
   deep = λ h bytes xs p. omega arith;
 }
@@ -64,6 +70,7 @@ pub record Grammar (H A : Type 0) : Type 1 where
   pub standard : H
   pub body : Body H writing
 
+-- of a family, and what the bytes after the header mean
 abbrev pub grammar_of : {H A C : Type 0} (f : Family A C) → Layout H → H → Body H f.writing → Grammar H A
 grammar_of f L standard body = record { Meaning = f.Meaning; meaning = f.meaning; writing = f.writing; layout = L; standard = standard; body = body }
 
@@ -71,6 +78,7 @@ grammar_of f L standard body = record { Meaning = f.Meaning; meaning = f.meaning
 abbrev pub grammar_by : {H A C : Type 0} (f : Family A C) → Layout H → H → (H → C) → Grammar H A
 grammar_by f L standard told = grammar_of f L standard (body_by told f.reading)
 
+-- what a message of the program is, without where it lies in memory
 abbrev pub view : {H A : Type 0} (g : Grammar H A) → Stored H A → Message H g.Meaning
 view g m = record { header = m.header; attributes = map g.meaning m.attributes.items }
 

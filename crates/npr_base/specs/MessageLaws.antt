@@ -2,7 +2,7 @@
 use Rattle.std.proofs.Common.{◌≡◌, ℕ, List, [], refl, ap, subst, sym, arith}
 use Rattle.npr_base.specs.Counts.{Counts}
 use Rattle.npr_base.specs.Layout.{Layout}
-use Rattle.npr_base.specs.LooksLaws.{list_looking}
+use Rattle.npr_base.specs.LookBounds.{list_looking}
 use Rattle.npr_base.specs.Message.{Body, grammar_of, grammar_by, IsOfFamily, IsUnder, governs_by, none_searched}
 use Rattle.npr_base.specs.Table.{Family}
 use Rattle.npr_base.specs.Walk.{Searched}

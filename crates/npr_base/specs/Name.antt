@@ -3,7 +3,7 @@ use Rattle.std.specs.Prelude.{◌≡◌, ℕ, List, [], ◌∷◌, ◌++◌, Non
 use Rattle.std.specs.Str.{IsUtf8}
 use Rattle.std.proofs.Common.{refl, inl}
 use Rattle.npr_base.specs.declared.refusal.DecodeError.TheVariants.{NotUtf8}
-use Rattle.npr_base.specs.Codec.{Codec}
+use Rattle.npr_base.specs.Codec.{Codec, no_members}
 use Rattle.npr_base.specs.NameLaws.{IsUnterminated, name-one, name-grows}
 
 -- the bytes are a UTF-8 text, with or without its zero
@@ -21,7 +21,7 @@ name = record {
   writes = λ text. text ++ 0 ∷ [];
   inside = λ kind text. None;
   Holds = IsUtf8;
-  members = λ text. 0;
+  members = no_members;
   one_reading = λ bytes x y p q. name-one bytes x y p.1 q.1;
   no_fault = λ at bytes x e p q. q.0.no_text x p.1 p.0;
   reads_holds = λ bytes x is p. p.0;

@@ -10,6 +10,7 @@ use Rattle.npr_base.specs.Framing.{Item, Small, Proper, framed, marked, number_o
 use Rattle.npr_base.specs.Family.{misfit_of}
 use Rattle.npr_base.specs.FitLaws.{misfit_of-short}
 use Rattle.npr_base.specs.Codec.{Codec, raw}
+use Rattle.npr_base.specs.Counts.{Counts, AddsAtMost, SawEach}
 use Rattle.npr_base.specs.Looks.{Looking}
 use Rattle.npr_base.specs.Refusal.{at_number}
 
@@ -45,7 +46,8 @@ written_by w m = written_as (w.shape m)
 abbrev pub unfit_by : {M : Type 0} → Writing M → M → Option EmitError
 unfit_by w m = unfit_as (w.shape m)
 
--- a family: what attributes mean that are written so, and the looks that reading their values takes, with the laws of all
+-- a family: what attributes mean that are written so, and the looks that reading their values takes, with the laws of all: the
+-- looks are no more than the bytes of the value allow, and one for each attribute inside where all are read
 pub record Reading {M : Type 0} (w : Writing M) : Type 1 where
   pub Reads : Item → M → Type 0
   pub Faulty : Item → DecodeError → Type 0
@@ -57,6 +59,8 @@ pub record Reading {M : Type 0} (w : Writing M) : Type 1 where
   pub kinds : (m : M) → Coherent m → (written_by w m).kind < 2 ^ 16
   pub reads_back : (m : M) → Coherent m → unfit_by w m ≡ None → Reads (written_by w m) m
   pub grows : (x : Item) (m : M) → Proper x → Reads x m → 2 * framed (length (written_by w m).value) ≤ 5 * (4 + length x.value)
+  pub bounded : (x : Item) (old new : Counts) → looks.Takes x old new → AddsAtMost old new (length x.value)
+  pub saw : (x : Item) (m : M) (old new : Counts) → Reads x m → looks.Takes x old new → SawEach old new (w.members m)
 
 -- a family of values: what one is, without where it lies in memory, how that is written, and what attributes mean in a context
 pub record Family (A C : Type 0) : Type 1 where
@@ -151,7 +155,7 @@ held_inside (held_marked nested kind codec value) = codec.inside kind value
 held_inside (held_other x) = None
 
 abbrev pub held_members : Held → ℕ
-held_members (held_marked nested kind codec value) = codec.members value
+held_members (held_marked nested kind codec value) = codec.members.count value
 held_members (held_other x) = 0
 
 -- its codec can hold it, or no row has its number
@@ -182,15 +186,20 @@ writing_by held_of =
       members = λ m. held_members (held_of m);
     }
 
--- each row's variant is written by that row, and is coherent where the row can hold its value
-abbrev pub Aligned : {M : Type 0} → (M → Item) → (M → Type 0) → List (Row M) → Type 0
-Aligned writes Coherent [] = Unit {0}
-Aligned writes Coherent (r ∷ rows) =
-    ((v : r.V) → ((writes (r.variant v)).value ≡ r.codec.writes v) × (r.codec.Holds v → Coherent (r.variant v))) × Aligned writes Coherent rows
+-- each row's variant is written by that row with the attributes inside it, and is coherent where the row can hold its value
+abbrev pub IsWritten : {M : Type 0} (w : Writing M) (Coherent : M → Type 0) (r : Row M) → r.V → Type 0
+IsWritten w Coherent r v =
+    ((written_by w (r.variant v)).value ≡ r.codec.writes v) × (w.members (r.variant v) ≡ r.codec.members.count v)
+    × (r.codec.Holds v → Coherent (r.variant v))
+
+-- and each row has a number of its own
+abbrev pub Aligned : {M : Type 0} → Writing M → (M → Type 0) → List (Row M) → Type 0
+Aligned w Coherent [] = Unit {0}
+Aligned w Coherent (r ∷ rows) = ((v : r.V) → IsWritten w Coherent r v) × (has_row rows r.at.kind ≡ false) × Aligned w Coherent rows
 
 -- so for places in rows
 abbrev pub IsAligned : {M : Type 0} → List (Row M) → (M → Held) → Type 0
-IsAligned rows held_of = Aligned (λ m. item_of (held_of m)) (λ m. IsHeld rows (held_of m)) rows
+IsAligned rows held_of = Aligned (writing_by held_of) (λ m. IsHeld rows (held_of m)) rows
 
 -- a meaning stands in the row of its place: its kind has 16 bits, and where its bytes are read by its codec, they mean it by the rows
 abbrev pub IsPlaced : {M : Type 0} → (Item → M) → List (Row M) → Held → M → Type 0
@@ -204,15 +213,15 @@ pub record Table (M : Type 0) : Type 1 where
   pub other : Item → M
   pub held_of : M → Held
   pub Coherent : M → Type 0
-  pub aligned : Aligned (λ m. item_of (held_of m)) Coherent rows
-  pub other_is : (x : Item) → item_of (held_of (other x)) ≡ x
+  pub aligned : Aligned (writing_by held_of) Coherent rows
+  pub other_is : (x : Item) → held_of (other x) ≡ held_other x
   pub other_coherent : (x : Item) → IsOther rows x → Coherent (other x)
   pub kinds : (m : M) → Coherent m → held_kind (held_of m) < 2 ^ 16
   pub back : (m : M) → Coherent m → held_inside (held_of m) ≡ None → ReadsAt other rows (number_of (item_of (held_of m)).kind) (item_of (held_of m)) m
 
 -- a table whose coherent meanings rest on more than their places
 abbrev pub table_with : {M : Type 0} (rows : List (Row M)) (other : Item → M) (held_of : M → Held) (Coherent : M → Type 0)
-    → Aligned (λ m. item_of (held_of m)) Coherent rows → ((x : Item) → item_of (held_of (other x)) ≡ x) → ((x : Item) → IsOther rows x → Coherent (other x))
+    → Aligned (writing_by held_of) Coherent rows → ((x : Item) → held_of (other x) ≡ held_other x) → ((x : Item) → IsOther rows x → Coherent (other x))
     → ((m : M) → Coherent m → held_kind (held_of m) < 2 ^ 16)
     → ((m : M) → Coherent m → held_inside (held_of m) ≡ None → ReadsAt other rows (number_of (item_of (held_of m)).kind) (item_of (held_of m)) m) → Table M
 table_with rows other held_of Coherent aligned other_is other_coherent kinds back = record {

@@ -1,16 +1,17 @@
 -- A table is a family.
 use Rattle.std.specs.Prelude.{◌==◌}
 use Rattle.std.specs.Bool.{MatchBool}
+use Rattle.std.proofs.lemmas.Bool.{eqb-true}
 use Rattle.std.proofs.Common.{◌≡◌, ℕ, ◌+◌, ◌*◌, ◌<◌, ◌≤◌, ◌^◌, Bool, true, false, cond, List, [], ◌∷◌, length, None, refl, sym, ap, subst, ◌∙◌, arith}
 use Rattle.npr_base.specs.declared.refusal.DecodeError.{DecodeError}
 use Rattle.npr_base.specs.Framing.{Item, IsBytes, framed, marked, number_of}
 use Rattle.npr_base.specs.CodecLaws.{framed-grows}
 use Rattle.npr_base.specs.FitLaws.{misfit_of-none}
-use Rattle.npr_base.specs.Counts.{Counts}
-use Rattle.npr_base.specs.Looks.{Adds, Looking, LooksAt}
-use Rattle.npr_base.specs.LooksLaws.{no_looking}
-use Rattle.npr_base.specs.Table.{Writing, Reading, Row, ReadsAt, WrongAt, has_row, IsOther, Held, held_marked, held_other, IsHeld, IsPlaced}
-use Rattle.npr_base.specs.Table.{item_of, plain_item, held_inside, held_kind, held_nested, writing_by, Aligned, IsAligned, Table}
+use Rattle.npr_base.specs.Counts.{Counts, AddsAtMost, SawEach}
+use Rattle.npr_base.specs.Looks.{Adds, Looking, LooksAt, Inside, nothing, looked_through, TakesInside}
+use Rattle.npr_base.specs.LooksLaws.{no_looking, none-most, none-saw}
+use Rattle.npr_base.specs.Table.{Writing, Reading, Row, ReadsAt, WrongAt, has_row, Held, held_marked, held_other, IsHeld, IsPlaced}
+use Rattle.npr_base.specs.Table.{item_of, plain_item, held_inside, held_kind, held_nested, held_members, written_by, writing_by, Aligned, IsAligned, Table}
 
 -- two facts on the same test
 pub both : {P Q S T R : Type 0} (b : Bool) → (P → S → R) → (Q → T → R) → MatchBool b P Q → MatchBool b S T → R
@@ -32,23 +33,24 @@ pub table-sound : {M : Type 0} (other : Item → M) (rows : List (Row M)) (k : �
 table-sound other [] k x m e p q = q
 table-sound other (r ∷ rows) k x m e p q = both (k == r.at.kind) (λ a b. r.codec.no_fault r.at x.value a.0 e a.1 b) (table-sound other rows k x m e) p q
 
-pub table-coherent : {M : Type 0} (other : Item → M) (writes : M → Item) (Coherent : M → Type 0) (rows : List (Row M)) → Aligned writes Coherent rows
+pub table-coherent : {M : Type 0} (other : Item → M) (w : Writing M) (Coherent : M → Type 0) (rows : List (Row M)) → Aligned w Coherent rows
     → (k : ℕ) (x : Item) → IsBytes x.value → (has_row rows k ≡ false → Coherent (other x)) → (m : M) → ReadsAt other rows k x m → Coherent m
-table-coherent other writes Coherent [] aligned k x bytes alone m p = subst Coherent (sym p) (alone refl)
-table-coherent other writes Coherent (r ∷ rows) aligned k x bytes alone m p = one_of (k == r.at.kind)
-    (λ e a. subst Coherent (sym a.2) ((aligned.0 a.0).1 (r.codec.reads_holds x.value a.0 bytes a.1)))
-    (λ e a. table-coherent other writes Coherent rows aligned.1 k x bytes (λ h. alone (rw e h)) m a) p
+table-coherent other w Coherent [] aligned k x bytes alone m p = subst Coherent (sym p) (alone refl)
+table-coherent other w Coherent (r ∷ rows) aligned k x bytes alone m p = one_of (k == r.at.kind)
+    (λ e a. subst Coherent (sym a.2) ((aligned.0 a.0).2 (r.codec.reads_holds x.value a.0 bytes a.1)))
+    (λ e a. table-coherent other w Coherent rows aligned.2 k x bytes (λ h. alone (rw e h)) m a) p
 
-pub table-grows : {M : Type 0} (other : Item → M) (writes : M → Item) (Coherent : M → Type 0) (rows : List (Row M)) → Aligned writes Coherent rows
-    → ((x : Item) → writes (other x) ≡ x)
-    → (k : ℕ) (x : Item) → IsBytes x.value → (m : M) → ReadsAt other rows k x m → 2 * framed (length (writes m).value) ≤ 5 * (4 + length x.value)
-table-grows other writes Coherent [] aligned same k x bytes m p =
-    framed-grows (length (writes m).value) (length x.value) (omega (arith, ap (λ n. length (writes n).value) p, ap (λ (y : Item). length y.value) (same x)))
-table-grows other writes Coherent (r ∷ rows) aligned same k x bytes m p = one_of (k == r.at.kind)
+pub table-grows : {M : Type 0} (other : Item → M) (w : Writing M) (Coherent : M → Type 0) (rows : List (Row M)) → Aligned w Coherent rows
+    → ((x : Item) → written_by w (other x) ≡ x)
+    → (k : ℕ) (x : Item) → IsBytes x.value → (m : M) → ReadsAt other rows k x m → 2 * framed (length (written_by w m).value) ≤ 5 * (4 + length x.value)
+table-grows other w Coherent [] aligned same k x bytes m p =
+    framed-grows (length (written_by w m).value) (length x.value)
+    (omega (arith, ap (λ n. length (written_by w n).value) p, ap (λ (y : Item). length y.value) (same x)))
+table-grows other w Coherent (r ∷ rows) aligned same k x bytes m p = one_of (k == r.at.kind)
     (λ e. λ (a : (v : r.V) × r.codec.Reads x.value v × (m ≡ r.variant v)).
-    let v : length (writes m).value ≡ length (r.codec.writes a.0) = ap (λ n. length (writes n).value) a.2 ∙ ap length (aligned.0 a.0).0 in
+    let v : length (written_by w m).value ≡ length (r.codec.writes a.0) = ap (λ n. length (written_by w n).value) a.2 ∙ ap length (aligned.0 a.0).0 in
     rw v (r.codec.grows x.value a.0 bytes a.1))
-    (λ e a. table-grows other writes Coherent rows aligned.1 same k x bytes m a) p
+    (λ e a. table-grows other w Coherent rows aligned.2 same k x bytes m a) p
 
 pub marked-small : (b : Bool) (k : ℕ) → k < 2 ^ 16 → marked b k < 2 ^ 16
 marked-small true k h = omega arith
@@ -74,44 +76,7 @@ module _ {M : Type 0} (other : Item → M) (rows : List (Row M)) where
   placed-back (held_other x) m placed is fits =
       subst (ReadsAt other rows (number_of x.kind) x) (sym placed) (other-back other rows (number_of x.kind) x is.alone)
 
--- a table where each meaning stands in the row of its place, and is coherent where that row can hold its value; the two laws of
--- `other` hold by themselves
-abbrev pub table_of : {M : Type 0} (rows : List (Row M)) (other : Item → M) (held_of : M → Held) → IsAligned rows held_of
-    → ((x : Item) → item_of (held_of (other x)) ≡ x) → ((x : Item) → IsOther rows x → IsHeld rows (held_of (other x)))
-    → ((m : M) → IsPlaced other rows (held_of m) m) → Table M
-table_of rows other held_of aligned other_is other_coherent placed = record {
-  rows = rows;
-  other = other;
-  held_of = held_of;
-  Coherent = λ m. IsHeld rows (held_of m);
-  aligned = aligned;
-  other_is = other_is;
-  other_coherent = other_coherent;
-  kinds = λ m c. placed-kind other rows (held_of m) m (placed m) c;
-  back = λ m c fits. placed-back other rows (held_of m) m (placed m) c fits;
-}
-
--- no value of which is a list
-abbrev pub table_family : {M : Type 0} → (t : Table M) → Reading (writing_by t.held_of)
-table_family t = record {
-  Reads = λ x m. ReadsAt t.other t.rows (number_of x.kind) x m;
-  Faulty = λ x e. WrongAt t.rows (number_of x.kind) x e;
-  looks = no_looking;
-  Coherent = t.Coherent;
-  one_reading = λ x m n p q. table-one t.other t.rows (number_of x.kind) x m n p q;
-  no_fault = λ x m e p q. table-sound t.other t.rows (number_of x.kind) x m e p q;
-  reads_coherent =
-      λ x m proper p.
-      let alone = λ (a : has_row t.rows (number_of x.kind) ≡ false). t.other_coherent x (record { proper = proper; alone = a }) in
-      table-coherent t.other (λ n. item_of (t.held_of n)) t.Coherent t.rows t.aligned (number_of x.kind) x proper.value alone m p;
-  kinds = λ m c. marked-small (held_nested (t.held_of m)) (held_kind (t.held_of m)) (t.kinds m c);
-  reads_back = λ m c h. t.back m c (misfit_of-none (held_inside (t.held_of m)) (plain_item (t.held_of m)) h);
-  grows = λ x m proper p. table-grows t.other (λ n. item_of (t.held_of n)) t.Coherent t.rows t.aligned t.other_is (number_of x.kind) x proper.value m p;
-}
-
--- some values of which are lists, that take these looks
-abbrev pub holding : {M : Type 0} {w : Writing M} → Looking Item → Reading w → Reading w
-holding looking f = record f { looks = looking }
+-- ---- looks
 
 pub adds-at : (P Q : Counts → Counts → Type 0) (b : Bool) (old new : Counts) → (P old new → Adds P old new) → (Q old new → Adds Q old new)
     → MatchBool b (P old new) (Q old new) → Adds (λ (s t : Counts). MatchBool b (P s t) (Q s t)) old new
@@ -125,4 +90,95 @@ looking_at number within others = record {
   one = λ x old new other p q. both (number_of x.kind == number) (within.one x.value old new other) (others.one x old new other) p q;
   adds = λ x old new p.
       adds-at (within.Takes x.value) (others.Takes x) (number_of x.kind == number) old new (within.adds x.value old new) (others.adds x old new) p;
+}
+
+-- what can stand inside the values of one number
+abbrev pub looking_inside : ℕ → Inside → Looking Item → Looking Item
+looking_inside number nothing others = others
+looking_inside number (looked_through looking) others = looking_at number looking others
+
+-- those of a table are those inside the values of its rows
+abbrev pub looks_of : {M : Type 0} → List (Row M) → Looking Item
+looks_of [] = no_looking
+looks_of (r ∷ rows) = looking_inside r.at.kind r.codec.members.looks (looks_of rows)
+
+inside_bounded : (number : ℕ) (i : Inside) (others : Looking Item) (x : Item) (old new : Counts)
+    → (TakesInside i x.value old new → AddsAtMost old new (length x.value)) → (others.Takes x old new → AddsAtMost old new (length x.value))
+    → (looking_inside number i others).Takes x old new → AddsAtMost old new (length x.value)
+inside_bounded number nothing others x old new f g t = g t
+inside_bounded number (looked_through looking) others x old new f g t = one_of (number_of x.kind == number) (λ e. f) (λ e. g) t
+
+pub rows-bounded : {M : Type 0} (rows : List (Row M)) (x : Item) (old new : Counts) → (looks_of rows).Takes x old new → AddsAtMost old new (length x.value)
+rows-bounded [] x old new t = none-most (length x.value) old new t
+rows-bounded (r ∷ rows) x old new t =
+    inside_bounded r.at.kind r.codec.members.looks (looks_of rows) x old new (r.codec.members.bounded x.value old new) (rows-bounded rows x old new) t
+
+-- at another number
+inside_past : (number : ℕ) (i : Inside) (others : Looking Item) (x : Item) (old new : Counts) → (number_of x.kind == number) ≡ false
+    → (looking_inside number i others).Takes x old new → others.Takes x old new
+inside_past number nothing others x old new e t = t
+inside_past number (looked_through looking) others x old new e t = rw e at t
+
+-- and at this one, where none of the others has it
+inside_here : (number : ℕ) (i : Inside) (others : Looking Item) (x : Item) (old new : Counts) → (number_of x.kind == number) ≡ true
+    → (others.Takes x old new → new ≡ old) → (looking_inside number i others).Takes x old new → TakesInside i x.value old new
+inside_here number nothing others x old new e none t = none t
+inside_here number (looked_through looking) others x old new e none t = rw e at t
+
+no_row-looks : {M : Type 0} (rows : List (Row M)) (x : Item) (old new : Counts) → has_row rows (number_of x.kind) ≡ false
+    → (looks_of rows).Takes x old new → new ≡ old
+no_row-looks [] x old new h t = t
+no_row-looks (r ∷ rows) x old new h t = not_here (number_of x.kind == r.at.kind) (has_row rows (number_of x.kind)) h
+    (λ e f. no_row-looks rows x old new f (inside_past r.at.kind r.codec.members.looks (looks_of rows) x old new e t))
+
+pub rows-saw : {M : Type 0} (other : Item → M) (w : Writing M) (Coherent : M → Type 0) (rows : List (Row M)) → Aligned w Coherent rows
+    → ((x : Item) → w.members (other x) ≡ 0) → (x : Item) (m : M) (old new : Counts) → ReadsAt other rows (number_of x.kind) x m
+    → (looks_of rows).Takes x old new → SawEach old new (w.members m)
+rows-saw other w Coherent [] aligned none x m old new p t = subst (SawEach old new) (sym (ap w.members p ∙ none x)) (none-saw old new t)
+rows-saw other w Coherent (r ∷ rows) aligned none x m old new p t = one_of (number_of x.kind == r.at.kind)
+    (λ e. λ (a : (v : r.V) × r.codec.Reads x.value v × (m ≡ r.variant v)).
+    let own = subst (λ (k : ℕ). has_row rows k ≡ false) (sym (eqb-true (number_of x.kind) r.at.kind e)) aligned.1 in
+    let inside = inside_here r.at.kind r.codec.members.looks (looks_of rows) x old new e (no_row-looks rows x old new own) t in
+    let members : w.members m ≡ r.codec.members.count a.0 = ap w.members a.2 ∙ (aligned.0 a.0).1 in
+    subst (SawEach old new) (sym members) (r.codec.members.saw x.value a.0 old new a.1 inside))
+    (λ e a. rows-saw other w Coherent rows aligned.2 none x m old new a (inside_past r.at.kind r.codec.members.looks (looks_of rows) x old new e t)) p
+
+-- ---- tables
+
+-- a table where each meaning stands in the row of its place, and is coherent where that row can hold its value
+abbrev pub table_of : {M : Type 0} (rows : List (Row M)) (other : Item → M) (held_of : M → Held) → IsAligned rows held_of
+    → ((x : Item) → held_of (other x) ≡ held_other x) → ((m : M) → IsPlaced other rows (held_of m) m) → Table M
+table_of rows other held_of aligned other_is placed = record {
+  rows = rows;
+  other = other;
+  held_of = held_of;
+  Coherent = λ m. IsHeld rows (held_of m);
+  aligned = aligned;
+  other_is = other_is;
+  other_coherent = λ x is. subst (IsHeld rows) (sym (other_is x)) is;
+  kinds = λ m c. placed-kind other rows (held_of m) m (placed m) c;
+  back = λ m c fits. placed-back other rows (held_of m) m (placed m) c fits;
+}
+
+-- the family of a table
+abbrev pub table_family : {M : Type 0} → (t : Table M) → Reading (writing_by t.held_of)
+table_family t = record {
+  Reads = λ x m. ReadsAt t.other t.rows (number_of x.kind) x m;
+  Faulty = λ x e. WrongAt t.rows (number_of x.kind) x e;
+  looks = looks_of t.rows;
+  Coherent = t.Coherent;
+  one_reading = λ x m n p q. table-one t.other t.rows (number_of x.kind) x m n p q;
+  no_fault = λ x m e p q. table-sound t.other t.rows (number_of x.kind) x m e p q;
+  reads_coherent =
+      λ x m proper p.
+      let alone = λ (a : has_row t.rows (number_of x.kind) ≡ false). t.other_coherent x (record { proper = proper; alone = a }) in
+      table-coherent t.other (writing_by t.held_of) t.Coherent t.rows t.aligned (number_of x.kind) x proper.value alone m p;
+  kinds = λ m c. marked-small (held_nested (t.held_of m)) (held_kind (t.held_of m)) (t.kinds m c);
+  reads_back = λ m c h. t.back m c (misfit_of-none (held_inside (t.held_of m)) (plain_item (t.held_of m)) h);
+  grows =
+      λ x m proper p.
+      let same = λ (y : Item). ap item_of (t.other_is y) in
+      table-grows t.other (writing_by t.held_of) t.Coherent t.rows t.aligned same (number_of x.kind) x proper.value m p;
+  bounded = rows-bounded t.rows;
+  saw = rows-saw t.other (writing_by t.held_of) t.Coherent t.rows t.aligned (λ x. ap held_members (t.other_is x));
 }

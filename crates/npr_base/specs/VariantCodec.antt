@@ -2,7 +2,7 @@
 use Rattle.std.specs.Prelude.{◌≡◌, ℕ, ◌+◌, ◌*◌, ◌≤◌, List, length, None}
 use Rattle.std.proofs.Common.{sym, ap, subst, ◌∙◌}
 use Rattle.npr_base.specs.Framing.{IsBytes, framed}
-use Rattle.npr_base.specs.Codec.{Codec}
+use Rattle.npr_base.specs.Codec.{Codec, no_members}
 
 -- the bytes are read by C, and the value is that variant; each variant is written by `bytes_of`
 module _ {V W : Type 0} (C : Codec V) (made : V → W) (bytes_of : W → List ℕ) (same : (v : V) → bytes_of (made v) ≡ C.writes v)
@@ -28,7 +28,7 @@ module _ {V W : Type 0} (C : Codec V) (made : V → W) (bytes_of : W → List �
     writes = bytes_of;
     inside = λ kind x. None;
     Holds = λ x. (v : V) × C.Holds v × (x ≡ made v);
-    members = λ x. 0;
+    members = no_members;
     one_reading = variant-one;
     no_fault = λ at bytes x e p q. C.no_fault at bytes p.0 e p.1 q;
     reads_holds = λ bytes x is p. (p.0, C.reads_holds bytes p.0 is p.1, p.2);

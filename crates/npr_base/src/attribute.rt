@@ -39,8 +39,7 @@ pub trait Attribute: Nla + Drop {
         looks: &mut Looks,
     ) -> Result<(), DecodeError>
         requires { P.ready place.old }
-        ensures ok { IfOk result (λ _. (a : Self) × P.puts place.old a place.new × (family.reading context).Reads item.now (family.meaning a)
-            × SawEach looks.old looks.new (family.writing.members (family.meaning a))) }
+        ensures ok { IfOk result (λ _. (a : Self) × P.puts place.old a place.new × (family.reading context).Reads item.now (family.meaning a)) }
         ensures refused { IfErr result (λ e. e ≢ OutOfMemory → (family.reading context).Faulty item.now e) }
         ensures exact { Answered result → (family.reading context).looks.Takes item.now looks.old looks.new }
         ensures bounded { AddsAtMost looks.old looks.new (length (item.now).value) };
@@ -81,8 +80,7 @@ pub trait Attribute: Nla + Drop {
         item: &NlaBuffer<'_>,
         looks: &mut Looks,
     ) -> Result<(), DecodeError>
-        ensures ok { IfOk result (λ _. (a : Self) × (list.new.items ≡ list.old.items ++ a ∷ []) × (family.reading context).Reads item.now (family.meaning a)
-            × SawEach looks.old looks.new (family.writing.members (family.meaning a))) }
+        ensures ok { IfOk result (λ _. (a : Self) × (list.new.items ≡ list.old.items ++ a ∷ []) × (family.reading context).Reads item.now (family.meaning a)) }
         ensures refused { IfErr result (λ e. e ≢ OutOfMemory → (family.reading context).Faulty item.now e) }
         ensures exact { Answered result → (family.reading context).looks.Takes item.now looks.old looks.new }
         ensures bounded { AddsAtMost looks.old looks.new (length (item.now).value) }

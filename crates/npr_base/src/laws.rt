@@ -1,13 +1,14 @@
 //! The laws of this crate, over its definitions alone. Each function does nothing, and its contract
 //! is the law.
 
-ghost use Rattle.std.specs.Prelude.{◌≡◌, ◌≤◌, ◌+◌, ◌*◌, ◌++◌, ◌∷◌, ◌↔◌, ℕ, List, [], Result, Err, None, length};
+ghost use Rattle.std.specs.Prelude.{◌≡◌, ◌≤◌, ◌+◌, ◌-◌, ◌*◌, ◌++◌, ◌∷◌, ◌↔◌, ℕ, List, [], Result, Err, None, length};
 ghost use Rattle.npr_base.specs.{
   declared.refusal.DecodeError.{DecodeError},
   AddressFamily.{family_of, family_number},
   Equality.{IsEquality},
+  Family.{list_members},
   Framing.{Item, Cut, Stops},
-  Counts.{Counts},
+  Counts.{Counts, AddsAtMostTwice, SawEach},
   Looks.{Adds},
   Message.{Message as Meant, IsMessage, MessageLooks, IsCoherent, spelling, message_misfit},
   Walk.{Steps, found, Finds, CutsInTwo},
@@ -98,4 +99,9 @@ pub fn law_looks<H: Header>()
     ensures one { (bytes : List ℕ) (old new other : Counts) → MessageLooks H.grammar bytes old new → MessageLooks H.grammar bytes old other → new ≡ other }
     // and what it adds to these counts, it adds to all.
     ensures number { (bytes : List ℕ) (old new : Counts) → MessageLooks H.grammar bytes old new → Adds (MessageLooks H.grammar bytes) old new }
+    // At most two for four bytes behind the header, and one for twelve and two that fail.
+    ensures bounded { (bytes : List ℕ) (old new : Counts) → MessageLooks H.grammar bytes old new → AddsAtMostTwice old new (length bytes - H.grammar.layout.size) }
+    // Each attribute of a message has one, and so has each inside one.
+    ensures counted { (bytes : List ℕ) (m : Meant H H.grammar.Meaning) (old new : Counts) → IsMessage H.grammar bytes m → MessageLooks H.grammar bytes old new
+        → SawEach old new (list_members H.grammar.writing.members m.attributes) }
 {}

@@ -99,7 +99,7 @@ abbrev pub Coherent : Form → Meaning → Type 0
 Coherent form (destination a) = (address_in form).Holds a
 Coherent form m = IsHeld (rows form) (held_of m)
 
-pub aligned : (form : Form) → Aligned (λ m. item_of (held_of m)) (Coherent form) (rows form)
+pub aligned : (form : Form) → Aligned (writing_by held_of) (Coherent form) (rows form)
 aligned form = search rules
 
 pub kinds : (form : Form) (m : Meaning) → Coherent form m → held_kind (held_of m) < 2 ^ 16

@@ -7,7 +7,7 @@ use Rattle.npr_base.specs.declared.ip.IpAddr.{IpAddr}
 use Rattle.npr_base.specs.declared.ip.IpAddr.TheVariants.{V4, V6}
 use Rattle.npr_base.specs.Framing.{IsBytes, framed}
 use Rattle.npr_base.specs.Layout.{octets}
-use Rattle.npr_base.specs.Codec.{Codec, exactly, raw}
+use Rattle.npr_base.specs.Codec.{Codec, exactly, raw, no_members}
 use Rattle.npr_base.specs.VariantCodec.{variant}
 use Rattle.npr_neighbour.specs.declared.address.NeighbourAddress.{NeighbourAddress}
 use Rattle.npr_neighbour.specs.declared.address.NeighbourAddress.TheVariants.{Inet as AddressInet, Inet6 as AddressInet6, Other as AddressOther}
@@ -65,7 +65,7 @@ address_in form = record {
   writes = address_bytes;
   inside = λ kind a. None;
   Holds = (address_by form).Holds;
-  members = λ a. 0;
+  members = no_members;
   one_reading = (address_by form).one_reading;
   no_fault = (address_by form).no_fault;
   reads_holds = (address_by form).reads_holds;

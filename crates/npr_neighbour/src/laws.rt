@@ -1,14 +1,14 @@
 //! The laws of neighbour messages, over their definitions alone. Each function does nothing, and its
 //! contract is the law.
 
-ghost use Rattle.std.specs.Prelude.{◌≡◌, ◌^◌, ◌-◌, ℕ, List, length};
+ghost use Rattle.std.specs.Prelude.{◌≡◌, ◌^◌};
 ghost use Rattle.{
-  npr_base.specs.{Counts.{Counts, AddsAtMostTwice, SawEach}, Equality.{IsEquality, IsEqualityOf}, Family.{list_members}, Message.{MessageLooks}},
+  npr_base.specs.Equality.{IsEquality, IsEqualityOf},
   npr_neighbour.specs.{
-    Attribute.{meaning_of, writing},
+    Attribute.{meaning_of},
     Flags.{flags_bits, flags_of, extended_flags_bits, extended_flags_of},
     Header.{default_header, header},
-    Message.{Neighbour, grammar, message_of, IsNeighbourMessage},
+    Message.{message_of},
     NeighbourAddress.{Address, address_of, neighbour_address},
     State.{state_bits, state_of},
   },
@@ -47,15 +47,6 @@ pub fn law_neighbour_flags()
     ensures sticky { flags_bits NeighbourFlags.Sticky ≡ 2 ^ 6 }
     ensures router { flags_bits NeighbourFlags.Router ≡ 2 ^ 7 }
     ensures managed { extended_flags_bits NeighbourExtendedFlags.Managed ≡ 2 ^ 0 }
-{}
-
-/// The looks that reading a message takes, over their definition.
-pub fn law_looks()
-    // At most two for four bytes behind the header, and one for twelve and two that fail.
-    ensures bounded { (bytes : List ℕ) (old new : Counts) → MessageLooks grammar bytes old new → AddsAtMostTwice old new (length bytes - 12) }
-    // Each attribute has one.
-    ensures counted { (bytes : List ℕ) (m : Neighbour) (old new : Counts) → IsNeighbourMessage bytes m → MessageLooks grammar bytes old new
-        → SawEach old new (list_members writing.members m.attributes) }
 {}
 
 /// An address that its family can hold is read again from its bytes.

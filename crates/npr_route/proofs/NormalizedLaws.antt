@@ -19,7 +19,7 @@ use Rattle.npr_route.specs.FlatAttribute as Flat
 use Rattle.npr_route.specs.FlatAttribute.{Context, rows, other, is_multicast, any_marks, marks, new_destination_variant, new_destination_codec}
 use Rattle.npr_route.specs.FlatAttribute.{NewDestinationValue, new_destination_row, expires_variant, expires_layout, expires_row, held_of}
 use Rattle.npr_route.specs.FlatAttributeLaws as Flats
-use Rattle.npr_route.specs.AttributeLaws.{writing}
+use Rattle.npr_route.specs.AttributeFamily.{writing}
 use Rattle.npr_route.specs.Header.{header}
 use Rattle.npr_route.proofs.Normalizing.{attributes_of-normalized}
 use Rattle.npr_base.specs.Message.{IsMessage, IsCoherent, spelling, message_misfit}

@@ -2,29 +2,29 @@
 use Rattle.std.proofs.Common.{◌≡◌, ℕ, ◌+◌, ◌*◌, ◌/◌, ◌≤◌, List, [], ◌∷◌, ◌++◌, length, map, refl, sym, ap, subst, ◌∙◌, arith}
 use Rattle.std.proofs.lemmas.List.{map_push}
 use Rattle.npr_base.specs.declared.refusal.DecodeError.{DecodeError}
-use Rattle.npr_base.specs.Counts.{Counts, AddsAtMost, SawEach, hit, miss}
+use Rattle.npr_base.specs.Counts.{Counts, AddsAtMost, hit, miss}
 use Rattle.npr_base.specs.Framing.{Item, Passes}
-use Rattle.npr_base.specs.Family.{Each, list_members}
+use Rattle.npr_base.specs.Family.{Each}
 use Rattle.npr_base.specs.FrontLaws.{Front-takes}
 use Rattle.npr_base.proofs.Lists.{ReadsTo-none}
-use Rattle.npr_base.proofs.Looking.{list_members-more}
-use Rattle.npr_base.proofs.WalkLaws.{Passes-length}
+use Rattle.npr_base.specs.LookBounds.{Passes-length}
 use Rattle.npr_route.specs.Attribute.{HopFront, Meaning, Hop, Reads, AreGoverned, AreHops, hops_wrong, AttributesWrong, governed_wrong}
-use Rattle.npr_route.specs.Attribute.{first_wrong, later_wrong, HopsWrong, first_hop_wrong, later_hop_wrong, members, attributes_members, hops_members, attributes_of}
+use Rattle.npr_route.specs.Attribute.{first_wrong, later_wrong, HopsWrong, first_hop_wrong, later_hop_wrong, attributes_of}
 use Rattle.npr_route.specs.AttributeView.{hops_of, meaning_of, hop_of}
 use Rattle.npr_route.specs.FlatAttribute.{Context}
 use Rattle.npr_route.specs.GoverningLaws.{all_read}
 use Rattle.npr_route.specs.NextHopFrontLaws.{HopFront-length}
 use Rattle.npr_route.specs.NextHopHeader.{head_in}
-use Rattle.npr_route.specs.Reader.{HopsTo, context_inside, IsAt, IsOpen, Waits, Chain, Tied, Opens, level_weight, weight_of, ahead, stopped}
-use Rattle.npr_route.specs.Reader.{hop_members, level_built, level_account, account_of, account, unread, all_built, Account, SoughtIn, Added, Ended}
+use Rattle.npr_route.specs.Reader.{HopsTo, context_inside, IsAt, IsOpen, Waits, Chain, Tied, Opens, level_weight, weight_of}
+use Rattle.npr_route.specs.Reader.{level_account, account_of, account, unread, Account, Added, Ended}
+use Rattle.npr_route.specs.Ahead.{ahead, stopped, SoughtIn}
 use Rattle.npr_scalar.specs.RouteFlags.{next_hop_flags_bits}
 use Rattle.npr_scalar.specs.declared.flags.RouteNextHopFlags.{RouteNextHopFlags}
 use Rattle.npr_route.specs.declared.attribute.RouteAttribute.{RouteAttribute}
 use Rattle.npr_route.specs.declared.next_hops.RouteNextHop.{RouteNextHop, RouteNextHop-F, roll-RouteNextHop}
 use Rattle.npr_route.specs.declared.reader.Level.{Level}
 use Rattle.npr_route.specs.declared.reader.Reader.{Reader}
-use Rattle.npr_route.proofs.Ahead.{room_opened, stopped_once}
+use Rattle.npr_route.specs.AheadLaws.{room_opened, stopped_once}
 use Rattle.npr_route.proofs.Views.{view_hop_made}
 
 -- ---- lists and the trees of meanings
@@ -49,14 +49,6 @@ all_hops c bytes (h ∷ hs) (inside, rest, f, a, p) = (inside, rest, f, a, all_h
 pub hops_wrong_behind : (c : Context) (bytes front : List ℕ) (hs : List Hop) (e : DecodeError) → HopsTo c bytes hs front → HopsWrong c front e → HopsWrong c bytes e
 hops_wrong_behind c bytes front [] e p w = subst (λ (b : List ℕ). HopsWrong c b e) (sym p) w
 hops_wrong_behind c bytes front (h ∷ hs) e (inside, rest, f, a, p) w = later_hop_wrong h.head inside rest h.attributes f a (hops_wrong_behind c rest front hs e p w)
-
-pub hops_count : (hs : List Hop) → hops_members (hops_of hs) ≡ list_members hop_members hs
-hops_count [] = refl
-hops_count (h ∷ hs) = ap (λ (n : ℕ). 1 + attributes_members h.attributes + n) (hops_count hs)
-
-pub attributes_count : (ms : List Meaning) → attributes_members (attributes_of ms) ≡ list_members members ms
-attributes_count [] = refl
-attributes_count (m ∷ ms) = ap (λ (n : ℕ). 1 + members m + n) (attributes_count ms)
 
 -- ---- faults
 
@@ -98,13 +90,12 @@ weight_push (g ∷ fs) f = omega (arith, weight_push fs f)
 pub record Pushed (fs : List Level) (f : Level) : Type 0 where
   pub room : (account_of (fs ++ f ∷ [])).room ≡ (account_of fs).room + (level_account f).room
   pub stops : (account_of (fs ++ f ∷ [])).stops ≡ (account_of fs).stops + (level_account f).stops
-  pub built : (account_of (fs ++ f ∷ [])).built ≡ (account_of fs).built + (1 + (level_account f).built)
 
 pub account_push : (fs : List Level) (f : Level) → Pushed fs f
-account_push [] f = record { room = omega arith; stops = omega arith; built = omega arith }
+account_push [] f = record { room = omega arith; stops = omega arith }
 account_push (g ∷ fs) f =
     let p = account_push fs f in
-    record { room = omega (arith, p.room); stops = omega (arith, p.stops); built = omega (arith, p.built) }
+    record { room = omega (arith, p.room); stops = omega (arith, p.stops) }
 
 pub chain_none : (c : Context) (bytes : List ℕ) (fs : List Level) (d : Context) (value : List ℕ) → length fs ≡ 0 → Chain c bytes fs d value → (c ≡ d) × (bytes ≡ value)
 chain_none c bytes [] d value n p = p
@@ -153,44 +144,41 @@ stops_fit c bytes r (value, at, p) =
 
 -- ---- looks
 
-pub Added-none : (c : Counts) (before after : Account) → after.room ≤ before.room → before.stops ≤ after.stops → after.built ≤ before.built → Added c c before after
-Added-none c before after r s b = record {
+pub Added-none : (c : Counts) (before after : Account) → after.room ≤ before.room → before.stops ≤ after.stops → Added c c before after
+Added-none c before after r s = record {
   kept = omega arith;
   most = omega (arith, r);
   failed_kept = omega arith;
   failed = omega (arith, s);
-  each = λ below. omega (arith, b);
 }
 
 -- a look at an attribute, and those inside it
-pub Added-read : (old mid new : Counts) (size inner : ℕ) (before after : Account) → mid ≡ hit old → AddsAtMost mid new size → SawEach mid new inner
-    → after.room + (1 + 2 * (size / 4)) ≤ before.room → before.stops ≤ after.stops → after.built ≤ before.built + (1 + inner) → Added old new before after
-Added-read old mid new size inner before after is a saw r t b =
+pub Added-read : (old mid new : Counts) (size : ℕ) (before after : Account) → mid ≡ hit old → AddsAtMost mid new size → new.failed ≡ mid.failed
+    → after.room + (1 + 2 * (size / 4)) ≤ before.room → before.stops ≤ after.stops → Added old new before after
+Added-read old mid new size before after is a quiet r t =
     let s = ap (λ (c : Counts). c.successful) is in
     let f = ap (λ (c : Counts). c.failed) is in
     record {
       kept = omega (arith, s, a.kept);
       most = omega (arith, s, a.successful, r);
-      failed_kept = omega (arith, f, saw.failed);
-      failed = omega (arith, f, saw.failed, t);
-      each = λ below. omega (arith, s, saw.each below, a.kept, b, below);
+      failed_kept = omega (arith, f, quiet);
+      failed = omega (arith, f, quiet, t);
     }
 
 -- a next hop that is opened, and its attributes looked through
 pub Added-open : (inside : List ℕ) (old new : Counts) (before after : Account) → SoughtIn inside old new
-    → after.room + (1 + ahead inside) ≤ before.room → before.stops + stopped inside ≤ after.stops → after.built ≤ before.built + 1 → Added old new before after
-Added-open inside old new before after s r t b = record {
+    → after.room + (1 + ahead inside) ≤ before.room → before.stops + stopped inside ≤ after.stops → Added old new before after
+Added-open inside old new before after s r t = record {
   kept = s.kept;
   most = omega (arith, s.most, r);
   failed_kept = s.failed_kept;
   failed = omega (arith, s.failed, t);
-  each = λ below. omega (arith, s.header below, b);
 }
 
 -- an attribute that holds next hops, the first of which is opened
 pub Added-inner : (inside : List ℕ) (old mid new : Counts) (before after : Account) → mid ≡ hit old → SoughtIn inside mid new
-    → after.room + (2 + ahead inside) ≤ before.room → before.stops + stopped inside ≤ after.stops → after.built ≤ before.built + 2 → Added old new before after
-Added-inner inside old mid new before after is s r t b =
+    → after.room + (2 + ahead inside) ≤ before.room → before.stops + stopped inside ≤ after.stops → Added old new before after
+Added-inner inside old mid new before after is s r t =
     let a = ap (λ (c : Counts). c.successful) is in
     let f = ap (λ (c : Counts). c.failed) is in
     record {
@@ -198,7 +186,6 @@ Added-inner inside old mid new before after is s r t b =
       most = omega (arith, a, s.most, r);
       failed_kept = omega (arith, f, s.failed_kept);
       failed = omega (arith, f, s.failed, t);
-      each = λ below. omega (arith, a, s.header below, s.kept, b, below);
     }
 
 -- a look that found an attribute, and one at what is no next hop in its value
@@ -234,10 +221,6 @@ Ended-inside old mid new size walk before is a r le =
       failed = omega (arith, f, a.failed, le);
     }
 
--- how many looks a next hop that is whole has had with those before it
-pub closed_count : (l : Level) → list_members hop_members (map hop_of l.next_hops.items ++ closed_hop l ∷ []) ≡ level_built l
-closed_count l = omega (arith, list_members-more hop_members (map hop_of l.next_hops.items) (closed_hop l), attributes_count (map meaning_of l.attributes.items))
-
 -- the next hops of a level with the one that was open
 pub hops_closed : (l : Level) (flags : RouteNextHopFlags) (xs : List RouteNextHop) → next_hop_flags_bits flags ≡ l.header.flags
     → xs ≡ l.next_hops.items ++ roll-RouteNextHop (record { flags = flags; hops = l.header.hops; interface_index = l.header.interface_index; attributes = l.attributes }) ∷ []
@@ -256,12 +239,7 @@ Added-more start old new all before after p q = record {
   most = omega (arith, p.most, q.most);
   failed_kept = omega (arith, p.failed_kept, q.failed_kept);
   failed = omega (arith, p.failed, q.failed);
-  each = λ below. omega (arith, q.each below, p.each (omega (arith, q.kept, below)));
 }
-
--- what a whole reading adds
-pub Added-saw : (start new : Counts) (len : ℕ) (hops : List Hop) → Added start new (unread len) (all_built hops) → SawEach start new (list_members hop_members hops)
-Added-saw start new len hops p = record { failed = omega (arith, p.failed, p.failed_kept); each = λ below. omega (arith, p.each below) }
 
 pub Ended-bounds : (c : Context) (bytes : List ℕ) (r : Reader) (start old new : Counts) → Tied c bytes r → Added start old (unread (length bytes)) (account r)
     → Ended old new (account r) (length r.level.walk) → AddsAtMost start new (length bytes)
@@ -293,7 +271,3 @@ opened_first c bytes l o = opened_at c bytes bytes l [] o refl
 pub room_open : (c : Context) (bytes : List ℕ) (before : List RouteNextHop) (l : Level) → Opens c bytes before l
     → (level_account l).room + (4 + ahead l.walk) ≤ 2 * (length bytes / 4)
 room_open c bytes before l o = omega (arith, HopFront-length bytes (head_in l.header) l.walk l.hops_rest.now o.front, room_opened l.walk)
-
-pub built_open : (c : Context) (bytes : List ℕ) (before : List RouteNextHop) (l : Level) → Opens c bytes before l
-    → level_built l ≡ 1 + list_members hop_members (map hop_of before)
-built_open c bytes before l o = rw (o.attributes, o.next_hops) refl

@@ -7,7 +7,7 @@ use Rattle.npr_base.specs.declared.refusal.DecodeError.TheVariants.{OutOfMemory}
 use Rattle.npr_base.specs.Counts.{Counts}
 use Rattle.npr_base.specs.Framing.{Item, number_of}
 use Rattle.npr_base.specs.Looks.{Answered}
-use Rattle.npr_base.specs.LooksLaws.{list_looking}
+use Rattle.npr_base.specs.LookBounds.{list_looking}
 use Rattle.npr_route.specs.Attribute.{Meaning, flat, multi_path, Reads}
 use Rattle.npr_route.specs.AttributeLooks.{AttributeLooks, value_read, hops_inside, hops_end}
 use Rattle.npr_route.specs.FlatAttribute.{Context}

@@ -11,7 +11,7 @@ use Rattle.npr_base.specs.Family.{option_or, overlong}
 use Rattle.npr_base.specs.FitLaws.{misfit_of-none, misfit_of-short, none_both}
 use Rattle.npr_base.specs.FrontLaws.{Front-same, Front-shrinks, Front-sound, Front-takes}
 use Rattle.npr_base.specs.ListLaws.{encoding-front, Front-proper, length-encoding}
-use Rattle.npr_base.specs.Table.{Writing, Reading, Row, ReadsAt, written_by}
+use Rattle.npr_base.specs.Table.{Reading, Row, ReadsAt, written_by}
 use Rattle.npr_base.specs.TableLaws.{one_of}
 use Rattle.npr_scalar.specs.RouteAddress.{Form, four, sixteen, label, any, form_of}
 use Rattle.npr_tunnel.specs.Encapsulation as OfEncap
@@ -24,8 +24,7 @@ use Rattle.npr_route.specs.Attribute.{Hops, no_hops, hop, typed, first_type, Rea
 use Rattle.npr_route.specs.Attribute.{Wrong, value_wrong, hops_wrong, AttributesWrong, GovernedWrong, governed_wrong}
 use Rattle.npr_route.specs.Attribute.{none_in_front, first_wrong, later_wrong, HopsWrong, no_hop_in_front, first_hop_wrong, later_hop_wrong}
 use Rattle.npr_route.specs.Attribute.{shape_of, writes, attributes_bytes, hops_bytes, hop_overlong, misfit, attributes_misfit}
-use Rattle.npr_route.specs.Attribute.{hops_misfit, Coherent, AttributesCoherent, HopsCoherent, members, depth, attributes_depth, hops_depth}
-use Rattle.npr_route.specs.AttributeLooksLaws.{attribute_looking}
+use Rattle.npr_route.specs.Attribute.{hops_misfit, Coherent, AttributesCoherent, HopsCoherent, depth, attributes_depth, hops_depth}
 use Rattle.npr_route.specs.Governing.{Governs}
 use Rattle.npr_route.specs.GoverningLaws.{governs-one, first_governs, governs_first}
 use Rattle.npr_route.specs.NextHopFrontLaws.{HopFront-same, HopFront-sound, HopFront-length, HopFront-proper}
@@ -270,22 +269,3 @@ mutual
   hops-depth c bytes no_hops p = omega arith
   hops-depth c bytes (hop h ms hs) (i, r, f, p, ps) =
       omega (arith, attributes-depth (typed c p.0) i ms p.2, hops-depth c r hs ps, HopFront-length bytes h i r f)
-
--- how each is written
-abbrev pub writing : Writing Meaning
-writing = record { shape = shape_of; members = members }
-
--- the family of attributes with next hops
-abbrev pub attributes : Context → Reading writing
-attributes c = record {
-  Reads = Reads c;
-  Faulty = Wrong c;
-  looks = attribute_looking c;
-  Coherent = Coherent c;
-  one_reading = reads-one c;
-  no_fault = reads-sound c;
-  reads_coherent = reads-coherent c;
-  kinds = kinds c;
-  reads_back = reads-back c;
-  grows = reads-grow c;
-}

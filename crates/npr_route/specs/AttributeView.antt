@@ -10,7 +10,7 @@ use Rattle.npr_tunnel.specs.Encapsulation as OfEncap
 use Rattle.npr_route.specs.Metric.{metric_of}
 use Rattle.npr_route.specs.FlatAttribute as Flat
 use Rattle.npr_route.specs.FlatAttribute.{Context}
-use Rattle.npr_route.specs.AttributeLaws.{attributes}
+use Rattle.npr_route.specs.AttributeFamily.{attributes}
 use Rattle.npr_route.specs.Attribute.{Meaning, flat, multi_path, attributes_of, Hops, no_hops, hop, Hop, writes, misfit}
 use Rattle.npr_route.specs.Attribute.{hop_bytes, hop_misfit}
 use Rattle.npr_route.specs.declared.attribute.RouteAttribute.{RouteAttribute, fold-RouteAttribute}

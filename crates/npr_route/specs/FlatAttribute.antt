@@ -4,7 +4,7 @@ use Rattle.npr_base.specs.declared.refusal.AttrFamily.TheVariants.{Route as OfRo
 use Rattle.npr_base.specs.declared.address_family.AddressFamily.{AddressFamily}
 use Rattle.npr_base.specs.Framing.{Item}
 use Rattle.npr_base.specs.Layout.{Layout, byte, le32, le64, be16, be32}
-use Rattle.npr_base.specs.Codec.{Codec, exactly, leading, raw}
+use Rattle.npr_base.specs.Codec.{Codec, exactly, leading, raw, no_members}
 use Rattle.npr_base.specs.ListCodec.{list_of}
 use Rattle.npr_base.specs.Table.{Reading, Row, row, Held, held, held_marked, held_other, IsHeld}
 use Rattle.npr_scalar.specs.MplsLaws.{mpls_labels}
@@ -83,11 +83,15 @@ NewDestinationValue sixteen = AddressMeaning
 NewDestinationValue label = List MplsLabel
 NewDestinationValue any = AddressMeaning
 
+abbrev pub new_destination_value : (form : Form) → Codec (NewDestinationValue form)
+new_destination_value four = address_in four
+new_destination_value sixteen = address_in sixteen
+new_destination_value label = mpls_labels
+new_destination_value any = address_in any
+
+-- whatever the form, no attributes stand inside
 abbrev pub new_destination_codec : (form : Form) → Codec (NewDestinationValue form)
-new_destination_codec four = address_in four
-new_destination_codec sixteen = address_in sixteen
-new_destination_codec label = mpls_labels
-new_destination_codec any = address_in any
+new_destination_codec form = record (new_destination_value form) { members = no_members }
 
 abbrev pub new_destination_variant : (form : Form) → NewDestinationValue form → Meaning
 new_destination_variant four a = new_destination_address a

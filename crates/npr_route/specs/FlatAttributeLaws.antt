@@ -1,41 +1,40 @@
 -- The family of the attributes of a route message but next hops, under a context.
 use Rattle.std.specs.Prelude.{◌≡◌, ℕ, ◌<◌, ◌^◌, Bool, true, false, None}
 use Rattle.std.proofs.Common.{refl, arith, rules}
-use Rattle.npr_base.specs.Framing.{Item, marked, number_of}
+use Rattle.npr_base.specs.Framing.{marked, number_of}
 use Rattle.npr_base.specs.Layout.{le32, le64}
 use Rattle.npr_base.specs.Codec.{exactly}
 use Rattle.npr_base.specs.ListCodec.{list_of}
-use Rattle.npr_base.specs.Table.{Writing, Reading, held_kind, held_value, held_inside, held-reads, item_of, writing_by, Aligned, ReadsAt}
-use Rattle.npr_base.specs.Looks.{Looking}
-use Rattle.npr_base.specs.LooksLaws.{no_looking, list_looking}
-use Rattle.npr_base.specs.TableLaws.{table_family, holding, looking_at, other-back}
+use Rattle.npr_base.specs.Table.{Writing, Reading, held_kind, held_value, held_inside, held-reads, item_of, writing_by, table_with, Aligned, IsWritten, ReadsAt}
+use Rattle.npr_base.specs.TableLaws.{table_family, other-back}
 use Rattle.npr_scalar.specs.MplsLaws.{mpls_labels}
 use Rattle.npr_scalar.specs.RouteAddress.{address_in, Form, four, sixteen, label, any, form_of}
 use Rattle.npr_srh.specs.Seg6Mode.{ModeTable, modes}
 use Rattle.npr_tunnel.specs.Encapsulation as OfEncap
 use Rattle.npr_route.specs.FlatAttribute.{Context, Meaning, destination, source, gateway, pref_source, new_destination}
 use Rattle.npr_route.specs.FlatAttribute.{new_destination_address, encap, any_marks, expires, multicast_expires, other, rows}
-use Rattle.npr_route.specs.FlatAttribute.{new_destination_codec, new_destination_variant, NewDestinationValue, expires_layout}
-use Rattle.npr_route.specs.FlatAttribute.{expires_variant, held_of, Coherent, is_multicast}
-use Rattle.npr_route.specs.Metric.{metrics}
+use Rattle.npr_route.specs.FlatAttribute.{new_destination_row, NewDestinationValue, expires_row}
+use Rattle.npr_route.specs.FlatAttribute.{held_of, Coherent, is_multicast}
 
-new_destination-aligned : (form : Form) (multicast : Bool) (family : Reading OfEncap.writing) (v : NewDestinationValue form)
-    → ((item_of (held_of (new_destination_variant form v))).value ≡ (new_destination_codec form).writes v) ×
-    ((new_destination_codec form).Holds v → Coherent form multicast family (new_destination_variant form v))
-new_destination-aligned four multicast family v = (refl, λ h. (λ e. cc, h))
-new_destination-aligned sixteen multicast family v = (refl, λ h. (λ e. cc, h))
-new_destination-aligned label multicast family v = (refl, λ h. (refl, h))
-new_destination-aligned any multicast family v = (refl, λ h. (λ e. cc, h))
+-- how each is written, whatever the context
+abbrev pub writing : Writing Meaning
+writing = writing_by held_of
 
-expires-aligned : (form : Form) (multicast : Bool) (family : Reading OfEncap.writing) (v : ℕ)
-    → ((item_of (held_of (expires_variant multicast v))).value ≡ (exactly (expires_layout multicast)).writes v) ×
-    ((exactly (expires_layout multicast)).Holds v → Coherent form multicast family (expires_variant multicast v))
-expires-aligned form true family v = (refl, λ h. (refl, h))
-expires-aligned form false family v = (refl, λ h. (refl, h))
+new_destination-written : (form : Form) (multicast : Bool) (family : Reading OfEncap.writing) (v : NewDestinationValue form)
+    → IsWritten writing (Coherent form multicast family) (new_destination_row form) v
+new_destination-written four multicast family v = (refl, refl, λ h. (λ e. cc, h))
+new_destination-written sixteen multicast family v = (refl, refl, λ h. (λ e. cc, h))
+new_destination-written label multicast family v = (refl, refl, λ h. (refl, h))
+new_destination-written any multicast family v = (refl, refl, λ h. (λ e. cc, h))
+
+expires-written : (form : Form) (multicast : Bool) (family : Reading OfEncap.writing) (v : ℕ)
+    → IsWritten writing (Coherent form multicast family) (expires_row multicast) v
+expires-written form true family v = (refl, refl, λ h. (refl, h))
+expires-written form false family v = (refl, refl, λ h. (refl, h))
 
 pub aligned : (form : Form) (multicast : Bool) (family : Reading OfEncap.writing)
-    → Aligned (λ m. item_of (held_of m)) (Coherent form multicast family) (rows form multicast family)
-aligned form multicast family = search (rules, new_destination-aligned form multicast family, expires-aligned form multicast family)
+    → Aligned writing (Coherent form multicast family) (rows form multicast family)
+aligned form multicast family = search (rules, new_destination-written form multicast family, expires-written form multicast family)
 
 pub kinds : (form : Form) (multicast : Bool) (family : Reading OfEncap.writing) (m : Meaning)
     → Coherent form multicast family m → held_kind (held_of m) < 2 ^ 16
@@ -69,27 +68,13 @@ back form true family (multicast_expires n) c fits = (n, (exactly le64).reads_ba
 back form false family (multicast_expires n) c fits = absurd (let e = c.0 in cc)
 back form multicast family m c fits = (held_value (held_of m), held-reads (rows form multicast family) (held_of m) c fits, refl)
 
--- how each is written, whatever the context
-abbrev pub writing : Writing Meaning
-writing = writing_by held_of
-
--- number 8 is a list of metrics, and number 22 one of members
-abbrev pub looks : Reading OfEncap.writing → Looking Item
-looks family = looking_at 8 (list_looking metrics) (looking_at 22 (list_looking family) no_looking)
-
 -- the family under a form of addresses, for multicast routes or others, and over a family of members
 abbrev pub attributes_in : Form → Bool → Reading OfEncap.writing → Reading writing
-attributes_in form multicast family = holding (looks family) (table_family (record {
-  rows = rows form multicast family;
-  other = other;
-  held_of = held_of;
-  Coherent = Coherent form multicast family;
-  aligned = aligned form multicast family;
-  other_is = λ x. refl;
-  other_coherent = λ x is. is;
-  kinds = kinds form multicast family;
-  back = back form multicast family;
-}))
+attributes_in form multicast family =
+    let written = aligned form multicast family in
+    let kinds = kinds form multicast family in
+    let back = back form multicast family in
+    table_family (table_with (rows form multicast family) other held_of (Coherent form multicast family) written (λ x. refl) (λ x is. is) kinds back)
 
 -- the family under a context, by a table of SEG6 modes
 abbrev pub attributes_by : ModeTable → Context → Reading writing

@@ -2,6 +2,10 @@ pub mod Attribute
 pub mod AttributeLooks
 pub mod AttributeLooksLaws
 pub mod AttributeLaws
+pub mod Ahead
+pub mod AheadLaws
+pub mod LookBounds
+pub mod AttributeFamily
 pub mod AttributeView
 pub mod FlatAttribute
 pub mod FlatAttributeLaws

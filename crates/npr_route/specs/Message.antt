@@ -8,12 +8,12 @@ use Rattle.npr_base.specs.Message.{Message, Body, Grammar, grammar_of, view, IsM
 use Rattle.npr_base.specs.Message.{IsCoherent, IsCoherentOf, spelling, message_misfit}
 use Rattle.npr_srh.specs.Seg6Mode.{ModeTable}
 use Rattle.npr_route.specs.Attribute.{Meaning, normalized, attributes_depth, attributes_of}
-use Rattle.npr_route.specs.AttributeLaws.{writing}
+use Rattle.npr_route.specs.AttributeFamily.{writing}
 use Rattle.npr_route.specs.AttributeView.{family}
 use Rattle.npr_route.specs.Header.{header, default_header}
 use Rattle.npr_route.specs.RouteList.{Under, IsRouteList, IsRouteListBy, RouteListFault, IsCoherentList, IsCoherentListBy}
 use Rattle.npr_route.specs.RouteListLaws.{route-list-one, route-list-sound, route-list-coherent, route-list-back, route-list-grows}
-use Rattle.npr_route.specs.RouteListLaws.{route-list-deep, route_list_looking}
+use Rattle.npr_route.specs.RouteListLaws.{route-list-deep, route_list_looking, route-list-bounded, route-list-saw}
 use Rattle.npr_route.specs.declared.header.RouteHeader.{RouteHeader}
 use Rattle.npr_route.specs.declared.attribute.RouteAttribute.{RouteAttribute}
 
@@ -39,6 +39,8 @@ body = record {
   reads_coherent = λ h bytes xs is p. route-list-coherent (under h) bytes xs is p;
   reads_back = λ h xs all fits. route-list-back (under h) xs all fits;
   grows = λ h bytes xs is p. route-list-grows (under h) bytes xs is p;
+  bounded = λ h bytes old new t. route-list-bounded (under h) bytes old new t;
+  saw = λ h bytes xs old new p t. route-list-saw (under h) bytes xs old new p t;
   depth = λ xs. attributes_depth (attributes_of xs);
   deep = λ h bytes xs p. route-list-deep (under h) bytes xs p;
 }

@@ -112,4 +112,4 @@ writing = writing_by held_of
 
 -- the family
 abbrev pub metrics : Reading writing
-metrics = table_family (table_of rows other held_of aligned (λ x. refl) (λ x is. is) placed)
+metrics = table_family (table_of rows other held_of aligned (λ x. refl) placed)

@@ -1,11 +1,10 @@
 -- What a stack of half-read lists of next hops means.
-use Rattle.std.specs.Prelude.{◌≡◌, ℕ, zero, suc, ◌+◌, ◌-◌, ◌*◌, ◌/◌, ◌<◌, ◌≤◌, ◌^◌, Bool, true, false, List, [], ◌∷◌, length, map, min}
-use Rattle.std.specs.Prelude.{nat_lt, if◌then◌else◌}
+use Rattle.std.specs.Prelude.{◌≡◌, ℕ, ◌+◌, ◌*◌, ◌/◌, ◌<◌, ◌≤◌, List, [], ◌∷◌, length, map}
 use Rattle.npr_base.specs.Counts.{Counts}
-use Rattle.npr_base.specs.Family.{ReadsTo, list_members}
+use Rattle.npr_base.specs.Family.{ReadsTo}
 use Rattle.npr_base.specs.Framing.{Item, Front, number_of}
-use Rattle.npr_base.specs.FrontLaws.{length_at, rest_at}
-use Rattle.npr_route.specs.Attribute.{HopFront, Hop, typed, Reads, AreGoverned, AreHops, members, attributes_members}
+use Rattle.npr_route.specs.Ahead.{stopped, walk_room}
+use Rattle.npr_route.specs.Attribute.{HopFront, Hop, typed, Reads, AreGoverned, AreHops}
 use Rattle.npr_route.specs.AttributeView.{meaning_of, hop_of, hops_of}
 use Rattle.npr_route.specs.FlatAttribute.{Context}
 use Rattle.npr_route.specs.Governing.{Governs}
@@ -73,88 +72,44 @@ weight_of (l ∷ ls) = level_weight l + weight_of ls
 abbrev pub weight : Reader → ℕ
 weight r = level_weight r.level + weight_of r.stack.items
 
--- ---- attributes ahead
-
--- an attribute stands in front of the bytes
-abbrev pub stands : List ℕ → Bool
-stands bs =
-    if nat_lt (length bs) 4 then false
-    else if nat_lt (length_at bs) 4 then false
-    else if nat_lt (length bs) (length_at bs) then false
-    else true
-
--- a step for each attribute of those that stand one after the other, from what is told of the bytes behind them
-abbrev pub along : {A : Type 0} → (A → A) → (List ℕ → A) → ℕ → List ℕ → A
-along step behind zero bs = behind bs
-along step behind (suc n) bs = if stands bs then step (along step behind n (rest_at bs)) else behind bs
-
--- how many they are
-abbrev pub ahead : List ℕ → ℕ
-ahead bs = along suc (λ rest. 0) (length bs) bs
-
--- and 1 where a fault ends them
-abbrev pub stopped : List ℕ → ℕ
-stopped bs = along (λ n. n) (λ rest. min 1 (length rest)) (length bs) bs
-
 -- ---- looks
 
--- looks at the header of a next hop, and through its attributes for their type
-pub record SoughtIn (inside : List ℕ) (old new : Counts) : Type 0 where
-  pub kept : old.successful ≤ new.successful
-  pub most : new.successful ≤ old.successful + (1 + ahead inside)
-  pub failed_kept : old.failed ≤ new.failed
-  pub failed : new.failed ≤ old.failed + stopped inside
-  pub header : new.successful < 2 ^ 64 - 1 → old.successful + 1 ≤ new.successful
-
--- the successful looks for which a reading has room, where each attribute ahead had one already; the failed ones that its
--- searches have had, at most one in each open list; and the looks that what is built has had
+-- the successful looks for which a reading has room, where each attribute ahead had one already, and the failed ones that its
+-- searches have had, at most one in each open list
 pub record Account : Type 0 where
   pub room : ℕ
   pub stops : ℕ
-  pub built : ℕ
-
-abbrev pub walk_room : List ℕ → ℕ
-walk_room walk = 2 * (length walk / 4) - ahead walk
-
-abbrev pub hop_members : Hop → ℕ
-hop_members h = attributes_members h.attributes
-
-abbrev pub level_built : Level → ℕ
-level_built l = 1 + list_members members (map meaning_of l.attributes.items) + list_members hop_members (map hop_of l.next_hops.items)
 
 abbrev pub level_account : Level → Account
-level_account l = record { room = walk_room l.walk + 2 * (length l.hops_rest.now / 4); stops = stopped l.walk; built = level_built l }
+level_account l = record { room = walk_room l.walk + 2 * (length l.hops_rest.now / 4); stops = stopped l.walk }
 
 abbrev pub account_of : List Level → Account
-account_of [] = record { room = 0; stops = 0; built = 0 }
+account_of [] = record { room = 0; stops = 0 }
 account_of (l ∷ ls) = record {
   room = (level_account l).room + (account_of ls).room;
   stops = (level_account l).stops + (account_of ls).stops;
-  built = 1 + (level_account l).built + (account_of ls).built;
 }
 
 abbrev pub account : Reader → Account
 account r = record {
   room = (level_account r.level).room + (account_of r.stack.items).room;
   stops = (level_account r.level).stops + (account_of r.stack.items).stops;
-  built = (level_account r.level).built + (account_of r.stack.items).built;
 }
 
--- of so many bytes nothing has been read, and all next hops have been
+-- of so many bytes nothing has been read
 abbrev pub unread : ℕ → Account
-unread len = record { room = 2 * (len / 4); stops = 0; built = 0 }
+unread len = record { room = 2 * (len / 4); stops = 0 }
 
-abbrev pub all_built : List Hop → Account
-all_built hops = record { room = 0; stops = 0; built = list_members hop_members hops }
+-- all has been
+abbrev pub all_read : Account
+all_read = record { room = 0; stops = 0 }
 
--- looks that a step adds: where there was room before there is as much less after, those that fail are a search's, and what
--- is built had its look
+-- looks that a step adds: where there was room before there is as much less after, and those that fail are a search's
 pub record Added (old new : Counts) (before after : Account) : Type 0 where
   pub kept : old.successful ≤ new.successful
   pub most : new.successful + after.room ≤ old.successful + before.room
   pub failed_kept : old.failed ≤ new.failed
   pub failed : new.failed + before.stops ≤ old.failed + after.stops
-  pub each : new.successful < 2 ^ 64 - 1 → old.successful + after.built ≤ new.successful + before.built
 
 -- looks of a step that ends in a refusal, with so many bytes of attributes left
 pub record Ended (old new : Counts) (before : Account) (walk : ℕ) : Type 0 where
@@ -172,4 +127,4 @@ GoesOn r next old new =
 abbrev pub Ends : Reader → List RouteNextHop → Counts → Counts → Type 0
 Ends r hops old new =
     ((c : Context) (bytes : List ℕ) → Tied c bytes r → AreHops c bytes (hops_of (map hop_of hops)))
-    × Added old new (account r) (all_built (map hop_of hops))
+    × Added old new (account r) all_read

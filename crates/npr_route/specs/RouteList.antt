@@ -3,14 +3,14 @@ use Rattle.std.specs.Prelude.{ℕ, List}
 use Rattle.npr_base.specs.declared.address_family.AddressFamily.{AddressFamily}
 use Rattle.npr_base.specs.declared.refusal.DecodeError.{DecodeError}
 use Rattle.npr_base.specs.Counts.{Counts}
-use Rattle.npr_base.specs.LooksLaws.{list_looking}
+use Rattle.npr_base.specs.LookBounds.{list_looking}
 use Rattle.npr_base.specs.Family.{AllOf, ReadsList, FirstFault}
 use Rattle.npr_scalar.specs.declared.route_type.RouteType.{RouteType}
 use Rattle.npr_tunnel.specs.declared.encap_type.RouteLwEnCapType.{RouteLwEnCapType}
 use Rattle.npr_tunnel.specs.declared.encap_type.RouteLwEnCapType.TheVariants.{None as NoEncapsulation}
 use Rattle.npr_srh.specs.Seg6Mode.{ModeTable, modes}
 use Rattle.npr_route.specs.Attribute.{Meaning, ReadsBy, CoherentBy, attributes_of, first_type}
-use Rattle.npr_route.specs.AttributeLaws.{attributes}
+use Rattle.npr_route.specs.AttributeFamily.{attributes}
 use Rattle.npr_route.specs.Governing.{Governs, Searches}
 
 -- what the header says of its list

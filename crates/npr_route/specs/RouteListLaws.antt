@@ -2,18 +2,22 @@
 use Rattle.std.proofs.Common.{◌≡◌, ℕ, ◌*◌, ◌≤◌, List, length, None, ap, subst, ◌∙◌}
 use Rattle.npr_base.specs.declared.refusal.DecodeError.{DecodeError}
 use Rattle.npr_base.specs.Framing.{IsBytes}
-use Rattle.npr_base.specs.Family.{AllOf, ReadsList, encodings, first_unfit}
+use Rattle.npr_base.specs.Family.{AllOf, ReadsList, encodings, first_unfit, list_members}
 use Rattle.npr_base.specs.ListLaws.{ReadsList-one, FirstFault-excludes, ReadsList-known, encodings-read, ReadsList-grows}
-use Rattle.npr_base.specs.Counts.{Counts, raised}
+use Rattle.npr_base.specs.Counts.{Counts, AddsAtMostTwice, SawEach, raised}
 use Rattle.npr_base.specs.Looks.{Adds, Looking}
-use Rattle.npr_base.specs.LooksLaws.{plus, raised-more, list_looking}
+use Rattle.npr_base.specs.LookBounds.{list_looking, list-walked, list-saw, searched-read, searched-saw}
+use Rattle.npr_base.specs.LooksLaws.{plus, raised-more}
 use Rattle.npr_base.specs.Table.{Reading, fits-small, written_by, unfit_by}
 use Rattle.npr_tunnel.specs.declared.encap_type.RouteLwEnCapType.{RouteLwEnCapType}
 use Rattle.npr_tunnel.specs.declared.encap_type.RouteLwEnCapType.TheVariants.{None as NoEncapsulation}
 use Rattle.npr_route.specs.Attribute.{Meaning, attributes_of, attributes_depth, first_type}
 use Rattle.npr_route.specs.AttributeLooksLaws.{search-one, search-adds}
 use Rattle.npr_route.specs.FlatAttribute.{Context}
-use Rattle.npr_route.specs.AttributeLaws.{attributes, attributes-depth, writing}
+use Rattle.npr_route.specs.AttributeFamily.{attributes, writing}
+use Rattle.npr_route.specs.AttributeLaws.{attributes-depth}
+use Rattle.npr_route.specs.LookBounds.{searches-governs}
+use Rattle.npr_route.specs.SearchLaws.{searched}
 use Rattle.npr_route.specs.GoverningLaws.{governs-one, first_governs, governs_first, all_read}
 use Rattle.npr_route.specs.RouteList.{Under, IsRouteList, RouteListFault, RouteListTakes, IsCoherentList}
 
@@ -89,3 +93,18 @@ route_list_looking under = record {
   one = route-list-looks-one under;
   adds = route-list-looks-add under;
 }
+
+-- ---- what they are at most and at least
+
+pub route-list-bounded : (under : Under) (bytes : List ℕ) (old new : Counts) → RouteListTakes under bytes old new → AddsAtMostTwice old new (length bytes)
+route-list-bounded under bytes old new (type, mid, s, p) =
+    let walked = list-walked (attributes (under.0, under.1, type)) bytes mid new p in
+    searched-read bytes old mid new (searched NoEncapsulation bytes type old mid s) walked
+
+pub route-list-saw : (under : Under) (bytes : List ℕ) (xs : List Meaning) (old new : Counts) → IsRouteList under bytes xs → RouteListTakes under bytes old new
+    → SawEach old new (list_members writing.members xs)
+route-list-saw under bytes xs old new (a, g, reads) (type, mid, s, p) =
+    let one = governs-one NoEncapsulation bytes a type g (searches-governs NoEncapsulation bytes type old mid s) in
+    let read = subst (λ (t : RouteLwEnCapType). ReadsList (attributes (under.0, under.1, t)).Reads bytes xs) one reads in
+    let saw = list-saw (attributes (under.0, under.1, type)) bytes xs mid new read p in
+    searched-saw bytes read.0 old mid new (list_members writing.members xs) read.1 (searched NoEncapsulation bytes type old mid s) saw

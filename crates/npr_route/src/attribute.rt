@@ -1,7 +1,7 @@
 //! The attributes of a route message: `RTA_*` of `linux/rtnetlink.h`.
 
 ghost use Rattle.std.specs.Prelude.{refl};
-ghost use Rattle.npr_route.specs.{AttributeView.{meaning_of, family}, AttributeLaws.{writing}};
+ghost use Rattle.npr_route.specs.{AttributeView.{meaning_of, family}, AttributeFamily.{writing}};
 
 use crate::descent::{check_inside, clone_attribute, is_marked, write_value};
 use crate::metrics::RouteMetric;

@@ -1,27 +1,24 @@
 //! The laws of route messages, over their definitions alone. Each function does nothing, and its
 //! contract is the law.
 
-ghost use Rattle.std.specs.Prelude.{true, false, ◌-◌, ◌≡◌, ◌≤◌, ◌+◌, ◌*◌, ℕ, List, None, length, max};
+ghost use Rattle.std.specs.Prelude.{true, false, ◌≡◌, ◌≤◌, ◌+◌, ◌*◌, ℕ, List, None, length, max};
 ghost use Rattle.{
   npr_base.specs.{
     Equality.{IsEquality, IsEqualityOf},
     declared.refusal.DecodeError.{DecodeError},
     Framing.{IsBytes},
-    Counts.{Counts, AddsAtMost, AddsAtMostTwice, SawEach},
-    Family.{list_members},
-    Message.{MessageLooks},
+    Counts.{Counts, AddsAtMost},
   },
   npr_srh.specs.Seg6Mode.{first_modes},
   npr_tunnel.specs.declared.encap_type.RouteLwEnCapType.{RouteLwEnCapType},
   npr_route.specs.{
-    AttributeLaws.{writing},
     AttributeLooks.{HopsLooks, HopsTake},
     AttributeView.{meaning_of, hop_of},
     FlatAttribute.{Context, Meaning as Flat},
     Governing.{Governs},
     Header.{default_header, header},
     Metric.{metric_of},
-    Message.{Route, grammar, message_of, normalized_route, IsRouteMessage, IsRouteMessageBy, IsCoherentRoute, IsCoherentRouteBy, route_bytes, route_misfit},
+    Message.{Route, message_of, normalized_route, IsRouteMessage, IsRouteMessageBy, IsCoherentRoute, IsCoherentRouteBy, route_bytes, route_misfit},
     Attribute.{Meaning, Attributes, attributes_of, first_type, AreGoverned, Hops, AreHops, HopsWrong, HopsCoherent, hops_bytes, hops_misfit, HopHead, no_hops, hop, no_more, attribute, multi_path, flat, hops_depth, attributes_depth},
     RouteList.{Under, IsRouteList},
   },
@@ -61,13 +58,9 @@ pub fn law_next_hops()
     ensures no_attributes { attributes_depth no_more ≡ 0 }
 {}
 
-/// The looks that reading a message, or next hops, takes, over their definitions.
+/// The looks that reading next hops takes, over their definition.
 pub fn law_looks()
-    // At most two for four bytes behind the header, and one for twelve and two that fail.
-    ensures bounded { (bytes : List ℕ) (old new : Counts) → MessageLooks grammar bytes old new → AddsAtMostTwice old new (length bytes - 12) }
-    // Each attribute of a message has one, and each member and next hop inside one.
-    ensures counted { (bytes : List ℕ) (m : Route) (old new : Counts) → IsRouteMessage bytes m → MessageLooks grammar bytes old new
-        → SawEach old new (list_members writing.members m.attributes) }
+    // At most two for four bytes, and one for twelve and one that fails.
     ensures next_hops { (c : Context) (bytes : List ℕ) (old new : Counts) → HopsTake c bytes old new → AddsAtMost old new (length bytes) }
     // Next hops are read where their looks say so, and else there is a fault.
     ensures read { (c : Context) (bytes : List ℕ) (old new : Counts) → HopsLooks c bytes true old new → (hs : Hops) × AreHops c bytes hs }

@@ -12,7 +12,7 @@ ghost use Rattle.{
   npr_route.specs.{
     Attribute.{Meaning},
     AttributeView.{meaning_of},
-    AttributeLaws.{writing},
+    AttributeFamily.{writing},
     Governing.{told, Governs, Searches},
     RouteList.{IsRouteList, RouteListFault, RouteListTakes},
   },

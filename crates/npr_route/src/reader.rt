@@ -10,7 +10,8 @@ ghost use Rattle.{
     FlatAttribute.{Context},
     Governing.{Searches},
     NextHopHeader.{head_in},
-    Reader.{Tied, Opens, SoughtIn, account, GoesOn, Ends, Ended},
+    Ahead.{SoughtIn},
+    Reader.{Tied, Opens, account, GoesOn, Ends, Ended},
     ReaderLooks.{Follows, Finishes},
   },
 };

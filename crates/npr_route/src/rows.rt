@@ -3,10 +3,10 @@
 ghost use Rattle.std.specs.Prelude.{true, false, ◌≡◌, ◌≢◌, [], ◌∷◌, ◌++◌, length, IfOk, IfErr, IsOk};
 ghost use Rattle.{
   npr_base.specs.{
-    Counts.{AddsAtMost, SawEach},
+    Counts.{AddsAtMost},
     Framing.{number_of},
     Looks.{Answered},
-    LooksLaws.{list_looking},
+    LookBounds.{list_looking},
     Refusal.{at_number},
     Table.{RowReads, RowWrong},
     declared.refusal.DecodeError.TheVariants.{OutOfMemory},
@@ -21,7 +21,7 @@ ghost use Rattle.{
     Attribute.{flat, typed},
     AttributeLooks.{AttributeLooks},
     AttributeView.{meaning_of},
-    AttributeLaws.{writing, attributes},
+    AttributeFamily.{attributes},
     declared.attribute.RouteAttribute.{RouteAttribute},
     FlatAttributeLaws.{attributes as flat_attributes},
     Metric.{metrics},
@@ -131,7 +131,6 @@ fn put_metrics(
     ensures refused { IfErr result (λ e. e ≢ OutOfMemory → RowWrong metrics_row value.now e) }
     ensures exact { Answered result → (list_looking metrics).Takes value.now looks.old looks.new }
     ensures bounded { AddsAtMost looks.old looks.new (length value.now) }
-    ensures counted { IfOk result (λ _. SawEach looks.old looks.new (writing.members (meaning_of place.new))) }
 {
     let metrics = parse_list(alloc, (), value, looks)?;
     put(place, RouteAttribute::Metrics(metrics));
@@ -152,7 +151,6 @@ fn put_encapsulation(
     ensures refused { IfErr result (λ e. e ≢ OutOfMemory → RowWrong (encap_row (encapsulation encap_type)) value.now e) }
     ensures exact { Answered result → (list_looking (encapsulation encap_type)).Takes value.now looks.old looks.new }
     ensures bounded { AddsAtMost looks.old looks.new (length value.now) }
-    ensures counted { IfOk result (λ _. SawEach looks.old looks.new (writing.members (meaning_of place.new))) }
 {
     let members = parse_list(alloc, encap_type, value, looks)?;
     put(place, RouteAttribute::Encap(members));
@@ -258,7 +256,6 @@ pub(crate) fn read_flat(
     ensures nine { number_of (item.now).kind ≡ 9 → IsOk result }
     ensures exact { Answered result → (flat_attributes (typed context encap_type)).looks.Takes item.now looks.old looks.new }
     ensures bounded { AddsAtMost looks.old looks.new (length (item.now).value) }
-    ensures counted { IfOk result (λ _. SawEach looks.old looks.new (writing.members (meaning_of place.new))) }
 {
     let (family, kind, _) = context;
     route_rows!(put_rows(place, alloc, family, item;
@@ -282,8 +279,7 @@ pub(crate) fn push_flat(
     looks: &mut Looks,
 ) -> Result<(), DecodeError>
     requires { number_of (item.now).kind ≡ 9 → (item.now).value ≡ [] }
-    ensures ok { IfOk result (λ _. (a : RouteAttribute) × (list.new.items ≡ list.old.items ++ a ∷ []) × (attributes (typed context encap_type)).Reads item.now (meaning_of a)
-        × SawEach looks.old looks.new (writing.members (meaning_of a))) }
+    ensures ok { IfOk result (λ _. (a : RouteAttribute) × (list.new.items ≡ list.old.items ++ a ∷ []) × (attributes (typed context encap_type)).Reads item.now (meaning_of a)) }
     ensures refused { IfErr result (λ e. e ≢ OutOfMemory → (number_of (item.now).kind ≢ 9) × (flat_attributes (typed context encap_type)).Faulty item.now e) }
     ensures read { IfOk result (λ _. AttributeLooks (typed context encap_type) item.now true looks.old looks.new) }
     ensures faulty { IfErr result (λ e. e ≢ OutOfMemory → AttributeLooks (typed context encap_type) item.now false looks.old looks.new) }

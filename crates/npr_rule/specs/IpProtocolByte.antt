@@ -3,7 +3,7 @@ use Rattle.std.specs.Prelude.{ℕ, Option, Some, None}
 use Rattle.std.proofs.Common.{refl}
 use Rattle.npr_base.specs.declared.refusal.EmitError.{EmitError}
 use Rattle.npr_base.specs.declared.refusal.EmitError.TheVariants.{IpProtocol as NoByte}
-use Rattle.npr_base.specs.Codec.{Codec, exactly}
+use Rattle.npr_base.specs.Codec.{Codec, exactly, no_members}
 use Rattle.npr_scalar.specs.IpProtocol.{byte_of, ip_protocol_number, ip_protocol}
 use Rattle.npr_scalar.specs.declared.ip_protocol.IpProtocol.{IpProtocol}
 
@@ -22,7 +22,7 @@ ip_protocol_byte = record {
   writes = ip_protocol.encode;
   inside = λ kind x. protocol_misfit x;
   Holds = ip_protocol.Holds;
-  members = λ x. 0;
+  members = no_members;
   one_reading = (exactly ip_protocol).one_reading;
   no_fault = (exactly ip_protocol).no_fault;
   reads_holds = (exactly ip_protocol).reads_holds;

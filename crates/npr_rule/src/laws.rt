@@ -1,15 +1,15 @@
 //! The laws of rule messages, over their definitions alone. Each function does nothing, and its
 //! contract is the law.
 
-ghost use Rattle.std.specs.Prelude.{◌≡◌, ◌^◌, ◌-◌, ℕ, List, length};
+ghost use Rattle.std.specs.Prelude.{◌≡◌, ◌^◌, ℕ};
 ghost use Rattle.{
-  npr_base.specs.{Counts.{Counts, AddsAtMostTwice, SawEach}, Equality.{IsEquality, IsEqualityOf}, Family.{list_members}, Message.{MessageLooks}},
+  npr_base.specs.Equality.{IsEquality, IsEqualityOf},
   npr_rule.specs.{
     Action.{action_of, action_number},
-    Attribute.{meaning_of, writing},
+    Attribute.{meaning_of},
     Flags.{rule_flags_bits, rule_flags_of},
     Header.{default_header, header},
-    Message.{Rule, grammar, message_of, IsRuleMessage},
+    Message.{message_of},
   },
 };
 
@@ -34,15 +34,6 @@ pub fn law_rule_flags()
     ensures iif_detached { rule_flags_bits RuleFlags.IifDetached ≡ 2 ^ 3 }
     ensures dev_detached { rule_flags_bits RuleFlags.DevDetached ≡ 2 ^ 3 }
     ensures oif_detached { rule_flags_bits RuleFlags.OifDetached ≡ 2 ^ 4 }
-{}
-
-/// The looks that reading a message takes, over their definition.
-pub fn law_looks()
-    // At most two for four bytes behind the header, and one for twelve and two that fail.
-    ensures bounded { (bytes : List ℕ) (old new : Counts) → MessageLooks grammar bytes old new → AddsAtMostTwice old new (length bytes - 12) }
-    // Each attribute has one.
-    ensures counted { (bytes : List ℕ) (m : Rule) (old new : Counts) → IsRuleMessage bytes m → MessageLooks grammar bytes old new
-        → SawEach old new (list_members writing.members m.attributes) }
 {}
 
 /// Which value is the default.

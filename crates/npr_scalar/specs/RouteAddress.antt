@@ -7,7 +7,7 @@ use Rattle.npr_base.specs.declared.ip.IpAddr.{IpAddr}
 use Rattle.npr_base.specs.declared.ip.IpAddr.TheVariants.{V4, V6}
 use Rattle.npr_base.specs.Framing.{IsBytes, framed}
 use Rattle.npr_base.specs.Layout.{octets}
-use Rattle.npr_base.specs.Codec.{Codec, exactly, raw}
+use Rattle.npr_base.specs.Codec.{Codec, exactly, raw, no_members}
 use Rattle.npr_base.specs.VariantCodec.{variant}
 use Rattle.npr_scalar.specs.MplsLaws.{mpls_label}
 use Rattle.npr_scalar.specs.declared.mpls.MplsLabel.{MplsLabel}
@@ -75,7 +75,7 @@ address_in form = record {
   writes = route_address_bytes;
   inside = λ kind a. None;
   Holds = (address_by form).Holds;
-  members = λ a. 0;
+  members = no_members;
   one_reading = (address_by form).one_reading;
   no_fault = (address_by form).no_fault;
   reads_holds = (address_by form).reads_holds;

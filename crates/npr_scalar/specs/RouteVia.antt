@@ -15,7 +15,7 @@ use Rattle.npr_base.specs.Framing.{IsBytes, framed}
 use Rattle.npr_base.specs.CodecLaws.{framed-grows}
 use Rattle.npr_base.specs.ListLaws.{IsBytes-drop}
 use Rattle.npr_base.specs.Layout.{le16_at}
-use Rattle.npr_base.specs.Codec.{Codec}
+use Rattle.npr_base.specs.Codec.{Codec, no_members}
 use Rattle.npr_base.specs.declared.ip.IpAddr.{IpAddr}
 use Rattle.npr_base.specs.declared.ip.IpAddr.TheVariants.{V4, V6}
 use Rattle.npr_scalar.specs.declared.via.RouteVia.{RouteVia}
@@ -163,7 +163,7 @@ via_value = record {
   writes = via_bytes;
   inside = λ kind v. None;
   Holds = HoldsVia;
-  members = λ v. 0;
+  members = no_members;
   one_reading = λ bytes v w p q. gateway-one (family_of (le16_at bytes 0)) (via_form_of (family_of (le16_at bytes 0))) (drop 2 bytes) v w p.address q.address;
   no_fault = via-sound;
   reads_holds =

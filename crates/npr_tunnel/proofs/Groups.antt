@@ -1,12 +1,12 @@
 -- Options of Geneve that were read so far.
-use Rattle.std.proofs.Common.{◌≡◌, ℕ, ◌+◌, ◌-◌, ◌≤◌, List, [], ◌∷◌, ◌++◌, false, Option, Some, None, length, refl, sym, ap, ◌∙◌, append_assoc, arith, length-append}
+use Rattle.std.proofs.Common.{◌≡◌, ℕ, ◌+◌, ◌-◌, ◌≤◌, List, [], ◌∷◌, ◌++◌, false, Option, Some, None, length, refl, sym, ap, ◌∙◌, append_assoc, arith}
 use Rattle.std.proofs.lemmas.List.{append-nil, length_push}
-use Rattle.npr_base.specs.Counts.{Counts, AddsAtMost, SawEach, hit}
-use Rattle.npr_base.specs.Family.{ReadsTo, list_members}
+use Rattle.npr_base.specs.Counts.{Counts, AddsAtMost, hit}
+use Rattle.npr_base.specs.Family.{ReadsTo}
 use Rattle.npr_base.specs.Framing.{Item, Front}
 use Rattle.npr_base.specs.FrontLaws.{Front-takes}
 use Rattle.npr_base.proofs.Lists.{ReadsTo-more}
-use Rattle.npr_base.proofs.Looking.{SoFar, SoFar-more, list_members-more}
+use Rattle.npr_base.proofs.Looking.{SoFar, SoFar-more}
 use Rattle.npr_tunnel.specs.Geneve.{Geneve, Child, class_child, type_child, data_child, ReadsChild, Plain, last_type, last_data, IsGroup, AreGroups, AreOptions}
 use Rattle.npr_tunnel.specs.GeneveLooks.{Stands, OptionsLooks, child_passed}
 use Rattle.npr_tunnel.specs.GeneveSteps.{listed, is_some, Changes}
@@ -70,7 +70,7 @@ pub record SoFarRead (bytes : List ℕ) (start now : Counts) (options : List Gen
   pub begun : current ≡ None → options ≡ []
   pub left : length rest ≤ length bytes
   pub exact : (end : Counts) → OptionsLooks (is_some current) rest now end → OptionsLooks false bytes start end
-  pub looks : SoFar start now (length bytes - length rest) (length children) (list_members (λ (c : Child). 0) children)
+  pub looks : SoFar start now (length bytes - length rest) (length children)
 
 may-stand : (before : Option Geneve) (c : Child) (closed : Option Geneve) (opened : Geneve) → Changes before c closed opened → Stands (is_some before) c
 may-stand before (class_child n) closed opened change = tt
@@ -79,13 +79,12 @@ may-stand (Some o) (data_child d) closed opened change = refl
 may-stand None (type_child n) closed opened change = absurd change
 may-stand None (data_child d) closed opened change = absurd change
 
--- a child holds no members, and its reading looks at no header
+-- reading a child looks at no header in it
 pub child_read : (bytes : List ℕ) (start now : Counts) (os : List Geneve) (before closed : Option Geneve) (opened : Geneve) (walk rest : List ℕ) (x : Item) (c : Child)
     → SoFarRead bytes start now os before walk → Front walk x rest → ReadsChild x c → Changes before c closed opened → SoFarRead bytes start (hit now) (os ++ listed closed) (Some opened) rest
 child_read bytes start now os before closed opened walk rest x c past f reads change =
     let took = Front-takes walk x rest f in
     let adds : AddsAtMost (hit now) (hit now) (length x.value) = record { kept = omega arith; successful = omega arith; failed_kept = omega arith; failed = omega arith } in
-    let saw : SawEach (hit now) (hit now) 0 = record { failed = refl; each = λ below. omega arith } in
     let fewer : (length bytes - length walk) + (4 + length x.value) ≤ length bytes - length rest = omega (arith, took, past.left) in
     record {
       children = past.children ++ c ∷ [];
@@ -94,22 +93,8 @@ child_read bytes start now os before closed opened walk rest x c past f reads ch
       begun = λ e. absurd cc;
       left = omega (arith, took, past.left);
       exact = λ end later. past.exact end (child_passed x rest c f reads (may-stand before c closed opened change) later);
-      looks = rw (length_push past.children c, list_members-more (λ (d : Child). 0) past.children c) (SoFar-more start now (hit now) (length bytes - length walk) (length past.children) (list_members (λ (d : Child). 0) past.children) (length x.value) (length bytes - length rest) 0 past.looks adds saw fewer);
+      looks = rw (length_push past.children c) (SoFar-more start now (hit now) (length bytes - length walk) (length past.children) (length x.value) (length bytes - length rest) past.looks adds refl fewer);
     }
-
-groups-fewer : (os : List Geneve) (cs : List Child) → AreGroups cs os → length os ≤ length cs
-groups-fewer [] cs g = omega arith
-groups-fewer (o ∷ os) cs (group, more, is, one, later) = omega (arith, ap length is, length-append group more, ap length one.is, groups-fewer os more later)
-
-children-count : (cs : List Child) → list_members (λ (c : Child). 0) cs ≡ length cs
-children-count [] = refl
-children-count (c ∷ cs) = omega (arith, children-count cs)
 
 pub all_read : (bytes : List ℕ) (start now : Counts) (os : List Geneve) (current : Option Geneve) → SoFarRead bytes start now os current [] → AreOptions bytes (os ++ listed current)
 all_read bytes start now os current past = (past.children, past.read, past.groups)
-
-pub all_seen : (bytes : List ℕ) (start now : Counts) (os : List Geneve) (current : Option Geneve) (rest : List ℕ) → SoFarRead bytes start now os current rest → SawEach start now (length (os ++ listed current))
-all_seen bytes start now os current rest past = record {
-  failed = past.looks.saw.failed;
-  each = λ below. omega (arith, past.looks.saw.each below, children-count past.children, groups-fewer (os ++ listed current) past.children past.groups);
-}

@@ -59,15 +59,15 @@ writing = writing_by held_of
 
 -- the family of a type, by a table of SEG6 modes
 abbrev pub encapsulation_by : ModeTable → RouteLwEnCapType → Reading writing
-encapsulation_by by Mpls = wrapped OfMpls.attributes mpls writing (λ m. refl)
-encapsulation_by by Seg6 = wrapped (OfSeg6.attributes_by by) seg6 writing (λ m. refl)
-encapsulation_by by Ip = wrapped OfIp.attributes ip writing (λ m. refl)
-encapsulation_by by Ip6 = wrapped OfIp.attributes6 ip6 writing (λ m. refl)
-encapsulation_by by Ioam6 = wrapped OfIoam6.attributes ioam6 writing (λ m. refl)
-encapsulation_by by Rpl = wrapped OfRpl.attributes rpl writing (λ m. refl)
-encapsulation_by by Seg6Local = wrapped OfSeg6Local.attributes seg6_local writing (λ m. refl)
-encapsulation_by by Xfrm = wrapped OfXfrm.attributes xfrm writing (λ m. refl)
-encapsulation_by by type = wrapped kept other writing (λ x. refl)
+encapsulation_by by Mpls = wrapped OfMpls.attributes mpls writing (λ m. refl) (λ m. refl)
+encapsulation_by by Seg6 = wrapped (OfSeg6.attributes_by by) seg6 writing (λ m. refl) (λ m. refl)
+encapsulation_by by Ip = wrapped OfIp.attributes ip writing (λ m. refl) (λ m. refl)
+encapsulation_by by Ip6 = wrapped OfIp.attributes6 ip6 writing (λ m. refl) (λ m. refl)
+encapsulation_by by Ioam6 = wrapped OfIoam6.attributes ioam6 writing (λ m. refl) (λ m. refl)
+encapsulation_by by Rpl = wrapped OfRpl.attributes rpl writing (λ m. refl) (λ m. refl)
+encapsulation_by by Seg6Local = wrapped OfSeg6Local.attributes seg6_local writing (λ m. refl) (λ m. refl)
+encapsulation_by by Xfrm = wrapped OfXfrm.attributes xfrm writing (λ m. refl) (λ m. refl)
+encapsulation_by by type = wrapped kept other writing (λ x. refl) (λ x. refl)
 
 -- and by that of today
 abbrev pub encapsulation : RouteLwEnCapType → Reading writing

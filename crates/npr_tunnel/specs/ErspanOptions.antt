@@ -58,7 +58,7 @@ writing = writing_by held_of
 
 -- the family
 abbrev pub attributes : Reading writing
-attributes = table_family (table_of rows other held_of aligned (λ x. refl) (λ x is. is) placed)
+attributes = table_family (table_of rows other held_of aligned (λ x. refl) placed)
 
 -- the value of an option, where it is of one kind
 abbrev pub version_of : Meaning → Option ℕ

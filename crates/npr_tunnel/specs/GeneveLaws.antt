@@ -10,11 +10,13 @@ use Rattle.npr_base.specs.FitLaws.{misfit_of-short, none_both}
 use Rattle.npr_base.specs.Framing.{Item, Small, Proper, IsBytes, Front, Passes, framed, number_of, encoding, pad}
 use Rattle.npr_base.specs.FrontLaws.{Front-same, Front-shrinks, Front-takes}
 use Rattle.npr_base.specs.Layout.{byte, be16}
+use Rattle.npr_base.specs.Looks.{looked_through}
 use Rattle.npr_base.specs.Refusal.{at_number}
 use Rattle.npr_base.specs.ListLaws.{ReadsList-one, FirstFault-excludes, ReadsList-known, encodings-read, length-encoding}
 use Rattle.npr_tunnel.specs.Geneve.{Geneve, Child, class_child, type_child, data_child, ReadsChild, WrongChild, class_length, type_length}
 use Rattle.npr_tunnel.specs.Geneve.{order, child, Plain, last_type, last_data, AreGroups, AreOptions, OptionsFault}
 use Rattle.npr_tunnel.specs.Geneve.{children_of, child_item, child_misfit, option_bytes, options_unfit, IsOption}
+use Rattle.npr_tunnel.specs.GeneveLooks.{options_looking, options-bounded, options-saw}
 
 -- ---- groups are one list of options at most
 
@@ -307,7 +309,7 @@ geneve_options = record {
   writes = option_bytes;
   inside = λ kind os. options_unfit os;
   Holds = AllOf IsOption;
-  members = length;
+  members = record { count = length; looks = looked_through options_looking; bounded = options-bounded; saw = options-saw };
   one_reading = options-one;
   no_fault = λ at bytes os e p q. options-sound bytes os e p q;
   reads_holds = options-known;

@@ -1,15 +1,18 @@
 -- The looks that reading options of Geneve takes: one at the header of each child, up to the end or to the first that is faulty.
-use Rattle.std.proofs.Common.{◌≡◌, ℕ, ◌<◌, Bool, true, false, List, [], length, sym, ap, subst, ◌∙◌, inl, inr, true≢false, arith}
+use Rattle.std.proofs.Common.{◌≡◌, ℕ, ◌+◌, ◌*◌, ◌/◌, ◌<◌, ◌≤◌, Bool, true, false, List, [], ◌∷◌, ◌++◌, length, refl, sym, ap, subst, ◌∙◌}
+use Rattle.std.proofs.Common.{inl, inr, true≢false, length-append, arith}
 use Rattle.npr_base.specs.declared.refusal.AttrFamily.TheVariants.{Geneve as OfGeneve}
 use Rattle.npr_base.specs.declared.refusal.DecodeError.{DecodeError}
 use Rattle.npr_base.specs.Codec.{exactly}
-use Rattle.npr_base.specs.Counts.{Counts, no_looks, hit, miss}
-use Rattle.npr_base.specs.Framing.{Item, Front, Fault}
-use Rattle.npr_base.specs.FrontLaws.{Front-same, Front-shrinks, Front-sound}
+use Rattle.npr_base.specs.Counts.{Counts, AddsAtMost, SawEach, no_looks, hit, miss}
+use Rattle.npr_base.specs.Family.{Each}
+use Rattle.npr_base.specs.Framing.{Item, Front, Passes, Fault}
+use Rattle.npr_base.specs.FrontLaws.{Front-same, Front-shrinks, Front-sound, Front-takes}
 use Rattle.npr_base.specs.Layout.{byte, be16}
 use Rattle.npr_base.specs.Looks.{Adds, Looking}
-use Rattle.npr_base.specs.LooksLaws.{plus, one_hit, one_miss, raised-none, raised-hit, raised-miss, raised-inside}
+use Rattle.npr_base.specs.LooksLaws.{plus, one_hit, one_miss, raised-none, raised-hit, raised-miss, raised-inside, none-saw}
 use Rattle.npr_base.specs.Refusal.{at_number}
+use Rattle.npr_tunnel.specs.Geneve.{Geneve, AreGroups, AreOptions}
 use Rattle.npr_tunnel.specs.Geneve.{Child, class_child, type_child, data_child, ReadsChild, WrongChild, class_length, type_length, order, child}
 
 -- where a child may stand: a class anywhere, and the others in an option that is open
@@ -81,6 +84,79 @@ looks-add inside bytes old new (child_passed x rest c f r s p) =
       is = a.is ∙ raised-inside a.number old;
       alike = λ d. child_passed x rest c f r s (subst (λ (n : Counts). OptionsLooks true rest (hit d) n) (raised-inside a.number d) (a.alike (hit d)));
     }
+
+-- ---- what they are at most and at least
+
+record Few (old new : Counts) (len : ℕ) : Type 0 where
+  kept : old.successful ≤ new.successful
+  successful : new.successful ≤ old.successful + 2 * (len / 4)
+  failed_kept : old.failed ≤ new.failed
+  failed : new.failed ≤ old.failed + 1
+
+options-few : (inside : Bool) (bytes : List ℕ) (old new : Counts) → OptionsLooks inside bytes old new → Few old new (length bytes)
+options-few inside bytes old new (options_end is p) =
+    let s = ap (λ (c : Counts). c.successful) p in
+    let t = ap (λ (c : Counts). c.failed) p in
+    record { kept = omega (arith, s); successful = omega (arith, s); failed_kept = omega (arith, t); failed = omega (arith, t) }
+options-few inside bytes old new (no_child_stands e left bad p) =
+    let s = ap (λ (c : Counts). c.successful) p in
+    let t = ap (λ (c : Counts). c.failed) p in
+    record { kept = omega (arith, s); successful = omega (arith, s); failed_kept = omega (arith, t); failed = omega (arith, t) }
+options-few inside bytes old new (child_faulty x rest e f bad p) =
+    let s = ap (λ (c : Counts). c.successful) p in
+    let t = ap (λ (c : Counts). c.failed) p in
+    let took = Front-takes bytes x rest f in
+    record { kept = omega (arith, s); successful = omega (arith, s, took); failed_kept = omega (arith, t); failed = omega (arith, t) }
+options-few inside bytes old new (child_passed x rest c f r s p) =
+    let a = options-few true rest (hit old) new p in
+    let took = Front-takes bytes x rest f in
+    record {
+      kept = omega (arith, a.kept);
+      successful = omega (arith, a.successful, took);
+      failed_kept = omega (arith, a.failed_kept);
+      failed = omega (arith, a.failed);
+    }
+
+-- the first of children may stand, and behind one each does
+abbrev HeadStands : Bool → List Child → Type 0
+HeadStands inside [] = Unit {0}
+HeadStands inside (c ∷ cs) = Stands inside c
+
+all-stand : (cs : List Child) → HeadStands true cs
+all-stand [] = tt
+all-stand (class_child n ∷ cs) = tt
+all-stand (type_child n ∷ cs) = refl
+all-stand (data_child d ∷ cs) = refl
+
+pub options-bounded : (bytes : List ℕ) (old new : Counts) → OptionsLooks false bytes old new → AddsAtMost old new (length bytes)
+options-bounded bytes old new p =
+    let a = options-few false bytes old new p in
+    record { kept = a.kept; successful = omega (arith, a.successful); failed_kept = a.failed_kept; failed = omega (arith, a.failed) }
+
+-- each child has its look where each may stand
+children-look : (items : List Item) (cs : List Child) (inside : Bool) (bytes : List ℕ) (old : Counts) → Passes bytes items []
+    → Each ReadsChild items cs → HeadStands inside cs → (end : Counts) × OptionsLooks inside bytes old end × SawEach old end (length cs)
+children-look [] [] inside bytes old is each stands = (old, options_end is refl, none-saw old old refl)
+children-look [] (c ∷ cs) inside bytes old is each stands = absurd each
+children-look (x ∷ items) [] inside bytes old is each stands = absurd each
+children-look (x ∷ items) (c ∷ cs) inside bytes old (more, front, is) each stands =
+    let r = children-look items cs true more (hit old) is each.1 (all-stand cs) in
+    let saw = r.2 in
+    (r.0, child_passed x more c front each.0 stands r.1, record { failed = omega (arith, saw.failed); each = λ below. omega (arith, saw.each below) })
+
+groups-stand : (os : List Geneve) (cs : List Child) → AreGroups cs os → HeadStands false cs
+groups-stand [] cs g = subst (HeadStands false) (sym g) tt
+groups-stand (o ∷ os) cs (group, more, is, one, later) = subst (HeadStands false) (sym (is ∙ ap (λ (z : List Child). z ++ more) one.is)) tt
+
+groups-fewer : (os : List Geneve) (cs : List Child) → AreGroups cs os → length os ≤ length cs
+groups-fewer [] cs g = omega arith
+groups-fewer (o ∷ os) cs (group, more, is, one, later) = omega (arith, ap length is, length-append group more, ap length one.is, groups-fewer os more later)
+
+pub options-saw : (bytes : List ℕ) (os : List Geneve) (old new : Counts) → AreOptions bytes os → OptionsLooks false bytes old new → SawEach old new (length os)
+options-saw bytes os old new (cs, (items, is, each), g) p =
+    let r = children-look items cs false bytes old is each (groups-stand os cs g) in
+    let saw = subst (λ (c : Counts). SawEach old c (length cs)) (looks-one false bytes old r.0 new r.1 p) r.2 in
+    record { failed = saw.failed; each = λ below. omega (arith, saw.each below, groups-fewer os cs g) }
 
 -- of a list, where none is open yet
 abbrev pub options_looking : Looking (List ℕ)

@@ -12,9 +12,7 @@ use Rattle.npr_base.specs.Framing.{Item}
 use Rattle.npr_base.specs.Layout.{byte, be16, be64, octets}
 use Rattle.npr_base.specs.ListCodec.{list_of}
 use Rattle.npr_base.specs.Table.{Writing, Reading, Row, row, Held, held, held_other, held_value, IsAligned, IsPlaced, writing_by}
-use Rattle.npr_base.specs.Looks.{Looking}
-use Rattle.npr_base.specs.LooksLaws.{no_looking, list_looking}
-use Rattle.npr_base.specs.TableLaws.{table_family, holding, looking_at, table_of}
+use Rattle.npr_base.specs.TableLaws.{table_family, table_of}
 use Rattle.npr_base.specs.Text.{joined_by, nla_text}
 use Rattle.npr_tunnel.specs.TunnelFlags.{ip_flags_bits, ip6_flags_bits, flags_text}
 use Rattle.npr_tunnel.specs.TunnelOptions as OfOption
@@ -95,15 +93,9 @@ placed family width m = (omega arith, λ reads. (held_value (held_of width m), r
 abbrev pub writing : ℕ → Writing Meaning
 writing width = writing_by (held_of width)
 
--- number 8 is a list of options
-abbrev pub looks : Looking Item
-looks = looking_at 8 (list_looking OfOption.attributes) no_looking
-
 abbrev pub attributes_over : AttrFamily → (width : ℕ) → Reading (writing width)
 attributes_over family width =
-    holding looks (
-    table_family (table_of (rows family width) other (held_of width) (aligned family width) (λ x. refl) (λ x is. is) (placed family width))
-    )
+    table_family (table_of (rows family width) other (held_of width) (aligned family width) (λ x. refl) (placed family width))
 
 -- the families
 abbrev pub attributes : Reading (writing 4)

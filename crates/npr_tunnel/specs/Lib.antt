@@ -5,8 +5,8 @@ pub mod MplsTunnel
 pub mod VxlanOptions
 pub mod ErspanOptions
 pub mod Geneve
-pub mod GeneveLaws
 pub mod GeneveLooks
+pub mod GeneveLaws
 pub mod GeneveSteps
 pub mod TunnelOptions
 pub mod IpTunnel

@@ -6,14 +6,11 @@ use Rattle.npr_base.specs.declared.refusal.AttrFamily.TheVariants.{Opt as OfOpti
 use Rattle.npr_base.specs.Framing.{Item}
 use Rattle.npr_base.specs.ListCodec.{list_of}
 use Rattle.npr_base.specs.Table.{Writing, Reading, Row, row, Held, held, held_other, held_value, IsAligned, IsPlaced, writing_by}
-use Rattle.npr_base.specs.Looks.{Looking}
-use Rattle.npr_base.specs.LooksLaws.{no_looking, list_looking}
-use Rattle.npr_base.specs.TableLaws.{table_family, holding, looking_at, table_of}
+use Rattle.npr_base.specs.TableLaws.{table_family, table_of}
 use Rattle.npr_base.specs.Text.{joined_by, nla_text}
 use Rattle.npr_tunnel.specs.ErspanOptions as OfErspan
 use Rattle.npr_tunnel.specs.Geneve.{Geneve as GeneveOption, option_of, geneve_text}
 use Rattle.npr_tunnel.specs.GeneveLaws.{geneve_options}
-use Rattle.npr_tunnel.specs.GeneveLooks.{options_looking}
 use Rattle.npr_tunnel.specs.VxlanOptions as OfVxlan
 use Rattle.npr_tunnel.specs.declared.tunnel_opts.RouteLwTunnelOpt.{RouteLwTunnelOpt}
 use Rattle.npr_tunnel.specs.declared.tunnel_opts.RouteLwTunnelOpt.TheVariants.{Geneve, Vxlan, Erspan, Other}
@@ -58,13 +55,9 @@ placed m = (omega arith, λ reads. (held_value (held_of m), reads, refl))
 abbrev pub writing : Writing Meaning
 writing = writing_by held_of
 
--- each row is a list
-abbrev pub looks : Looking Item
-looks = looking_at 1 options_looking (looking_at 2 (list_looking OfVxlan.attributes) (looking_at 3 (list_looking OfErspan.attributes) no_looking))
-
 -- the family
 abbrev pub attributes : Reading writing
-attributes = holding looks (table_family (table_of rows other held_of aligned (λ x. refl) (λ x is. is) placed))
+attributes = table_family (table_of rows other held_of aligned (λ x. refl) placed)
 
 -- the text of an option
 abbrev pub tunnel_option_text : Meaning → Option (List ℕ)

@@ -3,12 +3,13 @@ use Rattle.std.specs.Prelude.{◌≡◌, ◌+◌, ◌*◌, ◌<◌, ◌≤◌, �
 use Rattle.std.proofs.Common.{refl, sym, ap, subst, ◌∙◌}
 use Rattle.npr_base.specs.Codec.{raw}
 use Rattle.npr_base.specs.Framing.{Item, Proper, framed}
-use Rattle.npr_base.specs.LooksLaws.{no_looking}
+use Rattle.npr_base.specs.Counts.{SawEach}
+use Rattle.npr_base.specs.LooksLaws.{no_looking, none-most, none-saw}
 use Rattle.npr_base.specs.Table.{Writing, Reading, held_other, writing_by, written_as, unfit_as, written_by, unfit_by}
 
 -- `made` is the variant, and what is written of it is what the family writes
 module _ {M W : Type 0} {v : Writing M} (F : Reading v) (made : M → W) (w : Writing W)
-    (same : (m : M) → w.shape (made m) ≡ v.shape m) where
+    (same : (m : M) → w.shape (made m) ≡ v.shape m) (counted : (m : M) → w.members (made m) ≡ v.members m) where
   pub shape-is : (x : W) (m : M) → x ≡ made m → w.shape x ≡ v.shape m
   shape-is x m e = ap w.shape e ∙ same m
 
@@ -31,6 +32,8 @@ module _ {M W : Type 0} {v : Writing M} (F : Reading v) (made : M → W) (w : Wr
     reads_back = λ n c h. (c.0, subst (λ (x : Item). F.Reads x c.0) (sym (written-is n c.0 c.2)) (F.reads_back c.0 c.1 (fits-is n c.0 c.2 h)), c.2);
     grows =
         λ x n proper p. subst (λ (y : Item). 2 * framed (length y.value) ≤ 5 * (4 + length x.value)) (sym (written-is n p.0 p.2)) (F.grows x p.0 proper p.1);
+    bounded = F.bounded;
+    saw = λ x n old new p t. subst (SawEach old new) (sym (ap w.members p.2 ∙ counted p.0)) (F.saw x p.0 old new p.1 t);
   }
 
 abbrev pub kept : Reading (writing_by held_other)
@@ -45,4 +48,6 @@ kept = record {
   kinds = λ x c. c.kind;
   reads_back = λ x c h. refl;
   grows = λ x y proper p. subst (λ (z : Item). 2 * framed (length z.value) ≤ 5 * (4 + length x.value)) (sym p) (raw.grows x.value x.value proper.value refl);
+  bounded = λ x old new t. none-most (length x.value) old new t;
+  saw = λ x y old new p t. none-saw old new t;
 }

@@ -54,7 +54,7 @@ writing = writing_by held_of
 
 -- the family
 abbrev pub attributes : Reading writing
-attributes = table_family (table_of rows other held_of aligned (λ x. refl) (λ x is. is) placed)
+attributes = table_family (table_of rows other held_of aligned (λ x. refl) placed)
 
 -- the text of a member
 abbrev pub xfrm_text : Meaning → Option (List ℕ)

@@ -6,7 +6,7 @@ ghost use Rattle.{
     Table.{shape_at, held},
     Codec.{exactly, raw},
     Family.{checked},
-    Counts.{AddsAtMost, SawEach},
+    Counts.{AddsAtMost},
     Looks.{Answered},
     Framing.{Writes, number_of},
     Layout.{byte, be16},
@@ -185,7 +185,6 @@ pub(crate) fn read_options(
     ensures refused { IfErr result (λ e. e ≢ OutOfMemory → OptionsFault bytes.now e) }
     ensures exact { Answered result → OptionsLooks false bytes.now looks.old looks.new }
     ensures bounded { AddsAtMost looks.old looks.new (length bytes.now) }
-    ensures counted { IfOk result (λ v. SawEach looks.old looks.new (length v.items)) }
 {
     let mut walk = NlasIterator::new(bytes);
     let mut options = Vec::new(alloc);

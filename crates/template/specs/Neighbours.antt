@@ -69,7 +69,7 @@ writing = writing_by held_of
 
 -- the family
 abbrev pub attributes : Reading writing
-attributes = table_family (table_of rows other held_of aligned (λ x. refl) (λ x is. is) placed)
+attributes = table_family (table_of rows other held_of aligned (λ x. refl) placed)
 
 abbrev pub family : Family NeighbourAttribute (Unit {0})
 family = family_of meaning_of (λ c. attributes)

@@ -1,7 +1,7 @@
 use Rattle.std.proofs.Common.{length, map, ◌-◌, ◌≤◌}
 use Rattle.npr_base.specs.Counts.{Counts}
 use Rattle.npr_base.specs.Looks.{ListLooks}
-use Rattle.npr_base.specs.Family.{ReadsTo, list_members}
+use Rattle.npr_base.specs.Family.{ReadsTo}
 use Rattle.npr_base.proofs.Looking.{SoFar}
 use Rattle.npr_base.proofs.list.fill_list.Given as goal
 
@@ -11,7 +11,7 @@ invariant-loop-next g l = record {
   exact : (end : Counts) → ListLooks (g.A.Attribute.family.reading l.context).Reads (g.A.Attribute.family.reading l.context).Faulty (g.A.Attribute.family.reading l.context).looks.Takes l.walk l.looks end
       → ListLooks (g.A.Attribute.family.reading l.context).Reads (g.A.Attribute.family.reading l.context).Faulty (g.A.Attribute.family.reading l.context).looks.Takes l.bytes l.fn.looks end;
   left : length l.walk ≤ length l.bytes;
-  looks : SoFar l.fn.looks l.looks (length l.bytes - length l.walk) (length (map g.A.Attribute.family.meaning l.found.items)) (list_members g.A.Attribute.family.writing.members (map g.A.Attribute.family.meaning l.found.items));
+  looks : SoFar l.fn.looks l.looks (length l.bytes - length l.walk) (length (map g.A.Attribute.family.meaning l.found.items));
 }
 
 abbrev pub decreases-loop-next : goal.decreases-loop-next

@@ -1,10 +1,10 @@
 use Rattle.std.proofs.Common.{map}
 use Rattle.std.proofs.lemmas.Result.{IfErr-weaker}
-use Rattle.npr_base.proofs.LookBounds.{searched-read, searched-saw_ok}
+use Rattle.npr_base.specs.LookBounds.{searched-read, searched-saw_ok}
 use Rattle.npr_base.specs.Family.{list_members}
 use Rattle.npr_tunnel.specs.declared.encap_type.RouteLwEnCapType.TheVariants.{None as NoEncapsulation}
 use Rattle.npr_route.specs.AttributeView.{meaning_of}
-use Rattle.npr_route.specs.AttributeLaws.{attributes, writing}
+use Rattle.npr_route.specs.AttributeFamily.{attributes, writing}
 use Rattle.npr_route.specs.RouteListLaws.{route-list-sound}
 use Rattle.npr_route.specs.SearchLaws.{searched}
 use Rattle.npr_route.proofs.list.read_route_list.Goals as goal

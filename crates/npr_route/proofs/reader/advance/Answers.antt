@@ -3,22 +3,23 @@ use Rattle.std.proofs.lemmas.Bool.Decides.{nat_tests}
 use Rattle.std.proofs.lemmas.List.{map_push}
 use Rattle.std.proofs.lemmas.Result.{err_from_is_err_and}
 use Rattle.npr_base.specs.Counts.{Counts, hit, miss}
-use Rattle.npr_base.specs.Family.{list_members}
 use Rattle.npr_base.specs.Framing.{Front, Fault, number_of}
 use Rattle.npr_base.specs.FrontLaws.{Front-takes}
 use Rattle.npr_base.proofs.Lists.{ReadsTo-more}
-use Rattle.npr_base.proofs.Looking.{AddsAtMost-none, list_members-more}
-use Rattle.npr_route.specs.Attribute.{Reads, members, none_in_front, first_wrong, hops_wrong, value_wrong, HopFault, no_hop_in_front}
+use Rattle.npr_base.proofs.Looking.{AddsAtMost-none}
+use Rattle.npr_route.specs.Attribute.{Reads, none_in_front, first_wrong, hops_wrong, value_wrong, HopFault, no_hop_in_front}
 use Rattle.npr_route.specs.AttributeLooks.{AttributeLooks, hops_inside, none_in_hop, faulty_in_hop, passed_in_hop, no_hop_stands}
 use Rattle.npr_route.specs.AttributeView.{meaning_of}
 use Rattle.npr_route.specs.Governing.{Searches}
-use Rattle.npr_route.specs.Reader.{IsAt, Waits, Opens, SoughtIn, context_inside, weight_of}
+use Rattle.npr_route.specs.Reader.{IsAt, Waits, Opens, context_inside, weight_of}
+use Rattle.npr_route.specs.Ahead.{SoughtIn}
+use Rattle.npr_route.specs.LookBounds.{attributes-saw}
 use Rattle.npr_route.specs.ReaderLooks.{WaitsAt}
 use Rattle.npr_route.specs.NextHopFrontLaws.{HopFront-length}
 use Rattle.npr_route.specs.NextHopHeader.{head_in}
 use Rattle.npr_route.specs.declared.reader.Level.{Level}
-use Rattle.npr_route.proofs.Ahead.{room_front, stopped_front}
-use Rattle.npr_route.proofs.ReaderLaws.{wrong_at, chain_wrong, chain_push, weight_push, account_push, opened_first, room_open, built_open, Added-inner, Added-read, Ended-inside, Ended-hit-miss, Ended-inner}
+use Rattle.npr_route.specs.AheadLaws.{room_front, stopped_front}
+use Rattle.npr_route.proofs.ReaderLaws.{wrong_at, chain_wrong, chain_push, weight_push, account_push, opened_first, room_open, Added-inner, Added-read, Ended-inside, Ended-hit-miss, Ended-inner}
 use Rattle.npr_route.proofs.ReadingLooks.{chain_at_stops, chain_at_push, goes_first}
 use Rattle.npr_route.proofs.reader.advance.Goals as goal
 
@@ -112,8 +113,7 @@ returns-then-not-is_empty-clause-ok c =
       omega (arith, ap weight_of items, weight_push fs outer, took, size, front),
       Added-inner inner.walk c.args.looks.now c.next_counted.new.looks c.open.new.looks _ _ look sought
           (rw items (omega (arith, pushed.room, room_open (context_inside l) value [] inner opens, room_front l.walk item rest f, size)))
-          (rw items (omega (arith, pushed.stops, stopped_front l.walk item rest f)))
-          (rw items (omega (arith, pushed.built, built_open (context_inside l) value [] inner opens))),
+          (rw items (omega (arith, pushed.stops, stopped_front l.walk item rest f))),
     )
 
 pub returns-in_err-inner-clause-ended : goal.returns-in_err-inner-clause-ended
@@ -145,19 +145,19 @@ returns-clause-ok c =
     let l = c.args.reader.now.level in
     let item = c.in_ok-item.item in
     let rest = c.next_counted.new.self in
-    let (a, pushed, reads, counted) = c.in_ok-push_flat.ensures.ok in
+    let (a, pushed, reads) = c.in_ok-push_flat.ensures.ok in
     let f : Front l.walk item rest = rw c.in_ok-item.was at c.in-Some.ensures.step in
     let look : c.next_counted.new.looks ≡ hit c.args.looks.now = rw c.in_ok-item.was at c.in-Some.ensures.counted in
     let took = Front-takes l.walk item rest f in
+    let saw = attributes-saw (context_inside l) item (meaning_of a) c.next_counted.new.looks c.push_flat.new.looks reads (true, c.in_ok-push_flat.ensures.read) in
     let more : map meaning_of c.push_flat.new.list.items ≡ map meaning_of l.attributes.items ++ meaning_of a ∷ [] = ap (map meaning_of) (rw c.make_room.ensures.items at pushed) ∙ map_push meaning_of l.attributes.items a in (
       λ d bytes t.
           let read = ReadsTo-more (Reads (context_inside l)) t.1.inside (map meaning_of l.attributes.items) l.walk item (meaning_of a) rest t.1.read f reads in
           (t.0, record { front = t.1.front; inside = t.1.inside; done = t.1.done; is_open = t.1.is_open; governs = t.1.governs; read = rw more read }, t.2),
       omega (arith, took),
-      Added-read c.args.looks.now c.next_counted.new.looks c.push_flat.new.looks (length item.value) (members (meaning_of a)) _ _ look c.push_flat.ensures.bounded counted
+      Added-read c.args.looks.now c.next_counted.new.looks c.push_flat.new.looks (length item.value) _ _ look c.push_flat.ensures.bounded saw.failed
           (omega (arith, room_front l.walk item rest f))
-          (omega (arith, stopped_front l.walk item rest f))
-          (omega (arith, ap (list_members members) more, list_members-more members (map meaning_of l.attributes.items) (meaning_of a))),
+          (omega (arith, stopped_front l.walk item rest f)),
     )
 
 -- ---- the looks of the whole

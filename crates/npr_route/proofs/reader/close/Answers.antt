@@ -2,19 +2,18 @@ use Rattle.std.proofs.Common.{◌≡◌, ◌<◌, true, false, refl, [], ◌∷�
 use Rattle.std.proofs.lemmas.Bool.Decides.{nat_tests}
 use Rattle.std.proofs.lemmas.List.{map_push, nil_from_length}
 use Rattle.std.proofs.lemmas.Result.{err_from_is_err_and}
-use Rattle.npr_base.specs.Family.{list_members}
 use Rattle.npr_base.proofs.Lists.{ReadsTo-more}
-use Rattle.npr_base.proofs.Looking.{list_members-more}
-use Rattle.npr_route.specs.Attribute.{Meaning, Reads, AreHops, multi_path, no_hop_in_front, members, hops_members}
+use Rattle.npr_route.specs.Attribute.{Meaning, Reads, AreHops, multi_path, no_hop_in_front}
 use Rattle.npr_route.specs.AttributeLooks.{HopsLooks, hop_ends, hops_end, no_hop_stands}
 use Rattle.npr_route.specs.AttributeView.{meaning_of, hop_of, hops_of}
 use Rattle.npr_route.specs.NextHopFrontLaws.{HopFront-length}
 use Rattle.npr_route.specs.NextHopHeader.{head_in}
-use Rattle.npr_route.specs.Reader.{IsAt, Chain, Opens, context_inside, account_of, hop_members, weight_of, level_built, stopped}
+use Rattle.npr_route.specs.Reader.{IsAt, Chain, Opens, context_inside, account_of, weight_of}
+use Rattle.npr_route.specs.Ahead.{stopped}
 use Rattle.npr_route.specs.ReaderLooks.{Goes, ChainAt}
 use Rattle.npr_route.specs.declared.attribute.RouteAttribute.TheVariants.{MultiPath}
 use Rattle.npr_route.proofs.Views.{view_multi_path}
-use Rattle.npr_route.proofs.ReaderLaws.{closes, closed_hop, closed_count, hops_closed, whole, chain_none, chain_pop, chain_wrong, hops_wrong_behind, hops_count, weight_push, account_push, opened_at, room_open, built_open, Added-none, Added-open}
+use Rattle.npr_route.proofs.ReaderLaws.{closes, closed_hop, hops_closed, whole, chain_none, chain_pop, chain_wrong, hops_wrong_behind, weight_push, account_push, opened_at, room_open, Added-none, Added-open}
 use Rattle.npr_route.proofs.ReadingLooks.{chain_at_stops, chain_at_none, chain_at_pop, goes_behind, goes_next}
 use Rattle.npr_route.proofs.reader.close.Goals as goal
 
@@ -31,7 +30,7 @@ returns-then-not-leave-clause-ok c =
           let all = whole l.context t.0 l.hops_rest.now _ nil done in
           let here = chain_none d bytes fs l.context t.0 none t.2 in
           rw (hops, here.0, here.1) all,
-      rw hops (Added-none c.args.looks.now _ _ (omega arith) (omega (arith, ap stopped c.requires, ap (λ z. (account_of z).stops) empty)) (omega (arith, closed_count l))),
+      Added-none c.args.looks.now _ _ (omega arith) (omega (arith, ap stopped c.requires, ap (λ z. (account_of z).stops) empty)),
     )
 
 pub returns-clause-ok : goal.returns-clause-ok
@@ -44,7 +43,6 @@ returns-clause-ok c =
     let nil : l.hops_rest.now ≡ [] = nil_from_length _ (grind (arith, nat_tests)) in
     let more : map meaning_of c.push-2.new.self.items ≡ map meaning_of f.attributes.items ++ multi_path (hops_of (map hop_of v.items)) ∷ [] =
     ap (map meaning_of) c.in_ok-push-2.ensures.items ∙ map_push meaning_of f.attributes.items (MultiPath v) ∙ ap (λ (m : Meaning). map meaning_of f.attributes.items ++ m ∷ []) (view_multi_path v) in
-    let held : hops_members (hops_of (map hop_of v.items)) ≡ level_built l = hops_count (map hop_of v.items) ∙ ap (list_members hop_members) hops ∙ closed_count l in
     let pushed = account_push fs f in
     let popped = c.leave.ensures.waits (grind (arith, nat_tests)) in (
       λ d bytes t.
@@ -56,8 +54,7 @@ returns-clause-ok c =
           let read = ReadsTo-more (Reads (context_inside f)) w.at.inside (map meaning_of f.attributes.items) w.left w.item (multi_path (hops_of (map hop_of v.items))) f.walk w.at.read w.begins (w.is_nine, inner) in
           (p.0, record { front = w.at.front; inside = w.at.inside; done = w.at.done; is_open = w.at.is_open; governs = w.at.governs; read = rw more read }, p.1),
       omega (arith, ap weight_of popped, weight_push fs f),
-      rw popped (Added-none c.args.looks.now _ _ (omega (arith, pushed.room)) (omega (arith, pushed.stops, ap stopped c.requires))
-          (omega (arith, pushed.built, ap (list_members members) more, list_members-more members (map meaning_of f.attributes.items) (multi_path (hops_of (map hop_of v.items))), held))),
+      rw popped (Added-none c.args.looks.now _ _ (omega (arith, pushed.room)) (omega (arith, pushed.stops, ap stopped c.requires))),
     )
 
 pub returns-in_err-open_next-clause-refused : goal.returns-in_err-open_next-clause-refused
@@ -85,8 +82,7 @@ returns-then-not-is_empty-clause-ok c =
       omega (arith, front, none),
       Added-open next.walk c.args.looks.now c.open_next.new.looks _ _ o.ensures.sought
           (omega (arith, room_open l.context l.hops_rest.now c.push.new.self.items next opens))
-          (omega (arith, ap stopped c.requires))
-          (omega (arith, built_open l.context l.hops_rest.now c.push.new.self.items next opens, ap (list_members hop_members) hops, closed_count l)),
+          (omega (arith, ap stopped c.requires)),
     )
 
 -- ---- the looks of the whole

@@ -4,10 +4,11 @@ use Rattle.std.proofs.lemmas.List.{nil_from_length}
 use Rattle.std.proofs.lemmas.Result.{err_from_is_err_and}
 use Rattle.npr_route.specs.Attribute.{no_hop_in_front}
 use Rattle.npr_route.specs.AttributeLooks.{hops_end, no_hop_stands}
-use Rattle.npr_route.specs.AttributeView.{hop_of}
+use Rattle.npr_route.specs.AttributeView.{hop_of, hops_of}
+use Rattle.npr_route.specs.LookBounds.{hops-saw}
 use Rattle.npr_route.specs.NextHopHeader.{head_in}
-use Rattle.npr_route.specs.Reader.{Opens, account, unread, all_built}
-use Rattle.npr_route.proofs.ReaderLaws.{opened_first, room_open, built_open, Added-open, Added-more, Added-saw, Ended-bounds, hops_count}
+use Rattle.npr_route.specs.Reader.{Opens, account, unread}
+use Rattle.npr_route.proofs.ReaderLaws.{opened_first, room_open, Added-open, Added-more, Ended-bounds}
 use Rattle.npr_route.proofs.ReadingLooks.{goes_first}
 use Rattle.npr_route.proofs.reader.read_next_hops_body.Goals as goal
 
@@ -30,12 +31,11 @@ loop-reader-init c =
     let bytes = c.args.bytes.now in
     let l = c.in_ok-level.level in
     let opens : Opens k bytes [] l = c.in_ok-level.ensures.ok in
-    let built = built_open k bytes [] l opens in
     record {
       tied = (bytes, opened_first k bytes l opens, rw c.new-2.ensures.items (sym opens.context, refl));
       follows = (bytes, c.args.looks.now, goes_first k bytes [] l c.args.looks.now c.open.new.looks opens c.in_ok-level.ensures.searched, rw c.new-2.ensures.items (sym opens.context, refl, refl));
       looks = rw c.new-2.ensures.items
-          (Added-open l.walk c.args.looks.now c.open.new.looks _ _ c.in_ok-level.ensures.sought (omega (arith, room_open k bytes [] l opens)) (omega arith) (omega (arith, built)));
+          (Added-open l.walk c.args.looks.now c.open.new.looks _ _ c.in_ok-level.ensures.sought (omega (arith, room_open k bytes [] l opens)) (omega arith));
       begun = (head_in l.header, l.walk, l.hops_rest.now, opens.front);
     }
 
@@ -54,16 +54,6 @@ pub returns-in_err-next_hops-clause-bounded : goal.returns-in_err-next_hops-clau
 returns-in_err-next_hops-clause-bounded c =
     let past = c.loop-reader.invariant in
     Ended-bounds c.args.context c.args.bytes.now c.loop-reader.reader c.args.looks.now c.loop-reader.looks c.advance.new.looks past.tied past.looks c.in_err-next_hops.ensures.ended
-
-pub returns-in-Some-clause-counted : goal.returns-in-Some-clause-counted
-returns-in-Some-clause-counted c =
-    let past = c.loop-reader.invariant in
-    let r = c.loop-reader.reader in
-    let bytes = c.args.bytes.now in
-    let hops = map hop_of c.in-Some.next_hops.items in
-    let step = rw c.in-Some.is at c.in_ok-next_hops.ensures.ok in
-    let all = Added-more c.args.looks.now c.loop-reader.looks c.advance.new.looks (unread (length bytes)) (account r) (all_built hops) past.looks step.1 in
-    rw hops_count (Added-saw c.args.looks.now c.advance.new.looks (length bytes) hops all)
 
 -- ---- the looks
 
@@ -86,3 +76,11 @@ returns-in_err-next_hops-clause-exact c =
 pub returns-in-Some-clause-exact : goal.returns-in-Some-clause-exact
 returns-in-Some-clause-exact c = λ answered.
     (true, (rw c.in-Some.is at c.in_ok-next_hops.ensures.follows) c.args.context c.args.bytes.now c.args.looks.now c.loop-reader.invariant.follows)
+
+pub returns-in-Some-clause-counted : goal.returns-in-Some-clause-counted
+returns-in-Some-clause-counted c =
+    let hops = map hop_of c.in-Some.next_hops.items in
+    let step = rw c.in-Some.is at c.in_ok-next_hops.ensures.ok in
+    let reads = step.0 c.args.context c.args.bytes.now c.loop-reader.invariant.tied in
+    let exact = returns-in-Some-clause-exact c tt in
+    hops-saw c.args.context c.args.bytes.now (hops_of hops) exact.0 c.args.looks.now c.advance.new.looks reads exact.1

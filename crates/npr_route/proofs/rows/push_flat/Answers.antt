@@ -1,4 +1,4 @@
-use Rattle.std.specs.Prelude.{Result, Ok, Err, IsOk, IfOk, IfErr}
+use Rattle.std.specs.Prelude.{Result, Ok, Err, IsOk, IfErr}
 use Rattle.std.proofs.Common.{◌≡◌, arith}
 use Rattle.std.proofs.lemmas.Result.{IfOk-weaker}
 use Rattle.npr_base.specs.Framing.{number_of}
@@ -8,11 +8,6 @@ use Rattle.npr_route.specs.AttributeLooks.{value_faulty}
 use Rattle.npr_route.specs.AttributeView.{meaning_of}
 use Rattle.npr_route.proofs.RowLooks.{looks_read, answered_ok, answered_err}
 use Rattle.npr_route.proofs.rows.push_flat.Goals as goal
-
--- both of what holds where there is a value
-both : {T E : Type 0} (r : Result T E) (P Q : T → Type 0) → IfOk r P → IfOk r Q → IfOk r (λ x. P x × Q x)
-both (Ok x) P Q p q = (p, q)
-both (Err e) P Q p q = tt
 
 -- where what is given makes it succeed, a refusal says that it isn't given
 unless : {T E : Type 0} (N : Type 0) (r : Result T E) (O Q : E → Type 0) → (N → IsOk r) → IfErr r (λ e. O e → Q e) → IfErr r (λ e. O e → (N → ⊥) × Q e)
@@ -27,7 +22,7 @@ pub returns-clause-ok : goal.returns-clause-ok
 returns-clause-ok c =
     let place = c.read_flat.new.place in
     let pushed = set_pushed c.args.list.now.items c.push.new.self.items _ place c.len-last.result c.in_ok-push.ensures.items (omega arith) in
-    IfOk-weaker c.read_flat.result _ _ (λ _ h. (place, pushed, h.0, h.1)) (both c.read_flat.result _ _ c.read_flat.ensures.ok c.read_flat.ensures.counted)
+    IfOk-weaker c.read_flat.result _ _ (λ _ h. (place, pushed, h)) c.read_flat.ensures.ok
 
 -- ---- the looks
 

@@ -1,4 +1,4 @@
--- The attributes ahead in bytes, up to their end or a fault.
+-- What stands ahead in bytes, and what a search through it looks at.
 use Rattle.std.proofs.Common.{◌≡◌, ℕ, zero, suc, min, ◌+◌, ◌*◌, ◌/◌, ◌<◌, ◌≤◌, true, false, List, [], ◌∷◌, length}
 use Rattle.std.proofs.Common.{Option, Some, None, Result, Ok, Err, refl, ap, ◌∙◌, arith, inl, inr, length-drop}
 use Rattle.std.proofs.lemmas.Bool.{cases_Bool, cases_lt, le-ltb, lt-ltb}
@@ -9,7 +9,7 @@ use Rattle.npr_base.specs.Framing.{Item, Front, Passes, Fault, Step, looked, pad
 use Rattle.npr_base.specs.FrontLaws.{length_at, length_at-is, rest_at, two_bytes, Front-is, Front-takes}
 use Rattle.npr_tunnel.specs.declared.encap_type.RouteLwEnCapType.{RouteLwEnCapType}
 use Rattle.npr_route.specs.Governing.{hit_each, Searches}
-use Rattle.npr_route.specs.Reader.{stands, along, ahead, stopped, walk_room, SoughtIn}
+use Rattle.npr_route.specs.Ahead.{stands, along, ahead, stopped, walk_room, SoughtIn}
 use Rattle.npr_route.specs.SearchLaws.{hit_each-counts, searched}
 
 -- an attribute stands in front
@@ -117,15 +117,16 @@ room_front bs x rest f = omega (arith, ahead_fits bs, ahead_fits rest, ahead_fro
 
 -- ---- what a search adds
 
-search_failed : (bytes : List ℕ) (items : List Item) (rest left : List ℕ) (last : Option (Result Item DecodeError)) (old new : Counts) → Passes bytes items rest → Step rest last left
-    → new ≡ looked last (hit_each items old) → new.failed ≤ old.failed + stopped bytes
+search_failed : (bytes : List ℕ) (items : List Item) (rest left : List ℕ) (last : Option (Result Item DecodeError)) (old new : Counts)
+    → Passes bytes items rest → Step rest last left → new ≡ looked last (hit_each items old) → new.failed ≤ old.failed + stopped bytes
 search_failed bytes items rest left None old new p step is = omega (arith, ap (λ (c : Counts). c.failed) is, (hit_each-counts items old).failed)
 search_failed bytes items rest left (Some (Ok x)) old new p step is = omega (arith, ap (λ (c : Counts). c.failed) is, (hit_each-counts items old).failed)
 search_failed bytes items rest left (Some (Err e)) old new p step is =
     omega (arith, ap (λ (c : Counts). c.failed) is, (hit_each-counts items old).failed, stopped_passed items bytes rest p, stopped_fault rest e step.0 step.1)
 
 -- the header of a next hop, and the search through its attributes
-pub sought : (outer type : RouteLwEnCapType) (inside : List ℕ) (old mid new : Counts) → mid ≡ hit old → Searches outer inside type mid new → SoughtIn inside old new
+pub sought : (outer type : RouteLwEnCapType) (inside : List ℕ) (old mid new : Counts) → mid ≡ hit old → Searches outer inside type mid new
+    → SoughtIn inside old new
 sought outer type inside old mid new is s =
     let p = searched outer inside type mid new s in
     let failed = search_failed inside s.before s.rest s.left s.last mid new s.passes s.step s.looks in

@@ -1,31 +1,27 @@
 -- What the looks at route attributes and next hops are at most and at least, by their definition, and that it reads what the grammar reads.
-use Rattle.std.proofs.Common.{◌≡◌, ◌⊎◌, ℕ, ◌+◌, ◌*◌, ◌/◌, ◌≤◌, Bool, true, false, List, [], length, Option, Some, None, Result, Ok, Err, refl, sym, ap, subst, ◌∙◌}
-use Rattle.std.proofs.Common.{arith, inl, inr, true≢false}
+use Rattle.std.proofs.Common.{◌≡◌, ◌⊎◌, ℕ, ◌+◌, ◌*◌, ◌/◌, ◌≤◌, Bool, true, false, List, [], length, Option, Some, None, Result, Ok, Err}
+use Rattle.std.proofs.Common.{refl, sym, ap, subst, ◌∙◌, arith, inl, inr, true≢false}
 use Rattle.std.proofs.lemmas.Bool.{cases_lt}
 use Rattle.npr_base.specs.declared.refusal.DecodeError.{DecodeError}
-use Rattle.npr_base.specs.Counts.{Counts, AddsAtMost, AddsAtMostTwice, SawEach, hit}
-use Rattle.npr_base.specs.Family.{ReadsList, list_members}
+use Rattle.npr_base.specs.Counts.{Counts, AddsAtMost, SawEach, hit}
 use Rattle.npr_base.specs.Framing.{Item, Front, Step}
 use Rattle.npr_base.specs.FrontLaws.{Front-takes, Front-same, Front-shrinks, Front-sound}
-use Rattle.npr_base.proofs.LookBounds.{Bounded, Saw, list-walked, list-saw, none-saw, searched-read, searched-saw}
-use Rattle.npr_route.specs.Attribute.{HopHead, HopFront, typed, Meaning, flat, multi_path, Attributes, no_more, attribute, Hops, no_hops, hop, Reads, AreAttributes, AreHops}
-use Rattle.npr_route.specs.Attribute.{Wrong, value_wrong, hops_wrong, AttributesWrong, none_in_front, first_wrong, later_wrong, governed_wrong, HopsWrong, no_hop_in_front, first_hop_wrong, later_hop_wrong}
+use Rattle.npr_base.specs.LooksLaws.{none-most, none-saw}
+use Rattle.npr_route.specs.Attribute.{HopHead, HopFront, typed, Meaning, flat, multi_path, Attributes, no_more, attribute, Hops, no_hops, hop}
+use Rattle.npr_route.specs.Attribute.{Reads, AreAttributes, AreHops, Wrong, value_wrong, hops_wrong, AttributesWrong, none_in_front, first_wrong}
+use Rattle.npr_route.specs.Attribute.{later_wrong, governed_wrong, HopsWrong, no_hop_in_front, first_hop_wrong, later_hop_wrong}
 use Rattle.npr_route.specs.Attribute.{members, attributes_members, hops_members}
-use Rattle.npr_route.specs.AttributeLaws.{attributes, reads-sound}
+use Rattle.npr_route.specs.AttributeLaws.{reads-sound}
 use Rattle.npr_route.specs.AttributeLooks.{AttributeLooks, value_read, value_faulty, hops_inside, HopLooks, hop_ends, none_in_hop, faulty_in_hop}
-use Rattle.npr_route.specs.AttributeLooks.{passed_in_hop, HopsLooks, hops_end, no_hop_stands, hop_stands, HopsTake}
+use Rattle.npr_route.specs.AttributeLooks.{passed_in_hop, HopsLooks, hops_end, no_hop_stands, hop_stands, HopsTake, AttributeTakes}
 use Rattle.npr_route.specs.FlatAttribute.{Context}
 use Rattle.npr_route.specs.FlatAttributeLaws as Flats
 use Rattle.npr_route.specs.Governing.{EndsSearch, Tells, Governs, Searches}
 use Rattle.npr_route.specs.GoverningLaws.{governs-one}
 use Rattle.npr_route.specs.NextHopFrontLaws.{HopFront-same, HopFront-sound, HopFront-length}
-use Rattle.npr_route.specs.Reader.{stopped, walk_room}
-use Rattle.npr_route.specs.SearchLaws.{searched}
-use Rattle.npr_route.specs.RouteList.{Under, IsRouteList, RouteListTakes}
-use Rattle.npr_route.proofs.Ahead.{room_front, room_opened, stopped_front, stopped_once, sought}
-use Rattle.npr_route.proofs.TunnelLooks.{flat-bounded, flat-saw}
+use Rattle.npr_route.specs.Ahead.{stopped, walk_room}
+use Rattle.npr_route.specs.AheadLaws.{room_front, room_opened, stopped_front, stopped_once, sought}
 use Rattle.npr_tunnel.specs.declared.encap_type.RouteLwEnCapType.{RouteLwEnCapType}
-use Rattle.npr_tunnel.specs.declared.encap_type.RouteLwEnCapType.TheVariants.{None as NoEncapsulation}
 
 -- ---- at most
 
@@ -48,8 +44,9 @@ one_or_none n le = elim (cases_lt n 1) [ inl lt ↦ inl (omega arith) | inr ge �
 
 mutual
   attribute-few : (c : Context) (x : Item) (read : Bool) (old new : Counts) → AttributeLooks c x read old new → Few read old new (length x.value)
-  attribute-few c x true old new (value_read m k r t) = record { most = flat-bounded c x old new t; quiet = λ e. (flat-saw c x m old new r t).failed }
-  attribute-few c x false old new (value_faulty e k w t) = record { most = flat-bounded c x old new t; quiet = λ q. absurd (true≢false (sym q)) }
+  attribute-few c x true old new (value_read m k r t) =
+      record { most = (Flats.attributes c).bounded x old new t; quiet = λ e. ((Flats.attributes c).saw x m old new r t).failed }
+  attribute-few c x false old new (value_faulty e k w t) = record { most = (Flats.attributes c).bounded x old new t; quiet = λ q. absurd (true≢false (sym q)) }
   attribute-few c x read old new (hops_inside k h) = hops-few c x.value read old new h
 
   hop-few : (c : Context) (type : RouteLwEnCapType) (inside rest : List ℕ) (read : Bool) (old new : Counts) → HopLooks c type inside rest read old new
@@ -104,9 +101,7 @@ mutual
 
   hops-few : (c : Context) (bytes : List ℕ) (read : Bool) (old new : Counts) → HopsLooks c bytes read old new → Few read old new (length bytes)
   hops-few c bytes true old new (hops_end is p) =
-      let s = ap (λ (d : Counts). d.successful) p in
-      let t = ap (λ (d : Counts). d.failed) p in
-      record { most = record { kept = omega (arith, s); successful = omega (arith, s); failed_kept = omega (arith, t); failed = omega (arith, t) }; quiet = λ e. t }
+      record { most = none-most (length bytes) old new p; quiet = λ e. ap (λ (d : Counts). d.failed) p }
   hops-few c bytes false old new (no_hop_stands e left bad p) =
       let s = ap (λ (d : Counts). d.successful) p in
       let t = ap (λ (d : Counts). d.failed) p in
@@ -139,8 +134,9 @@ search_governs outer rest left None type step ends = inr (inl step.0, ends)
 search_governs outer rest left (Some (Ok x)) type step ends = inl (x, left, step, ends)
 search_governs outer rest left (Some (Err e)) type step ends = inr (inr (e, step.0, step.1), ends)
 
-governed : (outer : RouteLwEnCapType) (bytes : List ℕ) (type : RouteLwEnCapType) (old new : Counts) → Searches outer bytes type old new → Governs outer bytes type
-governed outer bytes type old new s = (s.before, s.rest, s.passes, s.silent, search_governs outer s.rest s.left s.last type s.step s.ends)
+pub searches-governs : (outer : RouteLwEnCapType) (bytes : List ℕ) (type : RouteLwEnCapType) (old new : Counts)
+    → Searches outer bytes type old new → Governs outer bytes type
+searches-governs outer bytes type old new s = (s.before, s.rest, s.passes, s.silent, search_governs outer s.rest s.left s.last type s.step s.ends)
 
 mutual
   attribute-reads : (c : Context) (x : Item) (old new : Counts) → AttributeLooks c x true old new → (m : Meaning) × Reads c x m
@@ -159,7 +155,7 @@ mutual
   hops-read c bytes old new (hops_end is p) = (no_hops, is)
   hops-read c bytes old new (hop_stands h inside rest type mid f t p) =
       let r = hop-reads c type inside rest mid new p in
-      (hop h r.0 r.1, (inside, rest, f, (type, governed c.2 inside type (hit old) mid t, r.2), r.3))
+      (hop h r.0 r.1, (inside, rest, f, (type, searches-governs c.2 inside type (hit old) mid t, r.2), r.3))
 
 -- what is wrong among the attributes, or behind them
 abbrev HopWrongs : Context → RouteLwEnCapType → List ℕ → List ℕ → DecodeError → Type 0
@@ -184,7 +180,9 @@ mutual
       → (e : DecodeError) × HopWrongs c type inside rest e
   hop-is-wrong c type inside rest old new (hop_ends is h) = let r = hops-are-wrong c rest old new h in (r.0, inr (no_more, is, r.1))
   hop-is-wrong c type inside rest old new (none_in_hop e left bad p) = (e, inl (none_in_front left bad))
-  hop-is-wrong c type inside rest old new (faulty_in_hop x more f w) = let r = attribute-wrong (typed c type) x (hit old) new w in (r.0, inl (first_wrong x more f r.1))
+  hop-is-wrong c type inside rest old new (faulty_in_hop x more f w) =
+      let r = attribute-wrong (typed c type) x (hit old) new w in
+      (r.0, inl (first_wrong x more f r.1))
   hop-is-wrong c type inside rest old new (passed_in_hop x more mid f w p) =
       let m = attribute-reads (typed c type) x (hit old) mid w in
       let r = hop-is-wrong c type more rest mid new p in
@@ -194,7 +192,7 @@ mutual
   hops-are-wrong c bytes old new (no_hop_stands e left bad p) = (e, no_hop_in_front left bad)
   hops-are-wrong c bytes old new (hop_stands h inside rest type mid f t p) =
       let r = hop-is-wrong c type inside rest mid new p in
-      (r.0, wrongs-open c bytes h inside rest type r.0 f (governed c.2 inside type (hit old) mid t) r.1)
+      (r.0, wrongs-open c bytes h inside rest type r.0 f (searches-governs c.2 inside type (hit old) mid t) r.1)
 
 -- ---- at least
 
@@ -210,11 +208,15 @@ read-on c inside no_more is = ap stopped is
 read-on c inside (attribute m ms) (x, more, f, r, rest) = stopped_front inside x more f ∙ read-on c more ms rest
 
 more-saw : (old mid new : Counts) (n m : ℕ) → SawEach (hit old) mid n → mid.successful ≤ new.successful → SawEach mid new m → SawEach old new (1 + n + m)
-more-saw old mid new n m a k b = record { failed = omega (arith, a.failed, b.failed); each = λ below. omega (arith, b.each below, a.each (omega (arith, k, below))) }
+more-saw old mid new n m a k b = record {
+  failed = omega (arith, a.failed, b.failed);
+  each = λ below. omega (arith, b.each below, a.each (omega (arith, k, below)));
+}
 
 mutual
-  attribute-saw : (c : Context) (x : Item) (m : Meaning) (read : Bool) (old new : Counts) → Reads c x m → AttributeLooks c x read old new → SawEach old new (members m)
-  attribute-saw c x (flat m) true old new r (value_read n k s t) = flat-saw c x m old new r.1 t
+  attribute-saw : (c : Context) (x : Item) (m : Meaning) (read : Bool) (old new : Counts) → Reads c x m → AttributeLooks c x read old new
+      → SawEach old new (members m)
+  attribute-saw c x (flat m) true old new r (value_read n k s t) = (Flats.attributes c).saw x m old new r.1 t
   attribute-saw c x (flat m) false old new r (value_faulty e k w t) = absurd ((Flats.attributes c).no_fault x m e r.1 w)
   attribute-saw c x (flat m) read old new r (hops_inside k h) = absurd (r.0 k)
   attribute-saw c x (multi_path hs) true old new r (value_read n k s t) = absurd (k r.0)
@@ -245,14 +247,14 @@ mutual
 
   pub hops-saw : (c : Context) (bytes : List ℕ) (hs : Hops) (read : Bool) (old new : Counts) → AreHops c bytes hs → HopsLooks c bytes read old new
       → SawEach old new (hops_members hs)
-  hops-saw c bytes no_hops true old new is (hops_end js p) = none-saw 0 old new refl p
+  hops-saw c bytes no_hops true old new is (hops_end js p) = none-saw old new p
   hops-saw c bytes no_hops false old new is (no_hop_stands e left bad p) = absurd (omega (arith, ap length is, left))
   hops-saw c bytes no_hops read old new is (hop_stands k j b kind mid g t p) = no_hop bytes j b k is g
   hops-saw c bytes (hop h ms hs) true old new (i, a, f, r, rs) (hops_end js p) = no_hop bytes i a h js f
   hops-saw c bytes (hop h ms hs) false old new (i, a, f, r, rs) (no_hop_stands e left bad p) = absurd (HopFront-sound bytes h i a e f bad)
   hops-saw c bytes (hop h ms hs) read old new (i, a, f, r, rs) (hop_stands k j b kind mid g t p) =
       let e = HopFront-same bytes h k i j a b f g in
-      let one = governs-one c.2 j r.0 kind (subst (λ (z : List ℕ). Governs c.2 z r.0) e.1 r.1) (governed c.2 j kind (hit old) mid t) in
+      let one = governs-one c.2 j r.0 kind (subst (λ (z : List ℕ). Governs c.2 z r.0) e.1 r.1) (searches-governs c.2 j kind (hit old) mid t) in
       let inside = subst (λ (z : RouteLwEnCapType). AreAttributes (typed c z) j ms) one (subst (λ (z : List ℕ). AreAttributes (typed c r.0) z ms) e.1 r.2) in
       let rest = subst (λ (z : List ℕ). AreHops c z hs) e.2 rs in
       let s = sought c.2 kind j old (hit old) mid refl t in
@@ -263,27 +265,13 @@ mutual
         each = λ below. omega (arith, all.each below, s.header (omega (arith, far, below)), far);
       }
 
--- ---- a list of route attributes
+-- ---- of the family, and of next hops
 
-attributes-bounded : (c : Context) → Bounded (attributes c).looks
+pub attributes-bounded : (c : Context) (x : Item) (old new : Counts) → AttributeTakes c x old new → AddsAtMost old new (length x.value)
 attributes-bounded c x old new t = (attribute-few c x t.0 old new t.1).most
 
-attributes-saw : (c : Context) → Saw (attributes c)
+pub attributes-saw : (c : Context) (x : Item) (m : Meaning) (old new : Counts) → Reads c x m → AttributeTakes c x old new → SawEach old new (members m)
 attributes-saw c x m old new r t = attribute-saw c x m t.0 old new r t.1
 
 pub next-hops-bounded : (c : Context) (bytes : List ℕ) (old new : Counts) → HopsTake c bytes old new → AddsAtMost old new (length bytes)
 next-hops-bounded c bytes old new t = (hops-few c bytes t.0 old new t.1).most
-
-pub route-bounded : (under : Under) (bytes : List ℕ) (old new : Counts) → RouteListTakes under bytes old new → AddsAtMostTwice old new (length bytes)
-route-bounded under bytes old new (type, mid, s, p) =
-    let c : Context = (under.0, under.1, type) in
-    searched-read bytes old mid new (searched NoEncapsulation bytes type old mid s) (list-walked (attributes c) (attributes-bounded c) (attributes-saw c) bytes mid new p)
-
-pub route-saw : (under : Under) (bytes : List ℕ) (xs : List Meaning) (old new : Counts) → IsRouteList under bytes xs → RouteListTakes under bytes old new
-    → SawEach old new (list_members members xs)
-route-saw under bytes xs old new (a, g, reads) (type, mid, s, p) =
-    let c : Context = (under.0, under.1, type) in
-    let one = governs-one NoEncapsulation bytes a type g (governed NoEncapsulation bytes type old mid s) in
-    let read = subst (λ (t : RouteLwEnCapType). ReadsList (Reads (under.0, under.1, t)) bytes xs) one reads in
-    let saw = list-saw (attributes c) (attributes-bounded c) (attributes-saw c) bytes xs mid new read p in
-    searched-saw bytes read.0 old mid new (list_members members xs) read.1 (searched NoEncapsulation bytes type old mid s) saw
