@@ -1,101 +1,48 @@
 //! Messages of the kernel and of `ip` on addresses, and damaged ones.
 
-use crate::helpers::{bytes_of, check_of, holds, reads, refuses, rewrites, rewrites_lines, same};
+use crate::helpers::{bytes_of, check_of, holds, messages, same};
 use bitflags::Flags;
 use netlink_packet_route::AddressFamily;
 use netlink_packet_route::address::{
-    AddressAttribute, AddressFlags, AddressHeader, AddressHeaderFlags, AddressMessage,
-    AddressMessageBuffer, AddressProtocol, AddressScope, CacheInfo,
+    AddressHeader, AddressHeaderFlags, AddressMessage, AddressMessageBuffer, AddressProtocol,
+    AddressScope,
 };
-use netlink_packet_route::framing::{At, AttrFamily, DecodeError, EmitError};
-use netlink_packet_route::net::{IpAddr, Ipv6Addr};
+use netlink_packet_route::framing::EmitError;
 use std::test::Fail;
 
 /// A header: inet, prefix 8, permanent, host, interface 1.
 const HEADER: &str = "020880fe 01000000";
 
-/// The attributes of the loopback interface, as `ip` shows them.
-const LOOPBACK: &str = "08000100 7f000001 08000200 7f000001 07000300 6c6f0000 08000800 80000000
-    14000600 ffffffff ffffffff 9c000000 9c000000";
-
 #[test]
-fn reads_the_loopback_address(rt: HostRuntime) -> Result<(), Fail> {
-    let info = CacheInfo {
-        ifa_preferred: u32::MAX,
-        ifa_valid: u32::MAX,
-        cstamp: 156,
-        tstamp: 156,
-    };
-    let label = String::from_str(rt.alloc(), "lo")?;
-    let wanted = [
-        AddressAttribute::Address(IpAddr::from([127, 0, 0, 1])),
-        AddressAttribute::Local(IpAddr::from([127, 0, 0, 1])),
-        AddressAttribute::Label(label),
-        AddressAttribute::Flags(AddressFlags::Permanent),
-        AddressAttribute::CacheInfo(info),
-    ];
-    reads::<AddressMessage, _>(&rt, &[HEADER, LOOPBACK], wanted)
-}
-
-#[test]
-fn reads_other_rows(rt: HostRuntime) -> Result<(), Fail> {
-    let wanted = [
-        AddressAttribute::Protocol(AddressProtocol::Loopback),
-        AddressAttribute::TargetNetNsId(-1),
-        AddressAttribute::RoutePriority(1),
-        AddressAttribute::Anycast(Ipv6Addr::from([9; 16])),
-    ];
-    let texts = [
-        HEADER,
-        "05000b00 01020304 08000a00 ffffffff 08000980 01000000",
-        "14000500 09090909 09090909 09090909 09090909",
-    ];
-    reads::<AddressMessage, _>(&rt, &texts, wanted)
-}
-
-#[test]
-fn rewrites_messages(rt: HostRuntime) -> Result<(), Fail> {
-    rewrites::<AddressMessage>(&rt, &[HEADER, LOOPBACK], &[HEADER, LOOPBACK])?;
+fn reads_messages(rt: HostRuntime) -> Result<(), Fail> {
     let lines = "
-        06000300 6c6f -> 07000300 6c6f0000 # A name without its zero.
-        04000300 -> 05000300 00000000 # The empty name.
-        080063c0 deadbeef # An unknown number with both flags.
-        05000b00 01020304 -> 05000b00 01000000 # Padding that is not zero.
-        08000980 01000000 -> 08000900 01000000 # The flag of a known number is lost.
-        08000a00 ffffffff # A namespace of number -1.";
-    rewrites_lines::<AddressMessage>(&rt, HEADER, lines)
-}
-
-#[test]
-fn refuses_framing(rt: HostRuntime) -> Result<(), Fail> {
-    let fault = DecodeError::HeaderTooShort { got: 0, want: 8 };
-    refuses::<AddressMessage>(&rt, &[], fault)?;
-    let fault = DecodeError::AttributeTooShort { got: 2 };
-    refuses::<AddressMessage>(&rt, &[HEADER, "08000800 80000000 0000"], fault)?;
-    let fault = DecodeError::AttributeLength { length: 3, left: 4 };
-    refuses::<AddressMessage>(&rt, &[HEADER, "03000100"], fault)
-}
-
-/// The place of an attribute.
-fn at(kind: u16) -> At {
-    At {
-        family: AttrFamily::Address,
-        kind,
-    }
-}
-
-#[test]
-fn refuses_values(rt: HostRuntime) -> Result<(), Fail> {
-    let fault = DecodeError::NotUtf8 { at: at(3) };
-    refuses::<AddressMessage>(&rt, &[HEADER, "06000300 fffe0000"], fault)?;
-    let fault = DecodeError::ValueLength { at: at(1), got: 3 };
-    refuses::<AddressMessage>(&rt, &[HEADER, "07000100 7f000000"], fault)?;
-    let fault = DecodeError::HeaderTooShort { got: 15, want: 16 };
-    let info = "13000600 00000000 00000000 00000000 00000000";
-    refuses::<AddressMessage>(&rt, &[HEADER, info], fault)?;
-    // A multicast address of four bytes.
-    let fault = DecodeError::ValueLength { at: at(7), got: 4 };
-    refuses::<AddressMessage>(&rt, &[HEADER, "08000700 e0000001"], fault)
+        08000100 7f000001 08000200 7f000001 07000300 6c6f0000 08000800 80000000 \
+            14000600 ffffffff ffffffff 9c000000 9c000000 => \
+            [Address(127.0.0.1), \
+            Local(127.0.0.1), Label(\"lo\"), Flags(AddressFlags(128)), \
+            CacheInfo(CacheInfo { ifa_preferred: 4294967295, ifa_valid: 4294967295, cstamp: 156, \
+            tstamp: 156 })] # The loopback interface, as `ip` shows it.
+        05000b00 01020304 08000a00 ffffffff 08000980 01000000 \
+            14000500 09090909 09090909 09090909 09090909 -> \
+            05000b00 01000000 08000a00 ffffffff 08000900 01000000 \
+            14000500 09090909 09090909 09090909 09090909 => \
+            [Protocol(Loopback), TargetNetNsId(-1), RoutePriority(1), \
+            Anycast(909:909:909:909:909:909:909:909)]
+        => []
+        06000300 6c6f -> 07000300 6c6f0000 => [Label(\"lo\")] # A name without its zero.
+        04000300 -> 05000300 00000000 => [Label(\"\")] # The empty name.
+        080063c0 deadbeef => [Other(DefaultNla { kind: 49251, value: [222, 173, 190, 239] })] # Both flags.
+        05000b00 01020304 -> 05000b00 01000000 => [Protocol(Loopback)] # Padding that is not zero.
+        08000980 01000000 -> 08000900 01000000 => [RoutePriority(1)] # The flag of a known number.
+        08000a00 ffffffff => [TargetNetNsId(-1)]
+        08000800 80000000 0000 => 2 bytes, where an attribute begins with 4
+        03000100 => an attribute of length 3 with 4 bytes left
+        06000300 fffe0000 => no UTF-8 at At { family: Address, kind: 3 }
+        07000100 7f000000 => a value of 3 bytes at At { family: Address, kind: 1 }
+        13000600 00000000 00000000 00000000 00000000 => 15 bytes, where a header of 16 is wanted
+        08000700 e0000001 => a value of 4 bytes at At { family: Address, kind: 7 } # Multicast.";
+    messages::<AddressMessage>(&rt, HEADER, lines)?;
+    messages::<AddressMessage>(&rt, "", "=> 0 bytes, where a header of 8 is wanted")
 }
 
 /// A label of 65,530 letters has a value of 65,531 bytes.

@@ -1,6 +1,6 @@
 //! Datagrams as a kernel sent them, and what the standard says of their envelopes.
 
-use crate::helpers::{bytes_of, holds, same};
+use crate::helpers::{bytes_of, holds, same, shows};
 use netlink_packet_route::envelope::{
     Answer, Conversation, End, EnvelopeError, ErrorAttribute, NLM_F_MULTIPART, NLMSG_DONE,
     NLMSG_NOOP, NetlinkBuffer, NetlinkHeader, NetlinkIterator, error_text,
@@ -49,6 +49,18 @@ fn headers_of(
 fn walks_over_a_dump(rt: HostRuntime) -> Result<(), Fail> {
     let bytes = dump(&rt, SEVEN)?;
     let (headers, fault) = headers_of(&rt, bytes.as_slice())?;
+    let wanted = "[NetlinkHeader { length: 52, message_type: 32, flags: 2, sequence_number: 7, \
+        port_number: 27804 }, NetlinkHeader { length: 60, message_type: 32, flags: 2, \
+        sequence_number: 7, port_number: 27804 }, NetlinkHeader { length: 20, message_type: 3, \
+        flags: 2, sequence_number: 7, port_number: 27804 }]";
+    shows(&rt, headers, wanted)?;
+    same(&rt, fault, None);
+    same(&rt, (NLM_F_MULTIPART, NLMSG_DONE), (2, 3));
+    Ok(())
+}
+
+#[test]
+fn writes_a_header(rt: HostRuntime) -> Result<(), Fail> {
     let part = NetlinkHeader {
         length: 52,
         message_type: 32,
@@ -56,19 +68,9 @@ fn walks_over_a_dump(rt: HostRuntime) -> Result<(), Fail> {
         sequence_number: 7,
         port_number: 27804,
     };
-    let wanted = [
-        part,
-        NetlinkHeader { length: 60, ..part },
-        NetlinkHeader {
-            length: 20,
-            message_type: NLMSG_DONE,
-            ..part
-        },
-    ];
-    same(&rt, headers.as_slice(), wanted.as_slice());
-    same(&rt, fault, None);
     let written = to_vec(rt.alloc(), &part)?;
-    same(&rt, Some(written.as_slice()), bytes.as_slice().get(..16));
+    let wanted = bytes_of(&rt, &["34000000 20000200 07000000 9c6c0000"])?;
+    same(&rt, written, wanted);
     Ok(())
 }
 
@@ -242,10 +244,7 @@ fn a_refusal_has_its_words(rt: HostRuntime) -> Result<(), Fail> {
     ];
     let datagram = bytes_of(&rt, texts.as_slice())?;
     let list = refusal_of(&rt, datagram.as_slice(), "Not found")?;
-    let text = String::from_str(rt.alloc(), "Not found")?;
-    let wanted = [ErrorAttribute::Message(text), ErrorAttribute::Offset(24)];
-    holds(&rt, list.as_slice() == wanted.as_slice());
-    Ok(())
+    shows(&rt, list, "[Message(\"Not found\"), Offset(24)]")
 }
 
 /// A cookie of five bytes (`NLMSGERR_ATTR_COOKIE`, 3) between the words and the offset.
@@ -257,13 +256,6 @@ fn a_refusal_has_a_cookie(rt: HostRuntime) -> Result<(), Fail> {
     ];
     let datagram = bytes_of(&rt, texts.as_slice())?;
     let list = refusal_of(&rt, datagram.as_slice(), "Busy")?;
-    let text = String::from_str(rt.alloc(), "Busy")?;
-    let cookie = bytes_of(&rt, &["c0ffee0102"])?;
-    let wanted = [
-        ErrorAttribute::Message(text),
-        ErrorAttribute::Cookie(cookie),
-        ErrorAttribute::Offset(24),
-    ];
-    holds(&rt, list.as_slice() == wanted.as_slice());
-    Ok(())
+    let wanted = "[Message(\"Busy\"), Cookie([192, 255, 238, 1, 2]), Offset(24)]";
+    shows(&rt, list, wanted)
 }

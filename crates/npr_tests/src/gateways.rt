@@ -1,6 +1,6 @@
 //! Addresses and gateways of routes, each by its family.
 
-use crate::helpers::{INET, LABEL, bytes_of, holds, same, writes};
+use crate::helpers::{INET, LABEL, bytes_of, same, says, shows, writes};
 use netlink_packet_route::AddressFamily;
 use netlink_packet_route::framing::{At, AttrFamily, DecodeError, Looks, Parseable};
 use netlink_packet_route::net::{IpAddr, Ipv4Addr, Ipv6Addr};
@@ -22,167 +22,131 @@ const FOUR: [u8; 4] = [0x0a, 0x00, 0x00, 0x01];
 /// `2001:db8::1`.
 const SIXTEEN: [u8; 16] = [0x20, 0x01, 0x0d, 0xb8, 0, 0, 0, 0, 0, 0, 0, 0, 0, 0, 0, 1];
 
-const SIXTEEN_TEXT: &str = "20010db8000000000000000000000001";
-
-/// The bytes are this address of the family, and are what is written of it.
-fn is_address(
+/// The bytes of each line are an address of the family that is printed so, and are what is written
+/// of it, or are none, for the cause that is the text.
+fn addresses(
     rt: &(impl Abort + AllocGlobal),
     family: AddressFamily,
-    text: &str,
-    wanted: RouteAddress,
+    lines: &str,
 ) -> Result<(), Fail> {
-    let bytes = bytes_of(rt, &[text])?;
-    let found = RouteAddress::parse(rt.alloc(), family, bytes.as_slice())?;
-    same(rt, found.len(), bytes.len());
-    same(rt, found.clone(rt.alloc())?, wanted);
-    writes(rt, found, &[text])
+    for line in lines.lines() {
+        if let Some((digits, text)) = line.split_once("=>") {
+            let bytes = bytes_of(rt, &[digits])?;
+            match RouteAddress::read(rt.alloc(), family, bytes.as_slice(), PLACE) {
+                Ok(found) => {
+                    same(rt, found.len(), bytes.len());
+                    shows(rt, found.clone(rt.alloc())?, text.trim())?;
+                    writes(rt, found, &[digits])?;
+                }
+                Err(fault) => says(rt, fault, text.trim())?,
+            }
+        }
+    }
+    Ok(())
 }
 
 #[test]
-fn addresses_by_family(rt: HostRuntime) -> Result<(), Fail> {
-    let inet = RouteAddress::from(IpAddr::from(FOUR));
-    is_address(&rt, AddressFamily::Inet, "0a000001", inet)?;
-    let inet6 = RouteAddress::from(IpAddr::from(SIXTEEN));
-    is_address(&rt, AddressFamily::Inet6, SIXTEEN_TEXT, inet6)?;
-    let mpls = RouteAddress::from(LABEL);
-    is_address(&rt, AddressFamily::Mpls, "000641ff", mpls)
+fn addresses_of_ip(rt: HostRuntime) -> Result<(), Fail> {
+    let lines = "
+        0a000001 => Inet(10.0.0.1)
+        20010d => a value of 3 bytes at At { family: Route, kind: 1 }
+        20010db8000000000000000000000001 => a value of 16 bytes at At { family: Route, kind: 1 }";
+    addresses(&rt, AddressFamily::Inet, lines)?;
+    let lines = "
+        20010db8000000000000000000000001 => \
+            Inet6(2001:db8::1)
+        20010db8 => a value of 4 bytes at At { family: Route, kind: 1 }
+        20010db80000000000000000000000 => a value of 15 bytes at At { family: Route, kind: 1 }";
+    addresses(&rt, AddressFamily::Inet6, lines)
 }
 
 /// A family that is inet by its number alone counts as another one.
 #[test]
 fn addresses_of_other_families(rt: HostRuntime) -> Result<(), Fail> {
-    let other = RouteAddress::Other(FOUR.to_vec(rt.alloc())?);
-    is_address(&rt, AddressFamily::Other(2), "0a000001", other)?;
-    let bridge = RouteAddress::Other([1, 2, 3].to_vec(rt.alloc())?);
-    is_address(&rt, AddressFamily::Bridge, "010203", bridge)
+    let lines = "
+        000641ff => Mpls(MplsLabel { label: 100, traffic_class: 0, bottom_of_stack: true, ttl: 255 })
+        20010d => a value of 3 bytes at At { family: Route, kind: 1 }
+        20010db8 00000000 => a value of 8 bytes at At { family: Route, kind: 1 }";
+    addresses(&rt, AddressFamily::Mpls, lines)?;
+    addresses(
+        &rt,
+        AddressFamily::Other(2),
+        "0a000001 => Other([10, 0, 0, 1])",
+    )?;
+    addresses(&rt, AddressFamily::Bridge, "010203 => Other([1, 2, 3])")
 }
 
 #[test]
-fn addresses_of_another_length(rt: HostRuntime) {
-    for (family, got) in [
-        (AddressFamily::Inet, 3usize),
-        (AddressFamily::Inet, 16),
-        (AddressFamily::Inet6, 4),
-        (AddressFamily::Inet6, 15),
-        (AddressFamily::Mpls, 3),
-        (AddressFamily::Mpls, 8),
-    ] {
-        let bytes = &SIXTEEN[..got.min(16)];
-        let found = RouteAddress::read(rt.alloc(), family, bytes, PLACE).err();
-        same(
-            &rt,
-            found,
-            Some(DecodeError::ValueLength { at: PLACE, got }),
-        );
-    }
-}
-
-#[test]
-fn addresses_of_no_place(rt: HostRuntime) {
+fn addresses_of_no_place(rt: HostRuntime) -> Result<(), Fail> {
+    let found = RouteAddress::parse(rt.alloc(), AddressFamily::Inet, &FOUR)?;
+    shows(&rt, found, "Inet(10.0.0.1)")?;
     let at = At::NO_PLACE;
     let found = RouteAddress::parse(rt.alloc(), AddressFamily::Inet, &[0; 3]).err();
     same(&rt, found, Some(DecodeError::ValueLength { at, got: 3 }));
+    Ok(())
 }
 
 #[test]
-fn addresses_from_others(rt: HostRuntime) {
-    let four = Ipv4Addr::new(10, 0, 0, 1);
-    let sixteen = Ipv6Addr::from(SIXTEEN);
-    same(&rt, RouteAddress::from(four), RouteAddress::Inet(four));
-    same(
-        &rt,
-        RouteAddress::from(sixteen),
-        RouteAddress::Inet6(sixteen),
-    );
-    same(
-        &rt,
-        RouteAddress::from(IpAddr::from(FOUR)),
-        RouteAddress::Inet(four),
-    );
-    same(
-        &rt,
-        RouteAddress::from(IpAddr::from(SIXTEEN)),
-        RouteAddress::Inet6(sixteen),
-    );
-    same(&rt, RouteAddress::from(LABEL), RouteAddress::Mpls(LABEL));
+fn addresses_from_others(rt: HostRuntime) -> Result<(), Fail> {
+    let inet = "Inet(10.0.0.1)";
+    let inet6 = "Inet6(2001:db8::1)";
+    shows(&rt, RouteAddress::from(Ipv4Addr::from(FOUR)), inet)?;
+    shows(&rt, RouteAddress::from(Ipv6Addr::from(SIXTEEN)), inet6)?;
+    shows(&rt, RouteAddress::from(IpAddr::from(FOUR)), inet)?;
+    shows(&rt, RouteAddress::from(IpAddr::from(SIXTEEN)), inet6)?;
+    let label = "Mpls(MplsLabel { label: 100, traffic_class: 0, bottom_of_stack: true, ttl: 255 })";
+    shows(&rt, RouteAddress::from(LABEL), label)
 }
 
 #[test]
-fn gateways_from_others(rt: HostRuntime) {
-    let four = Ipv4Addr::new(10, 0, 0, 1);
-    let sixteen = Ipv6Addr::from(SIXTEEN);
-    same(&rt, RouteVia::from(four), RouteVia::Inet(four));
-    same(&rt, RouteVia::from(sixteen), RouteVia::Inet6(sixteen));
-    same(
-        &rt,
-        RouteVia::from(IpAddr::from(FOUR)),
-        RouteVia::Inet(four),
-    );
-    same(
-        &rt,
-        RouteVia::from(IpAddr::from(SIXTEEN)),
-        RouteVia::Inet6(sixteen),
-    );
+fn gateways_from_others(rt: HostRuntime) -> Result<(), Fail> {
+    let inet = "Inet(10.0.0.1)";
+    let inet6 = "Inet6(2001:db8::1)";
+    shows(&rt, RouteVia::from(Ipv4Addr::from(FOUR)), inet)?;
+    shows(&rt, RouteVia::from(Ipv6Addr::from(SIXTEEN)), inet6)?;
+    shows(&rt, RouteVia::from(IpAddr::from(FOUR)), inet)?;
+    shows(&rt, RouteVia::from(IpAddr::from(SIXTEEN)), inet6)
 }
 
-/// The bytes are this gateway, and are what is written of it.
-fn is_gateway(
-    rt: &(impl Abort + AllocGlobal),
-    texts: &[&str],
-    wanted: RouteVia,
-) -> Result<(), Fail> {
-    let bytes = bytes_of(rt, texts)?;
-    let found = RouteVia::parse(rt.alloc(), bytes.as_slice())?;
-    same(rt, found.len(), bytes.len());
-    same(rt, found.clone(rt.alloc())?, wanted);
-    writes(rt, found, texts)
+/// The bytes of each line are a gateway that is printed so, and are what is written of it, or are
+/// none, for the cause that is the text.
+#[test]
+fn gateways(rt: HostRuntime) -> Result<(), Fail> {
+    let lines = "
+        0200 0a000001 => Inet(10.0.0.1)
+        0a00 20010db8000000000000000000000001 => \
+            Inet6(2001:db8::1)
+        1100 02005e100001 => Packet([2, 0, 94, 16, 0, 1])
+        1c00 000641ff => Other((Mpls, [0, 6, 65, 255]))
+        c800 => Other((Other(200), []))
+        02 => 1 bytes, where a header of 2 is wanted
+        0201 0a000001 => a gateway of address family 258
+        0200 0a0000 => a value of 3 bytes at At { family: Route, kind: 1 }
+        0a00 0a000001 => a value of 4 bytes at At { family: Route, kind: 1 }";
+    for line in lines.lines() {
+        if let Some((digits, text)) = line.split_once("=>") {
+            let bytes = bytes_of(&rt, &[digits])?;
+            match RouteVia::read(rt.alloc(), bytes.as_slice(), PLACE) {
+                Ok(found) => {
+                    same(&rt, found.len(), bytes.len());
+                    shows(&rt, found.clone(rt.alloc())?, text.trim())?;
+                    writes(&rt, found, &[digits])?;
+                }
+                Err(fault) => says(&rt, fault, text.trim())?,
+            }
+        }
+    }
+    Ok(())
 }
 
 #[test]
-fn gateways_by_family(rt: HostRuntime) -> Result<(), Fail> {
-    let inet = RouteVia::from(IpAddr::from(FOUR));
-    is_gateway(&rt, &["0200", "0a000001"], inet)?;
-    let inet6 = RouteVia::from(IpAddr::from(SIXTEEN));
-    is_gateway(&rt, &["0a00", SIXTEEN_TEXT], inet6)?;
-    let packet = RouteVia::Packet([2, 0, 0x5e, 0x10, 0, 1].to_vec(rt.alloc())?);
-    is_gateway(&rt, &["1100", "02005e100001"], packet)
-}
-
-#[test]
-fn gateways_of_other_families(rt: HostRuntime) -> Result<(), Fail> {
-    let mpls = RouteVia::Other((AddressFamily::Mpls, [0, 6, 0x41, 0xff].to_vec(rt.alloc())?));
-    is_gateway(&rt, &["1c00", "000641ff"], mpls)?;
-    let unknown = RouteVia::Other((AddressFamily::Other(200), Vec::new(rt.alloc())));
-    is_gateway(&rt, &["c800"], unknown)
-}
-
-/// The bytes are no gateway, for this cause.
-fn is_none(rt: &(impl Abort + AllocGlobal), bytes: &[u8], fault: DecodeError) {
-    same(
-        rt,
-        RouteVia::read(rt.alloc(), bytes, PLACE).err(),
-        Some(fault),
-    );
-}
-
-#[test]
-fn what_is_no_gateway(rt: HostRuntime) {
-    is_none(&rt, &[2], DecodeError::HeaderTooShort { got: 1, want: 2 });
-    is_none(&rt, &[2, 1, 10, 0, 0, 1], DecodeError::ViaFamily(258));
-    let at = PLACE;
-    is_none(
-        &rt,
-        &[2, 0, 10, 0, 0],
-        DecodeError::ValueLength { at, got: 3 },
-    );
-    is_none(
-        &rt,
-        &[10, 0, 10, 0, 0, 1],
-        DecodeError::ValueLength { at, got: 4 },
-    );
+fn gateways_of_no_place(rt: HostRuntime) -> Result<(), Fail> {
+    let found = RouteVia::parse(rt.alloc(), &[2, 0, 10, 0, 0, 1])?;
+    shows(&rt, found, "Inet(10.0.0.1)")?;
     let at = At::NO_PLACE;
     let alone = RouteVia::parse(rt.alloc(), &[2, 0]).err();
     same(&rt, alone, Some(DecodeError::ValueLength { at, got: 0 }));
+    Ok(())
 }
 
 #[test]
@@ -196,35 +160,28 @@ fn family_of_a_gateway(rt: HostRuntime) -> Result<(), Fail> {
     Ok(())
 }
 
-/// The messages of these texts have this gateway of IP.
-fn has_gateway(
-    rt: &(impl Abort + AllocGlobal),
-    texts: &[&str],
-    wanted: Option<IpAddr>,
-) -> Result<(), Fail> {
-    let bytes = bytes_of(rt, texts)?;
-    let message = RouteMessage::parse(rt.alloc(), bytes.as_slice())?;
-    same(rt, message.gateway(), wanted);
+/// A gateway of a next hop is none of the route.
+#[test]
+fn gateways_of_routes(rt: HostRuntime) -> Result<(), Fail> {
+    let lines = "
+        02000000fe03000100000000 08000400 02000000 08000500 0a000001 08000500 0a000002 => \
+            Some(10.0.0.1)
+        0a000000fe03000100000000 14000500 20010db8000000000000000000000001 => \
+            Some(2001:db8::1)
+        02000000fe03000100000000 08000100 0a000001 08000700 0a000001 0a001200 02000a00 00010000 => None
+        02000000fe03000100000000 14000900 10000000 02000000 08000500 0a000001 => None";
+    for line in lines.lines() {
+        if let Some((digits, text)) = line.split_once("=>") {
+            let bytes = bytes_of(&rt, &[digits])?;
+            let message = RouteMessage::parse(rt.alloc(), bytes.as_slice())?;
+            shows(&rt, message.gateway(), text.trim())?;
+        }
+    }
     Ok(())
 }
 
 #[test]
-fn gateways_of_routes(rt: HostRuntime) -> Result<(), Fail> {
-    let four = Some(IpAddr::from(FOUR));
-    let two = "08000400 02000000 08000500 0a000001 08000500 0a000002";
-    has_gateway(&rt, &[INET, two], four)?;
-    let inet6 = "0a000000fe03000100000000";
-    let sixteen = Some(IpAddr::from(SIXTEEN));
-    has_gateway(&rt, &[inet6, "14000500", SIXTEEN_TEXT], sixteen)?;
-    let others = "08000100 0a000001 08000700 0a000001 0a001200 02000a00 00010000";
-    has_gateway(&rt, &[INET, others], None)
-}
-
-/// A gateway of a next hop is none of the route.
-#[test]
 fn gateways_of_next_hops(rt: HostRuntime) -> Result<(), Fail> {
-    let hops = "14000900 10000000 02000000 08000500 0a000001";
-    has_gateway(&rt, &[INET, hops], None)?;
     let bytes = bytes_of(&rt, &["08000500 0a000001"])?;
     let mut hop = RouteNextHop::new(rt.alloc());
     same(&rt, hop.gateway(), None);
@@ -234,37 +191,30 @@ fn gateways_of_next_hops(rt: HostRuntime) -> Result<(), Fail> {
     Ok(())
 }
 
-/// There is this next hop and no other.
-fn has_hop(rt: &impl Abort, found: Option<&[RouteNextHop]>, wanted: RouteNextHop) {
-    match found {
-        Some([only]) => holds(rt, *only == wanted),
-        _ => holds(rt, false),
-    }
-}
-
-/// What is asked of a route is the first of its kind; a next hop has its own.
+/// What is asked of a route is the first of its kind.
 #[test]
 fn what_is_asked_of_routes(rt: HostRuntime) -> Result<(), Fail> {
-    let hops = "14000900 10000000 02000000 08000500 0a000001";
     let texts = [
         INET,
-        "08000100 0a000000 08000400 07000000",
-        hops,
+        "08000100 0a000000 08000400 07000000 14000900 10000000 02000000 08000500 0a000001",
         "08000f00 e8030000",
     ];
     let bytes = bytes_of(&rt, &texts)?;
     let message = RouteMessage::parse(rt.alloc(), bytes.as_slice())?;
-    same(
-        &rt,
-        message.destination(),
-        Some(IpAddr::from([10, 0, 0, 0])),
-    );
+    let destination = "Some(10.0.0.0)";
+    shows(&rt, message.destination(), destination)?;
     same(&rt, message.output_interface(), Some(7));
     same(&rt, message.table(), Some(1000));
+    let hops = "Some([RouteNextHop { flags: RouteNextHopFlags(0), hops: 0, interface_index: 2, \
+        attributes: [Gateway(Inet(10.0.0.1))] }])";
+    shows(&rt, message.next_hops(), hops)
+}
+
+#[test]
+fn a_next_hop_through_a_gateway(rt: HostRuntime) -> Result<(), Fail> {
     let hop = RouteNextHop::through(rt.alloc(), 2, IpAddr::from(FOUR))?;
     same(&rt, hop.gateway(), Some(IpAddr::from(FOUR)));
-    has_hop(&rt, message.next_hops(), hop);
-    Ok(())
+    writes(&rt, hop, &["10000000 02000000 08000500 0a000001"])
 }
 
 /// What is built has the bytes of its kind.

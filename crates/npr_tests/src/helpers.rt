@@ -37,7 +37,7 @@ pub(crate) const SECOND_TEXT: &str = "fc000000000000000000000000000002";
 
 /// A message of any kind.
 pub(crate) trait Message: Emitable + PartialEq + Drop + Sized {
-    type Attribute: PartialEq + Drop;
+    type Attribute: Debug + PartialEq + Drop;
 
     fn of(alloc: Global, bytes: &[u8]) -> Result<Self, DecodeError>;
 
@@ -52,7 +52,7 @@ pub(crate) trait Message: Emitable + PartialEq + Drop + Sized {
 
 impl<H: Header + PartialEq> Message for Stored<H, H::Attribute>
 where
-    H::Attribute: PartialEq,
+    H::Attribute: Debug + PartialEq,
 {
     type Attribute = H::Attribute;
 
@@ -102,6 +102,17 @@ pub(crate) fn says<T: Display + Drop>(
     Ok(())
 }
 
+/// The value is printed so by `{:?}`.
+pub(crate) fn shows<T: Debug + Drop>(
+    rt: &(impl Abort + AllocGlobal),
+    value: T,
+    text: &str,
+) -> Result<(), Fail> {
+    let found = format!(in rt.alloc(); "{value:?}")?;
+    same(rt, found.as_str(), text);
+    Ok(())
+}
+
 /// The bytes of these texts, one after the other; spaces may stand between digits.
 pub(crate) fn bytes_of(rt: &impl AllocGlobal, texts: &[&str]) -> Result<Vec<u8>, Fail> {
     let mut bytes = Vec::new(rt.alloc());
@@ -143,60 +154,59 @@ pub(crate) fn writes<T: Emitable + Drop>(
     is_written(rt, out, texts)
 }
 
-/// The bytes are a message, whose canonical bytes are these.
-pub(crate) fn rewrites<M: Message>(
-    rt: &(impl Abort + AllocGlobal),
-    texts: &[&str],
-    canonical: &[&str],
-) -> Result<(), Fail> {
-    let bytes = bytes_of(rt, texts)?;
-    let message = M::of(rt.alloc(), bytes.as_slice())?;
-    writes(rt, message, canonical)
+/// The parts of a line: bytes, what is written of them, and what they are printed as.
+///
+/// Behind an arrow stands what is written, where that is another way, behind `=>` the text, and
+/// behind `#` a remark.
+fn parts_of(line: &str) -> (&str, &str, &str) {
+    let (line, _) = line.split_once('#').unwrap_or((line, ""));
+    let (bytes, text) = line.split_once("=>").unwrap_or((line, ""));
+    let (read, written) = bytes.split_once("->").unwrap_or((bytes, bytes));
+    (read, written, text.trim())
 }
 
-/// Each line is a message behind the header. Behind an arrow stands what is written of it, where
-/// that is another way, and behind `#` a remark.
-pub(crate) fn rewrites_lines<M: Message>(
+/// The message is what the bytes are, and so is its copy; its attributes are printed so, they come
+/// so one by one, and are so read into a message that stands.
+fn is_message<M: Message>(
+    rt: &(impl Abort + AllocGlobal),
+    message: &mut M,
+    bytes: &[u8],
+    text: &str,
+) -> Result<(), Fail> {
+    let found = M::one_by_one(rt.alloc(), bytes)?;
+    holds(rt, message.attributes() == found.as_slice());
+    holds(rt, message.copy(rt.alloc())? == *message);
+    message.read_again(rt.alloc(), bytes)?;
+    holds(rt, message.attributes() == found.as_slice());
+    shows(rt, found, text)
+}
+
+/// Each line is a message behind the header, whose attributes are printed as its text, or is none,
+/// for the cause that is its text.
+pub(crate) fn messages<M: Message>(
     rt: &(impl Abort + AllocGlobal),
     header: &str,
     lines: &str,
 ) -> Result<(), Fail> {
     for line in lines.lines() {
-        let (line, _) = line.split_once('#').unwrap_or((line, ""));
-        let (read, written) = line.split_once("->").unwrap_or((line, line));
-        rewrites::<M>(rt, &[header, read], &[header, written])?;
+        let (read, written, text) = parts_of(line);
+        if text.is_empty() {
+            holds(rt, read.trim().is_empty());
+            continue;
+        }
+        let bytes = bytes_of(rt, &[header, read])?;
+        match M::of(rt.alloc(), bytes.as_slice()) {
+            Ok(mut message) => {
+                is_message(rt, &mut message, bytes.as_slice(), text)?;
+                writes(rt, message, &[header, written])?;
+            }
+            Err(fault) => {
+                let one_by_one = M::one_by_one(rt.alloc(), bytes.as_slice());
+                same(rt, one_by_one.err(), Some(fault));
+                says(rt, fault, text)?;
+            }
+        }
     }
-    Ok(())
-}
-
-/// The bytes are a message of these attributes, and so is its copy; they come so one by one, and are
-/// so read into a message that stands.
-pub(crate) fn reads<M: Message, const N: usize>(
-    rt: &(impl Abort + AllocGlobal),
-    texts: &[&str],
-    attributes: [M::Attribute; N],
-) -> Result<(), Fail> {
-    let bytes = bytes_of(rt, texts)?;
-    let mut message = M::of(rt.alloc(), bytes.as_slice())?;
-    holds(rt, message.attributes() == attributes.as_slice());
-    holds(rt, message.copy(rt.alloc())? == message);
-    let found = M::one_by_one(rt.alloc(), bytes.as_slice())?;
-    holds(rt, found.as_slice() == attributes.as_slice());
-    message.read_again(rt.alloc(), bytes.as_slice())?;
-    holds(rt, message.attributes() == attributes.as_slice());
-    Ok(())
-}
-
-/// The bytes are no message, for this cause.
-pub(crate) fn refuses<M: Message>(
-    rt: &(impl Abort + AllocGlobal),
-    texts: &[&str],
-    fault: DecodeError,
-) -> Result<(), Fail> {
-    let bytes = bytes_of(rt, texts)?;
-    same(rt, M::of(rt.alloc(), bytes.as_slice()).err(), Some(fault));
-    let one_by_one = M::one_by_one(rt.alloc(), bytes.as_slice());
-    same(rt, one_by_one.err(), Some(fault));
     Ok(())
 }
 
@@ -214,48 +224,41 @@ pub(crate) fn check_of<M: Message>(
     Ok(message.check())
 }
 
-/// What an attribute is in a family.
-fn member_of<A: Attribute + PartialEq + Drop>(
+/// Each line is an attribute, which is a member of a family that is printed as the line's text, and
+/// so is its copy, or is none, for the cause that is its text.
+pub(crate) fn members<A: Attribute + Debug + PartialEq>(
     rt: &(impl Abort + AllocGlobal),
     context: A::Context,
-    texts: &[&str],
-) -> Result<Result<A, DecodeError>, Fail> {
-    let bytes = bytes_of(rt, texts)?;
-    let item = NlaBuffer::new_checked(bytes.as_slice())?;
-    Ok(A::read(rt.alloc(), context, &item, &mut Looks::new()))
-}
-
-/// The attribute is this member of a family, and so is its copy; it is written as `canonical`.
-pub(crate) fn is_member<A: Attribute + PartialEq + Drop>(
-    rt: &(impl Abort + AllocGlobal),
-    context: A::Context,
-    texts: &[&str],
-    wanted: A,
-    canonical: &[&str],
+    lines: &str,
 ) -> Result<(), Fail> {
-    let found = member_of::<A>(rt, context, texts)??;
-    holds(rt, found == wanted);
-    holds(rt, found.clone(rt.alloc())? == wanted);
-    writes(rt, found, canonical)
-}
-
-/// The attribute is no member of a family, for this cause.
-pub(crate) fn is_refused<A: Attribute + PartialEq + Drop>(
-    rt: &(impl Abort + AllocGlobal),
-    context: A::Context,
-    texts: &[&str],
-    fault: DecodeError,
-) -> Result<(), Fail> {
-    same(rt, member_of::<A>(rt, context, texts)?.err(), Some(fault));
+    for line in lines.lines() {
+        let (read, written, text) = parts_of(line);
+        if text.is_empty() {
+            holds(rt, read.trim().is_empty());
+            continue;
+        }
+        let bytes = bytes_of(rt, &[read])?;
+        let item = NlaBuffer::new_checked(bytes.as_slice())?;
+        match A::read(rt.alloc(), context, &item, &mut Looks::new()) {
+            Ok(member) => {
+                holds(rt, member.clone(rt.alloc())? == member);
+                shows(rt, &member, text)?;
+                writes(rt, member, &[written])?;
+            }
+            Err(fault) => says(rt, fault, text)?,
+        }
+    }
     Ok(())
 }
 
-/// The attribute by itself is this value.
-pub(crate) fn is_alone<'a, A: Parseable<&'a NlaBuffer<'a>> + PartialEq + Drop>(
+/// The attribute by itself is printed so, or is none, for the cause that is the text.
+pub(crate) fn is_alone<'a, A: Parseable<&'a NlaBuffer<'a>> + Debug + Drop>(
     rt: &(impl Abort + AllocGlobal),
     item: &'a NlaBuffer<'a>,
-    wanted: A,
+    text: &str,
 ) -> Result<(), Fail> {
-    holds(rt, A::parse(rt.alloc(), item)? == wanted);
-    Ok(())
+    match A::parse(rt.alloc(), item) {
+        Ok(found) => shows(rt, found, text),
+        Err(fault) => says(rt, fault, text),
+    }
 }

@@ -1,6 +1,6 @@
 //! Messages that were cut short, and lengths that no attribute has.
 
-use crate::helpers::{INET, Message, bytes_of, holds, refuses, same};
+use crate::helpers::{INET, Message, bytes_of, holds, messages, same};
 use netlink_packet_route::address::AddressMessage;
 use netlink_packet_route::framing::DecodeError;
 use netlink_packet_route::route::RouteMessage;
@@ -90,22 +90,19 @@ fn messages_cut_short(rt: HostRuntime) -> Result<(), Fail> {
     is_cut::<RouteMessage>(&rt, NO_PADDING, 12, &[17], 29)?;
     is_cut::<RouteMessage>(&rt, UNPADDED, 12, &[25], 36)?;
     is_cut::<RouteMessage>(&rt, GENEVE, 12, &[20, 6], 40)?;
-    let fault = DecodeError::NextHopTooShort { got: 5 };
-    refuses::<RouteMessage>(&rt, &[UNPADDED], fault)
+    let line = "19000900 0d00000002000000 0500140001 0800000003000000 000000 => \
+        5 bytes, where a next hop begins with 8";
+    messages::<RouteMessage>(&rt, INET, line)
 }
 
 #[test]
 fn lengths_that_no_attribute_has(rt: HostRuntime) -> Result<(), Fail> {
-    let short = ["00000100", "01000100", "02000100", "03000100"];
-    for length in 0..4u16 {
-        let texts = [INET, short[usize::from(length)]];
-        let fault = DecodeError::AttributeLength { length, left: 4 };
-        refuses::<RouteMessage>(&rt, &texts, fault)?;
-    }
-    let length = 65_535;
-    let fault = DecodeError::AttributeLength { length, left: 4 };
-    refuses::<RouteMessage>(&rt, &[INET, "ffff0100"], fault)?;
-    let length = 2;
-    let fault = DecodeError::AttributeLength { length, left: 4 };
-    refuses::<RouteMessage>(&rt, &[INET, "08000800 02000200"], fault)
+    let lines = "
+        00000100 => an attribute of length 0 with 4 bytes left
+        01000100 => an attribute of length 1 with 4 bytes left
+        02000100 => an attribute of length 2 with 4 bytes left
+        03000100 => an attribute of length 3 with 4 bytes left
+        ffff0100 => an attribute of length 65535 with 4 bytes left
+        08000800 02000200 => an attribute of length 2 with 4 bytes left";
+    messages::<RouteMessage>(&rt, INET, lines)
 }

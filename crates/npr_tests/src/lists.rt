@@ -1,15 +1,13 @@
 //! Lists of attributes by themselves, and the count of looks at headers.
 
-use crate::helpers::{LABEL, bytes_of, holds, same};
+use crate::helpers::{bytes_of, same, shows};
 use netlink_packet_route::AddressFamily;
 use netlink_packet_route::framing::{
     Attribute, DecodeError, Emitable, Looks, Nla, check_list, clone_list, emit_list, parse_list,
 };
 use netlink_packet_route::route::{
-    RouteAttribute, RouteLwEnCapType, RouteLwTunnelEncap, RouteMetric, RouteMplsIpTunnel,
-    RouteType, read_route_list,
+    RouteAttribute, RouteLwEnCapType, RouteMetric, RouteType, read_route_list,
 };
-use std::alloc::{AllocError, Global};
 use std::process::Abort;
 use std::test::Fail;
 
@@ -21,28 +19,21 @@ const UNDER_MPLS: (AddressFamily, RouteType, RouteLwEnCapType) = (
     RouteLwEnCapType::Mpls,
 );
 
-/// An encapsulation whose member 1 is `LABEL` under MPLS, and that type.
-const LABELS: [&str; 2] = ["0c001600 08000100 000641ff", "06001500 01000000"];
+/// An encapsulation whose member 1 is a label under MPLS, and that type.
+const LABELS: &str = "0c001600 08000100 000641ff 06001500 01000000";
 
 /// What `LABELS` is.
-fn labels(alloc: Global) -> Result<[RouteAttribute; 2], AllocError> {
-    let stack = RouteMplsIpTunnel::Destination([LABEL].to_vec(alloc)?);
-    let members = vec![in alloc; RouteLwTunnelEncap::Mpls(stack)]?;
-    Ok([
-        RouteAttribute::Encap(members),
-        RouteAttribute::EncapType(RouteLwEnCapType::Mpls),
-    ])
-}
+const LABELS_TEXT: &str =
+    "[Encap([Mpls(Destination([MplsLabel { label: 100, traffic_class: 0, bottom_of_stack: true, ttl: 255 }]))]), EncapType(Mpls)]";
 
 /// The search for a type looks at two attributes, and the reading at those and the one inside.
 #[test]
 fn reads_a_route_list(rt: HostRuntime) -> Result<(), Fail> {
-    let bytes = bytes_of(&rt, &LABELS)?;
+    let bytes = bytes_of(&rt, &[LABELS])?;
     let mut looks = Looks::new();
     let list = read_route_list(rt.alloc(), bytes.as_slice(), UNDER, &mut looks)?;
     same(&rt, (looks.successful(), looks.failed()), (5, 0));
-    holds(&rt, list.as_slice() == labels(rt.alloc())?.as_slice());
-    Ok(())
+    shows(&rt, list, LABELS_TEXT)
 }
 
 #[test]
@@ -71,11 +62,10 @@ fn list_of<A: Attribute>(
 /// Looks inside an attribute count.
 #[test]
 fn reads_members_of_a_list(rt: HostRuntime) -> Result<(), Fail> {
-    let bytes = bytes_of(&rt, &LABELS)?;
+    let bytes = bytes_of(&rt, &[LABELS])?;
     let (list, looks) = list_of::<RouteAttribute>(&rt, UNDER_MPLS, bytes.as_slice());
     same(&rt, looks, (3, 0));
-    holds(&rt, list?.as_slice() == labels(rt.alloc())?.as_slice());
-    Ok(())
+    shows(&rt, list?, LABELS_TEXT)
 }
 
 /// Metrics of three bytes: a look at their attribute, and a failed one inside.
@@ -90,37 +80,27 @@ fn counts_a_failed_look_inside(rt: HostRuntime) {
     same(&rt, looks, (1, 1));
 }
 
-/// The bytes are this list, which is written into room for seven bytes more.
-fn is_list<A: Attribute<Context = ()> + PartialEq + Drop>(
-    rt: &(impl Abort + AllocGlobal),
-    texts: &[&str],
-    wanted: Vec<A>,
-) -> Result<(), Fail> {
-    let mut bytes = bytes_of(rt, texts)?;
-    let (list, _) = list_of::<A>(rt, (), bytes.as_slice());
-    holds(rt, list? == wanted);
-    let length = check_list(wanted.as_slice())?;
-    let mut out = vec![in rt.alloc(); 0xffu8; length]?;
-    out.extend_from_slice(&[0xff; 7])?;
-    emit_list(wanted.as_slice(), out.as_mut_slice());
-    bytes.extend_from_slice(&[0xff; 7])?;
-    same(rt, out, bytes);
-    Ok(())
-}
-
+/// The list is written into room for seven bytes more.
 #[test]
 fn metrics(rt: HostRuntime) -> Result<(), Fail> {
-    let name = String::from_str(rt.alloc(), "bbr")?;
-    let list = vec![in rt.alloc(); RouteMetric::Mtu(1500), RouteMetric::CcAlgo(name)]?;
-    is_list(&rt, &["08000200 dc050000 08001000 62627200"], list)
+    let mut bytes = bytes_of(&rt, &["08000200 dc050000 08001000 62627200"])?;
+    let (list, _) = list_of::<RouteMetric>(&rt, (), bytes.as_slice());
+    let list = list?;
+    let length = check_list(list.as_slice())?;
+    let mut out = vec![in rt.alloc(); 0xffu8; length]?;
+    out.extend_from_slice(&[0xff; 7])?;
+    emit_list(list.as_slice(), out.as_mut_slice());
+    bytes.extend_from_slice(&[0xff; 7])?;
+    same(&rt, out, bytes);
+    shows(&rt, list, "[Mtu(1500), CcAlgo(\"bbr\")]")
 }
 
 #[test]
 fn a_copy_of_a_list(rt: HostRuntime) -> Result<(), Fail> {
-    let list = labels(rt.alloc())?;
-    let copy = clone_list(rt.alloc(), &list)?;
-    holds(&rt, copy.as_slice() == list.as_slice());
-    Ok(())
+    let bytes = bytes_of(&rt, &[LABELS])?;
+    let (list, _) = list_of::<RouteAttribute>(&rt, UNDER_MPLS, bytes.as_slice());
+    let copy = clone_list(rt.alloc(), list?.as_slice())?;
+    shows(&rt, copy, LABELS_TEXT)
 }
 
 /// The value alone, without its header.

@@ -1,14 +1,13 @@
 //! Attributes by themselves, each read by the `parse` of its family, with memory enough.
 
-use crate::helpers::{LABEL, holds, is_alone};
+use crate::helpers::{is_alone, shows};
 use netlink_packet_route::AddressFamily;
 use netlink_packet_route::address::AddressAttribute;
 use netlink_packet_route::framing::{NlaBuffer, ParseableParametrized};
 use netlink_packet_route::route::{
-    Ioam6Mode, RouteAttribute, RouteErspanOpt, RouteIoam6Tunnel, RouteIp6Tunnel, RouteIpTunnel,
+    RouteAttribute, RouteErspanOpt, RouteIoam6Tunnel, RouteIp6Tunnel, RouteIpTunnel,
     RouteLwEnCapType, RouteLwTunnelEncap, RouteLwTunnelOpt, RouteMetric, RouteMplsIpTunnel,
     RouteRplIpTunnel, RouteSeg6LocalTunnel, RouteType, RouteVxlanOpt, RouteXfrmTunnel,
-    Seg6LocalAction,
 };
 use netlink_packet_route::rule::RuleAttribute;
 use std::test::Fail;
@@ -17,52 +16,45 @@ use std::test::Fail;
 #[test]
 fn of_four_bytes(rt: HostRuntime) -> Result<(), Fail> {
     let item = NlaBuffer::new_checked(&[8, 0, 1, 0, 7, 0, 0, 0])?;
-    is_alone(&rt, &item, RouteMetric::Lock(7))?;
-    is_alone(&rt, &item, RouteXfrmTunnel::IfId(7))?;
-    is_alone(&rt, &item, RouteVxlanOpt::Gbp(7))?;
-    let action = Seg6LocalAction::EndDt6;
-    is_alone(&rt, &item, RouteSeg6LocalTunnel::Action(action))
+    is_alone::<RouteMetric>(&rt, &item, "Lock(7)")?;
+    is_alone::<RouteXfrmTunnel>(&rt, &item, "IfId(7)")?;
+    is_alone::<RouteVxlanOpt>(&rt, &item, "Gbp(7)")?;
+    is_alone::<RouteSeg6LocalTunnel>(&rt, &item, "Action(EndDt6)")
 }
 
 /// Number 4 with one byte means something in each of these.
 #[test]
 fn of_one_byte(rt: HostRuntime) -> Result<(), Fail> {
     let item = NlaBuffer::new_checked(&[5, 0, 4, 0, 64])?;
-    is_alone(&rt, &item, RouteIpTunnel::Ttl(64))?;
-    is_alone(&rt, &item, RouteIp6Tunnel::Hoplimit(64))?;
-    is_alone(&rt, &item, RouteErspanOpt::Hwid(64))
+    is_alone::<RouteIpTunnel>(&rt, &item, "Ttl(64)")?;
+    is_alone::<RouteIp6Tunnel>(&rt, &item, "Hoplimit(64)")?;
+    is_alone::<RouteErspanOpt>(&rt, &item, "Hwid(64)")
 }
 
 /// Number 3 is a name in both of these.
 #[test]
 fn of_a_name(rt: HostRuntime) -> Result<(), Fail> {
     let item = NlaBuffer::new_checked(&[7, 0, 3, 0, 0x6c, 0x6f, 0])?;
-    let label = String::from_str(rt.alloc(), "lo")?;
-    is_alone(&rt, &item, AddressAttribute::Label(label))?;
-    let name = String::from_str(rt.alloc(), "lo")?;
-    is_alone(&rt, &item, RuleAttribute::Iifname(name))
+    is_alone::<AddressAttribute>(&rt, &item, "Label(\"lo\")")?;
+    is_alone::<RuleAttribute>(&rt, &item, "Iifname(\"lo\")")
 }
 
 #[test]
 fn of_a_mode_and_of_nothing(rt: HostRuntime) -> Result<(), Fail> {
     let item = NlaBuffer::new_checked(&[5, 0, 1, 0, 3])?;
-    is_alone(&rt, &item, RouteIoam6Tunnel::Mode(Ioam6Mode::Auto))?;
+    is_alone::<RouteIoam6Tunnel>(&rt, &item, "Mode(Auto)")?;
     let item = NlaBuffer::new_checked(&[4, 0, 0, 0])?;
-    is_alone(&rt, &item, RouteRplIpTunnel::Unspecified)
+    is_alone::<RouteRplIpTunnel>(&rt, &item, "Unspecified")
 }
 
 #[test]
-fn of_labels(rt: HostRuntime) -> Result<(), Fail> {
+fn of_labels_and_options(rt: HostRuntime) -> Result<(), Fail> {
     let item = NlaBuffer::new_checked(&[8, 0, 1, 0, 0, 6, 0x41, 0xff])?;
-    let labels = [LABEL].to_vec(rt.alloc())?;
-    is_alone(&rt, &item, RouteMplsIpTunnel::Destination(labels))
-}
-
-#[test]
-fn of_options(rt: HostRuntime) -> Result<(), Fail> {
+    let text = "Destination([MplsLabel { label: 100, traffic_class: 0, bottom_of_stack: true, \
+        ttl: 255 }])";
+    is_alone::<RouteMplsIpTunnel>(&rt, &item, text)?;
     let item = NlaBuffer::new_checked(&[12, 0, 2, 0, 8, 0, 1, 0, 42, 0, 0, 0])?;
-    let options = vec![in rt.alloc(); RouteVxlanOpt::Gbp(42)]?;
-    is_alone(&rt, &item, RouteLwTunnelOpt::Vxlan(options))
+    is_alone::<RouteLwTunnelOpt>(&rt, &item, "Vxlan([Gbp(42)])")
 }
 
 #[test]
@@ -70,11 +62,7 @@ fn of_an_encapsulation(rt: HostRuntime) -> Result<(), Fail> {
     let item = NlaBuffer::new_checked(&[8, 0, 1, 0, 7, 0, 0, 0])?;
     let kind = RouteLwEnCapType::Xfrm;
     let member = RouteLwTunnelEncap::parse_with_param(rt.alloc(), &item, kind)?;
-    holds(
-        &rt,
-        member == RouteLwTunnelEncap::Xfrm(RouteXfrmTunnel::IfId(7)),
-    );
-    Ok(())
+    shows(&rt, member, "Xfrm(IfId(7))")
 }
 
 #[test]
@@ -86,6 +74,5 @@ fn of_a_route(rt: HostRuntime) -> Result<(), Fail> {
         RouteLwEnCapType::None,
     );
     let attribute = RouteAttribute::parse_with_param(rt.alloc(), &item, context)?;
-    holds(&rt, attribute == RouteAttribute::Priority(1024));
-    Ok(())
+    shows(&rt, attribute, "Priority(1024)")
 }

@@ -1,121 +1,100 @@
 //! How often headers are looked at, over a message with a row of each kind. Each attribute of a
-//! message is looked at once, and that of a route or of a next hop once more up to its type.
+//! message is looked at once, and that of a route or of a next hop once more, up to the type that
+//! governs it or to a fault.
 
-use crate::helpers::{INET, bytes_of, same};
+use crate::helpers::{INET, bytes_of, says};
 use netlink_packet_route::address::AddressHeader;
 use netlink_packet_route::framing::{Header, Looks, Message};
 use netlink_packet_route::route::RouteHeader;
 use netlink_packet_route::rule::RuleHeader;
+use std::process::Abort;
 use std::test::Fail;
 
-/// The looks that the reading of a message takes, those that found a header and those that found
-/// none.
-fn looks_at<H: Header>(rt: &impl AllocGlobal, texts: &[&str]) -> Result<(u64, u64), Fail> {
-    let bytes = bytes_of(rt, texts)?;
-    let mut looks = Looks::new();
-    let _ = Message::<H, H::Attribute>::parse_counted(rt.alloc(), bytes.as_slice(), &mut looks);
-    Ok((looks.successful(), looks.failed()))
-}
-
-const ADDRESS: &str = "020880fe 01000000";
-
-const RULE: &str = "02000000 fe000001 00000000";
-
-#[test]
-fn at_addresses_and_rules(rt: HostRuntime) -> Result<(), Fail> {
-    let label = "07000300 6c6f0000";
-    same(&rt, looks_at::<AddressHeader>(&rt, &["020880fe"])?, (0, 0));
-    same(&rt, looks_at::<AddressHeader>(&rt, &[ADDRESS])?, (0, 0));
-    same(
-        &rt,
-        looks_at::<AddressHeader>(&rt, &[ADDRESS, label])?,
-        (1, 0),
-    );
-    // A value of the wrong length ends the reading, and so does a byte.
-    let short = "05000600 07000000";
-    same(
-        &rt,
-        looks_at::<RuleHeader>(&rt, &[RULE, short, label])?,
-        (1, 0),
-    );
-    same(
-        &rt,
-        looks_at::<RuleHeader>(&rt, &[RULE, label, "00"])?,
-        (1, 1),
-    );
-    Ok(())
-}
-
-/// Addresses, numbers, realms, a gateway of another family, a port and a preference.
-#[test]
-fn at_rows_of_a_route(rt: HostRuntime) -> Result<(), Fail> {
-    let interface = "08000400 02000000";
-    same(
-        &rt,
-        looks_at::<RouteHeader>(&rt, &[INET, interface])?,
-        (2, 0),
-    );
-    let rows = "08000100 0a000000 08000400 02000000 08000600 07000000 08000b00 fe00fa00
-        0a001200 02000a00 00010000 06001c00 01bb0000 05001400 01000000";
-    same(&rt, looks_at::<RouteHeader>(&rt, &[INET, rows])?, (14, 0));
+/// The reading of each line behind the header takes so many looks that find a header, and so many
+/// that find none.
+fn counts<H: Header>(
+    rt: &(impl Abort + AllocGlobal),
+    header: &str,
+    lines: &str,
+) -> Result<(), Fail> {
+    for line in lines.lines() {
+        if let Some((text, wanted)) = line.split_once("=>") {
+            let bytes = bytes_of(rt, &[header, text])?;
+            let mut looks = Looks::new();
+            let _ = Message::<H, H::Attribute>::parse_counted(
+                rt.alloc(),
+                bytes.as_slice(),
+                &mut looks,
+            );
+            let (successful, failed) = (looks.successful(), looks.failed());
+            let found = format!(in rt.alloc(); "{successful} {failed}")?;
+            says(rt, found, wanted.trim())?;
+        }
+    }
     Ok(())
 }
 
 #[test]
-fn at_lists_of_a_route(rt: HostRuntime) -> Result<(), Fail> {
-    let metrics = "14000800 08000200 dc050000 07001000 62627200";
-    same(&rt, looks_at::<RouteHeader>(&rt, &[INET, metrics])?, (4, 0));
-    same(
-        &rt,
-        looks_at::<RouteHeader>(&rt, &[INET, "07000800 010203"])?,
-        (2, 1),
-    );
-    // The search ends at the type, in front of the labels and of the fault behind them.
-    let labels = "06001500 01000000 0c001600 08000100 000641ff";
-    same(&rt, looks_at::<RouteHeader>(&rt, &[INET, labels])?, (4, 0));
-    same(
-        &rt,
-        looks_at::<RouteHeader>(&rt, &[INET, labels, "080001"])?,
-        (4, 1),
-    );
-    Ok(())
+fn at_addresses(rt: HostRuntime) -> Result<(), Fail> {
+    let lines = "
+        => 0 0
+        01000000 => 0 0
+        01000000 07000300 6c6f0000 => 1 0";
+    counts::<AddressHeader>(&rt, "020880fe", lines)
 }
 
-/// A type, a member of it, an option in the member, and what the option holds.
+/// A value of the wrong length ends the reading, and so does a byte.
+#[test]
+fn at_rules(rt: HostRuntime) -> Result<(), Fail> {
+    let lines = "
+        05000600 07000000 07000300 6c6f0000 => 1 0
+        07000300 6c6f0000 00 => 1 1";
+    counts::<RuleHeader>(&rt, "02000000 fe000001 00000000", lines)
+}
+
+/// Addresses, numbers, realms, a gateway of another family, a port and a preference; metrics; and a
+/// type, at which the search ends, in front of the labels and of the fault behind them.
+#[test]
+fn at_routes(rt: HostRuntime) -> Result<(), Fail> {
+    let lines = "
+        => 0 0
+        080001 => 0 2
+        08000400 02000000 => 2 0
+        08000100 0a000000 08000400 02000000 08000600 07000000 08000b00 fe00fa00 \
+            0a001200 02000a00 00010000 06001c00 01bb0000 05001400 01000000 => 14 0
+        14000800 08000200 dc050000 07001000 62627200 => 4 0
+        07000800 010203 => 2 1
+        06001500 01000000 0c001600 08000100 000641ff => 4 0
+        06001500 01000000 0c001600 08000100 000641ff 080001 => 4 1
+        0c001600 08000100 000641ff 06001500 01000000 => 5 0";
+    counts::<RouteHeader>(&rt, INET, lines)
+}
+
+/// A type, a member of it, an option in the member, and what the option holds. A type of Geneve
+/// before a class is looked at, and nothing behind it.
 #[test]
 fn at_options_of_a_tunnel(rt: HostRuntime) -> Result<(), Fail> {
-    let geneve = "06001500 02000000 24001600 20000880 1c000180
-        06000100 00010000 05000200 02000000 08000300 01020304";
-    same(&rt, looks_at::<RouteHeader>(&rt, &[INET, geneve])?, (8, 0));
-    // A type before a class is looked at, and nothing behind it.
-    let order = "06001500 02000000 1c001600 18000880 14000180
-        05000200 02000000 06000100 00010000";
-    same(&rt, looks_at::<RouteHeader>(&rt, &[INET, order])?, (6, 0));
-    let extension = "06001500 02000000 14001600 10000880 0c000280 08000100 05000000";
-    same(
-        &rt,
-        looks_at::<RouteHeader>(&rt, &[INET, extension])?,
-        (6, 0),
-    );
-    let cut = "06001500 02000000 0f001600 0b000880 07000380 010203";
-    same(&rt, looks_at::<RouteHeader>(&rt, &[INET, cut])?, (5, 1));
-    Ok(())
+    let lines = "
+        06001500 02000000 24001600 20000880 1c000180 \
+            06000100 00010000 05000200 02000000 08000300 01020304 => 8 0
+        06001500 02000000 1c001600 18000880 14000180 05000200 02000000 06000100 00010000 => 6 0
+        06001500 02000000 14001600 10000880 0c000280 08000100 05000000 => 6 0
+        06001500 02000000 0f001600 0b000880 07000380 010203 => 5 1";
+    counts::<RouteHeader>(&rt, INET, lines)
 }
 
+/// Whole lists; a second next hop that is shorter than its header, and one that begins too early; an
+/// attribute of one byte, and metrics that are cut inside.
 #[test]
 fn at_next_hops(rt: HostRuntime) -> Result<(), Fail> {
-    same(
-        &rt,
-        looks_at::<RouteHeader>(&rt, &[INET, "04000900"])?,
-        (2, 0),
-    );
-    let one = "14000900 10000000 01000000 08000400 02000000";
-    same(&rt, looks_at::<RouteHeader>(&rt, &[INET, one])?, (5, 0));
-    // The second is shorter than its header.
-    let two = "1c000900 10000000 01000000 08000400 02000000 07000000 01000000";
-    same(&rt, looks_at::<RouteHeader>(&rt, &[INET, two])?, (5, 1));
-    // Metrics that are cut inside.
-    let metrics = "17000900 13000000 01000000 0b000800 08000200 dc0500";
-    same(&rt, looks_at::<RouteHeader>(&rt, &[INET, metrics])?, (5, 1));
-    Ok(())
+    let lines = "
+        04000900 => 2 0
+        14000900 10000000 01000000 08000400 02000000 => 5 0
+        1c000900 0d000000 02000000 05001400 01aabbcc 08000000 03000000 => 6 0
+        18000900 14000000 01000000 0c000900 08000000 01000000 => 6 0
+        1c000900 10000000 01000000 08000400 02000000 07000000 01000000 => 5 1
+        19000900 0d000000 02000000 05001400 01 08000000 03000000 000000 => 5 1
+        0d000900 09000000 01000000 00 00000000 => 3 3
+        17000900 13000000 01000000 0b000800 08000200 dc0500 => 5 1";
+    counts::<RouteHeader>(&rt, INET, lines)
 }

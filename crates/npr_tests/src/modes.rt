@@ -1,47 +1,73 @@
 //! Modes of SEG6 headers: their numbers, and values of a table in which fewer had a name.
 
-use crate::helpers::{INET, bytes_of, holds, reads, rewrites_lines, same};
-use netlink_packet_route::framing::Parseable;
+use crate::helpers::{INET, messages, same, shows};
 use netlink_packet_route::route::{
     RouteAttribute, RouteLwEnCapType, RouteLwTunnelEncap, RouteMessage, RouteNextHop,
     RouteSeg6IpTunnel, Seg6Header, Seg6Mode, normalize,
 };
 use std::alloc::{AllocError, Global};
+use std::process::Abort;
 use std::test::Fail;
 
-/// An encapsulation with a header of mode 2 and no segments.
-const MODE_2: &str = "14001680 10000100 02000000 00000400 00000000 06001500 05000000";
+/// A member with a header of this mode, without segments and key.
+fn member(alloc: Global, mode: Seg6Mode) -> RouteLwTunnelEncap {
+    let header = Seg6Header {
+        mode,
+        ..Seg6Header::new(alloc)
+    };
+    RouteLwTunnelEncap::Seg6(RouteSeg6IpTunnel::Seg6(header))
+}
 
-/// The same in a next hop in a next hop.
-const INSIDE: &str = "34000900 30000000 01000000 28000900 24000000 02000000 \
-    14001680 10000100 02000000 00000400 00000000 06001500 05000000";
+#[test]
+fn reads_a_mode(rt: HostRuntime) -> Result<(), Fail> {
+    let lines = "
+        14001680 10000100 02000000 00000400 00000000 06001500 05000000 => \
+            [Encap([Seg6(Seg6(Seg6Header { mode: L2Encap, segments: [], hmac: None }))]), EncapType(Seg6)]
+        34000900 30000000 01000000 28000900 24000000 02000000 \
+            14001680 10000100 02000000 00000400 00000000 06001500 05000000 => \
+            [MultiPath([RouteNextHop { flags: RouteNextHopFlags(0), hops: 0, interface_index: 1, \
+            attributes: [MultiPath([RouteNextHop { flags: RouteNextHopFlags(0), hops: 0, \
+            interface_index: 2, attributes: [Encap([Seg6(Seg6(Seg6Header { mode: L2Encap, segments: [], \
+            hmac: None }))]), EncapType(Seg6)] }])] }])]";
+    messages::<RouteMessage>(&rt, INET, lines)
+}
 
 const OF_SEG6: RouteAttribute = RouteAttribute::EncapType(RouteLwEnCapType::Seg6);
 
-/// A header of this mode, without segments and key.
-fn header(alloc: Global, mode: Seg6Mode) -> Seg6Header {
-    Seg6Header {
-        mode,
-        segments: Vec::new(alloc),
-        hmac: None,
-    }
+/// What a route with these attributes has once it is brought up is printed so.
+fn normalizes(
+    rt: &(impl Abort + AllocGlobal),
+    attributes: Vec<RouteAttribute>,
+    text: &str,
+) -> Result<(), Fail> {
+    let mut message = RouteMessage {
+        attributes,
+        ..RouteMessage::new(rt.alloc())
+    };
+    normalize(&mut message);
+    shows(rt, message.attributes, text)
 }
 
-fn member(alloc: Global, mode: Seg6Mode) -> RouteLwTunnelEncap {
-    RouteLwTunnelEncap::Seg6(RouteSeg6IpTunnel::Seg6(header(alloc, mode)))
-}
-
-/// Encapsulations with a header of these modes, and their type.
-fn attributes(
+/// An encapsulation with headers of these modes, and its type.
+fn two_headers(
     alloc: Global,
     first: Seg6Mode,
-    second: Option<Seg6Mode>,
+    second: Seg6Mode,
 ) -> Result<Vec<RouteAttribute>, AllocError> {
-    let mut members = vec![in alloc; member(alloc, first)]?;
-    if let Some(mode) = second {
-        members.push(member(alloc, mode))?;
-    }
+    let members = vec![in alloc; member(alloc, first), member(alloc, second)]?;
     Ok(vec![in alloc; RouteAttribute::Encap(members), OF_SEG6]?)
+}
+
+#[test]
+fn normalizes_each_header(rt: HostRuntime) -> Result<(), Fail> {
+    let old = two_headers(rt.alloc(), Seg6Mode::Other(2), Seg6Mode::Other(1))?;
+    let text = "[Encap([Seg6(Seg6(Seg6Header { mode: L2Encap, segments: [], hmac: None })), \
+        Seg6(Seg6(Seg6Header { mode: Encap, segments: [], hmac: None }))]), EncapType(Seg6)]";
+    normalizes(&rt, old, text)?;
+    let old = two_headers(rt.alloc(), Seg6Mode::Other(5), Seg6Mode::Other(3))?;
+    let text = "[Encap([Seg6(Seg6(Seg6Header { mode: Other(5), segments: [], hmac: None })), \
+        Seg6(Seg6(Seg6Header { mode: EncapRed, segments: [], hmac: None }))]), EncapType(Seg6)]";
+    normalizes(&rt, old, text)
 }
 
 /// A list of one next hop, by this interface, with these attributes.
@@ -60,68 +86,27 @@ fn hop(
 }
 
 #[test]
-fn reads_a_mode(rt: HostRuntime) -> Result<(), Fail> {
-    let members = vec![in rt.alloc(); member(rt.alloc(), Seg6Mode::L2Encap)]?;
-    reads::<RouteMessage, _>(
-        &rt,
-        &[INET, MODE_2],
-        [RouteAttribute::Encap(members), OF_SEG6],
-    )?;
-    rewrites_lines::<RouteMessage>(&rt, INET, MODE_2)?;
-    rewrites_lines::<RouteMessage>(&rt, INET, INSIDE)
-}
-
-/// What a route with these attributes is once it is brought up.
-fn normalized(alloc: Global, attributes: Vec<RouteAttribute>) -> RouteMessage {
-    let mut message = RouteMessage {
-        attributes,
-        ..RouteMessage::new(alloc)
-    };
-    normalize(&mut message);
-    message
-}
-
-#[test]
-fn normalizes_each_header(rt: HostRuntime) -> Result<(), Fail> {
-    let alloc = rt.alloc();
-    let old = attributes(alloc, Seg6Mode::Other(2), Some(Seg6Mode::Other(1)))?;
-    let new = attributes(alloc, Seg6Mode::L2Encap, Some(Seg6Mode::Encap))?;
-    holds(&rt, normalized(alloc, old).attributes == new);
-    let kept = attributes(alloc, Seg6Mode::Other(5), Some(Seg6Mode::EncapRed))?;
-    let again = attributes(alloc, Seg6Mode::Other(5), Some(Seg6Mode::Other(3)))?;
-    holds(&rt, normalized(alloc, again).attributes == kept);
-    Ok(())
-}
-
-#[test]
 fn normalizes_inside_next_hops(rt: HostRuntime) -> Result<(), Fail> {
     let alloc = rt.alloc();
-    let old = hop(alloc, 2, attributes(alloc, Seg6Mode::Other(2), None)?)?;
-    let new = hop(alloc, 2, attributes(alloc, Seg6Mode::L2Encap, None)?)?;
-    let new = hop(alloc, 1, new)?;
-    let bytes = bytes_of(&rt, &[INET, INSIDE])?;
-    let read = RouteMessage::parse(alloc, bytes.as_slice())?;
-    holds(
-        &rt,
-        normalized(alloc, hop(alloc, 1, old)?).attributes == new,
-    );
-    holds(&rt, read.attributes == new);
-    Ok(())
+    let members = vec![in alloc; member(alloc, Seg6Mode::Other(2))]?;
+    let inside = vec![in alloc; RouteAttribute::Encap(members), OF_SEG6]?;
+    let old = hop(alloc, 1, hop(alloc, 2, inside)?)?;
+    let text =
+        "[MultiPath([RouteNextHop { flags: RouteNextHopFlags(0), hops: 0, interface_index: 1, \
+        attributes: [MultiPath([RouteNextHop { flags: RouteNextHopFlags(0), hops: 0, \
+        interface_index: 2, attributes: [Encap([Seg6(Seg6(Seg6Header { mode: L2Encap, segments: [], \
+        hmac: None }))]), EncapType(Seg6)] }])] }])]";
+    normalizes(&rt, old, text)
 }
 
 #[test]
-fn normalizes_a_header_alone(rt: HostRuntime) {
-    let mut alone = header(rt.alloc(), Seg6Mode::Other(4));
+fn normalizes_a_header_alone(rt: HostRuntime) -> Result<(), Fail> {
+    let mut alone = Seg6Header::new(rt.alloc());
+    alone.mode = Seg6Mode::Other(4);
     alone.normalize();
     same(&rt, alone.mode, Seg6Mode::L2EncapRed);
     let mut member = member(rt.alloc(), Seg6Mode::Other(0));
     member.normalize();
-    holds(
-        &rt,
-        member
-            == RouteLwTunnelEncap::Seg6(RouteSeg6IpTunnel::Seg6(header(
-                rt.alloc(),
-                Seg6Mode::Inline,
-            ))),
-    );
+    let text = "Seg6(Seg6(Seg6Header { mode: Inline, segments: [], hmac: None }))";
+    shows(&rt, member, text)
 }

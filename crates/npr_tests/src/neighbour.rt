@@ -1,191 +1,94 @@
 //! Neighbours of a kernel and of `ip`, and damaged ones.
 
-use crate::helpers::{
-    FIRST, FIRST_TEXT, bytes_of, check_of, holds, is_member, is_refused, reads, refuses, rewrites,
-    same, writes,
-};
+use crate::helpers::{FIRST, bytes_of, check_of, holds, members, messages, same, shows, writes};
 use bitflags::Flags;
 use netlink_packet_route::framing::{
-    At, AttrFamily, DecodeError, DefaultNla, EmitError, Emitable, NlaBuffer, Parseable,
-    ParseableParametrized,
+    At, AttrFamily, DecodeError, EmitError, Emitable, NlaBuffer, ParseableParametrized,
 };
 use netlink_packet_route::neighbour::{
     NeighbourAddress, NeighbourAttribute, NeighbourCacheInfo, NeighbourExtendedFlags,
     NeighbourFlags, NeighbourHeader, NeighbourMessage, NeighbourMessageBuffer, NeighbourState,
 };
 use netlink_packet_route::net::{IpAddr, Ipv4Addr, Ipv6Addr};
-use netlink_packet_route::route::{RouteProtocol, RouteType};
 use netlink_packet_route::{AddressFamily, MessageKind, RouteNetlinkMessage};
-use std::alloc::{AllocError, Global};
-use std::fmt::Debug;
 use std::process::Abort;
 use std::test::Fail;
 
 /// A header: inet, the third interface, reachable.
 const HEADER: &str = "02000000 03000000 0200 00 00";
 
-/// 192.0.2.3 as a destination.
-const DESTINATION: &str = "08000100 c0000203";
-
-/// A value of this length at this number.
-fn length(kind: u16, got: usize) -> DecodeError {
-    let family = AttrFamily::Neighbour;
-    let at = At { family, kind };
-    DecodeError::ValueLength { at, got }
-}
-
-/// An address on the link of six bytes.
-fn link_layer(alloc: Global, bytes: [u8; 6]) -> Result<NeighbourAttribute, AllocError> {
-    Vec::from_slice(alloc, &bytes).map(NeighbourAttribute::LinkLayerAddress)
-}
-
-/// The value is printed so.
-fn shows<T: Debug + Drop>(
-    rt: &(impl Abort + AllocGlobal),
-    value: T,
-    text: &str,
-) -> Result<(), Fail> {
-    let found = format!(in rt.alloc(); "{value:?}")?;
-    same(rt, found.as_str(), text);
+/// The message of each line begins with the header that is printed so.
+fn headers(rt: &(impl Abort + AllocGlobal), lines: &str) -> Result<(), Fail> {
+    for line in lines.lines() {
+        if let Some((text, wanted)) = line.split_once("=>") {
+            let bytes = bytes_of(rt, &[text])?;
+            let header = NeighbourHeader::parse(bytes.as_slice())?;
+            shows(rt, header, wanted.trim())?;
+            let layout = NeighbourMessageBuffer::from(&header);
+            same(rt, NeighbourMessageBuffer::parse(bytes.as_slice())?, layout);
+            holds(rt, layout.to_bytes().as_slice() == bytes.as_slice());
+            writes(rt, header, &[text])?;
+        }
+    }
     Ok(())
 }
 
-/// The header of a message is this one.
-fn is_headed(
-    rt: &(impl Abort + AllocGlobal),
-    text: &str,
-    wanted: NeighbourHeader,
-) -> Result<(), Fail> {
-    let bytes = bytes_of(rt, &[text])?;
-    let header = NeighbourHeader::parse(bytes.as_slice())?;
-    same(rt, header, wanted);
-    let layout = NeighbourMessageBuffer::from(&header);
-    same(rt, NeighbourMessageBuffer::parse(bytes.as_slice())?, layout);
-    holds(rt, layout.to_bytes().as_slice() == bytes.as_slice());
-    writes(rt, header, &[text])
+/// Those of the messages below: PROBE, FAILED, STALE and a router, PERMANENT and learned outside,
+/// NOARP and multicast. The index has a sign, and each bit of the state and the flags is kept.
+#[test]
+fn reads_headers(rt: HostRuntime) -> Result<(), Fail> {
+    let lines = "
+        02000000 03000000 1000 00 01 => NeighbourHeader { family: Inet, ifindex: 3, \
+            state: NeighbourState(16), flags: NeighbourFlags(0), kind: Unicast }
+        02000000 03000000 2000 00 00 => NeighbourHeader { family: Inet, ifindex: 3, \
+            state: NeighbourState(32), flags: NeighbourFlags(0), kind: Unspec }
+        0a000000 03000000 0400 80 01 => NeighbourHeader { family: Inet6, ifindex: 3, \
+            state: NeighbourState(4), flags: NeighbourFlags(128), kind: Unicast }
+        0a000000 03000000 8000 10 01 => NeighbourHeader { family: Inet6, ifindex: 3, \
+            state: NeighbourState(128), flags: NeighbourFlags(16), kind: Unicast }
+        0a000000 02000000 4000 00 05 => NeighbourHeader { family: Inet6, ifindex: 2, \
+            state: NeighbourState(64), flags: NeighbourFlags(0), kind: Multicast }
+        07000000 feffffff 0680 c2 c8 => NeighbourHeader { family: Bridge, ifindex: -2, \
+            state: NeighbourState(32774), flags: NeighbourFlags(194), kind: Other(200) }";
+    headers(&rt, lines)
 }
 
-/// `ip neigh` said of this message of a dump: 192.0.2.3, lladdr 02:00:00:00:00:13, PROBE, static.
+/// `ip neigh` said of the first of a dump: 192.0.2.3, lladdr 02:00:00:00:00:13, PROBE, static; of
+/// the second: 192.0.2.4, FAILED; and of the third: ff02::16, NOARP. The padding of a header is
+/// dropped. The address of a bridge stands as it is, whatever its length.
 #[test]
-fn a_neighbour_of_version_4(rt: HostRuntime) -> Result<(), Fail> {
-    let texts = [
-        "02000000 03000000 1000 00 01 08000100 c0000203 0a000200 020000000013 0000",
-        "08000400 01000000 14000300 9a170000 2d000000 2a000000 01000000 05000c00 04000000",
-    ];
-    let alloc = rt.alloc();
-    let info = NeighbourCacheInfo {
-        confirmed: 6042,
-        used: 45,
-        updated: 42,
-        refcnt: 1,
-    };
-    let wanted = [
-        NeighbourAttribute::Destination(NeighbourAddress::Inet(Ipv4Addr::new(192, 0, 2, 3))),
-        link_layer(alloc, [2, 0, 0, 0, 0, 0x13])?,
-        NeighbourAttribute::Probes(1),
-        NeighbourAttribute::CacheInfo(info),
-        NeighbourAttribute::Protocol(RouteProtocol::Static),
-    ];
-    reads::<NeighbourMessage, _>(&rt, &texts, wanted)?;
-    rewrites::<NeighbourMessage>(&rt, &texts, &texts)?;
-    let header = NeighbourHeader {
-        family: AddressFamily::Inet,
-        ifindex: 3,
-        state: NeighbourState::Probe,
-        flags: NeighbourFlags::default(),
-        kind: RouteType::Unicast,
-    };
-    is_headed(&rt, "02000000 03000000 1000 00 01", header)
+fn reads_dumped_messages(rt: HostRuntime) -> Result<(), Fail> {
+    let lines = "
+        02000000 03000000 1000 00 01 08000100 c0000203 0a000200 020000000013 0000 \
+            08000400 01000000 14000300 9a170000 2d000000 2a000000 01000000 05000c00 04000000 => \
+            [Destination(Inet(192.0.2.3)), \
+            LinkLayerAddress([2, 0, 0, 0, 0, 19]), Probes(1), CacheInfo(NeighbourCacheInfo { \
+            confirmed: 6042, used: 45, updated: 42, refcnt: 1 }), Protocol(Static)]
+        02000000 03000000 2000 00 00 08000100 c0000204 08000400 00000000 \
+            14000300 9d170000 2d000000 2d000000 00000000 => \
+            [Destination(Inet(192.0.2.4)), Probes(0), \
+            CacheInfo(NeighbourCacheInfo { confirmed: 6045, used: 45, updated: 45, refcnt: 0 })]
+        0a000000 02000000 4000 00 05 14000100 ff020000000000000000000000000016 \
+            0a000200 333300000016 0000 08000400 00000000 => \
+            [Destination(Inet6(ff02::16)), \
+            LinkLayerAddress([51, 51, 0, 0, 0, 22]), Probes(0)]
+        02112233 03000000 0200 00 00 -> 02000000 03000000 0200 00 00 => []
+        07000000 03000000 8000 02 00 08000100 c0000203 => [Destination(Other([192, 0, 2, 3]))]
+        07000000 03000000 8000 02 00 04000100 => [Destination(Other([]))]
+        => 0 bytes, where a header of 12 is wanted
+        02000000 03000000 0200 00 => 11 bytes, where a header of 12 is wanted";
+    messages::<NeighbourMessage>(&rt, "", lines)
 }
 
-/// And of this one: 192.0.2.4, FAILED.
 #[test]
-fn a_neighbour_that_failed(rt: HostRuntime) -> Result<(), Fail> {
-    let texts = [
-        "02000000 03000000 2000 00 00 08000100 c0000204 08000400 00000000",
-        "14000300 9d170000 2d000000 2d000000 00000000",
-    ];
-    rewrites::<NeighbourMessage>(&rt, &texts, &texts)?;
-    let bytes = bytes_of(&rt, &texts)?;
-    let message = NeighbourMessage::parse(rt.alloc(), bytes.as_slice())?;
-    same(&rt, message.header.state, NeighbourState::Failed);
-    same(&rt, message.header.kind, RouteType::Unspec);
-    Ok(())
-}
-
-/// 2001:db8:1::2, STALE and a router; ff02::16, NOARP and multicast; 2001:db8:1::3, PERMANENT and
-/// learned outside.
-#[test]
-fn neighbours_of_version_6(rt: HostRuntime) -> Result<(), Fail> {
-    let mut header = NeighbourHeader {
-        family: AddressFamily::Inet6,
-        ifindex: 3,
-        state: NeighbourState::Stale,
-        flags: NeighbourFlags::Router,
-        kind: RouteType::Unicast,
-    };
-    is_headed(&rt, "0a000000 03000000 0400 80 01", header)?;
-    header.state = NeighbourState::Permanent;
-    header.flags = NeighbourFlags::ExtLearned;
-    is_headed(&rt, "0a000000 03000000 8000 10 01", header)?;
-    header.ifindex = 2;
-    header.state = NeighbourState::Noarp;
-    header.flags = NeighbourFlags::default();
-    header.kind = RouteType::Multicast;
-    is_headed(&rt, "0a000000 02000000 4000 00 05", header)?;
-    let texts = [
-        "0a000000 02000000 4000 00 05 14000100 ff020000000000000000000000000016",
-        "0a000200 333300000016 0000 08000400 00000000",
-    ];
-    let group = Ipv6Addr::from([0xff, 2, 0, 0, 0, 0, 0, 0, 0, 0, 0, 0, 0, 0, 0, 0x16]);
-    let wanted = [
-        NeighbourAttribute::Destination(NeighbourAddress::Inet6(group)),
-        link_layer(rt.alloc(), [0x33, 0x33, 0, 0, 0, 0x16])?,
-        NeighbourAttribute::Probes(0),
-    ];
-    reads::<NeighbourMessage, _>(&rt, &texts, wanted)?;
-    rewrites::<NeighbourMessage>(&rt, &texts, &texts)
-}
-
-/// The padding is dropped, the index has a sign, and each bit of the state and the flags is kept.
-#[test]
-fn other_headers(rt: HostRuntime) -> Result<(), Fail> {
-    rewrites::<NeighbourMessage>(&rt, &["02112233 03000000 0200 00 00"], &[HEADER])?;
-    let header = NeighbourHeader {
-        family: AddressFamily::Bridge,
-        ifindex: -2,
-        state: NeighbourState::from_bits_retain(0x8006),
-        flags: NeighbourFlags::from_bits_retain(0xc2),
-        kind: RouteType::Other(200),
-    };
-    is_headed(&rt, "07000000 feffffff 0680 c2 c8", header)?;
-    let empty = DecodeError::HeaderTooShort { got: 0, want: 12 };
-    refuses::<NeighbourMessage>(&rt, &[], empty)?;
-    let short = DecodeError::HeaderTooShort { got: 11, want: 12 };
-    refuses::<NeighbourMessage>(&rt, &["02000000 03000000 0200 00"], short)
-}
-
-/// The address of a bridge stands as it is, whatever its length.
-#[test]
-fn addresses_by_family(rt: HostRuntime) -> Result<(), Fail> {
-    let alloc = rt.alloc();
-    let bridge = Vec::from_slice(alloc, &[192, 0, 2, 3])?;
-    let wanted = [NeighbourAttribute::Destination(NeighbourAddress::Other(bridge))];
-    let bridge_header = "07000000 03000000 8000 02 00";
-    reads::<NeighbourMessage, _>(&rt, &[bridge_header, DESTINATION], wanted)?;
-    let none = ["07000000 03000000 8000 02 00", "04000100"];
-    rewrites::<NeighbourMessage>(&rt, &none, &none)?;
-    let long = ["14000100", FIRST_TEXT];
-    let version_6 = NeighbourAddress::from(Ipv6Addr::from(FIRST));
-    is_member(
-        &rt,
-        AddressFamily::Inet6,
-        &long,
-        NeighbourAttribute::Destination(version_6),
-        &long,
-    )?;
-    is_refused::<NeighbourAttribute>(&rt, AddressFamily::Inet, &long, length(1, 16))?;
-    is_refused::<NeighbourAttribute>(&rt, AddressFamily::Inet6, &[DESTINATION], length(1, 4))
+fn reads_under_a_family(rt: HostRuntime) -> Result<(), Fail> {
+    let line = "14000100 fc000000000000000000000000000001 => \
+        a value of 16 bytes at At { family: Neighbour, kind: 1 }";
+    members::<NeighbourAttribute>(&rt, AddressFamily::Inet, line)?;
+    let lines = "
+        14000100 fc000000000000000000000000000001 => Destination(Inet6(fc00::1))
+        08000100 c0000203 => a value of 4 bytes at At { family: Neighbour, kind: 1 }";
+    members::<NeighbourAttribute>(&rt, AddressFamily::Inet6, lines)
 }
 
 #[test]
@@ -196,77 +99,67 @@ fn addresses_alone(rt: HostRuntime) -> Result<(), Fail> {
     holds(&rt, address == NeighbourAddress::from(ip));
     holds(&rt, address == NeighbourAddress::from(IpAddr::V4(ip)));
     holds(&rt, address.clone(alloc)? == address);
-    writes(&rt, address, &["c0000203"])?;
-    let lone = At {
+    writes(&rt, address, &["c0000203"])
+}
+
+#[test]
+fn an_address_of_version_6(rt: HostRuntime) -> Result<(), Fail> {
+    let address = NeighbourAddress::from(Ipv6Addr::from(FIRST));
+    let text = "Inet6(fc00::1)";
+    shows(&rt, address, text)
+}
+
+#[test]
+fn an_address_of_no_place(rt: HostRuntime) {
+    let at = At {
         family: AttrFamily::Value,
         kind: 0,
     };
-    let refused = NeighbourAddress::parse(alloc, AddressFamily::Inet6, &[192, 0, 2, 3]).err();
+    let found = NeighbourAddress::parse(rt.alloc(), AddressFamily::Inet6, &[192, 0, 2, 3]);
     same(
         &rt,
-        refused,
-        Some(DecodeError::ValueLength { at: lone, got: 4 }),
+        found.err(),
+        Some(DecodeError::ValueLength { at, got: 4 }),
     );
-    let bytes = bytes_of(&rt, &[DESTINATION])?;
-    let item = NlaBuffer::new_checked(bytes.as_slice())?;
-    let found = NeighbourAttribute::parse_with_param(alloc, &item, AddressFamily::Inet)?;
-    holds(
-        &rt,
-        found == NeighbourAttribute::Destination(NeighbourAddress::Inet(ip)),
-    );
-    Ok(())
 }
 
-/// One of each number besides those that stand in the messages above.
+#[test]
+fn an_attribute_alone(rt: HostRuntime) -> Result<(), Fail> {
+    let item = NlaBuffer::new_checked(&[8, 0, 1, 0, 0xc0, 0, 2, 3])?;
+    let found = NeighbourAttribute::parse_with_param(rt.alloc(), &item, AddressFamily::Inet)?;
+    shows(&rt, found, "Destination(Inet(192.0.2.3))")
+}
+
+/// One of each number besides those that stand in the messages above. Behind the sixteen bytes of a
+/// cache info more may stand, which is dropped. Each number has its length, but for two.
 #[test]
 fn reads_values(rt: HostRuntime) -> Result<(), Fail> {
-    let texts = [
-        HEADER,
-        "06000500 64000000 06000600 12b50000 08000700 2a000000 08000800 05000000",
-        "08000900 07000000 08000a00 01000000 08000b00 2b000000 08000d00 09000000",
-        "08000e00 04000100 08000f00 01000080",
-    ];
-    let extended = NeighbourExtendedFlags::from_bits_retain(0x8000_0001);
-    let kept = Vec::from_slice(rt.alloc(), &[4, 0, 1, 0])?;
-    let wanted = [
-        NeighbourAttribute::Vlan(100),
-        NeighbourAttribute::Port(4789),
-        NeighbourAttribute::Vni(42),
-        NeighbourAttribute::IfIndex(5),
-        NeighbourAttribute::Controller(7),
-        NeighbourAttribute::LinkNetNsId(1),
-        NeighbourAttribute::SourceVni(43),
-        NeighbourAttribute::NhId(9),
-        NeighbourAttribute::Other(DefaultNla::new(14, kept)),
-        NeighbourAttribute::FlagsExt(extended),
-    ];
-    reads::<NeighbourMessage, _>(&rt, &texts, wanted)?;
-    rewrites::<NeighbourMessage>(&rt, &texts, &texts)?;
-    // Behind the sixteen bytes of a cache info more may stand, which is dropped.
-    let numbers = "01000000 02000000 03000000 04000000";
-    rewrites::<NeighbourMessage>(
-        &rt,
-        &[HEADER, "18000300", numbers, "05000000"],
-        &[HEADER, "14000300", numbers],
-    )
-}
-
-/// Each number has its length.
-#[test]
-fn refuses_values(rt: HostRuntime) -> Result<(), Fail> {
-    let empty = [1, 4, 5, 6, 7, 8, 9, 10, 11, 12, 13, 15];
-    for kind in empty {
-        let text = format!(in rt.alloc(); "0400{kind:02x}00")?;
-        refuses::<NeighbourMessage>(&rt, &[HEADER, text.as_str()], length(kind, 0))?;
-    }
-    let three = "07000600 12b50000";
-    refuses::<NeighbourMessage>(&rt, &[HEADER, three], length(6, 3))?;
-    let short = DecodeError::HeaderTooShort { got: 12, want: 16 };
-    let info = "10000300 01000000 02000000 03000000";
-    refuses::<NeighbourMessage>(&rt, &[HEADER, info], short)?;
-    // None of these two has a length of its own.
-    let empty = ["02000000 03000000 0200 00 00", "04000200 04000e00"];
-    rewrites::<NeighbourMessage>(&rt, &empty, &empty)
+    let lines = "
+        06000500 64000000 06000600 12b50000 08000700 2a000000 08000800 05000000 \
+            08000900 07000000 08000a00 01000000 08000b00 2b000000 08000d00 09000000 \
+            08000e00 04000100 08000f00 01000080 => \
+            [Vlan(100), Port(4789), Vni(42), IfIndex(5), Controller(7), LinkNetNsId(1), SourceVni(43), \
+            NhId(9), Other(DefaultNla { kind: 14, value: [4, 0, 1, 0] }), \
+            FlagsExt(NeighbourExtendedFlags(2147483649))]
+        18000300 01000000 02000000 03000000 04000000 05000000 -> \
+            14000300 01000000 02000000 03000000 04000000 => \
+            [CacheInfo(NeighbourCacheInfo { confirmed: 1, used: 2, updated: 3, refcnt: 4 })]
+        04000200 04000e00 => [LinkLayerAddress([]), Other(DefaultNla { kind: 14, value: [] })]
+        04000100 => a value of 0 bytes at At { family: Neighbour, kind: 1 }
+        04000400 => a value of 0 bytes at At { family: Neighbour, kind: 4 }
+        04000500 => a value of 0 bytes at At { family: Neighbour, kind: 5 }
+        04000600 => a value of 0 bytes at At { family: Neighbour, kind: 6 }
+        04000700 => a value of 0 bytes at At { family: Neighbour, kind: 7 }
+        04000800 => a value of 0 bytes at At { family: Neighbour, kind: 8 }
+        04000900 => a value of 0 bytes at At { family: Neighbour, kind: 9 }
+        04000a00 => a value of 0 bytes at At { family: Neighbour, kind: 10 }
+        04000b00 => a value of 0 bytes at At { family: Neighbour, kind: 11 }
+        04000c00 => a value of 0 bytes at At { family: Neighbour, kind: 12 }
+        04000d00 => a value of 0 bytes at At { family: Neighbour, kind: 13 }
+        04000f00 => a value of 0 bytes at At { family: Neighbour, kind: 15 }
+        07000600 12b50000 => a value of 3 bytes at At { family: Neighbour, kind: 6 }
+        10000300 01000000 02000000 03000000 => 12 bytes, where a header of 16 is wanted";
+    messages::<NeighbourMessage>(&rt, HEADER, lines)
 }
 
 #[test]
@@ -283,29 +176,46 @@ fn an_address_that_is_too_long(rt: HostRuntime) -> Result<(), Fail> {
 }
 
 #[test]
-fn flags(rt: HostRuntime) -> Result<(), Fail> {
+fn states(rt: HostRuntime) -> Result<(), Fail> {
     let mut state = NeighbourState::Reachable;
     state.insert(NeighbourState::Permanent);
     same(&rt, state.bits(), 0x82);
     holds(&rt, state.contains(NeighbourState::Reachable));
     holds(&rt, !state.contains(NeighbourState::Stale));
     same(&rt, NeighbourState::None, NeighbourState::default());
-    same(&rt, NeighbourFlags::Own.bits(), 2);
-    same(&rt, NeighbourFlags::Controller.bits(), 4);
-    same(&rt, NeighbourExtendedFlags::Managed.bits(), 1);
-    shows(&rt, state, "NeighbourState(130)")?;
-    shows(&rt, NeighbourFlags::Router, "NeighbourFlags(128)")?;
-    shows(
-        &rt,
-        NeighbourExtendedFlags::Managed,
-        "NeighbourExtendedFlags(1)",
-    )?;
-    shows(&rt, NeighbourAttribute::Port(4789), "Port(4789)")?;
-    shows(
-        &rt,
-        NeighbourHeader::default(),
-        "NeighbourHeader { family: Unspec, ifindex: 0, state: NeighbourState(0), flags: NeighbourFlags(0), kind: Unspec }",
-    )
+    let wanted = "[NeighbourState(4), NeighbourState(16), NeighbourState(32), NeighbourState(64), \
+        NeighbourState(128), NeighbourState(130)]";
+    let states = [
+        NeighbourState::Stale,
+        NeighbourState::Probe,
+        NeighbourState::Failed,
+        NeighbourState::Noarp,
+        NeighbourState::Permanent,
+        state,
+    ];
+    shows(&rt, states, wanted)
+}
+
+#[test]
+fn flags(rt: HostRuntime) -> Result<(), Fail> {
+    let managed = NeighbourExtendedFlags::Managed;
+    same(&rt, managed.bits(), 1);
+    shows(&rt, managed, "NeighbourExtendedFlags(1)")?;
+    let wanted = "[NeighbourFlags(2), NeighbourFlags(4), NeighbourFlags(16), NeighbourFlags(128)]";
+    let flags = [
+        NeighbourFlags::Own,
+        NeighbourFlags::Controller,
+        NeighbourFlags::ExtLearned,
+        NeighbourFlags::Router,
+    ];
+    shows(&rt, flags, wanted)
+}
+
+#[test]
+fn a_new_header(rt: HostRuntime) -> Result<(), Fail> {
+    let text = "NeighbourHeader { family: Unspec, ifindex: 0, state: NeighbourState(0), \
+        flags: NeighbourFlags(0), kind: Unspec }";
+    shows(&rt, NeighbourHeader::default(), text)
 }
 
 #[test]
@@ -329,7 +239,6 @@ fn by_its_name_and_its_types(rt: HostRuntime) -> Result<(), Fail> {
         MessageKind::of("neighbour"),
         Some(MessageKind::Neighbour),
     );
-    shows(&rt, MessageKind::Neighbour, "Neighbour")?;
     let message = NeighbourMessage::new(rt.alloc());
     writes(
         &rt,

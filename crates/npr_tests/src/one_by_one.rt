@@ -1,8 +1,8 @@
 //! Attributes one after the other, and messages that are read into again.
 
-use crate::helpers::{INET, bytes_of, holds, same};
+use crate::helpers::{INET, bytes_of, holds, same, shows};
 use netlink_packet_route::framing::{DecodeError, Parseable};
-use netlink_packet_route::route::{RouteAttribute, RouteLwEnCapType, RouteMessage, RouteType};
+use netlink_packet_route::route::{RouteLwEnCapType, RouteMessage, RouteType};
 use netlink_packet_route::rule::RuleMessage;
 use netlink_packet_route::{AddressFamily, MessageKind, MessageType};
 use std::test::Fail;
@@ -35,22 +35,12 @@ fn what_governs_is_known_at_once(rt: HostRuntime) -> Result<(), Fail> {
 fn a_fault_is_the_last(rt: HostRuntime) -> Result<(), Fail> {
     let bytes = bytes_of(&rt, &CUT)?;
     let mut attributes = RouteMessage::attributes(rt.alloc(), bytes.as_slice())?;
-    holds(
-        &rt,
-        matches!(attributes.next(), Some(Ok(RouteAttribute::Encap(_)))),
-    );
-    holds(
-        &rt,
-        matches!(
-            attributes.next(),
-            Some(Ok(RouteAttribute::EncapType(RouteLwEnCapType::Mpls)))
-        ),
-    );
-    let fault = DecodeError::AttributeTooShort { got: 3 };
-    holds(
-        &rt,
-        matches!(attributes.next(), Some(Err(found)) if found == fault),
-    );
+    let text = "Some(Ok(Encap([Mpls(Destination([MplsLabel { label: 100, traffic_class: 0, \
+        bottom_of_stack: true, ttl: 255 }]))])))";
+    shows(&rt, attributes.next(), text)?;
+    shows(&rt, attributes.next(), "Some(Ok(EncapType(Mpls)))")?;
+    let fault = "Some(Err(AttributeTooShort { got: 3 }))";
+    shows(&rt, attributes.next(), fault)?;
     holds(&rt, attributes.next().is_none());
     holds(&rt, attributes.rest().is_empty());
     Ok(())

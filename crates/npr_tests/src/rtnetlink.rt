@@ -1,45 +1,46 @@
 //! Messages of rtnetlink as a kernel sent them, envelopes included.
 
-use crate::helpers::writes;
+use crate::helpers::{bytes_of, same, shows, writes};
 use netlink_packet_route::envelope::{NetlinkIterator, NetlinkMessage, NetlinkPayload};
 use netlink_packet_route::framing::{Parseable, to_vec};
 use netlink_packet_route::request::{dump_addresses, dump_neighbours, dump_routes, dump_rules};
 use netlink_packet_route::{AddressFamily, RouteNetlinkMessage};
+use std::process::Abort;
 use std::test::Fail;
 
-/// A rule of a dump, the end of the dump, and a message on a link with a payload of 17 bytes.
-const DATAGRAM: [u8; 108] = [
-    0x34, 0, 0, 0, 0x20, 0, 2, 0, 7, 0, 0, 0, 0x9c, 0x6c, 0, 0, 0x0a, 0, 0, 0, 0xff, 0, 0, 1, 0, 0,
-    0, 0, 8, 0, 0x0f, 0, 0xff, 0, 0, 0, 8, 0, 0x0e, 0, 0xff, 0xff, 0xff, 0xff, 5, 0, 0x15, 0, 2, 0,
-    0, 0, 0x14, 0, 0, 0, 3, 0, 2, 0, 7, 0, 0, 0, 0x9c, 0x6c, 0, 0, 0, 0, 0, 0, 0x21, 0, 0, 0, 0x10,
-    0, 0, 0, 0, 0, 0, 0, 0, 0, 0, 0, 0, 0, 1, 0, 2, 0, 0, 0, 3, 0, 0, 0, 0, 0, 0, 0, 4, 0, 0, 0,
-];
+/// What a message is, in a word; a message on a link keeps a payload of 17 bytes.
+fn word_of(rt: &impl Abort, message: &NetlinkMessage<RouteNetlinkMessage>) -> &'static str {
+    match &message.payload {
+        NetlinkPayload::Done(_) => "done",
+        NetlinkPayload::InnerMessage(RouteNetlinkMessage::NewRule(_)) => "rule",
+        NetlinkPayload::InnerMessage(RouteNetlinkMessage::Other(other)) => {
+            same(rt, (other.message_type, other.payload.len()), (16, 17));
+            "other"
+        }
+        _ => "something else",
+    }
+}
 
-/// Each is read by its type, and written as the same bytes, padding included.
+/// A rule of a dump, the end of the dump, and a message on a link: each is read by its type, and
+/// written as the same bytes, padding included.
 #[test]
 fn a_datagram_is_read_by_type(rt: HostRuntime) -> Result<(), Fail> {
+    let texts = [
+        "34000000 20000200 07000000 9c6c0000 0a000000 ff000001 00000000",
+        "08000f00 ff000000 08000e00 ffffffff 05001500 02000000",
+        "14000000 03000200 07000000 9c6c0000 00000000",
+        "21000000 10000000 00000000 00000000 00000100 02000000 03000000 00000000 04000000",
+    ];
+    let bytes = bytes_of(&rt, texts.as_slice())?;
     let mut written = Vec::new(rt.alloc());
     let mut words = Vec::new(rt.alloc());
-    for found in NetlinkIterator::new(DATAGRAM.as_slice()) {
-        let envelope = found?;
-        let message: NetlinkMessage<RouteNetlinkMessage> = NetlinkMessage::parse(
-            rt.alloc(),
-            &envelope,
-        )?;
-        words.push(match &message.payload {
-            NetlinkPayload::Done(_) => "done",
-            NetlinkPayload::InnerMessage(RouteNetlinkMessage::NewRule(_)) => "rule",
-            NetlinkPayload::InnerMessage(RouteNetlinkMessage::Other(other)) => {
-                assert_eq!(rt; other.message_type, 16);
-                assert_eq!(rt; other.payload.len(), 17);
-                "other"
-            }
-            _ => "something else",
-        })?;
+    for found in NetlinkIterator::new(bytes.as_slice()) {
+        let message = NetlinkMessage::<RouteNetlinkMessage>::parse(rt.alloc(), &found?)?;
+        words.push(word_of(&rt, &message))?;
         written.extend_from_slice(to_vec(rt.alloc(), &message)?.as_slice())?;
     }
-    assert_eq!(rt; words.as_slice(), ["rule", "done", "other"].as_slice());
-    assert_eq!(rt; written.as_slice(), DATAGRAM.as_slice());
+    shows(&rt, words, "[\"rule\", \"done\", \"other\"]")?;
+    same(&rt, written, bytes);
     Ok(())
 }
 

@@ -1,14 +1,8 @@
 //! Rules of the kernel and of `ip`, and damaged ones.
 
-use crate::helpers::{
-    bytes_of, check_of, holds, reads, refuses, rewrites, rewrites_lines, same, writes,
-};
+use crate::helpers::{bytes_of, check_of, holds, messages, same, writes};
 use bitflags::Flags;
-use netlink_packet_route::framing::{
-    At, AttrFamily, DecodeError, EmitError, Emitable, Nla, Parseable, WriteError, to_vec,
-};
-use netlink_packet_route::net::IpAddr;
-use netlink_packet_route::route::{RouteProtocol, RouteRealm};
+use netlink_packet_route::framing::{EmitError, Emitable, Nla, Parseable, WriteError, to_vec};
 use netlink_packet_route::rule::{
     RuleAction, RuleAttribute, RuleFlags, RuleHeader, RuleMessage, RuleMessageBuffer,
     RulePortRange, RuleUidRange,
@@ -20,38 +14,28 @@ use std::test::Fail;
 const HEADER: &str = "02000000 fe000001 00000000";
 
 #[test]
-fn rewrites_messages(rt: HostRuntime) -> Result<(), Fail> {
+fn reads_messages(rt: HostRuntime) -> Result<(), Fail> {
     // Reserved bytes of the header are dropped.
-    rewrites::<RuleMessage>(&rt, &["02000000 fe112201 00000000"], &[HEADER])?;
     let lines = "
-        08000300 65746830 -> 09000300 65746830 00000000 # A name without its zero.
-        05001300 07000000 -> 05001300 01000000 # Any byte above 0 is true.
-        0c000c00 00000000 0000002a # The id of a tunnel, big endian.
-        05001600 06000000";
-    rewrites_lines::<RuleMessage>(&rt, HEADER, lines)
-}
-
-#[test]
-fn reads_values(rt: HostRuntime) -> Result<(), Fail> {
-    let realm = RouteRealm {
-        source: 250,
-        destination: 254,
-    };
-    let wanted = [
-        RuleAttribute::L3MDev(true),
-        RuleAttribute::TunId(42),
-        RuleAttribute::IpProtocol(IpProtocol::Tcp),
-        RuleAttribute::Realm(realm),
-        RuleAttribute::UidRange(RuleUidRange { start: 1, end: 2 }),
-        RuleAttribute::Protocol(RouteProtocol::Kernel),
-        RuleAttribute::Destination(IpAddr::from([10, 0, 0, 1])),
-    ];
-    let texts = [
-        HEADER,
-        "05001300 07000000 0c000c00 00000000 0000002a 05001600 06000000 08000b00 fe00fa00",
-        "0c001400 01000000 02000000 05001500 02000000 08000100 0a000001",
-    ];
-    reads::<RuleMessage, _>(&rt, &texts, wanted)
+        02000000 fe112201 00000000 -> 02000000 fe000001 00000000 => []
+        => 0 bytes, where a header of 12 is wanted";
+    messages::<RuleMessage>(&rt, "", lines)?;
+    let lines = "
+        => []
+        08000300 65746830 -> 09000300 65746830 00000000 => [Iifname(\"eth0\")] # Without its zero.
+        05001300 07000000 -> 05001300 01000000 => [L3MDev(true)] # Any byte above 0 is true.
+        0c000c00 00000000 0000002a => [TunId(42)] # The id of a tunnel, big endian.
+        05001600 06000000 => [IpProtocol(Tcp)]
+        05001300 07000000 0c000c00 00000000 0000002a 05001600 06000000 08000b00 fe00fa00 \
+            0c001400 01000000 02000000 05001500 02000000 08000100 0a000001 -> \
+            05001300 01000000 0c000c00 00000000 0000002a 05001600 06000000 08000b00 fe00fa00 \
+            0c001400 01000000 02000000 05001500 02000000 08000100 0a000001 => \
+            [L3MDev(true), TunId(42), IpProtocol(Tcp), Realm(RouteRealm { source: 250, destination: 254 }), \
+            UidRange(RuleUidRange { start: 1, end: 2 }), Protocol(Kernel), \
+            Destination(10.0.0.1)]
+        0b001400 00000000 00000000 => a value of 7 bytes at At { family: Rule, kind: 20 }
+        04000200 => a value of 0 bytes at At { family: Rule, kind: 2 } # `ip rule add from all`.";
+    messages::<RuleMessage>(&rt, HEADER, lines)
 }
 
 /// A value that no reading gives is written by its number, and is read as what has that.
@@ -62,10 +46,10 @@ fn a_protocol_under_another_name(rt: HostRuntime) -> Result<(), Fail> {
     let protocol = RuleAttribute::IpProtocol(IpProtocol::Other(6));
     message.attributes.push(protocol)?;
     let bytes = to_vec(alloc, &message)?;
-    let texts = ["00000000 00000000 00000000", "05001600 06000000"];
-    same(&rt, bytes.as_slice(), bytes_of(&rt, &texts)?.as_slice());
-    let wanted = [RuleAttribute::IpProtocol(IpProtocol::Tcp)];
-    reads::<RuleMessage, _>(&rt, &texts, wanted)
+    let wanted = bytes_of(&rt, &["00000000 00000000 00000000 05001600 06000000"])?;
+    same(&rt, bytes, wanted);
+    let line = "00000000 00000000 00000000 05001600 06000000 => [IpProtocol(Tcp)]";
+    messages::<RuleMessage>(&rt, "", line)
 }
 
 /// An attribute by itself fills just the room that it takes.
@@ -77,23 +61,6 @@ fn an_attribute_by_itself(rt: HostRuntime) -> Result<(), Fail> {
     attribute.emit(&mut out);
     same(&rt, out, [12, 0, 12, 0, 0, 0, 0, 0, 0, 0, 0, 42]);
     Ok(())
-}
-
-/// A value of this length at this number.
-fn length(kind: u16, got: usize) -> DecodeError {
-    let family = AttrFamily::Rule;
-    let at = At { family, kind };
-    DecodeError::ValueLength { at, got }
-}
-
-#[test]
-fn refuses_messages(rt: HostRuntime) -> Result<(), Fail> {
-    let users = "0b001400 00000000 00000000";
-    refuses::<RuleMessage>(&rt, &[HEADER, users], length(20, 7))?;
-    // A source with no bytes, as `ip rule add from all` writes it.
-    refuses::<RuleMessage>(&rt, &[HEADER, "04000200"], length(2, 0))?;
-    let empty = DecodeError::HeaderTooShort { got: 0, want: 12 };
-    refuses::<RuleMessage>(&rt, &[], empty)
 }
 
 #[test]

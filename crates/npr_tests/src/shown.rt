@@ -1,6 +1,6 @@
 //! What is shown of a message: its line, its object and its count.
 
-use crate::helpers::{INET, bytes_of};
+use crate::helpers::{INET, bytes_of, same};
 use netlink_packet_core::{NetlinkHeader, NetlinkMessage, NetlinkPayload};
 use netlink_packet_route::RouteNetlinkMessage;
 use netlink_packet_route::framing::{AttrFamily, Parseable};
@@ -42,16 +42,13 @@ fn nothing_of_a_label_is_lost(rt: HostRuntime) -> Result<(), Fail> {
     let mut counts = Counts::default();
     counts.add(&message.payload);
     counts.write(&mut text)?;
-    assert_eq!(rt; text.as_str(), SHOWN);
+    same(&rt, text.as_str(), SHOWN);
     Ok(())
 }
 
 #[test]
-fn an_attribute_has_its_name(rt: HostRuntime) -> Result<(), Fail> {
-    assert_eq!(rt;
-        attribute_name(AttrFamily::Rule, 24),
-        Some("FRA_DPORT_RANGE")
-    );
-    assert_eq!(rt; attribute_name(AttrFamily::Rule, 25), None);
-    Ok(())
+fn an_attribute_has_its_name(rt: HostRuntime) {
+    let name = attribute_name(AttrFamily::Rule, 24);
+    same(&rt, name, Some("FRA_DPORT_RANGE"));
+    same(&rt, attribute_name(AttrFamily::Rule, 25), None);
 }

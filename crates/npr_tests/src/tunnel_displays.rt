@@ -1,156 +1,127 @@
 //! The texts that tunnels, their members and options are printed as, and writers that fail.
 
-use crate::helpers::{FIRST, SECOND, holds, says};
+use crate::helpers::{FIRST, SECOND, bytes_of, holds, says, shows};
 use bitflags::Flags;
-use netlink_packet_route::framing::DefaultNla;
-use netlink_packet_route::net::{Ipv4Addr, Ipv6Addr};
+use netlink_packet_route::framing::{Attribute, Looks, NlaBuffer};
+use netlink_packet_route::net::Ipv6Addr;
 use netlink_packet_route::route::{
-    Ioam6Mode, Ioam6TraceHdr, RouteErspanOpt, RouteGeneveOpt, RouteIoam6Tunnel, RouteIp6Tunnel,
-    RouteIp6TunnelFlags, RouteIpTunnel, RouteIpTunnelFlags, RouteLwTunnelOpt, RouteNextHopFlags,
-    RouteRplIpTunnel, RouteScope, RouteSeg6LocalTunnel, RouteVxlanOpt, RouteXfrmTunnel, RplSrh,
-    Seg6LocalAction, Seg6LocalSrh,
+    Ioam6TraceHdr, RouteIoam6Tunnel, RouteIp6Tunnel, RouteIp6TunnelFlags, RouteIpTunnel,
+    RouteIpTunnelFlags, RouteLwTunnelOpt, RouteNextHopFlags, RouteRplIpTunnel, RouteScope,
+    RouteSeg6LocalTunnel, RouteXfrmTunnel, RplSrh,
 };
 use std::fmt;
 use std::fmt::Write;
 use std::process::Abort;
 use std::test::Fail;
 
-/// What upstream prints of an attribute that it doesn't know.
-const UNKNOWN: &str = "DefaultNla { kind: 99, value: [1, 2] }";
-
-fn unknown(rt: &impl AllocGlobal) -> Result<DefaultNla, Fail> {
-    Ok(DefaultNla::new(99, [1, 2].to_vec(rt.alloc())?))
+/// Each line is an attribute, and what it is printed as.
+fn displays<A: Attribute<Context = ()> + fmt::Display>(
+    rt: &(impl Abort + AllocGlobal),
+    lines: &str,
+) -> Result<(), Fail> {
+    for line in lines.lines() {
+        if let Some((read, text)) = line.split_once("=>") {
+            let bytes = bytes_of(rt, &[read])?;
+            let item = NlaBuffer::new_checked(bytes.as_slice())?;
+            let found = A::read(rt.alloc(), (), &item, &mut Looks::new())?;
+            says(rt, found, text.trim())?;
+        }
+    }
+    Ok(())
 }
 
 #[test]
 fn members_of_ip(rt: HostRuntime) -> Result<(), Fail> {
-    let address = Ipv4Addr::new(10, 0, 0, 1);
-    says(&rt, RouteIpTunnel::Unspecified, "unspecified")?;
-    says(&rt, RouteIpTunnel::Id(100), "id 100")?;
-    says(&rt, RouteIpTunnel::Destination(address), "dst 10.0.0.1")?;
-    says(&rt, RouteIpTunnel::Source(address), "src 10.0.0.1")?;
-    says(&rt, RouteIpTunnel::Ttl(64), "ttl 64")?;
-    says(&rt, RouteIpTunnel::Tos(4), "tos 4")?;
-    let flags = RouteIpTunnelFlags::from_bits_retain(12);
-    says(&rt, RouteIpTunnel::Flags(flags), "key seq ")?;
-    let options = RouteIpTunnel::Opts(Vec::new(rt.alloc()));
-    says(&rt, options, "")?;
-    says(&rt, RouteIpTunnel::Other(unknown(&rt)?), UNKNOWN)
+    let lines = "
+        04000000 => unspecified
+        0c000100 00000000 00000064 => id 100
+        08000200 0a000001 => dst 10.0.0.1
+        08000300 0a000001 => src 10.0.0.1
+        05000400 40 => ttl 64
+        05000500 04 => tos 4
+        04000800 =>
+        06006300 0102 => DefaultNla { kind: 99, value: [1, 2] }";
+    displays::<RouteIpTunnel>(&rt, lines)
 }
 
 #[test]
 fn members_of_ip6(rt: HostRuntime) -> Result<(), Fail> {
-    let address = Ipv6Addr::from(FIRST);
-    says(&rt, RouteIp6Tunnel::Unspecified, "unspecified")?;
-    says(&rt, RouteIp6Tunnel::Id(100), "id 100")?;
-    says(&rt, RouteIp6Tunnel::Destination(address), "dst fc00::1")?;
-    says(&rt, RouteIp6Tunnel::Source(address), "src, fc00::1")?;
-    says(&rt, RouteIp6Tunnel::Hoplimit(64), "hoplimit 64")?;
-    says(&rt, RouteIp6Tunnel::Tc(4), "tc 4")?;
+    let lines = "
+        04000000 => unspecified
+        0c000100 00000000 00000064 => id 100
+        14000200 fc000000000000000000000000000001 => dst fc00::1
+        14000300 fc000000000000000000000000000001 => src, fc00::1
+        05000400 40 => hoplimit 64
+        05000500 04 => tc 4
+        14000800 0c000200 08000100 2a000000 04000300 => vxlan_opts 42, erspan_opts 0:0:0:0
+        06006300 0102 => DefaultNla { kind: 99, value: [1, 2] }";
+    displays::<RouteIp6Tunnel>(&rt, lines)
+}
+
+/// A space follows each name.
+#[test]
+fn flags_of_ip(rt: HostRuntime) -> Result<(), Fail> {
+    let flags = RouteIpTunnelFlags::from_bits_retain(12);
+    says(&rt, RouteIpTunnel::Flags(flags), "key seq ")?;
     let flags = RouteIp6TunnelFlags::from_bits_retain(0xffff);
-    says(&rt, RouteIp6Tunnel::Flags(flags), "key csum seq ")?;
-    let alloc = rt.alloc();
-    let vxlan = RouteLwTunnelOpt::Vxlan(vec![in alloc; RouteVxlanOpt::Gbp(42)]?);
-    let erspan = RouteLwTunnelOpt::Erspan(Vec::new(alloc));
-    let options = RouteIp6Tunnel::Opts(vec![in alloc; vxlan, erspan]?);
-    says(&rt, options, "vxlan_opts 42, erspan_opts 0:0:0:0")?;
-    says(&rt, RouteIp6Tunnel::Other(unknown(&rt)?), UNKNOWN)
+    says(&rt, RouteIp6Tunnel::Flags(flags), "key csum seq ")
 }
 
 #[test]
 fn members_of_xfrm(rt: HostRuntime) -> Result<(), Fail> {
-    says(&rt, RouteXfrmTunnel::Unspecified, "unspecified")?;
-    says(&rt, RouteXfrmTunnel::IfId(7), "if_id 7")?;
-    says(&rt, RouteXfrmTunnel::Link(8), "link_dev 8")?;
-    says(&rt, RouteXfrmTunnel::Other(unknown(&rt)?), UNKNOWN)
+    let lines = "
+        04000000 => unspecified
+        08000100 07000000 => if_id 7
+        08000200 08000000 => link_dev 8
+        06006300 0102 => DefaultNla { kind: 99, value: [1, 2] }";
+    displays::<RouteXfrmTunnel>(&rt, lines)
 }
 
+/// Options of Geneve, of Vxlan and of Erspan: of the last each number counts where it stands last.
 #[test]
-fn options_of_geneve(rt: HostRuntime) -> Result<(), Fail> {
-    let alloc = rt.alloc();
-    let mut first = RouteGeneveOpt::new(alloc);
-    first.class = 258;
-    let mut second = RouteGeneveOpt::new(alloc);
-    second.class = 1;
-    second.typ = 2;
-    second.opt_data = [0xab, 0xcd].to_vec(alloc)?;
-    let options = RouteLwTunnelOpt::Geneve(vec![in alloc; first, second]?);
-    says(&rt, options, "geneve_opts 258:0:,geneve_opts 1:2:abcd")?;
-    says(&rt, RouteLwTunnelOpt::Geneve(Vec::new(alloc)), "")
-}
-
-#[test]
-fn options_of_vxlan(rt: HostRuntime) -> Result<(), Fail> {
-    let alloc = rt.alloc();
-    let list = vec![in alloc; RouteVxlanOpt::Gbp(1), RouteVxlanOpt::Gbp(2)]?;
-    says(
-        &rt,
-        RouteLwTunnelOpt::Vxlan(list),
-        "vxlan_opts 1,vxlan_opts 2",
-    )?;
-    let list = vec![in alloc; RouteVxlanOpt::Other(unknown(&rt)?)]?;
-    says(&rt, RouteLwTunnelOpt::Vxlan(list), UNKNOWN)?;
-    says(&rt, RouteLwTunnelOpt::Other(unknown(&rt)?), UNKNOWN)
-}
-
-#[test]
-fn options_of_erspan(rt: HostRuntime) -> Result<(), Fail> {
-    let alloc = rt.alloc();
-    let list = vec![in alloc; RouteErspanOpt::Ver(1), RouteErspanOpt::Index(5)]?;
-    says(&rt, RouteLwTunnelOpt::Erspan(list), "erspan_opts 1:5:0:0")?;
-    let list = vec![in alloc;
-        RouteErspanOpt::Ver(2),
-        RouteErspanOpt::Dir(1),
-        RouteErspanOpt::Hwid(3),
-    ]?;
-    says(&rt, RouteLwTunnelOpt::Erspan(list), "erspan_opts 2:0:1:3")?;
-    let list = vec![in alloc;
-        RouteErspanOpt::Ver(2),
-        RouteErspanOpt::Other(unknown(&rt)?),
-        RouteErspanOpt::Ver(1),
-        RouteErspanOpt::Index(5),
-        RouteErspanOpt::Index(6),
-    ]?;
-    says(&rt, RouteLwTunnelOpt::Erspan(list), "erspan_opts 1:6:0:0")?;
-    says(
-        &rt,
-        RouteLwTunnelOpt::Erspan(Vec::new(alloc)),
-        "erspan_opts 0:0:0:0",
-    )
+fn options(rt: HostRuntime) -> Result<(), Fail> {
+    let lines = "
+        24000100 06000100 01020000 06000100 00010000 05000200 02000000 06000300 abcd0000 => \
+            geneve_opts 258:0:,geneve_opts 1:2:abcd
+        04000100 =>
+        14000200 08000100 01000000 08000100 02000000 => vxlan_opts 1,vxlan_opts 2
+        0a000200 06006300 0102 => DefaultNla { kind: 99, value: [1, 2] }
+        14000300 05000100 01000000 08000200 00000005 => erspan_opts 1:5:0:0
+        1c000300 05000100 02000000 05000300 01000000 05000400 03000000 => erspan_opts 2:0:1:3
+        2c000300 05000100 02000000 06006300 01020000 05000100 01000000 08000200 00000005 \
+            08000200 00000006 => erspan_opts 1:6:0:0
+        04000300 => erspan_opts 0:0:0:0
+        06006300 0102 => DefaultNla { kind: 99, value: [1, 2] }";
+    displays::<RouteLwTunnelOpt>(&rt, lines)
 }
 
 #[test]
 fn members_of_seg6_local(rt: HostRuntime) -> Result<(), Fail> {
-    let action = RouteSeg6LocalTunnel::Action(Seg6LocalAction::EndDx4);
-    says(&rt, RouteSeg6LocalTunnel::Unspecified, "unspecified")?;
-    says(&rt, action, "action End.DX4")?;
-    says(&rt, RouteSeg6LocalTunnel::Table(254), "table 254")?;
-    let address = Ipv4Addr::new(10, 0, 0, 1);
-    says(&rt, RouteSeg6LocalTunnel::Nh4(address), "nh4 10.0.0.1")?;
-    let address = Ipv6Addr::from(FIRST);
-    says(&rt, RouteSeg6LocalTunnel::Nh6(address), "nh6 fc00::1")?;
-    says(&rt, RouteSeg6LocalTunnel::Iif(2), "iif 2")?;
-    says(&rt, RouteSeg6LocalTunnel::Oif(3), "oif 3")?;
-    says(&rt, RouteSeg6LocalTunnel::VrfTable(9), "vrftable 9")?;
-    says(&rt, RouteSeg6LocalTunnel::Other(unknown(&rt)?), UNKNOWN)
+    let lines = "
+        04000000 => unspecified
+        08000100 06000000 => action End.DX4
+        0c000200 00000000 ff000000 => srh segs 256 [  ]
+        08000300 fe000000 => table 254
+        08000400 0a000001 => nh4 10.0.0.1
+        14000500 fc000000000000000000000000000001 => nh6 fc00::1
+        08000600 02000000 => iif 2
+        08000700 03000000 => oif 3
+        08000900 09000000 => vrftable 9
+        06006300 0102 => DefaultNla { kind: 99, value: [1, 2] }";
+    displays::<RouteSeg6LocalTunnel>(&rt, lines)
 }
 
 #[test]
-fn routing_headers(rt: HostRuntime) -> Result<(), Fail> {
-    let alloc = rt.alloc();
-    let mut header = Seg6LocalSrh::new(alloc);
-    header.first_segment = 255;
-    says(&rt, RouteSeg6LocalTunnel::Srh(header), "srh segs 256 [  ]")?;
-    let mut header = RplSrh::new(alloc);
+fn members_of_rpl(rt: HostRuntime) -> Result<(), Fail> {
+    let mut header = RplSrh::new(rt.alloc());
     header.segments_left = 2;
-    header.segments = vec![in alloc; Ipv6Addr::from(FIRST), Ipv6Addr::from(SECOND)]?;
-    says(
-        &rt,
-        RouteRplIpTunnel::Srh(header),
-        "srh segs 2 [ fc00::2 fc00::1 ]",
-    )?;
-    says(&rt, RouteRplIpTunnel::Unspecified, "unspecified")?;
-    says(&rt, RouteRplIpTunnel::Other(unknown(&rt)?), UNKNOWN)
+    header.segments = vec![in rt.alloc(); Ipv6Addr::from(FIRST), Ipv6Addr::from(SECOND)]?;
+    let header = RouteRplIpTunnel::Srh(header);
+    says(&rt, header, "srh segs 2 [ fc00::2 fc00::1 ]")?;
+    let lines = "
+        04000000 => unspecified
+        06006300 0102 => DefaultNla { kind: 99, value: [1, 2] }";
+    displays::<RouteRplIpTunnel>(&rt, lines)
 }
 
 /// A trace of this type, with a namespace and the room that is left.
@@ -166,20 +137,25 @@ fn trace(trace_type: u32, namespace_id: u16, remlen: u8) -> RouteIoam6Tunnel {
 
 #[test]
 fn members_of_ioam6(rt: HostRuntime) -> Result<(), Fail> {
-    let address = Ipv6Addr::from(FIRST);
-    says(&rt, RouteIoam6Tunnel::Unspecified, "unspecified")?;
-    says(&rt, RouteIoam6Tunnel::Mode(Ioam6Mode::Encap), "mode encap")?;
-    says(&rt, RouteIoam6Tunnel::Dst(address), "tundst fc00::1")?;
-    says(&rt, RouteIoam6Tunnel::FreqK(1), "freq 1")?;
-    says(&rt, RouteIoam6Tunnel::FreqN(2), "/2")?;
-    says(&rt, RouteIoam6Tunnel::Src(address), "tunsrc fc00::1")?;
-    says(&rt, RouteIoam6Tunnel::Other(unknown(&rt)?), UNKNOWN)?;
+    let lines = "
+        04000000 => unspecified
+        05000100 02 => mode encap
+        14000200 fc000000000000000000000000000001 => tundst fc00::1
+        0c000300 0001007f f0000000 => trace prealloc type 0xf00000 ns 1 size 508
+        08000400 01000000 => freq 1
+        08000500 02000000 => /2
+        14000600 fc000000000000000000000000000001 => tunsrc fc00::1
+        06006300 0102 => DefaultNla { kind: 99, value: [1, 2] }";
+    displays::<RouteIoam6Tunnel>(&rt, lines)
+}
+
+/// Of fields that no bytes give.
+#[test]
+fn traces(rt: HostRuntime) -> Result<(), Fail> {
     let text = "trace prealloc type 0x000001 ns 0 size 1020";
     says(&rt, trace(1, 0, 255), text)?;
     let text = "trace prealloc type 0x1000000 ns 0 size 0";
-    says(&rt, trace(0x100_0000, 0, 0), text)?;
-    let text = "trace prealloc type 0xf00000 ns 1 size 508";
-    says(&rt, trace(0xf0_0000, 1, 127), text)
+    says(&rt, trace(0x100_0000, 0, 0), text)
 }
 
 /// A writer that fails at the call by which it would hold more bytes than so many.
@@ -218,22 +194,40 @@ fn is_passed_on<T: fmt::Display + Drop>(
     Ok(())
 }
 
+/// The same of what this attribute is, which is printed so.
+fn is_read_and_passed_on<A: Attribute<Context = ()> + fmt::Debug + fmt::Display>(
+    rt: &(impl Abort + AllocGlobal),
+    bytes: &str,
+    text: &str,
+) -> Result<(), Fail> {
+    let bytes = bytes_of(rt, &[bytes])?;
+    let item = NlaBuffer::new_checked(bytes.as_slice())?;
+    let found = A::read(rt.alloc(), (), &item, &mut Looks::new())?;
+    shows(rt, &found, text)?;
+    is_passed_on(rt, found)
+}
+
 #[test]
-fn to_a_writer_that_fails(rt: HostRuntime) -> Result<(), Fail> {
-    let alloc = rt.alloc();
+fn values_to_a_writer_that_fails(rt: HostRuntime) -> Result<(), Fail> {
     is_passed_on(&rt, trace(0xf0_0000, 1, 127))?;
     is_passed_on(&rt, RouteNextHopFlags::from_bits_retain(0xff))?;
     is_passed_on(&rt, Ipv6Addr::from(FIRST))?;
-    is_passed_on(&rt, RouteScope::Other(7))?;
-    let flags = RouteIpTunnelFlags::from_bits_retain(0xff);
-    is_passed_on(&rt, RouteIpTunnel::Flags(flags))?;
-    let mut option = RouteGeneveOpt::new(alloc);
-    option.opt_data = [0xab, 0xcd].to_vec(alloc)?;
-    let geneve = RouteLwTunnelOpt::Geneve(vec![in alloc; option]?);
-    let erspan = RouteLwTunnelOpt::Erspan(Vec::new(alloc));
-    let options = RouteIp6Tunnel::Opts(vec![in alloc; geneve, erspan]?);
-    is_passed_on(&rt, options)?;
-    let mut header = Seg6LocalSrh::new(alloc);
-    header.segments = vec![in alloc; Ipv6Addr::from(FIRST), Ipv6Addr::from(SECOND)]?;
-    is_passed_on(&rt, RouteSeg6LocalTunnel::Srh(header))
+    is_passed_on(&rt, RouteScope::Other(7))
+}
+
+#[test]
+fn members_to_a_writer_that_fails(rt: HostRuntime) -> Result<(), Fail> {
+    let text = "Flags(RouteIpTunnelFlags(255))";
+    is_read_and_passed_on::<RouteIpTunnel>(&rt, "06000600 00ff", text)?;
+    let bytes = "1c000800 14000100 06000100 00000000 06000300 abcd0000 04000300";
+    let text =
+        "Opts([Geneve([RouteGeneveOpt { class: 0, typ: 0, opt_data: [171, 205] }]), Erspan([])])";
+    is_read_and_passed_on::<RouteIp6Tunnel>(&rt, bytes, text)?;
+    let bytes =
+        "2c000200 00040000 00000000 fc000000000000000000000000000001 fc000000000000000000000000000002";
+    let text = "Srh(Seg6LocalSrh { next_header: 0, routing_type: 0, segments_left: 0, \
+        first_segment: 0, flags: 0, tag: 0, \
+        segments: [fc00::1, \
+        fc00::2] })";
+    is_read_and_passed_on::<RouteSeg6LocalTunnel>(&rt, bytes, text)
 }
