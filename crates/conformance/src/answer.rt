@@ -1,9 +1,10 @@
 //! The answer of a parser to bytes, as a line of text.
 
-use crate::datagram::datagram_answer;
+use crate::datagram::datagrams_answer;
+use crate::stop::Stop;
 use netlink_packet_route::MessageKind;
 use netlink_packet_route::address::AddressHeader;
-use netlink_packet_route::framing::{DecodeError, Header, Message, Parseable, WriteError, to_vec};
+use netlink_packet_route::framing::{Header, Message, Parseable, to_vec};
 use netlink_packet_route::neighbour::NeighbourHeader;
 use netlink_packet_route::route::RouteHeader;
 use netlink_packet_route::rule::RuleHeader;
@@ -27,44 +28,29 @@ impl Asked {
         MessageKind::of(word).map(Asked::Message)
     }
 
-    /// What is answered to the bytes of a line.
+    /// What is answered to the bytes of a line: what is written of them, `refused` with the name of
+    /// the first fault, or `unfit` with the name of the cause.
     pub fn answer(self, alloc: Global, bytes: &[u8]) -> Result<String, AllocError> {
-        match self {
-            Asked::Message(kind) => answer(alloc, kind, bytes),
-            Asked::Datagrams => datagram_answer(alloc, bytes),
+        let answered = match self {
+            Asked::Message(MessageKind::Address) => answer::<AddressHeader>(alloc, bytes),
+            Asked::Message(MessageKind::Route) => answer::<RouteHeader>(alloc, bytes),
+            Asked::Message(MessageKind::Rule) => answer::<RuleHeader>(alloc, bytes),
+            Asked::Message(MessageKind::Neighbour) => answer::<NeighbourHeader>(alloc, bytes),
+            Asked::Datagrams => datagrams_answer(alloc, bytes),
+        };
+        match answered {
+            Ok(text) => Ok(text),
+            Err(Stop::Memory) => Err(AllocError),
+            Err(Stop::Refused(name)) => format!(in alloc; "refused {name}"),
+            Err(Stop::Unfit(name)) => format!(in alloc; "unfit {name}"),
         }
     }
 }
 
-/// What the parser of this kind answers to the bytes: `canonical` with the canonical bytes in
-/// hexadecimal, `refused` with the name of the refusal, or `unfit` with the name of the cause.
-fn answer(alloc: Global, kind: MessageKind, bytes: &[u8]) -> Result<String, AllocError> {
-    match kind {
-        MessageKind::Address => answer_by::<AddressHeader>(alloc, bytes),
-        MessageKind::Route => answer_by::<RouteHeader>(alloc, bytes),
-        MessageKind::Rule => answer_by::<RuleHeader>(alloc, bytes),
-        MessageKind::Neighbour => answer_by::<NeighbourHeader>(alloc, bytes),
-    }
-}
-
-fn answer_by<H: Header>(alloc: Global, bytes: &[u8]) -> Result<String, AllocError> {
-    let message = match Message::<H, H::Attribute>::parse(alloc, bytes) {
-        Ok(message) => message,
-        Err(DecodeError::OutOfMemory) => return Err(AllocError),
-        Err(fault) => {
-            let name = fault.name();
-            return format!(in alloc; "refused {name}");
-        }
-    };
-    match to_vec(alloc, &message) {
-        Ok(bytes) => {
-            let digits = hex::encode(alloc, bytes)?;
-            format!(in alloc; "canonical {digits}")
-        }
-        Err(WriteError::OutOfMemory) => Err(AllocError),
-        Err(WriteError::Unfit(cause)) => {
-            let name = cause.name();
-            format!(in alloc; "unfit {name}")
-        }
-    }
+/// `canonical` with the canonical bytes of a message with such a header in hexadecimal.
+fn answer<H: Header>(alloc: Global, bytes: &[u8]) -> Result<String, Stop> {
+    let message = Message::<H, H::Attribute>::parse(alloc, bytes)?;
+    let written = to_vec(alloc, &message)?;
+    let digits = hex::encode(alloc, written)?;
+    Ok(format!(in alloc; "canonical {digits}")?)
 }

@@ -30,7 +30,7 @@ impl From<AllocError> for Fault {
 }
 
 /// How many lines were compared, and how many were answered otherwise.
-#[derive(Debug, Drop)]
+#[derive(Drop)]
 pub struct Comparison {
     /// The lines that were compared.
     pub lines: u64,

@@ -7,6 +7,7 @@
 mod answer;
 mod comparison;
 mod datagram;
+mod stop;
 
 use answer::Asked;
 use comparison::Comparison;

@@ -1,8 +1,9 @@
 //! What is shown of an attribute of any family.
 
 use crate::field::{Fields, UNKNOWN, Word};
+use crate::names::REALMS;
 use netlink_packet_route::framing::{DefaultNla, NLA_TYPE_MASK, Nla};
-use std::alloc::AllocError;
+use netlink_packet_route::route::RouteRealm;
 
 /// The last place of a line.
 const LAST: u8 = 250;
@@ -15,18 +16,29 @@ const FLAGS: Word = Word(1, "flags", "/");
 
 const VALUE: Word = Word(2, "value", "");
 
+/// The words for the realm of a source, for the realm behind it, and for a realm alone.
+pub type RealmWords = (Word, Word, Word);
+
+/// Realms.
+pub fn push_realm(fields: &mut Fields, words: RealmWords, realm: RouteRealm) {
+    let (from, to, alone) = words;
+    if realm.source == 0 {
+        return fields.named(alone, REALMS, realm.destination);
+    }
+    fields.named(from, REALMS, realm.source);
+    fields.named(to, REALMS, realm.destination);
+}
+
 /// An attribute that nobody knows: its number, the flags of its kind if it has any, and its value.
-pub fn push_unknown(fields: &mut Fields, nla: &DefaultNla) -> Result<(), AllocError> {
+pub fn push_unknown(fields: &mut Fields, nla: &DefaultNla) {
     push_raw(fields, nla.kind(), nla.value())
 }
 
 /// The same of an attribute that is not at hand as one.
-pub fn push_raw(fields: &mut Fields, kind: u16, value: &[u8]) -> Result<(), AllocError> {
+pub fn push_raw(fields: &mut Fields, kind: u16, value: &[u8]) {
     let mut inside = Fields::new(fields.manner);
-    inside.number(NUMBER, u64::from(kind & NLA_TYPE_MASK))?;
-    if kind & !NLA_TYPE_MASK != 0 {
-        inside.bits(FLAGS, u64::from(kind & !NLA_TYPE_MASK))?;
-    }
-    inside.bytes(VALUE, value)?;
-    fields.object(WHOLE, inside)
+    inside.number(NUMBER, kind & NLA_TYPE_MASK);
+    inside.some_bits(FLAGS, kind & !NLA_TYPE_MASK);
+    inside.bytes(VALUE, value);
+    fields.object(WHOLE, inside);
 }

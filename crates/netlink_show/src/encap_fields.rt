@@ -1,17 +1,17 @@
 //! What is shown of the members of an encapsulation.
 
 use crate::attribute_fields::push_unknown;
-use crate::field::{Fields, Word, joined};
+use crate::field::{Fields, ITEM, Word};
+use crate::manner::Labels;
 use crate::names::{SEG6_MODES, TABLES};
 use crate::tunnel_fields::{push_ip, push_ip6};
 use netlink_packet_route::net::Ipv6Addr;
 use netlink_packet_route::numbers;
 use netlink_packet_route::route::{
-    Ioam6Mode, Ioam6TraceHdr, MplsLabel, RouteIoam6Tunnel, RouteLwTunnelEncap, RouteMplsIpTunnel,
+    Ioam6Mode, Ioam6TraceHdr, RouteIoam6Tunnel, RouteLwTunnelEncap, RouteMplsIpTunnel,
     RouteRplIpTunnel, RouteSeg6IpTunnel, RouteSeg6LocalTunnel, RouteXfrmTunnel, RplSrh, Seg6Header,
     Seg6LocalAction, Seg6LocalSrh,
 };
-use std::alloc::AllocError;
 
 const LABELS: Word = Word(0, "dst", "");
 
@@ -19,7 +19,7 @@ const TTL: Word = Word(1, "ttl", "ttl ");
 
 const MODE: Word = Word(0, "mode", "mode ");
 
-const SEGMENTS: Word = Word(1, "segs", "segs ");
+const SEGMENTS: Word = Word(1, "segs", "");
 
 const HMAC: Word = Word(2, "hmac", "hmac ");
 
@@ -91,7 +91,7 @@ const LINK: Word = Word(1, "link_dev", "link_dev ");
 const UNSPECIFIED: Word = Word(100, "unspecified", "unspecified");
 
 /// What is shown of a member.
-pub fn push_encap(fields: &mut Fields, member: &RouteLwTunnelEncap) -> Result<(), AllocError> {
+pub fn push_encap(fields: &mut Fields, member: &RouteLwTunnelEncap) {
     match member {
         RouteLwTunnelEncap::Mpls(member) => push_mpls(fields, member),
         RouteLwTunnelEncap::Seg6(member) => push_seg6(fields, member),
@@ -105,20 +105,15 @@ pub fn push_encap(fields: &mut Fields, member: &RouteLwTunnelEncap) -> Result<()
     }
 }
 
-fn push_mpls(fields: &mut Fields, member: &RouteMplsIpTunnel) -> Result<(), AllocError> {
+fn push_mpls(fields: &mut Fields, member: &RouteMplsIpTunnel) {
     match member {
-        RouteMplsIpTunnel::Destination(labels) => push_labels(fields, labels.as_slice()),
-        RouteMplsIpTunnel::Ttl(hops) => fields.number(TTL, u64::from(*hops)),
+        RouteMplsIpTunnel::Destination(labels) => fields.text(LABELS, &Labels(labels.as_slice())),
+        RouteMplsIpTunnel::Ttl(hops) => fields.number(TTL, *hops),
         RouteMplsIpTunnel::Other(nla) => push_unknown(fields, nla),
     }
 }
 
-fn push_labels(fields: &mut Fields, labels: &[MplsLabel]) -> Result<(), AllocError> {
-    let text = fields.manner.labels(labels)?;
-    fields.text(LABELS, &text)
-}
-
-fn push_seg6(fields: &mut Fields, member: &RouteSeg6IpTunnel) -> Result<(), AllocError> {
+fn push_seg6(fields: &mut Fields, member: &RouteSeg6IpTunnel) {
     match member {
         RouteSeg6IpTunnel::Seg6(header) => push_seg6_header(fields, header),
         RouteSeg6IpTunnel::Src(ip) => fields.text(SOURCE, ip),
@@ -127,31 +122,24 @@ fn push_seg6(fields: &mut Fields, member: &RouteSeg6IpTunnel) -> Result<(), Allo
     }
 }
 
-fn push_seg6_header(fields: &mut Fields, header: &Seg6Header) -> Result<(), AllocError> {
-    fields.named(MODE, SEG6_MODES, numbers::seg6_mode(header.mode))?;
-    push_segments(fields, header.segments.as_slice())?;
-    match header.hmac {
-        Some(key) => fields.bits(HMAC, u64::from(key)),
-        None => Ok(()),
+fn push_seg6_header(fields: &mut Fields, header: &Seg6Header) {
+    fields.named(MODE, SEG6_MODES, numbers::seg6_mode(header.mode));
+    push_segments(fields, header.segments.as_slice());
+    if let Some(key) = header.hmac {
+        fields.bits(HMAC, key);
     }
 }
 
-fn push_segments(fields: &mut Fields, segments: &[Ipv6Addr]) -> Result<(), AllocError> {
-    let alloc = fields.manner.alloc;
-    let mut texts = Vec::new(alloc);
+fn push_segments(fields: &mut Fields, segments: &[Ipv6Addr]) {
+    let mut inside = Fields::new(fields.manner);
     for segment in segments {
-        texts.push(format!(in alloc; "{segment}")?)?;
+        inside.text(ITEM, segment);
     }
-    let count = texts.len();
-    let inside = joined(alloc, texts.as_slice(), " ")?;
-    fields.list(
-        SEGMENTS,
-        texts,
-        format!(in alloc; "segs {count} [ {inside} ]")?,
-    )
+    fields.list(SEGMENTS, inside, " ");
+    fields.enclose("segs", segments.len());
 }
 
-fn push_local(fields: &mut Fields, member: &RouteSeg6LocalTunnel) -> Result<(), AllocError> {
+fn push_local(fields: &mut Fields, member: &RouteSeg6LocalTunnel) {
     match member {
         RouteSeg6LocalTunnel::Unspecified => fields.mark(UNSPECIFIED),
         RouteSeg6LocalTunnel::Action(action) => push_local_action(fields, *action),
@@ -159,23 +147,23 @@ fn push_local(fields: &mut Fields, member: &RouteSeg6LocalTunnel) -> Result<(), 
         RouteSeg6LocalTunnel::Table(number) => fields.named(TABLE, TABLES, *number),
         RouteSeg6LocalTunnel::Nh4(ip) => fields.text(HOP4, ip),
         RouteSeg6LocalTunnel::Nh6(ip) => fields.text(HOP6, ip),
-        RouteSeg6LocalTunnel::Iif(index) => fields.number(INCOMING, u64::from(*index)),
-        RouteSeg6LocalTunnel::Oif(index) => fields.number(OUTGOING, u64::from(*index)),
+        RouteSeg6LocalTunnel::Iif(index) => fields.number(INCOMING, *index),
+        RouteSeg6LocalTunnel::Oif(index) => fields.number(OUTGOING, *index),
         RouteSeg6LocalTunnel::VrfTable(number) => fields.named(VRF_TABLE, TABLES, *number),
         RouteSeg6LocalTunnel::Other(nla) => push_unknown(fields, nla),
     }
 }
 
-fn push_local_action(fields: &mut Fields, action: Seg6LocalAction) -> Result<(), AllocError> {
+fn push_local_action(fields: &mut Fields, action: Seg6LocalAction) {
     match action {
         Seg6LocalAction::Other(number) => fields.text(ACTION, &number),
         _ => fields.text(ACTION, &action),
     }
 }
 
-fn push_local_header(fields: &mut Fields, header: &Seg6LocalSrh) -> Result<(), AllocError> {
+fn push_local_header(fields: &mut Fields, header: &Seg6LocalSrh) {
     let mut inside = Fields::new(fields.manner);
-    push_segments(&mut inside, header.segments.as_slice())?;
+    push_segments(&mut inside, header.segments.as_slice());
     let numbers = [
         (NEXT_HEADER, header.next_header),
         (ROUTING_TYPE, header.routing_type),
@@ -183,19 +171,18 @@ fn push_local_header(fields: &mut Fields, header: &Seg6LocalSrh) -> Result<(), A
         (FIRST_SEGMENT, header.first_segment),
         (FLAGS, header.flags),
     ];
-    push_numbers(&mut inside, &numbers)?;
-    inside.number(TAG, u64::from(header.tag))?;
-    fields.object(HEADER, inside)
+    push_numbers(&mut inside, &numbers);
+    inside.number(TAG, header.tag);
+    fields.object(HEADER, inside);
 }
 
-fn push_numbers(fields: &mut Fields, numbers: &[(Word, u8)]) -> Result<(), AllocError> {
+fn push_numbers(fields: &mut Fields, numbers: &[(Word, u8)]) {
     for (word, number) in numbers {
-        fields.number(*word, u64::from(*number))?;
+        fields.number(*word, *number);
     }
-    Ok(())
 }
 
-fn push_rpl(fields: &mut Fields, member: &RouteRplIpTunnel) -> Result<(), AllocError> {
+fn push_rpl(fields: &mut Fields, member: &RouteRplIpTunnel) {
     match member {
         RouteRplIpTunnel::Unspecified => fields.mark(UNSPECIFIED),
         RouteRplIpTunnel::Srh(header) => push_rpl_header(fields, header),
@@ -203,8 +190,8 @@ fn push_rpl(fields: &mut Fields, member: &RouteRplIpTunnel) -> Result<(), AllocE
     }
 }
 
-fn push_rpl_header(fields: &mut Fields, header: &RplSrh) -> Result<(), AllocError> {
-    push_segments(fields, header.segments.as_slice())?;
+fn push_rpl_header(fields: &mut Fields, header: &RplSrh) {
+    push_segments(fields, header.segments.as_slice());
     let numbers = [
         (NEXT_HEADER, header.next_header),
         (ROUTING_TYPE, header.routing_type),
@@ -213,47 +200,46 @@ fn push_rpl_header(fields: &mut Fields, header: &RplSrh) -> Result<(), AllocErro
         (LEFT_OUT_LAST, header.cmpre),
         (PADDING, header.pad),
     ];
-    push_numbers(fields, &numbers)
+    push_numbers(fields, &numbers);
 }
 
-fn push_ioam6(fields: &mut Fields, member: &RouteIoam6Tunnel) -> Result<(), AllocError> {
+fn push_ioam6(fields: &mut Fields, member: &RouteIoam6Tunnel) {
     match member {
         RouteIoam6Tunnel::Unspecified => fields.mark(UNSPECIFIED),
         RouteIoam6Tunnel::Mode(mode) => push_mode(fields, *mode),
         RouteIoam6Tunnel::Dst(ip) => fields.text(TUNNEL_DESTINATION, ip),
         RouteIoam6Tunnel::Trace(header) => push_trace(fields, header),
-        RouteIoam6Tunnel::FreqK(count) => fields.number(FREQUENCY, u64::from(*count)),
-        RouteIoam6Tunnel::FreqN(count) => fields.number(OF, u64::from(*count)),
+        RouteIoam6Tunnel::FreqK(count) => fields.number(FREQUENCY, *count),
+        RouteIoam6Tunnel::FreqN(count) => fields.number(OF, *count),
         RouteIoam6Tunnel::Src(ip) => fields.text(TUNNEL_SOURCE, ip),
         RouteIoam6Tunnel::Other(nla) => push_unknown(fields, nla),
     }
 }
 
-fn push_mode(fields: &mut Fields, mode: Ioam6Mode) -> Result<(), AllocError> {
+fn push_mode(fields: &mut Fields, mode: Ioam6Mode) {
     match mode {
         Ioam6Mode::Other(number) => fields.text(MODE, &number),
         _ => fields.text(MODE, &mode),
     }
 }
 
-fn push_trace(fields: &mut Fields, header: &Ioam6TraceHdr) -> Result<(), AllocError> {
-    fields.mark(TRACE)?;
-    fields.mark(PREALLOCATED)?;
-    fields.bits(TRACE_TYPE, u64::from(header.trace_type))?;
-    fields.number(NAMESPACE, u64::from(header.namespace_id))?;
-    fields.number(SIZE, u64::from(header.remlen) * 4)?;
-    fields.number(NODE_LENGTH, u64::from(header.nodelen))?;
+fn push_trace(fields: &mut Fields, header: &Ioam6TraceHdr) {
+    fields.mark(TRACE);
+    fields.mark(PREALLOCATED);
+    fields.bits(TRACE_TYPE, header.trace_type);
+    fields.number(NAMESPACE, header.namespace_id);
+    fields.number(SIZE, u64::from(header.remlen) * 4);
+    fields.number(NODE_LENGTH, header.nodelen);
     if header.overflow {
-        fields.truth(OVERFLOW)?;
+        fields.truth(OVERFLOW, true);
     }
-    Ok(())
 }
 
-fn push_xfrm(fields: &mut Fields, member: &RouteXfrmTunnel) -> Result<(), AllocError> {
+fn push_xfrm(fields: &mut Fields, member: &RouteXfrmTunnel) {
     match member {
         RouteXfrmTunnel::Unspecified => fields.mark(UNSPECIFIED),
-        RouteXfrmTunnel::IfId(id) => fields.bits(INTERFACE_ID, u64::from(*id)),
-        RouteXfrmTunnel::Link(index) => fields.number(LINK, u64::from(*index)),
+        RouteXfrmTunnel::IfId(id) => fields.bits(INTERFACE_ID, *id),
+        RouteXfrmTunnel::Link(index) => fields.number(LINK, *index),
         RouteXfrmTunnel::Other(nla) => push_unknown(fields, nla),
     }
 }

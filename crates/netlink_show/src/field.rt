@@ -1,7 +1,7 @@
 //! What is shown of a message, piece by piece: each piece has its text and its value in JSON, so that
 //! a line and an object are made of one list.
 
-use crate::manner::Manner;
+use crate::manner::{Hexadecimal, Manner};
 use crate::names::Names;
 use serde_json::{Map, Value};
 use std::alloc::{AllocError, Global};
@@ -18,6 +18,9 @@ const AGAIN: &str = "again";
 #[derive(Clone, Copy)]
 pub struct Word(pub u8, pub &'static str, pub &'static str);
 
+/// Bits, each with its word.
+pub type Flags = &'static [(u32, Word)];
+
 /// A piece of a message.
 #[derive(Drop)]
 struct Field {
@@ -31,12 +34,15 @@ struct Field {
     value: Value,
 }
 
-/// The pieces of a message, or of an object inside one.
+/// The pieces of a message, or of an object inside one. Where memory is refused for one, pieces are
+/// still taken, and what is made of them is refused in the end.
 #[derive(Drop)]
 pub struct Fields {
     /// How values are shown.
     pub manner: Manner,
     items: Vec<Field>,
+    /// Whether memory was refused for a piece.
+    is_cut: bool,
 }
 
 impl Fields {
@@ -45,24 +51,49 @@ impl Fields {
         Fields {
             manner,
             items: Vec::new(manner.alloc),
+            is_cut: false,
         }
     }
 
-    /// Adds a piece of this text and this value.
-    pub fn push(&mut self, word: Word, text: String, value: Value) -> Result<(), AllocError> {
-        self.items.push(Field {
+    /// Takes notice that memory was refused.
+    pub fn refuse(&mut self) {
+        self.is_cut = true;
+    }
+
+    /// Adds a piece of this value, which a line shows so behind its word.
+    pub fn push<V: Into<Value>, D: fmt::Display>(&mut self, word: Word, value: V, shown: &D) {
+        let lead = word.2;
+        let value = value.into();
+        match format!(in self.manner.alloc; "{lead}{shown}") {
+            Ok(text) => self.add(word, text, value),
+            Err(AllocError) => self.is_cut = true,
+        }
+    }
+
+    /// A value that a line shows by this text behind its word.
+    pub fn written<V: Into<Value>>(
+        &mut self,
+        word: Word,
+        value: V,
+        text: Result<String, AllocError>,
+    ) {
+        let value = value.into();
+        match text {
+            Ok(text) => self.push(word, value, &text),
+            Err(AllocError) => self.is_cut = true,
+        }
+    }
+
+    /// Adds a piece of this text.
+    fn add(&mut self, word: Word, text: String, value: Value) {
+        let field = Field {
             place: word.0,
             key: word.1,
             text,
             value,
-        })?;
-        Ok(())
-    }
-
-    /// Takes the text of the last piece away.
-    pub fn hide(&mut self) {
-        if let Some(field) = self.items.as_mut_slice().last_mut() {
-            field.text.clear();
+        };
+        if self.items.push(field).is_err() {
+            self.is_cut = true;
         }
     }
 
@@ -73,122 +104,194 @@ impl Fields {
         }
     }
 
+    /// Takes the text of the last piece away.
+    pub fn hide(&mut self) {
+        if let Some(field) = self.items.as_mut_slice().last_mut() {
+            field.text.clear();
+        }
+    }
+
     /// A value as it is printed, which is a text in JSON too.
-    pub fn text<D: fmt::Display>(&mut self, word: Word, shown: &D) -> Result<(), AllocError> {
-        let alloc = self.manner.alloc;
-        let value = Value::from(format!(in alloc; "{shown}")?);
-        self.push(word, led_by(alloc, word, shown)?, value)
+    pub fn text<D: fmt::Display>(&mut self, word: Word, shown: &D) {
+        match format!(in self.manner.alloc; "{shown}") {
+            Ok(text) => self.push(word, text, shown),
+            Err(AllocError) => self.is_cut = true,
+        }
     }
 
     /// A number's name among these, or the number.
-    pub fn named(&mut self, word: Word, names: Names, number: u32) -> Result<(), AllocError> {
-        let name = self.manner.name(names, number)?;
-        self.text(word, &name)
+    pub fn named<N: Into<u32>>(&mut self, word: Word, names: Names, number: N) {
+        let number = number.into();
+        match self.manner.name(names, number) {
+            Some(name) => self.text(word, &name),
+            None => self.text(word, &number),
+        }
     }
 
     /// A number.
-    pub fn number(&mut self, word: Word, number: u64) -> Result<(), AllocError> {
-        self.measured(word, number, &number)
+    pub fn number<N: Into<Value> + fmt::Display + Copy>(&mut self, word: Word, number: N) {
+        self.push(word, number, &number);
     }
 
-    /// A number that may be below 0.
-    pub fn signed(&mut self, word: Word, number: i32) -> Result<(), AllocError> {
-        let text = led_by(self.manner.alloc, word, &number)?;
-        self.push(word, text, Value::from(number))
-    }
-
-    /// A number that is printed in another way in a line.
-    pub fn measured<D: fmt::Display>(
-        &mut self,
-        word: Word,
-        number: u64,
-        shown: &D,
-    ) -> Result<(), AllocError> {
-        let text = led_by(self.manner.alloc, word, shown)?;
-        self.push(word, text, Value::from(number))
-    }
-
-    /// Seconds that are left.
-    pub fn lifetime(&mut self, word: Word, seconds: u32) -> Result<(), AllocError> {
-        let text = self.manner.lifetime(seconds)?;
-        self.measured(word, u64::from(seconds), &text)
+    /// Seconds that are left; the greatest number is for ever.
+    pub fn lifetime(&mut self, word: Word, seconds: u32) {
+        match seconds {
+            u32::MAX => self.push(word, seconds, &"forever"),
+            _ => {
+                let text = format!(in self.manner.alloc; "{seconds}sec");
+                self.written(word, seconds, text)
+            }
+        }
     }
 
     /// Bits, which are a hexadecimal text in JSON too.
-    pub fn bits(&mut self, word: Word, bits: u64) -> Result<(), AllocError> {
-        let text = format!(in self.manner.alloc; "0x{bits:x}")?;
-        self.text(word, &text)
+    pub fn bits<N: Into<u64>>(&mut self, word: Word, bits: N) {
+        let bits = bits.into();
+        self.text(word, &format_args!("0x{bits:x}"));
+    }
+
+    /// Bits, if there are some.
+    pub fn some_bits<N: Into<u64>>(&mut self, word: Word, bits: N) {
+        let bits = bits.into();
+        if bits != 0 {
+            self.bits(word, bits);
+        }
     }
 
     /// Bytes in hexadecimal.
-    pub fn bytes(&mut self, word: Word, bytes: &[u8]) -> Result<(), AllocError> {
-        let text = hex::encode(self.manner.alloc, bytes)?;
-        self.text(word, &text)
+    pub fn bytes(&mut self, word: Word, bytes: &[u8]) {
+        self.text(word, &Hexadecimal(bytes, ""));
     }
 
     /// A word without a value: `null` in JSON.
-    pub fn mark(&mut self, word: Word) -> Result<(), AllocError> {
-        let text = String::from_str(self.manner.alloc, word.2)?;
-        self.push(word, text, Value::Null)
+    pub fn mark(&mut self, word: Word) {
+        self.push(word, (), &"");
     }
 
-    /// A word without a value: `true` in JSON.
-    pub fn truth(&mut self, word: Word) -> Result<(), AllocError> {
-        self.truth_of(word, true, "")
+    /// A word without a value, which tells that something is so, or is not.
+    pub fn truth(&mut self, word: Word, is_so: bool) {
+        self.push(word, is_so, &"");
     }
 
-    /// A truth that has a word of its own in a line.
-    pub fn truth_of(&mut self, word: Word, is_so: bool, shown: &str) -> Result<(), AllocError> {
-        let text = led_by(self.manner.alloc, word, &shown)?;
-        self.push(word, text, Value::from(is_so))
-    }
-
-    /// Texts, which are a list in JSON.
-    pub fn list(&mut self, word: Word, items: Vec<String>, text: String) -> Result<(), AllocError> {
-        let mut values = Vec::new(self.manner.alloc);
-        for item in items {
-            values.push(Value::from(item))?;
+    /// The words of the bits that are set, of which this is the value. Answers the bits without a word.
+    pub fn flags(&mut self, flags: Flags, bits: u32, value: Option<bool>) -> u32 {
+        let mut rest = bits;
+        for (bit, word) in flags {
+            if bits & *bit != 0 {
+                self.push(*word, value, &"");
+            }
+            rest &= !*bit;
         }
-        self.push(word, text, Value::from(values))
+        rest
+    }
+
+    /// The names of the bits that are set, and the rest as a number, which are a list in JSON.
+    pub fn set(&mut self, word: Word, names: Names, bits: u32, between: &str) {
+        let mut inside = Fields::new(self.manner);
+        let mut rest = bits;
+        for (bit, name) in names {
+            if bits & *bit != 0 {
+                inside.text(ITEM, name);
+            }
+            rest &= !*bit;
+        }
+        inside.some_bits(ITEM, rest);
+        self.list(word, inside, between);
     }
 
     /// Pieces of its own: an object in JSON.
-    pub fn object(&mut self, word: Word, inside: Fields) -> Result<(), AllocError> {
-        let mut text = String::from_str(self.manner.alloc, word.2)?;
-        let members = members_of(inside, &mut text)?;
-        self.push(word, text, Value::from(members))
-    }
-
-    /// Objects, which are a list in JSON; the word stands before each in a line.
-    pub fn objects(&mut self, word: Word, items: Vec<Fields>) -> Result<(), AllocError> {
-        let mut text = String::new(self.manner.alloc);
-        let mut objects = Vec::new(self.manner.alloc);
-        for inside in items {
-            append(&mut text, word.2)?;
-            let members = members_of(inside, &mut text)?;
-            objects.push(Value::from(members))?;
+    pub fn object(&mut self, word: Word, inside: Fields) {
+        match inside.into_object(word.2) {
+            Ok((text, object)) => self.add(word, text, object),
+            Err(AllocError) => self.is_cut = true,
         }
-        self.push(word, text, Value::from(objects))
     }
-}
 
-/// What a line has: the word, and the value as it is printed.
-fn led_by<D: fmt::Display>(alloc: Global, word: Word, shown: &D) -> Result<String, AllocError> {
-    let lead = word.2;
-    format!(in alloc; "{lead}{shown}")
-}
+    /// The same, and the object is the only one of a list.
+    pub fn object_alone(&mut self, word: Word, inside: Fields) {
+        let mut objects = Fields::new(self.manner);
+        objects.object(word, inside);
+        self.list(word, objects, " ");
+    }
 
-/// Texts with this between them.
-pub fn joined(alloc: Global, items: &[String], between: &str) -> Result<String, AllocError> {
-    let mut text = String::new(alloc);
-    for item in items {
-        if !text.is_empty() {
-            text.push_str(between)?;
+    /// Pieces whose values are a list in JSON, with this between their texts.
+    pub fn list(&mut self, word: Word, inside: Fields, between: &str) {
+        match inside.into_list(between) {
+            Ok((text, list)) => self.add(word, text, list),
+            Err(AllocError) => self.is_cut = true,
         }
-        text.push_str(item.as_str())?;
     }
-    Ok(text)
+
+    /// Puts the text of the last piece into brackets, behind a name and a number.
+    pub fn enclose(&mut self, name: &str, count: usize) {
+        let alloc = self.manner.alloc;
+        let Some(field) = self.items.as_mut_slice().last_mut() else {
+            return;
+        };
+        match format!(in alloc; "{name} {count} [ {} ]", field.text) {
+            Ok(text) => field.text = text,
+            Err(AllocError) => self.is_cut = true,
+        }
+    }
+
+    /// Brings the pieces into the order of their places, unless memory is or was refused.
+    fn sort(&mut self) -> Result<(), AllocError> {
+        if self.is_cut {
+            return Err(AllocError);
+        }
+        let items = self.items.as_mut_slice();
+        items.sort_by_key(self.manner.alloc, |field| field.place)
+    }
+
+    /// The texts, with this between them and this before the first.
+    ///
+    /// # Errors
+    /// `AllocError` where memory is or was refused.
+    pub fn line(&mut self, lead: &str, between: &str) -> Result<String, AllocError> {
+        self.sort()?;
+        let mut line = String::from_str(self.manner.alloc, lead)?;
+        for field in self.items.iter() {
+            append(&mut line, between, field.text.as_str())?;
+        }
+        Ok(line)
+    }
+
+    /// The members of the object that the pieces are in JSON.
+    ///
+    /// # Errors
+    /// `AllocError` where memory is or was refused.
+    pub fn into_members(self) -> Result<Map<String, Value>, AllocError> {
+        let mut fields = self;
+        fields.sort()?;
+        let alloc = fields.manner.alloc;
+        let mut members = Map::new(alloc);
+        for field in fields.items {
+            put(alloc, &mut members, field.key, field.value)?;
+        }
+        Ok(members)
+    }
+
+    /// The texts behind this one, and the object.
+    fn into_object(self, lead: &str) -> Result<(String, Value), AllocError> {
+        let mut fields = self;
+        let text = fields.line(lead, " ")?;
+        Ok((text, Value::from(fields.into_members()?)))
+    }
+
+    /// The texts with this between them, and the list of the values.
+    fn into_list(self, between: &str) -> Result<(String, Value), AllocError> {
+        let mut fields = self;
+        let text = fields.line("", between)?;
+        let mut values = Vec::new(fields.manner.alloc);
+        for field in fields.items {
+            values.push(field.value)?;
+        }
+        Ok((text, Value::from(values)))
+    }
 }
+
+/// A text of a list.
+pub const ITEM: Word = Word(0, "", "");
 
 /// Whether a text goes on the one before it, without a blank.
 fn is_joined(text: &str) -> bool {
@@ -200,64 +303,44 @@ fn is_joined(text: &str) -> bool {
     }
 }
 
-/// Appends a piece of a line.
-fn append(line: &mut String, text: &str) -> Result<(), AllocError> {
+/// Appends a piece of a line, with this before it.
+fn append(line: &mut String, between: &str, text: &str) -> Result<(), AllocError> {
     if !line.is_empty() && !text.is_empty() && !is_joined(text) {
-        line.push(' ')?;
+        line.push_str(between)?;
     }
     line.push_str(text)
 }
 
-/// The object of these pieces, whose texts are appended to the line, each in the order of its place.
-pub fn members_of(fields: Fields, line: &mut String) -> Result<Map<String, Value>, AllocError> {
-    let Fields { manner, mut items } = fields;
-    let alloc = manner.alloc;
-    items
-        .as_mut_slice()
-        .sort_by_key(alloc, |field| field.place)?;
-    let mut members = Map::new(alloc);
-    let mut unknown = Vec::new(alloc);
-    let mut again = Vec::new(alloc);
-    for field in items {
-        append(line, field.text.as_str())?;
-        if field.key == UNKNOWN {
-            unknown.push(field.value)?;
-        } else if members.contains_key(field.key) {
-            again.push(lone(alloc, field)?)?;
-        } else {
-            put(alloc, &mut members, field.key, field.value)?;
-        }
-    }
-    put_list(alloc, &mut members, UNKNOWN, unknown)?;
-    put_list(alloc, &mut members, AGAIN, again)?;
-    Ok(members)
-}
-
-/// The object of this piece alone.
-fn lone(alloc: Global, field: Field) -> Result<Value, AllocError> {
-    let mut members = Map::new(alloc);
-    put(alloc, &mut members, field.key, field.value)?;
-    Ok(Value::from(members))
-}
-
+/// Puts a piece into an object, by its key, or behind others of this key.
 fn put(
     alloc: Global,
     members: &mut Map<String, Value>,
-    key: &str,
+    key: &'static str,
     value: Value,
 ) -> Result<(), AllocError> {
+    if key == UNKNOWN {
+        return put_behind(alloc, members, UNKNOWN, value);
+    }
+    if members.contains_key(key) {
+        let mut lone = Map::new(alloc);
+        lone.insert(String::from_str(alloc, key)?, value)?;
+        return put_behind(alloc, members, AGAIN, Value::from(lone));
+    }
     members.insert(String::from_str(alloc, key)?, value)?;
     Ok(())
 }
 
-fn put_list(
+/// Puts a value behind those that an object has in the list of this key.
+fn put_behind(
     alloc: Global,
     members: &mut Map<String, Value>,
-    key: &str,
-    list: Vec<Value>,
+    key: &'static str,
+    value: Value,
 ) -> Result<(), AllocError> {
-    if list.is_empty() {
-        return Ok(());
+    let key = String::from_str(alloc, key)?;
+    let none = Value::from(Vec::new(alloc));
+    if let Some(list) = members.entry(key)?.or_insert(none).as_array_mut() {
+        list.push(value)?;
     }
-    put(alloc, members, key, Value::from(list))
+    Ok(())
 }

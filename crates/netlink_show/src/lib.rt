@@ -20,7 +20,6 @@ mod route_attribute;
 mod route_fields;
 mod rule_fields;
 mod shown;
-mod subject;
 mod tunnel_fields;
 
 pub use attribute_names::attribute_name;

@@ -2,7 +2,8 @@
 
 use crate::names::Names;
 use netlink_packet_route::route::{MplsLabel, RouteAddress};
-use std::alloc::{AllocError, Global};
+use std::alloc::Global;
+use std::fmt;
 
 /// How values are shown, and where memory comes from.
 #[derive(Clone, Copy)]
@@ -14,82 +15,66 @@ pub struct Manner {
 }
 
 impl Manner {
-    /// The number's name among these, or the number.
-    pub fn name(self, names: Names, number: u32) -> Result<String, AllocError> {
-        match names.iter().find(|row| row.0 == number) {
-            Some(row) if !self.numeric => String::from_str(self.alloc, row.1),
-            _ => format!(in self.alloc; "{number}"),
+    /// The number's name among these, if it has one that is shown.
+    pub fn name(self, names: Names, number: u32) -> Option<&'static str> {
+        let (_, name) = names.iter().find(|row| row.0 == number && !self.numeric)?;
+        Some(*name)
+    }
+}
+
+/// Bytes in hexadecimal, with this between them.
+#[derive(Clone, Copy)]
+pub struct Hexadecimal<'a>(pub &'a [u8], pub &'static str);
+
+impl fmt::Display for Hexadecimal<'_> {
+    fn fmt<W: fmt::Write>(&self, f: &mut fmt::Formatter<W>) -> fmt::Result {
+        let mut between = "";
+        for byte in self.0 {
+            write!(f, "{between}{byte:02x}")?;
+            between = self.1;
+        }
+        Ok(())
+    }
+}
+
+/// An address, and of a family without a text its bytes.
+#[derive(Clone, Copy)]
+pub struct Address<'a>(pub &'a RouteAddress);
+
+impl fmt::Display for Address<'_> {
+    fn fmt<W: fmt::Write>(&self, f: &mut fmt::Formatter<W>) -> fmt::Result {
+        match self.0 {
+            RouteAddress::Inet(ip) => write!(f, "{ip}"),
+            RouteAddress::Inet6(ip) => write!(f, "{ip}"),
+            RouteAddress::Mpls(label) => write!(f, "{}", Label(*label, true)),
+            RouteAddress::Other(bytes) => write!(f, "{}", Hexadecimal(bytes.as_slice(), "")),
         }
     }
+}
 
-    /// An address, and of a family without a text its bytes.
-    pub fn address(self, address: &RouteAddress) -> Result<String, AllocError> {
-        match address {
-            RouteAddress::Inet(ip) => format!(in self.alloc; "{ip}"),
-            RouteAddress::Inet6(ip) => format!(in self.alloc; "{ip}"),
-            RouteAddress::Mpls(label) => self.label(*label, true),
-            RouteAddress::Other(bytes) => hex::encode(self.alloc, bytes.as_slice()),
+/// An address with the length of its prefix, where that is not the address's own.
+#[derive(Clone, Copy)]
+pub struct Prefix<'a>(pub &'a RouteAddress, pub u8);
+
+impl fmt::Display for Prefix<'_> {
+    fn fmt<W: fmt::Write>(&self, f: &mut fmt::Formatter<W>) -> fmt::Result {
+        let Prefix(address, length) = *self;
+        if length == whole_length(address) {
+            return write!(f, "{}", Address(address));
         }
+        write!(f, "{}/{length}", Address(address))
     }
+}
 
-    /// An address with the length of its prefix, where that is not the address's own.
-    pub fn prefix(self, address: &RouteAddress, length: u8) -> Result<String, AllocError> {
-        let mut text = self.address(address)?;
-        if length != whole_length(address) {
-            write!(text, "/{length}")?;
-        }
-        Ok(text)
-    }
+/// A prefix of this length without an address.
+#[derive(Clone, Copy)]
+pub struct Nowhere(pub u8);
 
-    /// Labels with `/` between them.
-    pub fn labels(self, labels: &[MplsLabel]) -> Result<String, AllocError> {
-        let mut text = String::new(self.alloc);
-        let mut left = labels.len();
-        for label in labels {
-            if !text.is_empty() {
-                text.push('/')?;
-            }
-            left = left.saturating_sub(1);
-            text.push_str(self.label(*label, left == 0)?.as_str())?;
-        }
-        Ok(text)
-    }
-
-    /// A label, in brackets with what `ip` does not show: a class and a time to live that are not 0,
-    /// and whether the stack ends with it, where that is not what its place says.
-    fn label(self, label: MplsLabel, is_last: bool) -> Result<String, AllocError> {
-        let mut text = format!(in self.alloc; "{}", label.label)?;
-        if label.traffic_class != 0 {
-            write!(text, "[tc {}]", label.traffic_class)?;
-        }
-        if label.bottom_of_stack != is_last {
-            write!(text, "[bottom {}]", label.bottom_of_stack)?;
-        }
-        if label.ttl != 0 {
-            write!(text, "[ttl {}]", label.ttl)?;
-        }
-        Ok(text)
-    }
-
-    /// Milliseconds, and from a second on seconds.
-    pub fn milliseconds(self, count: u32) -> Result<String, AllocError> {
-        let (seconds, rest) = (count / 1000, count % 1000);
-        match (seconds, rest) {
-            (0, _) => format!(in self.alloc; "{rest}ms"),
-            (_, 0) => format!(in self.alloc; "{seconds}s"),
-            _ => {
-                let digits = format!(in self.alloc; "{seconds}.{rest:03}")?;
-                let short = digits.as_str().trim_end_matches('0');
-                format!(in self.alloc; "{short}s")
-            }
-        }
-    }
-
-    /// Seconds that are left; the greatest number is for ever.
-    pub fn lifetime(self, seconds: u32) -> Result<String, AllocError> {
-        match seconds {
-            u32::MAX => String::from_str(self.alloc, "forever"),
-            _ => format!(in self.alloc; "{seconds}sec"),
+impl fmt::Display for Nowhere {
+    fn fmt<W: fmt::Write>(&self, f: &mut fmt::Formatter<W>) -> fmt::Result {
+        match self.0 {
+            0 => write!(f, "default"),
+            length => write!(f, "0/{length}"),
         }
     }
 }
@@ -101,5 +86,61 @@ fn whole_length(address: &RouteAddress) -> u8 {
         RouteAddress::Inet6(_) => 128,
         RouteAddress::Mpls(_) => 20,
         RouteAddress::Other(_) => 0,
+    }
+}
+
+/// Labels with `/` between them.
+#[derive(Clone, Copy)]
+pub struct Labels<'a>(pub &'a [MplsLabel]);
+
+impl fmt::Display for Labels<'_> {
+    fn fmt<W: fmt::Write>(&self, f: &mut fmt::Formatter<W>) -> fmt::Result {
+        let mut between = "";
+        let mut left = self.0.len();
+        for label in self.0 {
+            left = left.saturating_sub(1);
+            write!(f, "{between}{}", Label(*label, left == 0))?;
+            between = "/";
+        }
+        Ok(())
+    }
+}
+
+/// A label, in brackets with what `ip` does not show: a class and a time to live that are not 0,
+/// and whether the stack ends with it, where that is not what its place says.
+#[derive(Clone, Copy)]
+struct Label(MplsLabel, bool);
+
+impl fmt::Display for Label {
+    fn fmt<W: fmt::Write>(&self, f: &mut fmt::Formatter<W>) -> fmt::Result {
+        let Label(label, is_last) = *self;
+        write!(f, "{}", label.label)?;
+        if label.traffic_class != 0 {
+            write!(f, "[tc {}]", label.traffic_class)?;
+        }
+        if label.bottom_of_stack != is_last {
+            write!(f, "[bottom {}]", label.bottom_of_stack)?;
+        }
+        if label.ttl != 0 {
+            write!(f, "[ttl {}]", label.ttl)?;
+        }
+        Ok(())
+    }
+}
+
+/// Milliseconds, and from a second on seconds.
+#[derive(Clone, Copy)]
+pub struct Milliseconds(pub u32);
+
+impl fmt::Display for Milliseconds {
+    fn fmt<W: fmt::Write>(&self, f: &mut fmt::Formatter<W>) -> fmt::Result {
+        let (seconds, rest) = (self.0 / 1000, self.0 % 1000);
+        match (seconds, rest % 100, rest % 10) {
+            (0, ..) => write!(f, "{rest}ms"),
+            _ if rest == 0 => write!(f, "{seconds}s"),
+            (_, 0, _) => write!(f, "{seconds}.{}s", rest / 100),
+            (_, _, 0) => write!(f, "{seconds}.{:02}s", rest / 10),
+            _ => write!(f, "{seconds}.{rest:03}s"),
+        }
     }
 }

@@ -6,12 +6,11 @@ use crate::manner::Manner;
 use crate::neighbour_fields::push_neighbour;
 use crate::route_fields::push_route;
 use crate::rule_fields::push_rule;
-use crate::subject::{Subject, subject_of};
 use netlink_packet_core::{
     DoneMessage, ErrorMessage, NetlinkHeader, NetlinkInner, NetlinkMessage, NetlinkPayload,
     done_attributes, error_attributes, error_text, refused_message,
 };
-use netlink_packet_route::{OtherMessage, RouteNetlinkMessage};
+use netlink_packet_route::{MessageType, OtherMessage, RouteNetlinkMessage};
 use std::alloc::AllocError;
 
 /// What a message is.
@@ -34,92 +33,87 @@ const TYPE: Word = Word(1, "message_type", "type ");
 const LENGTH: Word = Word(2, "length", "length ");
 
 /// What is shown of a message.
-pub fn message_fields(
-    manner: Manner,
-    message: &NetlinkMessage<RouteNetlinkMessage>,
-) -> Result<Fields, AllocError> {
+pub fn message_fields(manner: Manner, message: &NetlinkMessage<RouteNetlinkMessage>) -> Fields {
     let mut fields = Fields::new(manner);
     let header = &message.header;
     match &message.payload {
-        NetlinkPayload::Done(end) => push_done(&mut fields, header, end)?,
-        NetlinkPayload::Error(error) => push_error(&mut fields, header, error)?,
-        NetlinkPayload::Noop => fields.text(KIND, &"noop")?,
-        NetlinkPayload::Overrun(bytes) => push_overrun(&mut fields, bytes.as_slice())?,
-        NetlinkPayload::InnerMessage(inner) => push_inner(&mut fields, inner)?,
+        NetlinkPayload::Done(end) => push_done(&mut fields, header, end),
+        NetlinkPayload::Error(error) => push_error(&mut fields, header, error),
+        NetlinkPayload::Noop => fields.text(KIND, &"noop"),
+        NetlinkPayload::Overrun(bytes) => push_overrun(&mut fields, bytes.as_slice()),
+        NetlinkPayload::InnerMessage(inner) => push_inner(&mut fields, inner),
     }
-    Ok(fields)
+    fields
 }
 
-fn push_done(
-    fields: &mut Fields,
-    header: &NetlinkHeader,
-    message: &DoneMessage,
-) -> Result<(), AllocError> {
-    fields.text(KIND, &"done")?;
-    fields.signed(CODE, message.code)?;
+fn push_done(fields: &mut Fields, header: &NetlinkHeader, message: &DoneMessage) {
+    fields.text(KIND, &"done");
+    fields.number(CODE, message.code);
     fields.hide_if(message.code == 0);
     let more = message.extended_ack.as_slice();
-    push_text(fields, done_attributes(header.flags, more))
+    push_text(fields, done_attributes(header.flags, more));
 }
 
-fn push_error(
-    fields: &mut Fields,
-    header: &NetlinkHeader,
-    message: &ErrorMessage,
-) -> Result<(), AllocError> {
+fn push_error(fields: &mut Fields, header: &NetlinkHeader, message: &ErrorMessage) {
     let more = message.header.as_slice();
-    fields.text(KIND, &"error")?;
-    fields.signed(CODE, message.raw_code())?;
-    push_text(fields, error_attributes(header.flags, more))?;
-    fields.bytes(REFUSED, refused_message(header.flags, more))
+    fields.text(KIND, &"error");
+    fields.number(CODE, message.raw_code());
+    push_text(fields, error_attributes(header.flags, more));
+    fields.bytes(REFUSED, refused_message(header.flags, more));
 }
 
 /// What the kernel says in words, if anything.
-fn push_text(fields: &mut Fields, attributes: &[u8]) -> Result<(), AllocError> {
+fn push_text(fields: &mut Fields, attributes: &[u8]) {
     let Some(words) = error_text(attributes) else {
-        return Ok(());
+        return;
     };
-    let text = String::from_utf8_lossy(fields.manner.alloc, words)?;
-    fields.text(TEXT, &text)
-}
-
-fn push_overrun(fields: &mut Fields, bytes: &[u8]) -> Result<(), AllocError> {
-    fields.text(KIND, &"overrun")?;
-    fields.bytes(BYTES, bytes)
-}
-
-fn push_inner(fields: &mut Fields, message: &RouteNetlinkMessage) -> Result<(), AllocError> {
-    let kind = match subject_of(message) {
-        Subject::Address(address) => {
-            push_address(fields, address)?;
-            "address"
-        }
-        Subject::Route(route) => {
-            push_route(fields, route)?;
-            "route"
-        }
-        Subject::Rule(rule) => {
-            push_rule(fields, rule)?;
-            "rule"
-        }
-        Subject::Neighbour(neighbour) => {
-            push_neighbour(fields, neighbour)?;
-            "neighbour"
-        }
-        Subject::Other(other) => return push_other(fields, other),
-    };
-    fields.text(KIND, &kind)?;
-    fields.hide();
-    // A type's last two bits are what the message does.
-    match message.message_type() % 4 {
-        1 => fields.truth(DELETED),
-        2 => fields.truth(REQUEST),
-        _ => Ok(()),
+    match String::from_utf8_lossy(fields.manner.alloc, words) {
+        Ok(text) => fields.text(TEXT, &text),
+        Err(AllocError) => fields.refuse(),
     }
 }
 
-fn push_other(fields: &mut Fields, message: &OtherMessage) -> Result<(), AllocError> {
-    fields.text(KIND, &"other")?;
-    fields.number(TYPE, u64::from(message.message_type))?;
-    fields.number(LENGTH, message.payload.len() as u64)
+fn push_overrun(fields: &mut Fields, bytes: &[u8]) {
+    fields.text(KIND, &"overrun");
+    fields.bytes(BYTES, bytes);
+}
+
+fn push_inner(fields: &mut Fields, message: &RouteNetlinkMessage) {
+    match message {
+        RouteNetlinkMessage::NewAddress(address)
+        | RouteNetlinkMessage::DelAddress(address)
+        | RouteNetlinkMessage::GetAddress(address) => push_address(fields, address),
+        RouteNetlinkMessage::NewRoute(route)
+        | RouteNetlinkMessage::DelRoute(route)
+        | RouteNetlinkMessage::GetRoute(route) => push_route(fields, route),
+        RouteNetlinkMessage::NewRule(rule)
+        | RouteNetlinkMessage::DelRule(rule)
+        | RouteNetlinkMessage::GetRule(rule) => push_rule(fields, rule),
+        RouteNetlinkMessage::NewNeighbour(neighbour)
+        | RouteNetlinkMessage::DelNeighbour(neighbour)
+        | RouteNetlinkMessage::GetNeighbour(neighbour) => push_neighbour(fields, neighbour),
+        RouteNetlinkMessage::Other(other) => push_other(fields, other),
+    }
+    push_type(fields, message.message_type());
+}
+
+/// What a message of a known type is, and what it does.
+fn push_type(fields: &mut Fields, message_type: u16) {
+    let Some(kind) = MessageType::of(message_type).kind() else {
+        return;
+    };
+    fields.text(KIND, &kind.name());
+    fields.hide();
+    // A type's last two bits are what the message does.
+    match message_type % 4 {
+        1 => fields.truth(DELETED, true),
+        2 => fields.truth(REQUEST, true),
+        _ => {}
+    }
+}
+
+fn push_other(fields: &mut Fields, message: &OtherMessage) {
+    fields.text(KIND, &"other");
+    fields.number(TYPE, message.message_type);
+    fields.number(LENGTH, message.payload.len() as u64);
 }

@@ -2,9 +2,9 @@
 
 use crate::attribute_fields::push_unknown;
 use crate::field::{Fields, Word};
+use crate::manner::Milliseconds;
 use netlink_packet_route::framing::Nla;
 use netlink_packet_route::route::RouteMetric;
-use std::alloc::AllocError;
 
 const LOCK: Word = Word(40, "lock", "lock ");
 
@@ -37,20 +37,19 @@ const NUMBERS: &[(Word, u32)] = &[
 const FEATURE_ECN: u32 = 1;
 
 /// What is shown of metrics.
-pub fn push_metrics(fields: &mut Fields, metrics: &[RouteMetric]) -> Result<(), AllocError> {
+pub fn push_metrics(fields: &mut Fields, metrics: &[RouteMetric]) {
     let locks = metrics.iter().find_map(lock_of).unwrap_or(0);
     let mut without = locks;
     for metric in metrics {
         let bit = bit_of(metric.kind());
         without &= !bit;
-        push_metric(fields, metric, locks & bit != 0)?;
+        push_metric(fields, metric, locks & bit != 0);
     }
     if locks == 0 {
-        return Ok(());
+        return;
     }
-    fields.bits(LOCK, u64::from(locks))?;
+    fields.bits(LOCK, locks);
     fields.hide_if(without == 0);
-    Ok(())
 }
 
 fn lock_of(metric: &RouteMetric) -> Option<u32> {
@@ -65,14 +64,10 @@ fn bit_of(kind: u16) -> u32 {
     1u32.checked_shl(u32::from(kind)).unwrap_or(0)
 }
 
-fn push_metric(
-    fields: &mut Fields,
-    metric: &RouteMetric,
-    is_locked: bool,
-) -> Result<(), AllocError> {
+fn push_metric(fields: &mut Fields, metric: &RouteMetric, is_locked: bool) {
     match metric {
         // It stands with the metrics that it locks.
-        RouteMetric::Lock(_) => Ok(()),
+        RouteMetric::Lock(_) => {}
         RouteMetric::Features(bits) => push_features(fields, *bits),
         RouteMetric::CcAlgo(name) => fields.text(CONGESTION, name),
         RouteMetric::Other(nla) => push_unknown(fields, nla),
@@ -95,33 +90,27 @@ fn push_metric(
     }
 }
 
-fn push_features(fields: &mut Fields, bits: u32) -> Result<(), AllocError> {
+fn push_features(fields: &mut Fields, bits: u32) {
     if bits & FEATURE_ECN != 0 {
-        fields.mark(ECN)?;
+        fields.mark(ECN);
     }
-    if bits & !FEATURE_ECN == 0 {
-        return Ok(());
+    if bits & !FEATURE_ECN != 0 {
+        fields.bits(FEATURES, bits);
     }
-    fields.bits(FEATURES, u64::from(bits))
 }
 
 /// A metric of this number, by its row.
-fn push_number(
-    fields: &mut Fields,
-    kind: u16,
-    number: u32,
-    is_locked: bool,
-) -> Result<(), AllocError> {
+fn push_number(fields: &mut Fields, kind: u16, number: u32, is_locked: bool) {
     let Some((word, parts)) = NUMBERS.iter().find(|(word, _)| u16::from(word.0) == kind) else {
-        return Ok(());
+        return;
     };
     let alloc = fields.manner.alloc;
     let lock = if is_locked { "lock " } else { "" };
-    let milliseconds = number.checked_div(*parts);
-    let shown = match milliseconds {
-        Some(count) => fields.manner.milliseconds(count)?,
-        None => format!(in alloc; "{number}")?,
-    };
-    let text = format!(in alloc; "{lock}{shown}")?;
-    fields.measured(*word, u64::from(milliseconds.unwrap_or(number)), &text)
+    match number.checked_div(*parts) {
+        Some(count) => {
+            let text = format!(in alloc; "{lock}{}", Milliseconds(count));
+            fields.written(*word, count, text)
+        }
+        None => fields.written(*word, number, format!(in alloc; "{lock}{number}")),
+    }
 }

@@ -1,14 +1,14 @@
 //! What is shown of a neighbour.
 
 use crate::attribute_fields::push_unknown;
-use crate::field::{Fields, Word, joined};
-use crate::names::{PROTOCOLS, TYPES};
+use crate::field::{self, Fields, Word};
+use crate::manner::Hexadecimal;
+use crate::names::{Names, PROTOCOLS, TYPES};
 use netlink_packet_route::neighbour::{
     NeighbourAddress, NeighbourAttribute, NeighbourCacheInfo, NeighbourExtendedFlags,
     NeighbourHeader, NeighbourMessage,
 };
 use netlink_packet_route::{Flags, numbers};
-use std::alloc::AllocError;
 
 const DESTINATION: Word = Word(2, "dst", "");
 
@@ -53,7 +53,7 @@ const TYPE: Word = Word(22, "type", "type ");
 const FAMILY: Word = Word(23, "family", "family ");
 
 /// The flags that have a word (`NTF_*`).
-const FLAGS: &[(u32, Word)] = &[
+const FLAGS: field::Flags = &[
     (0x1, Word(5, "use", "use")),
     (0x2, Word(5, "self", "self")),
     (0x4, Word(5, "of_master", "of_master")),
@@ -65,10 +65,10 @@ const FLAGS: &[(u32, Word)] = &[
 ];
 
 /// The flag of those for which the header has no room that has a word (`NTF_EXT_MANAGED`).
-const MANAGED: Word = Word(5, "managed", "managed");
+const MORE_FLAGS: field::Flags = &[(0x1, Word(5, "managed", "managed"))];
 
 /// The states, each by its bit (`NUD_*`).
-const STATES: &[(u32, &str)] = &[
+const STATES: Names = &[
     (0x1, "INCOMPLETE"),
     (0x2, "REACHABLE"),
     (0x4, "STALE"),
@@ -79,79 +79,55 @@ const STATES: &[(u32, &str)] = &[
     (0x80, "PERMANENT"),
 ];
 
-/// The bits of a state that have a name.
-const NAMED: u32 = 0xff;
-
 /// What is shown of a neighbour.
-pub fn push_neighbour(fields: &mut Fields, message: &NeighbourMessage) -> Result<(), AllocError> {
-    push_header(fields, &message.header)?;
+pub fn push_neighbour(fields: &mut Fields, message: &NeighbourMessage) {
+    push_header(fields, &message.header);
     for attribute in message.attributes.as_slice() {
-        push_attribute(fields, attribute)?;
+        push_attribute(fields, attribute);
     }
-    Ok(())
 }
 
-fn push_header(fields: &mut Fields, header: &NeighbourHeader) -> Result<(), AllocError> {
-    fields.signed(INTERFACE, header.ifindex)?;
+fn push_header(fields: &mut Fields, header: &NeighbourHeader) {
+    fields.number(INTERFACE, header.ifindex);
     fields.hide_if(header.ifindex == 0);
-    let flags = u32::from(header.flags.bits());
-    for (bit, word) in FLAGS {
-        if flags & *bit != 0 {
-            fields.mark(*word)?;
-        }
+    fields.flags(FLAGS, u32::from(header.flags.bits()), None);
+    let state = u32::from(header.state.bits());
+    if state != 0 {
+        fields.set(STATE, STATES, state, ",");
     }
-    push_state(fields, u32::from(header.state.bits()))?;
-    fields.named(TYPE, TYPES, u32::from(numbers::route_type(header.kind)))?;
+    let kind = numbers::route_type(header.kind);
+    fields.named(TYPE, TYPES, kind);
     // A neighbour that answers is unicast.
-    fields.hide_if(numbers::route_type(header.kind) == 1);
-    fields.text(FAMILY, &header.family)?;
+    fields.hide_if(kind == 1);
+    fields.text(FAMILY, &header.family);
     fields.hide();
-    Ok(())
 }
 
-/// The names of the bits that are set, and the rest as a number; nothing where none is.
-fn push_state(fields: &mut Fields, bits: u32) -> Result<(), AllocError> {
-    let alloc = fields.manner.alloc;
-    let mut names = Vec::new(alloc);
-    for (bit, name) in STATES {
-        if bits & *bit != 0 {
-            names.push(String::from_str(alloc, name)?)?;
-        }
-    }
-    if bits & !NAMED != 0 {
-        names.push(format!(in alloc; "0x{:x}", bits & !NAMED)?)?;
-    }
-    if names.is_empty() {
-        return Ok(());
-    }
-    let text = joined(alloc, names.as_slice(), ",")?;
-    fields.list(STATE, names, text)
-}
-
-fn push_attribute(fields: &mut Fields, attribute: &NeighbourAttribute) -> Result<(), AllocError> {
+fn push_attribute(fields: &mut Fields, attribute: &NeighbourAttribute) {
     match attribute {
         NeighbourAttribute::Destination(address) => push_address(fields, address),
-        NeighbourAttribute::LinkLayerAddress(bytes) => push_link_layer(fields, bytes.as_slice()),
-        NeighbourAttribute::CacheInfo(info) => push_cache_info(fields, info),
-        NeighbourAttribute::Probes(count) => fields.number(PROBES, u64::from(*count)),
-        NeighbourAttribute::Vlan(id) => fields.number(VLAN, u64::from(*id)),
-        NeighbourAttribute::Port(port) => fields.number(PORT, u64::from(*port)),
-        NeighbourAttribute::Vni(id) => fields.number(VNI, u64::from(*id)),
-        NeighbourAttribute::IfIndex(index) => fields.number(BY, u64::from(*index)),
-        NeighbourAttribute::Controller(index) => fields.number(MASTER, u64::from(*index)),
-        NeighbourAttribute::LinkNetNsId(id) => fields.number(NAMESPACE, u64::from(*id)),
-        NeighbourAttribute::SourceVni(id) => fields.number(SOURCE_VNI, u64::from(*id)),
-        NeighbourAttribute::Protocol(made_by) => {
-            let number = u32::from(numbers::route_protocol(*made_by));
-            fields.named(PROTOCOL, PROTOCOLS, number)
+        NeighbourAttribute::LinkLayerAddress(bytes) => {
+            fields.text(LINK_LAYER, &Hexadecimal(bytes.as_slice(), ":"))
         }
-        NeighbourAttribute::NhId(id) => fields.number(NEXT_HOP, u64::from(*id)),
+        NeighbourAttribute::CacheInfo(info) => push_cache_info(fields, info),
+        NeighbourAttribute::Probes(count) => fields.number(PROBES, *count),
+        NeighbourAttribute::Vlan(id) => fields.number(VLAN, *id),
+        NeighbourAttribute::Port(port) => fields.number(PORT, *port),
+        NeighbourAttribute::Vni(id) => fields.number(VNI, *id),
+        NeighbourAttribute::IfIndex(index) => fields.number(BY, *index),
+        NeighbourAttribute::Controller(index) => fields.number(MASTER, *index),
+        NeighbourAttribute::LinkNetNsId(id) => fields.number(NAMESPACE, *id),
+        NeighbourAttribute::SourceVni(id) => fields.number(SOURCE_VNI, *id),
+        NeighbourAttribute::Protocol(made_by) => {
+            fields.named(PROTOCOL, PROTOCOLS, numbers::route_protocol(*made_by))
+        }
+        NeighbourAttribute::NhId(id) => fields.number(NEXT_HOP, *id),
         NeighbourAttribute::FlagsExt(flags) => push_flags(fields, *flags),
         NeighbourAttribute::Other(nla) => push_unknown(fields, nla),
     }
 }
 
-fn push_address(fields: &mut Fields, address: &NeighbourAddress) -> Result<(), AllocError> {
+fn push_address(fields: &mut Fields, address: &NeighbourAddress) {
     match address {
         NeighbourAddress::Inet(ip) => fields.text(DESTINATION, ip),
         NeighbourAddress::Inet6(ip) => fields.text(DESTINATION, ip),
@@ -159,40 +135,22 @@ fn push_address(fields: &mut Fields, address: &NeighbourAddress) -> Result<(), A
     }
 }
 
-/// Bytes in hexadecimal with `:` between them.
-fn push_link_layer(fields: &mut Fields, bytes: &[u8]) -> Result<(), AllocError> {
-    let mut text = String::new(fields.manner.alloc);
-    for byte in bytes {
-        if !text.is_empty() {
-            text.push(':')?;
-        }
-        write!(text, "{byte:02x}")?;
-    }
-    fields.text(LINK_LAYER, &text)
-}
-
 /// How long ago, in seconds: whole ones in JSON, and hundredths besides in a line.
-fn push_cache_info(fields: &mut Fields, info: &NeighbourCacheInfo) -> Result<(), AllocError> {
-    fields.number(REFERENCES, u64::from(info.refcnt))?;
+fn push_cache_info(fields: &mut Fields, info: &NeighbourCacheInfo) {
+    fields.number(REFERENCES, info.refcnt);
     fields.hide_if(info.refcnt == 0);
-    push_time(fields, USED, info.used)?;
-    push_time(fields, CONFIRMED, info.confirmed)?;
-    push_time(fields, UPDATED, info.updated)
+    push_time(fields, USED, info.used);
+    push_time(fields, CONFIRMED, info.confirmed);
+    push_time(fields, UPDATED, info.updated);
 }
 
-fn push_time(fields: &mut Fields, word: Word, hundredths: u32) -> Result<(), AllocError> {
+fn push_time(fields: &mut Fields, word: Word, hundredths: u32) {
     let (seconds, rest) = (hundredths / 100, hundredths % 100);
-    let text = format!(in fields.manner.alloc; "{seconds}.{rest:02}")?;
-    fields.measured(word, u64::from(seconds), &text)
+    let text = format!(in fields.manner.alloc; "{seconds}.{rest:02}");
+    fields.written(word, seconds, text);
 }
 
-fn push_flags(fields: &mut Fields, flags: NeighbourExtendedFlags) -> Result<(), AllocError> {
-    let managed = NeighbourExtendedFlags::Managed.bits();
-    if flags.bits() & managed != 0 {
-        fields.mark(MANAGED)?;
-    }
-    if flags.bits() & !managed == 0 {
-        return Ok(());
-    }
-    fields.bits(OTHER_FLAGS, u64::from(flags.bits() & !managed))
+fn push_flags(fields: &mut Fields, flags: NeighbourExtendedFlags) {
+    let rest = fields.flags(MORE_FLAGS, flags.bits(), None);
+    fields.some_bits(OTHER_FLAGS, rest);
 }

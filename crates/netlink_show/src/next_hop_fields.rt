@@ -4,7 +4,6 @@ use crate::field::{Fields, Word};
 use crate::route_attribute::{INTERFACE, push_attribute, push_route_flags};
 use netlink_packet_route::Flags;
 use netlink_packet_route::route::RouteNextHop;
-use std::alloc::AllocError;
 
 /// The last piece of a route, in lines of its own.
 const NEXT_HOPS: Word = Word(255, "nexthops", "\n\tnexthop");
@@ -12,22 +11,21 @@ const NEXT_HOPS: Word = Word(255, "nexthops", "\n\tnexthop");
 const WEIGHT: Word = Word(13, "weight", "weight ");
 
 /// The next hops.
-pub fn push_next_hops(fields: &mut Fields, hops: &[RouteNextHop]) -> Result<(), AllocError> {
-    let mut objects = Vec::new(fields.manner.alloc);
+pub fn push_next_hops(fields: &mut Fields, hops: &[RouteNextHop]) {
+    let mut objects = Fields::new(fields.manner);
     for hop in hops {
         let mut inside = Fields::new(fields.manner);
-        push_hop(&mut inside, hop)?;
-        objects.push(inside)?;
+        push_hop(&mut inside, hop);
+        objects.object(NEXT_HOPS, inside);
     }
-    fields.objects(NEXT_HOPS, objects)
+    fields.list(NEXT_HOPS, objects, " ");
 }
 
-fn push_hop(fields: &mut Fields, hop: &RouteNextHop) -> Result<(), AllocError> {
-    fields.number(INTERFACE, u64::from(hop.interface_index))?;
-    fields.number(WEIGHT, u64::from(hop.hops) + 1)?;
-    push_route_flags(fields, u32::from(hop.flags.bits()))?;
+fn push_hop(fields: &mut Fields, hop: &RouteNextHop) {
+    fields.number(INTERFACE, hop.interface_index);
+    fields.number(WEIGHT, u64::from(hop.hops) + 1);
+    push_route_flags(fields, u32::from(hop.flags.bits()));
     for attribute in hop.attributes.iter() {
-        push_attribute(fields, attribute)?;
+        push_attribute(fields, attribute);
     }
-    Ok(())
 }

@@ -1,18 +1,19 @@
 //! What is shown of an attribute of a route or a next hop.
 
-use crate::attribute_fields::{push_raw, push_unknown};
+use crate::attribute_fields::{RealmWords, push_raw, push_realm, push_unknown};
 use crate::encap_fields::push_encap;
-use crate::field::{Fields, Word, joined};
+use crate::field::{Fields, Word};
+use crate::manner::{Address, Hexadecimal, Labels};
 use crate::metric_fields::push_metrics;
-use crate::names::{IP_PROTOCOLS, PREFERENCES, REALMS, TABLES};
+use crate::names::{IP_PROTOCOLS, Names, PREFERENCES, TABLES};
 use netlink_packet_route::framing::{Emitable, Nla};
 use netlink_packet_route::route::{
-    MplsLabel, RouteAddress, RouteAttribute, RouteCacheInfo, RouteHeader, RouteLwEnCapType,
-    RouteLwTunnelEncap, RouteMetric, RouteMfcStats, RouteMplsTtlPropagation, RouteRealm, RouteVia,
+    RouteAttribute, RouteCacheInfo, RouteHeader, RouteLwEnCapType, RouteLwTunnelEncap, RouteMetric,
+    RouteMfcStats, RouteMplsTtlPropagation, RouteRealm, RouteVia,
 };
 use netlink_packet_route::{AddressFamily, numbers};
-use serde_json::Value;
 use std::alloc::AllocError;
+use std::fmt;
 
 /// The destination.
 pub const DESTINATION: Word = Word(3, "dst", "");
@@ -57,6 +58,10 @@ const PREFERENCE: Word = Word(32, "pref", "pref ");
 
 const PROPAGATE: Word = Word(33, "ttl-propogate", "ttl-propogate ");
 
+const IS_DISABLED: Word = Word(33, "ttl-propogate", "ttl-propogate disabled");
+
+const IS_ENABLED: Word = Word(33, "ttl-propogate", "ttl-propogate enabled");
+
 const IP_PROTOCOL: Word = Word(34, "ipproto", "ipproto ");
 
 const SOURCE_PORT: Word = Word(35, "sport", "sport ");
@@ -93,11 +98,11 @@ const BYTES: Word = Word(1, "bytes", "bytes ");
 
 const WRONG: Word = Word(2, "wrong_if", "wrong_if ");
 
-const FROM: Word = Word(0, "from", "realms ");
-
-const TO: Word = Word(1, "to", "/");
-
-const TO_ALONE: Word = Word(1, "to", "realm ");
+const REALM_WORDS: RealmWords = (
+    Word(0, "from", "realms "),
+    Word(1, "to", "/"),
+    Word(1, "to", "realm "),
+);
 
 const HOST_FAMILY: Word = Word(0, "family", "");
 
@@ -107,7 +112,7 @@ const HOST: Word = Word(1, "host", "");
 const HERTZ: i32 = 100;
 
 /// The flags of a route or a next hop that have a word.
-const NAMED_FLAGS: &[(u32, &'static str)] = &[
+const NAMED_FLAGS: Names = &[
     (0x1, "dead"),
     (0x4, "onlink"),
     (0x2, "pervasive"),
@@ -127,179 +132,152 @@ const NAMED_FLAGS: &[(u32, &'static str)] = &[
 ];
 
 /// The flags that are set, by their words, and the others as a number.
-pub fn push_route_flags(fields: &mut Fields, bits: u32) -> Result<(), AllocError> {
-    let alloc = fields.manner.alloc;
-    let mut names = Vec::new(alloc);
-    let mut rest = bits;
-    for (bit, name) in NAMED_FLAGS {
-        if bits & *bit != 0 {
-            names.push(String::from_str(alloc, name)?)?;
-            rest &= !*bit;
-        }
-    }
-    if rest != 0 {
-        names.push(format!(in alloc; "0x{rest:x}")?)?;
-    }
-    let text = joined(alloc, names.as_slice(), " ")?;
-    fields.list(FLAGS, names, text)
+pub fn push_route_flags(fields: &mut Fields, bits: u32) {
+    fields.set(FLAGS, NAMED_FLAGS, bits, " ");
 }
 
 /// The table, which a line does not have where it is the main one.
-pub fn push_table(fields: &mut Fields, number: u32) -> Result<(), AllocError> {
-    fields.named(TABLE, TABLES, number)?;
+pub fn push_table(fields: &mut Fields, number: u32) {
+    fields.named(TABLE, TABLES, number);
     fields.hide_if(number == u32::from(RouteHeader::RT_TABLE_MAIN));
-    Ok(())
 }
 
 /// What is shown of an attribute, whatever stands in the header.
-pub fn push_attribute(fields: &mut Fields, attribute: &RouteAttribute) -> Result<(), AllocError> {
+pub fn push_attribute(fields: &mut Fields, attribute: &RouteAttribute) {
     match attribute {
-        RouteAttribute::Destination(address) => push_address(fields, DESTINATION, address),
-        RouteAttribute::Source(address) => push_address(fields, SOURCE, address),
-        RouteAttribute::Iif(index) => fields.number(INCOMING, u64::from(*index)),
-        RouteAttribute::Oif(index) => fields.number(INTERFACE, u64::from(*index)),
-        RouteAttribute::Gateway(address) => push_address(fields, GATEWAY, address),
-        RouteAttribute::Priority(metric) => fields.number(PRIORITY, u64::from(*metric)),
-        RouteAttribute::PrefSource(address) => push_address(fields, PREFERRED_SOURCE, address),
+        RouteAttribute::Destination(address) => fields.text(DESTINATION, &Address(address)),
+        RouteAttribute::Source(address) => fields.text(SOURCE, &Address(address)),
+        RouteAttribute::Iif(index) => fields.number(INCOMING, *index),
+        RouteAttribute::Oif(index) => fields.number(INTERFACE, *index),
+        RouteAttribute::Gateway(address) => fields.text(GATEWAY, &Address(address)),
+        RouteAttribute::Priority(metric) => fields.number(PRIORITY, *metric),
+        RouteAttribute::PrefSource(address) => fields.text(PREFERRED_SOURCE, &Address(address)),
         RouteAttribute::Metrics(metrics) => push_all_metrics(fields, metrics.as_slice()),
         RouteAttribute::Realm(realm) => push_realms(fields, *realm),
         RouteAttribute::CacheInfo(info) => push_cache_info(fields, info),
         RouteAttribute::Table(number) => push_table(fields, *number),
-        RouteAttribute::Mark(mark) => fields.bits(MARK, u64::from(*mark)),
+        RouteAttribute::Mark(mark) => fields.bits(MARK, *mark),
         RouteAttribute::Via(gateway) => push_via(fields, gateway),
         RouteAttribute::EncapType(kind) => push_encap_type(fields, *kind),
         RouteAttribute::Encap(members) => push_encap_info(fields, members.as_slice()),
-        RouteAttribute::NhId(id) => fields.number(NEXT_HOP, u64::from(*id)),
+        RouteAttribute::NhId(id) => fields.number(NEXT_HOP, *id),
         _ => push_rare(fields, attribute),
     }
 }
 
-fn push_rare(fields: &mut Fields, attribute: &RouteAttribute) -> Result<(), AllocError> {
+fn push_rare(fields: &mut Fields, attribute: &RouteAttribute) {
     match attribute {
         RouteAttribute::MfcStats(stats) => push_forwarded(fields, stats),
-        RouteAttribute::NewDestination(labels) => push_new_labels(fields, labels.as_slice()),
+        RouteAttribute::NewDestination(labels) => {
+            fields.text(NEW_DESTINATION, &Labels(labels.as_slice()))
+        }
         RouteAttribute::NewDestinationAddress(address) => {
-            push_address(fields, NEW_DESTINATION, address)
+            fields.text(NEW_DESTINATION, &Address(address))
         }
         RouteAttribute::Preference(value) => {
-            let number = u32::from(numbers::route_preference(*value));
-            fields.named(PREFERENCE, PREFERENCES, number)
+            fields.named(PREFERENCE, PREFERENCES, numbers::route_preference(*value))
         }
         RouteAttribute::Expires(seconds) => fields.lifetime(EXPIRES, *seconds),
         RouteAttribute::MulticastExpires(ticks) => fields.number(TICKS, *ticks),
-        RouteAttribute::Uid(user) => fields.number(USER, u64::from(*user)),
+        RouteAttribute::Uid(user) => fields.number(USER, *user),
         RouteAttribute::TtlPropagate(how) => push_propagate(fields, *how),
-        RouteAttribute::IpProto(number) => {
-            fields.named(IP_PROTOCOL, IP_PROTOCOLS, u32::from(*number))
-        }
-        RouteAttribute::Sport(port) => fields.number(SOURCE_PORT, u64::from(*port)),
-        RouteAttribute::Dport(port) => fields.number(DESTINATION_PORT, u64::from(*port)),
-        RouteAttribute::Flowlabel(label) => fields.bits(FLOW_LABEL, u64::from(*label)),
+        RouteAttribute::IpProto(number) => { fields.named(IP_PROTOCOL, IP_PROTOCOLS, *number) }
+        RouteAttribute::Sport(port) => fields.number(SOURCE_PORT, *port),
+        RouteAttribute::Dport(port) => fields.number(DESTINATION_PORT, *port),
+        RouteAttribute::Flowlabel(label) => fields.bits(FLOW_LABEL, *label),
         RouteAttribute::Other(nla) => push_unknown(fields, nla),
         _ => push_written(fields, attribute),
     }
 }
 
-fn push_address(fields: &mut Fields, word: Word, address: &RouteAddress) -> Result<(), AllocError> {
-    let text = fields.manner.address(address)?;
-    fields.text(word, &text)
-}
-
-fn push_new_labels(fields: &mut Fields, labels: &[MplsLabel]) -> Result<(), AllocError> {
-    let text = fields.manner.labels(labels)?;
-    fields.text(NEW_DESTINATION, &text)
-}
-
-fn push_encap_type(fields: &mut Fields, kind: RouteLwEnCapType) -> Result<(), AllocError> {
+fn push_encap_type(fields: &mut Fields, kind: RouteLwEnCapType) {
     match kind {
         RouteLwEnCapType::Other(number) => fields.text(ENCAP, &number),
         _ => fields.text(ENCAP, &kind),
     }
 }
 
-fn push_encap_info(fields: &mut Fields, members: &[RouteLwTunnelEncap]) -> Result<(), AllocError> {
+fn push_encap_info(fields: &mut Fields, members: &[RouteLwTunnelEncap]) {
     let mut inside = Fields::new(fields.manner);
     for member in members {
-        push_encap(&mut inside, member)?;
+        push_encap(&mut inside, member);
     }
-    fields.object(ENCAP_INFO, inside)
+    fields.object(ENCAP_INFO, inside);
 }
 
 /// An attribute as it is written: next hops inside a next hop, which no kernel makes.
-fn push_written(fields: &mut Fields, attribute: &RouteAttribute) -> Result<(), AllocError> {
+fn push_written(fields: &mut Fields, attribute: &RouteAttribute) {
     if attribute.check().is_err() {
         return push_raw(fields, attribute.kind(), &[]);
     }
-    let mut value = vec![in fields.manner.alloc; 0u8; attribute.value_len()]?;
-    attribute.emit_value(value.as_mut_slice());
-    push_raw(fields, attribute.kind(), value.as_slice())
-}
-
-fn push_all_metrics(fields: &mut Fields, metrics: &[RouteMetric]) -> Result<(), AllocError> {
-    let mut inside = Fields::new(fields.manner);
-    push_metrics(&mut inside, metrics)?;
-    let mut objects = Vec::new(fields.manner.alloc);
-    objects.push(inside)?;
-    fields.objects(METRICS, objects)
-}
-
-fn push_realms(fields: &mut Fields, realm: RouteRealm) -> Result<(), AllocError> {
-    let mut inside = Fields::new(fields.manner);
-    let to = u32::from(realm.destination);
-    if realm.source == 0 {
-        inside.named(TO_ALONE, REALMS, to)?;
-    } else {
-        inside.named(FROM, REALMS, u32::from(realm.source))?;
-        inside.named(TO, REALMS, to)?;
+    match vec![in fields.manner.alloc; 0u8; attribute.value_len()] {
+        Ok(mut value) => {
+            attribute.emit_value(value.as_mut_slice());
+            push_raw(fields, attribute.kind(), value.as_slice());
+        }
+        Err(AllocError) => fields.refuse(),
     }
-    fields.object(FLOW, inside)
+}
+
+fn push_all_metrics(fields: &mut Fields, metrics: &[RouteMetric]) {
+    let mut inside = Fields::new(fields.manner);
+    push_metrics(&mut inside, metrics);
+    fields.object_alone(METRICS, inside);
+}
+
+fn push_realms(fields: &mut Fields, realm: RouteRealm) {
+    let mut inside = Fields::new(fields.manner);
+    push_realm(&mut inside, REALM_WORDS, realm);
+    fields.object(FLOW, inside);
 }
 
 /// A gateway of a family of its own.
-fn push_via(fields: &mut Fields, gateway: &RouteVia) -> Result<(), AllocError> {
-    let mut inside = Fields::new(fields.manner);
+fn push_via(fields: &mut Fields, gateway: &RouteVia) {
     match gateway {
-        RouteVia::Inet(ip) => {
-            inside.text(HOST_FAMILY, &AddressFamily::Inet)?;
-            inside.text(HOST, ip)?;
+        RouteVia::Inet(ip) => push_host(fields, AddressFamily::Inet, ip),
+        RouteVia::Inet6(ip) => push_host(fields, AddressFamily::Inet6, ip),
+        RouteVia::Packet(bytes) => {
+            push_host(
+                fields,
+                AddressFamily::Packet,
+                &Hexadecimal(bytes.as_slice(), ""),
+            )
         }
-        RouteVia::Inet6(ip) => {
-            inside.text(HOST_FAMILY, &AddressFamily::Inet6)?;
-            inside.text(HOST, ip)?;
+        RouteVia::Other((family, bytes)) => {
+            push_host(fields, *family, &Hexadecimal(bytes.as_slice(), ""))
         }
-        RouteVia::Packet(bytes) => push_host(&mut inside, AddressFamily::Packet, bytes.as_slice())?,
-        RouteVia::Other((family, bytes)) => push_host(&mut inside, *family, bytes.as_slice())?,
-    }
-    fields.object(VIA, inside)
-}
-
-fn push_host(fields: &mut Fields, family: AddressFamily, host: &[u8]) -> Result<(), AllocError> {
-    fields.text(HOST_FAMILY, &family)?;
-    fields.bytes(HOST, host)
-}
-
-fn push_propagate(fields: &mut Fields, how: RouteMplsTtlPropagation) -> Result<(), AllocError> {
-    match how {
-        RouteMplsTtlPropagation::Disabled => fields.truth_of(PROPAGATE, false, "disabled"),
-        RouteMplsTtlPropagation::Enabled => fields.truth_of(PROPAGATE, true, "enabled"),
-        RouteMplsTtlPropagation::Other(number) => fields.number(PROPAGATE, u64::from(number)),
     }
 }
 
-fn push_forwarded(fields: &mut Fields, stats: &RouteMfcStats) -> Result<(), AllocError> {
+fn push_host<D: fmt::Display>(fields: &mut Fields, family: AddressFamily, host: &D) {
     let mut inside = Fields::new(fields.manner);
-    inside.number(PACKETS, stats.packets)?;
-    inside.number(BYTES, stats.bytes)?;
-    inside.number(WRONG, stats.wrong_if)?;
-    fields.object(FORWARDED, inside)
+    inside.text(HOST_FAMILY, &family);
+    inside.text(HOST, host);
+    fields.object(VIA, inside);
+}
+
+fn push_propagate(fields: &mut Fields, how: RouteMplsTtlPropagation) {
+    match how {
+        RouteMplsTtlPropagation::Disabled => fields.truth(IS_DISABLED, false),
+        RouteMplsTtlPropagation::Enabled => fields.truth(IS_ENABLED, true),
+        RouteMplsTtlPropagation::Other(number) => fields.number(PROPAGATE, number),
+    }
+}
+
+fn push_forwarded(fields: &mut Fields, stats: &RouteMfcStats) {
+    let mut inside = Fields::new(fields.manner);
+    inside.number(PACKETS, stats.packets);
+    inside.number(BYTES, stats.bytes);
+    inside.number(WRONG, stats.wrong_if);
+    fields.object(FORWARDED, inside);
 }
 
 /// What the kernel remembers of a route, where it is not 0.
-fn push_cache_info(fields: &mut Fields, info: &RouteCacheInfo) -> Result<(), AllocError> {
+fn push_cache_info(fields: &mut Fields, info: &RouteCacheInfo) {
     if info.expires != 0 {
         let seconds = info.expires.cast_signed() / HERTZ;
-        let shown = format!(in fields.manner.alloc; "expires {seconds}sec")?;
-        fields.push(EXPIRY, shown, Value::from(seconds))?;
+        let text = format!(in fields.manner.alloc; "{seconds}sec");
+        fields.written(EXPIRY, seconds, text);
     }
     for (word, number) in [
         (ERROR, info.error),
@@ -309,13 +287,10 @@ fn push_cache_info(fields: &mut Fields, info: &RouteCacheInfo) -> Result<(), All
         (STAMP_AGE, info.ts_age),
     ] {
         if number != 0 {
-            fields.number(word, u64::from(number))?;
+            fields.number(word, number);
         }
     }
     for (word, bits) in [(IDENTIFICATION, info.id), (STAMP, info.ts)] {
-        if bits != 0 {
-            fields.bits(word, u64::from(bits))?;
-        }
+        fields.some_bits(word, bits);
     }
-    Ok(())
 }

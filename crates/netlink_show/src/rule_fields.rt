@@ -1,20 +1,16 @@
 //! What is shown of a rule.
 
-use crate::attribute_fields::{push_raw, push_unknown};
-use crate::field::{Fields, Word};
-use crate::names::{GROUPS, IP_PROTOCOLS, PROTOCOLS, REALMS, TABLES, TYPES};
+use crate::attribute_fields::{RealmWords, push_raw, push_realm, push_unknown};
+use crate::field::{self, Fields, Word};
+use crate::names::{GROUPS, IP_PROTOCOLS, PROTOCOLS, TABLES, TYPES};
 use netlink_packet_route::framing::Nla;
 use netlink_packet_route::net::IpAddr;
-use netlink_packet_route::route::RouteRealm;
 use netlink_packet_route::rule::{
-    RuleAction, RuleAttribute, RuleFlags, RuleHeader, RuleMessage, RulePortRange, RuleUidRange,
+    RuleAction, RuleAttribute, RuleHeader, RuleMessage, RulePortRange, RuleUidRange,
 };
 use netlink_packet_route::{Flags, IpProtocol, numbers};
-use std::alloc::AllocError;
 
 const PRIORITY: Word = Word(2, "priority", "");
-
-const NOT: Word = Word(3, "not", "not");
 
 const SOURCE: Word = Word(4, "src", "from ");
 
@@ -32,11 +28,7 @@ const MASK: Word = Word(10, "fwmask", "/");
 
 const INCOMING: Word = Word(11, "iif", "iif ");
 
-const INCOMING_DETACHED: Word = Word(12, "iif_detached", "[detached]");
-
 const OUTGOING: Word = Word(13, "oif", "oif ");
-
-const OUTGOING_DETACHED: Word = Word(14, "oif_detached", "[detached]");
 
 const MASTER: Word = Word(15, "l3mdev", "lookup [l3mdev-table]");
 
@@ -54,23 +46,19 @@ const PREFIX_LENGTH: Word = Word(27, "suppress_prefixlen", "suppress_prefixlengt
 
 const GROUP: Word = Word(28, "suppress_ifgroup", "suppress_ifgroup ");
 
-const FLOW_FROM: Word = Word(29, "flow_from", "realms ");
-
-const FLOW_TO: Word = Word(30, "flow_to", "/");
-
-const FLOW_TO_ALONE: Word = Word(30, "flow_to", "realms ");
+const FLOW: RealmWords = (
+    Word(29, "flow_from", "realms "),
+    Word(30, "flow_to", "/"),
+    Word(30, "flow_to", "realms "),
+);
 
 const GOTO: Word = Word(31, "goto", "goto ");
-
-const UNRESOLVED: Word = Word(32, "unresolved", "[unresolved]");
 
 const NOP: Word = Word(33, "nop", "nop");
 
 const ACTION: Word = Word(34, "action", "");
 
 const PROTOCOL: Word = Word(35, "protocol", "proto ");
-
-const PERMANENT: Word = Word(36, "permanent", "permanent");
 
 const OTHER_FLAGS: Word = Word(37, "flags", "flags ");
 
@@ -106,57 +94,43 @@ const FRA_TABLE: u16 = 15;
 
 const FRA_FWMASK: u16 = 16;
 
-/// The flags that have a word.
-const NAMED: u32 = 0x1f;
+/// The flags that have a word (`FIB_RULE_*`).
+const FLAGS: field::Flags = &[
+    (0x1, Word(36, "permanent", "permanent")),
+    (0x2, Word(3, "not", "not")),
+    (0x4, Word(32, "unresolved", "[unresolved]")),
+    (0x8, Word(12, "iif_detached", "[detached]")),
+    (0x10, Word(14, "oif_detached", "[detached]")),
+];
 
 /// What is shown of a rule.
-pub fn push_rule(fields: &mut Fields, message: &RuleMessage) -> Result<(), AllocError> {
+pub fn push_rule(fields: &mut Fields, message: &RuleMessage) {
     let header = &message.header;
     let attributes = message.attributes.as_slice();
-    push_flags(fields, header.flags.bits())?;
-    push_action(fields, header.action)?;
-    push_absent(fields, header, attributes)?;
-    push_header(fields, header)?;
+    let rest = fields.flags(FLAGS, header.flags.bits(), None);
+    fields.some_bits(OTHER_FLAGS, rest);
+    push_action(fields, header.action);
+    push_absent(fields, header, attributes);
+    push_header(fields, header);
     for attribute in attributes {
-        push_attribute(fields, header, attribute)?;
+        push_attribute(fields, header, attribute);
     }
-    Ok(())
 }
 
-fn push_header(fields: &mut Fields, header: &RuleHeader) -> Result<(), AllocError> {
+fn push_header(fields: &mut Fields, header: &RuleHeader) {
     if header.tos != 0 {
-        let service = format!(in fields.manner.alloc; "0x{:02x}", header.tos)?;
-        fields.text(SERVICE, &service)?;
+        fields.text(SERVICE, &format_args!("0x{:02x}", header.tos));
     }
-    fields.text(FAMILY, &header.family)?;
+    fields.text(FAMILY, &header.family);
     fields.hide();
-    Ok(())
 }
 
-fn push_flags(fields: &mut Fields, bits: u32) -> Result<(), AllocError> {
-    for (flag, word) in [
-        (RuleFlags::Permanent, PERMANENT),
-        (RuleFlags::Invert, NOT),
-        (RuleFlags::Unresolved, UNRESOLVED),
-        (RuleFlags::IifDetached, INCOMING_DETACHED),
-        (RuleFlags::OifDetached, OUTGOING_DETACHED),
-    ] {
-        if bits & flag.bits() != 0 {
-            fields.mark(word)?;
-        }
-    }
-    if bits & !NAMED == 0 {
-        return Ok(());
-    }
-    fields.bits(OTHER_FLAGS, u64::from(bits & !NAMED))
-}
-
-fn push_action(fields: &mut Fields, action: RuleAction) -> Result<(), AllocError> {
+fn push_action(fields: &mut Fields, action: RuleAction) {
     match action {
         // What they do is told by attributes.
-        RuleAction::ToTable | RuleAction::Goto => Ok(()),
+        RuleAction::ToTable | RuleAction::Goto => {}
         RuleAction::Nop => fields.mark(NOP),
-        _ => fields.named(ACTION, TYPES, u32::from(numbers::rule_action(action))),
+        _ => fields.named(ACTION, TYPES, numbers::rule_action(action)),
     }
 }
 
@@ -166,47 +140,41 @@ fn has(attributes: &[RuleAttribute], kind: u16) -> bool {
 }
 
 /// What is told where an attribute is not there.
-fn push_absent(
-    fields: &mut Fields,
-    header: &RuleHeader,
-    attributes: &[RuleAttribute],
-) -> Result<(), AllocError> {
+fn push_absent(fields: &mut Fields, header: &RuleHeader, attributes: &[RuleAttribute]) {
     if !has(attributes, FRA_PRIORITY) {
-        push_priority(fields, 0)?;
+        push_priority(fields, 0);
     }
     if !has(attributes, FRA_SRC) {
         let source = if header.src_len == 0 { "all" } else { "0" };
-        fields.text(SOURCE, &source)?;
-        push_length(fields, SOURCE_LENGTH, header.src_len, 0)?;
+        fields.text(SOURCE, &source);
+        push_length(fields, SOURCE_LENGTH, header.src_len, 0);
     }
     if !has(attributes, FRA_DST) && header.dst_len != 0 {
-        fields.text(DESTINATION, &"0")?;
-        push_length(fields, DESTINATION_LENGTH, header.dst_len, 0)?;
+        fields.text(DESTINATION, &"0");
+        push_length(fields, DESTINATION_LENGTH, header.dst_len, 0);
     }
     if has(attributes, FRA_FWMASK) && !has(attributes, FRA_FWMARK) {
-        fields.bits(MARK, 0)?;
+        fields.bits(MARK, 0u32);
     }
     if !has(attributes, FRA_TABLE) {
-        push_table(fields, u32::from(header.table))?;
+        push_table(fields, u32::from(header.table));
     }
     if header.action == RuleAction::Goto && !has(attributes, FRA_GOTO) {
-        fields.text(GOTO, &"none")?;
+        fields.text(GOTO, &"none");
     }
-    Ok(())
 }
 
 /// The preference, which stands first in a line.
-fn push_priority(fields: &mut Fields, number: u32) -> Result<(), AllocError> {
-    let text = format!(in fields.manner.alloc; "{number}:")?;
-    fields.measured(PRIORITY, u64::from(number), &text)
+fn push_priority(fields: &mut Fields, number: u32) {
+    let text = format!(in fields.manner.alloc; "{number}:");
+    fields.written(PRIORITY, number, text);
 }
 
 /// The length of a prefix, where it is not that of the address alone.
-fn push_length(fields: &mut Fields, word: Word, length: u8, whole: u8) -> Result<(), AllocError> {
-    if length == whole {
-        return Ok(());
+fn push_length(fields: &mut Fields, word: Word, length: u8, whole: u8) {
+    if length != whole {
+        fields.number(word, length);
     }
-    fields.number(word, u64::from(length))
 }
 
 fn whole_length(ip: &IpAddr) -> u8 {
@@ -217,18 +185,13 @@ fn whole_length(ip: &IpAddr) -> u8 {
 }
 
 /// The table, which a line does not have where there is none.
-fn push_table(fields: &mut Fields, number: u32) -> Result<(), AllocError> {
-    fields.named(TABLE, TABLES, number)?;
+fn push_table(fields: &mut Fields, number: u32) {
+    fields.named(TABLE, TABLES, number);
     fields.hide_if(number == 0);
-    Ok(())
 }
 
 /// What is shown of an attribute.
-fn push_attribute(
-    fields: &mut Fields,
-    header: &RuleHeader,
-    attribute: &RuleAttribute,
-) -> Result<(), AllocError> {
+fn push_attribute(fields: &mut Fields, header: &RuleHeader, attribute: &RuleAttribute) {
     match attribute {
         RuleAttribute::Source(ip) => push_prefix(
             fields,
@@ -244,15 +207,15 @@ fn push_attribute(
                 header.dst_len,
             )
         }
-        RuleAttribute::Realm(realm) => push_realm(fields, *realm),
+        RuleAttribute::Realm(realm) => push_realm(fields, FLOW, *realm),
         RuleAttribute::UidRange(users) => push_users(fields, *users),
         RuleAttribute::SourcePortRange(ports) => push_ports(fields, SOURCE_PORTS, *ports),
         RuleAttribute::DestinationPortRange(ports) => push_ports(fields, DESTINATION_PORTS, *ports),
         RuleAttribute::Iifname(name) => fields.text(INCOMING, name),
         RuleAttribute::Oifname(name) => fields.text(OUTGOING, name),
-        RuleAttribute::Goto(target) => fields.number(GOTO, u64::from(*target)),
+        RuleAttribute::Goto(target) => fields.number(GOTO, *target),
         RuleAttribute::Priority(number) => push_priority(fields, *number),
-        RuleAttribute::FwMark(mark) => fields.bits(MARK, u64::from(*mark)),
+        RuleAttribute::FwMark(mark) => fields.bits(MARK, *mark),
         RuleAttribute::FwMask(mask) => push_mask(fields, *mask),
         RuleAttribute::TunId(id) => fields.number(TUNNEL, *id),
         RuleAttribute::Table(number) => push_table(fields, *number),
@@ -260,14 +223,13 @@ fn push_attribute(
     }
 }
 
-fn push_rare(fields: &mut Fields, attribute: &RuleAttribute) -> Result<(), AllocError> {
+fn push_rare(fields: &mut Fields, attribute: &RuleAttribute) {
     match attribute {
         RuleAttribute::SuppressIfGroup(group) => push_group(fields, *group),
         RuleAttribute::SuppressPrefixLen(length) => push_suppressed(fields, *length),
         RuleAttribute::L3MDev(is_so) => push_master(fields, *is_so),
         RuleAttribute::Protocol(made_by) => {
-            let number = u32::from(numbers::route_protocol(*made_by));
-            fields.named(PROTOCOL, PROTOCOLS, number)
+            fields.named(PROTOCOL, PROTOCOLS, numbers::route_protocol(*made_by))
         }
         RuleAttribute::IpProtocol(protocol) => push_ip_protocol(fields, *protocol),
         RuleAttribute::Other(nla) => push_unknown(fields, nla),
@@ -276,71 +238,49 @@ fn push_rare(fields: &mut Fields, attribute: &RuleAttribute) -> Result<(), Alloc
 }
 
 /// An address and the length of its prefix.
-fn push_prefix(
-    fields: &mut Fields,
-    words: (Word, Word),
-    ip: &IpAddr,
-    length: u8,
-) -> Result<(), AllocError> {
-    fields.text(words.0, ip)?;
-    push_length(fields, words.1, length, whole_length(ip))
+fn push_prefix(fields: &mut Fields, words: (Word, Word), ip: &IpAddr, length: u8) {
+    fields.text(words.0, ip);
+    push_length(fields, words.1, length, whole_length(ip));
 }
 
-fn push_mask(fields: &mut Fields, mask: u32) -> Result<(), AllocError> {
-    fields.bits(MASK, u64::from(mask))?;
+fn push_mask(fields: &mut Fields, mask: u32) {
+    fields.bits(MASK, mask);
     fields.hide_if(mask == u32::MAX);
-    Ok(())
 }
 
-fn push_group(fields: &mut Fields, group: u32) -> Result<(), AllocError> {
-    fields.named(GROUP, GROUPS, group)?;
+fn push_group(fields: &mut Fields, group: u32) {
+    fields.named(GROUP, GROUPS, group);
     fields.hide_if(group == u32::MAX);
-    Ok(())
 }
 
-fn push_suppressed(fields: &mut Fields, length: u32) -> Result<(), AllocError> {
-    fields.signed(PREFIX_LENGTH, length.cast_signed())?;
+fn push_suppressed(fields: &mut Fields, length: u32) {
+    fields.number(PREFIX_LENGTH, length.cast_signed());
     fields.hide_if(length == u32::MAX);
-    Ok(())
 }
 
-fn push_master(fields: &mut Fields, is_so: bool) -> Result<(), AllocError> {
+fn push_master(fields: &mut Fields, is_so: bool) {
     if is_so {
         return fields.mark(MASTER);
     }
-    fields.truth_of(MASTER, false, "")?;
+    fields.truth(MASTER, false);
     fields.hide();
-    Ok(())
 }
 
-fn push_ip_protocol(fields: &mut Fields, protocol: IpProtocol) -> Result<(), AllocError> {
+fn push_ip_protocol(fields: &mut Fields, protocol: IpProtocol) {
     let number = protocol.as_u8().map_or(u32::MAX, u32::from);
     fields.named(IP_PROTOCOL, IP_PROTOCOLS, number)
 }
 
-fn push_realm(fields: &mut Fields, realm: RouteRealm) -> Result<(), AllocError> {
-    let to = u32::from(realm.destination);
-    if realm.source == 0 {
-        return fields.named(FLOW_TO_ALONE, REALMS, to);
-    }
-    fields.named(FLOW_FROM, REALMS, u32::from(realm.source))?;
-    fields.named(FLOW_TO, REALMS, to)
+fn push_users(fields: &mut Fields, users: RuleUidRange) {
+    fields.number(FIRST_USER, users.start);
+    fields.number(LAST_USER, users.end);
 }
 
-fn push_users(fields: &mut Fields, users: RuleUidRange) -> Result<(), AllocError> {
-    fields.number(FIRST_USER, u64::from(users.start))?;
-    fields.number(LAST_USER, u64::from(users.end))
-}
-
-fn push_ports(
-    fields: &mut Fields,
-    words: PortWords,
-    ports: RulePortRange,
-) -> Result<(), AllocError> {
+fn push_ports(fields: &mut Fields, words: PortWords, ports: RulePortRange) {
     let (one, first, last) = words;
     if ports.start == ports.end {
-        return fields.number(one, u64::from(ports.start));
+        return fields.number(one, ports.start);
     }
-    fields.number(first, u64::from(ports.start))?;
-    fields.number(last, u64::from(ports.end))
+    fields.number(first, ports.start);
+    fields.number(last, ports.end);
 }

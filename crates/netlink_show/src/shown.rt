@@ -1,6 +1,5 @@
 //! Messages as lines and as objects.
 
-use crate::field::members_of;
 use crate::manner::Manner;
 use crate::message_fields::message_fields;
 use netlink_packet_core::NetlinkMessage;
@@ -18,9 +17,7 @@ pub fn append_lines(
     message: &NetlinkMessage<RouteNetlinkMessage>,
     text: &mut String,
 ) -> Result<(), AllocError> {
-    let fields = message_fields(manner, message)?;
-    let mut line = String::new(manner.alloc);
-    members_of(fields, &mut line)?;
+    let line = message_fields(manner, message).line("", " ")?;
     text.push_str(line.as_str())?;
     text.push('\n')
 }
@@ -34,9 +31,7 @@ pub fn append_object(
     message: &NetlinkMessage<RouteNetlinkMessage>,
     text: &mut String,
 ) -> Result<(), AllocError> {
-    let fields = message_fields(manner, message)?;
-    let mut line = String::new(manner.alloc);
-    let members = members_of(fields, &mut line)?;
+    let members = message_fields(manner, message).into_members()?;
     let object = Value::from(members).to_string(manner.alloc)?;
     text.push_str(object.as_str())?;
     text.push('\n')

@@ -3,7 +3,7 @@
 use netlink_packet_route::MessageKind;
 
 /// What is parsed.
-#[derive(Clone, Copy, Debug, PartialEq, Eq)]
+#[derive(Clone, Copy)]
 pub enum Parsed {
     /// A message of this kind.
     Message(MessageKind),
@@ -14,7 +14,7 @@ pub enum Parsed {
 }
 
 /// A message as hexadecimal text, and its canonical bytes.
-#[derive(Clone, Copy, Debug)]
+#[derive(Clone, Copy)]
 pub struct Row {
     /// What is parsed.
     pub parsed: Parsed,

@@ -9,7 +9,7 @@ use netlink_packet_route::route::{RouteLwEnCapType, RouteMessage, RouteNextHop, 
 use std::alloc::{AllocError, Global};
 
 /// How a call ended.
-#[derive(Clone, Copy, Debug, PartialEq, Eq)]
+#[derive(Clone, Copy)]
 pub enum Ending {
     /// As it should, where there is memory.
     Done,
@@ -22,6 +22,14 @@ pub enum Ending {
 }
 
 impl Ending {
+    /// How a reading with this fault ended.
+    fn of(fault: DecodeError) -> Ending {
+        match fault {
+            DecodeError::OutOfMemory => Ending::OutOfMemory,
+            _ => Ending::Wrong,
+        }
+    }
+
     /// A name to be printed.
     pub fn name(self) -> &'static str {
         match self {
@@ -34,7 +42,7 @@ impl Ending {
 }
 
 /// How each call ended.
-#[derive(Clone, Copy, Debug, PartialEq, Eq)]
+#[derive(Clone, Copy)]
 pub struct Endings {
     /// Parsing.
     pub parsed: Ending,
@@ -79,10 +87,8 @@ where
             return Ending::Wrong;
         };
         for attribute in attributes {
-            match attribute {
-                Ok(_) => {}
-                Err(DecodeError::OutOfMemory) => return Ending::OutOfMemory,
-                Err(_) => return Ending::Wrong,
+            if let Err(fault) = attribute {
+                return Ending::of(fault);
             }
         }
         Ending::Done
@@ -179,24 +185,28 @@ fn parse_and_clone<S: Sample>(
     canonical: &[u8],
     room: &mut [u8],
 ) -> (Ending, Ending) {
-    let sample = match S::of(alloc, bytes) {
-        Ok(sample) => sample,
-        Err(DecodeError::OutOfMemory) => return (Ending::OutOfMemory, Ending::NotCalled),
-        Err(_) => return (Ending::Wrong, Ending::NotCalled),
-    };
-    if !is_written(&sample, canonical, room) {
-        return (Ending::Wrong, Ending::NotCalled);
+    match S::of(alloc, bytes) {
+        Ok(sample) if is_written(&sample, canonical, room) => {
+            (Ending::Done, clone(alloc, &sample, canonical, room))
+        }
+        Ok(_) => (Ending::Wrong, Ending::NotCalled),
+        Err(fault) => (Ending::of(fault), Ending::NotCalled),
     }
-    let cloned = match sample.copy(alloc) {
-        Ok(copy) if copy == sample => Ending::Done,
+}
+
+/// How cloning a value that is written as these bytes ended.
+fn clone<S: Sample>(alloc: Global, sample: &S, canonical: &[u8], room: &mut [u8]) -> Ending {
+    let ending = match sample.copy(alloc) {
+        Ok(copy) if copy == *sample => Ending::Done,
         Ok(_) => Ending::Wrong,
         Err(AllocError) => Ending::OutOfMemory,
     };
     // The value that was cloned is what it was.
-    if !is_written(&sample, canonical, room) {
-        return (Ending::Done, Ending::Wrong);
+    if is_written(sample, canonical, room) {
+        ending
+    } else {
+        Ending::Wrong
     }
-    (Ending::Done, cloned)
 }
 
 /// The value is written as these bytes, into the room, without memory.
