@@ -45,32 +45,23 @@ Walked-bounds bytes old new w = record {
 no_front : {A : Type 0} (bytes rest : List ℕ) (x : Item) → bytes ≡ [] → Front bytes x rest → A
 no_front bytes rest x is f = absurd (omega (arith, ap length is, Front-shrinks bytes x rest f))
 
+-- nothing is passed, and one look fails at most
+nothing-walked : (bytes : List ℕ) (old new : Counts) → new.successful ≡ old.successful → old.failed ≤ new.failed → new.failed ≤ old.failed + 1
+    → Walked bytes old new
+nothing-walked bytes old new same more one = record {
+  passed = [];
+  rest = bytes;
+  passes = refl;
+  kept = omega (arith, same);
+  successful = omega (arith, same);
+  failed_kept = more;
+  failed = omega (arith, one);
+}
+
 module _ {M : Type 0} {w : Writing M} (f : Reading w) where
   pub list-walked : (bytes : List ℕ) (old new : Counts) → ListLooks f.Reads f.Faulty f.looks.Takes bytes old new → Walked bytes old new
-  list-walked bytes old new (list_ends is p) =
-      let s = ap (λ (c : Counts). c.successful) p in
-      let t = ap (λ (c : Counts). c.failed) p in
-      record {
-        passed = [];
-        rest = bytes;
-        passes = refl;
-        kept = omega (arith, s);
-        successful = omega (arith, s);
-        failed_kept = omega (arith, t);
-        failed = omega (arith, t);
-      }
-  list-walked bytes old new (none_stands e left bad p) =
-      let s = ap (λ (c : Counts). c.successful) p in
-      let t = ap (λ (c : Counts). c.failed) p in
-      record {
-        passed = [];
-        rest = bytes;
-        passes = refl;
-        kept = omega (arith, s);
-        successful = omega (arith, s);
-        failed_kept = omega (arith, t);
-        failed = omega (arith, t);
-      }
+  list-walked bytes old new (list_ends is p) = nothing-walked bytes old new (ap (λ (c : Counts). c.successful) p) (omega (arith, ap (λ (c : Counts). c.failed) p)) (omega (arith, ap (λ (c : Counts). c.failed) p))
+  list-walked bytes old new (none_stands e left bad p) = nothing-walked bytes old new (ap (λ (c : Counts). c.successful) p) (omega (arith, ap (λ (c : Counts). c.failed) p)) (omega (arith, ap (λ (c : Counts). c.failed) p))
   list-walked bytes old new (faulty_stands x rest e front bad p) =
       let a = f.bounded x (hit old) new p in
       let took = Front-takes bytes x rest front in

@@ -1,16 +1,17 @@
 //! The laws of this crate, over its definitions alone. Each function does nothing, and its contract
 //! is the law.
 
-ghost use Rattle.std.specs.Prelude.{◌≡◌, ◌≤◌, ◌+◌, ◌-◌, ◌*◌, ◌++◌, ◌∷◌, ◌↔◌, ℕ, List, [], Result, Err, None, length};
+ghost use Rattle.std.specs.Prelude.{◌≡◌, ◌≤◌, ◌+◌, ◌-◌, ◌*◌, ◌++◌, ◌∷◌, ◌↔◌, ℕ, List, [], Result, Err, None, length, true};
 ghost use Rattle.npr_base.specs.{
   declared.refusal.DecodeError.{DecodeError},
-  AddressFamily.{family_of, family_number},
+  AddressFamily.{all_families, family_of, family_number},
   Equality.{IsEquality},
   Family.{list_members},
   Framing.{Item, Cut, Stops},
   Counts.{Counts, AddsAtMostTwice, SawEach},
   Looks.{Adds},
   Message.{Message as Meant, IsMessage, MessageLooks, IsCoherent, spelling, message_misfit},
+  Rows.{agrees, numbered},
   Walk.{Steps, found, Finds, CutsInTwo},
 };
 
@@ -40,9 +41,10 @@ pub fn law_cut<A: Attribute>()
     ensures { (context : A.Context) → CutsInTwo (A.family.reading context).Reads }
 {}
 
-/// What a number reads as is written as that number.
+/// What a number reads as is written as that number, and each row's family is written as the row's number.
 pub fn law_family_number()
-    ensures { (d : ℕ) → family_number (family_of d) ≡ d }
+    ensures back { (d : ℕ) → family_number (family_of d) ≡ d }
+    ensures rows { agrees family_number (numbered all_families) ≡ true }
 {}
 
 /// The constants of `linux/netlink.h`.

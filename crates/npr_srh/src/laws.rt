@@ -1,12 +1,12 @@
 //! The laws of this crate. Each function does nothing, and its contract is the law.
 
-ghost use Rattle.std.specs.Prelude.{◌≡◌, ℕ, false};
+ghost use Rattle.std.specs.Prelude.{◌≡◌, ℕ, false, true};
 ghost use Rattle.{
-  npr_base.specs.Equality.{IsEquality, IsEqualityOf},
+  npr_base.specs.{Equality.{IsEquality, IsEqualityOf}, Rows.{agrees, numbered}},
   npr_srh.specs.{
     Ioam6Mode.{ioam6_mode_of, ioam6_mode_number},
     Seg6.{seg6_of},
-    Seg6LocalAction.{action_of, action_number},
+    Seg6LocalAction.{all_actions, action_of, action_number},
     Seg6Mode.{mode_of, mode_number},
     Seg6Tunnel.{meaning_of as seg6_member},
     Seg6Local.{local_of},
@@ -26,10 +26,11 @@ use crate::seg6local::RouteSeg6LocalTunnel;
 use crate::seg6local_action::Seg6LocalAction;
 use crate::seg6local_srh::Seg6LocalSrh;
 
-/// What a number reads as is written as that number.
+/// What a number reads as is written as that number, and each row of the actions as the row's number.
 pub fn law_numbers()
     ensures seg6_mode { (d : ℕ) → mode_number (mode_of d) ≡ d }
     ensures action { (d : ℕ) → action_number (action_of d) ≡ d }
+    ensures action_rows { agrees action_number (numbered all_actions) ≡ true }
     ensures ioam6_mode { (d : ℕ) → ioam6_mode_number (ioam6_mode_of d) ≡ d }
 {}
 

@@ -87,13 +87,13 @@ looks-add inside bytes old new (child_passed x rest c f r s p) =
 
 -- ---- what they are at most and at least
 
-record Few (old new : Counts) (len : ℕ) : Type 0 where
+record FewOptions (old new : Counts) (len : ℕ) : Type 0 where
   kept : old.successful ≤ new.successful
   successful : new.successful ≤ old.successful + 2 * (len / 4)
   failed_kept : old.failed ≤ new.failed
   failed : new.failed ≤ old.failed + 1
 
-options-few : (inside : Bool) (bytes : List ℕ) (old new : Counts) → OptionsLooks inside bytes old new → Few old new (length bytes)
+options-few : (inside : Bool) (bytes : List ℕ) (old new : Counts) → OptionsLooks inside bytes old new → FewOptions old new (length bytes)
 options-few inside bytes old new (options_end is p) =
     let s = ap (λ (c : Counts). c.successful) p in
     let t = ap (λ (c : Counts). c.failed) p in
