@@ -4,7 +4,6 @@ ghost use Rattle.std.specs.{Prelude.{◌≡◌, ◌≢◌, ◌==◌, None, Some,
 ghost use Rattle.{
   examples.specs.{Addresses.{local_ipv4, loopback, loopback_written, with_priority}, declared.fault.Fault.TheVariants.{Refused, Unfit}},
   netlink_packet_route.specs.{
-    AddressAttribute.{meaning_of},
     AddressFlags.{header_flags_bits},
     AddressMessage.{Address, AddressMessage, IsAddressMessage, AddressFault, address_bytes, address_misfit, message_of},
     Found.{IsFirst},
@@ -27,7 +26,7 @@ use std::alloc::{AllocError, Global};
 /// Why the bytes are no address message.
 pub fn read_local(alloc: Global, bytes: &[u8]) -> Result<Option<Ipv4Addr>, DecodeError>
     ensures ok { IfOk result (λ found. (m : AddressMessage) × IsAddressMessage bytes.now (message_of m)
-        × IsFirst (λ a. local_ipv4 (meaning_of a)) m.attributes.items found) }
+        × IsFirst local_ipv4 m.attributes.items found) }
     ensures refused { IfErr result (λ e. e ≢ OutOfMemory → AddressFault bytes.now e) }
 {
     let message = AddressMessage::parse(alloc, bytes)?;
@@ -36,14 +35,14 @@ pub fn read_local(alloc: Global, bytes: &[u8]) -> Result<Option<Ipv4Addr>, Decod
 
 /// The first local address of version 4.
 pub fn first_local(message: &AddressMessage) -> Option<Ipv4Addr>
-    ensures { IsFirst (λ a. local_ipv4 (meaning_of a)) message.now.attributes.items result }
+    ensures { IsFirst local_ipv4 message.now.attributes.items result }
 {
     message.attributes.iter().find_map(local_ipv4)
 }
 
 /// The address, where it is a local one of version 4.
 fn local_ipv4(attribute: &AddressAttribute) -> Option<Ipv4Addr>
-    ensures { result ≡ local_ipv4 (meaning_of attribute.now) }
+    ensures { result ≡ local_ipv4 attribute.now }
 {
     match attribute {
         AddressAttribute::Local(IpAddr::V4(ip)) => Some(*ip),

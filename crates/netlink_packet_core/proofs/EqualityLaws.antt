@@ -3,12 +3,13 @@ use Rattle.std.specs.Prelude.{◌≡◌, ℕ, ℤ, pos, ◌<◌, unsigned_abs, L
 use Rattle.std.specs.Bool.{Decides}
 use Rattle.std.specs.Cmp.{signed_Decides, unsigned_Decides}
 use Rattle.std.specs.Option.{option_eq}
-use Rattle.std.specs.String.{string_bytes}
 use Rattle.std.specs.contracts.prelude.NonZeroI32PartialEq.TheImpl as CodeEq
 use Rattle.std.specs.declared.num.NonZeroI32.{NonZeroI32}
 use Rattle.std.proofs.Common.{refl, sym, ap, subst, arith, true≢false}
 use Rattle.npr_base.specs.Equality.{IsEqualityOf}
-use Rattle.npr_base.specs.MeaningLaws.{enum_meaning, row_order, ◌also◌, one_meaning, text_equality, items_equality}
+use Rattle.npr_base.specs.EnumTable.{◌also◌}
+use Rattle.npr_base.specs.EnumTableLaws.{enum_decides, of_field}
+use Rattle.npr_base.specs.MeaningLaws.{enum_meaning, one_meaning, text_equality, items_equality}
 use Rattle.npr_base.specs.StructLaws.{and_decides, decides_as}
 use Rattle.npr_base.specs.ViewEquality.{item_equality}
 use Rattle.netlink_packet_core.specs.Extended as OfAttribute
@@ -28,14 +29,15 @@ use mir.Syntax.{Dict}
 
 pub attribute_equality : IsEqualityOf OfAttribute.meaning_of AttributeEq.ghosts.eq
 attribute_equality =
-    enum_meaning (row_order OfAttribute.rows OfAttribute.held_of) attribute_enum OfAttribute.meaning_of _ (λ t.
-    (λ x. refl, one_meaning string_bytes OfAttribute.message text_equality (λ p q e. cc)) also
-    (λ x. refl, one_meaning (λ n. n) OfAttribute.offset unsigned_Decides (λ p q e. cc)) also
-    (λ x. refl, one_meaning (λ v. v.items) OfAttribute.cookie (items_equality unsigned_Decides) (λ p q e. cc)) also
-    (λ x. refl, one_meaning (λ v. v.items) OfAttribute.policy (items_equality unsigned_Decides) (λ p q e. cc)) also
-    (λ x. refl, one_meaning (λ n. n) OfAttribute.missing_type unsigned_Decides (λ p q e. cc)) also
-    (λ x. refl, one_meaning (λ n. n) OfAttribute.missing_nest unsigned_Decides (λ p q e. cc)) also
-    (λ x. refl, one_meaning (λ d. d) OfAttribute.other item_equality (λ p q e. cc)) also tt)
+    enum_decides attribute_enum OfAttribute.rows _
+    (of_field text_equality
+    also of_field unsigned_Decides
+    also of_field (items_equality unsigned_Decides)
+    also of_field (items_equality unsigned_Decides)
+    also of_field unsigned_Decides
+    also of_field unsigned_Decides
+    also of_field item_equality
+    also tt)
 
 -- a code and the bytes behind it
 abbrev pair : ℤ → List ℕ → ℤ × List ℕ
@@ -76,6 +78,9 @@ done_by M p = done p.0 p.1
 abbrev error_by : (M : Type 0) → ℤ × List ℕ → Payload M
 error_by M p = error p.0 p.1
 
+abbrev overrun_by : (M : Type 0) → List ℕ → Payload M
+overrun_by M bytes = overrun bytes
+
 pair_one : (p q : ℤ × List ℕ) → p.0 ≡ q.0 → p.1 ≡ q.1 → p ≡ q
 pair_one p q code more = λ i. (code i, more i)
 
@@ -94,7 +99,7 @@ module _ (I : RattleType) (bound : PartialEqGhosts I.Denot) (dict : Dict) {M : T
       (λ x. refl, one_meaning done_of (done_by M) done_equality (done_one M)) also
       (λ x. refl, one_meaning error_of (error_by M) error_equality (error_one M)) also
       (λ x. refl, λ x y is. (λ e. refl, λ e. refl)) also
-      (λ x. refl, one_meaning (λ v. v.items) overrun (items_equality unsigned_Decides) (λ p q e. cc)) also
+      (λ x. refl, one_meaning (λ v. v.items) (overrun_by M) (items_equality unsigned_Decides) (λ p q e. cc)) also
       (λ x. refl, one_meaning meaning inner h (λ p q e. cc)) also tt)
 
   pub message_equality : IsEqualityOf (message_of meaning) (MessageEq.ghosts I bound dict).eq

@@ -9,6 +9,9 @@ pub use Rattle.npr_base.specs.Blocks
 pub use Rattle.npr_base.specs.Codec
 pub use Rattle.npr_base.specs.Counts
 pub use Rattle.npr_base.specs.DroppedCodec
+pub use Rattle.npr_base.specs.EnumTable
+pub use Rattle.npr_base.specs.EnumTableLaws
+pub use Rattle.npr_base.specs.EnumTableValues
 pub use Rattle.npr_base.specs.Equality
 pub use Rattle.npr_base.specs.EqualityLaws
 pub use Rattle.npr_base.specs.Family

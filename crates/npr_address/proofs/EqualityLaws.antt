@@ -1,16 +1,17 @@
 -- What `==` answers of attributes and messages: whether they mean the same.
-use Rattle.std.specs.String.{string_bytes}
-use Rattle.std.proofs.Common.{refl, rules, ap}
+use Rattle.std.proofs.Common.{rules, ap}
 use Rattle.npr_base.specs.Equality.{IsEquality, IsEqualityOf}
 use Rattle.npr_base.specs.ViewEquality.{item_equality}
 use Rattle.npr_base.specs.IpLaws.{ip_equality, ipv4_equality, ipv6_equality}
-use Rattle.npr_base.specs.MeaningLaws.{enum_meaning, row_order, ◌also◌, one_meaning, text_equality}
+use Rattle.npr_base.specs.EnumTable.{◌also◌}
+use Rattle.npr_base.specs.EnumTableLaws.{enum_decides, of_field}
+use Rattle.npr_base.specs.MeaningLaws.{text_equality}
 use Rattle.npr_base.specs.StructLaws.{and_decides, decides_as}
 use Rattle.npr_base.specs.AddressFamilyLaws.{family_equality}
 use Rattle.std.specs.Cmp.{unsigned_Decides, signed_Decides}
 use Rattle.npr_address.specs.declared.header.AddressHeader.{AddressHeader}
 use Rattle.npr_address.specs.contracts.addr_protocol.AddressProtocolPartialEq.TheImpl as ProtocolEq
-use Rattle.npr_address.specs.Attribute.{address, local, label, broadcast, anycast, info, multicast, flags, route_priority, target_net_ns_id, protocol, other, meaning_of, rows, held_of}
+use Rattle.npr_address.specs.Attribute.{meaning_of, rows}
 use Rattle.npr_address.specs.contracts.attribute.AddressAttribute.{enum}
 use Rattle.npr_address.specs.contracts.attribute.AddressAttributePartialEq.TheImpl as AttributeEq
 use Rattle.npr_address.specs.contracts.addr_flags.AddressFlagsPartialEq.TheImpl as FlagsEq
@@ -46,16 +47,17 @@ header_equality a b =
 
 pub attribute_equality : IsEqualityOf meaning_of AttributeEq.ghosts.eq
 attribute_equality =
-    enum_meaning (row_order rows held_of) enum meaning_of _ (λ t.
-    (λ x. refl, one_meaning (λ f. f) address ip_equality (λ p q e. cc)) also
-    (λ x. refl, one_meaning (λ f. f) local ip_equality (λ p q e. cc)) also
-    (λ x. refl, one_meaning string_bytes label text_equality (λ p q e. cc)) also
-    (λ x. refl, one_meaning (λ f. f) broadcast ipv4_equality (λ p q e. cc)) also
-    (λ x. refl, one_meaning (λ f. f) anycast ipv6_equality (λ p q e. cc)) also
-    (λ x. refl, one_meaning (λ f. f) info info_equality (λ p q e. cc)) also
-    (λ x. refl, one_meaning (λ f. f) multicast ipv6_equality (λ p q e. cc)) also
-    (λ x. refl, one_meaning (λ f. f) flags flags_equality (λ p q e. cc)) also
-    (λ x. refl, one_meaning (λ f. f) route_priority unsigned_Decides (λ p q e. cc)) also
-    (λ x. refl, one_meaning (λ f. f) target_net_ns_id signed_Decides (λ p q e. cc)) also
-    (λ x. refl, one_meaning (λ f. f) protocol protocol_equality (λ p q e. cc)) also
-    (λ x. refl, one_meaning (λ f. f) other item_equality (λ p q e. cc)) also tt)
+    enum_decides enum rows _
+    (of_field ip_equality
+    also of_field ip_equality
+    also of_field text_equality
+    also of_field ipv4_equality
+    also of_field ipv6_equality
+    also of_field info_equality
+    also of_field ipv6_equality
+    also of_field flags_equality
+    also of_field unsigned_Decides
+    also of_field signed_Decides
+    also of_field protocol_equality
+    also of_field item_equality
+    also tt)

@@ -43,3 +43,6 @@ pub mod DroppedCodec
 pub mod V6List
 pub mod V6ListLaws
 pub mod Text
+pub mod EnumTable
+pub mod EnumTableLaws
+pub mod EnumTableValues

@@ -25,11 +25,6 @@ use denote.Struct.Values.{Values}
 use denote.Enum.Declared.{Record, Choice}
 use denote.Enum.Compared.{Each, by}
 
--- one variant's facts, and those of the later ones
-infixr 2 ◌also◌
-abbrev pub ◌also◌ : {A B : Type 0} → A → B → A × B
-x also y = (x, y)
-
 module _ {M : Type 0} (order : M → ℕ) (t : M) where
   -- from the n-th variant on: what a variant means has the variant's order, and where it means t, the variant's
   -- answer is whether two values of it mean the same

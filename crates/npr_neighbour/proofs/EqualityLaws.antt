@@ -5,11 +5,13 @@ use Rattle.std.proofs.Common.{refl, rules, ap}
 use Rattle.npr_base.specs.AddressFamilyLaws.{family_equality}
 use Rattle.npr_base.specs.Equality.{IsEquality, IsEqualityOf}
 use Rattle.npr_base.specs.IpLaws.{ipv4_equality, ipv6_equality}
-use Rattle.npr_base.specs.MeaningLaws.{enum_meaning, row_order, ◌also◌, one_meaning, items_equality}
+use Rattle.npr_base.specs.EnumTable.{◌also◌}
+use Rattle.npr_base.specs.EnumTableLaws.{enum_decides, of_field}
+use Rattle.npr_base.specs.MeaningLaws.{enum_meaning, one_meaning, items_equality}
 use Rattle.npr_base.specs.StructLaws.{and_decides, decides_as}
 use Rattle.npr_base.specs.ViewEquality.{item_equality}
 use Rattle.npr_scalar.specs.EqualityLaws.{route_protocol_equality, route_type_equality}
-use Rattle.npr_neighbour.specs.Attribute.{destination, link_layer, info, probes, vlan, port, vni, if_index, controller, link_net_ns_id, source_vni, protocol, nh_id, flags_ext, other, meaning_of, rows, held_of}
+use Rattle.npr_neighbour.specs.Attribute.{meaning_of, rows}
 use Rattle.npr_neighbour.specs.NeighbourAddress as A
 use Rattle.npr_neighbour.specs.contracts.address.NeighbourAddress.{enum as address_enum}
 use Rattle.npr_neighbour.specs.contracts.address.NeighbourAddressPartialEq.TheImpl as AddressEq
@@ -60,19 +62,20 @@ header_equality a b =
 
 pub attribute_equality : IsEqualityOf meaning_of AttributeEq.ghosts.eq
 attribute_equality =
-    enum_meaning (row_order (rows A.any) held_of) enum meaning_of _ (λ t.
-    (λ x. refl, one_meaning A.address_of destination address_equality (λ p q e. cc)) also
-    (λ x. refl, one_meaning (λ v. v.items) link_layer (items_equality unsigned_Decides) (λ p q e. cc)) also
-    (λ x. refl, one_meaning (λ f. f) info info_equality (λ p q e. cc)) also
-    (λ x. refl, one_meaning (λ f. f) probes unsigned_Decides (λ p q e. cc)) also
-    (λ x. refl, one_meaning (λ f. f) vlan unsigned_Decides (λ p q e. cc)) also
-    (λ x. refl, one_meaning (λ f. f) port unsigned_Decides (λ p q e. cc)) also
-    (λ x. refl, one_meaning (λ f. f) vni unsigned_Decides (λ p q e. cc)) also
-    (λ x. refl, one_meaning (λ f. f) if_index unsigned_Decides (λ p q e. cc)) also
-    (λ x. refl, one_meaning (λ f. f) controller unsigned_Decides (λ p q e. cc)) also
-    (λ x. refl, one_meaning (λ f. f) link_net_ns_id unsigned_Decides (λ p q e. cc)) also
-    (λ x. refl, one_meaning (λ f. f) source_vni unsigned_Decides (λ p q e. cc)) also
-    (λ x. refl, one_meaning (λ f. f) protocol route_protocol_equality (λ p q e. cc)) also
-    (λ x. refl, one_meaning (λ f. f) nh_id unsigned_Decides (λ p q e. cc)) also
-    (λ x. refl, one_meaning (λ f. f) flags_ext extended_flags_equality (λ p q e. cc)) also
-    (λ x. refl, one_meaning (λ f. f) other item_equality (λ p q e. cc)) also tt)
+    enum_decides enum (rows A.any) _
+    (of_field address_equality
+    also of_field (items_equality unsigned_Decides)
+    also of_field info_equality
+    also of_field unsigned_Decides
+    also of_field unsigned_Decides
+    also of_field unsigned_Decides
+    also of_field unsigned_Decides
+    also of_field unsigned_Decides
+    also of_field unsigned_Decides
+    also of_field unsigned_Decides
+    also of_field unsigned_Decides
+    also of_field route_protocol_equality
+    also of_field unsigned_Decides
+    also of_field extended_flags_equality
+    also of_field item_equality
+    also tt)

@@ -1,7 +1,6 @@
 //! The attributes of a neighbour message: `NDA_*` of `linux/neighbour.h`.
 
-ghost use Rattle.std.specs.Prelude.{refl};
-ghost use Rattle.npr_neighbour.specs.Attribute.{meaning_of, writing, family};
+ghost use Rattle.npr_neighbour.specs.Attribute.{shape_of, shape_is, family};
 
 use crate::address::NeighbourAddress;
 use crate::cache_info::NeighbourCacheInfo;
@@ -75,7 +74,7 @@ macro_rules! rows {
 }
 
 impl Nla for NeighbourAttribute {
-    ghost shape = { λ a. writing.shape (meaning_of a) };
+    ghost shape = { shape_of };
 
     fn kind(&self) -> u16 {
         rows!(kind_rows(self; NeighbourAttribute::Destination(_) => NDA_DST,))
@@ -99,7 +98,7 @@ impl Attribute for NeighbourAttribute {
 
     ghost family = { family };
 
-    ghost shape_is = { λ a. refl };
+    ghost shape_is = { shape_is };
 
     fn read_into<P: Place<Self>>(
         place: &mut P,

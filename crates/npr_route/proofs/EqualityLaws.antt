@@ -10,7 +10,9 @@ use Rattle.std.proofs.Common.{refl, sym, ap, ◌∙◌}
 use Rattle.npr_base.specs.AddressFamilyLaws.{family_equality}
 use Rattle.npr_base.specs.Equality.{IsEquality, IsEqualityOf}
 use Rattle.npr_base.specs.ViewEquality.{item_equality}
-use Rattle.npr_base.specs.MeaningLaws.{enum_meaning, enum_meaning_at, row_order, ◌also◌, one_meaning, one_meaning_by, text_equality, items_equality, items_meaning}
+use Rattle.npr_base.specs.EnumTable.{◌also◌}
+use Rattle.npr_base.specs.EnumTableLaws.{enum_decides, of_field}
+use Rattle.npr_base.specs.MeaningLaws.{enum_meaning_at, one_meaning, one_meaning_by, text_equality, items_equality, items_meaning}
 use Rattle.npr_base.specs.StructLaws.{and_decides, decides_as}
 use Rattle.npr_scalar.specs.EqualityLaws.{address_equality, cache_info_equality, label_equality, mfc_stats_equality, realm_equality, route_flags_equality, via_equality, route_protocol_equality, route_scope_equality, route_type_equality, route_preference_equality, ttl_propagation_equality}
 use Rattle.npr_scalar.specs.RouteAddress.{address_of}
@@ -54,25 +56,26 @@ header_equality a b =
 
 pub metric_equality : IsEqualityOf metric_of MetricEq.ghosts.eq
 metric_equality =
-    enum_meaning (row_order Metrics.rows Metrics.held_of) metric_enum metric_of _ (λ t.
-    (λ x. refl, one_meaning (λ n. n) Metrics.lock unsigned_Decides (λ p q e. cc)) also
-    (λ x. refl, one_meaning (λ n. n) Metrics.mtu unsigned_Decides (λ p q e. cc)) also
-    (λ x. refl, one_meaning (λ n. n) Metrics.window unsigned_Decides (λ p q e. cc)) also
-    (λ x. refl, one_meaning (λ n. n) Metrics.rtt unsigned_Decides (λ p q e. cc)) also
-    (λ x. refl, one_meaning (λ n. n) Metrics.rtt_var unsigned_Decides (λ p q e. cc)) also
-    (λ x. refl, one_meaning (λ n. n) Metrics.ss_thresh unsigned_Decides (λ p q e. cc)) also
-    (λ x. refl, one_meaning (λ n. n) Metrics.cwnd unsigned_Decides (λ p q e. cc)) also
-    (λ x. refl, one_meaning (λ n. n) Metrics.advmss unsigned_Decides (λ p q e. cc)) also
-    (λ x. refl, one_meaning (λ n. n) Metrics.reordering unsigned_Decides (λ p q e. cc)) also
-    (λ x. refl, one_meaning (λ n. n) Metrics.hoplimit unsigned_Decides (λ p q e. cc)) also
-    (λ x. refl, one_meaning (λ n. n) Metrics.init_cwnd unsigned_Decides (λ p q e. cc)) also
-    (λ x. refl, one_meaning (λ n. n) Metrics.features unsigned_Decides (λ p q e. cc)) also
-    (λ x. refl, one_meaning (λ n. n) Metrics.rto_min unsigned_Decides (λ p q e. cc)) also
-    (λ x. refl, one_meaning (λ n. n) Metrics.init_rwnd unsigned_Decides (λ p q e. cc)) also
-    (λ x. refl, one_meaning (λ n. n) Metrics.quick_ack unsigned_Decides (λ p q e. cc)) also
-    (λ x. refl, one_meaning string_bytes Metrics.cc_algo text_equality (λ p q e. cc)) also
-    (λ x. refl, one_meaning (λ n. n) Metrics.fastopen_no_cookie unsigned_Decides (λ p q e. cc)) also
-    (λ x. refl, one_meaning (λ d. d) Metrics.other item_equality (λ p q e. cc)) also tt)
+    enum_decides metric_enum Metrics.rows _
+    (of_field unsigned_Decides
+    also of_field unsigned_Decides
+    also of_field unsigned_Decides
+    also of_field unsigned_Decides
+    also of_field unsigned_Decides
+    also of_field unsigned_Decides
+    also of_field unsigned_Decides
+    also of_field unsigned_Decides
+    also of_field unsigned_Decides
+    also of_field unsigned_Decides
+    also of_field unsigned_Decides
+    also of_field unsigned_Decides
+    also of_field unsigned_Decides
+    also of_field unsigned_Decides
+    also of_field unsigned_Decides
+    also of_field text_equality
+    also of_field unsigned_Decides
+    also of_field item_equality
+    also tt)
 
 -- the places of the variants of an attribute's meaning: next hops stand behind the metrics
 order : Meaning → ℕ

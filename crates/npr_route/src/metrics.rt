@@ -1,7 +1,6 @@
 //! The metrics of a route: `RTAX_*` of `linux/rtnetlink.h`.
 
-ghost use Rattle.std.specs.Prelude.{refl};
-ghost use Rattle.{npr_base.specs.Table.{family_of}, npr_route.specs.Metric.{metric_of, writing, metrics}};
+ghost use Rattle.{npr_base.specs.Table.{family_of}, npr_route.specs.Metric.{metric_of, shape_of, shape_is, metrics}};
 
 use npr_base::{Attribute, DecodeError, DefaultNla, EmitError, Looks, Nla, NlaBuffer, Place};
 use std::alloc::{AllocError, Global};
@@ -73,7 +72,7 @@ macro_rules! rows {
 }
 
 impl Nla for RouteMetric {
-    ghost shape = { λ a. writing.shape (metric_of a) };
+    ghost shape = { shape_of };
 
     fn kind(&self) -> u16 {
         rows!(kind_rows(self))
@@ -97,7 +96,7 @@ impl Attribute for RouteMetric {
 
     ghost family = { family_of metric_of (λ _. metrics) };
 
-    ghost shape_is = { λ a. refl };
+    ghost shape_is = { shape_is };
 
     fn read_into<P: Place<Self>>(
         place: &mut P,

@@ -1,15 +1,16 @@
 -- What `==` answers of attributes and messages: whether they mean the same.
 use Rattle.std.specs.Cmp.{booleans_Decides, unsigned_Decides}
-use Rattle.std.specs.String.{string_bytes}
 use Rattle.std.proofs.Common.{refl, rules, ap}
 use Rattle.npr_base.specs.AddressFamilyLaws.{family_equality}
 use Rattle.npr_base.specs.Equality.{IsEquality, IsEqualityOf}
 use Rattle.npr_base.specs.ViewEquality.{item_equality}
 use Rattle.npr_base.specs.IpLaws.{ip_equality}
-use Rattle.npr_base.specs.MeaningLaws.{enum_meaning, row_order, ◌also◌, one_meaning, text_equality}
+use Rattle.npr_base.specs.EnumTable.{◌also◌}
+use Rattle.npr_base.specs.EnumTableLaws.{enum_decides, of_field}
+use Rattle.npr_base.specs.MeaningLaws.{text_equality}
 use Rattle.npr_base.specs.StructLaws.{and_decides, decides_as}
 use Rattle.npr_scalar.specs.EqualityLaws.{realm_equality, ip_protocol_equality, route_protocol_equality}
-use Rattle.npr_rule.specs.Attribute.{destination, source, iifname, goto, priority, fw_mark, realm, tun_id, suppress_if_group, suppress_prefix_len, table, fw_mask, oifname, l3mdev, uid_range, protocol, ip_protocol, source_port_range, destination_port_range, other, meaning_of, rows, held_of}
+use Rattle.npr_rule.specs.Attribute.{meaning_of, rows}
 use Rattle.npr_rule.specs.contracts.action.RuleActionPartialEq.TheImpl as ActionEq
 use Rattle.npr_rule.specs.contracts.attribute.RuleAttribute.{enum}
 use Rattle.npr_rule.specs.contracts.attribute.RuleAttributePartialEq.TheImpl as AttributeEq
@@ -45,24 +46,24 @@ header_equality a b =
 
 pub attribute_equality : IsEqualityOf meaning_of AttributeEq.ghosts.eq
 attribute_equality =
-    enum_meaning (row_order rows held_of) enum meaning_of _ (λ t.
-    (λ x. refl, one_meaning (λ f. f) destination ip_equality (λ p q e. cc)) also
-    (λ x. refl, one_meaning (λ f. f) source ip_equality (λ p q e. cc)) also
-    (λ x. refl, one_meaning string_bytes iifname text_equality (λ p q e. cc)) also
-    (λ x. refl, one_meaning (λ f. f) goto unsigned_Decides (λ p q e. cc)) also
-    (λ x. refl, one_meaning (λ f. f) priority unsigned_Decides (λ p q e. cc)) also
-    (λ x. refl, one_meaning (λ f. f) fw_mark unsigned_Decides (λ p q e. cc)) also
-    (λ x. refl, one_meaning (λ f. f) realm realm_equality (λ p q e. cc)) also
-    (λ x. refl, one_meaning (λ f. f) tun_id unsigned_Decides (λ p q e. cc)) also
-    (λ x. refl, one_meaning (λ f. f) suppress_if_group unsigned_Decides (λ p q e. cc)) also
-    (λ x. refl, one_meaning (λ f. f) suppress_prefix_len unsigned_Decides (λ p q e. cc)) also
-    (λ x. refl, one_meaning (λ f. f) table unsigned_Decides (λ p q e. cc)) also
-    (λ x. refl, one_meaning (λ f. f) fw_mask unsigned_Decides (λ p q e. cc)) also
-    (λ x. refl, one_meaning string_bytes oifname text_equality (λ p q e. cc)) also
-    (λ x. refl, one_meaning (λ f. f) l3mdev booleans_Decides (λ p q e. cc)) also
-    (λ x. refl, one_meaning (λ f. f) uid_range uid_equality (λ p q e. cc)) also
-    (λ x. refl, one_meaning (λ f. f) protocol route_protocol_equality (λ p q e. cc)) also
-    (λ x. refl, one_meaning (λ f. f) ip_protocol ip_protocol_equality (λ p q e. cc)) also
-    (λ x. refl, one_meaning (λ f. f) source_port_range port_equality (λ p q e. cc)) also
-    (λ x. refl, one_meaning (λ f. f) destination_port_range port_equality (λ p q e. cc)) also
-    (λ x. refl, one_meaning (λ f. f) other item_equality (λ p q e. cc)) also tt)
+    enum_decides enum rows _
+    (of_field ip_equality
+    also of_field ip_equality
+    also of_field text_equality
+    also of_field unsigned_Decides
+    also of_field unsigned_Decides
+    also of_field unsigned_Decides
+    also of_field realm_equality
+    also of_field unsigned_Decides
+    also of_field unsigned_Decides
+    also of_field unsigned_Decides
+    also of_field unsigned_Decides
+    also of_field unsigned_Decides
+    also of_field text_equality
+    also of_field booleans_Decides
+    also of_field uid_equality
+    also of_field route_protocol_equality
+    also of_field ip_protocol_equality
+    also of_field port_equality
+    also of_field port_equality
+    also of_field item_equality also tt)

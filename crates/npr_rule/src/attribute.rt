@@ -1,10 +1,10 @@
 //! The attributes of a rule message: `FRA_*` of `linux/fib_rules.h`.
 
-ghost use Rattle.std.specs.Prelude.{◌≡◌, None, refl};
+ghost use Rattle.std.specs.Prelude.{◌≡◌, None};
 ghost use Rattle.{
   npr_base.specs.Family.{checked},
   npr_scalar.specs.IpProtocol.{above_zero, ip_protocol_number},
-  npr_rule.specs.{IpProtocolByte.{protocol_misfit}, Attribute.{meaning_of, writing, family}},
+  npr_rule.specs.{IpProtocolByte.{protocol_misfit}, Attribute.{shape_of, shape_is, family}},
 };
 
 use crate::port_range::RulePortRange;
@@ -88,7 +88,7 @@ macro_rules! rows {
 }
 
 impl Nla for RuleAttribute {
-    ghost shape = { λ a. writing.shape (meaning_of a) };
+    ghost shape = { shape_of };
 
     fn kind(&self) -> u16 {
         rows!(kind_rows(self))
@@ -141,7 +141,7 @@ impl Attribute for RuleAttribute {
 
     ghost family = { family };
 
-    ghost shape_is = { λ a. refl };
+    ghost shape_is = { shape_is };
 
     fn read_into<P: Place<Self>>(
         place: &mut P,

@@ -10,7 +10,8 @@ use Rattle.npr_base.specs.declared.address_family.AddressFamily.{AddressFamily}
 use Rattle.npr_base.specs.Equality.{IsEquality, IsEqualityOf}
 use Rattle.npr_base.specs.EqualityLaws.{enum_equality, one_equality}
 use Rattle.npr_base.specs.IpLaws.{ipv4_equality, ipv6_equality}
-use Rattle.npr_base.specs.MeaningLaws.{enum_meaning, ◌also◌, one_meaning, items_equality}
+use Rattle.npr_base.specs.EnumTable.{◌also◌}
+use Rattle.npr_base.specs.MeaningLaws.{enum_meaning, one_meaning, items_equality}
 use Rattle.npr_base.specs.StructLaws.{and_decides, decides_as}
 use Rattle.npr_base.specs.contracts.address_family.AddressFamilyPartialEq.TheImpl as FamilyEq
 use Rattle.npr_scalar.specs.RouteAddress as A

@@ -1,15 +1,16 @@
 -- Headers and members of an older table of modes, brought up to the table of today: they are written by the same bytes, and
 -- what bytes meant, they mean brought up.
-use Rattle.std.proofs.Common.{◌≡◌, ℕ, ◌<◌, ◌^◌, List, length, refl, sym, ap, subst, ◌∙◌}
+use Rattle.std.specs.Prelude.{◌==◌}
+use Rattle.std.proofs.Common.{◌≡◌, ℕ, ◌<◌, ◌^◌, List, inl, inr, length, refl, sym, ap, subst, ◌∙◌}
 use Rattle.npr_base.specs.Family.{misfit_of, option_or, too_long}
 use Rattle.npr_base.specs.Framing.{Item, number_of}
-use Rattle.npr_base.proofs.NormalizedLaws.{Normalizes, rows-normalized}
+use Rattle.npr_base.specs.EnumTableLaws.{matches}
 use Rattle.npr_base.specs.RowLaws.{form_IsFormed}
 use Rattle.npr_base.specs.Table.{item_of, unfit_by}
 use Rattle.npr_srh.specs.Segments.{too_many}
 use Rattle.npr_srh.specs.Seg6.{Seg6, IsSeg6, IsSeg6By, HoldsSeg6By, seg6_bytes, most_segments, decode_message, normalized as normalized_header}
 use Rattle.npr_srh.specs.Seg6Mode.{ModeTable, modes, mode_of, mode_number, mode_number-mode_in, mode_number-mode_of}
-use Rattle.npr_srh.specs.Seg6Tunnel.{Meaning, writing, header, src, table, other, normalized, rows, held_of, attributes, attributes_by}
+use Rattle.npr_srh.specs.Seg6Tunnel.{Meaning, writing, normalized, held_of, attributes, attributes_by}
 use Rattle.npr_srh.specs.declared.seg6_mode.Seg6Mode.{Seg6Mode}
 
 -- ---- a header
@@ -52,34 +53,25 @@ header-read by bytes h p = record {
 -- ---- a member
 
 pub member-item : (m : Meaning) → item_of (held_of (normalized m)) ≡ item_of (held_of m)
-member-item (header h) = rw (header-bytes h) refl
-member-item (src a) = refl
-member-item (table n) = refl
-member-item (other x) = refl
+member-item (inl h) = rw (header-bytes h) refl
+member-item (inr m) = refl
 
 pub member-misfit : (m : Meaning) → unfit_by writing (normalized m) ≡ unfit_by writing m
-member-misfit (header h) =
+member-misfit (inl h) =
     let few = too_many (most_segments h.hmac) (length h.segments) in
     ap (λ (b : List ℕ). misfit_of (option_or (too_long 1 (length b)) few) (record { kind = 1; value = b })) (header-bytes h)
-member-misfit (src a) = refl
-member-misfit (table n) = refl
-member-misfit (other x) = refl
+member-misfit (inr m) = refl
 
 pub member-again : (m : Meaning) → normalized (normalized m) ≡ normalized m
-member-again (header h) = ap header (header-again h)
-member-again (src a) = refl
-member-again (table n) = refl
-member-again (other x) = refl
-
-normalizes : (by : ModeTable) → Normalizes normalized (rows by) (rows modes)
-normalizes by =
-    (refl, λ bytes h p. (normalized_header h, header-read by bytes h p, refl), (refl, λ bytes a p. (a, p, refl), (refl, λ bytes n p. (n, p, refl), tt)))
+member-again (inl h) = λ i. inl (header-again h i)
+member-again (inr m) = refl
 
 pub member-read : (by : ModeTable) (x : Item) (m : Meaning) → (attributes_by by).Reads x m → attributes.Reads x (normalized m)
-member-read by x m p = rows-normalized normalized other (λ y. refl) (rows by) (rows modes) (normalizes by) (number_of x.kind) x m p
+member-read by x (inl h) p = matches (number_of x.kind == 1) (header-read by x.value h) (λ none. none) p
+member-read by x (inr m) p = p
 
 pub member-coherent : (by : ModeTable) (m : Meaning) → (attributes_by by).Coherent m → attributes.Coherent (normalized m)
-member-coherent by (header h) c = header-holds by h c
-member-coherent by (src a) c = c
-member-coherent by (table n) c = c
-member-coherent by (other x) c = record { proper = c.proper; alone = c.alone }
+member-coherent by (inl h) c = header-holds by h c
+member-coherent by (inr (inl a)) c = c
+member-coherent by (inr (inr (inl n))) c = c
+member-coherent by (inr (inr (inr x))) c = record { proper = c.proper; alone = c.alone }

@@ -7,7 +7,9 @@ use Rattle.std.proofs.Common.{refl, sym, rules, ap, true≢false}
 use Rattle.npr_base.specs.Equality.{IsEquality, IsEqualityOf}
 use Rattle.npr_base.specs.ViewEquality.{item_equality}
 use Rattle.npr_base.specs.IpLaws.{ipv4_equality, ipv6_equality}
-use Rattle.npr_base.specs.MeaningLaws.{enum_meaning, row_order, ◌also◌, one_meaning, items_equality}
+use Rattle.npr_base.specs.EnumTable.{◌also◌}
+use Rattle.npr_base.specs.EnumTableLaws.{enum_decides, of_field, no_field}
+use Rattle.npr_base.specs.MeaningLaws.{items_equality}
 use Rattle.npr_base.specs.StructLaws.{and_decides, decides_as}
 use Rattle.npr_srh.specs.Seg6.{Seg6, seg6_of}
 use Rattle.npr_srh.specs.Seg6Mode.{modes}
@@ -90,41 +92,45 @@ rpl_header_equality a b =
 
 pub seg6_equality : IsEqualityOf OfSeg6.meaning_of Seg6Eq.ghosts.eq
 seg6_equality =
-    enum_meaning (row_order (OfSeg6.rows modes) OfSeg6.held_of) seg6_enum OfSeg6.meaning_of _ (λ t.
-    (λ x. refl, one_meaning seg6_of OfSeg6.header seg6_header_equality (λ p q e. cc)) also
-    (λ x. refl, one_meaning (λ f. f) OfSeg6.src ipv6_equality (λ p q e. cc)) also
-    (λ x. refl, one_meaning (λ f. f) OfSeg6.table unsigned_Decides (λ p q e. cc)) also
-    (λ x. refl, one_meaning (λ f. f) OfSeg6.other item_equality (λ p q e. cc)) also tt)
+    enum_decides seg6_enum (OfSeg6.rows modes) _
+    (of_field seg6_header_equality
+    also of_field ipv6_equality
+    also of_field unsigned_Decides
+    also of_field item_equality
+    also tt)
 
 pub local_equality : IsEqualityOf OfLocal.meaning_of LocalEq.ghosts.eq
 local_equality =
-    enum_meaning (row_order OfLocal.rows OfLocal.held_of) local_enum OfLocal.meaning_of _ (λ t.
-    (λ x. refl, λ x y is. (λ e. refl, λ e. refl)) also
-    (λ x. refl, one_meaning (λ f. f) OfLocal.act action_equality (λ p q e. cc)) also
-    (λ x. refl, one_meaning local_of OfLocal.srh local_header_equality (λ p q e. cc)) also
-    (λ x. refl, one_meaning (λ f. f) OfLocal.table unsigned_Decides (λ p q e. cc)) also
-    (λ x. refl, one_meaning (λ f. f) OfLocal.nh4 ipv4_equality (λ p q e. cc)) also
-    (λ x. refl, one_meaning (λ f. f) OfLocal.nh6 ipv6_equality (λ p q e. cc)) also
-    (λ x. refl, one_meaning (λ f. f) OfLocal.iif unsigned_Decides (λ p q e. cc)) also
-    (λ x. refl, one_meaning (λ f. f) OfLocal.oif unsigned_Decides (λ p q e. cc)) also
-    (λ x. refl, one_meaning (λ f. f) OfLocal.vrf_table unsigned_Decides (λ p q e. cc)) also
-    (λ x. refl, one_meaning (λ f. f) OfLocal.other item_equality (λ p q e. cc)) also tt)
+    enum_decides local_enum OfLocal.rows _
+    (no_field _
+    also of_field action_equality
+    also of_field local_header_equality
+    also of_field unsigned_Decides
+    also of_field ipv4_equality
+    also of_field ipv6_equality
+    also of_field unsigned_Decides
+    also of_field unsigned_Decides
+    also of_field unsigned_Decides
+    also of_field item_equality
+    also tt)
 
 pub rpl_equality : IsEqualityOf OfRpl.meaning_of RplEq.ghosts.eq
 rpl_equality =
-    enum_meaning (row_order OfRpl.rows OfRpl.held_of) rpl_enum OfRpl.meaning_of _ (λ t.
-    (λ x. refl, λ x y is. (λ e. refl, λ e. refl)) also
-    (λ x. refl, one_meaning rpl_of OfRpl.srh rpl_header_equality (λ p q e. cc)) also
-    (λ x. refl, one_meaning (λ f. f) OfRpl.other item_equality (λ p q e. cc)) also tt)
+    enum_decides rpl_enum OfRpl.rows _
+    (no_field _
+    also of_field rpl_header_equality
+    also of_field item_equality
+    also tt)
 
 pub ioam6_equality : IsEqualityOf OfIoam6.meaning_of Ioam6Eq.ghosts.eq
 ioam6_equality =
-    enum_meaning (row_order OfIoam6.rows OfIoam6.held_of) ioam6_enum OfIoam6.meaning_of _ (λ t.
-    (λ x. refl, λ x y is. (λ e. refl, λ e. refl)) also
-    (λ x. refl, one_meaning (λ f. f) OfIoam6.mode ioam6_mode_equality (λ p q e. cc)) also
-    (λ x. refl, one_meaning (λ f. f) OfIoam6.dst ipv6_equality (λ p q e. cc)) also
-    (λ x. refl, one_meaning (λ f. f) OfIoam6.traced trace_equality (λ p q e. cc)) also
-    (λ x. refl, one_meaning (λ f. f) OfIoam6.freq_k unsigned_Decides (λ p q e. cc)) also
-    (λ x. refl, one_meaning (λ f. f) OfIoam6.freq_n unsigned_Decides (λ p q e. cc)) also
-    (λ x. refl, one_meaning (λ f. f) OfIoam6.src ipv6_equality (λ p q e. cc)) also
-    (λ x. refl, one_meaning (λ f. f) OfIoam6.other item_equality (λ p q e. cc)) also tt)
+    enum_decides ioam6_enum OfIoam6.rows _
+    (no_field _
+    also of_field ioam6_mode_equality
+    also of_field ipv6_equality
+    also of_field trace_equality
+    also of_field unsigned_Decides
+    also of_field unsigned_Decides
+    also of_field ipv6_equality
+    also of_field item_equality
+    also tt)

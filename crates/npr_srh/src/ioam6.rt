@@ -7,7 +7,7 @@ ghost use Rattle.{
     Ioam6Mode.{ioam6_mode_of, ioam6_mode_number, ioam6_mode_text},
     Keeping.{IsUnread},
     Trace.{trace, IsTrace, encode_trace, trace_text},
-    Ioam6Tunnel.{meaning_of, writing, attributes, ioam6_text, trace_row},
+    Ioam6Tunnel.{meaning_of, writing, attributes, ioam6_text, trace_at},
   },
 };
 
@@ -138,7 +138,7 @@ impl Nla for Ioam6TraceHdr {
 impl<'a> Parseable<&'a NlaBuffer<'a>> for Ioam6TraceHdr {
     ghost parses = { λ input t. trace.Reads input.now.value t };
 
-    ghost misparses = { λ input e. trace.Wrong trace_row.at input.now.value e };
+    ghost misparses = { λ input e. trace.Wrong trace_at input.now.value e };
 
     /// The header that the value is.
     ///
@@ -146,7 +146,7 @@ impl<'a> Parseable<&'a NlaBuffer<'a>> for Ioam6TraceHdr {
     /// `Unsupported` at a length other than 8 bytes.
     fn parse(_alloc: Global, input: &'a NlaBuffer<'a>) -> Result<Self, DecodeError>
         ensures ok { IfOk result (λ t. trace.Reads input.now.value t) }
-        ensures refused { IfErr result (λ e. e ≢ OutOfMemory → trace.Wrong trace_row.at input.now.value e) }
+        ensures refused { IfErr result (λ e. e ≢ OutOfMemory → trace.Wrong trace_at input.now.value e) }
         // It takes no memory.
         ensures memory { IfErr result (λ e. e ≢ OutOfMemory) }
     {

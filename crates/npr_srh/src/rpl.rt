@@ -7,7 +7,7 @@ ghost use Rattle.{
   npr_srh.specs.{
     Keeping.{IsUnread},
     Rpl.{rpl, rpl_of, encode_rpl},
-    RplTunnel.{meaning_of, writing, attributes, rpl_text, srh_row},
+    RplTunnel.{meaning_of, writing, attributes, rpl_text, srh_at},
   },
 };
 
@@ -136,7 +136,7 @@ impl Nla for RplSrh {
 impl<'a> Parseable<&'a NlaBuffer<'a>> for RplSrh {
     ghost parses = { λ input h. rpl.Reads input.now.value (rpl_of h) };
 
-    ghost misparses = { λ input e. rpl.Wrong srh_row.at input.now.value e };
+    ghost misparses = { λ input e. rpl.Wrong srh_at input.now.value e };
 
     /// The header that the value is.
     ///

@@ -3,7 +3,7 @@
 ghost use Rattle.std.specs.Prelude.{◌≡◌, ◌≤◌, ◌*◌, length, [], IfOk, IfErr, IfSome, IfNone};
 ghost use Rattle.{
   npr_base.specs.{Table.{shape_at, held}, declared.refusal.DecodeError.TheVariants.{OutOfMemory}},
-  npr_srh.specs.{Keeping.{IsUnread}, Seg6Local.{local, local_of, encode_local}, Seg6LocalTunnel.{srh_row}},
+  npr_srh.specs.{Keeping.{IsUnread}, Seg6Local.{local, local_of, encode_local}, Seg6LocalTunnel.{srh_at}},
 };
 
 use crate::segments::{check_header, read_parts};
@@ -127,7 +127,7 @@ impl Nla for Seg6LocalSrh {
 impl<'a> Parseable<&'a NlaBuffer<'a>> for Seg6LocalSrh {
     ghost parses = { λ input h. local.Reads input.now.value (local_of h) };
 
-    ghost misparses = { λ input e. local.Wrong srh_row.at input.now.value e };
+    ghost misparses = { λ input e. local.Wrong srh_at input.now.value e };
 
     /// The header that the value is.
     ///

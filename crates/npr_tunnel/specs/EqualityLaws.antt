@@ -6,7 +6,9 @@ use Rattle.npr_base.specs.declared.refusal.AttrFamily.TheVariants.{Ip, Ip6}
 use Rattle.npr_base.specs.Equality.{IsEquality, IsEqualityOf}
 use Rattle.npr_base.specs.ViewEquality.{item_equality}
 use Rattle.npr_base.specs.IpLaws.{ipv4_equality, ipv6_equality}
-use Rattle.npr_base.specs.MeaningLaws.{enum_meaning, row_order, ◌also◌, one_meaning, items_equality, items_meaning}
+use Rattle.npr_base.specs.EnumTable.{◌also◌}
+use Rattle.npr_base.specs.EnumTableLaws.{enum_decides, of_field, no_field}
+use Rattle.npr_base.specs.MeaningLaws.{enum_meaning, row_order, one_meaning, items_equality, items_meaning}
 use Rattle.npr_base.specs.StructLaws.{and_decides, decides_as}
 use Rattle.npr_scalar.specs.EqualityLaws.{label_equality}
 use Rattle.npr_srh.specs.EqualityLaws.{seg6_equality, local_equality, rpl_equality, ioam6_equality}
@@ -67,18 +69,20 @@ geneve_equality a b =
 
 pub xfrm_equality : IsEqualityOf OfXfrm.meaning_of XfrmEq.ghosts.eq
 xfrm_equality =
-    enum_meaning (row_order OfXfrm.rows OfXfrm.held_of) xfrm_enum OfXfrm.meaning_of _ (λ t.
-    (λ x. refl, λ x y is. (λ e. refl, λ e. refl)) also
-    (λ x. refl, one_meaning (λ n. n) OfXfrm.if_id unsigned_Decides (λ p q e. cc)) also
-    (λ x. refl, one_meaning (λ n. n) OfXfrm.link unsigned_Decides (λ p q e. cc)) also
-    (λ x. refl, one_meaning (λ d. d) OfXfrm.other item_equality (λ p q e. cc)) also tt)
+    enum_decides xfrm_enum OfXfrm.rows _
+    (no_field _
+    also of_field unsigned_Decides
+    also of_field unsigned_Decides
+    also of_field item_equality
+    also tt)
 
 pub mpls_equality : IsEqualityOf OfMpls.meaning_of MplsEq.ghosts.eq
 mpls_equality =
-    enum_meaning (row_order OfMpls.rows OfMpls.held_of) mpls_enum OfMpls.meaning_of _ (λ t.
-    (λ x. refl, one_meaning (λ v. v.items) OfMpls.destination (items_equality label_equality) (λ p q e. cc)) also
-    (λ x. refl, one_meaning (λ n. n) OfMpls.ttl unsigned_Decides (λ p q e. cc)) also
-    (λ x. refl, one_meaning (λ d. d) OfMpls.other item_equality (λ p q e. cc)) also tt)
+    enum_decides mpls_enum OfMpls.rows _
+    (of_field (items_equality label_equality)
+    also of_field unsigned_Decides
+    also of_field item_equality
+    also tt)
 
 pub vxlan_equality : IsEqualityOf OfVxlan.meaning_of VxlanEq.ghosts.eq
 vxlan_equality =

@@ -1,53 +1,36 @@
 -- The members of an MPLS tunnel (linux/mpls_iptunnel.h, MPLS_IPTUNNEL_*), by their table.
-use Rattle.std.specs.Prelude.{ℕ, List, [], ◌∷◌}
-use Rattle.std.proofs.Common.{refl, arith, rules}
-use Rattle.npr_base.specs.declared.refusal.AttrFamily.TheVariants.{Mpls as OfMpls}
-use Rattle.npr_base.specs.Framing.{Item}
+use Rattle.npr_base.specs.declared.refusal.AttrFamily.TheVariants.{Mpls}
 use Rattle.npr_base.specs.Layout.{byte}
 use Rattle.npr_base.specs.Codec.{exactly}
-use Rattle.npr_base.specs.Table.{Writing, Reading, Row, row, Held, held, held_other, held_value, IsAligned, IsPlaced, writing_by}
-use Rattle.npr_base.specs.TableLaws.{table_family, table_of}
+use Rattle.npr_base.specs.EnumTable.{VariantRows, row, others, ◌also◌, value, items, MeaningIn, meaning_in, held_in}
+use Rattle.npr_base.specs.EnumTableLaws.{attributes_in}
+use Rattle.npr_base.specs.Table.{Writing, Reading, Held, writing_by}
 use Rattle.npr_scalar.specs.MplsLaws.{mpls_labels}
-use Rattle.npr_scalar.specs.declared.mpls.MplsLabel.{MplsLabel}
 use Rattle.npr_tunnel.specs.declared.mpls.RouteMplsIpTunnel.{RouteMplsIpTunnel}
-use Rattle.npr_tunnel.specs.declared.mpls.RouteMplsIpTunnel.TheVariants.{Destination, Ttl, Other}
+use Rattle.npr_tunnel.specs.contracts.mpls.RouteMplsIpTunnel.{enum}
+use Rattle.std.proofs.Common.{refl}
+
+-- the table, in the order of the variants
+abbrev pub rows : VariantRows enum.parts
+rows =
+    row Mpls 1 mpls_labels items
+    also row Mpls 2 (exactly byte) value
+    also others value
 
 -- what a member is, without where it lies in memory
-pub data Meaning : Type 0 where
-  destination : List MplsLabel → Meaning
-  ttl : ℕ → Meaning
-  other : Item → Meaning
+abbrev pub Meaning : Type 0
+Meaning = MeaningIn enum.parts rows
 
 abbrev pub meaning_of : RouteMplsIpTunnel → Meaning
-meaning_of (Destination a) = destination a.items
-meaning_of (Ttl a) = ttl a
-meaning_of (Other d) = other d
+meaning_of a = meaning_in enum.parts rows (enum.as_values a)
 
--- the table
-abbrev pub rows : List (Row Meaning)
-rows =
-    row OfMpls 1 mpls_labels destination
-    ∷ row OfMpls 2 (exactly byte) ttl
-    ∷ []
-
--- where each meaning stands in it
+-- where each stands, and how it is written
 abbrev pub held_of : Meaning → Held
-held_of (destination a) = held 1 mpls_labels a
-held_of (ttl a) = held 2 (exactly byte) a
-held_of (other x) = held_other x
+held_of m = held_in enum.parts rows m
 
-pub aligned : IsAligned rows held_of
-aligned = search rules
-
--- each meaning stands there
-pub placed : (m : Meaning) → IsPlaced other rows (held_of m) m
-placed (other x) = refl
-placed m = (omega arith, λ reads. (held_value (held_of m), reads, refl))
-
--- how each is written
 abbrev pub writing : Writing Meaning
 writing = writing_by held_of
 
 -- the family
 abbrev pub attributes : Reading writing
-attributes = table_family (table_of rows other held_of aligned (λ x. refl) placed)
+attributes = attributes_in enum.parts rows refl

@@ -5,7 +5,7 @@ ghost use Rattle.{
   template.specs.{
     NeighbourHeader.{header, default_header},
     NeighbourMessage.{NeighbourMessage, IsNeighbourMessage, NeighbourFault, message_of, grammar},
-    Neighbours.{meaning_of, family, destination_in, link_layer_in, IsAddressOf},
+    Neighbours.{family, destination_in, link_layer_in, IsAddressOf},
   },
   netlink_packet_route.specs.{Found.{IsFirst}, Messages.{governs_by, none_searched}, MessageLaws.{of_family, under_by}, declared.framing.DecodeError.TheVariants.{OutOfMemory}},
 };
@@ -124,13 +124,13 @@ pub fn link_layer_address(message: &NeighbourMessage, destination: IpAddr) -> Op
 }
 
 fn first_destination(message: &NeighbourMessage) -> Option<IpAddr>
-    ensures { IsFirst (λ a. destination_in (meaning_of a)) message.now.attributes.items result }
+    ensures { IsFirst destination_in message.now.attributes.items result }
 {
     message.attributes.iter().find_map(destination_in)
 }
 
 fn destination_in(attribute: &NeighbourAttribute) -> Option<IpAddr>
-    ensures { result ≡ destination_in (meaning_of attribute.now) }
+    ensures { result ≡ destination_in attribute.now }
 {
     match attribute {
         NeighbourAttribute::Destination(ip) => Some(*ip),
@@ -139,13 +139,13 @@ fn destination_in(attribute: &NeighbourAttribute) -> Option<IpAddr>
 }
 
 fn first_link_layer(message: &NeighbourMessage) -> Option<&[u8]>
-    ensures { IsFirst (λ a. link_layer_in (meaning_of a)) message.now.attributes.items (option_map (λ x. x.now) result) }
+    ensures { IsFirst link_layer_in message.now.attributes.items (option_map (λ x. x.now) result) }
 {
     message.attributes.iter().find_map(link_layer_in)
 }
 
 fn link_layer_in(attribute: &NeighbourAttribute) -> Option<&[u8]>
-    ensures { option_map (λ x. x.now) result ≡ link_layer_in (meaning_of attribute.now) }
+    ensures { option_map (λ x. x.now) result ≡ link_layer_in attribute.now }
 {
     match attribute {
         NeighbourAttribute::LinkLayerAddress(address) => Some(address.as_slice()),

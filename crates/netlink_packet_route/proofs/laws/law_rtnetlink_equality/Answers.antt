@@ -1,5 +1,6 @@
 use Rattle.std.proofs.Common.{refl}
-use Rattle.npr_base.specs.MeaningLaws.{enum_meaning, ◌also◌, one_meaning}
+use Rattle.npr_base.specs.EnumTable.{◌also◌}
+use Rattle.npr_base.specs.MeaningLaws.{enum_meaning, one_meaning}
 use Rattle.npr_address.specs.Message.{message_of as address_of}
 use Rattle.npr_neighbour.specs.Message.{message_of as neighbour_of}
 use Rattle.npr_route.specs.Message.{message_of as route_of}

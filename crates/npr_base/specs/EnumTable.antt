@@ -1,0 +1,163 @@
+-- A table with a row for each variant of an enum but the last, in the order of the variants; the last is an attribute of
+-- another number, as it stands.
+--     row, others                 the rows, which `also` joins
+--     value, text, items, seen, nothing      what stands in a variant's field: itself, the bytes of a text, the items of a vector, a view of it; and in one without
+--     MeaningIn, meaning_in       what an attribute is, without where it lies in memory: its row and its value there, or itself
+--     by_row                      what is made of a meaning, by its row
+--     numbered                    the numbers are numbers of attributes, and apart
+use Rattle.std.specs.Prelude.{◌≡◌, ℕ, ◌==◌, ◌&&◌, ◌⊎◌, Bool, true, false, not, List, [], ◌∷◌, if◌then◌else◌}
+use Rattle.std.specs.Bool.{MatchBool}
+use Rattle.std.specs.String.{string_bytes}
+use Rattle.std.specs.declared.alloc.Global.{Global}
+use Rattle.std.specs.declared.string.String.{String}
+use Rattle.std.specs.declared.vec.Vec.{Vec}
+use Rattle.std.proofs.Common.{inl, inr}
+use Rattle.npr_base.specs.declared.refusal.At.{At}
+use Rattle.npr_base.specs.declared.refusal.AttrFamily.{AttrFamily}
+use Rattle.npr_base.specs.declared.refusal.DecodeError.{DecodeError}
+use Rattle.npr_base.specs.Codec.{Codec}
+use Rattle.npr_base.specs.Framing.{Item, number_of}
+use Rattle.npr_base.specs.Looks.{Looking}
+use Rattle.npr_base.specs.LooksLaws.{no_looking}
+use Rattle.npr_base.specs.Refusal.{at_number}
+use Rattle.npr_base.specs.Table.{Row, Held, Shape, held, held_other, shape_at}
+use Rattle.npr_base.specs.TableLaws.{looking_inside}
+use denote.Struct.Field.{Field}
+use denote.Struct.Values.{Values}
+use denote.Enum.Declared.{Choice}
+
+-- a row for a variant with such fields: where it stands, its codec, and what the fields hold
+pub record VariantRow (Fs : List Field) : Type 1 where
+  pub at : At
+  pub V : Type 0
+  pub codec : Codec V
+  pub holds : Values Fs → V
+
+-- the last variant
+pub record LastVariant (Fs : List Field) : Type 1 where
+  pub item : Values Fs → Item
+
+abbrev pub VariantRows : List (List Field) → Type 1
+VariantRows [] = Unit {1}
+VariantRows (Fs ∷ []) = LastVariant Fs
+VariantRows (Fs ∷ Gs ∷ Fss) = VariantRow Fs × VariantRows (Gs ∷ Fss)
+
+abbrev pub row : {Fs : List Field} {V : Type 0} → AttrFamily → ℕ → Codec V → (Values Fs → V) → VariantRow Fs
+row {Fs} {V} family number codec holds = record { at = at_number family number; V = V; codec = codec; holds = holds }
+
+abbrev pub others : {Fs : List Field} → (Values Fs → Item) → LastVariant Fs
+others {Fs} item = record { item = item }
+
+-- a row and the later ones
+infixr 2 ◌also◌
+abbrev pub ◌also◌ {ℓ} : {A B : Type ℓ} → A → B → A × B
+x also y = (x, y)
+
+-- ---- what a field holds
+
+abbrev pub value : {A : Type 0} → A × Unit {0} → A
+value f = f.0
+
+abbrev pub text : String Global × Unit {0} → List ℕ
+text f = string_bytes f.0
+
+abbrev pub items : {A : Type 0} → Vec A Global × Unit {0} → List A
+items f = f.0.items
+
+abbrev pub seen : {A B : Type 0} → (A → B) → A × Unit {0} → B
+seen view f = view f.0
+
+abbrev pub nothing : Unit {0} → Unit {0}
+nothing f = tt
+
+-- ---- meanings
+
+abbrev pub MeaningIn : (Fss : List (List Field)) → VariantRows Fss → Type 0
+MeaningIn [] rows = Item
+MeaningIn (Fs ∷ []) rows = Item
+MeaningIn (Fs ∷ Gs ∷ Fss) rows = rows.0.V ⊎ MeaningIn (Gs ∷ Fss) rows.1
+
+abbrev pub meaning_in : (Fss : List (List Field)) (rows : VariantRows Fss) → Choice Fss → MeaningIn Fss rows
+meaning_in [] rows c = absurd c
+meaning_in (Fs ∷ []) rows (inl values) = rows.item values
+meaning_in (Fs ∷ []) rows (inr c) = absurd c
+meaning_in (Fs ∷ Gs ∷ Fss) rows (inl values) = inl (rows.0.holds values)
+meaning_in (Fs ∷ Gs ∷ Fss) rows (inr c) = inr (meaning_in (Gs ∷ Fss) rows.1 c)
+
+-- an attribute of another number
+abbrev pub other_in : (Fss : List (List Field)) (rows : VariantRows Fss) → Item → MeaningIn Fss rows
+other_in [] rows x = x
+other_in (Fs ∷ []) rows x = x
+other_in (Fs ∷ Gs ∷ Fss) rows x = inr (other_in (Gs ∷ Fss) rows.1 x)
+
+-- where each meaning stands
+abbrev pub held_in : (Fss : List (List Field)) (rows : VariantRows Fss) → MeaningIn Fss rows → Held
+held_in [] rows x = held_other x
+held_in (Fs ∷ []) rows x = held_other x
+held_in (Fs ∷ Gs ∷ Fss) rows (inl v) = held rows.0.at.kind rows.0.codec v
+held_in (Fs ∷ Gs ∷ Fss) rows (inr m) = held_in (Gs ∷ Fss) rows.1 m
+
+-- what an attribute of the number k means: a value of the row of that number, or else itself
+abbrev pub ReadsIn : (Fss : List (List Field)) (rows : VariantRows Fss) → ℕ → Item → MeaningIn Fss rows → Type 0
+ReadsIn [] rows k x m = m ≡ x
+ReadsIn (Fs ∷ []) rows k x m = m ≡ x
+ReadsIn (Fs ∷ Gs ∷ Fss) rows k x (inl v) = MatchBool (k == rows.0.at.kind) (rows.0.codec.Reads x.value v) ⊥
+ReadsIn (Fs ∷ Gs ∷ Fss) rows k x (inr m) = MatchBool (k == rows.0.at.kind) ⊥ (ReadsIn (Gs ∷ Fss) rows.1 k x m)
+
+-- and why it means nothing
+abbrev pub WrongIn : (Fss : List (List Field)) → VariantRows Fss → ℕ → Item → DecodeError → Type 0
+WrongIn [] rows k x e = ⊥
+WrongIn (Fs ∷ []) rows k x e = ⊥
+WrongIn (Fs ∷ Gs ∷ Fss) rows k x e = MatchBool (k == rows.0.at.kind) (rows.0.codec.Wrong rows.0.at x.value e) (WrongIn (Gs ∷ Fss) rows.1 k x e)
+
+-- the looks that reading its value takes
+abbrev pub looks_in : (Fss : List (List Field)) → VariantRows Fss → Looking Item
+looks_in [] rows = no_looking
+looks_in (Fs ∷ []) rows = no_looking
+looks_in (Fs ∷ Gs ∷ Fss) rows = looking_inside rows.0.at.kind rows.0.codec.members.looks (looks_in (Gs ∷ Fss) rows.1)
+
+-- what is written of a value of the enum
+abbrev pub shape_in : (Fss : List (List Field)) (rows : VariantRows Fss) → Choice Fss → Shape
+shape_in [] rows c = absurd c
+shape_in (Fs ∷ []) rows (inl values) = shape_at (held_other (rows.item values))
+shape_in (Fs ∷ []) rows (inr c) = absurd c
+shape_in (Fs ∷ Gs ∷ Fss) rows (inl values) = shape_at (held rows.0.at.kind rows.0.codec (rows.0.holds values))
+shape_in (Fs ∷ Gs ∷ Fss) rows (inr c) = shape_in (Gs ∷ Fss) rows.1 c
+
+-- what is made of a meaning: for each row of its value, and of an attribute of another number
+abbrev pub EachRow : (Fss : List (List Field)) → VariantRows Fss → Type 0 → Type 0
+EachRow [] rows R = Item → R
+EachRow (Fs ∷ []) rows R = Item → R
+EachRow (Fs ∷ Gs ∷ Fss) rows R = (rows.0.V → R) × EachRow (Gs ∷ Fss) rows.1 R
+
+abbrev pub by_row : (Fss : List (List Field)) (rows : VariantRows Fss) {R : Type 0} → EachRow Fss rows R → MeaningIn Fss rows → R
+by_row [] rows made x = made x
+by_row (Fs ∷ []) rows made x = made x
+by_row (Fs ∷ Gs ∷ Fss) rows made (inl v) = made.0 v
+by_row (Fs ∷ Gs ∷ Fss) rows made (inr m) = by_row (Gs ∷ Fss) rows.1 made.1 m
+
+-- ---- numbers
+
+abbrev pub has_number : (Fss : List (List Field)) → VariantRows Fss → ℕ → Bool
+has_number [] rows k = false
+has_number (Fs ∷ []) rows k = false
+has_number (Fs ∷ Gs ∷ Fss) rows k = if k == rows.0.at.kind then true else has_number (Gs ∷ Fss) rows.1 k
+
+abbrev pub numbered : (Fss : List (List Field)) → VariantRows Fss → Bool
+numbered [] rows = true
+numbered (Fs ∷ []) rows = true
+numbered (Fs ∷ Gs ∷ Fss) rows =
+    number_of rows.0.at.kind == rows.0.at.kind && (not (has_number (Gs ∷ Fss) rows.1 rows.0.at.kind) && numbered (Gs ∷ Fss) rows.1)
+
+-- ---- the same as a table of rows
+
+-- the rows of meanings that are part of M
+abbrev pub row_in : {M : Type 0} (Fs Gs : List Field) (Fss : List (List Field)) (rows : VariantRows (Fs ∷ Gs ∷ Fss))
+    → (MeaningIn (Fs ∷ Gs ∷ Fss) rows → M) → Row M
+row_in Fs Gs Fss rows part = record { at = rows.0.at; V = rows.0.V; codec = rows.0.codec; variant = λ v. part (inl v) }
+
+abbrev pub rows_in : {M : Type 0} (Fss : List (List Field)) (rows : VariantRows Fss) → (MeaningIn Fss rows → M) → List (Row M)
+rows_in [] rows part = []
+rows_in (Fs ∷ []) rows part = []
+rows_in (Fs ∷ Gs ∷ Fss) rows part =
+    row_in Fs Gs Fss rows part ∷ rows_in (Gs ∷ Fss) rows.1 (λ m. part (inr m))

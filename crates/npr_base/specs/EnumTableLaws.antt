@@ -1,0 +1,262 @@
+-- A table of an enum's variants is a family.
+--     attributes_in        the family of such a table, whose numbers are apart
+--     rewritten            a family under one context, written as under another
+--     enum_decides         `==` of the enum answers whether two values mean the same, given what it answers of each variant's field
+--     of_field             the fact of a variant of one field
+--     no_field             and of one without fields
+use Rattle.std.specs.Prelude.{◌==◌, ◌&&◌, ◌⊎◌, not, if◌then◌else◌}
+use Rattle.std.specs.Bool.{MatchBool, Decides}
+use Rattle.std.specs.Cmp.{first_so, second_so}
+use Rattle.std.proofs.lemmas.Bool.{eqb-true, eqb-false, eq-eqb, ne_eqb, not-true}
+use Rattle.std.proofs.Common.{◌≡◌, ℕ, ◌+◌, ◌*◌, ◌<◌, ◌≤◌, ◌^◌, length, Bool, true, false, List, [], ◌∷◌, inl, inr, refl, sym, ap, subst, None, ◌∙◌, true≢false, arith}
+use Rattle.npr_base.specs.declared.refusal.DecodeError.{DecodeError}
+use Rattle.npr_base.specs.FitLaws.{misfit_of-none}
+use Rattle.npr_base.specs.Counts.{SawEach}
+use Rattle.npr_base.specs.Framing.{Item, framed, number_of}
+use Rattle.npr_base.specs.Looks.{Looking}
+use Rattle.npr_base.specs.EnumTable.{VariantRows, MeaningIn, meaning_in, other_in, row_in, rows_in, held_in, shape_in, has_number, numbered, ReadsIn, WrongIn, looks_in}
+use Rattle.npr_base.specs.Equality.{IsEqualityOf}
+use Rattle.npr_base.specs.Table.{Writing, Reading, Row, ReadsAt, WrongAt, Held, held_other, held_inside, held_kind, held_members, IsHeld, IsWritten, Aligned, Table}
+use Rattle.npr_base.specs.Table.{has_row, item_of, plain_item, shape_at, table_with, unfit_as, written_as, writing_by}
+use Rattle.npr_base.specs.TableLaws.{table_family, looks_of, looking_inside}
+use denote.Struct.Field.{Field}
+use denote.Struct.Values.{Values}
+use denote.Enum.Compared.{Each, by}
+use denote.Enum.Declared.{Record, Choice}
+
+-- ---- numbers
+
+if_not : (b c : Bool) → (if b then true else c) ≡ false → (b ≡ false) × (c ≡ false)
+if_not true c e = absurd (true≢false e)
+if_not false c e = (refl, e)
+
+row_numbers : {M : Type 0} (Fss : List (List Field)) (rows : VariantRows Fss) (part : MeaningIn Fss rows → M) (k : ℕ)
+    → has_row (rows_in Fss rows part) k ≡ has_number Fss rows k
+row_numbers [] rows part k = refl
+row_numbers (Fs ∷ []) rows part k = refl
+row_numbers (Fs ∷ Gs ∷ Fss) rows part k =
+    ap (λ (b : Bool). if k == rows.0.at.kind then true else b) (row_numbers (Gs ∷ Fss) rows.1 (λ m. part (inr m)) k)
+
+-- of a row, and of those behind it
+module _ (Fs Gs : List Field) (Fss : List (List Field)) (rows : VariantRows (Fs ∷ Gs ∷ Fss)) (h : numbered (Fs ∷ Gs ∷ Fss) rows ≡ true) where
+  abbrev own : Bool
+  own = number_of rows.0.at.kind == rows.0.at.kind
+
+  abbrev taken : Bool
+  taken = has_number (Gs ∷ Fss) rows.1 rows.0.at.kind
+
+  abbrev later : Bool
+  later = numbered (Gs ∷ Fss) rows.1
+
+  row_own : (number_of rows.0.at.kind == rows.0.at.kind) ≡ true
+  row_own = first_so own (not taken && later) h
+
+  row_short : rows.0.at.kind < 2 ^ 16
+  row_short = omega (arith, eqb-true (number_of rows.0.at.kind) rows.0.at.kind row_own)
+
+  row_alone : has_number (Gs ∷ Fss) rows.1 rows.0.at.kind ≡ false
+  row_alone = not-true taken (first_so (not taken) later (second_so own (not taken && later) h))
+
+  rows_behind : numbered (Gs ∷ Fss) rows.1 ≡ true
+  rows_behind = second_so (not taken) later (second_so own (not taken && later) h)
+
+-- ---- the table
+
+-- what a table of such rows reads
+pub matches : {P Q S T : Type 0} (b : Bool) → (P → S) → (Q → T) → MatchBool b P Q → MatchBool b S T
+matches true f g p = f p
+matches false f g p = g p
+
+module _ {M : Type 0} (other : Item → M) where
+  pub reads-in : (Fss : List (List Field)) (rows : VariantRows Fss) (part : MeaningIn Fss rows → M) → ((x : Item) → part (other_in Fss rows x) ≡ other x)
+      → (k : ℕ) (x : Item) (m : MeaningIn Fss rows) → ReadsIn Fss rows k x m → ReadsAt other (rows_in Fss rows part) k x (part m)
+  reads-in [] rows part same k x m reads = ap part reads ∙ same x
+  reads-in (Fs ∷ []) rows part same k x m reads = ap part reads ∙ same x
+  reads-in (Fs ∷ Gs ∷ Fss) rows part same k x (inl v) reads = matches (k == rows.0.at.kind) (λ r. (v, r, refl)) (λ none. absurd none) reads
+  reads-in (Fs ∷ Gs ∷ Fss) rows part same k x (inr m) reads =
+      matches (k == rows.0.at.kind) (λ none. absurd none) (reads-in (Gs ∷ Fss) rows.1 (λ n. part (inr n)) same k x m) reads
+
+pub wrong-in : {M : Type 0} (Fss : List (List Field)) (rows : VariantRows Fss) (part : MeaningIn Fss rows → M) (k : ℕ) (x : Item) (e : DecodeError)
+    → WrongIn Fss rows k x e → WrongAt (rows_in Fss rows part) k x e
+wrong-in [] rows part k x e wrong = wrong
+wrong-in (Fs ∷ []) rows part k x e wrong = wrong
+wrong-in (Fs ∷ Gs ∷ Fss) rows part k x e wrong = matches (k == rows.0.at.kind) (λ w. w) (wrong-in (Gs ∷ Fss) rows.1 (λ n. part (inr n)) k x e) wrong
+
+pub looks-in : {M : Type 0} (Fss : List (List Field)) (rows : VariantRows Fss) (part : MeaningIn Fss rows → M) → looks_in Fss rows ≡ looks_of (rows_in Fss rows part)
+looks-in [] rows part = refl
+looks-in (Fs ∷ []) rows part = refl
+looks-in (Fs ∷ Gs ∷ Fss) rows part =
+    ap (looking_inside rows.0.at.kind rows.0.codec.members.looks) (looks-in (Gs ∷ Fss) rows.1 (λ n. part (inr n)))
+
+-- what is written of a meaning is read as it
+module _ {M : Type 0} (all : List (Row M)) where
+  apart : (this : ℕ) (Fss : List (List Field)) (rows : VariantRows Fss) → numbered Fss rows ≡ true → has_number Fss rows this ≡ false
+      → ((k : ℕ) → has_row all k ≡ false → (k == this) ≡ false) → (m : MeaningIn Fss rows) → IsHeld all (held_in Fss rows m)
+      → (number_of (item_of (held_in Fss rows m)).kind == this) ≡ false
+  apart this [] rows h none free m is = free (number_of m.kind) is.alone
+  apart this (Fs ∷ []) rows h none free m is = free (number_of m.kind) is.alone
+  apart this (Fs ∷ Gs ∷ Fss) rows h none free (inl v) is =
+      let here = eqb-true (number_of rows.0.at.kind) rows.0.at.kind (row_own Fs Gs Fss rows h) in
+      let away = (if_not (this == rows.0.at.kind) (has_number (Gs ∷ Fss) rows.1 this) none).0 in
+      ne_eqb (number_of rows.0.at.kind) this (λ q. eqb-false this rows.0.at.kind away (sym q ∙ here))
+  apart this (Fs ∷ Gs ∷ Fss) rows h none free (inr m) is =
+      apart this (Gs ∷ Fss) rows.1 (rows_behind Fs Gs Fss rows h) (if_not (this == rows.0.at.kind) (has_number (Gs ∷ Fss) rows.1 this) none).1 free m is
+
+  pub back-in : (Fss : List (List Field)) (rows : VariantRows Fss) → numbered Fss rows ≡ true
+      → ((k : ℕ) → has_row all k ≡ false → has_number Fss rows k ≡ false) → (m : MeaningIn Fss rows) → IsHeld all (held_in Fss rows m)
+      → held_inside (held_in Fss rows m) ≡ None → ReadsIn Fss rows (number_of (item_of (held_in Fss rows m)).kind) (item_of (held_in Fss rows m)) m
+  back-in [] rows h within m is fits = refl
+  back-in (Fs ∷ []) rows h within m is fits = refl
+  back-in (Fs ∷ Gs ∷ Fss) rows h within (inl v) is fits = rw (row_own Fs Gs Fss rows h) (rows.0.codec.reads_back rows.0.at.kind v is fits)
+  back-in (Fs ∷ Gs ∷ Fss) rows h within (inr m) is fits =
+      let free = λ (k : ℕ). λ (e : has_row all k ≡ false). if_not (k == rows.0.at.kind) (has_number (Gs ∷ Fss) rows.1 k) (within k e) in
+      let behind = rows_behind Fs Gs Fss rows h in
+      let away = apart rows.0.at.kind (Gs ∷ Fss) rows.1 behind (row_alone Fs Gs Fss rows h) (λ k e. (free k e).0) m is in
+      rw away (back-in (Gs ∷ Fss) rows.1 behind (λ k e. (free k e).1) m is fits)
+
+  pub kinds-in : (Fss : List (List Field)) (rows : VariantRows Fss) → numbered Fss rows ≡ true → (m : MeaningIn Fss rows) → IsHeld all (held_in Fss rows m)
+      → held_kind (held_in Fss rows m) < 2 ^ 16
+  kinds-in [] rows h m is = is.proper.kind
+  kinds-in (Fs ∷ []) rows h m is = is.proper.kind
+  kinds-in (Fs ∷ Gs ∷ Fss) rows h (inl v) is = row_short Fs Gs Fss rows h
+  kinds-in (Fs ∷ Gs ∷ Fss) rows h (inr m) is = kinds-in (Gs ∷ Fss) rows.1 (rows_behind Fs Gs Fss rows h) m is
+
+module _ {M : Type 0} (all : List (Row M)) (held_of : M → Held) where
+  pub aligned-in : (Fss : List (List Field)) (rows : VariantRows Fss) (part : MeaningIn Fss rows → M) → ((m : MeaningIn Fss rows) → held_of (part m) ≡ held_in Fss rows m)
+      → numbered Fss rows ≡ true → Aligned (writing_by held_of) (λ m. IsHeld all (held_of m)) (rows_in Fss rows part)
+  aligned-in [] rows part same h = tt
+  aligned-in (Fs ∷ []) rows part same h = tt
+  aligned-in (Fs ∷ Gs ∷ Fss) rows part same h =
+      let own : (v : rows.0.V) → IsWritten (writing_by held_of) (λ m. IsHeld all (held_of m)) (row_in Fs Gs Fss rows part) v = λ v. (ap (λ (at : Held). (written_as (shape_at at)).value) (same (inl v)), ap held_members (same (inl v)), λ holds. subst (IsHeld all) (sym (same (inl v))) holds) in
+      let alone = row_numbers (Gs ∷ Fss) rows.1 (λ m. part (inr m)) rows.0.at.kind ∙ row_alone Fs Gs Fss rows h in
+      (own, alone, aligned-in (Gs ∷ Fss) rows.1 (λ m. part (inr m)) (λ m. same (inr m)) (rows_behind Fs Gs Fss rows h))
+
+pub held-other : (Fss : List (List Field)) (rows : VariantRows Fss) (x : Item) → held_in Fss rows (other_in Fss rows x) ≡ held_other x
+held-other [] rows x = refl
+held-other (Fs ∷ []) rows x = refl
+held-other (Fs ∷ Gs ∷ Fss) rows x = held-other (Gs ∷ Fss) rows.1 x
+
+-- how meanings are written
+abbrev pub writing_in : (Fss : List (List Field)) (rows : VariantRows Fss) → Writing (MeaningIn Fss rows)
+writing_in Fss rows = writing_by (held_in Fss rows)
+
+-- the table
+module _ (Fss : List (List Field)) (rows : VariantRows Fss) where
+  abbrev pub all_rows : List (Row (MeaningIn Fss rows))
+  all_rows = rows_in Fss rows (λ m. m)
+
+  abbrev pub CoherentIn : MeaningIn Fss rows → Type 0
+  CoherentIn m = IsHeld all_rows (held_in Fss rows m)
+
+  pub back-read : numbered Fss rows ≡ true → (m : MeaningIn Fss rows) → CoherentIn m → held_inside (held_in Fss rows m) ≡ None
+      → ReadsIn Fss rows (number_of (item_of (held_in Fss rows m)).kind) (item_of (held_in Fss rows m)) m
+  back-read h = back-in all_rows Fss rows h (λ k e. sym (row_numbers Fss rows (λ m. m) k) ∙ e)
+
+  abbrev pub enum_table : numbered Fss rows ≡ true → Table (MeaningIn Fss rows)
+  enum_table h =
+      table_with all_rows (other_in Fss rows) (held_in Fss rows) CoherentIn
+      (aligned-in all_rows (held_in Fss rows) Fss rows (λ m. m) (λ m. refl) h) (held-other Fss rows)
+      (λ x is. subst (IsHeld all_rows) (sym (held-other Fss rows x)) is) (kinds-in all_rows Fss rows h)
+      (λ m c fits. reads-in (other_in Fss rows) Fss rows (λ n. n) (λ x. refl) (number_of (item_of (held_in Fss rows m)).kind) (item_of (held_in Fss rows m)) m (back-read h m c fits))
+
+  pub rows-read : (x : Item) (m : MeaningIn Fss rows) → ReadsIn Fss rows (number_of x.kind) x m
+      → ReadsAt (other_in Fss rows) all_rows (number_of x.kind) x m
+  rows-read x m p = reads-in (other_in Fss rows) Fss rows (λ n. n) (λ y. refl) (number_of x.kind) x m p
+
+  -- the family of the attributes
+  abbrev pub attributes_in : numbered Fss rows ≡ true → Reading (writing_in Fss rows)
+  attributes_in h0 =
+      let t = table_family (enum_table h0) in
+      let same = looks-in Fss rows (λ n. n) in
+      record {
+        Reads = λ x m. ReadsIn Fss rows (number_of x.kind) x m;
+        Faulty = λ x e. WrongIn Fss rows (number_of x.kind) x e;
+        looks = looks_in Fss rows;
+        Coherent = CoherentIn;
+        one_reading = λ x m n p q. t.one_reading x m n (rows-read x m p) (rows-read x n q);
+        no_fault = λ x m e p q. t.no_fault x m e (rows-read x m p) (wrong-in Fss rows (λ n. n) (number_of x.kind) x e q);
+        reads_coherent = λ x m proper p. t.reads_coherent x m proper (rows-read x m p);
+        kinds = t.kinds;
+        reads_back = λ m c h. back-read h0 m c (misfit_of-none (held_inside (held_in Fss rows m)) (plain_item (held_in Fss rows m)) h);
+        grows = λ x m proper p. t.grows x m proper (rows-read x m p);
+        bounded = λ x old new takes. t.bounded x old new (subst (λ (l : Looking Item). l.Takes x old new) same takes);
+        saw = λ x m old new p takes. t.saw x m old new (rows-read x m p) (subst (λ (l : Looking Item). l.Takes x old new) same takes);
+      }
+
+-- what is written of a value is written of its meaning
+pub shape-in : (Fss : List (List Field)) (rows : VariantRows Fss) (c : Choice Fss) → shape_in Fss rows c ≡ (writing_in Fss rows).shape (meaning_in Fss rows c)
+shape-in [] rows c = absurd c
+shape-in (Fs ∷ []) rows (inl values) = refl
+shape-in (Fs ∷ []) rows (inr c) = absurd c
+shape-in (Fs ∷ Gs ∷ Fss) rows (inl values) = refl
+shape-in (Fs ∷ Gs ∷ Fss) rows (inr c) = shape-in (Gs ∷ Fss) rows.1 c
+
+-- the same family, where meanings are written as the rows of another context write them
+abbrev pub rewritten : {M : Type 0} {v : Writing M} (f : Reading v) (w : Writing M) → ((m : M) → w.shape m ≡ v.shape m)
+    → ((m : M) → w.members m ≡ v.members m) → Reading w
+rewritten f w same counted = record {
+  Reads = f.Reads;
+  Faulty = f.Faulty;
+  looks = f.looks;
+  Coherent = f.Coherent;
+  one_reading = f.one_reading;
+  no_fault = f.no_fault;
+  reads_coherent = f.reads_coherent;
+  kinds = λ m c. subst (λ (x : Item). x.kind < 2 ^ 16) (sym (ap written_as (same m))) (f.kinds m c);
+  reads_back = λ m c fits. subst (λ (x : Item). f.Reads x m) (sym (ap written_as (same m))) (f.reads_back m c (sym (ap unfit_as (same m)) ∙ fits));
+  grows =
+      λ x m proper p. subst (λ (y : Item). 2 * framed (length y.value) ≤ 5 * (4 + length x.value)) (sym (ap written_as (same m))) (f.grows x m proper p);
+  bounded = f.bounded;
+  saw = λ x m old new p takes. subst (SawEach old new) (sym (counted m)) (f.saw x m old new p takes);
+}
+
+-- ---- `==`
+
+-- a variant's answer is whether two values of its field are the same
+abbrev pub FieldsDecide : (Fss : List (List Field)) → VariantRows Fss → Each Bool Fss → Type 0
+FieldsDecide [] rows tests = Unit {0}
+FieldsDecide (Fs ∷ []) rows tests = ((x y : Values Fs) → Decides (tests.0 x y) (rows.item x ≡ rows.item y)) × Unit {0}
+FieldsDecide (Fs ∷ Gs ∷ Fss) rows tests = ((x y : Values Fs) → Decides (tests.0 x y) (rows.0.holds x ≡ rows.0.holds y)) × FieldsDecide (Gs ∷ Fss) rows.1 tests.1
+
+pub of_field : {A B : Type 0} {view : A → B} {test : A → A → Bool} → IsEqualityOf view test → (x y : A × Unit {0}) → Decides (test x.0 y.0) (view x.0 ≡ view y.0)
+of_field decides x y = decides x.0 y.0
+
+pub no_field : {B : Type 0} (view : Unit {0} → B) (x y : Unit {0}) → Decides true (view x ≡ view y)
+no_field view x y = (λ e. refl, λ e. refl)
+
+-- the two sides of a meaning
+module _ (A B : Type 0) where
+  abbrev here : A → A ⊎ B
+  here v = inl v
+
+  abbrev behind : B → A ⊎ B
+  behind m = inr m
+
+  here-decides : (b : Bool) (x y : A) → Decides b (x ≡ y) → Decides b (here x ≡ here y)
+  here-decides b x y decides = (λ e. ap here (decides.0 e), λ e. decides.1 (cc))
+
+  behind-decides : (b : Bool) (x y : B) → Decides b (x ≡ y) → Decides b (behind x ≡ behind y)
+  behind-decides b x y decides = (λ e. ap behind (decides.0 e), λ e. decides.1 (cc))
+
+  here-apart : (x : A) (y : B) → Decides false (here x ≡ behind y)
+  here-apart x y = (λ e. absurd (true≢false (sym e)), λ e. absurd (cc))
+
+  behind-apart : (x : A) (y : B) → Decides false (behind y ≡ here x)
+  behind-apart x y = (λ e. absurd (true≢false (sym e)), λ e. absurd (cc))
+
+choices-decide : (Fss : List (List Field)) (rows : VariantRows Fss) (tests : Each Bool Fss) → FieldsDecide Fss rows tests → (c d : Choice Fss)
+    → Decides (by false false Fss tests c d) (meaning_in Fss rows c ≡ meaning_in Fss rows d)
+choices-decide [] rows tests all c d = absurd c
+choices-decide (Fs ∷ []) rows tests all (inl x) (inl y) = all.0 x y
+choices-decide (Fs ∷ []) rows tests all (inl x) (inr d) = absurd d
+choices-decide (Fs ∷ []) rows tests all (inr c) d = absurd c
+choices-decide (Fs ∷ Gs ∷ Fss) rows tests all (inl x) (inl y) = here-decides rows.0.V (MeaningIn (Gs ∷ Fss) rows.1) (tests.0 x y) (rows.0.holds x) (rows.0.holds y) (all.0 x y)
+choices-decide (Fs ∷ Gs ∷ Fss) rows tests all (inl x) (inr d) = here-apart rows.0.V (MeaningIn (Gs ∷ Fss) rows.1) (rows.0.holds x) (meaning_in (Gs ∷ Fss) rows.1 d)
+choices-decide (Fs ∷ Gs ∷ Fss) rows tests all (inr c) (inl y) = behind-apart rows.0.V (MeaningIn (Gs ∷ Fss) rows.1) (rows.0.holds y) (meaning_in (Gs ∷ Fss) rows.1 c)
+choices-decide (Fs ∷ Gs ∷ Fss) rows tests all (inr c) (inr d) =
+    behind-decides rows.0.V (MeaningIn (Gs ∷ Fss) rows.1) (by false false (Gs ∷ Fss) tests.1 c d) (meaning_in (Gs ∷ Fss) rows.1 c) (meaning_in (Gs ∷ Fss) rows.1 d)
+    (choices-decide (Gs ∷ Fss) rows.1 tests.1 all.1 c d)
+
+pub enum_decides : (N : Record) (rows : VariantRows N.parts) (tests : Each Bool N.parts) → FieldsDecide N.parts rows tests → (a b : N.D)
+    → Decides (by false false N.parts tests (N.as_values a) (N.as_values b)) (meaning_in N.parts rows (N.as_values a) ≡ meaning_in N.parts rows (N.as_values b))
+enum_decides N rows tests all a b = choices-decide N.parts rows tests all (N.as_values a) (N.as_values b)
