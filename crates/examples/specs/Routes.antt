@@ -1,6 +1,6 @@
 -- Routes that callers build.
-use Rattle.std.specs.Prelude.{ℕ, List, [], ◌∷◌}
-use Rattle.netlink_packet_route.specs.RouteAttribute.{Meaning, multi_path}
+use Rattle.std.specs.Prelude.{[], ◌∷◌}
+use Rattle.netlink_packet_route.specs.RouteAttribute.{multi_path}
 use Rattle.netlink_packet_route.specs.RouteAttributeView.{hops_of}
 use Rattle.netlink_packet_route.specs.RouteHeader.{default_header}
 use Rattle.netlink_packet_route.specs.RouteMessage.{Route}

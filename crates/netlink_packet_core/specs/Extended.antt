@@ -40,12 +40,12 @@ done_attributes flags more = if has_flag flags 0x200 then more else []
 -- the table, in the order of the variants: a place that a refusal names is in no family
 abbrev pub rows : VariantRows enum.parts
 rows =
-    row Value 1 name text
-    also row Value 2 (exactly le32) value
-    also row Value 3 raw items
-    also row Value 4 raw items
-    also row Value 5 (exactly le32) value
-    also row Value 6 (exactly le32) value
+    row Value 1 name text  -- NLMSGERR_ATTR_MSG
+    also row Value 2 (exactly le32) value  -- NLMSGERR_ATTR_OFFS
+    also row Value 3 raw items  -- NLMSGERR_ATTR_COOKIE
+    also row Value 4 raw items  -- NLMSGERR_ATTR_POLICY
+    also row Value 5 (exactly le32) value  -- NLMSGERR_ATTR_MISS_TYPE
+    also row Value 6 (exactly le32) value  -- NLMSGERR_ATTR_MISS_NEST
     also others value
 
 -- what an attribute is, without where it lies in memory

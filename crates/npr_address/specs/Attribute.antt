@@ -19,17 +19,17 @@ use Rattle.std.proofs.Common.{refl}
 -- the table, in the order of the variants
 abbrev pub rows : VariantRows enum.parts
 rows =
-    row Address 1 ip value
-    also row Address 2 ip value
-    also row Address 3 name text
-    also row Address 4 (exactly (octets 4)) value
-    also row Address 5 (exactly (octets 16)) value
-    also row Address 6 (leading cache_info) value
-    also row Address 7 (exactly (octets 16)) value
-    also row Address 8 (exactly address_flags) value
-    also row Address 9 (exactly le32) value
-    also row Address 10 (exactly signed32) value
-    also row Address 11 (exactly protocol) value
+    row Address 1 ip value  -- IFA_ADDRESS
+    also row Address 2 ip value  -- IFA_LOCAL
+    also row Address 3 name text  -- IFA_LABEL
+    also row Address 4 (exactly (octets 4)) value  -- IFA_BROADCAST
+    also row Address 5 (exactly (octets 16)) value  -- IFA_ANYCAST
+    also row Address 6 (leading cache_info) value  -- IFA_CACHEINFO
+    also row Address 7 (exactly (octets 16)) value  -- IFA_MULTICAST
+    also row Address 8 (exactly address_flags) value  -- IFA_FLAGS
+    also row Address 9 (exactly le32) value  -- IFA_RT_PRIORITY
+    also row Address 10 (exactly signed32) value  -- IFA_TARGET_NETNSID
+    also row Address 11 (exactly protocol) value  -- IFA_PROTO
     also others value
 
 -- what an attribute is, without where it lies in memory

@@ -17,20 +17,20 @@ use Rattle.npr_neighbour.specs.declared.attribute.NeighbourAttribute.{NeighbourA
 -- the table, in the order of the variants
 abbrev pub rows : Form → VariantRows enum.parts
 rows form =
-    row Neighbour 1 (address_in form) (seen address_of)
-    also row Neighbour 2 raw items
-    also row Neighbour 3 (leading cache_info) value
-    also row Neighbour 4 (exactly le32) value
-    also row Neighbour 5 (exactly le16) value
-    also row Neighbour 6 (exactly be16) value
-    also row Neighbour 7 (exactly le32) value
-    also row Neighbour 8 (exactly le32) value
-    also row Neighbour 9 (exactly le32) value
-    also row Neighbour 10 (exactly le32) value
-    also row Neighbour 11 (exactly le32) value
-    also row Neighbour 12 (exactly route_protocol) value
-    also row Neighbour 13 (exactly le32) value
-    also row Neighbour 15 (exactly extended_flags) value
+    row Neighbour 1 (address_in form) (seen address_of)  -- NDA_DST
+    also row Neighbour 2 raw items  -- NDA_LLADDR
+    also row Neighbour 3 (leading cache_info) value  -- NDA_CACHEINFO
+    also row Neighbour 4 (exactly le32) value  -- NDA_PROBES
+    also row Neighbour 5 (exactly le16) value  -- NDA_VLAN
+    also row Neighbour 6 (exactly be16) value  -- NDA_PORT
+    also row Neighbour 7 (exactly le32) value  -- NDA_VNI
+    also row Neighbour 8 (exactly le32) value  -- NDA_IFINDEX
+    also row Neighbour 9 (exactly le32) value  -- NDA_MASTER
+    also row Neighbour 10 (exactly le32) value  -- NDA_LINK_NETNSID
+    also row Neighbour 11 (exactly le32) value  -- NDA_SRC_VNI
+    also row Neighbour 12 (exactly route_protocol) value  -- NDA_PROTOCOL
+    also row Neighbour 13 (exactly le32) value  -- NDA_NH_ID
+    also row Neighbour 15 (exactly extended_flags) value  -- NDA_FLAGS_EXT
     also others value
 
 -- what an attribute is, without where it lies in memory

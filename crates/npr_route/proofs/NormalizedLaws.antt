@@ -16,8 +16,8 @@ use Rattle.npr_route.specs.Attribute.{attributes_of, typed, type_held, first_typ
 use Rattle.npr_route.specs.Attribute.{CoherentBy, AttributesCoherentBy, HopsCoherentBy, Coherent, AttributesCoherent, HopsCoherent}
 use Rattle.npr_route.specs.Attribute.{writes, attributes_bytes, hops_bytes, misfit, attributes_misfit, hops_misfit, normalized, attributes_normalized, hops_normalized}
 use Rattle.npr_route.specs.FlatAttribute as Flat
-use Rattle.npr_route.specs.FlatAttribute.{Context, rows, other, is_multicast, any_marks, marks, new_destination_variant, new_destination_codec}
-use Rattle.npr_route.specs.FlatAttribute.{NewDestinationValue, new_destination_row, expires_variant, expires_layout, expires_row, held_of}
+use Rattle.npr_route.specs.FlatAttribute.{Context, rows, other, is_multicast, any_marks, marks, new_destination_variant}
+use Rattle.npr_route.specs.FlatAttribute.{NewDestinationValue, expires_variant}
 use Rattle.npr_route.specs.FlatAttributeLaws as Flats
 use Rattle.npr_route.specs.AttributeFamily.{writing}
 use Rattle.npr_route.specs.Header.{header}

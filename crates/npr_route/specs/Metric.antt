@@ -13,23 +13,23 @@ use Rattle.std.proofs.Common.{◌≡◌, refl}
 -- the table, in the order of the variants
 abbrev pub rows : VariantRows enum.parts
 rows =
-    row OfMetric 1 (exactly le32) value
-    also row OfMetric 2 (exactly le32) value
-    also row OfMetric 3 (exactly le32) value
-    also row OfMetric 4 (exactly le32) value
-    also row OfMetric 5 (exactly le32) value
-    also row OfMetric 6 (exactly le32) value
-    also row OfMetric 7 (exactly le32) value
-    also row OfMetric 8 (exactly le32) value
-    also row OfMetric 9 (exactly le32) value
-    also row OfMetric 10 (exactly le32) value
-    also row OfMetric 11 (exactly le32) value
-    also row OfMetric 12 (exactly le32) value
-    also row OfMetric 13 (exactly le32) value
-    also row OfMetric 14 (exactly le32) value
-    also row OfMetric 15 (exactly le32) value
-    also row OfMetric 16 name text
-    also row OfMetric 17 (exactly le32) value
+    row OfMetric 1 (exactly le32) value  -- RTAX_LOCK
+    also row OfMetric 2 (exactly le32) value  -- RTAX_MTU
+    also row OfMetric 3 (exactly le32) value  -- RTAX_WINDOW
+    also row OfMetric 4 (exactly le32) value  -- RTAX_RTT
+    also row OfMetric 5 (exactly le32) value  -- RTAX_RTTVAR
+    also row OfMetric 6 (exactly le32) value  -- RTAX_SSTHRESH
+    also row OfMetric 7 (exactly le32) value  -- RTAX_CWND
+    also row OfMetric 8 (exactly le32) value  -- RTAX_ADVMSS
+    also row OfMetric 9 (exactly le32) value  -- RTAX_REORDERING
+    also row OfMetric 10 (exactly le32) value  -- RTAX_HOPLIMIT
+    also row OfMetric 11 (exactly le32) value  -- RTAX_INITCWND
+    also row OfMetric 12 (exactly le32) value  -- RTAX_FEATURES
+    also row OfMetric 13 (exactly le32) value  -- RTAX_RTO_MIN
+    also row OfMetric 14 (exactly le32) value  -- RTAX_INITRWND
+    also row OfMetric 15 (exactly le32) value  -- RTAX_QUICKACK
+    also row OfMetric 16 name text  -- RTAX_CC_ALGO
+    also row OfMetric 17 (exactly le32) value  -- RTAX_FASTOPEN_NO_COOKIE
     also others value
 
 -- what a metric is, without where it lies in memory

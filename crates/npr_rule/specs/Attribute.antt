@@ -21,25 +21,25 @@ use Rattle.std.proofs.Common.{◌≡◌, refl}
 -- the table, in the order of the variants
 abbrev pub rows : VariantRows enum.parts
 rows =
-    row Rule 1 ip value
-    also row Rule 2 ip value
-    also row Rule 3 name text
-    also row Rule 4 (exactly le32) value
-    also row Rule 6 (exactly le32) value
-    also row Rule 10 (exactly le32) value
-    also row Rule 11 (exactly route_realm) value
-    also row Rule 12 (exactly be64) value
-    also row Rule 13 (exactly le32) value
-    also row Rule 14 (exactly le32) value
-    also row Rule 15 (exactly le32) value
-    also row Rule 16 (exactly le32) value
-    also row Rule 17 name text
-    also row Rule 19 (exactly boolean) value
-    also row Rule 20 (exactly uid_range) value
-    also row Rule 21 (exactly route_protocol) value
-    also row Rule 22 ip_protocol_byte value
-    also row Rule 23 (exactly port_range) value
-    also row Rule 24 (exactly port_range) value
+    row Rule 1 ip value  -- FRA_DST
+    also row Rule 2 ip value  -- FRA_SRC
+    also row Rule 3 name text  -- FRA_IIFNAME
+    also row Rule 4 (exactly le32) value  -- FRA_GOTO
+    also row Rule 6 (exactly le32) value  -- FRA_PRIORITY
+    also row Rule 10 (exactly le32) value  -- FRA_FWMARK
+    also row Rule 11 (exactly route_realm) value  -- FRA_FLOW
+    also row Rule 12 (exactly be64) value  -- FRA_TUN_ID
+    also row Rule 13 (exactly le32) value  -- FRA_SUPPRESS_IFGROUP
+    also row Rule 14 (exactly le32) value  -- FRA_SUPPRESS_PREFIXLEN
+    also row Rule 15 (exactly le32) value  -- FRA_TABLE
+    also row Rule 16 (exactly le32) value  -- FRA_FWMASK
+    also row Rule 17 name text  -- FRA_OIFNAME
+    also row Rule 19 (exactly boolean) value  -- FRA_L3MDEV
+    also row Rule 20 (exactly uid_range) value  -- FRA_UID_RANGE
+    also row Rule 21 (exactly route_protocol) value  -- FRA_PROTOCOL
+    also row Rule 22 ip_protocol_byte value  -- FRA_IP_PROTO
+    also row Rule 23 (exactly port_range) value  -- FRA_SPORT_RANGE
+    also row Rule 24 (exactly port_range) value  -- FRA_DPORT_RANGE
     also others value
 
 -- what an attribute is, without where it lies in memory

@@ -26,13 +26,13 @@ trace_at = at_number Ioam6 3
 -- the table, in the order of the variants
 abbrev pub rows : VariantRows enum.parts
 rows =
-    row Ioam6 0 dropped nothing
-    also row Ioam6 1 (exactly ioam6_mode) value
-    also row Ioam6 2 (exactly (octets 16)) value
-    also row Ioam6 3 trace value
-    also row Ioam6 4 (exactly le32) value
-    also row Ioam6 5 (exactly le32) value
-    also row Ioam6 6 (exactly (octets 16)) value
+    row Ioam6 0 dropped nothing  -- IOAM6_IPTUNNEL_UNSPEC
+    also row Ioam6 1 (exactly ioam6_mode) value  -- IOAM6_IPTUNNEL_MODE
+    also row Ioam6 2 (exactly (octets 16)) value  -- IOAM6_IPTUNNEL_DST
+    also row Ioam6 3 trace value  -- IOAM6_IPTUNNEL_TRACE
+    also row Ioam6 4 (exactly le32) value  -- IOAM6_IPTUNNEL_FREQ_K
+    also row Ioam6 5 (exactly le32) value  -- IOAM6_IPTUNNEL_FREQ_N
+    also row Ioam6 6 (exactly (octets 16)) value  -- IOAM6_IPTUNNEL_SRC
     also others value
 
 -- what a member is, without where it lies in memory
@@ -49,10 +49,11 @@ held_of m = held_in enum.parts rows m
 abbrev pub writing : Writing Meaning
 writing = writing_by held_of
 
--- the family: where the trace can't be read, the attribute is kept
+-- at its number a value is read by its row
 pub here : IsRowOf (attributes_in enum.parts rows refl) 3 trace
 here x m e p = let r = rows-read enum.parts rows x m p in let q = rw e at r in (q.0, q.1)
 
+-- the family: where the trace can't be read, the attribute is kept
 abbrev pub attributes : Reading writing
 attributes = keeping_in enum.parts rows refl 3 trace here (λ x old new looks. looks)
 

@@ -22,8 +22,8 @@ srh_at = at_number OfRpl 1
 -- the table, in the order of the variants
 abbrev pub rows : VariantRows enum.parts
 rows =
-    row OfRpl 0 dropped nothing
-    also row OfRpl 1 rpl (seen rpl_of)
+    row OfRpl 0 dropped nothing  -- RPL_IPTUNNEL_UNSPEC
+    also row OfRpl 1 rpl (seen rpl_of)  -- RPL_IPTUNNEL_SRH
     also others value
 
 -- what a member is, without where it lies in memory
@@ -40,10 +40,11 @@ held_of m = held_in enum.parts rows m
 abbrev pub writing : Writing Meaning
 writing = writing_by held_of
 
--- the family: where the routing header can't be read, the attribute is kept
+-- at its number a value is read by its row
 pub here : IsRowOf (attributes_in enum.parts rows refl) 1 rpl
 here x m e p = let r = rows-read enum.parts rows x m p in let q = rw e at r in (q.0, q.1)
 
+-- the family: where the routing header can't be read, the attribute is kept
 abbrev pub attributes : Reading writing
 attributes = keeping_in enum.parts rows refl 1 rpl here (λ x old new looks. looks)
 

@@ -27,15 +27,15 @@ srh_at = at_number Seg6Local 2
 -- the table, in the order of the variants
 abbrev pub rows : VariantRows enum.parts
 rows =
-    row Seg6Local 0 dropped nothing
-    also row Seg6Local 1 (exactly action) value
-    also row Seg6Local 2 local (seen local_of)
-    also row Seg6Local 3 (exactly le32) value
-    also row Seg6Local 4 (exactly (octets 4)) value
-    also row Seg6Local 5 (exactly (octets 16)) value
-    also row Seg6Local 6 (exactly le32) value
-    also row Seg6Local 7 (exactly le32) value
-    also row Seg6Local 9 (exactly le32) value
+    row Seg6Local 0 dropped nothing  -- SEG6_LOCAL_UNSPEC
+    also row Seg6Local 1 (exactly action) value  -- SEG6_LOCAL_ACTION
+    also row Seg6Local 2 local (seen local_of)  -- SEG6_LOCAL_SRH
+    also row Seg6Local 3 (exactly le32) value  -- SEG6_LOCAL_TABLE
+    also row Seg6Local 4 (exactly (octets 4)) value  -- SEG6_LOCAL_NH4
+    also row Seg6Local 5 (exactly (octets 16)) value  -- SEG6_LOCAL_NH6
+    also row Seg6Local 6 (exactly le32) value  -- SEG6_LOCAL_IIF
+    also row Seg6Local 7 (exactly le32) value  -- SEG6_LOCAL_OIF
+    also row Seg6Local 9 (exactly le32) value  -- SEG6_LOCAL_VRFTABLE
     also others value
 
 -- what a member is, without where it lies in memory
@@ -52,10 +52,11 @@ held_of m = held_in enum.parts rows m
 abbrev pub writing : Writing Meaning
 writing = writing_by held_of
 
--- the family: where the routing header can't be read, the attribute is kept
+-- at its number a value is read by its row
 pub here : IsRowOf (attributes_in enum.parts rows refl) 2 local
 here x m e p = let r = rows-read enum.parts rows x m p in let q = rw e at r in (q.0, q.1)
 
+-- the family: where the routing header can't be read, the attribute is kept
 abbrev pub attributes : Reading writing
 attributes = keeping_in enum.parts rows refl 2 local here (λ x old new looks. looks)
 

@@ -15,9 +15,9 @@ use Rattle.npr_srh.specs.declared.seg6.RouteSeg6IpTunnel.{RouteSeg6IpTunnel}
 -- the table, by a table of modes, in the order of the variants
 abbrev pub rows : ModeTable → VariantRows enum.parts
 rows by =
-    row Seg6 1 (seg6_by by) (seen seg6_of)
-    also row Seg6 2 (exactly (octets 16)) value
-    also row Seg6 3 (exactly le32) value
+    row Seg6 1 (seg6_by by) (seen seg6_of)  -- SEG6_IPTUNNEL_SRH
+    also row Seg6 2 (exactly (octets 16)) value  -- SEG6_IPTUNNEL_SRC
+    also row Seg6 3 (exactly le32) value  -- SEG6_IPTUNNEL_TABLE
     also others value
 
 -- what a member is, without where it lies in memory

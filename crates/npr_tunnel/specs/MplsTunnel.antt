@@ -13,8 +13,8 @@ use Rattle.std.proofs.Common.{refl}
 -- the table, in the order of the variants
 abbrev pub rows : VariantRows enum.parts
 rows =
-    row Mpls 1 mpls_labels items
-    also row Mpls 2 (exactly byte) value
+    row Mpls 1 mpls_labels items  -- MPLS_IPTUNNEL_DST
+    also row Mpls 2 (exactly byte) value  -- MPLS_IPTUNNEL_TTL
     also others value
 
 -- what a member is, without where it lies in memory

@@ -15,9 +15,9 @@ use Rattle.std.proofs.Common.{refl}
 -- the table, in the order of the variants
 abbrev pub rows : VariantRows enum.parts
 rows =
-    row Xfrm 0 dropped nothing
-    also row Xfrm 1 (exactly le32) value
-    also row Xfrm 2 (exactly le32) value
+    row Xfrm 0 dropped nothing  -- LWT_XFRM_UNSPEC
+    also row Xfrm 1 (exactly le32) value  -- LWT_XFRM_IF_ID
+    also row Xfrm 2 (exactly le32) value  -- LWT_XFRM_LINK
     also others value
 
 -- what a member is, without where it lies in memory

@@ -26,10 +26,10 @@ cache_info =
 -- the table, in the order of the variants: a place that a refusal names is in no family of the library
 abbrev pub rows : VariantRows enum.parts
 rows =
-    row Value 1 ip value
-    also row Value 2 raw items
-    also row Value 3 (leading cache_info) value
-    also row Value 4 (exactly le32) value
+    row Value 1 ip value  -- NDA_DST
+    also row Value 2 raw items  -- NDA_LLADDR
+    also row Value 3 (leading cache_info) value  -- NDA_CACHEINFO
+    also row Value 4 (exactly le32) value  -- NDA_PROBES
     also others value
 
 -- what an attribute is, without where it lies in memory

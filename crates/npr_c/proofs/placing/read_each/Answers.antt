@@ -1,4 +1,4 @@
-use Rattle.std.proofs.Common.{List, ℕ, Some, Ok, Err, ◌++◌, ◌∷◌, [], ◌∙◌, subst, arith}
+use Rattle.std.proofs.Common.{Some, Ok, Err, ◌++◌, ◌∷◌, [], ◌∙◌, subst, arith}
 use Rattle.netlink_packet_route.specs.Attributes.{AttributeStep}
 use Rattle.netlink_packet_route.specs.FrontLaws.{Front-shrinks}
 use Rattle.netlink_packet_route.specs.AttributesLaws.{steps-more, steps-begin}

@@ -1,4 +1,4 @@
-use Rattle.std.proofs.Common.{◌≡◌, ◌≢◌, ◌+◌, ◌∙◌, ℕ, List, [], map, inl, inr, ap, sym, subst}
+use Rattle.std.proofs.Common.{◌≢◌, ◌+◌, ◌∙◌, ℕ, List, [], map, inl, inr, ap, sym, subst}
 use Rattle.netlink_packet_route.specs.Framing.{Item, Front}
 use Rattle.netlink_packet_route.specs.declared.framing.DecodeError.{DecodeError}
 use Rattle.netlink_packet_route.specs.declared.framing.DecodeError.TheVariants.{OutOfMemory}
