@@ -1,11 +1,14 @@
 -- A table with a row for each variant of an enum but the last, in the order of the variants; the last is an attribute of
 -- another number, as it stands.
 --     row, others                 the rows, which `also` joins
---     value, text, items, seen, nothing      what stands in a variant's field: itself, the bytes of a text, the items of a vector, a view of it; and in one without
+--     marked_row                  a row that is written with NESTED, which is bit 15 of the kind
+--     value, text, items, seen, listed, nothing
+--                                 what stands in a variant's field: itself, the bytes of a text, the items of a vector, a view of
+--                                 it, views of the items; and in one without
 --     MeaningIn, meaning_in       what an attribute is, without where it lies in memory: its row and its value there, or itself
 --     by_row                      what is made of a meaning, by its row
 --     numbered                    the numbers are numbers of attributes, and apart
-use Rattle.std.specs.Prelude.{◌≡◌, ℕ, ◌==◌, ◌&&◌, ◌⊎◌, Bool, true, false, not, List, [], ◌∷◌, if◌then◌else◌}
+use Rattle.std.specs.Prelude.{◌≡◌, ℕ, ◌==◌, ◌&&◌, ◌⊎◌, Bool, true, false, not, List, [], ◌∷◌, map, if◌then◌else◌}
 use Rattle.std.specs.Bool.{MatchBool}
 use Rattle.std.specs.String.{string_bytes}
 use Rattle.std.specs.declared.alloc.Global.{Global}
@@ -16,7 +19,7 @@ use Rattle.npr_base.specs.declared.refusal.At.{At}
 use Rattle.npr_base.specs.declared.refusal.AttrFamily.{AttrFamily}
 use Rattle.npr_base.specs.declared.refusal.DecodeError.{DecodeError}
 use Rattle.npr_base.specs.Codec.{Codec}
-use Rattle.npr_base.specs.Framing.{Item, number_of}
+use Rattle.npr_base.specs.Framing.{Item, marked, number_of}
 use Rattle.npr_base.specs.Looks.{Looking}
 use Rattle.npr_base.specs.LooksLaws.{no_looking}
 use Rattle.npr_base.specs.Refusal.{at_number}
@@ -26,9 +29,10 @@ use denote.Struct.Field.{Field}
 use denote.Struct.Values.{Values}
 use denote.Enum.Declared.{Choice}
 
--- a row for a variant with such fields: where it stands, its codec, and what the fields hold
+-- a row for a variant with such fields: where it stands, whether its kind is written with NESTED, its codec, and what the fields hold
 pub record VariantRow (Fs : List Field) : Type 1 where
   pub at : At
+  pub nested : Bool
   pub V : Type 0
   pub codec : Codec V
   pub holds : Values Fs → V
@@ -43,7 +47,14 @@ VariantRows (Fs ∷ []) = LastVariant Fs
 VariantRows (Fs ∷ Gs ∷ Fss) = VariantRow Fs × VariantRows (Gs ∷ Fss)
 
 abbrev pub row : {Fs : List Field} {V : Type 0} → AttrFamily → ℕ → Codec V → (Values Fs → V) → VariantRow Fs
-row {Fs} {V} family number codec holds = record { at = at_number family number; V = V; codec = codec; holds = holds }
+row {Fs} {V} family number codec holds = record { at = at_number family number; nested = false; V = V; codec = codec; holds = holds }
+
+abbrev pub marked_row : {Fs : List Field} {V : Type 0} → AttrFamily → ℕ → Codec V → (Values Fs → V) → VariantRow Fs
+marked_row {Fs} {V} family number codec holds = record (row family number codec holds) { nested = true }
+
+-- the kind that is written
+abbrev pub kind_at : {Fs : List Field} → VariantRow Fs → ℕ
+kind_at r = marked r.nested r.at.kind
 
 abbrev pub others : {Fs : List Field} → (Values Fs → Item) → LastVariant Fs
 others {Fs} item = record { item = item }
@@ -66,6 +77,9 @@ items f = f.0.items
 
 abbrev pub seen : {A B : Type 0} → (A → B) → A × Unit {0} → B
 seen view f = view f.0
+
+abbrev pub listed : {A B : Type 0} → (A → B) → Vec A Global × Unit {0} → List B
+listed view f = map view f.0.items
 
 abbrev pub nothing : Unit {0} → Unit {0}
 nothing f = tt
@@ -94,7 +108,7 @@ other_in (Fs ∷ Gs ∷ Fss) rows x = inr (other_in (Gs ∷ Fss) rows.1 x)
 abbrev pub held_in : (Fss : List (List Field)) (rows : VariantRows Fss) → MeaningIn Fss rows → Held
 held_in [] rows x = held_other x
 held_in (Fs ∷ []) rows x = held_other x
-held_in (Fs ∷ Gs ∷ Fss) rows (inl v) = held rows.0.at.kind rows.0.codec v
+held_in (Fs ∷ Gs ∷ Fss) rows (inl v) = held (kind_at rows.0) rows.0.codec v
 held_in (Fs ∷ Gs ∷ Fss) rows (inr m) = held_in (Gs ∷ Fss) rows.1 m
 
 -- what an attribute of the number k means: a value of the row of that number, or else itself
@@ -121,7 +135,7 @@ abbrev pub shape_in : (Fss : List (List Field)) (rows : VariantRows Fss) → Cho
 shape_in [] rows c = absurd c
 shape_in (Fs ∷ []) rows (inl values) = shape_at (held_other (rows.item values))
 shape_in (Fs ∷ []) rows (inr c) = absurd c
-shape_in (Fs ∷ Gs ∷ Fss) rows (inl values) = shape_at (held rows.0.at.kind rows.0.codec (rows.0.holds values))
+shape_in (Fs ∷ Gs ∷ Fss) rows (inl values) = shape_at (held (kind_at rows.0) rows.0.codec (rows.0.holds values))
 shape_in (Fs ∷ Gs ∷ Fss) rows (inr c) = shape_in (Gs ∷ Fss) rows.1 c
 
 -- what is made of a meaning: for each row of its value, and of an attribute of another number

@@ -7,24 +7,28 @@
 use Rattle.std.specs.Prelude.{◌==◌, ◌&&◌, ◌⊎◌, not, if◌then◌else◌}
 use Rattle.std.specs.Bool.{MatchBool, Decides}
 use Rattle.std.specs.Cmp.{first_so, second_so}
-use Rattle.std.proofs.lemmas.Bool.{eqb-true, eqb-false, eq-eqb, ne_eqb, not-true}
+use Rattle.std.proofs.lemmas.Bool.{eqb-true, eqb-false, ne_eqb, not-true}
 use Rattle.std.proofs.Common.{◌≡◌, ℕ, ◌+◌, ◌*◌, ◌<◌, ◌≤◌, ◌^◌, length, Bool, true, false, List, [], ◌∷◌, inl, inr, refl, sym, ap, subst, None, ◌∙◌, true≢false, arith}
 use Rattle.npr_base.specs.declared.refusal.DecodeError.{DecodeError}
 use Rattle.npr_base.specs.FitLaws.{misfit_of-none}
 use Rattle.npr_base.specs.Counts.{SawEach}
-use Rattle.npr_base.specs.Framing.{Item, framed, number_of}
+use Rattle.npr_base.specs.Framing.{Item, framed, marked, number_of}
 use Rattle.npr_base.specs.Looks.{Looking}
-use Rattle.npr_base.specs.EnumTable.{VariantRows, MeaningIn, meaning_in, other_in, row_in, rows_in, held_in, shape_in, has_number, numbered, ReadsIn, WrongIn, looks_in}
+use Rattle.npr_base.specs.EnumTable.{VariantRows, kind_at, MeaningIn, meaning_in, other_in, row_in, rows_in, held_in, shape_in, has_number, numbered, ReadsIn, WrongIn, looks_in}
 use Rattle.npr_base.specs.Equality.{IsEqualityOf}
 use Rattle.npr_base.specs.Table.{Writing, Reading, Row, ReadsAt, WrongAt, Held, held_other, held_inside, held_kind, held_members, IsHeld, IsWritten, Aligned, Table}
 use Rattle.npr_base.specs.Table.{has_row, item_of, plain_item, shape_at, table_with, unfit_as, written_as, writing_by}
-use Rattle.npr_base.specs.TableLaws.{table_family, looks_of, looking_inside}
+use Rattle.npr_base.specs.TableLaws.{table_family, marked-small, looks_of, looking_inside}
 use denote.Struct.Field.{Field}
 use denote.Struct.Values.{Values}
 use denote.Enum.Compared.{Each, by}
 use denote.Enum.Declared.{Record, Choice}
 
 -- ---- numbers
+
+marked-number : (nested : Bool) (kind : ℕ) → number_of (marked nested kind) ≡ number_of kind
+marked-number true kind = omega arith
+marked-number false kind = refl
 
 if_not : (b c : Bool) → (if b then true else c) ≡ false → (b ≡ false) × (c ≡ false)
 if_not true c e = absurd (true≢false e)
@@ -48,11 +52,14 @@ module _ (Fs Gs : List Field) (Fss : List (List Field)) (rows : VariantRows (Fs 
   abbrev later : Bool
   later = numbered (Gs ∷ Fss) rows.1
 
-  row_own : (number_of rows.0.at.kind == rows.0.at.kind) ≡ true
-  row_own = first_so own (not taken && later) h
+  number_own : (number_of rows.0.at.kind == rows.0.at.kind) ≡ true
+  number_own = first_so own (not taken && later) h
 
-  row_short : rows.0.at.kind < 2 ^ 16
-  row_short = omega (arith, eqb-true (number_of rows.0.at.kind) rows.0.at.kind row_own)
+  row_own : (number_of (kind_at rows.0) == rows.0.at.kind) ≡ true
+  row_own = rw (marked-number rows.0.nested rows.0.at.kind) number_own
+
+  row_short : kind_at rows.0 < 2 ^ 16
+  row_short = marked-small rows.0.nested rows.0.at.kind (omega (arith, eqb-true (number_of rows.0.at.kind) rows.0.at.kind number_own))
 
   row_alone : has_number (Gs ∷ Fss) rows.1 rows.0.at.kind ≡ false
   row_alone = not-true taken (first_so (not taken) later (second_so own (not taken && later) h))
@@ -82,7 +89,8 @@ wrong-in [] rows part k x e wrong = wrong
 wrong-in (Fs ∷ []) rows part k x e wrong = wrong
 wrong-in (Fs ∷ Gs ∷ Fss) rows part k x e wrong = matches (k == rows.0.at.kind) (λ w. w) (wrong-in (Gs ∷ Fss) rows.1 (λ n. part (inr n)) k x e) wrong
 
-pub looks-in : {M : Type 0} (Fss : List (List Field)) (rows : VariantRows Fss) (part : MeaningIn Fss rows → M) → looks_in Fss rows ≡ looks_of (rows_in Fss rows part)
+pub looks-in : {M : Type 0} (Fss : List (List Field)) (rows : VariantRows Fss) (part : MeaningIn Fss rows → M)
+    → looks_in Fss rows ≡ looks_of (rows_in Fss rows part)
 looks-in [] rows part = refl
 looks-in (Fs ∷ []) rows part = refl
 looks-in (Fs ∷ Gs ∷ Fss) rows part =
@@ -96,9 +104,9 @@ module _ {M : Type 0} (all : List (Row M)) where
   apart this [] rows h none free m is = free (number_of m.kind) is.alone
   apart this (Fs ∷ []) rows h none free m is = free (number_of m.kind) is.alone
   apart this (Fs ∷ Gs ∷ Fss) rows h none free (inl v) is =
-      let here = eqb-true (number_of rows.0.at.kind) rows.0.at.kind (row_own Fs Gs Fss rows h) in
+      let here = eqb-true (number_of (kind_at rows.0)) rows.0.at.kind (row_own Fs Gs Fss rows h) in
       let away = (if_not (this == rows.0.at.kind) (has_number (Gs ∷ Fss) rows.1 this) none).0 in
-      ne_eqb (number_of rows.0.at.kind) this (λ q. eqb-false this rows.0.at.kind away (sym q ∙ here))
+      ne_eqb (number_of (kind_at rows.0)) this (λ q. eqb-false this rows.0.at.kind away (sym q ∙ here))
   apart this (Fs ∷ Gs ∷ Fss) rows h none free (inr m) is =
       apart this (Gs ∷ Fss) rows.1 (rows_behind Fs Gs Fss rows h) (if_not (this == rows.0.at.kind) (has_number (Gs ∷ Fss) rows.1 this) none).1 free m is
 
@@ -107,7 +115,7 @@ module _ {M : Type 0} (all : List (Row M)) where
       → held_inside (held_in Fss rows m) ≡ None → ReadsIn Fss rows (number_of (item_of (held_in Fss rows m)).kind) (item_of (held_in Fss rows m)) m
   back-in [] rows h within m is fits = refl
   back-in (Fs ∷ []) rows h within m is fits = refl
-  back-in (Fs ∷ Gs ∷ Fss) rows h within (inl v) is fits = rw (row_own Fs Gs Fss rows h) (rows.0.codec.reads_back rows.0.at.kind v is fits)
+  back-in (Fs ∷ Gs ∷ Fss) rows h within (inl v) is fits = rw (row_own Fs Gs Fss rows h) (rows.0.codec.reads_back (kind_at rows.0) v is fits)
   back-in (Fs ∷ Gs ∷ Fss) rows h within (inr m) is fits =
       let free = λ (k : ℕ). λ (e : has_row all k ≡ false). if_not (k == rows.0.at.kind) (has_number (Gs ∷ Fss) rows.1 k) (within k e) in
       let behind = rows_behind Fs Gs Fss rows h in
@@ -122,12 +130,16 @@ module _ {M : Type 0} (all : List (Row M)) where
   kinds-in (Fs ∷ Gs ∷ Fss) rows h (inr m) is = kinds-in (Gs ∷ Fss) rows.1 (rows_behind Fs Gs Fss rows h) m is
 
 module _ {M : Type 0} (all : List (Row M)) (held_of : M → Held) where
-  pub aligned-in : (Fss : List (List Field)) (rows : VariantRows Fss) (part : MeaningIn Fss rows → M) → ((m : MeaningIn Fss rows) → held_of (part m) ≡ held_in Fss rows m)
-      → numbered Fss rows ≡ true → Aligned (writing_by held_of) (λ m. IsHeld all (held_of m)) (rows_in Fss rows part)
+  pub aligned-in : (Fss : List (List Field)) (rows : VariantRows Fss) (part : MeaningIn Fss rows → M)
+      → ((m : MeaningIn Fss rows) → held_of (part m) ≡ held_in Fss rows m) → numbered Fss rows ≡ true
+      → Aligned (writing_by held_of) (λ m. IsHeld all (held_of m)) (rows_in Fss rows part)
   aligned-in [] rows part same h = tt
   aligned-in (Fs ∷ []) rows part same h = tt
   aligned-in (Fs ∷ Gs ∷ Fss) rows part same h =
-      let own : (v : rows.0.V) → IsWritten (writing_by held_of) (λ m. IsHeld all (held_of m)) (row_in Fs Gs Fss rows part) v = λ v. (ap (λ (at : Held). (written_as (shape_at at)).value) (same (inl v)), ap held_members (same (inl v)), λ holds. subst (IsHeld all) (sym (same (inl v))) holds) in
+      let own : (v : rows.0.V) → IsWritten (writing_by held_of) (λ m. IsHeld all (held_of m)) (row_in Fs Gs Fss rows part) v =
+      λ v.
+      let written = ap (λ (at : Held). (written_as (shape_at at)).value) (same (inl v)) in
+      (written, ap held_members (same (inl v)), λ holds. subst (IsHeld all) (sym (same (inl v))) holds) in
       let alone = row_numbers (Gs ∷ Fss) rows.1 (λ m. part (inr m)) rows.0.at.kind ∙ row_alone Fs Gs Fss rows h in
       (own, alone, aligned-in (Gs ∷ Fss) rows.1 (λ m. part (inr m)) (λ m. same (inr m)) (rows_behind Fs Gs Fss rows h))
 
@@ -157,7 +169,9 @@ module _ (Fss : List (List Field)) (rows : VariantRows Fss) where
       table_with all_rows (other_in Fss rows) (held_in Fss rows) CoherentIn
       (aligned-in all_rows (held_in Fss rows) Fss rows (λ m. m) (λ m. refl) h) (held-other Fss rows)
       (λ x is. subst (IsHeld all_rows) (sym (held-other Fss rows x)) is) (kinds-in all_rows Fss rows h)
-      (λ m c fits. reads-in (other_in Fss rows) Fss rows (λ n. n) (λ x. refl) (number_of (item_of (held_in Fss rows m)).kind) (item_of (held_in Fss rows m)) m (back-read h m c fits))
+      (λ m c fits.
+      let x = item_of (held_in Fss rows m) in
+      reads-in (other_in Fss rows) Fss rows (λ n. n) (λ y. refl) (number_of x.kind) x m (back-read h m c fits))
 
   pub rows-read : (x : Item) (m : MeaningIn Fss rows) → ReadsIn Fss rows (number_of x.kind) x m
       → ReadsAt (other_in Fss rows) all_rows (number_of x.kind) x m
@@ -218,7 +232,8 @@ FieldsDecide [] rows tests = Unit {0}
 FieldsDecide (Fs ∷ []) rows tests = ((x y : Values Fs) → Decides (tests.0 x y) (rows.item x ≡ rows.item y)) × Unit {0}
 FieldsDecide (Fs ∷ Gs ∷ Fss) rows tests = ((x y : Values Fs) → Decides (tests.0 x y) (rows.0.holds x ≡ rows.0.holds y)) × FieldsDecide (Gs ∷ Fss) rows.1 tests.1
 
-pub of_field : {A B : Type 0} {view : A → B} {test : A → A → Bool} → IsEqualityOf view test → (x y : A × Unit {0}) → Decides (test x.0 y.0) (view x.0 ≡ view y.0)
+pub of_field : {A B : Type 0} {view : A → B} {test : A → A → Bool} → IsEqualityOf view test
+    → (x y : A × Unit {0}) → Decides (test x.0 y.0) (view x.0 ≡ view y.0)
 of_field decides x y = decides x.0 y.0
 
 pub no_field : {B : Type 0} (view : Unit {0} → B) (x y : Unit {0}) → Decides true (view x ≡ view y)
@@ -250,11 +265,15 @@ choices-decide [] rows tests all c d = absurd c
 choices-decide (Fs ∷ []) rows tests all (inl x) (inl y) = all.0 x y
 choices-decide (Fs ∷ []) rows tests all (inl x) (inr d) = absurd d
 choices-decide (Fs ∷ []) rows tests all (inr c) d = absurd c
-choices-decide (Fs ∷ Gs ∷ Fss) rows tests all (inl x) (inl y) = here-decides rows.0.V (MeaningIn (Gs ∷ Fss) rows.1) (tests.0 x y) (rows.0.holds x) (rows.0.holds y) (all.0 x y)
-choices-decide (Fs ∷ Gs ∷ Fss) rows tests all (inl x) (inr d) = here-apart rows.0.V (MeaningIn (Gs ∷ Fss) rows.1) (rows.0.holds x) (meaning_in (Gs ∷ Fss) rows.1 d)
-choices-decide (Fs ∷ Gs ∷ Fss) rows tests all (inr c) (inl y) = behind-apart rows.0.V (MeaningIn (Gs ∷ Fss) rows.1) (rows.0.holds y) (meaning_in (Gs ∷ Fss) rows.1 c)
+choices-decide (Fs ∷ Gs ∷ Fss) rows tests all (inl x) (inl y) =
+    here-decides rows.0.V (MeaningIn (Gs ∷ Fss) rows.1) (tests.0 x y) (rows.0.holds x) (rows.0.holds y) (all.0 x y)
+choices-decide (Fs ∷ Gs ∷ Fss) rows tests all (inl x) (inr d) =
+    here-apart rows.0.V (MeaningIn (Gs ∷ Fss) rows.1) (rows.0.holds x) (meaning_in (Gs ∷ Fss) rows.1 d)
+choices-decide (Fs ∷ Gs ∷ Fss) rows tests all (inr c) (inl y) =
+    behind-apart rows.0.V (MeaningIn (Gs ∷ Fss) rows.1) (rows.0.holds y) (meaning_in (Gs ∷ Fss) rows.1 c)
 choices-decide (Fs ∷ Gs ∷ Fss) rows tests all (inr c) (inr d) =
-    behind-decides rows.0.V (MeaningIn (Gs ∷ Fss) rows.1) (by false false (Gs ∷ Fss) tests.1 c d) (meaning_in (Gs ∷ Fss) rows.1 c) (meaning_in (Gs ∷ Fss) rows.1 d)
+    behind-decides rows.0.V (MeaningIn (Gs ∷ Fss) rows.1) (by false false (Gs ∷ Fss) tests.1 c d)
+    (meaning_in (Gs ∷ Fss) rows.1 c) (meaning_in (Gs ∷ Fss) rows.1 d)
     (choices-decide (Gs ∷ Fss) rows.1 tests.1 all.1 c d)
 
 pub enum_decides : (N : Record) (rows : VariantRows N.parts) (tests : Each Bool N.parts) → FieldsDecide N.parts rows tests → (a b : N.D)

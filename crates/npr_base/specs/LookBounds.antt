@@ -60,8 +60,12 @@ nothing-walked bytes old new same more one = record {
 
 module _ {M : Type 0} {w : Writing M} (f : Reading w) where
   pub list-walked : (bytes : List ℕ) (old new : Counts) → ListLooks f.Reads f.Faulty f.looks.Takes bytes old new → Walked bytes old new
-  list-walked bytes old new (list_ends is p) = nothing-walked bytes old new (ap (λ (c : Counts). c.successful) p) (omega (arith, ap (λ (c : Counts). c.failed) p)) (omega (arith, ap (λ (c : Counts). c.failed) p))
-  list-walked bytes old new (none_stands e left bad p) = nothing-walked bytes old new (ap (λ (c : Counts). c.successful) p) (omega (arith, ap (λ (c : Counts). c.failed) p)) (omega (arith, ap (λ (c : Counts). c.failed) p))
+  list-walked bytes old new (list_ends is p) =
+      let failed = ap (λ (c : Counts). c.failed) p in
+      nothing-walked bytes old new (ap (λ (c : Counts). c.successful) p) (omega (arith, failed)) (omega (arith, failed))
+  list-walked bytes old new (none_stands e left bad p) =
+      let failed = ap (λ (c : Counts). c.failed) p in
+      nothing-walked bytes old new (ap (λ (c : Counts). c.successful) p) (omega (arith, failed)) (omega (arith, failed))
   list-walked bytes old new (faulty_stands x rest e front bad p) =
       let a = f.bounded x (hit old) new p in
       let took = Front-takes bytes x rest front in

@@ -2,12 +2,11 @@
 -- items: one fact a variant, and none for a pair of variants.
 --     enum_meaning       it answers whether two values mean the same; `order` numbers the meanings' variants in their order
 --     enum_meaning_at    the same of a type that holds itself
---     row_order          the order of the meanings of a table, whose rows stand in the order of the enum's variants
 --     one_meaning, one_meaning_by      the fact for a variant of one field
 --     text_equality      of a text, by its bytes
 --     items_equality     of a vector, by the list of its items
 --     items_meaning      of a vector, by the list of what its items mean
-use Rattle.std.specs.Prelude.{◌≡◌, ℕ, ◌+◌, ◌≤◌, ◌==◌, Bool, false, List, [], ◌∷◌, length, map, ⊤, ◌&&◌, if◌then◌else◌}
+use Rattle.std.specs.Prelude.{◌≡◌, ℕ, ◌+◌, ◌≤◌, Bool, false, List, [], ◌∷◌, map, ⊤, ◌&&◌}
 use Rattle.std.specs.Bool.{Decides}
 use Rattle.std.specs.Cmp.{first_so, second_so}
 use Rattle.std.specs.Cmp.Lexicographic.{pointwise, pointwise_decides, bytes_decides}
@@ -18,8 +17,6 @@ use Rattle.std.specs.declared.string.String.{String}
 use Rattle.std.specs.declared.vec.Vec.{Vec}
 use Rattle.std.proofs.Common.{refl, sym, ap, ◌∙◌, inl, inr, true≢false, arith}
 use Rattle.npr_base.specs.Equality.{IsEquality, IsEqualityOf}
-use Rattle.npr_base.specs.Framing.{number_of}
-use Rattle.npr_base.specs.Table.{Row, Held, held_marked, held_other}
 use denote.Struct.Field.{Field}
 use denote.Struct.Values.{Values}
 use denote.Enum.Declared.{Record, Choice}
@@ -72,18 +69,6 @@ pub enum_meaning : {M : Type 0} (order : M → ℕ) (N : Record) (meaning : N.D 
     → ((t : M) → MeaningsDecide order t N.parts (λ c. meaning (N.make c)) tests 0) → (a b : N.D)
     → Decides (by false false N.parts tests (N.as_values a) (N.as_values b)) (meaning a ≡ meaning b)
 enum_meaning order N meaning tests all a b = enum_meaning_at order (meaning a) N meaning tests (all (meaning a)) a b refl
-
--- where the row of a number stands, and where a value does: what is kept as it stands comes behind all rows
-abbrev pub row_index : {M : Type 0} → List (Row M) → ℕ → ℕ
-row_index [] number = 0
-row_index (r ∷ rows) number = if number == r.at.kind then 0 else 1 + row_index rows number
-
-abbrev pub held_index : {M : Type 0} → List (Row M) → Held → ℕ
-held_index rows (held_marked nested kind codec value) = row_index rows (number_of kind)
-held_index rows (held_other x) = length rows
-
-abbrev pub row_order : {M : Type 0} → List (Row M) → (M → Held) → M → ℕ
-row_order rows held_of m = held_index rows (held_of m)
 
 module _ {A B M : Type 0} {test : A → A → Bool} (view : A → B) (made : B → M) where
   -- a variant of one field, whose meaning is a constructor of the field's: `λ p q e. cc` shows that the constructor is one to one

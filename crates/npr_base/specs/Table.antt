@@ -197,16 +197,6 @@ abbrev pub Aligned : {M : Type 0} → Writing M → (M → Type 0) → List (Row
 Aligned w Coherent [] = Unit {0}
 Aligned w Coherent (r ∷ rows) = ((v : r.V) → IsWritten w Coherent r v) × (has_row rows r.at.kind ≡ false) × Aligned w Coherent rows
 
--- so for places in rows
-abbrev pub IsAligned : {M : Type 0} → List (Row M) → (M → Held) → Type 0
-IsAligned rows held_of = Aligned (writing_by held_of) (λ m. IsHeld rows (held_of m)) rows
-
--- a meaning stands in the row of its place: its kind has 16 bits, and where its bytes are read by its codec, they mean it by the rows
-abbrev pub IsPlaced : {M : Type 0} → (Item → M) → List (Row M) → Held → M → Type 0
-IsPlaced other rows (held_marked nested kind codec value) m = (kind < 2 ^ 16) × (codec.Reads (codec.writes value) value
-    → ReadsAt other rows (number_of (marked nested kind)) (record { kind = marked nested kind; value = codec.writes value }) m)
-IsPlaced other rows (held_other x) m = m ≡ other x
-
 -- a table: its rows, what an attribute of another number means, the place of each meaning, and which are coherent
 pub record Table (M : Type 0) : Type 1 where
   pub rows : List (Row M)
@@ -219,7 +209,6 @@ pub record Table (M : Type 0) : Type 1 where
   pub kinds : (m : M) → Coherent m → held_kind (held_of m) < 2 ^ 16
   pub back : (m : M) → Coherent m → held_inside (held_of m) ≡ None → ReadsAt other rows (number_of (item_of (held_of m)).kind) (item_of (held_of m)) m
 
--- a table whose coherent meanings rest on more than their places
 abbrev pub table_with : {M : Type 0} (rows : List (Row M)) (other : Item → M) (held_of : M → Held) (Coherent : M → Type 0)
     → Aligned (writing_by held_of) Coherent rows → ((x : Item) → held_of (other x) ≡ held_other x) → ((x : Item) → IsOther rows x → Coherent (other x))
     → ((m : M) → Coherent m → held_kind (held_of m) < 2 ^ 16)

@@ -2,7 +2,7 @@
 use Rattle.std.specs.Prelude.{◌==◌}
 use Rattle.std.specs.Bool.{MatchBool}
 use Rattle.std.proofs.lemmas.Bool.{eqb-true}
-use Rattle.std.proofs.Common.{◌≡◌, ℕ, ◌+◌, ◌*◌, ◌<◌, ◌≤◌, ◌^◌, Bool, true, false, cond, List, [], ◌∷◌, length, None, refl, sym, ap, subst, ◌∙◌, arith}
+use Rattle.std.proofs.Common.{◌≡◌, ℕ, ◌+◌, ◌*◌, ◌<◌, ◌≤◌, ◌^◌, Bool, true, false, cond, List, [], ◌∷◌, length, refl, sym, ap, subst, ◌∙◌, arith}
 use Rattle.npr_base.specs.declared.refusal.DecodeError.{DecodeError}
 use Rattle.npr_base.specs.Framing.{Item, IsBytes, framed, marked, number_of}
 use Rattle.npr_base.specs.CodecLaws.{framed-grows}
@@ -10,8 +10,8 @@ use Rattle.npr_base.specs.FitLaws.{misfit_of-none}
 use Rattle.npr_base.specs.Counts.{Counts, AddsAtMost, SawEach}
 use Rattle.npr_base.specs.Looks.{Adds, Looking, LooksAt, Inside, nothing, looked_through, TakesInside}
 use Rattle.npr_base.specs.LooksLaws.{no_looking, none-most, none-saw}
-use Rattle.npr_base.specs.Table.{Writing, Reading, Row, ReadsAt, WrongAt, has_row, Held, held_marked, held_other, IsHeld, IsPlaced}
-use Rattle.npr_base.specs.Table.{item_of, plain_item, held_inside, held_kind, held_nested, held_members, written_by, writing_by, Aligned, IsAligned, Table}
+use Rattle.npr_base.specs.Table.{Writing, Reading, Row, ReadsAt, WrongAt, has_row}
+use Rattle.npr_base.specs.Table.{item_of, plain_item, held_inside, held_kind, held_nested, held_members, written_by, writing_by, Aligned, Table}
 
 -- two facts on the same test
 pub both : {P Q S T R : Type 0} (b : Bool) → (P → S → R) → (Q → T → R) → MatchBool b P Q → MatchBool b S T → R
@@ -64,17 +64,6 @@ not_here false c h f = f refl h
 pub other-back : {M : Type 0} (other : Item → M) (rows : List (Row M)) (k : ℕ) (x : Item) → has_row rows k ≡ false → ReadsAt other rows k x (other x)
 other-back other [] k x h = refl
 other-back other (r ∷ rows) k x h = not_here (k == r.at.kind) (has_row rows k) h (λ e f. rw e (other-back other rows k x f))
-
-module _ {M : Type 0} (other : Item → M) (rows : List (Row M)) where
-  pub placed-kind : (h : Held) (m : M) → IsPlaced other rows h m → IsHeld rows h → held_kind h < 2 ^ 16
-  placed-kind (held_marked nested kind codec value) m placed is = placed.0
-  placed-kind (held_other x) m placed is = is.proper.kind
-
-  pub placed-back : (h : Held) (m : M) → IsPlaced other rows h m → IsHeld rows h → held_inside h ≡ None
-      → ReadsAt other rows (number_of (item_of h).kind) (item_of h) m
-  placed-back (held_marked nested kind codec value) m placed is fits = placed.1 (codec.reads_back kind value is fits)
-  placed-back (held_other x) m placed is fits =
-      subst (ReadsAt other rows (number_of x.kind) x) (sym placed) (other-back other rows (number_of x.kind) x is.alone)
 
 -- ---- looks
 
@@ -142,23 +131,6 @@ rows-saw other w Coherent (r ∷ rows) aligned none x m old new p t = one_of (nu
     let members : w.members m ≡ r.codec.members.count a.0 = ap w.members a.2 ∙ (aligned.0 a.0).1 in
     subst (SawEach old new) (sym members) (r.codec.members.saw x.value a.0 old new a.1 inside))
     (λ e a. rows-saw other w Coherent rows aligned.2 none x m old new a (inside_past r.at.kind r.codec.members.looks (looks_of rows) x old new e t)) p
-
--- ---- tables
-
--- a table where each meaning stands in the row of its place, and is coherent where that row can hold its value
-abbrev pub table_of : {M : Type 0} (rows : List (Row M)) (other : Item → M) (held_of : M → Held) → IsAligned rows held_of
-    → ((x : Item) → held_of (other x) ≡ held_other x) → ((m : M) → IsPlaced other rows (held_of m) m) → Table M
-table_of rows other held_of aligned other_is placed = record {
-  rows = rows;
-  other = other;
-  held_of = held_of;
-  Coherent = λ m. IsHeld rows (held_of m);
-  aligned = aligned;
-  other_is = other_is;
-  other_coherent = λ x is. subst (IsHeld rows) (sym (other_is x)) is;
-  kinds = λ m c. placed-kind other rows (held_of m) m (placed m) c;
-  back = λ m c fits. placed-back other rows (held_of m) m (placed m) c fits;
-}
 
 -- the family of a table
 abbrev pub table_family : {M : Type 0} → (t : Table M) → Reading (writing_by t.held_of)

@@ -124,8 +124,8 @@ marks (OfEncap.seg6 m) = true
 marks (OfEncap.xfrm m) = true
 marks (OfEncap.rpl m) = true
 marks (OfEncap.ioam6 m) = true
-marks (OfEncap.ip (OfIp.options xs)) = true
-marks (OfEncap.ip6 (OfIp.options xs)) = true
+marks (OfEncap.ip m) = OfIp.has_options m
+marks (OfEncap.ip6 m) = OfIp.has_options m
 marks m = false
 
 abbrev pub any_marks : List OfEncap.Meaning → Bool

@@ -45,8 +45,8 @@ meaning_of (Other d) = other d
 abbrev pub held_of : Meaning → Held
 held_of (mpls m) = OfMpls.held_of m
 held_of (seg6 m) = OfSeg6.held_of m
-held_of (ip m) = OfIp.held_of 4 m
-held_of (ip6 m) = OfIp.held_of 16 m
+held_of (ip m) = OfIp.held_of m
+held_of (ip6 m) = OfIp.held6_of m
 held_of (ioam6 m) = OfIoam6.held_of m
 held_of (rpl m) = OfRpl.held_of m
 held_of (seg6_local m) = OfSeg6Local.held_of m

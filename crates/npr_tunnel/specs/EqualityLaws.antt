@@ -1,14 +1,13 @@
 -- What `==` answers of tunnels and their options: whether they mean the same.
-use Rattle.std.specs.Prelude.{ℕ, map}
+use Rattle.std.specs.Prelude.{ℕ}
 use Rattle.std.specs.Cmp.{unsigned_Decides}
 use Rattle.std.proofs.Common.{refl, rules, ap}
-use Rattle.npr_base.specs.declared.refusal.AttrFamily.TheVariants.{Ip, Ip6}
 use Rattle.npr_base.specs.Equality.{IsEquality, IsEqualityOf}
 use Rattle.npr_base.specs.ViewEquality.{item_equality}
 use Rattle.npr_base.specs.IpLaws.{ipv4_equality, ipv6_equality}
 use Rattle.npr_base.specs.EnumTable.{◌also◌}
 use Rattle.npr_base.specs.EnumTableLaws.{enum_decides, of_field, no_field}
-use Rattle.npr_base.specs.MeaningLaws.{enum_meaning, row_order, one_meaning, items_equality, items_meaning}
+use Rattle.npr_base.specs.MeaningLaws.{enum_meaning, one_meaning, items_equality, items_meaning}
 use Rattle.npr_base.specs.StructLaws.{and_decides, decides_as}
 use Rattle.npr_scalar.specs.EqualityLaws.{label_equality}
 use Rattle.npr_srh.specs.EqualityLaws.{seg6_equality, local_equality, rpl_equality, ioam6_equality}
@@ -86,52 +85,57 @@ mpls_equality =
 
 pub vxlan_equality : IsEqualityOf OfVxlan.meaning_of VxlanEq.ghosts.eq
 vxlan_equality =
-    enum_meaning (row_order OfVxlan.rows OfVxlan.held_of) vxlan_enum OfVxlan.meaning_of _ (λ t.
-    (λ x. refl, one_meaning (λ n. n) OfVxlan.gbp unsigned_Decides (λ p q e. cc)) also
-    (λ x. refl, one_meaning (λ d. d) OfVxlan.other item_equality (λ p q e. cc)) also tt)
+    enum_decides vxlan_enum OfVxlan.rows _
+    (of_field unsigned_Decides
+    also of_field item_equality
+    also tt)
 
 pub erspan_equality : IsEqualityOf OfErspan.meaning_of ErspanEq.ghosts.eq
 erspan_equality =
-    enum_meaning (row_order OfErspan.rows OfErspan.held_of) erspan_enum OfErspan.meaning_of _ (λ t.
-    (λ x. refl, one_meaning (λ n. n) OfErspan.version unsigned_Decides (λ p q e. cc)) also
-    (λ x. refl, one_meaning (λ n. n) OfErspan.index unsigned_Decides (λ p q e. cc)) also
-    (λ x. refl, one_meaning (λ n. n) OfErspan.direction unsigned_Decides (λ p q e. cc)) also
-    (λ x. refl, one_meaning (λ n. n) OfErspan.hardware_id unsigned_Decides (λ p q e. cc)) also
-    (λ x. refl, one_meaning (λ d. d) OfErspan.other item_equality (λ p q e. cc)) also tt)
+    enum_decides erspan_enum OfErspan.rows _
+    (of_field unsigned_Decides
+    also of_field unsigned_Decides
+    also of_field unsigned_Decides
+    also of_field unsigned_Decides
+    also of_field item_equality
+    also tt)
 
 pub tunnel_option_equality : IsEqualityOf OfOption.meaning_of TunnelOptionEq.ghosts.eq
 tunnel_option_equality =
-    enum_meaning (row_order OfOption.rows OfOption.held_of) tunnel_option_enum OfOption.meaning_of _ (λ t.
-    (λ x. refl, one_meaning (λ v. map option_of v.items) OfOption.geneve (items_meaning option_of geneve_equality) (λ p q e. cc)) also
-    (λ x. refl, one_meaning (λ v. map OfVxlan.meaning_of v.items) OfOption.vxlan (items_meaning OfVxlan.meaning_of vxlan_equality) (λ p q e. cc)) also
-    (λ x. refl, one_meaning (λ v. map OfErspan.meaning_of v.items) OfOption.erspan (items_meaning OfErspan.meaning_of erspan_equality) (λ p q e. cc)) also
-    (λ x. refl, one_meaning (λ d. d) OfOption.other item_equality (λ p q e. cc)) also tt)
+    enum_decides tunnel_option_enum OfOption.rows _
+    (of_field (items_meaning option_of geneve_equality)
+    also of_field (items_meaning OfVxlan.meaning_of vxlan_equality)
+    also of_field (items_meaning OfErspan.meaning_of erspan_equality)
+    also of_field item_equality
+    also tt)
 
 pub ip_equality : IsEqualityOf OfIp.meaning_of IpEq.ghosts.eq
 ip_equality =
-    enum_meaning (row_order (OfIp.rows Ip 4) (OfIp.held_of 4)) ip_enum OfIp.meaning_of _ (λ t.
-    (λ x. refl, λ x y is. (λ e. refl, λ e. refl)) also
-    (λ x. refl, one_meaning (λ n. n) OfIp.id unsigned_Decides (λ p q e. cc)) also
-    (λ x. refl, one_meaning (λ a. a) OfIp.destination ipv4_equality (λ p q e. cc)) also
-    (λ x. refl, one_meaning (λ a. a) OfIp.source ipv4_equality (λ p q e. cc)) also
-    (λ x. refl, one_meaning (λ n. n) OfIp.hops unsigned_Decides (λ p q e. cc)) also
-    (λ x. refl, one_meaning (λ n. n) OfIp.service unsigned_Decides (λ p q e. cc)) also
-    (λ x. refl, one_meaning ip_flags_bits OfIp.flags ip_flags_equality (λ p q e. cc)) also
-    (λ x. refl, one_meaning (λ v. map OfOption.meaning_of v.items) OfIp.options (items_meaning OfOption.meaning_of tunnel_option_equality) (λ p q e. cc)) also
-    (λ x. refl, one_meaning (λ d. d) OfIp.other item_equality (λ p q e. cc)) also tt)
+    enum_decides ip_enum OfIp.rows _
+    (no_field _
+    also of_field unsigned_Decides
+    also of_field ipv4_equality
+    also of_field ipv4_equality
+    also of_field unsigned_Decides
+    also of_field unsigned_Decides
+    also of_field ip_flags_equality
+    also of_field (items_meaning OfOption.meaning_of tunnel_option_equality)
+    also of_field item_equality
+    also tt)
 
 pub ip6_equality : IsEqualityOf OfIp.meaning6_of Ip6Eq.ghosts.eq
 ip6_equality =
-    enum_meaning (row_order (OfIp.rows Ip6 16) (OfIp.held_of 16)) ip6_enum OfIp.meaning6_of _ (λ t.
-    (λ x. refl, λ x y is. (λ e. refl, λ e. refl)) also
-    (λ x. refl, one_meaning (λ n. n) OfIp.id unsigned_Decides (λ p q e. cc)) also
-    (λ x. refl, one_meaning (λ a. a) OfIp.destination ipv6_equality (λ p q e. cc)) also
-    (λ x. refl, one_meaning (λ a. a) OfIp.source ipv6_equality (λ p q e. cc)) also
-    (λ x. refl, one_meaning (λ n. n) OfIp.hops unsigned_Decides (λ p q e. cc)) also
-    (λ x. refl, one_meaning (λ n. n) OfIp.service unsigned_Decides (λ p q e. cc)) also
-    (λ x. refl, one_meaning ip6_flags_bits OfIp.flags ip6_flags_equality (λ p q e. cc)) also
-    (λ x. refl, one_meaning (λ v. map OfOption.meaning_of v.items) OfIp.options (items_meaning OfOption.meaning_of tunnel_option_equality) (λ p q e. cc)) also
-    (λ x. refl, one_meaning (λ d. d) OfIp.other item_equality (λ p q e. cc)) also tt)
+    enum_decides ip6_enum OfIp.rows6 _
+    (no_field _
+    also of_field unsigned_Decides
+    also of_field ipv6_equality
+    also of_field ipv6_equality
+    also of_field unsigned_Decides
+    also of_field unsigned_Decides
+    also of_field ip6_flags_equality
+    also of_field (items_meaning OfOption.meaning_of tunnel_option_equality)
+    also of_field item_equality
+    also tt)
 
 encap_order : OfEncap.Meaning → ℕ
 encap_order (OfEncap.mpls x) = 0

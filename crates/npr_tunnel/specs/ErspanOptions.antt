@@ -1,81 +1,58 @@
 -- The options of ERSPAN (linux/lwtunnel.h, LWTUNNEL_IP_OPT_ERSPAN_*), by their table.
-use Rattle.std.specs.Prelude.{◌==◌, if◌then◌else◌, ℕ, List, [], ◌∷◌, ◌++◌, Option, Some, None, codes, decimal}
+use Rattle.std.specs.Prelude.{◌==◌, if◌then◌else◌, ℕ, List, ◌++◌, Option, None, codes, decimal}
 use Rattle.std.specs.Prelude.{unwrap_or, filter_map}
 use Rattle.std.specs.List.{last_or}
-use Rattle.std.proofs.Common.{refl, arith, rules}
-use Rattle.npr_base.specs.declared.refusal.AttrFamily.TheVariants.{Erspan as OfErspan}
-use Rattle.npr_base.specs.Framing.{Item}
-use Rattle.npr_base.specs.Layout.{be32, byte}
+use Rattle.npr_base.specs.declared.refusal.AttrFamily.TheVariants.{Erspan}
 use Rattle.npr_base.specs.Codec.{exactly}
-use Rattle.npr_base.specs.Table.{Writing, Reading, Row, row, Held, held, held_other, held_value, IsAligned, IsPlaced, writing_by}
-use Rattle.npr_base.specs.TableLaws.{table_family, table_of}
+use Rattle.npr_base.specs.EnumTable.{VariantRows, row, others, ◌also◌, value, MeaningIn, meaning_in}
+use Rattle.npr_base.specs.EnumTableLaws.{writing_in, attributes_in}
+use Rattle.npr_base.specs.EnumTableValues.{ValueIn, value_in, found_in}
+use Rattle.npr_base.specs.Layout.{be32, byte}
+use Rattle.npr_base.specs.Table.{Writing, Reading}
+use Rattle.npr_tunnel.specs.contracts.erspan.RouteErspanOpt.{enum}
 use Rattle.npr_tunnel.specs.declared.erspan.RouteErspanOpt.{RouteErspanOpt}
-use Rattle.npr_tunnel.specs.declared.erspan.RouteErspanOpt.TheVariants.{Ver, Index, Dir, Hwid, Other}
+use Rattle.std.proofs.Common.{refl}
+
+-- the table, in the order of the variants
+abbrev pub rows : VariantRows enum.parts
+rows =
+    row Erspan 1 (exactly byte) value  -- LWTUNNEL_IP_OPT_ERSPAN_VER
+    also row Erspan 2 (exactly be32) value  -- LWTUNNEL_IP_OPT_ERSPAN_INDEX
+    also row Erspan 3 (exactly byte) value  -- LWTUNNEL_IP_OPT_ERSPAN_DIR
+    also row Erspan 4 (exactly byte) value  -- LWTUNNEL_IP_OPT_ERSPAN_HWID
+    also others value
 
 -- what an option is, without where it lies in memory
-pub data Meaning : Type 0 where
-  version : ℕ → Meaning
-  index : ℕ → Meaning
-  direction : ℕ → Meaning
-  hardware_id : ℕ → Meaning
-  other : Item → Meaning
+abbrev pub Meaning : Type 0
+Meaning = MeaningIn enum.parts rows
 
 abbrev pub meaning_of : RouteErspanOpt → Meaning
-meaning_of (Ver a) = version a
-meaning_of (Index a) = index a
-meaning_of (Dir a) = direction a
-meaning_of (Hwid a) = hardware_id a
-meaning_of (Other d) = other d
+meaning_of a = meaning_in enum.parts rows (enum.as_values a)
 
--- the table
-abbrev pub rows : List (Row Meaning)
-rows =
-    row OfErspan 1 (exactly byte) version
-    ∷ row OfErspan 2 (exactly be32) index
-    ∷ row OfErspan 3 (exactly byte) direction
-    ∷ row OfErspan 4 (exactly byte) hardware_id
-    ∷ []
-
--- where each meaning stands in it
-abbrev pub held_of : Meaning → Held
-held_of (version a) = held 1 (exactly byte) a
-held_of (index a) = held 2 (exactly be32) a
-held_of (direction a) = held 3 (exactly byte) a
-held_of (hardware_id a) = held 4 (exactly byte) a
-held_of (other x) = held_other x
-
-pub aligned : IsAligned rows held_of
-aligned = search rules
-
--- each meaning stands there
-pub placed : (m : Meaning) → IsPlaced other rows (held_of m) m
-placed (other x) = refl
-placed m = (omega arith, λ reads. (held_value (held_of m), reads, refl))
+-- by the number of its row: the option that has such a value
+abbrev pub option : (number : ℕ) → ValueIn enum.parts rows number → Meaning
+option number v = value_in enum.parts rows number v
 
 -- how each is written
 abbrev pub writing : Writing Meaning
-writing = writing_by held_of
+writing = writing_in enum.parts rows
 
 -- the family
 abbrev pub attributes : Reading writing
-attributes = table_family (table_of rows other held_of aligned (λ x. refl) placed)
+attributes = attributes_in enum.parts rows refl
 
 -- the value of an option, where it is of one kind
 abbrev pub version_of : Meaning → Option ℕ
-version_of (version n) = Some n
-version_of m = None
+version_of m = found_in enum.parts rows 1 m
 
 abbrev pub index_of : Meaning → Option ℕ
-index_of (index n) = Some n
-index_of m = None
+index_of m = found_in enum.parts rows 2 m
 
 abbrev pub direction_of : Meaning → Option ℕ
-direction_of (direction n) = Some n
-direction_of m = None
+direction_of m = found_in enum.parts rows 3 m
 
 abbrev pub hardware_id_of : Meaning → Option ℕ
-hardware_id_of (hardware_id n) = Some n
-hardware_id_of m = None
+hardware_id_of m = found_in enum.parts rows 4 m
 
 -- the last value of a kind in a list, or 0 where there is none
 abbrev pub last_of : (Meaning → Option ℕ) → List Meaning → ℕ

@@ -46,7 +46,7 @@ macro_rules! rows {
 }
 
 impl Nla for RouteIpTunnel {
-    ghost shape = { λ a. (writing 4).shape (meaning_of a) };
+    ghost shape = { λ a. writing.shape (meaning_of a) };
 
     fn kind(&self) -> u16 {
         rows!(kind_rows(self))
@@ -72,6 +72,7 @@ impl Attribute for RouteIpTunnel {
 
     ghost shape_is = { λ a. refl };
 
+    #[tactic(auto, unfolding(crate::specs::IpTunnel::attributes))]
     fn read_into<P: Place<Self>>(
         place: &mut P,
         alloc: Global,

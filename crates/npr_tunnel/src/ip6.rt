@@ -1,7 +1,7 @@
 //! Tunnels over IP version 6: `LWTUNNEL_IP6_*` of `linux/lwtunnel.h`.
 
 ghost use Rattle.std.specs.Prelude.{refl};
-ghost use Rattle.{npr_base.specs.Table.{family_of}, npr_tunnel.specs.IpTunnel.{meaning6_of, writing, attributes6, ip6_tunnel_text}};
+ghost use Rattle.{npr_base.specs.Table.{family_of}, npr_tunnel.specs.IpTunnel.{meaning6_of, writing6, attributes6, ip6_tunnel_text}};
 
 use crate::flags::{RouteIp6TunnelFlags, write_flags};
 use crate::ip_rows;
@@ -46,7 +46,7 @@ macro_rules! rows {
 }
 
 impl Nla for RouteIp6Tunnel {
-    ghost shape = { λ a. (writing 16).shape (meaning6_of a) };
+    ghost shape = { λ a. writing6.shape (meaning6_of a) };
 
     fn kind(&self) -> u16 {
         rows!(kind_rows(self))
@@ -72,6 +72,7 @@ impl Attribute for RouteIp6Tunnel {
 
     ghost shape_is = { λ a. refl };
 
+    #[tactic(auto, unfolding(crate::specs::IpTunnel::attributes6))]
     fn read_into<P: Place<Self>>(
         place: &mut P,
         alloc: Global,

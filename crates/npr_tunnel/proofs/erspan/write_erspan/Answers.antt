@@ -1,6 +1,7 @@
 use Rattle.std.proofs.Common.{◌<◌, length, sym, ap, ◌∙◌, arith}
-use Rattle.npr_tunnel.specs.ErspanOptions.{meaning_of, version, index, direction, hardware_id, other}
+use Rattle.npr_tunnel.specs.ErspanOptions.{meaning_of, option}
 use Rattle.npr_tunnel.specs.ErspanOptions.{version_of, index_of, direction_of, hardware_id_of}
+use Rattle.npr_tunnel.specs.declared.erspan.RouteErspanOpt.TheVariants.{Other}
 use Rattle.npr_tunnel.proofs.Texts.{last_of-more}
 use Rattle.npr_tunnel.proofs.erspan.write_erspan.Goals as goal
 use Rattle.npr_tunnel.proofs.erspan.write_erspan.Goals.{in-Ver, in-Index, in-Dir, in-Hwid, in-Other}
@@ -12,7 +13,7 @@ loop-option-preserved g c =
     let more = last_of-more c.args.options.now c.loop-option.option-index c.option-item.result inside c.option-item.is in
     elim c.match-option.branch [
       | in-Ver w ↦
-          let last = more (version w.in-Ver.x) (ap meaning_of w.in-Ver.is) in
+          let last = more (option 1 w.in-Ver.x) (ap meaning_of w.in-Ver.is) in
           record {
             version = w.version-is ∙ sym (last version_of);
             index = w.index-is ∙ before.index ∙ sym (last index_of);
@@ -20,7 +21,7 @@ loop-option-preserved g c =
             hardware_id = w.hardware_id-is ∙ before.hardware_id ∙ sym (last hardware_id_of);
           }
       | in-Index w ↦
-          let last = more (index w.in-Index.x) (ap meaning_of w.in-Index.is) in
+          let last = more (option 2 w.in-Index.x) (ap meaning_of w.in-Index.is) in
           record {
             version = w.version-is ∙ before.version ∙ sym (last version_of);
             index = w.index-is ∙ sym (last index_of);
@@ -28,7 +29,7 @@ loop-option-preserved g c =
             hardware_id = w.hardware_id-is ∙ before.hardware_id ∙ sym (last hardware_id_of);
           }
       | in-Dir w ↦
-          let last = more (direction w.in-Dir.x) (ap meaning_of w.in-Dir.is) in
+          let last = more (option 3 w.in-Dir.x) (ap meaning_of w.in-Dir.is) in
           record {
             version = w.version-is ∙ before.version ∙ sym (last version_of);
             index = w.index-is ∙ before.index ∙ sym (last index_of);
@@ -36,7 +37,7 @@ loop-option-preserved g c =
             hardware_id = w.hardware_id-is ∙ before.hardware_id ∙ sym (last hardware_id_of);
           }
       | in-Hwid w ↦
-          let last = more (hardware_id w.in-Hwid.x) (ap meaning_of w.in-Hwid.is) in
+          let last = more (option 4 w.in-Hwid.x) (ap meaning_of w.in-Hwid.is) in
           record {
             version = w.version-is ∙ before.version ∙ sym (last version_of);
             index = w.index-is ∙ before.index ∙ sym (last index_of);
@@ -44,7 +45,7 @@ loop-option-preserved g c =
             hardware_id = w.hardware_id-is ∙ sym (last hardware_id_of);
           }
       | in-Other w ↦
-          let last = more (other w.in-Other.field-0) (ap meaning_of w.in-Other.is) in
+          let last = more (meaning_of (Other w.in-Other.field-0)) (ap meaning_of w.in-Other.is) in
           record {
             version = w.version-is ∙ before.version ∙ sym (last version_of);
             index = w.index-is ∙ before.index ∙ sym (last index_of);
