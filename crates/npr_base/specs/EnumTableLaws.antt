@@ -8,15 +8,18 @@ use Rattle.std.specs.Prelude.{◌==◌, ◌&&◌, ◌⊎◌, not, if◌then◌el
 use Rattle.std.specs.Bool.{MatchBool, Decides}
 use Rattle.std.specs.Cmp.{first_so, second_so}
 use Rattle.std.proofs.lemmas.Bool.{eqb-true, eqb-false, ne_eqb, not-true}
-use Rattle.std.proofs.Common.{◌≡◌, ℕ, ◌+◌, ◌*◌, ◌<◌, ◌≤◌, ◌^◌, length, Bool, true, false, List, [], ◌∷◌, inl, inr, refl, sym, ap, subst, None, ◌∙◌, true≢false, arith}
+use Rattle.std.proofs.Common.{◌≡◌, ℕ, ◌+◌, ◌*◌, ◌<◌, ◌≤◌, ◌^◌, length, Bool, true, false, List, [], ◌∷◌, inl, inr, refl, sym, ap, subst, None, ◌∙◌}
+use Rattle.std.proofs.Common.{true≢false, arith}
 use Rattle.npr_base.specs.declared.refusal.DecodeError.{DecodeError}
 use Rattle.npr_base.specs.FitLaws.{misfit_of-none}
 use Rattle.npr_base.specs.Counts.{SawEach}
 use Rattle.npr_base.specs.Framing.{Item, framed, marked, number_of}
 use Rattle.npr_base.specs.Looks.{Looking}
-use Rattle.npr_base.specs.EnumTable.{VariantRows, kind_at, MeaningIn, meaning_in, other_in, row_in, rows_in, held_in, shape_in, has_number, numbered, ReadsIn, WrongIn, looks_in}
+use Rattle.npr_base.specs.EnumTable.{VariantRows, kind_at, MeaningIn, meaning_in, other_in, row_in, rows_in, held_in, shape_in, has_number, numbered}
+use Rattle.npr_base.specs.EnumTable.{ReadsIn, WrongIn, looks_in}
 use Rattle.npr_base.specs.Equality.{IsEqualityOf}
-use Rattle.npr_base.specs.Table.{Writing, Reading, Row, ReadsAt, WrongAt, Held, held_other, held_inside, held_kind, held_members, IsHeld, IsWritten, Aligned, Table}
+use Rattle.npr_base.specs.Table.{Writing, Reading, Row, ReadsAt, WrongAt, Held, held_other, held_inside, held_kind, held_members, IsHeld, IsWritten}
+use Rattle.npr_base.specs.Table.{Aligned, Table}
 use Rattle.npr_base.specs.Table.{has_row, item_of, plain_item, shape_at, table_with, unfit_as, written_as, writing_by}
 use Rattle.npr_base.specs.TableLaws.{table_family, marked-small, looks_of, looking_inside}
 use denote.Struct.Field.{Field}
