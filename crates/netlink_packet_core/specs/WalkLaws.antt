@@ -6,22 +6,12 @@ use Rattle.npr_base.specs.Equality.{IsEquality}
 use Rattle.npr_base.specs.StructLaws.{and_decides, decides_as}
 use Rattle.netlink_packet_core.specs.Envelope.{Envelope}
 use Rattle.netlink_packet_core.specs.Walk.{same_header, same_envelope}
-use Rattle.netlink_packet_core.specs.declared.header.NetlinkHeader.{NetlinkHeader}
 
 pub header_equality : IsEquality same_header
 header_equality a b =
     decides_as
-    (λ p. λ i. record { length = p.0 i; message_type = p.1.0 i; flags = p.1.1.0 i; sequence_number = p.1.1.1.0 i; port_number = p.1.1.1.1 i })
-    (λ e. (
-      ap (λ (h : NetlinkHeader). h.length) e,
-      (
-        ap (λ (h : NetlinkHeader). h.message_type) e,
-        (
-          ap (λ (h : NetlinkHeader). h.flags) e,
-          (ap (λ (h : NetlinkHeader). h.sequence_number) e, ap (λ (h : NetlinkHeader). h.port_number) e),
-        ),
-      ),
-    ))
+    (λ (length, (message_type, (flags, (sequence_number, port_number)))). λ i. record { length = length i; message_type = message_type i; flags = flags i; sequence_number = sequence_number i; port_number = port_number i })
+    (λ e. (cc, (cc, (cc, (cc, cc)))))
     (and_decides (unsigned_Decides a.length b.length)
     (and_decides (unsigned_Decides a.message_type b.message_type)
     (and_decides (unsigned_Decides a.flags b.flags)

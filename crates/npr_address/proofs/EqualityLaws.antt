@@ -1,5 +1,5 @@
 -- What `==` answers of attributes and messages: whether they mean the same.
-use Rattle.std.proofs.Common.{rules, ap}
+use Rattle.std.proofs.Common.{rules}
 use Rattle.npr_base.specs.Equality.{IsEquality, IsEqualityOf}
 use Rattle.npr_base.specs.ViewEquality.{item_equality}
 use Rattle.npr_base.specs.IpLaws.{ip_equality, ipv4_equality, ipv6_equality}
@@ -9,7 +9,6 @@ use Rattle.npr_base.specs.MeaningLaws.{text_equality}
 use Rattle.npr_base.specs.StructLaws.{and_decides, decides_as}
 use Rattle.npr_base.specs.AddressFamilyLaws.{family_equality}
 use Rattle.std.specs.Cmp.{unsigned_Decides, signed_Decides}
-use Rattle.npr_address.specs.declared.header.AddressHeader.{AddressHeader}
 use Rattle.npr_address.specs.contracts.addr_protocol.AddressProtocolPartialEq.TheImpl as ProtocolEq
 use Rattle.npr_address.specs.Attribute.{meaning_of, rows}
 use Rattle.npr_address.specs.contracts.attribute.AddressAttribute.{enum}
@@ -38,8 +37,8 @@ scope_equality = search rules
 pub header_equality : IsEquality HeaderEq.ghosts.eq
 header_equality a b =
     decides_as
-    (λ p. λ i. record { family = p.0 i; prefix_len = p.1.0 i; flags = p.1.1.0 i; scope = p.1.1.1.0 i; index = p.1.1.1.1 i })
-    (λ e. (ap (λ (h : AddressHeader). h.family) e, (ap (λ (h : AddressHeader). h.prefix_len) e, (ap (λ (h : AddressHeader). h.flags) e, (ap (λ (h : AddressHeader). h.scope) e, ap (λ (h : AddressHeader). h.index) e)))))
+    (λ (family, (prefix_len, (flags, (scope, index)))). λ i. record { family = family i; prefix_len = prefix_len i; flags = flags i; scope = scope i; index = index i })
+    (λ e. (cc, (cc, (cc, (cc, cc)))))
     (and_decides (family_equality a.family b.family)
     (and_decides (unsigned_Decides a.prefix_len b.prefix_len)
     (and_decides (header_flags_equality a.flags b.flags)

@@ -1,7 +1,7 @@
 -- What `==` answers of addresses, attributes and messages: whether they mean the same.
 use Rattle.std.specs.Prelude.{ℕ}
 use Rattle.std.specs.Cmp.{signed_Decides, unsigned_Decides}
-use Rattle.std.proofs.Common.{refl, rules, ap}
+use Rattle.std.proofs.Common.{refl, rules}
 use Rattle.npr_base.specs.AddressFamilyLaws.{family_equality}
 use Rattle.npr_base.specs.Equality.{IsEquality, IsEqualityOf}
 use Rattle.npr_base.specs.IpLaws.{ipv4_equality, ipv6_equality}
@@ -22,7 +22,6 @@ use Rattle.npr_neighbour.specs.contracts.flags.NeighbourExtendedFlagsPartialEq.T
 use Rattle.npr_neighbour.specs.contracts.flags.NeighbourFlagsPartialEq.TheImpl as FlagsEq
 use Rattle.npr_neighbour.specs.contracts.header.NeighbourHeaderPartialEq.TheImpl as HeaderEq
 use Rattle.npr_neighbour.specs.contracts.state.NeighbourStatePartialEq.TheImpl as StateEq
-use Rattle.npr_neighbour.specs.declared.header.NeighbourHeader.{NeighbourHeader}
 
 -- the places of the variants
 address_order : A.Address → ℕ
@@ -53,8 +52,8 @@ state_equality = search rules
 pub header_equality : IsEquality HeaderEq.ghosts.eq
 header_equality a b =
     decides_as
-    (λ p. λ i. record { family = p.0 i; ifindex = p.1.0 i; state = p.1.1.0 i; flags = p.1.1.1.0 i; kind = p.1.1.1.1 i })
-    (λ e. (ap (λ (h : NeighbourHeader). h.family) e, (ap (λ (h : NeighbourHeader). h.ifindex) e, (ap (λ (h : NeighbourHeader). h.state) e, (ap (λ (h : NeighbourHeader). h.flags) e, ap (λ (h : NeighbourHeader). h.kind) e)))))
+    (λ (family, (ifindex, (state, (flags, kind)))). λ i. record { family = family i; ifindex = ifindex i; state = state i; flags = flags i; kind = kind i })
+    (λ e. (cc, (cc, (cc, (cc, cc)))))
     (and_decides (family_equality a.family b.family)
     (and_decides (signed_Decides a.ifindex b.ifindex)
     (and_decides (state_equality a.state b.state)

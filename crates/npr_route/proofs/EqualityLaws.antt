@@ -34,7 +34,6 @@ use Rattle.npr_route.specs.contracts.next_hops.RouteNextHopPartialEq.TheImpl.Law
 use Rattle.npr_route.specs.declared.attribute.RouteAttribute.{RouteAttribute, out-RouteAttribute}
 use Rattle.npr_route.specs.declared.attribute.RouteAttribute.TheFolds.{map-RouteAttribute, fold_out-RouteAttribute}
 use Rattle.npr_route.specs.declared.attribute.RouteAttribute.TheVariants.{MultiPath}
-use Rattle.npr_route.specs.declared.header.RouteHeader.{RouteHeader}
 use Rattle.npr_route.specs.declared.next_hops.RouteNextHop.{RouteNextHop}
 use Rattle.npr_route.proofs.Views.{view_hop, view_multi_path}
 use denote.Hole.Carrier
@@ -42,8 +41,8 @@ use denote.Hole.Carrier
 pub header_equality : IsEquality HeaderEq.ghosts.eq
 header_equality a b =
     decides_as
-    (λ p. λ i. record { address_family = p.0 i; destination_prefix_length = p.1.0 i; source_prefix_length = p.1.1.0 i; tos = p.1.1.1.0 i; table = p.1.1.1.1.0 i; protocol = p.1.1.1.1.1.0 i; scope = p.1.1.1.1.1.1.0 i; kind = p.1.1.1.1.1.1.1.0 i; flags = p.1.1.1.1.1.1.1.1 i })
-    (λ e. (ap (λ (h : RouteHeader). h.address_family) e, (ap (λ (h : RouteHeader). h.destination_prefix_length) e, (ap (λ (h : RouteHeader). h.source_prefix_length) e, (ap (λ (h : RouteHeader). h.tos) e, (ap (λ (h : RouteHeader). h.table) e, (ap (λ (h : RouteHeader). h.protocol) e, (ap (λ (h : RouteHeader). h.scope) e, (ap (λ (h : RouteHeader). h.kind) e, ap (λ (h : RouteHeader). h.flags) e)))))))))
+    (λ (family, (destination, (source, (tos, (table, (protocol, (scope, (kind, flags)))))))). λ i. record { address_family = family i; destination_prefix_length = destination i; source_prefix_length = source i; tos = tos i; table = table i; protocol = protocol i; scope = scope i; kind = kind i; flags = flags i })
+    (λ e. (cc, (cc, (cc, (cc, (cc, (cc, (cc, (cc, cc)))))))))
     (and_decides (family_equality a.address_family b.address_family)
     (and_decides (unsigned_Decides a.destination_prefix_length b.destination_prefix_length)
     (and_decides (unsigned_Decides a.source_prefix_length b.source_prefix_length)
@@ -187,7 +186,7 @@ hop_layer g h inside =
     let r = view_hop h in
     let fields =
     decides_as
-    (λ f. λ i. record { head = record { flags = f.0 i; hops = f.1.0 i; interface_index = f.1.1.0 i }; attributes = f.1.1.1 i })
+    (λ (flags, (hops, (interface, attributes))). λ i. record { head = record { flags = flags i; hops = hops i; interface_index = interface i }; attributes = attributes i })
     (λ e. (ap (λ (k : Hop). k.head.flags) e, (ap (λ (k : Hop). k.head.hops) e, (ap (λ (k : Hop). k.head.interface_index) e, ap (λ (k : Hop). k.attributes) e))))
     (and_decides (unsigned_Decides g.flags.0 h.flags.0)
     (and_decides (unsigned_Decides g.hops h.hops) (and_decides (unsigned_Decides g.interface_index h.interface_index) inside))) in

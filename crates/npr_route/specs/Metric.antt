@@ -50,5 +50,5 @@ pub shape_is : (a : RouteMetric) → shape_of a ≡ writing.shape (metric_of a)
 shape_is a = shape-in enum.parts rows (enum.as_values a)
 
 -- the family
-abbrev pub metrics : Reading writing
+unfoldable pub metrics : Reading writing
 metrics = attributes_in enum.parts rows refl

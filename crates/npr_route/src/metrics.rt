@@ -98,6 +98,7 @@ impl Attribute for RouteMetric {
 
     ghost shape_is = { shape_is };
 
+    #[tactic(auto, unfolding(crate::specs::Metric::metrics))]
     fn read_into<P: Place<Self>>(
         place: &mut P,
         alloc: Global,

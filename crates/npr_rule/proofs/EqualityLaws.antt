@@ -1,6 +1,6 @@
 -- What `==` answers of attributes and messages: whether they mean the same.
 use Rattle.std.specs.Cmp.{booleans_Decides, unsigned_Decides}
-use Rattle.std.proofs.Common.{rules, ap}
+use Rattle.std.proofs.Common.{rules}
 use Rattle.npr_base.specs.AddressFamilyLaws.{family_equality}
 use Rattle.npr_base.specs.Equality.{IsEquality, IsEqualityOf}
 use Rattle.npr_base.specs.ViewEquality.{item_equality}
@@ -18,7 +18,6 @@ use Rattle.npr_rule.specs.contracts.flags.RuleFlagsPartialEq.TheImpl as FlagsEq
 use Rattle.npr_rule.specs.contracts.header.RuleHeaderPartialEq.TheImpl as HeaderEq
 use Rattle.npr_rule.specs.contracts.port_range.RulePortRangePartialEq.TheImpl as PortEq
 use Rattle.npr_rule.specs.contracts.uid_range.RuleUidRangePartialEq.TheImpl as UidEq
-use Rattle.npr_rule.specs.declared.header.RuleHeader.{RuleHeader}
 
 port_equality : IsEquality PortEq.ghosts.eq
 port_equality = search rules
@@ -35,8 +34,8 @@ action_equality = search rules
 pub header_equality : IsEquality HeaderEq.ghosts.eq
 header_equality a b =
     decides_as
-    (λ p. λ i. record { family = p.0 i; dst_len = p.1.0 i; src_len = p.1.1.0 i; tos = p.1.1.1.0 i; table = p.1.1.1.1.0 i; action = p.1.1.1.1.1.0 i; flags = p.1.1.1.1.1.1 i })
-    (λ e. (ap (λ (h : RuleHeader). h.family) e, (ap (λ (h : RuleHeader). h.dst_len) e, (ap (λ (h : RuleHeader). h.src_len) e, (ap (λ (h : RuleHeader). h.tos) e, (ap (λ (h : RuleHeader). h.table) e, (ap (λ (h : RuleHeader). h.action) e, ap (λ (h : RuleHeader). h.flags) e)))))))
+    (λ (family, (dst_len, (src_len, (tos, (table, (action, flags)))))). λ i. record { family = family i; dst_len = dst_len i; src_len = src_len i; tos = tos i; table = table i; action = action i; flags = flags i })
+    (λ e. (cc, (cc, (cc, (cc, (cc, (cc, cc)))))))
     (and_decides (family_equality a.family b.family)
     (and_decides (unsigned_Decides a.dst_len b.dst_len)
     (and_decides (unsigned_Decides a.src_len b.src_len)

@@ -67,10 +67,12 @@ member-again (inl h) = λ i. inl (header-again h i)
 member-again (inr m) = refl
 
 pub member-read : (by : ModeTable) (x : Item) (m : Meaning) → (attributes_by by).Reads x m → attributes.Reads x (normalized m)
+unfolding attributes_by
 member-read by x (inl h) p = matches (number_of x.kind == 1) (header-read by x.value h) (λ none. none) p
 member-read by x (inr m) p = p
 
 pub member-coherent : (by : ModeTable) (m : Meaning) → (attributes_by by).Coherent m → attributes.Coherent (normalized m)
+unfolding attributes_by
 member-coherent by (inl h) c = header-holds by h c
 member-coherent by (inr (inl a)) c = c
 member-coherent by (inr (inr (inl n))) c = c

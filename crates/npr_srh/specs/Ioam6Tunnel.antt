@@ -54,7 +54,7 @@ pub here : IsRowOf (attributes_in enum.parts rows refl) 3 trace
 here x m e p = let r = rows-read enum.parts rows x m p in let q = rw e at r in (q.0, q.1)
 
 -- the family: where the trace can't be read, the attribute is kept
-abbrev pub attributes : Reading writing
+unfoldable pub attributes : Reading writing
 attributes = keeping_in enum.parts rows refl 3 trace here (λ x old new looks. looks)
 
 -- the text of a member

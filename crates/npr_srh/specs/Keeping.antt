@@ -16,9 +16,14 @@ pub record IsUnread {V : Type 0} (Reads : List ℕ → V → Type 0) (bytes : Li
   pub no : (v : V) → Reads bytes v → ⊥
 
 -- the attribute has the row's number, and its value means nothing there
-pub record IsUnreadable {V : Type 0} (row : ℕ) (codec : Codec V) (x : Item) : Type 0 where
+pub record IsUnreadable {V : Type 0} (row : ℕ) (Reads : List ℕ → V → Type 0) (x : Item) : Type 0 where
   pub number : number_of x.kind ≡ row
-  pub unread : IsUnread codec.Reads x.value
+  pub unread : IsUnread Reads x.value
+
+-- it is kept for that, as `other`
+pub record IsKept {M V : Type 0} (other : Item → M) (row : ℕ) (Reads : List ℕ → V → Type 0) (x : Item) (m : M) : Type 0 where
+  pub unreadable : IsUnreadable row Reads x
+  pub is : m ≡ other x
 
 -- an attribute that is kept as it stands, is written so and has none inside
 pub record IsAlone {M : Type 0} (w : Writing M) (other : Item → M) : Type 0 where
@@ -35,17 +40,15 @@ IsQuiet f = (x : Item) (old new : Counts) → f.looks.Takes x old new → new �
 
 -- the family f, in which attributes of the row are kept as `other` where its codec does not read them
 module _ {M V : Type 0} {w : Writing M} (f : Reading w) (other : Item → M) (row : ℕ) (codec : Codec V) where
-  -- it is kept for that
-  pub record IsKept (x : Item) (m : M) : Type 0 where
-    pub unreadable : IsUnreadable row codec x
-    pub is : m ≡ other x
+  abbrev IsKeptHere : Item → M → Type 0
+  IsKeptHere x m = IsKept other row codec.Reads x m
 
   -- what can be read: by the family, or kept
   abbrev pub CoherentOrKept : M → Type 0
-  CoherentOrKept m = f.Coherent m ⊎ ((x : Item) × Proper x × IsKept x m)
+  CoherentOrKept m = f.Coherent m ⊎ ((x : Item) × Proper x × IsKeptHere x m)
 
   abbrev pub ReadsOrKept : Item → M → Type 0
-  ReadsOrKept x m = f.Reads x m ⊎ IsKept x m
+  ReadsOrKept x m = f.Reads x m ⊎ IsKeptHere x m
 
   pub keeping-one : IsRowOf f row codec → (x : Item) (m n : M) → ReadsOrKept x m → ReadsOrKept x n → m ≡ n
   keeping-one here x m n (inl p) (inl q) = f.one_reading x m n p q
@@ -53,7 +56,7 @@ module _ {M V : Type 0} {w : Writing M} (f : Reading w) (other : Item → M) (ro
   keeping-one here x m n (inr p) (inl q) = let v = here x n p.unreadable.number q in absurd (p.unreadable.unread.no v.0 v.1)
   keeping-one here x m n (inr p) (inr q) = p.is ∙ sym q.is
 
-  pub keeping-sound : (x : Item) (m : M) (e : DecodeError) → ReadsOrKept x m → f.Faulty x e × (IsUnreadable row codec x → ⊥) → ⊥
+  pub keeping-sound : (x : Item) (m : M) (e : DecodeError) → ReadsOrKept x m → f.Faulty x e × (IsUnreadable row codec.Reads x → ⊥) → ⊥
   keeping-sound x m e (inl p) q = f.no_fault x m e p q.0
   keeping-sound x m e (inr p) q = q.1 p.unreadable
 
@@ -71,7 +74,7 @@ module _ {M V : Type 0} {w : Writing M} (f : Reading w) (other : Item → M) (ro
 
     pub keeping-back : (m : M) → CoherentOrKept m → unfit_by w m ≡ None → ReadsOrKept (written_by w m) m
     keeping-back m (inl c) fits = inl (f.reads_back m c fits)
-    keeping-back m (inr (x, proper, k)) fits = inr (subst (λ (y : Item). IsKept y m) (sym (kept-is x m k.is)) k)
+    keeping-back m (inr (x, proper, k)) fits = inr (subst (λ (y : Item). IsKeptHere y m) (sym (kept-is x m k.is)) k)
 
     pub keeping-grows : (x : Item) (m : M) → Proper x → ReadsOrKept x m → 2 * framed (length (written_by w m).value) ≤ 5 * (4 + length x.value)
     keeping-grows x m proper (inl p) = f.grows x m proper p
@@ -86,7 +89,7 @@ module _ {M V : Type 0} {w : Writing M} (f : Reading w) (other : Item → M) (ro
     abbrev pub keeping : IsRowOf f row codec → IsQuiet f → Reading w
     keeping here quiet = record {
       Reads = ReadsOrKept;
-      Faulty = λ x e. f.Faulty x e × (IsUnreadable row codec x → ⊥);
+      Faulty = λ x e. f.Faulty x e × (IsUnreadable row codec.Reads x → ⊥);
       looks = f.looks;
       Coherent = CoherentOrKept;
       one_reading = keeping-one here;

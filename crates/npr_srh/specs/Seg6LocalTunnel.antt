@@ -57,7 +57,7 @@ pub here : IsRowOf (attributes_in enum.parts rows refl) 2 local
 here x m e p = let r = rows-read enum.parts rows x m p in let q = rw e at r in (q.0, q.1)
 
 -- the family: where the routing header can't be read, the attribute is kept
-abbrev pub attributes : Reading writing
+unfoldable pub attributes : Reading writing
 attributes = keeping_in enum.parts rows refl 2 local here (λ x old new looks. looks)
 
 -- the text of a member

@@ -48,7 +48,7 @@ members by (inl h) = refl
 members by (inr m) = refl
 
 -- the family, by a table of modes and by that of today
-abbrev pub attributes_by : ModeTable → Reading writing
+unfoldable pub attributes_by : ModeTable → Reading writing
 attributes_by by = rewritten (attributes_in enum.parts (rows by) refl) writing (shapes by) (members by)
 
 abbrev pub attributes : Reading writing

@@ -219,6 +219,7 @@ impl Attribute for RouteIoam6Tunnel {
 
     ghost shape_is = { λ a. refl };
 
+    #[tactic(auto, unfolding(crate::specs::Ioam6Tunnel::attributes))]
     fn read_into<P: Place<Self>>(
         place: &mut P,
         alloc: Global,

@@ -197,6 +197,7 @@ impl Attribute for RouteRplIpTunnel {
 
     ghost shape_is = { λ a. refl };
 
+    #[tactic(auto, unfolding(crate::specs::RplTunnel::attributes))]
     fn read_into<P: Place<Self>>(
         place: &mut P,
         alloc: Global,

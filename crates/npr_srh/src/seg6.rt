@@ -59,6 +59,7 @@ impl Attribute for RouteSeg6IpTunnel {
 
     ghost shape_is = { λ a. refl };
 
+    #[tactic(auto, unfolding(crate::specs::Seg6Tunnel::attributes_by))]
     fn read_into<P: Place<Self>>(
         place: &mut P,
         alloc: Global,

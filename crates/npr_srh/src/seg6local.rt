@@ -82,6 +82,7 @@ impl Attribute for RouteSeg6LocalTunnel {
 
     ghost shape_is = { λ a. refl };
 
+    #[tactic(auto, unfolding(crate::specs::Seg6LocalTunnel::attributes))]
     fn read_into<P: Place<Self>>(
         place: &mut P,
         alloc: Global,

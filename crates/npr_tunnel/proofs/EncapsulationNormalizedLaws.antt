@@ -24,10 +24,12 @@ member-again m = refl
 
 pub member-read : (by : ModeTable) (type : RouteLwEnCapType) (x : Item) (m : Meaning) → (encapsulation_by by type).Reads x m
     → (encapsulation type).Reads x (normalized m)
+unfolding encapsulation_by
 member-read by Seg6 x m p = (OfSeg6.normalized p.0, OfSeg6Laws.member-read by x p.0 p.1, ap normalized p.2)
 member-read by type x m p = (p.0, p.1, ap normalized p.2)
 
 pub member-coherent : (by : ModeTable) (type : RouteLwEnCapType) (m : Meaning) → (encapsulation_by by type).Coherent m
     → (encapsulation type).Coherent (normalized m)
+unfolding encapsulation_by
 member-coherent by Seg6 m c = (OfSeg6.normalized c.0, OfSeg6Laws.member-coherent by c.0 c.1, ap normalized c.2)
 member-coherent by type m c = (c.0, c.1, ap normalized c.2)

@@ -58,7 +58,7 @@ abbrev pub writing : Writing Meaning
 writing = writing_by held_of
 
 -- the family of a type, by a table of SEG6 modes
-abbrev pub encapsulation_by : ModeTable → RouteLwEnCapType → Reading writing
+unfoldable pub encapsulation_by : ModeTable → RouteLwEnCapType → Reading writing
 encapsulation_by by Mpls = wrapped OfMpls.attributes mpls writing (λ m. refl) (λ m. refl)
 encapsulation_by by Seg6 = wrapped (OfSeg6.attributes_by by) seg6 writing (λ m. refl) (λ m. refl)
 encapsulation_by by Ip = wrapped OfIp.attributes ip writing (λ m. refl) (λ m. refl)

@@ -32,5 +32,5 @@ abbrev pub writing : Writing Meaning
 writing = writing_by held_of
 
 -- the family
-abbrev pub attributes : Reading writing
+unfoldable pub attributes : Reading writing
 attributes = attributes_in enum.parts rows refl

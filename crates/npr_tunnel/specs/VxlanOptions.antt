@@ -29,7 +29,7 @@ abbrev pub writing : Writing Meaning
 writing = writing_in enum.parts rows
 
 -- the family
-abbrev pub attributes : Reading writing
+unfoldable pub attributes : Reading writing
 attributes = attributes_in enum.parts rows refl
 
 -- the text of an option

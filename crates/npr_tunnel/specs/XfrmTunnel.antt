@@ -35,7 +35,7 @@ abbrev pub writing : Writing Meaning
 writing = writing_by held_of
 
 -- the family
-abbrev pub attributes : Reading writing
+unfoldable pub attributes : Reading writing
 attributes = attributes_in enum.parts rows refl
 
 -- the text of a member

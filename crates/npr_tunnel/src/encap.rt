@@ -122,6 +122,7 @@ impl Attribute for RouteLwTunnelEncap {
 
     ghost shape_is = { λ a. refl };
 
+    #[tactic(auto, unfolding(crate::specs::Encapsulation::encapsulation_by))]
     fn read_into<P: Place<Self>>(
         place: &mut P,
         alloc: Global,

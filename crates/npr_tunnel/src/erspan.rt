@@ -61,6 +61,7 @@ impl Attribute for RouteErspanOpt {
 
     ghost shape_is = { λ a. refl };
 
+    #[tactic(auto, unfolding(crate::specs::ErspanOptions::attributes))]
     fn read_into<P: Place<Self>>(
         place: &mut P,
         alloc: Global,

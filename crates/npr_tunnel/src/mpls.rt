@@ -56,6 +56,7 @@ impl Attribute for RouteMplsIpTunnel {
 
     ghost shape_is = { λ a. refl };
 
+    #[tactic(auto, unfolding(crate::specs::MplsTunnel::attributes))]
     fn read_into<P: Place<Self>>(
         place: &mut P,
         alloc: Global,

@@ -63,6 +63,7 @@ impl Attribute for RouteLwTunnelOpt {
 
     ghost shape_is = { λ a. refl };
 
+    #[tactic(auto, unfolding(crate::specs::TunnelOptions::attributes))]
     fn read_into<P: Place<Self>>(
         place: &mut P,
         alloc: Global,

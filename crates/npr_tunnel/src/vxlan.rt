@@ -52,6 +52,7 @@ impl Attribute for RouteVxlanOpt {
 
     ghost shape_is = { λ a. refl };
 
+    #[tactic(auto, unfolding(crate::specs::VxlanOptions::attributes))]
     fn read_into<P: Place<Self>>(
         place: &mut P,
         alloc: Global,
