@@ -1,7 +1,7 @@
 -- What the examples find in address messages, and what they build.
 use Rattle.std.specs.Prelude.{ℕ, List, [], ◌∷◌, ◌++◌, Option, Some, None, codes}
 use Rattle.netlink_packet_route.specs.AddressAttribute.{attribute}
-use Rattle.netlink_packet_route.specs.AddressFlags.{header_flags_of}
+use Rattle.netlink_packet_route.specs.AddressFlags.{header_flag_bits}
 use Rattle.netlink_packet_route.specs.AddressMessage.{Address}
 use Rattle.netlink_packet_route.specs.declared.AddressFamily.TheVariants.{Inet}
 use Rattle.netlink_packet_route.specs.declared.address.AddressAttribute.{AddressAttribute}
@@ -17,7 +17,7 @@ local_ipv4 a = None
 
 -- 127.0.0.1 with a prefix of 8 bits, on the interface 1, under the label lo
 abbrev pub loopback_header : AddressHeader
-loopback_header = record { family = Inet; prefix_len = 8; flags = header_flags_of 0x80; scope = Host; index = 1 }
+loopback_header = record { family = Inet; prefix_len = 8; flags = header_flag_bits.of 0x80; scope = Host; index = 1 }
 
 abbrev pub loopback_octets : List ℕ
 loopback_octets = 127 ∷ 0 ∷ 0 ∷ 1 ∷ []

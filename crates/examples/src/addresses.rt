@@ -4,7 +4,7 @@ ghost use Rattle.std.specs.{Prelude.{◌≡◌, ◌≢◌, ◌==◌, None, Some,
 ghost use Rattle.{
   examples.specs.{Addresses.{local_ipv4, loopback, loopback_written, with_priority}, declared.fault.Fault.TheVariants.{Refused, Unfit}},
   netlink_packet_route.specs.{
-    AddressFlags.{header_flags_bits},
+    AddressFlags.{header_flag_bits},
     AddressMessage.{Address, AddressMessage, IsAddressMessage, AddressFault, address_bytes, address_misfit, message_of},
     Found.{IsFirst},
     declared.framing.{DecodeError.{DecodeError, TheVariants.{OutOfMemory}}, EmitError.{EmitError}},
@@ -52,7 +52,7 @@ fn local_ipv4(attribute: &AddressAttribute) -> Option<Ipv4Addr>
 
 /// Whether the header calls the address permanent (`IFA_F_PERMANENT`).
 pub fn is_permanent(message: &AddressMessage) -> bool
-    ensures { result ≡ (bit_and (header_flags_bits message.now.header.flags) 0x80 == 0x80) }
+    ensures { result ≡ (bit_and (header_flag_bits.number message.now.header.flags) 0x80 == 0x80) }
 {
     message.header.flags.contains(AddressHeaderFlags::Permanent)
 }

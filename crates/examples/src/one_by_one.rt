@@ -3,7 +3,7 @@
 ghost use Rattle.std.specs.Prelude.{◌≡◌, ◌≢◌, IfOk, IfErr};
 ghost use Rattle.{
   netlink_packet_route.specs.{
-    AddressAttribute.{meaning_of},
+    AddressAttribute.{family},
     AddressMessage.{Address, IsAddressMessage, AddressFault},
     declared.framing.DecodeError.TheVariants.{OutOfMemory},
   },
@@ -33,7 +33,7 @@ pub fn read_priority(alloc: Global, bytes: &[u8]) -> Result<Option<u32>, DecodeE
 
 /// The metric, where the attribute is one.
 fn priority(attribute: AddressAttribute) -> Option<u32>
-    ensures { result ≡ priority_of (meaning_of attribute) }
+    ensures { result ≡ priority_of (family.meaning attribute) }
 {
     match attribute {
         AddressAttribute::RoutePriority(priority) => Some(priority),

@@ -8,7 +8,7 @@ use Rattle.std.specs.declared.num.NonZeroI32.{NonZeroI32}
 use Rattle.std.proofs.Common.{refl, sym, ap, subst, arith, true≢false}
 use Rattle.npr_base.specs.Equality.{IsEqualityOf}
 use Rattle.npr_base.specs.EnumTable.{◌also◌}
-use Rattle.npr_base.specs.EnumTableLaws.{enum_decides, of_field}
+use Rattle.npr_base.specs.EnumTableLaws.{enum_decides}
 use Rattle.npr_base.specs.MeaningLaws.{enum_meaning, one_meaning, text_equality, items_equality}
 use Rattle.npr_base.specs.StructLaws.{and_decides, decides_as}
 use Rattle.npr_base.specs.ViewEquality.{item_equality}
@@ -27,17 +27,9 @@ use Rattle.std.specs.declared.cmp.PartialEq.{Ghosts as PartialEqGhosts}
 use denote.RattleType.{RattleType}
 use mir.Syntax.{Dict}
 
-pub attribute_equality : IsEqualityOf OfAttribute.meaning_of AttributeEq.ghosts.eq
+pub attribute_equality : IsEqualityOf OfAttribute.family.meaning AttributeEq.ghosts.eq
 attribute_equality =
-    enum_decides attribute_enum OfAttribute.rows _
-    (of_field text_equality
-    also of_field unsigned_Decides
-    also of_field (items_equality unsigned_Decides)
-    also of_field (items_equality unsigned_Decides)
-    also of_field unsigned_Decides
-    also of_field unsigned_Decides
-    also of_field item_equality
-    also tt)
+    enum_decides attribute_enum OfAttribute.rows _ (search (text_equality, unsigned_Decides, items_equality, item_equality) depth 40)
 
 -- a code and the bytes behind it
 abbrev pair : ℤ → List ℕ → ℤ × List ℕ

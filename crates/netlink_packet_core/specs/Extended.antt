@@ -6,11 +6,11 @@ use Rattle.npr_base.specs.declared.refusal.DecodeError.{DecodeError}
 use Rattle.npr_base.specs.Framing.{Item, Front, Passes, Fault, number_of, pad}
 use Rattle.npr_base.specs.Layout.{le32}
 use Rattle.npr_base.specs.Codec.{exactly, raw}
-use Rattle.npr_base.specs.EnumTable.{VariantRows, row, others, ◌also◌, value, text, items, MeaningIn, meaning_in}
-use Rattle.npr_base.specs.EnumTableLaws.{writing_in, attributes_in}
+use Rattle.npr_base.specs.EnumTable.{VariantRows, row, others, ◌also◌, value, text, items}
+use Rattle.npr_base.specs.EnumTableLaws.{writing_in, attributes_in, family_in}
 use Rattle.npr_base.specs.Name.{name}
 use Rattle.npr_base.specs.NameLaws.{IsUnterminated}
-use Rattle.npr_base.specs.Table.{Writing, Reading}
+use Rattle.npr_base.specs.Table.{Reading, Family}
 use Rattle.netlink_packet_core.specs.Header.{header}
 use Rattle.netlink_packet_core.specs.contracts.extended.ErrorAttribute.{enum}
 use Rattle.netlink_packet_core.specs.declared.extended.ErrorAttribute.{ErrorAttribute}
@@ -48,20 +48,12 @@ rows =
     also row Value 6 (exactly le32) value  -- NLMSGERR_ATTR_MISS_NEST
     also others value
 
--- what an attribute is, without where it lies in memory
-abbrev pub Meaning : Type 0
-Meaning = MeaningIn enum.parts rows
-
-abbrev pub meaning_of : ErrorAttribute → Meaning
-meaning_of a = meaning_in enum.parts rows (enum.as_values a)
-
--- how each is written
-abbrev pub writing : Writing Meaning
-writing = writing_in enum.parts rows
-
 -- the family
-abbrev pub attributes : Reading writing
+abbrev pub attributes : Reading (writing_in enum.parts rows)
 attributes = attributes_in enum.parts rows refl
+
+abbrev pub family : Family ErrorAttribute (Unit {0})
+family = family_in enum rows (λ c. attributes)
 
 -- no text of the kernel
 abbrev pub IsNoText : Item → Type 0

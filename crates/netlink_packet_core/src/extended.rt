@@ -2,8 +2,8 @@
 
 ghost use Rattle.std.specs.Prelude.{◌≡◌, ◌<◌, ◌^◌, length, option_map, refl};
 ghost use Rattle.{
-  netlink_packet_core.specs.Extended.{meaning_of, writing, attributes, has_flag, refused_length, refused_message, error_attributes, done_attributes, IsFirstText},
-  npr_base.specs.{NameLaws.{IsUnterminated}, Table.{family_of}},
+  netlink_packet_core.specs.Extended.{family, has_flag, refused_length, refused_message, error_attributes, done_attributes, IsFirstText},
+  npr_base.specs.{NameLaws.{IsUnterminated}, Table.{shaped}},
 };
 
 use crate::constants::{NETLINK_HEADER_LEN, NLM_F_ACK_TLVS, NLM_F_CAPPED, NLMSG_ALIGNTO};
@@ -48,7 +48,7 @@ macro_rules! rows {
 }
 
 impl Nla for ErrorAttribute {
-    ghost shape = { λ a. writing.shape (meaning_of a) };
+    ghost shape = { shaped family };
 
     fn kind(&self) -> u16 {
         rows!(kind_rows(self))
@@ -70,7 +70,7 @@ impl Nla for ErrorAttribute {
 impl Attribute for ErrorAttribute {
     type Context = ();
 
-    ghost family = { family_of meaning_of (λ _. attributes) };
+    ghost family = { family };
 
     ghost shape_is = { λ a. refl };
 

@@ -8,7 +8,7 @@ ghost use Rattle.{
     Conversation.{Talk, TalksOver, Stand, event_of, said, after, answers, kept, is_end},
     declared.{conversation.Answer.{Answer}, refusal.EnvelopeError.{EnvelopeError}},
     Envelope.{Envelope, IsDatagram, EnvelopeStops, Place},
-    Extended.{meaning_of as attribute_of},
+    Extended.{family as attribute},
     Header.{default_header},
     Payload.{payload_of, error_of, done_of},
     Message.{Meant, message_of, IsNetlinkMessage, NetlinkFault, IsCoherentMessage, netlink_misfit, message_bytes, envelope_of, finalized},
@@ -122,7 +122,7 @@ pub fn law_equality()
     ensures header { IsEquality ⟦<NetlinkHeader as PartialEq>⟧.eq }
     ensures buffer { IsEquality ⟦<NetlinkBuffer<'static> as PartialEq>⟧.eq }
     ensures refusal { IsEquality ⟦<EnvelopeError as PartialEq>⟧.eq }
-    ensures attribute { IsEqualityOf attribute_of ⟦<ErrorAttribute as PartialEq>⟧.eq }
+    ensures attribute { IsEqualityOf attribute.meaning ⟦<ErrorAttribute as PartialEq>⟧.eq }
     ensures error { IsEqualityOf error_of ⟦<ErrorMessage as PartialEq>⟧.eq }
     ensures done { IsEqualityOf done_of ⟦<DoneMessage as PartialEq>⟧.eq }
 {}

@@ -5,8 +5,11 @@ use Rattle.std.proofs.Common.{ap}
 use Rattle.npr_base.specs.Equality.{IsEqualityOf}
 use Rattle.npr_base.specs.MeaningLaws.{items_equality}
 use Rattle.npr_base.specs.StructLaws.{and_decides, decides_as}
-use Rattle.netlink_packet_route.specs.RouteNetlinkMessage.{Meaning, address, route, neighbour, rule, other, other_of}
+use Rattle.netlink_packet_route.specs.MessageKind.{MessageOf}
+use Rattle.netlink_packet_route.specs.RouteNetlinkMessage.{Meaning, message, other, other_of}
 use Rattle.netlink_packet_route.specs.contracts.message.OtherMessagePartialEq.TheImpl as OtherEq
+use Rattle.netlink_packet_route.specs.declared.kind.MessageKind.{MessageKind}
+use Rattle.netlink_packet_route.specs.declared.kind.MessageKind.TheVariants.{Address, Route, Rule, Neighbour}
 use Rattle.netlink_packet_route.specs.declared.message.Action.{Action}
 use Rattle.netlink_packet_route.specs.declared.message.Action.TheVariants.{New, Del, Get}
 
@@ -15,12 +18,29 @@ action_order New = 0
 action_order Del = 1
 action_order Get = 2
 
+abbrev kind_order : MessageKind → ℕ
+kind_order Address = 0
+kind_order Route = 3
+kind_order Neighbour = 6
+kind_order Rule = 9
+
 unfoldable pub order : Meaning → ℕ
-order (address a m) = action_order a
-order (route a m) = 3 + action_order a
-order (neighbour a m) = 6 + action_order a
-order (rule a m) = 9 + action_order a
-order (other kind bytes) = 12
+order (message kind a m) = kind_order kind + action_order a
+order (other type bytes) = 12
+
+-- a message of a kind is one
+abbrev as_kind : (kind : MessageKind) → MessageOf kind → Meaning → MessageOf kind
+as_kind Address m (message Address a n) = n
+as_kind Route m (message Route a n) = n
+as_kind Neighbour m (message Neighbour a n) = n
+as_kind Rule m (message Rule a n) = n
+as_kind kind m x = m
+
+pub message_one : (kind : MessageKind) (a : Action) (m n : MessageOf kind) → message kind a m ≡ message kind a n → m ≡ n
+message_one Address a m n e = ap (as_kind Address m) e
+message_one Route a m n e = ap (as_kind Route m) e
+message_one Neighbour a m n e = ap (as_kind Neighbour m) e
+message_one Rule a m n e = ap (as_kind Rule m) e
 
 abbrev pub other_by : ℕ × List ℕ → Meaning
 other_by p = other p.0 p.1

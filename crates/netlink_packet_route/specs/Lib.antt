@@ -34,8 +34,10 @@ pub mod Messages
 pub mod Request
 pub mod RouteNetlinkMessage
 pub use Rattle.npr_base.specs.Name
+pub use Rattle.npr_base.specs.Numbering
 pub use Rattle.npr_base.specs.Refusal
 pub use Rattle.npr_base.specs.Rows
+pub use Rattle.npr_base.specs.StructLaws
 pub use Rattle.npr_base.specs.Table
 pub use Rattle.npr_base.specs.TableLaws
 pub use Rattle.npr_base.specs.Text

@@ -1,6 +1,6 @@
 -- The kinds of messages: their names, and what each is made of.
 use Rattle.std.specs.Prelude.{ℕ, List, Option, Some, None, codes}
-use Rattle.npr_base.specs.Message.{Grammar}
+use Rattle.npr_base.specs.Message.{Message, Grammar}
 use Rattle.npr_address.specs.Message.{grammar as address_grammar}
 use Rattle.npr_neighbour.specs.Message.{grammar as neighbour_grammar}
 use Rattle.npr_route.specs.Message.{grammar as route_grammar}
@@ -8,7 +8,7 @@ use Rattle.npr_rule.specs.Message.{grammar as rule_grammar}
 use Rattle.netlink_packet_route.specs.declared.kind.MessageKind.{MessageKind}
 use Rattle.netlink_packet_route.specs.declared.kind.MessageKind.TheVariants.{Address, Route, Rule, Neighbour}
 use Rattle.netlink_packet_route.specs.declared.message.MessageType.{MessageType}
-use Rattle.netlink_packet_route.specs.declared.message.MessageType.TheVariants.{OfAddress, OfRoute, OfNeighbour, OfRule, Unknown}
+use Rattle.netlink_packet_route.specs.declared.message.MessageType.TheVariants.{Of, Unknown}
 
 abbrev pub kind_name : MessageKind → List ℕ
 kind_name Address = codes "address"
@@ -31,10 +31,11 @@ form_of Route = form_by route_grammar
 form_of Rule = form_by rule_grammar
 form_of Neighbour = form_by neighbour_grammar
 
+-- a message of a kind, without where it lies in memory
+abbrev pub MessageOf : MessageKind → Type 0
+MessageOf kind = let f = form_of kind in Message f.Header f.grammar.Meaning
+
 -- the kind of the messages of a type, where the library has one
 abbrev pub kind_of_type : MessageType → Option MessageKind
-kind_of_type (OfAddress a) = Some Address
-kind_of_type (OfRoute a) = Some Route
-kind_of_type (OfNeighbour a) = Some Neighbour
-kind_of_type (OfRule a) = Some Rule
+kind_of_type (Of kind action) = Some kind
 kind_of_type Unknown = None

@@ -1,19 +1,22 @@
 -- The messages of rtnetlink by their types (linux/rtnetlink.h, RTM_*): those of addresses, routes, neighbours and rules, and any other.
-use Rattle.std.specs.Prelude.{◌≡◌, ℕ, ◌==◌, Bool, true, false, List, Option, None, if◌then◌else◌}
+use Rattle.std.specs.Prelude.{◌≡◌, ℕ, ◌+◌, ◌==◌, Bool, true, false, List, [], ◌∷◌, Option, None, if◌then◌else◌}
 use Rattle.std.proofs.Common.{refl, sym, ap, subst, ◌∙◌}
 use Rattle.std.proofs.lemmas.Bool.{eqb-true}
 use Rattle.npr_base.specs.declared.refusal.DecodeError.{DecodeError}
 use Rattle.npr_base.specs.declared.refusal.EmitError.{EmitError}
 use Rattle.npr_base.specs.Framing.{IsBytes}
 use Rattle.npr_base.proofs.Messages.{message-one, message-sound, message-coherent, message-back}
-use Rattle.npr_address.specs.Message.{Address, grammar as address_grammar, message_of as address_of}
-use Rattle.npr_address.specs.Message.{IsAddressMessage, AddressFault, IsCoherentAddress, address_bytes, address_misfit}
-use Rattle.npr_neighbour.specs.Message.{Neighbour, grammar as neighbour_grammar, message_of as neighbour_of}
-use Rattle.npr_neighbour.specs.Message.{IsNeighbourMessage, NeighbourFault, IsCoherentNeighbour, neighbour_bytes, neighbour_misfit}
-use Rattle.npr_route.specs.Message.{Route, grammar as route_grammar, message_of as route_of}
-use Rattle.npr_route.specs.Message.{IsRouteMessage, RouteFault, IsCoherentRoute, route_bytes, route_misfit}
-use Rattle.npr_rule.specs.Message.{Rule, grammar as rule_grammar, message_of as rule_of, IsRuleMessage, RuleFault, IsCoherentRule, rule_bytes, rule_misfit}
+use Rattle.npr_base.specs.Message.{IsMessage, MessageFault, IsCoherent, spelling, message_misfit}
+use Rattle.npr_base.specs.EnumTable.{◌also◌}
+use Rattle.npr_base.specs.Rows.{form_in}
+use Rattle.npr_address.specs.Message.{message_of as address_of}
+use Rattle.npr_neighbour.specs.Message.{message_of as neighbour_of}
+use Rattle.npr_route.specs.Message.{message_of as route_of}
+use Rattle.npr_rule.specs.Message.{message_of as rule_of}
 use Rattle.netlink_packet_core.specs.Protocol.{Protocol}
+use Rattle.netlink_packet_route.specs.MessageKind.{form_of, MessageOf}
+use Rattle.netlink_packet_route.specs.declared.kind.MessageKind.{MessageKind}
+use Rattle.netlink_packet_route.specs.declared.kind.MessageKind.TheVariants.{Address, Route, Rule, Neighbour}
 use Rattle.netlink_packet_route.specs.declared.message.OtherMessage.{OtherMessage}
 use Rattle.netlink_packet_route.specs.declared.message.RouteNetlinkMessage.{RouteNetlinkMessage}
 use Rattle.netlink_packet_route.specs.declared.message.RouteNetlinkMessage.TheVariants.{NewAddress, DelAddress, GetAddress, NewRoute, DelRoute, GetRoute}
@@ -22,15 +25,24 @@ use Rattle.netlink_packet_route.specs.declared.message.RouteNetlinkMessage.TheVa
 use Rattle.netlink_packet_route.specs.declared.message.Action.{Action}
 use Rattle.netlink_packet_route.specs.declared.message.Action.TheVariants.{New, Del, Get}
 use Rattle.netlink_packet_route.specs.declared.message.MessageType.{MessageType}
-use Rattle.netlink_packet_route.specs.declared.message.MessageType.TheVariants.{OfAddress, OfRoute, OfNeighbour, OfRule, Unknown}
+use Rattle.netlink_packet_route.specs.declared.message.MessageType.TheVariants.{Of, Unknown}
 
--- what it is, without where it lies in memory
+-- what it is, without where it lies in memory: a message of a kind and what it does, or another type and its bytes
 pub data Meaning : Type 0 where
-  address : Action → Address → Meaning
-  route : Action → Route → Meaning
-  neighbour : Action → Neighbour → Meaning
-  rule : Action → Rule → Meaning
+  message : (kind : MessageKind) → Action → MessageOf kind → Meaning
   other : ℕ → List ℕ → Meaning
+
+abbrev pub address : Action → MessageOf Address → Meaning
+address a m = message Address a m
+
+abbrev pub route : Action → MessageOf Route → Meaning
+route a m = message Route a m
+
+abbrev pub neighbour : Action → MessageOf Neighbour → Meaning
+neighbour a m = message Neighbour a m
+
+abbrev pub rule : Action → MessageOf Rule → Meaning
+rule a m = message Rule a m
 
 -- another type, and its bytes
 abbrev pub other_of : OtherMessage → ℕ × List ℕ
@@ -51,162 +63,116 @@ meaning_of (DelRule m) = rule Del (rule_of m)
 meaning_of (GetRule m) = rule Get (rule_of m)
 meaning_of (Other m) = other m.message_type m.payload.items
 
--- the types
-abbrev pub address_type : Action → ℕ
-address_type New = 20
-address_type Del = 21
-address_type Get = 22
+-- the types, by their numbers
+abbrev pub types : List (ℕ × MessageType)
+types =
+    (20, Of Address New) ∷ (21, Of Address Del) ∷ (22, Of Address Get) ∷ (24, Of Route New) ∷ (25, Of Route Del) ∷ (26, Of Route Get)
+    ∷ (28, Of Neighbour New) ∷ (29, Of Neighbour Del) ∷ (30, Of Neighbour Get) ∷ (32, Of Rule New) ∷ (33, Of Rule Del) ∷ (34, Of Rule Get) ∷ []
 
-abbrev pub route_type : Action → ℕ
-route_type New = 24
-route_type Del = 25
-route_type Get = 26
-
-abbrev pub neighbour_type : Action → ℕ
-neighbour_type New = 28
-neighbour_type Del = 29
-neighbour_type Get = 30
-
-abbrev pub rule_type : Action → ℕ
-rule_type New = 32
-rule_type Del = 33
-rule_type Get = 34
-
--- what a type says, by its row
 abbrev pub type_of : ℕ → MessageType
-type_of kind =
-    if kind == 20 then OfAddress New else if kind == 21 then OfAddress Del else if kind == 22 then OfAddress Get
-    else if kind == 24 then OfRoute New else if kind == 25 then OfRoute Del else if kind == 26 then OfRoute Get
-    else if kind == 28 then OfNeighbour New else if kind == 29 then OfNeighbour Del else if kind == 30 then OfNeighbour Get
-    else if kind == 32 then OfRule New else if kind == 33 then OfRule Del else if kind == 34 then OfRule Get else Unknown
+type_of number = form_in (λ d. Unknown) types number
+
+-- the number of a type: those of a kind follow one another
+abbrev pub first_type : MessageKind → ℕ
+first_type Address = 20
+first_type Route = 24
+first_type Neighbour = 28
+first_type Rule = 32
+
+abbrev pub type_number : MessageKind → Action → ℕ
+type_number kind New = first_type kind
+type_number kind Del = first_type kind + 1
+type_number kind Get = first_type kind + 2
 
 abbrev pub number : Meaning → ℕ
-number (address a m) = address_type a
-number (route a m) = route_type a
-number (neighbour a m) = neighbour_type a
-number (rule a m) = rule_type a
-number (other kind bytes) = kind
+number (message kind a m) = type_number kind a
+number (other type bytes) = type
 
 abbrev pub writes : Meaning → List ℕ
-writes (address a m) = address_bytes m
-writes (route a m) = route_bytes m
-writes (neighbour a m) = neighbour_bytes m
-writes (rule a m) = rule_bytes m
-writes (other kind bytes) = bytes
+writes (message kind a m) = spelling (form_of kind).grammar m
+writes (other type bytes) = bytes
 
 abbrev pub misfit : Meaning → Option EmitError
-misfit (address a m) = address_misfit m
-misfit (route a m) = route_misfit m
-misfit (neighbour a m) = neighbour_misfit m
-misfit (rule a m) = rule_misfit m
-misfit (other kind bytes) = None
+misfit (message kind a m) = message_misfit (form_of kind).grammar m
+misfit (other type bytes) = None
+
+-- the bytes are a message of a kind
+abbrev pub IsMessageOf : MessageKind → Action → List ℕ → Meaning → Type 0
+IsMessageOf kind a bytes x = (m : MessageOf kind) × IsMessage (form_of kind).grammar bytes m × (x ≡ message kind a m)
 
 -- what bytes mean under what the type says
 abbrev pub ReadsUnder : MessageType → ℕ → List ℕ → Meaning → Type 0
-ReadsUnder (OfAddress a) kind bytes x = (m : Address) × IsAddressMessage bytes m × (x ≡ address a m)
-ReadsUnder (OfRoute a) kind bytes x = (m : Route) × IsRouteMessage bytes m × (x ≡ route a m)
-ReadsUnder (OfNeighbour a) kind bytes x = (m : Neighbour) × IsNeighbourMessage bytes m × (x ≡ neighbour a m)
-ReadsUnder (OfRule a) kind bytes x = (m : Rule) × IsRuleMessage bytes m × (x ≡ rule a m)
-ReadsUnder Unknown kind bytes x = x ≡ other kind bytes
+ReadsUnder (Of kind a) type bytes x = IsMessageOf kind a bytes x
+ReadsUnder Unknown type bytes x = x ≡ other type bytes
 
 abbrev pub FaultUnder : MessageType → List ℕ → DecodeError → Type 0
-FaultUnder (OfAddress a) bytes e = AddressFault bytes e
-FaultUnder (OfRoute a) bytes e = RouteFault bytes e
-FaultUnder (OfNeighbour a) bytes e = NeighbourFault bytes e
-FaultUnder (OfRule a) bytes e = RuleFault bytes e
+FaultUnder (Of kind a) bytes e = MessageFault (form_of kind).grammar bytes e
 FaultUnder Unknown bytes e = ⊥
 
 -- what can be read; another type is none of the twelve
 abbrev pub Coherent : Meaning → Type 0
-Coherent (address a m) = IsCoherentAddress m
-Coherent (route a m) = IsCoherentRoute m
-Coherent (neighbour a m) = IsCoherentNeighbour m
-Coherent (rule a m) = IsCoherentRule m
-Coherent (other kind bytes) = (type_of kind ≡ Unknown) × IsBytes bytes
+Coherent (message kind a m) = IsCoherent (form_of kind).grammar m
+Coherent (other type bytes) = (type_of type ≡ Unknown) × IsBytes bytes
 
 -- the number of a type
 unfoldable pub HasNumber : MessageType → ℕ → Type 0
-HasNumber (OfAddress a) kind = kind ≡ address_type a
-HasNumber (OfRoute a) kind = kind ≡ route_type a
-HasNumber (OfNeighbour a) kind = kind ≡ neighbour_type a
-HasNumber (OfRule a) kind = kind ≡ rule_type a
-HasNumber Unknown kind = Unit {0}
+HasNumber (Of kind a) type = type ≡ type_number kind a
+HasNumber Unknown type = Unit {0}
 
-in_row : (b : Bool) (t u : MessageType) (kind n : ℕ) → (kind == n) ≡ b → HasNumber t n → HasNumber u kind → HasNumber (if b then t else u) kind
-in_row true t u kind n e h k = subst (HasNumber t) (sym (eqb-true kind n e)) h
-in_row false t u kind n e h k = k
+in_row : (b : Bool) (t u : MessageType) (type n : ℕ) → (type == n) ≡ b → HasNumber t n → HasNumber u type → HasNumber (if b then t else u) type
+in_row true t u type n e h k = subst (HasNumber t) (sym (eqb-true type n e)) h
+in_row false t u type n e h k = k
 
-pub number-is : (kind : ℕ) → HasNumber (type_of kind) kind
+abbrev AreNumbered : List (ℕ × MessageType) → Type 0
+AreNumbered [] = Unit {0}
+AreNumbered (row ∷ rows) = HasNumber row.1 row.0 × AreNumbered rows
+
+in_rows : (rows : List (ℕ × MessageType)) → AreNumbered rows → (type : ℕ) → HasNumber (form_in (λ d. Unknown) rows type) type
 unfolding HasNumber
-number-is kind =
-    in_row (kind == 20) (OfAddress New) _ kind 20 refl refl (in_row (kind == 21) (OfAddress Del) _ kind 21 refl refl
-    (in_row (kind == 22) (OfAddress Get) _ kind 22 refl refl (in_row (kind == 24) (OfRoute New) _ kind 24 refl refl
-    (in_row (kind == 25) (OfRoute Del) _ kind 25 refl refl (in_row (kind == 26) (OfRoute Get) _ kind 26 refl refl
-    (in_row (kind == 28) (OfNeighbour New) _ kind 28 refl refl (in_row (kind == 29) (OfNeighbour Del) _ kind 29 refl refl
-    (in_row (kind == 30) (OfNeighbour Get) _ kind 30 refl refl (in_row (kind == 32) (OfRule New) _ kind 32 refl refl
-    (in_row (kind == 33) (OfRule Del) _ kind 33 refl refl (in_row (kind == 34) (OfRule Get) Unknown kind 34 refl refl tt)))))))))))
+in_rows [] all type = tt
+in_rows (row ∷ rows) all type = in_row (type == row.0) row.1 (form_in (λ d. Unknown) rows type) type row.0 refl all.0 (in_rows rows all.1 type)
 
-pub one : (t : MessageType) (kind : ℕ) (bytes : List ℕ) (x y : Meaning) → ReadsUnder t kind bytes x → ReadsUnder t kind bytes y → x ≡ y
-one (OfAddress a) kind bytes x y (m, p, e) (n, q, f) = e ∙ ap (address a) (message-one address_grammar bytes m n p q) ∙ sym f
-one (OfRoute a) kind bytes x y (m, p, e) (n, q, f) = e ∙ ap (route a) (message-one route_grammar bytes m n p q) ∙ sym f
-one (OfNeighbour a) kind bytes x y (m, p, e) (n, q, f) = e ∙ ap (neighbour a) (message-one neighbour_grammar bytes m n p q) ∙ sym f
-one (OfRule a) kind bytes x y (m, p, e) (n, q, f) = e ∙ ap (rule a) (message-one rule_grammar bytes m n p q) ∙ sym f
-one Unknown kind bytes x y p q = p ∙ sym q
+pub number-is : (type : ℕ) → HasNumber (type_of type) type
+unfolding HasNumber
+number-is = in_rows types (refl also refl also refl also refl also refl also refl also refl also refl also refl also refl also refl also refl also tt)
 
-pub sound : (t : MessageType) (kind : ℕ) (bytes : List ℕ) (x : Meaning) (e : DecodeError) → ReadsUnder t kind bytes x → FaultUnder t bytes e → ⊥
-sound (OfAddress a) kind bytes x e (m, p, _) bad = message-sound address_grammar bytes m e bad p
-sound (OfRoute a) kind bytes x e (m, p, _) bad = message-sound route_grammar bytes m e bad p
-sound (OfNeighbour a) kind bytes x e (m, p, _) bad = message-sound neighbour_grammar bytes m e bad p
-sound (OfRule a) kind bytes x e (m, p, _) bad = message-sound rule_grammar bytes m e bad p
-sound Unknown kind bytes x e p bad = bad
+pub one : (t : MessageType) (type : ℕ) (bytes : List ℕ) (x y : Meaning) → ReadsUnder t type bytes x → ReadsUnder t type bytes y → x ≡ y
+one (Of kind a) type bytes x y (m, p, e) (n, q, f) = e ∙ ap (message kind a) (message-one (form_of kind).grammar bytes m n p q) ∙ sym f
+one Unknown type bytes x y p q = p ∙ sym q
+
+pub sound : (t : MessageType) (type : ℕ) (bytes : List ℕ) (x : Meaning) (e : DecodeError) → ReadsUnder t type bytes x → FaultUnder t bytes e → ⊥
+sound (Of kind a) type bytes x e (m, p, _) bad = message-sound (form_of kind).grammar bytes m e bad p
+sound Unknown type bytes x e p bad = bad
 
 abbrev pub IsKnown : ℕ → Meaning → Type 0
-IsKnown kind x = Coherent x × (number x ≡ kind)
+IsKnown type x = Coherent x × (number x ≡ type)
 
-pub known : (t : MessageType) (kind : ℕ) (bytes : List ℕ) (x : Meaning) → type_of kind ≡ t → HasNumber t kind
-    → IsBytes bytes → ReadsUnder t kind bytes x → IsKnown kind x
+pub known : (t : MessageType) (type : ℕ) (bytes : List ℕ) (x : Meaning) → type_of type ≡ t → HasNumber t type
+    → IsBytes bytes → ReadsUnder t type bytes x → IsKnown type x
 unfolding HasNumber
-known (OfAddress a) kind bytes x t has is (m, p, e) =
-    subst (IsKnown kind) (sym e) (message-coherent address_grammar bytes m is p, sym has)
-known (OfRoute a) kind bytes x t has is (m, p, e) = subst (IsKnown kind) (sym e) (message-coherent route_grammar bytes m is p, sym has)
-known (OfNeighbour a) kind bytes x t has is (m, p, e) = subst (IsKnown kind) (sym e) (message-coherent neighbour_grammar bytes m is p, sym has)
-known (OfRule a) kind bytes x t has is (m, p, e) = subst (IsKnown kind) (sym e) (message-coherent rule_grammar bytes m is p, sym has)
-known Unknown kind bytes x t has is p = subst (IsKnown kind) (sym p) ((t, is), refl)
+known (Of kind a) type bytes x t has is (m, p, e) =
+    subst (IsKnown type) (sym e) (message-coherent (form_of kind).grammar bytes m is p, sym has)
+known Unknown type bytes x t has is p = subst (IsKnown type) (sym p) ((t, is), refl)
 
-type-address : (a : Action) → type_of (address_type a) ≡ OfAddress a
-type-address New = refl
-type-address Del = refl
-type-address Get = refl
-
-type-route : (a : Action) → type_of (route_type a) ≡ OfRoute a
-type-route New = refl
-type-route Del = refl
-type-route Get = refl
-
-type-neighbour : (a : Action) → type_of (neighbour_type a) ≡ OfNeighbour a
-type-neighbour New = refl
-type-neighbour Del = refl
-type-neighbour Get = refl
-
-type-rule : (a : Action) → type_of (rule_type a) ≡ OfRule a
-type-rule New = refl
-type-rule Del = refl
-type-rule Get = refl
+type-number : (kind : MessageKind) (a : Action) → type_of (type_number kind a) ≡ Of kind a
+type-number Address New = refl
+type-number Address Del = refl
+type-number Address Get = refl
+type-number Route New = refl
+type-number Route Del = refl
+type-number Route Get = refl
+type-number Neighbour New = refl
+type-number Neighbour Del = refl
+type-number Neighbour Get = refl
+type-number Rule New = refl
+type-number Rule Del = refl
+type-number Rule Get = refl
 
 pub back : (x : Meaning) → Coherent x → misfit x ≡ None → ReadsUnder (type_of (number x)) (number x) (writes x) x
-back (address a m) c fits =
-    subst (λ (t : MessageType). ReadsUnder t (address_type a) (address_bytes m) (address a m)) (sym (type-address a))
-    (m, message-back address_grammar m c fits, refl)
-back (route a m) c fits =
-    subst (λ (t : MessageType). ReadsUnder t (route_type a) (route_bytes m) (route a m)) (sym (type-route a))
-    (m, message-back route_grammar m c fits, refl)
-back (neighbour a m) c fits =
-    subst (λ (t : MessageType). ReadsUnder t (neighbour_type a) (neighbour_bytes m) (neighbour a m)) (sym (type-neighbour a))
-    (m, message-back neighbour_grammar m c fits, refl)
-back (rule a m) c fits =
-    subst (λ (t : MessageType). ReadsUnder t (rule_type a) (rule_bytes m) (rule a m)) (sym (type-rule a))
-    (m, message-back rule_grammar m c fits, refl)
-back (other kind bytes) c fits = subst (λ (t : MessageType). ReadsUnder t kind bytes (other kind bytes)) (sym c.0) refl
+back (message kind a m) c fits =
+    subst (λ (t : MessageType). ReadsUnder t (type_number kind a) (spelling (form_of kind).grammar m) (message kind a m)) (sym (type-number kind a))
+    (m, message-back (form_of kind).grammar m c fits, refl)
+back (other type bytes) c fits = subst (λ (t : MessageType). ReadsUnder t type bytes (other type bytes)) (sym c.0) refl
 
 -- rtnetlink
 abbrev pub rtnetlink : Protocol Meaning

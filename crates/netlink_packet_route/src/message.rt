@@ -2,10 +2,10 @@
 
 ghost use Rattle.std.specs.Prelude.{◌≡◌, ◌≢◌, IfOk, IfErr, refl};
 ghost use Rattle.{
-  npr_base.specs.declared.refusal.DecodeError.TheVariants.{OutOfMemory},
+  npr_base.specs.{Message.{MessageFault}, declared.refusal.DecodeError.TheVariants.{OutOfMemory}},
   netlink_packet_route.specs.{
-    MessageKind.{kind_of_type},
-    RouteNetlinkMessage.{Meaning, meaning_of, other_of, address, route, neighbour, rule, rtnetlink, type_of, writes, misfit, ReadsUnder, FaultUnder},
+    MessageKind.{kind_of_type, form_of},
+    RouteNetlinkMessage.{Meaning, meaning_of, other_of, address, route, neighbour, rule, rtnetlink, type_of, writes, misfit, IsMessageOf, ReadsUnder, FaultUnder},
   },
   npr_address.specs.Message.{message_of as address_of},
   npr_neighbour.specs.Message.{message_of as neighbour_of},
@@ -76,36 +76,30 @@ pub enum Action {
 /// What a type says.
 #[derive(Clone, Copy, Debug, PartialEq, Eq)]
 pub enum MessageType {
-    /// A message on an address.
-    OfAddress(Action),
-    /// A message on a route.
-    OfRoute(Action),
-    /// A message on a neighbour.
-    OfNeighbour(Action),
-    /// A message on a rule.
-    OfRule(Action),
+    /// A message of this kind, which does this.
+    Of(MessageKind, Action),
     /// Any other.
     Unknown,
 }
 
-/// The types, by the kinds of messages: for each kind its message and what its types say, and for each
-/// type its number, its message and what that does.
+/// The types, by the kinds of messages: for each kind its message, and for each type its number, its
+/// message and what that does.
 macro_rules! types {
     ($body:ident ($($given:tt)*)) => {
         $body!(($($given)*) {
-            AddressMessage OfAddress { 20 NewAddress New; 21 DelAddress Del; 22 GetAddress Get; }
-            RouteMessage OfRoute { 24 NewRoute New; 25 DelRoute Del; 26 GetRoute Get; }
-            NeighbourMessage OfNeighbour { 28 NewNeighbour New; 29 DelNeighbour Del; 30 GetNeighbour Get; }
-            RuleMessage OfRule { 32 NewRule New; 33 DelRule Del; 34 GetRule Get; }
+            AddressMessage Address { 20 NewAddress New; 21 DelAddress Del; 22 GetAddress Get; }
+            RouteMessage Route { 24 NewRoute New; 25 DelRoute Del; 26 GetRoute Get; }
+            NeighbourMessage Neighbour { 28 NewNeighbour New; 29 DelNeighbour Del; 30 GetNeighbour Get; }
+            RuleMessage Rule { 32 NewRule New; 33 DelRule Del; 34 GetRule Get; }
         })
     };
 }
 
 /// What a number says.
 macro_rules! type_of {
-    (($number:expr) { $($message:ident $of:ident { $($kind:tt $variant:ident $action:ident;)* })* }) => {
-        match $number {
-            $($($kind => MessageType::$of(Action::$action),)*)*
+    (($of:expr) { $($message:ident $kind:ident { $($number:tt $variant:ident $action:ident;)* })* }) => {
+        match $of {
+            $($($number => MessageType::Of(MessageKind::$kind, Action::$action),)*)*
             _ => MessageType::Unknown,
         }
     };
@@ -113,9 +107,9 @@ macro_rules! type_of {
 
 /// The number of a message that is read, or else that of another one.
 macro_rules! number_of {
-    (($of_message:expr; $other:ident => $otherwise:expr) { $($message:ident $of:ident { $($kind:tt $variant:ident $action:ident;)* })* }) => {
+    (($of_message:expr; $other:ident => $otherwise:expr) { $($message:ident $kind:ident { $($number:tt $variant:ident $action:ident;)* })* }) => {
         match $of_message {
-            $($(RouteNetlinkMessage::$variant(_) => $kind,)*)*
+            $($(RouteNetlinkMessage::$variant(_) => $number,)*)*
             RouteNetlinkMessage::Other($other) => $otherwise,
         }
     };
@@ -123,7 +117,7 @@ macro_rules! number_of {
 
 /// The same of each message that is read, and something else of another one.
 macro_rules! each {
-    (($of_message:expr; $m:ident => $then:expr; $other:ident => $otherwise:expr) { $($message:ident $of:ident { $($kind:tt $variant:ident $action:ident;)* })* }) => {
+    (($of_message:expr; $m:ident => $then:expr; $other:ident => $otherwise:expr) { $($message:ident $kind:ident { $($number:tt $variant:ident $action:ident;)* })* }) => {
         match $of_message {
             $($(RouteNetlinkMessage::$variant($m) => $then,)*)*
             RouteNetlinkMessage::Other($other) => $otherwise,
@@ -133,7 +127,7 @@ macro_rules! each {
 
 /// An equal message.
 macro_rules! clone_of {
-    (($of_message:expr, $alloc:expr) { $($message:ident $of:ident { $($kind:tt $variant:ident $action:ident;)* })* }) => {
+    (($of_message:expr, $alloc:expr) { $($message:ident $kind:ident { $($number:tt $variant:ident $action:ident;)* })* }) => {
         match $of_message {
             $($(RouteNetlinkMessage::$variant(m) => m.clone($alloc)?.under(Action::$action),)*)*
             RouteNetlinkMessage::Other(m) => RouteNetlinkMessage::Other(m.clone($alloc)?),
@@ -141,12 +135,11 @@ macro_rules! clone_of {
     };
 }
 
-/// The message that the bytes are under what their type says.
+/// The message of a kind that the bytes are.
 macro_rules! read_as {
-    (($message_type:expr, $alloc:expr, $payload:expr; $unknown:expr) { $($message:ident $of:ident { $($kind:tt $variant:ident $action:ident;)* })* }) => {
-        match $message_type {
-            $(MessageType::$of(action) => $message::parse($alloc, $payload)?.under(action),)*
-            MessageType::Unknown => $unknown,
+    (($of_kind:expr, $does:expr, $alloc:expr, $payload:expr) { $($message:ident $kind:ident { $($number:tt $variant:ident $action:ident;)* })* }) => {
+        match $of_kind {
+            $(MessageKind::$kind => Ok($message::parse($alloc, $payload)?.under($does)),)*
         }
     };
 }
@@ -164,10 +157,7 @@ impl MessageType {
         ensures { result ≡ kind_of_type self }
     {
         match self {
-            MessageType::OfAddress(_) => Some(MessageKind::Address),
-            MessageType::OfRoute(_) => Some(MessageKind::Route),
-            MessageType::OfNeighbour(_) => Some(MessageKind::Neighbour),
-            MessageType::OfRule(_) => Some(MessageKind::Rule),
+            MessageType::Of(kind, _) => Some(kind),
             MessageType::Unknown => None,
         }
     }
@@ -299,12 +289,24 @@ fn read_under(
     ensures ok { IfOk result (λ m. ReadsUnder (type_of message_type) message_type payload.now (meaning_of m)) }
     ensures refused { IfErr result (λ e. e ≢ OutOfMemory → FaultUnder (type_of message_type) payload.now e) }
 {
-    Ok(
-        types!(read_as(MessageType::of(message_type), alloc, payload;
-        RouteNetlinkMessage::Other(OtherMessage {
+    match MessageType::of(message_type) {
+        MessageType::Of(kind, action) => read_kind(alloc, kind, action, payload),
+        MessageType::Unknown => Ok(RouteNetlinkMessage::Other(OtherMessage {
             message_type,
             payload: Vec::from_slice(alloc, payload)?,
-        })
-    )),
-    )
+        })),
+    }
+}
+
+/// The message of a kind that the bytes are, which does this.
+fn read_kind(
+    alloc: Global,
+    kind: MessageKind,
+    action: Action,
+    payload: &[u8],
+) -> Result<RouteNetlinkMessage, DecodeError>
+    ensures ok { IfOk result (λ m. IsMessageOf kind action payload.now (meaning_of m)) }
+    ensures refused { IfErr result (λ e. e ≢ OutOfMemory → MessageFault (form_of kind).grammar payload.now e) }
+{
+    types!(read_as(kind, action, alloc, payload))
 }

@@ -3,12 +3,12 @@ use Rattle.std.specs.Prelude.{ℕ, Option}
 use Rattle.npr_base.specs.declared.refusal.AttrFamily.TheVariants.{Address}
 use Rattle.npr_base.specs.Layout.{le32, octets, signed32}
 use Rattle.npr_base.specs.Codec.{exactly, leading}
-use Rattle.npr_base.specs.EnumTable.{VariantRows, row, others, ◌also◌, value, text, MeaningIn, meaning_in}
+use Rattle.npr_base.specs.EnumTable.{VariantRows, row, others, ◌also◌, value, text}
 use Rattle.npr_base.specs.EnumTableValues.{ValueIn, value_in, found_in}
-use Rattle.npr_base.specs.EnumTableLaws.{writing_in, attributes_in}
+use Rattle.npr_base.specs.EnumTableLaws.{writing_in, attributes_in, family_in}
 use Rattle.npr_base.specs.IpCodec.{ip}
 use Rattle.npr_base.specs.Name.{name}
-use Rattle.npr_base.specs.Table.{Writing, Reading, Family, family_of}
+use Rattle.npr_base.specs.Table.{Reading, Family}
 use Rattle.npr_address.specs.AddressFlags.{address_flags}
 use Rattle.npr_address.specs.AddressProtocol.{protocol}
 use Rattle.npr_address.specs.CacheInfo.{cache_info}
@@ -32,27 +32,16 @@ rows =
     also row Address 11 (exactly protocol) value  -- IFA_PROTO
     also others value
 
--- what an attribute is, without where it lies in memory
-abbrev pub Meaning : Type 0
-Meaning = MeaningIn enum.parts rows
-
-abbrev pub meaning_of : AddressAttribute → Meaning
-meaning_of a = meaning_in enum.parts rows (enum.as_values a)
-
--- by the number of its row: the attribute that has such a value, and the value, where it stands there
-abbrev pub attribute : (number : ℕ) → ValueIn enum.parts rows number → Meaning
-attribute number v = value_in enum.parts rows number v
-
-abbrev pub value_of : (number : ℕ) → Meaning → Option (ValueIn enum.parts rows number)
-value_of number m = found_in enum.parts rows number m
-
--- how each is written
-abbrev pub writing : Writing Meaning
-writing = writing_in enum.parts rows
-
 -- the family
-abbrev pub attributes : Reading writing
+abbrev pub attributes : Reading (writing_in enum.parts rows)
 attributes = attributes_in enum.parts rows refl
 
 abbrev pub family : Family AddressAttribute (Unit {0})
-family = family_of meaning_of (λ c. attributes)
+family = family_in enum rows (λ c. attributes)
+
+-- by the number of its row: the attribute that has such a value, and the value, where it stands there
+abbrev pub attribute : (number : ℕ) → ValueIn enum.parts rows number → family.Meaning
+attribute number v = value_in enum.parts rows number v
+
+abbrev pub value_of : (number : ℕ) → family.Meaning → Option (ValueIn enum.parts rows number)
+value_of number m = found_in enum.parts rows number m

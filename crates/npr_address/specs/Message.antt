@@ -4,14 +4,14 @@ use Rattle.npr_base.specs.declared.refusal.DecodeError.{DecodeError}
 use Rattle.npr_base.specs.declared.refusal.EmitError.{EmitError}
 use Rattle.npr_base.specs.declared.message.Message.{Message as Stored}
 use Rattle.npr_base.specs.Message.{Message, Grammar, grammar_by, view, IsMessage, MessageFault, IsCoherent, spelling, message_misfit}
-use Rattle.npr_address.specs.Attribute.{Meaning, family}
+use Rattle.npr_address.specs.Attribute.{family}
 use Rattle.npr_address.specs.Header.{header, default_header}
 use Rattle.npr_address.specs.declared.header.AddressHeader.{AddressHeader}
 use Rattle.npr_address.specs.declared.attribute.AddressAttribute.{AddressAttribute}
 
 -- a message without where it lies in memory
 abbrev pub Address : Type 0
-Address = Message AddressHeader Meaning
+Address = Message AddressHeader family.Meaning
 
 abbrev pub AddressMessage : Type 0
 AddressMessage = Stored AddressHeader AddressAttribute

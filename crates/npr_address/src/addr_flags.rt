@@ -1,7 +1,7 @@
 //! The flags of an address: `IFA_F_*` of `linux/if_addr.h`. Every bit is kept.
 
 ghost use Rattle.std.specs.Prelude.{⊤, [], ◌∷◌, codes};
-ghost use Rattle.npr_address.specs.AddressFlags.{address_flags_bits, header_flags_bits};
+ghost use Rattle.npr_address.specs.AddressFlags.{address_flag_bits, header_flag_bits};
 
 use bitflags::{Flag, Flags};
 use npr_base::named_flags;
@@ -61,7 +61,7 @@ impl Flags for AddressFlags {
 
     ghost table = { (codes "Secondary", 1) ∷ (codes "Nodad", 2) ∷ (codes "Optimistic", 4) ∷ (codes "Dadfailed", 8) ∷ (codes "Homeaddress", 16) ∷ (codes "Deprecated", 32) ∷ (codes "Tentative", 64) ∷ (codes "Permanent", 128) ∷ (codes "Managetempaddr", 256) ∷ (codes "Noprefixroute", 512) ∷ (codes "Mcautojoin", 1024) ∷ (codes "StablePrivacy", 2048) ∷ ([], 4294967295) ∷ [] };
 
-    ghost set_of = { address_flags_bits };
+    ghost set_of = { address_flag_bits.number };
 
     fn flags<'a>() -> &'a [Flag<AddressFlags>] {
         AddressFlags::FLAGS
@@ -118,7 +118,7 @@ impl Flags for AddressHeaderFlags {
 
     ghost table = { (codes "Secondary", 1) ∷ (codes "Nodad", 2) ∷ (codes "Optimistic", 4) ∷ (codes "Dadfailed", 8) ∷ (codes "Homeaddress", 16) ∷ (codes "Deprecated", 32) ∷ (codes "Tentative", 64) ∷ (codes "Permanent", 128) ∷ ([], 255) ∷ [] };
 
-    ghost set_of = { header_flags_bits };
+    ghost set_of = { header_flag_bits.number };
 
     fn flags<'a>() -> &'a [Flag<AddressHeaderFlags>] {
         AddressHeaderFlags::FLAGS

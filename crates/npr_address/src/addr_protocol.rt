@@ -1,7 +1,7 @@
 //! What made an address: `IFAPROT_*` of `linux/if_addr.h`.
 
 ghost use Rattle.std.specs.Prelude.{◌≡◌, Some};
-ghost use Rattle.npr_address.specs.AddressProtocol.{protocol_of, protocol_number, protocol_text};
+ghost use Rattle.npr_address.specs.AddressProtocol.{protocols, protocol_text};
 
 use std::fmt;
 
@@ -30,7 +30,7 @@ macro_rules! numbers {
 }
 
 impl From<u8> for AddressProtocol {
-    ghost from_gives = { λ number protocol. protocol ≡ protocol_of number };
+    ghost from_gives = { λ number protocol. protocol ≡ protocols.of number };
 
     fn from(number: u8) -> AddressProtocol {
         numbers!(variant_of_number(number))
@@ -38,7 +38,7 @@ impl From<u8> for AddressProtocol {
 }
 
 impl From<AddressProtocol> for u8 {
-    ghost from_gives = { λ protocol number. number ≡ protocol_number protocol };
+    ghost from_gives = { λ protocol number. number ≡ protocols.number protocol };
 
     fn from(protocol: AddressProtocol) -> u8 {
         numbers!(number_of_variant(protocol))

@@ -1,7 +1,7 @@
 //! The scope of an address: `RT_SCOPE_*` of `linux/rtnetlink.h`.
 
 ghost use Rattle.std.specs.Prelude.{◌≡◌, Some};
-ghost use Rattle.npr_address.specs.AddressScope.{scope_of, scope_number, scope_text};
+ghost use Rattle.npr_address.specs.AddressScope.{scopes, scope_text};
 
 use std::fmt;
 
@@ -37,7 +37,7 @@ macro_rules! numbers {
 }
 
 impl From<u8> for AddressScope {
-    ghost from_gives = { λ number scope. scope ≡ scope_of number };
+    ghost from_gives = { λ number scope. scope ≡ scopes.of number };
 
     fn from(number: u8) -> AddressScope {
         numbers!(variant_of_number(number))
@@ -45,7 +45,7 @@ impl From<u8> for AddressScope {
 }
 
 impl From<AddressScope> for u8 {
-    ghost from_gives = { λ scope number. number ≡ scope_number scope };
+    ghost from_gives = { λ scope number. number ≡ scopes.number scope };
 
     fn from(scope: AddressScope) -> u8 {
         numbers!(number_of_variant(scope))

@@ -1,7 +1,7 @@
 //! The attributes of an address message: `IFA_*` of `linux/if_addr.h`.
 
 ghost use Rattle.std.specs.Prelude.{refl};
-ghost use Rattle.npr_address.specs.Attribute.{meaning_of, writing, family};
+ghost use Rattle.{npr_base.specs.Table.{shaped}, npr_address.specs.Attribute.{family}};
 
 use crate::addr_flags::AddressFlags;
 use crate::addr_protocol::AddressProtocol;
@@ -62,7 +62,7 @@ macro_rules! rows {
 }
 
 impl Nla for AddressAttribute {
-    ghost shape = { λ a. writing.shape (meaning_of a) };
+    ghost shape = { shaped family };
 
     fn kind(&self) -> u16 {
         rows!(kind_rows(self))

@@ -1,6 +1,9 @@
 -- Address families, by their table: `AF_*` of `linux/socket.h`.
 use Rattle.std.specs.Prelude.{ℕ, List, [], ◌∷◌, ◌++◌, codes, decimal}
-use Rattle.npr_base.specs.Rows.{Named, numbered, form_in, number_in, text_in}
+use Rattle.std.proofs.Common.{refl}
+use Rattle.npr_base.specs.Numbering.{Numbering}
+use Rattle.npr_base.specs.Rows.{Named, numbered, number_in, text_in}
+use Rattle.npr_base.specs.RowLaws.{by_rows}
 use Rattle.npr_base.specs.declared.address_family.AddressFamily.{AddressFamily}
 use Rattle.npr_base.specs.declared.address_family.AddressFamily.TheVariants.{Unspec, Unix, Inet, Ax25, Ipx, Appletalk}
 use Rattle.npr_base.specs.declared.address_family.AddressFamily.TheVariants.{Netrom, Bridge, Atmpvc, X25, Inet6, Rose}
@@ -14,8 +17,8 @@ use Rattle.npr_base.specs.declared.address_family.AddressFamily.TheVariants.{Loc
 use Rattle.npr_base.specs.contracts.address_family.AddressFamily.{enum}
 
 -- in the order of the variants
-abbrev pub families : List (Named AddressFamily)
-families =
+abbrev pub family_rows : List (Named AddressFamily)
+family_rows =
     (0, Unspec, codes "unspec") ∷ (1, Unix, codes "unix") ∷ (2, Inet, codes "inet") ∷ (3, Ax25, codes "ax25") ∷ (4, Ipx, codes "ipx")
     ∷ (5, Appletalk, codes "appletalk") ∷ (6, Netrom, codes "netrom") ∷ (7, Bridge, codes "bridge") ∷ (8, Atmpvc, codes "atmpvc")
     ∷ (9, X25, codes "x25") ∷ (10, Inet6, codes "inet6") ∷ (11, Rose, codes "rose") ∷ (12, Decnet, codes "decnet")
@@ -29,19 +32,13 @@ families =
     ∷ (43, Smc, codes "smc") ∷ (44, Xdp, codes "xdp") ∷ (45, Mctp, codes "mctp") ∷ []
 
 -- and two that are written by numbers which read as others
-abbrev pub all_families : List (Named AddressFamily)
-all_families = families ++ (1, Local, codes "local") ∷ (16, Route, codes "route") ∷ []
+abbrev pub all_family_rows : List (Named AddressFamily)
+all_family_rows = family_rows ++ (1, Local, codes "local") ∷ (16, Route, codes "route") ∷ []
 
--- the family that a number reads as: never `Local` or `Route`, whose numbers are those of `Unix` and `Netlink`
-abbrev pub family_of : ℕ → AddressFamily
-family_of d = form_in Other (numbered families) d
-
--- the number that a family is written as
-abbrev pub family_number : AddressFamily → ℕ
-family_number (Other d) = d
-family_number family = number_in enum (numbered all_families) family
+-- what a number reads as, which is never `Local` or `Route`, whose numbers are those of `Unix` and `Netlink`; and the number of a family
+abbrev pub families : Numbering ℕ AddressFamily
+families = by_rows (number_in enum (numbered all_family_rows) (λ f. f.0)) Other (numbered family_rows) (λ d. refl) refl
 
 -- the text of a family: its name, and of any other its number
 abbrev pub family_text : AddressFamily → List ℕ
-family_text (Other d) = decimal d
-family_text family = text_in enum all_families family
+family_text family = text_in enum all_family_rows (λ f. decimal f.0) family

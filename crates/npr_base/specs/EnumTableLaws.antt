@@ -1,9 +1,8 @@
 -- A table of an enum's variants is a family.
---     attributes_in        the family of such a table, whose numbers are apart
+--     attributes_in        what attributes mean by such a table, whose numbers are apart
+--     family_in            the family of an enum
 --     rewritten            a family under one context, written as under another
 --     enum_decides         `==` of the enum answers whether two values mean the same, given what it answers of each variant's field
---     of_field             the fact of a variant of one field
---     no_field             and of one without fields
 use Rattle.std.specs.Prelude.{◌==◌, ◌&&◌, ◌⊎◌, not, if◌then◌else◌}
 use Rattle.std.specs.Bool.{MatchBool, Decides}
 use Rattle.std.specs.Cmp.{first_so, second_so}
@@ -17,8 +16,7 @@ use Rattle.npr_base.specs.Framing.{Item, framed, marked, number_of}
 use Rattle.npr_base.specs.Looks.{Looking}
 use Rattle.npr_base.specs.EnumTable.{VariantRows, kind_at, MeaningIn, meaning_in, other_in, row_in, rows_in, held_in, shape_in, has_number, numbered}
 use Rattle.npr_base.specs.EnumTable.{ReadsIn, WrongIn, looks_in}
-use Rattle.npr_base.specs.Equality.{IsEqualityOf}
-use Rattle.npr_base.specs.Table.{Writing, Reading, Row, ReadsAt, WrongAt, Held, held_other, held_inside, held_kind, held_members, IsHeld, IsWritten}
+use Rattle.npr_base.specs.Table.{Writing, Reading, Family, Row, ReadsAt, WrongAt, Held, held_other, held_inside, held_kind, held_members, IsHeld, IsWritten}
 use Rattle.npr_base.specs.Table.{Aligned, Table}
 use Rattle.npr_base.specs.Table.{has_row, item_of, plain_item, shape_at, table_with, unfit_as, written_as, writing_by}
 use Rattle.npr_base.specs.TableLaws.{table_family, marked-small, looks_of, looking_inside}
@@ -200,6 +198,15 @@ module _ (Fss : List (List Field)) (rows : VariantRows Fss) where
         saw = λ x m old new p takes. t.saw x m old new (rows-read x m p) (subst (λ (l : Looking Item). l.Takes x old new) same takes);
       }
 
+-- the family of an enum: what a value of it means by the table
+abbrev pub family_in : {C : Type 0} (N : Record) (rows : VariantRows N.parts) → (C → Reading (writing_in N.parts rows)) → Family N.D C
+family_in N rows reading = record {
+  Meaning = MeaningIn N.parts rows;
+  meaning = λ a. meaning_in N.parts rows (N.as_values a);
+  writing = writing_in N.parts rows;
+  reading = reading;
+}
+
 -- what is written of a value is written of its meaning
 pub shape-in : (Fss : List (List Field)) (rows : VariantRows Fss) (c : Choice Fss) → shape_in Fss rows c ≡ (writing_in Fss rows).shape (meaning_in Fss rows c)
 shape-in [] rows c = absurd c
@@ -234,13 +241,6 @@ abbrev pub FieldsDecide : (Fss : List (List Field)) → VariantRows Fss → Each
 FieldsDecide [] rows tests = Unit {0}
 FieldsDecide (Fs ∷ []) rows tests = ((x y : Values Fs) → Decides (tests.0 x y) (rows.item x ≡ rows.item y)) × Unit {0}
 FieldsDecide (Fs ∷ Gs ∷ Fss) rows tests = ((x y : Values Fs) → Decides (tests.0 x y) (rows.0.holds x ≡ rows.0.holds y)) × FieldsDecide (Gs ∷ Fss) rows.1 tests.1
-
-pub of_field : {A B : Type 0} {view : A → B} {test : A → A → Bool} → IsEqualityOf view test
-    → (x y : A × Unit {0}) → Decides (test x.0 y.0) (view x.0 ≡ view y.0)
-of_field decides x y = decides x.0 y.0
-
-pub no_field : {B : Type 0} (view : Unit {0} → B) (x y : Unit {0}) → Decides true (view x ≡ view y)
-no_field view x y = (λ e. refl, λ e. refl)
 
 -- the two sides of a meaning
 module _ (A B : Type 0) where

@@ -2,22 +2,24 @@
 --     Field            a value at a place of a fixed layout
 --     one_byte, le_two, le_four, le_eight      numbers, the lowest byte first
 --     unused           a byte that nothing is read from
---     form_of          a value in the place of its number
+--     holding          a value in the place of its number
 --     family_byte      the family of an address, in a byte
---     then             a field behind another
---     fields           all of them as a layout
---     structure        a struct of them, each seen by its name
+--     then, last       a field behind another, and the last of a struct
+--     before           a field behind a byte that is not looked at
+--     fields           a field as a layout
+--     structure        a struct of fields
 use Rattle.std.specs.Prelude.{◌≡◌, ℕ, ◌+◌, ◌^◌, ◌<◌, List, [], ◌∷◌, ◌++◌, length, slice_index}
 use Rattle.std.specs.Int.{w16, w32, w64, to_le_bytes, from_le_bytes}
 use Rattle.std.proofs.Common.{refl, sym, ap, subst, ◌∙◌, append_assoc, length-append}
 use Rattle.std.proofs.lemmas.List.{append-nil, get_or-append-add}
 use Rattle.std.proofs.lemmas.Nat.{from_le_bytes-to_le_bytes_2, from_le_bytes-to_le_bytes_4, from_le_bytes-to_le_bytes_8}
-use Rattle.npr_base.specs.AddressFamily.{family_of, family_number}
-use Rattle.npr_base.specs.AddressFamilyLaws.{family_number-family_of}
+use Rattle.npr_base.specs.AddressFamily.{families}
 use Rattle.npr_base.specs.declared.address_family.AddressFamily.{AddressFamily}
 use Rattle.npr_base.specs.Framing.{IsBytes}
-use Rattle.npr_base.specs.Rows.{IsFormed}
+use Rattle.npr_base.specs.Numbering.{Numbering, IsFormed, of_IsFormed}
 use Rattle.npr_base.specs.Layout.{Layout, formed, le16_at, le32_at, le64_at, le16_at-holds, le32_at-holds, le64_at-holds}
+use denote.Struct.Record.{Record}
+use denote.Struct.Values.{Values}
 
 pub record Field (V : Type 0) : Type 1 where
   pub width : ℕ
@@ -102,21 +104,23 @@ unused = record {
   Holds-at = λ bytes i is. tt;
 }
 
--- values with numbers, as enumerations and sets of flags: the number stands there
-abbrev pub form_of : {N V : Type 0} (F : Field N) (form : N → V) (number : V → N) → ((d : N) → number (form d) ≡ d) → Field V
-form_of F form number same = record {
+-- values with numbers: the number stands there
+infixl 6 ◌holding◌
+abbrev pub ◌holding◌ : {N V : Type 0} → Field N → Numbering N V → Field V
+F holding n = record {
   width = F.width;
-  at = λ bytes i. form (F.at bytes i);
-  encode = λ x. F.encode (number x);
-  Holds = λ x. F.Holds (number x) × IsFormed form number x;
-  length-encode = λ x. F.length-encode (number x);
-  at-encode = λ front more x h. ap form (F.at-encode front more (number x) h.0) ∙ sym h.1;
-  Holds-at = λ bytes i is. (subst F.Holds (sym (same (F.at bytes i))) (F.Holds-at bytes i is), sym (ap form (same (F.at bytes i))));
+  at = λ bytes i. n.of (F.at bytes i);
+  encode = λ x. F.encode (n.number x);
+  Holds = λ x. F.Holds (n.number x) × IsFormed n x;
+  length-encode = λ x. F.length-encode (n.number x);
+  at-encode = λ front more x h. ap n.of (F.at-encode front more (n.number x) h.0) ∙ sym h.1;
+  Holds-at = λ bytes i is. (subst F.Holds (sym (n.back (F.at bytes i))) (F.Holds-at bytes i is), of_IsFormed n (F.at bytes i));
 }
 
 abbrev pub family_byte : Field AddressFamily
-family_byte = form_of one_byte family_of family_number family_number-family_of
+family_byte = one_byte holding families
 
+infixr 4 ◌then◌
 module _ {A B : Type 0} (F : Field A) (G : Field B) where
   pub second-back : (front more : List ℕ) (x : A) (y : B) → G.Holds y → G.at (front ++ ((F.encode x ++ G.encode y) ++ more)) (length front + F.width) ≡ y
   second-back front more x y h =
@@ -142,7 +146,31 @@ module _ {A B : Type 0} (F : Field A) (G : Field B) where
     Holds-at = λ bytes i is. (F.Holds-at bytes i is, G.Holds-at bytes (i + F.width) is);
   }
 
-infixr 4 ◌then◌
+-- the last field of a struct
+abbrev pub last : {A : Type 0} → Field A → Field (A × Unit {0})
+last F = record {
+  width = F.width;
+  at = λ bytes i. (F.at bytes i, tt);
+  encode = λ p. F.encode p.0;
+  Holds = λ p. F.Holds p.0;
+  length-encode = λ p. F.length-encode p.0;
+  at-encode = λ front more p h. ap (λ x. (x, tt)) (F.at-encode front more p.0 h);
+  Holds-at = λ bytes i is. F.Holds-at bytes i is;
+}
+
+-- a field behind a byte that is not looked at
+infixr 5 ◌before◌
+abbrev pub ◌before◌ : {A : Type 0} → Field (Unit {0}) → Field A → Field A
+P before F = record {
+  width = P.width + F.width;
+  at = λ bytes i. F.at bytes (i + P.width);
+  encode = λ x. P.encode tt ++ F.encode x;
+  Holds = F.Holds;
+  length-encode = λ x. length-append (P.encode tt) (F.encode x) ∙ (λ i. P.length-encode tt i + F.length-encode x i);
+  at-encode = λ front more x h. second-back P F front more tt x h;
+  Holds-at = λ bytes i is. F.Holds-at bytes (i + P.width) is;
+}
+
 abbrev pub fields : {V : Type 0} → Field V → Layout V
 fields F = record {
   size = F.width;
@@ -154,6 +182,6 @@ fields F = record {
   Holds-decode = λ bytes is e. F.Holds-at bytes 0 is;
 }
 
--- a struct, which is made of its fields and parted into them
-abbrev pub structure : {A V : Type 0} (F : Field A) (make : A → V) (parts : V → A) → ((a : A) → parts (make a) ≡ a) → Layout V
-structure F make parts same = formed (fields F) make parts same
+-- a struct, whose fields stand one behind the other; N is `struct` of the type's module in `specs.contracts`
+abbrev pub structure : (N : Record) → Field (Values N.parts) → ((v : Values N.parts) → N.Ghost v) → Layout N.D
+structure N F ghosts = formed (fields F) (record { of = λ v. N.make v (ghosts v); number = N.as_values; back = λ v. N.beta v (ghosts v) })

@@ -2,7 +2,7 @@
 use Rattle.std.specs.Prelude.{◌≡◌, ℕ, ◌+◌, ◌^◌, ◌<◌, Bool, true, false, nat_lt, ℤ, FitsSigned, List, [], ◌∷◌, length, slice_index}
 use Rattle.std.specs.Int.{w16, w32, w64, to_le_bytes, from_le_bytes, to_be_bytes, from_be_bytes, cast_signed, cast_unsigned}
 use Rattle.npr_base.specs.Framing.{IsBytes}
-use Rattle.npr_base.specs.Rows.{IsFormed}
+use Rattle.npr_base.specs.Numbering.{Numbering, IsFormed, of_IsFormed}
 use Rattle.npr_base.specs.LayoutLaws.{le16-holds, le32-holds, le64-holds, be16-holds, be32-holds, be64-holds, signed32-back, signed32-holds}
 use Rattle.std.proofs.Common.{arith, refl, sym, ap, subst, ◌∙◌}
 use Rattle.std.proofs.lemmas.Nat.{from_le_bytes-to_le_bytes_2, from_le_bytes-to_le_bytes_4, from_le_bytes-to_le_bytes_8}
@@ -102,23 +102,18 @@ octets n = record {
   Holds-decode = λ bytes is e. (e, is);
 }
 
--- values with numbers, as enumerations and sets of flags: the number is written, and a value can be held if it is the
--- form of its number; the form may drop what is reserved
-abbrev pub reduced : {N V : Type 0} (L : Layout N) (form : N → V) (number : V → N) → ((d : N) → form (number (form d)) ≡ form d)
-    → ((d : N) → L.Holds d → L.Holds (number (form d))) → Layout V
-reduced L form number same holds = record {
+-- values with numbers: the number is written, and a value can be held if it is what its number reads as; likewise a struct of
+-- such fields over one of their numbers
+abbrev pub formed : {N V : Type 0} → Layout N → Numbering N V → Layout V
+formed L n = record {
   size = L.size;
-  decode = λ bytes. form (L.decode bytes);
-  encode = λ x. L.encode (number x);
-  Holds = λ x. L.Holds (number x) × IsFormed form number x;
-  length-encode = λ x h. L.length-encode (number x) h.0;
-  decode-encode = λ x h. ap form (L.decode-encode (number x) h.0) ∙ sym h.1;
-  Holds-decode = λ bytes is e. (holds (L.decode bytes) (L.Holds-decode bytes is e), sym (same (L.decode bytes)));
+  decode = λ bytes. n.of (L.decode bytes);
+  encode = λ x. L.encode (n.number x);
+  Holds = λ x. L.Holds (n.number x) × IsFormed n x;
+  length-encode = λ x h. L.length-encode (n.number x) h.0;
+  decode-encode = λ x h. ap n.of (L.decode-encode (n.number x) h.0) ∙ sym h.1;
+  Holds-decode = λ bytes is e. (subst L.Holds (sym (n.back (L.decode bytes))) (L.Holds-decode bytes is e), of_IsFormed n (L.decode bytes));
 }
-
--- the same where the form drops nothing; likewise a struct of such fields over one of their numbers
-abbrev pub formed : {N V : Type 0} (L : Layout N) (form : N → V) (number : V → N) → ((d : N) → number (form d) ≡ d) → Layout V
-formed L form number same = reduced L form number (λ d. ap form (same d)) (λ d h. subst L.Holds (sym (same d)) h)
 
 -- the numbers that stand at a place of a fixed layout, the lowest byte first
 abbrev pub le16_at : List ℕ → ℕ → ℕ

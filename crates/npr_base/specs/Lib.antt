@@ -24,6 +24,7 @@ pub mod Layout
 pub mod Fields
 pub mod Message
 pub mod MessageLaws
+pub mod Numbering
 pub mod Rows
 pub mod RowLaws
 pub mod AddressFamily

@@ -28,6 +28,10 @@ padded_hex_text width n = replicate (width - length (digits 16 false n)) 48 ++ d
 abbrev pub is_set : ℕ → ℕ → Bool
 is_set bits flag = bit_and bits flag == flag
 
+-- a number that has no name
+abbrev pub other_text : ℕ → List ℕ
+other_text d = codes "other(" ++ decimal d ++ codes ")"
+
 -- an attribute that is kept as it stands: its kind with both flags, and the bytes of its value, as numbers
 abbrev pub nla_text : Item → Option (List ℕ)
 nla_text x = Some (codes "DefaultNla { kind: " ++ decimal x.kind ++ codes ", value: ") ++? debug_list (λ b. Some (decimal b)) x.value ++? Some (codes " }")

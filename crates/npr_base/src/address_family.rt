@@ -1,7 +1,7 @@
 //! Address families: `AF_*` of `linux/socket.h`.
 
 ghost use Rattle.std.specs.Prelude.{◌≡◌, Some};
-ghost use Rattle.npr_base.specs.AddressFamily.{family_of, family_number, family_text};
+ghost use Rattle.npr_base.specs.AddressFamily.{families, family_text};
 
 use crate::{number_of_variant, variant_of_number, write_variant};
 use std::fmt;
@@ -122,7 +122,7 @@ macro_rules! numbers {
 }
 
 impl From<u8> for AddressFamily {
-    ghost from_gives = { λ number family. family ≡ family_of number };
+    ghost from_gives = { λ number family. family ≡ families.of number };
 
     fn from(number: u8) -> AddressFamily {
         numbers!(variant_of_number(number))
@@ -130,7 +130,7 @@ impl From<u8> for AddressFamily {
 }
 
 impl From<AddressFamily> for u8 {
-    ghost from_gives = { λ family number. number ≡ family_number family };
+    ghost from_gives = { λ family number. number ≡ families.number family };
 
     fn from(family: AddressFamily) -> u8 {
         numbers!(number_of_variant(family))

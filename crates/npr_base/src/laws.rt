@@ -4,7 +4,7 @@
 ghost use Rattle.std.specs.Prelude.{◌≡◌, ◌≤◌, ◌+◌, ◌-◌, ◌*◌, ◌++◌, ◌∷◌, ◌↔◌, ℕ, List, [], Result, Err, None, length, true};
 ghost use Rattle.npr_base.specs.{
   declared.refusal.DecodeError.{DecodeError},
-  AddressFamily.{all_families, family_of, family_number},
+  AddressFamily.{all_family_rows, families},
   Equality.{IsEquality},
   Family.{list_members},
   Framing.{Item, Cut, Stops},
@@ -43,8 +43,8 @@ pub fn law_cut<A: Attribute>()
 
 /// What a number reads as is written as that number, and each row's family is written as the row's number.
 pub fn law_family_number()
-    ensures back { (d : ℕ) → family_number (family_of d) ≡ d }
-    ensures rows { agrees family_number (numbered all_families) ≡ true }
+    ensures back { (d : ℕ) → families.number (families.of d) ≡ d }
+    ensures rows { agrees families.number (numbered all_family_rows) ≡ true }
 {}
 
 /// The constants of `linux/netlink.h`.

@@ -6,12 +6,14 @@ use Rattle.npr_base.specs.AddressFamilyLaws.{family_equality}
 use Rattle.npr_base.specs.Equality.{IsEquality, IsEqualityOf}
 use Rattle.npr_base.specs.IpLaws.{ipv4_equality, ipv6_equality}
 use Rattle.npr_base.specs.EnumTable.{◌also◌}
-use Rattle.npr_base.specs.EnumTableLaws.{enum_decides, of_field}
+use Rattle.npr_base.specs.EnumTableLaws.{enum_decides}
 use Rattle.npr_base.specs.MeaningLaws.{enum_meaning, one_meaning, items_equality}
-use Rattle.npr_base.specs.StructLaws.{and_decides, decides_as}
+use Rattle.npr_base.specs.EqualityLaws.{one_equality}
+use Rattle.npr_base.specs.StructLaws.{◌beside◌, struct_equality}
 use Rattle.npr_base.specs.ViewEquality.{item_equality}
 use Rattle.npr_scalar.specs.EqualityLaws.{route_protocol_equality, route_type_equality}
-use Rattle.npr_neighbour.specs.Attribute.{meaning_of, rows}
+use Rattle.npr_neighbour.specs.contracts.header.NeighbourHeader.{struct}
+use Rattle.npr_neighbour.specs.Attribute.{family, rows}
 use Rattle.npr_neighbour.specs.NeighbourAddress as A
 use Rattle.npr_neighbour.specs.contracts.address.NeighbourAddress.{enum as address_enum}
 use Rattle.npr_neighbour.specs.contracts.address.NeighbourAddressPartialEq.TheImpl as AddressEq
@@ -50,31 +52,11 @@ state_equality : IsEquality StateEq.ghosts.eq
 state_equality = search rules
 
 pub header_equality : IsEquality HeaderEq.ghosts.eq
-header_equality a b =
-    decides_as
-    (λ (family, (ifindex, (state, (flags, kind)))). λ i. record { family = family i; ifindex = ifindex i; state = state i; flags = flags i; kind = kind i })
-    (λ e. (cc, (cc, (cc, (cc, cc)))))
-    (and_decides (family_equality a.family b.family)
-    (and_decides (signed_Decides a.ifindex b.ifindex)
-    (and_decides (state_equality a.state b.state)
-    (and_decides (flags_equality a.flags b.flags) (route_type_equality a.kind b.kind)))))
+header_equality =
+    struct_equality struct (λ v. tt) (λ d. refl)
+    (family_equality beside signed_Decides beside state_equality beside flags_equality beside one_equality route_type_equality)
 
-pub attribute_equality : IsEqualityOf meaning_of AttributeEq.ghosts.eq
+pub attribute_equality : IsEqualityOf family.meaning AttributeEq.ghosts.eq
 attribute_equality =
     enum_decides enum (rows A.any) _
-    (of_field address_equality
-    also of_field (items_equality unsigned_Decides)
-    also of_field info_equality
-    also of_field unsigned_Decides
-    also of_field unsigned_Decides
-    also of_field unsigned_Decides
-    also of_field unsigned_Decides
-    also of_field unsigned_Decides
-    also of_field unsigned_Decides
-    also of_field unsigned_Decides
-    also of_field unsigned_Decides
-    also of_field route_protocol_equality
-    also of_field unsigned_Decides
-    also of_field extended_flags_equality
-    also of_field item_equality
-    also tt)
+    (search (address_equality, items_equality, unsigned_Decides, info_equality, route_protocol_equality, extended_flags_equality, item_equality) depth 40)

@@ -4,9 +4,9 @@ use Rattle.npr_base.specs.declared.address_family.AddressFamily.{AddressFamily}
 use Rattle.npr_base.specs.declared.refusal.AttrFamily.TheVariants.{Neighbour}
 use Rattle.npr_base.specs.Layout.{le16, le32, be16}
 use Rattle.npr_base.specs.Codec.{exactly, leading, raw}
-use Rattle.npr_base.specs.EnumTable.{VariantRows, row, others, ◌also◌, value, items, seen, MeaningIn, meaning_in, shape_in}
-use Rattle.npr_base.specs.EnumTableLaws.{writing_in, attributes_in, shape-in, rewritten}
-use Rattle.npr_base.specs.Table.{Shape, Writing, Reading, Family, family_of}
+use Rattle.npr_base.specs.EnumTable.{VariantRows, row, others, ◌also◌, value, items, seen, MeaningIn, shape_in}
+use Rattle.npr_base.specs.EnumTableLaws.{writing_in, attributes_in, shape-in, rewritten, family_in}
+use Rattle.npr_base.specs.Table.{Shape, Writing, Reading, Family, shaped}
 use Rattle.npr_scalar.specs.RouteProtocol.{route_protocol}
 use Rattle.npr_neighbour.specs.CacheInfo.{cache_info}
 use Rattle.npr_neighbour.specs.Flags.{extended_flags}
@@ -37,18 +37,9 @@ rows form =
 abbrev pub Meaning : Type 0
 Meaning = MeaningIn enum.parts (rows any)
 
-abbrev pub meaning_of : NeighbourAttribute → Meaning
-meaning_of a = meaning_in enum.parts (rows any) (enum.as_values a)
-
--- how each is written, whatever the form of an address; by its variant besides: over so many rows the prover finds that sooner
+-- how each is written, whatever the form of an address
 abbrev pub writing : Writing Meaning
 writing = writing_in enum.parts (rows any)
-
-abbrev pub shape_of : NeighbourAttribute → Shape
-shape_of a = shape_in enum.parts (rows any) (enum.as_values a)
-
-pub shape_is : (a : NeighbourAttribute) → shape_of a ≡ writing.shape (meaning_of a)
-shape_is a = shape-in enum.parts (rows any) (enum.as_values a)
 
 pub shapes : (form : Form) (m : Meaning) → writing.shape m ≡ (writing_in enum.parts (rows form)).shape m
 shapes form (inl a) = refl
@@ -63,4 +54,11 @@ abbrev pub attributes : AddressFamily → Reading writing
 attributes family = let form = form_of family in rewritten (attributes_in enum.parts (rows form) refl) writing (shapes form) (members form)
 
 abbrev pub family : Family NeighbourAttribute AddressFamily
-family = family_of meaning_of attributes
+family = family_in enum (rows any) attributes
+
+-- what is written, by the variant: over so many rows the prover finds that sooner
+abbrev pub shape_of : NeighbourAttribute → Shape
+shape_of a = shape_in enum.parts (rows any) (enum.as_values a)
+
+pub shape_is : (a : NeighbourAttribute) → shape_of a ≡ shaped family a
+shape_is a = shape-in enum.parts (rows any) (enum.as_values a)

@@ -4,14 +4,14 @@ use Rattle.npr_base.specs.declared.refusal.DecodeError.{DecodeError}
 use Rattle.npr_base.specs.declared.refusal.EmitError.{EmitError}
 use Rattle.npr_base.specs.declared.message.Message.{Message as Stored}
 use Rattle.npr_base.specs.Message.{Message, Grammar, grammar_by, view, IsMessage, MessageFault, IsCoherent, spelling, message_misfit}
-use Rattle.npr_neighbour.specs.Attribute.{Meaning, family}
+use Rattle.npr_neighbour.specs.Attribute.{family}
 use Rattle.npr_neighbour.specs.Header.{header, default_header}
 use Rattle.npr_neighbour.specs.declared.header.NeighbourHeader.{NeighbourHeader}
 use Rattle.npr_neighbour.specs.declared.attribute.NeighbourAttribute.{NeighbourAttribute}
 
 -- a message without where it lies in memory
 abbrev pub Neighbour : Type 0
-Neighbour = Message NeighbourHeader Meaning
+Neighbour = Message NeighbourHeader family.Meaning
 
 abbrev pub NeighbourMessage : Type 0
 NeighbourMessage = Stored NeighbourHeader NeighbourAttribute

@@ -1,10 +1,9 @@
 -- How far a neighbour is known (linux/neighbour.h, NUD_*): every bit is kept.
 use Rattle.std.specs.Prelude.{ℕ}
+use Rattle.std.proofs.Common.{refl}
+use Rattle.npr_base.specs.Numbering.{Numbering}
 use Rattle.npr_neighbour.specs.declared.state.NeighbourState.{NeighbourState}
 
--- the bits of a set, and the set of these bits
-abbrev pub state_bits : NeighbourState → ℕ
-state_bits state = state.0
-
-abbrev pub state_of : ℕ → NeighbourState
-state_of bits = record { 0 = bits }
+-- the set of these bits, and the bits of a set
+abbrev pub state_bits : Numbering ℕ NeighbourState
+state_bits = record { of = λ bits. record { 0 = bits }; number = λ flags. flags.0; back = λ bits. refl }

@@ -1,7 +1,7 @@
 //! What a neighbour is besides: `NTF_*` of `linux/neighbour.h`. Every bit is kept.
 
 ghost use Rattle.std.specs.Prelude.{⊤, [], ◌∷◌, codes};
-ghost use Rattle.npr_neighbour.specs.Flags.{flags_bits, extended_flags_bits};
+ghost use Rattle.npr_neighbour.specs.Flags.{flag_bits, extended_flag_bits};
 
 use bitflags::{Flag, Flags};
 use npr_base::named_flags;
@@ -48,7 +48,7 @@ impl Flags for NeighbourFlags {
 
     ghost table = { (codes "Use", 1) ∷ (codes "Own", 2) ∷ (codes "Controller", 4) ∷ (codes "Proxy", 8) ∷ (codes "ExtLearned", 16) ∷ (codes "Offloaded", 32) ∷ (codes "Sticky", 64) ∷ (codes "Router", 128) ∷ ([], 255) ∷ [] };
 
-    ghost set_of = { flags_bits };
+    ghost set_of = { flag_bits.number };
 
     fn flags<'a>() -> &'a [Flag<NeighbourFlags>] {
         NeighbourFlags::FLAGS
@@ -84,7 +84,7 @@ impl Flags for NeighbourExtendedFlags {
 
     ghost table = { (codes "Managed", 1) ∷ ([], 4294967295) ∷ [] };
 
-    ghost set_of = { extended_flags_bits };
+    ghost set_of = { extended_flag_bits.number };
 
     fn flags<'a>() -> &'a [Flag<NeighbourExtendedFlags>] {
         NeighbourExtendedFlags::FLAGS

@@ -5,12 +5,12 @@ ghost use Rattle.std.specs.Prelude.{◌≡◌, ◌^◌};
 ghost use Rattle.{
   npr_base.specs.Equality.{IsEquality, IsEqualityOf},
   npr_neighbour.specs.{
-    Attribute.{meaning_of},
-    Flags.{flags_bits, flags_of, extended_flags_bits, extended_flags_of},
+    Attribute.{family},
+    Flags.{flag_bits, extended_flag_bits},
     Header.{default_header, header},
     Message.{message_of},
     NeighbourAddress.{Address, address_of, neighbour_address},
-    State.{state_bits, state_of},
+    State.{state_bits},
   },
 };
 
@@ -25,28 +25,28 @@ use npr_base::AddressFamily;
 
 /// The named states of a neighbour, by their bits (`linux/neighbour.h`).
 pub fn law_neighbour_states()
-    ensures none { state_bits NeighbourState.None ≡ 0 }
-    ensures incomplete { state_bits NeighbourState.Incomplete ≡ 2 ^ 0 }
-    ensures reachable { state_bits NeighbourState.Reachable ≡ 2 ^ 1 }
-    ensures stale { state_bits NeighbourState.Stale ≡ 2 ^ 2 }
-    ensures delay { state_bits NeighbourState.Delay ≡ 2 ^ 3 }
-    ensures probe { state_bits NeighbourState.Probe ≡ 2 ^ 4 }
-    ensures failed { state_bits NeighbourState.Failed ≡ 2 ^ 5 }
-    ensures noarp { state_bits NeighbourState.Noarp ≡ 2 ^ 6 }
-    ensures permanent { state_bits NeighbourState.Permanent ≡ 2 ^ 7 }
+    ensures none { state_bits.number NeighbourState.None ≡ 0 }
+    ensures incomplete { state_bits.number NeighbourState.Incomplete ≡ 2 ^ 0 }
+    ensures reachable { state_bits.number NeighbourState.Reachable ≡ 2 ^ 1 }
+    ensures stale { state_bits.number NeighbourState.Stale ≡ 2 ^ 2 }
+    ensures delay { state_bits.number NeighbourState.Delay ≡ 2 ^ 3 }
+    ensures probe { state_bits.number NeighbourState.Probe ≡ 2 ^ 4 }
+    ensures failed { state_bits.number NeighbourState.Failed ≡ 2 ^ 5 }
+    ensures noarp { state_bits.number NeighbourState.Noarp ≡ 2 ^ 6 }
+    ensures permanent { state_bits.number NeighbourState.Permanent ≡ 2 ^ 7 }
 {}
 
 /// The named flags of a neighbour, by their bits (`linux/neighbour.h`).
 pub fn law_neighbour_flags()
-    ensures in_use { flags_bits NeighbourFlags.Use ≡ 2 ^ 0 }
-    ensures own { flags_bits NeighbourFlags.Own ≡ 2 ^ 1 }
-    ensures controller { flags_bits NeighbourFlags.Controller ≡ 2 ^ 2 }
-    ensures proxy { flags_bits NeighbourFlags.Proxy ≡ 2 ^ 3 }
-    ensures ext_learned { flags_bits NeighbourFlags.ExtLearned ≡ 2 ^ 4 }
-    ensures offloaded { flags_bits NeighbourFlags.Offloaded ≡ 2 ^ 5 }
-    ensures sticky { flags_bits NeighbourFlags.Sticky ≡ 2 ^ 6 }
-    ensures router { flags_bits NeighbourFlags.Router ≡ 2 ^ 7 }
-    ensures managed { extended_flags_bits NeighbourExtendedFlags.Managed ≡ 2 ^ 0 }
+    ensures in_use { flag_bits.number NeighbourFlags.Use ≡ 2 ^ 0 }
+    ensures own { flag_bits.number NeighbourFlags.Own ≡ 2 ^ 1 }
+    ensures controller { flag_bits.number NeighbourFlags.Controller ≡ 2 ^ 2 }
+    ensures proxy { flag_bits.number NeighbourFlags.Proxy ≡ 2 ^ 3 }
+    ensures ext_learned { flag_bits.number NeighbourFlags.ExtLearned ≡ 2 ^ 4 }
+    ensures offloaded { flag_bits.number NeighbourFlags.Offloaded ≡ 2 ^ 5 }
+    ensures sticky { flag_bits.number NeighbourFlags.Sticky ≡ 2 ^ 6 }
+    ensures router { flag_bits.number NeighbourFlags.Router ≡ 2 ^ 7 }
+    ensures managed { extended_flag_bits.number NeighbourExtendedFlags.Managed ≡ 2 ^ 0 }
 {}
 
 /// An address that its family can hold is read again from its bytes.
@@ -56,9 +56,9 @@ pub fn law_read_back()
 
 /// Which value is the default.
 pub fn law_default()
-    ensures state { (x : NeighbourState) → ⟦<NeighbourState as Default>⟧.is_default x → x ≡ state_of 0 }
-    ensures flags { (x : NeighbourFlags) → ⟦<NeighbourFlags as Default>⟧.is_default x → x ≡ flags_of 0 }
-    ensures extended_flags { (x : NeighbourExtendedFlags) → ⟦<NeighbourExtendedFlags as Default>⟧.is_default x → x ≡ extended_flags_of 0 }
+    ensures state { (x : NeighbourState) → ⟦<NeighbourState as Default>⟧.is_default x → x ≡ state_bits.of 0 }
+    ensures flags { (x : NeighbourFlags) → ⟦<NeighbourFlags as Default>⟧.is_default x → x ≡ flag_bits.of 0 }
+    ensures extended_flags { (x : NeighbourExtendedFlags) → ⟦<NeighbourExtendedFlags as Default>⟧.is_default x → x ≡ extended_flag_bits.of 0 }
     ensures cache_info { (x : NeighbourCacheInfo) → ⟦<NeighbourCacheInfo as Default>⟧.is_default x → x ≡ record { confirmed = 0; used = 0; updated = 0; refcnt = 0 } }
     ensures header { (x : NeighbourHeader) → ⟦<NeighbourHeader as Default>⟧.is_default x → x ≡ default_header }
 {}
@@ -72,6 +72,6 @@ pub fn law_equality()
     ensures header { IsEquality ⟦<NeighbourHeader as PartialEq>⟧.eq }
     ensures header_buffer { IsEquality ⟦<NeighbourMessageBuffer as PartialEq>⟧.eq }
     ensures address { IsEqualityOf address_of ⟦<NeighbourAddress as PartialEq>⟧.eq }
-    ensures attribute { IsEqualityOf meaning_of ⟦<NeighbourAttribute as PartialEq>⟧.eq }
+    ensures attribute { IsEqualityOf family.meaning ⟦<NeighbourAttribute as PartialEq>⟧.eq }
     ensures message { IsEqualityOf message_of ⟦<NeighbourMessage as PartialEq>⟧.eq }
 {}

@@ -51,7 +51,7 @@ impl Flags for NeighbourState {
 
     ghost table = { (codes "Incomplete", 1) ∷ (codes "Reachable", 2) ∷ (codes "Stale", 4) ∷ (codes "Delay", 8) ∷ (codes "Probe", 16) ∷ (codes "Failed", 32) ∷ (codes "Noarp", 64) ∷ (codes "Permanent", 128) ∷ ([], 65535) ∷ [] };
 
-    ghost set_of = { state_bits };
+    ghost set_of = { state_bits.number };
 
     fn flags<'a>() -> &'a [Flag<NeighbourState>] {
         NeighbourState::FLAGS

@@ -10,19 +10,20 @@ use Rattle.npr_base.specs.AddressFamilyLaws.{family_equality}
 use Rattle.npr_base.specs.Equality.{IsEquality, IsEqualityOf}
 use Rattle.npr_base.specs.ViewEquality.{item_equality}
 use Rattle.npr_base.specs.EnumTable.{◌also◌}
-use Rattle.npr_base.specs.EnumTableLaws.{enum_decides, of_field}
+use Rattle.npr_base.specs.EnumTableLaws.{enum_decides}
 use Rattle.npr_base.specs.MeaningLaws.{enum_meaning_at, one_meaning, one_meaning_by, text_equality, items_equality, items_meaning}
-use Rattle.npr_base.specs.StructLaws.{and_decides, decides_as}
+use Rattle.npr_base.specs.EqualityLaws.{one_equality}
+use Rattle.npr_base.specs.StructLaws.{◌beside◌, struct_equality, and_decides, decides_as}
 use Rattle.npr_scalar.specs.EqualityLaws.{address_equality, cache_info_equality, label_equality, mfc_stats_equality, realm_equality, route_flags_equality, via_equality, route_protocol_equality, route_scope_equality, route_type_equality, route_preference_equality, ttl_propagation_equality}
 use Rattle.npr_scalar.specs.RouteAddress.{address_of}
 use Rattle.npr_scalar.specs.RouteVia.{via_of}
 use Rattle.npr_tunnel.specs.Encapsulation as OfEncap
 use Rattle.npr_tunnel.specs.EqualityLaws.{encap_type_equality, encap_equality}
+use Rattle.npr_route.specs.contracts.header.RouteHeader.{struct}
 use Rattle.npr_route.specs.Attribute.{Meaning, flat, multi_path, Attributes, no_more, attribute, Hops, no_hops, hop, Hop, attributes_of}
 use Rattle.npr_route.specs.AttributeView.{hops_of, attribute_step, hop_step, meaning_of, hop_of}
 use Rattle.npr_route.specs.FlatAttribute as Flat
 use Rattle.npr_route.specs.Metric as Metrics
-use Rattle.npr_route.specs.Metric.{metric_of}
 use Rattle.npr_route.specs.contracts.attribute.RouteAttribute.{enum}
 use Rattle.npr_route.specs.contracts.attribute.RouteAttributePartialEq.TheImpl as AttributeEq
 use Rattle.npr_route.specs.contracts.attribute.RouteAttributePartialEq.TheImpl.Laws as AttributeLaws
@@ -39,41 +40,13 @@ use Rattle.npr_route.proofs.Views.{view_hop, view_multi_path}
 use denote.Hole.Carrier
 
 pub header_equality : IsEquality HeaderEq.ghosts.eq
-header_equality a b =
-    decides_as
-    (λ (family, (destination, (source, (tos, (table, (protocol, (scope, (kind, flags)))))))). λ i. record { address_family = family i; destination_prefix_length = destination i; source_prefix_length = source i; tos = tos i; table = table i; protocol = protocol i; scope = scope i; kind = kind i; flags = flags i })
-    (λ e. (cc, (cc, (cc, (cc, (cc, (cc, (cc, (cc, cc)))))))))
-    (and_decides (family_equality a.address_family b.address_family)
-    (and_decides (unsigned_Decides a.destination_prefix_length b.destination_prefix_length)
-    (and_decides (unsigned_Decides a.source_prefix_length b.source_prefix_length)
-    (and_decides (unsigned_Decides a.tos b.tos)
-    (and_decides (unsigned_Decides a.table b.table)
-    (and_decides (route_protocol_equality a.protocol b.protocol)
-    (and_decides (route_scope_equality a.scope b.scope)
-    (and_decides (route_type_equality a.kind b.kind) (route_flags_equality a.flags b.flags)))))))))
+header_equality =
+    struct_equality struct (λ v. tt) (λ d. refl)
+    (family_equality beside unsigned_Decides beside unsigned_Decides beside unsigned_Decides beside unsigned_Decides
+    beside route_protocol_equality beside route_scope_equality beside route_type_equality beside one_equality route_flags_equality)
 
-pub metric_equality : IsEqualityOf metric_of MetricEq.ghosts.eq
-metric_equality =
-    enum_decides metric_enum Metrics.rows _
-    (of_field unsigned_Decides
-    also of_field unsigned_Decides
-    also of_field unsigned_Decides
-    also of_field unsigned_Decides
-    also of_field unsigned_Decides
-    also of_field unsigned_Decides
-    also of_field unsigned_Decides
-    also of_field unsigned_Decides
-    also of_field unsigned_Decides
-    also of_field unsigned_Decides
-    also of_field unsigned_Decides
-    also of_field unsigned_Decides
-    also of_field unsigned_Decides
-    also of_field unsigned_Decides
-    also of_field unsigned_Decides
-    also of_field text_equality
-    also of_field unsigned_Decides
-    also of_field item_equality
-    also tt)
+pub metric_equality : IsEqualityOf Metrics.family.meaning MetricEq.ghosts.eq
+metric_equality = enum_decides metric_enum Metrics.rows _ (search (unsigned_Decides, text_equality, item_equality) depth 40)
 
 -- the places of the variants of an attribute's meaning: next hops stand behind the metrics
 order : Meaning → ℕ
@@ -150,7 +123,7 @@ attribute_layer t inside a b is =
     (λ x. refl, one_meaning address_of (λ a. flat (Flat.gateway a)) address_equality (λ p q e. cc)) also
     (λ x. refl, one_meaning (λ n. n) (λ a. flat (Flat.priority a)) unsigned_Decides (λ p q e. cc)) also
     (λ x. refl, one_meaning address_of (λ a. flat (Flat.pref_source a)) address_equality (λ p q e. cc)) also
-    (λ x. refl, one_meaning (λ v. map metric_of v.items) (λ a. flat (Flat.metrics a)) (items_meaning metric_of metric_equality) (λ p q e. cc)) also
+    (λ x. refl, one_meaning (λ v. map Metrics.family.meaning v.items) (λ a. flat (Flat.metrics a)) (items_meaning Metrics.family.meaning metric_equality) (λ p q e. cc)) also
     (λ x. ap order (outermost_multi_path x.0), one_meaning_by (λ (v : Vec RouteNextHop Global). hops_in v.items) multi_path (λ v. outermost (MultiPath v)) outermost_multi_path (λ p q e. cc) inside) also
     (λ x. refl, one_meaning (λ f. f) (λ a. flat (Flat.realm a)) realm_equality (λ p q e. cc)) also
     (λ x. refl, one_meaning (λ f. f) (λ a. flat (Flat.cache_info a)) cache_info_equality (λ p q e. cc)) also

@@ -18,7 +18,7 @@ use Rattle.npr_route.specs.NextHopHeader.{head_in}
 use Rattle.npr_route.specs.Reader.{HopsTo, context_inside, IsAt, IsOpen, Waits, Chain, Tied, Opens, level_weight, weight_of}
 use Rattle.npr_route.specs.Reader.{level_account, account_of, account, unread, Account, Added, Ended}
 use Rattle.npr_route.specs.Ahead.{ahead, stopped, SoughtIn}
-use Rattle.npr_scalar.specs.RouteFlags.{next_hop_flags_bits}
+use Rattle.npr_scalar.specs.RouteFlags.{next_hop_flag_bits}
 use Rattle.npr_scalar.specs.declared.flags.RouteNextHopFlags.{RouteNextHopFlags}
 use Rattle.npr_route.specs.declared.attribute.RouteAttribute.{RouteAttribute}
 use Rattle.npr_route.specs.declared.next_hops.RouteNextHop.{RouteNextHop, RouteNextHop-F, roll-RouteNextHop}
@@ -222,7 +222,7 @@ Ended-inside old mid new size walk before is a r le =
     }
 
 -- the next hops of a level with the one that was open
-pub hops_closed : (l : Level) (flags : RouteNextHopFlags) (xs : List RouteNextHop) → next_hop_flags_bits flags ≡ l.header.flags
+pub hops_closed : (l : Level) (flags : RouteNextHopFlags) (xs : List RouteNextHop) → next_hop_flag_bits.number flags ≡ l.header.flags
     → xs ≡ l.next_hops.items ++ roll-RouteNextHop (record { flags = flags; hops = l.header.hops; interface_index = l.header.interface_index; attributes = l.attributes }) ∷ []
     → map hop_of xs ≡ map hop_of l.next_hops.items ++ closed_hop l ∷ []
 hops_closed l flags xs bits is =

@@ -12,7 +12,7 @@ use Rattle.npr_route.specs.Attribute.{Meaning, flat, multi_path, Reads}
 use Rattle.npr_route.specs.AttributeLooks.{AttributeLooks, value_read, hops_inside, hops_end}
 use Rattle.npr_route.specs.FlatAttribute.{Context}
 use Rattle.npr_route.specs.FlatAttributeLaws as Flats
-use Rattle.npr_route.specs.Metric.{metrics}
+use Rattle.npr_route.specs.Metric.{attributes as metrics}
 use Rattle.npr_tunnel.specs.Encapsulation.{encapsulation}
 
 -- an empty list of next hops takes none

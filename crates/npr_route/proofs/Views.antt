@@ -9,7 +9,7 @@ use Rattle.npr_base.specs.Framing.{encoding}
 use Rattle.npr_base.specs.Family.{checked, option_or, overlong, first_unfit, list_unfit, encodings}
 use Rattle.npr_route.specs.Attribute.{HopHead, Meaning, flat, multi_path, Hop, shape_of, misfit, attributes_misfit, attributes_bytes, hops_misfit, hops_bytes, hop_misfit, hop_bytes, hop_overlong, attributes_of}
 use Rattle.npr_route.specs.AttributeView.{hops_of, attribute_step, hop_step, meaning_of, hop_of, attribute_item, attribute_misfit, next_hop_bytes, next_hop_misfit, joined}
-use Rattle.npr_scalar.specs.RouteFlags.{next_hop_flags_bits}
+use Rattle.npr_scalar.specs.RouteFlags.{next_hop_flag_bits}
 use Rattle.npr_route.specs.declared.attribute.RouteAttribute.{RouteAttribute}
 use Rattle.npr_route.specs.declared.attribute.RouteAttribute.TheFolds.{fold_out-RouteNextHop, fold-roll-RouteNextHop, fold-roll-RouteAttribute}
 use Rattle.npr_route.specs.declared.attribute.RouteAttribute.TheOpen as Open
@@ -19,7 +19,7 @@ use Rattle.npr_scalar.specs.declared.address.RouteAddress.{RouteAddress}
 use Rattle.npr_scalar.specs.declared.mpls.MplsLabel.{MplsLabel}
 use Rattle.npr_tunnel.specs.Encapsulation.{meaning_of as member_of}
 use Rattle.npr_tunnel.specs.declared.encap.RouteLwTunnelEncap.{RouteLwTunnelEncap}
-use Rattle.npr_route.specs.Metric.{metric_of}
+use Rattle.npr_route.specs.Metric.{family as metric_family}
 use Rattle.npr_route.specs.declared.metrics.RouteMetric.{RouteMetric}
 use Rattle.npr_route.specs.FlatAttribute as Flat
 use Rattle.std.specs.declared.vec.Vec.{Vec}
@@ -27,7 +27,7 @@ use Rattle.std.specs.declared.alloc.Global.{Global}
 use Rattle.npr_route.specs.declared.next_hops.RouteNextHop.{RouteNextHop, RouteNextHop-F, roll-RouteNextHop}
 
 abbrev pub head_of : RouteNextHop → HopHead
-head_of h = record { flags = next_hop_flags_bits h.flags; hops = h.hops; interface_index = h.interface_index }
+head_of h = record { flags = next_hop_flag_bits.number h.flags; hops = h.hops; interface_index = h.interface_index }
 
 -- a next hop is its fields, and what its attributes mean
 pub view_hop : (h : RouteNextHop) → hop_of h ≡ record { head = head_of h; attributes = attributes_of (map meaning_of h.attributes.items) }
@@ -35,14 +35,14 @@ view_hop h = fold_out-RouteNextHop Meaning Hop attribute_step hop_step h
 
 -- the same of one that is made of its fields
 pub view_hop_made : (x : RouteNextHop-F RouteAttribute RouteNextHop) → hop_of (roll-RouteNextHop x)
-    ≡ record { head = record { flags = next_hop_flags_bits x.flags; hops = x.hops; interface_index = x.interface_index }; attributes = attributes_of (map meaning_of x.attributes.items) }
+    ≡ record { head = record { flags = next_hop_flag_bits.number x.flags; hops = x.hops; interface_index = x.interface_index }; attributes = attributes_of (map meaning_of x.attributes.items) }
 view_hop_made = fold-roll-RouteNextHop Meaning Hop attribute_step hop_step
 
 -- and next hops are what each of them means
 pub view_multi_path : (v : Vec RouteNextHop Global) → meaning_of (MultiPath v) ≡ multi_path (hops_of (map hop_of v.items))
 view_multi_path v = ap meaning_of (sym (rolls-MultiPath v)) ∙ fold-roll-RouteAttribute Meaning Hop attribute_step hop_step (Open.MultiPath v)
 
-pub view_metrics : (v : Vec RouteMetric Global) → meaning_of (Metrics v) ≡ flat (Flat.metrics (map metric_of v.items))
+pub view_metrics : (v : Vec RouteMetric Global) → meaning_of (Metrics v) ≡ flat (Flat.metrics (map metric_family.meaning v.items))
 view_metrics v = ap meaning_of (sym (rolls-Metrics v)) ∙ fold-roll-RouteAttribute Meaning Hop attribute_step hop_step (Open.Metrics v)
 
 pub view_encapsulation : (v : Vec RouteLwTunnelEncap Global) → meaning_of (Encap v) ≡ flat (Flat.encap (map member_of v.items))

@@ -4,10 +4,10 @@ use Rattle.npr_base.specs.declared.refusal.EmitError.{EmitError}
 use Rattle.npr_base.specs.Framing.{Item}
 use Rattle.npr_base.specs.Table.{Family, family_of}
 use Rattle.npr_scalar.specs.RouteAddress.{address_of}
-use Rattle.npr_scalar.specs.RouteFlags.{next_hop_flags_bits}
+use Rattle.npr_scalar.specs.RouteFlags.{next_hop_flag_bits}
 use Rattle.npr_scalar.specs.RouteVia.{via_of}
 use Rattle.npr_tunnel.specs.Encapsulation as OfEncap
-use Rattle.npr_route.specs.Metric.{metric_of}
+use Rattle.npr_route.specs.Metric.{family as metric_family}
 use Rattle.npr_route.specs.FlatAttribute as Flat
 use Rattle.npr_route.specs.FlatAttribute.{Context}
 use Rattle.npr_route.specs.AttributeFamily.{attributes}
@@ -30,7 +30,7 @@ attribute_step (Open.Oif a) = flat (Flat.oif a)
 attribute_step (Open.Gateway a) = flat (Flat.gateway (address_of a))
 attribute_step (Open.Priority a) = flat (Flat.priority a)
 attribute_step (Open.PrefSource a) = flat (Flat.pref_source (address_of a))
-attribute_step (Open.Metrics a) = flat (Flat.metrics (map metric_of a.items))
+attribute_step (Open.Metrics a) = flat (Flat.metrics (map metric_family.meaning a.items))
 attribute_step (Open.MultiPath a) = multi_path (hops_of a.items)
 attribute_step (Open.Realm a) = flat (Flat.realm a)
 attribute_step (Open.CacheInfo a) = flat (Flat.cache_info a)
@@ -57,7 +57,7 @@ attribute_step (Open.Other d) = flat (Flat.other d)
 -- and of a next hop
 abbrev pub hop_step : RouteNextHop-F Meaning Hop → Hop
 hop_step h = record {
-  head = record { flags = next_hop_flags_bits h.flags; hops = h.hops; interface_index = h.interface_index };
+  head = record { flags = next_hop_flag_bits.number h.flags; hops = h.hops; interface_index = h.interface_index };
   attributes = attributes_of h.attributes.items;
 }
 

@@ -28,7 +28,7 @@ use Rattle.npr_tunnel.specs.Encapsulation as OfEncap
 use Rattle.npr_tunnel.specs.IpTunnel as OfIp
 use Rattle.npr_tunnel.specs.declared.encap_type.RouteLwEnCapType.{RouteLwEnCapType}
 use Rattle.npr_tunnel.specs.declared.encap_type.RouteLwEnCapType.TheVariants.{None as NoEncapsulation}
-use Rattle.npr_route.specs.Metric.{Metric, metrics as metric_family}
+use Rattle.npr_route.specs.Metric.{family as metric_family, attributes as metric_attributes}
 
 -- what an attribute without next hops is
 pub data Meaning : Type 0 where
@@ -39,7 +39,7 @@ pub data Meaning : Type 0 where
   gateway : AddressMeaning → Meaning
   priority : ℕ → Meaning
   pref_source : AddressMeaning → Meaning
-  metrics : List Metric → Meaning
+  metrics : List metric_family.Meaning → Meaning
   realm : RouteRealm → Meaning
   cache_info : RouteCacheInfo → Meaning
   table : ℕ → Meaning
@@ -74,7 +74,7 @@ Context = AddressFamily × RouteType × RouteLwEnCapType
 
 -- number 8: metrics
 abbrev pub metrics_row : Row Meaning
-metrics_row = row OfRoute 8 (list_of metric_family) metrics
+metrics_row = row OfRoute 8 (list_of metric_attributes) metrics
 
 -- number 19: labels for family mpls, else an address
 abbrev pub NewDestinationValue : Form → Type 0
@@ -172,7 +172,7 @@ held_of (oif a) = held 4 (exactly le32) a
 held_of (gateway a) = held 5 raw (route_address_bytes a)
 held_of (priority a) = held 6 (exactly le32) a
 held_of (pref_source a) = held 7 raw (route_address_bytes a)
-held_of (metrics a) = held 8 (list_of metric_family) a
+held_of (metrics a) = held 8 (list_of metric_attributes) a
 held_of (realm a) = held 11 (exactly route_realm) a
 held_of (cache_info a) = held 12 (leading route_cache_info) a
 held_of (table a) = held 15 (exactly le32) a

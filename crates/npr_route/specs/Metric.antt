@@ -2,10 +2,10 @@
 use Rattle.npr_base.specs.declared.refusal.AttrFamily.TheVariants.{Metric as OfMetric}
 use Rattle.npr_base.specs.Layout.{le32}
 use Rattle.npr_base.specs.Codec.{exactly}
-use Rattle.npr_base.specs.EnumTable.{VariantRows, row, others, ◌also◌, value, text, MeaningIn, meaning_in, shape_in}
-use Rattle.npr_base.specs.EnumTableLaws.{writing_in, attributes_in, shape-in}
+use Rattle.npr_base.specs.EnumTable.{VariantRows, row, others, ◌also◌, value, text, shape_in}
+use Rattle.npr_base.specs.EnumTableLaws.{writing_in, attributes_in, shape-in, family_in}
 use Rattle.npr_base.specs.Name.{name}
-use Rattle.npr_base.specs.Table.{Shape, Writing, Reading}
+use Rattle.npr_base.specs.Table.{Shape, Reading, shaped, Family}
 use Rattle.npr_route.specs.declared.metrics.RouteMetric.{RouteMetric}
 use Rattle.npr_route.specs.contracts.metrics.RouteMetric.{enum}
 use Rattle.std.proofs.Common.{◌≡◌, refl}
@@ -32,23 +32,16 @@ rows =
     also row OfMetric 17 (exactly le32) value  -- RTAX_FASTOPEN_NO_COOKIE
     also others value
 
--- what a metric is, without where it lies in memory
-abbrev pub Metric : Type 0
-Metric = MeaningIn enum.parts rows
+-- the family
+unfoldable pub attributes : Reading (writing_in enum.parts rows)
+attributes = attributes_in enum.parts rows refl
 
-abbrev pub metric_of : RouteMetric → Metric
-metric_of a = meaning_in enum.parts rows (enum.as_values a)
+abbrev pub family : Family RouteMetric (Unit {0})
+family = family_in enum rows (λ c. attributes)
 
--- how each is written, by its variant besides: over so many rows the prover finds that sooner
-abbrev pub writing : Writing Metric
-writing = writing_in enum.parts rows
-
+-- what is written, by the variant: over so many rows the prover finds that sooner
 abbrev pub shape_of : RouteMetric → Shape
 shape_of a = shape_in enum.parts rows (enum.as_values a)
 
-pub shape_is : (a : RouteMetric) → shape_of a ≡ writing.shape (metric_of a)
+pub shape_is : (a : RouteMetric) → shape_of a ≡ shaped family a
 shape_is a = shape-in enum.parts rows (enum.as_values a)
-
--- the family
-unfoldable pub metrics : Reading writing
-metrics = attributes_in enum.parts rows refl

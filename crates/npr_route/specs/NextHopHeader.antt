@@ -1,17 +1,14 @@
 -- The header of a next hop (linux/rtnetlink.h, struct rtnexthop): a length of two bytes, flags, hops, and an index of four.
 use Rattle.std.specs.Prelude.{◌≡◌, ◌≤◌, List, ℕ, length, take}
-use Rattle.std.proofs.Common.{refl}
-use Rattle.npr_base.specs.Fields.{one_byte, le_two, le_four, ◌then◌, structure}
+use Rattle.npr_base.specs.Fields.{one_byte, le_two, le_four, ◌then◌, last, structure}
 use Rattle.npr_base.specs.Layout.{Layout}
 use Rattle.npr_route.specs.Attribute.{HopHead}
+use Rattle.npr_route.specs.contracts.next_hop_buffer.RouteNextHopBuffer.{struct}
 use Rattle.npr_route.specs.declared.next_hop_buffer.RouteNextHopBuffer.{RouteNextHopBuffer}
 
 -- in this order, little endian
 abbrev pub next_hop_buffer : Layout RouteNextHopBuffer
-next_hop_buffer =
-    structure (le_two then one_byte then one_byte then le_four)
-    (λ (long, (flags, (hops, index))). record { length = long; flags = flags; hops = hops; interface_index = index })
-    (λ b. (b.length, (b.flags, (b.hops, b.interface_index)))) (λ fields. refl)
+next_hop_buffer = structure struct (le_two then one_byte then one_byte then last le_four) (λ v. tt)
 
 -- the header in front, whose length lies within the bytes
 abbrev pub IsChecked : List ℕ → RouteNextHopBuffer → Type 0

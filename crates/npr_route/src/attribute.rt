@@ -1,7 +1,7 @@
 //! The attributes of a route message: `RTA_*` of `linux/rtnetlink.h`.
 
 ghost use Rattle.std.specs.Prelude.{refl};
-ghost use Rattle.npr_route.specs.{AttributeView.{meaning_of, family}, AttributeFamily.{writing}};
+ghost use Rattle.{npr_base.specs.Table.{shaped}, npr_route.specs.AttributeView.{family}};
 
 use crate::descent::{check_inside, clone_attribute, is_marked, write_value};
 use crate::metrics::RouteMetric;
@@ -113,7 +113,7 @@ pub enum RouteAttribute {
 }
 
 impl Nla for RouteAttribute {
-    ghost shape = { λ a. writing.shape (meaning_of a) };
+    ghost shape = { shaped family };
 
     fn kind(&self) -> u16 {
         route_rows!(kind_rows(self;

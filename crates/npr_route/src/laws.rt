@@ -17,7 +17,7 @@ ghost use Rattle.{
     FlatAttribute.{Context, Meaning as Flat},
     Governing.{Governs},
     Header.{default_header, header},
-    Metric.{metric_of},
+    Metric.{family as metric_family},
     Message.{Route, message_of, normalized_route, IsRouteMessage, IsRouteMessageBy, IsCoherentRoute, IsCoherentRouteBy, route_bytes, route_misfit},
     Attribute.{Meaning, Attributes, attributes_of, first_type, AreGoverned, Hops, AreHops, HopsWrong, HopsCoherent, hops_bytes, hops_misfit, HopHead, no_hops, hop, no_more, attribute, multi_path, flat, hops_depth, attributes_depth},
     RouteList.{Under, IsRouteList},
@@ -97,7 +97,7 @@ pub fn law_equality()
     ensures header { IsEquality ⟦<RouteHeader as PartialEq>⟧.eq }
     ensures header_buffer { IsEquality ⟦<RouteMessageBuffer as PartialEq>⟧.eq }
     ensures next_hop_buffer { IsEquality ⟦<RouteNextHopBuffer as PartialEq>⟧.eq }
-    ensures metric { IsEqualityOf metric_of ⟦<RouteMetric as PartialEq>⟧.eq }
+    ensures metric { IsEqualityOf metric_family.meaning ⟦<RouteMetric as PartialEq>⟧.eq }
     ensures attribute { IsEqualityOf meaning_of ⟦<RouteAttribute as PartialEq>⟧.eq }
     ensures next_hop { IsEqualityOf hop_of ⟦<RouteNextHop as PartialEq>⟧.eq }
     ensures message { IsEqualityOf message_of ⟦<RouteMessage as PartialEq>⟧.eq }

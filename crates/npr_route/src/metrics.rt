@@ -1,6 +1,6 @@
 //! The metrics of a route: `RTAX_*` of `linux/rtnetlink.h`.
 
-ghost use Rattle.{npr_base.specs.Table.{family_of}, npr_route.specs.Metric.{metric_of, shape_of, shape_is, metrics}};
+ghost use Rattle.npr_route.specs.Metric.{family, shape_of, shape_is};
 
 use npr_base::{Attribute, DecodeError, DefaultNla, EmitError, Looks, Nla, NlaBuffer, Place};
 use std::alloc::{AllocError, Global};
@@ -94,11 +94,11 @@ impl Nla for RouteMetric {
 impl Attribute for RouteMetric {
     type Context = ();
 
-    ghost family = { family_of metric_of (λ _. metrics) };
+    ghost family = { family };
 
     ghost shape_is = { shape_is };
 
-    #[tactic(auto, unfolding(crate::specs::Metric::metrics))]
+    #[tactic(auto, unfolding(crate::specs::Metric::attributes))]
     fn read_into<P: Place<Self>>(
         place: &mut P,
         alloc: Global,

@@ -24,7 +24,7 @@ ghost use Rattle.{
     AttributeFamily.{attributes},
     declared.attribute.RouteAttribute.{RouteAttribute},
     FlatAttributeLaws.{attributes as flat_attributes},
-    Metric.{metrics},
+    Metric.{attributes as metrics},
     FlatAttribute.{Meaning as Flat, is_multicast, metrics_row, new_destination_row, encap_row, expires_row},
   },
 };

@@ -1,16 +1,17 @@
 -- What `==` answers of attributes and messages: whether they mean the same.
 use Rattle.std.specs.Cmp.{booleans_Decides, unsigned_Decides}
-use Rattle.std.proofs.Common.{rules}
+use Rattle.std.proofs.Common.{rules, refl}
 use Rattle.npr_base.specs.AddressFamilyLaws.{family_equality}
 use Rattle.npr_base.specs.Equality.{IsEquality, IsEqualityOf}
 use Rattle.npr_base.specs.ViewEquality.{item_equality}
 use Rattle.npr_base.specs.IpLaws.{ip_equality}
-use Rattle.npr_base.specs.EnumTable.{◌also◌}
-use Rattle.npr_base.specs.EnumTableLaws.{enum_decides, of_field}
+use Rattle.npr_base.specs.EnumTableLaws.{enum_decides}
 use Rattle.npr_base.specs.MeaningLaws.{text_equality}
-use Rattle.npr_base.specs.StructLaws.{and_decides, decides_as}
+use Rattle.npr_base.specs.EqualityLaws.{one_equality}
+use Rattle.npr_base.specs.StructLaws.{◌beside◌, struct_equality}
 use Rattle.npr_scalar.specs.EqualityLaws.{realm_equality, ip_protocol_equality, route_protocol_equality}
-use Rattle.npr_rule.specs.Attribute.{meaning_of, rows}
+use Rattle.npr_rule.specs.contracts.header.RuleHeader.{struct}
+use Rattle.npr_rule.specs.Attribute.{family, rows}
 use Rattle.npr_rule.specs.contracts.action.RuleActionPartialEq.TheImpl as ActionEq
 use Rattle.npr_rule.specs.contracts.attribute.RuleAttribute.{enum}
 use Rattle.npr_rule.specs.contracts.attribute.RuleAttributePartialEq.TheImpl as AttributeEq
@@ -32,37 +33,23 @@ action_equality : IsEquality ActionEq.ghosts.eq
 action_equality = search rules
 
 pub header_equality : IsEquality HeaderEq.ghosts.eq
-header_equality a b =
-    decides_as
-    (λ (family, (dst_len, (src_len, (tos, (table, (action, flags)))))). λ i. record { family = family i; dst_len = dst_len i; src_len = src_len i; tos = tos i; table = table i; action = action i; flags = flags i })
-    (λ e. (cc, (cc, (cc, (cc, (cc, (cc, cc)))))))
-    (and_decides (family_equality a.family b.family)
-    (and_decides (unsigned_Decides a.dst_len b.dst_len)
-    (and_decides (unsigned_Decides a.src_len b.src_len)
-    (and_decides (unsigned_Decides a.tos b.tos)
-    (and_decides (unsigned_Decides a.table b.table)
-    (and_decides (action_equality a.action b.action) (flags_equality a.flags b.flags)))))))
+header_equality =
+    struct_equality struct (λ v. tt) (λ d. refl)
+    (family_equality beside unsigned_Decides beside unsigned_Decides beside unsigned_Decides beside unsigned_Decides beside action_equality
+    beside one_equality flags_equality)
 
-pub attribute_equality : IsEqualityOf meaning_of AttributeEq.ghosts.eq
+pub attribute_equality : IsEqualityOf family.meaning AttributeEq.ghosts.eq
 attribute_equality =
     enum_decides enum rows _
-    (of_field ip_equality
-    also of_field ip_equality
-    also of_field text_equality
-    also of_field unsigned_Decides
-    also of_field unsigned_Decides
-    also of_field unsigned_Decides
-    also of_field realm_equality
-    also of_field unsigned_Decides
-    also of_field unsigned_Decides
-    also of_field unsigned_Decides
-    also of_field unsigned_Decides
-    also of_field unsigned_Decides
-    also of_field text_equality
-    also of_field booleans_Decides
-    also of_field uid_equality
-    also of_field route_protocol_equality
-    also of_field ip_protocol_equality
-    also of_field port_equality
-    also of_field port_equality
-    also of_field item_equality also tt)
+    (search (
+      ip_equality,
+      booleans_Decides,
+      text_equality,
+      unsigned_Decides,
+      realm_equality,
+      uid_equality,
+      route_protocol_equality,
+      ip_protocol_equality,
+      port_equality,
+      item_equality,
+    ) depth 40)

@@ -3,12 +3,12 @@ use Rattle.std.specs.Prelude.{ℕ, Option}
 use Rattle.npr_base.specs.declared.refusal.AttrFamily.TheVariants.{Rule}
 use Rattle.npr_base.specs.Layout.{le32, be64, boolean}
 use Rattle.npr_base.specs.Codec.{exactly}
-use Rattle.npr_base.specs.EnumTable.{VariantRows, row, others, ◌also◌, value, text, MeaningIn, meaning_in, shape_in}
+use Rattle.npr_base.specs.EnumTable.{VariantRows, row, others, ◌also◌, value, text, shape_in}
 use Rattle.npr_base.specs.EnumTableValues.{ValueIn, value_in, found_in}
-use Rattle.npr_base.specs.EnumTableLaws.{writing_in, attributes_in, shape-in}
+use Rattle.npr_base.specs.EnumTableLaws.{writing_in, attributes_in, shape-in, family_in}
 use Rattle.npr_base.specs.IpCodec.{ip}
 use Rattle.npr_base.specs.Name.{name}
-use Rattle.npr_base.specs.Table.{Shape, Writing, Reading, Family, family_of}
+use Rattle.npr_base.specs.Table.{Shape, Reading, Family, shaped}
 use Rattle.npr_scalar.specs.Realm.{route_realm}
 use Rattle.npr_scalar.specs.RouteProtocol.{route_protocol}
 use Rattle.npr_rule.specs.IpProtocolByte.{ip_protocol_byte}
@@ -42,33 +42,23 @@ rows =
     also row Rule 24 (exactly port_range) value  -- FRA_DPORT_RANGE
     also others value
 
--- what an attribute is, without where it lies in memory
-abbrev pub Meaning : Type 0
-Meaning = MeaningIn enum.parts rows
-
-abbrev pub meaning_of : RuleAttribute → Meaning
-meaning_of a = meaning_in enum.parts rows (enum.as_values a)
-
--- by the number of its row: the attribute that has such a value, and the value, where it stands there
-abbrev pub attribute : (number : ℕ) → ValueIn enum.parts rows number → Meaning
-attribute number v = value_in enum.parts rows number v
-
-abbrev pub value_of : (number : ℕ) → Meaning → Option (ValueIn enum.parts rows number)
-value_of number m = found_in enum.parts rows number m
-
--- how each is written, by its variant besides: over so many rows the prover finds that sooner
-abbrev pub writing : Writing Meaning
-writing = writing_in enum.parts rows
-
-abbrev pub shape_of : RuleAttribute → Shape
-shape_of a = shape_in enum.parts rows (enum.as_values a)
-
-pub shape_is : (a : RuleAttribute) → shape_of a ≡ writing.shape (meaning_of a)
-shape_is a = shape-in enum.parts rows (enum.as_values a)
-
 -- the family
-abbrev pub attributes : Reading writing
+abbrev pub attributes : Reading (writing_in enum.parts rows)
 attributes = attributes_in enum.parts rows refl
 
 abbrev pub family : Family RuleAttribute (Unit {0})
-family = family_of meaning_of (λ c. attributes)
+family = family_in enum rows (λ c. attributes)
+
+-- by the number of its row: the attribute that has such a value, and the value, where it stands there
+abbrev pub attribute : (number : ℕ) → ValueIn enum.parts rows number → family.Meaning
+attribute number v = value_in enum.parts rows number v
+
+abbrev pub value_of : (number : ℕ) → family.Meaning → Option (ValueIn enum.parts rows number)
+value_of number m = found_in enum.parts rows number m
+
+-- what is written, by the variant: over so many rows the prover finds that sooner
+abbrev pub shape_of : RuleAttribute → Shape
+shape_of a = shape_in enum.parts rows (enum.as_values a)
+
+pub shape_is : (a : RuleAttribute) → shape_of a ≡ shaped family a
+shape_is a = shape-in enum.parts rows (enum.as_values a)

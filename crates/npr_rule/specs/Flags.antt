@@ -1,10 +1,9 @@
 -- Sets of flags of a rule: every bit is kept.
 use Rattle.std.specs.Prelude.{ℕ}
+use Rattle.std.proofs.Common.{refl}
+use Rattle.npr_base.specs.Numbering.{Numbering}
 use Rattle.npr_rule.specs.declared.flags.RuleFlags.{RuleFlags}
 
--- the bits of a set, and the set of these bits
-abbrev pub rule_flags_bits : RuleFlags → ℕ
-rule_flags_bits flags = flags.0
-
-abbrev pub rule_flags_of : ℕ → RuleFlags
-rule_flags_of bits = record { 0 = bits }
+-- the set of these bits, and the bits of a set
+abbrev pub rule_flag_bits : Numbering ℕ RuleFlags
+rule_flag_bits = record { of = λ bits. record { 0 = bits }; number = λ flags. flags.0; back = λ bits. refl }

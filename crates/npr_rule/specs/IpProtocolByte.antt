@@ -4,7 +4,7 @@ use Rattle.std.proofs.Common.{refl}
 use Rattle.npr_base.specs.declared.refusal.EmitError.{EmitError}
 use Rattle.npr_base.specs.declared.refusal.EmitError.TheVariants.{IpProtocol as NoByte}
 use Rattle.npr_base.specs.Codec.{Codec, exactly, no_members}
-use Rattle.npr_scalar.specs.IpProtocol.{byte_of, ip_protocol_number, ip_protocol}
+use Rattle.npr_scalar.specs.IpProtocol.{byte_of, ip_protocols, ip_protocol}
 use Rattle.npr_scalar.specs.declared.ip_protocol.IpProtocol.{IpProtocol}
 
 abbrev pub misfit_by : Option ℕ → EmitError → Option EmitError
@@ -13,7 +13,7 @@ misfit_by None cause = Some cause
 
 -- why it can't be written, if so
 abbrev pub protocol_misfit : IpProtocol → Option EmitError
-protocol_misfit x = misfit_by (byte_of (ip_protocol_number x)) (NoByte (ip_protocol_number x))
+protocol_misfit x = misfit_by (byte_of (ip_protocols.number x)) (NoByte (ip_protocols.number x))
 
 abbrev pub ip_protocol_byte : Codec IpProtocol
 ip_protocol_byte = record {

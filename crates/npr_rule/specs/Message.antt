@@ -4,14 +4,14 @@ use Rattle.npr_base.specs.declared.refusal.DecodeError.{DecodeError}
 use Rattle.npr_base.specs.declared.refusal.EmitError.{EmitError}
 use Rattle.npr_base.specs.declared.message.Message.{Message as Stored}
 use Rattle.npr_base.specs.Message.{Message, Grammar, grammar_by, view, IsMessage, MessageFault, IsCoherent, spelling, message_misfit}
-use Rattle.npr_rule.specs.Attribute.{Meaning, family}
+use Rattle.npr_rule.specs.Attribute.{family}
 use Rattle.npr_rule.specs.Header.{header, default_header}
 use Rattle.npr_rule.specs.declared.header.RuleHeader.{RuleHeader}
 use Rattle.npr_rule.specs.declared.attribute.RuleAttribute.{RuleAttribute}
 
 -- a message without where it lies in memory
 abbrev pub Rule : Type 0
-Rule = Message RuleHeader Meaning
+Rule = Message RuleHeader family.Meaning
 
 abbrev pub RuleMessage : Type 0
 RuleMessage = Stored RuleHeader RuleAttribute

@@ -1,7 +1,7 @@
 //! What a rule does: `FR_ACT_*` of `linux/fib_rules.h`.
 
 ghost use Rattle.std.specs.Prelude.{◌≡◌};
-ghost use Rattle.npr_rule.specs.Action.{action_of, action_number};
+ghost use Rattle.npr_rule.specs.Action.{actions};
 
 /// What a rule does: `FR_ACT_*` of `linux/fib_rules.h`.
 #[derive(Clone, Copy, Debug, Default, PartialEq, Eq)]
@@ -41,7 +41,7 @@ macro_rules! numbers {
 }
 
 impl From<u8> for RuleAction {
-    ghost from_gives = { λ number action. action ≡ action_of number };
+    ghost from_gives = { λ number action. action ≡ actions.of number };
 
     fn from(number: u8) -> RuleAction {
         numbers!(variant_of_number(number))
@@ -49,7 +49,7 @@ impl From<u8> for RuleAction {
 }
 
 impl From<RuleAction> for u8 {
-    ghost from_gives = { λ action number. number ≡ action_number action };
+    ghost from_gives = { λ action number. number ≡ actions.number action };
 
     fn from(action: RuleAction) -> u8 {
         numbers!(number_of_variant(action))

@@ -3,7 +3,7 @@
 ghost use Rattle.std.specs.Prelude.{◌≡◌, None};
 ghost use Rattle.{
   npr_base.specs.Family.{checked},
-  npr_scalar.specs.IpProtocol.{above_zero, ip_protocol_number},
+  npr_scalar.specs.IpProtocol.{above_zero, ip_protocols},
   npr_rule.specs.{IpProtocolByte.{protocol_misfit}, Attribute.{shape_of, shape_is, family}},
 };
 
@@ -128,7 +128,7 @@ fn check_protocol(protocol: IpProtocol) -> Result<usize, EmitError>
 /// The byte of a protocol that has one.
 fn protocol_byte(protocol: IpProtocol) -> u8
     requires { protocol_misfit protocol ≡ None }
-    ensures { result ≡ above_zero (ip_protocol_number protocol) }
+    ensures { result ≡ above_zero (ip_protocols.number protocol) }
 {
     match protocol.as_u8() {
         Some(byte) => byte,

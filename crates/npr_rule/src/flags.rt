@@ -1,7 +1,7 @@
 //! The flags of a rule: `FIB_RULE_*` of `linux/fib_rules.h`. Every bit is kept.
 
 ghost use Rattle.std.specs.Prelude.{⊤, [], ◌∷◌, codes};
-ghost use Rattle.npr_rule.specs.Flags.{rule_flags_bits};
+ghost use Rattle.npr_rule.specs.Flags.{rule_flag_bits};
 
 use bitflags::{Flag, Flags};
 use npr_base::named_flags;
@@ -42,7 +42,7 @@ impl Flags for RuleFlags {
 
     ghost table = { (codes "Permanent", 1) ∷ (codes "Invert", 2) ∷ (codes "Unresolved", 4) ∷ (codes "IifDetached", 8) ∷ (codes "DevDetached", 8) ∷ (codes "OifDetached", 16) ∷ ([], 4294967295) ∷ [] };
 
-    ghost set_of = { rule_flags_bits };
+    ghost set_of = { rule_flag_bits.number };
 
     fn flags<'a>() -> &'a [Flag<RuleFlags>] {
         RuleFlags::FLAGS

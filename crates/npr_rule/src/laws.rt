@@ -5,9 +5,9 @@ ghost use Rattle.std.specs.Prelude.{◌≡◌, ◌^◌, ℕ};
 ghost use Rattle.{
   npr_base.specs.Equality.{IsEquality, IsEqualityOf},
   npr_rule.specs.{
-    Action.{action_of, action_number},
-    Attribute.{meaning_of},
-    Flags.{rule_flags_bits, rule_flags_of},
+    Action.{actions},
+    Attribute.{family},
+    Flags.{rule_flag_bits},
     Header.{default_header, header},
     Message.{message_of},
   },
@@ -23,23 +23,23 @@ use crate::uid_range::RuleUidRange;
 
 /// What a number reads as is written as that number.
 pub fn law_numbers()
-    ensures { (d : ℕ) → action_number (action_of d) ≡ d }
+    ensures { (d : ℕ) → actions.number (actions.of d) ≡ d }
 {}
 
 /// The named flags of a rule, by their bits (`linux/fib_rules.h`).
 pub fn law_rule_flags()
-    ensures permanent { rule_flags_bits RuleFlags.Permanent ≡ 2 ^ 0 }
-    ensures invert { rule_flags_bits RuleFlags.Invert ≡ 2 ^ 1 }
-    ensures unresolved { rule_flags_bits RuleFlags.Unresolved ≡ 2 ^ 2 }
-    ensures iif_detached { rule_flags_bits RuleFlags.IifDetached ≡ 2 ^ 3 }
-    ensures dev_detached { rule_flags_bits RuleFlags.DevDetached ≡ 2 ^ 3 }
-    ensures oif_detached { rule_flags_bits RuleFlags.OifDetached ≡ 2 ^ 4 }
+    ensures permanent { rule_flag_bits.number RuleFlags.Permanent ≡ 2 ^ 0 }
+    ensures invert { rule_flag_bits.number RuleFlags.Invert ≡ 2 ^ 1 }
+    ensures unresolved { rule_flag_bits.number RuleFlags.Unresolved ≡ 2 ^ 2 }
+    ensures iif_detached { rule_flag_bits.number RuleFlags.IifDetached ≡ 2 ^ 3 }
+    ensures dev_detached { rule_flag_bits.number RuleFlags.DevDetached ≡ 2 ^ 3 }
+    ensures oif_detached { rule_flag_bits.number RuleFlags.OifDetached ≡ 2 ^ 4 }
 {}
 
 /// Which value is the default.
 pub fn law_default()
     ensures action { (x : RuleAction) → ⟦<RuleAction as Default>⟧.is_default x → x ≡ RuleAction.Unspec }
-    ensures flags { (x : RuleFlags) → ⟦<RuleFlags as Default>⟧.is_default x → x ≡ rule_flags_of 0 }
+    ensures flags { (x : RuleFlags) → ⟦<RuleFlags as Default>⟧.is_default x → x ≡ rule_flag_bits.of 0 }
     ensures header { (x : RuleHeader) → ⟦<RuleHeader as Default>⟧.is_default x → x ≡ default_header }
 {}
 
@@ -51,6 +51,6 @@ pub fn law_equality()
     ensures uid_range { IsEquality ⟦<RuleUidRange as PartialEq>⟧.eq }
     ensures header { IsEquality ⟦<RuleHeader as PartialEq>⟧.eq }
     ensures header_buffer { IsEquality ⟦<RuleMessageBuffer as PartialEq>⟧.eq }
-    ensures attribute { IsEqualityOf meaning_of ⟦<RuleAttribute as PartialEq>⟧.eq }
+    ensures attribute { IsEqualityOf family.meaning ⟦<RuleAttribute as PartialEq>⟧.eq }
     ensures message { IsEqualityOf message_of ⟦<RuleMessage as PartialEq>⟧.eq }
 {}

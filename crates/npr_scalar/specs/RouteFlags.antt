@@ -3,28 +3,23 @@ use Rattle.std.specs.Prelude.{ℕ, Bool, true, false, List, [], ◌∷◌, Optio
 use Rattle.std.proofs.Common.{refl}
 use Rattle.npr_base.specs.Layout.{Layout, byte, le32, formed}
 use Rattle.npr_base.specs.Text.{is_set, joined_by}
+use Rattle.npr_base.specs.Numbering.{Numbering}
 use Rattle.npr_scalar.specs.declared.flags.RouteFlags.{RouteFlags}
 use Rattle.npr_scalar.specs.declared.flags.RouteNextHopFlags.{RouteNextHopFlags}
 
--- the bits of a set, and the set of these bits
-abbrev pub route_flags_bits : RouteFlags → ℕ
-route_flags_bits flags = flags.0
+-- the set of these bits, and the bits of a set
+abbrev pub route_flag_bits : Numbering ℕ RouteFlags
+route_flag_bits = record { of = λ bits. record { 0 = bits }; number = λ flags. flags.0; back = λ bits. refl }
 
-abbrev pub route_flags_of : ℕ → RouteFlags
-route_flags_of bits = record { 0 = bits }
-
-abbrev pub next_hop_flags_bits : RouteNextHopFlags → ℕ
-next_hop_flags_bits flags = flags.0
-
-abbrev pub next_hop_flags_of : ℕ → RouteNextHopFlags
-next_hop_flags_of bits = record { 0 = bits }
+abbrev pub next_hop_flag_bits : Numbering ℕ RouteNextHopFlags
+next_hop_flag_bits = record { of = λ bits. record { 0 = bits }; number = λ flags. flags.0; back = λ bits. refl }
 
 -- how one is read and written
 abbrev pub route_flags : Layout RouteFlags
-route_flags = formed le32 route_flags_of route_flags_bits (λ bits. refl)
+route_flags = formed le32 route_flag_bits
 
 abbrev pub next_hop_flags : Layout RouteNextHopFlags
-next_hop_flags = formed byte next_hop_flags_of next_hop_flags_bits (λ bits. refl)
+next_hop_flags = formed byte next_hop_flag_bits
 
 -- the names of next hops' flags in the order in which they are printed, and whether each is set
 abbrev pub next_hop_names : ℕ → List (Bool × List ℕ)
@@ -41,4 +36,4 @@ names_set ((false, name) ∷ names) = names_set names
 
 -- the text of a set: the names that are set, one space between them
 abbrev pub next_hop_flags_text : RouteNextHopFlags → Option (List ℕ)
-next_hop_flags_text flags = joined_by (codes " ") Some (names_set (next_hop_names (next_hop_flags_bits flags)))
+next_hop_flags_text flags = joined_by (codes " ") Some (names_set (next_hop_names (next_hop_flag_bits.number flags)))

@@ -8,9 +8,8 @@ use Rattle.npr_base.specs.declared.refusal.DecodeError.{DecodeError}
 use Rattle.npr_base.specs.declared.refusal.DecodeError.TheVariants.{HeaderTooShort, ValueLength, ViaFamily}
 use Rattle.npr_base.specs.declared.address_family.AddressFamily.{AddressFamily}
 use Rattle.npr_base.specs.declared.address_family.AddressFamily.TheVariants.{Inet, Inet6, Packet}
-use Rattle.npr_base.specs.AddressFamily.{family_of, family_number}
-use Rattle.npr_base.specs.AddressFamilyLaws.{family_number-family_of, family_of_IsFormed}
-use Rattle.npr_base.specs.Rows.{IsFormed}
+use Rattle.npr_base.specs.AddressFamily.{families}
+use Rattle.npr_base.specs.Numbering.{IsFormed, of_IsFormed}
 use Rattle.npr_base.specs.Framing.{IsBytes, framed}
 use Rattle.npr_base.specs.CodecLaws.{framed-grows}
 use Rattle.npr_base.specs.ListLaws.{IsBytes-drop}
@@ -66,26 +65,26 @@ NotAddress any at bytes e = ⊥
 pub record IsVia (bytes : List ℕ) (via : Via) : Type 0 where
   pub long : 2 ≤ length bytes
   pub small : le16_at bytes 0 < 2 ^ 8
-  pub address : IsAddress (family_of (le16_at bytes 0)) (via_form_of (family_of (le16_at bytes 0))) (drop 2 bytes) via
+  pub address : IsAddress (families.of (le16_at bytes 0)) (via_form_of (families.of (le16_at bytes 0))) (drop 2 bytes) via
 
 -- why bytes are none: too few for the family, a family above 255, or an address of a wrong length
 abbrev pub NotVia : At → List ℕ → DecodeError → Type 0
 NotVia at bytes e =
     ((length bytes < 2) × (e ≡ HeaderTooShort (length bytes) 2))
     ⊎ ((2 ≤ length bytes) × (2 ^ 8 ≤ le16_at bytes 0) × (e ≡ ViaFamily (le16_at bytes 0)))
-    ⊎ ((2 ≤ length bytes) × (le16_at bytes 0 < 2 ^ 8) × NotAddress (via_form_of (family_of (le16_at bytes 0))) at (drop 2 bytes) e)
+    ⊎ ((2 ≤ length bytes) × (le16_at bytes 0 < 2 ^ 8) × NotAddress (via_form_of (families.of (le16_at bytes 0))) at (drop 2 bytes) e)
 
 -- the bytes that are written
 abbrev pub via_bytes : Via → List ℕ
 via_bytes (inet a) = to_le_bytes w16 2 ++ a
 via_bytes (inet6 a) = to_le_bytes w16 10 ++ a
 via_bytes (packet a) = to_le_bytes w16 17 ++ a
-via_bytes (other family a) = to_le_bytes w16 (family_number family) ++ a
+via_bytes (other family a) = to_le_bytes w16 (families.number family) ++ a
 
 -- what can be read: another family has no variant of its own
 pub record IsOtherFamily (family : AddressFamily) : Type 0 where
-  pub small : family_number family < 2 ^ 8
-  pub formed : IsFormed family_of family_number family
+  pub small : families.number family < 2 ^ 8
+  pub formed : IsFormed families family
   pub alone : via_form_of family ≡ any
 
 abbrev pub HoldsVia : Via → Type 0
@@ -114,13 +113,13 @@ gateway-sound family hardware at bytes v e p q = q
 gateway-sound family any at bytes v e p q = q
 gateway-sound family form at bytes v e p q = absurd p
 
-pub gateway-holds : (n : ℕ) (form : ViaForm) → form ≡ via_form_of (family_of n) → n < 2 ^ 8 → (bytes : List ℕ) (v : Via) → IsBytes bytes
-    → IsAddress (family_of n) form bytes v → HoldsVia v
+pub gateway-holds : (n : ℕ) (form : ViaForm) → form ≡ via_form_of (families.of n) → n < 2 ^ 8 → (bytes : List ℕ) (v : Via) → IsBytes bytes
+    → IsAddress (families.of n) form bytes v → HoldsVia v
 gateway-holds n four e lt bytes (inet a) is p = (ap length p.1 ∙ p.0, subst IsBytes (sym p.1) is)
 gateway-holds n sixteen e lt bytes (inet6 a) is p = (ap length p.1 ∙ p.0, subst IsBytes (sym p.1) is)
 gateway-holds n hardware e lt bytes (packet a) is p = subst IsBytes (sym p) is
 gateway-holds n any e lt bytes (other f a) is p =
-    let proper : IsOtherFamily (family_of n) = record { small = omega (arith, family_number-family_of n); formed = family_of_IsFormed n; alone = sym e } in
+    let proper : IsOtherFamily (families.of n) = record { small = omega (arith, families.back n); formed = of_IsFormed families n; alone = sym e } in
     (subst IsOtherFamily (sym p.0) proper, subst IsBytes (sym p.1) is)
 gateway-holds n form e lt bytes v is p = absurd p
 
@@ -135,21 +134,21 @@ gateway-grows family form bytes v le p = absurd p
 pub via-grows : (bytes : List ℕ) (v : Via) → IsVia bytes v → 2 * framed (length (via_bytes v)) ≤ 5 * (4 + length bytes)
 via-grows bytes v p =
     framed-grows (length (via_bytes v)) (length bytes)
-    (omega (arith, gateway-grows (family_of (le16_at bytes 0)) (via_form_of (family_of (le16_at bytes 0))) bytes v p.long p.address))
+    (omega (arith, gateway-grows (families.of (le16_at bytes 0)) (via_form_of (families.of (le16_at bytes 0))) bytes v p.long p.address))
 
 pub via-sound : (at : At) (bytes : List ℕ) (v : Via) (e : DecodeError) → IsVia bytes v → NotVia at bytes e → ⊥
 via-sound at bytes v e p (inl q) = absurd (omega (arith, p.long, q.0))
 via-sound at bytes v e p (inr (inl q)) = absurd (omega (arith, p.small, q.1))
 via-sound at bytes v e p (inr (inr q)) =
-    gateway-sound (family_of (le16_at bytes 0)) (via_form_of (family_of (le16_at bytes 0))) at (drop 2 bytes) v e p.address q.2
+    gateway-sound (families.of (le16_at bytes 0)) (via_form_of (families.of (le16_at bytes 0))) at (drop 2 bytes) v e p.address q.2
 
 pub via-back : (v : Via) → HoldsVia v → IsVia (via_bytes v) v
 via-back (inet a) h = record { long = omega arith; small = omega arith; address = (h.0, refl) }
 via-back (inet6 a) h = record { long = omega arith; small = omega arith; address = (h.0, refl) }
 via-back (packet a) h = record { long = omega arith; small = omega arith; address = refl }
 via-back (other f a) h =
-    let n : le16_at (via_bytes (other f a)) 0 ≡ family_number f = from_le_bytes-to_le_bytes_2 (family_number f) (omega (arith, h.0.small)) in
-    let family : family_of (le16_at (via_bytes (other f a)) 0) ≡ f = ap family_of n ∙ sym h.0.formed in
+    let n : le16_at (via_bytes (other f a)) 0 ≡ families.number f = from_le_bytes-to_le_bytes_2 (families.number f) (omega (arith, h.0.small)) in
+    let family : families.of (le16_at (via_bytes (other f a)) 0) ≡ f = ap families.of n ∙ sym h.0.formed in
     record {
       long = omega arith;
       small = omega (arith, n, h.0.small);
@@ -164,10 +163,10 @@ via_value = record {
   inside = λ kind v. None;
   Holds = HoldsVia;
   members = no_members;
-  one_reading = λ bytes v w p q. gateway-one (family_of (le16_at bytes 0)) (via_form_of (family_of (le16_at bytes 0))) (drop 2 bytes) v w p.address q.address;
+  one_reading = λ bytes v w p q. gateway-one (families.of (le16_at bytes 0)) (via_form_of (families.of (le16_at bytes 0))) (drop 2 bytes) v w p.address q.address;
   no_fault = via-sound;
   reads_holds =
-      λ bytes v is p. gateway-holds (le16_at bytes 0) (via_form_of (family_of (le16_at bytes 0))) refl p.small (drop 2 bytes) v
+      λ bytes v is p. gateway-holds (le16_at bytes 0) (via_form_of (families.of (le16_at bytes 0))) refl p.small (drop 2 bytes) v
       (IsBytes-drop 2 bytes is) p.address;
   reads_back = λ kind v h fits. via-back v h;
   grows = λ bytes v is p. via-grows bytes v p;

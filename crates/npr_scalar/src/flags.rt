@@ -1,7 +1,7 @@
 //! The flags of routes and next hops: `RTNH_F_*` and `RTM_F_*` of `linux/rtnetlink.h`.
 
 ghost use Rattle.std.specs.{Prelude.{⊤, [], ◌∷◌, ◌++◌, codes, map, Some, if◌then◌else◌}, Fmt.{DisplaysOnOk, WritesOnOk}};
-ghost use Rattle.{npr_base.specs.Text.{joined_by}, npr_scalar.specs.RouteFlags.{route_flags_bits, next_hop_flags_bits, next_hop_flags_text, names_set}};
+ghost use Rattle.{npr_base.specs.Text.{joined_by}, npr_scalar.specs.RouteFlags.{route_flag_bits, next_hop_flag_bits, next_hop_flags_text, names_set}};
 
 use bitflags::{Flag, Flags};
 use npr_base::named_flags;
@@ -46,7 +46,7 @@ impl Flags for RouteNextHopFlags {
 
     ghost table = { (codes "Dead", 1) ∷ (codes "Pervasive", 2) ∷ (codes "Onlink", 4) ∷ (codes "Offload", 8) ∷ (codes "Linkdown", 16) ∷ (codes "Unresolved", 32) ∷ (codes "Trap", 64) ∷ ([], 255) ∷ [] };
 
-    ghost set_of = { next_hop_flags_bits };
+    ghost set_of = { next_hop_flag_bits.number };
 
     fn flags<'a>() -> &'a [Flag<RouteNextHopFlags>] {
         RouteNextHopFlags::FLAGS
@@ -128,7 +128,7 @@ impl Flags for RouteFlags {
 
     ghost table = { (codes "Dead", 1) ∷ (codes "Pervasive", 2) ∷ (codes "Onlink", 4) ∷ (codes "Offload", 8) ∷ (codes "Linkdown", 16) ∷ (codes "Unresolved", 32) ∷ (codes "Trap", 64) ∷ (codes "Notify", 256) ∷ (codes "Cloned", 512) ∷ (codes "Equalize", 1024) ∷ (codes "Prefix", 2048) ∷ (codes "LookupTable", 4096) ∷ (codes "FibMatch", 8192) ∷ (codes "RtOffload", 16384) ∷ (codes "RtTrap", 32768) ∷ (codes "OffloadFailed", 536870912) ∷ ([], 4294967295) ∷ [] };
 
-    ghost set_of = { route_flags_bits };
+    ghost set_of = { route_flag_bits.number };
 
     fn flags<'a>() -> &'a [Flag<RouteFlags>] {
         RouteFlags::FLAGS

@@ -1,7 +1,7 @@
 //! Protocols over IP: `IPPROTO_*` of `linux/in.h`.
 
 ghost use Rattle.std.specs.Prelude.{◌≡◌, pos};
-ghost use Rattle.npr_scalar.specs.IpProtocol.{ip_protocol_of, ip_protocol_number, byte_of};
+ghost use Rattle.npr_scalar.specs.IpProtocol.{ip_protocols, byte_of};
 
 /// A protocol over IP: `IPPROTO_*` of `linux/in.h`, a signed number of 32 bits.
 #[derive(Clone, Copy, Debug, Default, PartialEq, Eq)]
@@ -77,7 +77,7 @@ macro_rules! numbers {
 }
 
 impl From<i32> for IpProtocol {
-    ghost from_gives = { λ number protocol. protocol ≡ ip_protocol_of number };
+    ghost from_gives = { λ number protocol. protocol ≡ ip_protocols.of number };
 
     fn from(number: i32) -> IpProtocol {
         numbers!(variant_of_number(number))
@@ -85,7 +85,7 @@ impl From<i32> for IpProtocol {
 }
 
 impl From<IpProtocol> for i32 {
-    ghost from_gives = { λ protocol number. number ≡ ip_protocol_number protocol };
+    ghost from_gives = { λ protocol number. number ≡ ip_protocols.number protocol };
 
     fn from(protocol: IpProtocol) -> i32 {
         numbers!(number_of_variant(protocol))
@@ -93,7 +93,7 @@ impl From<IpProtocol> for i32 {
 }
 
 impl From<u8> for IpProtocol {
-    ghost from_gives = { λ number protocol. protocol ≡ ip_protocol_of (pos number) };
+    ghost from_gives = { λ number protocol. protocol ≡ ip_protocols.of (pos number) };
 
     fn from(number: u8) -> IpProtocol {
         IpProtocol::from(i32::from(number))
@@ -103,7 +103,7 @@ impl From<u8> for IpProtocol {
 impl IpProtocol {
     /// The number as one byte: none where it is below 0 or above 255.
     pub fn as_u8(&self) -> Option<u8>
-        ensures { result ≡ byte_of (ip_protocol_number self.now) }
+        ensures { result ≡ byte_of (ip_protocols.number self.now) }
     {
         u8::try_from(i32::from(*self)).ok()
     }

@@ -4,20 +4,20 @@ ghost use Rattle.std.specs.Prelude.{◌≡◌, ◌*◌, ◌<◌, ◌^◌, ◌↔
 ghost use Rattle.{
   npr_base.specs.Equality.{IsEquality, IsEqualityOf},
   npr_scalar.specs.{
-    IpProtocol.{ip_protocol, ip_protocol_of, ip_protocol_number},
+    IpProtocol.{ip_protocol, ip_protocols},
     Mpls.{label_of, label_number, IsInRange},
     MplsLaws.{mpls_labels},
-    Realm.{realm_of, realm_number},
+    Realm.{realms},
     RouteAddress.{Address, address_of, route_address},
     RouteCacheInfo.{route_cache_info},
-    RouteFlags.{route_flags, route_flags_bits, route_flags_of, next_hop_flags, next_hop_flags_bits, next_hop_flags_of},
+    RouteFlags.{route_flags, route_flag_bits, next_hop_flags, next_hop_flag_bits},
     RouteMfcStats.{route_mfc_stats},
-    RoutePreference.{route_preference, route_preference_of, route_preference_number},
-    RouteProtocol.{route_protocol_of, route_protocol_number},
-    RouteScope.{route_scope, route_scope_of, route_scope_number},
-    RouteType.{route_type, route_type_of, route_type_number},
+    RoutePreference.{route_preference, route_preferences},
+    RouteProtocol.{route_protocols},
+    RouteScope.{route_scope, route_scopes},
+    RouteType.{route_type, route_types},
     RouteVia.{Via, via_of, via_value},
-    TtlPropagation.{ttl_propagation, ttl_propagation_of, ttl_propagation_number},
+    TtlPropagation.{ttl_propagation, ttl_propagations},
   },
 };
 
@@ -30,12 +30,12 @@ use npr_base::AddressFamily;
 
 /// What a number reads as is written as that number.
 pub fn law_numbers()
-    ensures ip_protocol { (d : ℤ) → ip_protocol_number (ip_protocol_of d) ≡ d }
-    ensures route_protocol { (d : ℕ) → route_protocol_number (route_protocol_of d) ≡ d }
-    ensures route_scope { (d : ℕ) → route_scope_number (route_scope_of d) ≡ d }
-    ensures route_type { (d : ℕ) → route_type_number (route_type_of d) ≡ d }
-    ensures route_preference { (d : ℕ) → route_preference_number (route_preference_of d) ≡ d }
-    ensures ttl_propagation { (d : ℕ) → ttl_propagation_number (ttl_propagation_of d) ≡ d }
+    ensures ip_protocol { (d : ℤ) → ip_protocols.number (ip_protocols.of d) ≡ d }
+    ensures route_protocol { (d : ℕ) → route_protocols.number (route_protocols.of d) ≡ d }
+    ensures route_scope { (d : ℕ) → route_scopes.number (route_scopes.of d) ≡ d }
+    ensures route_type { (d : ℕ) → route_types.number (route_types.of d) ≡ d }
+    ensures route_preference { (d : ℕ) → route_preferences.number (route_preferences.of d) ≡ d }
+    ensures ttl_propagation { (d : ℕ) → ttl_propagations.number (ttl_propagations.of d) ≡ d }
 {}
 
 /// A number is an entry and is written as that number again; an entry is read again exactly where
@@ -53,39 +53,39 @@ pub fn law_labels_length()
 /// A number is two realms and is written as that number again, and two realms of a program are
 /// read again.
 pub fn law_realm_number()
-    ensures number { (d : ℕ) → realm_number (realm_of d) ≡ d }
-    ensures realm { (x : RouteRealm) → x.destination < 2 ^ 16 → realm_of (realm_number x) ≡ x }
+    ensures number { (d : ℕ) → realms.number (realms.of d) ≡ d }
+    ensures realm { (x : RouteRealm) → x.destination < 2 ^ 16 → realms.of (realms.number x) ≡ x }
 {}
 
 /// The named flags of a route, by their bits (`linux/rtnetlink.h`).
 pub fn law_route_flags()
-    ensures dead { route_flags_bits RouteFlags.Dead ≡ 2 ^ 0 }
-    ensures pervasive { route_flags_bits RouteFlags.Pervasive ≡ 2 ^ 1 }
-    ensures onlink { route_flags_bits RouteFlags.Onlink ≡ 2 ^ 2 }
-    ensures offload { route_flags_bits RouteFlags.Offload ≡ 2 ^ 3 }
-    ensures linkdown { route_flags_bits RouteFlags.Linkdown ≡ 2 ^ 4 }
-    ensures unresolved { route_flags_bits RouteFlags.Unresolved ≡ 2 ^ 5 }
-    ensures trap { route_flags_bits RouteFlags.Trap ≡ 2 ^ 6 }
-    ensures notify { route_flags_bits RouteFlags.Notify ≡ 2 ^ 8 }
-    ensures cloned { route_flags_bits RouteFlags.Cloned ≡ 2 ^ 9 }
-    ensures equalize { route_flags_bits RouteFlags.Equalize ≡ 2 ^ 10 }
-    ensures prefix { route_flags_bits RouteFlags.Prefix ≡ 2 ^ 11 }
-    ensures lookup_table { route_flags_bits RouteFlags.LookupTable ≡ 2 ^ 12 }
-    ensures fib_match { route_flags_bits RouteFlags.FibMatch ≡ 2 ^ 13 }
-    ensures rt_offload { route_flags_bits RouteFlags.RtOffload ≡ 2 ^ 14 }
-    ensures rt_trap { route_flags_bits RouteFlags.RtTrap ≡ 2 ^ 15 }
-    ensures offload_failed { route_flags_bits RouteFlags.OffloadFailed ≡ 2 ^ 29 }
+    ensures dead { route_flag_bits.number RouteFlags.Dead ≡ 2 ^ 0 }
+    ensures pervasive { route_flag_bits.number RouteFlags.Pervasive ≡ 2 ^ 1 }
+    ensures onlink { route_flag_bits.number RouteFlags.Onlink ≡ 2 ^ 2 }
+    ensures offload { route_flag_bits.number RouteFlags.Offload ≡ 2 ^ 3 }
+    ensures linkdown { route_flag_bits.number RouteFlags.Linkdown ≡ 2 ^ 4 }
+    ensures unresolved { route_flag_bits.number RouteFlags.Unresolved ≡ 2 ^ 5 }
+    ensures trap { route_flag_bits.number RouteFlags.Trap ≡ 2 ^ 6 }
+    ensures notify { route_flag_bits.number RouteFlags.Notify ≡ 2 ^ 8 }
+    ensures cloned { route_flag_bits.number RouteFlags.Cloned ≡ 2 ^ 9 }
+    ensures equalize { route_flag_bits.number RouteFlags.Equalize ≡ 2 ^ 10 }
+    ensures prefix { route_flag_bits.number RouteFlags.Prefix ≡ 2 ^ 11 }
+    ensures lookup_table { route_flag_bits.number RouteFlags.LookupTable ≡ 2 ^ 12 }
+    ensures fib_match { route_flag_bits.number RouteFlags.FibMatch ≡ 2 ^ 13 }
+    ensures rt_offload { route_flag_bits.number RouteFlags.RtOffload ≡ 2 ^ 14 }
+    ensures rt_trap { route_flag_bits.number RouteFlags.RtTrap ≡ 2 ^ 15 }
+    ensures offload_failed { route_flag_bits.number RouteFlags.OffloadFailed ≡ 2 ^ 29 }
 {}
 
 /// The named flags of a next hop, by their bits (`linux/rtnetlink.h`).
 pub fn law_next_hop_flags()
-    ensures dead { next_hop_flags_bits RouteNextHopFlags.Dead ≡ 2 ^ 0 }
-    ensures pervasive { next_hop_flags_bits RouteNextHopFlags.Pervasive ≡ 2 ^ 1 }
-    ensures onlink { next_hop_flags_bits RouteNextHopFlags.Onlink ≡ 2 ^ 2 }
-    ensures offload { next_hop_flags_bits RouteNextHopFlags.Offload ≡ 2 ^ 3 }
-    ensures linkdown { next_hop_flags_bits RouteNextHopFlags.Linkdown ≡ 2 ^ 4 }
-    ensures unresolved { next_hop_flags_bits RouteNextHopFlags.Unresolved ≡ 2 ^ 5 }
-    ensures trap { next_hop_flags_bits RouteNextHopFlags.Trap ≡ 2 ^ 6 }
+    ensures dead { next_hop_flag_bits.number RouteNextHopFlags.Dead ≡ 2 ^ 0 }
+    ensures pervasive { next_hop_flag_bits.number RouteNextHopFlags.Pervasive ≡ 2 ^ 1 }
+    ensures onlink { next_hop_flag_bits.number RouteNextHopFlags.Onlink ≡ 2 ^ 2 }
+    ensures offload { next_hop_flag_bits.number RouteNextHopFlags.Offload ≡ 2 ^ 3 }
+    ensures linkdown { next_hop_flag_bits.number RouteNextHopFlags.Linkdown ≡ 2 ^ 4 }
+    ensures unresolved { next_hop_flag_bits.number RouteNextHopFlags.Unresolved ≡ 2 ^ 5 }
+    ensures trap { next_hop_flag_bits.number RouteNextHopFlags.Trap ≡ 2 ^ 6 }
 {}
 
 /// `==` answers whether two values are equal, or mean the same where they hold a vector.
@@ -116,8 +116,8 @@ pub fn law_default()
     ensures route_scope { (x : RouteScope) → ⟦<RouteScope as Default>⟧.is_default x → x ≡ RouteScope.Universe }
     ensures route_type { (x : RouteType) → ⟦<RouteType as Default>⟧.is_default x → x ≡ RouteType.Unspec }
     ensures route_preference { (x : RoutePreference) → ⟦<RoutePreference as Default>⟧.is_default x → x ≡ RoutePreference.Invalid }
-    ensures route_flags { (x : RouteFlags) → ⟦<RouteFlags as Default>⟧.is_default x → x ≡ route_flags_of 0 }
-    ensures next_hop_flags { (x : RouteNextHopFlags) → ⟦<RouteNextHopFlags as Default>⟧.is_default x → x ≡ next_hop_flags_of 0 }
+    ensures route_flags { (x : RouteFlags) → ⟦<RouteFlags as Default>⟧.is_default x → x ≡ route_flag_bits.of 0 }
+    ensures next_hop_flags { (x : RouteNextHopFlags) → ⟦<RouteNextHopFlags as Default>⟧.is_default x → x ≡ next_hop_flag_bits.of 0 }
     ensures cache_info { (x : RouteCacheInfo) → ⟦<RouteCacheInfo as Default>⟧.is_default x → x ≡ record { clntref = 0; last_use = 0; expires = 0; error = 0; used = 0; id = 0; ts = 0; ts_age = 0 } }
     ensures mfc_stats { (x : RouteMfcStats) → ⟦<RouteMfcStats as Default>⟧.is_default x → x ≡ record { packets = 0; bytes = 0; wrong_if = 0 } }
 {}

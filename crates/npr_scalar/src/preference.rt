@@ -1,7 +1,7 @@
 //! The preference of a router's route, and whether a TTL goes on through a label.
 
 ghost use Rattle.std.specs.Prelude.{◌≡◌};
-ghost use Rattle.npr_scalar.specs.{RoutePreference.{route_preference_of, route_preference_number}, TtlPropagation.{ttl_propagation_of, ttl_propagation_number}};
+ghost use Rattle.npr_scalar.specs.{RoutePreference.{route_preferences}, TtlPropagation.{ttl_propagations}};
 
 /// The preference of a router (RFC 4191, section 2.1):
 /// `ICMPV6_ROUTER_PREF_*` of `linux/icmpv6.h`.
@@ -21,7 +21,7 @@ pub enum RoutePreference {
 }
 
 impl From<u8> for RoutePreference {
-    ghost from_gives = { λ number preference. preference ≡ route_preference_of number };
+    ghost from_gives = { λ number preference. preference ≡ route_preferences.of number };
 
     fn from(number: u8) -> RoutePreference {
         match number {
@@ -35,7 +35,7 @@ impl From<u8> for RoutePreference {
 }
 
 impl From<RoutePreference> for u8 {
-    ghost from_gives = { λ preference number. number ≡ route_preference_number preference };
+    ghost from_gives = { λ preference number. number ≡ route_preferences.number preference };
 
     fn from(preference: RoutePreference) -> u8 {
         match preference {
@@ -61,7 +61,7 @@ pub enum RouteMplsTtlPropagation {
 }
 
 impl From<u8> for RouteMplsTtlPropagation {
-    ghost from_gives = { λ number choice. choice ≡ ttl_propagation_of number };
+    ghost from_gives = { λ number choice. choice ≡ ttl_propagations.of number };
 
     fn from(number: u8) -> RouteMplsTtlPropagation {
         match number {
@@ -73,7 +73,7 @@ impl From<u8> for RouteMplsTtlPropagation {
 }
 
 impl From<RouteMplsTtlPropagation> for u8 {
-    ghost from_gives = { λ choice number. number ≡ ttl_propagation_number choice };
+    ghost from_gives = { λ choice number. number ≡ ttl_propagations.number choice };
 
     fn from(choice: RouteMplsTtlPropagation) -> u8 {
         match choice {

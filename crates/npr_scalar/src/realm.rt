@@ -1,7 +1,7 @@
 //! The realms of a route: the value of `RTA_FLOW` of `linux/rtnetlink.h`.
 
 ghost use Rattle.std.specs.Prelude.{◌≡◌, IfOk, IfErr};
-ghost use Rattle.{npr_base.specs.{Codec.{exactly}, Refusal.{no_place}}, npr_scalar.specs.Realm.{realm_of, realm_number, route_realm}};
+ghost use Rattle.{npr_base.specs.{Codec.{exactly}, Refusal.{no_place}}, npr_scalar.specs.Realm.{realms, route_realm}};
 
 use npr_base::{At, DecodeError, EmitError, Emitable, read_u32, write_array};
 
@@ -18,7 +18,7 @@ pub struct RouteRealm {
 }
 
 impl From<u32> for RouteRealm {
-    ghost from_gives = { λ number realm. realm ≡ realm_of number };
+    ghost from_gives = { λ number realm. realm ≡ realms.of number };
 
     fn from(number: u32) -> RouteRealm {
         RouteRealm {
@@ -29,7 +29,7 @@ impl From<u32> for RouteRealm {
 }
 
 impl From<RouteRealm> for u32 {
-    ghost from_gives = { λ realm number. number ≡ realm_number realm };
+    ghost from_gives = { λ realm number. number ≡ realms.number realm };
 
     fn from(realm: RouteRealm) -> u32 {
         u32::from(realm.source) * 0x1_0000 + u32::from(realm.destination)

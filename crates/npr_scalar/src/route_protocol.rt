@@ -3,7 +3,7 @@
 ghost use Rattle.std.specs.Prelude.{◌≡◌, Some, IfOk, IfErr};
 ghost use Rattle.{
   npr_base.specs.{Codec.{exactly}, Refusal.{no_place}},
-  npr_scalar.specs.RouteProtocol.{route_protocol, route_protocol_of, route_protocol_number, route_protocol_text},
+  npr_scalar.specs.RouteProtocol.{route_protocol, route_protocols, route_protocol_text},
 };
 
 use npr_base::{At, DecodeError, EmitError, Emitable, read_u8, write_array};
@@ -75,7 +75,7 @@ macro_rules! numbers {
 }
 
 impl From<u8> for RouteProtocol {
-    ghost from_gives = { λ number protocol. protocol ≡ route_protocol_of number };
+    ghost from_gives = { λ number protocol. protocol ≡ route_protocols.of number };
 
     fn from(number: u8) -> RouteProtocol {
         numbers!(variant_of_number(number))
@@ -83,7 +83,7 @@ impl From<u8> for RouteProtocol {
 }
 
 impl From<RouteProtocol> for u8 {
-    ghost from_gives = { λ protocol number. number ≡ route_protocol_number protocol };
+    ghost from_gives = { λ protocol number. number ≡ route_protocols.number protocol };
 
     fn from(protocol: RouteProtocol) -> u8 {
         numbers!(number_of_variant(protocol))

@@ -1,7 +1,7 @@
 //! How far the destination of a route is, and the numbers of that (`linux/rtnetlink.h`).
 
 ghost use Rattle.std.specs.Prelude.{◌≡◌, Some};
-ghost use Rattle.npr_scalar.specs.RouteScope.{route_scope_of, route_scope_number, route_scope_text};
+ghost use Rattle.npr_scalar.specs.RouteScope.{route_scopes, route_scope_text};
 
 use std::fmt;
 
@@ -37,7 +37,7 @@ macro_rules! numbers {
 }
 
 impl From<u8> for RouteScope {
-    ghost from_gives = { λ number scope. scope ≡ route_scope_of number };
+    ghost from_gives = { λ number scope. scope ≡ route_scopes.of number };
 
     fn from(number: u8) -> RouteScope {
         numbers!(variant_of_number(number))
@@ -45,7 +45,7 @@ impl From<u8> for RouteScope {
 }
 
 impl From<RouteScope> for u8 {
-    ghost from_gives = { λ scope number. number ≡ route_scope_number scope };
+    ghost from_gives = { λ scope number. number ≡ route_scopes.number scope };
 
     fn from(scope: RouteScope) -> u8 {
         numbers!(number_of_variant(scope))

@@ -1,7 +1,7 @@
 //! What becomes of a packet on a route, and the numbers of that (`linux/rtnetlink.h`).
 
 ghost use Rattle.std.specs.Prelude.{◌≡◌};
-ghost use Rattle.npr_scalar.specs.RouteType.{route_type_of, route_type_number};
+ghost use Rattle.npr_scalar.specs.RouteType.{route_types};
 
 /// What becomes of a packet on a route: `RTN_*` of `linux/rtnetlink.h`.
 #[derive(Clone, Copy, Debug, Default, PartialEq, Eq)]
@@ -56,7 +56,7 @@ macro_rules! numbers {
 }
 
 impl From<u8> for RouteType {
-    ghost from_gives = { λ number kind. kind ≡ route_type_of number };
+    ghost from_gives = { λ number kind. kind ≡ route_types.of number };
 
     fn from(number: u8) -> RouteType {
         numbers!(variant_of_number(number))
@@ -64,7 +64,7 @@ impl From<u8> for RouteType {
 }
 
 impl From<RouteType> for u8 {
-    ghost from_gives = { λ kind number. number ≡ route_type_number kind };
+    ghost from_gives = { λ kind number. number ≡ route_types.number kind };
 
     fn from(kind: RouteType) -> u8 {
         numbers!(number_of_variant(kind))

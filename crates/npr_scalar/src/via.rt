@@ -3,7 +3,7 @@
 ghost use Rattle.std.specs.{Prelude.{◌≡◌, ◌≢◌, ◌≤◌, ◌+◌, length, ◌++◌, IfOk, IfErr}, Int.{w16, to_le_bytes}};
 ghost use Rattle.{
   npr_base.specs.{
-    AddressFamily.{family_number},
+    AddressFamily.{families},
     declared.refusal.DecodeError.TheVariants.{OutOfMemory},
     Codec.{leading},
     Framing.{Writes},
@@ -168,7 +168,7 @@ impl RouteVia {
 fn write_address(family: AddressFamily, address: &[u8], out: &mut [u8]) -> usize
     requires { 2 + length address.now ≤ length out.old }
     ensures len { result ≡ 2 + length address.now }
-    ensures after { Writes out.old out.new (to_le_bytes w16 (family_number family) ++ address.now) }
+    ensures after { Writes out.old out.new (to_le_bytes w16 (families.number family) ++ address.now) }
 {
     write_bytes(address, &mut out[2..]);
     let [low, high] = u16::from(u8::from(family)).to_le_bytes();

@@ -4,12 +4,12 @@ use Rattle.std.proofs.Common.{◌≡◌, ℕ, ◌+◌, List, ◌++◌, length, t
 use Rattle.std.proofs.lemmas.List.{take-append-drop, drop-drop}
 use Rattle.npr_base.specs.V6List.{IsV6List}
 use Rattle.npr_srh.specs.declared.seg6_header.Seg6MessageBuffer.{Seg6MessageBuffer}
-use Rattle.npr_srh.specs.Seg6Mode.{mode_of}
+use Rattle.npr_srh.specs.Seg6Mode.{seg6_modes}
 use Rattle.npr_srh.specs.Seg6.{Seg6, IsSeg6, IsKey, HasFront, hmac_len, header_len}
 
 -- the parts of a SEG6 header
 pub seg6_read : (bytes : List ℕ) (b : Seg6MessageBuffer) (len : ℕ) (wire : List (List ℕ)) (h : Seg6) → HasFront bytes b len → IsV6List (take len (drop 12 bytes)) wire
-    → h.mode ≡ mode_of b.mode → h.segments ≡ reverse wire → IsKey (take (hmac_len b) (drop (12 + len) bytes)) h.hmac → IsSeg6 bytes h
+    → h.mode ≡ seg6_modes.of b.mode → h.segments ≡ reverse wire → IsKey (take (hmac_len b) (drop (12 + len) bytes)) h.hmac → IsSeg6 bytes h
 seg6_read bytes b len wire h f list mode segments key =
     let same = f.front in
     let k = hmac_len b in
@@ -27,7 +27,7 @@ seg6_read bytes b len wire h f list mode segments key =
       whole = list.1;
       len = omega (arith, count, tail, f.split, ap header_len same);
       hmac_size = tail ∙ ap hmac_len same;
-      mode = mode ∙ ap (λ (c : Seg6MessageBuffer). mode_of c.mode) same;
+      mode = mode ∙ ap (λ (c : Seg6MessageBuffer). seg6_modes.of c.mode) same;
       segments = segments;
       key = key;
     }

@@ -5,30 +5,30 @@ use Rattle.std.proofs.Common.{◌≡◌, ℕ, ◌<◌, ◌^◌, List, inl, inr, 
 use Rattle.npr_base.specs.Family.{misfit_of, option_or, too_long}
 use Rattle.npr_base.specs.Framing.{Item, number_of}
 use Rattle.npr_base.specs.EnumTableLaws.{matches}
-use Rattle.npr_base.specs.RowLaws.{form_IsFormed}
-use Rattle.npr_base.specs.Table.{item_of, unfit_by}
+use Rattle.npr_base.specs.Numbering.{of_IsFormed}
+use Rattle.npr_base.specs.Table.{written_by, unfit_by}
 use Rattle.npr_srh.specs.Segments.{too_many}
 use Rattle.npr_srh.specs.Seg6.{Seg6, IsSeg6, IsSeg6By, HoldsSeg6By, seg6_bytes, most_segments, decode_message, normalized as normalized_header}
-use Rattle.npr_srh.specs.Seg6Mode.{ModeTable, modes, mode_of, mode_number, mode_number-mode_in, mode_number-mode_of}
-use Rattle.npr_srh.specs.Seg6Tunnel.{Meaning, writing, normalized, held_of, attributes, attributes_by}
+use Rattle.npr_srh.specs.Seg6Mode.{ModeTable, modes, seg6_modes, mode_number, modes_by}
+use Rattle.npr_srh.specs.Seg6Tunnel.{Meaning, writing, normalized, attributes, attributes_by}
 use Rattle.npr_srh.specs.declared.seg6_mode.Seg6Mode.{Seg6Mode}
 
 -- ---- a header
 
 -- the number stays
 header-mode : (h : Seg6) → mode_number (normalized_header h).mode ≡ mode_number h.mode
-header-mode h = mode_number-mode_of (mode_number h.mode)
+header-mode h = seg6_modes.back (mode_number h.mode)
 
 pub header-bytes : (h : Seg6) → seg6_bytes (normalized_header h) ≡ seg6_bytes h
 header-bytes h = rw (header-mode h) refl
 
 pub header-again : (h : Seg6) → normalized_header (normalized_header h) ≡ normalized_header h
-header-again h = ap (λ (m : Seg6Mode). record { mode = m; segments = h.segments; hmac = h.hmac }) (ap mode_of (header-mode h))
+header-again h = ap (λ (m : Seg6Mode). record { mode = m; segments = h.segments; hmac = h.hmac }) (ap seg6_modes.of (header-mode h))
 
 header-holds : (by : ModeTable) (h : Seg6) → HoldsSeg6By by h → HoldsSeg6By modes (normalized_header h)
 header-holds by h c = record {
   mode = subst (λ (n : ℕ). n < 2 ^ 32) (sym (header-mode h)) c.mode;
-  formed = form_IsFormed mode_of mode_number mode_number-mode_of (mode_number h.mode);
+  formed = of_IsFormed seg6_modes (mode_number h.mode);
   whole = c.whole;
   segments = c.segments;
   key = c.key;
@@ -45,14 +45,14 @@ header-read by bytes h p = record {
   whole = p.whole;
   len = p.len;
   hmac_size = p.hmac_size;
-  mode = ap mode_of (ap mode_number p.mode ∙ mode_number-mode_in by (decode_message p.front).mode);
+  mode = ap seg6_modes.of (ap mode_number p.mode ∙ (modes_by by).back (decode_message p.front).mode);
   segments = p.segments;
   key = p.key;
 }
 
 -- ---- a member
 
-pub member-item : (m : Meaning) → item_of (held_of (normalized m)) ≡ item_of (held_of m)
+pub member-item : (m : Meaning) → written_by writing (normalized m) ≡ written_by writing m
 member-item (inl h) = rw (header-bytes h) refl
 member-item (inr m) = refl
 

@@ -7,8 +7,7 @@ use Rattle.std.proofs.Common.{refl, sym, rules, ap, true≢false}
 use Rattle.npr_base.specs.Equality.{IsEquality, IsEqualityOf}
 use Rattle.npr_base.specs.ViewEquality.{item_equality}
 use Rattle.npr_base.specs.IpLaws.{ipv4_equality, ipv6_equality}
-use Rattle.npr_base.specs.EnumTable.{◌also◌}
-use Rattle.npr_base.specs.EnumTableLaws.{enum_decides, of_field, no_field}
+use Rattle.npr_base.specs.EnumTableLaws.{enum_decides}
 use Rattle.npr_base.specs.MeaningLaws.{items_equality}
 use Rattle.npr_base.specs.StructLaws.{and_decides, decides_as}
 use Rattle.npr_srh.specs.Seg6.{Seg6, seg6_of}
@@ -90,47 +89,19 @@ rpl_header_equality a b =
 
 -- ---- the members
 
-pub seg6_equality : IsEqualityOf OfSeg6.meaning_of Seg6Eq.ghosts.eq
+pub seg6_equality : IsEqualityOf OfSeg6.family.meaning Seg6Eq.ghosts.eq
 seg6_equality =
-    enum_decides seg6_enum (OfSeg6.rows modes) _
-    (of_field seg6_header_equality
-    also of_field ipv6_equality
-    also of_field unsigned_Decides
-    also of_field item_equality
-    also tt)
+    enum_decides seg6_enum (OfSeg6.rows modes) _ (search (seg6_header_equality, ipv6_equality, unsigned_Decides, item_equality) depth 40)
 
-pub local_equality : IsEqualityOf OfLocal.meaning_of LocalEq.ghosts.eq
+pub local_equality : IsEqualityOf OfLocal.family.meaning LocalEq.ghosts.eq
 local_equality =
     enum_decides local_enum OfLocal.rows _
-    (no_field _
-    also of_field action_equality
-    also of_field local_header_equality
-    also of_field unsigned_Decides
-    also of_field ipv4_equality
-    also of_field ipv6_equality
-    also of_field unsigned_Decides
-    also of_field unsigned_Decides
-    also of_field unsigned_Decides
-    also of_field item_equality
-    also tt)
+    (search (action_equality, local_header_equality, unsigned_Decides, ipv4_equality, item_equality) depth 40)
 
-pub rpl_equality : IsEqualityOf OfRpl.meaning_of RplEq.ghosts.eq
-rpl_equality =
-    enum_decides rpl_enum OfRpl.rows _
-    (no_field _
-    also of_field rpl_header_equality
-    also of_field item_equality
-    also tt)
+pub rpl_equality : IsEqualityOf OfRpl.family.meaning RplEq.ghosts.eq
+rpl_equality = enum_decides rpl_enum OfRpl.rows _ (search (rpl_header_equality, item_equality) depth 40)
 
-pub ioam6_equality : IsEqualityOf OfIoam6.meaning_of Ioam6Eq.ghosts.eq
+pub ioam6_equality : IsEqualityOf OfIoam6.family.meaning Ioam6Eq.ghosts.eq
 ioam6_equality =
     enum_decides ioam6_enum OfIoam6.rows _
-    (no_field _
-    also of_field ioam6_mode_equality
-    also of_field ipv6_equality
-    also of_field trace_equality
-    also of_field unsigned_Decides
-    also of_field unsigned_Decides
-    also of_field ipv6_equality
-    also of_field item_equality
-    also tt)
+    (search (ioam6_mode_equality, ipv6_equality, trace_equality, unsigned_Decides, item_equality) depth 40)

@@ -6,11 +6,11 @@ use Rattle.npr_base.specs.declared.refusal.At.{At}
 use Rattle.npr_base.specs.declared.refusal.AttrFamily.TheVariants.{Ioam6}
 use Rattle.npr_base.specs.Codec.{exactly}
 use Rattle.npr_base.specs.DroppedCodec.{dropped}
-use Rattle.npr_base.specs.EnumTable.{VariantRows, row, others, ◌also◌, value, nothing, MeaningIn, meaning_in, held_in, by_row}
-use Rattle.npr_base.specs.EnumTableLaws.{attributes_in, rows-read}
+use Rattle.npr_base.specs.EnumTable.{VariantRows, row, others, ◌also◌, value, nothing, by_row}
+use Rattle.npr_base.specs.EnumTableLaws.{attributes_in, rows-read, family_in, writing_in}
 use Rattle.npr_base.specs.Layout.{le32, octets}
 use Rattle.npr_base.specs.Refusal.{at_number}
-use Rattle.npr_base.specs.Table.{Writing, Reading, Held, writing_by}
+use Rattle.npr_base.specs.Table.{Reading, Family}
 use Rattle.npr_base.specs.Text.{nla_text}
 use Rattle.npr_srh.specs.Keeping.{keeping_in, IsRowOf}
 use Rattle.npr_srh.specs.Ioam6Mode.{ioam6_mode, ioam6_mode_text}
@@ -35,30 +35,19 @@ rows =
     also row Ioam6 6 (exactly (octets 16)) value  -- IOAM6_IPTUNNEL_SRC
     also others value
 
--- what a member is, without where it lies in memory
-abbrev pub Meaning : Type 0
-Meaning = MeaningIn enum.parts rows
-
-abbrev pub meaning_of : RouteIoam6Tunnel → Meaning
-meaning_of a = meaning_in enum.parts rows (enum.as_values a)
-
--- where each stands, and how it is written
-abbrev pub held_of : Meaning → Held
-held_of m = held_in enum.parts rows m
-
-abbrev pub writing : Writing Meaning
-writing = writing_by held_of
-
 -- at its number a value is read by its row
 pub here : IsRowOf (attributes_in enum.parts rows refl) 3 trace
 here x m e p = let r = rows-read enum.parts rows x m p in let q = rw e at r in (q.0, q.1)
 
 -- the family: where the trace can't be read, the attribute is kept
-unfoldable pub attributes : Reading writing
+unfoldable pub attributes : Reading (writing_in enum.parts rows)
 attributes = keeping_in enum.parts rows refl 3 trace here (λ x old new looks. looks)
 
+abbrev pub family : Family RouteIoam6Tunnel (Unit {0})
+family = family_in enum rows (λ c. attributes)
+
 -- the text of a member
-abbrev pub ioam6_text : Meaning → Option (List ℕ)
+abbrev pub ioam6_text : family.Meaning → Option (List ℕ)
 ioam6_text =
     by_row enum.parts rows (
     (λ u. Some (codes "unspecified"))

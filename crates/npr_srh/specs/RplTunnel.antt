@@ -3,10 +3,10 @@ use Rattle.std.specs.Prelude.{ℕ, List, Option, Some, codes}
 use Rattle.npr_base.specs.declared.refusal.At.{At}
 use Rattle.npr_base.specs.declared.refusal.AttrFamily.TheVariants.{Rpl as OfRpl}
 use Rattle.npr_base.specs.DroppedCodec.{dropped}
-use Rattle.npr_base.specs.EnumTable.{VariantRows, row, others, ◌also◌, value, seen, nothing, MeaningIn, meaning_in, held_in, by_row}
-use Rattle.npr_base.specs.EnumTableLaws.{attributes_in, rows-read}
+use Rattle.npr_base.specs.EnumTable.{VariantRows, row, others, ◌also◌, value, seen, nothing, by_row}
+use Rattle.npr_base.specs.EnumTableLaws.{attributes_in, rows-read, family_in, writing_in}
 use Rattle.npr_base.specs.Refusal.{at_number}
-use Rattle.npr_base.specs.Table.{Writing, Reading, Held, writing_by}
+use Rattle.npr_base.specs.Table.{Reading, Family}
 use Rattle.npr_base.specs.Text.{nla_text}
 use Rattle.npr_srh.specs.Keeping.{keeping_in, IsRowOf}
 use Rattle.npr_srh.specs.Rpl.{rpl, rpl_of}
@@ -26,30 +26,19 @@ rows =
     also row OfRpl 1 rpl (seen rpl_of)  -- RPL_IPTUNNEL_SRH
     also others value
 
--- what a member is, without where it lies in memory
-abbrev pub Meaning : Type 0
-Meaning = MeaningIn enum.parts rows
-
-abbrev pub meaning_of : RouteRplIpTunnel → Meaning
-meaning_of a = meaning_in enum.parts rows (enum.as_values a)
-
--- where each stands, and how it is written
-abbrev pub held_of : Meaning → Held
-held_of m = held_in enum.parts rows m
-
-abbrev pub writing : Writing Meaning
-writing = writing_by held_of
-
 -- at its number a value is read by its row
 pub here : IsRowOf (attributes_in enum.parts rows refl) 1 rpl
 here x m e p = let r = rows-read enum.parts rows x m p in let q = rw e at r in (q.0, q.1)
 
 -- the family: where the routing header can't be read, the attribute is kept
-unfoldable pub attributes : Reading writing
+unfoldable pub attributes : Reading (writing_in enum.parts rows)
 attributes = keeping_in enum.parts rows refl 1 rpl here (λ x old new looks. looks)
 
+abbrev pub family : Family RouteRplIpTunnel (Unit {0})
+family = family_in enum rows (λ c. attributes)
+
 -- the text of a member
-abbrev pub rpl_text : Meaning → Option (List ℕ)
+abbrev pub rpl_text : family.Meaning → Option (List ℕ)
 rpl_text =
     by_row enum.parts rows (
     (λ u. Some (codes "unspecified"))

@@ -4,7 +4,6 @@ use Rattle.std.specs.Prelude.{◌≡◌, ◌≢◌, ℕ, ◌+◌, ◌-◌, ◌*�
 use Rattle.std.specs.Prelude.{drop, replicate, reverse, Option, Some, None}
 use Rattle.std.specs.Int.{w32, to_be_bytes, from_be_bytes}
 use Rattle.std.specs.List.{concat}
-use Rattle.std.proofs.Common.{refl}
 use Rattle.npr_base.specs.declared.refusal.DecodeError.{DecodeError}
 use Rattle.npr_base.specs.declared.refusal.DecodeError.TheVariants.{Seg6Header as Refused}
 use Rattle.npr_base.specs.declared.refusal.EmitError.{EmitError}
@@ -12,11 +11,12 @@ use Rattle.npr_base.specs.declared.refusal.Seg6Fault.{Seg6Fault}
 use Rattle.npr_base.specs.declared.refusal.Seg6Fault.TheVariants.{Short, Length, Hmac, Segments}
 use Rattle.npr_base.specs.Framing.{IsBytes}
 use Rattle.npr_base.specs.Family.{AllOf, option_or, too_long}
-use Rattle.npr_base.specs.Fields.{one_byte, le_two, le_four, ◌then◌, structure}
+use Rattle.npr_base.specs.Fields.{one_byte, le_two, le_four, ◌before◌, ◌then◌, last, structure}
 use Rattle.npr_base.specs.Layout.{Layout}
-use Rattle.npr_base.specs.Rows.{IsFormed}
+use Rattle.npr_base.specs.Numbering.{IsFormed}
 use Rattle.npr_srh.specs.Segments.{too_many}
-use Rattle.npr_srh.specs.Seg6Mode.{ModeTable, modes, mode_in, mode_of, mode_number}
+use Rattle.npr_srh.specs.Seg6Mode.{ModeTable, modes, modes_by, seg6_modes, mode_number}
+use Rattle.npr_srh.specs.contracts.seg6_header.Seg6MessageBuffer.{struct}
 use Rattle.npr_srh.specs.declared.seg6_mode.Seg6Mode.{Seg6Mode}
 use Rattle.npr_srh.specs.declared.seg6_header.Seg6MessageBuffer.{Seg6MessageBuffer}
 use Rattle.npr_srh.specs.declared.seg6_header.Seg6Header.{Seg6Header}
@@ -25,19 +25,7 @@ use Rattle.npr_srh.specs.declared.seg6_header.Seg6Header.{Seg6Header}
 
 -- in this order, little endian
 abbrev pub message : Layout Seg6MessageBuffer
-message =
-    structure (le_four then one_byte then one_byte then one_byte then one_byte then one_byte then one_byte then le_two)
-    (λ (mode, (next, (size, (kind, (left, (first, (flags, tag))))))). record {
-      mode = mode;
-      nexthdr = next;
-      hdrlen = size;
-      seg_type = kind;
-      segments_left = left;
-      first_segment = first;
-      flags = flags;
-      tag = tag;
-    })
-    (λ b. (b.mode, (b.nexthdr, (b.hdrlen, (b.seg_type, (b.segments_left, (b.first_segment, (b.flags, b.tag)))))))) (λ fields. refl)
+message = structure struct (le_four then one_byte then one_byte then one_byte then one_byte then one_byte then one_byte then last le_two) (λ v. tt)
 
 abbrev pub decode_message : List ℕ → Seg6MessageBuffer
 decode_message = message.decode
@@ -58,7 +46,7 @@ seg6_of h = record { mode = h.mode; segments = h.segments.items; hmac = h.hmac }
 
 -- the header with the mode that its number has in the table of today
 abbrev pub normalized : Seg6 → Seg6
-normalized h = record { mode = mode_of (mode_number h.mode); segments = h.segments; hmac = h.hmac }
+normalized h = record { mode = seg6_modes.of (mode_number h.mode); segments = h.segments; hmac = h.hmac }
 
 -- the bytes of the routing header: its length byte counts eights, the first one left out
 abbrev pub header_len : Seg6MessageBuffer → ℕ
@@ -85,7 +73,7 @@ pub record IsSeg6By (table : ModeTable) (bytes : List ℕ) (h : Seg6) : Type 0 w
   pub whole : AllOf (λ a. length a ≡ 16) wire
   pub len : 8 + (length (concat wire) + length hmac) ≡ header_len (decode_message front)
   pub hmac_size : length hmac ≡ hmac_len (decode_message front)
-  pub mode : h.mode ≡ mode_in table (decode_message front).mode
+  pub mode : h.mode ≡ (modes_by table).of (decode_message front).mode
   pub segments : h.segments ≡ reverse wire
   pub key : IsKey hmac h.hmac
 
@@ -163,7 +151,7 @@ HoldsKey (Some key) = key < 2 ^ 32
 
 pub record HoldsSeg6By (table : ModeTable) (h : Seg6) : Type 0 where
   pub mode : mode_number h.mode < 2 ^ 32
-  pub formed : IsFormed (mode_in table) mode_number h.mode
+  pub formed : IsFormed (modes_by table) h.mode
   pub whole : AllOf (λ a. length a ≡ 16) h.segments
   pub segments : AllOf IsBytes h.segments
   pub key : HoldsKey h.hmac

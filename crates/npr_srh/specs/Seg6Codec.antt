@@ -16,10 +16,10 @@ use Rattle.npr_base.specs.CodecLaws.{framed-grows}
 use Rattle.npr_base.specs.LayoutLaws.{be32-holds}
 use Rattle.npr_base.specs.ListLaws.{IsBytes-left, IsBytes-right, IsBytes-take}
 use Rattle.npr_base.specs.V6ListLaws.{same_parts, AllOf-reverse, length-concat, v6_list-one, v6_list-bytes}
-use Rattle.npr_base.specs.RowLaws.{form_IsFormed}
-use Rattle.npr_base.specs.Rows.{IsFormed}
+use Rattle.npr_base.specs.Numbering.{of_IsFormed}
+use Rattle.npr_base.specs.Numbering.{IsFormed}
 use Rattle.npr_base.specs.Codec.{Codec, no_members}
-use Rattle.npr_srh.specs.Seg6Mode.{ModeTable, modes, mode_in, mode_number, mode_number-mode_in}
+use Rattle.npr_srh.specs.Seg6Mode.{ModeTable, modes, modes_by, mode_number}
 use Rattle.npr_srh.specs.declared.seg6_header.Seg6MessageBuffer.{Seg6MessageBuffer}
 use Rattle.npr_srh.specs.Segments.{too_many, few}
 use Rattle.npr_srh.specs.Seg6.{Seg6, IsSeg6By, IsKey, HasFront, Seg6Wrong, Seg6Faulty, HoldsSeg6By, HoldsKey, message, decode_message, encode_message}
@@ -43,7 +43,7 @@ seg6-one table bytes h k p q =
     let t = same_parts p.hmac p.rest q.hmac q.rest tail w.1 in
     let wire : p.wire ≡ q.wire = v6_list-one p.wire q.wire p.whole q.whole w.0 in
     let key : h.hmac ≡ k.hmac = key-one q.hmac h.hmac k.hmac (subst (λ (b : List ℕ). IsKey b h.hmac) t.0 p.key) q.key in
-    let mode : h.mode ≡ k.mode = p.mode ∙ ap (λ (b : Seg6MessageBuffer). mode_in table b.mode) b ∙ sym q.mode in
+    let mode : h.mode ≡ k.mode = p.mode ∙ ap (λ (b : Seg6MessageBuffer). (modes_by table).of b.mode) b ∙ sym q.mode in
     let segments : h.segments ≡ k.segments = p.segments ∙ ap reverse wire ∙ sym q.segments in
     λ i. record { mode = mode i; segments = segments i; hmac = key i }
 
@@ -94,9 +94,9 @@ seg6-holds table bytes h is p =
     let wire = v6_list-bytes p.wire (IsBytes-left (concat p.wire) (p.hmac ++ p.rest) tail) in
     let hmac = IsBytes-left p.hmac p.rest (IsBytes-right (concat p.wire) (p.hmac ++ p.rest) tail) in
     record {
-      mode = subst (λ (n : ℕ). n < 2 ^ 32) (sym (ap mode_number p.mode ∙ mode_number-mode_in table (decode_message p.front).mode)) front.0.0;
-      formed = subst (IsFormed (mode_in table) mode_number) (sym p.mode)
-          (form_IsFormed (mode_in table) mode_number (mode_number-mode_in table) (decode_message p.front).mode);
+      mode = subst (λ (n : ℕ). n < 2 ^ 32) (sym (ap mode_number p.mode ∙ (modes_by table).back (decode_message p.front).mode)) front.0.0;
+      formed = subst (IsFormed (modes_by table)) (sym p.mode)
+          (of_IsFormed (modes_by table) (decode_message p.front).mode);
       whole = subst (AllOf (λ (a : List ℕ). length a ≡ 16)) (sym p.segments) (AllOf-reverse (λ (a : List ℕ). length a ≡ 16) p.wire p.whole);
       segments = subst (AllOf IsBytes) (sym p.segments) (AllOf-reverse IsBytes p.wire wire);
       key = key-holds p.hmac h.hmac hmac p.key;
@@ -139,7 +139,7 @@ seg6-back table kind h holds fits =
       whole = wire;
       len = omega (arith, length-concat (reverse h.segments) wire, length-reverse h.segments, key-len h.hmac);
       hmac_size = key-flag h.hmac;
-      mode = holds.formed ∙ ap (λ (b : Seg6MessageBuffer). mode_in table b.mode) (sym back);
+      mode = holds.formed ∙ ap (λ (b : Seg6MessageBuffer). (modes_by table).of b.mode) (sym back);
       segments = sym (reverse-reverse h.segments);
       key = key-back h.hmac holds.key;
     }

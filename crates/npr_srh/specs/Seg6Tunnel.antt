@@ -2,10 +2,10 @@
 use Rattle.std.proofs.Common.{◌≡◌, inl, inr, refl}
 use Rattle.npr_base.specs.declared.refusal.AttrFamily.TheVariants.{Seg6}
 use Rattle.npr_base.specs.Codec.{exactly}
-use Rattle.npr_base.specs.EnumTable.{VariantRows, row, others, ◌also◌, value, seen, MeaningIn, meaning_in, held_in}
-use Rattle.npr_base.specs.EnumTableLaws.{writing_in, attributes_in, rewritten}
+use Rattle.npr_base.specs.EnumTable.{VariantRows, row, others, ◌also◌, value, seen, MeaningIn}
+use Rattle.npr_base.specs.EnumTableLaws.{writing_in, attributes_in, rewritten, family_in}
 use Rattle.npr_base.specs.Layout.{le32, octets}
-use Rattle.npr_base.specs.Table.{Writing, Reading, Held, writing_by}
+use Rattle.npr_base.specs.Table.{Writing, Reading, Family}
 use Rattle.npr_srh.specs.Seg6.{seg6_of, normalized as normalized_header}
 use Rattle.npr_srh.specs.Seg6Codec.{seg6_by}
 use Rattle.npr_srh.specs.Seg6Mode.{ModeTable, modes}
@@ -24,20 +24,14 @@ rows by =
 abbrev pub Meaning : Type 0
 Meaning = MeaningIn enum.parts (rows modes)
 
-abbrev pub meaning_of : RouteSeg6IpTunnel → Meaning
-meaning_of a = meaning_in enum.parts (rows modes) (enum.as_values a)
-
 -- the member with its header brought up to the table of today
 abbrev pub normalized : Meaning → Meaning
 normalized (inl h) = inl (normalized_header h)
 normalized m = m
 
--- where each stands, and how it is written: whatever the table of modes
-abbrev pub held_of : Meaning → Held
-held_of m = held_in enum.parts (rows modes) m
-
+-- how each is written, whatever the table of modes
 abbrev pub writing : Writing Meaning
-writing = writing_by held_of
+writing = writing_in enum.parts (rows modes)
 
 pub shapes : (by : ModeTable) (m : Meaning) → writing.shape m ≡ (writing_in enum.parts (rows by)).shape m
 shapes by (inl h) = refl
@@ -53,3 +47,6 @@ attributes_by by = rewritten (attributes_in enum.parts (rows by) refl) writing (
 
 abbrev pub attributes : Reading writing
 attributes = attributes_by modes
+
+abbrev pub family : Family RouteSeg6IpTunnel (Unit {0})
+family = family_in enum (rows modes) (λ c. attributes)

@@ -2,12 +2,12 @@
 
 ghost use Rattle.std.specs.{Prelude.{◌≡◌, ◌≢◌, IfOk, IfErr, IfSome, IfNone, refl, Some}, Fmt.{WritesOnOk}};
 ghost use Rattle.{
-  npr_base.specs.{Table.{family_of, shape_at, held}, declared.refusal.DecodeError.TheVariants.{OutOfMemory}},
+  npr_base.specs.{Table.{shaped, shape_at, held}, declared.refusal.DecodeError.TheVariants.{OutOfMemory}},
   npr_srh.specs.{
-    Ioam6Mode.{ioam6_mode_of, ioam6_mode_number, ioam6_mode_text},
+    Ioam6Mode.{ioam6_modes, ioam6_mode_text},
     Keeping.{IsUnread},
     Trace.{trace, IsTrace, encode_trace, trace_text},
-    Ioam6Tunnel.{meaning_of, writing, attributes, ioam6_text, trace_at},
+    Ioam6Tunnel.{family, ioam6_text, trace_at},
   },
 };
 
@@ -44,7 +44,7 @@ macro_rules! numbers {
 }
 
 impl From<u8> for Ioam6Mode {
-    ghost from_gives = { λ number mode. mode ≡ ioam6_mode_of number };
+    ghost from_gives = { λ number mode. mode ≡ ioam6_modes.of number };
 
     fn from(number: u8) -> Ioam6Mode {
         numbers!(variant_of_number(number))
@@ -52,7 +52,7 @@ impl From<u8> for Ioam6Mode {
 }
 
 impl From<Ioam6Mode> for u8 {
-    ghost from_gives = { λ mode number. number ≡ ioam6_mode_number mode };
+    ghost from_gives = { λ mode number. number ≡ ioam6_modes.number mode };
 
     fn from(mode: Ioam6Mode) -> u8 {
         numbers!(number_of_variant(mode))
@@ -193,7 +193,7 @@ macro_rules! rows {
 }
 
 impl Nla for RouteIoam6Tunnel {
-    ghost shape = { λ a. writing.shape (meaning_of a) };
+    ghost shape = { shaped family };
 
     fn kind(&self) -> u16 {
         rows!(kind_rows(self; RouteIoam6Tunnel::Trace(trace) => trace.kind(),))
@@ -215,7 +215,7 @@ impl Nla for RouteIoam6Tunnel {
 impl Attribute for RouteIoam6Tunnel {
     type Context = ();
 
-    ghost family = { family_of meaning_of (λ _. attributes) };
+    ghost family = { family };
 
     ghost shape_is = { λ a. refl };
 
@@ -251,7 +251,7 @@ impl fmt::Display for Ioam6Mode {
 
 /// The words of `ip`: a trace with its type, its namespace and its room in bytes.
 impl fmt::Display for RouteIoam6Tunnel {
-    ghost output = { λ member. ioam6_text (meaning_of member) };
+    ghost output = { λ member. ioam6_text (family.meaning member) };
 
     fn fmt<W: fmt::Write>(&self, f: &mut fmt::Formatter<W>) -> fmt::Result {
         match self {

@@ -4,16 +4,16 @@ ghost use Rattle.std.specs.Prelude.{◌≡◌, ℕ, false, true};
 ghost use Rattle.{
   npr_base.specs.{Equality.{IsEquality, IsEqualityOf}, Rows.{agrees, numbered}},
   npr_srh.specs.{
-    Ioam6Mode.{ioam6_mode_of, ioam6_mode_number},
+    Ioam6Mode.{ioam6_modes},
     Seg6.{seg6_of},
-    Seg6LocalAction.{all_actions, action_of, action_number},
-    Seg6Mode.{mode_of, mode_number},
-    Seg6Tunnel.{meaning_of as seg6_member},
+    Seg6LocalAction.{all_action_rows, actions},
+    Seg6Mode.{seg6_modes},
+    Seg6Tunnel.{family as seg6},
     Seg6Local.{local_of},
-    Seg6LocalTunnel.{meaning_of as local_member},
+    Seg6LocalTunnel.{family as local},
     Rpl.{rpl_of},
-    RplTunnel.{meaning_of as rpl_member},
-    Ioam6Tunnel.{meaning_of as ioam6_member},
+    RplTunnel.{family as rpl},
+    Ioam6Tunnel.{family as ioam6},
   },
 };
 
@@ -28,10 +28,10 @@ use crate::seg6local_srh::Seg6LocalSrh;
 
 /// What a number reads as is written as that number, and each row of the actions as the row's number.
 pub fn law_numbers()
-    ensures seg6_mode { (d : ℕ) → mode_number (mode_of d) ≡ d }
-    ensures action { (d : ℕ) → action_number (action_of d) ≡ d }
-    ensures action_rows { agrees action_number (numbered all_actions) ≡ true }
-    ensures ioam6_mode { (d : ℕ) → ioam6_mode_number (ioam6_mode_of d) ≡ d }
+    ensures seg6_mode { (d : ℕ) → seg6_modes.number (seg6_modes.of d) ≡ d }
+    ensures action { (d : ℕ) → actions.number (actions.of d) ≡ d }
+    ensures action_rows { agrees actions.number (numbered all_action_rows) ≡ true }
+    ensures ioam6_mode { (d : ℕ) → ioam6_modes.number (ioam6_modes.of d) ≡ d }
 {}
 
 /// `==` answers whether two values are equal, or mean the same where they hold a vector.
@@ -44,10 +44,10 @@ pub fn law_equality()
     ensures seg6_header { IsEqualityOf seg6_of ⟦<Seg6Header as PartialEq>⟧.eq }
     ensures local_header { IsEqualityOf local_of ⟦<Seg6LocalSrh as PartialEq>⟧.eq }
     ensures rpl_header { IsEqualityOf rpl_of ⟦<RplSrh as PartialEq>⟧.eq }
-    ensures seg6 { IsEqualityOf seg6_member ⟦<RouteSeg6IpTunnel as PartialEq>⟧.eq }
-    ensures local { IsEqualityOf local_member ⟦<RouteSeg6LocalTunnel as PartialEq>⟧.eq }
-    ensures rpl { IsEqualityOf rpl_member ⟦<RouteRplIpTunnel as PartialEq>⟧.eq }
-    ensures ioam6 { IsEqualityOf ioam6_member ⟦<RouteIoam6Tunnel as PartialEq>⟧.eq }
+    ensures seg6 { IsEqualityOf seg6.meaning ⟦<RouteSeg6IpTunnel as PartialEq>⟧.eq }
+    ensures local { IsEqualityOf local.meaning ⟦<RouteSeg6LocalTunnel as PartialEq>⟧.eq }
+    ensures rpl { IsEqualityOf rpl.meaning ⟦<RouteRplIpTunnel as PartialEq>⟧.eq }
+    ensures ioam6 { IsEqualityOf ioam6.meaning ⟦<RouteIoam6Tunnel as PartialEq>⟧.eq }
 {}
 
 /// Which value is the default.

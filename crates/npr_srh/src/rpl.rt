@@ -3,11 +3,11 @@
 
 ghost use Rattle.std.specs.Prelude.{◌≡◌, ◌≤◌, ◌*◌, length, [], IfOk, IfErr, IfSome, IfNone, refl};
 ghost use Rattle.{
-  npr_base.specs.{Table.{family_of, shape_at, held}, declared.refusal.DecodeError.TheVariants.{OutOfMemory}},
+  npr_base.specs.{Table.{shaped, shape_at, held}, declared.refusal.DecodeError.TheVariants.{OutOfMemory}},
   npr_srh.specs.{
     Keeping.{IsUnread},
     Rpl.{rpl, rpl_of, encode_rpl},
-    RplTunnel.{meaning_of, writing, attributes, rpl_text, srh_at},
+    RplTunnel.{family, rpl_text, srh_at},
   },
 };
 
@@ -171,7 +171,7 @@ macro_rules! rows {
 }
 
 impl Nla for RouteRplIpTunnel {
-    ghost shape = { λ a. writing.shape (meaning_of a) };
+    ghost shape = { shaped family };
 
     fn kind(&self) -> u16 {
         rows!(kind_rows(self; RouteRplIpTunnel::Srh(_) => 1,))
@@ -193,7 +193,7 @@ impl Nla for RouteRplIpTunnel {
 impl Attribute for RouteRplIpTunnel {
     type Context = ();
 
-    ghost family = { family_of meaning_of (λ _. attributes) };
+    ghost family = { family };
 
     ghost shape_is = { λ a. refl };
 
@@ -220,7 +220,7 @@ impl Attribute for RouteRplIpTunnel {
 
 /// The words of `ip`: how many segments are still to visit, and all of them, the last one first.
 impl fmt::Display for RouteRplIpTunnel {
-    ghost output = { λ member. rpl_text (meaning_of member) };
+    ghost output = { λ member. rpl_text (family.meaning member) };
 
     fn fmt<W: fmt::Write>(&self, f: &mut fmt::Formatter<W>) -> fmt::Result {
         match self {

@@ -1,7 +1,7 @@
 //! SEG6: members of its tunnel (RFC 8754; `linux/seg6_iptunnel.h`).
 
 ghost use Rattle.std.specs.Prelude.{refl};
-ghost use Rattle.{npr_base.specs.Table.{family_of}, npr_srh.specs.Seg6Tunnel.{meaning_of, writing, attributes}};
+ghost use Rattle.{npr_base.specs.Table.{shaped}, npr_srh.specs.Seg6Tunnel.{family}};
 
 use crate::seg6_header::Seg6Header;
 use npr_base::{
@@ -33,7 +33,7 @@ macro_rules! rows {
 }
 
 impl Nla for RouteSeg6IpTunnel {
-    ghost shape = { λ a. writing.shape (meaning_of a) };
+    ghost shape = { shaped family };
 
     fn kind(&self) -> u16 {
         rows!(kind_rows(self; RouteSeg6IpTunnel::Seg6(_) => 1,))
@@ -55,7 +55,7 @@ impl Nla for RouteSeg6IpTunnel {
 impl Attribute for RouteSeg6IpTunnel {
     type Context = ();
 
-    ghost family = { family_of meaning_of (λ _. attributes) };
+    ghost family = { family };
 
     ghost shape_is = { λ a. refl };
 

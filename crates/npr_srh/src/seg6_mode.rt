@@ -1,7 +1,7 @@
 //! How a SEG6 header is put in, and its numbers (`linux/seg6_iptunnel.h`).
 
 ghost use Rattle.std.specs.Prelude.{◌≡◌};
-ghost use Rattle.npr_srh.specs.Seg6Mode.{mode_of, mode_number};
+ghost use Rattle.npr_srh.specs.Seg6Mode.{seg6_modes};
 
 /// How a SEG6 header is put in: `SEG6_IPTUN_MODE_*` of `linux/seg6_iptunnel.h`.
 #[derive(Clone, Copy, Debug, Default, PartialEq, Eq)]
@@ -35,7 +35,7 @@ macro_rules! numbers {
 }
 
 impl From<u32> for Seg6Mode {
-    ghost from_gives = { λ number mode. mode ≡ mode_of number };
+    ghost from_gives = { λ number mode. mode ≡ seg6_modes.of number };
 
     fn from(number: u32) -> Seg6Mode {
         numbers!(variant_of_number(number))
@@ -43,7 +43,7 @@ impl From<u32> for Seg6Mode {
 }
 
 impl From<Seg6Mode> for u32 {
-    ghost from_gives = { λ mode number. number ≡ mode_number mode };
+    ghost from_gives = { λ mode number. number ≡ seg6_modes.number mode };
 
     fn from(mode: Seg6Mode) -> u32 {
         numbers!(number_of_variant(mode))

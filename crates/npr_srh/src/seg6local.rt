@@ -1,7 +1,7 @@
 //! SEG6 local: members of its tunnel (RFC 8986; `linux/seg6_local.h`).
 
 ghost use Rattle.std.specs.Prelude.{refl};
-ghost use Rattle.{npr_base.specs.Table.{family_of}, npr_srh.specs.Seg6LocalTunnel.{meaning_of, writing, attributes, local_text}};
+ghost use Rattle.{npr_base.specs.Table.{shaped}, npr_srh.specs.Seg6LocalTunnel.{family, local_text}};
 
 use crate::seg6local_action::Seg6LocalAction;
 use crate::seg6local_srh::Seg6LocalSrh;
@@ -56,7 +56,7 @@ macro_rules! rows {
 }
 
 impl Nla for RouteSeg6LocalTunnel {
-    ghost shape = { λ a. writing.shape (meaning_of a) };
+    ghost shape = { shaped family };
 
     fn kind(&self) -> u16 {
         rows!(kind_rows(self; RouteSeg6LocalTunnel::Srh(_) => 2,))
@@ -78,7 +78,7 @@ impl Nla for RouteSeg6LocalTunnel {
 impl Attribute for RouteSeg6LocalTunnel {
     type Context = ();
 
-    ghost family = { family_of meaning_of (λ _. attributes) };
+    ghost family = { family };
 
     ghost shape_is = { λ a. refl };
 
@@ -105,7 +105,7 @@ impl Attribute for RouteSeg6LocalTunnel {
 
 /// The words of `ip`: of a routing header the number of its segments, and these, the last one first.
 impl fmt::Display for RouteSeg6LocalTunnel {
-    ghost output = { λ member. local_text (meaning_of member) };
+    ghost output = { λ member. local_text (family.meaning member) };
 
     fn fmt<W: fmt::Write>(&self, f: &mut fmt::Formatter<W>) -> fmt::Result {
         match self {

@@ -1,7 +1,7 @@
 //! What is done at a segment, and its numbers (RFC 8986; `linux/seg6_local.h`).
 
 ghost use Rattle.std.specs.Prelude.{◌≡◌, Some};
-ghost use Rattle.npr_srh.specs.Seg6LocalAction.{action_of, action_number, action_text};
+ghost use Rattle.npr_srh.specs.Seg6LocalAction.{actions, action_text};
 
 use std::fmt;
 
@@ -74,7 +74,7 @@ macro_rules! numbers {
 }
 
 impl From<u32> for Seg6LocalAction {
-    ghost from_gives = { λ number action. action ≡ action_of number };
+    ghost from_gives = { λ number action. action ≡ actions.of number };
 
     fn from(number: u32) -> Seg6LocalAction {
         numbers!(variant_of_number(number))
@@ -82,7 +82,7 @@ impl From<u32> for Seg6LocalAction {
 }
 
 impl From<Seg6LocalAction> for u32 {
-    ghost from_gives = { λ action number. number ≡ action_number action };
+    ghost from_gives = { λ action number. number ≡ actions.number action };
 
     fn from(action: Seg6LocalAction) -> u32 {
         numbers!(number_of_variant(action))

@@ -4,7 +4,7 @@ use Rattle.std.specs.Prelude.{filter_map}
 use Rattle.std.specs.List.{last_or, cons_option}
 use Rattle.std.proofs.lemmas.List.{take_more, append-nil, map-append}
 use Rattle.std.proofs.lemmas.List.Elements.{filter_map-append}
-use Rattle.npr_tunnel.specs.ErspanOptions.{Meaning, meaning_of, last_of}
+use Rattle.npr_tunnel.specs.ErspanOptions.{family, last_of}
 use Rattle.npr_tunnel.specs.declared.erspan.RouteErspanOpt.{RouteErspanOpt}
 
 last_or-push : (o : Option ℕ) (ns : List ℕ) (n : ℕ) → last_or o (ns ++ n ∷ []) ≡ Some n
@@ -15,14 +15,14 @@ last_or-cons_option : (o : Option ℕ) (ns : List ℕ) → unwrap_or (last_or No
 last_or-cons_option None ns = ap (λ l. unwrap_or (last_or None l) 0) (append-nil ns)
 last_or-cons_option (Some n) ns = ap (λ o. unwrap_or o 0) (last_or-push None ns n)
 
-last_of-push : (value : Meaning → Option ℕ) (ms : List Meaning) (m : Meaning) → last_of value (ms ++ m ∷ []) ≡ unwrap_or (value m) (last_of value ms)
+last_of-push : (value : family.Meaning → Option ℕ) (ms : List family.Meaning) (m : family.Meaning) → last_of value (ms ++ m ∷ []) ≡ unwrap_or (value m) (last_of value ms)
 last_of-push value ms m = ap (λ ns. unwrap_or (last_or None ns) 0) (filter_map-append value ms (m ∷ [])) ∙ last_or-cons_option (value m) (filter_map value ms)
 
 -- one option more
-pub last_of-more : (xs : List RouteErspanOpt) (i : ℕ) (x : RouteErspanOpt) → i < length xs → x ≡ get_or xs i x → (m : Meaning) → meaning_of x ≡ m → (value : Meaning → Option ℕ)
-    → last_of value (map meaning_of (take (i + 1) xs)) ≡ unwrap_or (value m) (last_of value (map meaning_of (take i xs)))
+pub last_of-more : (xs : List RouteErspanOpt) (i : ℕ) (x : RouteErspanOpt) → i < length xs → x ≡ get_or xs i x → (m : family.Meaning) → family.meaning x ≡ m → (value : family.Meaning → Option ℕ)
+    → last_of value (map family.meaning (take (i + 1) xs)) ≡ unwrap_or (value m) (last_of value (map family.meaning (take i xs)))
 last_of-more xs i x inside is m means value =
     let before = take i xs in
     let one_more : take (i + 1) xs ≡ before ++ x ∷ [] = take_more xs i x inside ∙ ap (λ y. before ++ y ∷ []) (sym is) in
-    let meant : map meaning_of (before ++ x ∷ []) ≡ map meaning_of before ++ m ∷ [] = map-append meaning_of before (x ∷ []) ∙ ap (λ y. map meaning_of before ++ y ∷ []) means in
-    ap (λ ys. last_of value (map meaning_of ys)) one_more ∙ ap (last_of value) meant ∙ last_of-push value (map meaning_of before) m
+    let meant : map family.meaning (before ++ x ∷ []) ≡ map family.meaning before ++ m ∷ [] = map-append family.meaning before (x ∷ []) ∙ ap (λ y. map family.meaning before ++ y ∷ []) means in
+    ap (λ ys. last_of value (map family.meaning ys)) one_more ∙ ap (last_of value) meant ∙ last_of-push value (map family.meaning before) m

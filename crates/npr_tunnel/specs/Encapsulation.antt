@@ -1,17 +1,26 @@
 -- The members of an encapsulation, by its type: some types have a family, and under the others a member is kept as it
 -- stands (linux/lwtunnel.h, LWTUNNEL_ENCAP_*).
 use Rattle.std.proofs.Common.{refl}
+use Rattle.npr_base.specs.EnumTable.{held_in}
 use Rattle.npr_base.specs.Framing.{Item}
-use Rattle.npr_base.specs.Table.{Writing, Reading, Held, held_other, writing_by}
+use Rattle.npr_base.specs.Table.{Writing, Reading, Family, Held, held_other, family_of, writing_by}
 use Rattle.npr_srh.specs.Ioam6Tunnel as OfIoam6
 use Rattle.npr_srh.specs.RplTunnel as OfRpl
 use Rattle.npr_srh.specs.Seg6LocalTunnel as OfSeg6Local
 use Rattle.npr_srh.specs.Seg6Mode.{ModeTable, modes}
 use Rattle.npr_srh.specs.Seg6Tunnel as OfSeg6
+use Rattle.npr_srh.specs.contracts.ioam6.RouteIoam6Tunnel.{enum as ioam6_enum}
+use Rattle.npr_srh.specs.contracts.rpl.RouteRplIpTunnel.{enum as rpl_enum}
+use Rattle.npr_srh.specs.contracts.seg6.RouteSeg6IpTunnel.{enum as seg6_enum}
+use Rattle.npr_srh.specs.contracts.seg6local.RouteSeg6LocalTunnel.{enum as local_enum}
 use Rattle.npr_tunnel.specs.IpTunnel as OfIp
 use Rattle.npr_tunnel.specs.MplsTunnel as OfMpls
 use Rattle.npr_tunnel.specs.XfrmTunnel as OfXfrm
 use Rattle.npr_tunnel.specs.Wrapped.{wrapped, kept}
+use Rattle.npr_tunnel.specs.contracts.ip.RouteIpTunnel.{enum as ip_enum}
+use Rattle.npr_tunnel.specs.contracts.ip6.RouteIp6Tunnel.{enum as ip6_enum}
+use Rattle.npr_tunnel.specs.contracts.mpls.RouteMplsIpTunnel.{enum as mpls_enum}
+use Rattle.npr_tunnel.specs.contracts.xfrm.RouteXfrmTunnel.{enum as xfrm_enum}
 use Rattle.npr_tunnel.specs.declared.encap.RouteLwTunnelEncap.{RouteLwTunnelEncap}
 use Rattle.npr_tunnel.specs.declared.encap.RouteLwTunnelEncap.TheVariants.{Mpls as HasMpls, Seg6 as HasSeg6, Ip as HasIp, Ip6 as HasIp6, Ioam6 as HasIoam6}
 use Rattle.npr_tunnel.specs.declared.encap.RouteLwTunnelEncap.TheVariants.{Rpl as HasRpl, Seg6Local as HasSeg6Local, Xfrm as HasXfrm, Other}
@@ -20,37 +29,37 @@ use Rattle.npr_tunnel.specs.declared.encap_type.RouteLwEnCapType.TheVariants.{Mp
 
 -- what a member is, without where it lies in memory
 pub data Meaning : Type 0 where
-  mpls : OfMpls.Meaning → Meaning
-  seg6 : OfSeg6.Meaning → Meaning
-  ip : OfIp.Meaning → Meaning
-  ip6 : OfIp.Meaning → Meaning
-  ioam6 : OfIoam6.Meaning → Meaning
-  rpl : OfRpl.Meaning → Meaning
-  seg6_local : OfSeg6Local.Meaning → Meaning
-  xfrm : OfXfrm.Meaning → Meaning
+  mpls : OfMpls.family.Meaning → Meaning
+  seg6 : OfSeg6.family.Meaning → Meaning
+  ip : OfIp.family.Meaning → Meaning
+  ip6 : OfIp.family6.Meaning → Meaning
+  ioam6 : OfIoam6.family.Meaning → Meaning
+  rpl : OfRpl.family.Meaning → Meaning
+  seg6_local : OfSeg6Local.family.Meaning → Meaning
+  xfrm : OfXfrm.family.Meaning → Meaning
   other : Item → Meaning
 
 abbrev pub meaning_of : RouteLwTunnelEncap → Meaning
-meaning_of (HasMpls m) = mpls (OfMpls.meaning_of m)
-meaning_of (HasSeg6 m) = seg6 (OfSeg6.meaning_of m)
-meaning_of (HasIp m) = ip (OfIp.meaning_of m)
-meaning_of (HasIp6 m) = ip6 (OfIp.meaning6_of m)
-meaning_of (HasIoam6 m) = ioam6 (OfIoam6.meaning_of m)
-meaning_of (HasRpl m) = rpl (OfRpl.meaning_of m)
-meaning_of (HasSeg6Local m) = seg6_local (OfSeg6Local.meaning_of m)
-meaning_of (HasXfrm m) = xfrm (OfXfrm.meaning_of m)
+meaning_of (HasMpls m) = mpls (OfMpls.family.meaning m)
+meaning_of (HasSeg6 m) = seg6 (OfSeg6.family.meaning m)
+meaning_of (HasIp m) = ip (OfIp.family.meaning m)
+meaning_of (HasIp6 m) = ip6 (OfIp.family6.meaning m)
+meaning_of (HasIoam6 m) = ioam6 (OfIoam6.family.meaning m)
+meaning_of (HasRpl m) = rpl (OfRpl.family.meaning m)
+meaning_of (HasSeg6Local m) = seg6_local (OfSeg6Local.family.meaning m)
+meaning_of (HasXfrm m) = xfrm (OfXfrm.family.meaning m)
 meaning_of (Other d) = other d
 
 -- where each stands in its tunnel's table, whatever the type
 abbrev pub held_of : Meaning → Held
-held_of (mpls m) = OfMpls.held_of m
-held_of (seg6 m) = OfSeg6.held_of m
-held_of (ip m) = OfIp.held_of m
-held_of (ip6 m) = OfIp.held6_of m
-held_of (ioam6 m) = OfIoam6.held_of m
-held_of (rpl m) = OfRpl.held_of m
-held_of (seg6_local m) = OfSeg6Local.held_of m
-held_of (xfrm m) = OfXfrm.held_of m
+held_of (mpls m) = held_in mpls_enum.parts OfMpls.rows m
+held_of (seg6 m) = held_in seg6_enum.parts (OfSeg6.rows modes) m
+held_of (ip m) = held_in ip_enum.parts OfIp.rows m
+held_of (ip6 m) = held_in ip6_enum.parts OfIp.rows6 m
+held_of (ioam6 m) = held_in ioam6_enum.parts OfIoam6.rows m
+held_of (rpl m) = held_in rpl_enum.parts OfRpl.rows m
+held_of (seg6_local m) = held_in local_enum.parts OfSeg6Local.rows m
+held_of (xfrm m) = held_in xfrm_enum.parts OfXfrm.rows m
 held_of (other x) = held_other x
 
 -- how each is written
@@ -72,6 +81,9 @@ encapsulation_by by type = wrapped kept other writing (λ x. refl) (λ x. refl)
 -- and by that of today
 abbrev pub encapsulation : RouteLwEnCapType → Reading writing
 encapsulation type = encapsulation_by modes type
+
+abbrev pub family : Family RouteLwTunnelEncap RouteLwEnCapType
+family = family_of meaning_of encapsulation
 
 -- the member with its header, if it is a SEG6 one, brought up to the table of today
 abbrev pub normalized : Meaning → Meaning

@@ -6,7 +6,7 @@ use Rattle.npr_base.specs.Equality.{IsEquality, IsEqualityOf}
 use Rattle.npr_base.specs.ViewEquality.{item_equality}
 use Rattle.npr_base.specs.IpLaws.{ipv4_equality, ipv6_equality}
 use Rattle.npr_base.specs.EnumTable.{◌also◌}
-use Rattle.npr_base.specs.EnumTableLaws.{enum_decides, of_field, no_field}
+use Rattle.npr_base.specs.EnumTableLaws.{enum_decides}
 use Rattle.npr_base.specs.MeaningLaws.{enum_meaning, one_meaning, items_equality, items_meaning}
 use Rattle.npr_base.specs.StructLaws.{and_decides, decides_as}
 use Rattle.npr_scalar.specs.EqualityLaws.{label_equality}
@@ -17,10 +17,7 @@ use Rattle.npr_srh.specs.Seg6LocalTunnel as OfLocal
 use Rattle.npr_srh.specs.Seg6Tunnel as OfSeg6
 use Rattle.npr_tunnel.specs.Geneve.{Geneve, option_of}
 use Rattle.npr_tunnel.specs.contracts.encap_type.RouteLwEnCapTypePartialEq.TheImpl as TypeEq
-use Rattle.npr_tunnel.specs.contracts.flags.RouteIp6TunnelFlagsPartialEq.TheImpl as Ip6FlagsEq
-use Rattle.npr_tunnel.specs.contracts.flags.RouteIpTunnelFlagsPartialEq.TheImpl as IpFlagsEq
 use Rattle.npr_tunnel.specs.contracts.geneve.RouteGeneveOptPartialEq.TheImpl as GeneveEq
-use Rattle.npr_tunnel.specs.TunnelFlags.{ip_flags_bits, ip6_flags_bits}
 use Rattle.npr_tunnel.specs.XfrmTunnel as OfXfrm
 use Rattle.npr_tunnel.specs.MplsTunnel as OfMpls
 use Rattle.npr_tunnel.specs.VxlanOptions as OfVxlan
@@ -50,12 +47,6 @@ use Rattle.npr_tunnel.specs.contracts.encap.RouteLwTunnelEncapPartialEq.TheImpl 
 pub encap_type_equality : IsEquality TypeEq.ghosts.eq
 encap_type_equality = search rules
 
-ip_flags_equality : IsEqualityOf ip_flags_bits IpFlagsEq.ghosts.eq
-ip_flags_equality a b = unsigned_Decides a.0 b.0
-
-ip6_flags_equality : IsEqualityOf ip6_flags_bits Ip6FlagsEq.ghosts.eq
-ip6_flags_equality a b = unsigned_Decides a.0 b.0
-
 pub geneve_equality : IsEqualityOf option_of GeneveEq.ghosts.eq
 geneve_equality a b =
     decides_as
@@ -66,76 +57,32 @@ geneve_equality a b =
 
 -- ---- the members and options
 
-pub xfrm_equality : IsEqualityOf OfXfrm.meaning_of XfrmEq.ghosts.eq
-xfrm_equality =
-    enum_decides xfrm_enum OfXfrm.rows _
-    (no_field _
-    also of_field unsigned_Decides
-    also of_field unsigned_Decides
-    also of_field item_equality
-    also tt)
+pub xfrm_equality : IsEqualityOf OfXfrm.family.meaning XfrmEq.ghosts.eq
+xfrm_equality = enum_decides xfrm_enum OfXfrm.rows _ (search (unsigned_Decides, item_equality) depth 40)
 
-pub mpls_equality : IsEqualityOf OfMpls.meaning_of MplsEq.ghosts.eq
+pub mpls_equality : IsEqualityOf OfMpls.family.meaning MplsEq.ghosts.eq
 mpls_equality =
-    enum_decides mpls_enum OfMpls.rows _
-    (of_field (items_equality label_equality)
-    also of_field unsigned_Decides
-    also of_field item_equality
-    also tt)
+    enum_decides mpls_enum OfMpls.rows _ (search (items_equality, label_equality, unsigned_Decides, item_equality) depth 40)
 
-pub vxlan_equality : IsEqualityOf OfVxlan.meaning_of VxlanEq.ghosts.eq
-vxlan_equality =
-    enum_decides vxlan_enum OfVxlan.rows _
-    (of_field unsigned_Decides
-    also of_field item_equality
-    also tt)
+pub vxlan_equality : IsEqualityOf OfVxlan.family.meaning VxlanEq.ghosts.eq
+vxlan_equality = enum_decides vxlan_enum OfVxlan.rows _ (search (unsigned_Decides, item_equality) depth 40)
 
-pub erspan_equality : IsEqualityOf OfErspan.meaning_of ErspanEq.ghosts.eq
-erspan_equality =
-    enum_decides erspan_enum OfErspan.rows _
-    (of_field unsigned_Decides
-    also of_field unsigned_Decides
-    also of_field unsigned_Decides
-    also of_field unsigned_Decides
-    also of_field item_equality
-    also tt)
+pub erspan_equality : IsEqualityOf OfErspan.family.meaning ErspanEq.ghosts.eq
+erspan_equality = enum_decides erspan_enum OfErspan.rows _ (search (unsigned_Decides, item_equality) depth 40)
 
-pub tunnel_option_equality : IsEqualityOf OfOption.meaning_of TunnelOptionEq.ghosts.eq
+pub tunnel_option_equality : IsEqualityOf OfOption.family.meaning TunnelOptionEq.ghosts.eq
 tunnel_option_equality =
-    enum_decides tunnel_option_enum OfOption.rows _
-    (of_field (items_meaning option_of geneve_equality)
-    also of_field (items_meaning OfVxlan.meaning_of vxlan_equality)
-    also of_field (items_meaning OfErspan.meaning_of erspan_equality)
-    also of_field item_equality
-    also tt)
+    enum_decides tunnel_option_enum OfOption.rows _ (search (items_meaning, geneve_equality, vxlan_equality, erspan_equality, item_equality) depth 40)
 
-pub ip_equality : IsEqualityOf OfIp.meaning_of IpEq.ghosts.eq
+pub ip_equality : IsEqualityOf OfIp.family.meaning IpEq.ghosts.eq
 ip_equality =
     enum_decides ip_enum OfIp.rows _
-    (no_field _
-    also of_field unsigned_Decides
-    also of_field ipv4_equality
-    also of_field ipv4_equality
-    also of_field unsigned_Decides
-    also of_field unsigned_Decides
-    also of_field ip_flags_equality
-    also of_field (items_meaning OfOption.meaning_of tunnel_option_equality)
-    also of_field item_equality
-    also tt)
+    (search (unsigned_Decides, ipv4_equality, items_meaning, tunnel_option_equality, item_equality) depth 40)
 
-pub ip6_equality : IsEqualityOf OfIp.meaning6_of Ip6Eq.ghosts.eq
+pub ip6_equality : IsEqualityOf OfIp.family6.meaning Ip6Eq.ghosts.eq
 ip6_equality =
     enum_decides ip6_enum OfIp.rows6 _
-    (no_field _
-    also of_field unsigned_Decides
-    also of_field ipv6_equality
-    also of_field ipv6_equality
-    also of_field unsigned_Decides
-    also of_field unsigned_Decides
-    also of_field ip6_flags_equality
-    also of_field (items_meaning OfOption.meaning_of tunnel_option_equality)
-    also of_field item_equality
-    also tt)
+    (search (unsigned_Decides, ipv6_equality, items_meaning, tunnel_option_equality, item_equality) depth 40)
 
 encap_order : OfEncap.Meaning → ℕ
 encap_order (OfEncap.mpls x) = 0
@@ -152,12 +99,12 @@ pub encap_equality : IsEqualityOf OfEncap.meaning_of EncapEq.ghosts.eq
 unfolding encap_order
 encap_equality =
     enum_meaning encap_order encap_enum OfEncap.meaning_of _ (λ t.
-    (λ x. refl, one_meaning OfMpls.meaning_of OfEncap.mpls mpls_equality (λ p q e. cc)) also
-    (λ x. refl, one_meaning OfSeg6.meaning_of OfEncap.seg6 seg6_equality (λ p q e. cc)) also
-    (λ x. refl, one_meaning OfIp.meaning_of OfEncap.ip ip_equality (λ p q e. cc)) also
-    (λ x. refl, one_meaning OfIp.meaning6_of OfEncap.ip6 ip6_equality (λ p q e. cc)) also
-    (λ x. refl, one_meaning OfIoam6.meaning_of OfEncap.ioam6 ioam6_equality (λ p q e. cc)) also
-    (λ x. refl, one_meaning OfRpl.meaning_of OfEncap.rpl rpl_equality (λ p q e. cc)) also
-    (λ x. refl, one_meaning OfLocal.meaning_of OfEncap.seg6_local local_equality (λ p q e. cc)) also
-    (λ x. refl, one_meaning OfXfrm.meaning_of OfEncap.xfrm xfrm_equality (λ p q e. cc)) also
+    (λ x. refl, one_meaning OfMpls.family.meaning OfEncap.mpls mpls_equality (λ p q e. cc)) also
+    (λ x. refl, one_meaning OfSeg6.family.meaning OfEncap.seg6 seg6_equality (λ p q e. cc)) also
+    (λ x. refl, one_meaning OfIp.family.meaning OfEncap.ip ip_equality (λ p q e. cc)) also
+    (λ x. refl, one_meaning OfIp.family6.meaning OfEncap.ip6 ip6_equality (λ p q e. cc)) also
+    (λ x. refl, one_meaning OfIoam6.family.meaning OfEncap.ioam6 ioam6_equality (λ p q e. cc)) also
+    (λ x. refl, one_meaning OfRpl.family.meaning OfEncap.rpl rpl_equality (λ p q e. cc)) also
+    (λ x. refl, one_meaning OfLocal.family.meaning OfEncap.seg6_local local_equality (λ p q e. cc)) also
+    (λ x. refl, one_meaning OfXfrm.family.meaning OfEncap.xfrm xfrm_equality (λ p q e. cc)) also
     (λ x. refl, one_meaning (λ d. d) OfEncap.other item_equality (λ p q e. cc)) also tt)

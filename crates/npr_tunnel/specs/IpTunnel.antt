@@ -7,15 +7,15 @@ use Rattle.npr_base.specs.declared.refusal.AttrFamily.{AttrFamily}
 use Rattle.npr_base.specs.declared.refusal.AttrFamily.TheVariants.{Ip, Ip6}
 use Rattle.npr_base.specs.Codec.{exactly}
 use Rattle.npr_base.specs.DroppedCodec.{dropped}
-use Rattle.npr_base.specs.EnumTable.{VariantRows, row, marked_row, others, ◌also◌, value, seen, listed, nothing, MeaningIn, meaning_in, held_in, by_row}
-use Rattle.npr_base.specs.EnumTableLaws.{attributes_in}
+use Rattle.npr_base.specs.EnumTable.{VariantRows, row, marked_row, others, ◌also◌, value, seen, listed, nothing, by_row}
+use Rattle.npr_base.specs.EnumTableLaws.{attributes_in, family_in, writing_in}
 use Rattle.npr_base.specs.EnumTableValues.{found_in}
 use Rattle.npr_base.specs.Framing.{Item}
 use Rattle.npr_base.specs.Layout.{byte, be16, be64, octets}
 use Rattle.npr_base.specs.ListCodec.{list_of}
-use Rattle.npr_base.specs.Table.{Writing, Reading, Held, writing_by}
+use Rattle.npr_base.specs.Table.{Reading, Family}
 use Rattle.npr_base.specs.Text.{joined_by, nla_text}
-use Rattle.npr_tunnel.specs.TunnelFlags.{ip_flags_bits, ip6_flags_bits, flags_text}
+use Rattle.npr_tunnel.specs.TunnelFlags.{ip_flag_bits, ip6_flag_bits, flags_text}
 use Rattle.npr_tunnel.specs.TunnelOptions as OfOption
 use Rattle.npr_tunnel.specs.contracts.ip.RouteIpTunnel.{enum}
 use Rattle.npr_tunnel.specs.contracts.ip6.RouteIp6Tunnel.{enum as enum6}
@@ -27,7 +27,7 @@ use denote.Struct.Values.{Values}
 
 -- the table, in the order of the variants, where an address has so many bytes, over what the fields hold
 abbrev pub rows_over : {N A B F O D : List Field} → AttrFamily → (width : ℕ) → (Values N → ℕ) → (Values A → List ℕ) → (Values B → ℕ)
-    → (Values F → ℕ) → (Values O → List OfOption.Meaning) → (Values D → Item) → VariantRows ([] ∷ N ∷ A ∷ A ∷ B ∷ B ∷ F ∷ O ∷ D ∷ [])
+    → (Values F → ℕ) → (Values O → List OfOption.family.Meaning) → (Values D → Item) → VariantRows ([] ∷ N ∷ A ∷ A ∷ B ∷ B ∷ F ∷ O ∷ D ∷ [])
 rows_over family width id address number flags options other =
     row family 0 dropped nothing  -- LWTUNNEL_IP_UNSPEC
     also row family 1 (exactly be64) id  -- LWTUNNEL_IP_ID
@@ -40,47 +40,30 @@ rows_over family width id address number flags options other =
     also others other
 
 abbrev pub rows : VariantRows enum.parts
-rows = rows_over Ip 4 value value value (seen ip_flags_bits) (listed OfOption.meaning_of) value
+rows = rows_over Ip 4 value value value (seen ip_flag_bits.number) (listed OfOption.family.meaning) value
 
 abbrev pub rows6 : VariantRows enum6.parts
-rows6 = rows_over Ip6 16 value value value (seen ip6_flags_bits) (listed OfOption.meaning_of) value
-
--- what a member is, without where it lies in memory
-abbrev pub Meaning : Type 0
-Meaning = MeaningIn enum.parts rows
-
-abbrev pub meaning_of : RouteIpTunnel → Meaning
-meaning_of a = meaning_in enum.parts rows (enum.as_values a)
-
-abbrev pub meaning6_of : RouteIp6Tunnel → Meaning
-meaning6_of a = meaning_in enum6.parts rows6 (enum6.as_values a)
-
--- it holds options
-abbrev pub has_options : Meaning → Bool
-has_options m = is_some (found_in enum.parts rows 8 m)
-
--- where each stands, and how it is written
-abbrev pub held_of : Meaning → Held
-held_of m = held_in enum.parts rows m
-
-abbrev pub held6_of : Meaning → Held
-held6_of m = held_in enum6.parts rows6 m
-
-abbrev pub writing : Writing Meaning
-writing = writing_by held_of
-
-abbrev pub writing6 : Writing Meaning
-writing6 = writing_by held6_of
+rows6 = rows_over Ip6 16 value value value (seen ip6_flag_bits.number) (listed OfOption.family.meaning) value
 
 -- the families
-unfoldable pub attributes : Reading writing
+unfoldable pub attributes : Reading (writing_in enum.parts rows)
 attributes = attributes_in enum.parts rows refl
 
-unfoldable pub attributes6 : Reading writing6
+unfoldable pub attributes6 : Reading (writing_in enum6.parts rows6)
 attributes6 = attributes_in enum6.parts rows6 refl
 
+abbrev pub family : Family RouteIpTunnel (Unit {0})
+family = family_in enum rows (λ c. attributes)
+
+abbrev pub family6 : Family RouteIp6Tunnel (Unit {0})
+family6 = family_in enum6 rows6 (λ c. attributes6)
+
+-- it holds options
+abbrev pub has_options : family.Meaning → Bool
+has_options m = is_some (found_in enum.parts rows 8 m)
+
 -- the text of a member over version 4
-abbrev pub ip_tunnel_text : Meaning → Option (List ℕ)
+abbrev pub ip_tunnel_text : family.Meaning → Option (List ℕ)
 ip_tunnel_text =
     by_row enum.parts rows (
     (λ u. Some (codes "unspecified"))
@@ -94,7 +77,7 @@ ip_tunnel_text =
     also nla_text)
 
 -- and over version 6, where `src` has a comma behind it
-abbrev pub ip6_tunnel_text : Meaning → Option (List ℕ)
+abbrev pub ip6_tunnel_text : family6.Meaning → Option (List ℕ)
 ip6_tunnel_text =
     by_row enum6.parts rows6 (
     (λ u. Some (codes "unspecified"))

@@ -2,9 +2,9 @@
 use Rattle.npr_base.specs.declared.refusal.AttrFamily.TheVariants.{Mpls}
 use Rattle.npr_base.specs.Layout.{byte}
 use Rattle.npr_base.specs.Codec.{exactly}
-use Rattle.npr_base.specs.EnumTable.{VariantRows, row, others, ◌also◌, value, items, MeaningIn, meaning_in, held_in}
-use Rattle.npr_base.specs.EnumTableLaws.{attributes_in}
-use Rattle.npr_base.specs.Table.{Writing, Reading, Held, writing_by}
+use Rattle.npr_base.specs.EnumTable.{VariantRows, row, others, ◌also◌, value, items}
+use Rattle.npr_base.specs.EnumTableLaws.{attributes_in, family_in, writing_in}
+use Rattle.npr_base.specs.Table.{Reading, Family}
 use Rattle.npr_scalar.specs.MplsLaws.{mpls_labels}
 use Rattle.npr_tunnel.specs.declared.mpls.RouteMplsIpTunnel.{RouteMplsIpTunnel}
 use Rattle.npr_tunnel.specs.contracts.mpls.RouteMplsIpTunnel.{enum}
@@ -17,20 +17,9 @@ rows =
     also row Mpls 2 (exactly byte) value  -- MPLS_IPTUNNEL_TTL
     also others value
 
--- what a member is, without where it lies in memory
-abbrev pub Meaning : Type 0
-Meaning = MeaningIn enum.parts rows
-
-abbrev pub meaning_of : RouteMplsIpTunnel → Meaning
-meaning_of a = meaning_in enum.parts rows (enum.as_values a)
-
--- where each stands, and how it is written
-abbrev pub held_of : Meaning → Held
-held_of m = held_in enum.parts rows m
-
-abbrev pub writing : Writing Meaning
-writing = writing_by held_of
-
 -- the family
-unfoldable pub attributes : Reading writing
+unfoldable pub attributes : Reading (writing_in enum.parts rows)
 attributes = attributes_in enum.parts rows refl
+
+abbrev pub family : Family RouteMplsIpTunnel (Unit {0})
+family = family_in enum rows (λ c. attributes)

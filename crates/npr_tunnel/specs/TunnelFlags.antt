@@ -1,21 +1,17 @@
 -- Sets of flags of tunnels over IP: every bit is kept.
 use Rattle.std.specs.Prelude.{ℕ, List, [], ◌++◌, if◌then◌else◌, codes}
+use Rattle.std.proofs.Common.{refl}
 use Rattle.npr_base.specs.Text.{is_set}
+use Rattle.npr_base.specs.Numbering.{Numbering}
 use Rattle.npr_tunnel.specs.declared.flags.RouteIpTunnelFlags.{RouteIpTunnelFlags}
 use Rattle.npr_tunnel.specs.declared.flags.RouteIp6TunnelFlags.{RouteIp6TunnelFlags}
 
--- the bits of a set, and the set of these bits
-abbrev pub ip_flags_bits : RouteIpTunnelFlags → ℕ
-ip_flags_bits flags = flags.0
+-- the set of these bits, and the bits of a set
+abbrev pub ip_flag_bits : Numbering ℕ RouteIpTunnelFlags
+ip_flag_bits = record { of = λ bits. record { 0 = bits }; number = λ flags. flags.0; back = λ bits. refl }
 
-abbrev pub ip_flags_of : ℕ → RouteIpTunnelFlags
-ip_flags_of bits = record { 0 = bits }
-
-abbrev pub ip6_flags_bits : RouteIp6TunnelFlags → ℕ
-ip6_flags_bits flags = flags.0
-
-abbrev pub ip6_flags_of : ℕ → RouteIp6TunnelFlags
-ip6_flags_of bits = record { 0 = bits }
+abbrev pub ip6_flag_bits : Numbering ℕ RouteIp6TunnelFlags
+ip6_flag_bits = record { of = λ bits. record { 0 = bits }; number = λ flags. flags.0; back = λ bits. refl }
 
 -- the name of a flag and a space, where its bit is set
 abbrev pub flag_text : ℕ → ℕ → List ℕ → List ℕ

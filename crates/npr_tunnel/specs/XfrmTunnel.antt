@@ -3,10 +3,10 @@ use Rattle.std.specs.Prelude.{ℕ, List, ◌++◌, Option, Some, codes, decimal}
 use Rattle.npr_base.specs.declared.refusal.AttrFamily.TheVariants.{Xfrm}
 use Rattle.npr_base.specs.Codec.{exactly}
 use Rattle.npr_base.specs.DroppedCodec.{dropped}
-use Rattle.npr_base.specs.EnumTable.{VariantRows, row, others, ◌also◌, value, nothing, MeaningIn, meaning_in, held_in, by_row}
-use Rattle.npr_base.specs.EnumTableLaws.{attributes_in}
+use Rattle.npr_base.specs.EnumTable.{VariantRows, row, others, ◌also◌, value, nothing, by_row}
+use Rattle.npr_base.specs.EnumTableLaws.{attributes_in, family_in, writing_in}
 use Rattle.npr_base.specs.Layout.{le32}
-use Rattle.npr_base.specs.Table.{Writing, Reading, Held, writing_by}
+use Rattle.npr_base.specs.Table.{Reading, Family}
 use Rattle.npr_base.specs.Text.{nla_text}
 use Rattle.npr_tunnel.specs.contracts.xfrm.RouteXfrmTunnel.{enum}
 use Rattle.npr_tunnel.specs.declared.xfrm.RouteXfrmTunnel.{RouteXfrmTunnel}
@@ -20,26 +20,15 @@ rows =
     also row Xfrm 2 (exactly le32) value  -- LWT_XFRM_LINK
     also others value
 
--- what a member is, without where it lies in memory
-abbrev pub Meaning : Type 0
-Meaning = MeaningIn enum.parts rows
-
-abbrev pub meaning_of : RouteXfrmTunnel → Meaning
-meaning_of a = meaning_in enum.parts rows (enum.as_values a)
-
--- where each stands, and how it is written
-abbrev pub held_of : Meaning → Held
-held_of m = held_in enum.parts rows m
-
-abbrev pub writing : Writing Meaning
-writing = writing_by held_of
-
 -- the family
-unfoldable pub attributes : Reading writing
+unfoldable pub attributes : Reading (writing_in enum.parts rows)
 attributes = attributes_in enum.parts rows refl
 
+abbrev pub family : Family RouteXfrmTunnel (Unit {0})
+family = family_in enum rows (λ c. attributes)
+
 -- the text of a member
-abbrev pub xfrm_text : Meaning → Option (List ℕ)
+abbrev pub xfrm_text : family.Meaning → Option (List ℕ)
 xfrm_text =
     by_row enum.parts rows (
     (λ u. Some (codes "unspecified"))

@@ -1,7 +1,7 @@
 //! The members of an encapsulation, by its type.
 
 ghost use Rattle.std.specs.Prelude.{◌≡◌, refl};
-ghost use Rattle.{npr_base.specs.Table.{family_of}, npr_tunnel.specs.Encapsulation.{meaning_of, normalized, writing, encapsulation}};
+ghost use Rattle.{npr_base.specs.Table.{shaped}, npr_tunnel.specs.Encapsulation.{meaning_of, normalized, family}};
 
 use crate::encap_type::RouteLwEnCapType;
 use crate::ip::RouteIpTunnel;
@@ -96,7 +96,7 @@ impl RouteLwTunnelEncap {
 }
 
 impl Nla for RouteLwTunnelEncap {
-    ghost shape = { λ a. writing.shape (meaning_of a) };
+    ghost shape = { shaped family };
 
     fn kind(&self) -> u16 {
         members!(asked(self, kind()))
@@ -118,7 +118,7 @@ impl Nla for RouteLwTunnelEncap {
 impl Attribute for RouteLwTunnelEncap {
     type Context = RouteLwEnCapType;
 
-    ghost family = { family_of meaning_of encapsulation };
+    ghost family = { family };
 
     ghost shape_is = { λ a. refl };
 

@@ -1,7 +1,7 @@
 //! Types of encapsulation: `LWTUNNEL_ENCAP_*` of `linux/lwtunnel.h`.
 
 ghost use Rattle.std.specs.Prelude.{◌≡◌, Some, None};
-ghost use Rattle.npr_tunnel.specs.EncapType.{encap_type, encap_type_of, encap_type_number, encap_type_text};
+ghost use Rattle.npr_tunnel.specs.EncapType.{encap_type, encap_types, encap_type_text};
 
 use npr_base::{EmitError, Emitable, write_array};
 use std::fmt;
@@ -57,7 +57,7 @@ macro_rules! numbers {
 }
 
 impl From<u16> for RouteLwEnCapType {
-    ghost from_gives = { λ number kind. kind ≡ encap_type_of number };
+    ghost from_gives = { λ number kind. kind ≡ encap_types.of number };
 
     fn from(number: u16) -> RouteLwEnCapType {
         numbers!(variant_of_number(number))
@@ -65,7 +65,7 @@ impl From<u16> for RouteLwEnCapType {
 }
 
 impl From<RouteLwEnCapType> for u16 {
-    ghost from_gives = { λ kind number. number ≡ encap_type_number kind };
+    ghost from_gives = { λ kind number. number ≡ encap_types.number kind };
 
     fn from(kind: RouteLwEnCapType) -> u16 {
         numbers!(number_of_variant(kind))

@@ -1,7 +1,7 @@
 //! Options of ERSPAN: `LWTUNNEL_IP_OPT_ERSPAN_*` of `linux/lwtunnel.h`.
 
 ghost use Rattle.std.specs.{Prelude.{map, refl}, Fmt.{WritesOnOk}};
-ghost use Rattle.{npr_base.specs.Table.{family_of}, npr_tunnel.specs.ErspanOptions.{meaning_of, writing, attributes, erspan_text}};
+ghost use Rattle.{npr_base.specs.Table.{shaped}, npr_tunnel.specs.ErspanOptions.{family, erspan_text}};
 
 use npr_base::{Attribute, DecodeError, DefaultNla, EmitError, Looks, Nla, NlaBuffer, Place};
 use std::alloc::{AllocError, Global};
@@ -35,7 +35,7 @@ macro_rules! rows {
 }
 
 impl Nla for RouteErspanOpt {
-    ghost shape = { λ a. writing.shape (meaning_of a) };
+    ghost shape = { shaped family };
 
     fn kind(&self) -> u16 {
         rows!(kind_rows(self))
@@ -57,7 +57,7 @@ impl Nla for RouteErspanOpt {
 impl Attribute for RouteErspanOpt {
     type Context = ();
 
-    ghost family = { family_of meaning_of (λ _. attributes) };
+    ghost family = { family };
 
     ghost shape_is = { λ a. refl };
 
@@ -83,7 +83,7 @@ pub(crate) fn write_erspan<W: fmt::Write>(
     f: &mut fmt::Formatter<W>,
     options: &[RouteErspanOpt],
 ) -> fmt::Result
-    ensures { WritesOnOk W.write_str_gives f.old result (erspan_text (map meaning_of options.now)) f.new }
+    ensures { WritesOnOk W.write_str_gives f.old result (erspan_text (map family.meaning options.now)) f.new }
 {
     let mut version = 0;
     let mut index = 0;

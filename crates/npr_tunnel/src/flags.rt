@@ -1,7 +1,7 @@
 //! The flags of tunnels over IP: `TUNNEL_*` of `linux/if_tunnel.h`.
 
 ghost use Rattle.std.specs.{Prelude.{⊤, [], ◌∷◌, codes}, Fmt.{WritesOnOk}};
-ghost use Rattle.npr_tunnel.specs.TunnelFlags.{ip_flags_bits, ip6_flags_bits, flag_text, flags_text};
+ghost use Rattle.npr_tunnel.specs.TunnelFlags.{ip_flag_bits, ip6_flag_bits, flag_text, flags_text};
 
 use bitflags::{Flag, Flags};
 use npr_base::named_flags;
@@ -34,7 +34,7 @@ impl Flags for RouteIpTunnelFlags {
 
     ghost table = { (codes "Checksum", 1) ∷ (codes "Key", 4) ∷ (codes "Sequence", 8) ∷ ([], 65535) ∷ [] };
 
-    ghost set_of = { ip_flags_bits };
+    ghost set_of = { ip_flag_bits.number };
 
     fn flags<'a>() -> &'a [Flag<RouteIpTunnelFlags>] {
         RouteIpTunnelFlags::FLAGS
@@ -76,7 +76,7 @@ impl Flags for RouteIp6TunnelFlags {
 
     ghost table = { (codes "Checksum", 1) ∷ (codes "Key", 4) ∷ (codes "Sequence", 8) ∷ ([], 65535) ∷ [] };
 
-    ghost set_of = { ip6_flags_bits };
+    ghost set_of = { ip6_flag_bits.number };
 
     fn flags<'a>() -> &'a [Flag<RouteIp6TunnelFlags>] {
         RouteIp6TunnelFlags::FLAGS
@@ -109,7 +109,7 @@ fn write_flag<W: fmt::Write>(
     flag: RouteIpTunnelFlags,
     name: &str,
 ) -> fmt::Result
-    ensures { WritesOnOk W.write_str_gives f.old result (flag_text (ip_flags_bits flags) (ip_flags_bits flag) name.now) f.new }
+    ensures { WritesOnOk W.write_str_gives f.old result (flag_text (ip_flag_bits.number flags) (ip_flag_bits.number flag) name.now) f.new }
 {
     if flags.contains(flag) {
         write!(f, "{name} ")?;

@@ -1,7 +1,7 @@
 //! Tunnels over IP version 4: `LWTUNNEL_IP_*` of `linux/lwtunnel.h`.
 
 ghost use Rattle.std.specs.Prelude.{refl};
-ghost use Rattle.{npr_base.specs.Table.{family_of}, npr_tunnel.specs.IpTunnel.{meaning_of, writing, attributes, ip_tunnel_text}};
+ghost use Rattle.{npr_base.specs.Table.{shaped}, npr_tunnel.specs.IpTunnel.{family, ip_tunnel_text}};
 
 use crate::flags::{RouteIpTunnelFlags, write_flags};
 use crate::ip_rows;
@@ -46,7 +46,7 @@ macro_rules! rows {
 }
 
 impl Nla for RouteIpTunnel {
-    ghost shape = { λ a. writing.shape (meaning_of a) };
+    ghost shape = { shaped family };
 
     fn kind(&self) -> u16 {
         rows!(kind_rows(self))
@@ -68,7 +68,7 @@ impl Nla for RouteIpTunnel {
 impl Attribute for RouteIpTunnel {
     type Context = ();
 
-    ghost family = { family_of meaning_of (λ _. attributes) };
+    ghost family = { family };
 
     ghost shape_is = { λ a. refl };
 
@@ -90,7 +90,7 @@ impl Attribute for RouteIpTunnel {
 
 /// The name of what stands there, and its value; of flags and options their names alone.
 impl fmt::Display for RouteIpTunnel {
-    ghost output = { λ a. ip_tunnel_text (meaning_of a) };
+    ghost output = { λ a. ip_tunnel_text (family.meaning a) };
 
     fn fmt<W: fmt::Write>(&self, f: &mut fmt::Formatter<W>) -> fmt::Result {
         match self {

@@ -1,7 +1,7 @@
 //! Tunnels over IP version 6: `LWTUNNEL_IP6_*` of `linux/lwtunnel.h`.
 
 ghost use Rattle.std.specs.Prelude.{refl};
-ghost use Rattle.{npr_base.specs.Table.{family_of}, npr_tunnel.specs.IpTunnel.{meaning6_of, writing6, attributes6, ip6_tunnel_text}};
+ghost use Rattle.{npr_base.specs.Table.{shaped}, npr_tunnel.specs.IpTunnel.{family6, ip6_tunnel_text}};
 
 use crate::flags::{RouteIp6TunnelFlags, write_flags};
 use crate::ip_rows;
@@ -46,7 +46,7 @@ macro_rules! rows {
 }
 
 impl Nla for RouteIp6Tunnel {
-    ghost shape = { λ a. writing6.shape (meaning6_of a) };
+    ghost shape = { shaped family6 };
 
     fn kind(&self) -> u16 {
         rows!(kind_rows(self))
@@ -68,7 +68,7 @@ impl Nla for RouteIp6Tunnel {
 impl Attribute for RouteIp6Tunnel {
     type Context = ();
 
-    ghost family = { family_of meaning6_of (λ _. attributes6) };
+    ghost family = { family6 };
 
     ghost shape_is = { λ a. refl };
 
@@ -90,7 +90,7 @@ impl Attribute for RouteIp6Tunnel {
 
 /// The name of what stands there, and its value; of flags and options their names alone.
 impl fmt::Display for RouteIp6Tunnel {
-    ghost output = { λ a. ip6_tunnel_text (meaning6_of a) };
+    ghost output = { λ a. ip6_tunnel_text (family6.meaning a) };
 
     fn fmt<W: fmt::Write>(&self, f: &mut fmt::Formatter<W>) -> fmt::Result {
         match self {

@@ -1,7 +1,7 @@
 //! The tunnel of MPLS: `MPLS_IPTUNNEL_*` of `linux/mpls_iptunnel.h`.
 
 ghost use Rattle.std.specs.Prelude.{refl};
-ghost use Rattle.{npr_base.specs.Table.{family_of}, npr_tunnel.specs.MplsTunnel.{meaning_of, writing, attributes}};
+ghost use Rattle.{npr_base.specs.Table.{shaped}, npr_tunnel.specs.MplsTunnel.{family}};
 
 use npr_base::{
     Attribute, DecodeError, DefaultNla, EmitError, Looks, Nla, NlaBuffer, Place, put_read,
@@ -30,7 +30,7 @@ macro_rules! rows {
 }
 
 impl Nla for RouteMplsIpTunnel {
-    ghost shape = { λ a. writing.shape (meaning_of a) };
+    ghost shape = { shaped family };
 
     fn kind(&self) -> u16 {
         rows!(kind_rows(self; RouteMplsIpTunnel::Destination(_) => 1,))
@@ -52,7 +52,7 @@ impl Nla for RouteMplsIpTunnel {
 impl Attribute for RouteMplsIpTunnel {
     type Context = ();
 
-    ghost family = { family_of meaning_of (λ _. attributes) };
+    ghost family = { family };
 
     ghost shape_is = { λ a. refl };
 

@@ -1,7 +1,7 @@
 //! Options of tunnels over IP: `LWTUNNEL_IP_OPTS_*` of `linux/lwtunnel.h`.
 
 ghost use Rattle.std.specs.Prelude.{refl};
-ghost use Rattle.{npr_base.specs.Table.{family_of}, npr_tunnel.specs.TunnelOptions.{meaning_of, writing, attributes, tunnel_option_text}};
+ghost use Rattle.{npr_base.specs.Table.{shaped}, npr_tunnel.specs.TunnelOptions.{family, tunnel_option_text}};
 
 use crate::erspan::{RouteErspanOpt, write_erspan};
 use crate::geneve::{RouteGeneveOpt, check_options, clone_options, read_options, write_options};
@@ -37,7 +37,7 @@ macro_rules! rows {
 }
 
 impl Nla for RouteLwTunnelOpt {
-    ghost shape = { λ a. writing.shape (meaning_of a) };
+    ghost shape = { shaped family };
 
     fn kind(&self) -> u16 {
         rows!(kind_rows(self; RouteLwTunnelOpt::Geneve(_) => NLA_F_NESTED + 1,))
@@ -59,7 +59,7 @@ impl Nla for RouteLwTunnelOpt {
 impl Attribute for RouteLwTunnelOpt {
     type Context = ();
 
-    ghost family = { family_of meaning_of (λ _. attributes) };
+    ghost family = { family };
 
     ghost shape_is = { λ a. refl };
 
@@ -81,7 +81,7 @@ impl Attribute for RouteLwTunnelOpt {
 
 /// The options of Geneve or of VXLAN with a comma between them, and those of ERSPAN as one.
 impl fmt::Display for RouteLwTunnelOpt {
-    ghost output = { λ a. tunnel_option_text (meaning_of a) };
+    ghost output = { λ a. tunnel_option_text (family.meaning a) };
 
     fn fmt<W: fmt::Write>(&self, f: &mut fmt::Formatter<W>) -> fmt::Result {
         match self {

@@ -1,7 +1,7 @@
 //! Options of VXLAN: `LWTUNNEL_IP_OPT_VXLAN_*` of `linux/lwtunnel.h`.
 
 ghost use Rattle.std.specs.Prelude.{refl};
-ghost use Rattle.{npr_base.specs.Table.{family_of}, npr_tunnel.specs.VxlanOptions.{meaning_of, writing, attributes, vxlan_text}};
+ghost use Rattle.{npr_base.specs.Table.{shaped}, npr_tunnel.specs.VxlanOptions.{family, vxlan_text}};
 
 use npr_base::{Attribute, DecodeError, DefaultNla, EmitError, Looks, Nla, NlaBuffer, Place};
 use std::alloc::{AllocError, Global};
@@ -26,7 +26,7 @@ macro_rules! rows {
 }
 
 impl Nla for RouteVxlanOpt {
-    ghost shape = { λ a. writing.shape (meaning_of a) };
+    ghost shape = { shaped family };
 
     fn kind(&self) -> u16 {
         rows!(kind_rows(self))
@@ -48,7 +48,7 @@ impl Nla for RouteVxlanOpt {
 impl Attribute for RouteVxlanOpt {
     type Context = ();
 
-    ghost family = { family_of meaning_of (λ _. attributes) };
+    ghost family = { family };
 
     ghost shape_is = { λ a. refl };
 
@@ -70,7 +70,7 @@ impl Attribute for RouteVxlanOpt {
 
 /// The name of the options of VXLAN, and the value of this one.
 impl fmt::Display for RouteVxlanOpt {
-    ghost output = { λ a. vxlan_text (meaning_of a) };
+    ghost output = { λ a. vxlan_text (family.meaning a) };
 
     fn fmt<W: fmt::Write>(&self, f: &mut fmt::Formatter<W>) -> fmt::Result {
         match self {

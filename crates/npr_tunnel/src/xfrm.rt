@@ -1,7 +1,7 @@
 //! The tunnel of an IPsec interface: `LWT_XFRM_*` of `linux/lwtunnel.h`.
 
 ghost use Rattle.std.specs.Prelude.{refl};
-ghost use Rattle.{npr_base.specs.Table.{family_of}, npr_tunnel.specs.XfrmTunnel.{meaning_of, writing, attributes, xfrm_text}};
+ghost use Rattle.{npr_base.specs.Table.{shaped}, npr_tunnel.specs.XfrmTunnel.{family, xfrm_text}};
 
 use npr_base::{Attribute, DecodeError, DefaultNla, EmitError, Looks, Nla, NlaBuffer, Place};
 use std::alloc::{AllocError, Global};
@@ -33,7 +33,7 @@ macro_rules! rows {
 }
 
 impl Nla for RouteXfrmTunnel {
-    ghost shape = { λ a. writing.shape (meaning_of a) };
+    ghost shape = { shaped family };
 
     fn kind(&self) -> u16 {
         rows!(kind_rows(self))
@@ -55,7 +55,7 @@ impl Nla for RouteXfrmTunnel {
 impl Attribute for RouteXfrmTunnel {
     type Context = ();
 
-    ghost family = { family_of meaning_of (λ _. attributes) };
+    ghost family = { family };
 
     ghost shape_is = { λ a. refl };
 
@@ -77,7 +77,7 @@ impl Attribute for RouteXfrmTunnel {
 
 /// The name of what stands there, and its value.
 impl fmt::Display for RouteXfrmTunnel {
-    ghost output = { λ a. xfrm_text (meaning_of a) };
+    ghost output = { λ a. xfrm_text (family.meaning a) };
 
     fn fmt<W: fmt::Write>(&self, f: &mut fmt::Formatter<W>) -> fmt::Result {
         match self {

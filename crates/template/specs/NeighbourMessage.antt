@@ -4,13 +4,13 @@ use Rattle.netlink_packet_route.specs.declared.framing.DecodeError.{DecodeError}
 use Rattle.netlink_packet_route.specs.declared.framing.Message.{Message as Stored}
 use Rattle.netlink_packet_route.specs.Messages.{Message, Grammar, grammar_by, view, IsMessage, MessageFault}
 use Rattle.template.specs.NeighbourHeader.{header, default_header}
-use Rattle.template.specs.Neighbours.{Meaning, family}
+use Rattle.template.specs.Neighbours.{family}
 use Rattle.template.specs.declared.neighbour.NeighbourAttribute.{NeighbourAttribute}
 use Rattle.template.specs.declared.neighbour_message.NeighbourHeader.{NeighbourHeader}
 
 -- a message without where it lies in memory
 abbrev pub Neighbour : Type 0
-Neighbour = Message NeighbourHeader Meaning
+Neighbour = Message NeighbourHeader family.Meaning
 
 abbrev pub NeighbourMessage : Type 0
 NeighbourMessage = Stored NeighbourHeader NeighbourAttribute

@@ -1,27 +1,25 @@
 -- The attributes of a neighbour message (linux/neighbour.h, NDA_*), by their table.
 use Rattle.std.specs.Prelude.{◌≢◌, ℕ, List, Option, Some, None}
 use Rattle.std.proofs.Common.{◌≡◌, refl}
-use Rattle.netlink_packet_route.specs.Fields.{le_four, ◌then◌, structure}
+use Rattle.netlink_packet_route.specs.Fields.{le_four, ◌then◌, last, structure}
 use Rattle.netlink_packet_route.specs.declared.framing.AttrFamily.TheVariants.{Value}
 use Rattle.netlink_packet_route.specs.declared.net.IpAddr.{IpAddr}
-use Rattle.netlink_packet_route.specs.EnumTable.{VariantRows, row, others, ◌also◌, value, items, MeaningIn, meaning_in}
-use Rattle.netlink_packet_route.specs.EnumTableLaws.{writing_in, attributes_in}
+use Rattle.netlink_packet_route.specs.EnumTable.{VariantRows, row, others, ◌also◌, value, items}
+use Rattle.netlink_packet_route.specs.EnumTableLaws.{writing_in, attributes_in, family_in}
 use Rattle.netlink_packet_route.specs.Layout.{Layout, le32}
 use Rattle.netlink_packet_route.specs.Codec.{exactly, leading, raw}
 use Rattle.netlink_packet_route.specs.IpCodec.{ip}
-use Rattle.netlink_packet_route.specs.Table.{Writing, Reading, Family, family_of}
+use Rattle.netlink_packet_route.specs.Table.{Reading, Family}
 use Rattle.netlink_packet_route.specs.Found.{IsFirst}
 use Rattle.template.specs.contracts.neighbour.NeighbourAttribute.{enum}
+use Rattle.template.specs.contracts.neighbour.NeighbourCacheInfo.{struct}
 use Rattle.template.specs.declared.neighbour.NeighbourCacheInfo.{NeighbourCacheInfo}
 use Rattle.template.specs.declared.neighbour.NeighbourAttribute.{NeighbourAttribute}
 use Rattle.template.specs.declared.neighbour.NeighbourAttribute.TheVariants.{Destination, LinkLayerAddress}
 
 -- what the kernel remembers of a neighbour (struct nda_cacheinfo): four numbers of four bytes, in this order
 abbrev pub cache_info : Layout NeighbourCacheInfo
-cache_info =
-    structure (le_four then le_four then le_four then le_four)
-    (λ (confirmed, (used, (updated, references))). record { confirmed = confirmed; used = used; updated = updated; references = references })
-    (λ x. (x.confirmed, (x.used, (x.updated, x.references)))) (λ numbers. refl)
+cache_info = structure struct (le_four then le_four then le_four then last le_four) (λ v. tt)
 
 -- the table, in the order of the variants: a place that a refusal names is in no family of the library
 abbrev pub rows : VariantRows enum.parts
@@ -32,23 +30,12 @@ rows =
     also row Value 4 (exactly le32) value  -- NDA_PROBES
     also others value
 
--- what an attribute is, without where it lies in memory
-abbrev pub Meaning : Type 0
-Meaning = MeaningIn enum.parts rows
-
-abbrev pub meaning_of : NeighbourAttribute → Meaning
-meaning_of a = meaning_in enum.parts rows (enum.as_values a)
-
--- how each is written
-abbrev pub writing : Writing Meaning
-writing = writing_in enum.parts rows
-
 -- the family
-abbrev pub attributes : Reading writing
+abbrev pub attributes : Reading (writing_in enum.parts rows)
 attributes = attributes_in enum.parts rows refl
 
 abbrev pub family : Family NeighbourAttribute (Unit {0})
-family = family_of meaning_of (λ c. attributes)
+family = family_in enum rows (λ c. attributes)
 
 -- the address of a destination
 abbrev pub destination_in : NeighbourAttribute → Option IpAddr

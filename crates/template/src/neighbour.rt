@@ -2,8 +2,8 @@
 
 ghost use Rattle.std.specs.Prelude.{◌≡◌, IfOk, IfErr, refl};
 ghost use Rattle.{
-  template.specs.Neighbours.{meaning_of, writing, family, cache_info},
-  netlink_packet_route.specs.{Codec.{leading}, Refusal.{no_place}},
+  template.specs.Neighbours.{family, cache_info},
+  netlink_packet_route.specs.{Codec.{leading}, Refusal.{no_place}, Table.{shaped}},
 };
 
 use netlink_packet_route::family::{Place, leading_octets};
@@ -87,7 +87,7 @@ macro_rules! rows {
 }
 
 impl Nla for NeighbourAttribute {
-    ghost shape = { λ a. writing.shape (meaning_of a) };
+    ghost shape = { shaped family };
 
     fn kind(&self) -> u16 {
         rows!(kind_rows(self))

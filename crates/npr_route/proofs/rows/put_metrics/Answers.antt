@@ -1,6 +1,6 @@
 use Rattle.std.proofs.Common.{map, refl}
 use Rattle.std.proofs.lemmas.Result.{err_from_is_err_and}
-use Rattle.npr_route.specs.Metric.{metric_of}
+use Rattle.npr_route.specs.Metric.{family as metric_family}
 use Rattle.npr_route.specs.FlatAttribute as Flat
 use Rattle.npr_route.proofs.Views.{view_metrics}
 use Rattle.npr_route.proofs.rows.put_metrics.Goals as goal
@@ -13,7 +13,7 @@ returns-in_err-metrics-clause-refused c =
 pub returns-clause-ok : goal.returns-clause-ok
 returns-clause-ok c =
     let v = c.in_ok-metrics.metrics in
-    let xs = map metric_of v.items in
+    let xs = map metric_family.meaning v.items in
     rw c.put.ensures (Flat.metrics xs, (xs, c.in_ok-metrics.ensures.ok, refl), view_metrics v)
 
 pub returns-in_err-metrics-clause-exact : goal.returns-in_err-metrics-clause-exact

@@ -1,5 +1,5 @@
-use Rattle.npr_rule.specs.Action.{action_number-action_of}
+use Rattle.npr_rule.specs.Action.{actions}
 use Rattle.npr_rule.proofs.laws.law_numbers.Goals as goal
 
 pub returns : goal.returns
-returns c = action_number-action_of
+returns c = actions.back

@@ -1,5 +1,5 @@
 use Rattle.std.proofs.Common.{◌<◌, length, sym, ap, ◌∙◌, arith}
-use Rattle.npr_tunnel.specs.ErspanOptions.{meaning_of, option}
+use Rattle.npr_tunnel.specs.ErspanOptions.{family, option}
 use Rattle.npr_tunnel.specs.ErspanOptions.{version_of, index_of, direction_of, hardware_id_of}
 use Rattle.npr_tunnel.specs.declared.erspan.RouteErspanOpt.TheVariants.{Other}
 use Rattle.npr_tunnel.proofs.Texts.{last_of-more}
@@ -13,7 +13,7 @@ loop-option-preserved g c =
     let more = last_of-more c.args.options.now c.loop-option.option-index c.option-item.result inside c.option-item.is in
     elim c.match-option.branch [
       | in-Ver w ↦
-          let last = more (option 1 w.in-Ver.x) (ap meaning_of w.in-Ver.is) in
+          let last = more (option 1 w.in-Ver.x) (ap family.meaning w.in-Ver.is) in
           record {
             version = w.version-is ∙ sym (last version_of);
             index = w.index-is ∙ before.index ∙ sym (last index_of);
@@ -21,7 +21,7 @@ loop-option-preserved g c =
             hardware_id = w.hardware_id-is ∙ before.hardware_id ∙ sym (last hardware_id_of);
           }
       | in-Index w ↦
-          let last = more (option 2 w.in-Index.x) (ap meaning_of w.in-Index.is) in
+          let last = more (option 2 w.in-Index.x) (ap family.meaning w.in-Index.is) in
           record {
             version = w.version-is ∙ before.version ∙ sym (last version_of);
             index = w.index-is ∙ sym (last index_of);
@@ -29,7 +29,7 @@ loop-option-preserved g c =
             hardware_id = w.hardware_id-is ∙ before.hardware_id ∙ sym (last hardware_id_of);
           }
       | in-Dir w ↦
-          let last = more (option 3 w.in-Dir.x) (ap meaning_of w.in-Dir.is) in
+          let last = more (option 3 w.in-Dir.x) (ap family.meaning w.in-Dir.is) in
           record {
             version = w.version-is ∙ before.version ∙ sym (last version_of);
             index = w.index-is ∙ before.index ∙ sym (last index_of);
@@ -37,7 +37,7 @@ loop-option-preserved g c =
             hardware_id = w.hardware_id-is ∙ before.hardware_id ∙ sym (last hardware_id_of);
           }
       | in-Hwid w ↦
-          let last = more (option 4 w.in-Hwid.x) (ap meaning_of w.in-Hwid.is) in
+          let last = more (option 4 w.in-Hwid.x) (ap family.meaning w.in-Hwid.is) in
           record {
             version = w.version-is ∙ before.version ∙ sym (last version_of);
             index = w.index-is ∙ before.index ∙ sym (last index_of);
@@ -45,7 +45,7 @@ loop-option-preserved g c =
             hardware_id = w.hardware_id-is ∙ sym (last hardware_id_of);
           }
       | in-Other w ↦
-          let last = more (meaning_of (Other w.in-Other.field-0)) (ap meaning_of w.in-Other.is) in
+          let last = more (family.meaning (Other w.in-Other.field-0)) (ap family.meaning w.in-Other.is) in
           record {
             version = w.version-is ∙ before.version ∙ sym (last version_of);
             index = w.index-is ∙ before.index ∙ sym (last index_of);

@@ -1,10 +1,10 @@
 use Rattle.std.proofs.Common.{◌≡◌, map, take}
-use Rattle.npr_tunnel.specs.ErspanOptions.{meaning_of, last_of, version_of, index_of, direction_of, hardware_id_of}
+use Rattle.npr_tunnel.specs.ErspanOptions.{family, last_of, version_of, index_of, direction_of, hardware_id_of}
 use Rattle.npr_tunnel.proofs.erspan.write_erspan.Given as goal
 
 abbrev pub invariant-loop-option : goal.invariant-loop-option
 invariant-loop-option g l =
-    let seen = map meaning_of (take l.option-index l.options) in
+    let seen = map family.meaning (take l.option-index l.options) in
     record {
       version : l.version ≡ last_of version_of seen;
       index : l.index ≡ last_of index_of seen;
