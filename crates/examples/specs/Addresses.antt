@@ -2,7 +2,8 @@
 use Rattle.std.specs.Prelude.{ℕ, List, [], ◌∷◌, ◌++◌, Option, Some, None, codes}
 use Rattle.netlink_packet_route.specs.AddressAttribute.{attribute}
 use Rattle.netlink_packet_route.specs.AddressFlags.{header_flag_bits}
-use Rattle.netlink_packet_route.specs.AddressMessage.{Address}
+use Rattle.netlink_packet_route.specs.AddressMessage.{addresses}
+use Rattle.netlink_packet_route.specs.Messages.{Meant}
 use Rattle.netlink_packet_route.specs.declared.AddressFamily.TheVariants.{Inet}
 use Rattle.netlink_packet_route.specs.declared.address.AddressAttribute.{AddressAttribute}
 use Rattle.netlink_packet_route.specs.declared.address.AddressAttribute.TheVariants.{Local}
@@ -23,7 +24,7 @@ abbrev pub loopback_octets : List ℕ
 loopback_octets = 127 ∷ 0 ∷ 0 ∷ 1 ∷ []
 
 -- as IFA_ADDRESS, IFA_LOCAL and IFA_LABEL
-abbrev pub loopback : Address
+abbrev pub loopback : Meant addresses
 loopback = record {
   header = loopback_header;
   attributes = attribute 1 (V4 loopback_octets) ∷ attribute 2 (V4 loopback_octets) ∷ attribute 3 (codes "lo") ∷ [];
@@ -39,5 +40,5 @@ loopback_written =
     ∷ []
 
 -- a message with a metric for its route besides: IFA_RT_PRIORITY
-abbrev pub with_priority : ℕ → Address → Address
+abbrev pub with_priority : ℕ → Meant addresses → Meant addresses
 with_priority priority m = record m { attributes = m.attributes ++ attribute 9 priority ∷ [] }

@@ -5,8 +5,9 @@ ghost use Rattle.{
   examples.specs.{Addresses.{local_ipv4, loopback, loopback_written, with_priority}, declared.fault.Fault.TheVariants.{Refused, Unfit}},
   netlink_packet_route.specs.{
     AddressFlags.{header_flag_bits},
-    AddressMessage.{Address, AddressMessage, IsAddressMessage, AddressFault, address_bytes, address_misfit, message_of},
+    AddressMessage.{addresses},
     Found.{IsFirst},
+    Messages.{Held, IsMessage, Meant, MessageFault, message_misfit, spelling, view},
     declared.framing.{DecodeError.{DecodeError, TheVariants.{OutOfMemory}}, EmitError.{EmitError}},
   },
 };
@@ -25,9 +26,9 @@ use std::alloc::{AllocError, Global};
 /// # Errors
 /// Why the bytes are no address message.
 pub fn read_local(alloc: Global, bytes: &[u8]) -> Result<Option<Ipv4Addr>, DecodeError>
-    ensures ok { IfOk result (λ found. (m : AddressMessage) × IsAddressMessage bytes.now (message_of m)
+    ensures ok { IfOk result (λ found. (m : Held addresses) × IsMessage addresses bytes.now (view addresses m)
         × IsFirst local_ipv4 m.attributes.items found) }
-    ensures refused { IfErr result (λ e. e ≢ OutOfMemory → AddressFault bytes.now e) }
+    ensures refused { IfErr result (λ e. e ≢ OutOfMemory → MessageFault addresses bytes.now e) }
 {
     let message = AddressMessage::parse(alloc, bytes)?;
     Ok(first_local(&message))
@@ -63,7 +64,7 @@ pub fn is_permanent(message: &AddressMessage) -> bool
 /// # Errors
 /// `AllocError` where memory is refused.
 pub fn loopback(alloc: Global) -> Result<AddressMessage, AllocError>
-    ensures { IfOk result (λ m. message_of m ≡ loopback) }
+    ensures { IfOk result (λ m. view addresses m ≡ loopback) }
 {
     let ip = Ipv4Addr::new(127, 0, 0, 1);
     let mut message = AddressMessage::new(alloc);
@@ -88,7 +89,7 @@ pub fn loopback(alloc: Global) -> Result<AddressMessage, AllocError>
 /// `Refused(OutOfMemory)` where memory is refused.
 #[tactic(auto, unfolding(netlink_packet_route::specs::Messages::spelling, netlink_packet_route::specs::Messages::message_misfit))]
 pub fn loopback_bytes(alloc: Global) -> Result<Vec<u8>, Fault>
-    ensures ok { IfOk result (λ out. out.items ≡ address_bytes loopback) }
+    ensures ok { IfOk result (λ out. out.items ≡ spelling addresses loopback) }
     ensures written { IfOk result (λ out. out.items ≡ loopback_written) }
     ensures memory { IfErr result (λ e. e ≡ Refused OutOfMemory) }
 {
@@ -101,11 +102,11 @@ pub fn loopback_bytes(alloc: Global) -> Result<Vec<u8>, Fault>
 /// # Errors
 /// Why the bytes are no message, or why it can't be written with that.
 pub fn with_priority(alloc: Global, bytes: &[u8], priority: u32) -> Result<Vec<u8>, Fault>
-    ensures ok { IfOk result (λ out. (m : Address) × IsAddressMessage bytes.now m
-        × (address_misfit (with_priority priority m) ≡ None) × (out.items ≡ address_bytes (with_priority priority m))) }
-    ensures refused { (e : DecodeError) → result ≡ Err (Refused e) → e ≢ OutOfMemory → AddressFault bytes.now e }
-    ensures unfit { (e : EmitError) → result ≡ Err (Unfit e) → (m : Address) × IsAddressMessage bytes.now m
-        × (address_misfit (with_priority priority m) ≡ Some e) }
+    ensures ok { IfOk result (λ out. (m : Meant addresses) × IsMessage addresses bytes.now m
+        × (message_misfit addresses (with_priority priority m) ≡ None) × (out.items ≡ spelling addresses (with_priority priority m))) }
+    ensures refused { (e : DecodeError) → result ≡ Err (Refused e) → e ≢ OutOfMemory → MessageFault addresses bytes.now e }
+    ensures unfit { (e : EmitError) → result ≡ Err (Unfit e) → (m : Meant addresses) × IsMessage addresses bytes.now m
+        × (message_misfit addresses (with_priority priority m) ≡ Some e) }
 {
     let mut message = AddressMessage::parse(alloc, bytes)?;
     let attribute = AddressAttribute::RoutePriority(priority);

@@ -4,8 +4,8 @@ ghost use Rattle.std.specs.Prelude.{◌≡◌, ◌≢◌, None, Some, IfOk};
 ghost use Rattle.{
   examples.specs.declared.fault.Fault.TheVariants.{Refused, Unfit},
   netlink_packet_route.specs.{
-    Messages.{Message as Meant, IsMessage, MessageFault, message_misfit, spelling},
-    RouteMessage.{Route, IsRouteMessage, RouteFault, route_bytes, route_misfit},
+    Messages.{Meant, IsMessage, MessageFault, message_misfit, spelling},
+    RouteMessage.{routes},
     declared.framing.{DecodeError.{DecodeError, TheVariants.{OutOfMemory}}, EmitError.{EmitError}},
   },
 };
@@ -20,10 +20,10 @@ use std::alloc::Global;
 /// # Errors
 /// Why the bytes are no message, or why it can't be written.
 pub fn again<H: Header>(alloc: Global, bytes: &[u8]) -> Result<Vec<u8>, Fault>
-    ensures ok { IfOk result (λ out. (m : Meant H H.grammar.Meaning) × IsMessage H.grammar bytes.now m
+    ensures ok { IfOk result (λ out. (m : Meant H.grammar) × IsMessage H.grammar bytes.now m
         × (message_misfit H.grammar m ≡ None) × (out.items ≡ spelling H.grammar m)) }
     ensures refused { (e : DecodeError) → result ≡ Err (Refused e) → e ≢ OutOfMemory → MessageFault H.grammar bytes.now e }
-    ensures unfit { (e : EmitError) → result ≡ Err (Unfit e) → (m : Meant H H.grammar.Meaning) × IsMessage H.grammar bytes.now m
+    ensures unfit { (e : EmitError) → result ≡ Err (Unfit e) → (m : Meant H.grammar) × IsMessage H.grammar bytes.now m
         × (message_misfit H.grammar m ≡ Some e) }
 {
     let message = Message::<H, H::Attribute>::parse(alloc, bytes)?;
@@ -32,9 +32,9 @@ pub fn again<H: Header>(alloc: Global, bytes: &[u8]) -> Result<Vec<u8>, Fault>
 
 /// The same of a route.
 pub fn route_again(alloc: Global, bytes: &[u8]) -> Result<Vec<u8>, Fault>
-    ensures ok { IfOk result (λ out. (m : Route) × IsRouteMessage bytes.now m × (route_misfit m ≡ None) × (out.items ≡ route_bytes m)) }
-    ensures refused { (e : DecodeError) → result ≡ Err (Refused e) → e ≢ OutOfMemory → RouteFault bytes.now e }
-    ensures unfit { (e : EmitError) → result ≡ Err (Unfit e) → (m : Route) × IsRouteMessage bytes.now m × (route_misfit m ≡ Some e) }
+    ensures ok { IfOk result (λ out. (m : Meant routes) × IsMessage routes bytes.now m × (message_misfit routes m ≡ None) × (out.items ≡ spelling routes m)) }
+    ensures refused { (e : DecodeError) → result ≡ Err (Refused e) → e ≢ OutOfMemory → MessageFault routes bytes.now e }
+    ensures unfit { (e : EmitError) → result ≡ Err (Unfit e) → (m : Meant routes) × IsMessage routes bytes.now m × (message_misfit routes m ≡ Some e) }
 {
     again::<RouteHeader>(alloc, bytes)
 }

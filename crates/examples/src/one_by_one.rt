@@ -4,7 +4,8 @@ ghost use Rattle.std.specs.Prelude.{◌≡◌, ◌≢◌, IfOk, IfErr};
 ghost use Rattle.{
   netlink_packet_route.specs.{
     AddressAttribute.{family},
-    AddressMessage.{Address, IsAddressMessage, AddressFault},
+    AddressMessage.{addresses},
+    Messages.{IsMessage, Meant, MessageFault},
     declared.framing.DecodeError.TheVariants.{OutOfMemory},
   },
   examples.specs.OneByOne.{last_of, priority_of},
@@ -20,8 +21,8 @@ use std::alloc::Global;
 /// # Errors
 /// Why the bytes are no address message.
 pub fn read_priority(alloc: Global, bytes: &[u8]) -> Result<Option<u32>, DecodeError>
-    ensures ok { IfOk result (λ found. (m : Address) × IsAddressMessage bytes.now m × (found ≡ last_of priority_of m.attributes)) }
-    ensures refused { IfErr result (λ e. e ≢ OutOfMemory → AddressFault bytes.now e) }
+    ensures ok { IfOk result (λ found. (m : Meant addresses) × IsMessage addresses bytes.now m × (found ≡ last_of priority_of m.attributes)) }
+    ensures refused { IfErr result (λ e. e ≢ OutOfMemory → MessageFault addresses bytes.now e) }
 {
     let mut attributes = AddressMessage::attributes(alloc, bytes)?;
     let mut found = None;

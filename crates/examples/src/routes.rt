@@ -4,8 +4,9 @@ ghost use Rattle.std.specs.Prelude.{◌≡◌, ◌≢◌, IfOk, IfErr};
 ghost use Rattle.{
   netlink_packet_route.specs.{
     Found.{IsFirst},
+    Messages.{Held, IsMessage, MessageFault, spelling, view},
     RouteAttributeView.{meaning_of},
-    RouteMessage.{RouteMessage, IsRouteMessage, RouteFault, message_of, route_bytes},
+    RouteMessage.{routes},
     RoutePath.{gateway_ip},
     declared.framing.DecodeError.TheVariants.{OutOfMemory},
   },
@@ -26,9 +27,9 @@ use std::alloc::{AllocError, Global};
 /// # Errors
 /// Why the bytes are no route message.
 pub fn read_gateway(alloc: Global, bytes: &[u8]) -> Result<Option<IpAddr>, DecodeError>
-    ensures ok { IfOk result (λ found. (m : RouteMessage) × IsRouteMessage bytes.now (message_of m)
+    ensures ok { IfOk result (λ found. (m : Held routes) × IsMessage routes bytes.now (view routes m)
         × IsFirst (λ a. gateway_ip (meaning_of a)) m.attributes.items found) }
-    ensures refused { IfErr result (λ e. e ≢ OutOfMemory → RouteFault bytes.now e) }
+    ensures refused { IfErr result (λ e. e ≢ OutOfMemory → MessageFault routes bytes.now e) }
 {
     Ok(RouteMessage::parse(alloc, bytes)?.gateway())
 }
@@ -38,7 +39,7 @@ pub fn read_gateway(alloc: Global, bytes: &[u8]) -> Result<Option<IpAddr>, Decod
 /// # Errors
 /// `AllocError` where memory is refused.
 pub fn two_ways(alloc: Global) -> Result<RouteMessage, AllocError>
-    ensures { IfOk result (λ m. message_of m ≡ two_ways) }
+    ensures { IfOk result (λ m. view routes m ≡ two_ways) }
 {
     let network = IpAddr::V4(Ipv4Addr::new(203, 0, 113, 0));
     let first = IpAddr::V4(Ipv4Addr::new(192, 0, 2, 1));
@@ -65,7 +66,7 @@ pub fn two_ways(alloc: Global) -> Result<RouteMessage, AllocError>
 /// `Refused(OutOfMemory)` where memory is refused.
 #[tactic(auto, unfolding(netlink_packet_route::specs::Messages::spelling, netlink_packet_route::specs::Messages::message_misfit))]
 pub fn two_ways_bytes(alloc: Global) -> Result<Vec<u8>, Fault>
-    ensures ok { IfOk result (λ out. out.items ≡ route_bytes two_ways) }
+    ensures ok { IfOk result (λ out. out.items ≡ spelling routes two_ways) }
     ensures memory { IfErr result (λ e. e ≡ Refused OutOfMemory) }
 {
     let route = two_ways(alloc)?;

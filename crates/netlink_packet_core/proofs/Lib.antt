@@ -6,5 +6,4 @@ pub mod Payloads
 pub mod Messages
 pub mod Writing
 pub mod Conversations
-pub mod Names
 pub mod EqualityLaws

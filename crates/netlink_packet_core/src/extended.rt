@@ -3,13 +3,14 @@
 ghost use Rattle.std.specs.Prelude.{◌≡◌, ◌<◌, ◌^◌, length, option_map, refl};
 ghost use Rattle.{
   netlink_packet_core.specs.Extended.{family, has_flag, refused_length, refused_message, error_attributes, done_attributes, IsFirstText},
-  npr_base.specs.{NameLaws.{IsUnterminated}, Table.{shaped}},
+  npr_base.specs.{Table.{shaped}},
 };
 
 use crate::constants::{NETLINK_HEADER_LEN, NLM_F_ACK_TLVS, NLM_F_CAPPED, NLMSG_ALIGNTO};
 use crate::header::NetlinkHeader;
 use npr_base::{
     Attribute, DecodeError, DefaultNla, EmitError, Looks, Nla, NlaBuffer, NlasIterator, Place,
+    without_zero,
 };
 use std::alloc::{AllocError, Global};
 
@@ -139,22 +140,6 @@ pub fn done_attributes(flags: u16, more: &[u8]) -> &[u8]
         more
     } else {
         &[]
-    }
-}
-
-/// The bytes without one final zero, where there is one.
-#[tactic(auto, using(crate::proofs::Names::unterminated))]
-fn without_zero(bytes: &[u8]) -> &[u8]
-    ensures { IsUnterminated bytes.now result.now }
-{
-    if bytes.is_empty() {
-        return bytes;
-    }
-    let last = bytes.len() - 1;
-    if bytes[last] == 0 {
-        &bytes[..last]
-    } else {
-        bytes
     }
 }
 

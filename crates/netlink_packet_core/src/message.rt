@@ -1,8 +1,8 @@
 //! Messages: an envelope and what stands in it.
 
-ghost use Rattle.std.specs.Prelude.{◌≡◌, ◌≢◌, ◌+◌, ◌<◌, ◌≤◌, ◌^◌, None, length, replicate, IfOk, IfErr};
+ghost use Rattle.std.specs.Prelude.{◌≡◌, ◌≢◌, ◌+◌, ◌<◌, ◌^◌, None, length, IfOk, IfErr};
 ghost use Rattle.{
-  npr_base.specs.{declared.refusal.DecodeError.TheVariants.{OutOfMemory}, Family.{checked}, Framing.{Writes, pad}},
+  npr_base.specs.{declared.refusal.DecodeError.TheVariants.{OutOfMemory}, Family.{checked}, Framing.{pad}},
   netlink_packet_core.specs.{
     Message.{Meant, message_of, IsNetlinkMessage, NetlinkFault, IsCoherentMessage, final_header, finalized, envelope_of, message_bytes, oversized, netlink_misfit},
     Payload.{payload_of, payload_bytes},
@@ -14,7 +14,7 @@ use crate::constants::{NETLINK_HEADER_LEN, NLMSG_ALIGNTO};
 use crate::header::NetlinkHeader;
 use crate::payload::NetlinkPayload;
 use crate::traits::NetlinkInner;
-use npr_base::{DecodeError, EmitError, Emitable, Parseable, write_array};
+use npr_base::{DecodeError, EmitError, Emitable, Parseable, write_zeros};
 use std::alloc::{AllocError, Global};
 
 /// A message: the header of its envelope, and what stands behind it.
@@ -100,26 +100,6 @@ fn framed_len(len: usize) -> Result<usize, EmitError>
         return Err(EmitError::Total);
     }
     Ok((NETLINK_HEADER_LEN + len).next_multiple_of(NLMSG_ALIGNTO))
-}
-
-/// Writes so many zeros, which are three at most.
-fn write_zeros(count: usize, out: &mut [u8])
-    requires few { count < NLMSG_ALIGNTO }
-    requires room { count ≤ length out.old }
-    ensures { Writes out.old out.new (replicate count 0) }
-{
-    match count {
-        0 => {}
-        1 => {
-            write_array([0], out);
-        }
-        2 => {
-            write_array([0, 0], out);
-        }
-        _ => {
-            write_array([0, 0, 0], out);
-        }
-    }
 }
 
 impl<I: NetlinkInner> Emitable for NetlinkMessage<I> {

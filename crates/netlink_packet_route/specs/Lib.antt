@@ -91,6 +91,7 @@ pub use Rattle.npr_tunnel.specs.EncapType
 pub use Rattle.npr_tunnel.specs.Encapsulation
 pub use Rattle.npr_tunnel.specs.ErspanOptions
 pub use Rattle.npr_tunnel.specs.Geneve
+pub use Rattle.npr_tunnel.specs.GeneveChildren
 pub use Rattle.npr_tunnel.specs.GeneveLooks
 pub use Rattle.npr_tunnel.specs.IpTunnel
 pub use Rattle.npr_tunnel.specs.MplsTunnel
@@ -105,14 +106,14 @@ pub use Rattle.npr_address.specs.AddressScope
 pub use Rattle.npr_address.specs.Attribute as AddressAttribute
 pub use Rattle.npr_address.specs.CacheInfo
 pub use Rattle.npr_address.specs.Header as AddressHeader
-pub mod AddressMessage
+pub use Rattle.npr_address.specs.Message as AddressMessage
 -- neighbour messages
 pub use Rattle.npr_neighbour.specs.Attribute as NeighbourAttribute
 pub use Rattle.npr_neighbour.specs.CacheInfo as NeighbourCacheInfo
 pub use Rattle.npr_neighbour.specs.Flags as NeighbourFlags
 pub use Rattle.npr_neighbour.specs.Header as NeighbourHeader
 pub use Rattle.npr_neighbour.specs.NeighbourAddress
-pub mod NeighbourMessage
+pub use Rattle.npr_neighbour.specs.Message as NeighbourMessage
 pub use Rattle.npr_neighbour.specs.State as NeighbourState
 -- rule messages
 pub use Rattle.npr_rule.specs.Action as RuleAction
@@ -120,7 +121,7 @@ pub use Rattle.npr_rule.specs.Attribute as RuleAttribute
 pub use Rattle.npr_rule.specs.Flags as RuleFlags
 pub use Rattle.npr_rule.specs.Header as RuleHeader
 pub use Rattle.npr_rule.specs.IpProtocolByte
-pub mod RuleMessage
+pub use Rattle.npr_rule.specs.Message as RuleMessage
 pub use Rattle.npr_rule.specs.PortRange as RulePortRange
 pub use Rattle.npr_rule.specs.UidRange as RuleUidRange
 -- route messages
@@ -132,7 +133,7 @@ pub use Rattle.npr_route.specs.FlatAttribute as FlatRouteAttribute
 pub use Rattle.npr_route.specs.FlatAttributeLaws as FlatRouteAttributeLaws
 pub use Rattle.npr_route.specs.Governing
 pub use Rattle.npr_route.specs.Header as RouteHeader
-pub mod RouteMessage
+pub use Rattle.npr_route.specs.Message as RouteMessage
 pub use Rattle.npr_route.specs.MessageLaws as RouteMessageLaws
 pub use Rattle.npr_route.specs.Metric as RouteMetric
 pub use Rattle.npr_route.specs.NextHopFrontLaws

@@ -1,10 +1,10 @@
 -- The kinds of messages: their names, and what each is made of.
 use Rattle.std.specs.Prelude.{ℕ, List, Option, Some, None, codes}
-use Rattle.npr_base.specs.Message.{Message, Grammar}
-use Rattle.npr_address.specs.Message.{grammar as address_grammar}
-use Rattle.npr_neighbour.specs.Message.{grammar as neighbour_grammar}
-use Rattle.npr_route.specs.Message.{grammar as route_grammar}
-use Rattle.npr_rule.specs.Message.{grammar as rule_grammar}
+use Rattle.npr_base.specs.Message.{Grammar, Meant}
+use Rattle.npr_address.specs.Message.{addresses}
+use Rattle.npr_neighbour.specs.Message.{neighbours}
+use Rattle.npr_route.specs.Message.{routes}
+use Rattle.npr_rule.specs.Message.{rules}
 use Rattle.netlink_packet_route.specs.declared.kind.MessageKind.{MessageKind}
 use Rattle.netlink_packet_route.specs.declared.kind.MessageKind.TheVariants.{Address, Route, Rule, Neighbour}
 use Rattle.netlink_packet_route.specs.declared.message.MessageType.{MessageType}
@@ -26,14 +26,14 @@ abbrev pub form_by : {H A : Type 0} → Grammar H A → Form
 form_by {H} {A} g = record { Header = H; Attribute = A; grammar = g }
 
 abbrev pub form_of : MessageKind → Form
-form_of Address = form_by address_grammar
-form_of Route = form_by route_grammar
-form_of Rule = form_by rule_grammar
-form_of Neighbour = form_by neighbour_grammar
+form_of Address = form_by addresses
+form_of Route = form_by routes
+form_of Rule = form_by rules
+form_of Neighbour = form_by neighbours
 
 -- a message of a kind, without where it lies in memory
 abbrev pub MessageOf : MessageKind → Type 0
-MessageOf kind = let f = form_of kind in Message f.Header f.grammar.Meaning
+MessageOf kind = Meant (form_of kind).grammar
 
 -- the kind of the messages of a type, where the library has one
 abbrev pub kind_of_type : MessageType → Option MessageKind

@@ -6,13 +6,13 @@ use Rattle.npr_base.specs.declared.refusal.DecodeError.{DecodeError}
 use Rattle.npr_base.specs.declared.refusal.EmitError.{EmitError}
 use Rattle.npr_base.specs.Framing.{IsBytes}
 use Rattle.npr_base.proofs.Messages.{message-one, message-sound, message-coherent, message-back}
-use Rattle.npr_base.specs.Message.{IsMessage, MessageFault, IsCoherent, spelling, message_misfit}
+use Rattle.npr_base.specs.Message.{IsMessage, MessageFault, IsCoherent, spelling, message_misfit, view}
 use Rattle.npr_base.specs.EnumTable.{◌also◌}
 use Rattle.npr_base.specs.Rows.{form_in}
-use Rattle.npr_address.specs.Message.{message_of as address_of}
-use Rattle.npr_neighbour.specs.Message.{message_of as neighbour_of}
-use Rattle.npr_route.specs.Message.{message_of as route_of}
-use Rattle.npr_rule.specs.Message.{message_of as rule_of}
+use Rattle.npr_address.specs.Message.{addresses}
+use Rattle.npr_neighbour.specs.Message.{neighbours}
+use Rattle.npr_route.specs.Message.{routes}
+use Rattle.npr_rule.specs.Message.{rules}
 use Rattle.netlink_packet_core.specs.Protocol.{Protocol}
 use Rattle.netlink_packet_route.specs.MessageKind.{form_of, MessageOf}
 use Rattle.netlink_packet_route.specs.declared.kind.MessageKind.{MessageKind}
@@ -49,18 +49,18 @@ abbrev pub other_of : OtherMessage → ℕ × List ℕ
 other_of m = (m.message_type, m.payload.items)
 
 abbrev pub meaning_of : RouteNetlinkMessage → Meaning
-meaning_of (NewAddress m) = address New (address_of m)
-meaning_of (DelAddress m) = address Del (address_of m)
-meaning_of (GetAddress m) = address Get (address_of m)
-meaning_of (NewRoute m) = route New (route_of m)
-meaning_of (DelRoute m) = route Del (route_of m)
-meaning_of (GetRoute m) = route Get (route_of m)
-meaning_of (NewNeighbour m) = neighbour New (neighbour_of m)
-meaning_of (DelNeighbour m) = neighbour Del (neighbour_of m)
-meaning_of (GetNeighbour m) = neighbour Get (neighbour_of m)
-meaning_of (NewRule m) = rule New (rule_of m)
-meaning_of (DelRule m) = rule Del (rule_of m)
-meaning_of (GetRule m) = rule Get (rule_of m)
+meaning_of (NewAddress m) = address New (view addresses m)
+meaning_of (DelAddress m) = address Del (view addresses m)
+meaning_of (GetAddress m) = address Get (view addresses m)
+meaning_of (NewRoute m) = route New (view routes m)
+meaning_of (DelRoute m) = route Del (view routes m)
+meaning_of (GetRoute m) = route Get (view routes m)
+meaning_of (NewNeighbour m) = neighbour New (view neighbours m)
+meaning_of (DelNeighbour m) = neighbour Del (view neighbours m)
+meaning_of (GetNeighbour m) = neighbour Get (view neighbours m)
+meaning_of (NewRule m) = rule New (view rules m)
+meaning_of (DelRule m) = rule Del (view rules m)
+meaning_of (GetRule m) = rule Get (view rules m)
 meaning_of (Other m) = other m.message_type m.payload.items
 
 -- the types, by their numbers

@@ -2,15 +2,15 @@
 
 ghost use Rattle.std.specs.Prelude.{◌≡◌, ◌≢◌, IfOk, IfErr, refl};
 ghost use Rattle.{
-  npr_base.specs.{Message.{MessageFault}, declared.refusal.DecodeError.TheVariants.{OutOfMemory}},
+  npr_base.specs.{Message.{MessageFault, view}, declared.refusal.DecodeError.TheVariants.{OutOfMemory}},
   netlink_packet_route.specs.{
     MessageKind.{kind_of_type, form_of},
     RouteNetlinkMessage.{Meaning, meaning_of, other_of, address, route, neighbour, rule, rtnetlink, type_of, writes, misfit, IsMessageOf, ReadsUnder, FaultUnder},
   },
-  npr_address.specs.Message.{message_of as address_of},
-  npr_neighbour.specs.Message.{message_of as neighbour_of},
-  npr_route.specs.Message.{message_of as route_of},
-  npr_rule.specs.Message.{message_of as rule_of},
+  npr_address.specs.Message.{addresses},
+  npr_neighbour.specs.Message.{neighbours},
+  npr_route.specs.Message.{routes},
+  npr_rule.specs.Message.{rules},
 };
 
 use crate::kind::MessageKind;
@@ -176,7 +176,7 @@ pub trait Entry: Drop {
 }
 
 impl Entry for AddressMessage {
-    ghost meant = { λ a m. address a (address_of m) };
+    ghost meant = { λ a m. address a (view addresses m) };
 
     fn under(self, action: Action) -> RouteNetlinkMessage {
         match action {
@@ -188,7 +188,7 @@ impl Entry for AddressMessage {
 }
 
 impl Entry for RouteMessage {
-    ghost meant = { λ a m. route a (route_of m) };
+    ghost meant = { λ a m. route a (view routes m) };
 
     fn under(self, action: Action) -> RouteNetlinkMessage {
         match action {
@@ -200,7 +200,7 @@ impl Entry for RouteMessage {
 }
 
 impl Entry for NeighbourMessage {
-    ghost meant = { λ a m. neighbour a (neighbour_of m) };
+    ghost meant = { λ a m. neighbour a (view neighbours m) };
 
     fn under(self, action: Action) -> RouteNetlinkMessage {
         match action {
@@ -212,7 +212,7 @@ impl Entry for NeighbourMessage {
 }
 
 impl Entry for RuleMessage {
-    ghost meant = { λ a m. rule a (rule_of m) };
+    ghost meant = { λ a m. rule a (view rules m) };
 
     fn under(self, action: Action) -> RouteNetlinkMessage {
         match action {

@@ -9,7 +9,7 @@ ghost use Rattle.{
     Family.{first_unfit},
     Table.{unfit_by, written_by},
     MessageKind.{kind_name},
-    Messages.{Message as Meant, IsMessage, MessageFault, message_misfit, spelling, view},
+    Messages.{Meant, IsMessage, MessageFault, message_misfit, spelling, view},
     declared.framing.{DecodeError.{DecodeError, TheVariants.{OutOfMemory}}, EmitError.{EmitError}, Message.{Message}},
   },
   netlink_report.specs.{
@@ -91,7 +91,7 @@ fn answer_by<H: Header>(alloc: Global, kind: MessageKind, bytes: &[u8]) -> Resul
         × (message_misfit H.grammar (view H.grammar m) ≡ None)
         × (string_bytes text ≡ report (kind_name kind) (length bytes.now) (map (written_by H.Attribute.family.writing) (map H.Attribute.family.meaning m.attributes.items)) (spelling H.grammar (view H.grammar m)))) }
     ensures refused { (e : DecodeError) → result ≡ Err (Refused e) → (e ≢ OutOfMemory) × MessageFault H.grammar bytes.now e }
-    ensures unfit { (e : EmitError) → result ≡ Err (Unfit e) → (m : Meant H H.grammar.Meaning) × IsMessage H.grammar bytes.now m × (message_misfit H.grammar m ≡ Some e) }
+    ensures unfit { (e : EmitError) → result ≡ Err (Unfit e) → (m : Meant H.grammar) × IsMessage H.grammar bytes.now m × (message_misfit H.grammar m ≡ Some e) }
     ensures memory { result ≡ Err Memory → H.grammar.layout.size ≤ length bytes.now }
     ensures errors { IfErr result IsOfMessage }
 {

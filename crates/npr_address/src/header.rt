@@ -1,12 +1,21 @@
 //! The header of an address message: `struct ifaddrmsg` of `linux/if_addr.h`.
 
-ghost use Rattle.std.specs.Prelude.{◌≡◌, ◌≤◌, ◌<◌, length, IfOk, IfErr};
-ghost use Rattle.{npr_base.specs.{Codec.{leading}, Refusal.{no_place}}, npr_address.specs.Header.{header_buffer, header, buffer_of}};
+ghost use Rattle.std.{specs.Prelude.{◌≡◌, ◌<◌, IfOk, IfErr, refl}, proofs.Common.{rules}};
+ghost use Rattle.{
+  npr_base.specs.{Codec.{leading}, Message.{governs_by, none_searched}, MessageLaws.{of_family, under_by}, Refusal.{no_place}},
+  npr_address.specs.{Attribute.{family}, Header.{buffer_of, default_header, header, header_buffer}, Message.{addresses}},
+};
 
 use crate::addr_flags::AddressHeaderFlags;
 use crate::addr_scope::AddressScope;
+use crate::attribute::AddressAttribute;
 use bitflags::Flags;
-use npr_base::{AddressFamily, DecodeError, EmitError, Emitable, leading_octets, write_array};
+use npr_base::{
+    AddressFamily, DecodeError, EmitError, Emitable, Header, Looks, leading_octets, write_array,
+};
+
+/// The length of `struct ifaddrmsg` of `linux/if_addr.h`, in bytes.
+const IFADDRMSG_SIZE: usize = 8;
 
 /// The header of an address message.
 #[derive(Clone, Copy, Debug, Default, PartialEq, Eq)]
@@ -43,7 +52,7 @@ impl AddressMessageBuffer {
         ensures ok { IfOk result (λ b. (leading header_buffer).Reads bytes.now b) }
         ensures refused { IfErr result (λ e. (leading header_buffer).Wrong no_place bytes.now e) }
     {
-        let b = leading_octets(bytes, 8)?;
+        let b = leading_octets(bytes, IFADDRMSG_SIZE)?;
         Ok(AddressMessageBuffer {
             family: b[0],
             prefix_len: b[1],
@@ -94,16 +103,45 @@ impl AddressHeader {
         ensures ok { IfOk result (λ h. (leading header).Reads bytes.now h) }
         ensures refused { IfErr result (λ e. (leading header).Wrong no_place bytes.now e) }
     {
-        Ok(AddressHeader::in_front(leading_octets(bytes, 8)?))
+        Ok(AddressHeader::in_front(leading_octets(bytes, IFADDRMSG_SIZE)?))
+    }
+}
+
+impl Emitable for AddressHeader {
+    ghost bytes = { header.encode };
+
+    fn check(&self) -> Result<usize, EmitError> {
+        Ok(IFADDRMSG_SIZE)
     }
 
-    /// The header in the first 8 bytes, which are there.
+    #[inline(never)]
+    fn emit(&self, out: &mut [u8]) {
+        write_array(AddressMessageBuffer::from(self).to_bytes(), out);
+    }
+}
+
+impl Header for AddressHeader {
+    type Attribute = AddressAttribute;
+
+    ghost grammar = { addresses };
+
+    ghost governs = { governs_by (λ h. tt) };
+
+    ghost searches = { λ h bytes context. none_searched };
+
+    ghost by_layout = { λ h. (refl, refl, refl, Prim.search rules) };
+
+    ghost by_family = { of_family family header default_header addresses.body };
+
+    ghost under = { under_by family header default_header (λ h. tt) };
+
+    fn size() -> usize {
+        IFADDRMSG_SIZE
+    }
+
     #[inline]
-    pub(crate) fn in_front(bytes: &[u8]) -> Self
-        requires { 8 ≤ length bytes.now }
-        ensures { (leading header).Reads bytes.now result }
-    {
-        let b = &bytes[..8];
+    fn in_front(bytes: &[u8]) -> Self {
+        let b = &bytes[..IFADDRMSG_SIZE];
         AddressHeader {
             family: AddressFamily::from(b[0]),
             prefix_len: b[1],
@@ -112,17 +150,6 @@ impl AddressHeader {
             index: u32::from_le_bytes([b[4], b[5], b[6], b[7]]),
         }
     }
-}
 
-impl Emitable for AddressHeader {
-    ghost bytes = { header.encode };
-
-    fn check(&self) -> Result<usize, EmitError> {
-        Ok(8)
-    }
-
-    #[inline(never)]
-    fn emit(&self, out: &mut [u8]) {
-        write_array(AddressMessageBuffer::from(self).to_bytes(), out);
-    }
+    fn context(&self, _bytes: &[u8], _looks: &mut Looks) {}
 }

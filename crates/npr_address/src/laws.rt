@@ -1,16 +1,16 @@
 //! The laws of address messages, over their definitions alone. Each function does nothing, and its
 //! contract is the law.
 
-ghost use Rattle.std.specs.Prelude.{◌≡◌, ◌^◌, ℕ};
+ghost use Rattle.std.specs.Prelude.{◌≡◌, ◌^◌, ℕ, ◌∷◌, [], true};
 ghost use Rattle.{
-  npr_base.specs.Equality.{IsEquality, IsEqualityOf},
+  npr_base.specs.{Equality.{IsEquality, IsEqualityOf}, Message.{view}, Rows.{agrees}},
   npr_address.specs.{
     AddressFlags.{address_flag_bits, header_flag_bits},
     AddressProtocol.{protocols},
     AddressScope.{scopes},
     Attribute.{family},
     Header.{default_header, header},
-    Message.{message_of},
+    Message.{addresses},
   },
 };
 
@@ -31,26 +31,13 @@ pub fn law_numbers()
 /// The named flags of an address, by their bits (`linux/if_addr.h`); those of a header are the first
 /// eight.
 pub fn law_address_flags()
-    ensures secondary { address_flag_bits.number AddressFlags.Secondary ≡ 2 ^ 0 }
-    ensures nodad { address_flag_bits.number AddressFlags.Nodad ≡ 2 ^ 1 }
-    ensures optimistic { address_flag_bits.number AddressFlags.Optimistic ≡ 2 ^ 2 }
-    ensures dadfailed { address_flag_bits.number AddressFlags.Dadfailed ≡ 2 ^ 3 }
-    ensures homeaddress { address_flag_bits.number AddressFlags.Homeaddress ≡ 2 ^ 4 }
-    ensures deprecated { address_flag_bits.number AddressFlags.Deprecated ≡ 2 ^ 5 }
-    ensures tentative { address_flag_bits.number AddressFlags.Tentative ≡ 2 ^ 6 }
-    ensures permanent { address_flag_bits.number AddressFlags.Permanent ≡ 2 ^ 7 }
-    ensures managetempaddr { address_flag_bits.number AddressFlags.Managetempaddr ≡ 2 ^ 8 }
-    ensures noprefixroute { address_flag_bits.number AddressFlags.Noprefixroute ≡ 2 ^ 9 }
-    ensures mcautojoin { address_flag_bits.number AddressFlags.Mcautojoin ≡ 2 ^ 10 }
-    ensures stable_privacy { address_flag_bits.number AddressFlags.StablePrivacy ≡ 2 ^ 11 }
-    ensures header_secondary { header_flag_bits.number AddressHeaderFlags.Secondary ≡ 2 ^ 0 }
-    ensures header_nodad { header_flag_bits.number AddressHeaderFlags.Nodad ≡ 2 ^ 1 }
-    ensures header_optimistic { header_flag_bits.number AddressHeaderFlags.Optimistic ≡ 2 ^ 2 }
-    ensures header_dadfailed { header_flag_bits.number AddressHeaderFlags.Dadfailed ≡ 2 ^ 3 }
-    ensures header_homeaddress { header_flag_bits.number AddressHeaderFlags.Homeaddress ≡ 2 ^ 4 }
-    ensures header_deprecated { header_flag_bits.number AddressHeaderFlags.Deprecated ≡ 2 ^ 5 }
-    ensures header_tentative { header_flag_bits.number AddressHeaderFlags.Tentative ≡ 2 ^ 6 }
-    ensures header_permanent { header_flag_bits.number AddressHeaderFlags.Permanent ≡ 2 ^ 7 }
+    ensures flags { agrees address_flag_bits.number ((2 ^ 0, AddressFlags.Secondary) ∷ (2 ^ 1, AddressFlags.Nodad) ∷ (2 ^ 2, AddressFlags.Optimistic)
+        ∷ (2 ^ 3, AddressFlags.Dadfailed) ∷ (2 ^ 4, AddressFlags.Homeaddress) ∷ (2 ^ 5, AddressFlags.Deprecated) ∷ (2 ^ 6, AddressFlags.Tentative)
+        ∷ (2 ^ 7, AddressFlags.Permanent) ∷ (2 ^ 8, AddressFlags.Managetempaddr) ∷ (2 ^ 9, AddressFlags.Noprefixroute)
+        ∷ (2 ^ 10, AddressFlags.Mcautojoin) ∷ (2 ^ 11, AddressFlags.StablePrivacy) ∷ []) ≡ true }
+    ensures header_flags { agrees header_flag_bits.number ((2 ^ 0, AddressHeaderFlags.Secondary) ∷ (2 ^ 1, AddressHeaderFlags.Nodad)
+        ∷ (2 ^ 2, AddressHeaderFlags.Optimistic) ∷ (2 ^ 3, AddressHeaderFlags.Dadfailed) ∷ (2 ^ 4, AddressHeaderFlags.Homeaddress)
+        ∷ (2 ^ 5, AddressHeaderFlags.Deprecated) ∷ (2 ^ 6, AddressHeaderFlags.Tentative) ∷ (2 ^ 7, AddressHeaderFlags.Permanent) ∷ []) ≡ true }
 {}
 
 /// Which value is the default.
@@ -72,5 +59,5 @@ pub fn law_equality()
     ensures header { IsEquality ⟦<AddressHeader as PartialEq>⟧.eq }
     ensures header_buffer { IsEquality ⟦<AddressMessageBuffer as PartialEq>⟧.eq }
     ensures attribute { IsEqualityOf family.meaning ⟦<AddressAttribute as PartialEq>⟧.eq }
-    ensures message { IsEqualityOf message_of ⟦<AddressMessage as PartialEq>⟧.eq }
+    ensures message { IsEqualityOf (view addresses) ⟦<AddressMessage as PartialEq>⟧.eq }
 {}

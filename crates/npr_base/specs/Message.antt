@@ -78,8 +78,15 @@ grammar_of f L standard body = record { Meaning = f.Meaning; meaning = f.meaning
 abbrev pub grammar_by : {H A C : Type 0} (f : Family A C) → Layout H → H → (H → C) → Grammar H A
 grammar_by f L standard told = grammar_of f L standard (body_by told f.reading)
 
--- what a message of the program is, without where it lies in memory
-abbrev pub view : {H A : Type 0} (g : Grammar H A) → Stored H A → Message H g.Meaning
+-- a message of such a kind as the program holds it
+abbrev pub Held : {H A : Type 0} → Grammar H A → Type 0
+Held {H} {A} g = Stored H A
+
+-- and without where it lies in memory
+abbrev pub Meant : {H A : Type 0} → Grammar H A → Type 0
+Meant {H} g = Message H g.Meaning
+
+abbrev pub view : {H A : Type 0} (g : Grammar H A) → Held g → Meant g
 view g m = record { header = m.header; attributes = map g.meaning m.attributes.items }
 
 -- the bytes are the message: a header, and then its attributes
@@ -91,7 +98,7 @@ pub record IsMessageOf {H M : Type 0} (L : Layout H) (Reads : H → List ℕ →
   pub header : m.header ≡ L.decode front
   pub attributes : Reads m.header rest m.attributes
 
-unfoldable pub IsMessage : {H A : Type 0} (g : Grammar H A) → List ℕ → Message H g.Meaning → Type 0
+unfoldable pub IsMessage : {H A : Type 0} (g : Grammar H A) → List ℕ → Meant g → Type 0
 IsMessage g bytes m = IsMessageOf g.layout g.body.Reads bytes m
 
 -- the first fault of bytes that are no message: too few for the header, or a fault after it
@@ -112,15 +119,15 @@ pub record IsCoherentOf {H M : Type 0} (L : Layout H) (Coherent : H → List M �
   pub header : L.Holds m.header
   pub attributes : Coherent m.header m.attributes
 
-unfoldable pub IsCoherent : {H A : Type 0} (g : Grammar H A) → Message H g.Meaning → Type 0
+unfoldable pub IsCoherent : {H A : Type 0} (g : Grammar H A) → Meant g → Type 0
 IsCoherent g m = IsCoherentOf g.layout g.body.Coherent m
 
 -- the canonical bytes
-unfoldable pub spelling : {H A : Type 0} (g : Grammar H A) → Message H g.Meaning → List ℕ
+unfoldable pub spelling : {H A : Type 0} (g : Grammar H A) → Meant g → List ℕ
 spelling g m = g.layout.encode m.header ++ encodings (written_by g.writing) m.attributes
 
 -- why there are none: the first attribute that can't be written, or a length that no usize holds
-unfoldable pub message_misfit : {H A : Type 0} (g : Grammar H A) → Message H g.Meaning → Option EmitError
+unfoldable pub message_misfit : {H A : Type 0} (g : Grammar H A) → Meant g → Option EmitError
 message_misfit g m = option_or (first_unfit (unfit_by g.writing) m.attributes) (overlong (length (spelling g m)))
 
 -- attributes are written, and counted, as their family says, and mean what it says

@@ -35,3 +35,26 @@ module _ {V W : Type 0} (C : Codec V) (made : V → W) (bytes_of : W → List �
     reads_back = λ kind x p fits. variant-back x p;
     grows = variant-grows;
   }
+
+-- codecs of one type that write alike, as one over their choice: what is written doesn't wait for it
+module _ {F W : Type 0} (by : F → Codec W) (bytes_of : W → List ℕ) (alike : (f : F) → ((by f).writes ≡ bytes_of) × ((x : W) → (by f).inside 0 x ≡ None)) where
+  pub alike-back : (f : F) (x : W) → (by f).Holds x → (by f).Reads (bytes_of x) x
+  alike-back f x h = subst (λ (w : W → List ℕ). (by f).Reads (w x) x) (alike f).0 ((by f).reads_back 0 x h ((alike f).1 x))
+
+  pub alike-grows : (f : F) (bytes : List ℕ) (x : W) → IsBytes bytes → (by f).Reads bytes x → 2 * framed (length (bytes_of x)) ≤ 5 * (4 + length bytes)
+  alike-grows f bytes x is p = subst (λ (w : W → List ℕ). 2 * framed (length (w x)) ≤ 5 * (4 + length bytes)) (alike f).0 ((by f).grows bytes x is p)
+
+  abbrev pub written_alike : F → Codec W
+  written_alike f = record {
+    Reads = (by f).Reads;
+    Wrong = (by f).Wrong;
+    writes = bytes_of;
+    inside = λ kind x. None;
+    Holds = (by f).Holds;
+    members = no_members;
+    one_reading = (by f).one_reading;
+    no_fault = (by f).no_fault;
+    reads_holds = (by f).reads_holds;
+    reads_back = λ kind x h fits. alike-back f x h;
+    grows = alike-grows f;
+  }

@@ -258,8 +258,9 @@ pub fn check_len(kind: u16, len: usize) -> Result<usize, EmitError>
     framed_len(len).ok_or(EmitError::TooLong { kind, len })
 }
 
-/// Writes so many zeros. They are three at most, and cost less one by one than a call to fill them.
-fn write_zeros(count: usize, out: &mut [u8])
+/// Writes so many zeros at the front of the slice, and leaves the rest. They are three at most, and
+/// cost less one by one than a call to fill them.
+pub fn write_zeros(count: usize, out: &mut [u8])
     requires few { count < NLA_ALIGNTO }
     requires room { count ≤ length out.old }
     ensures { Writes out.old out.new (replicate count 0) }

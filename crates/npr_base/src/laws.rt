@@ -10,7 +10,7 @@ ghost use Rattle.npr_base.specs.{
   Framing.{Item, Cut, Stops},
   Counts.{Counts, AddsAtMostTwice, SawEach},
   Looks.{Adds},
-  Message.{Message as Meant, IsMessage, MessageLooks, IsCoherent, spelling, message_misfit},
+  Message.{Meant, IsMessage, MessageLooks, IsCoherent, spelling, message_misfit},
   Rows.{agrees, numbered},
   Walk.{Steps, found, Finds, CutsInTwo},
 };
@@ -81,17 +81,17 @@ pub fn law_equality()
 
 /// Bytes are one message at most.
 pub fn law_one_reading<H: Header>()
-    ensures { (bytes : List ℕ) (m n : Meant H H.grammar.Meaning) → IsMessage H.grammar bytes m → IsMessage H.grammar bytes n → m ≡ n }
+    ensures { (bytes : List ℕ) (m n : Meant H.grammar) → IsMessage H.grammar bytes m → IsMessage H.grammar bytes n → m ≡ n }
 {}
 
 /// The canonical bytes of a coherent message that fits are that message.
 pub fn law_read_back<H: Header>()
-    ensures { (m : Meant H H.grammar.Meaning) → IsCoherent H.grammar m → message_misfit H.grammar m ≡ None → IsMessage H.grammar (spelling H.grammar m) m }
+    ensures { (m : Meant H.grammar) → IsCoherent H.grammar m → message_misfit H.grammar m ≡ None → IsMessage H.grammar (spelling H.grammar m) m }
 {}
 
 /// Coherent messages of one kind that fit are equal where their canonical bytes are.
 pub fn law_canonical<H: Header>()
-    ensures { (m n : Meant H H.grammar.Meaning) → IsCoherent H.grammar m → message_misfit H.grammar m ≡ None → IsCoherent H.grammar n → message_misfit H.grammar n ≡ None
+    ensures { (m n : Meant H.grammar) → IsCoherent H.grammar m → message_misfit H.grammar m ≡ None → IsCoherent H.grammar n → message_misfit H.grammar n ≡ None
         → spelling H.grammar m ≡ spelling H.grammar n → m ≡ n }
 {}
 
@@ -104,6 +104,6 @@ pub fn law_looks<H: Header>()
     // At most two for four bytes behind the header, and one for twelve and two that fail.
     ensures bounded { (bytes : List ℕ) (old new : Counts) → MessageLooks H.grammar bytes old new → AddsAtMostTwice old new (length bytes - H.grammar.layout.size) }
     // Each attribute of a message has one, and so has each inside one.
-    ensures counted { (bytes : List ℕ) (m : Meant H H.grammar.Meaning) (old new : Counts) → IsMessage H.grammar bytes m → MessageLooks H.grammar bytes old new
+    ensures counted { (bytes : List ℕ) (m : Meant H.grammar) (old new : Counts) → IsMessage H.grammar bytes m → MessageLooks H.grammar bytes old new
         → SawEach old new (list_members H.grammar.writing.members m.attributes) }
 {}

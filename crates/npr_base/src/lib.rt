@@ -29,7 +29,7 @@ pub use default_nla::DefaultNla;
 pub use emit::{WriteError, to_vec};
 pub use framing::{
     NLA_ALIGNTO, NLA_F_NESTED, NLA_F_NET_BYTEORDER, NLA_HEADER_SIZE, NLA_TYPE_MASK, NlaBuffer,
-    NlasIterator, check_len, frame, framed_len, marked_kind,
+    NlasIterator, check_len, frame, framed_len, marked_kind, write_zeros,
 };
 pub use ip::{IpAddr, Ipv4Addr, Ipv6Addr};
 pub use list::{
@@ -47,5 +47,5 @@ pub use v6_list::{emit_v6_list, read_v6_list, v6_list_len, write_v6_list};
 pub use values::{
     borrow_octets, ip_len, leading_octets, read_bool, read_bytes, read_i32, read_ip, read_ipv4,
     read_ipv6, read_name, read_octets, read_u8, read_u16, read_u16_be, read_u32, read_u32_be,
-    read_u64, read_u64_be, write_array, write_bytes, write_ip, write_name,
+    read_u64, read_u64_be, without_zero, write_array, write_bytes, write_ip, write_name,
 };

@@ -8,7 +8,7 @@ ghost use Rattle.npr_base.specs.{
   Family.{list_members},
   Framing.{Item, Front},
   Looks.{Answered},
-  Message.{Grammar, Message as Meant, IsOfFamily, IsUnder, view, IsMessage, MessageFault, MessageLooks, IsCoherent, spelling, message_misfit},
+  Message.{Grammar, Meant, IsOfFamily, IsUnder, view, IsMessage, MessageFault, MessageLooks, IsCoherent, spelling, message_misfit},
 };
 
 use crate::attribute::Attribute;
@@ -106,14 +106,14 @@ impl<H: Header> Message<H, H::Attribute> {
         // What is read is what the bytes mean.
         ensures ok { IfOk result (λ m. IsMessage H.grammar bytes.now (view H.grammar m)) }
         // They mean nothing else.
-        ensures one { IfOk result (λ m. (n : Meant H H.grammar.Meaning) → IsMessage H.grammar bytes.now n → view H.grammar m ≡ n) }
+        ensures one { IfOk result (λ m. (n : Meant H.grammar) → IsMessage H.grammar bytes.now n → view H.grammar m ≡ n) }
         ensures coherent { IfOk result (λ m. IsCoherent H.grammar (view H.grammar m)) }
         // A refusal is the first fault.
         ensures refused { IfErr result (λ e. e ≢ OutOfMemory → MessageFault H.grammar bytes.now e) }
         // Then the bytes mean nothing.
-        ensures none { IfErr result (λ e. e ≢ OutOfMemory → (n : Meant H H.grammar.Meaning) → IsMessage H.grammar bytes.now n → ⊥) }
+        ensures none { IfErr result (λ e. e ≢ OutOfMemory → (n : Meant H.grammar) → IsMessage H.grammar bytes.now n → ⊥) }
         // Canonical bytes give back their message.
-        ensures again { IfOk result (λ m. (n : Meant H H.grammar.Meaning) → IsCoherent H.grammar n → message_misfit H.grammar n ≡ None
+        ensures again { IfOk result (λ m. (n : Meant H.grammar) → IsCoherent H.grammar n → message_misfit H.grammar n ≡ None
             → bytes.now ≡ spelling H.grammar n → view H.grammar m ≡ n) }
         // Memory is taken behind a first whole attribute alone.
         ensures memory { IsErrOf result OutOfMemory → (x : Item) × (rest : List ℕ) × Front (drop H.grammar.layout.size bytes.now) x rest }
@@ -142,12 +142,12 @@ impl<H: Header> Message<H, H::Attribute> {
         // What is read is what the bytes mean.
         ensures ok { IfOk result (λ _. IsMessage H.grammar bytes.now (view H.grammar self.new)) }
         // They mean nothing else.
-        ensures one { IfOk result (λ _. (n : Meant H H.grammar.Meaning) → IsMessage H.grammar bytes.now n → view H.grammar self.new ≡ n) }
+        ensures one { IfOk result (λ _. (n : Meant H.grammar) → IsMessage H.grammar bytes.now n → view H.grammar self.new ≡ n) }
         ensures coherent { IfOk result (λ _. IsCoherent H.grammar (view H.grammar self.new)) }
         // A refusal is the first fault.
         ensures refused { IfErr result (λ e. e ≢ OutOfMemory → MessageFault H.grammar bytes.now e) }
         // Then the bytes mean nothing,
-        ensures none { IfErr result (λ e. e ≢ OutOfMemory → (n : Meant H H.grammar.Meaning) → IsMessage H.grammar bytes.now n → ⊥) }
+        ensures none { IfErr result (λ e. e ≢ OutOfMemory → (n : Meant H.grammar) → IsMessage H.grammar bytes.now n → ⊥) }
         // and nothing is left of what was there.
         ensures new { IfErr result (λ _. view H.grammar self.new ≡ record { header = H.grammar.standard; attributes = [] }) }
         // Memory is taken behind a first whole attribute alone.
@@ -242,14 +242,14 @@ impl<'a, H: Header> Parseable<&'a [u8]> for Message<H, H::Attribute> {
         // What is read is what the bytes mean.
         ensures ok { IfOk result (λ m. IsMessage H.grammar bytes.now (view H.grammar m)) }
         // They mean nothing else.
-        ensures one { IfOk result (λ m. (n : Meant H H.grammar.Meaning) → IsMessage H.grammar bytes.now n → view H.grammar m ≡ n) }
+        ensures one { IfOk result (λ m. (n : Meant H.grammar) → IsMessage H.grammar bytes.now n → view H.grammar m ≡ n) }
         ensures coherent { IfOk result (λ m. IsCoherent H.grammar (view H.grammar m)) }
         // A refusal is the first fault.
         ensures refused { IfErr result (λ e. e ≢ OutOfMemory → MessageFault H.grammar bytes.now e) }
         // Then the bytes mean nothing.
-        ensures none { IfErr result (λ e. e ≢ OutOfMemory → (n : Meant H H.grammar.Meaning) → IsMessage H.grammar bytes.now n → ⊥) }
+        ensures none { IfErr result (λ e. e ≢ OutOfMemory → (n : Meant H.grammar) → IsMessage H.grammar bytes.now n → ⊥) }
         // Canonical bytes give back their message.
-        ensures again { IfOk result (λ m. (n : Meant H H.grammar.Meaning) → IsCoherent H.grammar n → message_misfit H.grammar n ≡ None
+        ensures again { IfOk result (λ m. (n : Meant H.grammar) → IsCoherent H.grammar n → message_misfit H.grammar n ≡ None
             → bytes.now ≡ spelling H.grammar n → view H.grammar m ≡ n) }
         // Memory is taken behind a first whole attribute alone.
         ensures memory { IsErrOf result OutOfMemory → (x : Item) × (rest : List ℕ) × Front (drop H.grammar.layout.size bytes.now) x rest }

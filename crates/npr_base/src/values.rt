@@ -240,7 +240,7 @@ pub fn read_bytes(alloc: Global, value: &[u8]) -> Result<Vec<u8>, AllocError>
 
 /// The bytes without one final zero, where there is one.
 #[tactic(auto, using(crate::proofs::Names::unterminated))]
-fn without_zero(bytes: &[u8]) -> &[u8]
+pub fn without_zero(bytes: &[u8]) -> &[u8]
     ensures { IsUnterminated bytes.now result.now }
 {
     if bytes.is_empty() {

@@ -1,6 +1,7 @@
 -- What a call for canonical bytes answers.
 use Rattle.std.specs.Prelude.{◌≡◌, ◌≢◌, ◌⊎◌, ◌<◌, ◌≤◌, ℕ, List, length, Option, Some, None}
 use Rattle.netlink_packet_route.specs.Framing.{Writes}
+use Rattle.netlink_packet_route.specs.Messages.{Grammar, Meant, IsMessage, MessageFault, message_misfit, spelling}
 use Rattle.netlink_packet_route.specs.declared.framing.DecodeError.{DecodeError}
 use Rattle.netlink_packet_route.specs.declared.framing.DecodeError.TheVariants.{OutOfMemory}
 use Rattle.netlink_packet_route.specs.declared.framing.EmitError.{EmitError}
@@ -31,8 +32,7 @@ Spells None canonical old new answer =
     ⊎ ((length old < length canonical) × (answer ≡ short_answer (length canonical)) × (new ≡ old))
 
 -- the answer for bytes: they are refused for their first fault or for want of memory, or else they are a message, for which this is the answer
-abbrev pub Tells : {M : Type 0} → (List ℕ → M → Type 0) → (List ℕ → DecodeError → Type 0) → (M → Option EmitError) → (M → List ℕ)
-    → List ℕ → List ℕ → List ℕ → Answer → Type 0
-Tells {M} reads faulty misfit spelled bytes old new answer =
-    ((e : DecodeError) × (answer ≡ refused_answer e) × (e ≢ OutOfMemory → faulty bytes e) × (new ≡ old))
-    ⊎ ((m : M) × reads bytes m × Spells (misfit m) (spelled m) old new answer)
+abbrev pub Tells : {H A : Type 0} → Grammar H A → List ℕ → List ℕ → List ℕ → Answer → Type 0
+Tells g bytes old new answer =
+    ((e : DecodeError) × (answer ≡ refused_answer e) × (e ≢ OutOfMemory → MessageFault g bytes e) × (new ≡ old))
+    ⊎ ((m : Meant g) × IsMessage g bytes m × Spells (message_misfit g m) (spelling g m) old new answer)

@@ -9,6 +9,7 @@ use Rattle.netlink_packet_route.specs.declared.framing.DecodeError.{DecodeError}
 use Rattle.netlink_packet_route.specs.declared.framing.DecodeError.TheVariants.{OutOfMemory, HeaderTooShort, AttributeTooShort, AttributeLength}
 use Rattle.netlink_packet_route.specs.declared.framing.DecodeError.TheVariants.{NextHopTooShort, NextHopLength, ValueLength, NotUtf8, Seg6Header}
 use Rattle.netlink_packet_route.specs.declared.framing.DecodeError.TheVariants.{GeneveOrder, GeneveChild, ViaFamily, Unsupported}
+use Rattle.netlink_packet_route.specs.Messages.{Grammar, Meant, IsMessage, MessageFault}
 use Rattle.npr_c.specs.Numbers.{refusal_number}
 use Rattle.npr_c.specs.declared.faults.Fault.{Fault}
 
@@ -77,7 +78,7 @@ abbrev pub told : DecodeError → ℕ → Fault
 told e offset = record (fault_of e) { offset = offset }
 
 -- the answer for bytes: they are a message, or refused for their first fault or for want of memory
-abbrev pub IsJudged : {M : Type 0} → (List ℕ → M → Type 0) → (List ℕ → DecodeError → Type 0) → List ℕ → Fault → Type 0
-IsJudged {M} reads faulty bytes answer =
-    ((m : M) × reads bytes m × (answer ≡ no_fault))
-    ⊎ ((e : DecodeError) × (answer ≡ told e answer.offset) × (e ≢ OutOfMemory → faulty bytes e))
+abbrev pub IsJudged : {H A : Type 0} → Grammar H A → List ℕ → Fault → Type 0
+IsJudged g bytes answer =
+    ((m : Meant g) × IsMessage g bytes m × (answer ≡ no_fault))
+    ⊎ ((e : DecodeError) × (answer ≡ told e answer.offset) × (e ≢ OutOfMemory → MessageFault g bytes e))

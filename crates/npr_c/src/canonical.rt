@@ -3,12 +3,11 @@
 ghost use Rattle.std.specs.Prelude.{◌≡◌, ◌≢◌, ◌≤◌, ◌*◌, ℕ, List, length, drop};
 ghost use Rattle.{
   netlink_packet_route.specs.{
-    AddressMessage.{IsAddressMessage, AddressFault, address_bytes, address_misfit},
+    AddressMessage.{addresses},
     Framing.{Item, Front},
-    Messages.{IsMessage, MessageFault, message_misfit, spelling},
-    NeighbourMessage.{IsNeighbourMessage, NeighbourFault, neighbour_bytes, neighbour_misfit},
-    RouteMessage.{IsRouteMessage, RouteFault, route_bytes, route_misfit},
-    RuleMessage.{IsRuleMessage, RuleFault, rule_bytes, rule_misfit},
+    NeighbourMessage.{neighbours},
+    RouteMessage.{routes},
+    RuleMessage.{rules},
     declared.framing.DecodeError.TheVariants.{OutOfMemory},
   },
   npr_c.specs.Answers.{Spells, Tells, refused_answer},
@@ -38,7 +37,7 @@ fn spell<M: Emitable>(message: &M, out: &mut [u8]) -> Answer
 
 /// Writes the canonical bytes of the message that the bytes are to the front of the buffer.
 fn canonical<H: Header>(alloc: Global, bytes: &[u8], out: &mut [u8]) -> Answer
-    ensures answer { Tells (IsMessage H.grammar) (MessageFault H.grammar) (message_misfit H.grammar) (spelling H.grammar) bytes.now out.old out.new result }
+    ensures answer { Tells H.grammar bytes.now out.old out.new result }
     ensures memory { result ≡ refused_answer OutOfMemory → (x : Item) × (rest : List ℕ) × Front (drop H.grammar.layout.size bytes.now) x rest }
     ensures room { 5 * length bytes.now ≤ 2 * length out.old → result.status ≢ 3 }
 {
@@ -52,7 +51,7 @@ fn canonical<H: Header>(alloc: Global, bytes: &[u8], out: &mut [u8]) -> Answer
 /// buffer, and leaves the rest of it. The buffer is as it was where they aren't written.
 #[unsafe(no_mangle)]
 pub extern "C" fn npr_address_canonical(alloc: Global, bytes: &[u8], out: &mut [u8]) -> Answer
-    ensures answer { Tells IsAddressMessage AddressFault address_misfit address_bytes bytes.now out.old out.new result }
+    ensures answer { Tells addresses bytes.now out.old out.new result }
     // Memory is refused behind a first whole attribute alone.
     ensures memory { result ≡ refused_answer OutOfMemory → (x : Item) × (rest : List ℕ) × Front (drop 8 bytes.now) x rest }
     // A buffer two and a half times as long as the bytes is never too short.
@@ -65,7 +64,7 @@ pub extern "C" fn npr_address_canonical(alloc: Global, bytes: &[u8], out: &mut [
 /// and leaves the rest of it. The buffer is as it was where they aren't written.
 #[unsafe(no_mangle)]
 pub extern "C" fn npr_route_canonical(alloc: Global, bytes: &[u8], out: &mut [u8]) -> Answer
-    ensures answer { Tells IsRouteMessage RouteFault route_misfit route_bytes bytes.now out.old out.new result }
+    ensures answer { Tells routes bytes.now out.old out.new result }
     // Memory is refused behind a first whole attribute alone.
     ensures memory { result ≡ refused_answer OutOfMemory → (x : Item) × (rest : List ℕ) × Front (drop 12 bytes.now) x rest }
     // A buffer two and a half times as long as the bytes is never too short.
@@ -78,7 +77,7 @@ pub extern "C" fn npr_route_canonical(alloc: Global, bytes: &[u8], out: &mut [u8
 /// and leaves the rest of it. The buffer is as it was where they aren't written.
 #[unsafe(no_mangle)]
 pub extern "C" fn npr_rule_canonical(alloc: Global, bytes: &[u8], out: &mut [u8]) -> Answer
-    ensures answer { Tells IsRuleMessage RuleFault rule_misfit rule_bytes bytes.now out.old out.new result }
+    ensures answer { Tells rules bytes.now out.old out.new result }
     // Memory is refused behind a first whole attribute alone.
     ensures memory { result ≡ refused_answer OutOfMemory → (x : Item) × (rest : List ℕ) × Front (drop 12 bytes.now) x rest }
     // A buffer two and a half times as long as the bytes is never too short.
@@ -91,7 +90,7 @@ pub extern "C" fn npr_rule_canonical(alloc: Global, bytes: &[u8], out: &mut [u8]
 /// buffer, and leaves the rest of it. The buffer is as it was where they aren't written.
 #[unsafe(no_mangle)]
 pub extern "C" fn npr_neighbour_canonical(alloc: Global, bytes: &[u8], out: &mut [u8]) -> Answer
-    ensures answer { Tells IsNeighbourMessage NeighbourFault neighbour_misfit neighbour_bytes bytes.now out.old out.new result }
+    ensures answer { Tells neighbours bytes.now out.old out.new result }
     // Memory is refused behind a first whole attribute alone.
     ensures memory { result ≡ refused_answer OutOfMemory → (x : Item) × (rest : List ℕ) × Front (drop 12 bytes.now) x rest }
     // A buffer two and a half times as long as the bytes is never too short.

@@ -3,12 +3,11 @@
 ghost use Rattle.std.specs.Prelude.{◌≡◌, ℕ, List, drop};
 ghost use Rattle.{
   netlink_packet_route.specs.{
-    AddressMessage.{IsAddressMessage, AddressFault},
+    AddressMessage.{addresses},
     Framing.{Item, Front},
-    Messages.{IsMessage, MessageFault},
-    NeighbourMessage.{IsNeighbourMessage, NeighbourFault},
-    RouteMessage.{IsRouteMessage, RouteFault},
-    RuleMessage.{IsRuleMessage, RuleFault},
+    NeighbourMessage.{neighbours},
+    RouteMessage.{routes},
+    RuleMessage.{rules},
     declared.framing.DecodeError.TheVariants.{OutOfMemory},
   },
   npr_c.specs.{
@@ -165,7 +164,7 @@ impl Fault {
 
 /// What is wrong with the bytes as a message of this kind.
 fn judged<H: Header>(alloc: Global, bytes: &[u8]) -> Fault
-    ensures fault { IsJudged (IsMessage H.grammar) (MessageFault H.grammar) bytes.now result }
+    ensures fault { IsJudged H.grammar bytes.now result }
     ensures place { IsPlaced H.grammar.layout.size (StandsAt H.grammar.layout H.governs H.Attribute.family) bytes.now result }
     ensures memory { result ≡ fault_of OutOfMemory → (x : Item) × (rest : List ℕ) × Front (drop H.grammar.layout.size bytes.now) x rest }
 {
@@ -178,7 +177,7 @@ fn judged<H: Header>(alloc: Global, bytes: &[u8]) -> Fault
 /// What is wrong with the bytes as an address message and where it stands, or that they are one.
 #[unsafe(no_mangle)]
 pub extern "C" fn npr_address_fault(alloc: Global, bytes: &[u8]) -> Fault
-    ensures fault { IsJudged IsAddressMessage AddressFault bytes.now result }
+    ensures fault { IsJudged addresses bytes.now result }
     // Up to the place attributes read, and what stands there is wrong.
     ensures place { IsPlaced 8 AddressStandsAt bytes.now result }
     // Memory is refused behind a first whole attribute alone.
@@ -190,7 +189,7 @@ pub extern "C" fn npr_address_fault(alloc: Global, bytes: &[u8]) -> Fault
 /// What is wrong with the bytes as a route message and where it stands, or that they are one.
 #[unsafe(no_mangle)]
 pub extern "C" fn npr_route_fault(alloc: Global, bytes: &[u8]) -> Fault
-    ensures fault { IsJudged IsRouteMessage RouteFault bytes.now result }
+    ensures fault { IsJudged routes bytes.now result }
     // Up to the place attributes read, and what stands there is wrong.
     ensures place { IsPlaced 12 RouteStandsAt bytes.now result }
     // Memory is refused behind a first whole attribute alone.
@@ -202,7 +201,7 @@ pub extern "C" fn npr_route_fault(alloc: Global, bytes: &[u8]) -> Fault
 /// What is wrong with the bytes as a rule message and where it stands, or that they are one.
 #[unsafe(no_mangle)]
 pub extern "C" fn npr_rule_fault(alloc: Global, bytes: &[u8]) -> Fault
-    ensures fault { IsJudged IsRuleMessage RuleFault bytes.now result }
+    ensures fault { IsJudged rules bytes.now result }
     // Up to the place attributes read, and what stands there is wrong.
     ensures place { IsPlaced 12 RuleStandsAt bytes.now result }
     // Memory is refused behind a first whole attribute alone.
@@ -214,7 +213,7 @@ pub extern "C" fn npr_rule_fault(alloc: Global, bytes: &[u8]) -> Fault
 /// What is wrong with the bytes as a neighbour message and where it stands, or that they are one.
 #[unsafe(no_mangle)]
 pub extern "C" fn npr_neighbour_fault(alloc: Global, bytes: &[u8]) -> Fault
-    ensures fault { IsJudged IsNeighbourMessage NeighbourFault bytes.now result }
+    ensures fault { IsJudged neighbours bytes.now result }
     // Up to the place attributes read, and what stands there is wrong.
     ensures place { IsPlaced 12 NeighbourStandsAt bytes.now result }
     // Memory is refused behind a first whole attribute alone.

@@ -5,7 +5,7 @@ ghost use Rattle.{
   netlink_packet_route.specs.{
     Attributes.{AttributeStep, AttributeSteps},
     Framing.{Item, Front},
-    Messages.{Message as Meant, IsMessage, MessageFault},
+    Messages.{Meant, IsMessage, MessageFault},
     declared.framing.DecodeError.TheVariants.{OutOfMemory},
   },
   npr_c.specs.Stops.{StandsAt},
@@ -79,7 +79,7 @@ impl Stop {
 /// # Errors
 /// The first fault with its place, or `OutOfMemory`.
 pub fn read_through<H: Header>(alloc: Global, bytes: &[u8]) -> Result<(), Place>
-    ensures ok { IfOk result (λ _. (m : Meant H H.grammar.Meaning) × IsMessage H.grammar bytes.now m) }
+    ensures ok { IfOk result (λ _. (m : Meant H.grammar) × IsMessage H.grammar bytes.now m) }
     ensures refused { IfErr result (λ place. place.refusal ≢ OutOfMemory → MessageFault H.grammar bytes.now place.refusal) }
     ensures place { IfErr result (λ place. place.refusal ≢ OutOfMemory
         → ((length bytes.now < H.grammar.layout.size) × (place.offset ≡ 0)) ⊎ StandsAt H.grammar.layout H.governs H.Attribute.family bytes.now place.offset place.refusal) }

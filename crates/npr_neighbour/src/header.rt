@@ -1,13 +1,22 @@
 //! The header of a neighbour message: `struct ndmsg` of `linux/neighbour.h`.
 
-ghost use Rattle.std.specs.Prelude.{◌≡◌, ◌≤◌, ◌<◌, length, IfOk, IfErr};
-ghost use Rattle.{npr_base.specs.{Codec.{leading}, Refusal.{no_place}}, npr_neighbour.specs.Header.{header_buffer, header, buffer_of}};
+ghost use Rattle.std.{specs.Prelude.{◌≡◌, ◌<◌, IfOk, IfErr, refl}, proofs.Common.{rules}};
+ghost use Rattle.{
+  npr_base.specs.{Codec.{leading}, Message.{governs_by, none_searched}, MessageLaws.{of_family, under_by}, Refusal.{no_place}},
+  npr_neighbour.specs.{Attribute.{family}, Header.{buffer_of, default_header, header, header_buffer}, Message.{neighbours}},
+};
 
+use crate::attribute::NeighbourAttribute;
 use crate::flags::NeighbourFlags;
 use crate::state::NeighbourState;
 use bitflags::Flags;
-use npr_base::{AddressFamily, DecodeError, EmitError, Emitable, leading_octets, write_array};
+use npr_base::{
+    AddressFamily, DecodeError, EmitError, Emitable, Header, Looks, leading_octets, write_array,
+};
 use npr_scalar::RouteType;
+
+/// The length of `struct ndmsg` of `linux/neighbour.h`, in bytes.
+const NDMSG_SIZE: usize = 12;
 
 /// The header of a neighbour message.
 #[derive(Clone, Copy, Debug, Default, PartialEq, Eq)]
@@ -45,7 +54,7 @@ impl NeighbourMessageBuffer {
         ensures ok { IfOk result (λ b. (leading header_buffer).Reads bytes.now b) }
         ensures refused { IfErr result (λ e. (leading header_buffer).Wrong no_place bytes.now e) }
     {
-        let b = leading_octets(bytes, 12)?;
+        let b = leading_octets(bytes, NDMSG_SIZE)?;
         Ok(NeighbourMessageBuffer {
             family: b[0],
             ifindex: i32::from_le_bytes([b[4], b[5], b[6], b[7]]),
@@ -101,16 +110,45 @@ impl NeighbourHeader {
         ensures ok { IfOk result (λ h. (leading header).Reads bytes.now h) }
         ensures refused { IfErr result (λ e. (leading header).Wrong no_place bytes.now e) }
     {
-        Ok(NeighbourHeader::in_front(leading_octets(bytes, 12)?))
+        Ok(NeighbourHeader::in_front(leading_octets(bytes, NDMSG_SIZE)?))
+    }
+}
+
+impl Emitable for NeighbourHeader {
+    ghost bytes = { header.encode };
+
+    fn check(&self) -> Result<usize, EmitError> {
+        Ok(NDMSG_SIZE)
     }
 
-    /// The header in the first 12 bytes, which are there.
+    #[inline(never)]
+    fn emit(&self, out: &mut [u8]) {
+        write_array(NeighbourMessageBuffer::from(self).to_bytes(), out);
+    }
+}
+
+impl Header for NeighbourHeader {
+    type Attribute = NeighbourAttribute;
+
+    ghost grammar = { neighbours };
+
+    ghost governs = { governs_by (λ h. h.family) };
+
+    ghost searches = { λ h bytes context. none_searched };
+
+    ghost by_layout = { λ h. (refl, refl, refl, Prim.search rules) };
+
+    ghost by_family = { of_family family header default_header neighbours.body };
+
+    ghost under = { under_by family header default_header (λ h. h.family) };
+
+    fn size() -> usize {
+        NDMSG_SIZE
+    }
+
     #[inline]
-    pub(crate) fn in_front(bytes: &[u8]) -> Self
-        requires { 12 ≤ length bytes.now }
-        ensures { (leading header).Reads bytes.now result }
-    {
-        let b = &bytes[..12];
+    fn in_front(bytes: &[u8]) -> Self {
+        let b = &bytes[..NDMSG_SIZE];
         NeighbourHeader {
             family: AddressFamily::from(b[0]),
             ifindex: i32::from_le_bytes([b[4], b[5], b[6], b[7]]),
@@ -119,17 +157,8 @@ impl NeighbourHeader {
             kind: RouteType::from(b[11]),
         }
     }
-}
 
-impl Emitable for NeighbourHeader {
-    ghost bytes = { header.encode };
-
-    fn check(&self) -> Result<usize, EmitError> {
-        Ok(12)
-    }
-
-    #[inline(never)]
-    fn emit(&self, out: &mut [u8]) {
-        write_array(NeighbourMessageBuffer::from(self).to_bytes(), out);
+    fn context(&self, _bytes: &[u8], _looks: &mut Looks) -> AddressFamily {
+        self.family
     }
 }

@@ -1,14 +1,14 @@
 //! The laws of neighbour messages, over their definitions alone. Each function does nothing, and its
 //! contract is the law.
 
-ghost use Rattle.std.specs.Prelude.{◌≡◌, ◌^◌};
+ghost use Rattle.std.specs.Prelude.{◌≡◌, ◌^◌, ◌∷◌, [], true};
 ghost use Rattle.{
-  npr_base.specs.Equality.{IsEquality, IsEqualityOf},
+  npr_base.specs.{Equality.{IsEquality, IsEqualityOf}, Message.{view}, Rows.{agrees}},
   npr_neighbour.specs.{
     Attribute.{family},
     Flags.{flag_bits, extended_flag_bits},
     Header.{default_header, header},
-    Message.{message_of},
+    Message.{neighbours},
     NeighbourAddress.{Address, address_of, neighbour_address},
     State.{state_bits},
   },
@@ -25,28 +25,17 @@ use npr_base::AddressFamily;
 
 /// The named states of a neighbour, by their bits (`linux/neighbour.h`).
 pub fn law_neighbour_states()
-    ensures none { state_bits.number NeighbourState.None ≡ 0 }
-    ensures incomplete { state_bits.number NeighbourState.Incomplete ≡ 2 ^ 0 }
-    ensures reachable { state_bits.number NeighbourState.Reachable ≡ 2 ^ 1 }
-    ensures stale { state_bits.number NeighbourState.Stale ≡ 2 ^ 2 }
-    ensures delay { state_bits.number NeighbourState.Delay ≡ 2 ^ 3 }
-    ensures probe { state_bits.number NeighbourState.Probe ≡ 2 ^ 4 }
-    ensures failed { state_bits.number NeighbourState.Failed ≡ 2 ^ 5 }
-    ensures noarp { state_bits.number NeighbourState.Noarp ≡ 2 ^ 6 }
-    ensures permanent { state_bits.number NeighbourState.Permanent ≡ 2 ^ 7 }
+    ensures { agrees state_bits.number ((0, NeighbourState.None) ∷ (2 ^ 0, NeighbourState.Incomplete) ∷ (2 ^ 1, NeighbourState.Reachable)
+        ∷ (2 ^ 2, NeighbourState.Stale) ∷ (2 ^ 3, NeighbourState.Delay) ∷ (2 ^ 4, NeighbourState.Probe) ∷ (2 ^ 5, NeighbourState.Failed)
+        ∷ (2 ^ 6, NeighbourState.Noarp) ∷ (2 ^ 7, NeighbourState.Permanent) ∷ []) ≡ true }
 {}
 
 /// The named flags of a neighbour, by their bits (`linux/neighbour.h`).
 pub fn law_neighbour_flags()
-    ensures in_use { flag_bits.number NeighbourFlags.Use ≡ 2 ^ 0 }
-    ensures own { flag_bits.number NeighbourFlags.Own ≡ 2 ^ 1 }
-    ensures controller { flag_bits.number NeighbourFlags.Controller ≡ 2 ^ 2 }
-    ensures proxy { flag_bits.number NeighbourFlags.Proxy ≡ 2 ^ 3 }
-    ensures ext_learned { flag_bits.number NeighbourFlags.ExtLearned ≡ 2 ^ 4 }
-    ensures offloaded { flag_bits.number NeighbourFlags.Offloaded ≡ 2 ^ 5 }
-    ensures sticky { flag_bits.number NeighbourFlags.Sticky ≡ 2 ^ 6 }
-    ensures router { flag_bits.number NeighbourFlags.Router ≡ 2 ^ 7 }
-    ensures managed { extended_flag_bits.number NeighbourExtendedFlags.Managed ≡ 2 ^ 0 }
+    ensures flags { agrees flag_bits.number ((2 ^ 0, NeighbourFlags.Use) ∷ (2 ^ 1, NeighbourFlags.Own) ∷ (2 ^ 2, NeighbourFlags.Controller)
+        ∷ (2 ^ 3, NeighbourFlags.Proxy) ∷ (2 ^ 4, NeighbourFlags.ExtLearned) ∷ (2 ^ 5, NeighbourFlags.Offloaded) ∷ (2 ^ 6, NeighbourFlags.Sticky)
+        ∷ (2 ^ 7, NeighbourFlags.Router) ∷ []) ≡ true }
+    ensures extended_flags { agrees extended_flag_bits.number ((2 ^ 0, NeighbourExtendedFlags.Managed) ∷ []) ≡ true }
 {}
 
 /// An address that its family can hold is read again from its bytes.
@@ -73,5 +62,5 @@ pub fn law_equality()
     ensures header_buffer { IsEquality ⟦<NeighbourMessageBuffer as PartialEq>⟧.eq }
     ensures address { IsEqualityOf address_of ⟦<NeighbourAddress as PartialEq>⟧.eq }
     ensures attribute { IsEqualityOf family.meaning ⟦<NeighbourAttribute as PartialEq>⟧.eq }
-    ensures message { IsEqualityOf message_of ⟦<NeighbourMessage as PartialEq>⟧.eq }
+    ensures message { IsEqualityOf (view neighbours) ⟦<NeighbourMessage as PartialEq>⟧.eq }
 {}

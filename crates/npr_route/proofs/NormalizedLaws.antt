@@ -22,8 +22,8 @@ use Rattle.npr_route.specs.FlatAttributeLaws as Flats
 use Rattle.npr_route.specs.AttributeFamily.{writing}
 use Rattle.npr_route.specs.Header.{header}
 use Rattle.npr_route.proofs.Normalizing.{attributes_of-normalized}
-use Rattle.npr_base.specs.Message.{IsMessage, IsCoherent, spelling, message_misfit}
-use Rattle.npr_route.specs.Message.{Route, under, normalized_route, IsRouteMessage, IsRouteMessageBy, IsCoherentRoute, IsCoherentRouteBy, route_bytes, route_misfit}
+use Rattle.npr_base.specs.Message.{IsMessage, IsCoherent, Meant, spelling, message_misfit}
+use Rattle.npr_route.specs.Message.{routes, under, normalized_route, IsRouteMessageBy, IsCoherentRouteBy}
 use Rattle.npr_tunnel.specs.declared.encap_type.RouteLwEnCapType.TheVariants.{None as NoEncapsulation}
 use Rattle.npr_base.specs.Table.{RowReads, written_by, unfit_by}
 
@@ -200,20 +200,20 @@ mutual
 first_in_list : (outer : RouteLwEnCapType) (xs : List Meaning) → first_type outer (attributes_of (map normalized xs)) ≡ first_type outer (attributes_of xs)
 first_in_list outer xs = ap (first_type outer) (attributes_of-normalized xs) ∙ first_type-normalized outer (attributes_of xs)
 
-pub message-bytes : (m : Route) → route_bytes (normalized_route m) ≡ route_bytes m
+pub message-bytes : (m : Meant routes) → spelling routes (normalized_route m) ≡ spelling routes m
 unfolding spelling
 message-bytes m = ap (λ (w : List ℕ). header.encode m.header ++ w) (encodings-normalized normalized (written_by writing) writes-normalized m.attributes)
 
-pub message-misfit : (m : Route) → route_misfit (normalized_route m) ≡ route_misfit m
+pub message-misfit : (m : Meant routes) → message_misfit routes (normalized_route m) ≡ message_misfit routes m
 unfolding spelling message_misfit
 message-misfit m =
-    ap (λ (o : Option EmitError). option_or o (overlong (length (route_bytes (normalized_route m))))) (unfit-normalized normalized (unfit_by writing) misfit-normalized m.attributes)
+    ap (λ (o : Option EmitError). option_or o (overlong (length (spelling routes (normalized_route m))))) (unfit-normalized normalized (unfit_by writing) misfit-normalized m.attributes)
     ∙ ap (λ (w : List ℕ). option_or (first_unfit (unfit_by writing) m.attributes) (overlong (length w))) (message-bytes m)
 
-pub message-again : (m : Route) → normalized_route (normalized_route m) ≡ normalized_route m
+pub message-again : (m : Meant routes) → normalized_route (normalized_route m) ≡ normalized_route m
 message-again m = ap (λ (xs : List Meaning). record { header = m.header; attributes = xs }) (again-normalized normalized normalized-again m.attributes)
 
-pub message-coherent : (by : ModeTable) (m : Route) → IsCoherentRouteBy by m → IsCoherentRoute (normalized_route m)
+pub message-coherent : (by : ModeTable) (m : Meant routes) → IsCoherentRouteBy by m → IsCoherent routes (normalized_route m)
 unfolding IsCoherentRouteBy IsCoherent
 message-coherent by m k =
     let (family, kind) = under m.header in
@@ -225,7 +225,7 @@ message-coherent by m k =
       attributes = subst (λ (t : RouteLwEnCapType). AllOf (Coherent (family, kind, t)) (map normalized m.attributes)) (sym first) all;
     }
 
-pub message-read : (by : ModeTable) (bytes : List ℕ) (m : Route) → IsRouteMessageBy by bytes m → IsRouteMessage bytes (normalized_route m)
+pub message-read : (by : ModeTable) (bytes : List ℕ) (m : Meant routes) → IsRouteMessageBy by bytes m → IsMessage routes bytes (normalized_route m)
 unfolding IsRouteMessageBy IsMessage
 message-read by bytes m p =
     let (family, kind) = under m.header in

@@ -1,13 +1,9 @@
 -- A route message: its header, and attributes to the end, whose meaning rests on the header and on the type of
 -- encapsulation among them (linux/rtnetlink.h).
-use Rattle.std.specs.Prelude.{ℕ, List, map, Option}
-use Rattle.npr_base.specs.declared.refusal.DecodeError.{DecodeError}
-use Rattle.npr_base.specs.declared.refusal.EmitError.{EmitError}
-use Rattle.npr_base.specs.declared.message.Message.{Message as Stored}
-use Rattle.npr_base.specs.Message.{Message, Body, Grammar, grammar_of, view, IsMessage, IsMessageOf, MessageFault}
-use Rattle.npr_base.specs.Message.{IsCoherent, IsCoherentOf, spelling, message_misfit}
+use Rattle.std.specs.Prelude.{ℕ, List, map}
+use Rattle.npr_base.specs.Message.{Meant, Body, Grammar, grammar_of, IsMessageOf, IsCoherentOf}
 use Rattle.npr_srh.specs.Seg6Mode.{ModeTable}
-use Rattle.npr_route.specs.Attribute.{Meaning, normalized, attributes_depth, attributes_of}
+use Rattle.npr_route.specs.Attribute.{normalized, attributes_depth, attributes_of}
 use Rattle.npr_route.specs.AttributeFamily.{writing}
 use Rattle.npr_route.specs.AttributeView.{family}
 use Rattle.npr_route.specs.Header.{header, default_header}
@@ -16,13 +12,6 @@ use Rattle.npr_route.specs.RouteListLaws.{route-list-one, route-list-sound, rout
 use Rattle.npr_route.specs.RouteListLaws.{route-list-deep, route_list_looking, route-list-bounded, route-list-saw}
 use Rattle.npr_route.specs.declared.header.RouteHeader.{RouteHeader}
 use Rattle.npr_route.specs.declared.attribute.RouteAttribute.{RouteAttribute}
-
--- a message without where it lies in memory
-abbrev pub Route : Type 0
-Route = Message RouteHeader Meaning
-
-abbrev pub RouteMessage : Type 0
-RouteMessage = Stored RouteHeader RouteAttribute
 
 -- what the header says of its list
 abbrev pub under : RouteHeader → Under
@@ -46,43 +35,20 @@ body = record {
 }
 
 -- what it is made of
-abbrev pub grammar : Grammar RouteHeader RouteAttribute
-grammar = grammar_of family header default_header body
-
-abbrev pub message_of : RouteMessage → Route
-message_of m = view grammar m
+abbrev pub routes : Grammar RouteHeader RouteAttribute
+routes = grammar_of family header default_header body
 
 -- the message with each SEG6 header in it brought up to the table of modes of today
-abbrev pub normalized_route : Route → Route
+abbrev pub normalized_route : Meant routes → Meant routes
 normalized_route m = record { header = m.header; attributes = map normalized m.attributes }
 
 -- the bytes are the message, and the message can be read, by a table of SEG6 modes
-unfoldable pub IsRouteMessageBy : ModeTable → List ℕ → Route → Type 0
+unfoldable pub IsRouteMessageBy : ModeTable → List ℕ → Meant routes → Type 0
 IsRouteMessageBy by bytes m = IsMessageOf header (λ h. IsRouteListBy by (under h)) bytes m
 
-unfoldable pub IsCoherentRouteBy : ModeTable → Route → Type 0
+unfoldable pub IsCoherentRouteBy : ModeTable → Meant routes → Type 0
 IsCoherentRouteBy by m = IsCoherentOf header (λ h. IsCoherentListBy by (under h)) m
 
--- by the table of today the bytes are the message
-abbrev pub IsRouteMessage : List ℕ → Route → Type 0
-IsRouteMessage bytes m = IsMessage grammar bytes m
-
--- the first fault of bytes that are none
-abbrev pub RouteFault : List ℕ → DecodeError → Type 0
-RouteFault bytes e = MessageFault grammar bytes e
-
--- what can be read
-abbrev pub IsCoherentRoute : Route → Type 0
-IsCoherentRoute m = IsCoherent grammar m
-
--- the canonical bytes
-abbrev pub route_bytes : Route → List ℕ
-route_bytes m = spelling grammar m
-
--- the first cause why there are none
-abbrev pub route_misfit : Route → Option EmitError
-route_misfit m = message_misfit grammar m
-
 -- how deep next hops stand inside one another
-abbrev pub route_depth : Route → ℕ
+abbrev pub route_depth : Meant routes → ℕ
 route_depth m = attributes_depth (attributes_of m.attributes)

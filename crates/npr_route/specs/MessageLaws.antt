@@ -8,7 +8,7 @@ use Rattle.npr_route.specs.FlatAttribute.{Context}
 use Rattle.npr_route.specs.AttributeView.{family}
 use Rattle.npr_route.specs.Governing.{Governs, Searches}
 use Rattle.npr_route.specs.GoverningLaws.{governs-one}
-use Rattle.npr_route.specs.Message.{grammar}
+use Rattle.npr_route.specs.Message.{routes}
 use Rattle.npr_route.specs.SearchLaws.{searched}
 use Rattle.npr_route.specs.declared.header.RouteHeader.{RouteHeader}
 
@@ -20,7 +20,7 @@ abbrev pub SearchesIt : RouteHeader → List ℕ → Context → Counts → Coun
 SearchesIt h bytes context = Searches NoEncapsulation bytes context.2
 
 under_type : (h : RouteHeader) (bytes : List ℕ) (type : RouteLwEnCapType) → Governs NoEncapsulation bytes type
-    → IsUnder grammar family h bytes (h.address_family, h.kind, type) (IsContext h bytes) (Searches NoEncapsulation bytes type)
+    → IsUnder routes family h bytes (h.address_family, h.kind, type) (IsContext h bytes) (Searches NoEncapsulation bytes type)
 under_type h bytes type governs = record {
   alone =
       λ d (other, told, is).
@@ -32,6 +32,6 @@ under_type h bytes type governs = record {
 }
 
 pub under_context : (h : RouteHeader) (bytes : List ℕ) (context : Context) → IsContext h bytes context
-    → IsUnder grammar family h bytes context (IsContext h bytes) (SearchesIt h bytes context)
+    → IsUnder routes family h bytes context (IsContext h bytes) (SearchesIt h bytes context)
 under_context h bytes context (type, governs, is) =
-    subst (λ (c : Context). IsUnder grammar family h bytes c (IsContext h bytes) (SearchesIt h bytes c)) (sym is) (under_type h bytes type governs)
+    subst (λ (c : Context). IsUnder routes family h bytes c (IsContext h bytes) (SearchesIt h bytes c)) (sym is) (under_type h bytes type governs)

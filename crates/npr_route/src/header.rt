@@ -1,11 +1,27 @@
 //! The header of a route message: `struct rtmsg` of `linux/rtnetlink.h`.
 
-ghost use Rattle.std.specs.Prelude.{◌≡◌, ◌≤◌, ◌<◌, length, IfOk, IfErr};
-ghost use Rattle.{npr_base.specs.{Codec.{leading}, Refusal.{no_place}}, npr_route.specs.Header.{header_buffer, header, buffer_of}};
+ghost use Rattle.std.{specs.Prelude.{◌≡◌, ◌<◌, IfOk, IfErr, refl}, proofs.Common.{rules}};
+ghost use Rattle.{
+  npr_base.specs.{Codec.{leading}, MessageLaws.{of_family}, Refusal.{no_place}},
+  npr_route.specs.{
+    AttributeView.{family},
+    Header.{buffer_of, default_header, header, header_buffer},
+    Message.{routes},
+    MessageLaws.{IsContext, SearchesIt, under_context},
+  },
+};
 
+use crate::attribute::{Context, RouteAttribute};
+use crate::list::governing_type;
 use bitflags::Flags;
-use npr_base::{AddressFamily, DecodeError, EmitError, Emitable, leading_octets, write_array};
+use npr_base::{
+    AddressFamily, DecodeError, EmitError, Emitable, Header, Looks, leading_octets, write_array,
+};
 use npr_scalar::{RouteFlags, RouteProtocol, RouteScope, RouteType};
+use npr_tunnel::RouteLwEnCapType;
+
+/// The length of `struct rtmsg` of `linux/rtnetlink.h`, in bytes.
+const RTMSG_SIZE: usize = 12;
 
 /// The header of a route message.
 #[derive(Clone, Copy, Debug, Default, PartialEq, Eq)]
@@ -54,7 +70,7 @@ impl RouteMessageBuffer {
         ensures ok { IfOk result (λ b. (leading header_buffer).Reads bytes.now b) }
         ensures refused { IfErr result (λ e. (leading header_buffer).Wrong no_place bytes.now e) }
     {
-        let b = leading_octets(bytes, 12)?;
+        let b = leading_octets(bytes, RTMSG_SIZE)?;
         Ok(RouteMessageBuffer {
             address_family: b[0],
             destination_prefix_length: b[1],
@@ -123,16 +139,45 @@ impl RouteHeader {
         ensures ok { IfOk result (λ h. (leading header).Reads bytes.now h) }
         ensures refused { IfErr result (λ e. (leading header).Wrong no_place bytes.now e) }
     {
-        Ok(RouteHeader::in_front(leading_octets(bytes, 12)?))
+        Ok(RouteHeader::in_front(leading_octets(bytes, RTMSG_SIZE)?))
+    }
+}
+
+impl Emitable for RouteHeader {
+    ghost bytes = { header.encode };
+
+    fn check(&self) -> Result<usize, EmitError> {
+        Ok(RTMSG_SIZE)
     }
 
-    /// The header in the first 12 bytes, which are there.
+    #[inline(never)]
+    fn emit(&self, out: &mut [u8]) {
+        write_array(RouteMessageBuffer::from(self).to_bytes(), out);
+    }
+}
+
+impl Header for RouteHeader {
+    type Attribute = RouteAttribute;
+
+    ghost grammar = { routes };
+
+    ghost governs = { IsContext };
+
+    ghost searches = { SearchesIt };
+
+    ghost by_layout = { λ h. (refl, refl, refl, Prim.search rules) };
+
+    ghost by_family = { of_family family header default_header routes.body };
+
+    ghost under = { under_context };
+
+    fn size() -> usize {
+        RTMSG_SIZE
+    }
+
     #[inline]
-    pub(crate) fn in_front(bytes: &[u8]) -> Self
-        requires { 12 ≤ length bytes.now }
-        ensures { (leading header).Reads bytes.now result }
-    {
-        let b = &bytes[..12];
+    fn in_front(bytes: &[u8]) -> Self {
+        let b = &bytes[..RTMSG_SIZE];
         RouteHeader {
             address_family: AddressFamily::from(b[0]),
             destination_prefix_length: b[1],
@@ -145,17 +190,9 @@ impl RouteHeader {
             flags: RouteFlags::from_bits_retain(u32::from_le_bytes([b[8], b[9], b[10], b[11]])),
         }
     }
-}
 
-impl Emitable for RouteHeader {
-    ghost bytes = { header.encode };
-
-    fn check(&self) -> Result<usize, EmitError> {
-        Ok(12)
-    }
-
-    #[inline(never)]
-    fn emit(&self, out: &mut [u8]) {
-        write_array(RouteMessageBuffer::from(self).to_bytes(), out);
+    fn context(&self, bytes: &[u8], looks: &mut Looks) -> Context {
+        let kind = governing_type(bytes, RouteLwEnCapType::None, looks);
+        (self.address_family, self.kind, kind)
     }
 }

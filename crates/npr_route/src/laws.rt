@@ -8,6 +8,7 @@ ghost use Rattle.{
     declared.refusal.DecodeError.{DecodeError},
     Framing.{IsBytes},
     Counts.{Counts, AddsAtMost},
+    Message.{IsCoherent, IsMessage, Meant, message_misfit, spelling, view},
   },
   npr_srh.specs.Seg6Mode.{first_modes},
   npr_tunnel.specs.declared.encap_type.RouteLwEnCapType.{RouteLwEnCapType},
@@ -18,7 +19,7 @@ ghost use Rattle.{
     Governing.{Governs},
     Header.{default_header, header},
     Metric.{family as metric_family},
-    Message.{Route, message_of, normalized_route, IsRouteMessage, IsRouteMessageBy, IsCoherentRoute, IsCoherentRouteBy, route_bytes, route_misfit},
+    Message.{routes, normalized_route, IsRouteMessageBy, IsCoherentRouteBy},
     Attribute.{Meaning, Attributes, attributes_of, first_type, AreGoverned, Hops, AreHops, HopsWrong, HopsCoherent, hops_bytes, hops_misfit, HopHead, no_hops, hop, no_more, attribute, multi_path, flat, hops_depth, attributes_depth},
     RouteList.{Under, IsRouteList},
   },
@@ -70,15 +71,15 @@ pub fn law_looks()
 /// A message of the first table of SEG6 modes, brought up to the table of today as `normalize` does.
 pub fn law_normalized()
     // It is written by the same bytes,
-    ensures bytes { (m : Route) → route_bytes (normalized_route m) ≡ route_bytes m }
+    ensures bytes { (m : Meant routes) → spelling routes (normalized_route m) ≡ spelling routes m }
     // and where it can't be written, for the same cause.
-    ensures fits { (m : Route) → route_misfit (normalized_route m) ≡ route_misfit m }
+    ensures fits { (m : Meant routes) → message_misfit routes (normalized_route m) ≡ message_misfit routes m }
     // Once is enough.
-    ensures again { (m : Route) → normalized_route (normalized_route m) ≡ normalized_route m }
+    ensures again { (m : Meant routes) → normalized_route (normalized_route m) ≡ normalized_route m }
     // What could be read then can be read now,
-    ensures coherent { (m : Route) → IsCoherentRouteBy first_modes m → IsCoherentRoute (normalized_route m) }
+    ensures coherent { (m : Meant routes) → IsCoherentRouteBy first_modes m → IsCoherent routes (normalized_route m) }
     // and what bytes meant then, they mean now brought up.
-    ensures read { (bytes : List ℕ) (m : Route) → IsRouteMessageBy first_modes bytes m → IsRouteMessage bytes (normalized_route m) }
+    ensures read { (bytes : List ℕ) (m : Meant routes) → IsRouteMessageBy first_modes bytes m → IsMessage routes bytes (normalized_route m) }
 {}
 
 /// The tables that have a name (`linux/rtnetlink.h`).
@@ -100,5 +101,5 @@ pub fn law_equality()
     ensures metric { IsEqualityOf metric_family.meaning ⟦<RouteMetric as PartialEq>⟧.eq }
     ensures attribute { IsEqualityOf meaning_of ⟦<RouteAttribute as PartialEq>⟧.eq }
     ensures next_hop { IsEqualityOf hop_of ⟦<RouteNextHop as PartialEq>⟧.eq }
-    ensures message { IsEqualityOf message_of ⟦<RouteMessage as PartialEq>⟧.eq }
+    ensures message { IsEqualityOf (view routes) ⟦<RouteMessage as PartialEq>⟧.eq }
 {}

@@ -3,8 +3,9 @@
 
 ghost use Rattle.std.specs.Prelude.{◌≡◌, map, Vec};
 ghost use Rattle.{
+  npr_base.specs.Message.{view},
   npr_tunnel.specs.Encapsulation.{meaning_of as member_of, normalized as normalized_member},
-  npr_route.specs.{Attribute.{normalized, normalized_hop}, AttributeView.{meaning_of, hop_of}, Message.{message_of, normalized_route}},
+  npr_route.specs.{Attribute.{normalized, normalized_hop}, AttributeView.{meaning_of, hop_of}, Message.{routes, normalized_route}},
 };
 
 use crate::attribute::RouteAttribute;
@@ -19,7 +20,7 @@ use std::mem;
 /// stays the same.
 pub fn normalize(message: &mut RouteMessage)
     // Each header is brought up, and all else is as it was.
-    ensures { message_of message.new ≡ normalized_route (message_of message.old) }
+    ensures { view routes message.new ≡ normalized_route (view routes message.old) }
 {
     normalize_attributes(message.attributes.as_mut_slice());
 }

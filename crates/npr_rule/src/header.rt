@@ -1,12 +1,21 @@
 //! The header of a rule message: `struct fib_rule_hdr` of `linux/fib_rules.h`.
 
-ghost use Rattle.std.specs.Prelude.{◌≡◌, ◌≤◌, ◌<◌, length, IfOk, IfErr};
-ghost use Rattle.{npr_base.specs.{Codec.{leading}, Refusal.{no_place}}, npr_rule.specs.Header.{header_buffer, header, buffer_of}};
+ghost use Rattle.std.{specs.Prelude.{◌≡◌, ◌<◌, IfOk, IfErr, refl}, proofs.Common.{rules as known}};
+ghost use Rattle.{
+  npr_base.specs.{Codec.{leading}, Message.{governs_by, none_searched}, MessageLaws.{of_family, under_by}, Refusal.{no_place}},
+  npr_rule.specs.{Attribute.{family}, Header.{buffer_of, default_header, header, header_buffer}, Message.{rules}},
+};
 
 use crate::action::RuleAction;
+use crate::attribute::RuleAttribute;
 use crate::flags::RuleFlags;
 use bitflags::Flags;
-use npr_base::{AddressFamily, DecodeError, EmitError, Emitable, leading_octets, write_array};
+use npr_base::{
+    AddressFamily, DecodeError, EmitError, Emitable, Header, Looks, leading_octets, write_array,
+};
+
+/// The length of `struct fib_rule_hdr` of `linux/fib_rules.h`, in bytes.
+const FIB_RULE_HDR_SIZE: usize = 12;
 
 /// The header of a rule message.
 #[derive(Clone, Copy, Debug, Default, PartialEq, Eq)]
@@ -51,7 +60,7 @@ impl RuleMessageBuffer {
         ensures ok { IfOk result (λ b. (leading header_buffer).Reads bytes.now b) }
         ensures refused { IfErr result (λ e. (leading header_buffer).Wrong no_place bytes.now e) }
     {
-        let b = leading_octets(bytes, 12)?;
+        let b = leading_octets(bytes, FIB_RULE_HDR_SIZE)?;
         Ok(RuleMessageBuffer {
             family: b[0],
             dst_len: b[1],
@@ -114,16 +123,45 @@ impl RuleHeader {
         ensures ok { IfOk result (λ h. (leading header).Reads bytes.now h) }
         ensures refused { IfErr result (λ e. (leading header).Wrong no_place bytes.now e) }
     {
-        Ok(RuleHeader::in_front(leading_octets(bytes, 12)?))
+        Ok(RuleHeader::in_front(leading_octets(bytes, FIB_RULE_HDR_SIZE)?))
+    }
+}
+
+impl Emitable for RuleHeader {
+    ghost bytes = { header.encode };
+
+    fn check(&self) -> Result<usize, EmitError> {
+        Ok(FIB_RULE_HDR_SIZE)
     }
 
-    /// The header in the first 12 bytes, which are there.
+    #[inline(never)]
+    fn emit(&self, out: &mut [u8]) {
+        write_array(RuleMessageBuffer::from(self).to_bytes(), out);
+    }
+}
+
+impl Header for RuleHeader {
+    type Attribute = RuleAttribute;
+
+    ghost grammar = { rules };
+
+    ghost governs = { governs_by (λ h. tt) };
+
+    ghost searches = { λ h bytes context. none_searched };
+
+    ghost by_layout = { λ h. (refl, refl, refl, Prim.search known) };
+
+    ghost by_family = { of_family family header default_header rules.body };
+
+    ghost under = { under_by family header default_header (λ h. tt) };
+
+    fn size() -> usize {
+        FIB_RULE_HDR_SIZE
+    }
+
     #[inline]
-    pub(crate) fn in_front(bytes: &[u8]) -> Self
-        requires { 12 ≤ length bytes.now }
-        ensures { (leading header).Reads bytes.now result }
-    {
-        let b = &bytes[..12];
+    fn in_front(bytes: &[u8]) -> Self {
+        let b = &bytes[..FIB_RULE_HDR_SIZE];
         RuleHeader {
             family: AddressFamily::from(b[0]),
             dst_len: b[1],
@@ -134,17 +172,6 @@ impl RuleHeader {
             flags: RuleFlags::from_bits_retain(u32::from_le_bytes([b[8], b[9], b[10], b[11]])),
         }
     }
-}
 
-impl Emitable for RuleHeader {
-    ghost bytes = { header.encode };
-
-    fn check(&self) -> Result<usize, EmitError> {
-        Ok(12)
-    }
-
-    #[inline(never)]
-    fn emit(&self, out: &mut [u8]) {
-        write_array(RuleMessageBuffer::from(self).to_bytes(), out);
-    }
+    fn context(&self, _bytes: &[u8], _looks: &mut Looks) {}
 }

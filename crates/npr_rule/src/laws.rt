@@ -1,15 +1,15 @@
 //! The laws of rule messages, over their definitions alone. Each function does nothing, and its
 //! contract is the law.
 
-ghost use Rattle.std.specs.Prelude.{◌≡◌, ◌^◌, ℕ};
+ghost use Rattle.std.specs.Prelude.{◌≡◌, ◌^◌, ℕ, ◌∷◌, [], true};
 ghost use Rattle.{
-  npr_base.specs.Equality.{IsEquality, IsEqualityOf},
+  npr_base.specs.{Equality.{IsEquality, IsEqualityOf}, Message.{view}, Rows.{agrees}},
   npr_rule.specs.{
     Action.{actions},
     Attribute.{family},
     Flags.{rule_flag_bits},
     Header.{default_header, header},
-    Message.{message_of},
+    Message.{rules},
   },
 };
 
@@ -28,12 +28,8 @@ pub fn law_numbers()
 
 /// The named flags of a rule, by their bits (`linux/fib_rules.h`).
 pub fn law_rule_flags()
-    ensures permanent { rule_flag_bits.number RuleFlags.Permanent ≡ 2 ^ 0 }
-    ensures invert { rule_flag_bits.number RuleFlags.Invert ≡ 2 ^ 1 }
-    ensures unresolved { rule_flag_bits.number RuleFlags.Unresolved ≡ 2 ^ 2 }
-    ensures iif_detached { rule_flag_bits.number RuleFlags.IifDetached ≡ 2 ^ 3 }
-    ensures dev_detached { rule_flag_bits.number RuleFlags.DevDetached ≡ 2 ^ 3 }
-    ensures oif_detached { rule_flag_bits.number RuleFlags.OifDetached ≡ 2 ^ 4 }
+    ensures { agrees rule_flag_bits.number ((2 ^ 0, RuleFlags.Permanent) ∷ (2 ^ 1, RuleFlags.Invert) ∷ (2 ^ 2, RuleFlags.Unresolved)
+        ∷ (2 ^ 3, RuleFlags.IifDetached) ∷ (2 ^ 3, RuleFlags.DevDetached) ∷ (2 ^ 4, RuleFlags.OifDetached) ∷ []) ≡ true }
 {}
 
 /// Which value is the default.
@@ -52,5 +48,5 @@ pub fn law_equality()
     ensures header { IsEquality ⟦<RuleHeader as PartialEq>⟧.eq }
     ensures header_buffer { IsEquality ⟦<RuleMessageBuffer as PartialEq>⟧.eq }
     ensures attribute { IsEqualityOf family.meaning ⟦<RuleAttribute as PartialEq>⟧.eq }
-    ensures message { IsEqualityOf message_of ⟦<RuleMessage as PartialEq>⟧.eq }
+    ensures message { IsEqualityOf (view rules) ⟦<RuleMessage as PartialEq>⟧.eq }
 {}

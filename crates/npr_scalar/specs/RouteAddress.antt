@@ -1,14 +1,13 @@
 -- The address of a route: its form follows from the family of the message.
-use Rattle.std.specs.Prelude.{ℕ, ◌+◌, ◌*◌, ◌≤◌, List, length, None}
+use Rattle.std.specs.Prelude.{◌≡◌, ℕ, List, None}
 use Rattle.std.proofs.Common.{refl}
 use Rattle.npr_base.specs.declared.address_family.AddressFamily.{AddressFamily}
 use Rattle.npr_base.specs.declared.address_family.AddressFamily.TheVariants.{Inet, Inet6, Mpls}
 use Rattle.npr_base.specs.declared.ip.IpAddr.{IpAddr}
 use Rattle.npr_base.specs.declared.ip.IpAddr.TheVariants.{V4, V6}
-use Rattle.npr_base.specs.Framing.{IsBytes, framed}
 use Rattle.npr_base.specs.Layout.{octets}
-use Rattle.npr_base.specs.Codec.{Codec, exactly, raw, no_members}
-use Rattle.npr_base.specs.VariantCodec.{variant}
+use Rattle.npr_base.specs.Codec.{Codec, exactly, raw}
+use Rattle.npr_base.specs.VariantCodec.{variant, written_alike}
 use Rattle.npr_scalar.specs.MplsLaws.{mpls_label}
 use Rattle.npr_scalar.specs.declared.mpls.MplsLabel.{MplsLabel}
 use Rattle.npr_scalar.specs.declared.address.RouteAddress.{RouteAddress}
@@ -54,34 +53,14 @@ address_by sixteen = variant (exactly (octets 16)) inet6 route_address_bytes (λ
 address_by label = variant (exactly mpls_label) mpls route_address_bytes (λ v. refl) (λ v. refl)
 address_by any = variant raw other route_address_bytes (λ v. refl) (λ v. refl)
 
-pub address-back : (form : Form) (a : Address) → (address_by form).Holds a → (address_by form).Reads (route_address_bytes a) a
-address-back four a h = (address_by four).reads_back 0 a h refl
-address-back sixteen a h = (address_by sixteen).reads_back 0 a h refl
-address-back label a h = (address_by label).reads_back 0 a h refl
-address-back any a h = (address_by any).reads_back 0 a h refl
+pub address-alike : (form : Form) → ((address_by form).writes ≡ route_address_bytes) × ((a : Address) → (address_by form).inside 0 a ≡ None)
+address-alike four = (refl, λ a. refl)
+address-alike sixteen = (refl, λ a. refl)
+address-alike label = (refl, λ a. refl)
+address-alike any = (refl, λ a. refl)
 
-pub address-grows : (form : Form) (bytes : List ℕ) (a : Address) → IsBytes bytes → (address_by form).Reads bytes a
-    → 2 * framed (length (route_address_bytes a)) ≤ 5 * (4 + length bytes)
-address-grows four bytes a is p = (address_by four).grows bytes a is p
-address-grows sixteen bytes a is p = (address_by sixteen).grows bytes a is p
-address-grows label bytes a is p = (address_by label).grows bytes a is p
-address-grows any bytes a is p = (address_by any).grows bytes a is p
-
--- it is written in one way, whatever the form
 abbrev pub address_in : Form → Codec Address
-address_in form = record {
-  Reads = (address_by form).Reads;
-  Wrong = (address_by form).Wrong;
-  writes = route_address_bytes;
-  inside = λ kind a. None;
-  Holds = (address_by form).Holds;
-  members = no_members;
-  one_reading = (address_by form).one_reading;
-  no_fault = (address_by form).no_fault;
-  reads_holds = (address_by form).reads_holds;
-  reads_back = λ kind a h fits. address-back form a h;
-  grows = address-grows form;
-}
+address_in = written_alike address_by route_address_bytes address-alike
 
 abbrev pub route_address : AddressFamily → Codec Address
 route_address family = address_in (form_of family)

@@ -1,8 +1,8 @@
 //! The laws of this crate. Each function does nothing, and its contract is the law.
 
-ghost use Rattle.std.specs.Prelude.{◌≡◌, ◌*◌, ◌<◌, ◌^◌, ◌↔◌, ℕ, ℤ, List, length};
+ghost use Rattle.std.specs.Prelude.{◌≡◌, ◌*◌, ◌<◌, ◌^◌, ◌↔◌, ℕ, ℤ, List, length, ◌∷◌, [], true};
 ghost use Rattle.{
-  npr_base.specs.Equality.{IsEquality, IsEqualityOf},
+  npr_base.specs.{Equality.{IsEquality, IsEqualityOf}, Rows.{agrees}},
   npr_scalar.specs.{
     IpProtocol.{ip_protocol, ip_protocols},
     Mpls.{label_of, label_number, IsInRange},
@@ -59,33 +59,18 @@ pub fn law_realm_number()
 
 /// The named flags of a route, by their bits (`linux/rtnetlink.h`).
 pub fn law_route_flags()
-    ensures dead { route_flag_bits.number RouteFlags.Dead ≡ 2 ^ 0 }
-    ensures pervasive { route_flag_bits.number RouteFlags.Pervasive ≡ 2 ^ 1 }
-    ensures onlink { route_flag_bits.number RouteFlags.Onlink ≡ 2 ^ 2 }
-    ensures offload { route_flag_bits.number RouteFlags.Offload ≡ 2 ^ 3 }
-    ensures linkdown { route_flag_bits.number RouteFlags.Linkdown ≡ 2 ^ 4 }
-    ensures unresolved { route_flag_bits.number RouteFlags.Unresolved ≡ 2 ^ 5 }
-    ensures trap { route_flag_bits.number RouteFlags.Trap ≡ 2 ^ 6 }
-    ensures notify { route_flag_bits.number RouteFlags.Notify ≡ 2 ^ 8 }
-    ensures cloned { route_flag_bits.number RouteFlags.Cloned ≡ 2 ^ 9 }
-    ensures equalize { route_flag_bits.number RouteFlags.Equalize ≡ 2 ^ 10 }
-    ensures prefix { route_flag_bits.number RouteFlags.Prefix ≡ 2 ^ 11 }
-    ensures lookup_table { route_flag_bits.number RouteFlags.LookupTable ≡ 2 ^ 12 }
-    ensures fib_match { route_flag_bits.number RouteFlags.FibMatch ≡ 2 ^ 13 }
-    ensures rt_offload { route_flag_bits.number RouteFlags.RtOffload ≡ 2 ^ 14 }
-    ensures rt_trap { route_flag_bits.number RouteFlags.RtTrap ≡ 2 ^ 15 }
-    ensures offload_failed { route_flag_bits.number RouteFlags.OffloadFailed ≡ 2 ^ 29 }
+    ensures { agrees route_flag_bits.number ((2 ^ 0, RouteFlags.Dead) ∷ (2 ^ 1, RouteFlags.Pervasive) ∷ (2 ^ 2, RouteFlags.Onlink)
+        ∷ (2 ^ 3, RouteFlags.Offload) ∷ (2 ^ 4, RouteFlags.Linkdown) ∷ (2 ^ 5, RouteFlags.Unresolved) ∷ (2 ^ 6, RouteFlags.Trap)
+        ∷ (2 ^ 8, RouteFlags.Notify) ∷ (2 ^ 9, RouteFlags.Cloned) ∷ (2 ^ 10, RouteFlags.Equalize) ∷ (2 ^ 11, RouteFlags.Prefix)
+        ∷ (2 ^ 12, RouteFlags.LookupTable) ∷ (2 ^ 13, RouteFlags.FibMatch) ∷ (2 ^ 14, RouteFlags.RtOffload) ∷ (2 ^ 15, RouteFlags.RtTrap)
+        ∷ (2 ^ 29, RouteFlags.OffloadFailed) ∷ []) ≡ true }
 {}
 
 /// The named flags of a next hop, by their bits (`linux/rtnetlink.h`).
 pub fn law_next_hop_flags()
-    ensures dead { next_hop_flag_bits.number RouteNextHopFlags.Dead ≡ 2 ^ 0 }
-    ensures pervasive { next_hop_flag_bits.number RouteNextHopFlags.Pervasive ≡ 2 ^ 1 }
-    ensures onlink { next_hop_flag_bits.number RouteNextHopFlags.Onlink ≡ 2 ^ 2 }
-    ensures offload { next_hop_flag_bits.number RouteNextHopFlags.Offload ≡ 2 ^ 3 }
-    ensures linkdown { next_hop_flag_bits.number RouteNextHopFlags.Linkdown ≡ 2 ^ 4 }
-    ensures unresolved { next_hop_flag_bits.number RouteNextHopFlags.Unresolved ≡ 2 ^ 5 }
-    ensures trap { next_hop_flag_bits.number RouteNextHopFlags.Trap ≡ 2 ^ 6 }
+    ensures { agrees next_hop_flag_bits.number ((2 ^ 0, RouteNextHopFlags.Dead) ∷ (2 ^ 1, RouteNextHopFlags.Pervasive)
+        ∷ (2 ^ 2, RouteNextHopFlags.Onlink) ∷ (2 ^ 3, RouteNextHopFlags.Offload) ∷ (2 ^ 4, RouteNextHopFlags.Linkdown)
+        ∷ (2 ^ 5, RouteNextHopFlags.Unresolved) ∷ (2 ^ 6, RouteNextHopFlags.Trap) ∷ []) ≡ true }
 {}
 
 /// `==` answers whether two values are equal, or mean the same where they hold a vector.

@@ -11,7 +11,7 @@ use Rattle.npr_base.specs.declared.refusal.Seg6Fault.{Seg6Fault}
 use Rattle.npr_base.specs.declared.refusal.Seg6Fault.TheVariants.{Short, Length, Hmac, Segments}
 use Rattle.npr_base.specs.Framing.{IsBytes}
 use Rattle.npr_base.specs.Family.{AllOf, option_or, too_long}
-use Rattle.npr_base.specs.Fields.{one_byte, le_two, le_four, ◌before◌, ◌then◌, last, structure}
+use Rattle.npr_base.specs.Fields.{one_byte, le_two, le_four, ◌then◌, last, structure}
 use Rattle.npr_base.specs.Layout.{Layout}
 use Rattle.npr_base.specs.Numbering.{IsFormed}
 use Rattle.npr_srh.specs.Segments.{too_many}

@@ -41,53 +41,37 @@ pub data WrongChild (inside : Bool) (x : Item) : DecodeError → Type 0 where
   order : inside ≡ false → (number_of x.kind ≡ 2) ⊎ (number_of x.kind ≡ 3) → WrongChild inside x (GeneveOrder (number_of x.kind))
   child : number_of x.kind ≢ 1 → number_of x.kind ≢ 2 → number_of x.kind ≢ 3 → WrongChild inside x (GeneveChild (number_of x.kind))
 
--- what opens no option
-abbrev pub Plain : List Child → Type 0
-Plain [] = Unit {0}
-Plain (class_child n ∷ cs) = ⊥
-Plain (type_child n ∷ cs) = Plain cs
-Plain (data_child d ∷ cs) = Plain cs
+-- an option of this class, before types and data
+abbrev pub fresh : ℕ → Geneve
+fresh n = record { class = n; typ = 0; opt_data = [] }
 
--- the last type and the last data, or what stood before
-abbrev pub last_type : ℕ → List Child → ℕ
-last_type t [] = t
-last_type t (class_child n ∷ cs) = last_type t cs
-last_type t (type_child n ∷ cs) = last_type n cs
-last_type t (data_child d ∷ cs) = last_type t cs
+-- the options of children behind an open one: a class opens another, and a type and data overwrite what stands in the open one
+abbrev pub options_behind : Geneve → List Child → List Geneve
+options_behind o [] = o ∷ []
+options_behind o (class_child n ∷ cs) = o ∷ options_behind (fresh n) cs
+options_behind o (type_child n ∷ cs) = options_behind (record o { typ = n }) cs
+options_behind o (data_child d ∷ cs) = options_behind (record o { opt_data = d }) cs
 
-abbrev pub last_data : List ℕ → List Child → List ℕ
-last_data v [] = v
-last_data v (class_child n ∷ cs) = last_data v cs
-last_data v (type_child n ∷ cs) = last_data v cs
-last_data v (data_child d ∷ cs) = last_data d cs
-
--- a class and then only types and data: the last of each counts, or else 0 and nothing
-pub record IsGroup (group : List Child) (o : Geneve) : Type 0 where
-  pub rest : List Child
-  pub is : group ≡ class_child o.class ∷ rest
-  pub plain : Plain rest
-  pub typ : o.typ ≡ last_type 0 rest
-  pub opt_data : o.opt_data ≡ last_data [] rest
-
--- groups one after the other, one an option
+-- children are groups, each of which is an option: they are none, or begin with a class
 abbrev pub AreGroups : List Child → List Geneve → Type 0
-AreGroups children [] = children ≡ []
-AreGroups children (o ∷ os) = (group : List Child) × (more : List Child) × (children ≡ group ++ more) × IsGroup group o × AreGroups more os
+AreGroups [] os = os ≡ []
+AreGroups (class_child n ∷ cs) os = os ≡ options_behind (fresh n) cs
+AreGroups (c ∷ cs) os = ⊥
 
 -- the bytes are the options
 abbrev pub AreOptions : List ℕ → List Geneve → Type 0
 AreOptions bytes os = (children : List Child) × ReadsList ReadsChild bytes children × AreGroups children os
 
--- an option is open behind the first group
-abbrev pub is_open : List Geneve → Bool
+-- an option is open behind the first child
+abbrev pub is_open : List Child → Bool
 is_open [] = false
-is_open (o ∷ os) = true
+is_open (c ∷ cs) = true
 
--- the first fault of bytes that are none: groups that read, and then what is wrong
+-- the first fault of bytes that are none: children that are options, and then what is wrong
 abbrev pub OptionsFault : List ℕ → DecodeError → Type 0
 OptionsFault bytes e =
     (children : List Child) × (os : List Geneve) × (rest : List ℕ) × ReadsTo ReadsChild bytes children rest
-    × AreGroups children os × IsWrong (WrongChild (is_open os)) rest e
+    × AreGroups children os × IsWrong (WrongChild (is_open children)) rest e
 
 -- each option is written as its class, its type and its data
 abbrev pub children_of : List Geneve → List Child

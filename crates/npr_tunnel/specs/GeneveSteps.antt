@@ -1,6 +1,6 @@
 -- Options of Geneve, child by child.
 use Rattle.std.specs.Prelude.{◌≡◌, Bool, true, false, List, [], ◌∷◌, Option, Some, None}
-use Rattle.npr_tunnel.specs.Geneve.{Geneve, Child, class_child, type_child, data_child, option_of}
+use Rattle.npr_tunnel.specs.Geneve.{Geneve, Child, class_child, type_child, data_child, option_of, fresh}
 use Rattle.npr_tunnel.specs.declared.geneve.RouteGeneveOpt.{RouteGeneveOpt}
 
 abbrev pub seen : Option RouteGeneveOpt → Option Geneve
@@ -17,8 +17,7 @@ is_some (Some a) = true
 
 -- a class closes the option that is open and opens another; a type or data change the one that is open
 abbrev pub Changes : Option Geneve → Child → Option Geneve → Geneve → Type 0
-Changes before (class_child n) closed opened = (closed ≡ before) × (opened ≡ record { class = n; typ = 0; opt_data = [] })
-Changes (Some o) (type_child n) closed opened = (closed ≡ None) × (opened ≡ record { class = o.class; typ = n; opt_data = o.opt_data })
-Changes (Some o) (data_child d) closed opened = (closed ≡ None) × (opened ≡ record { class = o.class; typ = o.typ; opt_data = d })
-Changes None (type_child n) closed opened = ⊥
-Changes None (data_child d) closed opened = ⊥
+Changes before (class_child n) closed opened = (closed ≡ before) × (opened ≡ fresh n)
+Changes (Some o) (type_child n) closed opened = (closed ≡ None) × (opened ≡ record o { typ = n })
+Changes (Some o) (data_child d) closed opened = (closed ≡ None) × (opened ≡ record o { opt_data = d })
+Changes None c closed opened = ⊥

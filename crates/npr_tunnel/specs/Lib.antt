@@ -5,6 +5,7 @@ pub mod MplsTunnel
 pub mod VxlanOptions
 pub mod ErspanOptions
 pub mod Geneve
+pub mod GeneveChildren
 pub mod GeneveLooks
 pub mod GeneveLaws
 pub mod GeneveSteps

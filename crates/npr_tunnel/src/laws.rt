@@ -1,8 +1,8 @@
 //! The laws of this crate. Each function does nothing, and its contract is the law.
 
-ghost use Rattle.std.specs.Prelude.{◌≡◌, ◌^◌, ℕ};
+ghost use Rattle.std.specs.Prelude.{◌≡◌, ◌^◌, ℕ, ◌∷◌, [], true};
 ghost use Rattle.{
-  npr_base.specs.Equality.{IsEquality, IsEqualityOf},
+  npr_base.specs.{Equality.{IsEquality, IsEqualityOf}, Rows.{agrees}},
   npr_tunnel.specs.{
     EncapType.{encap_types},
     Encapsulation.{family as encap},
@@ -36,16 +36,14 @@ pub fn law_encap_type_number()
 
 /// The named flags of a tunnel over IP version 4, by their bits (`linux/if_tunnel.h`).
 pub fn law_ip_flags()
-    ensures checksum { ip_flag_bits.number RouteIpTunnelFlags.Checksum ≡ 2 ^ 0 }
-    ensures key { ip_flag_bits.number RouteIpTunnelFlags.Key ≡ 2 ^ 2 }
-    ensures sequence { ip_flag_bits.number RouteIpTunnelFlags.Sequence ≡ 2 ^ 3 }
+    ensures { agrees ip_flag_bits.number ((2 ^ 0, RouteIpTunnelFlags.Checksum) ∷ (2 ^ 2, RouteIpTunnelFlags.Key)
+        ∷ (2 ^ 3, RouteIpTunnelFlags.Sequence) ∷ []) ≡ true }
 {}
 
 /// The named flags of a tunnel over IP version 6, by their bits (`linux/if_tunnel.h`).
 pub fn law_ip6_flags()
-    ensures checksum { ip6_flag_bits.number RouteIp6TunnelFlags.Checksum ≡ 2 ^ 0 }
-    ensures key { ip6_flag_bits.number RouteIp6TunnelFlags.Key ≡ 2 ^ 2 }
-    ensures sequence { ip6_flag_bits.number RouteIp6TunnelFlags.Sequence ≡ 2 ^ 3 }
+    ensures { agrees ip6_flag_bits.number ((2 ^ 0, RouteIp6TunnelFlags.Checksum) ∷ (2 ^ 2, RouteIp6TunnelFlags.Key)
+        ∷ (2 ^ 3, RouteIp6TunnelFlags.Sequence) ∷ []) ≡ true }
 {}
 
 /// `==` answers whether two values are equal, or mean the same where they hold a vector.

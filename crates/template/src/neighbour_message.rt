@@ -4,10 +4,15 @@ ghost use Rattle.std.{specs.{Prelude.{◌≡◌, ◌≢◌, ℕ, List, Option, N
 ghost use Rattle.{
   template.specs.{
     NeighbourHeader.{header, default_header},
-    NeighbourMessage.{NeighbourMessage, IsNeighbourMessage, NeighbourFault, message_of, grammar},
+    NeighbourMessage.{neighbours},
     Neighbours.{family, destination_in, link_layer_in, IsAddressOf},
   },
-  netlink_packet_route.specs.{Found.{IsFirst}, Messages.{governs_by, none_searched}, MessageLaws.{of_family, under_by}, declared.framing.DecodeError.TheVariants.{OutOfMemory}},
+  netlink_packet_route.specs.{
+    Found.{IsFirst},
+    Messages.{governs_by, none_searched, view, Held, IsMessage, MessageFault},
+    MessageLaws.{of_family, under_by},
+    declared.framing.DecodeError.TheVariants.{OutOfMemory},
+  },
 };
 
 use crate::neighbour::NeighbourAttribute;
@@ -62,7 +67,7 @@ pub type NeighbourMessage = Message<NeighbourHeader, NeighbourAttribute>;
 impl Header for NeighbourHeader {
     type Attribute = NeighbourAttribute;
 
-    ghost grammar = { grammar };
+    ghost grammar = { neighbours };
 
     ghost governs = { governs_by (λ h. tt) };
 
@@ -70,7 +75,7 @@ impl Header for NeighbourHeader {
 
     ghost by_layout = { λ h. (refl, refl, refl, Prim.search rules) };
 
-    ghost by_family = { of_family family header default_header grammar.body };
+    ghost by_family = { of_family family header default_header neighbours.body };
 
     ghost under = { under_by family header default_header (λ h. tt) };
 
@@ -102,9 +107,9 @@ pub fn read_link_layer_address(
     bytes: &[u8],
     destination: IpAddr,
 ) -> Result<Option<Vec<u8>>, DecodeError>
-    ensures ok { IfOk result (λ found. (m : NeighbourMessage) × IsNeighbourMessage bytes.now (message_of m)
+    ensures ok { IfOk result (λ found. (m : Held neighbours) × IsMessage neighbours bytes.now (view neighbours m)
         × (address : Option (List ℕ)) × IsAddressOf destination m.attributes.items address × (option_map (λ x. x.items) found ≡ address)) }
-    ensures refused { IfErr result (λ e. e ≢ OutOfMemory → NeighbourFault bytes.now e) }
+    ensures refused { IfErr result (λ e. e ≢ OutOfMemory → MessageFault neighbours bytes.now e) }
 {
     let message = NeighbourMessage::parse(alloc, bytes)?;
     match link_layer_address(&message, destination) {

@@ -1,10 +1,11 @@
 use Rattle.std.proofs.Common.{refl}
 use Rattle.npr_base.specs.EnumTable.{◌also◌}
+use Rattle.npr_base.specs.Message.{view}
 use Rattle.npr_base.specs.MeaningLaws.{enum_meaning, one_meaning}
-use Rattle.npr_address.specs.Message.{message_of as address_of}
-use Rattle.npr_neighbour.specs.Message.{message_of as neighbour_of}
-use Rattle.npr_route.specs.Message.{message_of as route_of}
-use Rattle.npr_rule.specs.Message.{message_of as rule_of}
+use Rattle.npr_address.specs.Message.{addresses}
+use Rattle.npr_neighbour.specs.Message.{neighbours}
+use Rattle.npr_route.specs.Message.{routes}
+use Rattle.npr_rule.specs.Message.{rules}
 use Rattle.netlink_packet_route.specs.RouteNetlinkMessage.{address, route, neighbour, rule, other_of, meaning_of}
 use Rattle.netlink_packet_route.specs.contracts.message.RouteNetlinkMessage.{enum}
 use Rattle.netlink_packet_route.specs.declared.kind.MessageKind.TheVariants.{Address, Route, Rule, Neighbour}
@@ -19,18 +20,18 @@ pub returns-clause-inner : goal.returns-clause-inner
 unfolding order action_order
 returns-clause-inner c =
     enum_meaning order enum meaning_of _ (λ t.
-    (λ x. refl, one_meaning address_of (address New) c.law_equality.ensures.message (message_one Address New)) also
-    (λ x. refl, one_meaning address_of (address Del) c.law_equality.ensures.message (message_one Address Del)) also
-    (λ x. refl, one_meaning address_of (address Get) c.law_equality.ensures.message (message_one Address Get)) also
-    (λ x. refl, one_meaning route_of (route New) c.law_equality-2.ensures.message (message_one Route New)) also
-    (λ x. refl, one_meaning route_of (route Del) c.law_equality-2.ensures.message (message_one Route Del)) also
-    (λ x. refl, one_meaning route_of (route Get) c.law_equality-2.ensures.message (message_one Route Get)) also
-    (λ x. refl, one_meaning neighbour_of (neighbour New) c.law_equality-4.ensures.message (message_one Neighbour New)) also
-    (λ x. refl, one_meaning neighbour_of (neighbour Del) c.law_equality-4.ensures.message (message_one Neighbour Del)) also
-    (λ x. refl, one_meaning neighbour_of (neighbour Get) c.law_equality-4.ensures.message (message_one Neighbour Get)) also
-    (λ x. refl, one_meaning rule_of (rule New) c.law_equality-3.ensures.message (message_one Rule New)) also
-    (λ x. refl, one_meaning rule_of (rule Del) c.law_equality-3.ensures.message (message_one Rule Del)) also
-    (λ x. refl, one_meaning rule_of (rule Get) c.law_equality-3.ensures.message (message_one Rule Get)) also
+    (λ x. refl, one_meaning (view addresses) (address New) c.law_equality.ensures.message (message_one Address New)) also
+    (λ x. refl, one_meaning (view addresses) (address Del) c.law_equality.ensures.message (message_one Address Del)) also
+    (λ x. refl, one_meaning (view addresses) (address Get) c.law_equality.ensures.message (message_one Address Get)) also
+    (λ x. refl, one_meaning (view routes) (route New) c.law_equality-2.ensures.message (message_one Route New)) also
+    (λ x. refl, one_meaning (view routes) (route Del) c.law_equality-2.ensures.message (message_one Route Del)) also
+    (λ x. refl, one_meaning (view routes) (route Get) c.law_equality-2.ensures.message (message_one Route Get)) also
+    (λ x. refl, one_meaning (view neighbours) (neighbour New) c.law_equality-4.ensures.message (message_one Neighbour New)) also
+    (λ x. refl, one_meaning (view neighbours) (neighbour Del) c.law_equality-4.ensures.message (message_one Neighbour Del)) also
+    (λ x. refl, one_meaning (view neighbours) (neighbour Get) c.law_equality-4.ensures.message (message_one Neighbour Get)) also
+    (λ x. refl, one_meaning (view rules) (rule New) c.law_equality-3.ensures.message (message_one Rule New)) also
+    (λ x. refl, one_meaning (view rules) (rule Del) c.law_equality-3.ensures.message (message_one Rule Del)) also
+    (λ x. refl, one_meaning (view rules) (rule Get) c.law_equality-3.ensures.message (message_one Rule Get)) also
     (λ x. refl, one_meaning other_of other_by other_equality other_one) also tt)
 
 pub returns-clause-message : goal.returns-clause-message

@@ -1,15 +1,16 @@
 -- what is said of a message with such a header is said of its kind
 use Rattle.std.proofs.lemmas.Result.{IfOk-weaker}
-use Rattle.netlink_packet_route.specs.AddressMessage.{message_of as address_of}
-use Rattle.netlink_packet_route.specs.NeighbourMessage.{message_of as neighbour_of}
-use Rattle.netlink_packet_route.specs.RouteMessage.{message_of as route_of}
-use Rattle.netlink_packet_route.specs.RuleMessage.{message_of as rule_of}
+use Rattle.netlink_packet_route.specs.Messages.{view}
+use Rattle.netlink_packet_route.specs.AddressMessage.{addresses}
+use Rattle.netlink_packet_route.specs.NeighbourMessage.{neighbours}
+use Rattle.netlink_packet_route.specs.RouteMessage.{routes}
+use Rattle.netlink_packet_route.specs.RuleMessage.{rules}
 use Rattle.netlink_report.specs.Run.{IsReport, IsRefused, IsUnfit}
 use Rattle.netlink_report.proofs.running.answer.Goals as goal
 
 pub returns-in-Address-clause-ok : goal.returns-in-Address-clause-ok
 unfolding IsReport
-returns-in-Address-clause-ok c = rw c.in-Address.is (IfOk-weaker c.answer_by.result _ _ (λ text r. (address_of r.0, r.1, r.2, r.3)) c.answer_by.ensures.ok)
+returns-in-Address-clause-ok c = rw c.in-Address.is (IfOk-weaker c.answer_by.result _ _ (λ text r. (view addresses r.0, r.1, r.2, r.3)) c.answer_by.ensures.ok)
 
 pub returns-in-Address-clause-refused : goal.returns-in-Address-clause-refused
 unfolding IsRefused
@@ -21,7 +22,7 @@ returns-in-Address-clause-unfit c = rw c.in-Address.is c.answer_by.ensures.unfit
 
 pub returns-in-Route-clause-ok : goal.returns-in-Route-clause-ok
 unfolding IsReport
-returns-in-Route-clause-ok c = rw c.in-Route.is (IfOk-weaker c.answer_by-in-Route.result _ _ (λ text r. (route_of r.0, r.1, r.2, r.3)) c.answer_by-in-Route.ensures.ok)
+returns-in-Route-clause-ok c = rw c.in-Route.is (IfOk-weaker c.answer_by-in-Route.result _ _ (λ text r. (view routes r.0, r.1, r.2, r.3)) c.answer_by-in-Route.ensures.ok)
 
 pub returns-in-Route-clause-refused : goal.returns-in-Route-clause-refused
 unfolding IsRefused
@@ -33,7 +34,7 @@ returns-in-Route-clause-unfit c = rw c.in-Route.is c.answer_by-in-Route.ensures.
 
 pub returns-in-Rule-clause-ok : goal.returns-in-Rule-clause-ok
 unfolding IsReport
-returns-in-Rule-clause-ok c = rw c.in-Rule.is (IfOk-weaker c.answer_by-in-Rule.result _ _ (λ text r. (rule_of r.0, r.1, r.2, r.3)) c.answer_by-in-Rule.ensures.ok)
+returns-in-Rule-clause-ok c = rw c.in-Rule.is (IfOk-weaker c.answer_by-in-Rule.result _ _ (λ text r. (view rules r.0, r.1, r.2, r.3)) c.answer_by-in-Rule.ensures.ok)
 
 pub returns-in-Rule-clause-refused : goal.returns-in-Rule-clause-refused
 unfolding IsRefused
@@ -45,7 +46,7 @@ returns-in-Rule-clause-unfit c = rw c.in-Rule.is c.answer_by-in-Rule.ensures.unf
 
 pub returns-in-Neighbour-clause-ok : goal.returns-in-Neighbour-clause-ok
 unfolding IsReport
-returns-in-Neighbour-clause-ok c = rw c.in-Neighbour.is (IfOk-weaker c.answer_by-in-Neighbour.result _ _ (λ text r. (neighbour_of r.0, r.1, r.2, r.3)) c.answer_by-in-Neighbour.ensures.ok)
+returns-in-Neighbour-clause-ok c = rw c.in-Neighbour.is (IfOk-weaker c.answer_by-in-Neighbour.result _ _ (λ text r. (view neighbours r.0, r.1, r.2, r.3)) c.answer_by-in-Neighbour.ensures.ok)
 
 pub returns-in-Neighbour-clause-refused : goal.returns-in-Neighbour-clause-refused
 unfolding IsRefused

@@ -1,5 +1,5 @@
 use Rattle.npr_base.proofs.Messages.{message_equality}
-use Rattle.npr_address.specs.Message.{grammar}
+use Rattle.npr_address.specs.Message.{addresses}
 use Rattle.npr_address.proofs.EqualityLaws.{attribute_equality, header_equality}
 use Rattle.npr_address.proofs.laws.law_equality.Goals as goal
 
@@ -10,4 +10,4 @@ pub returns-clause-attribute : goal.returns-clause-attribute
 returns-clause-attribute c = attribute_equality
 
 pub returns-clause-message : goal.returns-clause-message
-returns-clause-message c = message_equality grammar header_equality attribute_equality
+returns-clause-message c = message_equality addresses header_equality attribute_equality

@@ -1,5 +1,5 @@
 use Rattle.npr_base.proofs.Messages.{message_equality}
-use Rattle.npr_neighbour.specs.Message.{grammar}
+use Rattle.npr_neighbour.specs.Message.{neighbours}
 use Rattle.npr_neighbour.proofs.EqualityLaws.{address_equality, attribute_equality, header_equality}
 use Rattle.npr_neighbour.proofs.laws.law_equality.Goals as goal
 
@@ -13,4 +13,4 @@ pub returns-clause-attribute : goal.returns-clause-attribute
 returns-clause-attribute c = attribute_equality
 
 pub returns-clause-message : goal.returns-clause-message
-returns-clause-message c = message_equality grammar header_equality attribute_equality
+returns-clause-message c = message_equality neighbours header_equality attribute_equality

@@ -1,5 +1,5 @@
 use Rattle.npr_base.proofs.Messages.{message_equality}
-use Rattle.npr_route.specs.Message.{grammar}
+use Rattle.npr_route.specs.Message.{routes}
 use Rattle.npr_route.proofs.EqualityLaws.{attribute_equality, header_equality, metric_equality, next_hop_equality}
 use Rattle.npr_route.proofs.laws.law_equality.Goals as goal
 
@@ -16,4 +16,4 @@ pub returns-clause-next_hop : goal.returns-clause-next_hop
 returns-clause-next_hop c = next_hop_equality
 
 pub returns-clause-message : goal.returns-clause-message
-returns-clause-message c = message_equality grammar header_equality attribute_equality
+returns-clause-message c = message_equality routes header_equality attribute_equality
