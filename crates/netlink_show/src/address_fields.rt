@@ -1,7 +1,7 @@
 //! What is shown of an address.
 
 use crate::attribute_fields::push_unknown;
-use crate::field::{self, Fields, Word};
+use crate::field::{self, Fields, Word, Wording};
 use crate::names::{ADDRESS_PROTOCOLS, SCOPES};
 use netlink_packet_route::address::{
     AddressAttribute, AddressFlags, AddressHeader, AddressMessage, CacheInfo,
@@ -9,60 +9,60 @@ use netlink_packet_route::address::{
 use netlink_packet_route::net::IpAddr;
 use netlink_packet_route::{AddressFamily, Flags, numbers};
 
-const INDEX: Word = Word(2, "ifindex", "");
+const INDEX: Word = &Wording(2, "ifindex", "");
 
-const FAMILY: Word = Word(3, "family", "");
+const FAMILY: Word = &Wording(3, "family", "");
 
-const LOCAL: Word = Word(4, "local", "");
+const LOCAL: Word = &Wording(4, "local", "");
 
-const PEER: Word = Word(5, "address", "peer ");
+const PEER: Word = &Wording(5, "address", "peer ");
 
-const PREFIX: Word = Word(6, "prefixlen", "/");
+const PREFIX: Word = &Wording(6, "prefixlen", "/");
 
-const METRIC: Word = Word(7, "metric", "metric ");
+const METRIC: Word = &Wording(7, "metric", "metric ");
 
-const BROADCAST: Word = Word(8, "broadcast", "brd ");
+const BROADCAST: Word = &Wording(8, "broadcast", "brd ");
 
-const ANYCAST: Word = Word(9, "anycast", "any ");
+const ANYCAST: Word = &Wording(9, "anycast", "any ");
 
-const SCOPE: Word = Word(10, "scope", "scope ");
+const SCOPE: Word = &Wording(10, "scope", "scope ");
 
-const PROTOCOL: Word = Word(13, "protocol", "proto ");
+const PROTOCOL: Word = &Wording(13, "protocol", "proto ");
 
-const LABEL: Word = Word(14, "label", "");
+const LABEL: Word = &Wording(14, "label", "");
 
-const VALID: Word = Word(15, "valid_life_time", "valid_lft ");
+const VALID: Word = &Wording(15, "valid_life_time", "valid_lft ");
 
-const PREFERRED: Word = Word(16, "preferred_life_time", "preferred_lft ");
+const PREFERRED: Word = &Wording(16, "preferred_life_time", "preferred_lft ");
 
-const MADE: Word = Word(17, "cstamp", "cstamp ");
+const MADE: Word = &Wording(17, "cstamp", "cstamp ");
 
-const CHANGED: Word = Word(18, "tstamp", "tstamp ");
+const CHANGED: Word = &Wording(18, "tstamp", "tstamp ");
 
-const MULTICAST: Word = Word(19, "multicast", "mcast ");
+const MULTICAST: Word = &Wording(19, "multicast", "mcast ");
 
-const NAMESPACE: Word = Word(20, "target_netnsid", "target-netnsid ");
+const NAMESPACE: Word = &Wording(20, "target_netnsid", "target-netnsid ");
 
-const OTHER_FLAGS: Word = Word(12, "ifa_flags", "flags ");
+const OTHER_FLAGS: Word = &Wording(12, "ifa_flags", "flags ");
 
 /// The first flag, and what it is in version 6.
-const SECONDARY: field::Flags = &[(0x1, Word(11, "secondary", "secondary"))];
+const SECONDARY: field::Flags = &[(0x1, &Wording(11, "secondary", "secondary"))];
 
-const TEMPORARY: field::Flags = &[(0x1, Word(11, "temporary", "temporary"))];
+const TEMPORARY: field::Flags = &[(0x1, &Wording(11, "temporary", "temporary"))];
 
 /// The other flags that have a word; `dynamic` is an address without its flag.
 const FLAGS: field::Flags = &[
-    (0x2, Word(11, "nodad", "nodad")),
-    (0x4, Word(11, "optimistic", "optimistic")),
-    (0x8, Word(11, "dadfailed", "dadfailed")),
-    (0x10, Word(11, "home", "home")),
-    (0x20, Word(11, "deprecated", "deprecated")),
-    (0x40, Word(11, "tentative", "tentative")),
-    (0x80, Word(11, "dynamic", "dynamic")),
-    (0x100, Word(11, "mngtmpaddr", "mngtmpaddr")),
-    (0x200, Word(11, "noprefixroute", "noprefixroute")),
-    (0x400, Word(11, "autojoin", "autojoin")),
-    (0x800, Word(11, "stable-privacy", "stable-privacy")),
+    (0x2, &Wording(11, "nodad", "nodad")),
+    (0x4, &Wording(11, "optimistic", "optimistic")),
+    (0x8, &Wording(11, "dadfailed", "dadfailed")),
+    (0x10, &Wording(11, "home", "home")),
+    (0x20, &Wording(11, "deprecated", "deprecated")),
+    (0x40, &Wording(11, "tentative", "tentative")),
+    (0x80, &Wording(11, "dynamic", "dynamic")),
+    (0x100, &Wording(11, "mngtmpaddr", "mngtmpaddr")),
+    (0x200, &Wording(11, "noprefixroute", "noprefixroute")),
+    (0x400, &Wording(11, "autojoin", "autojoin")),
+    (0x800, &Wording(11, "stable-privacy", "stable-privacy")),
 ];
 
 /// What is shown of an address.

@@ -1,6 +1,6 @@
 //! What is shown of an attribute of any family.
 
-use crate::field::{Fields, UNKNOWN, Word};
+use crate::field::{Fields, UNKNOWN, Word, Wording};
 use crate::names::REALMS;
 use netlink_packet_route::framing::{DefaultNla, NLA_TYPE_MASK, Nla};
 use netlink_packet_route::route::RouteRealm;
@@ -8,13 +8,13 @@ use netlink_packet_route::route::RouteRealm;
 /// The last place of a line.
 const LAST: u8 = 250;
 
-const WHOLE: Word = Word(LAST, UNKNOWN, "");
+const WHOLE: Word = &Wording(LAST, UNKNOWN, "");
 
-const NUMBER: Word = Word(0, "number", "unknown ");
+const NUMBER: Word = &Wording(0, "number", "unknown ");
 
-const FLAGS: Word = Word(1, "flags", "/");
+const FLAGS: Word = &Wording(1, "flags", "/");
 
-const VALUE: Word = Word(2, "value", "");
+const VALUE: Word = &Wording(2, "value", "");
 
 /// The words for the realm of a source, for the realm behind it, and for a realm alone.
 pub type RealmWords = (Word, Word, Word);

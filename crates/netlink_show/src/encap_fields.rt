@@ -1,7 +1,7 @@
 //! What is shown of the members of an encapsulation.
 
 use crate::attribute_fields::push_unknown;
-use crate::field::{Fields, ITEM, Word};
+use crate::field::{Fields, ITEM, Word, Wording};
 use crate::manner::Labels;
 use crate::names::{SEG6_MODES, TABLES};
 use crate::tunnel_fields::{push_ip, push_ip6};
@@ -13,82 +13,82 @@ use netlink_packet_route::route::{
     Seg6LocalAction, Seg6LocalSrh,
 };
 
-const LABELS: Word = Word(0, "dst", "");
+const LABELS: Word = &Wording(0, "dst", "");
 
-const TTL: Word = Word(1, "ttl", "ttl ");
+const TTL: Word = &Wording(1, "ttl", "ttl ");
 
-const MODE: Word = Word(0, "mode", "mode ");
+const MODE: Word = &Wording(0, "mode", "mode ");
 
-const SEGMENTS: Word = Word(1, "segs", "");
+const SEGMENTS: Word = &Wording(1, "segs", "");
 
-const HMAC: Word = Word(2, "hmac", "hmac ");
+const HMAC: Word = &Wording(2, "hmac", "hmac ");
 
-const SOURCE: Word = Word(3, "tunsrc", "tunsrc ");
+const SOURCE: Word = &Wording(3, "tunsrc", "tunsrc ");
 
-const SEG6_TABLE: Word = Word(4, "table", "table ");
+const SEG6_TABLE: Word = &Wording(4, "table", "table ");
 
-const ACTION: Word = Word(0, "action", "action ");
+const ACTION: Word = &Wording(0, "action", "action ");
 
-const HEADER: Word = Word(1, "srh", "srh");
+const HEADER: Word = &Wording(1, "srh", "srh");
 
-const TABLE: Word = Word(2, "table", "table ");
+const TABLE: Word = &Wording(2, "table", "table ");
 
-const VRF_TABLE: Word = Word(3, "vrftable", "vrftable ");
+const VRF_TABLE: Word = &Wording(3, "vrftable", "vrftable ");
 
-const HOP4: Word = Word(4, "nh4", "nh4 ");
+const HOP4: Word = &Wording(4, "nh4", "nh4 ");
 
-const HOP6: Word = Word(5, "nh6", "nh6 ");
+const HOP6: Word = &Wording(5, "nh6", "nh6 ");
 
-const INCOMING: Word = Word(6, "iif", "iif ");
+const INCOMING: Word = &Wording(6, "iif", "iif ");
 
-const OUTGOING: Word = Word(7, "oif", "oif ");
+const OUTGOING: Word = &Wording(7, "oif", "oif ");
 
-const NEXT_HEADER: Word = Word(10, "nexthdr", "nexthdr ");
+const NEXT_HEADER: Word = &Wording(10, "nexthdr", "nexthdr ");
 
-const ROUTING_TYPE: Word = Word(11, "type", "type ");
+const ROUTING_TYPE: Word = &Wording(11, "type", "type ");
 
-const SEGMENTS_LEFT: Word = Word(12, "segments_left", "segments_left ");
+const SEGMENTS_LEFT: Word = &Wording(12, "segments_left", "segments_left ");
 
-const FIRST_SEGMENT: Word = Word(13, "first_segment", "first_segment ");
+const FIRST_SEGMENT: Word = &Wording(13, "first_segment", "first_segment ");
 
-const FLAGS: Word = Word(14, "flags", "flags ");
+const FLAGS: Word = &Wording(14, "flags", "flags ");
 
-const TAG: Word = Word(15, "tag", "tag ");
+const TAG: Word = &Wording(15, "tag", "tag ");
 
-const LEFT_OUT: Word = Word(16, "cmpri", "cmpri ");
+const LEFT_OUT: Word = &Wording(16, "cmpri", "cmpri ");
 
-const LEFT_OUT_LAST: Word = Word(17, "cmpre", "cmpre ");
+const LEFT_OUT_LAST: Word = &Wording(17, "cmpre", "cmpre ");
 
-const PADDING: Word = Word(18, "pad", "pad ");
+const PADDING: Word = &Wording(18, "pad", "pad ");
 
-const FREQUENCY: Word = Word(0, "freq", "freq ");
+const FREQUENCY: Word = &Wording(0, "freq", "freq ");
 
-const OF: Word = Word(1, "freq_of", "/");
+const OF: Word = &Wording(1, "freq_of", "/");
 
-const TUNNEL_SOURCE: Word = Word(3, "tunsrc", "tunsrc ");
+const TUNNEL_SOURCE: Word = &Wording(3, "tunsrc", "tunsrc ");
 
-const TUNNEL_DESTINATION: Word = Word(4, "tundst", "tundst ");
+const TUNNEL_DESTINATION: Word = &Wording(4, "tundst", "tundst ");
 
-const TRACE: Word = Word(5, "trace", "trace");
+const TRACE: Word = &Wording(5, "trace", "trace");
 
-const PREALLOCATED: Word = Word(6, "prealloc", "prealloc");
+const PREALLOCATED: Word = &Wording(6, "prealloc", "prealloc");
 
-const TRACE_TYPE: Word = Word(7, "type", "type ");
+const TRACE_TYPE: Word = &Wording(7, "type", "type ");
 
-const NAMESPACE: Word = Word(8, "ns", "ns ");
+const NAMESPACE: Word = &Wording(8, "ns", "ns ");
 
-const SIZE: Word = Word(9, "size", "size ");
+const SIZE: Word = &Wording(9, "size", "size ");
 
-const NODE_LENGTH: Word = Word(10, "nodelen", "nodelen ");
+const NODE_LENGTH: Word = &Wording(10, "nodelen", "nodelen ");
 
-const OVERFLOW: Word = Word(11, "overflow", "overflow");
+const OVERFLOW: Word = &Wording(11, "overflow", "overflow");
 
-const INTERFACE_ID: Word = Word(0, "if_id", "if_id ");
+const INTERFACE_ID: Word = &Wording(0, "if_id", "if_id ");
 
-const LINK: Word = Word(1, "link_dev", "link_dev ");
+const LINK: Word = &Wording(1, "link_dev", "link_dev ");
 
 /// A member that says nothing.
-const UNSPECIFIED: Word = Word(100, "unspecified", "unspecified");
+const UNSPECIFIED: Word = &Wording(100, "unspecified", "unspecified");
 
 /// What is shown of a member.
 pub fn push_encap(fields: &mut Fields, member: &RouteLwTunnelEncap) {

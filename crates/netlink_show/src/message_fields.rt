@@ -1,7 +1,7 @@
 //! What is shown of a message by its envelope.
 
 use crate::address_fields::push_address;
-use crate::field::{Fields, Word};
+use crate::field::{Fields, Word, Wording};
 use crate::manner::Manner;
 use crate::neighbour_fields::push_neighbour;
 use crate::route_fields::push_route;
@@ -14,23 +14,23 @@ use netlink_packet_route::{MessageType, OtherMessage, RouteNetlinkMessage};
 use std::alloc::AllocError;
 
 /// What a message is.
-const KIND: Word = Word(0, "message", "");
+const KIND: Word = &Wording(0, "message", "");
 
-const DELETED: Word = Word(1, "deleted", "Deleted");
+const DELETED: Word = &Wording(1, "deleted", "Deleted");
 
-const REQUEST: Word = Word(1, "request", "Request");
+const REQUEST: Word = &Wording(1, "request", "Request");
 
-const CODE: Word = Word(1, "code", "");
+const CODE: Word = &Wording(1, "code", "");
 
-const TEXT: Word = Word(2, "text", "");
+const TEXT: Word = &Wording(2, "text", "");
 
-const REFUSED: Word = Word(3, "refused", "refused ");
+const REFUSED: Word = &Wording(3, "refused", "refused ");
 
-const BYTES: Word = Word(4, "bytes", "bytes ");
+const BYTES: Word = &Wording(4, "bytes", "bytes ");
 
-const TYPE: Word = Word(1, "message_type", "type ");
+const TYPE: Word = &Wording(1, "message_type", "type ");
 
-const LENGTH: Word = Word(2, "length", "length ");
+const LENGTH: Word = &Wording(2, "length", "length ");
 
 /// What is shown of a message.
 pub fn message_fields(manner: Manner, message: &NetlinkMessage<RouteNetlinkMessage>) -> Fields {

@@ -1,36 +1,36 @@
 //! What is shown of a route's metrics.
 
 use crate::attribute_fields::push_unknown;
-use crate::field::{Fields, Word};
+use crate::field::{Fields, Word, Wording};
 use crate::manner::Milliseconds;
 use netlink_packet_route::framing::Nla;
 use netlink_packet_route::route::RouteMetric;
 
-const LOCK: Word = Word(40, "lock", "lock ");
+const LOCK: Word = &Wording(40, "lock", "lock ");
 
-const ECN: Word = Word(12, "ecn", "ecn");
+const ECN: Word = &Wording(12, "ecn", "ecn");
 
-const FEATURES: Word = Word(12, "features", "features ");
+const FEATURES: Word = &Wording(12, "features", "features ");
 
-const CONGESTION: Word = Word(16, "congestion", "congctl ");
+const CONGESTION: Word = &Wording(16, "congestion", "congctl ");
 
 /// The metrics that are numbers, whose places are those of the attributes; and of a time how many of
 /// it are a millisecond, else 0.
 const NUMBERS: &[(Word, u32)] = &[
-    (Word(2, "mtu", "mtu "), 0),
-    (Word(3, "window", "window "), 0),
-    (Word(4, "rtt", "rtt "), 8),
-    (Word(5, "rttvar", "rttvar "), 4),
-    (Word(6, "ssthresh", "ssthresh "), 0),
-    (Word(7, "cwnd", "cwnd "), 0),
-    (Word(8, "advmss", "advmss "), 0),
-    (Word(9, "reordering", "reordering "), 0),
-    (Word(10, "hoplimit", "hoplimit "), 0),
-    (Word(11, "initcwnd", "initcwnd "), 0),
-    (Word(13, "rto_min", "rto_min "), 1),
-    (Word(14, "initrwnd", "initrwnd "), 0),
-    (Word(15, "quickack", "quickack "), 0),
-    (Word(17, "fastopen_no_cookie", "fastopen_no_cookie "), 0),
+    (&Wording(2, "mtu", "mtu "), 0),
+    (&Wording(3, "window", "window "), 0),
+    (&Wording(4, "rtt", "rtt "), 8),
+    (&Wording(5, "rttvar", "rttvar "), 4),
+    (&Wording(6, "ssthresh", "ssthresh "), 0),
+    (&Wording(7, "cwnd", "cwnd "), 0),
+    (&Wording(8, "advmss", "advmss "), 0),
+    (&Wording(9, "reordering", "reordering "), 0),
+    (&Wording(10, "hoplimit", "hoplimit "), 0),
+    (&Wording(11, "initcwnd", "initcwnd "), 0),
+    (&Wording(13, "rto_min", "rto_min "), 1),
+    (&Wording(14, "initrwnd", "initrwnd "), 0),
+    (&Wording(15, "quickack", "quickack "), 0),
+    (&Wording(17, "fastopen_no_cookie", "fastopen_no_cookie "), 0),
 ];
 
 /// The feature of explicit congestion notification.

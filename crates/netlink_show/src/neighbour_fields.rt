@@ -1,7 +1,7 @@
 //! What is shown of a neighbour.
 
 use crate::attribute_fields::push_unknown;
-use crate::field::{self, Fields, Word};
+use crate::field::{self, Fields, Word, Wording};
 use crate::manner::Hexadecimal;
 use crate::names::{Names, PROTOCOLS, TYPES};
 use netlink_packet_route::neighbour::{
@@ -10,62 +10,62 @@ use netlink_packet_route::neighbour::{
 };
 use netlink_packet_route::{Flags, numbers};
 
-const DESTINATION: Word = Word(2, "dst", "");
+const DESTINATION: Word = &Wording(2, "dst", "");
 
-const INTERFACE: Word = Word(3, "dev", "dev ");
+const INTERFACE: Word = &Wording(3, "dev", "dev ");
 
-const LINK_LAYER: Word = Word(4, "lladdr", "lladdr ");
+const LINK_LAYER: Word = &Wording(4, "lladdr", "lladdr ");
 
-const OTHER_FLAGS: Word = Word(6, "flags_ext", "flags_ext ");
+const OTHER_FLAGS: Word = &Wording(6, "flags_ext", "flags_ext ");
 
-const REFERENCES: Word = Word(7, "refcnt", "ref ");
+const REFERENCES: Word = &Wording(7, "refcnt", "ref ");
 
-const USED: Word = Word(8, "used", "used ");
+const USED: Word = &Wording(8, "used", "used ");
 
-const CONFIRMED: Word = Word(9, "confirmed", "/");
+const CONFIRMED: Word = &Wording(9, "confirmed", "/");
 
-const UPDATED: Word = Word(10, "updated", "/");
+const UPDATED: Word = &Wording(10, "updated", "/");
 
-const PROBES: Word = Word(11, "probes", "probes ");
+const PROBES: Word = &Wording(11, "probes", "probes ");
 
-const STATE: Word = Word(12, "state", "");
+const STATE: Word = &Wording(12, "state", "");
 
-const PROTOCOL: Word = Word(13, "protocol", "proto ");
+const PROTOCOL: Word = &Wording(13, "protocol", "proto ");
 
-const VLAN: Word = Word(14, "vlan", "vlan ");
+const VLAN: Word = &Wording(14, "vlan", "vlan ");
 
-const PORT: Word = Word(15, "port", "port ");
+const PORT: Word = &Wording(15, "port", "port ");
 
-const VNI: Word = Word(16, "vni", "vni ");
+const VNI: Word = &Wording(16, "vni", "vni ");
 
-const SOURCE_VNI: Word = Word(17, "src_vni", "src_vni ");
+const SOURCE_VNI: Word = &Wording(17, "src_vni", "src_vni ");
 
-const BY: Word = Word(18, "via_dev", "via dev ");
+const BY: Word = &Wording(18, "via_dev", "via dev ");
 
-const MASTER: Word = Word(19, "master", "master ");
+const MASTER: Word = &Wording(19, "master", "master ");
 
-const NAMESPACE: Word = Word(20, "link_netnsid", "link-netnsid ");
+const NAMESPACE: Word = &Wording(20, "link_netnsid", "link-netnsid ");
 
-const NEXT_HOP: Word = Word(21, "nhid", "nhid ");
+const NEXT_HOP: Word = &Wording(21, "nhid", "nhid ");
 
-const TYPE: Word = Word(22, "type", "type ");
+const TYPE: Word = &Wording(22, "type", "type ");
 
-const FAMILY: Word = Word(23, "family", "family ");
+const FAMILY: Word = &Wording(23, "family", "family ");
 
 /// The flags that have a word (`NTF_*`).
 const FLAGS: field::Flags = &[
-    (0x1, Word(5, "use", "use")),
-    (0x2, Word(5, "self", "self")),
-    (0x4, Word(5, "of_master", "of_master")),
-    (0x8, Word(5, "proxy", "proxy")),
-    (0x10, Word(5, "extern_learn", "extern_learn")),
-    (0x20, Word(5, "offload", "offload")),
-    (0x40, Word(5, "sticky", "sticky")),
-    (0x80, Word(5, "router", "router")),
+    (0x1, &Wording(5, "use", "use")),
+    (0x2, &Wording(5, "self", "self")),
+    (0x4, &Wording(5, "of_master", "of_master")),
+    (0x8, &Wording(5, "proxy", "proxy")),
+    (0x10, &Wording(5, "extern_learn", "extern_learn")),
+    (0x20, &Wording(5, "offload", "offload")),
+    (0x40, &Wording(5, "sticky", "sticky")),
+    (0x80, &Wording(5, "router", "router")),
 ];
 
 /// The flag of those for which the header has no room that has a word (`NTF_EXT_MANAGED`).
-const MORE_FLAGS: field::Flags = &[(0x1, Word(5, "managed", "managed"))];
+const MORE_FLAGS: field::Flags = &[(0x1, &Wording(5, "managed", "managed"))];
 
 /// The states, each by its bit (`NUD_*`).
 const STATES: Names = &[

@@ -1,14 +1,14 @@
 //! What is shown of the next hops of a route by several paths.
 
-use crate::field::{Fields, Word};
+use crate::field::{Fields, Word, Wording};
 use crate::route_attribute::{INTERFACE, push_attribute, push_route_flags};
 use netlink_packet_route::Flags;
 use netlink_packet_route::route::RouteNextHop;
 
 /// The last piece of a route, in lines of its own.
-const NEXT_HOPS: Word = Word(255, "nexthops", "\n\tnexthop");
+const NEXT_HOPS: Word = &Wording(255, "nexthops", "\n\tnexthop");
 
-const WEIGHT: Word = Word(13, "weight", "weight ");
+const WEIGHT: Word = &Wording(13, "weight", "weight ");
 
 /// The next hops.
 pub fn push_next_hops(fields: &mut Fields, hops: &[RouteNextHop]) {

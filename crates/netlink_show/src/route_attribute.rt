@@ -2,7 +2,7 @@
 
 use crate::attribute_fields::{RealmWords, push_raw, push_realm, push_unknown};
 use crate::encap_fields::push_encap;
-use crate::field::{Fields, Word};
+use crate::field::{Fields, Word, Wording};
 use crate::manner::{Address, Hexadecimal, Labels};
 use crate::metric_fields::push_metrics;
 use crate::names::{IP_PROTOCOLS, Names, PREFERENCES, TABLES};
@@ -16,97 +16,97 @@ use std::alloc::AllocError;
 use std::fmt;
 
 /// The destination.
-pub const DESTINATION: Word = Word(3, "dst", "");
+pub const DESTINATION: Word = &Wording(3, "dst", "");
 
 /// The source.
-pub const SOURCE: Word = Word(4, "from", "from ");
+pub const SOURCE: Word = &Wording(4, "from", "from ");
 
 /// The interface by which a packet goes out.
-pub const INTERFACE: Word = Word(12, "dev", "dev ");
+pub const INTERFACE: Word = &Wording(12, "dev", "dev ");
 
-const NEW_DESTINATION: Word = Word(5, "to", "as to ");
+const NEW_DESTINATION: Word = &Wording(5, "to", "as to ");
 
-const ENCAP: Word = Word(6, "encap", "encap ");
+const ENCAP: Word = &Wording(6, "encap", "encap ");
 
-const ENCAP_INFO: Word = Word(7, "encap_info", "");
+const ENCAP_INFO: Word = &Wording(7, "encap_info", "");
 
-const NEXT_HOP: Word = Word(9, "nhid", "nhid ");
+const NEXT_HOP: Word = &Wording(9, "nhid", "nhid ");
 
-const GATEWAY: Word = Word(10, "gateway", "via ");
+const GATEWAY: Word = &Wording(10, "gateway", "via ");
 
-const VIA: Word = Word(11, "via", "via");
+const VIA: Word = &Wording(11, "via", "via");
 
-const TABLE: Word = Word(13, "table", "table ");
+const TABLE: Word = &Wording(13, "table", "table ");
 
-const PREFERRED_SOURCE: Word = Word(16, "prefsrc", "src ");
+const PREFERRED_SOURCE: Word = &Wording(16, "prefsrc", "src ");
 
-const PRIORITY: Word = Word(17, "metric", "metric ");
+const PRIORITY: Word = &Wording(17, "metric", "metric ");
 
-const FLAGS: Word = Word(18, "flags", "");
+const FLAGS: Word = &Wording(18, "flags", "");
 
-const MARK: Word = Word(19, "mark", "mark ");
+const MARK: Word = &Wording(19, "mark", "mark ");
 
-const FLOW: Word = Word(20, "flow", "");
+const FLOW: Word = &Wording(20, "flow", "");
 
-const USER: Word = Word(21, "uid", "uid ");
+const USER: Word = &Wording(21, "uid", "uid ");
 
-const METRICS: Word = Word(30, "metrics", "");
+const METRICS: Word = &Wording(30, "metrics", "");
 
-const INCOMING: Word = Word(31, "iif", "iif ");
+const INCOMING: Word = &Wording(31, "iif", "iif ");
 
-const PREFERENCE: Word = Word(32, "pref", "pref ");
+const PREFERENCE: Word = &Wording(32, "pref", "pref ");
 
-const PROPAGATE: Word = Word(33, "ttl-propogate", "ttl-propogate ");
+const PROPAGATE: Word = &Wording(33, "ttl-propogate", "ttl-propogate ");
 
-const IS_DISABLED: Word = Word(33, "ttl-propogate", "ttl-propogate disabled");
+const IS_DISABLED: Word = &Wording(33, "ttl-propogate", "ttl-propogate disabled");
 
-const IS_ENABLED: Word = Word(33, "ttl-propogate", "ttl-propogate enabled");
+const IS_ENABLED: Word = &Wording(33, "ttl-propogate", "ttl-propogate enabled");
 
-const IP_PROTOCOL: Word = Word(34, "ipproto", "ipproto ");
+const IP_PROTOCOL: Word = &Wording(34, "ipproto", "ipproto ");
 
-const SOURCE_PORT: Word = Word(35, "sport", "sport ");
+const SOURCE_PORT: Word = &Wording(35, "sport", "sport ");
 
-const DESTINATION_PORT: Word = Word(36, "dport", "dport ");
+const DESTINATION_PORT: Word = &Wording(36, "dport", "dport ");
 
-const FLOW_LABEL: Word = Word(37, "flowlabel", "flowlabel ");
+const FLOW_LABEL: Word = &Wording(37, "flowlabel", "flowlabel ");
 
-const EXPIRES: Word = Word(38, "expires_in", "expires_in ");
+const EXPIRES: Word = &Wording(38, "expires_in", "expires_in ");
 
-const TICKS: Word = Word(39, "expires_ticks", "expires_ticks ");
+const TICKS: Word = &Wording(39, "expires_ticks", "expires_ticks ");
 
-const FORWARDED: Word = Word(40, "forwarded", "forwarded");
+const FORWARDED: Word = &Wording(40, "forwarded", "forwarded");
 
-const EXPIRY: Word = Word(22, "expires", "expires ");
+const EXPIRY: Word = &Wording(22, "expires", "expires ");
 
-const ERROR: Word = Word(23, "error", "error ");
+const ERROR: Word = &Wording(23, "error", "error ");
 
-const USERS: Word = Word(24, "users", "users ");
+const USERS: Word = &Wording(24, "users", "users ");
 
-const USED: Word = Word(25, "used", "used ");
+const USED: Word = &Wording(25, "used", "used ");
 
-const AGE: Word = Word(26, "age", "age ");
+const AGE: Word = &Wording(26, "age", "age ");
 
-const IDENTIFICATION: Word = Word(27, "ipid", "ipid ");
+const IDENTIFICATION: Word = &Wording(27, "ipid", "ipid ");
 
-const STAMP: Word = Word(28, "ts", "ts ");
+const STAMP: Word = &Wording(28, "ts", "ts ");
 
-const STAMP_AGE: Word = Word(29, "tsage", "tsage ");
+const STAMP_AGE: Word = &Wording(29, "tsage", "tsage ");
 
-const PACKETS: Word = Word(0, "packets", "packets ");
+const PACKETS: Word = &Wording(0, "packets", "packets ");
 
-const BYTES: Word = Word(1, "bytes", "bytes ");
+const BYTES: Word = &Wording(1, "bytes", "bytes ");
 
-const WRONG: Word = Word(2, "wrong_if", "wrong_if ");
+const WRONG: Word = &Wording(2, "wrong_if", "wrong_if ");
 
 const REALM_WORDS: RealmWords = (
-    Word(0, "from", "realms "),
-    Word(1, "to", "/"),
-    Word(1, "to", "realm "),
+    &Wording(0, "from", "realms "),
+    &Wording(1, "to", "/"),
+    &Wording(1, "to", "realm "),
 );
 
-const HOST_FAMILY: Word = Word(0, "family", "");
+const HOST_FAMILY: Word = &Wording(0, "family", "");
 
-const HOST: Word = Word(1, "host", "");
+const HOST: Word = &Wording(1, "host", "");
 
 /// Ticks in a second, as the kernel tells them.
 const HERTZ: i32 = 100;

@@ -1,6 +1,6 @@
 //! What is shown of a route.
 
-use crate::field::{Fields, Word};
+use crate::field::{Fields, Word, Wording};
 use crate::manner::{Nowhere, Prefix};
 use crate::names::{PROTOCOLS, SCOPES, TYPES};
 use crate::next_hop_fields::push_next_hops;
@@ -8,15 +8,15 @@ use crate::route_attribute::{DESTINATION, SOURCE, push_attribute, push_route_fla
 use netlink_packet_route::route::{RouteAttribute, RouteHeader, RouteMessage};
 use netlink_packet_route::{AddressFamily, Flags, numbers};
 
-const TYPE: Word = Word(2, "type", "");
+const TYPE: Word = &Wording(2, "type", "");
 
-const SERVICE: Word = Word(8, "tos", "tos ");
+const SERVICE: Word = &Wording(8, "tos", "tos ");
 
-const PROTOCOL: Word = Word(14, "protocol", "proto ");
+const PROTOCOL: Word = &Wording(14, "protocol", "proto ");
 
-const SCOPE: Word = Word(15, "scope", "scope ");
+const SCOPE: Word = &Wording(15, "scope", "scope ");
 
-const FAMILY: Word = Word(41, "family", "family ");
+const FAMILY: Word = &Wording(41, "family", "family ");
 
 /// The type of most routes (`RTN_UNICAST`).
 const UNICAST: u8 = 1;

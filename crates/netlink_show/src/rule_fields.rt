@@ -1,7 +1,7 @@
 //! What is shown of a rule.
 
 use crate::attribute_fields::{RealmWords, push_raw, push_realm, push_unknown};
-use crate::field::{self, Fields, Word};
+use crate::field::{self, Fields, Word, Wording};
 use crate::names::{GROUPS, IP_PROTOCOLS, PROTOCOLS, TABLES, TYPES};
 use netlink_packet_route::framing::Nla;
 use netlink_packet_route::net::IpAddr;
@@ -10,73 +10,73 @@ use netlink_packet_route::rule::{
 };
 use netlink_packet_route::{Flags, IpProtocol, numbers};
 
-const PRIORITY: Word = Word(2, "priority", "");
+const PRIORITY: Word = &Wording(2, "priority", "");
 
-const SOURCE: Word = Word(4, "src", "from ");
+const SOURCE: Word = &Wording(4, "src", "from ");
 
-const SOURCE_LENGTH: Word = Word(5, "srclen", "/");
+const SOURCE_LENGTH: Word = &Wording(5, "srclen", "/");
 
-const DESTINATION: Word = Word(6, "dst", "to ");
+const DESTINATION: Word = &Wording(6, "dst", "to ");
 
-const DESTINATION_LENGTH: Word = Word(7, "dstlen", "/");
+const DESTINATION_LENGTH: Word = &Wording(7, "dstlen", "/");
 
-const SERVICE: Word = Word(8, "tos", "tos ");
+const SERVICE: Word = &Wording(8, "tos", "tos ");
 
-const MARK: Word = Word(9, "fwmark", "fwmark ");
+const MARK: Word = &Wording(9, "fwmark", "fwmark ");
 
-const MASK: Word = Word(10, "fwmask", "/");
+const MASK: Word = &Wording(10, "fwmask", "/");
 
-const INCOMING: Word = Word(11, "iif", "iif ");
+const INCOMING: Word = &Wording(11, "iif", "iif ");
 
-const OUTGOING: Word = Word(13, "oif", "oif ");
+const OUTGOING: Word = &Wording(13, "oif", "oif ");
 
-const MASTER: Word = Word(15, "l3mdev", "lookup [l3mdev-table]");
+const MASTER: Word = &Wording(15, "l3mdev", "lookup [l3mdev-table]");
 
-const FIRST_USER: Word = Word(16, "uid_start", "uidrange ");
+const FIRST_USER: Word = &Wording(16, "uid_start", "uidrange ");
 
-const LAST_USER: Word = Word(17, "uid_end", "-");
+const LAST_USER: Word = &Wording(17, "uid_end", "-");
 
-const IP_PROTOCOL: Word = Word(18, "ipproto", "ipproto ");
+const IP_PROTOCOL: Word = &Wording(18, "ipproto", "ipproto ");
 
-const TUNNEL: Word = Word(25, "tun_id", "tun_id ");
+const TUNNEL: Word = &Wording(25, "tun_id", "tun_id ");
 
-const TABLE: Word = Word(26, "table", "lookup ");
+const TABLE: Word = &Wording(26, "table", "lookup ");
 
-const PREFIX_LENGTH: Word = Word(27, "suppress_prefixlen", "suppress_prefixlength ");
+const PREFIX_LENGTH: Word = &Wording(27, "suppress_prefixlen", "suppress_prefixlength ");
 
-const GROUP: Word = Word(28, "suppress_ifgroup", "suppress_ifgroup ");
+const GROUP: Word = &Wording(28, "suppress_ifgroup", "suppress_ifgroup ");
 
 const FLOW: RealmWords = (
-    Word(29, "flow_from", "realms "),
-    Word(30, "flow_to", "/"),
-    Word(30, "flow_to", "realms "),
+    &Wording(29, "flow_from", "realms "),
+    &Wording(30, "flow_to", "/"),
+    &Wording(30, "flow_to", "realms "),
 );
 
-const GOTO: Word = Word(31, "goto", "goto ");
+const GOTO: Word = &Wording(31, "goto", "goto ");
 
-const NOP: Word = Word(33, "nop", "nop");
+const NOP: Word = &Wording(33, "nop", "nop");
 
-const ACTION: Word = Word(34, "action", "");
+const ACTION: Word = &Wording(34, "action", "");
 
-const PROTOCOL: Word = Word(35, "protocol", "proto ");
+const PROTOCOL: Word = &Wording(35, "protocol", "proto ");
 
-const OTHER_FLAGS: Word = Word(37, "flags", "flags ");
+const OTHER_FLAGS: Word = &Wording(37, "flags", "flags ");
 
-const FAMILY: Word = Word(38, "family", "family ");
+const FAMILY: Word = &Wording(38, "family", "family ");
 
 /// The words for a port, for the first port of a range and for its last.
 type PortWords = (Word, Word, Word);
 
 const SOURCE_PORTS: PortWords = (
-    Word(19, "sport", "sport "),
-    Word(20, "sport_start", "sport "),
-    Word(21, "sport_end", "-"),
+    &Wording(19, "sport", "sport "),
+    &Wording(20, "sport_start", "sport "),
+    &Wording(21, "sport_end", "-"),
 );
 
 const DESTINATION_PORTS: PortWords = (
-    Word(22, "dport", "dport "),
-    Word(23, "dport_start", "dport "),
-    Word(24, "dport_end", "-"),
+    &Wording(22, "dport", "dport "),
+    &Wording(23, "dport_start", "dport "),
+    &Wording(24, "dport_end", "-"),
 );
 
 /// Attributes in whose absence something is told (`FRA_*` of `linux/fib_rules.h`).
@@ -96,11 +96,11 @@ const FRA_FWMASK: u16 = 16;
 
 /// The flags that have a word (`FIB_RULE_*`).
 const FLAGS: field::Flags = &[
-    (0x1, Word(36, "permanent", "permanent")),
-    (0x2, Word(3, "not", "not")),
-    (0x4, Word(32, "unresolved", "[unresolved]")),
-    (0x8, Word(12, "iif_detached", "[detached]")),
-    (0x10, Word(14, "oif_detached", "[detached]")),
+    (0x1, &Wording(36, "permanent", "permanent")),
+    (0x2, &Wording(3, "not", "not")),
+    (0x4, &Wording(32, "unresolved", "[unresolved]")),
+    (0x8, &Wording(12, "iif_detached", "[detached]")),
+    (0x10, &Wording(14, "oif_detached", "[detached]")),
 ];
 
 /// What is shown of a rule.

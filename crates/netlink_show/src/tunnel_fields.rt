@@ -1,57 +1,57 @@
 //! What is shown of tunnels over IP, with their options.
 
 use crate::attribute_fields::push_unknown;
-use crate::field::{self, Fields, Word};
+use crate::field::{self, Fields, Word, Wording};
 use netlink_packet_route::Flags;
 use netlink_packet_route::route::{
     RouteErspanOpt, RouteGeneveOpt, RouteIp6Tunnel, RouteIpTunnel, RouteLwTunnelOpt, RouteVxlanOpt,
 };
 
-const ID: Word = Word(0, "id", "id ");
+const ID: Word = &Wording(0, "id", "id ");
 
-const SOURCE: Word = Word(1, "src", "src ");
+const SOURCE: Word = &Wording(1, "src", "src ");
 
-const DESTINATION: Word = Word(2, "dst", "dst ");
+const DESTINATION: Word = &Wording(2, "dst", "dst ");
 
-const TTL: Word = Word(3, "ttl", "ttl ");
+const TTL: Word = &Wording(3, "ttl", "ttl ");
 
-const HOP_LIMIT: Word = Word(3, "hoplimit", "hoplimit ");
+const HOP_LIMIT: Word = &Wording(3, "hoplimit", "hoplimit ");
 
-const SERVICE: Word = Word(4, "tos", "tos ");
+const SERVICE: Word = &Wording(4, "tos", "tos ");
 
-const TRAFFIC_CLASS: Word = Word(4, "tc", "tc ");
+const TRAFFIC_CLASS: Word = &Wording(4, "tc", "tc ");
 
-const OTHER_FLAGS: Word = Word(8, "flags", "flags ");
+const OTHER_FLAGS: Word = &Wording(8, "flags", "flags ");
 
-const UNSPECIFIED: Word = Word(100, "unspecified", "unspecified");
+const UNSPECIFIED: Word = &Wording(100, "unspecified", "unspecified");
 
-const GENEVE: Word = Word(9, "geneve_opts", "geneve_opts");
+const GENEVE: Word = &Wording(9, "geneve_opts", "geneve_opts");
 
-const VXLAN: Word = Word(10, "vxlan_opts", "vxlan_opts");
+const VXLAN: Word = &Wording(10, "vxlan_opts", "vxlan_opts");
 
-const ERSPAN: Word = Word(11, "erspan_opts", "erspan_opts");
+const ERSPAN: Word = &Wording(11, "erspan_opts", "erspan_opts");
 
-const CLASS: Word = Word(0, "class", "");
+const CLASS: Word = &Wording(0, "class", "");
 
-const TYPE: Word = Word(1, "type", ":");
+const TYPE: Word = &Wording(1, "type", ":");
 
-const DATA: Word = Word(2, "data", ":");
+const DATA: Word = &Wording(2, "data", ":");
 
-const POLICY: Word = Word(0, "gbp", "gbp ");
+const POLICY: Word = &Wording(0, "gbp", "gbp ");
 
-const VERSION: Word = Word(0, "ver", "ver ");
+const VERSION: Word = &Wording(0, "ver", "ver ");
 
-const INDEX: Word = Word(1, "index", "index ");
+const INDEX: Word = &Wording(1, "index", "index ");
 
-const DIRECTION: Word = Word(2, "dir", "dir ");
+const DIRECTION: Word = &Wording(2, "dir", "dir ");
 
-const HARDWARE: Word = Word(3, "hwid", "hwid ");
+const HARDWARE: Word = &Wording(3, "hwid", "hwid ");
 
 /// The flags that have a word (`TUNNEL_*`).
 const FLAGS: field::Flags = &[
-    (0x1, Word(6, "csum", "csum")),
-    (0x4, Word(5, "key", "key")),
-    (0x8, Word(7, "seq", "seq")),
+    (0x1, &Wording(6, "csum", "csum")),
+    (0x4, &Wording(5, "key", "key")),
+    (0x8, &Wording(7, "seq", "seq")),
 ];
 
 /// What is shown of a member of a tunnel over version 4.
