@@ -12,14 +12,10 @@ use Rattle.netlink_packet_route.specs.RuleHeader.{header as rule_header}
 use Rattle.npr_c.specs.StopsLaws.{stands-one}
 use Rattle.npr_c.proofs.laws.law_places.Goals as goal
 
-pub returns-clause-address : goal.returns-clause-address
-returns-clause-address c = stands-one address_header (governs_by (λ h. tt)) OfAddress.family (λ h bytes c d p q. p ∙ sym q)
-
-pub returns-clause-route : goal.returns-clause-route
-returns-clause-route c = stands-one route_header IsContext OfRoute.family (λ h bytes c d p q. (under_context h bytes d q).alone c p)
-
-pub returns-clause-rule : goal.returns-clause-rule
-returns-clause-rule c = stands-one rule_header (governs_by (λ h. tt)) OfRule.family (λ h bytes c d p q. p ∙ sym q)
-
-pub returns-clause-neighbour : goal.returns-clause-neighbour
-returns-clause-neighbour c = stands-one neighbour_header (governs_by (λ h. h.family)) OfNeighbour.family (λ h bytes c d p q. p ∙ sym q)
+pub returns : goal.returns
+returns c = record {
+  address = stands-one address_header (governs_by (λ h. tt)) OfAddress.family (λ h bytes c d p q. p ∙ sym q);
+  route = stands-one route_header IsContext OfRoute.family (λ h bytes c d p q. (under_context h bytes d q).alone c p);
+  rule = stands-one rule_header (governs_by (λ h. tt)) OfRule.family (λ h bytes c d p q. p ∙ sym q);
+  neighbour = stands-one neighbour_header (governs_by (λ h. h.family)) OfNeighbour.family (λ h bytes c d p q. p ∙ sym q);
+}

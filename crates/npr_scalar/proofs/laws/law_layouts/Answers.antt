@@ -8,29 +8,15 @@ use Rattle.npr_scalar.specs.RouteCacheInfo.{route_cache_info}
 use Rattle.npr_scalar.specs.RouteMfcStats.{route_mfc_stats}
 use Rattle.npr_scalar.proofs.laws.law_layouts.Goals as goal
 
-pub returns-clause-ip_protocol : goal.returns-clause-ip_protocol
-returns-clause-ip_protocol c = ip_protocol.decode-encode
-
-pub returns-clause-route_scope : goal.returns-clause-route_scope
-returns-clause-route_scope c = route_scope.decode-encode
-
-pub returns-clause-route_type : goal.returns-clause-route_type
-returns-clause-route_type c = route_type.decode-encode
-
-pub returns-clause-route_preference : goal.returns-clause-route_preference
-returns-clause-route_preference c = route_preference.decode-encode
-
-pub returns-clause-ttl_propagation : goal.returns-clause-ttl_propagation
-returns-clause-ttl_propagation c = ttl_propagation.decode-encode
-
-pub returns-clause-route_flags : goal.returns-clause-route_flags
-returns-clause-route_flags c = route_flags.decode-encode
-
-pub returns-clause-next_hop_flags : goal.returns-clause-next_hop_flags
-returns-clause-next_hop_flags c = next_hop_flags.decode-encode
-
-pub returns-clause-cache_info : goal.returns-clause-cache_info
-returns-clause-cache_info c = route_cache_info.decode-encode
-
-pub returns-clause-mfc_stats : goal.returns-clause-mfc_stats
-returns-clause-mfc_stats c = route_mfc_stats.decode-encode
+pub returns : goal.returns
+returns c = record {
+  ip_protocol = ip_protocol.decode-encode;
+  route_scope = route_scope.decode-encode;
+  route_type = route_type.decode-encode;
+  route_preference = route_preference.decode-encode;
+  ttl_propagation = ttl_propagation.decode-encode;
+  route_flags = route_flags.decode-encode;
+  next_hop_flags = next_hop_flags.decode-encode;
+  cache_info = route_cache_info.decode-encode;
+  mfc_stats = route_mfc_stats.decode-encode;
+}
