@@ -5,6 +5,7 @@ use Rattle.std.specs.Option.{option_eq}
 use Rattle.std.specs.Cmp.{unsigned_Decides}
 use Rattle.std.proofs.Common.{refl, sym, rules, ap, true≢false}
 use Rattle.npr_base.specs.Equality.{IsEquality, IsEqualityOf}
+use Rattle.npr_base.specs.EqualityLaws.{enum_equality, one_equality}
 use Rattle.npr_base.specs.ViewEquality.{item_equality}
 use Rattle.npr_base.specs.IpLaws.{ipv4_equality, ipv6_equality}
 use Rattle.npr_base.specs.EnumTableLaws.{enum_decides}
@@ -22,6 +23,7 @@ use Rattle.npr_srh.specs.contracts.seg6_mode.Seg6ModePartialEq.TheImpl as ModeEq
 use Rattle.npr_srh.specs.contracts.seg6_header.Seg6HeaderPartialEq.TheImpl as HeaderEq
 use Rattle.npr_srh.specs.contracts.seg6.RouteSeg6IpTunnel.{enum as seg6_enum}
 use Rattle.npr_srh.specs.contracts.seg6.RouteSeg6IpTunnelPartialEq.TheImpl as Seg6Eq
+use Rattle.npr_srh.specs.contracts.seg6local_action.Seg6LocalAction.{enum as action_enum}
 use Rattle.npr_srh.specs.contracts.seg6local_action.Seg6LocalActionPartialEq.TheImpl as ActionEq
 use Rattle.npr_srh.specs.contracts.seg6local_srh.Seg6LocalSrhPartialEq.TheImpl as LocalHeaderEq
 use Rattle.npr_srh.specs.contracts.seg6local.RouteSeg6LocalTunnel.{enum as local_enum}
@@ -36,16 +38,16 @@ use Rattle.npr_srh.specs.contracts.ioam6.RouteIoam6TunnelPartialEq.TheImpl as Io
 
 -- ---- the fields
 
-mode_equality : IsEquality ModeEq.ghosts.eq
+pub mode_equality : IsEquality ModeEq.ghosts.eq
 mode_equality = search rules
 
-action_equality : IsEquality ActionEq.ghosts.eq
-action_equality = search rules
+pub action_equality : IsEquality ActionEq.ghosts.eq
+action_equality = enum_equality action_enum _ refl (one_equality unsigned_Decides, tt)
 
-ioam6_mode_equality : IsEquality Ioam6ModeEq.ghosts.eq
+pub ioam6_mode_equality : IsEquality Ioam6ModeEq.ghosts.eq
 ioam6_mode_equality = search rules
 
-trace_equality : IsEquality TraceEq.ghosts.eq
+pub trace_equality : IsEquality TraceEq.ghosts.eq
 trace_equality = search rules
 
 key_equality : (a b : Option ℕ) → Decides (option_eq nat_eq a b) (a ≡ b)
