@@ -163,7 +163,8 @@ via_value = record {
   inside = λ kind v. None;
   Holds = HoldsVia;
   members = no_members;
-  one_reading = λ bytes v w p q. gateway-one (families.of (le16_at bytes 0)) (via_form_of (families.of (le16_at bytes 0))) (drop 2 bytes) v w p.address q.address;
+  one_reading =
+      λ bytes v w p q. gateway-one (families.of (le16_at bytes 0)) (via_form_of (families.of (le16_at bytes 0))) (drop 2 bytes) v w p.address q.address;
   no_fault = via-sound;
   reads_holds =
       λ bytes v is p. gateway-holds (le16_at bytes 0) (via_form_of (families.of (le16_at bytes 0))) refl p.small (drop 2 bytes) v
