@@ -1,8 +1,9 @@
 -- What `==` answers of tunnels and their options: whether they mean the same.
 use Rattle.std.specs.Prelude.{ℕ}
 use Rattle.std.specs.Cmp.{unsigned_Decides}
-use Rattle.std.proofs.Common.{refl, rules, ap}
+use Rattle.std.proofs.Common.{refl, ap}
 use Rattle.npr_base.specs.Equality.{IsEquality, IsEqualityOf}
+use Rattle.npr_base.specs.EqualityLaws.{enum_equality, one_equality}
 use Rattle.npr_base.specs.ViewEquality.{item_equality}
 use Rattle.npr_base.specs.IpLaws.{ipv4_equality, ipv6_equality}
 use Rattle.npr_base.specs.EnumTable.{◌also◌}
@@ -16,6 +17,7 @@ use Rattle.npr_srh.specs.RplTunnel as OfRpl
 use Rattle.npr_srh.specs.Seg6LocalTunnel as OfLocal
 use Rattle.npr_srh.specs.Seg6Tunnel as OfSeg6
 use Rattle.npr_tunnel.specs.Geneve.{Geneve, option_of}
+use Rattle.npr_tunnel.specs.contracts.encap_type.RouteLwEnCapType.{enum as encap_type_enum}
 use Rattle.npr_tunnel.specs.contracts.encap_type.RouteLwEnCapTypePartialEq.TheImpl as TypeEq
 use Rattle.npr_tunnel.specs.contracts.geneve.RouteGeneveOptPartialEq.TheImpl as GeneveEq
 use Rattle.npr_tunnel.specs.XfrmTunnel as OfXfrm
@@ -45,7 +47,7 @@ use Rattle.npr_tunnel.specs.contracts.encap.RouteLwTunnelEncapPartialEq.TheImpl 
 -- ---- the fields
 
 pub encap_type_equality : IsEquality TypeEq.ghosts.eq
-encap_type_equality = search rules
+encap_type_equality = enum_equality encap_type_enum _ refl (one_equality unsigned_Decides, tt)
 
 pub geneve_equality : IsEqualityOf option_of GeneveEq.ghosts.eq
 geneve_equality a b =
