@@ -1,5 +1,28 @@
+use Rattle.std.proofs.Common.{rules, refl}
+use Rattle.std.specs.Cmp.{unsigned_Decides}
 use Rattle.npr_base.specs.AddressFamilyLaws.{family_equality}
+use Rattle.npr_base.specs.Equality.{IsEquality}
+use Rattle.npr_base.specs.EqualityLaws.{enum_equality, one_equality}
+use Rattle.npr_base.specs.StructLaws.{◌beside◌}
+use Rattle.npr_base.specs.contracts.refusal.AtPartialEq.TheImpl as AtEq
+use Rattle.npr_base.specs.contracts.refusal.Seg6FaultPartialEq.TheImpl as FaultEq
+use Rattle.npr_base.specs.contracts.refusal.DecodeError.{enum}
 use Rattle.npr_base.proofs.laws.law_equality.Goals as goal
+
+at_equality : IsEquality AtEq.ghosts.eq
+at_equality = search rules
+
+fault_equality : IsEquality FaultEq.ghosts.eq
+fault_equality = search rules
 
 pub returns-clause-address_family : goal.returns-clause-address_family
 returns-clause-address_family c = family_equality
+
+pub returns-clause-at : goal.returns-clause-at
+returns-clause-at c = at_equality
+
+pub returns-clause-decode_error : goal.returns-clause-decode_error
+returns-clause-decode_error c =
+    let number = one_equality unsigned_Decides in
+    enum_equality enum _ refl
+    (search (number, unsigned_Decides beside number, one_equality at_equality, at_equality beside number, one_equality fault_equality) depth 40)
