@@ -2,12 +2,13 @@
 use Rattle.std.specs.Prelude.{◌≢◌, Bool, ◌&&◌, IfOk, IfErr}
 use Rattle.std.specs.Cmp.Lexicographic.{pointwise}
 use Rattle.std.proofs.Common.{◌≡◌, ℕ, ◌*◌, ◌-◌, ◌≤◌, List, ◌++◌, length, take, drop, None, Result, Ok, Err, refl, sym, ap, subst, ◌∙◌, arith, inl, inr, length-append, length-take, length-drop}
+use Rattle.std.proofs.lemmas.Bool.Decides.{nat_tests}
 use Rattle.std.proofs.lemmas.List.{take-append-drop, take_at, drop_at}
 use Rattle.npr_base.specs.declared.refusal.DecodeError.{DecodeError}
 use Rattle.npr_base.specs.declared.refusal.DecodeError.TheVariants.{OutOfMemory}
 use Rattle.npr_base.specs.Counts.{Counts, AddsAtMostTwice, SawEach, no_looks}
 use Rattle.npr_base.specs.Framing.{IsBytes}
-use Rattle.npr_base.specs.Family.{first_unfit, overlong, encodings, list_members}
+use Rattle.npr_base.specs.Family.{first_unfit, list_unfit, overlong, encodings, list_members}
 use Rattle.npr_base.specs.FitLaws.{none_both}
 use Rattle.npr_base.specs.ListLaws.{IsBytes-left, IsBytes-right}
 use Rattle.npr_base.specs.Looks.{Adds}
@@ -21,6 +22,9 @@ use Rattle.npr_base.specs.Table.{written_by, unfit_by}
 
 same_message : {H M : Type 0} (m : Message H M) (h : H) (xs : List M) → m.header ≡ h → m.attributes ≡ xs → m ≡ record { header = h; attributes = xs }
 same_message {H} {M} m h xs p q = ap (λ (k : H). record { header = k; attributes = m.attributes }) p ∙ ap (λ (ys : List M). record { header = h; attributes = ys }) q
+
+overlong-below : (m n : ℕ) → m ≤ n → overlong n ≡ None → overlong m ≡ None
+overlong-below m n le fits = grind (arith, nat_tests)
 
 module _ {H A : Type 0} (g : Grammar H A) where
   pub front_is : (bytes front rest : List ℕ) → bytes ≡ front ++ rest → length front ≡ g.layout.size → (front ≡ take g.layout.size bytes) × (rest ≡ drop g.layout.size bytes)
@@ -156,6 +160,14 @@ module _ {H A : Type 0} (g : Grammar H A) where
   pub attributes_fit : (m : Meant g) → message_misfit g m ≡ None → first_unfit (unfit_by g.writing) m.attributes ≡ None
   unfolding message_misfit
   attributes_fit m fits = (none_both (first_unfit (unfit_by g.writing) m.attributes) (overlong (length (spelling g m))) fits).0
+
+  -- and so can the list of them
+  pub list_fits : (m : Meant g) → message_misfit g m ≡ None → list_unfit (unfit_by g.writing) (written_by g.writing) m.attributes ≡ None
+  unfolding message_misfit spelling
+  list_fits m fits =
+      let both = none_both (first_unfit (unfit_by g.writing) m.attributes) (overlong (length (spelling g m))) fits in
+      let shorter = length-append (g.layout.encode m.header) (encodings (written_by g.writing) m.attributes) in
+      rw both.0 (overlong-below (length (encodings (written_by g.writing) m.attributes)) (length (spelling g m)) (omega (arith, shorter)) both.1)
 
   -- the bytes that it is read of have a header
   pub has_header : (bytes : List ℕ) (m : Meant g) → IsMessage g bytes m → g.layout.size ≤ length bytes

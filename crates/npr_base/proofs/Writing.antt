@@ -55,3 +55,15 @@ Writes-encoding old body new v k len e room w p =
     let q : Writes mid new (encoding (record { kind = k; value = v })) = subst (λ (z : List ℕ). Writes mid new (encoding (record { kind = k; value = z }))) value_is p in
     let far : length (take 4 old ++ v) ≤ length (encoding (record { kind = k; value = v })) = omega (arith, size, length-encoding (record { kind = k; value = v })) in
     q ∙ ap (λ (z : List ℕ). encoding (record { kind = k; value = v }) ++ z) (Writes-past old mid (take 4 old ++ v) (length (encoding (record { kind = k; value = v }))) far whole)
+
+-- bytes in front of those that were written behind them
+pub Writes-before : (old part new h x : List ℕ) (at : ℕ) → at ≡ length h → at ≤ length old → Writes (take (length old - at) (drop at old)) part x
+    → Writes (put_mid at (length old - at) old part) new h → Writes old new (h ++ x)
+Writes-before old part new h x at size room w p =
+    let mid : List ℕ = put_mid at (length old - at) old part in
+    let n : length (take at old) ≡ at = omega (arith, length-take at old) in
+    let start : Writes old old (take at old) = sym (take-append-drop at old) ∙ ap (λ (m : ℕ). take at old ++ drop m old) (sym n) in
+    let whole : Writes old mid (take at old ++ x) = Writes-more old old part (take at old) x at (sym n) (omega (arith, n)) start w in
+    let len : length (take at old ++ x) ≡ length (h ++ x) = omega (arith, n, size, length-append (take at old) x, length-append h x) in
+    let behind : drop (length h) mid ≡ x ++ drop (length (h ++ x)) old = ap (drop (length h)) (whole ∙ append_assoc (take at old) x (drop (length (take at old ++ x)) old)) ∙ drop_at (take at old) (x ++ drop (length (take at old ++ x)) old) (length h) (n ∙ size) ∙ ap (λ (m : ℕ). x ++ drop m old) len in
+    p ∙ ap (λ (z : List ℕ). h ++ z) behind ∙ sym (append_assoc h x (drop (length (h ++ x)) old))
