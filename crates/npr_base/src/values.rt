@@ -263,8 +263,10 @@ pub fn read_name(alloc: Global, value: &[u8], at: At) -> Result<String, DecodeEr
     ensures ok { IfOk result (λ s. name.Reads value.now (string_bytes s)) }
     ensures refused { IfErr result (λ e. e ≢ OutOfMemory → name.Wrong at value.now e) }
 {
-    let text = from_utf8(without_zero(value)).map_err(|_| DecodeError::NotUtf8 { at })?;
-    Ok(String::from_str(alloc, text)?)
+    match from_utf8(without_zero(value)) {
+        Ok(text) => Ok(String::from_str(alloc, text)?),
+        Err(_) => Err(DecodeError::NotUtf8 { at }),
+    }
 }
 
 /// Writes a name and one zero at the front of the slice, leaves the rest, and answers their length.
