@@ -7,6 +7,10 @@ use Rattle.npr_base.specs.ListLaws.{length-encoding}
 use Rattle.npr_base.proofs.list.write_list_body.Goals as goal
 use Rattle.npr_base.specs.Table.{shaped_item, shaped_misfit}
 
+pub write_attribute-at-requires-clause-fits : goal.write_attribute-at-requires-clause-fits
+write_attribute-at-requires-clause-fits g c =
+    (first-none (shaped_misfit g.A.Nla.shape) c.args.list.now c.loop-x.x-index c.x-item.result c.loop-x-test.true c.x-item.is c.loop-x.invariant.fits).0
+
 pub write_attribute-at-requires-clause-room : goal.write_attribute-at-requires-clause-room
 write_attribute-at-requires-clause-room g c =
     let x = c.x-item.result in

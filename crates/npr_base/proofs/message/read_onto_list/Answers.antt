@@ -4,7 +4,7 @@ use Rattle.std.proofs.lemmas.Result.{err_from_is_err_and}
 use Rattle.npr_base.specs.Counts.{AddsAtMostTwice}
 use Rattle.npr_base.specs.Message.{MessageFault, MessageLooks}
 use Rattle.npr_base.specs.LookBounds.{searched-read}
-use Rattle.npr_base.proofs.Messages.{message_read, fault_after, looks_after}
+use Rattle.npr_base.proofs.Messages.{message_read, fault_after, looks_after, message-saw}
 use Rattle.npr_base.proofs.message.read_onto_list.Goals as goal
 
 pub returns-in_err-header-clause-refused : goal.returns-in_err-header-clause-refused
@@ -64,3 +64,7 @@ returns-clause-bounded g c =
     let searched = under.searched c.args.looks.now c.context-context.new.looks c.context-context.ensures.searches in
     let twice = rw (take_rest, c.size.ensures) at (searched-read _ c.args.looks.now c.context-context.new.looks c.fill_list.new.looks searched c.fill_list.ensures.walked) in
     subst (λ (n : ℕ). AddsAtMostTwice c.args.looks.now c.fill_list.new.looks n) (length-drop g.H.Header.grammar.layout.size c.args.bytes.now) twice
+
+pub returns-clause-counted : goal.returns-clause-counted
+returns-clause-counted g c =
+    message-saw g.H.Header.grammar c.args.bytes.now _ c.args.looks.now c.fill_list.new.looks (returns-clause-ok g c) (returns-clause-exact g c tt)
