@@ -65,5 +65,8 @@ Writes-before old part new h x at size room w p =
     let start : Writes old old (take at old) = sym (take-append-drop at old) ∙ ap (λ (m : ℕ). take at old ++ drop m old) (sym n) in
     let whole : Writes old mid (take at old ++ x) = Writes-more old old part (take at old) x at (sym n) (omega (arith, n)) start w in
     let len : length (take at old ++ x) ≡ length (h ++ x) = omega (arith, n, size, length-append (take at old) x, length-append h x) in
-    let behind : drop (length h) mid ≡ x ++ drop (length (h ++ x)) old = ap (drop (length h)) (whole ∙ append_assoc (take at old) x (drop (length (take at old ++ x)) old)) ∙ drop_at (take at old) (x ++ drop (length (take at old ++ x)) old) (length h) (n ∙ size) ∙ ap (λ (m : ℕ). x ++ drop m old) len in
+    let joined = append_assoc (take at old) x (drop (length (take at old ++ x)) old) in
+    let behind : drop (length h) mid ≡ x ++ drop (length (h ++ x)) old =
+    ap (drop (length h)) (whole ∙ joined) ∙ drop_at (take at old) (x ++ drop (length (take at old ++ x)) old) (length h) (n ∙ size)
+    ∙ ap (λ (m : ℕ). x ++ drop m old) len in
     p ∙ ap (λ (z : List ℕ). h ++ z) behind ∙ sym (append_assoc h x (drop (length (h ++ x)) old))
