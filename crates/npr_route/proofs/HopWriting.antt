@@ -1,30 +1,15 @@
--- A next hop that is written: its attributes first, and its header before them.
-use Rattle.std.proofs.Common.{◌≡◌, ℕ, ◌+◌, ◌-◌, ◌≤◌, List, ◌++◌, length, map, take, drop, None, sym, ap, ◌∙◌, arith, length-append, length-take, append_assoc}
-use Rattle.std.proofs.lemmas.List.{take-append-drop, drop_at}
+-- A next hop that is written: what can be, and what is.
+use Rattle.std.proofs.Common.{◌≡◌, ◌+◌, ◌≤◌, length, map, None, sym, ap, ◌∙◌}
 use Rattle.std.specs.declared.vec.Vec.{Vec}
 use Rattle.std.specs.declared.alloc.Global.{Global}
-use borrow.Rule.Slice.PartMut.{put_mid}
-use Rattle.npr_base.specs.Framing.{Writes}
 use Rattle.npr_base.specs.Family.{first_unfit, encodings}
 use Rattle.npr_base.specs.FitLaws.{none_both}
-use Rattle.npr_base.proofs.Writing.{Writes-more}
 use Rattle.npr_route.specs.Attribute.{Meaning, shape_of, hop_bytes, hop_text, hop_overlong}
 use Rattle.npr_route.specs.AttributeLaws.{hop-short, fits-inside}
 use Rattle.npr_route.specs.AttributeView.{meaning_of, hop_of, hops_of, attribute_item, attribute_misfit, next_hop_bytes, next_hop_misfit, joined}
 use Rattle.npr_route.specs.declared.attribute.RouteAttribute.TheVariants.{MultiPath}
 use Rattle.npr_route.specs.declared.next_hops.RouteNextHop.{RouteNextHop}
 use Rattle.npr_route.proofs.Views.{head_of, view_hop, view_multi_path, attributes_text, hops_fit, hops_text, hop_misfit-is}
-
--- bytes that are written before those that stand behind their place
-pub Writes-before : (n : ℕ) (old body new h v : List ℕ) → length h ≡ n → n + length v ≤ length old → Writes (take (length old - n) (drop n old)) body v → Writes (put_mid n (length old - n) old body) new h → Writes old new (h ++ v)
-Writes-before n old body new h v e room w p =
-    let mid : List ℕ = put_mid n (length old - n) old body in
-    let front : length (take n old) ≡ n = omega (arith, length-take n old) in
-    let start : Writes old old (take n old) = sym (take-append-drop n old) ∙ ap (λ (m : ℕ). take n old ++ drop m old) (sym front) in
-    let whole : Writes old mid (take n old ++ v) = Writes-more old old body (take n old) v n (sym front) (omega (arith, front)) start w in
-    let size : length (take n old ++ v) ≡ length (h ++ v) = omega (arith, front, e, length-append (take n old) v, length-append h v) in
-    let behind : drop n mid ≡ v ++ drop (length (take n old ++ v)) old = ap (drop n) (whole ∙ append_assoc (take n old) v (drop (length (take n old ++ v)) old)) ∙ drop_at (take n old) (v ++ drop (length (take n old ++ v)) old) n front in
-    p ∙ ap (λ (m : ℕ). h ++ drop m mid) e ∙ ap (λ (z : List ℕ). h ++ z) (behind ∙ ap (λ (m : ℕ). v ++ drop m old) size) ∙ sym (append_assoc h v (drop (length (h ++ v)) old))
 
 -- the bytes of a next hop, by what its attributes are
 pub next_hop_bytes-is : (h : RouteNextHop) → next_hop_bytes h ≡ hop_text (head_of h) (encodings attribute_item h.attributes.items)

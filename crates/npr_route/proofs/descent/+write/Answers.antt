@@ -4,13 +4,13 @@ use borrow.Rule.Slice.PartMut.{put_mid}
 use Rattle.npr_base.specs.Framing.{Item, Writes, encoding, framed, marked}
 use Rattle.npr_base.specs.Family.{encodings}
 use Rattle.npr_base.proofs.Checking.{first-none, encodings-more, encodings-next, encodings-below}
-use Rattle.npr_base.proofs.Writing.{Writes-more, Writes-encoding}
+use Rattle.npr_base.proofs.Writing.{Writes-more, Writes-encoding, Writes-before}
 use Rattle.npr_base.specs.ListLaws.{length-encoding}
 use Rattle.npr_route.specs.Attribute.{shape_of}
 use Rattle.npr_route.specs.AttributeView.{meaning_of, attribute_item, attribute_misfit, next_hop_bytes, next_hop_misfit, joined}
 use Rattle.npr_route.specs.declared.attribute.RouteAttribute.TheViews.{the_lemmas}
 use Rattle.npr_route.proofs.Views.{head_of, joined-next, joined-more, joined-below, hop_bytes-length}
-use Rattle.npr_route.proofs.HopWriting.{Writes-before, next_hop_bytes-is, hop_fits, multi_path_fits, multi_path_value}
+use Rattle.npr_route.proofs.HopWriting.{next_hop_bytes-is, hop_fits, multi_path_fits, multi_path_value}
 use Rattle.npr_route.proofs.descent.+write.Goals as goal
 
 pub write_attribute-returns-clause-after : goal.write_attribute-returns-clause-after
@@ -89,7 +89,7 @@ write_hop-returns-clause-after t c =
     let flags : c.bits.result ≡ head.flags = c.bits.ensures tt in
     let is : c.to_bytes.result ≡ header = first ∙ ap (λ n. to_le_bytes w16 n ++ (c.bits.result ∷ head.hops ∷ to_le_bytes w32 head.interface_index)) len ∙ ap (λ f. to_le_bytes w16 (8 + length text) ++ (f ∷ head.hops ∷ to_le_bytes w32 head.interface_index)) flags in
     let p = subst (λ w. Writes mid c.write_array.new.out w) is c.write_array.ensures.after in
-    subst (λ w. Writes out c.write_array.new.out w) (sym (next_hop_bytes-is h)) (Writes-before 8 out c.write_attributes-len.new.out c.write_array.new.out header text refl room inside p)
+    subst (λ w. Writes out c.write_array.new.out w) (sym (next_hop_bytes-is h)) (Writes-before out c.write_attributes-len.new.out c.write_array.new.out header text 8 refl (omega (arith, room)) inside p)
 
 pub write_hops-write_hop-at-requires : goal.write_hops-write_hop-at-requires
 write_hops-write_hop-at-requires t c =
