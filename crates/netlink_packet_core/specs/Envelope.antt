@@ -8,7 +8,6 @@
 --     EnvelopeStep      one step of a walk
 use Rattle.std.specs.Prelude.{◌≡◌, ℕ, ◌+◌, ◌-◌, ◌<◌, ◌≤◌, ◌⊎◌, List, [], ◌∷◌, ◌++◌, length, take, Option, Some, None, Result, Ok, Err}
 use Rattle.std.specs.Int.{w32, from_le_bytes}
-use Rattle.npr_base.specs.Counts.{Counts, hit, miss}
 use Rattle.npr_base.specs.Framing.{pad}
 use Rattle.netlink_packet_core.specs.Header.{header}
 use Rattle.netlink_packet_core.specs.declared.header.NetlinkHeader.{NetlinkHeader}
@@ -69,9 +68,3 @@ EnvelopeStep old None new = (old.bytes ≡ []) × (new ≡ old)
 EnvelopeStep old (Some (Ok x)) new = EnvelopeFront old.bytes x new.bytes × (new.offset + length new.bytes ≡ old.offset + length old.bytes)
 EnvelopeStep old (Some (Err e)) new =
     (0 < length old.bytes) × EnvelopeFault old.offset old.bytes e × (new.bytes ≡ []) × (new.offset ≡ old.offset + length old.bytes)
-
--- what a step adds to the counts: a look, unless no bytes were left
-abbrev pub looked : Option (Result Envelope EnvelopeError) → Counts → Counts
-looked None c = c
-looked (Some (Ok x)) c = hit c
-looked (Some (Err e)) c = miss c

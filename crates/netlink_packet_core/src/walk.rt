@@ -1,7 +1,7 @@
 //! A walk over the messages of a datagram.
 
 ghost use Rattle.std.specs.{Prelude.{◌≡◌, ◌+◌, ◌/◌, ◌<◌, ◌≤◌, ◌^◌, length, drop}, Iterator.{at_most}};
-ghost use Rattle.netlink_packet_core.specs.Envelope.{Place, EnvelopeStep, looked};
+ghost use Rattle.{npr_base.specs.Counts.{looked}, netlink_packet_core.specs.Envelope.{Place, EnvelopeStep}};
 
 use crate::buffer::NetlinkBuffer;
 use crate::constants::NLMSG_ALIGNTO;
@@ -85,11 +85,7 @@ impl<'a> NetlinkIterator<'a> {
         ensures counted { looks.new ≡ looked result looks.old }
     {
         let found = self.step();
-        match &found {
-            None => {}
-            Some(Ok(_)) => looks.hit(),
-            Some(Err(_)) => looks.miss(),
-        }
+        looks.count(&found);
         found
     }
 }

@@ -40,33 +40,43 @@ Writes-past old cur done n le w =
     let far : drop (length done + (n - length done)) (done ++ drop (length done) old) ≡ drop (n - length done) (drop (length done) old) = drop-append-add done (drop (length done) old) (n - length done) in
     ap (drop n) w ∙ ap (λ (m : ℕ). drop m (done ++ drop (length done) old)) more ∙ far ∙ drop-drop (n - length done) (length done) old ∙ ap (λ (m : ℕ). drop m old) (sym more)
 
+-- what was written behind so many bytes stands behind them, and the rest of the slice as it was
+module _ (old part x : List ℕ) (at : ℕ) (room : at ≤ length old) (w : Writes (take (length old - at) (drop at old)) part x) where
+  abbrev mid : List ℕ
+  mid = put_mid at (length old - at) old part
+
+  front_len : length (take at old) ≡ at
+  front_len = omega (arith, length-take at old, room)
+
+  pub Writes-behind : Writes old mid (take at old ++ x)
+  Writes-behind =
+      let start : Writes old old (take at old) = sym (take-append-drop at old) ∙ ap (λ (m : ℕ). take at old ++ drop m old) (sym front_len) in
+      Writes-more old old part (take at old) x at (sym front_len) (omega (arith, front_len, room)) start w
+
+  pub drop-behind : drop at mid ≡ x ++ drop (length (take at old ++ x)) old
+  drop-behind =
+      ap (drop at) (Writes-behind ∙ append_assoc (take at old) x (drop (length (take at old ++ x)) old))
+      ∙ drop_at (take at old) (x ++ drop (length (take at old ++ x)) old) at front_len
+
 -- a whole attribute, whose value was written first
 pub Writes-encoding : (old body new v : List ℕ) (k len : ℕ) → len ≡ length v → framed (length v) ≤ length old → Writes (take (length old - 4) (drop 4 old)) body v
     → Writes (put_mid 4 (length old - 4) old body) new (encoding (record { kind = k; value = take len (drop 4 (put_mid 4 (length old - 4) old body)) }))
     → Writes old new (encoding (record { kind = k; value = v }))
 Writes-encoding old body new v k len e room w p =
     let mid : List ℕ = put_mid 4 (length old - 4) old body in
-    let n : length (take 4 old) ≡ 4 = omega (arith, length-take 4 old) in
-    let start : Writes old old (take 4 old) = sym (take-append-drop 4 old) ∙ ap (λ (m : ℕ). take 4 old ++ drop m old) (sym n) in
-    let whole : Writes old mid (take 4 old ++ v) = Writes-more old old body (take 4 old) v 4 (sym n) (omega (arith, n)) start w in
-    let size : length (take 4 old ++ v) ≡ 4 + length v = omega (arith, n, length-append (take 4 old) v) in
-    let body_is : drop 4 mid ≡ v ++ drop (length (take 4 old ++ v)) old = ap (drop 4) (whole ∙ append_assoc (take 4 old) v (drop (length (take 4 old ++ v)) old)) ∙ drop_at (take 4 old) (v ++ drop (length (take 4 old ++ v)) old) 4 n in
-    let value_is : take len (drop 4 mid) ≡ v = ap (take len) body_is ∙ take_at v (drop (length (take 4 old ++ v)) old) len (sym e) in
+    let some : 4 ≤ length old = omega arith in
+    let x : List ℕ = take 4 old ++ v in
+    let size : length x ≡ 4 + length v = omega (arith, length-take 4 old, length-append (take 4 old) v) in
+    let value_is : take len (drop 4 mid) ≡ v = ap (take len) (drop-behind old body v 4 some w) ∙ take_at v (drop (length x) old) len (sym e) in
     let q : Writes mid new (encoding (record { kind = k; value = v })) = subst (λ (z : List ℕ). Writes mid new (encoding (record { kind = k; value = z }))) value_is p in
-    let far : length (take 4 old ++ v) ≤ length (encoding (record { kind = k; value = v })) = omega (arith, size, length-encoding (record { kind = k; value = v })) in
-    q ∙ ap (λ (z : List ℕ). encoding (record { kind = k; value = v }) ++ z) (Writes-past old mid (take 4 old ++ v) (length (encoding (record { kind = k; value = v }))) far whole)
+    let far : length x ≤ length (encoding (record { kind = k; value = v })) = omega (arith, size, length-encoding (record { kind = k; value = v })) in
+    q ∙ ap (λ (z : List ℕ). encoding (record { kind = k; value = v }) ++ z) (Writes-past old mid x (length (encoding (record { kind = k; value = v }))) far (Writes-behind old body v 4 some w))
 
 -- bytes in front of those that were written behind them
 pub Writes-before : (old part new h x : List ℕ) (at : ℕ) → at ≡ length h → at ≤ length old → Writes (take (length old - at) (drop at old)) part x
     → Writes (put_mid at (length old - at) old part) new h → Writes old new (h ++ x)
 Writes-before old part new h x at size room w p =
-    let mid : List ℕ = put_mid at (length old - at) old part in
-    let n : length (take at old) ≡ at = omega (arith, length-take at old) in
-    let start : Writes old old (take at old) = sym (take-append-drop at old) ∙ ap (λ (m : ℕ). take at old ++ drop m old) (sym n) in
-    let whole : Writes old mid (take at old ++ x) = Writes-more old old part (take at old) x at (sym n) (omega (arith, n)) start w in
-    let len : length (take at old ++ x) ≡ length (h ++ x) = omega (arith, n, size, length-append (take at old) x, length-append h x) in
-    let joined = append_assoc (take at old) x (drop (length (take at old ++ x)) old) in
-    let behind : drop (length h) mid ≡ x ++ drop (length (h ++ x)) old =
-    ap (drop (length h)) (whole ∙ joined) ∙ drop_at (take at old) (x ++ drop (length (take at old ++ x)) old) (length h) (n ∙ size)
-    ∙ ap (λ (m : ℕ). x ++ drop m old) len in
+    let len : length (take at old ++ x) ≡ length (h ++ x) = omega (arith, size, length-take at old, length-append (take at old) x, length-append h x) in
+    let behind : drop (length h) (put_mid at (length old - at) old part) ≡ x ++ drop (length (h ++ x)) old =
+    ap (λ (m : ℕ). drop m (put_mid at (length old - at) old part)) (sym size) ∙ drop-behind old part x at room w ∙ ap (λ (m : ℕ). x ++ drop m old) len in
     p ∙ ap (λ (z : List ℕ). h ++ z) behind ∙ sym (append_assoc h x (drop (length (h ++ x)) old))

@@ -1,5 +1,5 @@
 -- How often a header was looked at, at most the greatest u64, and what a reading may add.
-use Rattle.std.specs.Prelude.{◌≡◌, ℕ, ◌+◌, ◌-◌, ◌*◌, ◌/◌, ◌^◌, ◌<◌, ◌≤◌, min}
+use Rattle.std.specs.Prelude.{◌≡◌, ℕ, ◌+◌, ◌-◌, ◌*◌, ◌/◌, ◌^◌, ◌<◌, ◌≤◌, min, Option, None, Some, Result, Ok, Err}
 
 pub record Counts : Type 0 where
   pub successful : ℕ
@@ -17,6 +17,12 @@ hit c = record { successful = one_more c.successful; failed = c.failed }
 
 abbrev pub miss : Counts → Counts
 miss c = record { successful = c.successful; failed = one_more c.failed }
+
+-- what a step of a walk adds: a look, unless no bytes were left
+abbrev pub looked : {A E : Type 0} → Option (Result A E) → Counts → Counts
+looked None c = c
+looked (Some (Ok x)) c = hit c
+looked (Some (Err e)) c = miss c
 
 -- so many more, as far as the greatest u64 leaves room for them
 abbrev pub raised : Counts → Counts → Counts

@@ -1,23 +1,27 @@
 -- Structs of numbers, one behind the other: a field is read at its place, and fields are joined to a layout.
 --     Field            a value at a place of a fixed layout
 --     one_byte, le_two, le_four, le_eight      numbers, the lowest byte first
+--     be_two, be_four  numbers, the highest byte first
 --     unused           a byte that nothing is read from
 --     holding          a value in the place of its number
 --     family_byte      the family of an address, in a byte
 --     then, last       a field behind another, and the last of a struct
+--     parted           two values that stand in one place, and what stands behind it
 --     before           a field behind a byte that is not looked at
 --     fields           a field as a layout
 --     structure        a struct of fields
 use Rattle.std.specs.Prelude.{◌≡◌, ℕ, ◌+◌, ◌^◌, ◌<◌, List, [], ◌∷◌, ◌++◌, length, slice_index}
-use Rattle.std.specs.Int.{w16, w32, w64, to_le_bytes, from_le_bytes}
+use Rattle.std.specs.Int.{w16, w32, w64, to_le_bytes, from_le_bytes, to_be_bytes, from_be_bytes}
 use Rattle.std.proofs.Common.{refl, sym, ap, subst, ◌∙◌, append_assoc, length-append}
 use Rattle.std.proofs.lemmas.List.{append-nil, get_or-append-add}
 use Rattle.std.proofs.lemmas.Nat.{from_le_bytes-to_le_bytes_2, from_le_bytes-to_le_bytes_4, from_le_bytes-to_le_bytes_8}
+use Rattle.std.proofs.lemmas.Nat.{from_be_bytes-to_be_bytes_2, from_be_bytes-to_be_bytes_4}
 use Rattle.npr_base.specs.AddressFamily.{families}
 use Rattle.npr_base.specs.declared.address_family.AddressFamily.{AddressFamily}
 use Rattle.npr_base.specs.Framing.{IsBytes}
 use Rattle.npr_base.specs.Numbering.{Numbering, IsFormed, of_IsFormed}
 use Rattle.npr_base.specs.Layout.{Layout, formed, le16_at, le32_at, le64_at, le16_at-holds, le32_at-holds, le64_at-holds}
+use Rattle.npr_base.specs.Layout.{be16_at, be32_at, be16_at-holds, be32_at-holds}
 use denote.Struct.Record.{Record}
 use denote.Struct.Values.{Values}
 
@@ -48,49 +52,46 @@ le64-behind front rest =
     let f = λ (k : ℕ). get_or-append-add front rest k 0 in
     λ i. from_le_bytes w64 (byte-behind front rest i ∷ f 1 i ∷ f 2 i ∷ f 3 i ∷ f 4 i ∷ f 5 i ∷ f 6 i ∷ f 7 i ∷ [])
 
-abbrev pub one_byte : Field ℕ
-one_byte = record {
-  width = 1;
-  at = slice_index;
-  encode = λ n. n ∷ [];
-  Holds = λ n. n < 2 ^ 8;
-  length-encode = λ n. refl;
-  at-encode = λ front more n h. byte-behind front (n ∷ more);
-  Holds-at = λ bytes i is. is i;
+pub be16-behind : (front rest : List ℕ) → be16_at (front ++ rest) (length front) ≡ be16_at rest 0
+be16-behind front rest = let f = λ (k : ℕ). get_or-append-add front rest k 0 in λ i. from_be_bytes w16 (byte-behind front rest i ∷ f 1 i ∷ [])
+
+pub be32-behind : (front rest : List ℕ) → be32_at (front ++ rest) (length front) ≡ be32_at rest 0
+be32-behind front rest = let f = λ (k : ℕ). get_or-append-add front rest k 0 in λ i. from_be_bytes w32 (byte-behind front rest i ∷ f 1 i ∷ f 2 i ∷ f 3 i ∷ [])
+
+-- a number in so many bytes, of so many bits
+abbrev pub number_at : (width bits : ℕ) (at : List ℕ → ℕ → ℕ) (encode : ℕ → List ℕ) → ((n : ℕ) → length (encode n) ≡ width)
+    → ((front rest : List ℕ) → at (front ++ rest) (length front) ≡ at rest 0)
+    → ((n : ℕ) (more : List ℕ) → n < 2 ^ bits → at (encode n ++ more) 0 ≡ n)
+    → ((bytes : List ℕ) (i : ℕ) → IsBytes bytes → at bytes i < 2 ^ bits) → Field ℕ
+number_at width bits at encode long behind back holds = record {
+  width = width;
+  at = at;
+  encode = encode;
+  Holds = λ n. n < 2 ^ bits;
+  length-encode = long;
+  at-encode = λ front more n h. behind front (encode n ++ more) ∙ back n more h;
+  Holds-at = holds;
 }
 
+abbrev pub one_byte : Field ℕ
+one_byte = number_at 1 8 slice_index (λ n. n ∷ []) (λ n. refl) byte-behind (λ n more h. refl) (λ bytes i is. is i)
+
+-- the lowest byte first
 abbrev pub le_two : Field ℕ
-le_two = record {
-  width = 2;
-  at = le16_at;
-  encode = to_le_bytes w16;
-  Holds = λ n. n < 2 ^ 16;
-  length-encode = λ n. refl;
-  at-encode = λ front more n h. le16-behind front (to_le_bytes w16 n ++ more) ∙ from_le_bytes-to_le_bytes_2 n h;
-  Holds-at = le16_at-holds;
-}
+le_two = number_at 2 16 le16_at (to_le_bytes w16) (λ n. refl) le16-behind (λ n more h. from_le_bytes-to_le_bytes_2 n h) le16_at-holds
 
 abbrev pub le_four : Field ℕ
-le_four = record {
-  width = 4;
-  at = le32_at;
-  encode = to_le_bytes w32;
-  Holds = λ n. n < 2 ^ 32;
-  length-encode = λ n. refl;
-  at-encode = λ front more n h. le32-behind front (to_le_bytes w32 n ++ more) ∙ from_le_bytes-to_le_bytes_4 n h;
-  Holds-at = le32_at-holds;
-}
+le_four = number_at 4 32 le32_at (to_le_bytes w32) (λ n. refl) le32-behind (λ n more h. from_le_bytes-to_le_bytes_4 n h) le32_at-holds
 
 abbrev pub le_eight : Field ℕ
-le_eight = record {
-  width = 8;
-  at = le64_at;
-  encode = to_le_bytes w64;
-  Holds = λ n. n < 2 ^ 64;
-  length-encode = λ n. refl;
-  at-encode = λ front more n h. le64-behind front (to_le_bytes w64 n ++ more) ∙ from_le_bytes-to_le_bytes_8 n h;
-  Holds-at = le64_at-holds;
-}
+le_eight = number_at 8 64 le64_at (to_le_bytes w64) (λ n. refl) le64-behind (λ n more h. from_le_bytes-to_le_bytes_8 n h) le64_at-holds
+
+-- the highest byte first
+abbrev pub be_two : Field ℕ
+be_two = number_at 2 16 be16_at (to_be_bytes w16) (λ n. refl) be16-behind (λ n more h. from_be_bytes-to_be_bytes_2 n h) be16_at-holds
+
+abbrev pub be_four : Field ℕ
+be_four = number_at 4 32 be32_at (to_be_bytes w32) (λ n. refl) be32-behind (λ n more h. from_be_bytes-to_be_bytes_4 n h) be32_at-holds
 
 -- a byte that is not looked at, and written 0
 abbrev pub unused : Field (Unit {0})
@@ -106,16 +107,24 @@ unused = record {
 
 -- values with numbers: the number stands there
 infixl 6 ◌holding◌
-abbrev pub ◌holding◌ : {N V : Type 0} → Field N → Numbering N V → Field V
-F holding n = record {
-  width = F.width;
-  at = λ bytes i. n.of (F.at bytes i);
-  encode = λ x. F.encode (n.number x);
-  Holds = λ x. F.Holds (n.number x) × IsFormed n x;
-  length-encode = λ x. F.length-encode (n.number x);
-  at-encode = λ front more x h. ap n.of (F.at-encode front more (n.number x) h.0) ∙ sym h.1;
-  Holds-at = λ bytes i is. (subst F.Holds (sym (n.back (F.at bytes i))) (F.Holds-at bytes i is), of_IsFormed n (F.at bytes i));
-}
+module _ {N V : Type 0} (F : Field N) (n : Numbering N V) where
+  pub held-back : (front more : List ℕ) (x : V) → F.Holds (n.number x) × IsFormed n x
+      → n.of (F.at (front ++ (F.encode (n.number x) ++ more)) (length front)) ≡ x
+  held-back front more x h = ap n.of (F.at-encode front more (n.number x) h.0) ∙ sym h.1
+
+  pub held-holds : (bytes : List ℕ) (i : ℕ) → IsBytes bytes → F.Holds (n.number (n.of (F.at bytes i))) × IsFormed n (n.of (F.at bytes i))
+  held-holds bytes i is = (subst F.Holds (sym (n.back (F.at bytes i))) (F.Holds-at bytes i is), of_IsFormed n (F.at bytes i))
+
+  abbrev pub ◌holding◌ : Field V
+  ◌holding◌ = record {
+    width = F.width;
+    at = λ bytes i. n.of (F.at bytes i);
+    encode = λ x. F.encode (n.number x);
+    Holds = λ x. F.Holds (n.number x) × IsFormed n x;
+    length-encode = λ x. F.length-encode (n.number x);
+    at-encode = held-back;
+    Holds-at = held-holds;
+  }
 
 abbrev pub family_byte : Field AddressFamily
 family_byte = one_byte holding families
@@ -158,6 +167,23 @@ last F = record {
   Holds-at = λ bytes i is. F.Holds-at bytes i is;
 }
 
+-- two values that stand in one place, and what stands behind it
+module _ {A B C : Type 0} (F : Field ((A × B) × C)) where
+  pub parted-back : (front more : List ℕ) (p : A × (B × C)) → F.Holds ((p.0, p.1.0), p.1.1)
+      → (let q = F.at (front ++ (F.encode ((p.0, p.1.0), p.1.1) ++ more)) (length front) in (q.0.0, (q.0.1, q.1))) ≡ p
+  parted-back front more p h = ap (λ q. (q.0.0, (q.0.1, q.1))) (F.at-encode front more ((p.0, p.1.0), p.1.1) h)
+
+  abbrev pub parted : Field (A × (B × C))
+  parted = record {
+    width = F.width;
+    at = λ bytes i. let q = F.at bytes i in (q.0.0, (q.0.1, q.1));
+    encode = λ p. F.encode ((p.0, p.1.0), p.1.1);
+    Holds = λ p. F.Holds ((p.0, p.1.0), p.1.1);
+    length-encode = λ p. F.length-encode ((p.0, p.1.0), p.1.1);
+    at-encode = parted-back;
+    Holds-at = F.Holds-at;
+  }
+
 -- a field behind a byte that is not looked at
 infixr 5 ◌before◌
 abbrev pub ◌before◌ : {A : Type 0} → Field (Unit {0}) → Field A → Field A
@@ -171,16 +197,20 @@ P before F = record {
   Holds-at = λ bytes i is. F.Holds-at bytes (i + P.width) is;
 }
 
-abbrev pub fields : {V : Type 0} → Field V → Layout V
-fields F = record {
-  size = F.width;
-  decode = λ bytes. F.at bytes 0;
-  encode = F.encode;
-  Holds = F.Holds;
-  length-encode = λ x h. F.length-encode x;
-  decode-encode = λ x h. ap (λ (w : List ℕ). F.at w 0) (sym (append-nil (F.encode x))) ∙ F.at-encode [] [] x h;
-  Holds-decode = λ bytes is e. F.Holds-at bytes 0 is;
-}
+module _ {V : Type 0} (F : Field V) where
+  pub fields-back : (x : V) → F.Holds x → F.at (F.encode x) 0 ≡ x
+  fields-back x h = ap (λ (w : List ℕ). F.at w 0) (sym (append-nil (F.encode x))) ∙ F.at-encode [] [] x h
+
+  abbrev pub fields : Layout V
+  fields = record {
+    size = F.width;
+    decode = λ bytes. F.at bytes 0;
+    encode = F.encode;
+    Holds = F.Holds;
+    length-encode = λ x h. F.length-encode x;
+    decode-encode = fields-back;
+    Holds-decode = λ bytes is e. F.Holds-at bytes 0 is;
+  }
 
 -- a struct, whose fields stand one behind the other; N is `struct` of the type's module in `specs.contracts`
 abbrev pub structure : (N : Record) → Field (Values N.parts) → ((v : Values N.parts) → N.Ghost v) → Layout N.D

@@ -2,7 +2,6 @@
 use Rattle.std.specs.Prelude.{◌≡◌, ℕ, ◌+◌, ◌-◌, ◌%◌, ◌^◌, ◌<◌, ◌≤◌, ◌⊎◌, Bool, List, [], ◌∷◌, ◌++◌, length, take}
 use Rattle.std.specs.Prelude.{drop, slice_index, replicate, Option, Some, None, Result, Ok, Err, if◌then◌else◌}
 use Rattle.std.specs.Int.{w16, to_le_bytes, from_le_bytes}
-use Rattle.npr_base.specs.Counts.{Counts, hit, miss}
 use Rattle.npr_base.specs.declared.refusal.DecodeError.{DecodeError}
 use Rattle.npr_base.specs.declared.refusal.DecodeError.TheVariants.{AttributeTooShort, AttributeLength}
 
@@ -82,12 +81,6 @@ abbrev pub Step : List ℕ → Option (Result Item DecodeError) → List ℕ →
 Step bytes None rest = (bytes ≡ []) × (rest ≡ [])
 Step bytes (Some (Ok x)) rest = Front bytes x rest
 Step bytes (Some (Err e)) rest = (0 < length bytes) × Fault bytes e × (rest ≡ [])
-
--- what a step adds to the counts: a look, unless no bytes were left
-abbrev pub looked : Option (Result Item DecodeError) → Counts → Counts
-looked None c = c
-looked (Some (Ok x)) c = hit c
-looked (Some (Err e)) c = miss c
 
 -- the one text that is written: padding is whole and zero
 abbrev pub encoding : Item → List ℕ

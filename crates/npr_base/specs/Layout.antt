@@ -104,16 +104,23 @@ octets n = record {
 
 -- values with numbers: the number is written, and a value can be held if it is what its number reads as; likewise a struct of
 -- such fields over one of their numbers
-abbrev pub formed : {N V : Type 0} → Layout N → Numbering N V → Layout V
-formed L n = record {
-  size = L.size;
-  decode = λ bytes. n.of (L.decode bytes);
-  encode = λ x. L.encode (n.number x);
-  Holds = λ x. L.Holds (n.number x) × IsFormed n x;
-  length-encode = λ x h. L.length-encode (n.number x) h.0;
-  decode-encode = λ x h. ap n.of (L.decode-encode (n.number x) h.0) ∙ sym h.1;
-  Holds-decode = λ bytes is e. (subst L.Holds (sym (n.back (L.decode bytes))) (L.Holds-decode bytes is e), of_IsFormed n (L.decode bytes));
-}
+module _ {N V : Type 0} (L : Layout N) (n : Numbering N V) where
+  pub formed-back : (x : V) → L.Holds (n.number x) × IsFormed n x → n.of (L.decode (L.encode (n.number x))) ≡ x
+  formed-back x h = ap n.of (L.decode-encode (n.number x) h.0) ∙ sym h.1
+
+  pub formed-holds : (bytes : List ℕ) → IsBytes bytes → length bytes ≡ L.size → L.Holds (n.number (n.of (L.decode bytes))) × IsFormed n (n.of (L.decode bytes))
+  formed-holds bytes is e = (subst L.Holds (sym (n.back (L.decode bytes))) (L.Holds-decode bytes is e), of_IsFormed n (L.decode bytes))
+
+  abbrev pub formed : Layout V
+  formed = record {
+    size = L.size;
+    decode = λ bytes. n.of (L.decode bytes);
+    encode = λ x. L.encode (n.number x);
+    Holds = λ x. L.Holds (n.number x) × IsFormed n x;
+    length-encode = λ x h. L.length-encode (n.number x) h.0;
+    decode-encode = formed-back;
+    Holds-decode = formed-holds;
+  }
 
 -- the numbers that stand at a place of a fixed layout, the lowest byte first
 abbrev pub le16_at : List ℕ → ℕ → ℕ
@@ -142,3 +149,9 @@ le32_at-holds b i is = omega (arith, is i, is (i + 1), is (i + 2), is (i + 3))
 
 pub le64_at-holds : (b : List ℕ) (i : ℕ) → IsBytes b → le64_at b i < 2 ^ 64
 le64_at-holds b i is = omega (arith, is i, is (i + 1), is (i + 2), is (i + 3), is (i + 4), is (i + 5), is (i + 6), is (i + 7))
+
+pub be16_at-holds : (b : List ℕ) (i : ℕ) → IsBytes b → be16_at b i < 2 ^ 16
+be16_at-holds b i is = omega (arith, is i, is (i + 1))
+
+pub be32_at-holds : (b : List ℕ) (i : ℕ) → IsBytes b → be32_at b i < 2 ^ 32
+be32_at-holds b i is = omega (arith, is i, is (i + 1), is (i + 2), is (i + 3))

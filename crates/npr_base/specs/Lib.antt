@@ -22,6 +22,7 @@ pub mod CodecLaws
 pub mod Codec
 pub mod Layout
 pub mod Fields
+pub mod Bits
 pub mod Message
 pub mod MessageLaws
 pub mod Numbering

@@ -8,8 +8,9 @@ ghost use Rattle.std.specs.{
 };
 ghost use Rattle.npr_base.specs.{
   ViewEquality.{same_item, item_equality, same_bytes, bytes_equality},
+  Counts.{looked},
   Family.{checked, short_framed, too_long},
-  Framing.{Item, Begins, Step, Writes, encoding, framed, looked, marked, number_of},
+  Framing.{Item, Begins, Step, Writes, encoding, framed, marked, number_of},
 };
 
 use crate::looks::Looks;
@@ -186,11 +187,7 @@ impl<'a> NlasIterator<'a> {
         ensures counted { looks.new ≡ looked result looks.old }
     {
         let found = self.step();
-        match &found {
-            None => {}
-            Some(Ok(_)) => looks.hit(),
-            Some(Err(_)) => looks.miss(),
-        }
+        looks.count(&found);
         found
     }
 }

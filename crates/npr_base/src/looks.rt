@@ -1,7 +1,7 @@
 //! Counts of looks at headers.
 
 ghost use Rattle.std.specs.{Prelude.{◌≡◌}, Cmp.{decided, partial_equiv_from_equiv}};
-ghost use Rattle.npr_base.specs.{Counts.{Counts, no_looks, hit, miss}, ViewEquality.{same_counts, counts_equality}};
+ghost use Rattle.npr_base.specs.{Counts.{Counts, no_looks, hit, miss, looked}, ViewEquality.{same_counts, counts_equality}};
 
 use std::marker::Model;
 
@@ -56,6 +56,17 @@ impl Looks {
         ensures { self.new ≡ miss self.old }
     {
         self.failed = self.failed.saturating_add(1);
+    }
+
+    /// Counts the look that a step of a walk was; the end of a list is none.
+    pub fn count<T, E>(&mut self, step: &Option<Result<T, E>>)
+        ensures { self.new ≡ looked step.now self.old }
+    {
+        match step {
+            None => {}
+            Some(Ok(_)) => self.hit(),
+            Some(Err(_)) => self.miss(),
+        }
     }
 }
 

@@ -4,8 +4,8 @@ use Rattle.std.proofs.Common.{Option, Some, None, Result, Ok, Err, refl, ap, ◌
 use Rattle.std.proofs.lemmas.Bool.{cases_Bool, cases_lt, le-ltb, lt-ltb}
 use Rattle.npr_base.specs.declared.refusal.DecodeError.{DecodeError}
 use Rattle.npr_base.specs.declared.refusal.DecodeError.TheVariants.{AttributeTooShort, AttributeLength}
-use Rattle.npr_base.specs.Counts.{Counts, hit}
-use Rattle.npr_base.specs.Framing.{Item, Front, Passes, Fault, Step, looked, pad}
+use Rattle.npr_base.specs.Counts.{Counts, hit, looked}
+use Rattle.npr_base.specs.Framing.{Item, Front, Passes, Fault, Step, pad}
 use Rattle.npr_base.specs.FrontLaws.{length_at, length_at-is, rest_at, two_bytes, Front-is, Front-takes}
 use Rattle.npr_tunnel.specs.declared.encap_type.RouteLwEnCapType.{RouteLwEnCapType}
 use Rattle.npr_route.specs.Governing.{hit_each, Searches}

@@ -2,9 +2,9 @@
 use Rattle.std.proofs.Common.{◌≡◌, ℕ, Bool, true, false, List, [], ◌∷◌, length, Option, Some, None, Result, Ok, Err, refl, sym, ap, subst, ◌∙◌}
 use Rattle.std.proofs.Common.{arith, true≢false}
 use Rattle.npr_base.specs.declared.refusal.DecodeError.{DecodeError}
-use Rattle.npr_base.specs.Counts.{Counts, no_looks, hit, raised}
+use Rattle.npr_base.specs.Counts.{Counts, no_looks, hit, raised, looked}
 use Rattle.npr_base.specs.Family.{AllOf}
-use Rattle.npr_base.specs.Framing.{Item, Front, Passes, Step, looked}
+use Rattle.npr_base.specs.Framing.{Item, Front, Passes, Step}
 use Rattle.npr_base.specs.FrontLaws.{Front-same, Front-shrinks, Front-sound}
 use Rattle.npr_base.specs.Looks.{Adds, Looking}
 use Rattle.npr_base.specs.LooksLaws.{plus, one_hit, one_miss, raised-none, raised-hit, raised-miss, raised-more, raised-behind, raised-inside}

@@ -2,8 +2,8 @@
 -- that stands (linux/rtnetlink.h).
 use Rattle.std.specs.Prelude.{◌≡◌, ℕ, ◌<◌, ◌==◌, ◌⊎◌, List, [], ◌∷◌, length, Option, Some, None, Result, Ok, if◌then◌else◌}
 use Rattle.npr_base.specs.declared.refusal.DecodeError.{DecodeError}
-use Rattle.npr_base.specs.Counts.{Counts, hit}
-use Rattle.npr_base.specs.Framing.{Item, number_of, Front, Passes, Fault, Step, looked}
+use Rattle.npr_base.specs.Counts.{Counts, hit, looked}
+use Rattle.npr_base.specs.Framing.{Item, number_of, Front, Passes, Fault, Step}
 use Rattle.npr_base.specs.Family.{AllOf}
 use Rattle.npr_tunnel.specs.EncapType.{encap_type}
 use Rattle.npr_tunnel.specs.declared.encap_type.RouteLwEnCapType.{RouteLwEnCapType}

@@ -2,8 +2,8 @@
 use Rattle.std.proofs.Common.{◌≡◌, ℕ, ◌+◌, ◌≤◌, List, [], ◌∷◌, ◌++◌, length, Option, Some, None, Result, Ok, Err, refl, ap, ◌∙◌, arith}
 use Rattle.std.proofs.lemmas.List.{length_push}
 use Rattle.npr_base.specs.declared.refusal.DecodeError.{DecodeError}
-use Rattle.npr_base.specs.Counts.{Counts, hit}
-use Rattle.npr_base.specs.Framing.{Item, Passes, Step, looked}
+use Rattle.npr_base.specs.Counts.{Counts, hit, looked}
+use Rattle.npr_base.specs.Framing.{Item, Passes, Step}
 use Rattle.npr_base.specs.FrontLaws.{Passes-more, Cut-stops}
 use Rattle.npr_base.specs.Walk.{Searched}
 use Rattle.npr_tunnel.specs.declared.encap_type.RouteLwEnCapType.{RouteLwEnCapType}

@@ -6,7 +6,7 @@ ghost use Rattle.{
   npr_scalar.specs.{Mpls.{label_of, label_number}, MplsLaws.{mpls_label, mpls_labels}},
 };
 
-use npr_base::{At, DecodeError, EmitError, Emitable, read_u32_be, write_array};
+use npr_base::{At, DecodeError, EmitError, Emitable, read_octets, write_array};
 use std::alloc::Global;
 
 /// One entry of a label stack.
@@ -31,8 +31,8 @@ impl From<u32> for MplsLabel {
     fn from(number: u32) -> MplsLabel {
         MplsLabel {
             label: number / 0x1000,
-            traffic_class: (number / 0x200 % 8) as u8,
-            bottom_of_stack: number / 0x100 % 2 == 1,
+            traffic_class: (number % 0x1000 / 0x200) as u8,
+            bottom_of_stack: number % 0x200 / 0x100 == 1,
             ttl: (number % 0x100) as u8,
         }
     }
@@ -59,7 +59,8 @@ impl MplsLabel {
         ensures ok { IfOk result (λ entry. (exactly mpls_label).Reads bytes.now entry) }
         ensures refused { IfErr result (λ e. (exactly mpls_label).Wrong no_place bytes.now e) }
     {
-        Ok(MplsLabel::from(read_u32_be(bytes, At::NO_PLACE)?))
+        let octets = read_octets(bytes, At::NO_PLACE)?;
+        Ok(MplsLabel::from(u32::from_be_bytes(octets)))
     }
 }
 

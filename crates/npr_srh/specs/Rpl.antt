@@ -1,6 +1,7 @@
 -- The routing header of an RPL tunnel (RFC 6554, section 3; linux/rpl.h, struct ipv6_rpl_sr_hdr): only headers without compression can be read.
-use Rattle.std.specs.Prelude.{◌≡◌, ℕ, ◌+◌, ◌*◌, ◌/◌, ◌%◌, ◌<◌, ◌^◌, List, [], ◌∷◌, length, slice_index}
-use Rattle.std.proofs.Common.{refl, arith}
+use Rattle.std.specs.Prelude.{◌≡◌, ℕ, ◌<◌, ◌^◌, List, [], ◌∷◌, length, slice_index}
+use Rattle.std.proofs.Common.{refl}
+use Rattle.npr_base.specs.Bits.{Bits, bits, ◌above◌, over_spare}
 use Rattle.npr_base.specs.Framing.{IsBytes}
 use Rattle.npr_base.specs.Codec.{Codec}
 use Rattle.npr_srh.specs.Headed.{Fixed, Headed, headed}
@@ -15,30 +16,36 @@ pub record RplFront : Type 0 where
   pub cmpre : ℕ
   pub pad : ℕ
 
--- in the fifth byte, the high four bits are how much of each address but the last is left out, and the low four how much of the last; in the sixth,
--- the high four are the padding at the end; other bits are dropped
+-- the fifth byte: how much of each address but the last is left out, and how much of the last
+abbrev pub compression : Bits (ℕ × ℕ)
+compression = bits 4 above bits 4
+
+-- the sixth: the padding at the end
+abbrev pub padding : Bits ℕ
+padding = over_spare 4 (bits 4)
+
+-- the bits and bytes behind them are dropped
 abbrev pub decode_rpl : List ℕ → RplFront
 decode_rpl b = record {
   next_header = slice_index b 0;
   routing_type = slice_index b 2;
   segments_left = slice_index b 3;
-  cmpri = slice_index b 4 / 16;
-  cmpre = slice_index b 4 % 16;
-  pad = slice_index b 5 / 16;
+  cmpri = (compression.of (slice_index b 4)).0;
+  cmpre = (compression.of (slice_index b 4)).1;
+  pad = padding.of (slice_index b 5);
 }
 
 -- fields of four bits are written modulo 16
 abbrev pub encode_rpl : ℕ → RplFront → List ℕ
 encode_rpl eights f =
-    f.next_header ∷ eights ∷ f.routing_type ∷ f.segments_left ∷ (16 * (f.cmpri % 16) + f.cmpre % 16) ∷ (16 * (f.pad % 16)) ∷ 0 ∷ 0 ∷ []
+    f.next_header ∷ eights ∷ f.routing_type ∷ f.segments_left ∷ compression.number (f.cmpri, f.cmpre) ∷ padding.number f.pad ∷ 0 ∷ 0 ∷ []
 
 pub record RplRange (f : RplFront) : Type 0 where
   pub next_header : f.next_header < 2 ^ 8
   pub routing_type : f.routing_type < 2 ^ 8
   pub segments_left : f.segments_left < 2 ^ 8
-  pub cmpri : f.cmpri < 16
-  pub cmpre : f.cmpre < 16
-  pub pad : f.pad < 16
+  pub compression : compression.Holds (f.cmpri, f.cmpre)
+  pub pad : padding.Holds f.pad
 
 -- nothing of any address is left out
 pub record RplReadable (f : RplFront) : Type 0 where
@@ -47,14 +54,25 @@ pub record RplReadable (f : RplFront) : Type 0 where
 
 pub rpl-back : (eights : ℕ) (f : RplFront) → RplRange f → RplReadable f → decode_rpl (encode_rpl eights f) ≡ f
 rpl-back eights f h r =
-    let cmpri : (16 * (f.cmpri % 16) + f.cmpre % 16) / 16 ≡ f.cmpri = omega (arith, h.cmpri) in
-    let cmpre : (16 * (f.cmpri % 16) + f.cmpre % 16) % 16 ≡ f.cmpre = omega (arith, h.cmpre) in
-    let pad : 16 * (f.pad % 16) / 16 ≡ f.pad = omega (arith, h.pad) in
-    λ i. record { next_header = f.next_header; routing_type = f.routing_type; segments_left = f.segments_left; cmpri = cmpri i; cmpre = cmpre i; pad = pad i }
+    let left_out = compression.of-number (f.cmpri, f.cmpre) h.compression in
+    let pad = padding.of-number f.pad h.pad in
+    λ i. record {
+      next_header = f.next_header;
+      routing_type = f.routing_type;
+      segments_left = f.segments_left;
+      cmpri = (left_out i).0;
+      cmpre = (left_out i).1;
+      pad = pad i;
+    }
 
 pub rpl-range : (b : List ℕ) → IsBytes b → length b ≡ 8 → RplRange (decode_rpl b)
-rpl-range b is e =
-    record { next_header = is 0; routing_type = is 2; segments_left = is 3; cmpri = omega (arith, is 4); cmpre = omega arith; pad = omega (arith, is 5) }
+rpl-range b is e = record {
+  next_header = is 0;
+  routing_type = is 2;
+  segments_left = is 3;
+  compression = compression.Holds-of (slice_index b 4) (is 4);
+  pad = padding.Holds-of (slice_index b 5) (is 5);
+}
 
 abbrev pub rpl_front : Fixed RplFront
 rpl_front = record {

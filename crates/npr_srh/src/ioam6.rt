@@ -83,14 +83,14 @@ impl Ioam6TraceHdr {
         ensures some { IfSome result (λ t. IsTrace value.now t) }
         ensures none { IfNone result (IsUnread IsTrace value.now) }
     {
-        let [a, b, node, rem, c, d, e, f] = value else {
+        let [a, b, node, room, c, d, e, f] = value else {
             return None;
         };
         Some(Ioam6TraceHdr {
             namespace_id: u16::from_be_bytes([*a, *b]),
-            nodelen: *node / 8,
+            nodelen: *node / 4 / 2,
             overflow: *node / 4 % 2 == 1,
-            remlen: *rem % 128,
+            remlen: *room % 128,
             trace_type: u32::from_be_bytes([*c, *d, *e, *f]) / 256,
         })
     }
@@ -100,18 +100,9 @@ impl Ioam6TraceHdr {
         ensures { result ≡ encode_trace self.now }
     {
         let [a, b] = self.namespace_id.to_be_bytes();
-        let overflow = if self.overflow { 4 } else { 0 };
-        let [c, d, e, f] = (256 * (self.trace_type % 0x0100_0000)).to_be_bytes();
-        [
-            a,
-            b,
-            8 * (self.nodelen % 32) + overflow,
-            self.remlen % 128,
-            c,
-            d,
-            e,
-            f,
-        ]
+        let node = (self.nodelen % 32 * 2 + u8::from(self.overflow)) * 4;
+        let [c, d, e, f] = (self.trace_type % 0x0100_0000 * 256).to_be_bytes();
+        [a, b, node, self.remlen % 128, c, d, e, f]
     }
 }
 

@@ -104,8 +104,8 @@ impl RplSrh {
             (2 * self.segments.len()) as u8,
             self.routing_type,
             self.segments_left,
-            16 * (self.cmpri % 16) + self.cmpre % 16,
-            16 * (self.pad % 16),
+            self.cmpri % 16 * 16 + self.cmpre % 16,
+            self.pad % 16 * 16,
             0,
             0,
         ]

@@ -21,6 +21,9 @@ returns-clause-address_family c = family_equality
 pub returns-clause-at : goal.returns-clause-at
 returns-clause-at c = at_equality
 
+pub returns-clause-seg6_fault : goal.returns-clause-seg6_fault
+returns-clause-seg6_fault c = fault_equality
+
 pub returns-clause-decode_error : goal.returns-clause-decode_error
 returns-clause-decode_error c =
     let number = one_equality unsigned_Decides in
