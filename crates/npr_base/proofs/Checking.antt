@@ -1,20 +1,10 @@
 -- A list of what is written, member by member.
-use Rattle.std.proofs.Common.{◌≡◌, ℕ, ◌+◌, ◌<◌, ◌≤◌, Option, Some, None, List, [], ◌∷◌, ◌++◌, length, map, get_or, Ok, take, drop, refl, sym, ap, ◌∙◌, append_assoc, arith, length-append}
+use Rattle.std.proofs.Common.{◌≡◌, ℕ, ◌+◌, ◌<◌, Option, Some, None, List, [], ◌∷◌, ◌++◌, length, map, get_or, Ok, drop, refl, sym, ap, ◌∙◌}
 use Rattle.npr_base.specs.Framing.{Item, encoding}
-use Rattle.std.proofs.lemmas.List.{append-nil, take_more, drop_more, take-append-drop}
+use Rattle.std.proofs.lemmas.List.{drop_more}
 use Rattle.npr_base.specs.declared.refusal.EmitError.{EmitError}
 use Rattle.npr_base.specs.FitLaws.{none_both}
 use Rattle.npr_base.specs.Family.{encodings, first_unfit, option_or, checked, overlong, list_unfit}
-
-pub encodings-append : {A : Type 0} (item : A → Item) (xs ys : List A) → encodings item (xs ++ ys) ≡ encodings item xs ++ encodings item ys
-encodings-append item [] ys = refl
-encodings-append item (x ∷ xs) ys = ap (λ (w : List ℕ). encoding (item x) ++ w) (encodings-append item xs ys) ∙ sym (append_assoc (encoding (item x)) (encodings item xs) (encodings item ys))
-
-pub encodings-more : {A : Type 0} (item : A → Item) (xs : List A) (i : ℕ) (x : A) → i < length xs → x ≡ get_or xs i x → length (encodings item (take (i + 1) xs)) ≡ length (encodings item (take i xs)) + length (encoding (item x))
-encodings-more item xs i x lt is =
-    let e : take (i + 1) xs ≡ take i xs ++ x ∷ [] = take_more xs i x lt ∙ ap (λ y. take i xs ++ y ∷ []) (sym is) in
-    let s : encodings item (take (i + 1) xs) ≡ encodings item (take i xs) ++ (encoding (item x) ++ []) = ap (encodings item) e ∙ encodings-append item (take i xs) (x ∷ []) in
-    ap length s ∙ length-append (encodings item (take i xs)) (encoding (item x) ++ []) ∙ ap (λ (w : List ℕ). length (encodings item (take i xs)) + length w) (append-nil (encoding (item x)))
 
 -- past a member that can be written
 pub first-past : {A : Type 0} (unfit : A → Option EmitError) (xs : List A) (i : ℕ) (x : A) → i < length xs → x ≡ get_or xs i x → unfit x ≡ None → first_unfit unfit (drop i xs) ≡ first_unfit unfit (drop (i + 1) xs)
@@ -25,16 +15,6 @@ first-past unfit xs i x lt is fits =
 pub checked-ok : (o : Option EmitError) (n m : ℕ) → Ok m ≡ checked o n → (o ≡ None) × (m ≡ n)
 checked-ok None n m e = (refl, cc)
 checked-ok (Some f) n m e = absurd cc
-
-pub encodings-below : {A : Type 0} (item : A → Item) (xs : List A) (i : ℕ) → length (encodings item (take i xs)) ≤ length (encodings item xs)
-encodings-below item xs i =
-    let e : encodings item xs ≡ encodings item (take i xs) ++ encodings item (drop i xs) = ap (encodings item) (sym (take-append-drop i xs)) ∙ encodings-append item (take i xs) (drop i xs) in
-    omega (arith, ap length e, length-append (encodings item (take i xs)) (encodings item (drop i xs)))
-
-pub encodings-next : {A : Type 0} (item : A → Item) (xs : List A) (i : ℕ) (x : A) → i < length xs → x ≡ get_or xs i x → encodings item (take (i + 1) xs) ≡ encodings item (take i xs) ++ encoding (item x)
-encodings-next item xs i x lt is =
-    let e : take (i + 1) xs ≡ take i xs ++ x ∷ [] = take_more xs i x lt ∙ ap (λ y. take i xs ++ y ∷ []) (sym is) in
-    ap (encodings item) e ∙ encodings-append item (take i xs) (x ∷ []) ∙ ap (λ (w : List ℕ). encodings item (take i xs) ++ w) (append-nil (encoding (item x)))
 
 pub first-none : {A : Type 0} (unfit : A → Option EmitError) (xs : List A) (i : ℕ) (x : A) → i < length xs → x ≡ get_or xs i x → first_unfit unfit (drop i xs) ≡ None → (unfit x ≡ None) × (first_unfit unfit (drop (i + 1) xs) ≡ None)
 first-none unfit xs i x lt is h =

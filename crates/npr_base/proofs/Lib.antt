@@ -1,6 +1,7 @@
 pub mod Fronts
 pub mod Writing
 pub mod Checking
+pub mod Joined
 pub mod Lists
 pub mod Looking
 pub mod Names

@@ -20,6 +20,23 @@ Writes-more old cur part done x at e le w p =
     let written : part ≡ x ++ drop (length (done ++ x)) old = p ∙ ap (λ (z : List ℕ). x ++ drop (length x) z) whole ∙ ap (λ (z : List ℕ). x ++ z) rest in
     rw (front, none, append-nil, written) (sym (append_assoc done x (drop (length (done ++ x)) old)))
 
+-- so far these bytes are written
+pub record Wrote (old cur : List ℕ) (at : ℕ) (done : List ℕ) : Type 0 where
+  pub len : at ≡ length done
+  pub after : Writes old cur done
+
+-- and x is next, of bytes that have room
+module _ (old cur : List ℕ) (at : ℕ) (done next x : List ℕ) (len : at ≡ length done) (is : next ≡ done ++ x) (room : length next ≤ length old) where
+  pub room_behind : length cur ≡ length old → length x ≤ length (take (length cur - at) (drop at cur))
+  room_behind same = omega (arith, len, ap length is, length-append done x, room, same, length-take (length cur - at) (drop at cur), length-drop at cur)
+
+  pub wrote_more : Writes old cur done → (part : List ℕ) (size : ℕ) → size ≡ length x → Writes (take (length cur - at) (drop at cur)) part x
+      → Wrote old (put_mid at (length cur - at) cur part) (at + size) next
+  wrote_more after part size same p = record {
+    len = omega (arith, len, same, ap length is, length-append done x);
+    after = rw is (Writes-more old cur part done x at len (omega (arith, ap length is, length-append done x, room)) after p);
+  }
+
 -- a header over what stands already, and padding after it
 pub Writes-framed : (old cur new : List ℕ) (k len : ℕ) → framed len ≤ length old → Writes old cur (to_le_bytes w16 (4 + len) ++ to_le_bytes w16 k)
     → Writes (take (length cur - (4 + len)) (drop (4 + len) cur)) new (replicate (pad len) 0)

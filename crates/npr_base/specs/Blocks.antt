@@ -7,7 +7,7 @@ use Rattle.std.specs.Prelude.{◌≡◌, ℕ, ◌+◌, ◌*◌, ◌<◌, ◌≤�
 use Rattle.std.proofs.Common.{refl, sym, ap, subst, ◌∙◌, arith, length-append, length-take, length-drop}
 use Rattle.std.proofs.lemmas.List.{take_at, drop_at, take-append-drop}
 use Rattle.npr_base.specs.Framing.{IsBytes, framed}
-use Rattle.npr_base.specs.Family.{AllOf}
+use Rattle.npr_base.specs.Family.{AllOf, joined}
 use Rattle.npr_base.specs.ListLaws.{IsBytes-take, IsBytes-right}
 use Rattle.npr_base.specs.CodecLaws.{framed-grows}
 use Rattle.npr_base.specs.Layout.{Layout}
@@ -25,8 +25,7 @@ AreBlocks L bytes (x ∷ xs) = IsBlock L bytes x × AreBlocks L (drop L.size byt
 
 -- the blocks of the values, joined
 abbrev pub block_bytes : {V : Type 0} → Layout V → List V → List ℕ
-block_bytes L [] = []
-block_bytes L (x ∷ xs) = L.encode x ++ block_bytes L xs
+block_bytes L = joined L.encode
 
 module _ {V : Type 0} (L : Layout V) where
   pub blocks-one : (bytes : List ℕ) (xs ys : List V) → AreBlocks L bytes xs → AreBlocks L bytes ys → xs ≡ ys

@@ -63,10 +63,13 @@ IsWrong faulty rest e = ((0 < length rest) × Fault rest e) ⊎ ((x : Item) × (
 abbrev pub FirstFault : {M : Type 0} → (Item → M → Type 0) → (Item → DecodeError → Type 0) → List ℕ → DecodeError → Type 0
 FirstFault {M} reads faulty bytes e = (xs : List M) × (rest : List ℕ) × ReadsTo reads bytes xs rest × IsWrong faulty rest e
 
--- the encodings, joined
+-- the texts of each, one after the other
+abbrev pub joined : {A : Type 0} → (A → List ℕ) → List A → List ℕ
+joined text [] = []
+joined text (x ∷ xs) = text x ++ joined text xs
+
 abbrev pub encodings : {A : Type 0} → (A → Item) → List A → List ℕ
-encodings item [] = []
-encodings item (x ∷ xs) = encoding (item x) ++ encodings item xs
+encodings item = joined (λ x. encoding (item x))
 
 -- the first that can't be written
 abbrev pub first_unfit : {A : Type 0} → (A → Option EmitError) → List A → Option EmitError

@@ -39,7 +39,6 @@ pub mod IpCodec
 pub mod ViewEquality
 pub mod StructLaws
 pub mod Blocks
-pub mod BlocksLaws
 pub mod VariantCodec
 pub mod DroppedCodec
 pub mod V6List

@@ -2,11 +2,11 @@
 use Rattle.std.proofs.Common.{◌≡◌, ◌+◌, ◌≤◌, length, map, None, sym, ap, ◌∙◌}
 use Rattle.std.specs.declared.vec.Vec.{Vec}
 use Rattle.std.specs.declared.alloc.Global.{Global}
-use Rattle.npr_base.specs.Family.{first_unfit, encodings}
+use Rattle.npr_base.specs.Family.{first_unfit, encodings, joined}
 use Rattle.npr_base.specs.FitLaws.{none_both}
 use Rattle.npr_route.specs.Attribute.{Meaning, shape_of, hop_bytes, hop_text, hop_overlong}
 use Rattle.npr_route.specs.AttributeLaws.{hop-short, fits-inside}
-use Rattle.npr_route.specs.AttributeView.{meaning_of, hop_of, hops_of, attribute_item, attribute_misfit, next_hop_bytes, next_hop_misfit, joined}
+use Rattle.npr_route.specs.AttributeView.{meaning_of, hop_of, hops_of, attribute_item, attribute_misfit, next_hop_bytes, next_hop_misfit}
 use Rattle.npr_route.specs.declared.attribute.RouteAttribute.TheVariants.{MultiPath}
 use Rattle.npr_route.specs.declared.next_hops.RouteNextHop.{RouteNextHop}
 use Rattle.npr_route.proofs.Views.{head_of, view_hop, view_multi_path, attributes_text, hops_fit, hops_text, hop_misfit-is}

@@ -1,14 +1,13 @@
 -- What values of the program mean: a next hop by its fields, and lists of them member by member.
 use Rattle.std.specs.Prelude.{Option, Some, None}
-use Rattle.std.proofs.Common.{◌≡◌, ℕ, ◌+◌, ◌≤◌, ◌<◌, ◌^◌, List, [], ◌∷◌, ◌++◌, length, map, get_or, take, drop, Ok, Err, refl, sym, ap, ◌∙◌, append_assoc, arith, inl, inr, length-append}
+use Rattle.std.proofs.Common.{◌≡◌, ℕ, ◌+◌, ◌≤◌, ◌<◌, ◌^◌, List, [], ◌∷◌, ◌++◌, length, map, Ok, Err, refl, sym, ap, ◌∙◌, arith, inl, inr}
 use Rattle.std.proofs.lemmas.Bool.{cases_lt, lt-ltb, le-ltb}
-use Rattle.std.proofs.lemmas.List.{append-nil, take_more, take-append-drop}
 use Rattle.npr_base.specs.declared.refusal.EmitError.{EmitError}
 use Rattle.npr_base.specs.declared.refusal.EmitError.TheVariants.{Total}
 use Rattle.npr_base.specs.Framing.{encoding}
-use Rattle.npr_base.specs.Family.{checked, option_or, overlong, first_unfit, list_unfit, encodings}
+use Rattle.npr_base.specs.Family.{checked, option_or, overlong, first_unfit, list_unfit, encodings, joined}
 use Rattle.npr_route.specs.Attribute.{HopHead, Meaning, flat, multi_path, Hop, shape_of, misfit, attributes_misfit, attributes_bytes, hops_misfit, hops_bytes, hop_misfit, hop_bytes, hop_overlong, attributes_of}
-use Rattle.npr_route.specs.AttributeView.{hops_of, attribute_step, hop_step, meaning_of, hop_of, attribute_item, attribute_misfit, next_hop_bytes, next_hop_misfit, joined}
+use Rattle.npr_route.specs.AttributeView.{hops_of, attribute_step, hop_step, meaning_of, hop_of, attribute_item, attribute_misfit, next_hop_bytes, next_hop_misfit}
 use Rattle.npr_scalar.specs.RouteFlags.{next_hop_flag_bits}
 use Rattle.npr_route.specs.declared.attribute.RouteAttribute.{RouteAttribute}
 use Rattle.npr_route.specs.declared.attribute.RouteAttribute.TheFolds.{fold_out-RouteNextHop, fold-roll-RouteNextHop, fold-roll-RouteAttribute}
@@ -77,26 +76,6 @@ hops_fit (x ∷ xs) = ap (option_or (next_hop_misfit x)) (hops_fit xs)
 pub hops_text : (xs : List RouteNextHop) → hops_bytes (hops_of (map hop_of xs)) ≡ joined next_hop_bytes xs
 hops_text [] = refl
 hops_text (x ∷ xs) = ap (λ (w : List ℕ). next_hop_bytes x ++ w) (hops_text xs)
-
--- ---- texts one after the other
-
-module _ {A : Type 0} (text : A → List ℕ) where
-  joined-append : (xs ys : List A) → joined text (xs ++ ys) ≡ joined text xs ++ joined text ys
-  joined-append [] ys = refl
-  joined-append (x ∷ xs) ys = ap (λ (w : List ℕ). text x ++ w) (joined-append xs ys) ∙ sym (append_assoc (text x) (joined text xs) (joined text ys))
-
-  pub joined-next : (xs : List A) (i : ℕ) (x : A) → i < length xs → x ≡ get_or xs i x → joined text (take (i + 1) xs) ≡ joined text (take i xs) ++ text x
-  joined-next xs i x lt is =
-      let e : take (i + 1) xs ≡ take i xs ++ x ∷ [] = take_more xs i x lt ∙ ap (λ y. take i xs ++ y ∷ []) (sym is) in
-      ap (joined text) e ∙ joined-append (take i xs) (x ∷ []) ∙ ap (λ (w : List ℕ). joined text (take i xs) ++ w) (append-nil (text x))
-
-  pub joined-more : (xs : List A) (i : ℕ) (x : A) → i < length xs → x ≡ get_or xs i x → length (joined text (take (i + 1) xs)) ≡ length (joined text (take i xs)) + length (text x)
-  joined-more xs i x lt is = ap length (joined-next xs i x lt is) ∙ length-append (joined text (take i xs)) (text x)
-
-  pub joined-below : (xs : List A) (i : ℕ) → length (joined text (take i xs)) ≤ length (joined text xs)
-  joined-below xs i =
-      let e : joined text xs ≡ joined text (take i xs) ++ joined text (drop i xs) = ap (joined text) (sym (take-append-drop i xs)) ∙ joined-append (take i xs) (drop i xs) in
-      omega (arith, ap length e, length-append (joined text (take i xs)) (joined text (drop i xs)))
 
 -- ---- what a check answers
 

@@ -83,8 +83,3 @@ next_hop_bytes h = hop_bytes (hop_of h)
 
 abbrev pub next_hop_misfit : RouteNextHop → Option EmitError
 next_hop_misfit h = hop_misfit (hop_of h)
-
--- texts of each, one after the other
-abbrev pub joined : {A : Type 0} → (A → List ℕ) → List A → List ℕ
-joined text [] = []
-joined text (x ∷ xs) = text x ++ joined text xs

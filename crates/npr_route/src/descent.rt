@@ -3,10 +3,10 @@
 
 ghost use Rattle.std.specs.Prelude.{◌≡◌, ◌≤◌, ◌<◌, ◌+◌, None, length, IfOk, OnErr, map};
 ghost use Rattle.{
-  npr_base.specs.{Family.{checked, option_or, overlong, first_unfit, list_unfit, encodings}, Framing.{Writes, encoding, framed}},
+  npr_base.specs.{Family.{checked, option_or, overlong, first_unfit, list_unfit, encodings, joined}, Framing.{Writes, encoding, framed}},
   npr_route.specs.{
     Attribute.{shape_of, misfit, hop_misfit, hop_bytes, hop_overlong},
-    AttributeView.{meaning_of, hop_of, attribute_item, attribute_misfit, next_hop_bytes, next_hop_misfit, joined},
+    AttributeView.{meaning_of, hop_of, attribute_item, attribute_misfit, next_hop_bytes, next_hop_misfit},
     FlatAttribute.{marks, any_marks},
   },
   npr_tunnel.specs.Encapsulation.{meaning_of as member_of},

@@ -1,7 +1,8 @@
 use Rattle.std.proofs.Common.{◌≡◌, ◌+◌, ap, arith, sym, ◌∙◌, length, take}
 use Rattle.npr_base.specs.Framing.{encoding}
 use Rattle.npr_base.specs.Family.{encodings}
-use Rattle.npr_base.proofs.Checking.{checked-ok, first-past, encodings-more}
+use Rattle.npr_base.proofs.Checking.{checked-ok, first-past}
+use Rattle.npr_base.proofs.Joined.{joined-more}
 use Rattle.npr_base.proofs.list.check_list_body.Goals as goal
 use Rattle.npr_base.specs.Table.{shaped_item, shaped_misfit}
 
@@ -14,7 +15,7 @@ loop-x-preserved g c =
     let item = shaped_item g.A.Nla.shape in
     let k = checked-ok (shaped_misfit g.A.Nla.shape x) (length (encoding (item x))) len (sym c.in_ok-total.was ∙ c.check.ensures) in
     let size : length (encodings item (take i all)) + len ≡ length (encodings item (take (i + 1) all)) =
-    ap (λ n. length (encodings item (take i all)) + n) k.1 ∙ sym (encodings-more item all i x c.loop-x-test.true c.x-item.is) in
+    ap (λ n. length (encodings item (take i all)) + n) k.1 ∙ sym (joined-more (λ y. encoding (item y)) all i x c.loop-x-test.true c.x-item.is) in
     record {
       fits = c.loop-x.invariant.fits ∙ first-past (shaped_misfit g.A.Nla.shape) all i x c.loop-x-test.true c.x-item.is k.0;
       sum = ap (λ n. n + len) c.loop-x.invariant.sum ∙ size;

@@ -1,8 +1,9 @@
-use Rattle.std.proofs.Common.{◌≡◌, ◌+◌, ◌-◌, ◌≤◌, length, take, drop, arith, length-take, length-drop}
-use Rattle.npr_base.specs.Framing.{encoding, framed}
+use Rattle.std.proofs.Common.{◌+◌, ◌∙◌, sym, take, arith, ◌≤◌, length}
+use Rattle.npr_base.specs.Framing.{encoding}
 use Rattle.npr_base.specs.Family.{encodings}
-use Rattle.npr_base.proofs.Checking.{first-none, encodings-more, encodings-next, encodings-below}
-use Rattle.npr_base.proofs.Writing.{Writes-more}
+use Rattle.npr_base.proofs.Checking.{first-none}
+use Rattle.npr_base.proofs.Joined.{joined-next, joined-below}
+use Rattle.npr_base.proofs.Writing.{room_behind, wrote_more}
 use Rattle.npr_base.specs.ListLaws.{length-encoding}
 use Rattle.npr_base.proofs.list.write_list_body.Goals as goal
 use Rattle.npr_base.specs.Table.{shaped_item, shaped_misfit}
@@ -17,11 +18,10 @@ write_attribute-at-requires-clause-room g c =
     let i = c.loop-x.x-index in
     let all = c.args.list.now in
     let item = shaped_item g.A.Nla.shape in
-    let out = c.loop-x.out in
-    let at = c.loop-x.at in
-    let same : length out ≡ length c.args.out.now = c.loop-x.auto.out in
-    let need : at + framed (length (g.A.Nla.shape x).item.value) ≤ length out = omega (arith, encodings-more item all i x c.loop-x-test.true c.x-item.is, encodings-below item all (i + 1), length-encoding (item x), c.loop-x.invariant.len, c.requires.room, same) in
-    omega (arith, need, length-take (length out - at) (drop at out), length-drop at out)
+    let room : length (encodings item (take (i + 1) all)) ≤ length c.args.out.now = omega (arith, joined-below (λ y. encoding (item y)) all (i + 1), c.requires.room) in
+    rw (← length-encoding (item x))
+    (room_behind c.args.out.now c.loop-x.out c.loop-x.at (encodings item (take i all)) (encodings item (take (i + 1) all)) (encoding (item x)) c.loop-x.invariant.len
+    (joined-next (λ y. encoding (item y)) all i x c.loop-x-test.true c.x-item.is) room c.loop-x.auto.out)
 
 pub loop-x-preserved : goal.loop-x-preserved
 loop-x-preserved g c =
@@ -30,10 +30,13 @@ loop-x-preserved g c =
     let all = c.args.list.now in
     let item = shaped_item g.A.Nla.shape in
     let past = c.loop-x.invariant in
-    let next = encodings-next item all i x c.loop-x-test.true c.x-item.is in
-    let below : length (encodings item (take i all)) ≤ length c.args.out.now = omega (arith, encodings-below item all i, c.requires.room) in
+    let room : length (encodings item (take (i + 1) all)) ≤ length c.args.out.now = omega (arith, joined-below (λ y. encoding (item y)) all (i + 1), c.requires.room) in
+    let wrote =
+    wrote_more c.args.out.now c.loop-x.out c.loop-x.at (encodings item (take i all)) (encodings item (take (i + 1) all)) (encoding (item x)) past.len
+    (joined-next (λ y. encoding (item y)) all i x c.loop-x-test.true c.x-item.is) room past.after c.write_attribute-at.new.out c.write_attribute-at.result
+    (c.write_attribute-at.ensures.len ∙ sym (length-encoding (item x))) c.write_attribute-at.ensures.after in
     record {
       fits = (first-none (shaped_misfit g.A.Nla.shape) all i x c.loop-x-test.true c.x-item.is past.fits).1;
-      len = omega (arith, encodings-more item all i x c.loop-x-test.true c.x-item.is, past.len, c.write_attribute-at.ensures.len, length-encoding (item x));
-      after = rw next (Writes-more c.args.out.now c.loop-x.out c.write_attribute-at.new.out (encodings item (take i all)) (encoding (item x)) c.loop-x.at past.len below past.after c.write_attribute-at.ensures.after);
+      len = wrote.len;
+      after = wrote.after;
     }

@@ -1,12 +1,13 @@
 use Rattle.std.proofs.Common.{◌≡◌, ◌+◌, ap, arith, sym, ◌∙◌, length, take, Err}
 use Rattle.std.proofs.lemmas.Result.{err_from_is_err_and}
-use Rattle.npr_base.specs.Framing.{framed}
-use Rattle.npr_base.specs.Family.{encodings}
-use Rattle.npr_base.proofs.Checking.{checked-ok, first-past, encodings-more}
+use Rattle.npr_base.specs.Framing.{encoding, framed}
+use Rattle.npr_base.specs.Family.{encodings, joined}
+use Rattle.npr_base.proofs.Checking.{checked-ok, first-past}
+use Rattle.npr_base.proofs.Joined.{joined-more}
 use Rattle.npr_base.specs.ListLaws.{length-encoding}
 use Rattle.npr_route.specs.Attribute.{misfit, shape_of}
-use Rattle.npr_route.specs.AttributeView.{meaning_of, attribute_item, attribute_misfit, next_hop_bytes, next_hop_misfit, joined}
-use Rattle.npr_route.proofs.Views.{joined-more, hop_unfit, hop_checked, multi_path-checked}
+use Rattle.npr_route.specs.AttributeView.{meaning_of, attribute_item, attribute_misfit, next_hop_bytes, next_hop_misfit}
+use Rattle.npr_route.proofs.Views.{hop_unfit, hop_checked, multi_path-checked}
 use Rattle.npr_route.proofs.descent.+check.Goals as goal
 
 pub check_attributes-loop-attribute-preserved : goal.check_attributes-loop-attribute-preserved
@@ -19,7 +20,7 @@ check_attributes-loop-attribute-preserved t c =
     let done = length (encodings attribute_item (take i all)) in
     let one : c.in_ok-total.field-0 ≡ framed (length (attribute_item x).value) = k.1 in
     let size : done + c.in_ok-total.field-0 ≡ length (encodings attribute_item (take (i + 1) all)) =
-    ap (λ n. done + n) (one ∙ sym (length-encoding (attribute_item x))) ∙ sym (encodings-more attribute_item all i x c.loop-attribute-test.true c.attribute-item.is) in
+    ap (λ n. done + n) (one ∙ sym (length-encoding (attribute_item x))) ∙ sym (joined-more (λ y. encoding (attribute_item y)) all i x c.loop-attribute-test.true c.attribute-item.is) in
     record {
       fits = c.loop-attribute.invariant.fits ∙ first-past attribute_misfit all i x c.loop-attribute-test.true c.attribute-item.is k.0;
       sum = ap (λ n. n + c.in_ok-total.field-0) c.loop-attribute.invariant.sum ∙ size;

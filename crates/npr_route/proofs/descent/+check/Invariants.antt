@@ -1,6 +1,6 @@
 use Rattle.std.proofs.Common.{◌≡◌, ◌≤◌, ◌*◌, ◌^◌, ◌-◌, length, take, drop}
-use Rattle.npr_base.specs.Family.{first_unfit, encodings}
-use Rattle.npr_route.specs.AttributeView.{attribute_item, attribute_misfit, next_hop_bytes, next_hop_misfit, joined}
+use Rattle.npr_base.specs.Family.{first_unfit, encodings, joined}
+use Rattle.npr_route.specs.AttributeView.{attribute_item, attribute_misfit, next_hop_bytes, next_hop_misfit}
 use Rattle.npr_route.proofs.descent.+check.Given as goal
 
 abbrev pub invariant-check_attributes-loop-attribute : goal.invariant-check_attributes-loop-attribute

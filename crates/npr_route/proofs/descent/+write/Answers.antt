@@ -2,14 +2,15 @@ use Rattle.std.specs.Int.{w16, w32, to_le_bytes}
 use Rattle.std.proofs.Common.{rules, ◌≡◌, ◌∷◌, ◌++◌, ℕ, ◌+◌, ◌-◌, ◌≤◌, ap, sym, ◌∙◌, subst, refl, arith, length, take, drop, length-take, length-drop}
 use borrow.Rule.Slice.PartMut.{put_mid}
 use Rattle.npr_base.specs.Framing.{Item, Writes, encoding, framed, marked}
-use Rattle.npr_base.specs.Family.{encodings}
-use Rattle.npr_base.proofs.Checking.{first-none, encodings-more, encodings-next, encodings-below}
-use Rattle.npr_base.proofs.Writing.{Writes-more, Writes-encoding, Writes-before}
+use Rattle.npr_base.specs.Family.{encodings, joined}
+use Rattle.npr_base.proofs.Checking.{first-none}
+use Rattle.npr_base.proofs.Joined.{joined-next, joined-below}
+use Rattle.npr_base.proofs.Writing.{Writes-encoding, Writes-before, room_behind, wrote_more}
 use Rattle.npr_base.specs.ListLaws.{length-encoding}
 use Rattle.npr_route.specs.Attribute.{shape_of}
-use Rattle.npr_route.specs.AttributeView.{meaning_of, attribute_item, attribute_misfit, next_hop_bytes, next_hop_misfit, joined}
+use Rattle.npr_route.specs.AttributeView.{meaning_of, attribute_item, attribute_misfit, next_hop_bytes, next_hop_misfit}
 use Rattle.npr_route.specs.declared.attribute.RouteAttribute.TheViews.{the_lemmas}
-use Rattle.npr_route.proofs.Views.{head_of, joined-next, joined-more, joined-below, hop_bytes-length}
+use Rattle.npr_route.proofs.Views.{head_of, hop_bytes-length}
 use Rattle.npr_route.proofs.HopWriting.{next_hop_bytes-is, hop_fits, multi_path_fits, multi_path_value}
 use Rattle.npr_route.proofs.descent.+write.Goals as goal
 
@@ -30,15 +31,16 @@ write_attributes-write_attribute-at-requires t c =
     let x = c.attribute-item.result in
     let i = c.loop-attribute.attribute-index in
     let all = c.args.list.now in
-    let out = c.loop-attribute.out in
-    let at = c.loop-attribute.at in
     let past = c.loop-attribute.invariant in
-    let same : length out ≡ length c.args.out.now = c.loop-attribute.auto.out in
-    let size : framed (length (shape_of (meaning_of x)).item.value) ≡ length (encoding (attribute_item x)) = sym (length-encoding (attribute_item x)) in
-    let need : at + framed (length (shape_of (meaning_of x)).item.value) ≤ length out =
-    omega (arith, encodings-more attribute_item all i x c.loop-attribute-test.true c.attribute-item.is, encodings-below attribute_item all (i + 1), size, past.len, c.requires.room, same) in (
+    let next = encodings attribute_item (take (i + 1) all) in
+    let room : length next ≤ length c.args.out.now = omega (arith, joined-below (λ y. encoding (attribute_item y)) all (i + 1), c.requires.room) in (
       search (rules, the_lemmas),
-      ((first-none attribute_misfit all i x c.loop-attribute-test.true c.attribute-item.is past.fits).0, omega (arith, need, length-take (length out - at) (drop at out), length-drop at out)),
+      (
+        (first-none attribute_misfit all i x c.loop-attribute-test.true c.attribute-item.is past.fits).0,
+        rw (← length-encoding (attribute_item x))
+            (room_behind c.args.out.now c.loop-attribute.out c.loop-attribute.at (encodings attribute_item (take i all)) next (encoding (attribute_item x)) past.len
+            (joined-next (λ y. encoding (attribute_item y)) all i x c.loop-attribute-test.true c.attribute-item.is) room c.loop-attribute.auto.out),
+      ),
     )
 
 pub write_attributes-loop-attribute-preserved : goal.write_attributes-loop-attribute-preserved
@@ -47,13 +49,16 @@ write_attributes-loop-attribute-preserved t c =
     let i = c.loop-attribute.attribute-index in
     let all = c.args.list.now in
     let past = c.loop-attribute.invariant in
-    let next = encodings-next attribute_item all i x c.loop-attribute-test.true c.attribute-item.is in
-    let below : length (encodings attribute_item (take i all)) ≤ length c.args.out.now = omega (arith, encodings-below attribute_item all i, c.requires.room) in
-    let size : framed (length (shape_of (meaning_of x)).item.value) ≡ length (encoding (attribute_item x)) = sym (length-encoding (attribute_item x)) in
+    let next = encodings attribute_item (take (i + 1) all) in
+    let room : length next ≤ length c.args.out.now = omega (arith, joined-below (λ y. encoding (attribute_item y)) all (i + 1), c.requires.room) in
+    let wrote =
+    wrote_more c.args.out.now c.loop-attribute.out c.loop-attribute.at (encodings attribute_item (take i all)) next (encoding (attribute_item x)) past.len
+    (joined-next (λ y. encoding (attribute_item y)) all i x c.loop-attribute-test.true c.attribute-item.is) room past.after c.write_attribute-at.new.out
+    c.write_attribute-at.result (c.write_attribute-at.ensures.len ∙ sym (length-encoding (attribute_item x))) c.write_attribute-at.ensures.after in
     record {
       fits = (first-none attribute_misfit all i x c.loop-attribute-test.true c.attribute-item.is past.fits).1;
-      len = omega (arith, encodings-more attribute_item all i x c.loop-attribute-test.true c.attribute-item.is, past.len, c.write_attribute-at.ensures.len, size);
-      after = rw next (Writes-more c.args.out.now c.loop-attribute.out c.write_attribute-at.new.out (encodings attribute_item (take i all)) (encoding (attribute_item x)) c.loop-attribute.at past.len below past.after c.write_attribute-at.ensures.after);
+      len = wrote.len;
+      after = wrote.after;
     }
 
 pub write_hop-write_attributes-len-requires : goal.write_hop-write_attributes-len-requires
@@ -96,14 +101,15 @@ write_hops-write_hop-at-requires t c =
     let x = c.hop-item.result in
     let i = c.loop-hop.hop-index in
     let all = c.args.hops.now in
-    let out = c.loop-hop.out in
-    let at = c.loop-hop.at in
     let past = c.loop-hop.invariant in
-    let same : length out ≡ length c.args.out.now = c.loop-hop.auto.out in
-    let need : at + length (next_hop_bytes x) ≤ length out =
-    omega (arith, joined-more next_hop_bytes all i x c.loop-hop-test.true c.hop-item.is, joined-below next_hop_bytes all (i + 1), past.len, c.requires.room, same) in (
+    let next = joined next_hop_bytes (take (i + 1) all) in
+    let room : length next ≤ length c.args.out.now = omega (arith, joined-below next_hop_bytes all (i + 1), c.requires.room) in (
       search (rules, the_lemmas),
-      ((first-none next_hop_misfit all i x c.loop-hop-test.true c.hop-item.is past.fits).0, omega (arith, need, length-take (length out - at) (drop at out), length-drop at out)),
+      (
+        (first-none next_hop_misfit all i x c.loop-hop-test.true c.hop-item.is past.fits).0,
+        room_behind c.args.out.now c.loop-hop.out c.loop-hop.at (joined next_hop_bytes (take i all)) next (next_hop_bytes x) past.len
+            (joined-next next_hop_bytes all i x c.loop-hop-test.true c.hop-item.is) room c.loop-hop.auto.out,
+      ),
     )
 
 pub write_hops-loop-hop-preserved : goal.write_hops-loop-hop-preserved
@@ -112,13 +118,13 @@ write_hops-loop-hop-preserved t c =
     let i = c.loop-hop.hop-index in
     let all = c.args.hops.now in
     let past = c.loop-hop.invariant in
-    let next = joined-next next_hop_bytes all i x c.loop-hop-test.true c.hop-item.is in
-    let below : length (joined next_hop_bytes (take i all)) ≤ length c.args.out.now = omega (arith, joined-below next_hop_bytes all i, c.requires.room) in
-    record {
-      fits = (first-none next_hop_misfit all i x c.loop-hop-test.true c.hop-item.is past.fits).1;
-      len = omega (arith, joined-more next_hop_bytes all i x c.loop-hop-test.true c.hop-item.is, past.len, c.write_hop-at.ensures.len);
-      after = rw next (Writes-more c.args.out.now c.loop-hop.out c.write_hop-at.new.out (joined next_hop_bytes (take i all)) (next_hop_bytes x) c.loop-hop.at past.len below past.after c.write_hop-at.ensures.after);
-    }
+    let next = joined next_hop_bytes (take (i + 1) all) in
+    let room : length next ≤ length c.args.out.now = omega (arith, joined-below next_hop_bytes all (i + 1), c.requires.room) in
+    let wrote =
+    wrote_more c.args.out.now c.loop-hop.out c.loop-hop.at (joined next_hop_bytes (take i all)) next (next_hop_bytes x) past.len
+    (joined-next next_hop_bytes all i x c.loop-hop-test.true c.hop-item.is) room past.after c.write_hop-at.new.out c.write_hop-at.result
+    c.write_hop-at.ensures.len c.write_hop-at.ensures.after in
+    record { fits = (first-none next_hop_misfit all i x c.loop-hop-test.true c.hop-item.is past.fits).1; len = wrote.len; after = wrote.after }
 
 pub write_value-write_hops-requires : goal.write_value-write_hops-requires
 write_value-write_hops-requires t c =

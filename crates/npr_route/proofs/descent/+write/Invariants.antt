@@ -1,7 +1,7 @@
 use Rattle.std.proofs.Common.{◌≡◌, length, take, drop, None}
 use Rattle.npr_base.specs.Framing.{Writes}
-use Rattle.npr_base.specs.Family.{first_unfit, encodings}
-use Rattle.npr_route.specs.AttributeView.{attribute_item, attribute_misfit, next_hop_bytes, next_hop_misfit, joined}
+use Rattle.npr_base.specs.Family.{first_unfit, encodings, joined}
+use Rattle.npr_route.specs.AttributeView.{attribute_item, attribute_misfit, next_hop_bytes, next_hop_misfit}
 use Rattle.npr_route.proofs.descent.+write.Given as goal
 
 abbrev pub invariant-write_attributes-loop-attribute : goal.invariant-write_attributes-loop-attribute

@@ -1,6 +1,6 @@
-use Rattle.std.proofs.Common.{◌+◌, ◌-◌, ◌≤◌, ◌∷◌, [], ap, length, map, take, drop, arith, length-append, length-take, length-drop}
+use Rattle.std.proofs.Common.{◌+◌, ◌≤◌, ◌∷◌, [], length, map, take, arith}
 use Rattle.npr_tunnel.specs.Geneve.{option_of, option_bytes}
-use Rattle.npr_base.proofs.Writing.{Writes-more}
+use Rattle.npr_base.proofs.Writing.{room_behind, wrote_more}
 use Rattle.npr_tunnel.proofs.Options.{bytes-next, bytes-below, unfit-none}
 use Rattle.npr_tunnel.proofs.geneve.write_options.Goals as goal
 
@@ -9,12 +9,10 @@ write_option-at-requires-clause-room c =
     let x = c.option-item.result in
     let i = c.loop-option.option-index in
     let all = c.args.options.now in
-    let out = c.loop-option.out in
-    let at = c.loop-option.at in
-    let done = option_bytes (map option_of (take i all)) in
-    let one = option_bytes (option_of x ∷ []) in
-    let need : at + length one ≤ length out = omega (arith, ap length (bytes-next option_of all i x c.loop-option-test.true c.option-item.is), length-append done one, bytes-below option_of all (i + 1), c.loop-option.invariant.len, c.requires.room, c.loop-option.auto.out) in
-    omega (arith, need, length-take (length out - at) (drop at out), length-drop at out)
+    let next = option_bytes (map option_of (take (i + 1) all)) in
+    let room : length next ≤ length c.args.out.now = omega (arith, bytes-below option_of all (i + 1), c.requires.room) in
+    room_behind c.args.out.now c.loop-option.out c.loop-option.at (option_bytes (map option_of (take i all))) next (option_bytes (option_of x ∷ []))
+    c.loop-option.invariant.len (bytes-next option_of all i x c.loop-option-test.true c.option-item.is) room c.loop-option.auto.out
 
 pub loop-option-preserved : goal.loop-option-preserved
 loop-option-preserved c =
@@ -22,12 +20,14 @@ loop-option-preserved c =
     let i = c.loop-option.option-index in
     let all = c.args.options.now in
     let past = c.loop-option.invariant in
-    let done = option_bytes (map option_of (take i all)) in
-    let one = option_bytes (option_of x ∷ []) in
-    let next = bytes-next option_of all i x c.loop-option-test.true c.option-item.is in
-    let below : length done ≤ length c.args.out.now = omega (arith, bytes-below option_of all i, c.requires.room) in
+    let next = option_bytes (map option_of (take (i + 1) all)) in
+    let room : length next ≤ length c.args.out.now = omega (arith, bytes-below option_of all (i + 1), c.requires.room) in
+    let wrote =
+    wrote_more c.args.out.now c.loop-option.out c.loop-option.at (option_bytes (map option_of (take i all))) next (option_bytes (option_of x ∷ [])) past.len
+    (bytes-next option_of all i x c.loop-option-test.true c.option-item.is) room past.after c.write_option-at.new.out c.write_option-at.result
+    c.write_option-at.ensures.len c.write_option-at.ensures.after in
     record {
       fits = (unfit-none option_of all i x c.loop-option-test.true c.option-item.is past.fits).1;
-      len = omega (arith, ap length next, length-append done one, past.len, c.write_option-at.ensures.len);
-      after = rw next (Writes-more c.args.out.now c.loop-option.out c.write_option-at.new.out done one c.loop-option.at past.len below past.after c.write_option-at.ensures.after);
+      len = wrote.len;
+      after = wrote.after;
     }
