@@ -1,8 +1,8 @@
 -- What is written of a list, its members one after the other.
 --     whole-next, whole-below      of one member more; and of the first so many, which is no longer than of all
---     joined-append, joined-next, joined-more, joined-below      the same of texts that are joined
+--     joined-append, joined-more   of texts that are joined: of two lists; and of one member more, how long
 use Rattle.std.proofs.Common.{◌≡◌, ℕ, ◌+◌, ◌<◌, ◌≤◌, List, [], ◌∷◌, ◌++◌, length, get_or, take, drop, refl, sym, ap, ◌∙◌, append_assoc, arith, length-append}
-use Rattle.std.proofs.lemmas.List.{append-nil, take_more, take-append-drop}
+use Rattle.std.proofs.lemmas.List.{take_more, take-append-drop}
 use Rattle.npr_base.specs.Family.{joined}
 
 module _ {A : Type 0} (whole : List A → List ℕ) (append : (xs ys : List A) → whole (xs ++ ys) ≡ whole xs ++ whole ys) where
@@ -19,11 +19,6 @@ module _ {A : Type 0} (text : A → List ℕ) where
   joined-append [] ys = refl
   joined-append (x ∷ xs) ys = ap (λ (w : List ℕ). text x ++ w) (joined-append xs ys) ∙ sym (append_assoc (text x) (joined text xs) (joined text ys))
 
-  pub joined-next : (xs : List A) (i : ℕ) (x : A) → i < length xs → x ≡ get_or xs i x → joined text (take (i + 1) xs) ≡ joined text (take i xs) ++ text x
-  joined-next xs i x lt is = whole-next (joined text) joined-append xs i x lt is ∙ ap (λ (w : List ℕ). joined text (take i xs) ++ w) (append-nil (text x))
-
   pub joined-more : (xs : List A) (i : ℕ) (x : A) → i < length xs → x ≡ get_or xs i x → length (joined text (take (i + 1) xs)) ≡ length (joined text (take i xs)) + length (text x)
-  joined-more xs i x lt is = ap length (joined-next xs i x lt is) ∙ length-append (joined text (take i xs)) (text x)
-
-  pub joined-below : (xs : List A) (i : ℕ) → length (joined text (take i xs)) ≤ length (joined text xs)
-  joined-below = whole-below (joined text) joined-append
+  joined-more xs i x lt is =
+      omega (arith, ap length (whole-next (joined text) joined-append xs i x lt is), length-append (joined text (take i xs)) (text x ++ []), length-append (text x) [])

@@ -6,7 +6,6 @@ pub mod Lists
 pub mod Looking
 pub mod Names
 pub mod Messages
-pub mod Mapped
 pub mod WalkLaws
 pub mod V6Lists
 pub mod Texts

@@ -1,11 +1,12 @@
 -- Writes at the front of a slice, one after the other.
-use Rattle.std.proofs.Common.{◌≡◌, ℕ, ◌+◌, ◌-◌, ◌≤◌, List, [], ◌++◌, length, take, drop, replicate, sym, ap, ◌∙◌, arith, subst, length-append, length-take, length-drop, append_assoc}
+use Rattle.std.proofs.Common.{◌≡◌, ℕ, ◌+◌, ◌-◌, ◌<◌, ◌≤◌, List, [], ◌∷◌, ◌++◌, length, get_or, take, drop, replicate, sym, ap, ◌∙◌, arith, subst, length-append, length-take, length-drop, append_assoc}
 use Rattle.std.specs.Int.{w16, to_le_bytes}
 use Rattle.std.proofs.lemmas.List.{take-append-drop, take_at, drop_at, take_all, drop-drop, append-nil, drop_all}
 use Rattle.std.proofs.Math.Seq.{drop-append-add}
 use borrow.Rule.Slice.PartMut.{put_mid}
 use Rattle.npr_base.specs.Framing.{Writes, encoding, framed, pad}
 use Rattle.npr_base.specs.ListLaws.{length-encoding}
+use Rattle.npr_base.proofs.Joined.{whole-next, whole-below}
 
 -- bytes more, written behind those that stand
 pub Writes-more : (old cur part done x : List ℕ) (at : ℕ) → at ≡ length done → length done ≤ length old → Writes old cur done → Writes (take (length cur - at) (drop at cur)) part x → Writes old (put_mid at (length cur - at) cur part) (done ++ x)
@@ -36,6 +37,25 @@ module _ (old cur : List ℕ) (at : ℕ) (done next x : List ℕ) (len : at ≡ 
     len = omega (arith, len, same, ap length is, length-append done x);
     after = rw is (Writes-more old cur part done x at len (omega (arith, ap length is, length-append done x, room)) after p);
   }
+
+-- of a list whose text is made of those of its members, the next one
+module _ {A : Type 0} (whole : List A → List ℕ) (append : (xs ys : List A) → whole (xs ++ ys) ≡ whole xs ++ whole ys) (all : List A) (i : ℕ) (x : A)
+    (lt : i < length all) (is : x ≡ get_or all i x) (old : List ℕ) (room : length (whole all) ≤ length old) (cur : List ℕ) (at : ℕ)
+    (len : at ≡ length (whole (take i all))) where
+  member_next : whole (take (i + 1) all) ≡ whole (take i all) ++ whole (x ∷ [])
+  member_next = whole-next whole append all i x lt is
+
+  member_room : length (whole (take (i + 1) all)) ≤ length old
+  member_room = omega (arith, room, whole-below whole append all (i + 1))
+
+  pub room_for : length cur ≡ length old → length (whole (x ∷ [])) ≤ length (take (length cur - at) (drop at cur))
+  room_for = room_behind old cur at (whole (take i all)) (whole (take (i + 1) all)) (whole (x ∷ [])) len member_next member_room
+
+  pub wrote_next : Writes old cur (whole (take i all)) → (part text : List ℕ) (size : ℕ) → whole (x ∷ []) ≡ text → size ≡ length text
+      → Writes (take (length cur - at) (drop at cur)) part text → Wrote old (put_mid at (length cur - at) cur part) (at + size) (whole (take (i + 1) all))
+  wrote_next after part text size one same p =
+      wrote_more old cur at (whole (take i all)) (whole (take (i + 1) all)) (whole (x ∷ [])) len member_next member_room after part size
+      (same ∙ ap length (sym one)) (rw one p)
 
 -- a header over what stands already, and padding after it
 pub Writes-framed : (old cur new : List ℕ) (k len : ℕ) → framed len ≤ length old → Writes old cur (to_le_bytes w16 (4 + len) ++ to_le_bytes w16 k)

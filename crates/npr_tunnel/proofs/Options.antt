@@ -1,10 +1,10 @@
 -- Options of Geneve, written one after the other.
-use Rattle.std.proofs.Common.{◌≡◌, ℕ, ◌+◌, ◌<◌, ◌≤◌, None, List, [], ◌∷◌, ◌++◌, length, map, get_or, take, drop, refl, sym, ap, ◌∙◌}
+use Rattle.std.proofs.Common.{◌≡◌, ℕ, ◌+◌, ◌<◌, None, List, [], ◌∷◌, ◌++◌, length, map, get_or, take, drop, refl, sym, ap, ◌∙◌}
 use Rattle.std.proofs.lemmas.List.{drop_more}
 use Rattle.npr_base.specs.Framing.{encoding}
 use Rattle.npr_base.specs.Family.{encodings, first_unfit, option_or}
 use Rattle.npr_base.specs.FitLaws.{none_both}
-use Rattle.npr_base.proofs.Joined.{whole-next, whole-below, joined-append}
+use Rattle.npr_base.proofs.Joined.{whole-next, joined-append}
 use Rattle.npr_tunnel.specs.Geneve.{Geneve, Child, children_of, child_item, child_misfit, option_bytes, option_misfit}
 
 children-append : (xs ys : List Geneve) → children_of (xs ++ ys) ≡ children_of xs ++ children_of ys
@@ -20,17 +20,14 @@ module _ {V : Type 0} (view : V → Geneve) where
   map-split [] ys = refl
   map-split (x ∷ xs) ys = ap (λ (zs : List Geneve). view x ∷ zs) (map-split xs ys)
 
-  abbrev bytes : List V → List ℕ
+  abbrev pub bytes : List V → List ℕ
   bytes xs = option_bytes (map view xs)
 
-  both-parts : (xs ys : List V) → bytes (xs ++ ys) ≡ bytes xs ++ bytes ys
-  both-parts xs ys = ap option_bytes (map-split xs ys) ∙ bytes-append (map view xs) (map view ys)
+  pub bytes-both : (xs ys : List V) → bytes (xs ++ ys) ≡ bytes xs ++ bytes ys
+  bytes-both xs ys = ap option_bytes (map-split xs ys) ∙ bytes-append (map view xs) (map view ys)
 
-  pub bytes-next : (xs : List V) (i : ℕ) (x : V) → i < length xs → x ≡ get_or xs i x → option_bytes (map view (take (i + 1) xs)) ≡ option_bytes (map view (take i xs)) ++ option_bytes (view x ∷ [])
-  bytes-next = whole-next bytes both-parts
-
-  pub bytes-below : (xs : List V) (i : ℕ) → length (option_bytes (map view (take i xs))) ≤ length (option_bytes (map view xs))
-  bytes-below = whole-below bytes both-parts
+  pub bytes-next : (xs : List V) (i : ℕ) (x : V) → i < length xs → x ≡ get_or xs i x → bytes (take (i + 1) xs) ≡ bytes (take i xs) ++ bytes (x ∷ [])
+  bytes-next = whole-next bytes bytes-both
 
   unfit-rest : (xs : List V) (i : ℕ) (x : V) → i < length xs → x ≡ get_or xs i x → first_unfit child_misfit (children_of (map view (drop i xs))) ≡ option_or (option_misfit (view x)) (first_unfit child_misfit (children_of (map view (drop (i + 1) xs))))
   unfit-rest xs i x lt is = ap (λ (ys : List V). first_unfit child_misfit (children_of (map view ys))) (drop_more xs i x lt ∙ ap (λ y. y ∷ drop (i + 1) xs) (sym is))

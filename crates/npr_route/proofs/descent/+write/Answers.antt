@@ -1,11 +1,12 @@
 use Rattle.std.specs.Int.{w16, w32, to_le_bytes}
-use Rattle.std.proofs.Common.{rules, ◌≡◌, ◌∷◌, ◌++◌, ℕ, ◌+◌, ◌-◌, ◌≤◌, ap, sym, ◌∙◌, subst, refl, arith, length, take, drop, length-take, length-drop}
+use Rattle.std.proofs.lemmas.List.{append-nil}
+use Rattle.std.proofs.Common.{rules, ◌≡◌, [], ◌∷◌, ◌++◌, ℕ, ◌+◌, ◌-◌, ◌≤◌, ap, sym, ◌∙◌, subst, refl, arith, length, take, drop, length-append, length-take, length-drop}
 use borrow.Rule.Slice.PartMut.{put_mid}
 use Rattle.npr_base.specs.Framing.{Item, Writes, encoding, framed, marked}
 use Rattle.npr_base.specs.Family.{encodings, joined}
 use Rattle.npr_base.proofs.Checking.{first-none}
-use Rattle.npr_base.proofs.Joined.{joined-next, joined-below}
-use Rattle.npr_base.proofs.Writing.{Writes-encoding, Writes-before, room_behind, wrote_more}
+use Rattle.npr_base.proofs.Joined.{joined-append}
+use Rattle.npr_base.proofs.Writing.{Writes-encoding, Writes-before, room_for, wrote_next}
 use Rattle.npr_base.specs.ListLaws.{length-encoding}
 use Rattle.npr_route.specs.Attribute.{shape_of}
 use Rattle.npr_route.specs.AttributeView.{meaning_of, attribute_item, attribute_misfit, next_hop_bytes, next_hop_misfit}
@@ -32,14 +33,13 @@ write_attributes-write_attribute-at-requires t c =
     let i = c.loop-attribute.attribute-index in
     let all = c.args.list.now in
     let past = c.loop-attribute.invariant in
-    let next = encodings attribute_item (take (i + 1) all) in
-    let room : length next ≤ length c.args.out.now = omega (arith, joined-below (λ y. encoding (attribute_item y)) all (i + 1), c.requires.room) in (
+    let room =
+    room_for (encodings attribute_item) (joined-append (λ y. encoding (attribute_item y))) all i x c.loop-attribute-test.true c.attribute-item.is
+    c.args.out.now c.requires.room c.loop-attribute.out c.loop-attribute.at past.len c.loop-attribute.auto.out in (
       search (rules, the_lemmas),
       (
         (first-none attribute_misfit all i x c.loop-attribute-test.true c.attribute-item.is past.fits).0,
-        rw (← length-encoding (attribute_item x))
-            (room_behind c.args.out.now c.loop-attribute.out c.loop-attribute.at (encodings attribute_item (take i all)) next (encoding (attribute_item x)) past.len
-            (joined-next (λ y. encoding (attribute_item y)) all i x c.loop-attribute-test.true c.attribute-item.is) room c.loop-attribute.auto.out),
+        omega (arith, room, length-append (encoding (attribute_item x)) [], length-encoding (attribute_item x)),
       ),
     )
 
@@ -49,12 +49,11 @@ write_attributes-loop-attribute-preserved t c =
     let i = c.loop-attribute.attribute-index in
     let all = c.args.list.now in
     let past = c.loop-attribute.invariant in
-    let next = encodings attribute_item (take (i + 1) all) in
-    let room : length next ≤ length c.args.out.now = omega (arith, joined-below (λ y. encoding (attribute_item y)) all (i + 1), c.requires.room) in
     let wrote =
-    wrote_more c.args.out.now c.loop-attribute.out c.loop-attribute.at (encodings attribute_item (take i all)) next (encoding (attribute_item x)) past.len
-    (joined-next (λ y. encoding (attribute_item y)) all i x c.loop-attribute-test.true c.attribute-item.is) room past.after c.write_attribute-at.new.out
-    c.write_attribute-at.result (c.write_attribute-at.ensures.len ∙ sym (length-encoding (attribute_item x))) c.write_attribute-at.ensures.after in
+    wrote_next (encodings attribute_item) (joined-append (λ y. encoding (attribute_item y))) all i x c.loop-attribute-test.true c.attribute-item.is
+    c.args.out.now c.requires.room c.loop-attribute.out c.loop-attribute.at past.len past.after c.write_attribute-at.new.out (encoding (attribute_item x))
+    c.write_attribute-at.result (append-nil (encoding (attribute_item x)))
+    (c.write_attribute-at.ensures.len ∙ sym (length-encoding (attribute_item x))) c.write_attribute-at.ensures.after in
     record {
       fits = (first-none attribute_misfit all i x c.loop-attribute-test.true c.attribute-item.is past.fits).1;
       len = wrote.len;
@@ -102,14 +101,11 @@ write_hops-write_hop-at-requires t c =
     let i = c.loop-hop.hop-index in
     let all = c.args.hops.now in
     let past = c.loop-hop.invariant in
-    let next = joined next_hop_bytes (take (i + 1) all) in
-    let room : length next ≤ length c.args.out.now = omega (arith, joined-below next_hop_bytes all (i + 1), c.requires.room) in (
+    let room =
+    room_for (joined next_hop_bytes) (joined-append next_hop_bytes) all i x c.loop-hop-test.true c.hop-item.is c.args.out.now c.requires.room c.loop-hop.out
+    c.loop-hop.at past.len c.loop-hop.auto.out in (
       search (rules, the_lemmas),
-      (
-        (first-none next_hop_misfit all i x c.loop-hop-test.true c.hop-item.is past.fits).0,
-        room_behind c.args.out.now c.loop-hop.out c.loop-hop.at (joined next_hop_bytes (take i all)) next (next_hop_bytes x) past.len
-            (joined-next next_hop_bytes all i x c.loop-hop-test.true c.hop-item.is) room c.loop-hop.auto.out,
-      ),
+      ((first-none next_hop_misfit all i x c.loop-hop-test.true c.hop-item.is past.fits).0, omega (arith, room, length-append (next_hop_bytes x) [])),
     )
 
 pub write_hops-loop-hop-preserved : goal.write_hops-loop-hop-preserved
@@ -118,11 +114,9 @@ write_hops-loop-hop-preserved t c =
     let i = c.loop-hop.hop-index in
     let all = c.args.hops.now in
     let past = c.loop-hop.invariant in
-    let next = joined next_hop_bytes (take (i + 1) all) in
-    let room : length next ≤ length c.args.out.now = omega (arith, joined-below next_hop_bytes all (i + 1), c.requires.room) in
     let wrote =
-    wrote_more c.args.out.now c.loop-hop.out c.loop-hop.at (joined next_hop_bytes (take i all)) next (next_hop_bytes x) past.len
-    (joined-next next_hop_bytes all i x c.loop-hop-test.true c.hop-item.is) room past.after c.write_hop-at.new.out c.write_hop-at.result
+    wrote_next (joined next_hop_bytes) (joined-append next_hop_bytes) all i x c.loop-hop-test.true c.hop-item.is c.args.out.now c.requires.room c.loop-hop.out
+    c.loop-hop.at past.len past.after c.write_hop-at.new.out (next_hop_bytes x) c.write_hop-at.result (append-nil (next_hop_bytes x))
     c.write_hop-at.ensures.len c.write_hop-at.ensures.after in
     record { fits = (first-none next_hop_misfit all i x c.loop-hop-test.true c.hop-item.is past.fits).1; len = wrote.len; after = wrote.after }
 
