@@ -1,6 +1,7 @@
 -- A conversation answers what its definition says.
 use Rattle.std.specs.Prelude.{map, ◌⊎◌}
 use Rattle.std.proofs.Common.{◌≡◌, ℕ, Bool, true, false, List, [], ◌∷◌, ◌++◌, Result, refl, sym, ap, subst, ◌∙◌, inl, inr}
+use Rattle.std.proofs.lemmas.List.{map-append}
 use Rattle.netlink_packet_core.specs.Envelope.{Envelope, Place}
 use Rattle.netlink_packet_core.specs.Walk.{start, EnvelopeSteps}
 use Rattle.netlink_packet_core.specs.Conversation.{Talk, Event, event_of, said, after, answers, kept, Talks, TalksOver, Stand}
@@ -77,10 +78,6 @@ kept-append : (first later : Steps) (t : Talk) → kept t (first ++ later) ≡ k
 kept-append [] later t = refl
 kept-append (s ∷ first) later t = kept-then t.over s first later t refl (kept-append first later (after t s))
 
-map-append : (xs ys : List Answer) → map event_of (xs ++ ys) ≡ map event_of xs ++ map event_of ys
-map-append [] ys = refl
-map-append (x ∷ xs) ys = ap (λ (w : List Event). event_of x ∷ w) (map-append xs ys)
-
 -- over datagrams one after the other
 pub Talks-over : (datagrams : List (List ℕ)) (t : Talk) (steps : Steps) (given : List Answer) (u : Talk) → Stand datagrams steps
     → TalksOver t datagrams given u → (map event_of given ≡ answers t steps) × (u ≡ kept t steps)
@@ -90,6 +87,6 @@ Talks-over (datagram ∷ datagrams) t steps given u (first, later, parts, (last,
     let one = Talks-once xs first t v (start datagram) last walk end talks in
     let more = Talks-over datagrams v later ys u stand rest in
     let both : map event_of given ≡ answers t (first ++ later)
-    = ap (map event_of) given_is ∙ map-append xs ys ∙ (λ i. one.0 i ++ (more.0 ∙ ap (λ (w : Talk). answers w later) one.1) i) ∙ sym (answers-append first later t) in
+    = ap (map event_of) given_is ∙ map-append event_of xs ys ∙ (λ i. one.0 i ++ (more.0 ∙ ap (λ (w : Talk). answers w later) one.1) i) ∙ sym (answers-append first later t) in
     let keeps : u ≡ kept t (first ++ later) = more.1 ∙ ap (λ (w : Talk). kept w later) one.1 ∙ sym (kept-append first later t) in
     (both ∙ sym (ap (answers t) parts), keeps ∙ sym (ap (kept t) parts))

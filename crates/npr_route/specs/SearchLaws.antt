@@ -1,5 +1,5 @@
 -- What a search for the type of a list looks at.
-use Rattle.std.proofs.Common.{◌≡◌, ℕ, ◌+◌, ◌≤◌, List, [], ◌∷◌, ◌++◌, length, Option, Some, None, Result, Ok, Err, refl, ap, ◌∙◌, arith}
+use Rattle.std.proofs.Common.{◌≡◌, ℕ, ◌+◌, ◌≤◌, List, [], ◌∷◌, ◌++◌, length, Option, Some, None, Result, Ok, Err, refl, sym, ap, subst, ◌∙◌, arith}
 use Rattle.std.proofs.lemmas.List.{length_push}
 use Rattle.npr_base.specs.declared.refusal.DecodeError.{DecodeError}
 use Rattle.npr_base.specs.Counts.{Counts, hit, looked}
@@ -21,37 +21,29 @@ hit_each-counts (x ∷ xs) c =
     let h = hit_each-counts xs (hit c) in
     record { kept = omega (arith, h.kept); most = omega (arith, h.most); failed = h.failed }
 
+-- these are passed, and no look failed
+quiet : (bytes : List ℕ) (old new : Counts) (passed : List Item) (rest : List ℕ) → Passes bytes passed rest → Hits old new (length passed) → Searched bytes old new
+quiet bytes old new passed rest p h = record {
+  passed = passed;
+  rest = rest;
+  passes = p;
+  kept = h.kept;
+  successful = h.most;
+  failed_kept = omega (arith, h.failed);
+  failed = omega (arith, h.failed);
+  whole = λ items cut. h.failed;
+}
+
 -- attributes are passed, each with its look, and one more is looked at in the last step
 stepped : (bytes : List ℕ) (old : Counts) (before : List Item) (rest left : List ℕ) (last : Option (Result Item DecodeError)) (new : Counts)
     → Passes bytes before rest → Step rest last left → new ≡ looked last (hit_each before old) → Searched bytes old new
 stepped bytes old before rest left None new p step is =
-    let h = hit_each-counts before old in
-    let a = ap (λ (c : Counts). c.successful) is in
-    let b = ap (λ (c : Counts). c.failed) is in
-    record {
-      passed = before;
-      rest = rest;
-      passes = p;
-      kept = omega (arith, h.kept, a);
-      successful = omega (arith, h.most, a);
-      failed_kept = omega (arith, h.failed, b);
-      failed = omega (arith, h.failed, b);
-      whole = λ items cut. b ∙ h.failed;
-    }
+    quiet bytes old new before rest p (subst (λ (c : Counts). Hits old c (length before)) (sym is) (hit_each-counts before old))
 stepped bytes old before rest left (Some (Ok x)) new p step is =
     let h = hit_each-counts before old in
     let a = ap (λ (c : Counts). c.successful) is in
-    let b = ap (λ (c : Counts). c.failed) is in
-    record {
-      passed = before ++ x ∷ [];
-      rest = left;
-      passes = Passes-more before x bytes rest left p step;
-      kept = omega (arith, h.kept, a);
-      successful = omega (arith, h.most, a, length_push before x);
-      failed_kept = omega (arith, h.failed, b);
-      failed = omega (arith, h.failed, b);
-      whole = λ items cut. b ∙ h.failed;
-    }
+    quiet bytes old new (before ++ x ∷ []) left (Passes-more before x bytes rest left p step)
+    (record { kept = omega (arith, h.kept, a); most = omega (arith, h.most, a, length_push before x); failed = ap (λ (c : Counts). c.failed) is ∙ h.failed })
 stepped bytes old before rest left (Some (Err e)) new p step is =
     let h = hit_each-counts before old in
     let a = ap (λ (c : Counts). c.successful) is in

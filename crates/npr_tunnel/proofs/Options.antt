@@ -1,6 +1,6 @@
 -- Options of Geneve, written one after the other.
 use Rattle.std.proofs.Common.{◌≡◌, ℕ, ◌+◌, ◌<◌, None, List, [], ◌∷◌, ◌++◌, length, map, get_or, take, drop, refl, sym, ap, ◌∙◌}
-use Rattle.std.proofs.lemmas.List.{drop_more}
+use Rattle.std.proofs.lemmas.List.{drop_more, map-append}
 use Rattle.npr_base.specs.Framing.{encoding}
 use Rattle.npr_base.specs.Family.{encodings, first_unfit, option_or}
 use Rattle.npr_base.specs.FitLaws.{none_both}
@@ -16,15 +16,11 @@ bytes-append xs ys = ap (encodings child_item) (children-append xs ys) ∙ joine
 
 -- V is how an option lies in memory
 module _ {V : Type 0} (view : V → Geneve) where
-  map-split : (xs ys : List V) → map view (xs ++ ys) ≡ map view xs ++ map view ys
-  map-split [] ys = refl
-  map-split (x ∷ xs) ys = ap (λ (zs : List Geneve). view x ∷ zs) (map-split xs ys)
-
   abbrev pub bytes : List V → List ℕ
   bytes xs = option_bytes (map view xs)
 
   pub bytes-both : (xs ys : List V) → bytes (xs ++ ys) ≡ bytes xs ++ bytes ys
-  bytes-both xs ys = ap option_bytes (map-split xs ys) ∙ bytes-append (map view xs) (map view ys)
+  bytes-both xs ys = ap option_bytes (map-append view xs ys) ∙ bytes-append (map view xs) (map view ys)
 
   pub bytes-next : (xs : List V) (i : ℕ) (x : V) → i < length xs → x ≡ get_or xs i x → bytes (take (i + 1) xs) ≡ bytes (take i xs) ++ bytes (x ∷ [])
   bytes-next = whole-next bytes bytes-both
