@@ -5,15 +5,11 @@ use Rattle.std.proofs.lemmas.List.{append-nil}
 use Rattle.std.proofs.lemmas.List.Folds.{concat-append}
 use Rattle.npr_base.proofs.Joined.{whole-next, whole-below}
 
--- the first so many are no longer than all
-pub concat-below : (xs : List (List ℕ)) (n : ℕ) → length (concat (take n xs)) ≤ length (concat xs)
-concat-below = whole-below concat concat-append
-
 -- one more
 pub concat-next : (xs : List (List ℕ)) (i : ℕ) (x : List ℕ) → i < length xs → x ≡ get_or xs i x → concat (take (i + 1) xs) ≡ concat (take i xs) ++ x
 concat-next xs i x lt is = whole-next concat concat-append xs i x lt is ∙ ap (λ (w : List ℕ). concat (take i xs) ++ w) (append-nil x)
 
 -- where there is room for all, there is room for each
 pub concat-room : (xs : List (List ℕ)) (i room : ℕ) → (length (concat xs) ≤ room) ⊎ (16 * length xs ≤ room) → i < length xs → length (concat (take (i + 1) xs)) ≡ 16 * i + 16 → 16 * i + 16 ≤ room
-concat-room xs i room (inl le) lt e = omega (arith, concat-below xs (i + 1))
+concat-room xs i room (inl le) lt e = omega (arith, whole-below concat concat-append xs (i + 1))
 concat-room xs i room (inr le) lt e = omega arith

@@ -12,7 +12,7 @@ use Rattle.npr_srh.specs.Keeping.{IsUnread}
 use Rattle.npr_srh.specs.contracts.ioam6.Ioam6TraceHdr.{struct}
 use Rattle.npr_srh.specs.declared.ioam6.Ioam6TraceHdr.{Ioam6TraceHdr}
 
--- what a node writes: the length of its data, and whether one found no room
+-- what a node writes: the length of its data, and whether one found no room for it
 abbrev pub node : Bits (ℕ × Bool)
 node = over_spare 2 (bits 5 above flag)
 
@@ -20,31 +20,26 @@ node = over_spare 2 (bits 5 above flag)
 abbrev pub room : Bits ℕ
 room = under_spare 1 (bits 7)
 
+-- which data, a bit for each
 abbrev pub trace_type : Bits ℕ
 trace_type = over_spare 8 (bits 24)
 
--- the number of the namespace, and then these; each field is written modulo its bits
+-- big endian: the number of the namespace, and then these, each written modulo its bits
 abbrev pub trace_layout : Layout Ioam6TraceHdr
 trace_layout =
     structure struct
     (be_two then parted (packed one_byte node (λ n. refl) then (packed one_byte room (λ n. refl) then last (packed be_four trace_type (λ n. refl)))))
     (λ v. tt)
 
-abbrev pub decode_trace : List ℕ → Ioam6TraceHdr
-decode_trace = trace_layout.decode
-
-abbrev pub encode_trace : Ioam6TraceHdr → List ℕ
-encode_trace = trace_layout.encode
-
 -- a value of exactly eight bytes
 abbrev pub IsTrace : List ℕ → Ioam6TraceHdr → Type 0
-IsTrace bytes t = (length bytes ≡ 8) × (t ≡ decode_trace bytes)
+IsTrace bytes t = (length bytes ≡ 8) × (t ≡ trace_layout.decode bytes)
 
 abbrev pub trace : Codec Ioam6TraceHdr
 trace = record {
   Reads = IsTrace;
   Wrong = λ at bytes e. IsUnread IsTrace bytes × (e ≡ Unsupported at);
-  writes = encode_trace;
+  writes = trace_layout.encode;
   inside = λ kind t. None;
   Holds = trace_layout.Holds;
   members = no_members;

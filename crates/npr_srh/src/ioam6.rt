@@ -6,7 +6,7 @@ ghost use Rattle.{
   npr_srh.specs.{
     Ioam6Mode.{ioam6_modes, ioam6_mode_text},
     Keeping.{IsUnread},
-    Trace.{trace, IsTrace, encode_trace, trace_text},
+    Trace.{trace, trace_layout, IsTrace, trace_text},
     Ioam6Tunnel.{family, ioam6_text, trace_at},
   },
 };
@@ -97,7 +97,7 @@ impl Ioam6TraceHdr {
 
     /// The eight bytes, each field modulo its bits.
     fn to_bytes(&self) -> [u8; 8]
-        ensures { result ≡ encode_trace self.now }
+        ensures { result ≡ trace_layout.encode self.now }
     {
         let [a, b] = self.namespace_id.to_be_bytes();
         let node = (self.nodelen % 32 * 2 + u8::from(self.overflow)) * 4;
