@@ -1,5 +1,5 @@
 use Rattle.std.specs.List.{concat}
-use Rattle.std.proofs.Common.{◌≡◌, ◌+◌, ◌*◌, ◌++◌, ◌≤◌, length, take, ap, ◌∙◌, arith, length-append}
+use Rattle.std.proofs.Common.{◌≡◌, ◌+◌, ◌*◌, ◌≤◌, length, take, ap, arith, length-append}
 use Rattle.npr_base.proofs.V6Lists.{concat-next, concat-room}
 use Rattle.npr_base.proofs.Writing.{room_behind, wrote_more}
 use Rattle.npr_base.proofs.v6_list.write_each.Goals as goal
