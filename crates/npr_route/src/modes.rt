@@ -40,34 +40,7 @@ fn normalize_attribute(attribute: &mut RouteAttribute)
     match attribute {
         RouteAttribute::Encap(members) => normalize_members(members.as_mut_slice()),
         RouteAttribute::MultiPath(_) => normalize_multi_path(attribute),
-        RouteAttribute::Destination(_)
-        | RouteAttribute::Source(_)
-        | RouteAttribute::Iif(_)
-        | RouteAttribute::Oif(_)
-        | RouteAttribute::Gateway(_)
-        | RouteAttribute::Priority(_)
-        | RouteAttribute::PrefSource(_)
-        | RouteAttribute::Metrics(_)
-        | RouteAttribute::Realm(_)
-        | RouteAttribute::CacheInfo(_)
-        | RouteAttribute::Table(_)
-        | RouteAttribute::Mark(_)
-        | RouteAttribute::MfcStats(_)
-        | RouteAttribute::Via(_)
-        | RouteAttribute::NewDestination(_)
-        | RouteAttribute::NewDestinationAddress(_)
-        | RouteAttribute::Preference(_)
-        | RouteAttribute::EncapType(_)
-        | RouteAttribute::Expires(_)
-        | RouteAttribute::MulticastExpires(_)
-        | RouteAttribute::Uid(_)
-        | RouteAttribute::TtlPropagate(_)
-        | RouteAttribute::IpProto(_)
-        | RouteAttribute::Sport(_)
-        | RouteAttribute::Dport(_)
-        | RouteAttribute::NhId(_)
-        | RouteAttribute::Flowlabel(_)
-        | RouteAttribute::Other(_) => {}
+        _ => {}
     }
 }
 
