@@ -22,7 +22,8 @@ hit_each-counts (x ∷ xs) c =
     record { kept = omega (arith, h.kept); most = omega (arith, h.most); failed = h.failed }
 
 -- these are passed, and no look failed
-quiet : (bytes : List ℕ) (old new : Counts) (passed : List Item) (rest : List ℕ) → Passes bytes passed rest → Hits old new (length passed) → Searched bytes old new
+quiet : (bytes : List ℕ) (old new : Counts) (passed : List Item) (rest : List ℕ) → Passes bytes passed rest → Hits old new (length passed)
+    → Searched bytes old new
 quiet bytes old new passed rest p h = record {
   passed = passed;
   rest = rest;
