@@ -2,11 +2,12 @@
 --     Field            a value at a place of a fixed layout
 --     one_byte, le_two, le_four, le_eight      numbers, the lowest byte first
 --     be_two, be_four  numbers, the highest byte first
---     unused           a byte that nothing is read from
+--     standing         a byte that nothing is read from, and that is written as this number
+--     unused           one that is written 0
 --     holding          a value in the place of its number
 --     family_byte      the family of an address, in a byte
 --     then, last       a field behind another, and the last of a struct
---     parted           two values that stand in one place, and what stands behind it
+--     spread           two values that stand in one place, and what stands behind it
 --     before           a field behind a byte that is not looked at
 --     fields           a field as a layout
 --     structure        a struct of fields
@@ -93,27 +94,30 @@ be_two = number_at 2 16 be16_at (to_be_bytes w16) (λ n. refl) be16-behind (λ n
 abbrev pub be_four : Field ℕ
 be_four = number_at 4 32 be32_at (to_be_bytes w32) (λ n. refl) be32-behind (λ n more h. from_be_bytes-to_be_bytes_4 n h) be32_at-holds
 
--- a byte that is not looked at, and written 0
-abbrev pub unused : Field (Unit {0})
-unused = record {
+-- a byte that is not looked at, and written as this
+abbrev pub standing : ℕ → Field (Unit {0})
+standing n = record {
   width = 1;
   at = λ bytes i. tt;
-  encode = λ x. 0 ∷ [];
+  encode = λ x. n ∷ [];
   Holds = λ x. Unit {0};
   length-encode = λ x. refl;
   at-encode = λ front more x h. refl;
   Holds-at = λ bytes i is. tt;
 }
 
+abbrev pub unused : Field (Unit {0})
+unused = standing 0
+
 -- values with numbers: the number stands there
 infixl 6 ◌holding◌
 module _ {N V : Type 0} (F : Field N) (n : Numbering N V) where
-  pub held-back : (front more : List ℕ) (x : V) → F.Holds (n.number x) × IsFormed n x
+  pub holding-back : (front more : List ℕ) (x : V) → F.Holds (n.number x) × IsFormed n x
       → n.of (F.at (front ++ (F.encode (n.number x) ++ more)) (length front)) ≡ x
-  held-back front more x h = ap n.of (F.at-encode front more (n.number x) h.0) ∙ sym h.1
+  holding-back front more x h = ap n.of (F.at-encode front more (n.number x) h.0) ∙ sym h.1
 
-  pub held-holds : (bytes : List ℕ) (i : ℕ) → IsBytes bytes → F.Holds (n.number (n.of (F.at bytes i))) × IsFormed n (n.of (F.at bytes i))
-  held-holds bytes i is = (subst F.Holds (sym (n.back (F.at bytes i))) (F.Holds-at bytes i is), of_IsFormed n (F.at bytes i))
+  pub holding-holds : (bytes : List ℕ) (i : ℕ) → IsBytes bytes → F.Holds (n.number (n.of (F.at bytes i))) × IsFormed n (n.of (F.at bytes i))
+  holding-holds bytes i is = (subst F.Holds (sym (n.back (F.at bytes i))) (F.Holds-at bytes i is), of_IsFormed n (F.at bytes i))
 
   abbrev pub ◌holding◌ : Field V
   ◌holding◌ = record {
@@ -122,8 +126,8 @@ module _ {N V : Type 0} (F : Field N) (n : Numbering N V) where
     encode = λ x. F.encode (n.number x);
     Holds = λ x. F.Holds (n.number x) × IsFormed n x;
     length-encode = λ x. F.length-encode (n.number x);
-    at-encode = held-back;
-    Holds-at = held-holds;
+    at-encode = holding-back;
+    Holds-at = holding-holds;
   }
 
 abbrev pub family_byte : Field AddressFamily
@@ -169,18 +173,18 @@ last F = record {
 
 -- two values that stand in one place, and what stands behind it
 module _ {A B C : Type 0} (F : Field ((A × B) × C)) where
-  pub parted-back : (front more : List ℕ) (p : A × (B × C)) → F.Holds ((p.0, p.1.0), p.1.1)
+  pub spread-back : (front more : List ℕ) (p : A × (B × C)) → F.Holds ((p.0, p.1.0), p.1.1)
       → (let q = F.at (front ++ (F.encode ((p.0, p.1.0), p.1.1) ++ more)) (length front) in (q.0.0, (q.0.1, q.1))) ≡ p
-  parted-back front more p h = ap (λ q. (q.0.0, (q.0.1, q.1))) (F.at-encode front more ((p.0, p.1.0), p.1.1) h)
+  spread-back front more p h = ap (λ q. (q.0.0, (q.0.1, q.1))) (F.at-encode front more ((p.0, p.1.0), p.1.1) h)
 
-  abbrev pub parted : Field (A × (B × C))
-  parted = record {
+  abbrev pub spread : Field (A × (B × C))
+  spread = record {
     width = F.width;
     at = λ bytes i. let q = F.at bytes i in (q.0.0, (q.0.1, q.1));
     encode = λ p. F.encode ((p.0, p.1.0), p.1.1);
     Holds = λ p. F.Holds ((p.0, p.1.0), p.1.1);
     length-encode = λ p. F.length-encode ((p.0, p.1.0), p.1.1);
-    at-encode = parted-back;
+    at-encode = spread-back;
     Holds-at = F.Holds-at;
   }
 

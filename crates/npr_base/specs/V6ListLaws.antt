@@ -6,7 +6,8 @@
 --     v6_list-one      bytes are one list at most
 --     v6_list-bytes    each address of a program's bytes is a program's bytes
 use Rattle.std.specs.List.{concat}
-use Rattle.std.proofs.Common.{◌≡◌, ℕ, ◌*◌, List, [], ◌∷◌, ◌++◌, length, take, drop, refl, sym, ap, ◌∙◌, append_assoc, arith, length-append, reverse}
+use Rattle.std.proofs.Common.{◌≡◌, ℕ, ◌*◌, List, [], ◌∷◌, ◌++◌, length, take, drop, refl, sym, ap, ◌∙◌, arith, length-append, reverse}
+use Rattle.std.proofs.lemmas.List.Folds.{concat-append}
 use Rattle.std.proofs.lemmas.List.{append-nil, take_at, drop_at, reverse-append}
 use Rattle.npr_base.specs.Framing.{IsBytes}
 use Rattle.npr_base.specs.Family.{AllOf}
@@ -31,8 +32,7 @@ module _ {A : Type 0} (P : A → Type 0) where
   AllOf-reverse (x ∷ xs) p = rw (reverse-append (x ∷ []) xs) (AllOf-append (reverse xs) (x ∷ []) (AllOf-reverse xs p.1) (p.0, tt))
 
 pub concat-push : (xs : List (List ℕ)) (x : List ℕ) → concat (xs ++ x ∷ []) ≡ concat xs ++ x
-concat-push [] x = append-nil x
-concat-push (y ∷ ys) x = ap (λ (w : List ℕ). y ++ w) (concat-push ys x) ∙ sym (append_assoc y (concat ys) x)
+concat-push xs x = concat-append xs (x ∷ []) ∙ ap (λ (w : List ℕ). concat xs ++ w) (append-nil x)
 
 pub length-concat : (xs : List (List ℕ)) → AllOf (λ a. length a ≡ 16) xs → length (concat xs) ≡ 16 * length xs
 length-concat [] p = refl

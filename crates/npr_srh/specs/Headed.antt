@@ -1,6 +1,7 @@
 -- A header of eight bytes, the second of which counts the eights behind it, and addresses to the end of the value in
 -- the order of the wire: the form that SEG6 local and RPL share.
---     Fixed          how the eight bytes are read and written
+--     Fixed          what the eight bytes hold
+--     front_layout   how they are read and written
 --     IsParted       the parts of a value
 --     IsHeaded       what it means
 --     headed         the values, with their laws
@@ -13,24 +14,29 @@ use Rattle.npr_base.specs.declared.refusal.EmitError.{EmitError}
 use Rattle.npr_base.specs.Framing.{IsBytes, framed}
 use Rattle.npr_base.specs.Family.{AllOf, option_or, too_long}
 use Rattle.npr_base.specs.CodecLaws.{framed-grows}
+use Rattle.npr_base.specs.Fields.{Field, one_byte, standing, ◌then◌, ◌before◌, fields}
+use Rattle.npr_base.specs.Layout.{Layout, formed}
+use Rattle.npr_base.specs.Numbering.{Numbering}
 use Rattle.npr_base.specs.ListLaws.{IsBytes-left, IsBytes-right}
 use Rattle.npr_base.specs.V6ListLaws.{same_parts, length-concat, v6_list-one, v6_list-bytes}
 use Rattle.npr_base.specs.Codec.{Codec, no_members}
 use Rattle.npr_srh.specs.Keeping.{IsUnread}
 use Rattle.npr_srh.specs.Segments.{too_many}
 
--- the eight bytes: the fields that they hold, and how the fields are written with a number of eights
+-- the eight bytes: a number, the byte that counts, and six bytes of fields; what all are together, and which of it can be read
 pub record Fixed (F : Type 0) : Type 1 where
-  pub decode : List ℕ → F
-  pub encode : ℕ → F → List ℕ
-  -- what the fields can be, and which of them can be read
-  pub Range : F → Type 0
+  pub Later : Type 0
+  pub later : Field Later
+  pub seen : Numbering (ℕ × Later) F
   pub Readable : F → Type 0
-  -- the laws
-  pub length-encode : (eights : ℕ) (f : F) → length (encode eights f) ≡ 8
-  pub second : (eights : ℕ) (f : F) → slice_index (encode eights f) 1 ≡ eights
-  pub decode-encode : (eights : ℕ) (f : F) → Range f → Readable f → decode (encode eights f) ≡ f
-  pub Range-decode : (bytes : List ℕ) → IsBytes bytes → length bytes ≡ 8 → Range (decode bytes)
+  pub six : later.width ≡ 6
+
+-- their layout, in front of so many eights
+abbrev pub front_fields : {F : Type 0} (L : Fixed F) → ℕ → Field (ℕ × L.Later)
+front_fields L eights = one_byte then (standing eights before L.later)
+
+abbrev pub front_layout : {F : Type 0} → Fixed F → ℕ → Layout F
+front_layout L eights = formed (fields (front_fields L eights)) L.seen
 
 -- the fields and the addresses
 pub record Headed (F : Type 0) : Type 0 where
@@ -47,19 +53,19 @@ pub record IsParted (bytes : List ℕ) (p : Headed (List ℕ)) : Type 0 where
 pub record IsHeaded {F : Type 0} (L : Fixed F) (bytes : List ℕ) (h : Headed F) : Type 0 where
   pub head : List ℕ
   pub parts : IsParted bytes (record { front = head; segments = h.segments })
-  pub front : h.front ≡ L.decode head
+  pub front : h.front ≡ (front_layout L 0).decode head
   pub readable : L.Readable h.front
 
 -- two eights for each address
 abbrev pub headed_bytes : {F : Type 0} → Fixed F → Headed F → List ℕ
-headed_bytes L h = L.encode (2 * length h.segments) h.front ++ concat h.segments
+headed_bytes L h = (front_layout L (2 * length h.segments)).encode h.front ++ concat h.segments
 
 abbrev pub headed_misfit : {F : Type 0} → Fixed F → ℕ → Headed F → Option EmitError
 headed_misfit L kind h = option_or (too_long kind (length (headed_bytes L h))) (too_many 127 (length h.segments))
 
 -- what can be read
 pub record HoldsHeaded {F : Type 0} (L : Fixed F) (h : Headed F) : Type 0 where
-  pub range : L.Range h.front
+  pub range : (front_layout L 0).Holds h.front
   pub readable : L.Readable h.front
   pub whole : AllOf (λ a. length a ≡ 16) h.segments
   pub segments : AllOf IsBytes h.segments
@@ -75,6 +81,12 @@ parted_sizes bytes p is =
     (omega (arith, all, parts, is.size), omega (arith, is.len, one), omega (arith, all, parts, is.size, whole))
 
 module _ {F : Type 0} (L : Fixed F) where
+  pub front-size : 1 + (1 + L.later.width) ≡ 8
+  front-size = omega (arith, L.six)
+
+  pub front-len : (eights : ℕ) (f : F) → length ((front_layout L eights).encode f) ≡ 8
+  front-len eights f = (front_fields L eights).length-encode (L.seen.number f) ∙ front-size
+
   -- what does not part means nothing
   pub unread_headed : (bytes : List ℕ) → IsUnread IsParted bytes → IsUnread (IsHeaded L) bytes
   unread_headed bytes unread = record { no = λ h is. unread.no (record { front = is.head; segments = h.segments }) is.parts }
@@ -82,7 +94,7 @@ module _ {F : Type 0} (L : Fixed F) where
   pub headed-one : (bytes : List ℕ) (h k : Headed F) → IsHeaded L bytes h → IsHeaded L bytes k → h ≡ k
   headed-one bytes h k p q =
       let s = same_parts p.head (concat h.segments) q.head (concat k.segments) (p.parts.size ∙ sym q.parts.size) (sym p.parts.is ∙ q.parts.is) in
-      let front : h.front ≡ k.front = p.front ∙ ap L.decode s.0 ∙ sym q.front in
+      let front : h.front ≡ k.front = p.front ∙ ap (front_layout L 0).decode s.0 ∙ sym q.front in
       let segments : h.segments ≡ k.segments = v6_list-one h.segments k.segments p.parts.whole q.parts.whole s.1 in
       λ i. record { front = front i; segments = segments i }
 
@@ -90,7 +102,7 @@ module _ {F : Type 0} (L : Fixed F) where
   headed-holds bytes h is p =
       let all : IsBytes (p.head ++ concat h.segments) = subst IsBytes p.parts.is is in
       record {
-        range = subst L.Range (sym p.front) (L.Range-decode p.head (IsBytes-left p.head (concat h.segments) all) p.parts.size);
+        range = subst (front_layout L 0).Holds (sym p.front) ((front_layout L 0).Holds-decode p.head (IsBytes-left p.head (concat h.segments) all) (p.parts.size ∙ sym front-size));
         readable = p.readable;
         whole = p.parts.whole;
         segments = v6_list-bytes h.segments (IsBytes-right p.head (concat h.segments) all);
@@ -99,20 +111,20 @@ module _ {F : Type 0} (L : Fixed F) where
   pub headed-len : (h : Headed F) → AllOf (λ a. length a ≡ 16) h.segments → length (headed_bytes L h) ≡ 8 + 16 * length h.segments
   headed-len h whole =
       let eights = 2 * length h.segments in
-      omega (arith, length-append (L.encode eights h.front) (concat h.segments), L.length-encode eights h.front, length-concat h.segments whole)
+      omega (arith, length-append ((front_layout L eights).encode h.front) (concat h.segments), front-len eights h.front, length-concat h.segments whole)
 
   pub headed-back : (h : Headed F) → HoldsHeaded L h → IsHeaded L (headed_bytes L h) h
   headed-back h holds =
       let eights = 2 * length h.segments in
       record {
-        head = L.encode eights h.front;
+        head = (front_layout L eights).encode h.front;
         parts = record {
           is = refl;
-          size = L.length-encode eights h.front;
+          size = front-len eights h.front;
           whole = holds.whole;
-          len = omega (arith, headed-len h holds.whole, L.second eights h.front);
+          len = omega (arith, headed-len h holds.whole);
         };
-        front = sym (L.decode-encode eights h.front holds.range holds.readable);
+        front = sym ((front_layout L eights).decode-encode h.front holds.range);
         readable = holds.readable;
       }
 

@@ -6,7 +6,8 @@ ghost use Rattle.{
   npr_base.specs.{Table.{shaped, shape_at, held}, declared.refusal.DecodeError.TheVariants.{OutOfMemory}},
   npr_srh.specs.{
     Keeping.{IsUnread},
-    Rpl.{rpl, rpl_of, encode_rpl},
+    Headed.{front_layout},
+    Rpl.{rpl, rpl_of, rpl_front},
     RplTunnel.{family, rpl_text, srh_at},
   },
 };
@@ -97,7 +98,7 @@ impl RplSrh {
     /// The eight bytes in front. Asks that the segments fit.
     fn front(&self) -> [u8; 8]
         requires { length self.now.segments.items ≤ 127 }
-        ensures { result ≡ encode_rpl (2 * length self.now.segments.items) (rpl_of self.now).front }
+        ensures { result ≡ (front_layout rpl_front (2 * length self.now.segments.items)).encode (rpl_of self.now).front }
     {
         [
             self.next_header,

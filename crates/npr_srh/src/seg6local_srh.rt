@@ -3,7 +3,7 @@
 ghost use Rattle.std.specs.Prelude.{◌≡◌, ◌≤◌, ◌*◌, length, [], IfOk, IfErr, IfSome, IfNone};
 ghost use Rattle.{
   npr_base.specs.{Table.{shape_at, held}, declared.refusal.DecodeError.TheVariants.{OutOfMemory}},
-  npr_srh.specs.{Keeping.{IsUnread}, Seg6Local.{local, local_of, encode_local}, Seg6LocalTunnel.{srh_at}},
+  npr_srh.specs.{Keeping.{IsUnread}, Headed.{front_layout}, Seg6Local.{local, local_of, local_front}, Seg6LocalTunnel.{srh_at}},
 };
 
 use crate::segments::{check_header, read_parts};
@@ -87,7 +87,7 @@ impl Seg6LocalSrh {
     /// The eight bytes in front. Asks that the segments fit.
     fn front(&self) -> [u8; 8]
         requires { length self.now.segments.items ≤ 127 }
-        ensures { result ≡ encode_local (2 * length self.now.segments.items) (local_of self.now).front }
+        ensures { result ≡ (front_layout local_front (2 * length self.now.segments.items)).encode (local_of self.now).front }
     {
         let [a, b] = self.tag.to_be_bytes();
         [
