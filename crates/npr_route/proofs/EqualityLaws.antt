@@ -1,5 +1,5 @@
 -- What `==` answers of metrics, attributes, next hops and messages: whether they mean the same.
-use Rattle.std.specs.Prelude.{◌≡◌, ℕ, Bool, List, [], ◌∷◌, map}
+use Rattle.std.specs.Prelude.{◌≡◌, ℕ, ◌+◌, ◌*◌, ◌^◌, Bool, false, List, [], ◌∷◌, map, nat_lt, if◌then◌else◌}
 use Rattle.std.specs.Bool.{Decides}
 use Rattle.std.specs.Cmp.{unsigned_Decides}
 use Rattle.std.specs.Cmp.Lexicographic.{pointwise}
@@ -10,14 +10,16 @@ use Rattle.npr_base.specs.AddressFamilyLaws.{family_equality}
 use Rattle.npr_base.specs.Equality.{IsEquality, IsEqualityOf}
 use Rattle.npr_base.specs.ViewEquality.{item_equality}
 use Rattle.npr_base.specs.EnumTable.{◌also◌}
+use Rattle.npr_base.specs.Table.{Row, held_kind}
 use Rattle.npr_base.specs.EnumTableLaws.{enum_decides}
 use Rattle.npr_base.specs.MeaningLaws.{enum_meaning_at, one_meaning, one_meaning_by, text_equality, items_equality, items_meaning}
 use Rattle.npr_base.specs.EqualityLaws.{one_equality}
 use Rattle.npr_base.specs.StructLaws.{◌beside◌, struct_equality, and_decides, decides_as}
 use Rattle.npr_scalar.specs.EqualityLaws.{address_equality, cache_info_equality, label_equality, mfc_stats_equality, realm_equality, route_flags_equality, via_equality, route_protocol_equality, route_scope_equality, route_type_equality, route_preference_equality, ttl_propagation_equality}
-use Rattle.npr_scalar.specs.RouteAddress.{address_of}
+use Rattle.npr_scalar.specs.RouteAddress.{address_of, any}
 use Rattle.npr_scalar.specs.RouteVia.{via_of}
 use Rattle.npr_tunnel.specs.Encapsulation as OfEncap
+use Rattle.npr_tunnel.specs.declared.encap_type.RouteLwEnCapType.TheVariants.{None as NoEncapsulation}
 use Rattle.npr_tunnel.specs.EqualityLaws.{encap_type_equality, encap_equality}
 use Rattle.npr_route.specs.contracts.header.RouteHeader.{struct}
 use Rattle.npr_route.specs.Attribute.{Meaning, flat, multi_path, Attributes, no_more, attribute, Hops, no_hops, hop, Hop, attributes_of}
@@ -48,38 +50,25 @@ header_equality =
 pub metric_equality : IsEqualityOf Metrics.family.meaning MetricEq.ghosts.eq
 metric_equality = enum_decides metric_enum Metrics.rows _ (search (unsigned_Decides, text_equality, item_equality) depth 40)
 
--- the places of the variants of an attribute's meaning: next hops stand behind the metrics
+-- a number for each variant: twice that of the attribute, and one more for the second of two variants that share it
+variant_number : Meaning → ℕ
+variant_number (multi_path hs) = 2 * 9
+variant_number (flat (Flat.new_destination_address a)) = 2 * 19 + 1
+variant_number (flat (Flat.multicast_expires a)) = 2 * 23 + 1
+variant_number (flat (Flat.other x)) = 2 * 2 ^ 16
+variant_number (flat m) = 2 * held_kind (Flat.held_of m)
+
+variant_numbers : List ℕ
+variant_numbers =
+    (2 * 9) ∷ (2 * 19 + 1) ∷ (2 * 23 + 1) ∷ map (λ (r : Row Flat.Meaning). 2 * r.at.kind) (Flat.rows any false (OfEncap.encapsulation NoEncapsulation))
+
+count_below : ℕ → List ℕ → ℕ
+count_below n [] = 0
+count_below n (k ∷ ks) = if nat_lt k n then 1 + count_below n ks else count_below n ks
+
+-- the place of a variant in the enum: so many have a lower number
 order : Meaning → ℕ
-order (flat (Flat.destination a)) = 0
-order (flat (Flat.source a)) = 1
-order (flat (Flat.iif a)) = 2
-order (flat (Flat.oif a)) = 3
-order (flat (Flat.gateway a)) = 4
-order (flat (Flat.priority a)) = 5
-order (flat (Flat.pref_source a)) = 6
-order (flat (Flat.metrics a)) = 7
-order (multi_path hs) = 8
-order (flat (Flat.realm a)) = 9
-order (flat (Flat.cache_info a)) = 10
-order (flat (Flat.table a)) = 11
-order (flat (Flat.mark a)) = 12
-order (flat (Flat.mfc_stats a)) = 13
-order (flat (Flat.via a)) = 14
-order (flat (Flat.new_destination a)) = 15
-order (flat (Flat.new_destination_address a)) = 16
-order (flat (Flat.preference a)) = 17
-order (flat (Flat.encap_type a)) = 18
-order (flat (Flat.encap a)) = 19
-order (flat (Flat.expires a)) = 20
-order (flat (Flat.multicast_expires a)) = 21
-order (flat (Flat.uid a)) = 22
-order (flat (Flat.ttl_propagate a)) = 23
-order (flat (Flat.ip_proto a)) = 24
-order (flat (Flat.sport a)) = 25
-order (flat (Flat.dport a)) = 26
-order (flat (Flat.nh_id a)) = 27
-order (flat (Flat.flowlabel a)) = 28
-order (flat (Flat.other a)) = 29
+order m = count_below (variant_number m) variant_numbers
 
 abbrev same : RouteAttribute → RouteAttribute → Bool
 same = AttributeEq.ghosts.eq
@@ -113,7 +102,7 @@ outermost_multi_path v = sym (outermost_is (MultiPath v)) ∙ view_multi_path v
 attribute_layer :
     (t : Meaning) → ((v w : Vec RouteNextHop Global) → multi_path (hops_in v.items) ≡ t → HopsDecide v.items w.items) → (a b : RouteAttribute) → meaning_of a ≡ t
     → Decides (same a b) (meaning_of a ≡ meaning_of b)
-unfolding order out-RouteAttribute Carrier.out
+unfolding order count_below variant_number variant_numbers out-RouteAttribute Carrier.out
 attribute_layer t inside a b is =
     let h = enum_meaning_at order t enum outermost _ (
     (λ x. refl, one_meaning address_of (λ a. flat (Flat.destination a)) address_equality (λ p q e. cc)) also

@@ -7,7 +7,6 @@ use crate::descent::{check_inside, clone_attribute, is_marked, write_value};
 use crate::metrics::RouteMetric;
 use crate::next_hops::RouteNextHop;
 use crate::reader::read_next_hops;
-use crate::route_rows;
 use crate::rows::{push_flat, read_flat};
 use npr_base::{
     AddressFamily, Attribute, DecodeError, DefaultNla, EmitError, Looks, Nla, NlaBuffer, Place,
@@ -110,6 +109,37 @@ pub enum RouteAttribute {
     Flowlabel(u32),
     /// An attribute of another number, as it stands.
     Other(DefaultNla),
+}
+
+/// The rows of the table that stand for themselves. The others stand beside them in each match:
+/// those of lists and of labels, and numbers 19 and 23, which have two variants each.
+#[macro_export]
+macro_rules! route_rows {
+    ($body:ident ($($given:tt)*)) => {
+        $body!(($($given)*) RouteAttribute of Route {
+            1 Destination(RouteAddress value);
+            2 Source(RouteAddress value);
+            3 Iif(le32);
+            4 Oif(le32);
+            5 Gateway(RouteAddress value);
+            6 Priority(le32);
+            7 PrefSource(RouteAddress value);
+            11 Realm(RouteRealm as le32);
+            12 CacheInfo(RouteCacheInfo leading 32);
+            15 Table(le32);
+            16 Mark(le32);
+            17 MfcStats(RouteMfcStats leading 24);
+            20 Preference(RoutePreference as byte);
+            21 EncapType(RouteLwEnCapType as le16);
+            25 Uid(le32);
+            26 TtlPropagate(RouteMplsTtlPropagation as byte);
+            27 IpProto(byte);
+            28 Sport(be16);
+            29 Dport(be16);
+            30 NhId(le32);
+            31 Flowlabel(be32);
+        })
+    };
 }
 
 impl Nla for RouteAttribute {

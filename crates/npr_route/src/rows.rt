@@ -1,4 +1,4 @@
-//! The rows of route attributes: their list, those that stand beside it, and how each is read.
+//! How the value of a route attribute is read, by its number and its context.
 
 ghost use Rattle.std.specs.Prelude.{true, false, ◌≡◌, ◌≢◌, [], ◌∷◌, ◌++◌, length, IfOk, IfErr, IsOk};
 ghost use Rattle.{
@@ -33,6 +33,7 @@ use crate::attribute::{
     Context, RTA_ENCAP, RTA_EXPIRES, RTA_METRICS, RTA_MULTIPATH, RTA_NEWDST, RTA_VIA,
     RouteAttribute,
 };
+use crate::route_rows;
 use npr_base::{
     AddressFamily, AttrFamily, DecodeError, DefaultNla, Ipv6Addr, Looks, NlaBuffer, Parseable,
     borrow_octets, parse_list, read_ipv4, read_u32, read_u64, read_value,
@@ -46,37 +47,6 @@ use std::alloc::Global;
 use std::mem;
 
 const FAMILY: AttrFamily = AttrFamily::Route;
-
-/// The rows of the table that stand for themselves. The others stand beside them in each match:
-/// those of lists and of labels, and numbers 19 and 23, which have two variants each.
-#[macro_export]
-macro_rules! route_rows {
-    ($body:ident ($($given:tt)*)) => {
-        $body!(($($given)*) RouteAttribute of Route {
-            1 Destination(RouteAddress value);
-            2 Source(RouteAddress value);
-            3 Iif(le32);
-            4 Oif(le32);
-            5 Gateway(RouteAddress value);
-            6 Priority(le32);
-            7 PrefSource(RouteAddress value);
-            11 Realm(RouteRealm as le32);
-            12 CacheInfo(RouteCacheInfo leading 32);
-            15 Table(le32);
-            16 Mark(le32);
-            17 MfcStats(RouteMfcStats leading 24);
-            20 Preference(RoutePreference as byte);
-            21 EncapType(RouteLwEnCapType as le16);
-            25 Uid(le32);
-            26 TtlPropagate(RouteMplsTtlPropagation as byte);
-            27 IpProto(byte);
-            28 Sport(be16);
-            29 Dport(be16);
-            30 NhId(le32);
-            31 Flowlabel(be32);
-        })
-    };
-}
 
 /// Puts a value into a place that holds a blank, which has nothing to free.
 fn put(place: &mut RouteAttribute, value: RouteAttribute)

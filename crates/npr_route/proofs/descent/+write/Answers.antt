@@ -2,7 +2,7 @@ use Rattle.std.specs.Int.{w16, w32, to_le_bytes}
 use Rattle.std.proofs.lemmas.List.{append-nil}
 use Rattle.std.proofs.Common.{rules, ◌≡◌, [], ◌∷◌, ◌++◌, ℕ, ◌+◌, ◌-◌, ◌≤◌, ap, sym, ◌∙◌, subst, refl, arith, length, take, drop, length-append, length-take, length-drop}
 use borrow.Rule.Slice.PartMut.{put_mid}
-use Rattle.npr_base.specs.Framing.{Item, Writes, encoding, framed, marked}
+use Rattle.npr_base.specs.Framing.{Item, Writes, encoding, marked}
 use Rattle.npr_base.specs.Family.{encodings, joined}
 use Rattle.npr_base.proofs.Checking.{first-none}
 use Rattle.npr_base.proofs.Joined.{joined-append}
