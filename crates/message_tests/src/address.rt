@@ -6,7 +6,7 @@ use netlink_packet_route::address::{
     AddressHeader, AddressHeaderFlags, AddressMessage, AddressMessageBuffer, AddressProtocol,
     AddressScope,
 };
-use netlink_packet_route::framing::EmitError;
+use netlink_packet_route::framing::{EmitError, Header};
 use npr_testing::{bytes_of, check_of, holds, messages, same};
 use std::test::Fail;
 

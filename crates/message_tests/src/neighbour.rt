@@ -2,7 +2,7 @@
 
 use bitflags::Flags;
 use netlink_packet_route::framing::{
-    At, AttrFamily, DecodeError, EmitError, Emitable, NlaBuffer, ParseableParametrized,
+    At, AttrFamily, DecodeError, EmitError, Emitable, Header, NlaBuffer, ParseableParametrized,
 };
 use netlink_packet_route::neighbour::{
     NeighbourAddress, NeighbourAttribute, NeighbourCacheInfo, NeighbourExtendedFlags,

@@ -1,7 +1,7 @@
 //! Routes of the kernel and of `ip`, and damaged ones.
 
 use netlink_packet_route::AddressFamily;
-use netlink_packet_route::framing::{DecodeError, EmitError};
+use netlink_packet_route::framing::{DecodeError, EmitError, Header};
 use netlink_packet_route::route::{
     RouteAttribute, RouteFlags, RouteHeader, RouteLwEnCapType, RouteMessage, RouteMessageBuffer,
     RouteProtocol, RouteScope, RouteType,

@@ -94,19 +94,6 @@ impl<'a> From<&'a AddressHeader> for AddressMessageBuffer {
     }
 }
 
-impl AddressHeader {
-    /// The header in the first 8 bytes; more are not looked at.
-    ///
-    /// # Errors
-    /// `HeaderTooShort` below 8 bytes.
-    pub fn parse(bytes: &[u8]) -> Result<Self, DecodeError>
-        ensures ok { IfOk result (λ h. (leading header).Reads bytes.now h) }
-        ensures refused { IfErr result (λ e. (leading header).Wrong no_place bytes.now e) }
-    {
-        Ok(AddressHeader::in_front(leading_octets(bytes, IFADDRMSG_SIZE)?))
-    }
-}
-
 impl Emitable for AddressHeader {
     ghost bytes = { header.encode };
 

@@ -11,7 +11,7 @@ ghost use Rattle.npr_base.specs.{
 use crate::attribute::Attribute;
 use crate::framing::NlasIterator;
 use crate::looks::Looks;
-use crate::message::{Header, Message, header_of};
+use crate::message::{Header, Message};
 use crate::refusal::DecodeError;
 use std::alloc::Global;
 
@@ -46,7 +46,7 @@ impl<H: Header> Message<H, H::Attribute> {
         ensures refused { IfErr result (λ e. MessageFault H.grammar bytes.now e) }
         ensures short { IfErr result (λ e. (length bytes.now < H.grammar.layout.size) × (e ≡ HeaderTooShort (length bytes.now) H.grammar.layout.size)) }
     {
-        let header = header_of::<H>(bytes)?;
+        let header = H::parse(bytes)?;
         let behind = &bytes[H::size()..];
         Ok(Attributes {
             alloc,

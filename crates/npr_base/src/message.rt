@@ -41,6 +41,25 @@ pub trait Header: Emitable + Copy + Default {
         requires { grammar.layout.size ≤ length bytes.now }
         ensures { (leading grammar.layout).Reads bytes.now result };
 
+    /// The header in the first bytes; more are not looked at.
+    ///
+    /// # Errors
+    /// `HeaderTooShort` where they are fewer.
+    #[inline(always)]
+    final fn parse(bytes: &[u8]) -> Result<Self, DecodeError>
+        ensures ok { IfOk result (λ h. (leading grammar.layout).Reads bytes.now h) }
+        ensures refused { IfErr result (λ e. (length bytes.now < grammar.layout.size) × (e ≡ HeaderTooShort (length bytes.now) grammar.layout.size)) }
+    {
+        let size = Self::size();
+        if bytes.len() < size {
+            return Err(DecodeError::HeaderTooShort {
+                got: bytes.len(),
+                want: size,
+            });
+        }
+        Ok(Self::in_front(bytes))
+    }
+
     /// The context that the attributes in the bytes are read in. Each look at a header on the way to it
     /// is counted.
     fn context(&self, bytes: &[u8], looks: &mut Looks) -> <Self::Attribute as Attribute>::Context
@@ -203,30 +222,11 @@ fn read_onto_list<H: Header>(
     ensures short { length bytes.now < H.grammar.layout.size → looks.new ≡ looks.old }
     ensures counted { IfOk result (λ _. SawEach looks.old looks.new (list_members H.grammar.writing.members (map H.grammar.meaning list.new.items))) }
 {
-    let header = header_of::<H>(bytes)?;
+    let header = H::parse(bytes)?;
     let behind = &bytes[H::size()..];
     let context = header.context(behind, looks);
     fill_list(list, alloc, context, behind, looks)?;
     Ok(header)
-}
-
-/// The header in the first bytes.
-///
-/// # Errors
-/// `HeaderTooShort` where they are fewer.
-#[inline(always)]
-pub(crate) fn header_of<H: Header>(bytes: &[u8]) -> Result<H, DecodeError>
-    ensures ok { IfOk result (λ h. (leading H.grammar.layout).Reads bytes.now h) }
-    ensures refused { IfErr result (λ e. (length bytes.now < H.grammar.layout.size) × (e ≡ HeaderTooShort (length bytes.now) H.grammar.layout.size)) }
-{
-    let size = H::size();
-    if bytes.len() < size {
-        return Err(DecodeError::HeaderTooShort {
-            got: bytes.len(),
-            want: size,
-        });
-    }
-    Ok(H::in_front(bytes))
 }
 
 impl<'a, H: Header> Parseable<&'a [u8]> for Message<H, H::Attribute> {

@@ -101,19 +101,6 @@ impl<'a> From<&'a NeighbourHeader> for NeighbourMessageBuffer {
     }
 }
 
-impl NeighbourHeader {
-    /// The header in the first 12 bytes; more are not looked at.
-    ///
-    /// # Errors
-    /// `HeaderTooShort` below 12 bytes.
-    pub fn parse(bytes: &[u8]) -> Result<Self, DecodeError>
-        ensures ok { IfOk result (λ h. (leading header).Reads bytes.now h) }
-        ensures refused { IfErr result (λ e. (leading header).Wrong no_place bytes.now e) }
-    {
-        Ok(NeighbourHeader::in_front(leading_octets(bytes, NDMSG_SIZE)?))
-    }
-}
-
 impl Emitable for NeighbourHeader {
     ghost bytes = { header.encode };
 

@@ -130,17 +130,6 @@ impl RouteHeader {
 
     /// No table, `RT_TABLE_UNSPEC` of `linux/rtnetlink.h`.
     pub const RT_TABLE_UNSPEC: u8 = 0;
-
-    /// The header in the first 12 bytes; more are not looked at.
-    ///
-    /// # Errors
-    /// `HeaderTooShort` below 12 bytes.
-    pub fn parse(bytes: &[u8]) -> Result<Self, DecodeError>
-        ensures ok { IfOk result (λ h. (leading header).Reads bytes.now h) }
-        ensures refused { IfErr result (λ e. (leading header).Wrong no_place bytes.now e) }
-    {
-        Ok(RouteHeader::in_front(leading_octets(bytes, RTMSG_SIZE)?))
-    }
 }
 
 impl Emitable for RouteHeader {

@@ -114,19 +114,6 @@ impl<'a> From<&'a RuleHeader> for RuleMessageBuffer {
     }
 }
 
-impl RuleHeader {
-    /// The header in the first 12 bytes; more are not looked at.
-    ///
-    /// # Errors
-    /// `HeaderTooShort` below 12 bytes.
-    pub fn parse(bytes: &[u8]) -> Result<Self, DecodeError>
-        ensures ok { IfOk result (λ h. (leading header).Reads bytes.now h) }
-        ensures refused { IfErr result (λ e. (leading header).Wrong no_place bytes.now e) }
-    {
-        Ok(RuleHeader::in_front(leading_octets(bytes, FIB_RULE_HDR_SIZE)?))
-    }
-}
-
 impl Emitable for RuleHeader {
     ghost bytes = { header.encode };
 
