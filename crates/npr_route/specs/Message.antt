@@ -48,7 +48,3 @@ IsRouteMessageBy by bytes m = IsMessageOf header (λ h. IsRouteListBy by (under 
 
 unfoldable pub IsCoherentRouteBy : ModeTable → Meant routes → Type 0
 IsCoherentRouteBy by m = IsCoherentOf header (λ h. IsCoherentListBy by (under h)) m
-
--- how deep next hops stand inside one another
-abbrev pub route_depth : Meant routes → ℕ
-route_depth m = attributes_depth (attributes_of m.attributes)
