@@ -7,6 +7,5 @@ pub mod Looking
 pub mod Names
 pub mod Messages
 pub mod WalkLaws
-pub mod V6Lists
 pub mod Texts
 pub mod NormalizedLaws

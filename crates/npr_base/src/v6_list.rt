@@ -1,7 +1,7 @@
 //! Lists of addresses of IP version 6, as routing headers have them (RFC 8754, RFC 6554): 16 bytes
 //! each, one after the other.
 
-ghost use Rattle.std.specs.{Prelude.{◌≡◌, ◌*◌, ◌%◌, ◌^◌, ◌<◌, ◌≤◌, ◌⊎◌, length, IfOk, IfErr}, List.{concat}};
+ghost use Rattle.std.specs.{Prelude.{◌≡◌, ◌*◌, ◌%◌, ◌^◌, ◌<◌, ◌≤◌, length, IfOk, IfErr}, List.{concat}};
 ghost use Rattle.npr_base.specs.{declared.refusal.DecodeError.TheVariants.{OutOfMemory}, Family.{AllOf}, Framing.{Writes}, V6List.{IsV6List}};
 
 use crate::ip::Ipv6Addr;
@@ -43,10 +43,10 @@ pub fn v6_list_len(addresses: &[Ipv6Addr]) -> usize
     total
 }
 
-/// Writes the addresses into a slice that has room by their bytes, or 16 bytes for each.
-fn write_each(addresses: &[Ipv6Addr], out: &mut [u8]) -> usize
-    requires { (length (concat addresses.now) ≤ length out.old) ⊎ (16 * length addresses.now ≤ length out.old) }
-    ensures each { result ≡ 16 * length addresses.now }
+/// Writes the addresses one after the other at the front of the slice, in the order of the list,
+/// leaves the rest, and answers their length.
+pub fn write_v6_list(addresses: &[Ipv6Addr], out: &mut [u8]) -> usize
+    requires { length (concat addresses.now) ≤ length out.old }
     ensures len { result ≡ length (concat addresses.now) }
     ensures after { Writes out.old out.new (concat addresses.now) }
 {
@@ -57,21 +57,13 @@ fn write_each(addresses: &[Ipv6Addr], out: &mut [u8]) -> usize
     at
 }
 
-/// Writes the addresses one after the other at the front of the slice, in the order of the list,
-/// leaves the rest, and answers their length.
-pub fn write_v6_list(addresses: &[Ipv6Addr], out: &mut [u8]) -> usize
-    requires { length (concat addresses.now) ≤ length out.old }
-    ensures len { result ≡ length (concat addresses.now) }
-    ensures after { Writes out.old out.new (concat addresses.now) }
-{
-    write_each(addresses, out)
-}
-
 /// Writes the addresses one after the other, in the order of the list, into a slice of exactly 16
 /// bytes for each.
 pub fn emit_v6_list(addresses: &[Ipv6Addr], out: &mut [u8])
     requires { length out.old ≡ 16 * length addresses.now }
     ensures { out.new ≡ concat addresses.now }
 {
-    write_each(addresses, out);
+    // Each takes 16 bytes, so there is room.
+    v6_list_len(addresses);
+    write_v6_list(addresses, out);
 }

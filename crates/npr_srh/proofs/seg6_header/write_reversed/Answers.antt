@@ -23,9 +23,8 @@ loop-i-preserved c =
     let past = c.loop-i.invariant in
     let lt : i < length all = omega (arith, c.loop-i-test.true, length-reverse c.args.segments.now) in
     let read : x ≡ get_or all i x = c.index-segments-count.is ∙ sym (get_or-reverse c.args.segments.now i x c.loop-i-test.true) in
-    let size : length x ≡ 16 = omega (arith, c.octets.type_inv, ap length c.octets.ensures) in
-    let took : c.write_array-at.result ≡ length x = omega (arith, c.write_array-at.ensures.len, size) in
+    let took : c.write_array-at.result ≡ length x = omega (arith, c.write_array-at.ensures.len, c.octets.type_inv, ap length c.octets.ensures) in
     let wrote =
     wrote_next concat concat-append all i x lt read c.args.out.now c.requires c.loop-i.out c.loop-i.at past.len past.after c.write_array-at.new.out x
     c.write_array-at.result (append-nil x) took (rw c.octets.ensures at c.write_array-at.ensures.after) in
-    record { offset = omega (arith, past.offset, took, size); len = wrote.len; after = wrote.after }
+    record { len = wrote.len; after = wrote.after }
