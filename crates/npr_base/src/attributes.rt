@@ -11,7 +11,7 @@ ghost use Rattle.npr_base.specs.{
 use crate::attribute::Attribute;
 use crate::framing::NlasIterator;
 use crate::looks::Looks;
-use crate::message::{Header, Message};
+use crate::message::{Header, Message, check_header};
 use crate::refusal::DecodeError;
 use std::alloc::Global;
 
@@ -46,7 +46,8 @@ impl<H: Header> Message<H, H::Attribute> {
         ensures refused { IfErr result (λ e. MessageFault H.grammar bytes.now e) }
         ensures short { IfErr result (λ e. (length bytes.now < H.grammar.layout.size) × (e ≡ HeaderTooShort (length bytes.now) H.grammar.layout.size)) }
     {
-        let header = H::parse(bytes)?;
+        check_header::<H>(bytes)?;
+        let header = H::in_front(bytes);
         let behind = &bytes[H::size()..];
         Ok(Attributes {
             alloc,

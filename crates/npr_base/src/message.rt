@@ -45,18 +45,11 @@ pub trait Header: Emitable + Copy + Default {
     ///
     /// # Errors
     /// `HeaderTooShort` where they are fewer.
-    #[inline(always)]
     final fn parse(bytes: &[u8]) -> Result<Self, DecodeError>
         ensures ok { IfOk result (λ h. (leading grammar.layout).Reads bytes.now h) }
         ensures refused { IfErr result (λ e. (length bytes.now < grammar.layout.size) × (e ≡ HeaderTooShort (length bytes.now) grammar.layout.size)) }
     {
-        let size = Self::size();
-        if bytes.len() < size {
-            return Err(DecodeError::HeaderTooShort {
-                got: bytes.len(),
-                want: size,
-            });
-        }
+        check_header::<Self>(bytes)?;
         Ok(Self::in_front(bytes))
     }
 
@@ -173,11 +166,8 @@ impl<H: Header> Message<H, H::Attribute> {
         ensures memory { IsErrOf result OutOfMemory → (x : Item) × (rest : List ℕ) × Front (drop H.grammar.layout.size bytes.now) x rest }
     {
         self.attributes.clear();
-        match read_onto_list::<H>(&mut self.attributes, alloc, bytes, &mut Looks::new()) {
-            Ok(header) => {
-                self.header = header;
-                Ok(())
-            }
+        match read_onto::<H>(self, alloc, bytes, &mut Looks::new()) {
+            Ok(()) => Ok(()),
             Err(refusal) => {
                 self.header = H::default();
                 self.attributes.clear();
@@ -200,33 +190,58 @@ fn parse_counted_body<H: Header>(
     ensures short { length bytes.now < H.grammar.layout.size → looks.new ≡ looks.old }
     ensures counted { IfOk result (λ m. SawEach looks.old looks.new (list_members H.grammar.writing.members (view H.grammar m).attributes)) }
 {
-    let mut attributes = Vec::new(alloc);
-    let header = read_onto_list::<H>(&mut attributes, alloc, bytes, looks)?;
-    Ok(Message { header, attributes })
+    let mut message = Message {
+        header: H::default(),
+        attributes: Vec::new(alloc),
+    };
+    read_onto::<H>(&mut message, alloc, bytes, looks)?;
+    Ok(message)
 }
 
-/// The header in the first bytes; its attributes are put into an empty list.
+/// The header in the first bytes, and its attributes, into a message without attributes. A header that
+/// went out in a result would be moved by pieces.
 #[inline(always)]
-fn read_onto_list<H: Header>(
-    list: &mut Vec<H::Attribute>,
+fn read_onto<H: Header>(
+    message: &mut Message<H, H::Attribute>,
     alloc: Global,
     bytes: &[u8],
     looks: &mut Looks,
-) -> Result<H, DecodeError>
-    requires { list.old.items ≡ [] }
-    ensures ok { IfOk result (λ h. IsMessage H.grammar bytes.now (record { header = h; attributes = map H.grammar.meaning list.new.items })) }
+) -> Result<(), DecodeError>
+    requires { message.old.attributes.items ≡ [] }
+    ensures ok { IfOk result (λ _. IsMessage H.grammar bytes.now (view H.grammar message.new)) }
     ensures refused { IfErr result (λ e. e ≢ OutOfMemory → MessageFault H.grammar bytes.now e) }
     ensures memory { IsErrOf result OutOfMemory → (x : Item) × (rest : List ℕ) × Front (drop H.grammar.layout.size bytes.now) x rest }
     ensures exact { Answered result → MessageLooks H.grammar bytes.now looks.old looks.new }
     ensures bounded { AddsAtMostTwice looks.old looks.new (length bytes.now - H.grammar.layout.size) }
     ensures short { length bytes.now < H.grammar.layout.size → looks.new ≡ looks.old }
-    ensures counted { IfOk result (λ _. SawEach looks.old looks.new (list_members H.grammar.writing.members (map H.grammar.meaning list.new.items))) }
+    ensures counted { IfOk result (λ _. SawEach looks.old looks.new (list_members H.grammar.writing.members (view H.grammar message.new).attributes)) }
 {
-    let header = H::parse(bytes)?;
+    check_header::<H>(bytes)?;
+    let header = H::in_front(bytes);
+    message.header = header;
     let behind = &bytes[H::size()..];
     let context = header.context(behind, looks);
-    fill_list(list, alloc, context, behind, looks)?;
-    Ok(header)
+    fill_list(&mut message.attributes, alloc, context, behind, looks)?;
+    Ok(())
+}
+
+/// Whether a header is in the first bytes.
+///
+/// # Errors
+/// `HeaderTooShort` where they are fewer.
+#[inline(always)]
+pub(crate) fn check_header<H: Header>(bytes: &[u8]) -> Result<(), DecodeError>
+    ensures ok { IfOk result (λ _. H.grammar.layout.size ≤ length bytes.now) }
+    ensures refused { IfErr result (λ e. (length bytes.now < H.grammar.layout.size) × (e ≡ HeaderTooShort (length bytes.now) H.grammar.layout.size)) }
+{
+    let size = H::size();
+    if bytes.len() < size {
+        return Err(DecodeError::HeaderTooShort {
+            got: bytes.len(),
+            want: size,
+        });
+    }
+    Ok(())
 }
 
 impl<'a, H: Header> Parseable<&'a [u8]> for Message<H, H::Attribute> {
