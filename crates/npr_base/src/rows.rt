@@ -241,7 +241,8 @@ macro_rules! number_of {
     };
 }
 
-/// Puts what the attribute is into a place. Where a name or bytes can't be read, it goes out by `?`.
+/// Puts what the attribute is into a place. What can't be read goes out at once, by `?`: a refusal that
+/// the arms shared would be cleared for each attribute, kept in memory and asked for again.
 #[macro_export]
 macro_rules! put_rows {
     (($place:expr, $alloc:expr, $item:expr, $looks:expr $(; $($more:tt)*)?) $family:ident of $at:ident { $($number:tt $variant:ident $(($($codec:tt)+))? $(as $kind:expr)?;)* }) => {{
@@ -278,15 +279,18 @@ macro_rules! put_row {
     ([$place:expr, $family:ident::$variant:ident, $alloc:expr, $value:expr, $at:expr, $looks:expr] list) => {
         $crate::put_read($place, $crate::parse_list($alloc, (), $value, $looks), $family::$variant)
     };
-    ([$place:expr, $family:ident::$variant:ident, $alloc:expr, $value:expr, $at:expr, $looks:expr] $of:ident as $number:ident $(by $by:ident)?) => {
-        $crate::put_read($place, $crate::read_value!([$alloc, $value, $at] $number), |n| $family::$variant($of::from(n)))
-    };
-    ([$place:expr, $family:ident::$variant:ident, $alloc:expr, $value:expr, $at:expr, $looks:expr] $of:ident flags $number:ident) => {
-        $crate::put_read($place, $crate::read_value!([$alloc, $value, $at] $number), |bits| $family::$variant($of::from_bits_retain(bits)))
-    };
-    ([$place:expr, $family:ident::$variant:ident, $alloc:expr, $value:expr, $at:expr, $looks:expr] $($codec:tt)+) => {
-        $crate::put_read($place, $crate::read_value!([$alloc, $value, $at] $($codec)+), $family::$variant)
-    };
+    ([$place:expr, $family:ident::$variant:ident, $alloc:expr, $value:expr, $at:expr, $looks:expr] $of:ident as $number:ident $(by $by:ident)?) => {{
+        $place.put($family::$variant($of::from($crate::read_value!([$alloc, $value, $at] $number)?)));
+        Ok(())
+    }};
+    ([$place:expr, $family:ident::$variant:ident, $alloc:expr, $value:expr, $at:expr, $looks:expr] $of:ident flags $number:ident) => {{
+        $place.put($family::$variant($of::from_bits_retain($crate::read_value!([$alloc, $value, $at] $number)?)));
+        Ok(())
+    }};
+    ([$place:expr, $family:ident::$variant:ident, $alloc:expr, $value:expr, $at:expr, $looks:expr] $($codec:tt)+) => {{
+        $place.put($family::$variant($crate::read_value!([$alloc, $value, $at] $($codec)+)?));
+        Ok(())
+    }};
 }
 
 /// What a value is, by its codec.
