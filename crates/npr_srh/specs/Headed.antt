@@ -102,7 +102,9 @@ module _ {F : Type 0} (L : Fixed F) where
   headed-holds bytes h is p =
       let all : IsBytes (p.head ++ concat h.segments) = subst IsBytes p.parts.is is in
       record {
-        range = subst (front_layout L 0).Holds (sym p.front) ((front_layout L 0).Holds-decode p.head (IsBytes-left p.head (concat h.segments) all) (p.parts.size ∙ sym front-size));
+        range =
+            let size = p.parts.size ∙ sym front-size in
+            subst (front_layout L 0).Holds (sym p.front) ((front_layout L 0).Holds-decode p.head (IsBytes-left p.head (concat h.segments) all) size);
         readable = p.readable;
         whole = p.parts.whole;
         segments = v6_list-bytes h.segments (IsBytes-right p.head (concat h.segments) all);
