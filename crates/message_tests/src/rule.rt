@@ -1,7 +1,9 @@
 //! Rules of the kernel and of `ip`, and damaged ones.
 
 use bitflags::Flags;
-use netlink_packet_route::framing::{EmitError, Emitable, Header, Nla, Parseable, WriteError, to_vec};
+use netlink_packet_route::framing::{
+    EmitError, Emitable, Header, Nla, Parseable, WriteError, to_vec,
+};
 use netlink_packet_route::rule::{
     RuleAction, RuleAttribute, RuleFlags, RuleHeader, RuleMessage, RuleMessageBuffer,
     RulePortRange, RuleUidRange,
