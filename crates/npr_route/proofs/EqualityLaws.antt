@@ -1,8 +1,9 @@
 -- What `==` answers of metrics, attributes, next hops and messages: whether they mean the same.
-use Rattle.std.specs.Prelude.{◌≡◌, ℕ, ◌+◌, ◌*◌, ◌^◌, Bool, false, List, [], ◌∷◌, map, nat_lt, if◌then◌else◌}
+use Rattle.std.specs.Prelude.{◌≡◌, ℕ, ◌+◌, ◌*◌, ◌^◌, Bool, false, List, [], ◌∷◌, map, nat_lt}
 use Rattle.std.specs.Bool.{Decides}
 use Rattle.std.specs.Cmp.{unsigned_Decides}
 use Rattle.std.specs.Cmp.Lexicographic.{pointwise}
+use Rattle.std.specs.List.{count_by}
 use Rattle.std.specs.declared.alloc.Global.{Global}
 use Rattle.std.specs.declared.vec.Vec.{Vec}
 use Rattle.std.proofs.Common.{refl, sym, ap, ◌∙◌}
@@ -62,13 +63,9 @@ variant_numbers : List ℕ
 variant_numbers =
     (2 * 9) ∷ (2 * 19 + 1) ∷ (2 * 23 + 1) ∷ map (λ (r : Row Flat.Meaning). 2 * r.at.kind) (Flat.rows any false (OfEncap.encapsulation NoEncapsulation))
 
-count_below : ℕ → List ℕ → ℕ
-count_below n [] = 0
-count_below n (k ∷ ks) = if nat_lt k n then 1 + count_below n ks else count_below n ks
-
 -- the place of a variant in the enum: so many have a lower number
 order : Meaning → ℕ
-order m = count_below (variant_number m) variant_numbers
+order m = count_by (λ k. nat_lt k (variant_number m)) variant_numbers
 
 abbrev same : RouteAttribute → RouteAttribute → Bool
 same = AttributeEq.ghosts.eq
@@ -102,7 +99,7 @@ outermost_multi_path v = sym (outermost_is (MultiPath v)) ∙ view_multi_path v
 attribute_layer :
     (t : Meaning) → ((v w : Vec RouteNextHop Global) → multi_path (hops_in v.items) ≡ t → HopsDecide v.items w.items) → (a b : RouteAttribute) → meaning_of a ≡ t
     → Decides (same a b) (meaning_of a ≡ meaning_of b)
-unfolding order count_below variant_number variant_numbers out-RouteAttribute Carrier.out
+unfolding order variant_number variant_numbers out-RouteAttribute Carrier.out
 attribute_layer t inside a b is =
     let h = enum_meaning_at order t enum outermost _ (
     (λ x. refl, one_meaning address_of (λ a. flat (Flat.destination a)) address_equality (λ p q e. cc)) also
