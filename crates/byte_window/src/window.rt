@@ -1,8 +1,8 @@
 //! A reader through a window of fixed length, so that memory does not grow with the input.
 
 ghost use Rattle.std.specs.{
-  Prelude.{◌≡◌, ◌≤◌, ◌<◌, ◌↔◌, ◌++◌, ◌+◌, ◌-◌, ◌^◌, ◌==◌, ℕ, List, [], IfOk, IfErr, IsTrue, drop, length, min, vec_len},
-  Io.KnownBytes.{Consumes},
+  Prelude.{◌≡◌, ◌≤◌, ◌<◌, ◌↔◌, ◌++◌, ◌+◌, ◌-◌, ◌^◌, ◌==◌, ℕ, List, [], IfOk, IfErr, OnErr, IsFalse, IsTrue, drop, length, min, vec_len},
+  Io.KnownBytes.{Consumes, IsAtEnd, Keeps},
 };
 ghost use Rattle.byte_window.specs.{declared.stop.Stop.TheVariants.{Read as ReadFailed}, Window.{between}};
 
@@ -26,12 +26,14 @@ impl<R: Read + Drop> Window<R> {
     /// A window of this length before the reader, which holds nothing yet.
     ///
     /// # Errors
-    /// `AllocError` where memory is refused.
+    /// `AllocError` where memory is refused; a length of 0 wants none.
     pub fn new(alloc: Global, reader: R, length: usize) -> Result<Window<R>, AllocError>
         ensures empty { IfOk result (λ window. between window.room.items window.start window.end ≡ []) }
         ensures fresh { IfOk result (λ window. (window.reader ≡ reader) × (window.passed ≡ 0) × (vec_len window.room ≡ length)) }
+        ensures memory { OnErr result (0 < length) }
     {
-        let room = vec![in alloc; 0u8; length]?;
+        let mut room = Vec::with_capacity(alloc, length)?;
+        room.resize_with(length, || 0u8)?;
         Ok(Window {
             reader,
             room,
@@ -66,6 +68,7 @@ impl<R: Read + Drop> Window<R> {
     pub fn pass(&mut self, count: usize)
         ensures rest { let n = min count (self.old.end - self.old.start) in between self.new.room.items self.new.start self.new.end ≡ drop n (between self.old.room.items self.old.start self.old.end) }
         ensures passed { let n = min count (self.old.end - self.old.start) in self.new.passed ≡ min (self.old.passed + n) (2 ^ 64 - 1) }
+        ensures kept { (self.new.reader ≡ self.old.reader) × (self.new.room ≡ self.old.room) }
     {
         let count = count.min(self.end - self.start);
         self.start += count;
@@ -77,6 +80,7 @@ impl<R: Read + Drop> Window<R> {
         ensures same { between self.new.room.items self.new.start self.new.end ≡ between self.old.room.items self.old.start self.old.end }
         ensures front { self.new.start ≡ 0 }
         ensures rest { (self.new.reader ≡ self.old.reader) × (self.new.passed ≡ self.old.passed) }
+        ensures room { vec_len self.new.room ≡ vec_len self.old.room }
     {
         self.room
             .as_mut_slice()
@@ -85,13 +89,21 @@ impl<R: Read + Drop> Window<R> {
         self.start = 0;
     }
 
-    /// Reads once into the room that is left, and answers whether anything came. No failed read is
-    /// tried again.
+    /// Reads once into the room that is left, and answers whether anything came. Nothing comes
+    /// where no room is left, and at the reader's end. No failed read is tried again; one leaves what
+    /// the window holds.
+    ///
+    /// # Errors
+    /// `Stop::Read` where the read failed.
     pub fn fill(&mut self) -> Result<bool, Stop>
         ensures more { IfOk result (λ more. (bytes : List ℕ) × (IsTrue more ↔ (0 < length bytes)) × (between self.new.room.items self.new.start self.new.end ≡ between self.old.room.items self.old.start self.old.end ++ bytes)
             × Consumes (R.remaining self.old.reader) (R.remaining self.new.reader) bytes) }
+        ensures end { IfOk result (λ more. IsFalse more → self.old.end - self.old.start < vec_len self.old.room → IsAtEnd (R.remaining self.new.reader)) }
         ensures failed { IfErr result (λ stop. stop ≡ ReadFailed) }
+        ensures unchanged { OnErr result (between self.new.room.items self.new.start self.new.end ≡ between self.old.room.items self.old.start self.old.end) }
+        ensures unread { OnErr result (Keeps (R.remaining self.old.reader) (R.remaining self.new.reader)) }
         ensures passed { self.new.passed ≡ self.old.passed }
+        ensures room { vec_len self.new.room ≡ vec_len self.old.room }
     {
         self.shift();
         match self.reader.read(&mut self.room.as_mut_slice()[self.end..]) {
