@@ -51,7 +51,7 @@ fn a_header_comes_first(rt: HostRuntime) -> Result<(), Fail> {
     same(short.err(), Some(fault))
 }
 
-/// The list keeps its room, and a refusal leaves nothing.
+/// A message is read over another, and a refusal leaves nothing.
 #[test]
 fn a_message_is_read_into_again(rt: HostRuntime) -> Result<(), Fail> {
     let alloc = rt.alloc();

@@ -8,7 +8,7 @@ use Rattle.std.specs.declared.num.NonZeroI32.{NonZeroI32}
 use Rattle.std.proofs.Common.{refl, sym, ap, subst, arith, true≢false}
 use Rattle.npr_base.specs.Equality.{IsEqualityOf}
 use Rattle.npr_base.specs.EnumTable.{◌also◌}
-use Rattle.npr_base.specs.EnumTableLaws.{enum_decides}
+use Rattle.npr_base.specs.Tables.{table_decides}
 use Rattle.npr_base.specs.MeaningLaws.{enum_meaning, one_meaning, text_equality, items_equality}
 use Rattle.npr_base.specs.StructLaws.{and_decides, decides_as}
 use Rattle.npr_base.specs.ViewEquality.{item_equality}
@@ -16,7 +16,6 @@ use Rattle.netlink_packet_core.specs.Extended as OfAttribute
 use Rattle.netlink_packet_core.specs.Message.{Meant, message_of}
 use Rattle.netlink_packet_core.specs.Payload.{Payload, noop, error, done, overrun, inner, payload_of, error_of, done_of, code_of}
 use Rattle.netlink_packet_core.specs.WalkLaws.{header_equality}
-use Rattle.netlink_packet_core.specs.contracts.extended.ErrorAttribute.{enum as attribute_enum}
 use Rattle.netlink_packet_core.specs.contracts.extended.ErrorAttributePartialEq.TheImpl as AttributeEq
 use Rattle.netlink_packet_core.specs.contracts.payload.ErrorMessagePartialEq.TheImpl as ErrorEq
 use Rattle.netlink_packet_core.specs.contracts.payload.DoneMessagePartialEq.TheImpl as DoneEq
@@ -29,7 +28,7 @@ use mir.Syntax.{Dict}
 
 pub attribute_equality : IsEqualityOf OfAttribute.family.meaning AttributeEq.ghosts.eq
 attribute_equality =
-    enum_decides attribute_enum OfAttribute.rows _ (search (text_equality, unsigned_Decides, items_equality, item_equality) depth 40)
+    table_decides OfAttribute.table _ (search (text_equality, unsigned_Decides, items_equality, item_equality) depth 40)
 
 -- a code and the bytes behind it
 abbrev pair : ℤ → List ℕ → ℤ × List ℕ

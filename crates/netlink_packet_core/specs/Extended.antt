@@ -1,16 +1,12 @@
 -- The attributes of an extended answer (linux/netlink.h, enum nlmsgerr_attrs), by their table, and where they stand.
 use Rattle.std.specs.Prelude.{◌≢◌, ℕ, ◌+◌, ◌/◌, ◌%◌, ◌==◌, ◌||◌, ◌⊎◌, nat_lt, Bool, All, List, [], length, take, drop, max, Option, Some, None, if◌then◌else◌}
-use Rattle.std.proofs.Common.{◌≡◌, refl}
+use Rattle.std.proofs.Common.{◌≡◌}
 use Rattle.npr_base.specs.declared.refusal.AttrFamily.TheVariants.{Value}
 use Rattle.npr_base.specs.declared.refusal.DecodeError.{DecodeError}
 use Rattle.npr_base.specs.Framing.{Item, Front, Passes, Fault, number_of, pad}
-use Rattle.npr_base.specs.Layout.{le32}
-use Rattle.npr_base.specs.Codec.{exactly, raw}
-use Rattle.npr_base.specs.EnumTable.{VariantRows, row, others, ◌also◌, value, text, items}
-use Rattle.npr_base.specs.EnumTableLaws.{writing_in, attributes_in, family_in}
-use Rattle.npr_base.specs.Name.{name}
 use Rattle.npr_base.specs.NameLaws.{IsUnterminated}
-use Rattle.npr_base.specs.Table.{Reading, Family}
+use Rattle.npr_base.specs.Tables.{EnumTable, table_of, row, others, ◌or◌, value, text, items, exactly, raw, name, le32, refl, Reading, Family, writing_of}
+use Rattle.npr_base.specs.Tables.{attributes_of, family_of_table}
 use Rattle.netlink_packet_core.specs.Header.{header}
 use Rattle.netlink_packet_core.specs.contracts.extended.ErrorAttribute.{enum}
 use Rattle.netlink_packet_core.specs.declared.extended.ErrorAttribute.{ErrorAttribute}
@@ -38,22 +34,23 @@ abbrev pub done_attributes : ℕ → List ℕ → List ℕ
 done_attributes flags more = if has_flag flags 0x200 then more else []
 
 -- the table, in the order of the variants: a place that a refusal names is in no family
-abbrev pub rows : VariantRows enum.parts
-rows =
-    row Value 1 name text  -- NLMSGERR_ATTR_MSG
-    also row Value 2 (exactly le32) value  -- NLMSGERR_ATTR_OFFS
-    also row Value 3 raw items  -- NLMSGERR_ATTR_COOKIE
-    also row Value 4 raw items  -- NLMSGERR_ATTR_POLICY
-    also row Value 5 (exactly le32) value  -- NLMSGERR_ATTR_MISS_TYPE
-    also row Value 6 (exactly le32) value  -- NLMSGERR_ATTR_MISS_NEST
-    also others value
+abbrev pub table : EnumTable enum
+table =
+    table_of enum (
+    row Value 1 name (text ErrorAttribute.Message)  -- NLMSGERR_ATTR_MSG
+    or row Value 2 (exactly le32) (value ErrorAttribute.Offset)  -- NLMSGERR_ATTR_OFFS
+    or row Value 3 raw (items ErrorAttribute.Cookie)  -- NLMSGERR_ATTR_COOKIE
+    or row Value 4 raw (items ErrorAttribute.Policy)  -- NLMSGERR_ATTR_POLICY
+    or row Value 5 (exactly le32) (value ErrorAttribute.MissingType)  -- NLMSGERR_ATTR_MISS_TYPE
+    or row Value 6 (exactly le32) (value ErrorAttribute.MissingNest)  -- NLMSGERR_ATTR_MISS_NEST
+    or others (value ErrorAttribute.Other)) refl refl
 
 -- the family
-abbrev pub attributes : Reading (writing_in enum.parts rows)
-attributes = attributes_in enum.parts rows refl
+abbrev pub attributes : Reading (writing_of table)
+attributes = attributes_of table
 
 abbrev pub family : Family ErrorAttribute (Unit {0})
-family = family_in enum rows (λ c. attributes)
+family = family_of_table table (λ c. attributes)
 
 -- no text of the kernel
 abbrev pub IsNoText : Item → Type 0

@@ -12,6 +12,7 @@ pub use Rattle.npr_base.specs.DroppedCodec
 pub use Rattle.npr_base.specs.EnumTable
 pub use Rattle.npr_base.specs.EnumTableLaws
 pub use Rattle.npr_base.specs.EnumTableValues
+pub use Rattle.npr_base.specs.Tables
 pub use Rattle.npr_base.specs.Equality
 pub use Rattle.npr_base.specs.EqualityLaws
 pub use Rattle.npr_base.specs.Family

@@ -3,7 +3,7 @@ use Rattle.std.proofs.Common.{rules, refl}
 use Rattle.npr_base.specs.Equality.{IsEquality, IsEqualityOf}
 use Rattle.npr_base.specs.ViewEquality.{item_equality}
 use Rattle.npr_base.specs.IpLaws.{ip_equality, ipv4_equality}
-use Rattle.npr_base.specs.EnumTableLaws.{enum_decides}
+use Rattle.npr_base.specs.Tables.{table_decides}
 use Rattle.npr_base.specs.MeaningLaws.{text_equality}
 use Rattle.npr_base.specs.EqualityLaws.{one_equality}
 use Rattle.npr_base.specs.StructLaws.{◌beside◌, struct_equality}
@@ -11,8 +11,7 @@ use Rattle.npr_base.specs.AddressFamilyLaws.{family_equality}
 use Rattle.std.specs.Cmp.{unsigned_Decides, signed_Decides}
 use Rattle.npr_address.specs.contracts.header.AddressHeader.{struct}
 use Rattle.npr_address.specs.contracts.addr_protocol.AddressProtocolPartialEq.TheImpl as ProtocolEq
-use Rattle.npr_address.specs.Attribute.{family, rows}
-use Rattle.npr_address.specs.contracts.attribute.AddressAttribute.{enum}
+use Rattle.npr_address.specs.Attribute.{family, table}
 use Rattle.npr_address.specs.contracts.attribute.AddressAttributePartialEq.TheImpl as AttributeEq
 use Rattle.npr_address.specs.contracts.addr_flags.AddressFlagsPartialEq.TheImpl as FlagsEq
 use Rattle.npr_address.specs.contracts.addr_flags.AddressHeaderFlagsPartialEq.TheImpl as HeaderFlagsEq
@@ -42,7 +41,7 @@ header_equality =
 
 pub attribute_equality : IsEqualityOf family.meaning AttributeEq.ghosts.eq
 attribute_equality =
-    enum_decides enum rows _
+    table_decides table _
     (search (
       ip_equality,
       text_equality,

@@ -1,5 +1,6 @@
 -- The header of an address message (linux/if_addr.h, struct ifaddrmsg): four bytes and a number of four.
-use Rattle.npr_base.specs.Fields.{one_byte, le_four, family_byte, ◌holding◌, ◌then◌, last, structure}
+use Rattle.std.proofs.Common.{refl}
+use Rattle.npr_base.specs.Fields.{one_byte, le_four, family_byte, ◌holding◌, ◌fills◌, ◌then◌, last, structure}
 use Rattle.npr_base.specs.Layout.{Layout}
 use Rattle.npr_base.specs.AddressFamily.{families}
 use Rattle.npr_base.specs.declared.address_family.AddressFamily.TheVariants.{Unspec}
@@ -9,17 +10,24 @@ use Rattle.npr_address.specs.declared.addr_scope.AddressScope.TheVariants.{Unive
 use Rattle.npr_address.specs.AddressFlags.{header_flag_bits}
 use Rattle.npr_address.specs.AddressScope.{scopes}
 use Rattle.npr_address.specs.declared.header.AddressHeader.{AddressHeader}
-use Rattle.npr_address.specs.declared.header.AddressMessageBuffer.{AddressMessageBuffer}
+use Rattle.npr_address.specs.declared.header.AddressMessageBuffer.{AddressMessageBuffer as Buffer}
 
 -- in this order, the index little endian
 abbrev pub header : Layout AddressHeader
-header = structure struct (family_byte then one_byte then one_byte holding header_flag_bits then one_byte holding scopes then last le_four) (λ v. tt)
+header =
+    structure struct
+    (AddressHeader.family fills family_byte then AddressHeader.prefix_len fills one_byte
+    then AddressHeader.flags fills one_byte holding header_flag_bits then AddressHeader.scope fills one_byte holding scopes
+    then last (AddressHeader.index fills le_four)) refl (λ v. tt)
 
 -- the same with each field as its number
-abbrev pub header_buffer : Layout AddressMessageBuffer
-header_buffer = structure buffer_struct (one_byte then one_byte then one_byte then one_byte then last le_four) (λ v. tt)
+abbrev pub header_buffer : Layout Buffer
+header_buffer =
+    structure buffer_struct
+    (Buffer.family fills one_byte then Buffer.prefix_len fills one_byte then Buffer.flags fills one_byte then Buffer.scope fills one_byte
+    then last (Buffer.index fills le_four)) refl (λ v. tt)
 
-abbrev pub buffer_of : AddressHeader → AddressMessageBuffer
+abbrev pub buffer_of : AddressHeader → Buffer
 buffer_of h = record {
   family = families.number h.family;
   prefix_len = h.prefix_len;

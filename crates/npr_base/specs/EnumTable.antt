@@ -1,10 +1,11 @@
 -- A table with a row for each variant of an enum but the last, in the order of the variants; the last is an attribute of
--- another number, as it stands.
---     row, others                 the rows, which `also` joins
+-- another number, as it stands. Each row names its variant.
+--     row, others                 the rows, which `or` joins
 --     marked_row                  a row that is written with NESTED, which is bit 15 of the kind
 --     value, text, items, seen, listed, nothing
---                                 what stands in a variant's field: itself, the bytes of a text, the items of a vector, a view of
---                                 it, views of the items; and in one without
+--                                 what stands in the field of the variant that is named: itself, the bytes of a text, the items of
+--                                 a vector, a view of it, views of the items; and in one without
+--     IsNamed                     each variant that is named stands at the place of its row
 --     MeaningIn, meaning_in       what an attribute is, without where it lies in memory: its row and its value there, or itself
 --     by_row                      what is made of a meaning, by its row
 --     numbered                    the numbers are numbers of attributes, and apart
@@ -27,7 +28,7 @@ use Rattle.npr_base.specs.Table.{Row, Held, Shape, held, held_other, shape_at}
 use Rattle.npr_base.specs.TableLaws.{looking_inside}
 use denote.Struct.Field.{Field}
 use denote.Struct.Values.{Values}
-use denote.Enum.Declared.{Choice}
+use denote.Enum.Declared.{Record, Choice}
 
 -- a row for a variant with such fields: where it stands, whether its kind is written with NESTED, its codec, and what the fields hold
 pub record VariantRow (Fs : List Field) : Type 1 where
@@ -46,43 +47,76 @@ VariantRows [] = Unit {1}
 VariantRows (Fs ∷ []) = LastVariant Fs
 VariantRows (Fs ∷ Gs ∷ Fss) = VariantRow Fs × VariantRows (Gs ∷ Fss)
 
-abbrev pub row : {Fs : List Field} {V : Type 0} → AttrFamily → ℕ → Codec V → (Values Fs → V) → VariantRow Fs
-row {Fs} {V} family number codec holds = record { at = at_number family number; nested = false; V = V; codec = codec; holds = holds }
+-- the variants that rows name, in a type D
+abbrev pub Names : Type 0 → List (List Field) → Type 0
+Names D [] = Unit {0}
+Names D (Fs ∷ []) = Values Fs → D
+Names D (Fs ∷ Gs ∷ Fss) = (Values Fs → D) × Names D (Gs ∷ Fss)
 
-abbrev pub marked_row : {Fs : List Field} {V : Type 0} → AttrFamily → ℕ → Codec V → (Values Fs → V) → VariantRow Fs
-marked_row {Fs} {V} family number codec holds = record (row family number codec holds) { nested = true }
+-- a variant of D: what its field holds, and the variant
+abbrev pub Variant : Type 0 → List Field → Type 0 → Type 0
+Variant D Fs V = (Values Fs → V) × (Values Fs → D)
+
+-- a row beside the variant that it names
+abbrev pub row : {D : Type 0} {Fs : List Field} {V : Type 0} → AttrFamily → ℕ → Codec V → Variant D Fs V → VariantRow Fs × (Values Fs → D)
+row {D} {Fs} {V} family number codec variant =
+    (record { at = at_number family number; nested = false; V = V; codec = codec; holds = variant.0 }, variant.1)
+
+abbrev pub marked_row : {D : Type 0} {Fs : List Field} {V : Type 0} → AttrFamily → ℕ → Codec V → Variant D Fs V → VariantRow Fs × (Values Fs → D)
+marked_row {D} {Fs} {V} family number codec variant =
+    (record { at = at_number family number; nested = true; V = V; codec = codec; holds = variant.0 }, variant.1)
 
 -- the kind that is written
 abbrev pub kind_at : {Fs : List Field} → VariantRow Fs → ℕ
 kind_at r = marked r.nested r.at.kind
 
-abbrev pub others : {Fs : List Field} → (Values Fs → Item) → LastVariant Fs
-others {Fs} item = record { item = item }
+abbrev pub others : {D : Type 0} {Fs : List Field} → Variant D Fs Item → LastVariant Fs × (Values Fs → D)
+others variant = (record { item = variant.0 }, variant.1)
 
 -- a row and the later ones
+infixr 2 ◌or◌
+abbrev pub ◌or◌ : {A B : Type 1} {X Y : Type 0} → A × X → B × Y → (A × B) × (X × Y)
+r or s = ((r.0, s.0), (r.1, s.1))
+
+-- one thing and the later ones
 infixr 2 ◌also◌
 abbrev pub ◌also◌ {ℓ} : {A B : Type ℓ} → A → B → A × B
 x also y = (x, y)
 
--- ---- what a field holds
+-- ---- the variants
 
-abbrev pub value : {A : Type 0} → A × Unit {0} → A
-value f = f.0
+abbrev pub value : {D A : Type 0} → (A → D) → (A × Unit {0} → A) × (A × Unit {0} → D)
+value variant = (λ f. f.0, λ f. variant f.0)
 
-abbrev pub text : String Global × Unit {0} → List ℕ
-text f = string_bytes f.0
+abbrev pub text : {D : Type 0} → (String Global → D) → (String Global × Unit {0} → List ℕ) × (String Global × Unit {0} → D)
+text variant = (λ f. string_bytes f.0, λ f. variant f.0)
 
-abbrev pub items : {A : Type 0} → Vec A Global × Unit {0} → List A
-items f = f.0.items
+abbrev pub items : {D A : Type 0} → (Vec A Global → D) → (Vec A Global × Unit {0} → List A) × (Vec A Global × Unit {0} → D)
+items variant = (λ f. f.0.items, λ f. variant f.0)
 
-abbrev pub seen : {A B : Type 0} → (A → B) → A × Unit {0} → B
-seen view f = view f.0
+abbrev pub seen : {D A B : Type 0} → (A → B) → (A → D) → (A × Unit {0} → B) × (A × Unit {0} → D)
+seen view variant = (λ f. view f.0, λ f. variant f.0)
 
-abbrev pub listed : {A B : Type 0} → (A → B) → Vec A Global × Unit {0} → List B
-listed view f = map view f.0.items
+abbrev pub listed : {D A B : Type 0} → (A → B) → (Vec A Global → D) → (Vec A Global × Unit {0} → List B) × (Vec A Global × Unit {0} → D)
+listed view variant = (λ f. map view f.0.items, λ f. variant f.0)
 
-abbrev pub nothing : Unit {0} → Unit {0}
-nothing f = tt
+abbrev pub nothing : {D : Type 0} → D → (Unit {0} → Unit {0}) × (Unit {0} → D)
+nothing variant = (λ f. tt, λ f. variant)
+
+-- what a function makes of the variants, and the places of an enum's variants
+abbrev pub each : {D R : Type 0} → (Fss : List (List Field)) → (D → R) → Names D Fss → Names R Fss
+each [] f names = tt
+each (Fs ∷ []) f names = λ v. f (names v)
+each (Fs ∷ Gs ∷ Fss) f names = (λ v. f (names.0 v), each (Gs ∷ Fss) f names.1)
+
+abbrev pub places : {R : Type 0} (Fss : List (List Field)) → (Choice Fss → R) → Names R Fss
+places [] part = tt
+places (Fs ∷ []) part = λ v. part (inl v)
+places (Fs ∷ Gs ∷ Fss) part = (λ v. part (inl v), places (Gs ∷ Fss) (λ c. part (inr c)))
+
+-- the variant that each row names stands at the row's place; N is `enum` of the type's module in `specs.contracts`
+abbrev pub IsNamed : (N : Record) → Names N.D N.parts → Type 0
+IsNamed N names = each N.parts N.as_values names ≡ places N.parts (λ c. c)
 
 -- ---- meanings
 
@@ -175,3 +209,15 @@ rows_in [] rows part = []
 rows_in (Fs ∷ []) rows part = []
 rows_in (Fs ∷ Gs ∷ Fss) rows part =
     row_in Fs Gs Fss rows part ∷ rows_in (Gs ∷ Fss) rows.1 (λ m. part (inr m))
+
+-- ---- an enum's table
+
+-- the rows, and the variants that they name; the numbers are apart, and the names at their places
+pub record EnumTable (N : Record) : Type 1 where
+  pub rows : VariantRows N.parts
+  pub names : Names N.D N.parts
+  pub apart : numbered N.parts rows ≡ true
+  pub named : IsNamed N names
+
+abbrev pub table_of : (N : Record) (rows : VariantRows N.parts × Names N.D N.parts) → numbered N.parts rows.0 ≡ true → IsNamed N rows.1 → EnumTable N
+table_of N rows apart named = record { rows = rows.0; names = rows.1; apart = apart; named = named }

@@ -1,8 +1,7 @@
 -- A table of an enum's variants is a family.
 --     attributes_in        what attributes mean by such a table, whose numbers are apart
---     family_in            the family of an enum
 --     rewritten            a family under one context, written as under another
---     enum_decides         `==` of the enum answers whether two values mean the same, given what it answers of each variant's field
+--     choices-decide       `==` of the enum answers whether two values mean the same, given what it answers of each variant's field
 use Rattle.std.specs.Prelude.{◌==◌, ◌&&◌, ◌⊎◌, not, if◌then◌else◌}
 use Rattle.std.specs.Bool.{MatchBool, Decides}
 use Rattle.std.specs.Cmp.{first_so, second_so}
@@ -16,14 +15,14 @@ use Rattle.npr_base.specs.Framing.{Item, framed, marked, number_of}
 use Rattle.npr_base.specs.Looks.{Looking}
 use Rattle.npr_base.specs.EnumTable.{VariantRows, kind_at, MeaningIn, meaning_in, other_in, row_in, rows_in, held_in, shape_in, has_number, numbered}
 use Rattle.npr_base.specs.EnumTable.{ReadsIn, WrongIn, looks_in}
-use Rattle.npr_base.specs.Table.{Writing, Reading, Family, Row, ReadsAt, WrongAt, Held, held_other, held_inside, held_kind, held_members, IsHeld, IsWritten}
+use Rattle.npr_base.specs.Table.{Writing, Reading, Row, ReadsAt, WrongAt, Held, held_other, held_inside, held_kind, held_members, IsHeld, IsWritten}
 use Rattle.npr_base.specs.Table.{Aligned, Table}
 use Rattle.npr_base.specs.Table.{has_row, item_of, plain_item, shape_at, table_with, unfit_as, written_as, writing_by}
 use Rattle.npr_base.specs.TableLaws.{table_family, marked-small, looks_of, looking_inside}
 use denote.Struct.Field.{Field}
 use denote.Struct.Values.{Values}
 use denote.Enum.Compared.{Each, by}
-use denote.Enum.Declared.{Record, Choice}
+use denote.Enum.Declared.{Choice}
 
 -- ---- numbers
 
@@ -198,15 +197,6 @@ module _ (Fss : List (List Field)) (rows : VariantRows Fss) where
         saw = λ x m old new p takes. t.saw x m old new (rows-read x m p) (subst (λ (l : Looking Item). l.Takes x old new) same takes);
       }
 
--- the family of an enum: what a value of it means by the table
-abbrev pub family_in : {C : Type 0} (N : Record) (rows : VariantRows N.parts) → (C → Reading (writing_in N.parts rows)) → Family N.D C
-family_in N rows reading = record {
-  Meaning = MeaningIn N.parts rows;
-  meaning = λ a. meaning_in N.parts rows (N.as_values a);
-  writing = writing_in N.parts rows;
-  reading = reading;
-}
-
 -- what is written of a value is written of its meaning
 pub shape-in : (Fss : List (List Field)) (rows : VariantRows Fss) (c : Choice Fss) → shape_in Fss rows c ≡ (writing_in Fss rows).shape (meaning_in Fss rows c)
 shape-in [] rows c = absurd c
@@ -262,7 +252,7 @@ module _ (A B : Type 0) where
   behind-apart : (x : A) (y : B) → Decides false (behind y ≡ here x)
   behind-apart x y = (λ e. absurd (true≢false (sym e)), λ e. absurd (cc))
 
-choices-decide : (Fss : List (List Field)) (rows : VariantRows Fss) (tests : Each Bool Fss) → FieldsDecide Fss rows tests → (c d : Choice Fss)
+pub choices-decide : (Fss : List (List Field)) (rows : VariantRows Fss) (tests : Each Bool Fss) → FieldsDecide Fss rows tests → (c d : Choice Fss)
     → Decides (by false false Fss tests c d) (meaning_in Fss rows c ≡ meaning_in Fss rows d)
 choices-decide [] rows tests all c d = absurd c
 choices-decide (Fs ∷ []) rows tests all (inl x) (inl y) = all.0 x y
@@ -278,7 +268,3 @@ choices-decide (Fs ∷ Gs ∷ Fss) rows tests all (inr c) (inr d) =
     behind-decides rows.0.V (MeaningIn (Gs ∷ Fss) rows.1) (by false false (Gs ∷ Fss) tests.1 c d)
     (meaning_in (Gs ∷ Fss) rows.1 c) (meaning_in (Gs ∷ Fss) rows.1 d)
     (choices-decide (Gs ∷ Fss) rows.1 tests.1 all.1 c d)
-
-pub enum_decides : (N : Record) (rows : VariantRows N.parts) (tests : Each Bool N.parts) → FieldsDecide N.parts rows tests → (a b : N.D)
-    → Decides (by false false N.parts tests (N.as_values a) (N.as_values b)) (meaning_in N.parts rows (N.as_values a) ≡ meaning_in N.parts rows (N.as_values b))
-enum_decides N rows tests all a b = choices-decide N.parts rows tests all (N.as_values a) (N.as_values b)

@@ -6,11 +6,13 @@
 --     unused           one that is written 0
 --     holding          a value in the place of its number
 --     family_byte      the family of an address, in a byte
---     then, last       a field behind another, and the last of a struct
---     spread           two values that stand in one place, and what stands behind it
+--     and              a field behind another
 --     before           a field behind a byte that is not looked at
 --     fields           a field as a layout
---     structure        a struct of fields
+--     fills            a field of a struct, by its name, and how it stands in the bytes
+--     then, last       a named field behind another, and the last of a struct
+--     spread           two values that stand in one place, and what stands behind it
+--     structure        a struct of named fields
 use Rattle.std.specs.Prelude.{◌≡◌, ℕ, ◌+◌, ◌^◌, ◌<◌, List, [], ◌∷◌, ◌++◌, length, slice_index}
 use Rattle.std.specs.Int.{w16, w32, w64, to_le_bytes, from_le_bytes, to_be_bytes, from_be_bytes}
 use Rattle.std.proofs.Common.{refl, sym, ap, subst, ◌∙◌, append_assoc, length-append}
@@ -133,7 +135,7 @@ module _ {N V : Type 0} (F : Field N) (n : Numbering N V) where
 abbrev pub family_byte : Field AddressFamily
 family_byte = one_byte holding families
 
-infixr 4 ◌then◌
+infixr 4 ◌and◌
 module _ {A B : Type 0} (F : Field A) (G : Field B) where
   pub second-back : (front more : List ℕ) (x : A) (y : B) → G.Holds y → G.at (front ++ ((F.encode x ++ G.encode y) ++ more)) (length front + F.width) ≡ y
   second-back front more x y h =
@@ -148,8 +150,8 @@ module _ {A B : Type 0} (F : Field A) (G : Field B) where
       let inner = ap (λ (w : List ℕ). front ++ w) (append_assoc (F.encode x) (G.encode y) more) in
       ap (λ (w : List ℕ). F.at w (length front)) inner ∙ F.at-encode front (G.encode y ++ more) x h
 
-  abbrev pub ◌then◌ : Field (A × B)
-  ◌then◌ = record {
+  abbrev pub ◌and◌ : Field (A × B)
+  ◌and◌ = record {
     width = F.width + G.width;
     at = λ bytes i. (F.at bytes i, G.at bytes (i + F.width));
     encode = λ p. F.encode p.0 ++ G.encode p.1;
@@ -157,35 +159,6 @@ module _ {A B : Type 0} (F : Field A) (G : Field B) where
     length-encode = λ p. length-append (F.encode p.0) (G.encode p.1) ∙ (λ i. F.length-encode p.0 i + G.length-encode p.1 i);
     at-encode = λ front more p h. λ j. (first-back front more p.0 p.1 h.0 j, second-back front more p.0 p.1 h.1 j);
     Holds-at = λ bytes i is. (F.Holds-at bytes i is, G.Holds-at bytes (i + F.width) is);
-  }
-
--- the last field of a struct
-abbrev pub last : {A : Type 0} → Field A → Field (A × Unit {0})
-last F = record {
-  width = F.width;
-  at = λ bytes i. (F.at bytes i, tt);
-  encode = λ p. F.encode p.0;
-  Holds = λ p. F.Holds p.0;
-  length-encode = λ p. F.length-encode p.0;
-  at-encode = λ front more p h. ap (λ x. (x, tt)) (F.at-encode front more p.0 h);
-  Holds-at = λ bytes i is. F.Holds-at bytes i is;
-}
-
--- two values that stand in one place, and what stands behind it
-module _ {A B C : Type 0} (F : Field ((A × B) × C)) where
-  pub spread-back : (front more : List ℕ) (p : A × (B × C)) → F.Holds ((p.0, p.1.0), p.1.1)
-      → (let q = F.at (front ++ (F.encode ((p.0, p.1.0), p.1.1) ++ more)) (length front) in (q.0.0, (q.0.1, q.1))) ≡ p
-  spread-back front more p h = ap (λ q. (q.0.0, (q.0.1, q.1))) (F.at-encode front more ((p.0, p.1.0), p.1.1) h)
-
-  abbrev pub spread : Field (A × (B × C))
-  spread = record {
-    width = F.width;
-    at = λ bytes i. let q = F.at bytes i in (q.0.0, (q.0.1, q.1));
-    encode = λ p. F.encode ((p.0, p.1.0), p.1.1);
-    Holds = λ p. F.Holds ((p.0, p.1.0), p.1.1);
-    length-encode = λ p. F.length-encode ((p.0, p.1.0), p.1.1);
-    at-encode = spread-back;
-    Holds-at = F.Holds-at;
   }
 
 -- a field behind a byte that is not looked at
@@ -216,6 +189,54 @@ module _ {V : Type 0} (F : Field V) where
     Holds-decode = λ bytes is e. F.Holds-at bytes 0 is;
   }
 
--- a struct, whose fields stand one behind the other; N is `struct` of the type's module in `specs.contracts`
-abbrev pub structure : (N : Record) → Field (Values N.parts) → ((v : Values N.parts) → N.Ghost v) → Layout N.D
-structure N F ghosts = formed (fields F) (record { of = λ v. N.make v (ghosts v); number = N.as_values; back = λ v. N.beta v (ghosts v) })
+-- fields of a struct D: which they are, and how they stand in the bytes
+pub record Named (D A : Type 0) : Type 1 where
+  pub of : D → A
+  pub field : Field A
+
+infix 3 ◌fills◌
+abbrev pub ◌fills◌ : {D A : Type 0} → (D → A) → Field A → Named D A
+of fills F = record { of = of; field = F }
+
+infixr 2 ◌then◌
+abbrev pub ◌then◌ : {D A B : Type 0} → Named D A → Named D B → Named D (A × B)
+p then q = record { of = λ d. (p.of d, q.of d); field = p.field and q.field }
+
+abbrev last_field : {A : Type 0} → Field A → Field (A × Unit {0})
+last_field F = record {
+  width = F.width;
+  at = λ bytes i. (F.at bytes i, tt);
+  encode = λ p. F.encode p.0;
+  Holds = λ p. F.Holds p.0;
+  length-encode = λ p. F.length-encode p.0;
+  at-encode = λ front more p h. ap (λ x. (x, tt)) (F.at-encode front more p.0 h);
+  Holds-at = λ bytes i is. F.Holds-at bytes i is;
+}
+
+-- the last field of a struct
+abbrev pub last : {D A : Type 0} → Named D A → Named D (A × Unit {0})
+last p = record { of = λ d. (p.of d, tt); field = last_field p.field }
+
+module _ {A B C : Type 0} (F : Field ((A × B) × C)) where
+  pub spread-back : (front more : List ℕ) (p : A × (B × C)) → F.Holds ((p.0, p.1.0), p.1.1)
+      → (let q = F.at (front ++ (F.encode ((p.0, p.1.0), p.1.1) ++ more)) (length front) in (q.0.0, (q.0.1, q.1))) ≡ p
+  spread-back front more p h = ap (λ q. (q.0.0, (q.0.1, q.1))) (F.at-encode front more ((p.0, p.1.0), p.1.1) h)
+
+  abbrev spread_field : Field (A × (B × C))
+  spread_field = record {
+    width = F.width;
+    at = λ bytes i. let q = F.at bytes i in (q.0.0, (q.0.1, q.1));
+    encode = λ p. F.encode ((p.0, p.1.0), p.1.1);
+    Holds = λ p. F.Holds ((p.0, p.1.0), p.1.1);
+    length-encode = λ p. F.length-encode ((p.0, p.1.0), p.1.1);
+    at-encode = spread-back;
+    Holds-at = F.Holds-at;
+  }
+
+-- two values that stand in one place, and what stands behind it
+abbrev pub spread : {D A B C : Type 0} → Named D ((A × B) × C) → Named D (A × (B × C))
+spread p = record { of = λ d. ((p.of d).0.0, ((p.of d).0.1, (p.of d).1)); field = spread_field p.field }
+
+-- a struct, whose fields stand one behind the other, each in its place; N is `struct` of the type's module in `specs.contracts`
+abbrev pub structure : (N : Record) (p : Named N.D (Values N.parts)) → N.as_values ≡ p.of → ((v : Values N.parts) → N.Ghost v) → Layout N.D
+structure N p named ghosts = formed (fields p.field) (record { of = λ v. N.make v (ghosts v); number = N.as_values; back = λ v. N.beta v (ghosts v) })

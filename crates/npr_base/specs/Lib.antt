@@ -47,3 +47,4 @@ pub mod Text
 pub mod EnumTable
 pub mod EnumTableLaws
 pub mod EnumTableValues
+pub mod Tables

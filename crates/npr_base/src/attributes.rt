@@ -15,8 +15,7 @@ use crate::message::{Header, Message, check_header};
 use crate::refusal::DecodeError;
 use std::alloc::Global;
 
-/// A walk over the attributes of a message, each read as it comes. A refusal is its last item. A
-/// number, an address of version 4 or 6 and a set of flags take no memory.
+/// A walk over the attributes of a message, each read as it comes. A refusal is its last item.
 #[derive(Drop)]
 pub struct Attributes<'a, H: Header> {
     alloc: Global,

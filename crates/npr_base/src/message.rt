@@ -145,8 +145,7 @@ impl<H: Header> Message<H, H::Attribute> {
         parse_counted_body::<H>(alloc, bytes, looks)
     }
 
-    /// `parse` into a message that stands, whose list keeps its room. After a refusal the message is
-    /// as `new` makes it.
+    /// `parse` into a message that stands. After a refusal the message is as `new` makes it.
     ///
     /// # Errors
     /// `OutOfMemory` where memory is refused, and else the first fault in reading order.

@@ -6,18 +6,17 @@ use Rattle.npr_base.specs.AddressFamilyLaws.{family_equality}
 use Rattle.npr_base.specs.Equality.{IsEquality, IsEqualityOf}
 use Rattle.npr_base.specs.IpLaws.{ipv4_equality, ipv6_equality}
 use Rattle.npr_base.specs.EnumTable.{◌also◌}
-use Rattle.npr_base.specs.EnumTableLaws.{enum_decides}
+use Rattle.npr_base.specs.Tables.{table_decides}
 use Rattle.npr_base.specs.MeaningLaws.{enum_meaning, one_meaning, items_equality}
 use Rattle.npr_base.specs.EqualityLaws.{one_equality}
 use Rattle.npr_base.specs.StructLaws.{◌beside◌, struct_equality}
 use Rattle.npr_base.specs.ViewEquality.{item_equality}
 use Rattle.npr_scalar.specs.EqualityLaws.{route_protocol_equality, route_type_equality}
 use Rattle.npr_neighbour.specs.contracts.header.NeighbourHeader.{struct}
-use Rattle.npr_neighbour.specs.Attribute.{family, rows}
+use Rattle.npr_neighbour.specs.Attribute.{family, table}
 use Rattle.npr_neighbour.specs.NeighbourAddress as A
 use Rattle.npr_neighbour.specs.contracts.address.NeighbourAddress.{enum as address_enum}
 use Rattle.npr_neighbour.specs.contracts.address.NeighbourAddressPartialEq.TheImpl as AddressEq
-use Rattle.npr_neighbour.specs.contracts.attribute.NeighbourAttribute.{enum}
 use Rattle.npr_neighbour.specs.contracts.attribute.NeighbourAttributePartialEq.TheImpl as AttributeEq
 use Rattle.npr_neighbour.specs.contracts.cache_info.NeighbourCacheInfoPartialEq.TheImpl as InfoEq
 use Rattle.npr_neighbour.specs.contracts.flags.NeighbourExtendedFlagsPartialEq.TheImpl as ExtendedFlagsEq
@@ -58,5 +57,5 @@ header_equality =
 
 pub attribute_equality : IsEqualityOf family.meaning AttributeEq.ghosts.eq
 attribute_equality =
-    enum_decides enum (rows A.any) _
+    table_decides (table A.any) _
     (search (address_equality, items_equality, unsigned_Decides, info_equality, route_protocol_equality, extended_flags_equality, item_equality) depth 40)

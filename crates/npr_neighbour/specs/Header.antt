@@ -4,7 +4,7 @@ use Rattle.std.specs.Int.{w32, to_le_bytes, cast_signed, cast_unsigned}
 use Rattle.std.proofs.Common.{refl, ap, ◌∙◌}
 use Rattle.std.proofs.Math.Facts.{Fits-bits, sfits_to_z}
 use Rattle.npr_base.specs.AddressFamily.{families}
-use Rattle.npr_base.specs.Fields.{Field, one_byte, le_two, unused, family_byte, ◌holding◌, ◌before◌, ◌then◌, last, structure, le32-behind}
+use Rattle.npr_base.specs.Fields.{Field, one_byte, le_two, unused, family_byte, ◌holding◌, ◌before◌, ◌fills◌, ◌then◌, last, structure, le32-behind}
 use Rattle.npr_base.specs.Layout.{Layout, le32_at, le32_at-holds}
 use Rattle.npr_base.specs.LayoutLaws.{signed32-back}
 use Rattle.npr_base.specs.declared.address_family.AddressFamily.TheVariants.{Unspec}
@@ -15,7 +15,7 @@ use Rattle.npr_neighbour.specs.State.{state_bits}
 use Rattle.npr_neighbour.specs.contracts.header.NeighbourHeader.{struct}
 use Rattle.npr_neighbour.specs.contracts.header.NeighbourMessageBuffer.{struct as buffer_struct}
 use Rattle.npr_neighbour.specs.declared.header.NeighbourHeader.{NeighbourHeader}
-use Rattle.npr_neighbour.specs.declared.header.NeighbourMessageBuffer.{NeighbourMessageBuffer}
+use Rattle.npr_neighbour.specs.declared.header.NeighbourMessageBuffer.{NeighbourMessageBuffer as Buffer}
 
 -- a signed number of four bytes, the lowest byte first
 abbrev pub signed_four : Field ℤ
@@ -33,16 +33,18 @@ signed_four = record {
 abbrev pub header : Layout NeighbourHeader
 header =
     structure struct
-    (family_byte then unused before unused before unused before signed_four then le_two holding state_bits then one_byte holding flag_bits
-    then last (one_byte holding route_types)) (λ v. tt)
+    (NeighbourHeader.family fills family_byte then NeighbourHeader.ifindex fills unused before unused before unused before signed_four
+    then NeighbourHeader.state fills le_two holding state_bits then NeighbourHeader.flags fills one_byte holding flag_bits
+    then last (NeighbourHeader.kind fills one_byte holding route_types)) refl (λ v. tt)
 
 -- the same with each field as its number
-abbrev pub header_buffer : Layout NeighbourMessageBuffer
+abbrev pub header_buffer : Layout Buffer
 header_buffer =
     structure buffer_struct
-    (one_byte then unused before unused before unused before signed_four then le_two then one_byte then last one_byte) (λ v. tt)
+    (Buffer.family fills one_byte then Buffer.ifindex fills unused before unused before unused before signed_four then Buffer.state fills le_two
+    then Buffer.flags fills one_byte then last (Buffer.kind fills one_byte)) refl (λ v. tt)
 
-abbrev pub buffer_of : NeighbourHeader → NeighbourMessageBuffer
+abbrev pub buffer_of : NeighbourHeader → Buffer
 buffer_of h = record {
   family = families.number h.family;
   ifindex = h.ifindex;

@@ -1,6 +1,6 @@
 //! The attributes of a neighbour message: `NDA_*` of `linux/neighbour.h`.
 
-ghost use Rattle.npr_neighbour.specs.Attribute.{shape_of, shape_is, family};
+ghost use Rattle.{npr_base.specs.Tables.{shape_by, shape-by}, npr_neighbour.specs.{Attribute.{table, family}, NeighbourAddress.{any}}};
 
 use crate::address::NeighbourAddress;
 use crate::cache_info::NeighbourCacheInfo;
@@ -74,7 +74,7 @@ macro_rules! rows {
 }
 
 impl Nla for NeighbourAttribute {
-    ghost shape = { shape_of };
+    ghost shape = { shape_by (table any) };
 
     fn kind(&self) -> u16 {
         rows!(kind_rows(self; NeighbourAttribute::Destination(_) => NDA_DST,))
@@ -98,7 +98,7 @@ impl Attribute for NeighbourAttribute {
 
     ghost family = { family };
 
-    ghost shape_is = { shape_is };
+    ghost shape_is = { shape-by (table any) };
 
     fn read_into<P: Place<Self>>(
         place: &mut P,

@@ -12,7 +12,7 @@ use Rattle.npr_base.specs.Equality.{IsEquality, IsEqualityOf}
 use Rattle.npr_base.specs.ViewEquality.{item_equality}
 use Rattle.npr_base.specs.EnumTable.{◌also◌}
 use Rattle.npr_base.specs.Table.{Row, held_kind}
-use Rattle.npr_base.specs.EnumTableLaws.{enum_decides}
+use Rattle.npr_base.specs.Tables.{table_decides}
 use Rattle.npr_base.specs.MeaningLaws.{enum_meaning_at, one_meaning, one_meaning_by, text_equality, items_equality, items_meaning}
 use Rattle.npr_base.specs.EqualityLaws.{one_equality}
 use Rattle.npr_base.specs.StructLaws.{◌beside◌, struct_equality, and_decides, decides_as}
@@ -31,7 +31,6 @@ use Rattle.npr_route.specs.contracts.attribute.RouteAttribute.{enum}
 use Rattle.npr_route.specs.contracts.attribute.RouteAttributePartialEq.TheImpl as AttributeEq
 use Rattle.npr_route.specs.contracts.attribute.RouteAttributePartialEq.TheImpl.Laws as AttributeLaws
 use Rattle.npr_route.specs.contracts.header.RouteHeaderPartialEq.TheImpl as HeaderEq
-use Rattle.npr_route.specs.contracts.metrics.RouteMetric.{enum as metric_enum}
 use Rattle.npr_route.specs.contracts.metrics.RouteMetricPartialEq.TheImpl as MetricEq
 use Rattle.npr_route.specs.contracts.next_hops.RouteNextHopPartialEq.TheImpl as HopEq
 use Rattle.npr_route.specs.contracts.next_hops.RouteNextHopPartialEq.TheImpl.Laws as HopLaws
@@ -49,7 +48,7 @@ header_equality =
     beside route_protocol_equality beside route_scope_equality beside route_type_equality beside one_equality route_flags_equality)
 
 pub metric_equality : IsEqualityOf Metrics.family.meaning MetricEq.ghosts.eq
-metric_equality = enum_decides metric_enum Metrics.rows _ (search (unsigned_Decides, text_equality, item_equality) depth 40)
+metric_equality = table_decides Metrics.table _ (search (unsigned_Decides, text_equality, item_equality) depth 40)
 
 -- a number for each variant: twice that of the attribute, and one more for the second of two variants that share it
 variant_number : Meaning → ℕ

@@ -1,5 +1,6 @@
 -- The header of a route message (linux/rtnetlink.h, struct rtmsg): eight bytes and a number of four.
-use Rattle.npr_base.specs.Fields.{one_byte, le_four, family_byte, ◌holding◌, ◌then◌, last, structure}
+use Rattle.std.proofs.Common.{refl}
+use Rattle.npr_base.specs.Fields.{one_byte, le_four, family_byte, ◌holding◌, ◌fills◌, ◌then◌, last, structure}
 use Rattle.npr_base.specs.Layout.{Layout}
 use Rattle.npr_base.specs.AddressFamily.{families}
 use Rattle.npr_base.specs.declared.address_family.AddressFamily.TheVariants.{Unspec}
@@ -13,22 +14,26 @@ use Rattle.npr_scalar.specs.declared.route_type.RouteType.TheVariants.{Unspec as
 use Rattle.npr_route.specs.contracts.header.RouteHeader.{struct}
 use Rattle.npr_route.specs.contracts.header.RouteMessageBuffer.{struct as buffer_struct}
 use Rattle.npr_route.specs.declared.header.RouteHeader.{RouteHeader}
-use Rattle.npr_route.specs.declared.header.RouteMessageBuffer.{RouteMessageBuffer}
+use Rattle.npr_route.specs.declared.header.RouteMessageBuffer.{RouteMessageBuffer as Buffer}
 
 -- in this order, the flags little endian
 abbrev pub header : Layout RouteHeader
 header =
     structure struct
-    (family_byte then one_byte then one_byte then one_byte then one_byte then one_byte holding route_protocols then one_byte holding route_scopes
-    then one_byte holding route_types then last (le_four holding route_flag_bits)) (λ v. tt)
+    (RouteHeader.address_family fills family_byte then RouteHeader.destination_prefix_length fills one_byte
+    then RouteHeader.source_prefix_length fills one_byte then RouteHeader.tos fills one_byte then RouteHeader.table fills one_byte
+    then RouteHeader.protocol fills one_byte holding route_protocols then RouteHeader.scope fills one_byte holding route_scopes
+    then RouteHeader.kind fills one_byte holding route_types then last (RouteHeader.flags fills le_four holding route_flag_bits)) refl (λ v. tt)
 
 -- the same with each field as its number
-abbrev pub header_buffer : Layout RouteMessageBuffer
+abbrev pub header_buffer : Layout Buffer
 header_buffer =
     structure buffer_struct
-    (one_byte then one_byte then one_byte then one_byte then one_byte then one_byte then one_byte then one_byte then last le_four) (λ v. tt)
+    (Buffer.address_family fills one_byte then Buffer.destination_prefix_length fills one_byte then Buffer.source_prefix_length fills one_byte
+    then Buffer.tos fills one_byte then Buffer.table fills one_byte then Buffer.protocol fills one_byte then Buffer.scope fills one_byte
+    then Buffer.kind fills one_byte then last (Buffer.flags fills le_four)) refl (λ v. tt)
 
-abbrev pub buffer_of : RouteHeader → RouteMessageBuffer
+abbrev pub buffer_of : RouteHeader → Buffer
 buffer_of h = record {
   address_family = families.number h.address_family;
   destination_prefix_length = h.destination_prefix_length;

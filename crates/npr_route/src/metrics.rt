@@ -1,6 +1,6 @@
 //! The metrics of a route: `RTAX_*` of `linux/rtnetlink.h`.
 
-ghost use Rattle.npr_route.specs.Metric.{family, shape_of, shape_is};
+ghost use Rattle.{npr_base.specs.Tables.{shape_by, shape-by}, npr_route.specs.Metric.{table, family}};
 
 use npr_base::{Attribute, DecodeError, DefaultNla, EmitError, Looks, Nla, NlaBuffer, Place};
 use std::alloc::{AllocError, Global};
@@ -72,7 +72,7 @@ macro_rules! rows {
 }
 
 impl Nla for RouteMetric {
-    ghost shape = { shape_of };
+    ghost shape = { shape_by table };
 
     fn kind(&self) -> u16 {
         rows!(kind_rows(self))
@@ -96,7 +96,7 @@ impl Attribute for RouteMetric {
 
     ghost family = { family };
 
-    ghost shape_is = { shape_is };
+    ghost shape_is = { shape-by table };
 
     #[tactic(auto, unfolding(crate::specs::Metric::attributes))]
     fn read_into<P: Place<Self>>(

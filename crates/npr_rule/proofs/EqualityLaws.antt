@@ -5,15 +5,14 @@ use Rattle.npr_base.specs.AddressFamilyLaws.{family_equality}
 use Rattle.npr_base.specs.Equality.{IsEquality, IsEqualityOf}
 use Rattle.npr_base.specs.ViewEquality.{item_equality}
 use Rattle.npr_base.specs.IpLaws.{ip_equality}
-use Rattle.npr_base.specs.EnumTableLaws.{enum_decides}
+use Rattle.npr_base.specs.Tables.{table_decides}
 use Rattle.npr_base.specs.MeaningLaws.{text_equality}
 use Rattle.npr_base.specs.EqualityLaws.{one_equality}
 use Rattle.npr_base.specs.StructLaws.{◌beside◌, struct_equality}
 use Rattle.npr_scalar.specs.EqualityLaws.{realm_equality, ip_protocol_equality, route_protocol_equality}
 use Rattle.npr_rule.specs.contracts.header.RuleHeader.{struct}
-use Rattle.npr_rule.specs.Attribute.{family, rows}
+use Rattle.npr_rule.specs.Attribute.{family, table}
 use Rattle.npr_rule.specs.contracts.action.RuleActionPartialEq.TheImpl as ActionEq
-use Rattle.npr_rule.specs.contracts.attribute.RuleAttribute.{enum}
 use Rattle.npr_rule.specs.contracts.attribute.RuleAttributePartialEq.TheImpl as AttributeEq
 use Rattle.npr_rule.specs.contracts.flags.RuleFlagsPartialEq.TheImpl as FlagsEq
 use Rattle.npr_rule.specs.contracts.header.RuleHeaderPartialEq.TheImpl as HeaderEq
@@ -40,7 +39,7 @@ header_equality =
 
 pub attribute_equality : IsEqualityOf family.meaning AttributeEq.ghosts.eq
 attribute_equality =
-    enum_decides enum rows _
+    table_decides table _
     (search (
       ip_equality,
       booleans_Decides,

@@ -1,5 +1,6 @@
 -- The header of a rule message (linux/fib_rules.h, struct fib_rule_hdr): eight bytes and a number of four.
-use Rattle.npr_base.specs.Fields.{one_byte, le_four, unused, family_byte, ◌holding◌, ◌before◌, ◌then◌, last, structure}
+use Rattle.std.proofs.Common.{refl}
+use Rattle.npr_base.specs.Fields.{one_byte, le_four, unused, family_byte, ◌holding◌, ◌before◌, ◌fills◌, ◌then◌, last, structure}
 use Rattle.npr_base.specs.Layout.{Layout}
 use Rattle.npr_base.specs.AddressFamily.{families}
 use Rattle.npr_base.specs.declared.address_family.AddressFamily.TheVariants.{Unspec}
@@ -9,22 +10,25 @@ use Rattle.npr_rule.specs.contracts.header.RuleHeader.{struct}
 use Rattle.npr_rule.specs.contracts.header.RuleMessageBuffer.{struct as buffer_struct}
 use Rattle.npr_rule.specs.declared.action.RuleAction.TheVariants.{Unspec as NoAction}
 use Rattle.npr_rule.specs.declared.header.RuleHeader.{RuleHeader}
-use Rattle.npr_rule.specs.declared.header.RuleMessageBuffer.{RuleMessageBuffer}
+use Rattle.npr_rule.specs.declared.header.RuleMessageBuffer.{RuleMessageBuffer as Buffer}
 
 -- in this order, the flags little endian; the reserved bytes are dropped, and written 0
 abbrev pub header : Layout RuleHeader
 header =
     structure struct
-    (family_byte then one_byte then one_byte then one_byte then one_byte then unused before unused before one_byte holding actions
-    then last (le_four holding rule_flag_bits)) (λ v. tt)
+    (RuleHeader.family fills family_byte then RuleHeader.dst_len fills one_byte then RuleHeader.src_len fills one_byte then RuleHeader.tos fills one_byte
+    then RuleHeader.table fills one_byte then RuleHeader.action fills unused before unused before one_byte holding actions
+    then last (RuleHeader.flags fills le_four holding rule_flag_bits)) refl (λ v. tt)
 
 -- the same with each field as its number, and the reserved bytes kept
-abbrev pub header_buffer : Layout RuleMessageBuffer
+abbrev pub header_buffer : Layout Buffer
 header_buffer =
     structure buffer_struct
-    (one_byte then one_byte then one_byte then one_byte then one_byte then one_byte then one_byte then one_byte then last le_four) (λ v. tt)
+    (Buffer.family fills one_byte then Buffer.dst_len fills one_byte then Buffer.src_len fills one_byte then Buffer.tos fills one_byte
+    then Buffer.table fills one_byte then Buffer.reserve_1 fills one_byte then Buffer.reserve_2 fills one_byte then Buffer.action fills one_byte
+    then last (Buffer.flags fills le_four)) refl (λ v. tt)
 
-abbrev pub buffer_of : RuleHeader → RuleMessageBuffer
+abbrev pub buffer_of : RuleHeader → Buffer
 buffer_of h = record {
   family = families.number h.family;
   dst_len = h.dst_len;

@@ -2,9 +2,9 @@
 
 ghost use Rattle.std.specs.Prelude.{◌≡◌, None};
 ghost use Rattle.{
-  npr_base.specs.Family.{checked},
+  npr_base.specs.{Family.{checked}, Tables.{shape_by, shape-by}},
   npr_scalar.specs.IpProtocol.{above_zero, ip_protocols},
-  npr_rule.specs.{IpProtocolByte.{protocol_misfit}, Attribute.{shape_of, shape_is, family}},
+  npr_rule.specs.{IpProtocolByte.{protocol_misfit}, Attribute.{table, family}},
 };
 
 use crate::port_range::RulePortRange;
@@ -88,7 +88,7 @@ macro_rules! rows {
 }
 
 impl Nla for RuleAttribute {
-    ghost shape = { shape_of };
+    ghost shape = { shape_by table };
 
     fn kind(&self) -> u16 {
         rows!(kind_rows(self))
@@ -141,7 +141,7 @@ impl Attribute for RuleAttribute {
 
     ghost family = { family };
 
-    ghost shape_is = { shape_is };
+    ghost shape_is = { shape-by table };
 
     fn read_into<P: Place<Self>>(
         place: &mut P,

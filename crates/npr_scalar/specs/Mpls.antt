@@ -5,7 +5,10 @@ use Rattle.npr_scalar.specs.contracts.mpls.MplsLabel.{struct}
 use Rattle.npr_scalar.specs.declared.mpls.MplsLabel.{MplsLabel}
 use denote.Struct.Values.{Values}
 
--- from the highest bit: the label, the traffic class, the bottom of the stack and the TTL
+-- from the highest bit
+abbrev pub fields_of : MplsLabel → Values struct.parts
+fields_of x = (x.label, (x.traffic_class, (x.bottom_of_stack, (x.ttl, tt))))
+
 abbrev pub entry : Bits (Values struct.parts)
 entry = bits 20 above bits 3 above flag above lowest (bits 8)
 

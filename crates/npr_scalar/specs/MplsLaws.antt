@@ -2,17 +2,17 @@
 use Rattle.std.specs.Prelude.{◌≡◌, ◌*◌, List, [], ◌∷◌, length}
 use Rattle.std.proofs.Common.{refl, arith, length-append, lit<}
 use Rattle.npr_base.specs.Bits.{packed}
-use Rattle.npr_base.specs.Fields.{be_four, structure}
+use Rattle.npr_base.specs.Fields.{be_four, ◌fills◌, structure}
 use Rattle.npr_base.specs.Layout.{Layout}
 use Rattle.npr_base.specs.Codec.{Codec}
 use Rattle.npr_base.specs.Blocks.{blocks}
 use Rattle.npr_scalar.specs.contracts.mpls.MplsLabel.{struct}
 use Rattle.npr_scalar.specs.declared.mpls.MplsLabel.{MplsLabel}
-use Rattle.npr_scalar.specs.Mpls.{entry}
+use Rattle.npr_scalar.specs.Mpls.{entry, fields_of}
 
 -- highest byte first
 abbrev pub mpls_label : Layout MplsLabel
-mpls_label = structure struct (packed be_four entry (λ n. refl)) (λ v. tt)
+mpls_label = structure struct (fields_of fills packed be_four entry (λ n. refl)) refl (λ v. tt)
 
 abbrev pub mpls_labels : Codec (List MplsLabel)
 mpls_labels = blocks mpls_label (lit< tt)

@@ -1,8 +1,11 @@
 -- The family of a gateway (linux/rtnetlink.h, struct rtvia): a number of two bytes.
-use Rattle.npr_base.specs.Fields.{le_two, last, structure}
+use Rattle.std.proofs.Common.{refl}
+use Rattle.npr_base.specs.Fields.{le_two, ◌fills◌, last, structure}
 use Rattle.npr_base.specs.Layout.{Layout}
 use Rattle.npr_scalar.specs.contracts.via.RouteViaBuffer.{struct}
 use Rattle.npr_scalar.specs.declared.via.RouteViaBuffer.{RouteViaBuffer}
 
 abbrev pub via_buffer : Layout RouteViaBuffer
-via_buffer = structure struct (last le_two) (λ v. tt)
+via_buffer =
+    structure struct
+    (last (RouteViaBuffer.address_family fills le_two)) refl (λ v. tt)

@@ -8,7 +8,7 @@ use Rattle.npr_base.specs.Equality.{IsEquality, IsEqualityOf}
 use Rattle.npr_base.specs.EqualityLaws.{enum_equality, one_equality}
 use Rattle.npr_base.specs.ViewEquality.{item_equality}
 use Rattle.npr_base.specs.IpLaws.{ipv4_equality, ipv6_equality}
-use Rattle.npr_base.specs.EnumTableLaws.{enum_decides}
+use Rattle.npr_base.specs.Tables.{table_decides}
 use Rattle.npr_base.specs.MeaningLaws.{items_equality}
 use Rattle.npr_base.specs.StructLaws.{and_decides, decides_as}
 use Rattle.npr_srh.specs.Seg6.{Seg6, seg6_of}
@@ -21,19 +21,15 @@ use Rattle.npr_srh.specs.RplTunnel as OfRpl
 use Rattle.npr_srh.specs.Ioam6Tunnel as OfIoam6
 use Rattle.npr_srh.specs.contracts.seg6_mode.Seg6ModePartialEq.TheImpl as ModeEq
 use Rattle.npr_srh.specs.contracts.seg6_header.Seg6HeaderPartialEq.TheImpl as HeaderEq
-use Rattle.npr_srh.specs.contracts.seg6.RouteSeg6IpTunnel.{enum as seg6_enum}
 use Rattle.npr_srh.specs.contracts.seg6.RouteSeg6IpTunnelPartialEq.TheImpl as Seg6Eq
 use Rattle.npr_srh.specs.contracts.seg6local_action.Seg6LocalAction.{enum as action_enum}
 use Rattle.npr_srh.specs.contracts.seg6local_action.Seg6LocalActionPartialEq.TheImpl as ActionEq
 use Rattle.npr_srh.specs.contracts.seg6local_srh.Seg6LocalSrhPartialEq.TheImpl as LocalHeaderEq
-use Rattle.npr_srh.specs.contracts.seg6local.RouteSeg6LocalTunnel.{enum as local_enum}
 use Rattle.npr_srh.specs.contracts.seg6local.RouteSeg6LocalTunnelPartialEq.TheImpl as LocalEq
 use Rattle.npr_srh.specs.contracts.rpl.RplSrhPartialEq.TheImpl as RplHeaderEq
-use Rattle.npr_srh.specs.contracts.rpl.RouteRplIpTunnel.{enum as rpl_enum}
 use Rattle.npr_srh.specs.contracts.rpl.RouteRplIpTunnelPartialEq.TheImpl as RplEq
 use Rattle.npr_srh.specs.contracts.ioam6.Ioam6ModePartialEq.TheImpl as Ioam6ModeEq
 use Rattle.npr_srh.specs.contracts.ioam6.Ioam6TraceHdrPartialEq.TheImpl as TraceEq
-use Rattle.npr_srh.specs.contracts.ioam6.RouteIoam6Tunnel.{enum as ioam6_enum}
 use Rattle.npr_srh.specs.contracts.ioam6.RouteIoam6TunnelPartialEq.TheImpl as Ioam6Eq
 
 -- ---- the fields
@@ -93,17 +89,17 @@ rpl_header_equality a b =
 
 pub seg6_equality : IsEqualityOf OfSeg6.family.meaning Seg6Eq.ghosts.eq
 seg6_equality =
-    enum_decides seg6_enum (OfSeg6.rows modes) _ (search (seg6_header_equality, ipv6_equality, unsigned_Decides, item_equality) depth 40)
+    table_decides (OfSeg6.table modes) _ (search (seg6_header_equality, ipv6_equality, unsigned_Decides, item_equality) depth 40)
 
 pub local_equality : IsEqualityOf OfLocal.family.meaning LocalEq.ghosts.eq
 local_equality =
-    enum_decides local_enum OfLocal.rows _
+    table_decides OfLocal.table _
     (search (action_equality, local_header_equality, unsigned_Decides, ipv4_equality, item_equality) depth 40)
 
 pub rpl_equality : IsEqualityOf OfRpl.family.meaning RplEq.ghosts.eq
-rpl_equality = enum_decides rpl_enum OfRpl.rows _ (search (rpl_header_equality, item_equality) depth 40)
+rpl_equality = table_decides OfRpl.table _ (search (rpl_header_equality, item_equality) depth 40)
 
 pub ioam6_equality : IsEqualityOf OfIoam6.family.meaning Ioam6Eq.ghosts.eq
 ioam6_equality =
-    enum_decides ioam6_enum OfIoam6.rows _
+    table_decides OfIoam6.table _
     (search (ioam6_mode_equality, ipv6_equality, trace_equality, unsigned_Decides, item_equality) depth 40)

@@ -14,7 +14,7 @@ use Rattle.npr_base.specs.declared.refusal.EmitError.{EmitError}
 use Rattle.npr_base.specs.Framing.{IsBytes, framed}
 use Rattle.npr_base.specs.Family.{AllOf, option_or, too_long}
 use Rattle.npr_base.specs.CodecLaws.{framed-grows}
-use Rattle.npr_base.specs.Fields.{Field, one_byte, standing, ◌then◌, ◌before◌, fields}
+use Rattle.npr_base.specs.Fields.{Field, one_byte, standing, ◌and◌, ◌before◌, fields}
 use Rattle.npr_base.specs.Layout.{Layout, formed}
 use Rattle.npr_base.specs.Numbering.{Numbering}
 use Rattle.npr_base.specs.ListLaws.{IsBytes-left, IsBytes-right}
@@ -33,7 +33,7 @@ pub record Fixed (F : Type 0) : Type 1 where
 
 -- their layout, in front of so many eights
 abbrev pub front_fields : {F : Type 0} (L : Fixed F) → ℕ → Field (ℕ × L.Later)
-front_fields L eights = one_byte then (standing eights before L.later)
+front_fields L eights = one_byte and (standing eights before L.later)
 
 abbrev pub front_layout : {F : Type 0} → Fixed F → ℕ → Layout F
 front_layout L eights = formed (fields (front_fields L eights)) L.seen

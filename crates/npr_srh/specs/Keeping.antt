@@ -4,12 +4,13 @@ use Rattle.npr_base.specs.declared.refusal.DecodeError.{DecodeError}
 use Rattle.npr_base.specs.Codec.{Codec}
 use Rattle.npr_base.specs.CodecLaws.{framed-grows}
 use Rattle.npr_base.specs.Counts.{Counts, SawEach}
-use Rattle.npr_base.specs.EnumTable.{VariantRows, other_in, numbered}
-use Rattle.npr_base.specs.EnumTableLaws.{writing_in, attributes_in, held-other}
+use Rattle.npr_base.specs.EnumTable.{EnumTable, other_in}
+use Rattle.npr_base.specs.EnumTableLaws.{held-other}
 use Rattle.npr_base.specs.Framing.{Item, Proper, framed, number_of}
 use Rattle.npr_base.specs.LooksLaws.{none-saw}
 use Rattle.npr_base.specs.Table.{Reading, Writing, written_by, unfit_by, item_of, held_members}
-use denote.Struct.Field.{Field}
+use Rattle.npr_base.specs.Tables.{writing_of, attributes_of}
+use denote.Enum.Declared.{Record}
 
 -- bytes mean nothing
 pub record IsUnread {V : Type 0} (Reads : List ℕ → V → Type 0) (bytes : List ℕ) : Type 0 where
@@ -103,12 +104,12 @@ module _ {M V : Type 0} {w : Writing M} (f : Reading w) (other : Item → M) (ro
     }
 
 -- of a table of an enum's variants
-pub others_alone : (Fss : List (List Field)) (rows : VariantRows Fss) → IsAlone (writing_in Fss rows) (other_in Fss rows)
-others_alone Fss rows = record {
-  written = λ x. ap item_of (held-other Fss rows x);
-  members = λ x. ap held_members (held-other Fss rows x);
+pub others_alone : {N : Record} (t : EnumTable N) → IsAlone (writing_of t) (other_in N.parts t.rows)
+others_alone {N} t = record {
+  written = λ x. ap item_of (held-other N.parts t.rows x);
+  members = λ x. ap held_members (held-other N.parts t.rows x);
 }
 
-abbrev pub keeping_in : (Fss : List (List Field)) (rows : VariantRows Fss) (h : numbered Fss rows ≡ true) {V : Type 0} (row : ℕ) (codec : Codec V)
-    → IsRowOf (attributes_in Fss rows h) row codec → IsQuiet (attributes_in Fss rows h) → Reading (writing_in Fss rows)
-keeping_in Fss rows h row codec = keeping (attributes_in Fss rows h) (other_in Fss rows) row codec (others_alone Fss rows)
+abbrev pub keeping_in : {N : Record} (t : EnumTable N) {V : Type 0} (row : ℕ) (codec : Codec V) → IsRowOf (attributes_of t) row codec
+    → IsQuiet (attributes_of t) → Reading (writing_of t)
+keeping_in {N} t row codec = keeping (attributes_of t) (other_in N.parts t.rows) row codec (others_alone t)

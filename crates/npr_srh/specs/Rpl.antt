@@ -3,7 +3,7 @@ use Rattle.std.specs.Prelude.{◌≡◌, ℕ}
 use Rattle.std.proofs.Common.{refl}
 use Rattle.npr_base.specs.Bits.{Bits, bits, ◌above◌, over_spare, packed}
 use Rattle.npr_base.specs.Codec.{Codec}
-use Rattle.npr_base.specs.Fields.{one_byte, unused, ◌then◌}
+use Rattle.npr_base.specs.Fields.{one_byte, unused, ◌and◌}
 use Rattle.npr_srh.specs.Headed.{Fixed, Headed, headed}
 use Rattle.npr_srh.specs.declared.rpl.RplSrh.{RplSrh}
 
@@ -34,7 +34,7 @@ pub record RplReadable (f : RplFront) : Type 0 where
 abbrev pub rpl_front : Fixed RplFront
 rpl_front = record {
   Later = ℕ × (ℕ × ((ℕ × ℕ) × (ℕ × (Unit {0} × Unit {0}))));
-  later = one_byte then one_byte then packed one_byte compression (λ n. refl) then packed one_byte padding (λ n. refl) then unused then unused;
+  later = one_byte and one_byte and packed one_byte compression (λ n. refl) and packed one_byte padding (λ n. refl) and unused and unused;
   seen = record {
     of = λ (next_header, (routing_type, (segments_left, ((cmpri, cmpre), (pad, rest))))). record {
       next_header = next_header;

@@ -1,5 +1,6 @@
 -- The value of a SEG6 attribute (linux/seg6_iptunnel.h, struct seg6_iptunnel_encap): a mode of four bytes, and then a
 -- routing header of segments (RFC 8754, section 2; linux/seg6.h, struct ipv6_sr_hdr).
+use Rattle.std.proofs.Common.{refl}
 use Rattle.std.specs.Prelude.{◌≡◌, ◌≢◌, ℕ, ◌+◌, ◌-◌, ◌*◌, ◌/◌, ◌%◌, ◌^◌, ◌<◌, ◌≤◌, List, [], ◌∷◌, ◌++◌, length, take}
 use Rattle.std.specs.Prelude.{drop, replicate, reverse, Option, Some, None}
 use Rattle.std.specs.Int.{w32, to_be_bytes, from_be_bytes}
@@ -11,7 +12,7 @@ use Rattle.npr_base.specs.declared.refusal.Seg6Fault.{Seg6Fault}
 use Rattle.npr_base.specs.declared.refusal.Seg6Fault.TheVariants.{Short, Length, Hmac, Segments}
 use Rattle.npr_base.specs.Framing.{IsBytes}
 use Rattle.npr_base.specs.Family.{AllOf, option_or, too_long}
-use Rattle.npr_base.specs.Fields.{one_byte, le_two, le_four, ◌then◌, last, structure}
+use Rattle.npr_base.specs.Fields.{one_byte, le_two, le_four, ◌fills◌, ◌then◌, last, structure}
 use Rattle.npr_base.specs.Layout.{Layout}
 use Rattle.npr_base.specs.Numbering.{IsFormed}
 use Rattle.npr_srh.specs.Segments.{too_many}
@@ -25,7 +26,11 @@ use Rattle.npr_srh.specs.declared.seg6_header.Seg6Header.{Seg6Header}
 
 -- in this order, little endian
 abbrev pub message : Layout Seg6MessageBuffer
-message = structure struct (le_four then one_byte then one_byte then one_byte then one_byte then one_byte then one_byte then last le_two) (λ v. tt)
+message =
+    structure struct
+    (Seg6MessageBuffer.mode fills le_four then Seg6MessageBuffer.nexthdr fills one_byte then Seg6MessageBuffer.hdrlen fills one_byte
+    then Seg6MessageBuffer.seg_type fills one_byte then Seg6MessageBuffer.segments_left fills one_byte
+    then Seg6MessageBuffer.first_segment fills one_byte then Seg6MessageBuffer.flags fills one_byte then last (Seg6MessageBuffer.tag fills le_two)) refl (λ v. tt)
 
 abbrev pub decode_message : List ℕ → Seg6MessageBuffer
 decode_message = message.decode

@@ -2,7 +2,7 @@
 use Rattle.std.specs.Prelude.{ℕ}
 use Rattle.std.proofs.Common.{refl}
 use Rattle.npr_base.specs.Codec.{Codec}
-use Rattle.npr_base.specs.Fields.{one_byte, be_two, ◌then◌}
+use Rattle.npr_base.specs.Fields.{one_byte, be_two, ◌and◌}
 use Rattle.npr_srh.specs.Headed.{Fixed, Headed, headed}
 use Rattle.npr_srh.specs.declared.seg6local_srh.Seg6LocalSrh.{Seg6LocalSrh}
 
@@ -19,7 +19,7 @@ pub record LocalFront : Type 0 where
 abbrev pub local_front : Fixed LocalFront
 local_front = record {
   Later = ℕ × (ℕ × (ℕ × (ℕ × ℕ)));
-  later = one_byte then one_byte then one_byte then one_byte then be_two;
+  later = one_byte and one_byte and one_byte and one_byte and be_two;
   seen = record {
     of = λ (next_header, (routing_type, (segments_left, (first_segment, (flags, tag))))). record {
       next_header = next_header;

@@ -3,7 +3,7 @@ use Rattle.std.specs.Prelude.{◌≡◌, ℕ, ◌*◌, Bool, List, ◌++◌, len
 use Rattle.std.proofs.Common.{refl}
 use Rattle.npr_base.specs.declared.refusal.DecodeError.TheVariants.{Unsupported}
 use Rattle.npr_base.specs.Bits.{Bits, bits, flag, ◌above◌, over_spare, under_spare, packed}
-use Rattle.npr_base.specs.Fields.{one_byte, be_two, be_four, ◌then◌, spread, last, structure}
+use Rattle.npr_base.specs.Fields.{one_byte, be_two, be_four, ◌fills◌, ◌then◌, spread, last, structure}
 use Rattle.npr_base.specs.Layout.{Layout}
 use Rattle.npr_base.specs.CodecLaws.{exactly-one, exactly-holds, exactly-back, exactly-grows}
 use Rattle.npr_base.specs.Codec.{Codec, no_members}
@@ -28,8 +28,10 @@ trace_type = over_spare 8 (bits 24)
 abbrev pub trace_layout : Layout Ioam6TraceHdr
 trace_layout =
     structure struct
-    (be_two then spread (packed one_byte node (λ n. refl) then (packed one_byte room (λ n. refl) then last (packed be_four trace_type (λ n. refl)))))
-    (λ v. tt)
+    (Ioam6TraceHdr.namespace_id fills be_two
+    then spread ((λ t. (t.nodelen, t.overflow)) fills packed one_byte node (λ n. refl)
+    then Ioam6TraceHdr.remlen fills packed one_byte room (λ n. refl) then last (Ioam6TraceHdr.trace_type fills packed be_four trace_type (λ n. refl))))
+    refl (λ v. tt)
 
 -- a value of exactly eight bytes
 abbrev pub IsTrace : List ℕ → Ioam6TraceHdr → Type 0

@@ -1,26 +1,18 @@
 -- The members of an encapsulation, by its type: some types have a family, and under the others a member is kept as it
 -- stands (linux/lwtunnel.h, LWTUNNEL_ENCAP_*).
 use Rattle.std.proofs.Common.{refl}
-use Rattle.npr_base.specs.EnumTable.{held_in}
 use Rattle.npr_base.specs.Framing.{Item}
+use Rattle.npr_base.specs.Tables.{held_at}
 use Rattle.npr_base.specs.Table.{Writing, Reading, Family, Held, held_other, family_of, writing_by}
 use Rattle.npr_srh.specs.Ioam6Tunnel as OfIoam6
 use Rattle.npr_srh.specs.RplTunnel as OfRpl
 use Rattle.npr_srh.specs.Seg6LocalTunnel as OfSeg6Local
 use Rattle.npr_srh.specs.Seg6Mode.{ModeTable, modes}
 use Rattle.npr_srh.specs.Seg6Tunnel as OfSeg6
-use Rattle.npr_srh.specs.contracts.ioam6.RouteIoam6Tunnel.{enum as ioam6_enum}
-use Rattle.npr_srh.specs.contracts.rpl.RouteRplIpTunnel.{enum as rpl_enum}
-use Rattle.npr_srh.specs.contracts.seg6.RouteSeg6IpTunnel.{enum as seg6_enum}
-use Rattle.npr_srh.specs.contracts.seg6local.RouteSeg6LocalTunnel.{enum as local_enum}
 use Rattle.npr_tunnel.specs.IpTunnel as OfIp
 use Rattle.npr_tunnel.specs.MplsTunnel as OfMpls
 use Rattle.npr_tunnel.specs.XfrmTunnel as OfXfrm
 use Rattle.npr_tunnel.specs.Wrapped.{wrapped, kept}
-use Rattle.npr_tunnel.specs.contracts.ip.RouteIpTunnel.{enum as ip_enum}
-use Rattle.npr_tunnel.specs.contracts.ip6.RouteIp6Tunnel.{enum as ip6_enum}
-use Rattle.npr_tunnel.specs.contracts.mpls.RouteMplsIpTunnel.{enum as mpls_enum}
-use Rattle.npr_tunnel.specs.contracts.xfrm.RouteXfrmTunnel.{enum as xfrm_enum}
 use Rattle.npr_tunnel.specs.declared.encap.RouteLwTunnelEncap.{RouteLwTunnelEncap}
 use Rattle.npr_tunnel.specs.declared.encap.RouteLwTunnelEncap.TheVariants.{Mpls as HasMpls, Seg6 as HasSeg6, Ip as HasIp, Ip6 as HasIp6, Ioam6 as HasIoam6}
 use Rattle.npr_tunnel.specs.declared.encap.RouteLwTunnelEncap.TheVariants.{Rpl as HasRpl, Seg6Local as HasSeg6Local, Xfrm as HasXfrm, Other}
@@ -52,14 +44,14 @@ meaning_of (Other d) = other d
 
 -- where each stands in its tunnel's table, whatever the type
 abbrev pub held_of : Meaning → Held
-held_of (mpls m) = held_in mpls_enum.parts OfMpls.rows m
-held_of (seg6 m) = held_in seg6_enum.parts (OfSeg6.rows modes) m
-held_of (ip m) = held_in ip_enum.parts OfIp.rows m
-held_of (ip6 m) = held_in ip6_enum.parts OfIp.rows6 m
-held_of (ioam6 m) = held_in ioam6_enum.parts OfIoam6.rows m
-held_of (rpl m) = held_in rpl_enum.parts OfRpl.rows m
-held_of (seg6_local m) = held_in local_enum.parts OfSeg6Local.rows m
-held_of (xfrm m) = held_in xfrm_enum.parts OfXfrm.rows m
+held_of (mpls m) = held_at OfMpls.table m
+held_of (seg6 m) = held_at (OfSeg6.table modes) m
+held_of (ip m) = held_at OfIp.table m
+held_of (ip6 m) = held_at OfIp.table6 m
+held_of (ioam6 m) = held_at OfIoam6.table m
+held_of (rpl m) = held_at OfRpl.table m
+held_of (seg6_local m) = held_at OfSeg6Local.table m
+held_of (xfrm m) = held_at OfXfrm.table m
 held_of (other x) = held_other x
 
 -- how each is written

@@ -7,7 +7,7 @@ use Rattle.npr_base.specs.EqualityLaws.{enum_equality, one_equality}
 use Rattle.npr_base.specs.ViewEquality.{item_equality}
 use Rattle.npr_base.specs.IpLaws.{ipv4_equality, ipv6_equality}
 use Rattle.npr_base.specs.EnumTable.{◌also◌}
-use Rattle.npr_base.specs.EnumTableLaws.{enum_decides}
+use Rattle.npr_base.specs.Tables.{table_decides}
 use Rattle.npr_base.specs.MeaningLaws.{enum_meaning, one_meaning, items_equality, items_meaning}
 use Rattle.npr_base.specs.StructLaws.{and_decides, decides_as}
 use Rattle.npr_scalar.specs.EqualityLaws.{label_equality}
@@ -27,19 +27,12 @@ use Rattle.npr_tunnel.specs.ErspanOptions as OfErspan
 use Rattle.npr_tunnel.specs.TunnelOptions as OfOption
 use Rattle.npr_tunnel.specs.IpTunnel as OfIp
 use Rattle.npr_tunnel.specs.Encapsulation as OfEncap
-use Rattle.npr_tunnel.specs.contracts.xfrm.RouteXfrmTunnel.{enum as xfrm_enum}
 use Rattle.npr_tunnel.specs.contracts.xfrm.RouteXfrmTunnelPartialEq.TheImpl as XfrmEq
-use Rattle.npr_tunnel.specs.contracts.mpls.RouteMplsIpTunnel.{enum as mpls_enum}
 use Rattle.npr_tunnel.specs.contracts.mpls.RouteMplsIpTunnelPartialEq.TheImpl as MplsEq
-use Rattle.npr_tunnel.specs.contracts.vxlan.RouteVxlanOpt.{enum as vxlan_enum}
 use Rattle.npr_tunnel.specs.contracts.vxlan.RouteVxlanOptPartialEq.TheImpl as VxlanEq
-use Rattle.npr_tunnel.specs.contracts.erspan.RouteErspanOpt.{enum as erspan_enum}
 use Rattle.npr_tunnel.specs.contracts.erspan.RouteErspanOptPartialEq.TheImpl as ErspanEq
-use Rattle.npr_tunnel.specs.contracts.tunnel_opts.RouteLwTunnelOpt.{enum as tunnel_option_enum}
 use Rattle.npr_tunnel.specs.contracts.tunnel_opts.RouteLwTunnelOptPartialEq.TheImpl as TunnelOptionEq
-use Rattle.npr_tunnel.specs.contracts.ip.RouteIpTunnel.{enum as ip_enum}
 use Rattle.npr_tunnel.specs.contracts.ip.RouteIpTunnelPartialEq.TheImpl as IpEq
-use Rattle.npr_tunnel.specs.contracts.ip6.RouteIp6Tunnel.{enum as ip6_enum}
 use Rattle.npr_tunnel.specs.contracts.ip6.RouteIp6TunnelPartialEq.TheImpl as Ip6Eq
 use Rattle.npr_tunnel.specs.contracts.encap.RouteLwTunnelEncap.{enum as encap_enum}
 use Rattle.npr_tunnel.specs.contracts.encap.RouteLwTunnelEncapPartialEq.TheImpl as EncapEq
@@ -60,30 +53,30 @@ geneve_equality a b =
 -- ---- the members and options
 
 pub xfrm_equality : IsEqualityOf OfXfrm.family.meaning XfrmEq.ghosts.eq
-xfrm_equality = enum_decides xfrm_enum OfXfrm.rows _ (search (unsigned_Decides, item_equality) depth 40)
+xfrm_equality = table_decides OfXfrm.table _ (search (unsigned_Decides, item_equality) depth 40)
 
 pub mpls_equality : IsEqualityOf OfMpls.family.meaning MplsEq.ghosts.eq
 mpls_equality =
-    enum_decides mpls_enum OfMpls.rows _ (search (items_equality, label_equality, unsigned_Decides, item_equality) depth 40)
+    table_decides OfMpls.table _ (search (items_equality, label_equality, unsigned_Decides, item_equality) depth 40)
 
 pub vxlan_equality : IsEqualityOf OfVxlan.family.meaning VxlanEq.ghosts.eq
-vxlan_equality = enum_decides vxlan_enum OfVxlan.rows _ (search (unsigned_Decides, item_equality) depth 40)
+vxlan_equality = table_decides OfVxlan.table _ (search (unsigned_Decides, item_equality) depth 40)
 
 pub erspan_equality : IsEqualityOf OfErspan.family.meaning ErspanEq.ghosts.eq
-erspan_equality = enum_decides erspan_enum OfErspan.rows _ (search (unsigned_Decides, item_equality) depth 40)
+erspan_equality = table_decides OfErspan.table _ (search (unsigned_Decides, item_equality) depth 40)
 
 pub tunnel_option_equality : IsEqualityOf OfOption.family.meaning TunnelOptionEq.ghosts.eq
 tunnel_option_equality =
-    enum_decides tunnel_option_enum OfOption.rows _ (search (items_meaning, geneve_equality, vxlan_equality, erspan_equality, item_equality) depth 40)
+    table_decides OfOption.table _ (search (items_meaning, geneve_equality, vxlan_equality, erspan_equality, item_equality) depth 40)
 
 pub ip_equality : IsEqualityOf OfIp.family.meaning IpEq.ghosts.eq
 ip_equality =
-    enum_decides ip_enum OfIp.rows _
+    table_decides OfIp.table _
     (search (unsigned_Decides, ipv4_equality, items_meaning, tunnel_option_equality, item_equality) depth 40)
 
 pub ip6_equality : IsEqualityOf OfIp.family6.meaning Ip6Eq.ghosts.eq
 ip6_equality =
-    enum_decides ip6_enum OfIp.rows6 _
+    table_decides OfIp.table6 _
     (search (unsigned_Decides, ipv6_equality, items_meaning, tunnel_option_equality, item_equality) depth 40)
 
 encap_order : OfEncap.Meaning → ℕ

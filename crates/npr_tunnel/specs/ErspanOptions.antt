@@ -3,48 +3,44 @@ use Rattle.std.specs.Prelude.{◌==◌, if◌then◌else◌, ℕ, List, ◌++◌
 use Rattle.std.specs.Prelude.{unwrap_or, filter_map}
 use Rattle.std.specs.List.{last_or}
 use Rattle.npr_base.specs.declared.refusal.AttrFamily.TheVariants.{Erspan}
-use Rattle.npr_base.specs.Codec.{exactly}
-use Rattle.npr_base.specs.EnumTable.{VariantRows, row, others, ◌also◌, value}
-use Rattle.npr_base.specs.EnumTableLaws.{writing_in, attributes_in, family_in}
-use Rattle.npr_base.specs.EnumTableValues.{ValueIn, value_in, found_in}
-use Rattle.npr_base.specs.Layout.{be32, byte}
-use Rattle.npr_base.specs.Table.{Reading, Family}
+use Rattle.npr_base.specs.Tables.{EnumTable, table_of, row, others, ◌or◌, value, exactly, byte, be32, refl, Reading, Family, ValueAt, value_at}
+use Rattle.npr_base.specs.Tables.{found_at, writing_of, attributes_of, family_of_table}
 use Rattle.npr_tunnel.specs.contracts.erspan.RouteErspanOpt.{enum}
 use Rattle.npr_tunnel.specs.declared.erspan.RouteErspanOpt.{RouteErspanOpt}
-use Rattle.std.proofs.Common.{refl}
 
 -- the table, in the order of the variants
-abbrev pub rows : VariantRows enum.parts
-rows =
-    row Erspan 1 (exactly byte) value  -- LWTUNNEL_IP_OPT_ERSPAN_VER
-    also row Erspan 2 (exactly be32) value  -- LWTUNNEL_IP_OPT_ERSPAN_INDEX
-    also row Erspan 3 (exactly byte) value  -- LWTUNNEL_IP_OPT_ERSPAN_DIR
-    also row Erspan 4 (exactly byte) value  -- LWTUNNEL_IP_OPT_ERSPAN_HWID
-    also others value
+abbrev pub table : EnumTable enum
+table =
+    table_of enum (
+    row Erspan 1 (exactly byte) (value RouteErspanOpt.Ver)  -- LWTUNNEL_IP_OPT_ERSPAN_VER
+    or row Erspan 2 (exactly be32) (value RouteErspanOpt.Index)  -- LWTUNNEL_IP_OPT_ERSPAN_INDEX
+    or row Erspan 3 (exactly byte) (value RouteErspanOpt.Dir)  -- LWTUNNEL_IP_OPT_ERSPAN_DIR
+    or row Erspan 4 (exactly byte) (value RouteErspanOpt.Hwid)  -- LWTUNNEL_IP_OPT_ERSPAN_HWID
+    or others (value RouteErspanOpt.Other)) refl refl
 
 -- the family
-unfoldable pub attributes : Reading (writing_in enum.parts rows)
-attributes = attributes_in enum.parts rows refl
+unfoldable pub attributes : Reading (writing_of table)
+attributes = attributes_of table
 
 abbrev pub family : Family RouteErspanOpt (Unit {0})
-family = family_in enum rows (λ c. attributes)
+family = family_of_table table (λ c. attributes)
 
 -- by the number of its row: the option that has such a value
-abbrev pub option : (number : ℕ) → ValueIn enum.parts rows number → family.Meaning
-option number v = value_in enum.parts rows number v
+abbrev pub option : (number : ℕ) → ValueAt table number → family.Meaning
+option number v = value_at table number v
 
 -- the value of an option, where it is of one kind
 abbrev pub version_of : family.Meaning → Option ℕ
-version_of m = found_in enum.parts rows 1 m
+version_of m = found_at table 1 m
 
 abbrev pub index_of : family.Meaning → Option ℕ
-index_of m = found_in enum.parts rows 2 m
+index_of m = found_at table 2 m
 
 abbrev pub direction_of : family.Meaning → Option ℕ
-direction_of m = found_in enum.parts rows 3 m
+direction_of m = found_at table 3 m
 
 abbrev pub hardware_id_of : family.Meaning → Option ℕ
-hardware_id_of m = found_in enum.parts rows 4 m
+hardware_id_of m = found_at table 4 m
 
 -- the last value of a kind in a list, or 0 where there is none
 abbrev pub last_of : (family.Meaning → Option ℕ) → List family.Meaning → ℕ

@@ -1,25 +1,22 @@
 -- The members of an MPLS tunnel (linux/mpls_iptunnel.h, MPLS_IPTUNNEL_*), by their table.
 use Rattle.npr_base.specs.declared.refusal.AttrFamily.TheVariants.{Mpls}
-use Rattle.npr_base.specs.Layout.{byte}
-use Rattle.npr_base.specs.Codec.{exactly}
-use Rattle.npr_base.specs.EnumTable.{VariantRows, row, others, ◌also◌, value, items}
-use Rattle.npr_base.specs.EnumTableLaws.{attributes_in, family_in, writing_in}
-use Rattle.npr_base.specs.Table.{Reading, Family}
+use Rattle.npr_base.specs.Tables.{EnumTable, table_of, row, others, ◌or◌, value, items, exactly, byte, refl, Reading, Family, writing_of, attributes_of}
+use Rattle.npr_base.specs.Tables.{family_of_table}
 use Rattle.npr_scalar.specs.MplsLaws.{mpls_labels}
 use Rattle.npr_tunnel.specs.declared.mpls.RouteMplsIpTunnel.{RouteMplsIpTunnel}
 use Rattle.npr_tunnel.specs.contracts.mpls.RouteMplsIpTunnel.{enum}
-use Rattle.std.proofs.Common.{refl}
 
 -- the table, in the order of the variants
-abbrev pub rows : VariantRows enum.parts
-rows =
-    row Mpls 1 mpls_labels items  -- MPLS_IPTUNNEL_DST
-    also row Mpls 2 (exactly byte) value  -- MPLS_IPTUNNEL_TTL
-    also others value
+abbrev pub table : EnumTable enum
+table =
+    table_of enum (
+    row Mpls 1 mpls_labels (items RouteMplsIpTunnel.Destination)  -- MPLS_IPTUNNEL_DST
+    or row Mpls 2 (exactly byte) (value RouteMplsIpTunnel.Ttl)  -- MPLS_IPTUNNEL_TTL
+    or others (value RouteMplsIpTunnel.Other)) refl refl
 
 -- the family
-unfoldable pub attributes : Reading (writing_in enum.parts rows)
-attributes = attributes_in enum.parts rows refl
+unfoldable pub attributes : Reading (writing_of table)
+attributes = attributes_of table
 
 abbrev pub family : Family RouteMplsIpTunnel (Unit {0})
-family = family_in enum rows (λ c. attributes)
+family = family_of_table table (λ c. attributes)

@@ -1,32 +1,29 @@
 -- The options of VXLAN (linux/lwtunnel.h, LWTUNNEL_IP_OPT_VXLAN_*), by their table.
 use Rattle.std.specs.Prelude.{ℕ, List, ◌++◌, Option, Some, codes, decimal}
 use Rattle.npr_base.specs.declared.refusal.AttrFamily.TheVariants.{Vxlan}
-use Rattle.npr_base.specs.Codec.{exactly}
-use Rattle.npr_base.specs.EnumTable.{VariantRows, row, others, ◌also◌, value, by_row}
-use Rattle.npr_base.specs.EnumTableLaws.{writing_in, attributes_in, family_in}
-use Rattle.npr_base.specs.Layout.{le32}
-use Rattle.npr_base.specs.Table.{Reading, Family}
 use Rattle.npr_base.specs.Text.{nla_text}
+use Rattle.npr_base.specs.Tables.{EnumTable, table_of, row, others, ◌or◌, ◌also◌, value, exactly, le32, refl, Reading, Family, writing_of}
+use Rattle.npr_base.specs.Tables.{attributes_of, family_of_table, made_of}
 use Rattle.npr_tunnel.specs.contracts.vxlan.RouteVxlanOpt.{enum}
 use Rattle.npr_tunnel.specs.declared.vxlan.RouteVxlanOpt.{RouteVxlanOpt}
-use Rattle.std.proofs.Common.{refl}
 
 -- the table, in the order of the variants
-abbrev pub rows : VariantRows enum.parts
-rows =
-    row Vxlan 1 (exactly le32) value  -- LWTUNNEL_IP_OPT_VXLAN_GBP
-    also others value
+abbrev pub table : EnumTable enum
+table =
+    table_of enum (
+    row Vxlan 1 (exactly le32) (value RouteVxlanOpt.Gbp)  -- LWTUNNEL_IP_OPT_VXLAN_GBP
+    or others (value RouteVxlanOpt.Other)) refl refl
 
 -- the family
-unfoldable pub attributes : Reading (writing_in enum.parts rows)
-attributes = attributes_in enum.parts rows refl
+unfoldable pub attributes : Reading (writing_of table)
+attributes = attributes_of table
 
 abbrev pub family : Family RouteVxlanOpt (Unit {0})
-family = family_in enum rows (λ c. attributes)
+family = family_of_table table (λ c. attributes)
 
 -- the text of an option
 abbrev pub vxlan_text : family.Meaning → Option (List ℕ)
 vxlan_text =
-    by_row enum.parts rows (
+    made_of table (
     (λ n. Some (codes "vxlan_opts " ++ decimal n))
     also nla_text)

@@ -1,5 +1,6 @@
 -- The header of a neighbour message (linux/neighbour.h, struct ndmsg): twelve bytes, three of which are padding.
-use Rattle.netlink_packet_route.specs.Fields.{one_byte, le_two, le_four, unused, family_byte, ◌holding◌, ◌before◌, ◌then◌, last, structure}
+use Rattle.std.proofs.Common.{refl}
+use Rattle.netlink_packet_route.specs.Fields.{one_byte, le_two, le_four, unused, family_byte, ◌holding◌, ◌before◌, ◌fills◌, ◌then◌, last, structure}
 use Rattle.netlink_packet_route.specs.Layout.{Layout}
 use Rattle.netlink_packet_route.specs.RouteType.{route_types}
 use Rattle.netlink_packet_route.specs.declared.AddressFamily.TheVariants.{Unspec}
@@ -11,7 +12,9 @@ use Rattle.template.specs.declared.neighbour_message.NeighbourHeader.{NeighbourH
 abbrev pub header : Layout NeighbourHeader
 header =
     structure struct
-    (family_byte then unused before unused before unused before le_four then le_two then one_byte then last (one_byte holding route_types)) (λ v. tt)
+    (NeighbourHeader.family fills family_byte then NeighbourHeader.ifindex fills unused before unused before unused before le_four
+    then NeighbourHeader.state fills le_two then NeighbourHeader.flags fills one_byte
+    then last (NeighbourHeader.kind fills one_byte holding route_types)) refl (λ v. tt)
 
 -- each field at its default
 abbrev pub default_header : NeighbourHeader

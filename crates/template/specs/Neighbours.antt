@@ -1,16 +1,13 @@
 -- The attributes of a neighbour message (linux/neighbour.h, NDA_*), by their table.
 use Rattle.std.specs.Prelude.{◌≢◌, ℕ, List, Option, Some, None}
 use Rattle.std.proofs.Common.{◌≡◌, refl}
-use Rattle.netlink_packet_route.specs.Fields.{le_four, ◌then◌, last, structure}
+use Rattle.netlink_packet_route.specs.Fields.{le_four, ◌fills◌, ◌then◌, last, structure}
 use Rattle.netlink_packet_route.specs.declared.framing.AttrFamily.TheVariants.{Value}
 use Rattle.netlink_packet_route.specs.declared.net.IpAddr.{IpAddr}
-use Rattle.netlink_packet_route.specs.EnumTable.{VariantRows, row, others, ◌also◌, value, items}
-use Rattle.netlink_packet_route.specs.EnumTableLaws.{writing_in, attributes_in, family_in}
-use Rattle.netlink_packet_route.specs.Layout.{Layout, le32}
-use Rattle.netlink_packet_route.specs.Codec.{exactly, leading, raw}
-use Rattle.netlink_packet_route.specs.IpCodec.{ip}
-use Rattle.netlink_packet_route.specs.Table.{Reading, Family}
+use Rattle.netlink_packet_route.specs.Layout.{Layout}
 use Rattle.netlink_packet_route.specs.Found.{IsFirst}
+use Rattle.netlink_packet_route.specs.Tables.{EnumTable, table_of, row, others, ◌or◌, value, items, exactly, leading, raw, ip, le32, Reading, Family}
+use Rattle.netlink_packet_route.specs.Tables.{writing_of, attributes_of, family_of_table}
 use Rattle.template.specs.contracts.neighbour.NeighbourAttribute.{enum}
 use Rattle.template.specs.contracts.neighbour.NeighbourCacheInfo.{struct}
 use Rattle.template.specs.declared.neighbour.NeighbourCacheInfo.{NeighbourCacheInfo}
@@ -19,23 +16,27 @@ use Rattle.template.specs.declared.neighbour.NeighbourAttribute.TheVariants.{Des
 
 -- what the kernel remembers of a neighbour (struct nda_cacheinfo): four numbers of four bytes, in this order
 abbrev pub cache_info : Layout NeighbourCacheInfo
-cache_info = structure struct (le_four then le_four then le_four then last le_four) (λ v. tt)
+cache_info =
+    structure struct
+    (NeighbourCacheInfo.confirmed fills le_four then NeighbourCacheInfo.used fills le_four then NeighbourCacheInfo.updated fills le_four
+    then last (NeighbourCacheInfo.references fills le_four)) refl (λ v. tt)
 
 -- the table, in the order of the variants: a place that a refusal names is in no family of the library
-abbrev pub rows : VariantRows enum.parts
-rows =
-    row Value 1 ip value  -- NDA_DST
-    also row Value 2 raw items  -- NDA_LLADDR
-    also row Value 3 (leading cache_info) value  -- NDA_CACHEINFO
-    also row Value 4 (exactly le32) value  -- NDA_PROBES
-    also others value
+abbrev pub table : EnumTable enum
+table =
+    table_of enum (
+    row Value 1 ip (value NeighbourAttribute.Destination)  -- NDA_DST
+    or row Value 2 raw (items NeighbourAttribute.LinkLayerAddress)  -- NDA_LLADDR
+    or row Value 3 (leading cache_info) (value NeighbourAttribute.CacheInfo)  -- NDA_CACHEINFO
+    or row Value 4 (exactly le32) (value NeighbourAttribute.Probes)  -- NDA_PROBES
+    or others (value NeighbourAttribute.Other)) refl refl
 
 -- the family
-abbrev pub attributes : Reading (writing_in enum.parts rows)
-attributes = attributes_in enum.parts rows refl
+abbrev pub attributes : Reading (writing_of table)
+attributes = attributes_of table
 
 abbrev pub family : Family NeighbourAttribute (Unit {0})
-family = family_in enum rows (λ c. attributes)
+family = family_of_table table (λ c. attributes)
 
 -- the address of a destination
 abbrev pub destination_in : NeighbourAttribute → Option IpAddr
