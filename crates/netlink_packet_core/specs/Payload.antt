@@ -95,6 +95,24 @@ PayloadFault P kind bytes e =
     (MatchBool (kind == 4) ⊥
     (P.Faulty kind bytes e))))
 
+-- bytes under a type whose reading may want memory: what stands behind a code is kept, and lost data; of any other type the
+-- protocol says it
+abbrev pub PayloadGrows : (ℕ → List ℕ → Type 0) → ℕ → List ℕ → Type 0
+PayloadGrows grows kind bytes =
+    MatchBool (kind == 1) ⊥
+    (MatchBool (kind == 2) (4 < length bytes)
+    (MatchBool (kind == 3) (4 < length bytes)
+    (MatchBool (kind == 4) (0 < length bytes)
+    (grows kind bytes))))
+
+-- and what a copy may want it for
+abbrev pub CopyGrows : {M : Type 0} → (M → Type 0) → Payload M → Type 0
+CopyGrows grows noop = ⊥
+CopyGrows grows (error code more) = 0 < length more
+CopyGrows grows (done code more) = 0 < length more
+CopyGrows grows (overrun bytes) = 0 < length bytes
+CopyGrows grows (inner m) = grows m
+
 -- a type of the protocol
 pub record IsInner (kind : ℕ) : Type 0 where
   pub noop : kind ≢ 1

@@ -1,11 +1,11 @@
 //! Messages: an envelope and what stands in it.
 
-ghost use Rattle.std.specs.Prelude.{◌≡◌, ◌≢◌, ◌+◌, ◌<◌, ◌^◌, None, length, IfOk, IfErr};
+ghost use Rattle.std.specs.Prelude.{◌≡◌, ◌≢◌, ◌+◌, ◌<◌, ◌^◌, None, length, IfOk, IfErr, IsErrOf, OnErr};
 ghost use Rattle.{
   npr_base.specs.{declared.refusal.DecodeError.TheVariants.{OutOfMemory}, Family.{checked}, Framing.{pad}},
   netlink_packet_core.specs.{
     Message.{Meant, message_of, IsNetlinkMessage, NetlinkFault, IsCoherentMessage, final_header, finalized, envelope_of, message_bytes, oversized, netlink_misfit},
-    Payload.{payload_of, payload_bytes},
+    Payload.{payload_of, payload_bytes, PayloadGrows, CopyGrows},
   },
 };
 
@@ -45,7 +45,8 @@ impl<I: NetlinkInner> NetlinkMessage<I> {
     /// # Errors
     /// `AllocError` where memory is refused.
     pub fn clone(&self, alloc: Global) -> Result<Self, AllocError>
-        ensures { IfOk result (λ m. message_of I.meaning m ≡ message_of I.meaning self.now) }
+        ensures ok { IfOk result (λ m. message_of I.meaning m ≡ message_of I.meaning self.now) }
+        ensures memory { OnErr result (CopyGrows I.copy_grows (payload_of I.meaning self.now.payload)) }
     {
         Ok(NetlinkMessage {
             header: self.header,
@@ -85,6 +86,8 @@ impl<'a, I: NetlinkInner> Parseable<&'a NetlinkBuffer<'a>> for NetlinkMessage<I>
         // The envelope that is written of a message gives it back.
         ensures again { IfOk result (λ m. (n : Meant I.Meaning) → IsCoherentMessage I.protocol n → netlink_misfit I.protocol n ≡ None
             → input.now ≡ envelope_of I.protocol n → message_of I.meaning m ≡ finalized I.protocol n) }
+        // Memory is taken only for bytes that are kept, and where the protocol says it.
+        ensures memory { IsErrOf result OutOfMemory → PayloadGrows I.grows input.now.header.message_type input.now.payload }
     {
         let header = input.header();
         let payload = NetlinkPayload::parse(alloc, header, input.payload())?;

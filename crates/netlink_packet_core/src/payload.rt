@@ -1,9 +1,9 @@
 //! What stands behind the header of an envelope.
 
-ghost use Rattle.std.specs.Prelude.{◌≡◌, ◌≢◌, ◌+◌, ◌≤◌, None, length, IfOk, IfErr};
+ghost use Rattle.std.specs.Prelude.{◌≡◌, ◌≢◌, ◌+◌, ◌<◌, ◌≤◌, None, length, IfOk, IfErr, IsErrOf, OnErr};
 ghost use Rattle.{
   npr_base.specs.{declared.refusal.DecodeError.TheVariants.{OutOfMemory}, Framing.{Writes}},
-  netlink_packet_core.specs.Payload.{Payload, payload_of, error_of, done_of, IsCoherentPayload, payload_type, payload_bytes, payload_misfit, PayloadReads, PayloadFault, IsCoded, IsUncoded, code_of, coded},
+  netlink_packet_core.specs.Payload.{Payload, payload_of, error_of, done_of, IsCoherentPayload, payload_type, payload_bytes, payload_misfit, PayloadReads, PayloadFault, PayloadGrows, CopyGrows, IsCoded, IsUncoded, code_of, coded},
 };
 
 use crate::constants::{NLMSG_DONE, NLMSG_ERROR, NLMSG_NOOP, NLMSG_OVERRUN};
@@ -67,6 +67,20 @@ pub(crate) fn split_code(bytes: &[u8]) -> Result<(i32, &[u8]), DecodeError>
     Ok((i32::from_le_bytes(*code), rest))
 }
 
+/// The bytes, copied.
+///
+/// # Errors
+/// `AllocError` where memory is refused; without bytes none is taken.
+pub fn keep_bytes(alloc: Global, bytes: &[u8]) -> Result<Vec<u8>, AllocError>
+    ensures ok { IfOk result (λ v. v.items ≡ bytes.now) }
+    ensures memory { OnErr result (0 < length bytes.now) }
+{
+    if bytes.is_empty() {
+        return Ok(Vec::new(alloc));
+    }
+    Vec::from_slice(alloc, bytes)
+}
+
 impl ErrorMessage {
     /// The message that the bytes behind a header are.
     ///
@@ -75,24 +89,26 @@ impl ErrorMessage {
     pub fn parse(alloc: Global, bytes: &[u8]) -> Result<Self, DecodeError>
         ensures ok { IfOk result (λ m. IsCoded bytes.now (code_of m.code) m.header.items) }
         ensures refused { IfErr result (λ e. e ≢ OutOfMemory → IsUncoded bytes.now e) }
+        ensures memory { IsErrOf result OutOfMemory → 4 < length bytes.now }
     {
         let (code, rest) = split_code(bytes)?;
         Ok(ErrorMessage {
             code: NonZeroI32::new(code),
-            header: Vec::from_slice(alloc, rest)?,
+            header: keep_bytes(alloc, rest)?,
         })
     }
 
     /// An equal message.
     ///
     /// # Errors
-    /// `AllocError` where memory is refused.
+    /// `AllocError` where memory is refused; without bytes behind the code none is taken.
     pub fn clone(&self, alloc: Global) -> Result<Self, AllocError>
-        ensures { IfOk result (λ m. error_of m ≡ error_of self.now) }
+        ensures ok { IfOk result (λ m. error_of m ≡ error_of self.now) }
+        ensures memory { OnErr result (0 < length self.now.header.items) }
     {
         Ok(ErrorMessage {
             code: self.code,
-            header: Vec::from_slice(alloc, self.header.as_slice())?,
+            header: keep_bytes(alloc, self.header.as_slice())?,
         })
     }
 
@@ -127,24 +143,26 @@ impl DoneMessage {
     pub fn parse(alloc: Global, bytes: &[u8]) -> Result<Self, DecodeError>
         ensures ok { IfOk result (λ m. IsCoded bytes.now m.code m.extended_ack.items) }
         ensures refused { IfErr result (λ e. e ≢ OutOfMemory → IsUncoded bytes.now e) }
+        ensures memory { IsErrOf result OutOfMemory → 4 < length bytes.now }
     {
         let (code, rest) = split_code(bytes)?;
         Ok(DoneMessage {
             code,
-            extended_ack: Vec::from_slice(alloc, rest)?,
+            extended_ack: keep_bytes(alloc, rest)?,
         })
     }
 
     /// An equal message.
     ///
     /// # Errors
-    /// `AllocError` where memory is refused.
+    /// `AllocError` where memory is refused; without bytes behind the code none is taken.
     pub fn clone(&self, alloc: Global) -> Result<Self, AllocError>
-        ensures { IfOk result (λ m. done_of m ≡ done_of self.now) }
+        ensures ok { IfOk result (λ m. done_of m ≡ done_of self.now) }
+        ensures memory { OnErr result (0 < length self.now.extended_ack.items) }
     {
         Ok(DoneMessage {
             code: self.code,
-            extended_ack: Vec::from_slice(alloc, self.extended_ack.as_slice())?,
+            extended_ack: keep_bytes(alloc, self.extended_ack.as_slice())?,
         })
     }
 }
@@ -177,12 +195,13 @@ fn read_payload<I: NetlinkInner>(
 ) -> Result<NetlinkPayload<I>, DecodeError>
     ensures ok { IfOk result (λ p. PayloadReads I.protocol header.message_type bytes.now (payload_of I.meaning p)) }
     ensures refused { IfErr result (λ e. e ≢ OutOfMemory → PayloadFault I.protocol header.message_type bytes.now e) }
+    ensures memory { IsErrOf result OutOfMemory → PayloadGrows I.grows header.message_type bytes.now }
 {
     match header.message_type {
         NLMSG_NOOP => Ok(NetlinkPayload::Noop),
         NLMSG_ERROR => Ok(NetlinkPayload::Error(ErrorMessage::parse(alloc, bytes)?)),
         NLMSG_DONE => Ok(NetlinkPayload::Done(DoneMessage::parse(alloc, bytes)?)),
-        NLMSG_OVERRUN => Ok(NetlinkPayload::Overrun(Vec::from_slice(alloc, bytes)?)),
+        NLMSG_OVERRUN => Ok(NetlinkPayload::Overrun(keep_bytes(alloc, bytes)?)),
         _ => Ok(NetlinkPayload::InnerMessage(I::deserialize(alloc, &header, bytes)?)),
     }
 }
@@ -203,6 +222,8 @@ impl<I: NetlinkInner> NetlinkPayload<I> {
         ensures refused { IfErr result (λ e. e ≢ OutOfMemory → PayloadFault I.protocol header.message_type bytes.now e) }
         // Then they mean nothing.
         ensures none { IfErr result (λ e. e ≢ OutOfMemory → (q : Payload I.Meaning) → PayloadReads I.protocol header.message_type bytes.now q → ⊥) }
+        // Memory is taken only for bytes that are kept, and where the protocol says it.
+        ensures memory { IsErrOf result OutOfMemory → PayloadGrows I.grows header.message_type bytes.now }
     {
         read_payload(alloc, header, bytes)
     }
@@ -212,14 +233,15 @@ impl<I: NetlinkInner> NetlinkPayload<I> {
     /// # Errors
     /// `AllocError` where memory is refused.
     pub fn clone(&self, alloc: Global) -> Result<Self, AllocError>
-        ensures { IfOk result (λ p. payload_of I.meaning p ≡ payload_of I.meaning self.now) }
+        ensures ok { IfOk result (λ p. payload_of I.meaning p ≡ payload_of I.meaning self.now) }
+        ensures memory { OnErr result (CopyGrows I.copy_grows (payload_of I.meaning self.now)) }
     {
         Ok(match self {
             NetlinkPayload::Done(m) => NetlinkPayload::Done(m.clone(alloc)?),
             NetlinkPayload::Error(m) => NetlinkPayload::Error(m.clone(alloc)?),
             NetlinkPayload::Noop => NetlinkPayload::Noop,
             NetlinkPayload::Overrun(bytes) => {
-                NetlinkPayload::Overrun(Vec::from_slice(alloc, bytes.as_slice())?)
+                NetlinkPayload::Overrun(keep_bytes(alloc, bytes.as_slice())?)
             }
             NetlinkPayload::InnerMessage(m) => NetlinkPayload::InnerMessage(m.try_clone(alloc)?),
         })
