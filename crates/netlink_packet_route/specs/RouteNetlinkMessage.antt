@@ -1,10 +1,10 @@
 -- The messages of rtnetlink by their types (linux/rtnetlink.h, RTM_*): those of addresses, routes, neighbours and rules, and any other.
-use Rattle.std.specs.Prelude.{◌≡◌, ℕ, ◌+◌, ◌==◌, Bool, true, false, List, [], ◌∷◌, Option, None, if◌then◌else◌}
+use Rattle.std.specs.Prelude.{◌≡◌, ℕ, ◌+◌, ◌<◌, ◌==◌, Bool, true, false, List, [], ◌∷◌, length, drop, Option, None, if◌then◌else◌}
 use Rattle.std.proofs.Common.{refl, sym, ap, subst, ◌∙◌}
 use Rattle.std.proofs.lemmas.Bool.{eqb-true}
 use Rattle.npr_base.specs.declared.refusal.DecodeError.{DecodeError}
 use Rattle.npr_base.specs.declared.refusal.EmitError.{EmitError}
-use Rattle.npr_base.specs.Framing.{IsBytes}
+use Rattle.npr_base.specs.Framing.{IsBytes, Item, Front}
 use Rattle.npr_base.proofs.Messages.{message-one, message-sound, message-coherent, message-back}
 use Rattle.npr_base.specs.Message.{IsMessage, MessageFault, IsCoherent, spelling, message_misfit, view}
 use Rattle.npr_base.specs.EnumTable.{◌also◌}
@@ -108,6 +108,20 @@ ReadsUnder Unknown type bytes x = x ≡ other type bytes
 abbrev pub FaultUnder : MessageType → List ℕ → DecodeError → Type 0
 FaultUnder (Of kind a) bytes e = MessageFault (form_of kind).grammar bytes e
 FaultUnder Unknown bytes e = ⊥
+
+-- a first whole attribute stands behind the header
+abbrev pub HasFirst : MessageKind → List ℕ → Type 0
+HasFirst kind bytes = (x : Item) × (rest : List ℕ) × Front (drop (form_of kind).grammar.layout.size bytes) x rest
+
+-- bytes whose reading may want memory: those of another type are kept
+abbrev pub GrowsUnder : MessageType → List ℕ → Type 0
+GrowsUnder (Of kind a) bytes = HasFirst kind bytes
+GrowsUnder Unknown bytes = 0 < length bytes
+
+-- a message whose copy may want it
+abbrev pub CopyGrows : Meaning → Type 0
+CopyGrows (message kind a m) = 0 < length m.attributes
+CopyGrows (other type bytes) = 0 < length bytes
 
 -- what can be read; another type is none of the twelve
 abbrev pub Coherent : Meaning → Type 0

@@ -1,11 +1,11 @@
 //! Messages of rtnetlink by their types: `RTM_*` of `linux/rtnetlink.h`.
 
-ghost use Rattle.std.specs.Prelude.{◌≡◌, ◌≢◌, IfOk, IfErr, refl};
+ghost use Rattle.std.specs.Prelude.{◌≡◌, ◌≢◌, ◌<◌, length, IfOk, IfErr, IsErrOf, OnErr, refl};
 ghost use Rattle.{
   npr_base.specs.{Message.{MessageFault, view}, declared.refusal.DecodeError.TheVariants.{OutOfMemory}},
   netlink_packet_route.specs.{
     MessageKind.{kind_of_type, form_of},
-    RouteNetlinkMessage.{Meaning, meaning_of, other_of, address, route, neighbour, rule, rtnetlink, type_of, writes, misfit, IsMessageOf, ReadsUnder, FaultUnder},
+    RouteNetlinkMessage.{Meaning, meaning_of, other_of, address, route, neighbour, rule, rtnetlink, type_of, writes, misfit, IsMessageOf, ReadsUnder, FaultUnder, HasFirst, GrowsUnder, CopyGrows},
   },
   npr_address.specs.Message.{addresses},
   npr_neighbour.specs.Message.{neighbours},
@@ -14,7 +14,7 @@ ghost use Rattle.{
 };
 
 use crate::kind::MessageKind;
-use netlink_packet_core::{NetlinkHeader, NetlinkInner};
+use netlink_packet_core::{NetlinkHeader, NetlinkInner, keep_bytes};
 use npr_address::AddressMessage;
 use npr_base::{DecodeError, EmitError, Emitable, Parseable, write_bytes};
 use npr_neighbour::NeighbourMessage;
@@ -227,13 +227,14 @@ impl OtherMessage {
     /// An equal message.
     ///
     /// # Errors
-    /// `AllocError` where memory is refused.
+    /// `AllocError` where memory is refused; without bytes none is taken.
     pub fn clone(&self, alloc: Global) -> Result<Self, AllocError>
-        ensures { IfOk result (λ m. other_of m ≡ other_of self.now) }
+        ensures ok { IfOk result (λ m. other_of m ≡ other_of self.now) }
+        ensures memory { OnErr result (0 < length self.now.payload.items) }
     {
         Ok(OtherMessage {
             message_type: self.message_type,
-            payload: Vec::from_slice(alloc, self.payload.as_slice())?,
+            payload: keep_bytes(alloc, self.payload.as_slice())?,
         })
     }
 }
@@ -260,6 +261,10 @@ impl NetlinkInner for RouteNetlinkMessage {
     ghost meaning = { meaning_of };
 
     ghost protocol = { rtnetlink };
+
+    ghost grows = { λ kind bytes. GrowsUnder (type_of kind) bytes };
+
+    ghost copy_grows = { CopyGrows };
 
     ghost by_protocol = { λ m. (refl, refl) };
 
@@ -288,12 +293,13 @@ fn read_under(
 ) -> Result<RouteNetlinkMessage, DecodeError>
     ensures ok { IfOk result (λ m. ReadsUnder (type_of message_type) message_type payload.now (meaning_of m)) }
     ensures refused { IfErr result (λ e. e ≢ OutOfMemory → FaultUnder (type_of message_type) payload.now e) }
+    ensures memory { IsErrOf result OutOfMemory → GrowsUnder (type_of message_type) payload.now }
 {
     match MessageType::of(message_type) {
         MessageType::Of(kind, action) => read_kind(alloc, kind, action, payload),
         MessageType::Unknown => Ok(RouteNetlinkMessage::Other(OtherMessage {
             message_type,
-            payload: Vec::from_slice(alloc, payload)?,
+            payload: keep_bytes(alloc, payload)?,
         })),
     }
 }
@@ -307,6 +313,7 @@ fn read_kind(
 ) -> Result<RouteNetlinkMessage, DecodeError>
     ensures ok { IfOk result (λ m. IsMessageOf kind action payload.now (meaning_of m)) }
     ensures refused { IfErr result (λ e. e ≢ OutOfMemory → MessageFault (form_of kind).grammar payload.now e) }
+    ensures memory { IsErrOf result OutOfMemory → HasFirst kind payload.now }
 {
     types!(read_as(kind, action, alloc, payload))
 }
