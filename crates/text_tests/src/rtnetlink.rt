@@ -1,12 +1,13 @@
 //! Messages of rtnetlink as a kernel sent them, envelopes included.
 
 use netlink_packet_route::envelope::{
-    NetlinkBuffer, NetlinkIterator, NetlinkMessage, NetlinkPayload,
+    DoneMessage, ErrorMessage, NLMSG_DONE, NLMSG_ERROR, NLMSG_NOOP, NLMSG_OVERRUN, NetlinkBuffer,
+    NetlinkHeader, NetlinkIterator, NetlinkMessage, NetlinkPayload, keep_bytes,
 };
-use netlink_packet_route::framing::{Parseable, to_vec};
+use netlink_packet_route::framing::{Emitable, Parseable, to_vec};
 use netlink_packet_route::request::{dump_addresses, dump_neighbours, dump_routes, dump_rules};
 use netlink_packet_route::{AddressFamily, RouteNetlinkMessage};
-use npr_testing::{bytes_of, same, shows, writes};
+use npr_testing::{bytes_of, holds, same, shows, writes};
 use std::alloc::Global;
 use std::test::Fail;
 
@@ -14,6 +15,10 @@ use std::test::Fail;
 fn word_of(message: &NetlinkMessage<RouteNetlinkMessage>) -> &'static str {
     match &message.payload {
         NetlinkPayload::Done(_) => "done",
+        NetlinkPayload::Error(error) if error.code.is_none() => "acknowledgement",
+        NetlinkPayload::Error(_) => "refusal",
+        NetlinkPayload::Noop => "nothing",
+        NetlinkPayload::Overrun(_) => "overrun",
         NetlinkPayload::InnerMessage(RouteNetlinkMessage::NewRule(_)) => "rule",
         NetlinkPayload::InnerMessage(RouteNetlinkMessage::Other(other))
             if other.message_type == 16 && other.payload.len() == 17 => "other",
@@ -21,11 +26,15 @@ fn word_of(message: &NetlinkMessage<RouteNetlinkMessage>) -> &'static str {
     }
 }
 
-/// What the message is, and its bytes.
+/// What the message is, and the bytes of a copy, whose header is that of what is written.
 fn rewrite(alloc: Global, found: &NetlinkBuffer<'_>) -> Result<(&'static str, Vec<u8>), Fail> {
     let message = NetlinkMessage::<RouteNetlinkMessage>::parse(alloc, found)?;
-    let bytes = to_vec(alloc, &message)?;
-    Ok((word_of(&message), bytes))
+    let mut copy = message.clone(alloc)?;
+    holds(copy == message)?;
+    copy.check()?;
+    copy.finalize();
+    let bytes = to_vec(alloc, &copy)?;
+    Ok((word_of(&copy), bytes))
 }
 
 /// What each message of the datagram is, and the bytes of them all.
@@ -54,6 +63,77 @@ fn a_datagram_is_read_by_type(rt: HostRuntime) -> Result<(), Fail> {
     let (words, written) = rewritten(rt.alloc(), bytes.as_slice())?;
     shows(&rt, words, "[\"rule\", \"done\", \"other\"]")?;
     same(written, bytes)
+}
+
+/// Nothing, lost data without bytes and with three, an acknowledgement, and a refusal with the header
+/// of its request.
+#[test]
+fn messages_of_the_envelope_are_read(rt: HostRuntime) -> Result<(), Fail> {
+    let texts = [
+        "10000000 01000000 07000000 9c6c0000",
+        "10000000 04000000 07000000 9c6c0000",
+        "13000000 04000000 07000000 9c6c0000 c0ffee 00",
+        "14000000 02000000 07000000 9c6c0000 00000000",
+        "24000000 02000000 07000000 9c6c0000 ffffffff 24000000 18000506 07000000 00000000",
+    ];
+    let bytes = bytes_of(&rt, texts.as_slice())?;
+    let (words, written) = rewritten(rt.alloc(), bytes.as_slice())?;
+    let wanted = "[\"nothing\", \"overrun\", \"overrun\", \"acknowledgement\", \"refusal\"]";
+    shows(&rt, words, wanted)?;
+    same(written, bytes)
+}
+
+/// What stands behind a header of this type, and its copy, are printed so.
+fn is_payload(
+    rt: &impl AllocGlobal,
+    message_type: u16,
+    text: &str,
+    wanted: &str,
+) -> Result<(), Fail> {
+    let header = NetlinkHeader {
+        message_type,
+        ..NetlinkHeader::default()
+    };
+    let bytes = bytes_of(rt, &[text])?;
+    let payload = NetlinkPayload::<RouteNetlinkMessage>::parse(
+        rt.alloc(),
+        header,
+        bytes.as_slice(),
+    )?;
+    same(payload.message_type(), message_type)?;
+    let copy = payload.clone(rt.alloc())?;
+    holds(copy == payload)?;
+    shows(rt, copy, wanted)
+}
+
+/// What stands behind nothing is not looked at.
+#[test]
+fn payloads_are_read_by_type(rt: HostRuntime) -> Result<(), Fail> {
+    is_payload(&rt, NLMSG_NOOP, "ff", "Noop")?;
+    let acknowledgement = "Error(ErrorMessage { code: None, header: [] })";
+    is_payload(&rt, NLMSG_ERROR, "00000000", acknowledgement)?;
+    let done = "Done(DoneMessage { code: 0, extended_ack: [] })";
+    is_payload(&rt, NLMSG_DONE, "00000000", done)?;
+    is_payload(&rt, NLMSG_OVERRUN, "c0ffee", "Overrun([192, 255, 238])")?;
+    let other = "InnerMessage(Other(OtherMessage { message_type: 16, payload: [] }))";
+    is_payload(&rt, 16, "", other)
+}
+
+/// A code and the bytes behind it, by themselves.
+#[test]
+fn codes_are_read(rt: HostRuntime) -> Result<(), Fail> {
+    let alloc = rt.alloc();
+    let bytes = bytes_of(&rt, &["ffffffff 0102"])?;
+    let error = ErrorMessage::parse(alloc, bytes.as_slice())?.clone(alloc)?;
+    same(error.raw_code(), -1)?;
+    shows(
+        &rt,
+        error,
+        "ErrorMessage { code: Some(-1), header: [1, 2] }",
+    )?;
+    let done = DoneMessage::parse(alloc, bytes.as_slice())?.clone(alloc)?;
+    shows(&rt, done, "DoneMessage { code: -1, extended_ack: [1, 2] }")?;
+    same(keep_bytes(alloc, bytes.as_slice())?, bytes)
 }
 
 /// What was sent to the kernel whose dumps `conformance` reads: `NLM_F_REQUEST` and `NLM_F_DUMP`, the
