@@ -16,10 +16,11 @@ pub const HELP: &str =
   --count     how many messages there are, of each kind
   --numeric   numbers in place of names
   --hex       the input is hexadecimal text, a message a line
-  --as KIND   messages of this kind without an envelope: address, route or rule
-  --keep FILE writes the messages that are refused to FILE
-  --help      this text
+  --as KIND   messages of this kind without an envelope: address, route, rule or neighbour
+  --keep FILE writes the messages that are refused to FILE, which is made anew
+  -h, --help  this text
   --version   the version
+  FILE        a file that is read; - is standard input
 
 Status 1: a message was refused; 2: a wrong word; 4: no memory; 5: a file failed.";
 
@@ -88,6 +89,8 @@ pub enum WrongWord<'a> {
     Alone(&'a str),
     /// No kind of message has this name.
     Kind(&'a str),
+    /// A file that is read would be made anew.
+    Kept(&'a str),
 }
 
 impl<'a> fmt::Display for WrongWord<'a> {
@@ -96,6 +99,7 @@ impl<'a> fmt::Display for WrongWord<'a> {
             WrongWord::Option(word) => write!(f, "`{word}` is no option"),
             WrongWord::Alone(word) => write!(f, "`{word}` wants a word behind it"),
             WrongWord::Kind(word) => write!(f, "`{word}` is no kind of message"),
+            WrongWord::Kept(word) => write!(f, "`{word}` is read, and `--keep` would empty it"),
         }
     }
 }
@@ -114,7 +118,7 @@ pub fn command_of<'a>(alloc: Global, words: &'a [String]) -> Result<Command<'a>,
         match (waiting, word) {
             (Some(option), _) if take_word(&mut request, option, word) => waiting = None,
             (Some(_), _) => return Ok(Command::Wrong(WrongWord::Kind(word))),
-            (None, "--help") => return Ok(Command::Help),
+            (None, "--help" | "-h") => return Ok(Command::Help),
             (None, "--version") => return Ok(Command::Version),
             (None, "--as" | "--keep") => waiting = Some(word),
             (None, _) if set_option(&mut request.options, word) => {}
@@ -122,10 +126,17 @@ pub fn command_of<'a>(alloc: Global, words: &'a [String]) -> Result<Command<'a>,
             (None, _) => request.files.push(word)?,
         }
     }
-    Ok(match waiting {
-        Some(word) => Command::Wrong(WrongWord::Alone(word)),
-        None => Command::Show(request),
+    Ok(match (waiting, emptied(&request)) {
+        (Some(word), _) => Command::Wrong(WrongWord::Alone(word)),
+        (None, Some(file)) => Command::Wrong(WrongWord::Kept(file)),
+        (None, None) => Command::Show(request),
     })
+}
+
+/// The file that is read, and by its name is the one for what is refused.
+fn emptied<'a>(request: &Request<'a>) -> Option<&'a str> {
+    let keep = request.keep?;
+    request.files.iter().copied().find(|file| *file == keep)
 }
 
 /// Takes the word behind an option, and answers whether it can stand there.

@@ -6,8 +6,8 @@ use Rattle.netlink_packet_route.specs.declared.framing.AttrFamily.TheVariants.{V
 use Rattle.netlink_packet_route.specs.declared.net.IpAddr.{IpAddr}
 use Rattle.netlink_packet_route.specs.Layout.{Layout}
 use Rattle.netlink_packet_route.specs.Found.{IsFirst}
-use Rattle.netlink_packet_route.specs.Tables.{EnumTable, table_of, row, others, ◌or◌, value, items, exactly, leading, raw, ip, le32, Reading, Family}
-use Rattle.netlink_packet_route.specs.Tables.{writing_of, attributes_of, family_of_table}
+use Rattle.netlink_packet_route.specs.Tables.{EnumTable, table_of, row, others, ◌or◌, value, items, exactly, leading, raw, ip, le32, Family}
+use Rattle.netlink_packet_route.specs.Tables.{attributes_of, family_of_table}
 use Rattle.template.specs.contracts.neighbour.NeighbourAttribute.{enum}
 use Rattle.template.specs.contracts.neighbour.NeighbourCacheInfo.{struct}
 use Rattle.template.specs.declared.neighbour.NeighbourCacheInfo.{NeighbourCacheInfo}
@@ -32,11 +32,8 @@ table =
     or others (value NeighbourAttribute.Other)) refl refl
 
 -- the family
-abbrev pub attributes : Reading (writing_of table)
-attributes = attributes_of table
-
 abbrev pub family : Family NeighbourAttribute (Unit {0})
-family = family_of_table table (λ c. attributes)
+family = family_of_table table (λ c. attributes_of table)
 
 -- the address of a destination
 abbrev pub destination_in : NeighbourAttribute → Option IpAddr
