@@ -1,0 +1,141 @@
+//! The written forms of what may be taken out and put in.
+
+use super::words::Word;
+use crate::LIBRARIES;
+
+/// What words may become which. A pattern is words with spaces between; `_` is any word, `()`, `[]`
+/// and `{}` are such brackets with what is in them, `<>` may be missing, and `..;` goes to the next
+/// semicolon outside of brackets.
+pub struct Form {
+    pub kind: &'static str,
+    /// What stands before it.
+    before: String,
+    taken: String,
+    put: String,
+}
+
+/// Taken out: kind, words before, words.
+const TAKEN: &[(&str, &str, &str)] = &[
+    ("ensures", "", "ensures {}"),
+    ("ensures", "", "ensures _ {}"),
+    ("requires", "", "requires {}"),
+    ("requires", "", "requires _ {}"),
+    ("ghost use", "", "ghost use ..;"),
+    ("ghost member", "", "ghost _ ..;"),
+    ("impl Model", "", "impl <> Model for _ <> {}"),
+    ("use Model", "", "use std : : marker : : Model ;"),
+    ("mod laws", "", "pub mod laws ;"),
+    ("tactic", "", "# [ tactic () ]"),
+    ("tactic", "", "# ! [ tactic ( auto ) ]"),
+    ("cycle", "", "# [ cycle ( _ ) ]"),
+    ("final", "", "final"),
+    ("derived Drop", "", "# [ derive ( Drop ) ]"),
+    ("derived Drop", ",", "Drop ,"),
+    ("derived Drop", "derive (", "Drop ,"),
+    ("derived Drop", "", ", Drop"),
+    ("macro_export", "", "# [ macro_export ]"),
+    ("writer parameter", "", "< W : fmt : : Write >"),
+    ("writer parameter", "<", "W : fmt : : Write ,"),
+    ("Flag { .. } -> Flag::new(..)", "stringify ! ( $ name ) ,", "value :"),
+    ("Flag { .. } -> Flag::new(..)", "name : \"\" ,", "value :"),
+];
+
+/// Changed: kind, words before, words, words in their place.
+const CHANGED: &[(&str, &str, &str, &str)] = &[
+    ("bound Drop -> Sized", ":", "Drop", "Sized"),
+    ("bound Drop -> Sized", "+", "Drop", "Sized"),
+    ("Formatter<W> -> Formatter<'_>", "Formatter <", "W", "'_"),
+    ("fn flags -> const FLAGS", "", "fn flags < 'a > ( ) - > & 'a", "const FLAGS : & 'static"),
+    ("fn flags -> const FLAGS", "[ Flag < _ > ]", "{", "="),
+    ("fn flags -> const FLAGS", ": : FLAGS", "}", ";"),
+    ("Flag { .. } -> Flag::new(..)", "Flag", "{ name :", ": : new ("),
+    ("Flag { .. } -> Flag::new(..)", "$ set : : $ name", "}", ")"),
+    ("Flag { .. } -> Flag::new(..)", "$ set ( $ all )", "}", ")"),
+    ("call that takes memory", ".", "push", "push_in"),
+    ("call that takes memory", ".", "reserve", "reserve_in"),
+    ("call that takes memory", ".", "reserve_exact", "reserve_exact_in"),
+    ("call that takes memory", "Vec : :", "new", "new_within"),
+    ("call that takes memory", "", "vec", "crate : : memory : : filled"),
+    ("path of std::alloc", "", "std : : alloc", "crate : : memory"),
+    ("use of a macro", "}", "", "pub ( crate ) use _ ;"),
+    ("use of memory", ";", "", "use crate : : memory : : { StringIn as _ , VecIn as _ } ;"),
+];
+
+/// The forms of a library's files.
+pub fn forms(library: &str) -> Vec<Form> {
+    let form = |kind, before: &str, taken: &str, put: &str| Form {
+        kind,
+        before: before.into(),
+        taken: taken.into(),
+        put: put.into(),
+    };
+    let own = format!("{library} : :");
+    let mut all: Vec<Form> = CHANGED.iter().map(|f| form(f.0, f.1, f.2, f.3)).collect();
+    all.extend(TAKEN.iter().map(|f| form(f.0, f.1, f.2, "")));
+    all.push(form("path of its own crate", "crate : :", "", &own));
+    all.push(form("use of a macro in lib", "", "END", "pub ( crate ) use _ : : _ ;"));
+    all.extend(LIBRARIES.map(|name| form("path of a library", "", name, &format!("crate : : {name}"))));
+    all
+}
+
+impl Form {
+    /// The ends in both, where it stands here. What is put in stands on the line of what it is put for.
+    pub fn matches(&self, was: &[Word], at: usize, is: &[Word], to: usize) -> Option<(usize, usize)> {
+        let before = at.checked_sub(self.before.split_terminator(' ').count())?;
+        if behind(&self.before, was, before)? != at {
+            return None;
+        }
+        if self.taken == "END" {
+            return (at == was.len()).then_some((at, behind(&self.put, is, to)?));
+        }
+        let (end, put) = (behind(&self.taken, was, at)?, behind(&self.put, is, to)?);
+        let line = was[if self.taken.is_empty() { at.checked_sub(1)? } else { at }].line;
+        is[to..put].iter().all(|w| w.line == line).then_some((end, put))
+    }
+}
+
+/// Where the pattern ends that stands here.
+fn behind(pattern: &str, words: &[Word], mut at: usize) -> Option<usize> {
+    let is = |at: usize, text: &str| words.get(at).is_some_and(|w| w.text == text);
+    for part in pattern.split_terminator(' ') {
+        at = match part {
+            "_" => words.get(at)?.text.starts_with(|c: char| c.is_alphabetic() || c == '_').then_some(at + 1)?,
+            "()" | "[]" | "{}" => group(words, at, part)?,
+            "<>" if is(at, "<") => group(words, at, part)?,
+            "<>" => at,
+            "..;" => semicolon(words, at)?,
+            _ => is(at, part).then_some(at + 1)?,
+        };
+    }
+    Some(at)
+}
+
+/// Behind the bracket that closes the one here.
+fn group(words: &[Word], at: usize, pair: &str) -> Option<usize> {
+    let mut depth = 0usize;
+    for (n, word) in words[at..].iter().enumerate() {
+        depth += usize::from(word.text == &pair[..1]);
+        depth = depth.checked_sub(usize::from(word.text == &pair[1..]))?;
+        if depth == 0 {
+            return (n > 0).then_some(at + n + 1);
+        }
+    }
+    None
+}
+
+/// Behind the next semicolon that no bracket holds.
+fn semicolon(words: &[Word], at: usize) -> Option<usize> {
+    let mut depth = 0i64;
+    for (n, word) in words[at..].iter().enumerate() {
+        match word.text {
+            "(" | "[" | "{" => depth += 1,
+            ")" | "]" | "}" => depth -= 1,
+            ";" if depth == 0 => return Some(at + n + 1),
+            _ => {}
+        }
+        if depth < 0 {
+            return None;
+        }
+    }
+    None
+}

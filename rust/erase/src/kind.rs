@@ -1,0 +1,32 @@
+//! The written list of what is erased and rewritten. What no row says is a fault.
+
+/// A kind, and with which tokens the text of one may begin. Where nothing is taken out, it is none.
+pub const KINDS: &[(&str, &[&str])] = &[
+    // what is taken out
+    ("ensures", &["ensures"]),
+    ("requires", &["requires"]),
+    ("ghost member", &["ghost"]),
+    ("ghost use", &["ghost"]),
+    ("impl Model", &["impl"]),
+    ("use Model", &["use"]),
+    ("mod laws", &["pub"]),
+    ("tactic", &["#"]),
+    ("cycle", &["#"]),
+    ("final", &["final"]),
+    ("derived Drop", &["Drop", ",", "#"]),
+    ("macro_export", &["#"]),
+    ("writer parameter", &["<", "W"]),
+    // what stands in its place
+    ("bound Drop -> Sized", &["Drop"]),
+    ("Formatter<W> -> Formatter<'_>", &["W"]),
+    ("fn flags -> const FLAGS", &["fn", "{", "}"]),
+    ("Flag { .. } -> Flag::new(..)", &["{", "value", "}"]),
+    ("call that takes memory", &["push", "reserve", "reserve_exact", "new", "vec"]),
+    ("path of its own crate", &["crate"]),
+    ("path of a library", &crate::LIBRARIES),
+    ("path of std::alloc", &["std"]),
+    // what is put in
+    ("use of a macro", &[""]),
+    ("use of a macro in lib", &[""]),
+    ("use of memory", &[""]),
+];

@@ -1,0 +1,111 @@
+//! Turns libraries of proved Rattle into the modules of one Rust crate. Contracts are cut out and
+//! become comments, and what Rust spells otherwise is rewritten, on tokens. Each line keeps its
+//! number. What no rule knows is a fault with its file and line.
+//!
+//! `kind` has the written list of what is done, and `audit` finds out by itself what was done.
+#![forbid(unsafe_code)]
+
+pub mod audit;
+mod edit;
+mod fault;
+mod kind;
+mod rules;
+mod source;
+mod token;
+
+pub use edit::Tally;
+pub use fault::Fault;
+pub use rules::{Erased, erase};
+use std::fs;
+use std::path::{Path, PathBuf};
+
+/// The libraries, each before those that stand on it.
+pub const LIBRARIES: [&str; 10] = [
+    "npr_base",
+    "netlink_packet_core",
+    "npr_scalar",
+    "npr_srh",
+    "npr_tunnel",
+    "npr_address",
+    "npr_rule",
+    "npr_neighbour",
+    "npr_route",
+    "netlink_packet_route",
+];
+
+/// Erases the libraries of a folder into another, with a file `modules.rs` that names them, and
+/// fails where the audit counts otherwise. Answers how often each kind of edit was made.
+pub fn erase_all(crates: &Path, out: &Path) -> Result<Tally, Fault> {
+    let mut tally = Tally::new();
+    for library in LIBRARIES {
+        for (kind, count) in erase_library(crates, out, library)? {
+            *tally.entry(kind).or_default() += count;
+        }
+    }
+    let modules: String = LIBRARIES.iter().map(|name| format!("mod {name};\n")).collect();
+    write(&out.join("modules.rs"), &modules)?;
+    audit::audit(crates, out, &tally)?;
+    Ok(tally)
+}
+
+/// The files of a library in order, but that of its laws, which are functions that do nothing.
+pub fn sources(crates: &Path, library: &str) -> Result<Vec<PathBuf>, Fault> {
+    let folder = crates.join(library).join("src");
+    let entries = fs::read_dir(&folder).map_err(|e| unread(&folder, e))?;
+    let mut found = Vec::new();
+    for entry in entries {
+        let path = entry.map_err(|e| unread(&folder, e))?.path();
+        if path.extension().is_none_or(|end| end != "rt") {
+            return Err(Fault::new(&path.to_string_lossy(), 0, "no file of Rattle"));
+        }
+        found.push(path);
+    }
+    found.retain(|path| !path.ends_with("laws.rt"));
+    found.sort();
+    Ok(found)
+}
+
+/// Where a file of a library goes.
+pub fn target(out: &Path, library: &str, source: &Path) -> PathBuf {
+    let name = source.file_stem().unwrap_or_default();
+    let name = if name == "lib" { "mod".as_ref() } else { name };
+    out.join(library).join(name).with_extension("rs")
+}
+
+/// The text of a file.
+pub fn read(path: &Path) -> Result<String, Fault> {
+    fs::read_to_string(path).map_err(|e| unread(path, e))
+}
+
+fn erase_library(crates: &Path, out: &Path, library: &str) -> Result<Tally, Fault> {
+    let (mut tally, mut root, mut uses) = (Tally::new(), None, String::new());
+    let folder = out.join(library);
+    fs::create_dir_all(&folder).map_err(|e| unread(&folder, e))?;
+    for path in sources(crates, library)? {
+        let (shown, target, text) = (path.to_string_lossy(), target(out, library, &path), read(&path)?);
+        let erased = erase(&shown, library, &text)?;
+        for (kind, count) in erased.tally {
+            *tally.entry(kind).or_default() += count;
+        }
+        let module = path.file_stem().unwrap_or_default().to_string_lossy();
+        for name in erased.macros {
+            uses += &format!("pub(crate) use {module}::{name};\n");
+            *tally.entry("use of a macro in lib").or_default() += 1;
+        }
+        match target.ends_with("mod.rs") {
+            true => root = Some((target, erased.text)),
+            false => write(&target, &erased.text)?,
+        }
+    }
+    let (target, text) = root.ok_or_else(|| Fault::new(library, 0, "it has no lib.rt"))?;
+    write(&target, &(text + &uses))?;
+    Ok(tally)
+}
+
+fn write(path: &Path, text: &str) -> Result<(), Fault> {
+    fs::write(path, text).map_err(|e| unread(path, e))
+}
+
+fn unread(path: &Path, error: std::io::Error) -> Fault {
+    Fault::new(&path.to_string_lossy(), 0, error.to_string())
+}

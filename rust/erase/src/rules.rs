@@ -1,0 +1,250 @@
+//! What is erased of a file, and what is rewritten.
+
+use crate::LIBRARIES;
+use crate::edit::{Edits, Tally};
+use crate::fault::Fault;
+use crate::source::Source;
+use crate::token::Sort;
+
+/// What no word of Rust may be: where one is left, a rule is missing.
+const REFUSED: &[&str] = &[
+    "ghost", "requires", "ensures", "invariant", "decreases", "tactic", "cycle", "final", "Model", "prove", "unsafe",
+];
+const IMPORT: &str = " use crate::memory::{StringIn as _, VecIn as _};";
+
+/// A file as it is erased.
+pub struct Eraser<'a> {
+    source: Source<'a>,
+    library: &'a str,
+    edits: Edits,
+    macros: Vec<&'a str>,
+    imports: bool,
+}
+
+/// An erased file.
+pub struct Erased<'a> {
+    pub text: String,
+    pub tally: Tally,
+    /// The macros that other files name.
+    pub macros: Vec<&'a str>,
+}
+
+/// Erases a file of a library.
+pub fn erase<'a>(path: &'a str, library: &'a str, text: &'a str) -> Result<Erased<'a>, Fault> {
+    let mut eraser = Eraser {
+        source: Source::new(path, text)?,
+        library,
+        edits: Edits::default(),
+        macros: Vec::new(),
+        imports: false,
+    };
+    let mut at = 0;
+    while at < eraser.source.tokens.len() {
+        at = eraser.step(at)?;
+    }
+    eraser.check_what_is_left()?;
+    let (text, tally) = eraser.edits.apply(&eraser.source)?;
+    Ok(Erased {
+        text,
+        tally,
+        macros: eraser.macros,
+    })
+}
+
+impl<'a> Eraser<'a> {
+    /// The rule of a token; answers the next that is looked at.
+    fn step(&mut self, at: usize) -> Result<usize, Fault> {
+        match self.source.word(at) {
+            "#" => self.attribute(at),
+            "ghost" => self.ghost(at),
+            "requires" | "ensures" => self.clause(at),
+            "impl" => self.implementation(at),
+            "use" => self.import(at),
+            "pub" if self.source.is(at, "pub mod laws ;") => self.cut_item(at, 4, "mod laws"),
+            "final" if self.source.is(at, "final fn") => self.cut(at, 1, "final"),
+            "fn" => self.function(at),
+            "Flag" if self.source.is(at, "Flag { name :") => self.flag(at),
+            "Formatter" if self.source.is(at, "Formatter < _ >") => self.formatter(at),
+            "Drop" => self.bound(at),
+            _ => self.call_or_path(at),
+        }
+    }
+
+    fn cut(&mut self, at: usize, count: usize, kind: &'static str) -> Result<usize, Fault> {
+        self.replace(at, count, kind, "")
+    }
+
+    fn cut_item(&mut self, at: usize, count: usize, kind: &'static str) -> Result<usize, Fault> {
+        self.edits.cut_item(&self.source, at..at + count, kind)?;
+        Ok(at + count)
+    }
+
+    fn replace(&mut self, at: usize, count: usize, kind: &'static str, put: &str) -> Result<usize, Fault> {
+        self.edits.replace(&self.source, at..at + count, kind, put)?;
+        Ok(at + count)
+    }
+
+    fn attribute(&mut self, at: usize) -> Result<usize, Fault> {
+        let open = at + if self.source.word(at + 1) == "!" { 2 } else { 1 };
+        let behind = self.source.closing(open)? + 1;
+        match self.source.word(open + 1) {
+            "tactic" => self.cut(at, behind - at, "tactic"),
+            "cycle" => self.cut(at, behind - at, "cycle"),
+            "macro_export" => self.export(at, behind),
+            "derive" => self.derive(at, open + 2, behind),
+            "default" | "error" | "inline" => Ok(behind),
+            other => Err(self.source.fault(at, format!("the attribute `{other}` is not known"))),
+        }
+    }
+
+    /// A macro is named by a path here, and nobody else's.
+    fn export(&mut self, at: usize, behind: usize) -> Result<usize, Fault> {
+        if !self.source.is(behind, "macro_rules ! _ {") {
+            return Err(self.source.fault(at, "an exported macro was expected"));
+        }
+        let name = self.source.word(behind + 2);
+        let close = self.source.closing(behind + 3)?;
+        self.cut(at, behind - at, "macro_export")?;
+        let put = format!(" pub(crate) use {name};");
+        self.edits.insert(&self.source, close, "use of a macro", &put)?;
+        self.macros.push(name);
+        Ok(behind)
+    }
+
+    /// Each type of Rust may be dropped.
+    fn derive(&mut self, at: usize, open: usize, behind: usize) -> Result<usize, Fault> {
+        let close = self.source.closing(open)?;
+        let Some(drop) = (open..close).find(|&i| self.source.word(i) == "Drop") else {
+            return Ok(behind);
+        };
+        match (self.source.word(drop - 1), self.source.word(drop + 1)) {
+            ("(", ")") => self.cut(at, behind - at, "derived Drop")?,
+            (_, ",") => self.cut(drop, 2, "derived Drop")?,
+            _ => self.cut(drop - 1, 2, "derived Drop")?,
+        };
+        Ok(behind)
+    }
+
+    fn ghost(&mut self, at: usize) -> Result<usize, Fault> {
+        let is_use = self.source.word(at + 1) == "use";
+        let kind = if is_use { "ghost use" } else { "ghost member" };
+        match self.source.find(at, ";") {
+            Some(end) => self.cut_item(at, end + 1 - at, kind),
+            None => Err(self.source.fault(at, "what is ghost here has no end")),
+        }
+    }
+
+    fn clause(&mut self, at: usize) -> Result<usize, Fault> {
+        let kind = if self.source.word(at) == "requires" { "requires" } else { "ensures" };
+        let open = at + if self.source.is(at + 1, "_ {") { 2 } else { 1 };
+        if self.source.word(open) != "{" {
+            return Err(self.source.fault(at, "a clause in braces was expected"));
+        }
+        let behind = self.source.closing(open)? + 1;
+        self.cut(at, behind - at, kind)
+    }
+
+    fn implementation(&mut self, at: usize) -> Result<usize, Fault> {
+        let Some(body) = self.source.find(at, "{") else {
+            return Ok(at + 1);
+        };
+        let of = (at..body).find(|&i| self.source.word(i) == "for");
+        match of.map(|of| self.source.before(of)) {
+            Some("Model") => self.cut_item(at, self.source.closing(body)? + 1 - at, "impl Model"),
+            Some("Drop") => Err(self.source.fault(at, "`impl Drop` is not known")),
+            _ => Ok(at + 1),
+        }
+    }
+
+    /// Behind the first import stand the traits of calls that take memory.
+    fn import(&mut self, at: usize) -> Result<usize, Fault> {
+        if self.source.is(at, "use std :: marker :: Model ;") {
+            return self.cut(at, 7, "use Model");
+        }
+        let is_public = matches!(self.source.before(at), "pub" | ")");
+        if !self.imports && !is_public {
+            let end = self.source.find(at, ";").ok_or_else(|| self.source.fault(at, "a use without an end"))?;
+            self.edits.insert(&self.source, end, "use of memory", IMPORT)?;
+            self.imports = true;
+        }
+        Ok(at + 1)
+    }
+
+    /// A function that prints has no parameter for the writer in Rust, and a set has its flags in a constant.
+    fn function(&mut self, at: usize) -> Result<usize, Fault> {
+        if self.source.is(at + 2, "< W : fmt :: Write >") {
+            self.cut(at + 2, 7, "writer parameter")?;
+            return Ok(at + 9);
+        }
+        if self.source.is(at + 2, "< W : fmt :: Write ,") {
+            self.cut(at + 3, 6, "writer parameter")?;
+            return Ok(at + 9);
+        }
+        if self.source.is(at, "fn flags < 'a > ( ) -> & 'a [ Flag < _ > ] {") {
+            let kind = "fn flags -> const FLAGS";
+            self.replace(at, 10, kind, "const FLAGS: &'static")?;
+            self.replace(at + 16, 1, kind, "=")?;
+            self.replace(self.source.closing(at + 16)?, 1, kind, ";")?;
+            return Ok(at + 17);
+        }
+        Ok(at + 1)
+    }
+
+    /// A flag is made by a call in Rust.
+    fn flag(&mut self, at: usize) -> Result<usize, Fault> {
+        let kind = "Flag { .. } -> Flag::new(..)";
+        let close = self.source.closing(at + 1)?;
+        let comma = self.source.find(at + 4, ",").filter(|&i| self.source.is(i, ", value :"));
+        let Some(comma) = comma else {
+            return Err(self.source.fault(at, "a flag with `name` and `value` was expected"));
+        };
+        self.replace(at + 1, 3, kind, "::new(")?;
+        self.cut(comma + 1, 2, kind)?;
+        self.replace(close, 1, kind, ")")?;
+        Ok(at + 4)
+    }
+
+    fn formatter(&mut self, at: usize) -> Result<usize, Fault> {
+        self.replace(at + 2, 1, "Formatter<W> -> Formatter<'_>", "'_")
+    }
+
+    fn bound(&mut self, at: usize) -> Result<usize, Fault> {
+        match self.source.before(at) {
+            ":" | "+" => self.replace(at, 1, "bound Drop -> Sized", "Sized"),
+            _ => Err(self.source.fault(at, "`Drop` is known as a bound and in `derive` alone")),
+        }
+    }
+
+    fn call_or_path(&mut self, at: usize) -> Result<usize, Fault> {
+        let (word, before) = (self.source.word(at), self.source.before(at));
+        let is_path = self.source.word(at + 1) == "::" && before != "::";
+        let kind = "call that takes memory";
+        match word {
+            "push" | "reserve" | "reserve_exact" if before == "." && self.source.word(at + 1) == "(" => {
+                self.replace(at, 1, kind, &format!("{word}_in"))
+            }
+            "Vec" | "String" if is_path && self.source.is(at + 2, "new (") && self.source.word(at + 4) != ")" => {
+                self.replace(at + 2, 1, kind, "new_within")
+            }
+            "vec" if self.source.is(at, "vec ! [ in") => self.replace(at, 1, kind, "crate::memory::filled"),
+            "crate" if is_path => self.replace(at, 1, "path of its own crate", &format!("crate::{}", self.library)),
+            "std" if is_path && self.source.is(at, "std :: alloc ::") => {
+                self.replace(at, 3, "path of std::alloc", "crate::memory")
+            }
+            _ if is_path && before != "$" && LIBRARIES.contains(&word) => {
+                self.replace(at, 1, "path of a library", &format!("crate::{word}"))
+            }
+            _ => Ok(at + 1),
+        }
+    }
+
+    fn check_what_is_left(&self) -> Result<(), Fault> {
+        for (at, token) in self.source.tokens.iter().enumerate() {
+            let is_strange = token.sort == Sort::Sign && (!token.text.is_ascii() || token.text == "'");
+            if (is_strange || REFUSED.contains(&token.text)) && !self.edits.takes(token.at) {
+                return Err(self.source.fault(at, format!("`{}` is not known here", token.text)));
+            }
+        }
+        Ok(())
+    }
+}

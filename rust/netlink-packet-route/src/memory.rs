@@ -1,0 +1,125 @@
+//! What takes memory. The proved text hands an allocator to each such call, and each may refuse.
+//! Here they are calls of Rust's own `Vec` and `String`, by their ways that may fail.
+
+use std::collections::TryReserveError;
+use std::fmt;
+
+/// The allocator, which is Rust's.
+#[derive(Clone, Copy, Debug, Default, PartialEq, Eq)]
+pub struct Global;
+
+/// Memory was refused.
+#[derive(Clone, Copy, Debug, Default, PartialEq, Eq)]
+pub struct AllocError;
+
+impl fmt::Display for AllocError {
+    fn fmt(&self, f: &mut fmt::Formatter<'_>) -> fmt::Result {
+        f.write_str("out of memory")
+    }
+}
+
+impl std::error::Error for AllocError {}
+
+impl From<TryReserveError> for AllocError {
+    fn from(_cause: TryReserveError) -> Self {
+        AllocError
+    }
+}
+
+/// Memory was refused for a value, which comes back.
+#[derive(Debug)]
+pub struct AllocFailed<T> {
+    pub value: T,
+}
+
+impl<T> From<AllocFailed<T>> for AllocError {
+    fn from(_fault: AllocFailed<T>) -> Self {
+        AllocError
+    }
+}
+
+/// Lists whose memory may be refused.
+pub(crate) trait VecIn<T>: Sized {
+    fn new_within(alloc: Global) -> Self;
+
+    fn from_slice(alloc: Global, items: &[T]) -> Result<Self, AllocError>
+    where
+        T: Copy;
+
+    fn reserve_in(&mut self, count: usize) -> Result<(), AllocError>;
+
+    fn reserve_exact_in(&mut self, count: usize) -> Result<(), AllocError>;
+
+    fn push_in(&mut self, item: T) -> Result<(), AllocFailed<T>>;
+
+    /// Behind the last, where there is room.
+    fn push_reserved(&mut self, item: T);
+}
+
+impl<T> VecIn<T> for Vec<T> {
+    fn new_within(_alloc: Global) -> Self {
+        Vec::new()
+    }
+
+    fn from_slice(_alloc: Global, items: &[T]) -> Result<Self, AllocError>
+    where
+        T: Copy,
+    {
+        let mut list = Vec::new();
+        list.try_reserve_exact(items.len())?;
+        list.extend_from_slice(items);
+        Ok(list)
+    }
+
+    fn reserve_in(&mut self, count: usize) -> Result<(), AllocError> {
+        Ok(self.try_reserve(count)?)
+    }
+
+    fn reserve_exact_in(&mut self, count: usize) -> Result<(), AllocError> {
+        Ok(self.try_reserve_exact(count)?)
+    }
+
+    #[inline]
+    fn push_in(&mut self, item: T) -> Result<(), AllocFailed<T>> {
+        match self.try_reserve(1) {
+            Ok(()) => self.push(item),
+            Err(_) => return Err(AllocFailed { value: item }),
+        }
+        Ok(())
+    }
+
+    #[inline(always)]
+    fn push_reserved(&mut self, item: T) {
+        debug_assert!(self.len() < self.capacity());
+        self.push(item);
+    }
+}
+
+/// Texts whose memory may be refused.
+pub(crate) trait StringIn: Sized {
+    fn from_str(alloc: Global, text: &str) -> Result<Self, AllocError>;
+}
+
+impl StringIn for String {
+    fn from_str(_alloc: Global, text: &str) -> Result<Self, AllocError> {
+        let mut copy = String::new();
+        copy.try_reserve_exact(text.len())?;
+        copy.push_str(text);
+        Ok(copy)
+    }
+}
+
+/// A list of so many times the same.
+macro_rules! filled {
+    (in $alloc:expr; $item:expr; $count:expr) => {
+        $crate::memory::repeated($alloc, $item, $count)
+    };
+}
+pub(crate) use filled;
+
+pub(crate) fn repeated<T: Copy>(_alloc: Global, item: T, count: usize) -> Result<Vec<T>, AllocError> {
+    let mut list = Vec::new();
+    list.try_reserve_exact(count)?;
+    list.resize(count, item);
+    Ok(list)
+}
