@@ -18,29 +18,65 @@ pub struct Edits {
 
 impl Edits {
     /// Takes an item out, with the `///` in front of it.
-    pub fn cut_item(&mut self, source: &Source, tokens: Range<usize>, kind: &'static str) -> Result<(), Fault> {
+    pub fn cut_item(
+        &mut self,
+        source: &Source,
+        tokens: Range<usize>,
+        kind: &'static str,
+    ) -> Result<(), Fault> {
         let bytes = start_of_docs(source, tokens.start)..source.tokens[tokens.end - 1].end();
-        self.add(source, tokens.start, source.word(tokens.start), bytes, kind, "")
+        self.add(
+            source,
+            tokens.start,
+            source.word(tokens.start),
+            bytes,
+            kind,
+            "",
+        )
     }
 
     /// Puts a text in the place of these tokens. With none it takes the space behind them too.
-    pub fn replace(&mut self, source: &Source, tokens: Range<usize>, kind: &'static str, put: &str) -> Result<(), Fault> {
+    pub fn replace(
+        &mut self,
+        source: &Source,
+        tokens: Range<usize>,
+        kind: &'static str,
+        put: &str,
+    ) -> Result<(), Fault> {
         let first = &source.tokens[tokens.start];
         let mut bytes = first.at..source.tokens[tokens.end - 1].end();
         if let Some(next) = source.tokens.get(tokens.end).filter(|_| put.is_empty()) {
             let gap = &source.text[bytes.end..next.at];
-            bytes.end += if gap.contains(['\n', '/']) { 0 } else { gap.len() };
+            bytes.end += if gap.contains(['\n', '/']) {
+                0
+            } else {
+                gap.len()
+            };
         }
         self.add(source, tokens.start, first.text, bytes, kind, put)
     }
 
     /// Puts a text behind a token.
-    pub fn insert(&mut self, source: &Source, behind: usize, kind: &'static str, put: &str) -> Result<(), Fault> {
+    pub fn insert(
+        &mut self,
+        source: &Source,
+        behind: usize,
+        kind: &'static str,
+        put: &str,
+    ) -> Result<(), Fault> {
         let end = source.tokens[behind].end();
         self.add(source, behind, "", end..end, kind, put)
     }
 
-    fn add(&mut self, source: &Source, at: usize, begin: &str, bytes: Range<usize>, kind: &'static str, put: &str) -> Result<(), Fault> {
+    fn add(
+        &mut self,
+        source: &Source,
+        at: usize,
+        begin: &str,
+        bytes: Range<usize>,
+        kind: &'static str,
+        put: &str,
+    ) -> Result<(), Fault> {
         let Some((_, begins)) = KINDS.iter().find(|k| k.0 == kind) else {
             return Err(source.fault(at, format!("`{kind}` is no kind of the list")));
         };
@@ -63,7 +99,11 @@ impl Edits {
         let (mut left, mut at) = (String::new(), 0);
         for (bytes, put) in &self.list {
             if bytes.start < at {
-                return Err(Fault::new(source.path, 0, format!("edits overlap at byte {at}")));
+                return Err(Fault::new(
+                    source.path,
+                    0,
+                    format!("edits overlap at byte {at}"),
+                ));
             }
             left += &source.text[at..bytes.start];
             left += put;
@@ -71,7 +111,11 @@ impl Edits {
             at = bytes.end;
         }
         left += &source.text[at..];
-        let lines = source.text.lines().zip(left.lines()).map(|(was, is)| line(was, is) + "\n");
+        let lines = source
+            .text
+            .lines()
+            .zip(left.lines())
+            .map(|(was, is)| line(was, is) + "\n");
         Ok((lines.collect(), self.tally))
     }
 }

@@ -21,7 +21,10 @@ pub const KINDS: &[(&str, &[&str])] = &[
     ("Formatter<W> -> Formatter<'_>", &["W"]),
     ("fn flags -> const FLAGS", &["fn", "{", "}"]),
     ("Flag { .. } -> Flag::new(..)", &["{", "value", "}"]),
-    ("call that takes memory", &["push", "reserve", "reserve_exact", "new", "vec"]),
+    (
+        "call that takes memory",
+        &["push", "reserve", "reserve_exact", "new", "vec"],
+    ),
     ("path of its own crate", &["crate"]),
     ("path of a library", &crate::LIBRARIES),
     ("path of std::alloc", &["std"]),

@@ -42,7 +42,10 @@ pub fn erase_all(crates: &Path, out: &Path) -> Result<Tally, Fault> {
             *tally.entry(kind).or_default() += count;
         }
     }
-    let modules: String = LIBRARIES.iter().map(|name| format!("mod {name};\n")).collect();
+    let modules: String = LIBRARIES
+        .iter()
+        .map(|name| format!("mod {name};\n"))
+        .collect();
     write(&out.join("modules.rs"), &modules)?;
     audit::audit(crates, out, &tally)?;
     Ok(tally)
@@ -82,7 +85,11 @@ fn erase_library(crates: &Path, out: &Path, library: &str) -> Result<Tally, Faul
     let folder = out.join(library);
     fs::create_dir_all(&folder).map_err(|e| unread(&folder, e))?;
     for path in sources(crates, library)? {
-        let (shown, target, text) = (path.to_string_lossy(), target(out, library, &path), read(&path)?);
+        let (shown, target, text) = (
+            path.to_string_lossy(),
+            target(out, library, &path),
+            read(&path)?,
+        );
         let erased = erase(&shown, library, &text)?;
         for (kind, count) in erased.tally {
             *tally.entry(kind).or_default() += count;

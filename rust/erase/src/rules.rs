@@ -8,7 +8,17 @@ use crate::token::Sort;
 
 /// What no word of Rust may be: where one is left, a rule is missing.
 const REFUSED: &[&str] = &[
-    "ghost", "requires", "ensures", "invariant", "decreases", "tactic", "cycle", "final", "Model", "prove", "unsafe",
+    "ghost",
+    "requires",
+    "ensures",
+    "invariant",
+    "decreases",
+    "tactic",
+    "cycle",
+    "final",
+    "Model",
+    "prove",
+    "unsafe",
 ];
 const IMPORT: &str = " use crate::memory::{StringIn as _, VecIn as _};";
 
@@ -79,13 +89,25 @@ impl<'a> Eraser<'a> {
         Ok(at + count)
     }
 
-    fn replace(&mut self, at: usize, count: usize, kind: &'static str, put: &str) -> Result<usize, Fault> {
-        self.edits.replace(&self.source, at..at + count, kind, put)?;
+    fn replace(
+        &mut self,
+        at: usize,
+        count: usize,
+        kind: &'static str,
+        put: &str,
+    ) -> Result<usize, Fault> {
+        self.edits
+            .replace(&self.source, at..at + count, kind, put)?;
         Ok(at + count)
     }
 
     fn attribute(&mut self, at: usize) -> Result<usize, Fault> {
-        let open = at + if self.source.word(at + 1) == "!" { 2 } else { 1 };
+        let open = at
+            + if self.source.word(at + 1) == "!" {
+                2
+            } else {
+                1
+            };
         let behind = self.source.closing(open)? + 1;
         match self.source.word(open + 1) {
             "tactic" => self.cut(at, behind - at, "tactic"),
@@ -93,7 +115,9 @@ impl<'a> Eraser<'a> {
             "macro_export" => self.export(at, behind),
             "derive" => self.derive(at, open + 2, behind),
             "default" | "error" | "inline" => Ok(behind),
-            other => Err(self.source.fault(at, format!("the attribute `{other}` is not known"))),
+            other => Err(self
+                .source
+                .fault(at, format!("the attribute `{other}` is not known"))),
         }
     }
 
@@ -106,7 +130,8 @@ impl<'a> Eraser<'a> {
         let close = self.source.closing(behind + 3)?;
         self.cut(at, behind - at, "macro_export")?;
         let put = format!(" pub(crate) use {name};");
-        self.edits.insert(&self.source, close, "use of a macro", &put)?;
+        self.edits
+            .insert(&self.source, close, "use of a macro", &put)?;
         self.macros.push(name);
         Ok(behind)
     }
@@ -135,13 +160,22 @@ impl<'a> Eraser<'a> {
     }
 
     fn clause(&mut self, at: usize) -> Result<usize, Fault> {
-        let kind = if self.source.word(at) == "requires" { "requires" } else { "ensures" };
+        let kind = if self.source.word(at) == "requires" {
+            "requires"
+        } else {
+            "ensures"
+        };
         let open = at + if self.source.is(at + 1, "_ {") { 2 } else { 1 };
         if self.source.word(open) != "{" {
             return Err(self.source.fault(at, "a clause in braces was expected"));
         }
         let behind = self.source.closing(open)? + 1;
-        self.cut(at, behind - at, kind)
+        match self.source.word(behind) {
+            "requires" | "ensures" | "{" | ";" => self.cut(at, behind - at, kind),
+            _ => Err(self
+                .source
+                .fault(at, "a body or a clause was expected behind this one")),
+        }
     }
 
     fn implementation(&mut self, at: usize) -> Result<usize, Fault> {
@@ -163,8 +197,12 @@ impl<'a> Eraser<'a> {
         }
         let is_public = matches!(self.source.before(at), "pub" | ")");
         if !self.imports && !is_public {
-            let end = self.source.find(at, ";").ok_or_else(|| self.source.fault(at, "a use without an end"))?;
-            self.edits.insert(&self.source, end, "use of memory", IMPORT)?;
+            let end = self
+                .source
+                .find(at, ";")
+                .ok_or_else(|| self.source.fault(at, "a use without an end"))?;
+            self.edits
+                .insert(&self.source, end, "use of memory", IMPORT)?;
             self.imports = true;
         }
         Ok(at + 1)
@@ -180,7 +218,10 @@ impl<'a> Eraser<'a> {
             self.cut(at + 3, 6, "writer parameter")?;
             return Ok(at + 9);
         }
-        if self.source.is(at, "fn flags < 'a > ( ) -> & 'a [ Flag < _ > ] {") {
+        if self
+            .source
+            .is(at, "fn flags < 'a > ( ) -> & 'a [ Flag < _ > ] {")
+        {
             let kind = "fn flags -> const FLAGS";
             self.replace(at, 10, kind, "const FLAGS: &'static")?;
             self.replace(at + 16, 1, kind, "=")?;
@@ -194,9 +235,14 @@ impl<'a> Eraser<'a> {
     fn flag(&mut self, at: usize) -> Result<usize, Fault> {
         let kind = "Flag { .. } -> Flag::new(..)";
         let close = self.source.closing(at + 1)?;
-        let comma = self.source.find(at + 4, ",").filter(|&i| self.source.is(i, ", value :"));
+        let comma = self
+            .source
+            .find(at + 4, ",")
+            .filter(|&i| self.source.is(i, ", value :"));
         let Some(comma) = comma else {
-            return Err(self.source.fault(at, "a flag with `name` and `value` was expected"));
+            return Err(self
+                .source
+                .fault(at, "a flag with `name` and `value` was expected"));
         };
         self.replace(at + 1, 3, kind, "::new(")?;
         self.cut(comma + 1, 2, kind)?;
@@ -211,7 +257,9 @@ impl<'a> Eraser<'a> {
     fn bound(&mut self, at: usize) -> Result<usize, Fault> {
         match self.source.before(at) {
             ":" | "+" => self.replace(at, 1, "bound Drop -> Sized", "Sized"),
-            _ => Err(self.source.fault(at, "`Drop` is known as a bound and in `derive` alone")),
+            _ => Err(self
+                .source
+                .fault(at, "`Drop` is known as a bound and in `derive` alone")),
         }
     }
 
@@ -220,14 +268,27 @@ impl<'a> Eraser<'a> {
         let is_path = self.source.word(at + 1) == "::" && before != "::";
         let kind = "call that takes memory";
         match word {
-            "push" | "reserve" | "reserve_exact" if before == "." && self.source.word(at + 1) == "(" => {
+            "push" | "reserve" | "reserve_exact"
+                if before == "." && self.source.word(at + 1) == "(" =>
+            {
                 self.replace(at, 1, kind, &format!("{word}_in"))
             }
-            "Vec" | "String" if is_path && self.source.is(at + 2, "new (") && self.source.word(at + 4) != ")" => {
+            "Vec" | "String"
+                if is_path
+                    && self.source.is(at + 2, "new (")
+                    && self.source.word(at + 4) != ")" =>
+            {
                 self.replace(at + 2, 1, kind, "new_within")
             }
-            "vec" if self.source.is(at, "vec ! [ in") => self.replace(at, 1, kind, "crate::memory::filled"),
-            "crate" if is_path => self.replace(at, 1, "path of its own crate", &format!("crate::{}", self.library)),
+            "vec" if self.source.is(at, "vec ! [ in") => {
+                self.replace(at, 1, kind, "crate::memory::filled")
+            }
+            "crate" if is_path => self.replace(
+                at,
+                1,
+                "path of its own crate",
+                &format!("crate::{}", self.library),
+            ),
             "std" if is_path && self.source.is(at, "std :: alloc ::") => {
                 self.replace(at, 3, "path of std::alloc", "crate::memory")
             }
@@ -240,9 +301,12 @@ impl<'a> Eraser<'a> {
 
     fn check_what_is_left(&self) -> Result<(), Fault> {
         for (at, token) in self.source.tokens.iter().enumerate() {
-            let is_strange = token.sort == Sort::Sign && (!token.text.is_ascii() || token.text == "'");
+            let is_sign = token.sort == Sort::Sign && token.text == "'";
+            let is_strange = is_sign || token.sort != Sort::Quoted && !token.text.is_ascii();
             if (is_strange || REFUSED.contains(&token.text)) && !self.edits.takes(token.at) {
-                return Err(self.source.fault(at, format!("`{}` is not known here", token.text)));
+                return Err(self
+                    .source
+                    .fault(at, format!("`{}` is not known here", token.text)));
             }
         }
         Ok(())

@@ -47,15 +47,20 @@ impl<'a> Source<'a> {
     pub fn is(&self, at: usize, pattern: &str) -> bool {
         let wanted = pattern.split(' ').enumerate();
         let is_word = |at: usize| self.tokens.get(at).is_some_and(|t| t.sort == Sort::Word);
-        wanted.into_iter().all(|(n, want)| {
-            self.word(at + n) == want || want == "_" && is_word(at + n)
-        })
+        wanted
+            .into_iter()
+            .all(|(n, want)| self.word(at + n) == want || want == "_" && is_word(at + n))
     }
 
     /// The bracket that closes this one.
     pub fn closing(&self, at: usize) -> Result<usize, Fault> {
         let found = self.partner.get(&at).copied();
-        found.ok_or_else(|| self.fault(at, format!("a bracket was expected, not `{}`", self.word(at))))
+        found.ok_or_else(|| {
+            self.fault(
+                at,
+                format!("a bracket was expected, not `{}`", self.word(at)),
+            )
+        })
     }
 
     /// The first such token outside of brackets, in the brackets that are open here.
@@ -77,13 +82,20 @@ impl<'a> Source<'a> {
 
 fn partners(path: &str, tokens: &[Token]) -> Result<BTreeMap<usize, usize>, Fault> {
     let (mut partner, mut open) = (BTreeMap::new(), Vec::new());
-    for (at, token) in tokens.iter().enumerate().filter(|(_, t)| t.sort == Sort::Sign) {
+    for (at, token) in tokens
+        .iter()
+        .enumerate()
+        .filter(|(_, t)| t.sort == Sort::Sign)
+    {
         let wrong = || Fault::new(path, token.line, "brackets don't match");
         match token.text {
             "(" | "[" | "{" => open.push(at),
             ")" | "]" | "}" => {
                 let start: usize = open.pop().ok_or_else(wrong)?;
-                if !matches!((tokens[start].text, token.text), ("(", ")") | ("[", "]") | ("{", "}")) {
+                if !matches!(
+                    (tokens[start].text, token.text),
+                    ("(", ")") | ("[", "]") | ("{", "}")
+                ) {
                     return Err(wrong());
                 }
                 partner.insert(start, at);
@@ -92,7 +104,11 @@ fn partners(path: &str, tokens: &[Token]) -> Result<BTreeMap<usize, usize>, Faul
         }
     }
     match open.pop() {
-        Some(at) => Err(Fault::new(path, tokens[at].line, "a bracket is never closed")),
+        Some(at) => Err(Fault::new(
+            path,
+            tokens[at].line,
+            "a bracket is never closed",
+        )),
         None => Ok(partner),
     }
 }

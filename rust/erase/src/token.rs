@@ -38,7 +38,8 @@ pub fn tokens<'a>(path: &str, text: &'a str) -> Result<Vec<Token<'a>>, Fault> {
     let (mut found, mut at, mut line) = (Vec::new(), 0, 1);
     while at < text.len() {
         let rest = &text[at..];
-        let (sort, len) = first(rest).ok_or_else(|| Fault::new(path, line, "no token is known that begins so"))?;
+        let (sort, len) = first(rest)
+            .ok_or_else(|| Fault::new(path, line, "no token is known that begins so"))?;
         let token = Token {
             sort,
             text: &rest[..len],
@@ -92,7 +93,12 @@ fn number(rest: &str) -> usize {
     let whole = run(rest, is_in_word);
     let part = &rest[whole..];
     let is_part = part.starts_with('.') && part[1..].starts_with(|c: char| c.is_ascii_digit());
-    whole + if is_part { 1 + run(&part[1..], is_in_word) } else { 0 }
+    whole
+        + if is_part {
+            1 + run(&part[1..], is_in_word)
+        } else {
+            0
+        }
 }
 
 /// A lifetime, or a lone quote, as in the names of proofs.

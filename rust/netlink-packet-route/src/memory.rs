@@ -117,7 +117,11 @@ macro_rules! filled {
 }
 pub(crate) use filled;
 
-pub(crate) fn repeated<T: Copy>(_alloc: Global, item: T, count: usize) -> Result<Vec<T>, AllocError> {
+pub(crate) fn repeated<T: Copy>(
+    _alloc: Global,
+    item: T,
+    count: usize,
+) -> Result<Vec<T>, AllocError> {
     let mut list = Vec::new();
     list.try_reserve_exact(count)?;
     list.resize(count, item);

@@ -7,18 +7,27 @@ use netlink_packet_route::memory::Global;
 
 #[test]
 fn routes_of_a_kernel() {
-    let path = concat!(env!("CARGO_MANIFEST_DIR"), "/../../crates/nlshow/data/route-4.bin");
+    let path = concat!(
+        env!("CARGO_MANIFEST_DIR"),
+        "/../../crates/nlshow/data/route-4.bin"
+    );
     let dump = std::fs::read(path).expect("a stored dump");
     let mut routes = Vec::new();
     for envelope in NetlinkIterator::new(&dump) {
         let envelope = envelope.expect("a whole message");
         let message = NetlinkMessage::<RouteNetlinkMessage>::parse(Global, &envelope);
         match message.expect("a known message").payload {
-            NetlinkPayload::InnerMessage(RouteNetlinkMessage::NewRoute(route)) => routes.push(route),
+            NetlinkPayload::InnerMessage(RouteNetlinkMessage::NewRoute(route)) => {
+                routes.push(route)
+            }
             NetlinkPayload::Done(_) => {}
             other => panic!("no route: {other:?}"),
         }
     }
     assert!(routes.len() > 10);
-    assert!(routes.iter().all(|route| route.header.destination_prefix_length <= 32));
+    assert!(
+        routes
+            .iter()
+            .all(|route| route.header.destination_prefix_length <= 32)
+    );
 }

@@ -3,8 +3,12 @@
 
 use netlink_packet_route::RouteNetlinkMessage;
 use netlink_packet_route::address::AddressHeader;
-use netlink_packet_route::envelope::{EnvelopeError, NetlinkBuffer, NetlinkIterator, NetlinkMessage, NetlinkPayload};
-use netlink_packet_route::framing::{DecodeError, Emitable, Header, Message, Parseable, WriteError, to_vec};
+use netlink_packet_route::envelope::{
+    EnvelopeError, NetlinkBuffer, NetlinkIterator, NetlinkMessage, NetlinkPayload,
+};
+use netlink_packet_route::framing::{
+    DecodeError, Emitable, Header, Message, Parseable, WriteError, to_vec,
+};
 use netlink_packet_route::memory::Global;
 use netlink_packet_route::neighbour::NeighbourHeader;
 use netlink_packet_route::route::RouteHeader;
@@ -69,12 +73,18 @@ fn datagrams(bytes: &[u8]) -> Result<String, Refusal> {
     for found in NetlinkIterator::new(bytes) {
         let envelope: NetlinkBuffer = found?;
         let message = NetlinkMessage::<RouteNetlinkMessage>::parse(Global, &envelope)?;
-        let is_other = matches!(message.payload, NetlinkPayload::InnerMessage(RouteNetlinkMessage::Other(_)));
+        let is_other = matches!(
+            message.payload,
+            NetlinkPayload::InnerMessage(RouteNetlinkMessage::Other(_))
+        );
         messages += 1;
         others += usize::from(is_other);
         written.extend(to_vec(Global, &message)?);
     }
-    Ok(format!("messages {messages} others {others} {}", hex(&written)))
+    Ok(format!(
+        "messages {messages} others {others} {}",
+        hex(&written)
+    ))
 }
 
 /// Compares the files, and answers how many lines they have.

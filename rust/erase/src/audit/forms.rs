@@ -14,6 +14,19 @@ pub struct Form {
     put: String,
 }
 
+/// Words that no erased file has.
+pub const NEVER: &[&str] = &[
+    "ensures",
+    "requires",
+    "ghost",
+    "final",
+    "tactic",
+    "cycle",
+    "macro_export",
+    "Model",
+    "Drop",
+];
+
 /// Taken out: kind, words before, words.
 const TAKEN: &[(&str, &str, &str)] = &[
     ("ensures", "", "ensures {}"),
@@ -36,7 +49,11 @@ const TAKEN: &[(&str, &str, &str)] = &[
     ("macro_export", "", "# [ macro_export ]"),
     ("writer parameter", "", "< W : fmt : : Write >"),
     ("writer parameter", "<", "W : fmt : : Write ,"),
-    ("Flag { .. } -> Flag::new(..)", "stringify ! ( $ name ) ,", "value :"),
+    (
+        "Flag { .. } -> Flag::new(..)",
+        "stringify ! ( $ name ) ,",
+        "value :",
+    ),
     ("Flag { .. } -> Flag::new(..)", "name : \"\" ,", "value :"),
 ];
 
@@ -45,20 +62,50 @@ const CHANGED: &[(&str, &str, &str, &str)] = &[
     ("bound Drop -> Sized", ":", "Drop", "Sized"),
     ("bound Drop -> Sized", "+", "Drop", "Sized"),
     ("Formatter<W> -> Formatter<'_>", "Formatter <", "W", "'_"),
-    ("fn flags -> const FLAGS", "", "fn flags < 'a > ( ) - > & 'a", "const FLAGS : & 'static"),
+    (
+        "fn flags -> const FLAGS",
+        "",
+        "fn flags < 'a > ( ) - > & 'a",
+        "const FLAGS : & 'static",
+    ),
     ("fn flags -> const FLAGS", "[ Flag < _ > ]", "{", "="),
     ("fn flags -> const FLAGS", ": : FLAGS", "}", ";"),
-    ("Flag { .. } -> Flag::new(..)", "Flag", "{ name :", ": : new ("),
+    (
+        "Flag { .. } -> Flag::new(..)",
+        "Flag",
+        "{ name :",
+        ": : new (",
+    ),
     ("Flag { .. } -> Flag::new(..)", "$ set : : $ name", "}", ")"),
     ("Flag { .. } -> Flag::new(..)", "$ set ( $ all )", "}", ")"),
     ("call that takes memory", ".", "push", "push_in"),
     ("call that takes memory", ".", "reserve", "reserve_in"),
-    ("call that takes memory", ".", "reserve_exact", "reserve_exact_in"),
+    (
+        "call that takes memory",
+        ".",
+        "reserve_exact",
+        "reserve_exact_in",
+    ),
     ("call that takes memory", "Vec : :", "new", "new_within"),
-    ("call that takes memory", "", "vec", "crate : : memory : : filled"),
-    ("path of std::alloc", "", "std : : alloc", "crate : : memory"),
+    (
+        "call that takes memory",
+        "",
+        "vec",
+        "crate : : memory : : filled",
+    ),
+    (
+        "path of std::alloc",
+        "",
+        "std : : alloc",
+        "crate : : memory",
+    ),
     ("use of a macro", "}", "", "pub ( crate ) use _ ;"),
-    ("use of memory", ";", "", "use crate : : memory : : { StringIn as _ , VecIn as _ } ;"),
+    (
+        "use of memory",
+        ";",
+        "",
+        "use crate : : memory : : { StringIn as _ , VecIn as _ } ;",
+    ),
 ];
 
 /// The forms of a library's files.
@@ -73,14 +120,27 @@ pub fn forms(library: &str) -> Vec<Form> {
     let mut all: Vec<Form> = CHANGED.iter().map(|f| form(f.0, f.1, f.2, f.3)).collect();
     all.extend(TAKEN.iter().map(|f| form(f.0, f.1, f.2, "")));
     all.push(form("path of its own crate", "crate : :", "", &own));
-    all.push(form("use of a macro in lib", "", "END", "pub ( crate ) use _ : : _ ;"));
-    all.extend(LIBRARIES.map(|name| form("path of a library", "", name, &format!("crate : : {name}"))));
+    all.push(form(
+        "use of a macro in lib",
+        "",
+        "END",
+        "pub ( crate ) use _ : : _ ;",
+    ));
+    all.extend(
+        LIBRARIES.map(|name| form("path of a library", "", name, &format!("crate : : {name}"))),
+    );
     all
 }
 
 impl Form {
     /// The ends in both, where it stands here. What is put in stands on the line of what it is put for.
-    pub fn matches(&self, was: &[Word], at: usize, is: &[Word], to: usize) -> Option<(usize, usize)> {
+    pub fn matches(
+        &self,
+        was: &[Word],
+        at: usize,
+        is: &[Word],
+        to: usize,
+    ) -> Option<(usize, usize)> {
         let before = at.checked_sub(self.before.split_terminator(' ').count())?;
         if behind(&self.before, was, before)? != at {
             return None;
@@ -89,8 +149,16 @@ impl Form {
             return (at == was.len()).then_some((at, behind(&self.put, is, to)?));
         }
         let (end, put) = (behind(&self.taken, was, at)?, behind(&self.put, is, to)?);
-        let line = was[if self.taken.is_empty() { at.checked_sub(1)? } else { at }].line;
-        is[to..put].iter().all(|w| w.line == line).then_some((end, put))
+        let line = was[if self.taken.is_empty() {
+            at.checked_sub(1)?
+        } else {
+            at
+        }]
+        .line;
+        is[to..put]
+            .iter()
+            .all(|w| w.line == line)
+            .then_some((end, put))
     }
 }
 
@@ -99,7 +167,11 @@ fn behind(pattern: &str, words: &[Word], mut at: usize) -> Option<usize> {
     let is = |at: usize, text: &str| words.get(at).is_some_and(|w| w.text == text);
     for part in pattern.split_terminator(' ') {
         at = match part {
-            "_" => words.get(at)?.text.starts_with(|c: char| c.is_alphabetic() || c == '_').then_some(at + 1)?,
+            "_" => words
+                .get(at)?
+                .text
+                .starts_with(|c: char| c.is_alphabetic() || c == '_')
+                .then_some(at + 1)?,
             "()" | "[]" | "{}" => group(words, at, part)?,
             "<>" if is(at, "<") => group(words, at, part)?,
             "<>" => at,

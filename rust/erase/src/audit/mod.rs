@@ -5,7 +5,7 @@ mod forms;
 mod words;
 
 use crate::{Fault, LIBRARIES, Tally, read, sources, target};
-use forms::{Form, forms};
+use forms::{Form, NEVER, forms};
 use std::path::Path;
 use words::{Word, words};
 
@@ -13,26 +13,44 @@ use words::{Word, words};
 pub fn audit(crates: &Path, out: &Path, told: &Tally) -> Result<(), Fault> {
     let mut found = Tally::new();
     for library in LIBRARIES {
-        let forms = forms(library);
         for path in sources(crates, library)? {
             let (was, is) = (read(&path)?, read(&target(out, library, &path))?);
-            for kind in differences(&path.to_string_lossy(), &was, &is, &forms)? {
-                *found.entry(kind).or_default() += 1;
+            for (kind, count) in audit_text(&path.to_string_lossy(), library, &was, &is)? {
+                *found.entry(kind).or_default() += count;
             }
         }
     }
     match found == *told {
         true => Ok(()),
-        false => Err(Fault::new("audit", 0, format!("found {found:?}, told {told:?}"))),
+        false => Err(Fault::new(
+            "audit",
+            0,
+            format!("found {found:?}, told {told:?}"),
+        )),
     }
 }
 
-/// The kind of each difference between a file and its erased one.
-pub fn differences(path: &str, was: &str, is: &str, forms: &[Form]) -> Result<Vec<&'static str>, Fault> {
+/// How often each kind of difference stands between a file of a library and its erased one.
+pub fn audit_text(path: &str, library: &str, was: &str, is: &str) -> Result<Tally, Fault> {
+    let mut tally = Tally::new();
+    for kind in differences(path, was, is, &forms(library))? {
+        *tally.entry(kind).or_default() += 1;
+    }
+    Ok(tally)
+}
+
+/// The kind of each difference.
+fn differences(
+    path: &str,
+    was: &str,
+    is: &str,
+    forms: &[Form],
+) -> Result<Vec<&'static str>, Fault> {
     let (was, is) = (words(was), words(is));
     let (mut at, mut to, mut kinds) = (0, 0, Vec::new());
     while at < was.len() || to < is.len() {
-        if at < was.len() && was.get(at) == is.get(to) {
+        let is_left = is.get(to).is_some_and(|w| NEVER.contains(&w.text));
+        if at < was.len() && was.get(at) == is.get(to) && !is_left {
             (at, to) = (at + 1, to + 1);
             continue;
         }
@@ -55,6 +73,10 @@ fn unknown(path: &str, was: &[Word], is: &[Word]) -> Fault {
         few.join(" ")
     };
     let line = was.first().or(is.first()).map_or(0, |w| w.line);
-    let text = format!("no written form says that `{}` becomes `{}`", some(was), some(is));
+    let text = format!(
+        "no written form says that `{}` becomes `{}`",
+        some(was),
+        some(is)
+    );
     Fault::new(path, line, text)
 }

@@ -1,0 +1,119 @@
+//! What is left of small files, and what is refused.
+
+use erase::audit::audit_text;
+use erase::erase;
+
+/// The erased text, which the audit accepts.
+fn erased(text: &str) -> String {
+    let erased = erase("file.rt", "npr_base", text).expect("a file that is known");
+    let audited = audit_text("file.rt", "npr_base", text, &erased.text);
+    assert_eq!(audited, Ok(erased.tally));
+    erased.text
+}
+
+fn refusal(text: &str) -> String {
+    erase("file.rt", "npr_base", text).map_or_else(|fault| fault.to_string(), |e| e.text)
+}
+
+fn audited(was: &str, is: &str) -> String {
+    audit_text("file.rt", "npr_base", was, is)
+        .map_or_else(|fault| fault.to_string(), |tally| format!("{tally:?}"))
+}
+
+#[test]
+fn clauses_become_comments() {
+    let was = "fn f(x: u8) -> u8\n    // why\n    requires small { x < 9 }\n    ensures { result ≡ x }\n{\n    x\n}\n";
+    let is = "fn f(x: u8) -> u8\n    // why\n    // requires small { x < 9 }\n    // ensures { result ≡ x }\n{\n    x\n}\n";
+    assert_eq!(erased(was), is);
+}
+
+#[test]
+fn a_semicolon_stays_on_its_line() {
+    assert_eq!(
+        erased("fn f()\n    ensures { ⊤ };\n"),
+        "fn f()\n    ; // ensures { ⊤ };\n"
+    );
+}
+
+#[test]
+fn ghost_members_take_their_words_along() {
+    let was =
+        "trait T {\n    /// It.\n    ghost it: { Self → ℕ };\n\n    /// F.\n    final fn f();\n}\n";
+    let is =
+        "trait T {\n    // /// It.\n    // ghost it: { Self → ℕ };\n\n    /// F.\n    fn f();\n}\n";
+    assert_eq!(erased(was), is);
+}
+
+#[test]
+fn derived_drops_go() {
+    assert_eq!(
+        erased("#[derive(Debug, Drop, Eq)]\nstruct S;\n"),
+        "#[derive(Debug, Eq)]\nstruct S;\n"
+    );
+    assert_eq!(
+        erased("#[derive(Debug, Drop)]\nstruct S;\n"),
+        "#[derive(Debug)]\nstruct S;\n"
+    );
+    assert_eq!(
+        erased("#[derive(Drop)]\nstruct S;\n"),
+        "// #[derive(Drop)]\nstruct S;\n"
+    );
+}
+
+#[test]
+fn crates_are_modules() {
+    let was = "use npr_scalar::A;\nuse std::alloc::Global;\nuse crate::b::{self, C};\n";
+    let is = "use crate::npr_scalar::A; use crate::memory::{StringIn as _, VecIn as _};\nuse crate::memory::Global;\nuse crate::npr_base::b::{self, C};\n";
+    assert_eq!(erased(was), is);
+}
+
+#[test]
+fn what_is_not_known_is_refused() {
+    assert_eq!(
+        refusal("\n#[inlined]\nfn f() {}\n"),
+        "file.rt:2: the attribute `inlined` is not known"
+    );
+    assert_eq!(
+        refusal("fn f()\n    requires x\n{}\n"),
+        "file.rt:2: a body or a clause was expected behind this one"
+    );
+    assert_eq!(
+        refusal("fn f() { prove!(1); }"),
+        "file.rt:1: `prove` is not known here"
+    );
+    assert_eq!(refusal("fn f() { λ }"), "file.rt:1: `λ` is not known here");
+    assert_eq!(
+        refusal("fn f() { 1 ≤ 2 }"),
+        "file.rt:1: `≤` is not known here"
+    );
+    assert_eq!(
+        refusal("/* */"),
+        "file.rt:1: no token is known that begins so"
+    );
+    assert_eq!(
+        refusal("impl Drop for S {}"),
+        "file.rt:1: `impl Drop` is not known"
+    );
+    assert_eq!(refusal("fn f(\n{ )"), "file.rt:2: brackets don't match");
+    assert_eq!(
+        refusal("ghost x"),
+        "file.rt:1: what is ghost here has no end"
+    );
+}
+
+#[test]
+fn the_audit_sees_what_is_cut_put_in_and_moved() {
+    let told = |was, is| format!("file.rt:1: no written form says that `{was}` becomes `{is}`");
+    assert_eq!(audited("f()?;", "f();"), told("? ;", ";"));
+    assert_eq!(audited("f();", "f(x);"), told(") ;", "x ) ;"));
+    assert_eq!(
+        audited("be16(x)", "le16(x)"),
+        told("be16 ( x )", "le16 ( x )")
+    );
+    assert_eq!(audited("a => b, c => d,", "a => b,"), told("c = > d ,", ""));
+    assert_eq!(audited("a b", "a\nb"), told("b", "b"));
+    assert_eq!(
+        audited("ensures { a }", "ensures { a }"),
+        told("", "ensures { a }")
+    );
+}
