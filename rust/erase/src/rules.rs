@@ -76,7 +76,7 @@ impl<'a> Eraser<'a> {
             "Flag" if self.source.is(at, "Flag { name :") => self.flag(at),
             "Formatter" if self.source.is(at, "Formatter < _ >") => self.formatter(at),
             "Drop" => self.bound(at),
-            _ => self.call_or_path(at),
+            _ => self.call(at),
         }
     }
 
@@ -263,40 +263,41 @@ impl<'a> Eraser<'a> {
         }
     }
 
-    fn call_or_path(&mut self, at: usize) -> Result<usize, Fault> {
-        let (word, before) = (self.source.word(at), self.source.before(at));
-        let is_path = self.source.word(at + 1) == "::" && before != "::";
+    /// A call that takes memory has a name of its own, since Rust's of that name answers nothing.
+    fn call(&mut self, at: usize) -> Result<usize, Fault> {
+        let (word, next) = (self.source.word(at), self.source.word(at + 1));
+        let is_method = self.source.before(at) == "." && next == "(";
+        let is_new = self.source.is(at + 1, ":: new (") && self.source.word(at + 4) != ")";
         let kind = "call that takes memory";
         match word {
-            "push" | "reserve" | "reserve_exact"
-                if before == "." && self.source.word(at + 1) == "(" =>
-            {
+            "push" | "reserve" | "reserve_exact" if is_method => {
                 self.replace(at, 1, kind, &format!("{word}_in"))
             }
-            "Vec" | "String"
-                if is_path
-                    && self.source.is(at + 2, "new (")
-                    && self.source.word(at + 4) != ")" =>
-            {
-                self.replace(at + 2, 1, kind, "new_within")
-            }
+            "Vec" if is_new => self.replace(at + 2, 1, kind, "new_within"),
             "vec" if self.source.is(at, "vec ! [ in") => {
                 self.replace(at, 1, kind, "crate::memory::filled")
             }
-            "crate" if is_path => self.replace(
-                at,
-                1,
-                "path of its own crate",
-                &format!("crate::{}", self.library),
-            ),
-            "std" if is_path && self.source.is(at, "std :: alloc ::") => {
-                self.replace(at, 3, "path of std::alloc", "crate::memory")
-            }
-            _ if is_path && before != "$" && LIBRARIES.contains(&word) => {
-                self.replace(at, 1, "path of a library", &format!("crate::{word}"))
-            }
-            _ => Ok(at + 1),
+            _ => self.path(at),
         }
+    }
+
+    /// Crates are modules of one.
+    fn path(&mut self, at: usize) -> Result<usize, Fault> {
+        let (word, before) = (self.source.word(at), self.source.before(at));
+        if self.source.word(at + 1) != "::" || before == "::" {
+            return Ok(at + 1);
+        }
+        if word == "crate" {
+            let own = format!("crate::{}", self.library);
+            return self.replace(at, 1, "path of its own crate", &own);
+        }
+        if self.source.is(at, "std :: alloc ::") {
+            return self.replace(at, 3, "path of std::alloc", "crate::memory");
+        }
+        if LIBRARIES.contains(&word) && before != "$" {
+            return self.replace(at, 1, "path of a library", &format!("crate::{word}"));
+        }
+        Ok(at + 1)
     }
 
     fn check_what_is_left(&self) -> Result<(), Fault> {
