@@ -14,5 +14,6 @@ compile_error!("the text is proved for 64 bits, with the lowest byte first");
 
 include!(concat!(env!("OUT_DIR"), "/modules.rs"));
 pub mod memory;
+mod plain;
 
 pub use crate::netlink_packet_route::*;
