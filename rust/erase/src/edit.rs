@@ -111,6 +111,9 @@ impl Edits {
             at = bytes.end;
         }
         left += &source.text[at..];
+        if left.lines().count() != source.text.lines().count() {
+            return Err(Fault::new(source.path, 0, "a line was lost"));
+        }
         let lines = source
             .text
             .lines()

@@ -7,7 +7,7 @@ use netlink_packet_route::envelope::{
     EnvelopeError, NetlinkBuffer, NetlinkIterator, NetlinkMessage, NetlinkPayload,
 };
 use netlink_packet_route::framing::{
-    DecodeError, Emitable, Header, Message, Parseable, WriteError, to_vec,
+    DecodeError, Emitable, Header, Message, Nla, Parseable, WriteError, to_vec,
 };
 use netlink_packet_route::memory::Global;
 use netlink_packet_route::neighbour::NeighbourHeader;
@@ -64,6 +64,10 @@ where
     let mut longer = vec![0xaa; written.len() + 3];
     read.emit(&mut longer);
     assert_eq!(longer, [&written[..], &[0xaa; 3]].concat());
+    for attribute in &read.attributes {
+        let mut value = vec![0; attribute.value_len()];
+        assert_eq!(attribute.write_value(&mut value), value.len());
+    }
     assert_eq!(Message::parse(Global, &written[..]), Ok(read));
     Ok(format!("canonical {}", hex(&written)))
 }
