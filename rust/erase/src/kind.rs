@@ -20,7 +20,7 @@ pub const KINDS: &[(&str, &[&str])] = &[
     ("bound Drop -> Sized", &["Drop"]),
     ("Formatter<W> -> Formatter<'_>", &["W"]),
     ("fn flags -> const FLAGS", &["fn", "{", "}"]),
-    ("Flag { .. } -> Flag::new(..)", &["{", "value", "}"]),
+    ("Flag { .. } -> Flag::new(..)", &["Flag", "value", "}"]),
     (
         "call that takes memory",
         &["push", "reserve", "reserve_exact", "new", "vec"],

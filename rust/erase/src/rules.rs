@@ -8,17 +8,7 @@ use crate::token::Sort;
 
 /// What no word of Rust may be: where one is left, a rule is missing.
 const REFUSED: &[&str] = &[
-    "ghost",
-    "requires",
-    "ensures",
-    "invariant",
-    "decreases",
-    "tactic",
-    "cycle",
-    "final",
-    "Model",
-    "prove",
-    "unsafe",
+    "ghost", "requires", "ensures", "tactic", "cycle", "final", "Model", "prove", "unsafe",
 ];
 const IMPORT: &str = " use crate::memory::{StringIn as _, VecIn as _};";
 
@@ -244,7 +234,7 @@ impl<'a> Eraser<'a> {
                 .source
                 .fault(at, "a flag with `name` and `value` was expected"));
         };
-        self.replace(at + 1, 3, kind, "::new(")?;
+        self.replace(at, 4, kind, "Flag::new(")?;
         self.cut(comma + 1, 2, kind)?;
         self.replace(close, 1, kind, ")")?;
         Ok(at + 4)
