@@ -149,16 +149,13 @@ impl Form {
             return (at == was.len()).then_some((at, behind(&self.put, is, to)?));
         }
         let (end, put) = (behind(&self.taken, was, at)?, behind(&self.put, is, to)?);
-        let line = was[if self.taken.is_empty() {
+        let of = if self.taken.is_empty() {
             at.checked_sub(1)?
         } else {
             at
-        }]
-        .line;
-        is[to..put]
-            .iter()
-            .all(|w| w.line == line)
-            .then_some((end, put))
+        };
+        let stands = is[to..put].iter().all(|w| w.line == was[of].line);
+        stands.then_some((end, put))
     }
 }
 
@@ -167,11 +164,7 @@ fn behind(pattern: &str, words: &[Word], mut at: usize) -> Option<usize> {
     let is = |at: usize, text: &str| words.get(at).is_some_and(|w| w.text == text);
     for part in pattern.split_terminator(' ') {
         at = match part {
-            "_" => words
-                .get(at)?
-                .text
-                .starts_with(|c: char| c.is_alphabetic() || c == '_')
-                .then_some(at + 1)?,
+            "_" => is_name(words.get(at)?).then_some(at + 1)?,
             "()" | "[]" | "{}" => group(words, at, part)?,
             "<>" if is(at, "<") => group(words, at, part)?,
             "<>" => at,
@@ -180,6 +173,11 @@ fn behind(pattern: &str, words: &[Word], mut at: usize) -> Option<usize> {
         };
     }
     Some(at)
+}
+
+fn is_name(word: &Word) -> bool {
+    word.text
+        .starts_with(|c: char| c.is_alphabetic() || c == '_')
 }
 
 /// Behind the bracket that closes the one here.
