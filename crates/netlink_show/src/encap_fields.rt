@@ -65,6 +65,8 @@ const FREQUENCY: Word = &Wording(0, "freq", "freq ");
 
 const OF: Word = &Wording(1, "freq_of", "/");
 
+const IOAM6_MODE: Word = &Wording(2, "mode", "mode ");
+
 const TUNNEL_SOURCE: Word = &Wording(3, "tunsrc", "tunsrc ");
 
 const TUNNEL_DESTINATION: Word = &Wording(4, "tundst", "tundst ");
@@ -218,8 +220,8 @@ fn push_ioam6(fields: &mut Fields, member: &RouteIoam6Tunnel) {
 
 fn push_mode(fields: &mut Fields, mode: Ioam6Mode) {
     match mode {
-        Ioam6Mode::Other(number) => fields.text(MODE, &number),
-        _ => fields.text(MODE, &mode),
+        Ioam6Mode::Other(number) => fields.text(IOAM6_MODE, &number),
+        _ => fields.text(IOAM6_MODE, &mode),
     }
 }
 
@@ -238,7 +240,7 @@ fn push_trace(fields: &mut Fields, header: &Ioam6TraceHdr) {
 fn push_xfrm(fields: &mut Fields, member: &RouteXfrmTunnel) {
     match member {
         RouteXfrmTunnel::Unspecified => fields.mark(UNSPECIFIED),
-        RouteXfrmTunnel::IfId(id) => fields.bits(INTERFACE_ID, *id),
+        RouteXfrmTunnel::IfId(id) => fields.number(INTERFACE_ID, *id),
         RouteXfrmTunnel::Link(index) => fields.number(LINK, *index),
         RouteXfrmTunnel::Other(nla) => push_unknown(fields, nla),
     }
