@@ -1,5 +1,5 @@
 -- Families in which an attribute is kept as it stands, besides those of numbers without a row, where one row's value means nothing.
-use Rattle.std.proofs.Common.{◌≡◌, ℕ, List, ◌+◌, ◌*◌, ◌<◌, ◌≤◌, ◌^◌, ◌⊎◌, length, None, true, sym, ap, subst, ◌∙◌, inl, inr, arith}
+use Rattle.std.proofs.Common.{◌≡◌, ℕ, List, ◌+◌, ◌*◌, ◌<◌, ◌≤◌, ◌^◌, ◌⊎◌, length, None, sym, ap, subst, ◌∙◌, inl, inr, arith}
 use Rattle.npr_base.specs.declared.refusal.DecodeError.{DecodeError}
 use Rattle.npr_base.specs.Codec.{Codec}
 use Rattle.npr_base.specs.CodecLaws.{framed-grows}

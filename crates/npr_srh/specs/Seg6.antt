@@ -30,7 +30,8 @@ message =
     structure struct
     (Seg6MessageBuffer.mode fills le_four then Seg6MessageBuffer.nexthdr fills one_byte then Seg6MessageBuffer.hdrlen fills one_byte
     then Seg6MessageBuffer.seg_type fills one_byte then Seg6MessageBuffer.segments_left fills one_byte
-    then Seg6MessageBuffer.first_segment fills one_byte then Seg6MessageBuffer.flags fills one_byte then last (Seg6MessageBuffer.tag fills le_two)) refl (λ v. tt)
+    then Seg6MessageBuffer.first_segment fills one_byte then Seg6MessageBuffer.flags fills one_byte
+    then last (Seg6MessageBuffer.tag fills le_two)) refl (λ v. tt)
 
 abbrev pub decode_message : List ℕ → Seg6MessageBuffer
 decode_message = message.decode
