@@ -14,9 +14,13 @@ pub const KINDS: &[(&str, &[&str])] = &[
     ("cycle", &["#"]),
     ("final", &["final"]),
     ("derived Drop", &["Drop", ",", "#"]),
+    ("derived Debug of a set", &["Debug"]),
     ("macro_export", &["#"]),
     ("writer parameter", &["<", "W"]),
     // what stands in its place
+    ("derived Drop -> Clone", &["Drop"]),
+    ("clone -> try_clone", &["clone"]),
+    ("call of a set", &["bits", "contains", "from_bits_retain"]),
     ("bound Drop -> Sized", &["Drop"]),
     ("Formatter<W> -> Formatter<'_>", &["W"]),
     ("fn flags -> const FLAGS", &["fn", "{", "}"]),
@@ -32,4 +36,7 @@ pub const KINDS: &[(&str, &[&str])] = &[
     ("use of a macro", &[""]),
     ("use of a macro in lib", &[""]),
     ("use of memory", &[""]),
+    ("derived Debug in tests", &[""]),
+    ("field of a set", &[""]),
+    ("non_exhaustive", &[""]),
 ];

@@ -12,6 +12,7 @@ mod kind;
 mod rules;
 mod source;
 mod token;
+mod upstream;
 
 pub use edit::Tally;
 pub use fault::Fault;

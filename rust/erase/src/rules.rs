@@ -5,18 +5,19 @@ use crate::edit::{Edits, Tally};
 use crate::fault::Fault;
 use crate::source::Source;
 use crate::token::Sort;
+use crate::upstream;
 
 /// What no word of Rust may be: where one is left, a rule is missing.
 const REFUSED: &[&str] = &[
     "ghost", "requires", "ensures", "tactic", "cycle", "final", "Model", "prove", "unsafe",
 ];
-const IMPORT: &str = " use crate::memory::{StringIn as _, VecIn as _};";
+const IMPORT: &str = " use crate::memory::{SetIn as _, StringIn as _, VecIn as _};";
 
 /// A file as it is erased.
 pub struct Eraser<'a> {
-    source: Source<'a>,
+    pub(crate) source: Source<'a>,
     library: &'a str,
-    edits: Edits,
+    pub(crate) edits: Edits,
     macros: Vec<&'a str>,
     imports: bool,
 }
@@ -31,8 +32,12 @@ pub struct Erased<'a> {
 
 /// Erases a file of a library.
 pub fn erase<'a>(path: &'a str, library: &'a str, text: &'a str) -> Result<Erased<'a>, Fault> {
+    let source = Source::new(path, text)?;
+    if upstream::has_addresses(library, path) {
+        return upstream::addresses(&source);
+    }
     let mut eraser = Eraser {
-        source: Source::new(path, text)?,
+        source,
         library,
         edits: Edits::default(),
         macros: Vec::new(),
@@ -61,6 +66,7 @@ impl<'a> Eraser<'a> {
             "impl" => self.implementation(at),
             "use" => self.import(at),
             "pub" if self.source.is(at, "pub mod laws ;") => self.cut_item(at, 4, "mod laws"),
+            "pub" => self.declaration(at),
             "final" if self.source.is(at, "final fn") => self.cut(at, 1, "final"),
             "fn" => self.function(at),
             "Flag" if self.source.is(at, "Flag { name :") => self.flag(at),
@@ -70,7 +76,12 @@ impl<'a> Eraser<'a> {
         }
     }
 
-    fn cut(&mut self, at: usize, count: usize, kind: &'static str) -> Result<usize, Fault> {
+    pub(crate) fn cut(
+        &mut self,
+        at: usize,
+        count: usize,
+        kind: &'static str,
+    ) -> Result<usize, Fault> {
         self.replace(at, count, kind, "")
     }
 
@@ -79,7 +90,7 @@ impl<'a> Eraser<'a> {
         Ok(at + count)
     }
 
-    fn replace(
+    pub(crate) fn replace(
         &mut self,
         at: usize,
         count: usize,
@@ -126,12 +137,21 @@ impl<'a> Eraser<'a> {
         Ok(behind)
     }
 
-    /// Each type of Rust may be dropped.
+    /// Each type of Rust may be dropped. One that proved text drops can be cloned.
     fn derive(&mut self, at: usize, open: usize, behind: usize) -> Result<usize, Fault> {
         let close = self.source.closing(open)?;
-        let Some(drop) = (open..close).find(|&i| self.source.word(i) == "Drop") else {
+        let derived = |name| (open..close).find(|&i| self.source.word(i) == name);
+        let (debug, drop, clone) = (derived("Debug"), derived("Drop"), derived("Clone"));
+        if let Some(debug) = debug.filter(|_| self.is_set(behind)) {
+            self.debug_of_set(debug, behind)?;
+        }
+        let Some(drop) = drop else {
             return Ok(behind);
         };
+        if clone.is_none() {
+            self.replace(drop, 1, "derived Drop -> Clone", "Clone")?;
+            return Ok(behind);
+        }
         match (self.source.word(drop - 1), self.source.word(drop + 1)) {
             ("(", ")") => self.cut(at, behind - at, "derived Drop")?,
             (_, ",") => self.cut(drop, 2, "derived Drop")?,
@@ -218,6 +238,10 @@ impl<'a> Eraser<'a> {
             self.replace(self.source.closing(at + 16)?, 1, kind, ";")?;
             return Ok(at + 17);
         }
+        if self.source.is(at, "fn clone ( & self , alloc : Global )") {
+            self.replace(at + 1, 1, "clone -> try_clone", "try_clone")?;
+            return Ok(at + 2);
+        }
         Ok(at + 1)
     }
 
@@ -260,6 +284,11 @@ impl<'a> Eraser<'a> {
         let is_new = self.source.is(at + 1, ":: new (") && self.source.word(at + 4) != ")";
         let kind = "call that takes memory";
         match word {
+            "clone" if is_method && self.source.word(at + 2) != ")" => {
+                self.replace(at, 1, "clone -> try_clone", "try_clone")
+            }
+            "bits" | "contains" if is_method => self.call_of_set(at),
+            "from_bits_retain" if self.source.before(at) == "::" => self.call_of_set(at),
             "push" | "reserve" | "reserve_exact" if is_method => {
                 self.replace(at, 1, kind, &format!("{word}_in"))
             }

@@ -1,5 +1,5 @@
-//! What takes memory. The proved text hands an allocator to each such call, and each may refuse.
-//! Here they are calls of Rust's own `Vec` and `String`, by their ways that may fail.
+//! What the proved text calls by other names than Rust. What takes memory is handed an allocator, and
+//! may refuse: here it is Rust's own `Vec` and `String`, by their ways that may fail.
 
 use std::collections::TryReserveError;
 use std::fmt;
@@ -108,6 +108,23 @@ impl StringIn for String {
         Ok(copy)
     }
 }
+
+/// Sets of flags, by their proved trait: the calls of these names without `_in` are those of `sets`.
+pub(crate) trait SetIn: bitflags::Flags {
+    fn bits_in(&self) -> Self::Bits {
+        bitflags::Flags::bits(self)
+    }
+
+    fn contains_in(&self, other: Self) -> bool {
+        bitflags::Flags::contains(self, other)
+    }
+
+    fn from_bits_retain_in(bits: Self::Bits) -> Self {
+        bitflags::Flags::from_bits_retain(bits)
+    }
+}
+
+impl<F: bitflags::Flags> SetIn for F {}
 
 /// A list of so many times the same.
 macro_rules! filled {
