@@ -31,6 +31,7 @@ pub const KINDS: &[(&str, &[&str])] = &[
     ),
     ("path of its own crate", &["crate"]),
     ("path of a library", &crate::LIBRARIES),
+    ("path of tests", &crate::TESTS),
     ("path of std::alloc", &["std"]),
     // what is put in
     ("use of a macro", &[""]),
@@ -39,4 +40,22 @@ pub const KINDS: &[(&str, &[&str])] = &[
     ("derived Debug in tests", &[""]),
     ("field of a set", &[""]),
     ("non_exhaustive", &[""]),
+    // in the crates of tests
+    ("runtime of a test", &["rt"]),
+    ("let of the runtime", &[""]),
+    ("mod of a program's tests", &["#"]),
+    (
+        "call in a test that takes memory",
+        &[
+            "extend_from_slice",
+            "format",
+            "new",
+            "push_str",
+            "to_vec",
+            "vec",
+        ],
+    ),
+    ("path of std::test", &["std"]),
+    ("path of hex", &["hex"]),
+    ("use of testing", &[""]),
 ];

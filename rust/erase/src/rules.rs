@@ -1,11 +1,12 @@
 //! What is erased of a file, and what is rewritten.
 
-use crate::LIBRARIES;
 use crate::edit::{Edits, Tally};
 use crate::fault::Fault;
+use crate::own_tests;
 use crate::source::Source;
 use crate::token::Sort;
 use crate::upstream;
+use crate::{LIBRARIES, TESTS};
 
 /// What no word of Rust may be: where one is left, a rule is missing.
 const REFUSED: &[&str] = &[
@@ -17,6 +18,8 @@ const IMPORT: &str = " use crate::memory::{SetIn as _, StringIn as _, VecIn as _
 pub struct Eraser<'a> {
     pub(crate) source: Source<'a>,
     library: &'a str,
+    /// Whether the library is one of tests.
+    pub(crate) is_test: bool,
     pub(crate) edits: Edits,
     macros: Vec<&'a str>,
     imports: bool,
@@ -39,6 +42,7 @@ pub fn erase<'a>(path: &'a str, library: &'a str, text: &'a str) -> Result<Erase
     let mut eraser = Eraser {
         source,
         library,
+        is_test: TESTS.contains(&library),
         edits: Edits::default(),
         macros: Vec::new(),
         imports: false,
@@ -116,6 +120,10 @@ impl<'a> Eraser<'a> {
             "macro_export" => self.export(at, behind),
             "derive" => self.derive(at, open + 2, behind),
             "default" | "error" | "inline" => Ok(behind),
+            "cfg" if self.is_test && self.is_of_program(at) => {
+                self.cut_item(at, 10, "mod of a program's tests")
+            }
+            "cfg" | "test" if self.is_test => Ok(behind),
             other => Err(self
                 .source
                 .fault(at, format!("the attribute `{other}` is not known"))),
@@ -211,8 +219,11 @@ impl<'a> Eraser<'a> {
                 .source
                 .find(at, ";")
                 .ok_or_else(|| self.source.fault(at, "a use without an end"))?;
-            self.edits
-                .insert(&self.source, end, "use of memory", IMPORT)?;
+            let (kind, put) = match self.is_test {
+                true => ("use of testing", own_tests::IMPORT),
+                false => ("use of memory", IMPORT),
+            };
+            self.edits.insert(&self.source, end, kind, put)?;
             self.imports = true;
         }
         Ok(at + 1)
@@ -220,6 +231,9 @@ impl<'a> Eraser<'a> {
 
     /// A function that prints has no parameter for the writer in Rust, and a set has its flags in a constant.
     fn function(&mut self, at: usize) -> Result<usize, Fault> {
+        if self.is_test {
+            self.runtime(at)?;
+        }
         if self.source.is(at + 2, "< W : fmt :: Write >") {
             self.cut(at + 2, 7, "writer parameter")?;
             return Ok(at + 9);
@@ -283,6 +297,9 @@ impl<'a> Eraser<'a> {
         let is_method = self.source.before(at) == "." && next == "(";
         let is_new = self.source.is(at + 1, ":: new (") && self.source.word(at + 4) != ")";
         let kind = "call that takes memory";
+        if let Some(next) = self.call_in_test(at)? {
+            return Ok(next);
+        }
         match word {
             "clone" if is_method && self.source.word(at + 2) != ")" => {
                 self.replace(at, 1, "clone -> try_clone", "try_clone")
@@ -306,6 +323,9 @@ impl<'a> Eraser<'a> {
         if self.source.word(at + 1) != "::" || before == "::" {
             return Ok(at + 1);
         }
+        if let Some(next) = self.path_in_test(at)? {
+            return Ok(next);
+        }
         if word == "crate" {
             let own = format!("crate::{}", self.library);
             return self.replace(at, 1, "path of its own crate", &own);
@@ -315,6 +335,9 @@ impl<'a> Eraser<'a> {
         }
         if LIBRARIES.contains(&word) && before != "$" {
             return self.replace(at, 1, "path of a library", &format!("crate::{word}"));
+        }
+        if self.is_test && TESTS.contains(&word) && before != "$" {
+            return self.replace(at, 1, "path of tests", &format!("crate::{word}"));
         }
         Ok(at + 1)
     }

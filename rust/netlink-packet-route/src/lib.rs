@@ -8,6 +8,7 @@
 #![forbid(unsafe_code)]
 // Flags have upstream's names; clauses alone name some imports, and rows of macros use not each name.
 #![allow(non_upper_case_globals, unused_imports, unused_variables)]
+#![cfg_attr(test, allow(dead_code))]
 
 #[cfg(not(all(target_pointer_width = "64", target_endian = "little")))]
 compile_error!("the text is proved for 64 bits, with the lowest byte first");
@@ -18,6 +19,10 @@ mod core_traits;
 pub mod memory;
 mod plain;
 mod sets;
+#[cfg(test)]
+mod testing;
+#[cfg(test)]
+include!(concat!(env!("OUT_DIR"), "/tests.rs"));
 
 pub use crate::netlink_packet_route::*;
 pub use plain::Fault;

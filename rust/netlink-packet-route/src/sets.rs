@@ -8,7 +8,6 @@ use std::hash::{Hash, Hasher};
 use std::ops;
 
 /// The names of the flags of a set, and its other bits.
-#[cfg_attr(test, allow(dead_code))]
 struct Names<'a, F>(&'a F);
 
 impl<F: Flags> fmt::Debug for Names<'_, F>

@@ -1,7 +1,7 @@
 //! The written forms of what may be taken out and put in.
 
 use super::words::Word;
-use crate::LIBRARIES;
+use crate::{LIBRARIES, TESTS};
 
 /// What words may become which. A pattern is words with spaces between; `_` is any word, `()`, `[]`
 /// and `{}` are such brackets with what is in them, `<>` may be missing, and `..;` goes to the next
@@ -128,6 +128,63 @@ const CHANGED: &[(&str, &str, &str, &str)] = &[
     ("field of a set", "pub struct _ (", "", "pub ( crate )"),
 ];
 
+/// The same in crates of tests.
+const CHANGED_IN_TESTS: &[(&str, &str, &str, &str)] = &[
+    ("runtime of a test", "(", "rt : HostRuntime", ""),
+    ("let of the runtime", "{", "", "let rt = HostRuntime ;"),
+    (
+        "mod of a program's tests",
+        "",
+        "# [ cfg ( test ) ] mod report ;",
+        "",
+    ),
+    (
+        "mod of a program's tests",
+        "",
+        "# [ cfg ( test ) ] mod shown ;",
+        "",
+    ),
+    (
+        "call in a test that takes memory",
+        ".",
+        "extend_from_slice",
+        "extend_from_slice_in",
+    ),
+    (
+        "call in a test that takes memory",
+        ".",
+        "push_str",
+        "push_str_in",
+    ),
+    (
+        "call in a test that takes memory",
+        ".",
+        "to_vec",
+        "copied_in",
+    ),
+    (
+        "call in a test that takes memory",
+        "String : :",
+        "new",
+        "new_within",
+    ),
+    (
+        "call in a test that takes memory",
+        "",
+        "format",
+        "crate : : testing : : formatted",
+    ),
+    (
+        "call in a test that takes memory",
+        "",
+        "vec",
+        "crate : : testing : : list",
+    ),
+    ("path of std::test", "", "std : : test", "crate : : testing"),
+    ("path of hex", "", "hex", "crate : : testing : : hex"),
+    ("use of testing", ";", "", "use crate : : testing : : * ;"),
+];
+
 /// Put in front: kind, words, words behind them.
 const IN_FRONT: &[(&str, &str, &str)] = &[
     ("non_exhaustive", "# [ non_exhaustive ]", "pub enum _"),
@@ -148,8 +205,10 @@ pub fn forms(library: &str) -> Vec<Form> {
         put: put.into(),
         after: String::new(),
     };
-    let own = format!("{library} : :");
-    let mut all: Vec<Form> = CHANGED.iter().map(|f| form(f.0, f.1, f.2, f.3)).collect();
+    let (own, is_test) = (format!("{library} : :"), TESTS.contains(&library));
+    let of_tests = CHANGED_IN_TESTS.iter().filter(|_| is_test);
+    let changed = of_tests.chain(CHANGED);
+    let mut all: Vec<Form> = changed.map(|f| form(f.0, f.1, f.2, f.3)).collect();
     all.extend(TAKEN.iter().map(|f| form(f.0, f.1, f.2, "")));
     all.extend(IN_FRONT.iter().map(|f| Form {
         after: f.2.into(),
@@ -164,6 +223,12 @@ pub fn forms(library: &str) -> Vec<Form> {
     ));
     all.extend(
         LIBRARIES.map(|name| form("path of a library", "", name, &format!("crate : : {name}"))),
+    );
+    all.extend(
+        TESTS
+            .iter()
+            .filter(|_| is_test)
+            .map(|name| form("path of tests", "", name, &format!("crate : : {name}"))),
     );
     all
 }

@@ -5,15 +5,15 @@ mod forms;
 mod words;
 
 use crate::upstream::{USE_OF_ADDRESSES, has_addresses};
-use crate::{Fault, LIBRARIES, Tally, read, sources, target};
+use crate::{Fault, Tally, read, sources, target};
 use forms::{Form, NEVER, forms};
 use std::path::Path;
 use words::{Word, words};
 
 /// Fails on a difference that no form says, and on counts other than those told.
-pub fn audit(crates: &Path, out: &Path, told: &Tally) -> Result<(), Fault> {
+pub fn audit(crates: &Path, out: &Path, some: &[&str], told: &Tally) -> Result<(), Fault> {
     let mut found = Tally::new();
-    for library in LIBRARIES {
+    for library in some {
         for path in sources(crates, library)? {
             let (was, is) = (read(&path)?, read(&target(out, library, &path))?);
             for (kind, count) in audit_text(&path.to_string_lossy(), library, &was, &is)? {
