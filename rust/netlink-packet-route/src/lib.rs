@@ -18,6 +18,8 @@ include!(concat!(env!("OUT_DIR"), "/modules.rs"));
 mod core_traits;
 pub mod memory;
 mod plain;
+#[cfg(test)]
+mod refused;
 mod sets;
 #[cfg(test)]
 mod testing;

@@ -38,6 +38,31 @@ impl<T> From<AllocFailed<T>> for AllocError {
     }
 }
 
+/// Whether a request for memory is refused: in tests alone.
+#[cfg(not(test))]
+#[inline(always)]
+fn is_refused() -> bool {
+    false
+}
+#[cfg(test)]
+use crate::refused::is_refused;
+
+/// Room for so many more, and no more where `exact`.
+#[inline(always)]
+fn room<T>(list: &mut Vec<T>, count: usize, exact: bool) -> Result<(), AllocError> {
+    if count <= list.capacity() - list.len() {
+        return Ok(());
+    }
+    if is_refused() {
+        return Err(AllocError);
+    }
+    match exact {
+        true => list.try_reserve_exact(count)?,
+        false => list.try_reserve(count)?,
+    }
+    Ok(())
+}
+
 /// Lists whose memory may be refused.
 pub(crate) trait VecIn<T>: Sized {
     fn new_within(alloc: Global) -> Self;
@@ -57,33 +82,37 @@ pub(crate) trait VecIn<T>: Sized {
 }
 
 impl<T> VecIn<T> for Vec<T> {
+    #[inline(always)]
     fn new_within(_alloc: Global) -> Self {
         Vec::new()
     }
 
+    #[inline]
     fn from_slice(_alloc: Global, items: &[T]) -> Result<Self, AllocError>
     where
         T: Copy,
     {
         let mut list = Vec::new();
-        list.try_reserve_exact(items.len())?;
+        room(&mut list, items.len(), true)?;
         list.extend_from_slice(items);
         Ok(list)
     }
 
+    #[inline]
     fn reserve_in(&mut self, count: usize) -> Result<(), AllocError> {
-        Ok(self.try_reserve(count)?)
+        room(self, count, false)
     }
 
+    #[inline]
     fn reserve_exact_in(&mut self, count: usize) -> Result<(), AllocError> {
-        Ok(self.try_reserve_exact(count)?)
+        room(self, count, true)
     }
 
     #[inline]
     fn push_in(&mut self, item: T) -> Result<(), AllocFailed<T>> {
-        match self.try_reserve(1) {
+        match room(self, 1, false) {
             Ok(()) => self.push(item),
-            Err(_) => return Err(AllocFailed { value: item }),
+            Err(AllocError) => return Err(AllocFailed { value: item }),
         }
         Ok(())
     }
@@ -102,6 +131,9 @@ pub(crate) trait StringIn: Sized {
 
 impl StringIn for String {
     fn from_str(_alloc: Global, text: &str) -> Result<Self, AllocError> {
+        if !text.is_empty() && is_refused() {
+            return Err(AllocError);
+        }
         let mut copy = String::new();
         copy.try_reserve_exact(text.len())?;
         copy.push_str(text);
@@ -140,7 +172,7 @@ pub(crate) fn repeated<T: Copy>(
     count: usize,
 ) -> Result<Vec<T>, AllocError> {
     let mut list = Vec::new();
-    list.try_reserve_exact(count)?;
+    room(&mut list, count, true)?;
     list.resize(count, item);
     Ok(list)
 }
