@@ -4,7 +4,8 @@ use crate::fault::Fault;
 use crate::rules::{Erased, Eraser};
 use crate::source::Source;
 
-/// Enumerations that never have one more variant. Each other one is `#[non_exhaustive]`.
+/// Enumerations that never have one more variant. Each other one is `#[non_exhaustive]`, unless the crate
+/// is built with `--cfg exhaustive`, for upstream's own tests.
 pub const CLOSED: &[&str] = &[
     "Action",
     "Answer",
@@ -80,7 +81,7 @@ impl Eraser<'_> {
             _ => false,
         };
         if may_grow {
-            let put = "#[non_exhaustive] ";
+            let put = "#[cfg_attr(not(exhaustive), non_exhaustive)] ";
             self.edits
                 .insert_before(&self.source, at, "non_exhaustive", put)?;
         }

@@ -83,7 +83,7 @@ fn sets_have_calls_of_their_own() {
 #[test]
 fn what_may_grow_is_told() {
     let was = "pub enum RouteType {}\npub enum Action {}\npub struct Message<A> {}\npub struct RouteHeader {}\n";
-    let is = "#[non_exhaustive] pub enum RouteType {}\npub enum Action {}\n#[non_exhaustive] pub struct Message<A> {}\npub struct RouteHeader {}\n";
+    let is = "#[cfg_attr(not(exhaustive), non_exhaustive)] pub enum RouteType {}\npub enum Action {}\n#[cfg_attr(not(exhaustive), non_exhaustive)] pub struct Message<A> {}\npub struct RouteHeader {}\n";
     assert_eq!(erased(was), is);
 }
 
@@ -159,12 +159,18 @@ fn the_audit_sees_what_is_cut_put_in_and_moved() {
     assert_eq!(audited("a => b, c => d,", "a => b,"), told("c = > d ,", ""));
     assert_eq!(audited("a b", "a\nb"), told("b", "b"));
     assert_eq!(
-        audited("f(pub struct S)", "f(#[non_exhaustive] pub struct S)"),
+        audited(
+            "f(pub struct S)",
+            "f(#[cfg_attr(not(exhaustive), non_exhaustive)] pub struct S)"
+        ),
         r#"{"non_exhaustive": 1}"#
     );
     assert_eq!(
-        audited("f(struct S)", "f(#[non_exhaustive] struct S)"),
-        told("struct S )", "# [ non_exhaustive ] struct S")
+        audited(
+            "f(struct S)",
+            "f(#[cfg_attr(not(exhaustive), non_exhaustive)] struct S)"
+        ),
+        told("struct S )", "# [ cfg_attr ( not (")
     );
     assert_eq!(
         audited("ensures { a }", "ensures { a }"),

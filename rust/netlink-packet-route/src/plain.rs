@@ -7,7 +7,9 @@ use crate::envelope::{
 };
 use crate::framing::{DecodeError, Header, Message, Parseable, WriteError, to_vec};
 use crate::memory::Global;
+use crate::neighbour::NeighbourState;
 use crate::route::{RouteGeneveOpt, RouteNextHop, RplSrh, Seg6Header, Seg6LocalSrh};
+use std::fmt;
 use thiserror::Error;
 
 /// Why there is no message at a place of a datagram.
@@ -80,3 +82,27 @@ macro_rules! defaults {
     )*};
 }
 defaults!(RouteGeneveOpt RouteNextHop RplSrh Seg6Header Seg6LocalSrh);
+
+impl From<NeighbourState> for u16 {
+    fn from(state: NeighbourState) -> u16 {
+        state.bits()
+    }
+}
+
+impl From<u16> for NeighbourState {
+    fn from(bits: u16) -> NeighbourState {
+        NeighbourState::from_bits_retain(bits)
+    }
+}
+
+/// The names of the states, of none `none`.
+impl fmt::Display for NeighbourState {
+    fn fmt(&self, f: &mut fmt::Formatter<'_>) -> fmt::Result {
+        let mut names = String::new();
+        bitflags::parser::to_writer(self, &mut names)?;
+        match self.is_empty() {
+            true => f.write_str("none"),
+            false => f.write_str(&names.to_lowercase()),
+        }
+    }
+}

@@ -2,6 +2,7 @@
 
 use netlink_packet_route::envelope::{EnvelopeError, NetlinkMessage, NetlinkPayload};
 use netlink_packet_route::framing::DecodeError;
+use netlink_packet_route::neighbour::NeighbourState;
 use netlink_packet_route::request::dump;
 use netlink_packet_route::route::{RouteAddress, RouteAttribute, RouteMessage, RouteNextHop};
 use netlink_packet_route::{AddressFamily, Fault, RouteNetlinkMessage};
@@ -64,6 +65,15 @@ fn copies_are_equal_and_apart() {
     assert_eq!(first, second);
     second.attributes.clear();
     assert_ne!(first, second);
+}
+
+#[test]
+fn states_of_neighbours_are_numbers_and_names() {
+    assert_eq!(u16::from(NeighbourState::Stale), 4);
+    let two = NeighbourState::from(0x42);
+    assert_eq!(two, NeighbourState::Reachable | NeighbourState::Noarp);
+    let texts = [two, NeighbourState::None, NeighbourState::Failed].map(|s| s.to_string());
+    assert_eq!(texts, ["reachable | noarp", "none", "failed"]);
 }
 
 #[test]

@@ -187,8 +187,16 @@ const CHANGED_IN_TESTS: &[(&str, &str, &str, &str)] = &[
 
 /// Put in front: kind, words, words behind them.
 const IN_FRONT: &[(&str, &str, &str)] = &[
-    ("non_exhaustive", "# [ non_exhaustive ]", "pub enum _"),
-    ("non_exhaustive", "# [ non_exhaustive ]", "pub struct _"),
+    (
+        "non_exhaustive",
+        "# [ cfg_attr ( not ( exhaustive ) , non_exhaustive ) ]",
+        "pub enum _",
+    ),
+    (
+        "non_exhaustive",
+        "# [ cfg_attr ( not ( exhaustive ) , non_exhaustive ) ]",
+        "pub struct _",
+    ),
     (
         "derived Debug in tests",
         "# [ cfg_attr ( test , derive ( Debug ) ) ]",
