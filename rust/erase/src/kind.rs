@@ -40,6 +40,7 @@ pub const KINDS: &[(&str, &[&str])] = &[
     ("derived Debug in tests", &[""]),
     ("field of a set", &[""]),
     ("non_exhaustive", &[""]),
+    ("inline", &[""]),
     // in the crates of tests
     ("runtime of a test", &["rt"]),
     ("let of the runtime", &[""]),

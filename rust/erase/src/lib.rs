@@ -8,6 +8,7 @@
 pub mod audit;
 mod edit;
 mod fault;
+mod hints;
 mod kind;
 mod own_tests;
 mod rules;

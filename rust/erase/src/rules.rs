@@ -231,6 +231,7 @@ impl<'a> Eraser<'a> {
 
     /// A function that prints has no parameter for the writer in Rust, and a set has its flags in a constant.
     fn function(&mut self, at: usize) -> Result<usize, Fault> {
+        self.hint(at)?;
         if self.is_test {
             self.runtime(at)?;
         }

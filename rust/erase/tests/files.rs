@@ -23,7 +23,7 @@ fn audited(was: &str, is: &str) -> String {
 #[test]
 fn clauses_become_comments() {
     let was = "fn f(x: u8) -> u8\n    // why\n    requires small { x < 9 }\n    ensures { result ≡ x }\n{\n    x\n}\n";
-    let is = "fn f(x: u8) -> u8\n    // why\n    // requires small { x < 9 }\n    // ensures { result ≡ x }\n{\n    x\n}\n";
+    let is = "#[inline] fn f(x: u8) -> u8\n    // why\n    // requires small { x < 9 }\n    // ensures { result ≡ x }\n{\n    x\n}\n";
     assert_eq!(erased(was), is);
 }
 
@@ -60,7 +60,7 @@ fn what_is_dropped_is_cloned() {
     );
     assert_eq!(
         erased("fn clone(&self, alloc: Global) -> S {\n    self.s.clone(alloc)\n}\n"),
-        "fn try_clone(&self, alloc: Global) -> S {\n    self.s.try_clone(alloc)\n}\n"
+        "#[inline] fn try_clone(&self, alloc: Global) -> S {\n    self.s.try_clone(alloc)\n}\n"
     );
 }
 
@@ -72,7 +72,7 @@ fn sets_have_calls_of_their_own() {
     );
     assert_eq!(
         erased("fn f() { S::from_bits_retain(s.bits()).contains(s) }"),
-        "fn f() { S::from_bits_retain_in(s.bits_in()).contains_in(s) }\n"
+        "#[inline] fn f() { S::from_bits_retain_in(s.bits_in()).contains_in(s) }\n"
     );
     assert_eq!(
         refusal("#[derive(Clone, Debug)]\npub struct S(u8);\n"),
@@ -111,6 +111,15 @@ fn crates_are_modules() {
     let was = "use npr_scalar::A;\nuse std::alloc::Global;\nuse crate::b::{self, C};\n";
     let is = "use crate::npr_scalar::A; use crate::memory::{SetIn as _, StringIn as _, VecIn as _};\nuse crate::memory::Global;\nuse crate::npr_base::b::{self, C};\n";
     assert_eq!(erased(was), is);
+}
+
+#[test]
+fn functions_with_bodies_are_hinted() {
+    let was = "pub final fn f(x: fn(u8)) -> u8 requires r { x } { x }\nfn g();\n#[inline(never)]\n#[cycle(c)]\nfn h() {}\n";
+    let is = "#[inline] pub fn f(x: fn(u8)) -> u8 { x }\nfn g();\n#[inline(never)]\n// #[cycle(c)]\nfn h() {}\n";
+    assert_eq!(erased(was), is);
+    let is = "#[inline] pub(crate) const fn f() {}\n";
+    assert_eq!(erased("pub(crate) const fn f() {}"), is);
 }
 
 #[test]
