@@ -8,7 +8,7 @@ impl Eraser<'_> {
     /// Puts a hint in front of a function that has a body, and none of its own.
     pub(crate) fn hint(&mut self, at: usize) -> Result<(), Fault> {
         let first = self.first_of(at);
-        let is_named = self.source.is(at, "fn _");
+        let is_named = self.source.is(at, "fn _") && !self.source.is(at, "fn flags <");
         if self.is_test || !is_named || !self.has_body(at)? || self.is_hinted(first) {
             return Ok(());
         }

@@ -3,11 +3,8 @@
 
 use crate::framing::{self, Attribute, EmitError, Header, Looks, Message, NlaBuffer, marked_kind};
 use crate::memory::Global;
-use crate::neighbour::NeighbourState;
 use crate::route::RouteProtocol;
-use crate::{
-    AddressFamily, IpProtocol, RouteNetlinkMessage, address, envelope, neighbour, route, rule,
-};
+use crate::{AddressFamily, RouteNetlinkMessage, address, envelope, neighbour, route, rule};
 use netlink_packet_core as core;
 
 fn length(checked: Result<usize, EmitError>) -> usize {
@@ -17,6 +14,20 @@ fn length(checked: Result<usize, EmitError>) -> usize {
 impl From<framing::DecodeError> for core::DecodeError {
     fn from(cause: framing::DecodeError) -> Self {
         cause.to_string().into()
+    }
+}
+
+impl From<core::DefaultNla> for framing::DefaultNla {
+    fn from(nla: core::DefaultNla) -> Self {
+        let mut value = vec![0; core::Nla::value_len(&nla)];
+        core::Nla::emit_value(&nla, &mut value);
+        framing::DefaultNla::new(core::Nla::kind(&nla), value)
+    }
+}
+
+impl From<framing::DefaultNla> for core::DefaultNla {
+    fn from(nla: framing::DefaultNla) -> Self {
+        core::DefaultNla::new(framing::Nla::kind(&nla), nla.value().to_vec())
     }
 }
 

@@ -8,6 +8,7 @@ mod common;
 use netlink_packet_core::{Emitable, Nla, NlaBuffer, Parseable, ParseableParametrized};
 use netlink_packet_route::RouteNetlinkMessage;
 use netlink_packet_route::envelope::NetlinkIterator;
+use netlink_packet_route::framing;
 use netlink_packet_route::route::{RouteAttribute, RouteLwEnCapType, RouteMessage};
 
 type Envelope = netlink_packet_core::NetlinkMessage<RouteNetlinkMessage>;
@@ -85,4 +86,13 @@ fn again(attribute: &RouteAttribute, message: &RouteMessage) -> usize {
     let read = RouteAttribute::parse_with_param(&buffer, context).expect("what was written");
     assert_eq!(read, *attribute);
     1
+}
+
+#[test]
+fn unknown_attributes_go_to_and_fro() {
+    let ours = framing::DefaultNla::new(0xc063, vec![1, 2, 3]);
+    let theirs = netlink_packet_core::DefaultNla::from(ours.clone());
+    let wanted = netlink_packet_core::DefaultNla::new(0xc063, vec![1, 2, 3]);
+    assert_eq!(theirs, wanted);
+    assert_eq!(framing::DefaultNla::from(theirs), ours);
 }
