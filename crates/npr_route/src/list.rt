@@ -5,7 +5,7 @@ ghost use Rattle.{
   npr_base.specs.{
     declared.refusal.DecodeError.TheVariants.{OutOfMemory},
     Counts.{AddsAtMostTwice, SawEach},
-    Family.{list_members},
+    Lists.{list_members},
     Framing.{Item, Front},
     Looks.{Answered},
   },
@@ -13,7 +13,7 @@ ghost use Rattle.{
     Attribute.{Meaning},
     AttributeView.{meaning_of},
     AttributeFamily.{writing},
-    Governing.{told, Governs, Searches},
+    Governing.{item_type, Governs, Searches},
     RouteList.{IsRouteList, RouteListFault, RouteListTakes},
   },
 };
@@ -25,8 +25,8 @@ use npr_tunnel::RouteLwEnCapType;
 use std::alloc::Global;
 
 /// The type that an `RTA_ENCAP_TYPE` of two bytes tells.
-fn told_by(item: &NlaBuffer<'_>) -> Option<RouteLwEnCapType>
-    ensures { result ≡ told item.now }
+fn stated_type(item: &NlaBuffer<'_>) -> Option<RouteLwEnCapType>
+    ensures { result ≡ item_type item.now }
 {
     match item.value() {
         [low, high] if item.kind() == RTA_ENCAP_TYPE => {
@@ -45,8 +45,8 @@ pub fn governing_type(bytes: &[u8], outer: RouteLwEnCapType, looks: &mut Looks) 
 {
     let mut walk = NlasIterator::new(bytes);
     while let Some(Ok(item)) = walk.next_counted(looks) {
-        if let Some(kind) = told_by(&item) {
-            return kind;
+        if let Some(encap_type) = stated_type(&item) {
+            return encap_type;
         }
     }
     outer
@@ -78,6 +78,6 @@ pub fn read_route_list(
     ensures bounded { AddsAtMostTwice looks.old looks.new (length bytes.now) }
     ensures counted { IfOk result (λ v. SawEach looks.old looks.new (list_members writing.members (map meaning_of v.items))) }
 {
-    let kind = governing_type(bytes, RouteLwEnCapType::None, looks);
-    parse_list(alloc, (under.0, under.1, kind), bytes, looks)
+    let encap_type = governing_type(bytes, RouteLwEnCapType::None, looks);
+    parse_list(alloc, (under.0, under.1, encap_type), bytes, looks)
 }
