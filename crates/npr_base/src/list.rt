@@ -162,7 +162,8 @@ pub fn write_list<A: Attribute>(list: &[A], out: &mut [u8]) -> usize
 }
 
 /// Writes the encodings one after the other at the front of the slice, and leaves the rest. Asks
-/// that `check_list` accepts, and room for the length that it answers.
+/// that `check_list` accepts, and room for the length that it answers. It is for callers: the library
+/// writes by `write_list`.
 pub fn emit_list<A: Attribute>(list: &[A], out: &mut [u8])
     requires fits { list_unfit (unfit_by A.family.writing) (written_by A.family.writing) (map A.family.meaning list.now) ≡ None }
     requires room { length (encodings (written_by A.family.writing) (map A.family.meaning list.now)) ≤ length out.old }

@@ -58,7 +58,7 @@ pub fn write_v6_list(addresses: &[Ipv6Addr], out: &mut [u8]) -> usize
 }
 
 /// Writes the addresses one after the other, in the order of the list. Asks for a slice of exactly 16
-/// bytes for each.
+/// bytes for each. It is for callers: the library writes by `write_v6_list`.
 pub fn emit_v6_list(addresses: &[Ipv6Addr], out: &mut [u8])
     requires { length out.old ≡ 16 * length addresses.now }
     ensures { out.new ≡ concat addresses.now }

@@ -54,7 +54,8 @@ pub fn governing_type(bytes: &[u8], outer: RouteLwEnCapType, looks: &mut Looks) 
 
 /// The attributes that the bytes are cut into, in their order, under the family and the type of a
 /// header. Encapsulations are read by the first `RTA_ENCAP_TYPE` among them, which is looked for
-/// before anything is read; each look at a header is counted.
+/// before anything is read; each look at a header is counted. It is for callers: the library reads a
+/// message.
 ///
 /// # Errors
 /// `OutOfMemory` where memory is refused, and else the first fault in reading order.

@@ -118,7 +118,7 @@ pub fn write_labels(labels: &[MplsLabel], out: &mut [u8]) -> usize
 }
 
 /// Writes the entries one after the other. Asks for a slice of exactly their length, which is four
-/// bytes an entry.
+/// bytes an entry. It is for callers: the library writes by `write_labels`.
 pub fn emit_labels(labels: &[MplsLabel], out: &mut [u8])
     requires { length out.old ≡ length (mpls_labels.encode labels.now) }
     ensures { out.new ≡ mpls_labels.encode labels.now }
