@@ -94,11 +94,16 @@ fn push_inner(fields: &mut Fields, message: &RouteNetlinkMessage) {
         | RouteNetlinkMessage::GetNeighbour(neighbour) => push_neighbour(fields, neighbour),
         RouteNetlinkMessage::Other(other) => push_other(fields, other),
     }
-    if let MessageType::Of(kind, action) = MessageType::of(message.message_type()) {
+    if let MessageType::Of(kind, action) = type_of(message) {
         fields.text(KIND, &kind.name());
         fields.hide();
         push_action(fields, action);
     }
+}
+
+/// What its type says of a message.
+pub fn type_of(message: &RouteNetlinkMessage) -> MessageType {
+    MessageType::of(message.message_type())
 }
 
 /// What a message does.
