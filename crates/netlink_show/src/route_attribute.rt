@@ -193,11 +193,14 @@ fn push_labels(fields: &mut Fields, labels: &[MplsLabel]) {
 /// The preference of a router; `ip` has no word before a number without a name.
 fn push_preference(fields: &mut Fields, preference: RoutePreference) {
     let number = numbers::route_preference(preference);
-    let word = match preference {
-        RoutePreference::Low | RoutePreference::Medium | RoutePreference::High => PREFERENCE,
-        RoutePreference::Invalid | RoutePreference::Other(_) => OTHER_PREFERENCE,
-    };
-    fields.named(word, PREFERENCES, number);
+    match preference {
+        RoutePreference::Low | RoutePreference::Medium | RoutePreference::High => {
+            fields.named(PREFERENCE, PREFERENCES, number)
+        }
+        RoutePreference::Invalid | RoutePreference::Other(_) => {
+            fields.number(OTHER_PREFERENCE, number)
+        }
+    }
 }
 
 fn push_encap_type(fields: &mut Fields, kind: RouteLwEnCapType) {

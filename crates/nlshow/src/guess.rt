@@ -1,6 +1,7 @@
 //! What an input that is refused looks like.
 
 use crate::command_line::Options;
+use crate::reading::WINDOW;
 use netlink_packet_core::{NETLINK_HEADER_LEN, NetlinkHeader};
 
 /// How many bytes are looked at for text.
@@ -58,6 +59,6 @@ fn is_of_text(byte: u8) -> bool {
 /// Whether a message of rtnetlink may begin so.
 fn is_likely(header: &NetlinkHeader) -> bool {
     let length = header.length as usize;
-    (NETLINK_HEADER_LEN..=crate::reading::WINDOW).contains(&length)
+    (NETLINK_HEADER_LEN..=WINDOW).contains(&length)
         && (1..MOST_TYPES).contains(&header.message_type)
 }
