@@ -5,8 +5,8 @@ use crate::field::{self, Fields, Word, Wording};
 use crate::manner::{Hexadecimal, Inet6};
 use crate::names::{Names, PROTOCOLS, TYPES};
 use netlink_packet_route::neighbour::{
-    NeighbourAddress, NeighbourAttribute, NeighbourCacheInfo, NeighbourExtFlags,
-    NeighbourHeader, NeighbourMessage,
+    NeighbourAddress, NeighbourAttribute, NeighbourCacheInfo, NeighbourExtFlags, NeighbourHeader,
+    NeighbourMessage,
 };
 use netlink_packet_route::route::RouteProtocol;
 use netlink_packet_route::{Flags, numbers};
