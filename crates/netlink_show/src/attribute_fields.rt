@@ -1,7 +1,7 @@
 //! What is shown of an attribute of any family.
 
 use crate::field::{Fields, UNKNOWN, Word, Wording};
-use crate::names::REALMS;
+use crate::names::{IP_PROTOCOLS, REALMS};
 use netlink_packet_route::framing::{DefaultNla, NLA_TYPE_MASK, Nla};
 use netlink_packet_route::route::RouteRealm;
 
@@ -27,6 +27,14 @@ pub fn push_realm(fields: &mut Fields, words: RealmWords, realm: RouteRealm) {
     }
     fields.named(from, REALMS, realm.source);
     fields.named(to, REALMS, realm.destination);
+}
+
+/// The number of a protocol over IP.
+pub fn push_ip_number(fields: &mut Fields, word: Word, number: i32) {
+    match fields.manner.name(IP_PROTOCOLS, number.cast_unsigned()) {
+        Some(name) => fields.text(word, &name),
+        None => fields.text(word, &format_args!("ipproto-{number}")),
+    }
 }
 
 /// An attribute that nobody knows: its number, the flags of its kind if it has any, and its value.
