@@ -40,9 +40,9 @@ macro_rules! message {
             }
         }
 
-        impl<'a, T: AsRef<[u8]> + 'a> netlink_packet_core::Parseable<$buffer<&'a T>> for $header {
-            fn parse(buffer: &$buffer<&'a T>) -> Result<Self, netlink_packet_core::DecodeError> {
-                crate::buffers::header(buffer.inner().as_ref())
+        impl<T: AsRef<[u8]>> netlink_packet_core::Parseable<$buffer<T>> for $header {
+            fn parse(buffer: &$buffer<T>) -> Result<Self, netlink_packet_core::DecodeError> {
+                crate::buffers::header(buffer.buffer.as_ref())
             }
         }
     };

@@ -78,14 +78,6 @@ fn routes() -> Result<(), Box<dyn Error>> {
         .gateway(V6.into())?
         .pref_source(V4.into())?;
     show("route of either version", &either.build());
-    let labels = vec![label(100), label(200)];
-    let out = v4().destination_prefix(V4, 32).output_mpls(labels);
-    show("route with labels", &out.build());
-    let mpls = RouteMessageBuilder::<MplsLabel>::new()
-        .label(label(300))
-        .via(V6.into())
-        .output_mpls(vec![label(400)]);
-    show("route of a label", &mpls.build());
     let hops = v4().destination_prefix(V4, 32).multipath(next_hops()?);
     show("route by next hops", &hops.build());
     let hop = RouteNextHopBuilder::new_ipv6()
@@ -93,6 +85,19 @@ fn routes() -> Result<(), Box<dyn Error>> {
         .via(V6.into())?;
     show("next hop 6", &hop.build());
     Ok(())
+}
+
+fn labels() {
+    let labels = vec![label(100), label(200)];
+    let out = RouteMessageBuilder::<Ipv4Addr>::new()
+        .destination_prefix(V4, 32)
+        .output_mpls(labels);
+    show("route with labels", &out.build());
+    let mpls = RouteMessageBuilder::<MplsLabel>::new()
+        .label(label(300))
+        .via(V6.into())
+        .output_mpls(vec![label(400)]);
+    show("route of a label", &mpls.build());
 }
 
 fn next_hops() -> Result<Vec<RouteNextHop>, Box<dyn Error>> {
@@ -163,6 +168,7 @@ async fn main() -> Result<(), Box<dyn Error>> {
     let (_connection, handle, _events) = new_connection()?;
     addresses(&handle);
     routes()?;
+    labels();
     rules(&handle);
     neighbours(&handle);
     Ok(())

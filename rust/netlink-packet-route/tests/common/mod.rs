@@ -94,7 +94,9 @@ fn message<H: Header + PartialEq + Debug>(bytes: &[u8]) -> Result<String, Refusa
 where
     H::Attribute: PartialEq + Debug,
 {
-    let read = Message::<H, H::Attribute>::parse(Global, bytes)?;
+    let read = Message::<H, H::Attribute>::parse(Global, bytes);
+    in_parts::<H>(bytes, &read);
+    let read = read?;
     let written = to_vec(Global, &read)?;
     assert_eq!(read.check(), Ok(written.len()));
     let mut longer = vec![0xaa; written.len() + 3];
@@ -106,6 +108,30 @@ where
     }
     assert_eq!(Message::parse(Global, &written[..]), Ok(read));
     Ok(format!("canonical {}", hex(&written)))
+}
+
+/// The header by itself, the attributes one by one, and a message that is read again are as the message.
+fn in_parts<H: Header + PartialEq + Debug>(
+    bytes: &[u8],
+    read: &Result<Message<H, H::Attribute>, DecodeError>,
+) where
+    H::Attribute: PartialEq + Debug,
+{
+    let mut again = Message::<H, H::Attribute>::default();
+    let answered = again.parse_into(Global, bytes);
+    assert_eq!(answered.err(), read.as_ref().err().copied());
+    let header = H::parse(bytes);
+    assert_eq!(header.is_ok(), bytes.len() >= H::size());
+    let list = Message::<H, H::Attribute>::attributes(Global, bytes);
+    let list = list.and_then(|steps| steps.collect::<Result<Vec<_>, _>>());
+    match read {
+        Ok(message) => {
+            assert_eq!(again, *message);
+            assert_eq!(header, Ok(message.header));
+            assert_eq!(list.as_ref(), Ok(&message.attributes));
+        }
+        Err(fault) => assert_eq!(list.expect_err("a fault"), *fault),
+    }
 }
 
 fn datagrams(bytes: &[u8]) -> Result<String, Refusal> {
