@@ -33,7 +33,7 @@ impl<'a, T: AsRef<[u8]> + 'a>
 
 impl<T: AsRef<[u8]> + ?Sized> Parseable<RouteViaBuffer<&T>> for RouteVia {
     fn parse(buffer: &RouteViaBuffer<&T>) -> Result<Self, DecodeError> {
-        Ok(RouteVia::parse(Global, buffer.inner().as_ref())?)
+        Ok(RouteVia::parse(Global, buffer.inner())?)
     }
 }
 

@@ -19,7 +19,6 @@ pub const KINDS: &[(&str, &[&str])] = &[
     ("writer parameter", &["<", "W"]),
     // what stands in its place
     ("derived Drop -> Clone", &["Drop"]),
-    ("clone -> try_clone", &["clone"]),
     ("call of a set", &["bits", "contains", "from_bits_retain"]),
     ("bound Drop -> Sized", &["Drop"]),
     ("Formatter<W> -> Formatter<'_>", &["W"]),

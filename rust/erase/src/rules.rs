@@ -253,10 +253,6 @@ impl<'a> Eraser<'a> {
             self.replace(self.source.closing(at + 16)?, 1, kind, ";")?;
             return Ok(at + 17);
         }
-        if self.source.is(at, "fn clone ( & self , alloc : Global )") {
-            self.replace(at + 1, 1, "clone -> try_clone", "try_clone")?;
-            return Ok(at + 2);
-        }
         Ok(at + 1)
     }
 
@@ -302,9 +298,6 @@ impl<'a> Eraser<'a> {
             return Ok(next);
         }
         match word {
-            "clone" if is_method && self.source.word(at + 2) != ")" => {
-                self.replace(at, 1, "clone -> try_clone", "try_clone")
-            }
             "bits" | "contains" if is_method => self.call_of_set(at),
             "from_bits_retain" if self.source.before(at) == "::" => self.call_of_set(at),
             "push" | "reserve" | "reserve_exact" if is_method => {

@@ -58,10 +58,6 @@ fn what_is_dropped_is_cloned() {
         erased("#[derive(Clone, Drop)]\nstruct S;\n"),
         "#[derive(Clone)]\nstruct S;\n"
     );
-    assert_eq!(
-        erased("fn clone(&self, alloc: Global) -> S {\n    self.s.clone(alloc)\n}\n"),
-        "#[inline] fn try_clone(&self, alloc: Global) -> S {\n    self.s.try_clone(alloc)\n}\n"
-    );
 }
 
 #[test]

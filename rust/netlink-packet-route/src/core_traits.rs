@@ -80,6 +80,16 @@ impl core::Parseable<[u8]> for RouteProtocol {
     }
 }
 
+/// What the attributes of a next hop are read in.
+type HopContext = (AddressFamily, route::RouteType, route::RouteLwEnCapType);
+
+impl core::ParseableParametrized<[u8], HopContext> for route::RouteNextHop {
+    fn parse_with_param(bytes: &[u8], context: HopContext) -> Result<Self, core::DecodeError> {
+        let parse = framing::ParseableParametrized::parse_with_param;
+        Ok(parse(Global, bytes, context)?)
+    }
+}
+
 /// A value that is written as bytes.
 macro_rules! emitable {
     ($([$($params:tt)*] $value:ty;)*) => {$(
@@ -184,25 +194,47 @@ macro_rules! alone {
     )*};
 }
 
+/// Headers that are read of an attribute's value.
+macro_rules! headers {
+    ($($header:ty;)*) => {$(
+        nla!($header;);
+
+        impl<'a, T: AsRef<[u8]> + ?Sized> core::Parseable<core::NlaBuffer<&'a T>> for $header {
+            fn parse(buffer: &core::NlaBuffer<&'a T>) -> Result<Self, core::DecodeError> {
+                let item = NlaBuffer::new_checked(buffer.into_inner().as_ref())?;
+                Ok(framing::Parseable::parse(Global, &item)?)
+            }
+        }
+    )*};
+}
+
 nla! {
     framing::DefaultNla;
     route::Seg6Header;
 }
+headers! {
+    route::Ioam6TraceHdr;
+    route::RplSrh;
+    route::Seg6LocalSrh;
+}
 under_context! {
     neighbour::NeighbourAttribute, AddressFamily;
-    route::RouteAttribute, (AddressFamily, route::RouteType, route::RouteLwEnCapType);
+    route::RouteAttribute, HopContext;
     route::RouteLwTunnelEncap, route::RouteLwEnCapType;
 }
 alone! {
     address::AddressAttribute;
+    route::RouteErspanOpt;
     route::RouteIoam6Tunnel;
     route::RouteIp6Tunnel;
     route::RouteIpTunnel;
+    route::RouteLwTunnelOpt;
     route::RouteMetric;
     route::RouteMplsIpTunnel;
     route::RouteRplIpTunnel;
     route::RouteSeg6IpTunnel;
     route::RouteSeg6LocalTunnel;
+    route::RouteVxlanOpt;
     route::RouteXfrmTunnel;
     rule::RuleAttribute;
 }

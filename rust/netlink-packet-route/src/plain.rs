@@ -2,13 +2,15 @@
 //! which is handed the allocator of Rust. No method here has a name that the proved text calls on such
 //! a type: it would be called instead.
 
+use crate::address::AddressHeader;
 use crate::envelope::{
     EnvelopeError, NetlinkBuffer, NetlinkInner, NetlinkIterator, NetlinkMessage,
 };
 use crate::framing::{DecodeError, Header, Message, Parseable, WriteError, to_vec};
 use crate::memory::Global;
-use crate::neighbour::NeighbourState;
-use crate::route::{RouteGeneveOpt, RouteNextHop, RplSrh, Seg6Header, Seg6LocalSrh};
+use crate::neighbour::{NeighbourHeader, NeighbourState};
+use crate::route::{RouteGeneveOpt, RouteHeader, RouteNextHop, RplSrh, Seg6Header, Seg6LocalSrh};
+use crate::rule::RuleHeader;
 use std::fmt;
 use thiserror::Error;
 
@@ -47,6 +49,21 @@ impl<H: Header> Default for Message<H, H::Attribute> {
         Message::new(Global)
     }
 }
+
+macro_rules! headers {
+    ($($header:ty)*) => {$(
+        impl $header {
+            /// The header in front of the bytes.
+            ///
+            /// # Errors
+            /// `HeaderTooShort` where there are too few.
+            pub fn parse(bytes: &[u8]) -> Result<Self, DecodeError> {
+                Header::parse(bytes)
+            }
+        }
+    )*};
+}
+headers!(AddressHeader RouteHeader RuleHeader NeighbourHeader);
 
 impl<I: NetlinkInner> NetlinkMessage<I> {
     /// The bytes that are sent.

@@ -236,7 +236,7 @@ macro_rules! sets {
 sets! {
     address::AddressFlags u32;
     address::AddressHeaderFlags u8;
-    neighbour::NeighbourExtendedFlags u32;
+    neighbour::NeighbourExtFlags u32;
     neighbour::NeighbourFlags u8;
     neighbour::NeighbourState u16;
     route::RouteFlags u32;

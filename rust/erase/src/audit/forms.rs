@@ -68,8 +68,6 @@ const TAKEN: &[(&str, &str, &str)] = &[
 const CHANGED: &[(&str, &str, &str, &str)] = &[
     ("derived Drop -> Clone", "derive (", "Drop", "Clone"),
     ("derived Drop -> Clone", ",", "Drop", "Clone"),
-    ("clone -> try_clone", "fn", "clone", "try_clone"),
-    ("clone -> try_clone", ".", "clone", "try_clone"),
     ("call of a set", ".", "bits", "bits_in"),
     ("call of a set", ".", "contains", "contains_in"),
     (
