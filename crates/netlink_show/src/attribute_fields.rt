@@ -4,6 +4,7 @@ use crate::field::{Fields, UNKNOWN, Word, Wording};
 use crate::names::{IP_PROTOCOLS, REALMS};
 use netlink_packet_route::framing::{DefaultNla, NLA_TYPE_MASK, Nla};
 use netlink_packet_route::route::RouteRealm;
+use std::alloc::AllocError;
 
 /// The last place of a line.
 const LAST: u8 = 250;
@@ -31,9 +32,12 @@ pub fn push_realm(fields: &mut Fields, words: RealmWords, realm: RouteRealm) {
 
 /// The number of a protocol over IP.
 pub fn push_ip_number(fields: &mut Fields, word: Word, number: i32) {
-    match fields.manner.name(IP_PROTOCOLS, number.cast_unsigned()) {
-        Some(name) => fields.text(word, &name),
-        None => fields.text(word, &format_args!("ipproto-{number}")),
+    if let Some(name) = fields.manner.name(IP_PROTOCOLS, number.cast_unsigned()) {
+        return fields.text(word, &name);
+    }
+    match format!(in fields.manner.alloc; "ipproto-{number}") {
+        Ok(text) => fields.text(word, &text),
+        Err(AllocError) => fields.refuse(),
     }
 }
 

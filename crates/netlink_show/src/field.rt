@@ -145,7 +145,8 @@ impl Fields {
 
     /// Seconds.
     pub fn seconds<N: Into<Value> + fmt::Display + Copy>(&mut self, word: Word, seconds: N) {
-        self.push(word, seconds, &format_args!("{seconds}sec"));
+        let text = format!(in self.manner.alloc; "{seconds}sec");
+        self.written(word, seconds, text)
     }
 
     /// Bits, which are a hexadecimal text in JSON too.

@@ -127,23 +127,33 @@ fn push_metric(fields: &mut Fields, metric: &RouteMetric, lock: &str) {
 
 /// The features, of which one has a name.
 fn push_features(fields: &mut Fields, bits: u32, lock: &str) {
+    let alloc = fields.manner.alloc;
     let number = Bits(u64::from(bits));
-    match (bits & FEATURE_ECN != 0, bits & !FEATURE_ECN != 0) {
-        (false, false) => fields.bits_shown(FEATURES, bits, &lock),
-        (false, true) => fields.bits_shown(FEATURES, bits, &format_args!("{lock} {number}")),
-        (true, false) => fields.push(ECN, (), &format_args!("{lock} ecn")),
-        (true, true) => {
-            fields.push(ECN, (), &format_args!("{lock} ecn {number}"));
-            fields.bits(FEATURES, bits);
-            fields.hide();
-        }
+    let (has_ecn, has_more) = (bits & FEATURE_ECN != 0, bits & !FEATURE_ECN != 0);
+    let text = match (has_ecn, has_more) {
+        (false, false) => String::from_str(alloc, lock),
+        (false, true) => format!(in alloc; "{lock} {number}"),
+        (true, false) => format!(in alloc; "{lock} ecn"),
+        (true, true) => format!(in alloc; "{lock} ecn {number}"),
+    };
+    match text {
+        Err(AllocError) => fields.refuse(),
+        Ok(text) if has_ecn => fields.push(ECN, (), &text),
+        Ok(text) => return fields.bits_shown(FEATURES, bits, &text),
+    }
+    if has_more {
+        fields.bits(FEATURES, bits);
+        fields.hide();
     }
 }
 
 /// The way in which congestion is met.
 fn push_name(fields: &mut Fields, name: &String, lock: &str) {
     match name.clone() {
-        Ok(value) => fields.push(CONGESTION, value, &format_args!("{lock} {name}")),
+        Ok(value) => {
+            let text = format!(in fields.manner.alloc; "{lock} {name}");
+            fields.written(CONGESTION, value, text)
+        }
         Err(AllocError) => fields.refuse(),
     }
 }
@@ -157,11 +167,12 @@ fn push_number(fields: &mut Fields, kind: u16, number: u32, lock: &str) {
 
 /// A metric by its row.
 fn push_row(fields: &mut Fields, word: Word, parts: u32, number: u32, lock: &str) {
+    let alloc = fields.manner.alloc;
     match number.checked_div(parts) {
         Some(count) => {
-            let time = Milliseconds(count);
-            fields.push(word, count, &format_args!("{lock} {time}"))
+            let text = format!(in alloc; "{lock} {}", Milliseconds(count));
+            fields.written(word, count, text)
         }
-        None => fields.push(word, number, &format_args!("{lock} {number}")),
+        None => fields.written(word, number, format!(in alloc; "{lock} {number}")),
     }
 }

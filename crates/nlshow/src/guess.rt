@@ -25,7 +25,7 @@ enum Guess {
 
 /// What the first bytes of an input look like, where the run reads something else.
 pub fn hint_of(bytes: &[u8], options: &Options) -> Option<&'static str> {
-    match (guess(bytes), options.is_hex, options.kind) {
+    match (guess_of(bytes), options.is_hex, options.kind) {
         (Guess::Text, false, _) => Some("looks like hexadecimal text, which `--hex` reads"),
         (Guess::Message, _, Some(_)) => {
             Some("looks like a datagram, which is read without `--as`")
@@ -40,7 +40,7 @@ pub fn hint_of(bytes: &[u8], options: &Options) -> Option<&'static str> {
     }
 }
 
-fn guess(bytes: &[u8]) -> Guess {
+fn guess_of(bytes: &[u8]) -> Guess {
     if bytes.len() >= 8 && bytes.iter().take(SOME).all(|byte| is_of_text(*byte)) {
         return Guess::Text;
     }

@@ -9,16 +9,16 @@ use std::rt::Files;
 
 /// The file for what is refused, which is made when the first of it comes.
 #[derive(Drop)]
-pub struct Kept<'a> {
-    rt: &'a HostRuntime,
+pub struct Kept<'r, 'a> {
+    rt: &'r HostRuntime,
     /// Its name, if anything is to be kept.
     pub name: Option<&'a str>,
     file: Option<File>,
 }
 
-impl<'a> Kept<'a> {
+impl<'r, 'a> Kept<'r, 'a> {
     /// A file of this name that is not made yet.
-    pub fn new(rt: &'a HostRuntime, name: Option<&'a str>) -> Kept<'a> {
+    pub fn new(rt: &'r HostRuntime, name: Option<&'a str>) -> Kept<'r, 'a> {
         Kept {
             rt,
             name,

@@ -91,7 +91,7 @@ fn show(rt: &HostRuntime, request: &Request<'_>) -> ExitCode {
 }
 
 /// The status of a run that ends so.
-fn ended(rt: &impl Eprint, session: &Session<'_>, stop: Stop) -> ExitCode {
+fn ended(rt: &impl Eprint, session: &Session<'_, '_>, stop: Stop) -> ExitCode {
     if matches!(stop, Stop::Closed) && session.counts.refused != 0 {
         return ExitCode::from(1);
     }
@@ -99,7 +99,11 @@ fn ended(rt: &impl Eprint, session: &Session<'_>, stop: Stop) -> ExitCode {
 }
 
 /// Shows the input of this name.
-fn show_input<'a>(rt: &HostRuntime, session: &mut Session<'a>, name: &'a str) -> Result<(), Stop> {
+fn show_input<'a>(
+    rt: &HostRuntime,
+    session: &mut Session<'_, 'a>,
+    name: &'a str,
+) -> Result<(), Stop> {
     session.open(name);
     if name == "-" {
         return read_input(session, rt.stdin());

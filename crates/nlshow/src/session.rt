@@ -38,7 +38,7 @@ pub struct Place {
 
 /// A run over inputs: where lines, refusals and refused bytes go.
 #[derive(Drop)]
-pub struct Session<'a> {
+pub struct Session<'r, 'a> {
     /// Where memory comes from.
     pub alloc: Global,
     /// How messages are read and told.
@@ -49,16 +49,16 @@ pub struct Session<'a> {
     pub subject: &'a str,
     output: Stdout,
     errors: Stderr,
-    kept: Kept<'a>,
+    kept: Kept<'r, 'a>,
     is_watched: bool,
     text: String,
     /// What is told of the input at its first refusal.
     hint: Option<&'static str>,
 }
 
-impl<'a> Session<'a> {
+impl<'r, 'a> Session<'r, 'a> {
     /// A run that has read nothing. Where standard error is a terminal, long input shows how far it is.
-    pub fn new(rt: &HostRuntime, options: Options, kept: Kept<'a>) -> Session<'a> {
+    pub fn new(rt: &HostRuntime, options: Options, kept: Kept<'r, 'a>) -> Session<'r, 'a> {
         Session {
             alloc: rt.alloc(),
             options,
