@@ -2,7 +2,7 @@
 
 use crate::hex_line::bytes_of_line;
 use crate::refusal::Refusal;
-use crate::session::{Place, Session};
+use crate::session::{Position, Session};
 use byte_window::{Stop, Window};
 use netlink_packet_core::{NETLINK_HEADER_LEN, NLMSG_ALIGNTO, NetlinkHeader};
 use netlink_packet_route::MessageKind;
@@ -101,7 +101,7 @@ fn take_messages<R: Read + Drop>(
             return Ok(Front::Part);
         };
         *number = number.saturating_add(1);
-        let place = Place {
+        let place = Position {
             what: "message",
             number: *number,
             offset: window.passed(),
@@ -122,7 +122,7 @@ fn pass_long<R: Read + Drop>(
 ) -> Result<(), Stop> {
     *number = number.saturating_add(1);
     let length = u64::from(length);
-    let place = Place {
+    let place = Position {
         what: "message",
         number: *number,
         offset: window.passed(),
@@ -175,7 +175,7 @@ fn refuse_rest<R: Read + Drop>(
     let offset = window.passed();
     pass_kept(session, window, u64::MAX)?;
     let left = window.passed().saturating_sub(offset);
-    let place = Place {
+    let place = Position {
         what: "message",
         number: number.saturating_add(1),
         offset,
@@ -202,7 +202,7 @@ fn read_lone<R: Read + Drop>(
         }
     }
     session.look(window.held());
-    let mut place = Place {
+    let mut place = Position {
         what: "message",
         number: 1,
         offset: 0,
@@ -289,7 +289,7 @@ fn pass_line<R: Read + Drop>(
         }
     }
     let length = window.passed().saturating_sub(offset);
-    let place = Place {
+    let place = Position {
         what: "line",
         number: *number,
         offset,
@@ -302,7 +302,7 @@ fn pass_line<R: Read + Drop>(
 
 /// Takes a line, which is kept as it stands where anything in it is refused.
 fn take_line(session: &mut Session, number: u64, offset: u64, line: &[u8]) -> Result<(), Stop> {
-    let place = Place {
+    let place = Position {
         what: "line",
         number,
         offset,
@@ -322,8 +322,8 @@ fn take_line(session: &mut Session, number: u64, offset: u64, line: &[u8]) -> Re
 }
 
 /// Takes the bytes of a line: a message without an envelope, or messages.
-fn take_bytes(session: &mut Session, place: Place, bytes: &[u8]) -> Result<(), Stop> {
-    let whole = Place {
+fn take_bytes(session: &mut Session, place: Position, bytes: &[u8]) -> Result<(), Stop> {
+    let whole = Position {
         length: bytes.len() as u64,
         ..place
     };

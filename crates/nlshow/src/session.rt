@@ -25,7 +25,7 @@ const STEP: u64 = 1 << 26;
 
 /// Where a message stands in its input.
 #[derive(Clone, Copy)]
-pub struct Place {
+pub struct Position {
     /// What it is there: a message or a line.
     pub what: &'static str,
     /// Which, from 1 on.
@@ -85,13 +85,13 @@ impl<'r, 'a> Session<'r, 'a> {
     }
 
     /// A message in its envelope.
-    pub fn message(&mut self, place: Place, bytes: &[u8]) -> Result<(), Stop> {
+    pub fn message(&mut self, place: Position, bytes: &[u8]) -> Result<(), Stop> {
         let read = read_message(self.alloc, self.options.form, bytes);
         self.take(place, bytes, read)
     }
 
     /// A message of this kind without an envelope.
-    pub fn lone(&mut self, kind: MessageKind, place: Place, bytes: &[u8]) -> Result<(), Stop> {
+    pub fn lone(&mut self, kind: MessageKind, place: Position, bytes: &[u8]) -> Result<(), Stop> {
         let read = read_lone(self.alloc, kind, bytes);
         self.take(place, bytes, read.map_err(Refusal::Payload))
     }
@@ -99,7 +99,7 @@ impl<'r, 'a> Session<'r, 'a> {
     /// Takes what was read of these bytes.
     fn take(
         &mut self,
-        place: Place,
+        place: Position,
         bytes: &[u8],
         read: Result<Read, Refusal>,
     ) -> Result<(), Stop> {
@@ -136,7 +136,7 @@ impl<'r, 'a> Session<'r, 'a> {
     }
 
     /// Says that a message is refused.
-    pub fn refuse(&mut self, place: Place, refusal: Refusal) {
+    pub fn refuse(&mut self, place: Position, refusal: Refusal) {
         self.counts.refused = self.counts.refused.saturating_add(1);
         let input = self.subject;
         let what = place.what;
