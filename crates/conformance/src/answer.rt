@@ -25,7 +25,7 @@ impl Asked {
         if word == "datagrams" {
             return Some(Asked::Datagrams);
         }
-        MessageKind::of(word).map(Asked::Message)
+        MessageKind::named(word).map(Asked::Message)
     }
 
     /// What is answered to the bytes of a line: what is written of them, `refused` with the name of

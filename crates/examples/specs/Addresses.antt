@@ -3,7 +3,7 @@ use Rattle.std.specs.Prelude.{ℕ, List, [], ◌∷◌, ◌++◌, Option, Some, 
 use Rattle.netlink_packet_route.specs.AddressAttribute.{attribute}
 use Rattle.netlink_packet_route.specs.AddressFlags.{header_flag_bits}
 use Rattle.netlink_packet_route.specs.AddressMessage.{addresses}
-use Rattle.netlink_packet_route.specs.Messages.{Meant}
+use Rattle.netlink_packet_route.specs.Messages.{View}
 use Rattle.netlink_packet_route.specs.declared.AddressFamily.TheVariants.{Inet}
 use Rattle.netlink_packet_route.specs.declared.address.AddressAttribute.{AddressAttribute}
 use Rattle.netlink_packet_route.specs.declared.address.AddressAttribute.TheVariants.{Local}
@@ -24,7 +24,7 @@ abbrev pub loopback_octets : List ℕ
 loopback_octets = 127 ∷ 0 ∷ 0 ∷ 1 ∷ []
 
 -- as IFA_ADDRESS, IFA_LOCAL and IFA_LABEL
-abbrev pub loopback : Meant addresses
+abbrev pub loopback : View addresses
 loopback = record {
   header = loopback_header;
   attributes = attribute 1 (V4 loopback_octets) ∷ attribute 2 (V4 loopback_octets) ∷ attribute 3 (codes "lo") ∷ [];
@@ -40,5 +40,5 @@ loopback_written =
     ∷ []
 
 -- a message with a metric for its route besides: IFA_RT_PRIORITY
-abbrev pub with_priority : ℕ → Meant addresses → Meant addresses
+abbrev pub with_priority : ℕ → View addresses → View addresses
 with_priority priority m = record m { attributes = m.attributes ++ attribute 9 priority ∷ [] }

@@ -1,6 +1,6 @@
 -- Routes that callers build.
 use Rattle.std.specs.Prelude.{[], ◌∷◌}
-use Rattle.netlink_packet_route.specs.Messages.{Meant}
+use Rattle.netlink_packet_route.specs.Messages.{View}
 use Rattle.netlink_packet_route.specs.RouteAttribute.{multi_path}
 use Rattle.netlink_packet_route.specs.RouteAttributeView.{hops_of}
 use Rattle.netlink_packet_route.specs.RouteHeader.{default_header}
@@ -10,7 +10,7 @@ use Rattle.netlink_packet_route.specs.declared.AddressFamily.TheVariants.{Inet}
 use Rattle.netlink_packet_route.specs.declared.net.IpAddr.TheVariants.{V4}
 
 -- to 203.0.113.0/24 by 192.0.2.1 behind interface 2 and by 192.0.2.2 behind interface 3
-abbrev pub two_ways : Meant routes
+abbrev pub two_ways : View routes
 two_ways = record {
   header = record default_header { address_family = Inet; destination_prefix_length = 24 };
   attributes =

@@ -7,7 +7,7 @@ ghost use Rattle.{
     AddressFlags.{header_flag_bits},
     AddressMessage.{addresses},
     Found.{IsFirst},
-    Messages.{Held, IsMessage, Meant, MessageFault, message_misfit, spelling, view},
+    Messages.{Stored, IsMessage, View, MessageFault, message_unfit, canonical_bytes, view},
     declared.framing.{DecodeError.{DecodeError, TheVariants.{OutOfMemory}}, EmitError.{EmitError}},
   },
 };
@@ -26,7 +26,7 @@ use std::alloc::{AllocError, Global};
 /// # Errors
 /// Why the bytes are no address message.
 pub fn read_local(alloc: Global, bytes: &[u8]) -> Result<Option<Ipv4Addr>, DecodeError>
-    ensures ok { IfOk result (λ found. (m : Held addresses) × IsMessage addresses bytes.now (view addresses m)
+    ensures ok { IfOk result (λ found. (m : Stored addresses) × IsMessage addresses bytes.now (view addresses m)
         × IsFirst local_ipv4 m.attributes.items found) }
     ensures refused { IfErr result (λ e. e ≢ OutOfMemory → MessageFault addresses bytes.now e) }
 {
@@ -87,9 +87,9 @@ pub fn loopback(alloc: Global) -> Result<AddressMessage, AllocError>
 ///
 /// # Errors
 /// `Refused(OutOfMemory)` where memory is refused.
-#[tactic(auto, unfolding(netlink_packet_route::specs::Messages::spelling, netlink_packet_route::specs::Messages::message_misfit))]
+#[tactic(auto, unfolding(netlink_packet_route::specs::Messages::canonical_bytes, netlink_packet_route::specs::Messages::message_unfit))]
 pub fn loopback_bytes(alloc: Global) -> Result<Vec<u8>, Fault>
-    ensures ok { IfOk result (λ out. out.items ≡ spelling addresses loopback) }
+    ensures ok { IfOk result (λ out. out.items ≡ canonical_bytes addresses loopback) }
     ensures written { IfOk result (λ out. out.items ≡ loopback_written) }
     ensures memory { IfErr result (λ e. e ≡ Refused OutOfMemory) }
 {
@@ -102,11 +102,11 @@ pub fn loopback_bytes(alloc: Global) -> Result<Vec<u8>, Fault>
 /// # Errors
 /// Why the bytes are no message, or why it can't be written with that.
 pub fn with_priority(alloc: Global, bytes: &[u8], priority: u32) -> Result<Vec<u8>, Fault>
-    ensures ok { IfOk result (λ out. (m : Meant addresses) × IsMessage addresses bytes.now m
-        × (message_misfit addresses (with_priority priority m) ≡ None) × (out.items ≡ spelling addresses (with_priority priority m))) }
+    ensures ok { IfOk result (λ out. (m : View addresses) × IsMessage addresses bytes.now m
+        × (message_unfit addresses (with_priority priority m) ≡ None) × (out.items ≡ canonical_bytes addresses (with_priority priority m))) }
     ensures refused { (e : DecodeError) → result ≡ Err (Refused e) → e ≢ OutOfMemory → MessageFault addresses bytes.now e }
-    ensures unfit { (e : EmitError) → result ≡ Err (Unfit e) → (m : Meant addresses) × IsMessage addresses bytes.now m
-        × (message_misfit addresses (with_priority priority m) ≡ Some e) }
+    ensures unfit { (e : EmitError) → result ≡ Err (Unfit e) → (m : View addresses) × IsMessage addresses bytes.now m
+        × (message_unfit addresses (with_priority priority m) ≡ Some e) }
 {
     let mut message = AddressMessage::parse(alloc, bytes)?;
     let attribute = AddressAttribute::RoutePriority(priority);

@@ -5,7 +5,7 @@ ghost use Rattle.{
   netlink_packet_route.specs.{
     AddressAttribute.{family},
     AddressMessage.{addresses},
-    Messages.{IsMessage, Meant, MessageFault},
+    Messages.{IsMessage, View, MessageFault},
     declared.framing.DecodeError.TheVariants.{OutOfMemory},
   },
   examples.specs.OneByOne.{last_of, priority_of},
@@ -21,7 +21,7 @@ use std::alloc::Global;
 /// # Errors
 /// Why the bytes are no address message.
 pub fn read_priority(alloc: Global, bytes: &[u8]) -> Result<Option<u32>, DecodeError>
-    ensures ok { IfOk result (λ found. (m : Meant addresses) × IsMessage addresses bytes.now m × (found ≡ last_of priority_of m.attributes)) }
+    ensures ok { IfOk result (λ found. (m : View addresses) × IsMessage addresses bytes.now m × (found ≡ last_of priority_of m.attributes)) }
     ensures refused { IfErr result (λ e. e ≢ OutOfMemory → MessageFault addresses bytes.now e) }
 {
     let mut attributes = AddressMessage::attributes(alloc, bytes)?;

@@ -4,7 +4,7 @@ ghost use Rattle.std.specs.Prelude.{◌≡◌, ◌≢◌, IfOk, IfErr};
 ghost use Rattle.{
   netlink_packet_route.specs.{
     Found.{IsFirst},
-    Messages.{Held, IsMessage, MessageFault, spelling, view},
+    Messages.{Stored, IsMessage, MessageFault, canonical_bytes, view},
     RouteAttributeView.{meaning_of},
     RouteMessage.{routes},
     RoutePath.{gateway_ip},
@@ -27,7 +27,7 @@ use std::alloc::{AllocError, Global};
 /// # Errors
 /// Why the bytes are no route message.
 pub fn read_gateway(alloc: Global, bytes: &[u8]) -> Result<Option<IpAddr>, DecodeError>
-    ensures ok { IfOk result (λ found. (m : Held routes) × IsMessage routes bytes.now (view routes m)
+    ensures ok { IfOk result (λ found. (m : Stored routes) × IsMessage routes bytes.now (view routes m)
         × IsFirst (λ a. gateway_ip (meaning_of a)) m.attributes.items found) }
     ensures refused { IfErr result (λ e. e ≢ OutOfMemory → MessageFault routes bytes.now e) }
 {
@@ -64,9 +64,9 @@ pub fn two_ways(alloc: Global) -> Result<RouteMessage, AllocError>
 ///
 /// # Errors
 /// `Refused(OutOfMemory)` where memory is refused.
-#[tactic(auto, unfolding(netlink_packet_route::specs::Messages::spelling, netlink_packet_route::specs::Messages::message_misfit))]
+#[tactic(auto, unfolding(netlink_packet_route::specs::Messages::canonical_bytes, netlink_packet_route::specs::Messages::message_unfit))]
 pub fn two_ways_bytes(alloc: Global) -> Result<Vec<u8>, Fault>
-    ensures ok { IfOk result (λ out. out.items ≡ spelling routes two_ways) }
+    ensures ok { IfOk result (λ out. out.items ≡ canonical_bytes routes two_ways) }
     ensures memory { IfErr result (λ e. e ≡ Refused OutOfMemory) }
 {
     let route = two_ways(alloc)?;

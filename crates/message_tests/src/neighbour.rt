@@ -5,7 +5,7 @@ use netlink_packet_route::framing::{
     At, AttrFamily, DecodeError, EmitError, Emitable, Header, NlaBuffer, ParseableParametrized,
 };
 use netlink_packet_route::neighbour::{
-    NeighbourAddress, NeighbourAttribute, NeighbourCacheInfo, NeighbourExtendedFlags,
+    NeighbourAddress, NeighbourAttribute, NeighbourCacheInfo, NeighbourExtFlags,
     NeighbourFlags, NeighbourHeader, NeighbourMessage, NeighbourMessageBuffer, NeighbourState,
 };
 use netlink_packet_route::net::{IpAddr, Ipv4Addr, Ipv6Addr};
@@ -57,7 +57,7 @@ fn reads_headers(rt: HostRuntime) -> Result<(), Fail> {
             state: NeighbourState(128), flags: NeighbourFlags(16), kind: Unicast }
         0a000000 02000000 4000 00 05 => NeighbourHeader { family: Inet6, ifindex: 2, \
             state: NeighbourState(64), flags: NeighbourFlags(0), kind: Multicast }
-        07000000 feffffff 0680 c2 c8 => NeighbourHeader { family: Bridge, ifindex: -2, \
+        07000000 feffffff 0680 c2 c8 => NeighbourHeader { family: Bridge, ifindex: 4294967294, \
             state: NeighbourState(32774), flags: NeighbourFlags(194), kind: Other(200) }";
     headers(&rt, lines)
 }
@@ -71,7 +71,7 @@ fn reads_dumped_messages(rt: HostRuntime) -> Result<(), Fail> {
         02000000 03000000 1000 00 01 08000100 c0000203 0a000200 020000000013 0000 \
             08000400 01000000 14000300 9a170000 2d000000 2a000000 01000000 05000c00 04000000 => \
             [Destination(Inet(192.0.2.3)), \
-            LinkLayerAddress([2, 0, 0, 0, 0, 19]), Probes(1), CacheInfo(NeighbourCacheInfo { \
+            LinkLocalAddress([2, 0, 0, 0, 0, 19]), Probes(1), CacheInfo(NeighbourCacheInfo { \
             confirmed: 6042, used: 45, updated: 42, refcnt: 1 }), Protocol(Static)]
         02000000 03000000 2000 00 00 08000100 c0000204 08000400 00000000 \
             14000300 9d170000 2d000000 2d000000 00000000 => \
@@ -80,7 +80,7 @@ fn reads_dumped_messages(rt: HostRuntime) -> Result<(), Fail> {
         0a000000 02000000 4000 00 05 14000100 ff020000000000000000000000000016 \
             0a000200 333300000016 0000 08000400 00000000 => \
             [Destination(Inet6(ff02::16)), \
-            LinkLayerAddress([51, 51, 0, 0, 0, 22]), Probes(0)]
+            LinkLocalAddress([51, 51, 0, 0, 0, 22]), Probes(0)]
         02112233 03000000 0200 00 00 -> 02000000 03000000 0200 00 00 => []
         07000000 03000000 8000 02 00 08000100 c0000203 => [Destination(Other([192, 0, 2, 3]))]
         07000000 03000000 8000 02 00 04000100 => [Destination(Other([]))]
@@ -107,7 +107,7 @@ fn addresses_alone(rt: HostRuntime) -> Result<(), Fail> {
     let address = NeighbourAddress::parse(alloc, AddressFamily::Inet, &[192, 0, 2, 3])?;
     holds(address == NeighbourAddress::from(ip))?;
     holds(address == NeighbourAddress::from(IpAddr::V4(ip)))?;
-    holds(address.clone(alloc)? == address)?;
+    holds(address.try_clone(alloc)? == address)?;
     writes(&rt, address, &["c0000203"])
 }
 
@@ -145,11 +145,11 @@ fn reads_values(rt: HostRuntime) -> Result<(), Fail> {
             08000e00 04000100 08000f00 01000080 => \
             [Vlan(100), Port(4789), Vni(42), IfIndex(5), Controller(7), LinkNetNsId(1), SourceVni(43), \
             NhId(9), Other(DefaultNla { kind: 14, value: [4, 0, 1, 0] }), \
-            FlagsExt(NeighbourExtendedFlags(2147483649))]
+            ExtFlags(NeighbourExtFlags(2147483649))]
         18000300 01000000 02000000 03000000 04000000 05000000 -> \
             14000300 01000000 02000000 03000000 04000000 => \
             [CacheInfo(NeighbourCacheInfo { confirmed: 1, used: 2, updated: 3, refcnt: 4 })]
-        04000200 04000e00 => [LinkLayerAddress([]), Other(DefaultNla { kind: 14, value: [] })]
+        04000200 04000e00 => [LinkLocalAddress([]), Other(DefaultNla { kind: 14, value: [] })]
         04000100 => a value of 0 bytes at At { family: Neighbour, kind: 1 }
         04000400 => a value of 0 bytes at At { family: Neighbour, kind: 4 }
         04000500 => a value of 0 bytes at At { family: Neighbour, kind: 5 }
@@ -169,7 +169,7 @@ fn reads_values(rt: HostRuntime) -> Result<(), Fail> {
 
 /// What `check` answers of a message with an address of so many zeros.
 fn check_of_zeros(alloc: Global, count: usize) -> Result<Result<usize, EmitError>, AllocError> {
-    let long = NeighbourAttribute::LinkLayerAddress(vec![in alloc; 0u8; count]?);
+    let long = NeighbourAttribute::LinkLocalAddress(vec![in alloc; 0u8; count]?);
     let message = NeighbourMessage {
         attributes: vec![in alloc; long]?,
         ..NeighbourMessage::new(alloc)
@@ -210,9 +210,9 @@ fn states(rt: HostRuntime) -> Result<(), Fail> {
 
 #[test]
 fn flags(rt: HostRuntime) -> Result<(), Fail> {
-    let managed = NeighbourExtendedFlags::Managed;
+    let managed = NeighbourExtFlags::Managed;
     same(managed.bits(), 1)?;
-    shows(&rt, managed, "NeighbourExtendedFlags(1)")?;
+    shows(&rt, managed, "NeighbourExtFlags(1)")?;
     let wanted = "[NeighbourFlags(2), NeighbourFlags(4), NeighbourFlags(16), NeighbourFlags(128)]";
     let flags = [
         NeighbourFlags::Own,
@@ -246,7 +246,7 @@ fn what_is_remembered(rt: HostRuntime) -> Result<(), Fail> {
 
 #[test]
 fn by_its_name_and_its_types(rt: HostRuntime) -> Result<(), Fail> {
-    same(MessageKind::of("neighbour"), Some(MessageKind::Neighbour))?;
+    same(MessageKind::named("neighbour"), Some(MessageKind::Neighbour))?;
     let message = NeighbourMessage::new(rt.alloc());
     writes(
         &rt,

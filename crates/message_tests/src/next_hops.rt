@@ -231,7 +231,7 @@ fn a_next_hop_by_itself(rt: HostRuntime) -> Result<(), Fail> {
         attributes: vec![in rt.alloc(); RouteAttribute::Preference(RoutePreference::High)]?,
     };
     holds(hop == wanted)?;
-    holds(hop.clone(rt.alloc())? == wanted)?;
+    holds(hop.try_clone(rt.alloc())? == wanted)?;
     writes(&rt, hop, &["10000407 02000000 05001400 01000000"])
 }
 

@@ -22,13 +22,13 @@ fn reads_neighbours(rt: HostRuntime) -> Result<(), Fail> {
         020000000300000010000001 08000100c0000203 0a000200020000000013 0000 \
             0800040001000000 140003009a1700002d0000002a00000001000000 05000c0004000000 => \
             [Destination(192.0.2.3), \
-            LinkLayerAddress([2, 0, 0, 0, 0, 19]), Probes(1), CacheInfo(NeighbourCacheInfo { \
+            LinkLocalAddress([2, 0, 0, 0, 0, 19]), Probes(1), CacheInfo(NeighbourCacheInfo { \
             confirmed: 6042, used: 45, updated: 42, references: 1 }), \
             Other(DefaultNla { kind: 12, value: [4] })]
         0a0000000300000004008001 1400010020010db8000100000000000000000002 \
             0a000200020000000022 0000 0800040000000000 140003009c1700002c0000002c00000000000000 => \
             [Destination(2001:db8:1::2), \
-            LinkLayerAddress([2, 0, 0, 0, 0, 34]), Probes(0), CacheInfo(NeighbourCacheInfo { \
+            LinkLocalAddress([2, 0, 0, 0, 0, 34]), Probes(0), CacheInfo(NeighbourCacheInfo { \
             confirmed: 6044, used: 44, updated: 44, references: 0 })]";
     messages::<NeighbourMessage>(&rt, "", lines)
 }

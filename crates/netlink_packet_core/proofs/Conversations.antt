@@ -2,7 +2,7 @@
 use Rattle.std.specs.Prelude.{map, ◌⊎◌}
 use Rattle.std.proofs.Common.{◌≡◌, ℕ, Bool, true, false, List, [], ◌∷◌, ◌++◌, Result, refl, sym, ap, subst, ◌∙◌, inl, inr}
 use Rattle.std.proofs.lemmas.List.{map-append}
-use Rattle.netlink_packet_core.specs.Envelope.{Envelope, Place}
+use Rattle.netlink_packet_core.specs.Envelope.{Envelope, Tail}
 use Rattle.netlink_packet_core.specs.Walk.{start, EnvelopeSteps}
 use Rattle.netlink_packet_core.specs.Conversation.{Talk, Event, event_of, said, after, answers, kept, Talks, TalksOver, Stand}
 use Rattle.netlink_packet_core.specs.declared.refusal.EnvelopeError.{EnvelopeError}
@@ -29,24 +29,24 @@ open-keeps : (t : Talk) (s : Result Envelope EnvelopeError) (steps : Steps) → 
 open-keeps t s steps e = rw e refl
 
 -- over one datagram
-none-left : (steps : Steps) (t : Talk) (place last : Place) → EnvelopeSteps place steps last → place.bytes ≡ [] → (answers t steps ≡ []) × (kept t steps ≡ t)
+none-left : (steps : Steps) (t : Talk) (place last : Tail) → EnvelopeSteps place steps last → place.bytes ≡ [] → (answers t steps ≡ []) × (kept t steps ≡ t)
 none-left [] t place last p empty = (refl, refl)
 none-left (s ∷ steps) t place last (mid, step, p) empty = absurd (no_step_past_the_end place s mid empty step)
 
-none-said : (steps : Steps) (t : Talk) (place last : Place) → EnvelopeSteps place steps last → (t.over ≡ true) ⊎ ((t.over ≡ false) × (place.bytes ≡ []))
+none-said : (steps : Steps) (t : Talk) (place last : Tail) → EnvelopeSteps place steps last → (t.over ≡ true) ⊎ ((t.over ≡ false) × (place.bytes ≡ []))
     → (answers t steps ≡ []) × (kept t steps ≡ t)
 none-said steps t place last p (inl over) = (over-nothing t steps over, over-kept t steps over)
 none-said steps t place last p (inr (still, empty)) = none-left steps t place last p empty
 
-Talks-once : (given : List Answer) (steps : Steps) (t u : Talk) (place last : Place) → EnvelopeSteps place steps last → last.bytes ≡ []
+Talks-once : (given : List Answer) (steps : Steps) (t u : Talk) (place last : Tail) → EnvelopeSteps place steps last → last.bytes ≡ []
     → Talks t place given u → (map event_of given ≡ answers t steps) × (u ≡ kept t steps)
 Talks-once [] steps t u place last p end (more, (same, moved, why)) = let h = none-said steps t place last p why in (sym h.0, same ∙ sym h.1)
 Talks-once (a ∷ given) [] t u place last p end (v, more, (still, (s, step, says, keeps)), rest) =
-    absurd (no_step_past_the_end place s more (ap (λ (w : Place). w.bytes) p ∙ end) step)
+    absurd (no_step_past_the_end place s more (ap (λ (w : Tail). w.bytes) p ∙ end) step)
 Talks-once (a ∷ given) (r ∷ steps) t u place last (mid, walked, p) end (v, more, (still, (s, step, says, keeps)), rest) =
     let same = Step-same place s r more mid step walked in
     let talks : Talks (after t r) mid given u
-    = subst (λ (w : Place). Talks (after t r) w given u) same.1 (subst (λ (w : Talk). Talks w more given u) (keeps ∙ ap (after t) same.0) rest) in
+    = subst (λ (w : Tail). Talks (after t r) w given u) same.1 (subst (λ (w : Talk). Talks w more given u) (keeps ∙ ap (after t) same.0) rest) in
     let h = Talks-once given steps (after t r) u mid last p end talks in
     let first : event_of a ≡ said t r = says ∙ ap (said t) same.0 in (
       (λ i. first i ∷ h.0 i) ∙ sym (open-says t r steps still),

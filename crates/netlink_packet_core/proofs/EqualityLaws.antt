@@ -13,7 +13,7 @@ use Rattle.npr_base.specs.MeaningLaws.{enum_meaning, one_meaning, text_equality,
 use Rattle.npr_base.specs.StructLaws.{and_decides, decides_as}
 use Rattle.npr_base.specs.ViewEquality.{item_equality}
 use Rattle.netlink_packet_core.specs.Extended as OfAttribute
-use Rattle.netlink_packet_core.specs.Message.{Meant, message_of}
+use Rattle.netlink_packet_core.specs.Message.{View, message_of}
 use Rattle.netlink_packet_core.specs.Payload.{Payload, noop, error, done, overrun, inner, payload_of, error_of, done_of, code_of}
 use Rattle.netlink_packet_core.specs.WalkLaws.{header_equality}
 use Rattle.netlink_packet_core.specs.contracts.extended.ErrorAttributePartialEq.TheImpl as AttributeEq
@@ -97,5 +97,5 @@ module _ (I : RattleType) (bound : PartialEqGhosts I.Denot) (dict : Dict) {M : T
   message_equality a b =
       decides_as
       (λ p. λ i. record { header = p.0 i; payload = p.1 i })
-      (λ e. (ap (λ (m : Meant M). m.header) e, ap (λ (m : Meant M). m.payload) e))
+      (λ e. (ap (λ (m : View M). m.header) e, ap (λ (m : View M). m.payload) e))
       (and_decides (header_equality a.header b.header) (payload_equality a.payload b.payload))

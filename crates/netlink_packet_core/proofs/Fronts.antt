@@ -3,7 +3,7 @@ use Rattle.std.proofs.Common.{◌≡◌, ℕ, min, ◌+◌, ◌-◌, ◌≤◌, 
 use Rattle.std.proofs.lemmas.List.{take-append-drop, length-take, drop_at, drop_min, drop-drop}
 use Rattle.npr_base.specs.Framing.{pad}
 use Rattle.netlink_packet_core.specs.Header.{header}
-use Rattle.netlink_packet_core.specs.Envelope.{Envelope, Place, EnvelopeFront, EnvelopeBegins, EnvelopeStep}
+use Rattle.netlink_packet_core.specs.Envelope.{Envelope, Tail, EnvelopeFront, EnvelopeBegins, EnvelopeStep}
 use Rattle.netlink_packet_core.specs.declared.header.NetlinkHeader.{NetlinkHeader}
 
 pub begins : (offset : ℕ) (bs : List ℕ) (h : NetlinkHeader) → 16 ≤ length bs → h ≡ header.decode (take 16 bs) → 16 ≤ h.length → h.length ≤ length bs
@@ -39,12 +39,12 @@ steps offset bs x whole (front, more, is, size, header, counts) whole_is =
       whole = rw cut (λ h. omega (arith, length-take p more, length-drop p more));
     }
 
-pub steps_to : (old inside : Place) (x : Envelope) (whole count : ℕ) (new : Place) → inside ≡ old → EnvelopeBegins inside.offset inside.bytes (Ok x)
+pub steps_to : (old inside : Tail) (x : Envelope) (whole count : ℕ) (new : Tail) → inside ≡ old → EnvelopeBegins inside.offset inside.bytes (Ok x)
     → whole ≡ 16 + length x.payload + pad (length x.payload) → count ≡ min whole (length inside.bytes)
     → new ≡ record { offset = old.offset + count; bytes = drop count old.bytes } → EnvelopeStep old (Some (Ok x)) new
 steps_to old inside x whole count new same b whole_is count_is moved =
-    let begin : EnvelopeBegins old.offset old.bytes (Ok x) = subst (λ (w : Place). EnvelopeBegins w.offset w.bytes (Ok x)) same b in
-    let count_here : count ≡ min whole (length old.bytes) = subst (λ (w : Place). count ≡ min whole (length w.bytes)) same count_is in
+    let begin : EnvelopeBegins old.offset old.bytes (Ok x) = subst (λ (w : Tail). EnvelopeBegins w.offset w.bytes (Ok x)) same b in
+    let count_here : count ≡ min whole (length old.bytes) = subst (λ (w : Tail). count ≡ min whole (length w.bytes)) same count_is in
     let here : EnvelopeStep old (Some (Ok x)) (record { offset = old.offset + count; bytes = drop count old.bytes })
     = (subst (λ (n : ℕ). EnvelopeFront old.bytes x (drop n old.bytes)) (sym count_here) (steps old.offset old.bytes x whole begin whole_is), omega (arith, length-drop count old.bytes)) in
-    subst (λ (w : Place). EnvelopeStep old (Some (Ok x)) w) (sym moved) here
+    subst (λ (w : Tail). EnvelopeStep old (Some (Ok x)) w) (sym moved) here

@@ -4,7 +4,7 @@ use Rattle.std.proofs.Common.{◌≡◌, ℕ, min, ◌+◌, ◌<◌, ◌≤◌, 
 use Rattle.std.proofs.lemmas.Bool.{cases_lt}
 use Rattle.npr_base.specs.Framing.{pad}
 use Rattle.netlink_packet_core.specs.Conversation.{Stand}
-use Rattle.netlink_packet_core.specs.Envelope.{Envelope, EnvelopeFront, EnvelopePasses, IsDatagram, EnvelopeFault, EnvelopeStops, Place, EnvelopeStep}
+use Rattle.netlink_packet_core.specs.Envelope.{Envelope, EnvelopeFront, EnvelopePasses, IsDatagram, EnvelopeFault, EnvelopeStops, Tail, EnvelopeStep}
 use Rattle.netlink_packet_core.specs.Walk.{start, EnvelopeSteps, EnvelopeWalk, HasOne}
 use Rattle.netlink_packet_core.specs.declared.refusal.EnvelopeError.{EnvelopeError}
 use Rattle.netlink_packet_core.specs.declared.refusal.EnvelopeError.TheVariants.{MessageTooShort, MessageLength}
@@ -13,17 +13,17 @@ use Rattle.netlink_packet_core.proofs.Fronts.{begins, steps}
 use Rattle.netlink_packet_core.proofs.Walks.{no_step_past_the_end, Step-same, Walk-finds}
 
 -- a step that leaves fewer bytes
-record Goes (old : Place) : Type 0 where
+record Goes (old : Tail) : Type 0 where
   answer : Result Envelope EnvelopeError
-  new : Place
+  new : Tail
   step : EnvelopeStep old (Some answer) new
   less : length new.bytes < length old.bytes
 
-stops : (old : Place) (e : EnvelopeError) → 0 < length old.bytes → EnvelopeFault old.offset old.bytes e → Goes old
+stops : (old : Tail) (e : EnvelopeError) → 0 < length old.bytes → EnvelopeFault old.offset old.bytes e → Goes old
 stops old e left bad =
     record { answer = Err e; new = record { offset = old.offset + length old.bytes; bytes = [] }; step = (left, bad, refl, refl); less = left }
 
-passes : (old : Place) → 16 ≤ length old.bytes → 16 ≤ (header_at old.bytes).length → (header_at old.bytes).length ≤ length old.bytes → Goes old
+passes : (old : Tail) → 16 ≤ length old.bytes → 16 ≤ (header_at old.bytes).length → (header_at old.bytes).length ≤ length old.bytes → Goes old
 passes old long low high =
     let x : Envelope = envelope_at old.bytes in
     let count : ℕ = min (16 + length x.payload + pad (length x.payload)) (length old.bytes) in
@@ -36,7 +36,7 @@ passes old long low high =
       less = omega (arith, Front-shrinks old.bytes x (drop count old.bytes) f);
     }
 
-by_length : (old : Place) → 0 < length old.bytes → 16 ≤ length old.bytes → Goes old
+by_length : (old : Tail) → 0 < length old.bytes → 16 ≤ length old.bytes → Goes old
 by_length old left long =
     let fault : EnvelopeError = MessageLength old.offset (header_at old.bytes).length (length old.bytes) in
     elim (cases_lt (header_at old.bytes).length 16) [
@@ -48,7 +48,7 @@ by_length old left long =
     ]
 
 -- where bytes are left there is a step
-goes : (old : Place) → 0 < length old.bytes → Goes old
+goes : (old : Tail) → 0 < length old.bytes → Goes old
 goes old left = elim (cases_lt (length old.bytes) 16) [
   | inl short ↦ stops old (MessageTooShort old.offset (length old.bytes)) left (refl, refl, short)
   | inr long ↦ by_length old left (omega arith)
@@ -62,10 +62,10 @@ abbrev Steps : Type 0
 Steps = List (Result Envelope EnvelopeError)
 
 -- steps to the end, of n bytes at most
-abbrev ToTheEnd : Place → Type 0
-ToTheEnd old = (all : Steps) × (last : Place) × EnvelopeSteps old all last × (last.bytes ≡ [])
+abbrev ToTheEnd : Tail → Type 0
+ToTheEnd old = (all : Steps) × (last : Tail) × EnvelopeSteps old all last × (last.bytes ≡ [])
 
-to_the_end : (n : ℕ) (old : Place) → length old.bytes ≤ n → ToTheEnd old
+to_the_end : (n : ℕ) (old : Tail) → length old.bytes ≤ n → ToTheEnd old
 to_the_end zero old le = elim (none_or_some old.bytes) [
   | inl none ↦ ([], old, refl, none)
   | inr some ↦ absurd (omega arith)
@@ -78,13 +78,13 @@ to_the_end (suc n) old le = elim (none_or_some old.bytes) [
       (g.answer ∷ h.0, h.1, (g.new, g.step, h.2), h.3)
 ]
 
-Steps-same : (xs ys : Steps) (old m n : Place) → EnvelopeSteps old xs m → m.bytes ≡ [] → EnvelopeSteps old ys n → n.bytes ≡ [] → xs ≡ ys
+Steps-same : (xs ys : Steps) (old m n : Tail) → EnvelopeSteps old xs m → m.bytes ≡ [] → EnvelopeSteps old ys n → n.bytes ≡ [] → xs ≡ ys
 Steps-same [] [] old m n p end q stop = refl
-Steps-same [] (y ∷ ys) old m n p end (more, step, q) stop = absurd (no_step_past_the_end old y more (ap (λ (w : Place). w.bytes) p ∙ end) step)
-Steps-same (x ∷ xs) [] old m n (more, step, p) end q stop = absurd (no_step_past_the_end old x more (ap (λ (w : Place). w.bytes) q ∙ stop) step)
+Steps-same [] (y ∷ ys) old m n p end (more, step, q) stop = absurd (no_step_past_the_end old y more (ap (λ (w : Tail). w.bytes) p ∙ end) step)
+Steps-same (x ∷ xs) [] old m n (more, step, p) end q stop = absurd (no_step_past_the_end old x more (ap (λ (w : Tail). w.bytes) q ∙ stop) step)
 Steps-same (x ∷ xs) (y ∷ ys) old m n (v, s, p) end (w, t, q) stop =
     let first = Step-same old x y v w s t in
-    let later : xs ≡ ys = Steps-same xs ys v m n p end (subst (λ (k : Place). EnvelopeSteps k ys n) (sym first.1) q) stop in
+    let later : xs ≡ ys = Steps-same xs ys v m n p end (subst (λ (k : Tail). EnvelopeSteps k ys n) (sym first.1) q) stop in
     λ i. first.0 i ∷ later i
 
 pub Walk-same : (datagram : List ℕ) (xs ys : Steps) → EnvelopeWalk datagram xs → EnvelopeWalk datagram ys → xs ≡ ys

@@ -9,8 +9,9 @@
 use Rattle.std.specs.Prelude.{◌≡◌, ℕ, ℤ, pos, ◌==◌, ◌&&◌, ◌||◌, Bool, true, false, nat_lt, ◌⊎◌, List, [], ◌∷◌, ◌++◌, length, take, drop}
 use Rattle.std.specs.Prelude.{Option, Some, None, Result, Ok, Err, if◌then◌else◌}
 use Rattle.npr_base.specs.Layout.{signed32}
-use Rattle.netlink_packet_core.specs.Envelope.{Envelope, Place, EnvelopeStep}
+use Rattle.netlink_packet_core.specs.Envelope.{Envelope, Tail, EnvelopeStep}
 use Rattle.netlink_packet_core.specs.Walk.{start, EnvelopeWalk}
+use Rattle.netlink_packet_core.specs.Payload.{end_of}
 use Rattle.netlink_packet_core.specs.Extended.{has_flag, error_attributes, done_attributes}
 use Rattle.netlink_packet_core.specs.declared.refusal.EnvelopeError.{EnvelopeError}
 use Rattle.netlink_packet_core.specs.declared.conversation.Answer.{Answer}
@@ -85,8 +86,9 @@ error_outcome x =
 -- what the end of a dump says: a code below 0 is an error
 abbrev pub done_outcome : Bool → Envelope → Outcome
 done_outcome tables_changed x =
-    if nat_lt (length x.payload) 4 then cut
-    else if is_negative (code_in x.payload) then refused (code_in x.payload) (done_attributes x.header.flags (drop 4 x.payload))
+    let end = end_of x.payload in
+    if nat_lt (length end) 4 then cut
+    else if is_negative (code_in end) then refused (code_in end) (done_attributes x.header.flags (drop 4 end))
     else if tables_changed then interrupted else done
 
 -- what is said of a message of the answer, by its type
@@ -123,15 +125,15 @@ abbrev pub asked : ℕ → ℕ → Talk
 asked sequence_number port_number = record { sequence_number = sequence_number; port_number = port_number; interrupted = false; over = false }
 
 -- one step of a conversation over what is left of a datagram
-abbrev pub Hears : Talk → Place → Option Answer → Talk → Place → Type 0
+abbrev pub Hears : Talk → Tail → Option Answer → Talk → Tail → Type 0
 Hears t place None u more = (u ≡ t) × (more ≡ place) × ((t.over ≡ true) ⊎ ((t.over ≡ false) × (place.bytes ≡ [])))
 Hears t place (Some a) u more =
     (t.over ≡ false) × ((s : Result Envelope EnvelopeError) × EnvelopeStep place (Some s) more × (event_of a ≡ said t s) × (u ≡ after t s))
 
 -- what is answered over what is left of a datagram until nothing more is
-abbrev pub Talks : Talk → Place → List Answer → Talk → Type 0
-Talks t place [] u = (more : Place) × Hears t place None u more
-Talks t place (a ∷ rest) u = (v : Talk) × (more : Place) × Hears t place (Some a) v more × Talks v more rest u
+abbrev pub Talks : Talk → Tail → List Answer → Talk → Type 0
+Talks t place [] u = (more : Tail) × Hears t place None u more
+Talks t place (a ∷ rest) u = (v : Talk) × (more : Tail) × Hears t place (Some a) v more × Talks v more rest u
 
 -- what is answered over datagrams one after the other
 abbrev pub TalksOver : Talk → List (List ℕ) → List Answer → Talk → Type 0

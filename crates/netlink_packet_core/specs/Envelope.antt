@@ -58,12 +58,12 @@ EnvelopeBegins offset bytes (Ok x) =
 EnvelopeBegins offset bytes (Err e) = EnvelopeFault offset bytes e
 
 -- what is left of a datagram, and the offset at which it stands there
-pub record Place : Type 0 where
+pub record Tail : Type 0 where
   pub offset : ℕ
   pub bytes : List ℕ
 
 -- one step of a walk, from what was left to what is
-abbrev pub EnvelopeStep : Place → Option (Result Envelope EnvelopeError) → Place → Type 0
+abbrev pub EnvelopeStep : Tail → Option (Result Envelope EnvelopeError) → Tail → Type 0
 EnvelopeStep old None new = (old.bytes ≡ []) × (new ≡ old)
 EnvelopeStep old (Some (Ok x)) new = EnvelopeFront old.bytes x new.bytes × (new.offset + length new.bytes ≡ old.offset + length old.bytes)
 EnvelopeStep old (Some (Err e)) new =

@@ -1,7 +1,8 @@
 -- What stands behind the header of an envelope (linux/netlink.h, NLMSG_*, struct nlmsgerr).
-use Rattle.std.specs.Prelude.{◌≡◌, ◌≢◌, ℕ, ℤ, ◌<◌, ◌≤◌, ◌==◌, pos, FitsSigned, List, [], ◌++◌, length, take, drop, Option, Some, None}
+use Rattle.std.specs.Prelude.{◌≡◌, ◌≢◌, ℕ, ℤ, ◌<◌, ◌≤◌, ◌==◌, pos, FitsSigned, List, [], ◌∷◌, ◌++◌, length, take, drop, Option, Some, None}
 use Rattle.std.specs.Bool.{MatchBool}
 use Rattle.std.specs.Int.{w32}
+use Rattle.std.proofs.Common.{refl, arith}
 use Rattle.std.specs.declared.num.NonZeroI32.{NonZeroI32}
 use Rattle.npr_base.specs.Framing.{IsBytes}
 use Rattle.npr_base.specs.Layout.{signed32}
@@ -58,14 +59,14 @@ payload_bytes P noop = []
 payload_bytes P (error code more) = coded code more
 payload_bytes P (done code more) = coded code more
 payload_bytes P (overrun bytes) = bytes
-payload_bytes P (inner m) = P.writes m
+payload_bytes P (inner m) = P.encode m
 
-abbrev pub payload_misfit : {M : Type 0} → Protocol M → Payload M → Option EmitError
-payload_misfit P noop = None
-payload_misfit P (error code more) = None
-payload_misfit P (done code more) = None
-payload_misfit P (overrun bytes) = None
-payload_misfit P (inner m) = P.misfit m
+abbrev pub payload_unfit : {M : Type 0} → Protocol M → Payload M → Option EmitError
+payload_unfit P noop = None
+payload_unfit P (error code more) = None
+payload_unfit P (done code more) = None
+payload_unfit P (overrun bytes) = None
+payload_unfit P (inner m) = P.unfit m
 
 -- the bytes are a code and what stands behind it
 pub record IsCoded (bytes : List ℕ) (code : ℤ) (more : List ℕ) : Type 0 where
@@ -77,12 +78,21 @@ pub record IsCoded (bytes : List ℕ) (code : ℤ) (more : List ℕ) : Type 0 wh
 abbrev pub IsUncoded : List ℕ → DecodeError → Type 0
 IsUncoded bytes e = (length bytes < 4) × (e ≡ HeaderTooShort (length bytes) 4)
 
+-- what stands behind the header of an end: without bytes it is the code 0, as kernels may write it
+abbrev pub end_of : List ℕ → List ℕ
+end_of [] = coded (pos 0) []
+end_of (byte ∷ bytes) = byte ∷ bytes
+
+pub end-some : (bytes : List ℕ) → 0 < length bytes → end_of bytes ≡ bytes
+end-some [] some = absurd (omega (arith, some))
+end-some (byte ∷ bytes) some = refl
+
 -- what bytes under a type mean: the protocol says it of each type but the four of the envelope
 abbrev pub PayloadReads : {M : Type 0} → Protocol M → ℕ → List ℕ → Payload M → Type 0
 PayloadReads {M} P kind bytes x =
     MatchBool (kind == 1) (x ≡ noop)
     (MatchBool (kind == 2) ((code : ℤ) × (more : List ℕ) × IsCoded bytes code more × (x ≡ error code more))
-    (MatchBool (kind == 3) ((code : ℤ) × (more : List ℕ) × IsCoded bytes code more × (x ≡ done code more))
+    (MatchBool (kind == 3) ((code : ℤ) × (more : List ℕ) × IsCoded (end_of bytes) code more × (x ≡ done code more))
     (MatchBool (kind == 4) (x ≡ overrun bytes)
     ((m : M) × P.Reads kind bytes m × (x ≡ inner m)))))
 
@@ -91,7 +101,7 @@ abbrev pub PayloadFault : {M : Type 0} → Protocol M → ℕ → List ℕ → D
 PayloadFault P kind bytes e =
     MatchBool (kind == 1) ⊥
     (MatchBool (kind == 2) (IsUncoded bytes e)
-    (MatchBool (kind == 3) (IsUncoded bytes e)
+    (MatchBool (kind == 3) (IsUncoded (end_of bytes) e)
     (MatchBool (kind == 4) ⊥
     (P.Faulty kind bytes e))))
 

@@ -8,8 +8,8 @@ use Rattle.npr_base.specs.declared.refusal.EmitError.{EmitError}
 pub record Protocol (M : Type 0) : Type 1 where
   -- the type, the bytes, and why there are none
   pub number : M → ℕ
-  pub writes : M → List ℕ
-  pub misfit : M → Option EmitError
+  pub encode : M → List ℕ
+  pub unfit : M → Option EmitError
   -- what bytes under a type mean, why they mean nothing, and what can be read
   pub Reads : ℕ → List ℕ → M → Type 0
   pub Faulty : ℕ → List ℕ → DecodeError → Type 0
@@ -17,4 +17,4 @@ pub record Protocol (M : Type 0) : Type 1 where
   pub one_reading : (kind : ℕ) (bytes : List ℕ) (x y : M) → Reads kind bytes x → Reads kind bytes y → x ≡ y
   pub no_fault : (kind : ℕ) (bytes : List ℕ) (x : M) (e : DecodeError) → Reads kind bytes x → Faulty kind bytes e → ⊥
   pub reads_coherent : (kind : ℕ) (bytes : List ℕ) (x : M) → kind < 2 ^ 16 → IsBytes bytes → Reads kind bytes x → Coherent x × (number x ≡ kind)
-  pub reads_back : (x : M) → Coherent x → misfit x ≡ None → Reads (number x) (writes x) x
+  pub reads_back : (x : M) → Coherent x → unfit x ≡ None → Reads (number x) (encode x) x

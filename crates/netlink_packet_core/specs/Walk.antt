@@ -1,22 +1,22 @@
 -- Walks over the messages of a datagram, step by step.
 use Rattle.std.specs.Prelude.{◌≡◌, ℕ, List, [], ◌∷◌, ◌++◌, map, Some, Result, Ok, Err, ◌⊎◌, Bool, ◌==◌, ◌&&◌, nat_eq}
 use Rattle.std.specs.Cmp.Lexicographic.{pointwise}
-use Rattle.netlink_packet_core.specs.Envelope.{Envelope, EnvelopePasses, EnvelopeStops, Place, EnvelopeStep}
+use Rattle.netlink_packet_core.specs.Envelope.{Envelope, EnvelopePasses, EnvelopeStops, Tail, EnvelopeStep}
 use Rattle.netlink_packet_core.specs.declared.header.NetlinkHeader.{NetlinkHeader}
 use Rattle.netlink_packet_core.specs.declared.refusal.EnvelopeError.{EnvelopeError}
 
 -- where a walk over a datagram begins
-abbrev pub start : List ℕ → Place
+abbrev pub start : List ℕ → Tail
 start datagram = record { offset = 0; bytes = datagram }
 
 -- steps of a walk, one after the other, from what was left to what is
-abbrev pub EnvelopeSteps : Place → List (Result Envelope EnvelopeError) → Place → Type 0
+abbrev pub EnvelopeSteps : Tail → List (Result Envelope EnvelopeError) → Tail → Type 0
 EnvelopeSteps old [] new = old ≡ new
-EnvelopeSteps old (s ∷ steps) new = (more : Place) × EnvelopeStep old (Some s) more × EnvelopeSteps more steps new
+EnvelopeSteps old (s ∷ steps) new = (more : Tail) × EnvelopeStep old (Some s) more × EnvelopeSteps more steps new
 
 -- steps from the first byte of a datagram to the last
 abbrev pub EnvelopeWalk : List ℕ → List (Result Envelope EnvelopeError) → Type 0
-EnvelopeWalk datagram steps = (last : Place) × EnvelopeSteps (start datagram) steps last × (last.bytes ≡ [])
+EnvelopeWalk datagram steps = (last : Tail) × EnvelopeSteps (start datagram) steps last × (last.bytes ≡ [])
 
 -- one value is so, and no other
 abbrev pub HasOne : {A : Type 0} → (A → Type 0) → Type 0

@@ -6,7 +6,7 @@ ghost use Rattle.netlink_packet_core.specs.Conversation.{Talk, asked, event_of, 
 use crate::buffer::NetlinkBuffer;
 use crate::constants::{NLM_F_DUMP_INTR, NLMSG_DONE, NLMSG_ERROR, NLMSG_OVERRUN};
 use crate::extended::{done_attributes, error_attributes, has_flag};
-use crate::payload::split_code;
+use crate::payload::{split_code, split_end};
 use crate::refusal::EnvelopeError;
 use crate::walk::NetlinkIterator;
 use std::marker::Model;
@@ -27,7 +27,7 @@ pub enum End<'a> {
     Overrun,
     /// A datagram has bytes that are no message.
     Broken(EnvelopeError),
-    /// An error or an end has fewer than the 4 bytes of its code.
+    /// An error has fewer than the 4 bytes of its code, or an end has 1 to 3.
     Cut,
 }
 
@@ -145,7 +145,7 @@ fn error_end<'a>(message: &NetlinkBuffer<'a>) -> End<'a>
 fn done_end<'a>(interrupted: bool, message: &NetlinkBuffer<'a>) -> End<'a>
     ensures { outcome_of result ≡ done_outcome interrupted message.now }
 {
-    match split_code(message.payload()) {
+    match split_end(message.payload()) {
         Err(_) => End::Cut,
         Ok((code, more)) if code < 0 => End::Refused {
             code,

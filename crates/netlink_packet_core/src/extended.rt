@@ -3,7 +3,7 @@
 ghost use Rattle.std.specs.Prelude.{◌≡◌, ◌<◌, ◌^◌, length, option_map, refl};
 ghost use Rattle.{
   netlink_packet_core.specs.Extended.{family, has_flag, refused_length, refused_message, error_attributes, done_attributes, IsFirstText},
-  npr_base.specs.{Table.{shaped}},
+  npr_base.specs.{Family.{shaped}},
 };
 
 use crate::constants::{NETLINK_HEADER_LEN, NLM_F_ACK_TLVS, NLM_F_CAPPED, NLMSG_ALIGNTO};
@@ -85,7 +85,7 @@ impl Attribute for ErrorAttribute {
         rows!(put_rows(place, alloc, item, looks))
     }
 
-    fn clone(&self, alloc: Global) -> Result<Self, AllocError> {
+    fn try_clone(&self, alloc: Global) -> Result<Self, AllocError> {
         rows!(clone_rows(self, alloc))
     }
 }

@@ -7,11 +7,11 @@ ghost use Rattle.{
   netlink_packet_core.specs.{
     Conversation.{Talk, TalksOver, Stand, event_of, said, after, answers, kept, is_end},
     declared.{conversation.Answer.{Answer}, refusal.EnvelopeError.{EnvelopeError}},
-    Envelope.{Envelope, IsDatagram, EnvelopeStops, Place},
+    Envelope.{Envelope, IsDatagram, EnvelopeStops, Tail},
     Extended.{family as attribute},
     Header.{default_header},
     Payload.{payload_of, error_of, done_of},
-    Message.{Meant, message_of, IsNetlinkMessage, NetlinkFault, IsCoherentMessage, netlink_misfit, message_bytes, envelope_of, finalized},
+    Message.{View, message_of, IsNetlinkMessage, NetlinkFault, IsCoherentMessage, netlink_unfit, message_bytes, envelope_of, finalized},
     Walk.{HasOne, start, found, EnvelopeSteps, EnvelopeWalk, EnvelopeFinds},
   },
 };
@@ -49,24 +49,24 @@ pub fn law_walk()
     ensures datagram { (bytes : List ℕ) (xs : List Envelope) → EnvelopeWalk bytes (found xs) ↔ IsDatagram bytes xs }
     ensures stop { (bytes : List ℕ) (xs : List Envelope) (e : EnvelopeError) → EnvelopeWalk bytes (found xs ++ Err e ∷ []) ↔ EnvelopeStops bytes xs e }
     ensures one { (bytes : List ℕ) → HasOne (λ steps. EnvelopeWalk bytes steps) }
-    ensures any { (bytes : List ℕ) (steps : List (Result Envelope EnvelopeError)) (last : Place) → EnvelopeSteps (start bytes) steps last
+    ensures any { (bytes : List ℕ) (steps : List (Result Envelope EnvelopeError)) (last : Tail) → EnvelopeSteps (start bytes) steps last
         → (xs : List Envelope) × EnvelopeFinds bytes steps last.bytes xs × (16 * length xs ≤ length bytes) }
 {}
 
 /// An envelope is one message at most, and none where there is a fault.
 pub fn law_message<I: NetlinkInner>()
-    ensures one { (x : Envelope) (m n : Meant I.Meaning) → IsNetlinkMessage I.protocol x m → IsNetlinkMessage I.protocol x n → m ≡ n }
-    ensures none { (x : Envelope) (m : Meant I.Meaning) (e : DecodeError) → IsNetlinkMessage I.protocol x m → NetlinkFault I.protocol x e → ⊥ }
+    ensures one { (x : Envelope) (m n : View I.Meaning) → IsNetlinkMessage I.protocol x m → IsNetlinkMessage I.protocol x n → m ≡ n }
+    ensures none { (x : Envelope) (m : View I.Meaning) (e : DecodeError) → IsNetlinkMessage I.protocol x m → NetlinkFault I.protocol x e → ⊥ }
 {}
 
 /// The bytes that are written of a coherent message that fits are one message of a datagram, a
 /// multiple of four bytes, and that message with the length and the type of its payload; and
 /// messages with the same bytes are the same.
 pub fn law_written<I: NetlinkInner>()
-    ensures datagram { (m : Meant I.Meaning) → IsCoherentMessage I.protocol m → netlink_misfit I.protocol m ≡ None → IsDatagram (message_bytes I.protocol m) (envelope_of I.protocol m ∷ []) }
-    ensures back { (m : Meant I.Meaning) → IsCoherentMessage I.protocol m → netlink_misfit I.protocol m ≡ None → IsNetlinkMessage I.protocol (envelope_of I.protocol m) (finalized I.protocol m) }
-    ensures length { (m : Meant I.Meaning) → length (message_bytes I.protocol m) % 4 ≡ 0 }
-    ensures canonical { (m n : Meant I.Meaning) → IsCoherentMessage I.protocol m → netlink_misfit I.protocol m ≡ None → IsCoherentMessage I.protocol n → netlink_misfit I.protocol n ≡ None
+    ensures datagram { (m : View I.Meaning) → IsCoherentMessage I.protocol m → netlink_unfit I.protocol m ≡ None → IsDatagram (message_bytes I.protocol m) (envelope_of I.protocol m ∷ []) }
+    ensures back { (m : View I.Meaning) → IsCoherentMessage I.protocol m → netlink_unfit I.protocol m ≡ None → IsNetlinkMessage I.protocol (envelope_of I.protocol m) (finalized I.protocol m) }
+    ensures length { (m : View I.Meaning) → length (message_bytes I.protocol m) % 4 ≡ 0 }
+    ensures canonical { (m n : View I.Meaning) → IsCoherentMessage I.protocol m → netlink_unfit I.protocol m ≡ None → IsCoherentMessage I.protocol n → netlink_unfit I.protocol n ≡ None
         → message_bytes I.protocol m ≡ message_bytes I.protocol n → finalized I.protocol m ≡ finalized I.protocol n }
 {}
 

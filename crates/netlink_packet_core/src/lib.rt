@@ -27,7 +27,7 @@ pub use extended::{
 };
 pub use header::NetlinkHeader;
 pub use message::NetlinkMessage;
-pub use payload::{DoneMessage, ErrorMessage, NetlinkPayload, keep_bytes};
+pub use payload::{DoneMessage, ErrorMessage, NetlinkPayload};
 pub use refusal::EnvelopeError;
 pub use traits::NetlinkInner;
 pub use walk::NetlinkIterator;

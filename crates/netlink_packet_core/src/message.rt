@@ -2,9 +2,9 @@
 
 ghost use Rattle.std.specs.Prelude.{◌≡◌, ◌≢◌, ◌+◌, ◌<◌, ◌^◌, None, length, IfOk, IfErr, IsErrOf, OnErr};
 ghost use Rattle.{
-  npr_base.specs.{declared.refusal.DecodeError.TheVariants.{OutOfMemory}, Family.{checked}, Framing.{pad}},
+  npr_base.specs.{declared.refusal.DecodeError.TheVariants.{OutOfMemory}, Lists.{checked}, Framing.{pad}},
   netlink_packet_core.specs.{
-    Message.{Meant, message_of, IsNetlinkMessage, NetlinkFault, IsCoherentMessage, final_header, finalized, envelope_of, message_bytes, oversized, netlink_misfit},
+    Message.{View, message_of, IsNetlinkMessage, NetlinkFault, IsCoherentMessage, final_header, finalized, envelope_of, message_bytes, oversized, netlink_unfit},
     Payload.{payload_of, payload_bytes, PayloadGrows, CopyGrows},
   },
 };
@@ -44,20 +44,20 @@ impl<I: NetlinkInner> NetlinkMessage<I> {
     ///
     /// # Errors
     /// `AllocError` where memory is refused.
-    pub fn clone(&self, alloc: Global) -> Result<Self, AllocError>
+    pub fn try_clone(&self, alloc: Global) -> Result<Self, AllocError>
         ensures ok { IfOk result (λ m. message_of I.meaning m ≡ message_of I.meaning self.now) }
         ensures memory { OnErr result (CopyGrows I.copy_grows (payload_of I.meaning self.now.payload)) }
     {
         Ok(NetlinkMessage {
             header: self.header,
-            payload: self.payload.clone(alloc)?,
+            payload: self.payload.try_clone(alloc)?,
         })
     }
 
     /// Sets the length and the type of the header to those of the payload, which are written in any
     /// case. Asks that `check` accepts.
     pub fn finalize(&mut self)
-        requires { netlink_misfit I.protocol (message_of I.meaning self.old) ≡ None }
+        requires { netlink_unfit I.protocol (message_of I.meaning self.old) ≡ None }
         ensures { message_of I.meaning self.new ≡ finalized I.protocol (message_of I.meaning self.old) }
     {
         self.header = self.final_header(self.payload.buffer_len());
@@ -77,14 +77,14 @@ impl<'a, I: NetlinkInner> Parseable<&'a NetlinkBuffer<'a>> for NetlinkMessage<I>
         // What is read is what the envelope means.
         ensures ok { IfOk result (λ m. IsNetlinkMessage I.protocol input.now (message_of I.meaning m)) }
         // It means nothing else.
-        ensures one { IfOk result (λ m. (n : Meant I.Meaning) → IsNetlinkMessage I.protocol input.now n → message_of I.meaning m ≡ n) }
+        ensures one { IfOk result (λ m. (n : View I.Meaning) → IsNetlinkMessage I.protocol input.now n → message_of I.meaning m ≡ n) }
         ensures coherent { IfOk result (λ m. IsCoherentMessage I.protocol (message_of I.meaning m)) }
         // A refusal is the first fault.
         ensures refused { IfErr result (λ e. e ≢ OutOfMemory → NetlinkFault I.protocol input.now e) }
         // Then the envelope means nothing.
-        ensures none { IfErr result (λ e. e ≢ OutOfMemory → (n : Meant I.Meaning) → IsNetlinkMessage I.protocol input.now n → ⊥) }
+        ensures none { IfErr result (λ e. e ≢ OutOfMemory → (n : View I.Meaning) → IsNetlinkMessage I.protocol input.now n → ⊥) }
         // The envelope that is written of a message gives it back.
-        ensures again { IfOk result (λ m. (n : Meant I.Meaning) → IsCoherentMessage I.protocol n → netlink_misfit I.protocol n ≡ None
+        ensures again { IfOk result (λ m. (n : View I.Meaning) → IsCoherentMessage I.protocol n → netlink_unfit I.protocol n ≡ None
             → input.now ≡ envelope_of I.protocol n → message_of I.meaning m ≡ finalized I.protocol n) }
         // Memory is taken only for bytes that are kept, and where the protocol says it.
         ensures memory { IsErrOf result OutOfMemory → PayloadGrows I.grows input.now.header.message_type input.now.payload }
@@ -108,7 +108,7 @@ fn framed_len(len: usize) -> Result<usize, EmitError>
 impl<I: NetlinkInner> Emitable for NetlinkMessage<I> {
     ghost bytes = { λ m. message_bytes I.protocol (message_of I.meaning m) };
 
-    ghost unfit = { λ m. netlink_misfit I.protocol (message_of I.meaning m) };
+    ghost unfit = { λ m. netlink_unfit I.protocol (message_of I.meaning m) };
 
     fn check(&self) -> Result<usize, EmitError> {
         framed_len(self.payload.check()?)

@@ -3,13 +3,13 @@
 ghost use Rattle.std.specs.Prelude.{◌≡◌, ◌≢◌, ◌+◌, ◌<◌, ◌≤◌, None, length, IfOk, IfErr, IsErrOf, OnErr};
 ghost use Rattle.{
   npr_base.specs.{declared.refusal.DecodeError.TheVariants.{OutOfMemory}, Framing.{Writes}},
-  netlink_packet_core.specs.Payload.{Payload, payload_of, error_of, done_of, IsCoherentPayload, payload_type, payload_bytes, payload_misfit, PayloadReads, PayloadFault, PayloadGrows, CopyGrows, IsCoded, IsUncoded, code_of, coded},
+  netlink_packet_core.specs.Payload.{Payload, payload_of, error_of, done_of, IsCoherentPayload, payload_type, payload_bytes, payload_unfit, PayloadReads, PayloadFault, PayloadGrows, CopyGrows, IsCoded, IsUncoded, end_of, code_of, coded},
 };
 
 use crate::constants::{NLMSG_DONE, NLMSG_ERROR, NLMSG_NOOP, NLMSG_OVERRUN};
 use crate::header::NetlinkHeader;
 use crate::traits::NetlinkInner;
-use npr_base::{DecodeError, EmitError, Emitable, write_array, write_bytes};
+use npr_base::{DecodeError, EmitError, Emitable, read_bytes, write_array, write_bytes};
 use std::alloc::{AllocError, Global};
 use std::num::NonZeroI32;
 
@@ -26,7 +26,8 @@ pub struct ErrorMessage {
 
 /// The end of a dump.
 ///
-/// Layout: the code in 4 bytes, signed, little endian, and the bytes behind it.
+/// Layout: the code in 4 bytes, signed, little endian, and the bytes behind it. Without bytes it is
+/// the code 0, as some kernels write it.
 #[derive(Debug, Drop, PartialEq, Eq)]
 pub struct DoneMessage {
     /// The number of the error, below 0, or what the kernel's function answered.
@@ -67,18 +68,18 @@ pub(crate) fn split_code(bytes: &[u8]) -> Result<(i32, &[u8]), DecodeError>
     Ok((i32::from_le_bytes(*code), rest))
 }
 
-/// The bytes, copied.
+/// The code of an end, and what stands behind it; without bytes the code is 0.
 ///
 /// # Errors
-/// `AllocError` where memory is refused; without bytes none is taken.
-pub fn keep_bytes(alloc: Global, bytes: &[u8]) -> Result<Vec<u8>, AllocError>
-    ensures ok { IfOk result (λ v. v.items ≡ bytes.now) }
-    ensures memory { OnErr result (0 < length bytes.now) }
+/// `HeaderTooShort` at 1 to 3 bytes.
+pub(crate) fn split_end(bytes: &[u8]) -> Result<(i32, &[u8]), DecodeError>
+    ensures ok { IfOk result (λ r. IsCoded (end_of bytes.now) r.0 r.1.now) }
+    ensures refused { IfErr result (λ e. IsUncoded (end_of bytes.now) e) }
 {
     if bytes.is_empty() {
-        return Ok(Vec::new(alloc));
+        return Ok((0, bytes));
     }
-    Vec::from_slice(alloc, bytes)
+    split_code(bytes)
 }
 
 impl ErrorMessage {
@@ -94,7 +95,7 @@ impl ErrorMessage {
         let (code, rest) = split_code(bytes)?;
         Ok(ErrorMessage {
             code: NonZeroI32::new(code),
-            header: keep_bytes(alloc, rest)?,
+            header: read_bytes(alloc, rest)?,
         })
     }
 
@@ -102,13 +103,13 @@ impl ErrorMessage {
     ///
     /// # Errors
     /// `AllocError` where memory is refused; without bytes behind the code none is taken.
-    pub fn clone(&self, alloc: Global) -> Result<Self, AllocError>
+    pub fn try_clone(&self, alloc: Global) -> Result<Self, AllocError>
         ensures ok { IfOk result (λ m. error_of m ≡ error_of self.now) }
         ensures memory { OnErr result (0 < length self.now.header.items) }
     {
         Ok(ErrorMessage {
             code: self.code,
-            header: keep_bytes(alloc, self.header.as_slice())?,
+            header: read_bytes(alloc, self.header.as_slice())?,
         })
     }
 
@@ -139,16 +140,16 @@ impl DoneMessage {
     /// The message that the bytes behind a header are.
     ///
     /// # Errors
-    /// `OutOfMemory` where memory is refused, and `HeaderTooShort` below 4 bytes.
+    /// `OutOfMemory` where memory is refused, and `HeaderTooShort` at 1 to 3 bytes.
     pub fn parse(alloc: Global, bytes: &[u8]) -> Result<Self, DecodeError>
-        ensures ok { IfOk result (λ m. IsCoded bytes.now m.code m.extended_ack.items) }
-        ensures refused { IfErr result (λ e. e ≢ OutOfMemory → IsUncoded bytes.now e) }
+        ensures ok { IfOk result (λ m. IsCoded (end_of bytes.now) m.code m.extended_ack.items) }
+        ensures refused { IfErr result (λ e. e ≢ OutOfMemory → IsUncoded (end_of bytes.now) e) }
         ensures memory { IsErrOf result OutOfMemory → 4 < length bytes.now }
     {
-        let (code, rest) = split_code(bytes)?;
+        let (code, rest) = split_end(bytes)?;
         Ok(DoneMessage {
             code,
-            extended_ack: keep_bytes(alloc, rest)?,
+            extended_ack: read_bytes(alloc, rest)?,
         })
     }
 
@@ -156,13 +157,13 @@ impl DoneMessage {
     ///
     /// # Errors
     /// `AllocError` where memory is refused; without bytes behind the code none is taken.
-    pub fn clone(&self, alloc: Global) -> Result<Self, AllocError>
+    pub fn try_clone(&self, alloc: Global) -> Result<Self, AllocError>
         ensures ok { IfOk result (λ m. done_of m ≡ done_of self.now) }
         ensures memory { OnErr result (0 < length self.now.extended_ack.items) }
     {
         Ok(DoneMessage {
             code: self.code,
-            extended_ack: keep_bytes(alloc, self.extended_ack.as_slice())?,
+            extended_ack: read_bytes(alloc, self.extended_ack.as_slice())?,
         })
     }
 }
@@ -201,7 +202,7 @@ fn read_payload<I: NetlinkInner>(
         NLMSG_NOOP => Ok(NetlinkPayload::Noop),
         NLMSG_ERROR => Ok(NetlinkPayload::Error(ErrorMessage::parse(alloc, bytes)?)),
         NLMSG_DONE => Ok(NetlinkPayload::Done(DoneMessage::parse(alloc, bytes)?)),
-        NLMSG_OVERRUN => Ok(NetlinkPayload::Overrun(keep_bytes(alloc, bytes)?)),
+        NLMSG_OVERRUN => Ok(NetlinkPayload::Overrun(read_bytes(alloc, bytes)?)),
         _ => Ok(NetlinkPayload::InnerMessage(I::deserialize(alloc, &header, bytes)?)),
     }
 }
@@ -232,16 +233,16 @@ impl<I: NetlinkInner> NetlinkPayload<I> {
     ///
     /// # Errors
     /// `AllocError` where memory is refused.
-    pub fn clone(&self, alloc: Global) -> Result<Self, AllocError>
+    pub fn try_clone(&self, alloc: Global) -> Result<Self, AllocError>
         ensures ok { IfOk result (λ p. payload_of I.meaning p ≡ payload_of I.meaning self.now) }
         ensures memory { OnErr result (CopyGrows I.copy_grows (payload_of I.meaning self.now)) }
     {
         Ok(match self {
-            NetlinkPayload::Done(m) => NetlinkPayload::Done(m.clone(alloc)?),
-            NetlinkPayload::Error(m) => NetlinkPayload::Error(m.clone(alloc)?),
+            NetlinkPayload::Done(m) => NetlinkPayload::Done(m.try_clone(alloc)?),
+            NetlinkPayload::Error(m) => NetlinkPayload::Error(m.try_clone(alloc)?),
             NetlinkPayload::Noop => NetlinkPayload::Noop,
             NetlinkPayload::Overrun(bytes) => {
-                NetlinkPayload::Overrun(keep_bytes(alloc, bytes.as_slice())?)
+                NetlinkPayload::Overrun(read_bytes(alloc, bytes.as_slice())?)
             }
             NetlinkPayload::InnerMessage(m) => NetlinkPayload::InnerMessage(m.try_clone(alloc)?),
         })
@@ -264,7 +265,7 @@ impl<I: NetlinkInner> NetlinkPayload<I> {
 impl<I: NetlinkInner> Emitable for NetlinkPayload<I> {
     ghost bytes = { λ p. payload_bytes I.protocol (payload_of I.meaning p) };
 
-    ghost unfit = { λ p. payload_misfit I.protocol (payload_of I.meaning p) };
+    ghost unfit = { λ p. payload_unfit I.protocol (payload_of I.meaning p) };
 
     fn check(&self) -> Result<usize, EmitError> {
         match self {

@@ -49,5 +49,5 @@ pub trait NetlinkInner: Emitable + Drop {
         ensures memory { OnErr result (copy_grows (meaning self.now)) };
 
     /// It is written as its protocol says.
-    ghost by_protocol: { (m : Self) → (Self.bytes m ≡ protocol.writes (meaning m)) × (Self.unfit m ≡ protocol.misfit (meaning m)) };
+    ghost by_protocol: { (m : Self) → (Self.bytes m ≡ protocol.encode (meaning m)) × (Self.unfit m ≡ protocol.unfit (meaning m)) };
 }

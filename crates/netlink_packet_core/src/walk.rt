@@ -1,7 +1,7 @@
 //! A walk over the messages of a datagram.
 
 ghost use Rattle.std.specs.{Prelude.{◌≡◌, ◌+◌, ◌/◌, ◌<◌, ◌≤◌, ◌^◌, length, drop}, Iterator.{at_most}};
-ghost use Rattle.{npr_base.specs.Counts.{looked}, netlink_packet_core.specs.Envelope.{Place, EnvelopeStep}};
+ghost use Rattle.{npr_base.specs.Counts.{looked}, netlink_packet_core.specs.Envelope.{Tail, EnvelopeStep}};
 
 use crate::buffer::NetlinkBuffer;
 use crate::constants::NLMSG_ALIGNTO;
@@ -18,7 +18,7 @@ pub struct NetlinkIterator<'a> {
 }
 
 impl<'a> Model for NetlinkIterator<'a> {
-    ghost Value = { Place };
+    ghost Value = { Tail };
 
     ghost view = { λ i. record { offset = i.offset; bytes = i.rest.now } };
 

@@ -16,6 +16,7 @@ pub use Rattle.npr_base.specs.Tables
 pub use Rattle.npr_base.specs.Equality
 pub use Rattle.npr_base.specs.EqualityLaws
 pub use Rattle.npr_base.specs.Family
+pub use Rattle.npr_base.specs.Lists
 pub use Rattle.npr_base.specs.Fields
 pub use Rattle.npr_base.specs.FitLaws
 pub use Rattle.npr_base.specs.Found

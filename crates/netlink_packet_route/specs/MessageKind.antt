@@ -1,6 +1,6 @@
 -- The kinds of messages: their names, and what each is made of.
 use Rattle.std.specs.Prelude.{ℕ, List, Option, Some, None, codes}
-use Rattle.npr_base.specs.Message.{Grammar, Meant}
+use Rattle.npr_base.specs.Message.{Grammar, View}
 use Rattle.npr_address.specs.Message.{addresses}
 use Rattle.npr_neighbour.specs.Message.{neighbours}
 use Rattle.npr_route.specs.Message.{routes}
@@ -33,7 +33,7 @@ form_of Neighbour = form_by neighbours
 
 -- a message of a kind, without where it lies in memory
 abbrev pub MessageOf : MessageKind → Type 0
-MessageOf kind = Meant (form_of kind).grammar
+MessageOf kind = View (form_of kind).grammar
 
 -- the kind of the messages of a type, where the library has one
 abbrev pub kind_of_type : MessageType → Option MessageKind

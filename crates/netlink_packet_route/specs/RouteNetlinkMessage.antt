@@ -6,7 +6,7 @@ use Rattle.npr_base.specs.declared.refusal.DecodeError.{DecodeError}
 use Rattle.npr_base.specs.declared.refusal.EmitError.{EmitError}
 use Rattle.npr_base.specs.Framing.{IsBytes, Item, Front}
 use Rattle.npr_base.proofs.Messages.{message-one, message-sound, message-coherent, message-back}
-use Rattle.npr_base.specs.Message.{IsMessage, MessageFault, IsCoherent, spelling, message_misfit, view}
+use Rattle.npr_base.specs.Message.{IsMessage, MessageFault, IsCoherent, canonical_bytes, message_unfit, view}
 use Rattle.npr_base.specs.EnumTable.{◌also◌}
 use Rattle.npr_base.specs.Rows.{form_in}
 use Rattle.npr_address.specs.Message.{addresses}
@@ -88,13 +88,13 @@ abbrev pub number : Meaning → ℕ
 number (message kind a m) = type_number kind a
 number (other type bytes) = type
 
-abbrev pub writes : Meaning → List ℕ
-writes (message kind a m) = spelling (form_of kind).grammar m
-writes (other type bytes) = bytes
+abbrev pub encode : Meaning → List ℕ
+encode (message kind a m) = canonical_bytes (form_of kind).grammar m
+encode (other type bytes) = bytes
 
-abbrev pub misfit : Meaning → Option EmitError
-misfit (message kind a m) = message_misfit (form_of kind).grammar m
-misfit (other type bytes) = None
+abbrev pub meaning_unfit : Meaning → Option EmitError
+meaning_unfit (message kind a m) = message_unfit (form_of kind).grammar m
+meaning_unfit (other type bytes) = None
 
 -- the bytes are a message of a kind
 abbrev pub IsMessageOf : MessageKind → Action → List ℕ → Meaning → Type 0
@@ -182,9 +182,9 @@ type-number Rule New = refl
 type-number Rule Del = refl
 type-number Rule Get = refl
 
-pub back : (x : Meaning) → Coherent x → misfit x ≡ None → ReadsUnder (type_of (number x)) (number x) (writes x) x
+pub back : (x : Meaning) → Coherent x → meaning_unfit x ≡ None → ReadsUnder (type_of (number x)) (number x) (encode x) x
 back (message kind a m) c fits =
-    subst (λ (t : MessageType). ReadsUnder t (type_number kind a) (spelling (form_of kind).grammar m) (message kind a m)) (sym (type-number kind a))
+    subst (λ (t : MessageType). ReadsUnder t (type_number kind a) (canonical_bytes (form_of kind).grammar m) (message kind a m)) (sym (type-number kind a))
     (m, message-back (form_of kind).grammar m c fits, refl)
 back (other type bytes) c fits = subst (λ (t : MessageType). ReadsUnder t type bytes (other type bytes)) (sym c.0) refl
 
@@ -192,8 +192,8 @@ back (other type bytes) c fits = subst (λ (t : MessageType). ReadsUnder t type 
 abbrev pub rtnetlink : Protocol Meaning
 rtnetlink = record {
   number = number;
-  writes = writes;
-  misfit = misfit;
+  encode = encode;
+  unfit = meaning_unfit;
   Reads = λ kind bytes x. ReadsUnder (type_of kind) kind bytes x;
   Faulty = λ kind bytes e. FaultUnder (type_of kind) bytes e;
   Coherent = Coherent;

@@ -7,5 +7,5 @@ pub use netlink_packet_core::{
     NLM_F_EXCL, NLM_F_MATCH, NLM_F_MULTIPART, NLM_F_NONREC, NLM_F_REPLACE, NLM_F_REQUEST,
     NLM_F_ROOT, NLMSG_ALIGNTO, NLMSG_DONE, NLMSG_ERROR, NLMSG_NOOP, NLMSG_OVERRUN, NetlinkBuffer,
     NetlinkHeader, NetlinkInner, NetlinkIterator, NetlinkMessage, NetlinkPayload, done_attributes,
-    error_attributes, error_text, keep_bytes, refused_message,
+    error_attributes, error_text, refused_message,
 };

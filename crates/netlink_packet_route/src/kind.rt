@@ -1,6 +1,6 @@
 //! The kinds of messages, by their names.
 
-ghost use Rattle.std.specs.Prelude.{◌≡◌, ◌≢◌, IfSome, IsNone};
+ghost use Rattle.std.specs.Prelude.{◌≡◌, ◌≢◌, [], ◌∷◌, map, string_bytes, IfSome, IsNone};
 ghost use Rattle.netlink_packet_route.specs.{declared.kind.MessageKind.{MessageKind}, MessageKind.{kind_name}};
 
 /// A kind of message.
@@ -25,8 +25,19 @@ impl MessageKind {
         MessageKind::Neighbour,
     ];
 
+    /// The kind that the words of a command line, those after the program's name, consist of.
+    pub fn of(words: &[String]) -> Option<MessageKind>
+        ensures named { IfSome result (λ kind. map string_bytes words.now ≡ kind_name kind ∷ []) }
+        ensures other { IsNone result → (kind : MessageKind) → map string_bytes words.now ≢ kind_name kind ∷ [] }
+    {
+        match words {
+            [word] => MessageKind::named(word.as_str()),
+            _ => None,
+        }
+    }
+
     /// The kind of this name.
-    pub fn of(name: &str) -> Option<MessageKind>
+    pub fn named(name: &str) -> Option<MessageKind>
         ensures named { IfSome result (λ kind. name.now ≡ kind_name kind) }
         ensures other { IsNone result → (kind : MessageKind) → name.now ≢ kind_name kind }
     {

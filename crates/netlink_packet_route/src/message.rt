@@ -5,7 +5,7 @@ ghost use Rattle.{
   npr_base.specs.{Message.{MessageFault, view}, declared.refusal.DecodeError.TheVariants.{OutOfMemory}},
   netlink_packet_route.specs.{
     MessageKind.{kind_of_type, form_of},
-    RouteNetlinkMessage.{Meaning, meaning_of, other_of, address, route, neighbour, rule, rtnetlink, type_of, writes, misfit, IsMessageOf, ReadsUnder, FaultUnder, HasFirst, GrowsUnder, CopyGrows},
+    RouteNetlinkMessage.{Meaning, meaning_of, other_of, address, route, neighbour, rule, rtnetlink, type_of, writes, meaning_unfit, IsMessageOf, ReadsUnder, FaultUnder, HasFirst, GrowsUnder, CopyGrows},
   },
   npr_address.specs.Message.{addresses},
   npr_neighbour.specs.Message.{neighbours},
@@ -14,9 +14,9 @@ ghost use Rattle.{
 };
 
 use crate::kind::MessageKind;
-use netlink_packet_core::{NetlinkHeader, NetlinkInner, keep_bytes};
+use netlink_packet_core::{NetlinkHeader, NetlinkInner};
 use npr_address::AddressMessage;
-use npr_base::{DecodeError, EmitError, Emitable, Parseable, write_bytes};
+use npr_base::{DecodeError, EmitError, Emitable, Parseable, read_bytes, write_bytes};
 use npr_neighbour::NeighbourMessage;
 use npr_route::RouteMessage;
 use npr_rule::RuleMessage;
@@ -129,8 +129,8 @@ macro_rules! each {
 macro_rules! clone_of {
     (($of_message:expr, $alloc:expr) { $($message:ident $kind:ident { $($number:tt $variant:ident $action:ident;)* })* }) => {
         match $of_message {
-            $($(RouteNetlinkMessage::$variant(m) => m.clone($alloc)?.under(Action::$action),)*)*
-            RouteNetlinkMessage::Other(m) => RouteNetlinkMessage::Other(m.clone($alloc)?),
+            $($(RouteNetlinkMessage::$variant(m) => m.try_clone($alloc)?.under(Action::$action),)*)*
+            RouteNetlinkMessage::Other(m) => RouteNetlinkMessage::Other(m.try_clone($alloc)?),
         }
     };
 }
@@ -168,15 +168,15 @@ pub trait Entry: Drop {
     ghost use Rattle.netlink_packet_route.specs.declared.message.Action.{Action};
 
     /// What the message of rtnetlink is that does this with it.
-    ghost meant: { Action → Self → Meaning };
+    ghost as_meaning: { Action → Self → Meaning };
 
     /// The message of rtnetlink that does this with the entry.
     fn under(self, action: Action) -> RouteNetlinkMessage
-        ensures { meaning_of result ≡ meant action self };
+        ensures { meaning_of result ≡ as_meaning action self };
 }
 
 impl Entry for AddressMessage {
-    ghost meant = { λ a m. address a (view addresses m) };
+    ghost as_meaning = { λ a m. address a (view addresses m) };
 
     fn under(self, action: Action) -> RouteNetlinkMessage {
         match action {
@@ -188,7 +188,7 @@ impl Entry for AddressMessage {
 }
 
 impl Entry for RouteMessage {
-    ghost meant = { λ a m. route a (view routes m) };
+    ghost as_meaning = { λ a m. route a (view routes m) };
 
     fn under(self, action: Action) -> RouteNetlinkMessage {
         match action {
@@ -200,7 +200,7 @@ impl Entry for RouteMessage {
 }
 
 impl Entry for NeighbourMessage {
-    ghost meant = { λ a m. neighbour a (view neighbours m) };
+    ghost as_meaning = { λ a m. neighbour a (view neighbours m) };
 
     fn under(self, action: Action) -> RouteNetlinkMessage {
         match action {
@@ -212,7 +212,7 @@ impl Entry for NeighbourMessage {
 }
 
 impl Entry for RuleMessage {
-    ghost meant = { λ a m. rule a (view rules m) };
+    ghost as_meaning = { λ a m. rule a (view rules m) };
 
     fn under(self, action: Action) -> RouteNetlinkMessage {
         match action {
@@ -228,13 +228,13 @@ impl OtherMessage {
     ///
     /// # Errors
     /// `AllocError` where memory is refused; without bytes none is taken.
-    pub fn clone(&self, alloc: Global) -> Result<Self, AllocError>
+    pub fn try_clone(&self, alloc: Global) -> Result<Self, AllocError>
         ensures ok { IfOk result (λ m. other_of m ≡ other_of self.now) }
         ensures memory { OnErr result (0 < length self.now.payload.items) }
     {
         Ok(OtherMessage {
             message_type: self.message_type,
-            payload: keep_bytes(alloc, self.payload.as_slice())?,
+            payload: read_bytes(alloc, self.payload.as_slice())?,
         })
     }
 }
@@ -242,7 +242,7 @@ impl OtherMessage {
 impl Emitable for RouteNetlinkMessage {
     ghost bytes = { λ m. writes (meaning_of m) };
 
-    ghost unfit = { λ m. misfit (meaning_of m) };
+    ghost unfit = { λ m. meaning_unfit (meaning_of m) };
 
     fn check(&self) -> Result<usize, EmitError> {
         types!(each(self; m => m.check(); other => Ok(other.payload.len())))
@@ -299,7 +299,7 @@ fn read_under(
         MessageType::Of(kind, action) => read_kind(alloc, kind, action, payload),
         MessageType::Unknown => Ok(RouteNetlinkMessage::Other(OtherMessage {
             message_type,
-            payload: keep_bytes(alloc, payload)?,
+            payload: read_bytes(alloc, payload)?,
         })),
     }
 }

@@ -2,6 +2,6 @@
 
 pub use npr_neighbour::{
     NeighbourAddress, NeighbourAttribute, NeighbourCacheInfo, NeighbourCacheInfoBuffer,
-    NeighbourExtendedFlags, NeighbourFlags, NeighbourHeader, NeighbourMessage,
+    NeighbourExtFlags, NeighbourFlags, NeighbourHeader, NeighbourMessage,
     NeighbourMessageBuffer, NeighbourState,
 };

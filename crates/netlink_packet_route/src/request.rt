@@ -21,7 +21,7 @@ use std::alloc::Global;
 
 /// Asks for all that the message names, as `ip route show table 100`.
 pub fn dump<M: Entry>(sequence_number: u32, message: M) -> NetlinkMessage<RouteNetlinkMessage>
-    ensures { IsRequest rtnetlink dump_flags sequence_number (M.meant Get message) (message_of meaning_of result) }
+    ensures { IsRequest rtnetlink dump_flags sequence_number (M.as_meaning Get message) (message_of meaning_of result) }
 {
     NetlinkMessage::dump_request(sequence_number, message.under(Action::Get))
 }
@@ -83,14 +83,14 @@ pub fn dump_neighbours(
 
 /// Asks for the one that the message names, as `ip route get`.
 pub fn get<M: Entry>(sequence_number: u32, message: M) -> NetlinkMessage<RouteNetlinkMessage>
-    ensures { IsRequest rtnetlink get_flags sequence_number (M.meant Get message) (message_of meaning_of result) }
+    ensures { IsRequest rtnetlink get_flags sequence_number (M.as_meaning Get message) (message_of meaning_of result) }
 {
     NetlinkMessage::get_request(sequence_number, message.under(Action::Get))
 }
 
 /// Makes one that is not there, and asks for an acknowledgement, as `ip route add`.
 pub fn add<M: Entry>(sequence_number: u32, message: M) -> NetlinkMessage<RouteNetlinkMessage>
-    ensures { IsRequest rtnetlink new_flags sequence_number (M.meant New message) (message_of meaning_of result) }
+    ensures { IsRequest rtnetlink new_flags sequence_number (M.as_meaning New message) (message_of meaning_of result) }
 {
     NetlinkMessage::new_request(sequence_number, message.under(Action::New))
 }
@@ -98,14 +98,14 @@ pub fn add<M: Entry>(sequence_number: u32, message: M) -> NetlinkMessage<RouteNe
 /// Makes one, in place of one that is there, and asks for an acknowledgement, as `ip route replace`;
 /// the kernel replaces no rule, and makes a second one.
 pub fn replace<M: Entry>(sequence_number: u32, message: M) -> NetlinkMessage<RouteNetlinkMessage>
-    ensures { IsRequest rtnetlink replace_flags sequence_number (M.meant New message) (message_of meaning_of result) }
+    ensures { IsRequest rtnetlink replace_flags sequence_number (M.as_meaning New message) (message_of meaning_of result) }
 {
     NetlinkMessage::replace_request(sequence_number, message.under(Action::New))
 }
 
 /// Takes one away, and asks for an acknowledgement, as `ip route del`.
 pub fn delete<M: Entry>(sequence_number: u32, message: M) -> NetlinkMessage<RouteNetlinkMessage>
-    ensures { IsRequest rtnetlink delete_flags sequence_number (M.meant Del message) (message_of meaning_of result) }
+    ensures { IsRequest rtnetlink delete_flags sequence_number (M.as_meaning Del message) (message_of meaning_of result) }
 {
     NetlinkMessage::delete_request(sequence_number, message.under(Action::Del))
 }

@@ -3,7 +3,7 @@ use Rattle.std.proofs.Common.{◌≡◌, ℕ, ◌+◌, ◌<◌, Option, None, Li
 use Rattle.std.proofs.lemmas.List.{take_more, drop_more, map_push}
 use Rattle.netlink_packet_route.specs.declared.framing.EmitError.{EmitError}
 use Rattle.netlink_packet_route.specs.Framing.{Item}
-use Rattle.netlink_packet_route.specs.Family.{first_unfit}
+use Rattle.netlink_packet_route.specs.Lists.{first_unfit}
 use Rattle.netlink_packet_route.specs.FitLaws.{none_both}
 use Rattle.netlink_report.specs.Report.{line_text, lines_text}
 
@@ -13,16 +13,16 @@ lines_text-append (y ∷ ys) x = ap (λ (t : List ℕ). line_text y.kind (length
 
 module _ {A M : Type 0} (meaning : A → M) where
   -- the attributes up to one, and it
-  pub lines-next : (writes : M → Item) (xs : List A) (i : ℕ) (x : A) → i < length xs → x ≡ get_or xs i x
-      → lines_text (map writes (map meaning (take (i + 1) xs))) ≡ lines_text (map writes (map meaning (take i xs))) ++ line_text (writes (meaning x)).kind (length (writes (meaning x)).value)
-  lines-next writes xs i x lt is =
+  pub lines-next : (written : M → Item) (xs : List A) (i : ℕ) (x : A) → i < length xs → x ≡ get_or xs i x
+      → lines_text (map written (map meaning (take (i + 1) xs))) ≡ lines_text (map written (map meaning (take i xs))) ++ line_text (written (meaning x)).kind (length (written (meaning x)).value)
+  lines-next written xs i x lt is =
       let more : take (i + 1) xs ≡ take i xs ++ x ∷ [] = take_more xs i x lt ∙ ap (λ y. take i xs ++ y ∷ []) (sym is) in
       let seen : map meaning (take (i + 1) xs) ≡ map meaning (take i xs) ++ meaning x ∷ [] = ap (map meaning) more ∙ map_push meaning (take i xs) x in
-      ap (λ (ms : List M). lines_text (map writes ms)) seen ∙ ap lines_text (map_push writes (map meaning (take i xs)) (meaning x)) ∙ lines_text-append (map writes (map meaning (take i xs))) (writes (meaning x))
+      ap (λ (ms : List M). lines_text (map written ms)) seen ∙ ap lines_text (map_push written (map meaning (take i xs)) (meaning x)) ∙ lines_text-append (map written (map meaning (take i xs))) (written (meaning x))
 
   -- one attribute that can be written, and those after it
-  pub fits-next : (misfit : M → Option EmitError) (xs : List A) (i : ℕ) (x : A) → i < length xs → x ≡ get_or xs i x → first_unfit misfit (map meaning (drop i xs)) ≡ None
-      → (misfit (meaning x) ≡ None) × (first_unfit misfit (map meaning (drop (i + 1) xs)) ≡ None)
-  fits-next misfit xs i x lt is h =
+  pub fits-next : (meaning_unfit : M → Option EmitError) (xs : List A) (i : ℕ) (x : A) → i < length xs → x ≡ get_or xs i x → first_unfit meaning_unfit (map meaning (drop i xs)) ≡ None
+      → (meaning_unfit (meaning x) ≡ None) × (first_unfit meaning_unfit (map meaning (drop (i + 1) xs)) ≡ None)
+  fits-next meaning_unfit xs i x lt is h =
       let more : drop i xs ≡ x ∷ drop (i + 1) xs = drop_more xs i x lt ∙ ap (λ y. y ∷ drop (i + 1) xs) (sym is) in
-      none_both (misfit (meaning x)) (first_unfit misfit (map meaning (drop (i + 1) xs))) (sym (ap (λ (ys : List A). first_unfit misfit (map meaning ys)) more) ∙ h)
+      none_both (meaning_unfit (meaning x)) (first_unfit meaning_unfit (map meaning (drop (i + 1) xs))) (sym (ap (λ (ys : List A). first_unfit meaning_unfit (map meaning ys)) more) ∙ h)

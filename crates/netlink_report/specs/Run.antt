@@ -1,9 +1,9 @@
 -- What a run has read, answered and written.
 use Rattle.std.specs.Prelude.{◌≡◌, ◌≢◌, ℕ, ◌<◌, ◌≤◌, List, length, map, take, Option, Some, None, IfSome}
 use Rattle.std.specs.Io.KnownBytes.{Appends}
-use Rattle.netlink_packet_route.specs.Table.{written_by}
+use Rattle.netlink_packet_route.specs.Family.{written_by}
 use Rattle.netlink_packet_route.specs.MessageKind.{form_of, kind_name}
-use Rattle.netlink_packet_route.specs.Messages.{Meant, IsMessage, MessageFault, message_misfit, spelling}
+use Rattle.netlink_packet_route.specs.Messages.{View, IsMessage, MessageFault, message_unfit, canonical_bytes}
 use Rattle.netlink_packet_route.specs.declared.MessageKind.{MessageKind}
 use Rattle.netlink_packet_route.specs.declared.framing.DecodeError.{DecodeError}
 use Rattle.netlink_packet_route.specs.declared.framing.DecodeError.TheVariants.{OutOfMemory}
@@ -15,8 +15,8 @@ use Rattle.netlink_report.specs.Report.{report}
 unfoldable pub IsReport : MessageKind → List ℕ → List ℕ → Type 0
 IsReport kind bytes text =
     let f = form_of kind in
-    (m : Meant f.grammar) × IsMessage f.grammar bytes m × (message_misfit f.grammar m ≡ None)
-    × (text ≡ report (kind_name kind) (length bytes) (map (written_by f.grammar.writing) m.attributes) (spelling f.grammar m))
+    (m : View f.grammar) × IsMessage f.grammar bytes m × (message_unfit f.grammar m ≡ None)
+    × (text ≡ report (kind_name kind) (length bytes) (map (written_by f.grammar.writing) m.attributes) (canonical_bytes f.grammar m))
 
 -- the bytes are no message of this kind, and this is their first fault
 unfoldable pub IsRefused : MessageKind → List ℕ → DecodeError → Type 0
@@ -26,7 +26,7 @@ IsRefused kind bytes e = let f = form_of kind in (e ≢ OutOfMemory) × MessageF
 unfoldable pub IsUnfit : MessageKind → List ℕ → EmitError → Type 0
 IsUnfit kind bytes e =
     let f = form_of kind in
-    (m : Meant f.grammar) × IsMessage f.grammar bytes m × (message_misfit f.grammar m ≡ Some e)
+    (m : View f.grammar) × IsMessage f.grammar bytes m × (message_unfit f.grammar m ≡ Some e)
 
 -- the text that was left to read stands for bytes of which this holds
 abbrev pub OfText : Option (List ℕ) → (List ℕ → Type 0) → Type 0

@@ -11,7 +11,7 @@ mod output;
 mod report;
 mod running;
 
-pub use command_line::{USAGE, kind_of};
+pub use command_line::{USAGE, Which};
 pub use counted::Counted;
 pub use error::{RunError, law_equality};
 pub use hex_text::bytes_of;

@@ -2,7 +2,7 @@
 
 ghost use Rattle.std.specs.Prelude.{◌≡◌, ◌++◌, None, length, map, string_bytes, IfErr, IfOk, OnOk};
 ghost use Rattle.{
-  netlink_packet_route.specs.{Family.{first_unfit}, Table.{unfit_by, written_by}},
+  netlink_packet_route.specs.{Lists.{first_unfit}, Family.{unfit_by, written_by}},
   netlink_report.specs.{Report.{closing_text, heading_text, line_text, lines_text, report}, declared.error.RunError.TheVariants.{Memory}},
 };
 

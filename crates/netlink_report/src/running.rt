@@ -6,10 +6,10 @@ ghost use Rattle.std.specs.{
 };
 ghost use Rattle.{
   netlink_packet_route.specs.{
-    Family.{first_unfit},
-    Table.{unfit_by, written_by},
+    Lists.{first_unfit},
+    Family.{unfit_by, written_by},
     MessageKind.{kind_name},
-    Messages.{Meant, IsMessage, MessageFault, message_misfit, spelling, view},
+    Messages.{View, IsMessage, MessageFault, message_unfit, canonical_bytes, view},
     declared.framing.{DecodeError.{DecodeError, TheVariants.{OutOfMemory}}, EmitError.{EmitError}, Message.{Message}},
   },
   netlink_report.specs.{
@@ -22,6 +22,7 @@ ghost use Rattle.{
   },
 };
 
+use crate::command_line::Which;
 use crate::counted::Counted;
 use crate::error::RunError;
 use crate::hex_text::bytes_of;
@@ -40,7 +41,7 @@ use std::io::{Read, Write};
 /// Reads a text from `reader`, and writes the report on its message to `writer`.
 pub fn run<R: Read, W: Write>(
     alloc: Global,
-    kind: MessageKind,
+    kind: Which,
     reader: &mut Counted<R>,
     writer: &mut Counted<W>,
 ) -> Result<(), RunError>
@@ -88,10 +89,10 @@ fn answer(alloc: Global, kind: MessageKind, bytes: &[u8]) -> Result<String, RunE
 /// The report, under the name of this kind, on a message with such a header.
 fn answer_by<H: Header>(alloc: Global, kind: MessageKind, bytes: &[u8]) -> Result<String, RunError>
     ensures ok { IfOk result (λ text. (m : Message H H.Attribute) × IsMessage H.grammar bytes.now (view H.grammar m)
-        × (message_misfit H.grammar (view H.grammar m) ≡ None)
-        × (string_bytes text ≡ report (kind_name kind) (length bytes.now) (map (written_by H.Attribute.family.writing) (map H.Attribute.family.meaning m.attributes.items)) (spelling H.grammar (view H.grammar m)))) }
+        × (message_unfit H.grammar (view H.grammar m) ≡ None)
+        × (string_bytes text ≡ report (kind_name kind) (length bytes.now) (map (written_by H.Attribute.family.writing) (map H.Attribute.family.meaning m.attributes.items)) (canonical_bytes H.grammar (view H.grammar m)))) }
     ensures refused { (e : DecodeError) → result ≡ Err (Refused e) → (e ≢ OutOfMemory) × MessageFault H.grammar bytes.now e }
-    ensures unfit { (e : EmitError) → result ≡ Err (Unfit e) → (m : Meant H.grammar) × IsMessage H.grammar bytes.now m × (message_misfit H.grammar m ≡ Some e) }
+    ensures unfit { (e : EmitError) → result ≡ Err (Unfit e) → (m : View H.grammar) × IsMessage H.grammar bytes.now m × (message_unfit H.grammar m ≡ Some e) }
     ensures memory { result ≡ Err Memory → H.grammar.layout.size ≤ length bytes.now }
     ensures errors { IfErr result IsOfMessage }
 {

@@ -5,7 +5,7 @@ use crate::field::{self, Fields, Word, Wording};
 use crate::manner::Hexadecimal;
 use crate::names::{Names, PROTOCOLS, TYPES};
 use netlink_packet_route::neighbour::{
-    NeighbourAddress, NeighbourAttribute, NeighbourCacheInfo, NeighbourExtendedFlags,
+    NeighbourAddress, NeighbourAttribute, NeighbourCacheInfo, NeighbourExtFlags,
     NeighbourHeader, NeighbourMessage,
 };
 use netlink_packet_route::{Flags, numbers};
@@ -106,7 +106,7 @@ fn push_header(fields: &mut Fields, header: &NeighbourHeader) {
 fn push_attribute(fields: &mut Fields, attribute: &NeighbourAttribute) {
     match attribute {
         NeighbourAttribute::Destination(address) => push_address(fields, address),
-        NeighbourAttribute::LinkLayerAddress(bytes) => {
+        NeighbourAttribute::LinkLocalAddress(bytes) => {
             fields.text(LINK_LAYER, &Hexadecimal(bytes.as_slice(), ":"))
         }
         NeighbourAttribute::CacheInfo(info) => push_cache_info(fields, info),
@@ -122,7 +122,7 @@ fn push_attribute(fields: &mut Fields, attribute: &NeighbourAttribute) {
             fields.named(PROTOCOL, PROTOCOLS, numbers::route_protocol(*made_by))
         }
         NeighbourAttribute::NhId(id) => fields.number(NEXT_HOP, *id),
-        NeighbourAttribute::FlagsExt(flags) => push_flags(fields, *flags),
+        NeighbourAttribute::ExtFlags(flags) => push_flags(fields, *flags),
         NeighbourAttribute::Other(nla) => push_unknown(fields, nla),
     }
 }
@@ -150,7 +150,7 @@ fn push_time(fields: &mut Fields, word: Word, hundredths: u32) {
     fields.written(word, seconds, text);
 }
 
-fn push_flags(fields: &mut Fields, flags: NeighbourExtendedFlags) {
+fn push_flags(fields: &mut Fields, flags: NeighbourExtFlags) {
     let rest = fields.flags(MORE_FLAGS, flags.bits(), None);
     fields.some_bits(OTHER_FLAGS, rest);
 }

@@ -4,15 +4,14 @@
 ghost use Rattle.std.specs.{Prelude.{◌≡◌, IfErr}, Process.{exit_status}};
 ghost use Rattle.netlink_report.specs.{Error.{status_of}, declared.error.RunError.TheVariants.{Memory}};
 
-use netlink_packet_route::MessageKind;
-use netlink_report::{Counted, RunError, USAGE, finish, kind_of, run};
+use netlink_report::{Counted, RunError, USAGE, Which, finish, run};
 use std::process::ExitCode;
 use std::rt::Env;
 use std::{env, io};
 
 fn main(rt: HostRuntime) -> ExitCode {
     match chosen(&rt) {
-        Ok(Some(kind)) => report_on(&rt, kind),
+        Ok(Some(which)) => report_on(&rt, which),
         Ok(None) => {
             let _ = rt.eprintln(USAGE);
             ExitCode::from(2)
@@ -22,11 +21,11 @@ fn main(rt: HostRuntime) -> ExitCode {
 }
 
 /// The kind of message that the command line names, if it names one.
-fn chosen(rt: &(impl Env + AllocGlobal)) -> Result<Option<MessageKind>, RunError>
+fn chosen(rt: &(impl Env + AllocGlobal)) -> Result<Option<Which>, RunError>
     ensures { IfErr result (λ e. e ≡ Memory) }
 {
     match words(rt) {
-        Ok(words) => Ok(kind_of(words.as_slice())),
+        Ok(words) => Ok(Which::of(words.as_slice())),
         // Also where a word is no UTF-8.
         Err(_) => Err(RunError::Memory),
     }
@@ -39,10 +38,10 @@ fn words(rt: &(impl Env + AllocGlobal)) -> io::Result<Vec<String>> {
 }
 
 /// Runs over standard input and standard output.
-fn report_on(rt: &HostRuntime, kind: MessageKind) -> ExitCode {
+fn report_on(rt: &HostRuntime, which: Which) -> ExitCode {
     let mut reader = Counted::new(rt.stdin());
     let mut writer = Counted::new(rt.stdout());
-    let ended = run(rt.alloc(), kind, &mut reader, &mut writer);
+    let ended = run(rt.alloc(), which, &mut reader, &mut writer);
     match ended.and_then(|()| finish(&mut writer)) {
         Ok(()) => ExitCode::SUCCESS,
         Err(fault) => refuse(rt, fault),

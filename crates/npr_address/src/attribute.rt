@@ -1,7 +1,7 @@
 //! The attributes of an address message: `IFA_*` of `linux/if_addr.h`.
 
 ghost use Rattle.std.specs.Prelude.{refl};
-ghost use Rattle.{npr_base.specs.Table.{shaped}, npr_address.specs.Attribute.{family}};
+ghost use Rattle.{npr_base.specs.Family.{shaped}, npr_address.specs.Attribute.{family}};
 
 use crate::addr_flags::AddressFlags;
 use crate::addr_protocol::AddressProtocol;
@@ -98,7 +98,7 @@ impl Attribute for AddressAttribute {
         rows!(put_rows(place, alloc, item, looks))
     }
 
-    fn clone(&self, alloc: Global) -> Result<Self, AllocError> {
+    fn try_clone(&self, alloc: Global) -> Result<Self, AllocError> {
         rows!(clone_rows(self, alloc))
     }
 }

@@ -2,7 +2,7 @@
 use Rattle.std.proofs.Common.{◌≡◌, ℕ, min, ◌+◌, ◌-◌, ◌*◌, ◌/◌, ◌%◌, ◌<◌, ◌≤◌, List, [], ◌∷◌, ◌++◌, length, get_or, take, drop, Ok, refl, sym, ap, subst, ◌∙◌, append_assoc, arith, length-append, length-drop}
 use Rattle.std.proofs.lemmas.List.{append-nil, take-append-drop, length-take, drop_at, drop_min, take_rest, drop-drop}
 use Rattle.std.specs.Int.{w16, to_le_bytes}
-use Rattle.npr_base.specs.Framing.{Item, pad, text, Front, Begins}
+use Rattle.npr_base.specs.Framing.{Item, pad, padded, Front, Begins}
 
 four : (bs : List ℕ) → 4 ≤ length bs → bs ≡ get_or bs 0 0 ∷ get_or bs 1 0 ∷ get_or bs 2 0 ∷ get_or bs 3 0 ∷ drop 4 bs
 four (a ∷ b ∷ c ∷ d ∷ t) h = refl
@@ -25,10 +25,10 @@ begins bs l k fits long l-is k-is low_end high_end =
     let e0 = low (get_or bs 0 0) (get_or bs 1 0) (4 + length v) b0 b1 n in
     let e1 = low (get_or bs 2 0) (get_or bs 3 0) k b2 b3 k-is in
     let tail : drop 4 bs ≡ (v ++ []) ++ drop (l - 4) (drop 4 bs) = sym (take-append-drop (l - 4) (drop 4 bs)) ∙ ap (λ (w : List ℕ). w ++ drop (l - 4) (drop 4 bs)) (sym (append-nil v)) in
-    let whole : bs ≡ text (record { kind = k; value = v }) [] ++ drop (l - 4) (drop 4 bs) = rw (e0.0, e0.1, e1.0, e1.1, ← tail) (four bs long) in
+    let whole : bs ≡ padded (record { kind = k; value = v }) [] ++ drop (l - 4) (drop 4 bs) = rw (e0.0, e0.1, e1.0, e1.1, ← tail) (four bs long) in
     (record { kind = omega arith; value = omega arith }, (drop (l - 4) (drop 4 bs), whole))
 
--- the text without padding and what follows, with the padding taken from that
+-- the attribute without padding and what follows, with the padding taken from that
 regroup : (h v more : List ℕ) (p : ℕ) → h ++ ((v ++ []) ++ more) ≡ h ++ ((v ++ take p more) ++ drop p more)
 regroup h v more p = ap (λ (w : List ℕ). h ++ w) (ap (λ (w : List ℕ). w ++ more) (append-nil v) ∙ ap (λ (w : List ℕ). v ++ w) (sym (take-append-drop p more)) ∙ sym (append_assoc v (take p more) (drop p more)))
 

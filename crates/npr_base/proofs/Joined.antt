@@ -3,7 +3,7 @@
 --     joined-append, joined-more   of texts that are joined: of two lists; and of one member more, how long
 use Rattle.std.proofs.Common.{◌≡◌, ℕ, ◌+◌, ◌<◌, ◌≤◌, List, [], ◌∷◌, ◌++◌, length, get_or, take, drop, refl, sym, ap, ◌∙◌, append_assoc, arith, length-append}
 use Rattle.std.proofs.lemmas.List.{take_more, take-append-drop}
-use Rattle.npr_base.specs.Family.{joined}
+use Rattle.npr_base.specs.Lists.{joined}
 
 module _ {A : Type 0} (whole : List A → List ℕ) (append : (xs ys : List A) → whole (xs ++ ys) ≡ whole xs ++ whole ys) where
   pub whole-next : (xs : List A) (i : ℕ) (x : A) → i < length xs → x ≡ get_or xs i x → whole (take (i + 1) xs) ≡ whole (take i xs) ++ whole (x ∷ [])

@@ -1,7 +1,7 @@
 -- Looks at the members of a list, one member after the other.
 use Rattle.std.proofs.Common.{◌≡◌, ℕ, ◌+◌, ◌-◌, ◌*◌, ◌/◌, ◌≤◌, List, [], ◌∷◌, ◌++◌, length, refl, ◌∙◌, arith}
 use Rattle.npr_base.specs.Counts.{Counts, AddsAtMost, hit}
-use Rattle.npr_base.specs.Family.{Each, ReadsTo}
+use Rattle.npr_base.specs.Lists.{Each, ReadsTo}
 use Rattle.npr_base.specs.Framing.{Item, Front}
 use Rattle.npr_base.specs.FrontLaws.{Front-takes, Passes-more}
 use Rattle.npr_base.specs.Walk.{Walked}

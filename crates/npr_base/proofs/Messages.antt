@@ -8,17 +8,16 @@ use Rattle.npr_base.specs.declared.refusal.DecodeError.{DecodeError}
 use Rattle.npr_base.specs.declared.refusal.DecodeError.TheVariants.{OutOfMemory}
 use Rattle.npr_base.specs.Counts.{Counts, AddsAtMostTwice, SawEach, no_looks}
 use Rattle.npr_base.specs.Framing.{IsBytes}
-use Rattle.npr_base.specs.Family.{first_unfit, list_unfit, overlong, encodings, list_members}
+use Rattle.npr_base.specs.Lists.{first_unfit, list_unfit, overlong, encodings, list_members}
 use Rattle.npr_base.specs.FitLaws.{none_both}
 use Rattle.npr_base.specs.ListLaws.{IsBytes-left, IsBytes-right}
 use Rattle.npr_base.specs.Looks.{Adds}
 use Rattle.npr_base.specs.LooksLaws.{raised-none}
-use Rattle.npr_base.specs.Message.{Message, Grammar, Meant, IsMessage, MessageFault, MessageLooks, IsCoherent, spelling, message_misfit, view}
-use Rattle.npr_base.specs.declared.message.Message.{Message as Stored}
+use Rattle.npr_base.specs.Message.{Message, Grammar, Stored, View, IsMessage, MessageFault, MessageLooks, IsCoherent, canonical_bytes, message_unfit, view}
 use Rattle.npr_base.specs.Equality.{IsEquality, IsEqualityOf}
 use Rattle.npr_base.specs.MeaningLaws.{items_meaning}
 use Rattle.npr_base.specs.StructLaws.{and_decides, decides_as}
-use Rattle.npr_base.specs.Table.{written_by, unfit_by}
+use Rattle.npr_base.specs.Family.{written_by, unfit_by}
 
 same_message : {H M : Type 0} (m : Message H M) (h : H) (xs : List M) → m.header ≡ h → m.attributes ≡ xs → m ≡ record { header = h; attributes = xs }
 same_message {H} {M} m h xs p q = ap (λ (k : H). record { header = k; attributes = m.attributes }) p ∙ ap (λ (ys : List M). record { header = h; attributes = ys }) q
@@ -30,15 +29,15 @@ module _ {H A : Type 0} (g : Grammar H A) where
   pub front_is : (bytes front rest : List ℕ) → bytes ≡ front ++ rest → length front ≡ g.layout.size → (front ≡ take g.layout.size bytes) × (rest ≡ drop g.layout.size bytes)
   front_is bytes front rest is size = (sym (ap (take g.layout.size) is ∙ take_at front rest g.layout.size size), sym (ap (drop g.layout.size) is ∙ drop_at front rest g.layout.size size))
 
-  pub header_is : (bytes : List ℕ) (m : Meant g) → IsMessage g bytes m → m.header ≡ g.layout.decode (take g.layout.size bytes)
+  pub header_is : (bytes : List ℕ) (m : View g) → IsMessage g bytes m → m.header ≡ g.layout.decode (take g.layout.size bytes)
   unfolding IsMessage
   header_is bytes m p = p.header ∙ ap g.layout.decode (front_is bytes p.front p.rest p.is p.size).0
 
-  pub rest_reads : (bytes : List ℕ) (m : Meant g) → IsMessage g bytes m → g.body.Reads m.header (drop g.layout.size bytes) m.attributes
+  pub rest_reads : (bytes : List ℕ) (m : View g) → IsMessage g bytes m → g.body.Reads m.header (drop g.layout.size bytes) m.attributes
   unfolding IsMessage
   rest_reads bytes m p = subst (λ (r : List ℕ). g.body.Reads m.header r m.attributes) (front_is bytes p.front p.rest p.is p.size).1 p.attributes
 
-  pub message_read : (bytes : List ℕ) (m : Meant g) → g.layout.size ≤ length bytes → m.header ≡ g.layout.decode (take g.layout.size bytes) → g.body.Reads m.header (drop g.layout.size bytes) m.attributes → IsMessage g bytes m
+  pub message_read : (bytes : List ℕ) (m : View g) → g.layout.size ≤ length bytes → m.header ≡ g.layout.decode (take g.layout.size bytes) → g.body.Reads m.header (drop g.layout.size bytes) m.attributes → IsMessage g bytes m
   unfolding IsMessage
   message_read bytes m long header attributes = record {
     front = take g.layout.size bytes;
@@ -78,14 +77,14 @@ module _ {H A : Type 0} (g : Grammar H A) where
       let a = (g.body.looks (g.layout.decode front)).adds rest old new t in
       record { number = a.number; is = a.is; alike = λ c. inr (front, rest, is, size, a.alike c) }
 
-  pub message-one : (bytes : List ℕ) (m n : Meant g) → IsMessage g bytes m → IsMessage g bytes n → m ≡ n
+  pub message-one : (bytes : List ℕ) (m n : View g) → IsMessage g bytes m → IsMessage g bytes n → m ≡ n
   unfolding IsMessage
   message-one bytes m n p q =
       let h : m.header ≡ n.header = header_is bytes m p ∙ sym (header_is bytes n q) in
       let a = subst (λ (k : H). g.body.Reads k (drop g.layout.size bytes) m.attributes) h (rest_reads bytes m p) in
       same_message m n.header n.attributes h (g.body.one_reading n.header (drop g.layout.size bytes) m.attributes n.attributes a (rest_reads bytes n q))
 
-  pub message-sound : (bytes : List ℕ) (n : Meant g) (e : DecodeError) → MessageFault g bytes e → IsMessage g bytes n → ⊥
+  pub message-sound : (bytes : List ℕ) (n : View g) (e : DecodeError) → MessageFault g bytes e → IsMessage g bytes n → ⊥
   unfolding IsMessage MessageFault
   message-sound bytes n e (inl short) q = absurd (omega (arith, short.0, ap length q.is, length-append q.front q.rest, q.size))
   message-sound bytes n e (inr (front, rest, is, size, bad)) q =
@@ -94,7 +93,7 @@ module _ {H A : Type 0} (g : Grammar H A) where
       let b = subst (λ (r : List ℕ). g.body.Faulty n.header r e) same.1 (subst (λ (k : H). g.body.Faulty k rest e) h bad) in
       g.body.no_fault n.header (drop g.layout.size bytes) n.attributes e (rest_reads bytes n q) b
 
-  pub message-coherent : (bytes : List ℕ) (m : Meant g) → IsBytes bytes → IsMessage g bytes m → IsCoherent g m
+  pub message-coherent : (bytes : List ℕ) (m : View g) → IsBytes bytes → IsMessage g bytes m → IsCoherent g m
   unfolding IsMessage IsCoherent
   message-coherent bytes m fits p =
       let all : IsBytes (p.front ++ p.rest) = subst IsBytes p.is fits in
@@ -103,22 +102,22 @@ module _ {H A : Type 0} (g : Grammar H A) where
         attributes = g.body.reads_coherent m.header p.rest m.attributes (IsBytes-right p.front p.rest all) p.attributes;
       }
 
-  pub message-back : (m : Meant g) → IsCoherent g m → message_misfit g m ≡ None → IsMessage g (spelling g m) m
-  unfolding IsMessage IsCoherent spelling message_misfit
+  pub message-back : (m : View g) → IsCoherent g m → message_unfit g m ≡ None → IsMessage g (canonical_bytes g m) m
+  unfolding IsMessage IsCoherent canonical_bytes message_unfit
   message-back m c fits = record {
     front = g.layout.encode m.header;
     rest = encodings (written_by g.writing) m.attributes;
     is = refl;
     size = g.layout.length-encode m.header c.header;
     header = sym (g.layout.decode-encode m.header c.header);
-    attributes = g.body.reads_back m.header m.attributes c.attributes (none_both (first_unfit (unfit_by g.writing) m.attributes) (overlong (length (spelling g m))) fits).0;
+    attributes = g.body.reads_back m.header m.attributes c.attributes (none_both (first_unfit (unfit_by g.writing) m.attributes) (overlong (length (canonical_bytes g m))) fits).0;
   }
 
-  pub message-canonical : (m n : Meant g) → IsCoherent g m → message_misfit g m ≡ None → IsCoherent g n → message_misfit g n ≡ None → spelling g m ≡ spelling g n → m ≡ n
-  message-canonical m n c f d k e = message-one (spelling g n) m n (subst (λ (b : List ℕ). IsMessage g b m) e (message-back m c f)) (message-back n d k)
+  pub message-canonical : (m n : View g) → IsCoherent g m → message_unfit g m ≡ None → IsCoherent g n → message_unfit g n ≡ None → canonical_bytes g m ≡ canonical_bytes g n → m ≡ n
+  message-canonical m n c f d k e = message-one (canonical_bytes g n) m n (subst (λ (b : List ℕ). IsMessage g b m) e (message-back m c f)) (message-back n d k)
 
-  pub message-grows : (bytes : List ℕ) (m : Meant g) → IsBytes bytes → IsMessage g bytes m → 2 * length (spelling g m) ≤ 5 * length bytes
-  unfolding IsMessage IsCoherent spelling
+  pub message-grows : (bytes : List ℕ) (m : View g) → IsBytes bytes → IsMessage g bytes m → 2 * length (canonical_bytes g m) ≤ 5 * length bytes
+  unfolding IsMessage IsCoherent canonical_bytes
   message-grows bytes m fits p =
       let all : IsBytes (p.front ++ p.rest) = subst IsBytes p.is fits in
       let c = message-coherent bytes m fits p in
@@ -126,51 +125,51 @@ module _ {H A : Type 0} (g : Grammar H A) where
 
   -- ---- of an answer
 
-  pub refused_no_message : {V : Type 0} (bytes : List ℕ) (r : Result V DecodeError) → IfErr r (λ e. e ≢ OutOfMemory → MessageFault g bytes e) → IfErr r (λ e. e ≢ OutOfMemory → (n : Meant g) → IsMessage g bytes n → ⊥)
+  pub refused_no_message : {V : Type 0} (bytes : List ℕ) (r : Result V DecodeError) → IfErr r (λ e. e ≢ OutOfMemory → MessageFault g bytes e) → IfErr r (λ e. e ≢ OutOfMemory → (n : View g) → IsMessage g bytes n → ⊥)
   refused_no_message bytes (Ok v) h = tt
   refused_no_message bytes (Err e) h = λ other n p. message-sound bytes n e (h other) p
 
-  pub ok_one : {V : Type 0} (view : V → Meant g) (bytes : List ℕ) (r : Result V DecodeError) → IfOk r (λ v. IsMessage g bytes (view v)) → IfOk r (λ v. (n : Meant g) → IsMessage g bytes n → view v ≡ n)
+  pub ok_one : {V : Type 0} (view : V → View g) (bytes : List ℕ) (r : Result V DecodeError) → IfOk r (λ v. IsMessage g bytes (view v)) → IfOk r (λ v. (n : View g) → IsMessage g bytes n → view v ≡ n)
   ok_one view bytes (Ok v) p = λ n q. message-one bytes (view v) n p q
   ok_one view bytes (Err e) p = tt
 
-  pub ok_coherent : {V : Type 0} (view : V → Meant g) (bytes : List ℕ) → IsBytes bytes → (r : Result V DecodeError) → IfOk r (λ v. IsMessage g bytes (view v)) → IfOk r (λ v. IsCoherent g (view v))
+  pub ok_coherent : {V : Type 0} (view : V → View g) (bytes : List ℕ) → IsBytes bytes → (r : Result V DecodeError) → IfOk r (λ v. IsMessage g bytes (view v)) → IfOk r (λ v. IsCoherent g (view v))
   ok_coherent view bytes fits (Ok v) p = message-coherent bytes (view v) fits p
   ok_coherent view bytes fits (Err e) p = tt
 
-  pub ok_again : {V : Type 0} (view : V → Meant g) (bytes : List ℕ) (r : Result V DecodeError) → IfOk r (λ v. IsMessage g bytes (view v))
-      → IfOk r (λ v. (n : Meant g) → IsCoherent g n → message_misfit g n ≡ None → bytes ≡ spelling g n → view v ≡ n)
+  pub ok_again : {V : Type 0} (view : V → View g) (bytes : List ℕ) (r : Result V DecodeError) → IfOk r (λ v. IsMessage g bytes (view v))
+      → IfOk r (λ v. (n : View g) → IsCoherent g n → message_unfit g n ≡ None → bytes ≡ canonical_bytes g n → view v ≡ n)
   ok_again view bytes (Ok v) p = λ n c f is. message-one bytes (view v) n p (subst (λ (b : List ℕ). IsMessage g b n) (sym is) (message-back n c f))
   ok_again view bytes (Err e) p = tt
 
-  pub ok_grows : {V : Type 0} (view : V → Meant g) (bytes : List ℕ) → IsBytes bytes → (r : Result V DecodeError) → IfOk r (λ v. IsMessage g bytes (view v)) → IfOk r (λ v. 2 * length (spelling g (view v)) ≤ 5 * length bytes)
+  pub ok_grows : {V : Type 0} (view : V → View g) (bytes : List ℕ) → IsBytes bytes → (r : Result V DecodeError) → IfOk r (λ v. IsMessage g bytes (view v)) → IfOk r (λ v. 2 * length (canonical_bytes g (view v)) ≤ 5 * length bytes)
   ok_grows view bytes fits (Ok v) p = message-grows bytes (view v) fits p
   ok_grows view bytes fits (Err e) p = tt
 
-  pub message-deep : (bytes : List ℕ) (m : Meant g) → IsMessage g bytes m → 12 * g.body.depth m.attributes ≤ length bytes - g.layout.size
+  pub message-deep : (bytes : List ℕ) (m : View g) → IsMessage g bytes m → 12 * g.body.depth m.attributes ≤ length bytes - g.layout.size
   message-deep bytes m p = let h = g.body.deep m.header (drop g.layout.size bytes) m.attributes (rest_reads bytes m p) in omega (arith, h, length-drop g.layout.size bytes)
 
-  pub ok_deep : {V : Type 0} (view : V → Meant g) (bytes : List ℕ) (r : Result V DecodeError) → IfOk r (λ v. IsMessage g bytes (view v)) → IfOk r (λ v. 12 * g.body.depth (view v).attributes ≤ length bytes - g.layout.size)
+  pub ok_deep : {V : Type 0} (view : V → View g) (bytes : List ℕ) (r : Result V DecodeError) → IfOk r (λ v. IsMessage g bytes (view v)) → IfOk r (λ v. 12 * g.body.depth (view v).attributes ≤ length bytes - g.layout.size)
   ok_deep view bytes (Ok v) p = message-deep bytes (view v) p
   ok_deep view bytes (Err e) p = tt
 
   -- ---- what a message has in it
 
   -- where it can be written, its attributes can be
-  pub attributes_fit : (m : Meant g) → message_misfit g m ≡ None → first_unfit (unfit_by g.writing) m.attributes ≡ None
-  unfolding message_misfit
-  attributes_fit m fits = (none_both (first_unfit (unfit_by g.writing) m.attributes) (overlong (length (spelling g m))) fits).0
+  pub attributes_fit : (m : View g) → message_unfit g m ≡ None → first_unfit (unfit_by g.writing) m.attributes ≡ None
+  unfolding message_unfit
+  attributes_fit m fits = (none_both (first_unfit (unfit_by g.writing) m.attributes) (overlong (length (canonical_bytes g m))) fits).0
 
   -- and so can the list of them
-  pub list_fits : (m : Meant g) → message_misfit g m ≡ None → list_unfit (unfit_by g.writing) (written_by g.writing) m.attributes ≡ None
-  unfolding message_misfit spelling
+  pub list_fits : (m : View g) → message_unfit g m ≡ None → list_unfit (unfit_by g.writing) (written_by g.writing) m.attributes ≡ None
+  unfolding message_unfit canonical_bytes
   list_fits m fits =
-      let both = none_both (first_unfit (unfit_by g.writing) m.attributes) (overlong (length (spelling g m))) fits in
+      let both = none_both (first_unfit (unfit_by g.writing) m.attributes) (overlong (length (canonical_bytes g m))) fits in
       let shorter = length-append (g.layout.encode m.header) (encodings (written_by g.writing) m.attributes) in
-      rw both.0 (overlong-below (length (encodings (written_by g.writing) m.attributes)) (length (spelling g m)) (omega (arith, shorter)) both.1)
+      rw both.0 (overlong-below (length (encodings (written_by g.writing) m.attributes)) (length (canonical_bytes g m)) (omega (arith, shorter)) both.1)
 
   -- the bytes that it is read of have a header
-  pub has_header : (bytes : List ℕ) (m : Meant g) → IsMessage g bytes m → g.layout.size ≤ length bytes
+  pub has_header : (bytes : List ℕ) (m : View g) → IsMessage g bytes m → g.layout.size ≤ length bytes
   unfolding IsMessage
   has_header bytes m is = omega (arith, ap length is.is, length-append is.front is.rest, is.size)
 
@@ -187,7 +186,7 @@ module _ {H A : Type 0} (g : Grammar H A) where
       let len : length rest ≡ length bytes - g.layout.size = omega (arith, ap length is, length-append front rest, size) in
       subst (λ (n : ℕ). AddsAtMostTwice old new n) len a
 
-  pub message-saw : (bytes : List ℕ) (m : Meant g) (old new : Counts) → IsMessage g bytes m → MessageLooks g bytes old new → SawEach old new (list_members g.writing.members m.attributes)
+  pub message-saw : (bytes : List ℕ) (m : View g) (old new : Counts) → IsMessage g bytes m → MessageLooks g bytes old new → SawEach old new (list_members g.writing.members m.attributes)
   unfolding MessageLooks
   message-saw bytes m old new is (inl (short, p)) = absurd (omega (arith, has_header bytes m is, short))
   message-saw bytes m old new is (inr (front, rest, js, size, t)) =
@@ -198,9 +197,9 @@ module _ {H A : Type 0} (g : Grammar H A) where
 
 -- `==` of a message, from that of the header and of an attribute
 pub message_equality : {H A : Type 0} {same_header : H → H → Bool} {same : A → A → Bool} (g : Grammar H A) → IsEquality same_header → IsEqualityOf g.meaning same
-    → IsEqualityOf (view g) (λ (a b : Stored H A). same_header a.header b.header && pointwise same a.attributes.items b.attributes.items)
+    → IsEqualityOf (view g) (λ (a b : Stored g). same_header a.header b.header && pointwise same a.attributes.items b.attributes.items)
 message_equality {H} {A} g h k a b =
     decides_as
     (λ p. λ i. record { header = p.0 i; attributes = p.1 i })
-    (λ e. (ap (λ (m : Meant g). m.header) e, ap (λ (m : Meant g). m.attributes) e))
+    (λ e. (ap (λ (m : View g). m.header) e, ap (λ (m : View g). m.attributes) e))
     (and_decides (h a.header b.header) (items_meaning g.meaning k a.attributes b.attributes))

@@ -3,7 +3,7 @@ use Rattle.std.specs.Prelude.{◌==◌}
 use Rattle.std.proofs.Common.{◌≡◌, ℕ, List, [], ◌∷◌, ◌++◌, Option, refl, sym, ap, subst, ◌∙◌}
 use Rattle.npr_base.specs.declared.refusal.EmitError.{EmitError}
 use Rattle.npr_base.specs.Framing.{Item, encoding}
-use Rattle.npr_base.specs.Family.{AllOf, Each, ReadsList, option_or, first_unfit, encodings}
+use Rattle.npr_base.specs.Lists.{AllOf, Each, ReadsList, option_or, first_unfit, encodings}
 use Rattle.npr_base.specs.Table.{Row, RowReads, ReadsAt, has_row}
 use Rattle.npr_base.specs.TableLaws.{one_of}
 use Rattle.std.specs.Prelude.{map}
@@ -46,19 +46,19 @@ list-normalized normalized R S h bytes ms (items, p, e) = (items, p, each-normal
 
 -- ---- what holds of each member that is brought up holds of the list
 
-pub encodings-normalized : {M : Type 0} (normalized : M → M) (writes : M → Item) → ((m : M) → writes (normalized m) ≡ writes m)
-    → (ms : List M) → encodings writes (map normalized ms) ≡ encodings writes ms
-encodings-normalized normalized writes same [] = refl
-encodings-normalized normalized writes same (m ∷ ms) =
-    ap (λ (i : Item). encoding i ++ encodings writes (map normalized ms)) (same m)
-    ∙ ap (λ (w : List ℕ). encoding (writes m) ++ w) (encodings-normalized normalized writes same ms)
+pub encodings-normalized : {M : Type 0} (normalized : M → M) (written : M → Item) → ((m : M) → written (normalized m) ≡ written m)
+    → (ms : List M) → encodings written (map normalized ms) ≡ encodings written ms
+encodings-normalized normalized written same [] = refl
+encodings-normalized normalized written same (m ∷ ms) =
+    ap (λ (i : Item). encoding i ++ encodings written (map normalized ms)) (same m)
+    ∙ ap (λ (w : List ℕ). encoding (written m) ++ w) (encodings-normalized normalized written same ms)
 
-pub unfit-normalized : {M : Type 0} (normalized : M → M) (misfit : M → Option EmitError) → ((m : M) → misfit (normalized m) ≡ misfit m)
-    → (ms : List M) → first_unfit misfit (map normalized ms) ≡ first_unfit misfit ms
-unfit-normalized normalized misfit same [] = refl
-unfit-normalized normalized misfit same (m ∷ ms) =
-    ap (λ (o : Option EmitError). option_or o (first_unfit misfit (map normalized ms))) (same m)
-    ∙ ap (option_or (misfit m)) (unfit-normalized normalized misfit same ms)
+pub unfit-normalized : {M : Type 0} (normalized : M → M) (meaning_unfit : M → Option EmitError) → ((m : M) → meaning_unfit (normalized m) ≡ meaning_unfit m)
+    → (ms : List M) → first_unfit meaning_unfit (map normalized ms) ≡ first_unfit meaning_unfit ms
+unfit-normalized normalized meaning_unfit same [] = refl
+unfit-normalized normalized meaning_unfit same (m ∷ ms) =
+    ap (λ (o : Option EmitError). option_or o (first_unfit meaning_unfit (map normalized ms))) (same m)
+    ∙ ap (option_or (meaning_unfit m)) (unfit-normalized normalized meaning_unfit same ms)
 
 pub again-normalized : {M : Type 0} (normalized : M → M) → ((m : M) → normalized (normalized m) ≡ normalized m)
     → (ms : List M) → map normalized (map normalized ms) ≡ map normalized ms

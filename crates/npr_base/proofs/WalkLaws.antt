@@ -4,8 +4,8 @@ use Rattle.std.proofs.lemmas.Bool.{cases_lt}
 use Rattle.std.proofs.Common.{◌≡◌, ℕ, ◌+◌, ◌-◌, ◌*◌, ◌%◌, ◌<◌, ◌≤◌, List, [], ◌∷◌, ◌++◌, length}
 use Rattle.std.proofs.Common.{Result, Ok, Err, refl, sym, ap, subst, ◌∙◌, arith, inl, inr, append_assoc}
 use Rattle.std.proofs.Common.{length-append}
-use Rattle.npr_base.specs.Framing.{Item, Front, Passes, Cut, Stops, Step, text}
-use Rattle.npr_base.specs.Family.{ReadsList}
+use Rattle.npr_base.specs.Framing.{Item, Front, Passes, Cut, Stops, Step, padded}
+use Rattle.npr_base.specs.Lists.{ReadsList}
 use Rattle.npr_base.specs.FrontLaws.{Front-same, Front-shrinks}
 use Rattle.npr_base.specs.LookBounds.{Passes-length}
 use Rattle.npr_base.specs.Walk.{Steps, found, Finds}
@@ -71,15 +71,15 @@ Front-before : (bytes after : List ℕ) (x : Item) (rest : List ℕ) → Front b
     → Front (bytes ++ after) x (rest ++ after) × (length rest % 4 ≡ 0)
 Front-before bytes after x rest f whole =
     let size = Front-length bytes x rest f in
-    let padded = whole_padding (length x.value) (length f.padding) (length rest) f.most (omega arith) f.whole in (
+    let whole_pad = whole_padding (length x.value) (length f.padding) (length rest) f.most (omega arith) f.whole in (
       record {
         padding = f.padding;
-        is = ap (λ (b : List ℕ). b ++ after) f.is ∙ append_assoc (text x f.padding) rest after;
+        is = ap (λ (b : List ℕ). b ++ after) f.is ∙ append_assoc (padded x f.padding) rest after;
         small = f.small;
         most = f.most;
-        whole = λ h. padded.0;
+        whole = λ h. whole_pad.0;
       },
-      padded.1,
+      whole_pad.1,
     )
 
 module _ {M : Type 0} (R : Item → M → Type 0) where

@@ -2,9 +2,9 @@
 use Rattle.std.specs.Prelude.{◌≡◌, ◌≢◌, ℕ, List, [], ◌∷◌, Option, Some, None, Result, Ok, Err}
 use Rattle.npr_base.specs.declared.refusal.DecodeError.{DecodeError}
 use Rattle.npr_base.specs.declared.refusal.DecodeError.TheVariants.{OutOfMemory}
-use Rattle.npr_base.specs.Family.{IsWrong}
+use Rattle.npr_base.specs.Lists.{IsWrong}
 use Rattle.npr_base.specs.Framing.{Item, Front}
-use Rattle.npr_base.specs.Table.{Writing, Reading}
+use Rattle.npr_base.specs.Family.{Writing, Reading}
 
 -- one step, from the bytes that were left to those that are: the attribute that stands in front, what is wrong there, or the end
 abbrev pub AttributeStep : {A M : Type 0} {w : Writing M} → (A → M) → Reading w → List ℕ → Option (Result A DecodeError) → List ℕ → Type 0

@@ -2,9 +2,9 @@
 use Rattle.std.specs.Prelude.{ℕ, Ok, Some}
 use Rattle.std.proofs.Common.{List, [], ◌∷◌, ◌++◌, map, refl, subst, sym}
 use Rattle.npr_base.specs.Attributes.{AttributeStep, AttributeSteps}
-use Rattle.npr_base.specs.Family.{ReadsTo}
+use Rattle.npr_base.specs.Lists.{ReadsTo}
 use Rattle.npr_base.specs.Framing.{Item, Front}
-use Rattle.npr_base.specs.Table.{Writing, Reading}
+use Rattle.npr_base.specs.Family.{Writing, Reading}
 
 module _ {A M : Type 0} {w : Writing M} (meaning : A → M) (family : Reading w) where
   pub steps-read : (xs : List A) (bs rest : List ℕ) → AttributeSteps meaning family bs xs rest → ReadsTo family.Reads bs (map meaning xs) rest

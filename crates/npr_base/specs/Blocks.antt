@@ -7,7 +7,7 @@ use Rattle.std.specs.Prelude.{◌≡◌, ℕ, ◌+◌, ◌*◌, ◌<◌, ◌≤�
 use Rattle.std.proofs.Common.{refl, sym, ap, subst, ◌∙◌, arith, length-append, length-take, length-drop}
 use Rattle.std.proofs.lemmas.List.{take_at, drop_at, take-append-drop}
 use Rattle.npr_base.specs.Framing.{IsBytes, framed}
-use Rattle.npr_base.specs.Family.{AllOf, joined}
+use Rattle.npr_base.specs.Lists.{AllOf, joined}
 use Rattle.npr_base.specs.ListLaws.{IsBytes-take, IsBytes-right}
 use Rattle.npr_base.specs.CodecLaws.{framed-grows}
 use Rattle.npr_base.specs.Layout.{Layout}
@@ -76,8 +76,8 @@ abbrev pub blocks : {V : Type 0} (L : Layout V) → 0 < L.size → Codec (List V
 blocks L positive = record {
   Reads = AreBlocks L;
   Wrong = λ at bytes e. ⊥;
-  writes = block_bytes L;
-  inside = λ kind xs. None;
+  encode = block_bytes L;
+  unfit = λ kind xs. None;
   Holds = AllOf L.Holds;
   members = no_members;
   one_reading = blocks-one L;

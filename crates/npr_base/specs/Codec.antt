@@ -36,10 +36,10 @@ pub record Codec (V : Type 0) : Type 1 where
   -- why those at a place mean nothing
   pub Wrong : At → List ℕ → DecodeError → Type 0
   -- the bytes that are written
-  pub writes : V → List ℕ
+  pub encode : V → List ℕ
   -- why it can't be written under a kind, if so, beside its length, which is asked of each; one that has a cause after its
   -- length has both here
-  pub inside : ℕ → V → Option EmitError
+  pub unfit : ℕ → V → Option EmitError
   -- what can be read
   pub Holds : V → Type 0
   -- the attributes inside it
@@ -48,16 +48,16 @@ pub record Codec (V : Type 0) : Type 1 where
   pub one_reading : (bytes : List ℕ) (x y : V) → Reads bytes x → Reads bytes y → x ≡ y
   pub no_fault : (at : At) (bytes : List ℕ) (x : V) (e : DecodeError) → Reads bytes x → Wrong at bytes e → ⊥
   pub reads_holds : (bytes : List ℕ) (x : V) → IsBytes bytes → Reads bytes x → Holds x
-  pub reads_back : (kind : ℕ) (x : V) → Holds x → inside kind x ≡ None → Reads (writes x) x
-  pub grows : (bytes : List ℕ) (x : V) → IsBytes bytes → Reads bytes x → 2 * framed (length (writes x)) ≤ 5 * (4 + length bytes)
+  pub reads_back : (kind : ℕ) (x : V) → Holds x → unfit kind x ≡ None → Reads (encode x) x
+  pub grows : (bytes : List ℕ) (x : V) → IsBytes bytes → Reads bytes x → 2 * framed (length (encode x)) ≤ 5 * (4 + length bytes)
 
 -- a value of exactly the layout's size
 abbrev pub exactly : {V : Type 0} → Layout V → Codec V
 exactly L = record {
   Reads = λ bytes x. (length bytes ≡ L.size) × (x ≡ L.decode bytes);
   Wrong = λ at bytes e. (length bytes ≢ L.size) × (e ≡ ValueLength at (length bytes));
-  writes = L.encode;
-  inside = λ kind x. None;
+  encode = L.encode;
+  unfit = λ kind x. None;
   Holds = L.Holds;
   members = no_members;
   one_reading = exactly-one L;
@@ -72,8 +72,8 @@ abbrev pub leading : {V : Type 0} → Layout V → Codec V
 leading L = record {
   Reads = λ bytes x. (L.size ≤ length bytes) × (x ≡ L.decode (take L.size bytes));
   Wrong = λ at bytes e. (length bytes < L.size) × (e ≡ HeaderTooShort (length bytes) L.size);
-  writes = L.encode;
-  inside = λ kind x. None;
+  encode = L.encode;
+  unfit = λ kind x. None;
   Holds = L.Holds;
   members = no_members;
   one_reading = leading-one L;
@@ -88,8 +88,8 @@ abbrev pub raw : Codec (List ℕ)
 raw = record {
   Reads = λ bytes x. x ≡ bytes;
   Wrong = λ at bytes e. ⊥;
-  writes = λ x. x;
-  inside = λ kind x. None;
+  encode = λ x. x;
+  unfit = λ kind x. None;
   Holds = IsBytes;
   members = no_members;
   one_reading = λ bytes x y p q. p ∙ sym q;

@@ -11,8 +11,8 @@ abbrev pub dropped : Codec (Unit {0})
 dropped = record {
   Reads = λ bytes x. Unit {0};
   Wrong = λ at bytes e. ⊥;
-  writes = λ x. [];
-  inside = λ kind x. None;
+  encode = λ x. [];
+  unfit = λ kind x. None;
   Holds = λ x. Unit {0};
   members = no_members;
   one_reading = λ bytes x y p q. refl;

@@ -24,7 +24,8 @@ use Rattle.npr_base.specs.Framing.{Item, marked, number_of}
 use Rattle.npr_base.specs.Looks.{Looking}
 use Rattle.npr_base.specs.LooksLaws.{no_looking}
 use Rattle.npr_base.specs.Refusal.{at_number}
-use Rattle.npr_base.specs.Table.{Row, Held, Shape, held, held_other, shape_at}
+use Rattle.npr_base.specs.Family.{Shape}
+use Rattle.npr_base.specs.Table.{Row, Slot, slot_plain, slot_other, shape_at}
 use Rattle.npr_base.specs.TableLaws.{looking_inside}
 use denote.Struct.Field.{Field}
 use denote.Struct.Values.{Values}
@@ -62,9 +63,9 @@ abbrev pub row : {D : Type 0} {Fs : List Field} {V : Type 0} → AttrFamily → 
 row {D} {Fs} {V} family number codec variant =
     (record { at = at_number family number; nested = false; V = V; codec = codec; holds = variant.0 }, variant.1)
 
+-- and one that is written with NESTED
 abbrev pub marked_row : {D : Type 0} {Fs : List Field} {V : Type 0} → AttrFamily → ℕ → Codec V → Variant D Fs V → VariantRow Fs × (Values Fs → D)
-marked_row {D} {Fs} {V} family number codec variant =
-    (record { at = at_number family number; nested = true; V = V; codec = codec; holds = variant.0 }, variant.1)
+marked_row family number codec variant = let r = row family number codec variant in (record r.0 { nested = true }, r.1)
 
 -- the kind that is written
 abbrev pub kind_at : {Fs : List Field} → VariantRow Fs → ℕ
@@ -139,11 +140,11 @@ other_in (Fs ∷ []) rows x = x
 other_in (Fs ∷ Gs ∷ Fss) rows x = inr (other_in (Gs ∷ Fss) rows.1 x)
 
 -- where each meaning stands
-abbrev pub held_in : (Fss : List (List Field)) (rows : VariantRows Fss) → MeaningIn Fss rows → Held
-held_in [] rows x = held_other x
-held_in (Fs ∷ []) rows x = held_other x
-held_in (Fs ∷ Gs ∷ Fss) rows (inl v) = held (kind_at rows.0) rows.0.codec v
-held_in (Fs ∷ Gs ∷ Fss) rows (inr m) = held_in (Gs ∷ Fss) rows.1 m
+abbrev pub slot_in : (Fss : List (List Field)) (rows : VariantRows Fss) → MeaningIn Fss rows → Slot
+slot_in [] rows x = slot_other x
+slot_in (Fs ∷ []) rows x = slot_other x
+slot_in (Fs ∷ Gs ∷ Fss) rows (inl v) = slot_plain (kind_at rows.0) rows.0.codec v
+slot_in (Fs ∷ Gs ∷ Fss) rows (inr m) = slot_in (Gs ∷ Fss) rows.1 m
 
 -- what an attribute of the number k means: a value of the row of that number, or else itself
 abbrev pub ReadsIn : (Fss : List (List Field)) (rows : VariantRows Fss) → ℕ → Item → MeaningIn Fss rows → Type 0
@@ -167,9 +168,9 @@ looks_in (Fs ∷ Gs ∷ Fss) rows = looking_inside rows.0.at.kind rows.0.codec.m
 -- what is written of a value of the enum
 abbrev pub shape_in : (Fss : List (List Field)) (rows : VariantRows Fss) → Choice Fss → Shape
 shape_in [] rows c = absurd c
-shape_in (Fs ∷ []) rows (inl values) = shape_at (held_other (rows.item values))
+shape_in (Fs ∷ []) rows (inl values) = shape_at (slot_other (rows.item values))
 shape_in (Fs ∷ []) rows (inr c) = absurd c
-shape_in (Fs ∷ Gs ∷ Fss) rows (inl values) = shape_at (held (kind_at rows.0) rows.0.codec (rows.0.holds values))
+shape_in (Fs ∷ Gs ∷ Fss) rows (inl values) = shape_at (slot_plain (kind_at rows.0) rows.0.codec (rows.0.holds values))
 shape_in (Fs ∷ Gs ∷ Fss) rows (inr c) = shape_in (Gs ∷ Fss) rows.1 c
 
 -- what is made of a meaning: for each row of its value, and of an attribute of another number

@@ -9,15 +9,17 @@ use Rattle.std.proofs.lemmas.Bool.{eqb-true, eqb-false, ne_eqb, not-true}
 use Rattle.std.proofs.Common.{◌≡◌, ℕ, ◌+◌, ◌*◌, ◌<◌, ◌≤◌, ◌^◌, length, Bool, true, false, List, [], ◌∷◌, inl, inr, refl, sym, ap, subst, None, ◌∙◌}
 use Rattle.std.proofs.Common.{true≢false, arith}
 use Rattle.npr_base.specs.declared.refusal.DecodeError.{DecodeError}
-use Rattle.npr_base.specs.FitLaws.{misfit_of-none}
+use Rattle.npr_base.specs.FitLaws.{unfit_of-none}
 use Rattle.npr_base.specs.Counts.{SawEach}
 use Rattle.npr_base.specs.Framing.{Item, framed, marked, number_of}
 use Rattle.npr_base.specs.Looks.{Looking}
-use Rattle.npr_base.specs.EnumTable.{VariantRows, kind_at, MeaningIn, meaning_in, other_in, row_in, rows_in, held_in, shape_in, has_number, numbered}
+use Rattle.npr_base.specs.EnumTable.{VariantRows, kind_at, MeaningIn, meaning_in, other_in, row_in, rows_in, slot_in, shape_in, has_number, numbered}
 use Rattle.npr_base.specs.EnumTable.{ReadsIn, WrongIn, looks_in}
-use Rattle.npr_base.specs.Table.{Writing, Reading, Row, ReadsAt, WrongAt, Held, held_other, held_inside, held_kind, held_members, IsHeld, IsWritten}
+use Rattle.npr_base.specs.Family.{Writing, Reading}
+use Rattle.npr_base.specs.Table.{Row, ReadsAt, WrongAt, Slot, slot_other, slot_unfit, slot_kind, slot_members, IsSlot, IsWritten}
 use Rattle.npr_base.specs.Table.{Aligned, Table}
-use Rattle.npr_base.specs.Table.{has_row, item_of, plain_item, shape_at, table_with, unfit_as, written_as, writing_by}
+use Rattle.npr_base.specs.Family.{unfit_as, written_as}
+use Rattle.npr_base.specs.Table.{has_row, item_of, plain_item, shape_at, table_with, writing_by}
 use Rattle.npr_base.specs.TableLaws.{table_family, marked-small, looks_of, looking_inside}
 use denote.Struct.Field.{Field}
 use denote.Struct.Values.{Values}
@@ -99,8 +101,8 @@ looks-in (Fs ∷ Gs ∷ Fss) rows part =
 -- what is written of a meaning is read as it
 module _ {M : Type 0} (all : List (Row M)) where
   apart : (this : ℕ) (Fss : List (List Field)) (rows : VariantRows Fss) → numbered Fss rows ≡ true → has_number Fss rows this ≡ false
-      → ((k : ℕ) → has_row all k ≡ false → (k == this) ≡ false) → (m : MeaningIn Fss rows) → IsHeld all (held_in Fss rows m)
-      → (number_of (item_of (held_in Fss rows m)).kind == this) ≡ false
+      → ((k : ℕ) → has_row all k ≡ false → (k == this) ≡ false) → (m : MeaningIn Fss rows) → IsSlot all (slot_in Fss rows m)
+      → (number_of (item_of (slot_in Fss rows m)).kind == this) ≡ false
   apart this [] rows h none free m is = free (number_of m.kind) is.alone
   apart this (Fs ∷ []) rows h none free m is = free (number_of m.kind) is.alone
   apart this (Fs ∷ Gs ∷ Fss) rows h none free (inl v) is =
@@ -111,8 +113,8 @@ module _ {M : Type 0} (all : List (Row M)) where
       apart this (Gs ∷ Fss) rows.1 (rows_behind Fs Gs Fss rows h) (if_not (this == rows.0.at.kind) (has_number (Gs ∷ Fss) rows.1 this) none).1 free m is
 
   pub back-in : (Fss : List (List Field)) (rows : VariantRows Fss) → numbered Fss rows ≡ true
-      → ((k : ℕ) → has_row all k ≡ false → has_number Fss rows k ≡ false) → (m : MeaningIn Fss rows) → IsHeld all (held_in Fss rows m)
-      → held_inside (held_in Fss rows m) ≡ None → ReadsIn Fss rows (number_of (item_of (held_in Fss rows m)).kind) (item_of (held_in Fss rows m)) m
+      → ((k : ℕ) → has_row all k ≡ false → has_number Fss rows k ≡ false) → (m : MeaningIn Fss rows) → IsSlot all (slot_in Fss rows m)
+      → slot_unfit (slot_in Fss rows m) ≡ None → ReadsIn Fss rows (number_of (item_of (slot_in Fss rows m)).kind) (item_of (slot_in Fss rows m)) m
   back-in [] rows h within m is fits = refl
   back-in (Fs ∷ []) rows h within m is fits = refl
   back-in (Fs ∷ Gs ∷ Fss) rows h within (inl v) is fits = rw (row_own Fs Gs Fss rows h) (rows.0.codec.reads_back (kind_at rows.0) v is fits)
@@ -122,35 +124,35 @@ module _ {M : Type 0} (all : List (Row M)) where
       let away = apart rows.0.at.kind (Gs ∷ Fss) rows.1 behind (row_alone Fs Gs Fss rows h) (λ k e. (free k e).0) m is in
       rw away (back-in (Gs ∷ Fss) rows.1 behind (λ k e. (free k e).1) m is fits)
 
-  pub kinds-in : (Fss : List (List Field)) (rows : VariantRows Fss) → numbered Fss rows ≡ true → (m : MeaningIn Fss rows) → IsHeld all (held_in Fss rows m)
-      → held_kind (held_in Fss rows m) < 2 ^ 16
+  pub kinds-in : (Fss : List (List Field)) (rows : VariantRows Fss) → numbered Fss rows ≡ true → (m : MeaningIn Fss rows) → IsSlot all (slot_in Fss rows m)
+      → slot_kind (slot_in Fss rows m) < 2 ^ 16
   kinds-in [] rows h m is = is.proper.kind
   kinds-in (Fs ∷ []) rows h m is = is.proper.kind
   kinds-in (Fs ∷ Gs ∷ Fss) rows h (inl v) is = row_short Fs Gs Fss rows h
   kinds-in (Fs ∷ Gs ∷ Fss) rows h (inr m) is = kinds-in (Gs ∷ Fss) rows.1 (rows_behind Fs Gs Fss rows h) m is
 
-module _ {M : Type 0} (all : List (Row M)) (held_of : M → Held) where
+module _ {M : Type 0} (all : List (Row M)) (slot_of : M → Slot) where
   pub aligned-in : (Fss : List (List Field)) (rows : VariantRows Fss) (part : MeaningIn Fss rows → M)
-      → ((m : MeaningIn Fss rows) → held_of (part m) ≡ held_in Fss rows m) → numbered Fss rows ≡ true
-      → Aligned (writing_by held_of) (λ m. IsHeld all (held_of m)) (rows_in Fss rows part)
+      → ((m : MeaningIn Fss rows) → slot_of (part m) ≡ slot_in Fss rows m) → numbered Fss rows ≡ true
+      → Aligned (writing_by slot_of) (λ m. IsSlot all (slot_of m)) (rows_in Fss rows part)
   aligned-in [] rows part same h = tt
   aligned-in (Fs ∷ []) rows part same h = tt
   aligned-in (Fs ∷ Gs ∷ Fss) rows part same h =
-      let own : (v : rows.0.V) → IsWritten (writing_by held_of) (λ m. IsHeld all (held_of m)) (row_in Fs Gs Fss rows part) v =
+      let own : (v : rows.0.V) → IsWritten (writing_by slot_of) (λ m. IsSlot all (slot_of m)) (row_in Fs Gs Fss rows part) v =
       λ v.
-      let written = ap (λ (at : Held). (written_as (shape_at at)).value) (same (inl v)) in
-      (written, ap held_members (same (inl v)), λ holds. subst (IsHeld all) (sym (same (inl v))) holds) in
+      let written = ap (λ (at : Slot). (written_as (shape_at at)).value) (same (inl v)) in
+      (written, ap slot_members (same (inl v)), λ holds. subst (IsSlot all) (sym (same (inl v))) holds) in
       let alone = row_numbers (Gs ∷ Fss) rows.1 (λ m. part (inr m)) rows.0.at.kind ∙ row_alone Fs Gs Fss rows h in
       (own, alone, aligned-in (Gs ∷ Fss) rows.1 (λ m. part (inr m)) (λ m. same (inr m)) (rows_behind Fs Gs Fss rows h))
 
-pub held-other : (Fss : List (List Field)) (rows : VariantRows Fss) (x : Item) → held_in Fss rows (other_in Fss rows x) ≡ held_other x
-held-other [] rows x = refl
-held-other (Fs ∷ []) rows x = refl
-held-other (Fs ∷ Gs ∷ Fss) rows x = held-other (Gs ∷ Fss) rows.1 x
+pub slot-other : (Fss : List (List Field)) (rows : VariantRows Fss) (x : Item) → slot_in Fss rows (other_in Fss rows x) ≡ slot_other x
+slot-other [] rows x = refl
+slot-other (Fs ∷ []) rows x = refl
+slot-other (Fs ∷ Gs ∷ Fss) rows x = slot-other (Gs ∷ Fss) rows.1 x
 
 -- how meanings are written
 abbrev pub writing_in : (Fss : List (List Field)) (rows : VariantRows Fss) → Writing (MeaningIn Fss rows)
-writing_in Fss rows = writing_by (held_in Fss rows)
+writing_in Fss rows = writing_by (slot_in Fss rows)
 
 -- the table
 module _ (Fss : List (List Field)) (rows : VariantRows Fss) where
@@ -158,19 +160,19 @@ module _ (Fss : List (List Field)) (rows : VariantRows Fss) where
   all_rows = rows_in Fss rows (λ m. m)
 
   abbrev pub CoherentIn : MeaningIn Fss rows → Type 0
-  CoherentIn m = IsHeld all_rows (held_in Fss rows m)
+  CoherentIn m = IsSlot all_rows (slot_in Fss rows m)
 
-  pub back-read : numbered Fss rows ≡ true → (m : MeaningIn Fss rows) → CoherentIn m → held_inside (held_in Fss rows m) ≡ None
-      → ReadsIn Fss rows (number_of (item_of (held_in Fss rows m)).kind) (item_of (held_in Fss rows m)) m
+  pub back-read : numbered Fss rows ≡ true → (m : MeaningIn Fss rows) → CoherentIn m → slot_unfit (slot_in Fss rows m) ≡ None
+      → ReadsIn Fss rows (number_of (item_of (slot_in Fss rows m)).kind) (item_of (slot_in Fss rows m)) m
   back-read h = back-in all_rows Fss rows h (λ k e. sym (row_numbers Fss rows (λ m. m) k) ∙ e)
 
   abbrev pub enum_table : numbered Fss rows ≡ true → Table (MeaningIn Fss rows)
   enum_table h =
-      table_with all_rows (other_in Fss rows) (held_in Fss rows) CoherentIn
-      (aligned-in all_rows (held_in Fss rows) Fss rows (λ m. m) (λ m. refl) h) (held-other Fss rows)
-      (λ x is. subst (IsHeld all_rows) (sym (held-other Fss rows x)) is) (kinds-in all_rows Fss rows h)
+      table_with all_rows (other_in Fss rows) (slot_in Fss rows) CoherentIn
+      (aligned-in all_rows (slot_in Fss rows) Fss rows (λ m. m) (λ m. refl) h) (slot-other Fss rows)
+      (λ x is. subst (IsSlot all_rows) (sym (slot-other Fss rows x)) is) (kinds-in all_rows Fss rows h)
       (λ m c fits.
-      let x = item_of (held_in Fss rows m) in
+      let x = item_of (slot_in Fss rows m) in
       reads-in (other_in Fss rows) Fss rows (λ n. n) (λ y. refl) (number_of x.kind) x m (back-read h m c fits))
 
   pub rows-read : (x : Item) (m : MeaningIn Fss rows) → ReadsIn Fss rows (number_of x.kind) x m
@@ -191,7 +193,7 @@ module _ (Fss : List (List Field)) (rows : VariantRows Fss) where
         no_fault = λ x m e p q. t.no_fault x m e (rows-read x m p) (wrong-in Fss rows (λ n. n) (number_of x.kind) x e q);
         reads_coherent = λ x m proper p. t.reads_coherent x m proper (rows-read x m p);
         kinds = t.kinds;
-        reads_back = λ m c h. back-read h0 m c (misfit_of-none (held_inside (held_in Fss rows m)) (plain_item (held_in Fss rows m)) h);
+        reads_back = λ m c h. back-read h0 m c (unfit_of-none (slot_unfit (slot_in Fss rows m)) (plain_item (slot_in Fss rows m)) h);
         grows = λ x m proper p. t.grows x m proper (rows-read x m p);
         bounded = λ x old new takes. t.bounded x old new (subst (λ (l : Looking Item). l.Takes x old new) same takes);
         saw = λ x m old new p takes. t.saw x m old new (rows-read x m p) (subst (λ (l : Looking Item). l.Takes x old new) same takes);

@@ -1,86 +1,75 @@
--- Lists of attributes of a family.
-use Rattle.std.specs.Prelude.{Bool, ℕ, ◌+◌, ◌<◌, ◌^◌, ◌⊎◌, List, [], ◌∷◌, ◌++◌, length, Option, Some, None, Result, Ok, Err, nat_lt, if◌then◌else◌}
+-- Families of attributes: how values are written, and what attributes mean.
+use Rattle.std.specs.Prelude.{◌≡◌, ℕ, ◌+◌, ◌*◌, ◌<◌, ◌≤◌, ◌^◌, Bool, length, Option, None}
 use Rattle.npr_base.specs.declared.refusal.DecodeError.{DecodeError}
 use Rattle.npr_base.specs.declared.refusal.EmitError.{EmitError}
-use Rattle.npr_base.specs.declared.refusal.EmitError.TheVariants.{TooLong, Total}
-use Rattle.npr_base.specs.Framing.{Item, Front, Passes, Fault, encoding, framed}
+use Rattle.npr_base.specs.Framing.{Item, Small, Proper, framed, written}
+use Rattle.npr_base.specs.Lists.{unfit_of}
+use Rattle.npr_base.specs.FitLaws.{unfit_of-short}
+use Rattle.npr_base.specs.Counts.{Counts, AddsAtMost, SawEach}
+use Rattle.npr_base.specs.Looks.{Looking}
 
--- what a check answers
-abbrev pub checked : Option EmitError → ℕ → Result ℕ EmitError
-checked None len = Ok len
-checked (Some e) len = Err e
+-- what is written of a value as an attribute: its kind and value, whether NESTED is set in the kind besides, and why what is
+-- inside can't be written, if so
+pub record Shape : Type 0 where
+  pub item : Item
+  pub nested : Bool
+  pub unfit : Option EmitError
 
--- the first of two causes
-abbrev pub option_or : {A : Type 0} → Option A → Option A → Option A
-option_or (Some x) o = Some x
-option_or None o = o
+-- the attribute that is written
+abbrev pub written_as : Shape → Item
+written_as s = written s.nested s.item
 
--- a length that no usize holds
-abbrev pub overlong : ℕ → Option EmitError
-overlong n = if nat_lt n (2 ^ 64) then None else Some Total
+-- why there is none, if so: what is inside, or its length
+abbrev pub unfit_as : Shape → Option EmitError
+unfit_as s = unfit_of s.unfit s.item
 
--- 16 bits hold the length of header and value
-abbrev pub is_short : ℕ → Bool
-is_short len = nat_lt len 65532
+abbrev pub shaped_item : {A : Type 0} → (A → Shape) → A → Item
+shaped_item shape a = written_as (shape a)
 
--- the length of the encoding, where they do
-abbrev pub short_framed : ℕ → Option ℕ
-short_framed len = if is_short len then Some (framed len) else None
+abbrev pub shaped_unfit : {A : Type 0} → (A → Shape) → A → Option EmitError
+shaped_unfit shape a = unfit_as (shape a)
 
--- a value that is too long for a text
-abbrev pub too_long : ℕ → ℕ → Option EmitError
-too_long kind len = if is_short len then None else if nat_lt len (2 ^ 64) then Some (TooLong kind len) else Some Total
+-- how meanings are written, and how many attributes stand inside each at all depths
+pub record Writing (M : Type 0) : Type 0 where
+  pub shape : M → Shape
+  pub members : M → ℕ
 
--- why an attribute can't be written, if so: the cause inside it, or its length
-abbrev pub misfit_of : Option EmitError → Item → Option EmitError
-misfit_of inside x = option_or inside (too_long x.kind (length x.value))
+abbrev pub written_by : {M : Type 0} → Writing M → M → Item
+written_by w m = written_as (w.shape m)
 
--- place by place
-abbrev pub Each : {A B : Type 0} → (A → B → Type 0) → List A → List B → Type 0
-Each R [] [] = Unit {0}
-Each R (x ∷ xs) (y ∷ ys) = R x y × Each R xs ys
-Each R [] (y ∷ ys) = ⊥
-Each R (x ∷ xs) [] = ⊥
+abbrev pub unfit_by : {M : Type 0} → Writing M → M → Option EmitError
+unfit_by w m = unfit_as (w.shape m)
 
--- each of them
-abbrev pub AllOf : {A : Type 0} → (A → Type 0) → List A → Type 0
-AllOf P [] = Unit {0}
-AllOf P (x ∷ xs) = P x × AllOf P xs
+-- a family: what attributes mean that are written so, and the looks that reading their values takes, with the laws of all: the
+-- looks are no more than the bytes of the value allow, and one for each attribute inside where all are read
+pub record Reading {M : Type 0} (w : Writing M) : Type 1 where
+  pub Reads : Item → M → Type 0
+  pub Faulty : Item → DecodeError → Type 0
+  pub looks : Looking Item
+  pub Coherent : M → Type 0
+  pub one_reading : (x : Item) (m n : M) → Reads x m → Reads x n → m ≡ n
+  pub no_fault : (x : Item) (m : M) (e : DecodeError) → Reads x m → Faulty x e → ⊥
+  pub reads_coherent : (x : Item) (m : M) → Proper x → Reads x m → Coherent m
+  pub kinds : (m : M) → Coherent m → (written_by w m).kind < 2 ^ 16
+  pub reads_back : (m : M) → Coherent m → unfit_by w m ≡ None → Reads (written_by w m) m
+  pub grows : (x : Item) (m : M) → Proper x → Reads x m → 2 * framed (length (written_by w m).value) ≤ 5 * (4 + length x.value)
+  pub bounded : (x : Item) (old new : Counts) → looks.Takes x old new → AddsAtMost old new (length x.value)
+  pub saw : (x : Item) (m : M) (old new : Counts) → Reads x m → looks.Takes x old new → SawEach old new (w.members m)
 
--- a front of the bytes reads so, and then the rest follows
-abbrev pub ReadsTo : {M : Type 0} → (Item → M → Type 0) → List ℕ → List M → List ℕ → Type 0
-ReadsTo reads bytes xs rest = (items : List Item) × Passes bytes items rest × Each reads items xs
+-- a family of values: what one is, without where it lies in memory, how that is written, and what attributes mean in a context
+pub record Family (A C : Type 0) : Type 1 where
+  pub Meaning : Type 0
+  pub meaning : A → Meaning
+  pub writing : Writing Meaning
+  pub reading : C → Reading writing
 
--- the bytes are cut into attributes that read so
-abbrev pub ReadsList : {M : Type 0} → (Item → M → Type 0) → List ℕ → List M → Type 0
-ReadsList reads bytes xs = ReadsTo reads bytes xs []
+abbrev pub family_of : {A C M : Type 0} {w : Writing M} → (A → M) → (C → Reading w) → Family A C
+family_of {A} {C} {M} {w} meaning reading = record { Meaning = M; meaning = meaning; writing = w; reading = reading }
 
--- what comes next is wrong: no attribute stands in front, or its value is faulty
-abbrev pub IsWrong : (Item → DecodeError → Type 0) → List ℕ → DecodeError → Type 0
-IsWrong faulty rest e = ((0 < length rest) × Fault rest e) ⊎ ((x : Item) × (more : List ℕ) × Front rest x more × faulty x e)
+-- what is written of a value
+abbrev pub shaped : {A C : Type 0} → Family A C → A → Shape
+shaped f a = f.writing.shape (f.meaning a)
 
--- attributes that read are followed by what is wrong
-abbrev pub FirstFault : {M : Type 0} → (Item → M → Type 0) → (Item → DecodeError → Type 0) → List ℕ → DecodeError → Type 0
-FirstFault {M} reads faulty bytes e = (xs : List M) × (rest : List ℕ) × ReadsTo reads bytes xs rest × IsWrong faulty rest e
-
--- the texts of each, one after the other
-abbrev pub joined : {A : Type 0} → (A → List ℕ) → List A → List ℕ
-joined text [] = []
-joined text (x ∷ xs) = text x ++ joined text xs
-
-abbrev pub encodings : {A : Type 0} → (A → Item) → List A → List ℕ
-encodings item = joined (λ x. encoding (item x))
-
--- the first that can't be written
-abbrev pub first_unfit : {A : Type 0} → (A → Option EmitError) → List A → Option EmitError
-first_unfit unfit [] = None
-first_unfit unfit (x ∷ xs) = option_or (unfit x) (first_unfit unfit xs)
-
--- the first member that can't be written, or the length of all
-abbrev pub list_unfit : {A : Type 0} → (A → Option EmitError) → (A → Item) → List A → Option EmitError
-list_unfit unfit item xs = option_or (first_unfit unfit xs) (overlong (length (encodings item xs)))
-
--- the members of a list, and those inside them
-abbrev pub list_members : {A : Type 0} → (A → ℕ) → List A → ℕ
-list_members members [] = 0
-list_members members (x ∷ xs) = 1 + members x + list_members members xs
+-- what can be read and fits is an attribute that a text can hold
+pub fits-small : {M : Type 0} {w : Writing M} (r : Reading w) (m : M) → r.Coherent m → unfit_by w m ≡ None → Small (written_by w m)
+fits-small {M} {w} r m c h = record { kind = r.kinds m c; value = unfit_of-short (w.shape m).unfit (w.shape m).item h }

@@ -190,16 +190,16 @@ module _ {V : Type 0} (F : Field V) where
   }
 
 -- fields of a struct D: which they are, and how they stand in the bytes
-pub record Named (D A : Type 0) : Type 1 where
+pub record Part (D A : Type 0) : Type 1 where
   pub of : D → A
   pub field : Field A
 
 infix 3 ◌fills◌
-abbrev pub ◌fills◌ : {D A : Type 0} → (D → A) → Field A → Named D A
+abbrev pub ◌fills◌ : {D A : Type 0} → (D → A) → Field A → Part D A
 of fills F = record { of = of; field = F }
 
 infixr 2 ◌then◌
-abbrev pub ◌then◌ : {D A B : Type 0} → Named D A → Named D B → Named D (A × B)
+abbrev pub ◌then◌ : {D A B : Type 0} → Part D A → Part D B → Part D (A × B)
 p then q = record { of = λ d. (p.of d, q.of d); field = p.field and q.field }
 
 abbrev last_field : {A : Type 0} → Field A → Field (A × Unit {0})
@@ -214,7 +214,7 @@ last_field F = record {
 }
 
 -- the last field of a struct
-abbrev pub last : {D A : Type 0} → Named D A → Named D (A × Unit {0})
+abbrev pub last : {D A : Type 0} → Part D A → Part D (A × Unit {0})
 last p = record { of = λ d. (p.of d, tt); field = last_field p.field }
 
 module _ {A B C : Type 0} (F : Field ((A × B) × C)) where
@@ -234,9 +234,9 @@ module _ {A B C : Type 0} (F : Field ((A × B) × C)) where
   }
 
 -- two values that stand in one place, and what stands behind it
-abbrev pub spread : {D A B C : Type 0} → Named D ((A × B) × C) → Named D (A × (B × C))
+abbrev pub spread : {D A B C : Type 0} → Part D ((A × B) × C) → Part D (A × (B × C))
 spread p = record { of = λ d. ((p.of d).0.0, ((p.of d).0.1, (p.of d).1)); field = spread_field p.field }
 
 -- a struct, whose fields stand one behind the other, each in its place; N is `struct` of the type's module in `specs.contracts`
-abbrev pub structure : (N : Record) (p : Named N.D (Values N.parts)) → N.as_values ≡ p.of → ((v : Values N.parts) → N.Ghost v) → Layout N.D
+abbrev pub structure : (N : Record) (p : Part N.D (Values N.parts)) → N.as_values ≡ p.of → ((v : Values N.parts) → N.Ghost v) → Layout N.D
 structure N p named ghosts = formed (fields p.field) (record { of = λ v. N.make v (ghosts v); number = N.as_values; back = λ v. N.beta v (ghosts v) })

@@ -5,7 +5,7 @@ use Rattle.std.proofs.lemmas.Bool.{cases_lt, lt-ltb, le-ltb}
 use Rattle.npr_base.specs.declared.refusal.EmitError.TheVariants.{TooLong, Total}
 use Rattle.npr_base.specs.declared.refusal.EmitError.{EmitError}
 use Rattle.npr_base.specs.Framing.{Item}
-use Rattle.npr_base.specs.Family.{misfit_of, option_or, too_long}
+use Rattle.npr_base.specs.Lists.{unfit_of, option_or, too_long}
 
 pub none_both : {A : Type 0} (o p : Option A) → option_or o p ≡ None → (o ≡ None) × (p ≡ None)
 none_both None p h = (refl, h)
@@ -21,9 +21,9 @@ too_long-short kind len e = elim (cases_lt len 65532) [
 ]
 
 -- what fits holds nothing that doesn't
-pub misfit_of-none : (inside : Option EmitError) (x : Item) → misfit_of inside x ≡ None → inside ≡ None
-misfit_of-none inside x fits = (none_both inside (too_long x.kind (length x.value)) fits).0
+pub unfit_of-none : (unfit : Option EmitError) (x : Item) → unfit_of unfit x ≡ None → unfit ≡ None
+unfit_of-none unfit x fits = (none_both unfit (too_long x.kind (length x.value)) fits).0
 
 -- and is short
-pub misfit_of-short : (inside : Option EmitError) (x : Item) → misfit_of inside x ≡ None → length x.value ≤ 65531
-misfit_of-short inside x fits = too_long-short x.kind (length x.value) (none_both inside (too_long x.kind (length x.value)) fits).1
+pub unfit_of-short : (unfit : Option EmitError) (x : Item) → unfit_of unfit x ≡ None → length x.value ≤ 65531
+unfit_of-short unfit x fits = too_long-short x.kind (length x.value) (none_both unfit (too_long x.kind (length x.value)) fits).1

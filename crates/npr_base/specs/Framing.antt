@@ -22,7 +22,7 @@ marked nested kind = if nested then 2 ^ 15 + kind % 2 ^ 15 else kind
 abbrev pub written : Bool → Item → Item
 written nested x = record { kind = marked nested x.kind; value = x.value }
 
--- what a text can say of an attribute: two bytes of kind, and two of a length that counts four bytes of header
+-- what the header of an attribute can say: two bytes of kind, and two of a length that counts four bytes of header
 pub record Small (x : Item) : Type 0 where
   pub kind : x.kind < 2 ^ 16
   pub value : length x.value ≤ 65531
@@ -41,23 +41,23 @@ abbrev pub pad : ℕ → ℕ
 pad n = (4 - n % 4) % 4
 
 -- the attribute with some padding
-abbrev pub text : Item → List ℕ → List ℕ
-text x padding = to_le_bytes w16 (4 + length x.value) ++ to_le_bytes w16 x.kind ++ x.value ++ padding
+abbrev pub padded : Item → List ℕ → List ℕ
+padded x padding = to_le_bytes w16 (4 + length x.value) ++ to_le_bytes w16 x.kind ++ x.value ++ padding
 
--- the bytes are a text of the attribute and then the rest; padding is whole where anything follows
+-- the attribute with some padding stands in front of the rest; padding is whole where anything follows
 pub record Front (bytes : List ℕ) (x : Item) (rest : List ℕ) : Type 0 where
   pub padding : List ℕ
-  pub is : bytes ≡ text x padding ++ rest
+  pub is : bytes ≡ padded x padding ++ rest
   pub small : Small x
   pub most : length padding ≤ pad (length x.value)
   pub whole : 0 < length rest → length padding ≡ pad (length x.value)
 
--- the bytes are texts of the attributes one after the other, and then the rest
+-- the attributes stand one after the other, and then the rest
 abbrev pub Passes : List ℕ → List Item → List ℕ → Type 0
 Passes bytes [] rest = bytes ≡ rest
 Passes bytes (x ∷ xs) rest = (more : List ℕ) × Front bytes x more × Passes more xs rest
 
--- the bytes are texts of the attributes
+-- the bytes are the attributes
 abbrev pub Cut : List ℕ → List Item → Type 0
 Cut bytes xs = Passes bytes xs []
 
@@ -67,13 +67,13 @@ Fault r (AttributeTooShort got) = (got ≡ length r) × (length r < 4)
 Fault r (AttributeLength l left) = (left ≡ length r) × (4 ≤ length r) × (l ≡ from_le_bytes w16 (take 2 r)) × ((l < 4) ⊎ (length r < l))
 Fault r _ = ⊥
 
--- texts of the attributes, and then bytes in front of which none stands
+-- the attributes, and then bytes in front of which none stands
 abbrev pub Stops : List ℕ → List Item → DecodeError → Type 0
 Stops bytes xs e = (rest : List ℕ) × Passes bytes xs rest × (0 < length rest) × Fault rest e
 
 -- one look at a header in front of the bytes
 abbrev pub Begins : List ℕ → Result Item DecodeError → Type 0
-Begins bytes (Ok x) = Small x × ((rest : List ℕ) × (bytes ≡ text x [] ++ rest))
+Begins bytes (Ok x) = Small x × ((rest : List ℕ) × (bytes ≡ padded x [] ++ rest))
 Begins bytes (Err e) = Fault bytes e
 
 -- one step of a walk, from the bytes that were left to those that are
@@ -82,11 +82,11 @@ Step bytes None rest = (bytes ≡ []) × (rest ≡ [])
 Step bytes (Some (Ok x)) rest = Front bytes x rest
 Step bytes (Some (Err e)) rest = (0 < length bytes) × Fault bytes e × (rest ≡ [])
 
--- the one text that is written: padding is whole and zero
+-- the one that is written: padding is whole and zero
 abbrev pub encoding : Item → List ℕ
-encoding x = text x (replicate (pad (length x.value)) 0)
+encoding x = padded x (replicate (pad (length x.value)) 0)
 
--- the length of that text, by the length of the value
+-- its length, by the length of the value
 abbrev pub framed : ℕ → ℕ
 framed n = 4 + (n + pad n)
 

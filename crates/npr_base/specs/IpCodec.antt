@@ -47,8 +47,8 @@ abbrev pub ip : Codec IpAddr
 ip = record {
   Reads = IsIp;
   Wrong = λ at bytes e. (length bytes ≢ 4) × (length bytes ≢ 16) × (e ≡ ValueLength at (length bytes));
-  writes = octets_of;
-  inside = λ kind a. None;
+  encode = octets_of;
+  unfit = λ kind a. None;
   Holds = HoldsIp;
   members = no_members;
   one_reading = ip-one;

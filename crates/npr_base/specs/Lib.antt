@@ -5,6 +5,7 @@ pub mod Attributes
 pub mod AttributesLaws
 pub mod Walk
 pub mod Family
+pub mod Lists
 pub mod FitLaws
 pub mod Found
 pub mod FrontLaws

@@ -1,19 +1,19 @@
 -- A list of attributes of another family as a value.
 use Rattle.std.specs.Prelude.{List, length}
-use Rattle.npr_base.specs.Family.{AllOf, ReadsList, FirstFault, encodings, first_unfit, list_unfit, list_members, overlong}
+use Rattle.npr_base.specs.Lists.{AllOf, ReadsList, FirstFault, encodings, first_unfit, list_unfit, list_members, overlong}
 use Rattle.npr_base.specs.FitLaws.{none_both}
 use Rattle.npr_base.specs.ListLaws.{ReadsList-one, FirstFault-excludes, ReadsList-known, encodings-read, list-grows}
 use Rattle.npr_base.specs.Codec.{Codec}
 use Rattle.npr_base.specs.LookBounds.{list_looking, list-bounded, list-saw}
 use Rattle.npr_base.specs.Looks.{looked_through}
-use Rattle.npr_base.specs.Table.{Writing, Reading, fits-small, written_by, unfit_by}
+use Rattle.npr_base.specs.Family.{Writing, Reading, fits-small, written_by, unfit_by}
 
 abbrev pub list_of : {M : Type 0} {w : Writing M} → Reading w → Codec (List M)
 list_of {M} {w} f = record {
   Reads = ReadsList f.Reads;
   Wrong = λ at bytes e. FirstFault f.Reads f.Faulty bytes e;
-  writes = encodings (written_by w);
-  inside = λ kind xs. list_unfit (unfit_by w) (written_by w) xs;
+  encode = encodings (written_by w);
+  unfit = λ kind xs. list_unfit (unfit_by w) (written_by w) xs;
   Holds = AllOf f.Coherent;
   members = record {
     count = list_members w.members;

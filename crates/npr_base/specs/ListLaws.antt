@@ -7,8 +7,8 @@ use Rattle.std.proofs.lemmas.List.{length-replicate, take-append-drop, get_or-ap
 use Rattle.npr_base.specs.declared.refusal.DecodeError.{DecodeError}
 use Rattle.npr_base.specs.declared.refusal.DecodeError.TheVariants.{OutOfMemory}
 use Rattle.npr_base.specs.declared.refusal.EmitError.{EmitError}
-use Rattle.npr_base.specs.Framing.{Item, Small, Proper, IsBytes, Front, Passes, text, pad, encoding, framed}
-use Rattle.npr_base.specs.Family.{Each, AllOf, ReadsList, IsWrong, FirstFault, encodings, first_unfit}
+use Rattle.npr_base.specs.Framing.{Item, Small, Proper, IsBytes, Front, Passes, padded, pad, encoding, framed}
+use Rattle.npr_base.specs.Lists.{Each, AllOf, ReadsList, IsWrong, FirstFault, encodings, first_unfit}
 use Rattle.npr_base.specs.FitLaws.{none_both}
 use Rattle.npr_base.specs.FrontLaws.{Front-same, Front-sound, Front-shrinks, Front-takes, Cut-same}
 
@@ -63,7 +63,7 @@ module _ {M : Type 0} (R : Item → M → Type 0) (F : Item → DecodeError → 
 
 -- ---- what is written is read again
 
--- the text of a value stands in front of what follows it
+-- the encoding of an attribute stands in front of what follows it
 pub encoding-front : (x : Item) (rest : List ℕ) → Small x → Front (encoding x ++ rest) x rest
 encoding-front x rest small = record {
   padding = replicate (pad (length x.value)) 0;
@@ -74,14 +74,14 @@ encoding-front x rest small = record {
 }
 
 -- what is written is read again
-pub encodings-read : {M : Type 0} (C : M → Type 0) (misfit : M → Option EmitError) (writes : M → Item) (R : Item → M → Type 0)
-    → ((m : M) → C m → misfit m ≡ None → Small (writes m)) → ((m : M) → C m → misfit m ≡ None → R (writes m) m)
-    → (ms : List M) → AllOf C ms → first_unfit misfit ms ≡ None → ReadsList R (encodings writes ms) ms
-encodings-read C misfit writes R small back [] all fits = ([], refl, tt)
-encodings-read C misfit writes R small back (m ∷ ms) all fits =
-    let f = none_both (misfit m) (first_unfit misfit ms) fits in
-    let t = encodings-read C misfit writes R small back ms all.1 f.1 in
-    (writes m ∷ t.0, (encodings writes ms, encoding-front (writes m) (encodings writes ms) (small m all.0 f.0), t.1), (back m all.0 f.0, t.2))
+pub encodings-read : {M : Type 0} (C : M → Type 0) (meaning_unfit : M → Option EmitError) (written : M → Item) (R : Item → M → Type 0)
+    → ((m : M) → C m → meaning_unfit m ≡ None → Small (written m)) → ((m : M) → C m → meaning_unfit m ≡ None → R (written m) m)
+    → (ms : List M) → AllOf C ms → first_unfit meaning_unfit ms ≡ None → ReadsList R (encodings written ms) ms
+encodings-read C meaning_unfit written R small back [] all fits = ([], refl, tt)
+encodings-read C meaning_unfit written R small back (m ∷ ms) all fits =
+    let f = none_both (meaning_unfit m) (first_unfit meaning_unfit ms) fits in
+    let t = encodings-read C meaning_unfit written R small back ms all.1 f.1 in
+    (written m ∷ t.0, (encodings written ms, encoding-front (written m) (encodings written ms) (small m all.0 f.0), t.1), (back m all.0 f.0, t.2))
 
 -- ---- bytes of a program
 
@@ -103,7 +103,7 @@ IsBytes-drop n xs h = IsBytes-right (take n xs) (drop n xs) (subst IsBytes (sym 
 -- what stands in front of a program's bytes is a program's
 pub Front-proper : (bs : List ℕ) (x : Item) (rest : List ℕ) → IsBytes bs → Front bs x rest → Proper x × IsBytes rest
 Front-proper bs x rest bytes f =
-    let all : IsBytes (text x f.padding ++ rest) = subst IsBytes f.is bytes in
+    let all : IsBytes (padded x f.padding ++ rest) = subst IsBytes f.is bytes in
     let tail : IsBytes ((x.value ++ f.padding) ++ rest) = λ i. all (suc (suc (suc (suc i)))) in (
       record { kind = f.small.kind; value = IsBytes-left x.value f.padding (IsBytes-left (x.value ++ f.padding) rest tail) },
       IsBytes-right (x.value ++ f.padding) rest tail,
@@ -127,35 +127,35 @@ ReadsList-known C R known bs ms bytes (items, p, h) = known_all C R known items 
 pub length-encoding : (x : Item) → length (encoding x) ≡ framed (length x.value)
 length-encoding x = omega (arith, length-append x.value (replicate (pad (length x.value)) 0), length-replicate {A = ℕ} (pad (length x.value)) 0)
 
-grow_all : {M : Type 0} (writes : M → Item) (R : Item → M → Type 0)
-    → ((x : Item) (m : M) → Proper x → R x m → 2 * framed (length (writes m).value) ≤ 5 * (4 + length x.value))
-    → (items : List Item) (ms : List M) (bs : List ℕ) → IsBytes bs → Passes bs items [] → Each R items ms → 2 * length (encodings writes ms) ≤ 5 * length bs
-grow_all writes R grows [] [] bs bytes p h = omega arith
-grow_all writes R grows [] (m ∷ ms) bs bytes p h = absurd h
-grow_all writes R grows (x ∷ xs) [] bs bytes p h = absurd h
-grow_all writes R grows (x ∷ xs) (m ∷ ms) bs bytes (r, f, p) h =
+grow_all : {M : Type 0} (written : M → Item) (R : Item → M → Type 0)
+    → ((x : Item) (m : M) → Proper x → R x m → 2 * framed (length (written m).value) ≤ 5 * (4 + length x.value))
+    → (items : List Item) (ms : List M) (bs : List ℕ) → IsBytes bs → Passes bs items [] → Each R items ms → 2 * length (encodings written ms) ≤ 5 * length bs
+grow_all written R grows [] [] bs bytes p h = omega arith
+grow_all written R grows [] (m ∷ ms) bs bytes p h = absurd h
+grow_all written R grows (x ∷ xs) [] bs bytes p h = absurd h
+grow_all written R grows (x ∷ xs) (m ∷ ms) bs bytes (r, f, p) h =
     let k = Front-proper bs x r bytes f in
     omega (
       arith,
       grows x m k.0 h.0,
-      grow_all writes R grows xs ms r k.1 p h.1,
+      grow_all written R grows xs ms r k.1 p h.1,
       Front-takes bs x r f,
-      length-encoding (writes m),
-      length-append (encoding (writes m)) (encodings writes ms),
+      length-encoding (written m),
+      length-append (encoding (written m)) (encodings written ms),
     )
 
 -- encodings are at most five halves as long as what was read
-pub ReadsList-grows : {M : Type 0} (writes : M → Item) (R : Item → M → Type 0)
-    → ((x : Item) (m : M) → Proper x → R x m → 2 * framed (length (writes m).value) ≤ 5 * (4 + length x.value))
-    → (bs : List ℕ) (ms : List M) → IsBytes bs → ReadsList R bs ms → 2 * length (encodings writes ms) ≤ 5 * length bs
-ReadsList-grows writes R grows bs ms bytes (items, p, h) = grow_all writes R grows items ms bs bytes p h
+pub ReadsList-grows : {M : Type 0} (written : M → Item) (R : Item → M → Type 0)
+    → ((x : Item) (m : M) → Proper x → R x m → 2 * framed (length (written m).value) ≤ 5 * (4 + length x.value))
+    → (bs : List ℕ) (ms : List M) → IsBytes bs → ReadsList R bs ms → 2 * length (encodings written ms) ≤ 5 * length bs
+ReadsList-grows written R grows bs ms bytes (items, p, h) = grow_all written R grows items ms bs bytes p h
 
-framed_lengths : {M : Type 0} (writes : M → Item) (ms : List M) → length (encodings writes ms) % 4 ≡ 0
-framed_lengths writes [] = refl
-framed_lengths writes (m ∷ ms) = omega (arith, length-append (encoding (writes m)) (encodings writes ms), length-encoding (writes m), framed_lengths writes ms)
+framed_lengths : {M : Type 0} (written : M → Item) (ms : List M) → length (encodings written ms) % 4 ≡ 0
+framed_lengths written [] = refl
+framed_lengths written (m ∷ ms) = omega (arith, length-append (encoding (written m)) (encodings written ms), length-encoding (written m), framed_lengths written ms)
 
 -- and so is the attribute that holds them
-pub list-grows : {M : Type 0} (writes : M → Item) (R : Item → M → Type 0)
-    → ((x : Item) (m : M) → Proper x → R x m → 2 * framed (length (writes m).value) ≤ 5 * (4 + length x.value))
-    → (bs : List ℕ) (ms : List M) → IsBytes bs → ReadsList R bs ms → 2 * framed (length (encodings writes ms)) ≤ 5 * (4 + length bs)
-list-grows writes R grows bs ms bytes p = omega (arith, ReadsList-grows writes R grows bs ms bytes p, framed_lengths writes ms)
+pub list-grows : {M : Type 0} (written : M → Item) (R : Item → M → Type 0)
+    → ((x : Item) (m : M) → Proper x → R x m → 2 * framed (length (written m).value) ≤ 5 * (4 + length x.value))
+    → (bs : List ℕ) (ms : List M) → IsBytes bs → ReadsList R bs ms → 2 * framed (length (encodings written ms)) ≤ 5 * (4 + length bs)
+list-grows written R grows bs ms bytes p = omega (arith, ReadsList-grows written R grows bs ms bytes p, framed_lengths written ms)

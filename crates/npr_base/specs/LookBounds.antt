@@ -4,11 +4,11 @@ use Rattle.std.proofs.Common.{◌≡◌, ℕ, ◌*◌, ◌+◌, ◌≤◌, Resul
 use Rattle.npr_base.specs.Counts.{Counts, AddsAtMost, AddsAtMostTwice, SawEach, hit}
 use Rattle.npr_base.specs.declared.refusal.DecodeError.{DecodeError}
 use Rattle.npr_base.specs.Framing.{Item, Front, Passes, Cut}
-use Rattle.npr_base.specs.Family.{Each, ReadsList, list_members}
+use Rattle.npr_base.specs.Lists.{Each, ReadsList, list_members}
 use Rattle.npr_base.specs.FrontLaws.{Front-takes, Front-same, Front-shrinks, Front-sound}
 use Rattle.npr_base.specs.Looks.{Looking, ListLooks, list_ends, none_stands, faulty_stands, passed}
 use Rattle.npr_base.specs.LooksLaws.{list-one, list-adds, none-saw}
-use Rattle.npr_base.specs.Table.{Writing, Reading}
+use Rattle.npr_base.specs.Family.{Writing, Reading}
 use Rattle.npr_base.specs.Walk.{Walked, Searched}
 
 -- a list of attributes of a family

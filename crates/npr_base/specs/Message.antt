@@ -4,15 +4,15 @@ use Rattle.npr_base.specs.declared.refusal.DecodeError.{DecodeError}
 use Rattle.npr_base.specs.declared.refusal.DecodeError.TheVariants.{HeaderTooShort}
 use Rattle.npr_base.specs.declared.refusal.EmitError.{EmitError}
 use Rattle.npr_base.specs.Framing.{IsBytes}
-use Rattle.npr_base.specs.Family.{AllOf, ReadsList, FirstFault, encodings, first_unfit, list_members, option_or, overlong}
+use Rattle.npr_base.specs.Lists.{AllOf, ReadsList, FirstFault, encodings, first_unfit, list_members, option_or, overlong}
 use Rattle.npr_base.specs.ListLaws.{ReadsList-one, FirstFault-excludes, ReadsList-known, encodings-read, ReadsList-grows}
 use Rattle.npr_base.specs.Layout.{Layout}
 use Rattle.npr_base.specs.Looks.{Looking}
 use Rattle.npr_base.specs.LookBounds.{list_looking, list-saw, family-bounded}
 use Rattle.npr_base.specs.Counts.{Counts, AddsAtMostTwice, SawEach}
 use Rattle.npr_base.specs.Walk.{Searched}
-use Rattle.npr_base.specs.Table.{Writing, Reading, Family, fits-small, written_by, unfit_by}
-use Rattle.npr_base.specs.declared.message.Message.{Message as Stored}
+use Rattle.npr_base.specs.Family.{Writing, Reading, Family, fits-small, written_by, unfit_by}
+use Rattle.npr_base.specs.declared.message.Message.{Message as MessageInMemory}
 use Rattle.std.proofs.Common.{arith}
 
 -- a message without where it lies in memory
@@ -41,21 +41,21 @@ pub record Body (H : Type 0) {M : Type 0} (w : Writing M) : Type 1 where
 
 -- attributes of one family, in a context that the header tells
 abbrev pub body_by : {H C M : Type 0} {w : Writing M} → (H → C) → (C → Reading w) → Body H w
-body_by {H} {C} {M} {w} told r = record {
-  Reads = λ h bytes xs. ReadsList (r (told h)).Reads bytes xs;
-  Faulty = λ h bytes e. FirstFault (r (told h)).Reads (r (told h)).Faulty bytes e;
-  looks = λ h. list_looking (r (told h));
-  Coherent = λ h xs. AllOf (r (told h)).Coherent xs;
-  one_reading = λ h bytes xs ys p q. let f = r (told h) in ReadsList-one f.Reads f.one_reading bytes xs ys p q;
-  no_fault = λ h bytes xs e p q. let f = r (told h) in FirstFault-excludes f.Reads f.Faulty f.no_fault bytes e xs q p;
-  reads_coherent = λ h bytes xs is p. let f = r (told h) in ReadsList-known f.Coherent f.Reads f.reads_coherent bytes xs is p;
+body_by {H} {C} {M} {w} context_of r = record {
+  Reads = λ h bytes xs. ReadsList (r (context_of h)).Reads bytes xs;
+  Faulty = λ h bytes e. FirstFault (r (context_of h)).Reads (r (context_of h)).Faulty bytes e;
+  looks = λ h. list_looking (r (context_of h));
+  Coherent = λ h xs. AllOf (r (context_of h)).Coherent xs;
+  one_reading = λ h bytes xs ys p q. let f = r (context_of h) in ReadsList-one f.Reads f.one_reading bytes xs ys p q;
+  no_fault = λ h bytes xs e p q. let f = r (context_of h) in FirstFault-excludes f.Reads f.Faulty f.no_fault bytes e xs q p;
+  reads_coherent = λ h bytes xs is p. let f = r (context_of h) in ReadsList-known f.Coherent f.Reads f.reads_coherent bytes xs is p;
   reads_back =
       λ h xs all fits.
-      let f = r (told h) in
+      let f = r (context_of h) in
       encodings-read f.Coherent (unfit_by w) (written_by w) f.Reads (fits-small f) f.reads_back xs all fits;
-  grows = λ h bytes xs is p. ReadsList-grows (written_by w) (r (told h)).Reads (r (told h)).grows bytes xs is p;
-  bounded = λ h bytes old new t. family-bounded (r (told h)) bytes old new t;
-  saw = λ h bytes xs old new p t. list-saw (r (told h)) bytes xs old new p t;
+  grows = λ h bytes xs is p. ReadsList-grows (written_by w) (r (context_of h)).Reads (r (context_of h)).grows bytes xs is p;
+  bounded = λ h bytes old new t. family-bounded (r (context_of h)) bytes old new t;
+  saw = λ h bytes xs old new p t. list-saw (r (context_of h)) bytes xs old new p t;
   depth = λ xs. 0;
   deep = λ h bytes xs p. omega arith;
 }
@@ -76,17 +76,17 @@ grammar_of f L standard body = record { Meaning = f.Meaning; meaning = f.meaning
 
 -- of one family, in a context that the header tells
 abbrev pub grammar_by : {H A C : Type 0} (f : Family A C) → Layout H → H → (H → C) → Grammar H A
-grammar_by f L standard told = grammar_of f L standard (body_by told f.reading)
+grammar_by f L standard context_of = grammar_of f L standard (body_by context_of f.reading)
 
 -- a message of such a kind as the program holds it
-abbrev pub Held : {H A : Type 0} → Grammar H A → Type 0
-Held {H} {A} g = Stored H A
+abbrev pub Stored : {H A : Type 0} → Grammar H A → Type 0
+Stored {H} {A} g = MessageInMemory H A
 
 -- and without where it lies in memory
-abbrev pub Meant : {H A : Type 0} → Grammar H A → Type 0
-Meant {H} g = Message H g.Meaning
+abbrev pub View : {H A : Type 0} → Grammar H A → Type 0
+View {H} g = Message H g.Meaning
 
-abbrev pub view : {H A : Type 0} (g : Grammar H A) → Held g → Meant g
+abbrev pub view : {H A : Type 0} (g : Grammar H A) → Stored g → View g
 view g m = record { header = m.header; attributes = map g.meaning m.attributes.items }
 
 -- the bytes are the message: a header, and then its attributes
@@ -98,7 +98,7 @@ pub record IsMessageOf {H M : Type 0} (L : Layout H) (Reads : H → List ℕ →
   pub header : m.header ≡ L.decode front
   pub attributes : Reads m.header rest m.attributes
 
-unfoldable pub IsMessage : {H A : Type 0} (g : Grammar H A) → List ℕ → Meant g → Type 0
+unfoldable pub IsMessage : {H A : Type 0} (g : Grammar H A) → List ℕ → View g → Type 0
 IsMessage g bytes m = IsMessageOf g.layout g.body.Reads bytes m
 
 -- the first fault of bytes that are no message: too few for the header, or a fault after it
@@ -119,16 +119,16 @@ pub record IsCoherentOf {H M : Type 0} (L : Layout H) (Coherent : H → List M �
   pub header : L.Holds m.header
   pub attributes : Coherent m.header m.attributes
 
-unfoldable pub IsCoherent : {H A : Type 0} (g : Grammar H A) → Meant g → Type 0
+unfoldable pub IsCoherent : {H A : Type 0} (g : Grammar H A) → View g → Type 0
 IsCoherent g m = IsCoherentOf g.layout g.body.Coherent m
 
 -- the canonical bytes
-unfoldable pub spelling : {H A : Type 0} (g : Grammar H A) → Meant g → List ℕ
-spelling g m = g.layout.encode m.header ++ encodings (written_by g.writing) m.attributes
+unfoldable pub canonical_bytes : {H A : Type 0} (g : Grammar H A) → View g → List ℕ
+canonical_bytes g m = g.layout.encode m.header ++ encodings (written_by g.writing) m.attributes
 
 -- why there are none: the first attribute that can't be written, or a length that no usize holds
-unfoldable pub message_misfit : {H A : Type 0} (g : Grammar H A) → Meant g → Option EmitError
-message_misfit g m = option_or (first_unfit (unfit_by g.writing) m.attributes) (overlong (length (spelling g m)))
+unfoldable pub message_unfit : {H A : Type 0} (g : Grammar H A) → View g → Option EmitError
+message_unfit g m = option_or (first_unfit (unfit_by g.writing) m.attributes) (overlong (length (canonical_bytes g m)))
 
 -- attributes are written, and counted, as their family says, and mean what it says
 pub record IsOfFamily {H A C : Type 0} (g : Grammar H A) (f : Family A C) : Type 0 where
@@ -149,7 +149,7 @@ pub record IsUnder {H A C : Type 0} (g : Grammar H A) (f : Family A C) (h : H) (
 
 -- the header tells the context
 abbrev pub governs_by : {H C : Type 0} → (H → C) → H → List ℕ → C → Type 0
-governs_by told h bytes c = c ≡ told h
+governs_by context_of h bytes c = c ≡ context_of h
 
 -- no search is made
 abbrev pub none_searched : Counts → Counts → Type 0

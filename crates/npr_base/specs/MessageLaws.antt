@@ -4,7 +4,7 @@ use Rattle.npr_base.specs.Counts.{Counts}
 use Rattle.npr_base.specs.Layout.{Layout}
 use Rattle.npr_base.specs.LookBounds.{list_looking}
 use Rattle.npr_base.specs.Message.{Body, grammar_of, grammar_by, IsOfFamily, IsUnder, governs_by, none_searched}
-use Rattle.npr_base.specs.Table.{Family}
+use Rattle.npr_base.specs.Family.{Family}
 use Rattle.npr_base.specs.Walk.{Searched}
 
 pub of_family : {H A C : Type 0} (f : Family A C) (L : Layout H) (standard : H) (body : Body H f.writing) → IsOfFamily (grammar_of f L standard body) f
@@ -26,18 +26,18 @@ unsearched bytes old new same =
     }
 
 -- in the context that the header tells
-pub under_told : {H A C : Type 0} (f : Family A C) (L : Layout H) (standard : H) (told : H → C) (h : H) (bytes : List ℕ)
-    → IsUnder (grammar_by f L standard told) f h bytes (told h) (governs_by told h bytes) none_searched
-under_told f L standard told h bytes = record {
+pub under_context : {H A C : Type 0} (f : Family A C) (L : Layout H) (standard : H) (context_of : H → C) (h : H) (bytes : List ℕ)
+    → IsUnder (grammar_by f L standard context_of) f h bytes (context_of h) (governs_by context_of h bytes) none_searched
+under_context f L standard context_of h bytes = record {
   alone = λ d is. is;
   reads = λ xs reads. reads;
   faulty = λ e wrong. wrong;
   searched = unsearched bytes;
-  looks = λ old mid new same takes. subst (λ (c : Counts). (list_looking (f.reading (told h))).Takes bytes c new) same takes;
+  looks = λ old mid new same takes. subst (λ (c : Counts). (list_looking (f.reading (context_of h))).Takes bytes c new) same takes;
 }
 
-pub under_by : {H A C : Type 0} (f : Family A C) (L : Layout H) (standard : H) (told : H → C) (h : H) (bytes : List ℕ) (c : C) → governs_by told h bytes c
-    → IsUnder (grammar_by f L standard told) f h bytes c (governs_by told h bytes) none_searched
-under_by {H} {A} {C} f L standard told h bytes c is =
-    subst (λ (d : C). IsUnder (grammar_by f L standard told) f h bytes d (governs_by told h bytes) none_searched) (sym is)
-    (under_told f L standard told h bytes)
+pub under_by : {H A C : Type 0} (f : Family A C) (L : Layout H) (standard : H) (context_of : H → C) (h : H) (bytes : List ℕ) (c : C) → governs_by context_of h bytes c
+    → IsUnder (grammar_by f L standard context_of) f h bytes c (governs_by context_of h bytes) none_searched
+under_by {H} {A} {C} f L standard context_of h bytes c is =
+    subst (λ (d : C). IsUnder (grammar_by f L standard context_of) f h bytes d (governs_by context_of h bytes) none_searched) (sym is)
+    (under_context f L standard context_of h bytes)

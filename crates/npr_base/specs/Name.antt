@@ -18,8 +18,8 @@ abbrev pub name : Codec (List ℕ)
 name = record {
   Reads = IsName;
   Wrong = λ at bytes e. IsNoName bytes × (e ≡ NotUtf8 at);
-  writes = λ text. text ++ 0 ∷ [];
-  inside = λ kind text. None;
+  encode = λ text. text ++ 0 ∷ [];
+  unfit = λ kind text. None;
   Holds = IsUtf8;
   members = no_members;
   one_reading = λ bytes x y p q. name-one bytes x y p.1 q.1;

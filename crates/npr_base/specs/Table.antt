@@ -1,84 +1,15 @@
--- Families of attributes, and those that are read by a table of numbers.
-use Rattle.std.specs.Prelude.{◌≡◌, ℕ, ◌+◌, ◌*◌, ◌<◌, ◌≤◌, ◌^◌, ◌==◌, Bool, true, false, List, [], ◌∷◌, length, Option, None, if◌then◌else◌}
+-- Tables of numbers: how the attributes of a family are read and written by rows.
+use Rattle.std.specs.Prelude.{◌≡◌, ℕ, ◌<◌, ◌^◌, ◌==◌, Bool, true, false, List, [], ◌∷◌, Option, None, if◌then◌else◌}
 use Rattle.std.specs.Bool.{MatchBool}
 use Rattle.std.proofs.Common.{refl}
 use Rattle.npr_base.specs.declared.refusal.At.{At}
 use Rattle.npr_base.specs.declared.refusal.AttrFamily.{AttrFamily}
 use Rattle.npr_base.specs.declared.refusal.DecodeError.{DecodeError}
 use Rattle.npr_base.specs.declared.refusal.EmitError.{EmitError}
-use Rattle.npr_base.specs.Framing.{Item, Small, Proper, framed, marked, number_of, written}
-use Rattle.npr_base.specs.Family.{misfit_of}
-use Rattle.npr_base.specs.FitLaws.{misfit_of-short}
+use Rattle.npr_base.specs.Framing.{Item, Proper, marked, number_of}
+use Rattle.npr_base.specs.Family.{Shape, Writing, written_by}
 use Rattle.npr_base.specs.Codec.{Codec, raw}
-use Rattle.npr_base.specs.Counts.{Counts, AddsAtMost, SawEach}
-use Rattle.npr_base.specs.Looks.{Looking}
 use Rattle.npr_base.specs.Refusal.{at_number}
-
--- what is written of a value as an attribute: its kind and value, whether NESTED is set in the kind besides, and why what is
--- inside can't be written, if so
-pub record Shape : Type 0 where
-  pub item : Item
-  pub nested : Bool
-  pub inside : Option EmitError
-
--- the attribute that is written
-abbrev pub written_as : Shape → Item
-written_as s = written s.nested s.item
-
--- why there is none, if so: what is inside, or its length
-abbrev pub unfit_as : Shape → Option EmitError
-unfit_as s = misfit_of s.inside s.item
-
-abbrev pub shaped_item : {A : Type 0} → (A → Shape) → A → Item
-shaped_item shape a = written_as (shape a)
-
-abbrev pub shaped_misfit : {A : Type 0} → (A → Shape) → A → Option EmitError
-shaped_misfit shape a = unfit_as (shape a)
-
--- how meanings are written, and how many attributes stand inside each at all depths
-pub record Writing (M : Type 0) : Type 0 where
-  pub shape : M → Shape
-  pub members : M → ℕ
-
-abbrev pub written_by : {M : Type 0} → Writing M → M → Item
-written_by w m = written_as (w.shape m)
-
-abbrev pub unfit_by : {M : Type 0} → Writing M → M → Option EmitError
-unfit_by w m = unfit_as (w.shape m)
-
--- a family: what attributes mean that are written so, and the looks that reading their values takes, with the laws of all: the
--- looks are no more than the bytes of the value allow, and one for each attribute inside where all are read
-pub record Reading {M : Type 0} (w : Writing M) : Type 1 where
-  pub Reads : Item → M → Type 0
-  pub Faulty : Item → DecodeError → Type 0
-  pub looks : Looking Item
-  pub Coherent : M → Type 0
-  pub one_reading : (x : Item) (m n : M) → Reads x m → Reads x n → m ≡ n
-  pub no_fault : (x : Item) (m : M) (e : DecodeError) → Reads x m → Faulty x e → ⊥
-  pub reads_coherent : (x : Item) (m : M) → Proper x → Reads x m → Coherent m
-  pub kinds : (m : M) → Coherent m → (written_by w m).kind < 2 ^ 16
-  pub reads_back : (m : M) → Coherent m → unfit_by w m ≡ None → Reads (written_by w m) m
-  pub grows : (x : Item) (m : M) → Proper x → Reads x m → 2 * framed (length (written_by w m).value) ≤ 5 * (4 + length x.value)
-  pub bounded : (x : Item) (old new : Counts) → looks.Takes x old new → AddsAtMost old new (length x.value)
-  pub saw : (x : Item) (m : M) (old new : Counts) → Reads x m → looks.Takes x old new → SawEach old new (w.members m)
-
--- a family of values: what one is, without where it lies in memory, how that is written, and what attributes mean in a context
-pub record Family (A C : Type 0) : Type 1 where
-  pub Meaning : Type 0
-  pub meaning : A → Meaning
-  pub writing : Writing Meaning
-  pub reading : C → Reading writing
-
-abbrev pub family_of : {A C M : Type 0} {w : Writing M} → (A → M) → (C → Reading w) → Family A C
-family_of {A} {C} {M} {w} meaning reading = record { Meaning = M; meaning = meaning; writing = w; reading = reading }
-
--- what is written of a value
-abbrev pub shaped : {A C : Type 0} → Family A C → A → Shape
-shaped f a = f.writing.shape (f.meaning a)
-
--- what can be read and fits is an attribute that a text can hold
-pub fits-small : {M : Type 0} {w : Writing M} (r : Reading w) (m : M) → r.Coherent m → unfit_by w m ≡ None → Small (written_by w m)
-fits-small {M} {w} r m c h = record { kind = r.kinds m c; value = misfit_of-short (w.shape m).inside (w.shape m).item h }
 
 -- a row of a table: where it stands, how its values are read and written, and what they mean
 pub record Row (M : Type 0) : Type 1 where
@@ -118,78 +49,78 @@ pub record IsOther {M : Type 0} (rows : List (Row M)) (x : Item) : Type 0 where
 
 -- a value in its place: the kind that is written, whether NESTED is set in it besides, and the value under its codec; or an
 -- attribute that is kept as it stands
-pub data Held : Type 1 where
-  held_marked : {V : Type 0} → Bool → ℕ → Codec V → V → Held
-  held_other : Item → Held
+pub data Slot : Type 1 where
+  slot_marked : {V : Type 0} → Bool → ℕ → Codec V → V → Slot
+  slot_other : Item → Slot
 
-abbrev pub held : {V : Type 0} → ℕ → Codec V → V → Held
-held kind codec value = held_marked false kind codec value
+abbrev pub slot_plain : {V : Type 0} → ℕ → Codec V → V → Slot
+slot_plain kind codec value = slot_marked false kind codec value
 
-abbrev pub held_kind : Held → ℕ
-held_kind (held_marked nested kind codec value) = kind
-held_kind (held_other x) = x.kind
+abbrev pub slot_kind : Slot → ℕ
+slot_kind (slot_marked nested kind codec value) = kind
+slot_kind (slot_other x) = x.kind
 
-abbrev pub held_nested : Held → Bool
-held_nested (held_marked nested kind codec value) = nested
-held_nested (held_other x) = false
+abbrev pub slot_nested : Slot → Bool
+slot_nested (slot_marked nested kind codec value) = nested
+slot_nested (slot_other x) = false
 
-abbrev pub HeldType : Held → Type 0
-HeldType (held_marked {V} nested kind codec value) = V
-HeldType (held_other x) = List ℕ
+abbrev pub SlotType : Slot → Type 0
+SlotType (slot_marked {V} nested kind codec value) = V
+SlotType (slot_other x) = List ℕ
 
-abbrev pub held_codec : (h : Held) → Codec (HeldType h)
-held_codec (held_marked nested kind codec value) = codec
-held_codec (held_other x) = raw
+abbrev pub slot_codec : (h : Slot) → Codec (SlotType h)
+slot_codec (slot_marked nested kind codec value) = codec
+slot_codec (slot_other x) = raw
 
-abbrev pub held_value : (h : Held) → HeldType h
-held_value (held_marked nested kind codec value) = value
-held_value (held_other x) = x.value
+abbrev pub slot_value : (h : Slot) → SlotType h
+slot_value (slot_marked nested kind codec value) = value
+slot_value (slot_other x) = x.value
 
 -- what its codec says of it
-abbrev pub held_bytes : Held → List ℕ
-held_bytes (held_marked nested kind codec value) = codec.writes value
-held_bytes (held_other x) = x.value
+abbrev pub slot_bytes : Slot → List ℕ
+slot_bytes (slot_marked nested kind codec value) = codec.encode value
+slot_bytes (slot_other x) = x.value
 
-abbrev pub held_inside : Held → Option EmitError
-held_inside (held_marked nested kind codec value) = codec.inside kind value
-held_inside (held_other x) = None
+abbrev pub slot_unfit : Slot → Option EmitError
+slot_unfit (slot_marked nested kind codec value) = codec.unfit kind value
+slot_unfit (slot_other x) = None
 
-abbrev pub held_members : Held → ℕ
-held_members (held_marked nested kind codec value) = codec.members.count value
-held_members (held_other x) = 0
+abbrev pub slot_members : Slot → ℕ
+slot_members (slot_marked nested kind codec value) = codec.members.count value
+slot_members (slot_other x) = 0
 
 -- its codec can hold it, or no row has its number
-abbrev pub IsHeld : {M : Type 0} → List (Row M) → Held → Type 0
-IsHeld rows (held_marked nested kind codec value) = codec.Holds value
-IsHeld rows (held_other x) = IsOther rows x
+abbrev pub IsSlot : {M : Type 0} → List (Row M) → Slot → Type 0
+IsSlot rows (slot_marked nested kind codec value) = codec.Holds value
+IsSlot rows (slot_other x) = IsOther rows x
 
 -- where nothing inside forbids it, its bytes mean it again
-pub held-reads : {M : Type 0} (rows : List (Row M)) (h : Held) → IsHeld rows h → held_inside h ≡ None → (held_codec h).Reads (held_bytes h) (held_value h)
-held-reads rows (held_marked nested kind codec value) is fits = codec.reads_back kind value is fits
-held-reads rows (held_other x) is fits = refl
+pub slot-reads : {M : Type 0} (rows : List (Row M)) (h : Slot) → IsSlot rows h → slot_unfit h ≡ None → (slot_codec h).Reads (slot_bytes h) (slot_value h)
+slot-reads rows (slot_marked nested kind codec value) is fits = codec.reads_back kind value is fits
+slot-reads rows (slot_other x) is fits = refl
 
 -- before NESTED is set in its kind, and after
-abbrev pub plain_item : Held → Item
-plain_item h = record { kind = held_kind h; value = held_bytes h }
+abbrev pub plain_item : Slot → Item
+plain_item h = record { kind = slot_kind h; value = slot_bytes h }
 
-abbrev pub item_of : Held → Item
-item_of h = record { kind = marked (held_nested h) (held_kind h); value = held_bytes h }
+abbrev pub item_of : Slot → Item
+item_of h = record { kind = marked (slot_nested h) (slot_kind h); value = slot_bytes h }
 
-abbrev pub shape_at : Held → Shape
-shape_at h = record { item = plain_item h; nested = held_nested h; inside = held_inside h }
+abbrev pub shape_at : Slot → Shape
+shape_at h = record { item = plain_item h; nested = slot_nested h; unfit = slot_unfit h }
 
 -- meanings are written each from its place
-abbrev pub writing_by : {M : Type 0} → (M → Held) → Writing M
-writing_by held_of =
+abbrev pub writing_by : {M : Type 0} → (M → Slot) → Writing M
+writing_by slot_of =
     record {
-      shape = λ m. shape_at (held_of m);
-      members = λ m. held_members (held_of m);
+      shape = λ m. shape_at (slot_of m);
+      members = λ m. slot_members (slot_of m);
     }
 
 -- each row's variant is written by that row with the attributes inside it, and is coherent where the row can hold its value
 abbrev pub IsWritten : {M : Type 0} (w : Writing M) (Coherent : M → Type 0) (r : Row M) → r.V → Type 0
 IsWritten w Coherent r v =
-    ((written_by w (r.variant v)).value ≡ r.codec.writes v) × (w.members (r.variant v) ≡ r.codec.members.count v)
+    ((written_by w (r.variant v)).value ≡ r.codec.encode v) × (w.members (r.variant v) ≡ r.codec.members.count v)
     × (r.codec.Holds v → Coherent (r.variant v))
 
 -- and each row has a number of its own
@@ -201,22 +132,22 @@ Aligned w Coherent (r ∷ rows) = ((v : r.V) → IsWritten w Coherent r v) × (h
 pub record Table (M : Type 0) : Type 1 where
   pub rows : List (Row M)
   pub other : Item → M
-  pub held_of : M → Held
+  pub slot_of : M → Slot
   pub Coherent : M → Type 0
-  pub aligned : Aligned (writing_by held_of) Coherent rows
-  pub other_is : (x : Item) → held_of (other x) ≡ held_other x
+  pub aligned : Aligned (writing_by slot_of) Coherent rows
+  pub other_is : (x : Item) → slot_of (other x) ≡ slot_other x
   pub other_coherent : (x : Item) → IsOther rows x → Coherent (other x)
-  pub kinds : (m : M) → Coherent m → held_kind (held_of m) < 2 ^ 16
-  pub back : (m : M) → Coherent m → held_inside (held_of m) ≡ None → ReadsAt other rows (number_of (item_of (held_of m)).kind) (item_of (held_of m)) m
+  pub kinds : (m : M) → Coherent m → slot_kind (slot_of m) < 2 ^ 16
+  pub back : (m : M) → Coherent m → slot_unfit (slot_of m) ≡ None → ReadsAt other rows (number_of (item_of (slot_of m)).kind) (item_of (slot_of m)) m
 
-abbrev pub table_with : {M : Type 0} (rows : List (Row M)) (other : Item → M) (held_of : M → Held) (Coherent : M → Type 0)
-    → Aligned (writing_by held_of) Coherent rows → ((x : Item) → held_of (other x) ≡ held_other x) → ((x : Item) → IsOther rows x → Coherent (other x))
-    → ((m : M) → Coherent m → held_kind (held_of m) < 2 ^ 16)
-    → ((m : M) → Coherent m → held_inside (held_of m) ≡ None → ReadsAt other rows (number_of (item_of (held_of m)).kind) (item_of (held_of m)) m) → Table M
-table_with rows other held_of Coherent aligned other_is other_coherent kinds back = record {
+abbrev pub table_with : {M : Type 0} (rows : List (Row M)) (other : Item → M) (slot_of : M → Slot) (Coherent : M → Type 0)
+    → Aligned (writing_by slot_of) Coherent rows → ((x : Item) → slot_of (other x) ≡ slot_other x) → ((x : Item) → IsOther rows x → Coherent (other x))
+    → ((m : M) → Coherent m → slot_kind (slot_of m) < 2 ^ 16)
+    → ((m : M) → Coherent m → slot_unfit (slot_of m) ≡ None → ReadsAt other rows (number_of (item_of (slot_of m)).kind) (item_of (slot_of m)) m) → Table M
+table_with rows other slot_of Coherent aligned other_is other_coherent kinds back = record {
   rows = rows;
   other = other;
-  held_of = held_of;
+  slot_of = slot_of;
   Coherent = Coherent;
   aligned = aligned;
   other_is = other_is;

@@ -6,12 +6,14 @@ use Rattle.std.proofs.Common.{◌≡◌, ℕ, ◌+◌, ◌*◌, ◌<◌, ◌≤�
 use Rattle.npr_base.specs.declared.refusal.DecodeError.{DecodeError}
 use Rattle.npr_base.specs.Framing.{Item, IsBytes, framed, marked, number_of}
 use Rattle.npr_base.specs.CodecLaws.{framed-grows}
-use Rattle.npr_base.specs.FitLaws.{misfit_of-none}
+use Rattle.npr_base.specs.FitLaws.{unfit_of-none}
 use Rattle.npr_base.specs.Counts.{Counts, AddsAtMost, SawEach}
 use Rattle.npr_base.specs.Looks.{Adds, Looking, LooksAt, Inside, nothing, looked_through, TakesInside}
 use Rattle.npr_base.specs.LooksLaws.{no_looking, none-most, none-saw}
-use Rattle.npr_base.specs.Table.{Writing, Reading, Row, ReadsAt, WrongAt, has_row}
-use Rattle.npr_base.specs.Table.{item_of, plain_item, held_inside, held_kind, held_nested, held_members, written_by, writing_by, Aligned, Table}
+use Rattle.npr_base.specs.Family.{Writing, Reading}
+use Rattle.npr_base.specs.Table.{Row, ReadsAt, WrongAt, has_row}
+use Rattle.npr_base.specs.Family.{written_by}
+use Rattle.npr_base.specs.Table.{item_of, plain_item, slot_unfit, slot_kind, slot_nested, slot_members, writing_by, Aligned, Table}
 
 -- two facts on the same test
 pub both : {P Q S T R : Type 0} (b : Bool) → (P → S → R) → (Q → T → R) → MatchBool b P Q → MatchBool b S T → R
@@ -48,7 +50,7 @@ table-grows other w Coherent [] aligned same k x bytes m p =
     (omega (arith, ap (λ n. length (written_by w n).value) p, ap (λ (y : Item). length y.value) (same x)))
 table-grows other w Coherent (r ∷ rows) aligned same k x bytes m p = one_of (k == r.at.kind)
     (λ e. λ (a : (v : r.V) × r.codec.Reads x.value v × (m ≡ r.variant v)).
-    let v : length (written_by w m).value ≡ length (r.codec.writes a.0) = ap (λ n. length (written_by w n).value) a.2 ∙ ap length (aligned.0 a.0).0 in
+    let v : length (written_by w m).value ≡ length (r.codec.encode a.0) = ap (λ n. length (written_by w n).value) a.2 ∙ ap length (aligned.0 a.0).0 in
     rw v (r.codec.grows x.value a.0 bytes a.1))
     (λ e a. table-grows other w Coherent rows aligned.2 same k x bytes m a) p
 
@@ -133,7 +135,7 @@ rows-saw other w Coherent (r ∷ rows) aligned none x m old new p t = one_of (nu
     (λ e a. rows-saw other w Coherent rows aligned.2 none x m old new a (inside_past r.at.kind r.codec.members.looks (looks_of rows) x old new e t)) p
 
 -- the family of a table
-abbrev pub table_family : {M : Type 0} → (t : Table M) → Reading (writing_by t.held_of)
+abbrev pub table_family : {M : Type 0} → (t : Table M) → Reading (writing_by t.slot_of)
 table_family t = record {
   Reads = λ x m. ReadsAt t.other t.rows (number_of x.kind) x m;
   Faulty = λ x e. WrongAt t.rows (number_of x.kind) x e;
@@ -144,13 +146,13 @@ table_family t = record {
   reads_coherent =
       λ x m proper p.
       let alone = λ (a : has_row t.rows (number_of x.kind) ≡ false). t.other_coherent x (record { proper = proper; alone = a }) in
-      table-coherent t.other (writing_by t.held_of) t.Coherent t.rows t.aligned (number_of x.kind) x proper.value alone m p;
-  kinds = λ m c. marked-small (held_nested (t.held_of m)) (held_kind (t.held_of m)) (t.kinds m c);
-  reads_back = λ m c h. t.back m c (misfit_of-none (held_inside (t.held_of m)) (plain_item (t.held_of m)) h);
+      table-coherent t.other (writing_by t.slot_of) t.Coherent t.rows t.aligned (number_of x.kind) x proper.value alone m p;
+  kinds = λ m c. marked-small (slot_nested (t.slot_of m)) (slot_kind (t.slot_of m)) (t.kinds m c);
+  reads_back = λ m c h. t.back m c (unfit_of-none (slot_unfit (t.slot_of m)) (plain_item (t.slot_of m)) h);
   grows =
       λ x m proper p.
       let same = λ (y : Item). ap item_of (t.other_is y) in
-      table-grows t.other (writing_by t.held_of) t.Coherent t.rows t.aligned same (number_of x.kind) x proper.value m p;
+      table-grows t.other (writing_by t.slot_of) t.Coherent t.rows t.aligned same (number_of x.kind) x proper.value m p;
   bounded = rows-bounded t.rows;
-  saw = rows-saw t.other (writing_by t.held_of) t.Coherent t.rows t.aligned (λ x. ap held_members (t.other_is x));
+  saw = rows-saw t.other (writing_by t.slot_of) t.Coherent t.rows t.aligned (λ x. ap slot_members (t.other_is x));
 }

@@ -10,11 +10,12 @@
 --     table_decides        `==` of the enum answers whether two values mean the same, given what it answers of each variant's field
 use Rattle.std.specs.Prelude.{◌≡◌, ℕ, Bool, false, Option}
 use Rattle.std.specs.Bool.{Decides}
-use Rattle.npr_base.specs.EnumTable.{MeaningIn, meaning_in, other_in, held_in, shape_in, ReadsIn, EachRow, by_row}
+use Rattle.npr_base.specs.EnumTable.{MeaningIn, meaning_in, other_in, slot_in, shape_in, ReadsIn, EachRow, by_row}
 use Rattle.npr_base.specs.EnumTableLaws.{all_rows, writing_in, attributes_in, rows-read, shape-in, FieldsDecide, choices-decide}
 use Rattle.npr_base.specs.EnumTableValues.{ValueIn, value_in, found_in}
 use Rattle.npr_base.specs.Framing.{Item, number_of}
-use Rattle.npr_base.specs.Table.{Writing, Held, ReadsAt}
+use Rattle.npr_base.specs.Family.{Writing}
+use Rattle.npr_base.specs.Table.{Slot, ReadsAt}
 use denote.Enum.Compared.{Each, by}
 use denote.Enum.Declared.{Record}
 pub use Rattle.std.proofs.Common.{refl}
@@ -25,7 +26,7 @@ pub use Rattle.npr_base.specs.IpCodec.{ip}
 pub use Rattle.npr_base.specs.Layout.{byte, boolean, signed32, le16, le32, le64, be16, be32, be64, octets}
 pub use Rattle.npr_base.specs.ListCodec.{list_of}
 pub use Rattle.npr_base.specs.Name.{name}
-pub use Rattle.npr_base.specs.Table.{Shape, Reading, Family}
+pub use Rattle.npr_base.specs.Family.{Shape, Reading, Family}
 
 abbrev pub Meanings : {N : Record} → EnumTable N → Type 0
 Meanings {N} t = MeaningIn N.parts t.rows
@@ -34,8 +35,8 @@ abbrev pub writing_of : {N : Record} (t : EnumTable N) → Writing (Meanings t)
 writing_of {N} t = writing_in N.parts t.rows
 
 -- where each meaning stands
-abbrev pub held_at : {N : Record} (t : EnumTable N) → Meanings t → Held
-held_at {N} t m = held_in N.parts t.rows m
+abbrev pub slot_at : {N : Record} (t : EnumTable N) → Meanings t → Slot
+slot_at {N} t m = slot_in N.parts t.rows m
 
 abbrev pub attributes_of : {N : Record} (t : EnumTable N) → Reading (writing_of t)
 attributes_of {N} t = attributes_in N.parts t.rows t.apart

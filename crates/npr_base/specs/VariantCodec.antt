@@ -5,28 +5,28 @@ use Rattle.npr_base.specs.Framing.{IsBytes, framed}
 use Rattle.npr_base.specs.Codec.{Codec, no_members}
 
 -- the bytes are read by C, and the value is that variant; each variant is written by `bytes_of`
-module _ {V W : Type 0} (C : Codec V) (made : V → W) (bytes_of : W → List ℕ) (same : (v : V) → bytes_of (made v) ≡ C.writes v)
-    (free : (v : V) → C.inside 0 v ≡ None) where
+module _ {V W : Type 0} (C : Codec V) (made : V → W) (bytes_of : W → List ℕ) (same : (v : V) → bytes_of (made v) ≡ C.encode v)
+    (free : (v : V) → C.unfit 0 v ≡ None) where
   pub variant-one : (bytes : List ℕ) (x y : W) → (v : V) × C.Reads bytes v × (x ≡ made v) → (w : V) × C.Reads bytes w × (y ≡ made w) → x ≡ y
   variant-one bytes x y p q = p.2 ∙ ap made (C.one_reading bytes p.0 q.0 p.1 q.1) ∙ sym q.2
 
   pub variant-back : (x : W) → (v : V) × C.Holds v × (x ≡ made v) → (v : V) × C.Reads (bytes_of x) v × (x ≡ made v)
   variant-back x p =
-      let is : bytes_of x ≡ C.writes p.0 = ap bytes_of p.2 ∙ same p.0 in
+      let is : bytes_of x ≡ C.encode p.0 = ap bytes_of p.2 ∙ same p.0 in
       (p.0, subst (λ (b : List ℕ). C.Reads b p.0) (sym is) (C.reads_back 0 p.0 p.1 (free p.0)), p.2)
 
   pub variant-grows : (bytes : List ℕ) (x : W) → IsBytes bytes → (v : V) × C.Reads bytes v × (x ≡ made v)
       → 2 * framed (length (bytes_of x)) ≤ 5 * (4 + length bytes)
   variant-grows bytes x is p =
-      let written : bytes_of x ≡ C.writes p.0 = ap bytes_of p.2 ∙ same p.0 in
+      let written : bytes_of x ≡ C.encode p.0 = ap bytes_of p.2 ∙ same p.0 in
       subst (λ (b : List ℕ). 2 * framed (length b) ≤ 5 * (4 + length bytes)) (sym written) (C.grows bytes p.0 is p.1)
 
   abbrev pub variant : Codec W
   variant = record {
     Reads = λ bytes x. (v : V) × C.Reads bytes v × (x ≡ made v);
     Wrong = C.Wrong;
-    writes = bytes_of;
-    inside = λ kind x. None;
+    encode = bytes_of;
+    unfit = λ kind x. None;
     Holds = λ x. (v : V) × C.Holds v × (x ≡ made v);
     members = no_members;
     one_reading = variant-one;
@@ -37,7 +37,7 @@ module _ {V W : Type 0} (C : Codec V) (made : V → W) (bytes_of : W → List �
   }
 
 -- codecs of one type that write alike, as one over their choice: what is written doesn't wait for it
-module _ {F W : Type 0} (by : F → Codec W) (bytes_of : W → List ℕ) (alike : (f : F) → ((by f).writes ≡ bytes_of) × ((x : W) → (by f).inside 0 x ≡ None)) where
+module _ {F W : Type 0} (by : F → Codec W) (bytes_of : W → List ℕ) (alike : (f : F) → ((by f).encode ≡ bytes_of) × ((x : W) → (by f).unfit 0 x ≡ None)) where
   pub alike-back : (f : F) (x : W) → (by f).Holds x → (by f).Reads (bytes_of x) x
   alike-back f x h = subst (λ (w : W → List ℕ). (by f).Reads (w x) x) (alike f).0 ((by f).reads_back 0 x h ((alike f).1 x))
 
@@ -48,8 +48,8 @@ module _ {F W : Type 0} (by : F → Codec W) (bytes_of : W → List ℕ) (alike 
   written_alike f = record {
     Reads = (by f).Reads;
     Wrong = (by f).Wrong;
-    writes = bytes_of;
-    inside = λ kind x. None;
+    encode = bytes_of;
+    unfit = λ kind x. None;
     Holds = (by f).Holds;
     members = no_members;
     one_reading = (by f).one_reading;

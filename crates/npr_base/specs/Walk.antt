@@ -1,7 +1,7 @@
 -- Walks over the attributes that bytes are cut into: the steps, and the looks at headers.
 use Rattle.std.specs.Prelude.{◌≡◌, ℕ, ◌+◌, ◌-◌, ◌%◌, ◌≤◌, ◌⊎◌, List, [], ◌∷◌, ◌++◌, length, map, Some, Result, Ok, Err}
 use Rattle.npr_base.specs.Counts.{Counts, most_successful, most_failed}
-use Rattle.npr_base.specs.Family.{ReadsList}
+use Rattle.npr_base.specs.Lists.{ReadsList}
 use Rattle.npr_base.specs.Framing.{Item, Passes, Cut, Stops, Step}
 use Rattle.npr_base.specs.declared.refusal.DecodeError.{DecodeError}
 

@@ -5,7 +5,7 @@ ghost use Rattle.npr_base.specs.{
   declared.refusal.DecodeError.TheVariants.{OutOfMemory},
   Counts.{AddsAtMost, SawEach},
   Looks.{Answered},
-  Table.{Family, shaped},
+  Family.{Family, shaped},
 };
 
 use crate::framing::NlaBuffer;
@@ -93,7 +93,7 @@ pub trait Attribute: Nla + Drop {
     ///
     /// # Errors
     /// `AllocError` where memory is refused.
-    fn clone(&self, alloc: Global) -> Result<Self, AllocError>
+    fn try_clone(&self, alloc: Global) -> Result<Self, AllocError>
         ensures { IfOk result (λ a. family.meaning a ≡ family.meaning self.now) };
 
     /// It is written as its meaning is.

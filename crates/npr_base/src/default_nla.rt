@@ -57,7 +57,7 @@ impl DefaultNla {
     ///
     /// # Errors
     /// `AllocError` where memory is refused.
-    pub fn clone(&self, alloc: Global) -> Result<Self, AllocError>
+    pub fn try_clone(&self, alloc: Global) -> Result<Self, AllocError>
         ensures { IfOk result (λ d. d ≡ self.now) }
     {
         Ok(DefaultNla {
@@ -103,7 +103,7 @@ impl<'a> Parseable<&'a NlaBuffer<'a>> for DefaultNla {
 }
 
 impl Nla for DefaultNla {
-    ghost shape = { λ d. record { item = d; nested = false; inside = None } };
+    ghost shape = { λ d. record { item = d; nested = false; unfit = None } };
 
     fn kind(&self) -> u16 {
         self.kind

@@ -9,7 +9,7 @@ ghost use Rattle.std.specs.{
 ghost use Rattle.npr_base.specs.{
   ViewEquality.{same_item, item_equality, same_bytes, bytes_equality},
   Counts.{looked},
-  Family.{checked, short_framed, too_long},
+  Lists.{checked, short_framed, too_long},
   Framing.{Item, Begins, Step, Writes, encoding, framed, marked, number_of},
 };
 
@@ -32,6 +32,9 @@ pub const NLA_ALIGNTO: usize = 4;
 
 /// The bytes of an attribute's header (`linux/netlink.h`).
 pub const NLA_HEADER_SIZE: usize = 4;
+
+/// The most bytes that a value has: 16 bits hold its length and the header's.
+const LONGEST_VALUE: usize = 65531;
 
 /// One attribute, borrowed from the bytes that it stands in. Contracts see its kind with both
 /// flags, and its value.
@@ -238,10 +241,10 @@ pub fn marked_kind(kind: u16, nested: bool) -> u16
 pub fn framed_len(len: usize) -> Option<usize>
     ensures { result ≡ short_framed len }
 {
-    if len > 65531 {
+    if len > LONGEST_VALUE {
         return None;
     }
-    Some((NLA_HEADER_SIZE + len).next_multiple_of(4))
+    Some((NLA_HEADER_SIZE + len).next_multiple_of(NLA_ALIGNTO))
 }
 
 /// The length of an encoding whose value has this length.
@@ -255,8 +258,8 @@ pub fn check_len(kind: u16, len: usize) -> Result<usize, EmitError>
     framed_len(len).ok_or(EmitError::TooLong { kind, len })
 }
 
-/// Writes so many zeros at the front of the slice, and leaves the rest. They are three at most, and
-/// cost less one by one than a call to fill them.
+/// Writes so many zeros at the front of the slice, and leaves the rest. Asks that they are three at
+/// most, which cost less one by one than a call to fill them, and for room.
 pub fn write_zeros(count: usize, out: &mut [u8])
     requires few { count < NLA_ALIGNTO }
     requires room { count ≤ length out.old }
@@ -285,7 +288,8 @@ fn write_header(size: u16, kind: u16, out: &mut [u8])
 }
 
 /// Writes the header in front of a value that stands already, and zeros after it to the next
-/// multiple of four. Answers the length of all.
+/// multiple of four. Answers the length of all. Asks that `check_len` accepts the length of the value,
+/// and for room of what it answers.
 pub fn frame(out: &mut [u8], kind: u16, len: usize) -> usize
     requires short { len ≤ 65531 }
     requires room { framed len ≤ length out.old }

@@ -6,11 +6,11 @@ ghost use Rattle.npr_base.specs.{
   declared.refusal.DecodeError.{DecodeError},
   AddressFamily.{all_family_rows, families},
   Equality.{IsEquality},
-  Family.{list_members},
+  Lists.{list_members},
   Framing.{Item, Cut, Stops},
   Counts.{Counts, AddsAtMostTwice, SawEach},
   Looks.{Adds},
-  Message.{Meant, IsMessage, MessageLooks, IsCoherent, spelling, message_misfit},
+  Message.{View, IsMessage, MessageLooks, IsCoherent, canonical_bytes, message_unfit},
   Rows.{agrees, numbered},
   Walk.{Steps, found, Finds, CutsInTwo},
 };
@@ -81,18 +81,18 @@ pub fn law_equality()
 
 /// Bytes are one message at most.
 pub fn law_one_reading<H: Header>()
-    ensures { (bytes : List ℕ) (m n : Meant H.grammar) → IsMessage H.grammar bytes m → IsMessage H.grammar bytes n → m ≡ n }
+    ensures { (bytes : List ℕ) (m n : View H.grammar) → IsMessage H.grammar bytes m → IsMessage H.grammar bytes n → m ≡ n }
 {}
 
 /// The canonical bytes of a coherent message that fits are that message.
 pub fn law_read_back<H: Header>()
-    ensures { (m : Meant H.grammar) → IsCoherent H.grammar m → message_misfit H.grammar m ≡ None → IsMessage H.grammar (spelling H.grammar m) m }
+    ensures { (m : View H.grammar) → IsCoherent H.grammar m → message_unfit H.grammar m ≡ None → IsMessage H.grammar (canonical_bytes H.grammar m) m }
 {}
 
 /// Coherent messages of one kind that fit are equal where their canonical bytes are.
 pub fn law_canonical<H: Header>()
-    ensures { (m n : Meant H.grammar) → IsCoherent H.grammar m → message_misfit H.grammar m ≡ None → IsCoherent H.grammar n → message_misfit H.grammar n ≡ None
-        → spelling H.grammar m ≡ spelling H.grammar n → m ≡ n }
+    ensures { (m n : View H.grammar) → IsCoherent H.grammar m → message_unfit H.grammar m ≡ None → IsCoherent H.grammar n → message_unfit H.grammar n ≡ None
+        → canonical_bytes H.grammar m ≡ canonical_bytes H.grammar n → m ≡ n }
 {}
 
 /// The looks that reading a message takes are one number, by its bytes alone.
@@ -104,6 +104,6 @@ pub fn law_looks<H: Header>()
     // At most two for four bytes behind the header, and one for twelve and two that fail.
     ensures bounded { (bytes : List ℕ) (old new : Counts) → MessageLooks H.grammar bytes old new → AddsAtMostTwice old new (length bytes - H.grammar.layout.size) }
     // Each attribute of a message has one, and so has each inside one.
-    ensures counted { (bytes : List ℕ) (m : Meant H.grammar) (old new : Counts) → IsMessage H.grammar bytes m → MessageLooks H.grammar bytes old new
+    ensures counted { (bytes : List ℕ) (m : View H.grammar) (old new : Counts) → IsMessage H.grammar bytes m → MessageLooks H.grammar bytes old new
         → SawEach old new (list_members H.grammar.writing.members m.attributes) }
 {}

@@ -5,9 +5,9 @@ ghost use Rattle.npr_base.specs.{
   Counts.{AddsAtMost, SawEach},
   Looks.{Answered, ListLooks},
   Framing.{Item, Front, Writes},
-  Table.{shaped_item, shaped_misfit, written_by, unfit_by},
+  Family.{shaped_item, shaped_unfit, written_by, unfit_by},
   Walk.{Walked},
-  Family.{ReadsList, FirstFault, checked, list_unfit, list_members, encodings, overlong},
+  Lists.{ReadsList, FirstFault, checked, list_unfit, list_members, encodings, overlong},
   declared.refusal.DecodeError.TheVariants.{OutOfMemory},
 };
 
@@ -71,7 +71,7 @@ pub fn make_room<A: Drop>(found: &mut Vec<A>, len: usize) -> Result<(), AllocErr
     found.reserve_exact((len / 8).min(16))
 }
 
-/// `parse_list` into an empty list, whose room is used again.
+/// `parse_list` into a list, whose room is used again. Asks that the list is empty.
 ///
 /// # Errors
 /// `OutOfMemory` where memory is refused, and else the first fault in reading order. The list is empty
@@ -121,7 +121,7 @@ pub fn total_len(sum: u128) -> Result<usize, EmitError>
 }
 
 fn check_list_body<A: Nla>(list: &[A]) -> Result<usize, EmitError>
-    ensures { result ≡ checked (list_unfit (shaped_misfit A.shape) (shaped_item A.shape) list.now) (length (encodings (shaped_item A.shape) list.now)) }
+    ensures { result ≡ checked (list_unfit (shaped_unfit A.shape) (shaped_item A.shape) list.now) (length (encodings (shaped_item A.shape) list.now)) }
 {
     let mut total = 0u128;
     for x in list {
@@ -131,7 +131,7 @@ fn check_list_body<A: Nla>(list: &[A]) -> Result<usize, EmitError>
 }
 
 fn write_list_body<A: Nla>(list: &[A], out: &mut [u8]) -> usize
-    requires fits { list_unfit (shaped_misfit A.shape) (shaped_item A.shape) list.now ≡ None }
+    requires fits { list_unfit (shaped_unfit A.shape) (shaped_item A.shape) list.now ≡ None }
     requires room { length (encodings (shaped_item A.shape) list.now) ≤ length out.old }
     ensures len { result ≡ length (encodings (shaped_item A.shape) list.now) }
     ensures after { Writes out.old out.new (encodings (shaped_item A.shape) list.now) }
@@ -151,7 +151,7 @@ pub fn check_list<A: Attribute>(list: &[A]) -> Result<usize, EmitError>
     check_list_body(list)
 }
 
-/// `emit_list`, with the length of what is written.
+/// `emit_list`, with the length of what is written. Asks what that does.
 pub fn write_list<A: Attribute>(list: &[A], out: &mut [u8]) -> usize
     requires fits { list_unfit (unfit_by A.family.writing) (written_by A.family.writing) (map A.family.meaning list.now) ≡ None }
     requires room { length (encodings (written_by A.family.writing) (map A.family.meaning list.now)) ≤ length out.old }
@@ -162,7 +162,8 @@ pub fn write_list<A: Attribute>(list: &[A], out: &mut [u8]) -> usize
 }
 
 /// Writes the encodings one after the other at the front of the slice, and leaves the rest. Asks
-/// that `check_list` accepts, and room for the length that it answers.
+/// that `check_list` accepts, and room for the length that it answers. It is for callers: the library
+/// writes by `write_list`.
 pub fn emit_list<A: Attribute>(list: &[A], out: &mut [u8])
     requires fits { list_unfit (unfit_by A.family.writing) (written_by A.family.writing) (map A.family.meaning list.now) ≡ None }
     requires room { length (encodings (written_by A.family.writing) (map A.family.meaning list.now)) ≤ length out.old }
@@ -181,7 +182,7 @@ pub fn clone_list<A: Attribute>(alloc: Global, list: &[A]) -> Result<Vec<A>, All
 {
     let mut copies = Vec::new(alloc);
     for x in list {
-        copies.push(x.clone(alloc)?)?;
+        copies.push(x.try_clone(alloc)?)?;
     }
     Ok(copies)
 }

@@ -5,10 +5,10 @@ ghost use Rattle.npr_base.specs.{
   declared.refusal.DecodeError.{DecodeError, TheVariants.{OutOfMemory, HeaderTooShort}},
   Codec.{leading},
   Counts.{Counts, AddsAtMostTwice, SawEach},
-  Family.{list_members},
+  Lists.{list_members},
   Framing.{Item, Front},
   Looks.{Answered},
-  Message.{Grammar, Meant, IsOfFamily, IsUnder, view, IsMessage, MessageFault, MessageLooks, IsCoherent, spelling, message_misfit},
+  Message.{Grammar, View, IsOfFamily, IsUnder, view, IsMessage, MessageFault, MessageLooks, IsCoherent, canonical_bytes, message_unfit},
 };
 
 use crate::attribute::Attribute;
@@ -96,7 +96,7 @@ impl<H: Header> Message<H, H::Attribute> {
     ///
     /// # Errors
     /// `AllocError` where memory is refused; without attributes none is taken.
-    pub fn clone(&self, alloc: Global) -> Result<Self, AllocError>
+    pub fn try_clone(&self, alloc: Global) -> Result<Self, AllocError>
         ensures ok { IfOk result (λ m. view H.grammar m ≡ view H.grammar self.now) }
         ensures memory { OnErr result (0 < length self.now.attributes.items) }
     {
@@ -118,19 +118,19 @@ impl<H: Header> Message<H, H::Attribute> {
         // What is read is what the bytes mean.
         ensures ok { IfOk result (λ m. IsMessage H.grammar bytes.now (view H.grammar m)) }
         // They mean nothing else.
-        ensures one { IfOk result (λ m. (n : Meant H.grammar) → IsMessage H.grammar bytes.now n → view H.grammar m ≡ n) }
+        ensures one { IfOk result (λ m. (n : View H.grammar) → IsMessage H.grammar bytes.now n → view H.grammar m ≡ n) }
         ensures coherent { IfOk result (λ m. IsCoherent H.grammar (view H.grammar m)) }
         // A refusal is the first fault.
         ensures refused { IfErr result (λ e. e ≢ OutOfMemory → MessageFault H.grammar bytes.now e) }
         // Then the bytes mean nothing.
-        ensures none { IfErr result (λ e. e ≢ OutOfMemory → (n : Meant H.grammar) → IsMessage H.grammar bytes.now n → ⊥) }
+        ensures none { IfErr result (λ e. e ≢ OutOfMemory → (n : View H.grammar) → IsMessage H.grammar bytes.now n → ⊥) }
         // Canonical bytes give back their message.
-        ensures again { IfOk result (λ m. (n : Meant H.grammar) → IsCoherent H.grammar n → message_misfit H.grammar n ≡ None
-            → bytes.now ≡ spelling H.grammar n → view H.grammar m ≡ n) }
+        ensures again { IfOk result (λ m. (n : View H.grammar) → IsCoherent H.grammar n → message_unfit H.grammar n ≡ None
+            → bytes.now ≡ canonical_bytes H.grammar n → view H.grammar m ≡ n) }
         // Memory is taken behind a first whole attribute alone.
         ensures memory { IsErrOf result OutOfMemory → (x : Item) × (rest : List ℕ) × Front (drop H.grammar.layout.size bytes.now) x rest }
         // Canonical bytes are at most five halves as long as what was read.
-        ensures growth { IfOk result (λ m. 2 * length (spelling H.grammar (view H.grammar m)) ≤ 5 * length bytes.now) }
+        ensures growth { IfOk result (λ m. 2 * length (canonical_bytes H.grammar (view H.grammar m)) ≤ 5 * length bytes.now) }
         // Each level of lists takes 12 bytes behind the header.
         ensures depth { IfOk result (λ m. 12 * H.grammar.body.depth (view H.grammar m).attributes ≤ length bytes.now - H.grammar.layout.size) }
         // The looks are those that the bytes take:
@@ -153,12 +153,12 @@ impl<H: Header> Message<H, H::Attribute> {
         // What is read is what the bytes mean.
         ensures ok { IfOk result (λ _. IsMessage H.grammar bytes.now (view H.grammar self.new)) }
         // They mean nothing else.
-        ensures one { IfOk result (λ _. (n : Meant H.grammar) → IsMessage H.grammar bytes.now n → view H.grammar self.new ≡ n) }
+        ensures one { IfOk result (λ _. (n : View H.grammar) → IsMessage H.grammar bytes.now n → view H.grammar self.new ≡ n) }
         ensures coherent { IfOk result (λ _. IsCoherent H.grammar (view H.grammar self.new)) }
         // A refusal is the first fault.
         ensures refused { IfErr result (λ e. e ≢ OutOfMemory → MessageFault H.grammar bytes.now e) }
         // Then the bytes mean nothing,
-        ensures none { IfErr result (λ e. e ≢ OutOfMemory → (n : Meant H.grammar) → IsMessage H.grammar bytes.now n → ⊥) }
+        ensures none { IfErr result (λ e. e ≢ OutOfMemory → (n : View H.grammar) → IsMessage H.grammar bytes.now n → ⊥) }
         // and nothing is left of what was there.
         ensures new { IfErr result (λ _. view H.grammar self.new ≡ record { header = H.grammar.standard; attributes = [] }) }
         // Memory is taken behind a first whole attribute alone.
@@ -256,19 +256,19 @@ impl<'a, H: Header> Parseable<&'a [u8]> for Message<H, H::Attribute> {
         // What is read is what the bytes mean.
         ensures ok { IfOk result (λ m. IsMessage H.grammar bytes.now (view H.grammar m)) }
         // They mean nothing else.
-        ensures one { IfOk result (λ m. (n : Meant H.grammar) → IsMessage H.grammar bytes.now n → view H.grammar m ≡ n) }
+        ensures one { IfOk result (λ m. (n : View H.grammar) → IsMessage H.grammar bytes.now n → view H.grammar m ≡ n) }
         ensures coherent { IfOk result (λ m. IsCoherent H.grammar (view H.grammar m)) }
         // A refusal is the first fault.
         ensures refused { IfErr result (λ e. e ≢ OutOfMemory → MessageFault H.grammar bytes.now e) }
         // Then the bytes mean nothing.
-        ensures none { IfErr result (λ e. e ≢ OutOfMemory → (n : Meant H.grammar) → IsMessage H.grammar bytes.now n → ⊥) }
+        ensures none { IfErr result (λ e. e ≢ OutOfMemory → (n : View H.grammar) → IsMessage H.grammar bytes.now n → ⊥) }
         // Canonical bytes give back their message.
-        ensures again { IfOk result (λ m. (n : Meant H.grammar) → IsCoherent H.grammar n → message_misfit H.grammar n ≡ None
-            → bytes.now ≡ spelling H.grammar n → view H.grammar m ≡ n) }
+        ensures again { IfOk result (λ m. (n : View H.grammar) → IsCoherent H.grammar n → message_unfit H.grammar n ≡ None
+            → bytes.now ≡ canonical_bytes H.grammar n → view H.grammar m ≡ n) }
         // Memory is taken behind a first whole attribute alone.
         ensures memory { IsErrOf result OutOfMemory → (x : Item) × (rest : List ℕ) × Front (drop H.grammar.layout.size bytes.now) x rest }
         // Canonical bytes are at most five halves as long as what was read.
-        ensures growth { IfOk result (λ m. 2 * length (spelling H.grammar (view H.grammar m)) ≤ 5 * length bytes.now) }
+        ensures growth { IfOk result (λ m. 2 * length (canonical_bytes H.grammar (view H.grammar m)) ≤ 5 * length bytes.now) }
         // Each level of lists takes 12 bytes behind the header.
         ensures depth { IfOk result (λ m. 12 * H.grammar.body.depth (view H.grammar m).attributes ≤ length bytes.now - H.grammar.layout.size) }
     {
@@ -276,11 +276,11 @@ impl<'a, H: Header> Parseable<&'a [u8]> for Message<H, H::Attribute> {
     }
 }
 
-#[tactic(auto, unfolding(crate::specs::Message::spelling, crate::specs::Message::message_misfit))]
+#[tactic(auto, unfolding(crate::specs::Message::canonical_bytes, crate::specs::Message::message_unfit))]
 impl<H: Header> Emitable for Message<H, H::Attribute> {
-    ghost bytes = { λ m. spelling H.grammar (view H.grammar m) };
+    ghost bytes = { λ m. canonical_bytes H.grammar (view H.grammar m) };
 
-    ghost unfit = { λ m. message_misfit H.grammar (view H.grammar m) };
+    ghost unfit = { λ m. message_unfit H.grammar (view H.grammar m) };
 
     fn check(&self) -> Result<usize, EmitError> {
         let len = check_list(self.attributes.as_slice())?;

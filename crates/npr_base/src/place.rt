@@ -16,7 +16,7 @@ pub trait Place<A> {
     /// What it is with the value in it.
     ghost puts: { Self → A → Self → Type 0 };
 
-    /// Puts the value into it.
+    /// Puts the value into it. Asks that it is ready: a list for room.
     fn put(&mut self, value: A)
         requires { ready self.old }
         ensures { puts self.old value self.new };
@@ -46,7 +46,8 @@ impl<A: Drop> Place<A> for Option<A> {
     }
 }
 
-/// Puts the variant that holds what was read.
+/// Puts the variant that holds what was read. Asks that the place is ready, and that the variant can
+/// be called with any value.
 ///
 /// # Errors
 /// The refusal, where nothing was read.
@@ -65,7 +66,8 @@ pub fn put_read<A, T, P: Place<A>, V: FnOnce(T) -> A>(
     Ok(())
 }
 
-/// Puts the variant that holds an address, of version 4 in 4 bytes or of version 6 in 16.
+/// Puts the variant that holds an address, of version 4 in 4 bytes or of version 6 in 16. Asks that
+/// the place is ready, and that the variant can be called with any value.
 ///
 /// # Errors
 /// `ValueLength` at another length.

@@ -23,7 +23,7 @@ macro_rules! clone_rows {
             $($($more)*)?
             $($family::$variant $(($crate::bound!([$($codec)+] x)))? =>
                 $crate::clone_row!([$family::$variant, x, $alloc] $($($codec)+)?),)*
-            $family::Other(nla) => nla.clone($alloc).map($family::Other),
+            $family::Other(nla) => nla.try_clone($alloc).map($family::Other),
         }
     };
 }
@@ -44,7 +44,7 @@ macro_rules! clone_row {
         $crate::clone_list($alloc, $x.as_slice()).map($family::$variant)
     };
     ([$family:ident::$variant:ident, $x:ident, $alloc:expr] $of:ident value) => {
-        $x.clone($alloc).map($family::$variant)
+        $x.try_clone($alloc).map($family::$variant)
     };
     ([$family:ident::$variant:ident, $x:ident, $alloc:expr] $($codec:tt)+) => {
         Ok($family::$variant(*$x))
@@ -328,12 +328,6 @@ macro_rules! read_value {
     };
     ([$alloc:expr, $value:expr, $at:expr] octets16) => {
         $crate::read_ipv6($value, $at)
-    };
-    ([$alloc:expr, $value:expr, $at:expr] ip) => {
-        $crate::read_ip($value, $at)
-    };
-    ([$alloc:expr, $value:expr, $at:expr] name) => {
-        $crate::read_name($alloc, $value, $at)
     };
     ([$alloc:expr, $value:expr, $at:expr] $of:ident exactly $len:literal) => {
         $of::read($value, $at)

@@ -4,8 +4,8 @@ ghost use Rattle.std.specs.Prelude.{◌≡◌, ◌≢◌, ◌≤◌, ℕ, List, 
 ghost use Rattle.npr_base.specs.{
   declared.refusal.{EmitError.{EmitError}, DecodeError.{DecodeError, TheVariants.{OutOfMemory}}},
   Framing.{Writes, encoding, framed},
-  Family.{checked, too_long},
-  Table.{Shape, shaped_item, shaped_misfit},
+  Lists.{checked, too_long},
+  Family.{Shape, shaped_item, shaped_unfit},
 };
 
 use crate::framing::{NLA_HEADER_SIZE, frame, framed_len, marked_kind};
@@ -29,19 +29,19 @@ pub trait Nla: Sized {
     /// The length of the value in bytes, or the first cause inside it why it can't be written.
     /// `check` tests the length besides.
     fn check_value(&self) -> Result<usize, EmitError>
-        ensures { result ≡ checked (shape self.now).inside (length (shape self.now).item.value) };
+        ensures { result ≡ checked (shape self.now).unfit (length (shape self.now).item.value) };
 
     /// Writes the value at the front of the slice, leaves the rest, and answers the value's
     /// length. Asks that `check_value` accepts, and room for the value.
     fn write_value(&self, out: &mut [u8]) -> usize
-        requires fits { (shape self.now).inside ≡ None }
+        requires fits { (shape self.now).unfit ≡ None }
         requires room { length (shape self.now).item.value ≤ length out.old }
         ensures len { result ≡ length (shape self.now).item.value }
         ensures after { Writes out.old out.new (shape self.now).item.value };
 
     /// The length of the value, in bytes. Asks that `check_value` accepts.
     final fn value_len(&self) -> usize
-        requires { (shape self.now).inside ≡ None }
+        requires { (shape self.now).unfit ≡ None }
         ensures { result ≡ length (shape self.now).item.value }
     {
         match self.check_value() {
@@ -52,7 +52,7 @@ pub trait Nla: Sized {
 
     /// Writes the value into a slice of exactly its length. Asks that `check_value` accepts.
     final fn emit_value(&self, out: &mut [u8])
-        requires fits { (shape self.now).inside ≡ None }
+        requires fits { (shape self.now).unfit ≡ None }
         requires room { length out.old ≡ length (shape self.now).item.value }
         ensures { out.new ≡ (shape self.now).item.value }
     {
@@ -95,7 +95,7 @@ pub trait Emitable {
 impl<A: Nla> Emitable for A {
     ghost bytes = { λ a. encoding (shaped_item A.shape a) };
 
-    ghost unfit = { shaped_misfit A.shape };
+    ghost unfit = { shaped_unfit A.shape };
 
     fn check(&self) -> Result<usize, EmitError> {
         let len = self.check_value()?;
@@ -125,9 +125,9 @@ pub fn check_attribute_len<A: Nla>(attribute: &A, len: usize) -> Result<usize, E
     }
 }
 
-/// `emit` of an attribute, with the length of what is written.
+/// `emit` of an attribute, with the length of what is written. Asks what that does.
 pub fn write_attribute<A: Nla>(attribute: &A, out: &mut [u8]) -> usize
-    requires fits { shaped_misfit A.shape attribute.now ≡ None }
+    requires fits { shaped_unfit A.shape attribute.now ≡ None }
     requires room { framed (length (A.shape attribute.now).item.value) ≤ length out.old }
     ensures len { result ≡ framed (length (A.shape attribute.now).item.value) }
     ensures after { Writes out.old out.new (encoding (shaped_item A.shape attribute.now)) }

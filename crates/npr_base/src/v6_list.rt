@@ -2,7 +2,7 @@
 //! each, one after the other.
 
 ghost use Rattle.std.specs.{Prelude.{◌≡◌, ◌*◌, ◌%◌, ◌^◌, ◌<◌, ◌≤◌, length, IfOk, IfErr}, List.{concat}};
-ghost use Rattle.npr_base.specs.{declared.refusal.DecodeError.TheVariants.{OutOfMemory}, Family.{AllOf}, Framing.{Writes}, V6List.{IsV6List}};
+ghost use Rattle.npr_base.specs.{declared.refusal.DecodeError.TheVariants.{OutOfMemory}, Lists.{AllOf}, Framing.{Writes}, V6List.{IsV6List}};
 
 use crate::ip::Ipv6Addr;
 use crate::refusal::DecodeError;
@@ -44,7 +44,7 @@ pub fn v6_list_len(addresses: &[Ipv6Addr]) -> usize
 }
 
 /// Writes the addresses one after the other at the front of the slice, in the order of the list,
-/// leaves the rest, and answers their length.
+/// leaves the rest, and answers their length. Asks for room of `v6_list_len`.
 pub fn write_v6_list(addresses: &[Ipv6Addr], out: &mut [u8]) -> usize
     requires { length (concat addresses.now) ≤ length out.old }
     ensures len { result ≡ length (concat addresses.now) }
@@ -57,8 +57,8 @@ pub fn write_v6_list(addresses: &[Ipv6Addr], out: &mut [u8]) -> usize
     at
 }
 
-/// Writes the addresses one after the other, in the order of the list, into a slice of exactly 16
-/// bytes for each.
+/// Writes the addresses one after the other, in the order of the list. Asks for a slice of exactly 16
+/// bytes for each. It is for callers: the library writes by `write_v6_list`.
 pub fn emit_v6_list(addresses: &[Ipv6Addr], out: &mut [u8])
     requires { length out.old ≡ 16 * length addresses.now }
     ensures { out.new ≡ concat addresses.now }

@@ -1,6 +1,6 @@
 //! Values of attributes: numbers, bytes and names.
 
-ghost use Rattle.std.specs.{Prelude.{◌≡◌, ◌≢◌, ◌≤◌, ◌+◌, length, IfOk, IfErr}, String.{string_bytes}};
+ghost use Rattle.std.specs.{Prelude.{◌≡◌, ◌≢◌, ◌≤◌, ◌<◌, ◌+◌, length, IfOk, IfErr, OnErr}, String.{string_bytes}};
 ghost use Rattle.npr_base.specs.{
   declared.refusal.DecodeError.TheVariants.{OutOfMemory},
   Framing.{Writes},
@@ -216,7 +216,8 @@ pub fn ip_len(address: &IpAddr) -> usize
     }
 }
 
-/// Writes an address at the front of the slice, leaves the rest, and answers its length.
+/// Writes an address at the front of the slice, leaves the rest, and answers its length. Asks for
+/// room of `ip_len`.
 pub fn write_ip(address: &IpAddr, out: &mut [u8]) -> usize
     requires { length (octets_of address.now) ≤ length out.old }
     ensures len { result ≡ length (octets_of address.now) }
@@ -231,10 +232,14 @@ pub fn write_ip(address: &IpAddr, out: &mut [u8]) -> usize
 /// The bytes, copied.
 ///
 /// # Errors
-/// `AllocError` where memory is refused.
+/// `AllocError` where memory is refused; without bytes none is taken.
 pub fn read_bytes(alloc: Global, value: &[u8]) -> Result<Vec<u8>, AllocError>
-    ensures { IfOk result (λ v. raw.Reads value.now v.items) }
+    ensures ok { IfOk result (λ v. raw.Reads value.now v.items) }
+    ensures memory { OnErr result (0 < length value.now) }
 {
+    if value.is_empty() {
+        return Ok(Vec::new(alloc));
+    }
     Vec::from_slice(alloc, value)
 }
 
@@ -270,10 +275,11 @@ pub fn read_name(alloc: Global, value: &[u8], at: At) -> Result<String, DecodeEr
 }
 
 /// Writes a name and one zero at the front of the slice, leaves the rest, and answers their length.
+/// Asks for room of that length.
 pub fn write_name(text: &str, out: &mut [u8]) -> usize
     requires { length text.now + 1 ≤ length out.old }
     ensures len { result ≡ length text.now + 1 }
-    ensures after { Writes out.old out.new (name.writes text.now) }
+    ensures after { Writes out.old out.new (name.encode text.now) }
 {
     let len = text.len();
     out[len] = 0;
@@ -281,7 +287,8 @@ pub fn write_name(text: &str, out: &mut [u8]) -> usize
     len + 1
 }
 
-/// Copies the bytes to the front of the slice, leaves the rest, and answers their length.
+/// Copies the bytes to the front of the slice, leaves the rest, and answers their length. Asks for
+/// room of that length.
 pub fn write_bytes(bytes: &[u8], out: &mut [u8]) -> usize
     requires { length bytes.now ≤ length out.old }
     ensures len { result ≡ length bytes.now }
@@ -303,8 +310,8 @@ fn store<const N: usize>(bytes: [u8; N], place: &mut [u8])
     }
 }
 
-/// Writes an array to the front of the slice, leaves the rest, and answers its length. An array of
-/// known length goes from registers, without a place on the stack that `write_bytes` takes it from.
+/// Writes an array to the front of the slice, leaves the rest, and answers its length. Asks for room
+/// of that length. An array of known length goes from registers, without a place on the stack that `write_bytes` takes it from.
 #[inline(always)]
 pub fn write_array<const N: usize>(bytes: [u8; N], out: &mut [u8]) -> usize
     requires { N ≤ length out.old }

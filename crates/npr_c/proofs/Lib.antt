@@ -3,4 +3,4 @@ mod HopPlaces
 mod Places
 mod Searches
 mod Stopping
-mod Told
+mod Located

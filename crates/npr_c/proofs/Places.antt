@@ -2,7 +2,7 @@
 use Rattle.std.proofs.Common.{◌≡◌, ℕ, ◌+◌, ◌-◌, ◌<◌, List, ◌++◌, length, take, drop, refl, sym, ap, subst, ◌∙◌}
 use Rattle.std.proofs.Common.{append_assoc, arith, length-append, length-drop}
 use Rattle.std.proofs.lemmas.List.{take_at, drop_at, drop-drop, take-append-drop}
-use Rattle.netlink_packet_route.specs.Framing.{Item, Front, text}
+use Rattle.netlink_packet_route.specs.Framing.{Item, Front, padded}
 use Rattle.npr_c.specs.Steps.{FoundAt}
 use Rattle.npr_c.specs.declared.steps.Step.{Step}
 
@@ -21,7 +21,7 @@ found : (bytes : List ℕ) (at : ℕ) (x : Item) (rest : List ℕ) → at < leng
     → FoundAt bytes at (step_over bytes at x.kind x.value rest)
 found bytes at x rest within f =
     let n : ℕ = length x.value in
-    let front : List ℕ = text x f.padding in
+    let front : List ℕ = padded x f.padding in
     let after : drop (at + 4) bytes ≡ x.value ++ (f.padding ++ rest) =
     sym (drop-drop 4 at bytes) ∙ ap (drop 4) f.is ∙ append_assoc x.value f.padding rest in
     let value : take n (drop (at + 4) bytes) ≡ x.value = ap (take n) after ∙ take_at x.value (f.padding ++ rest) n refl in

@@ -1,7 +1,7 @@
 -- What a call for canonical bytes answers.
 use Rattle.std.specs.Prelude.{◌≡◌, ◌≢◌, ◌⊎◌, ◌<◌, ◌≤◌, ℕ, List, length, Option, Some, None}
 use Rattle.netlink_packet_route.specs.Framing.{Writes}
-use Rattle.netlink_packet_route.specs.Messages.{Grammar, Meant, IsMessage, MessageFault, message_misfit, spelling}
+use Rattle.netlink_packet_route.specs.Messages.{Grammar, View, IsMessage, MessageFault, message_unfit, canonical_bytes}
 use Rattle.netlink_packet_route.specs.declared.framing.DecodeError.{DecodeError}
 use Rattle.netlink_packet_route.specs.declared.framing.DecodeError.TheVariants.{OutOfMemory}
 use Rattle.netlink_packet_route.specs.declared.framing.EmitError.{EmitError}
@@ -35,4 +35,4 @@ Spells None canonical old new answer =
 abbrev pub Tells : {H A : Type 0} → Grammar H A → List ℕ → List ℕ → List ℕ → Answer → Type 0
 Tells g bytes old new answer =
     ((e : DecodeError) × (answer ≡ refused_answer e) × (e ≢ OutOfMemory → MessageFault g bytes e) × (new ≡ old))
-    ⊎ ((m : Meant g) × IsMessage g bytes m × Spells (message_misfit g m) (spelling g m) old new answer)
+    ⊎ ((m : View g) × IsMessage g bytes m × Spells (message_unfit g m) (canonical_bytes g m) old new answer)

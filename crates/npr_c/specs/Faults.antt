@@ -9,7 +9,7 @@ use Rattle.netlink_packet_route.specs.declared.framing.DecodeError.{DecodeError}
 use Rattle.netlink_packet_route.specs.declared.framing.DecodeError.TheVariants.{OutOfMemory, HeaderTooShort, AttributeTooShort, AttributeLength}
 use Rattle.netlink_packet_route.specs.declared.framing.DecodeError.TheVariants.{NextHopTooShort, NextHopLength, ValueLength, NotUtf8, Seg6Header}
 use Rattle.netlink_packet_route.specs.declared.framing.DecodeError.TheVariants.{GeneveOrder, GeneveChild, ViaFamily, Unsupported}
-use Rattle.netlink_packet_route.specs.Messages.{Grammar, Meant, IsMessage, MessageFault}
+use Rattle.netlink_packet_route.specs.Messages.{Grammar, View, IsMessage, MessageFault}
 use Rattle.npr_c.specs.Numbers.{refusal_number}
 use Rattle.npr_c.specs.declared.faults.Fault.{Fault}
 
@@ -74,11 +74,11 @@ fault_of (ViaFamily family) = fault_with (ViaFamily family) family
 fault_of (Unsupported at) = fault_at (Unsupported at) at.family at.kind 0
 
 -- the same with a place in the bytes
-abbrev pub told : DecodeError → ℕ → Fault
-told e offset = record (fault_of e) { offset = offset }
+abbrev pub located : DecodeError → ℕ → Fault
+located e offset = record (fault_of e) { offset = offset }
 
 -- the answer for bytes: they are a message, or refused for their first fault or for want of memory
 abbrev pub IsJudged : {H A : Type 0} → Grammar H A → List ℕ → Fault → Type 0
 IsJudged g bytes answer =
-    ((m : Meant g) × IsMessage g bytes m × (answer ≡ no_fault))
-    ⊎ ((e : DecodeError) × (answer ≡ told e answer.offset) × (e ≢ OutOfMemory → MessageFault g bytes e))
+    ((m : View g) × IsMessage g bytes m × (answer ≡ no_fault))
+    ⊎ ((e : DecodeError) × (answer ≡ located e answer.offset) × (e ≢ OutOfMemory → MessageFault g bytes e))

@@ -1,10 +1,10 @@
 -- Where in a message the first fault stands: behind attributes that read, at the level of the message.
 use Rattle.std.specs.Prelude.{◌≡◌, ◌≢◌, ◌⊎◌, ◌<◌, ◌≤◌, ℕ, ◌+◌, List, length, take, drop}
-use Rattle.netlink_packet_route.specs.Family.{ReadsTo, IsWrong}
+use Rattle.netlink_packet_route.specs.Lists.{ReadsTo, IsWrong}
 use Rattle.netlink_packet_route.specs.Framing.{Item}
 use Rattle.netlink_packet_route.specs.Layout.{Layout}
 use Rattle.netlink_packet_route.specs.Messages.{governs_by}
-use Rattle.netlink_packet_route.specs.Table.{Family}
+use Rattle.netlink_packet_route.specs.Family.{Family}
 use Rattle.netlink_packet_route.specs.AddressAttribute as OfAddress
 use Rattle.netlink_packet_route.specs.AddressHeader.{header as address_header}
 use Rattle.netlink_packet_route.specs.RuleAttribute as OfRule
@@ -16,7 +16,7 @@ use Rattle.netlink_packet_route.specs.RouteHeader.{header as route_header}
 use Rattle.netlink_packet_route.specs.RouteMessageLaws.{IsContext}
 use Rattle.netlink_packet_route.specs.declared.framing.DecodeError.{DecodeError}
 use Rattle.netlink_packet_route.specs.declared.framing.DecodeError.TheVariants.{OutOfMemory}
-use Rattle.npr_c.specs.Faults.{no_fault, told}
+use Rattle.npr_c.specs.Faults.{no_fault, located}
 use Rattle.npr_c.specs.declared.faults.Fault.{Fault}
 
 -- attributes that read, up to the rest, in front of which something is wrong
@@ -49,5 +49,5 @@ RouteStandsAt bytes offset e = StandsAt route_header IsContext OfRoute.family by
 abbrev pub IsPlaced : ℕ → (List ℕ → ℕ → DecodeError → Type 0) → List ℕ → Fault → Type 0
 IsPlaced size stands bytes answer =
     (answer ≡ no_fault)
-    ⊎ ((e : DecodeError) × (answer ≡ told e answer.offset) × (e ≡ OutOfMemory → answer.offset ≡ 0)
+    ⊎ ((e : DecodeError) × (answer ≡ located e answer.offset) × (e ≡ OutOfMemory → answer.offset ≡ 0)
     × (e ≢ OutOfMemory → ((length bytes < size) × (answer.offset ≡ 0)) ⊎ stands bytes answer.offset e))

@@ -1,10 +1,10 @@
 -- What is wrong stands at one place, and is the first fault.
 use Rattle.std.proofs.Common.{◌≡◌, ℕ, List, [], ◌∷◌, sym, ap, subst, ◌∙◌, arith, inl, inr, length, take, drop}
-use Rattle.netlink_packet_route.specs.Family.{Each, IsWrong}
+use Rattle.netlink_packet_route.specs.Lists.{Each, IsWrong}
 use Rattle.netlink_packet_route.specs.Framing.{Item, Front, Passes}
 use Rattle.netlink_packet_route.specs.FrontLaws.{Front-same, Front-sound}
 use Rattle.netlink_packet_route.specs.Layout.{Layout}
-use Rattle.netlink_packet_route.specs.Table.{Family}
+use Rattle.netlink_packet_route.specs.Family.{Family}
 use Rattle.netlink_packet_route.specs.declared.framing.DecodeError.{DecodeError}
 use Rattle.npr_c.specs.Stops.{StopsBefore, StandsAt}
 

@@ -4,7 +4,7 @@
 ghost use Rattle.std.specs.Prelude.{◌≡◌, ℕ, List};
 ghost use Rattle.{
   netlink_packet_route.specs.declared.framing.DecodeError.{DecodeError},
-  npr_c.specs.{Faults.{told}, Stops.{AddressStandsAt, NeighbourStandsAt, RouteStandsAt, RuleStandsAt}},
+  npr_c.specs.{Faults.{located}, Stops.{AddressStandsAt, NeighbourStandsAt, RouteStandsAt, RuleStandsAt}},
 };
 
 /// The first fault of a message stands at one place.
@@ -16,6 +16,6 @@ pub fn law_places()
 {}
 
 /// Two refusals that are told alike are one.
-pub fn law_told()
-    ensures { (d e : DecodeError) (j k : ℕ) → told d j ≡ told e k → d ≡ e }
+pub fn law_located()
+    ensures { (d e : DecodeError) (j k : ℕ) → located d j ≡ located e k → d ≡ e }
 {}

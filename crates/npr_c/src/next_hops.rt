@@ -3,11 +3,7 @@
 ghost use Rattle.npr_c.specs.NextHops.{HopsAt};
 
 use crate::answer::refusal_number;
-use netlink_packet_route::framing::NLA_ALIGNTO;
-use netlink_packet_route::route::RouteNextHopBuffer;
-
-/// The bytes of a next hop's header.
-const HEADER_SIZE: usize = 8;
+use netlink_packet_route::route::{NEXT_HOP_HEADER_SIZE, RTNH_ALIGNTO, RouteNextHopBuffer};
 
 /// What a step over next hops answers.
 ///
@@ -64,12 +60,12 @@ pub extern "C" fn npr_next_hop_at(bytes: &[u8], at: usize) -> NextHop
     match RouteNextHopBuffer::new_checked(left) {
         Ok(header) => {
             let length = header.length as usize;
-            let whole = length.next_multiple_of(NLA_ALIGNTO).min(left.len());
+            let whole = length.next_multiple_of(RTNH_ALIGNTO).min(left.len());
             NextHop {
                 interface_index: header.interface_index,
                 flags: header.flags,
                 hops: header.hops,
-                attributes: at + HEADER_SIZE,
+                attributes: at + NEXT_HOP_HEADER_SIZE,
                 end: at + length,
                 next: at + whole,
                 ..NOTHING

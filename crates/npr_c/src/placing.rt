@@ -5,7 +5,7 @@ ghost use Rattle.{
   netlink_packet_route.specs.{
     Attributes.{AttributeStep, AttributeSteps},
     Framing.{Item, Front},
-    Messages.{Meant, IsMessage, MessageFault},
+    Messages.{View, IsMessage, MessageFault},
     declared.framing.DecodeError.TheVariants.{OutOfMemory},
   },
   npr_c.specs.Stops.{StandsAt},
@@ -50,14 +50,14 @@ fn read_each<H: Header>(attributes: Attributes<'_, H>) -> Result<(), Stop>
 /// Why bytes are no message, and where in them the first fault stands: 0 where memory is refused, and
 /// where they are fewer than a header.
 #[derive(Clone, Copy)]
-pub struct Place {
+pub struct Located {
     pub refusal: DecodeError,
     pub offset: usize,
 }
 
 impl Stop {
     /// The place in a message of so many bytes.
-    fn among(self, length: usize) -> Place
+    fn among(self, length: usize) -> Located
         requires { self.left ≤ length }
         ensures refusal { result.refusal ≡ self.refusal }
         ensures place { self.refusal ≢ OutOfMemory → length ≡ result.offset + self.left }
@@ -67,7 +67,7 @@ impl Stop {
             DecodeError::OutOfMemory => 0,
             _ => length - self.left,
         };
-        Place {
+        Located {
             refusal: self.refusal,
             offset,
         }
@@ -78,8 +78,8 @@ impl Stop {
 ///
 /// # Errors
 /// The first fault with its place, or `OutOfMemory`.
-pub fn read_through<H: Header>(alloc: Global, bytes: &[u8]) -> Result<(), Place>
-    ensures ok { IfOk result (λ _. (m : Meant H.grammar) × IsMessage H.grammar bytes.now m) }
+pub fn read_through<H: Header>(alloc: Global, bytes: &[u8]) -> Result<(), Located>
+    ensures ok { IfOk result (λ _. (m : View H.grammar) × IsMessage H.grammar bytes.now m) }
     ensures refused { IfErr result (λ place. place.refusal ≢ OutOfMemory → MessageFault H.grammar bytes.now place.refusal) }
     ensures place { IfErr result (λ place. place.refusal ≢ OutOfMemory
         → ((length bytes.now < H.grammar.layout.size) × (place.offset ≡ 0)) ⊎ StandsAt H.grammar.layout H.governs H.Attribute.family bytes.now place.offset place.refusal) }
@@ -88,7 +88,7 @@ pub fn read_through<H: Header>(alloc: Global, bytes: &[u8]) -> Result<(), Place>
 {
     let attributes = match Message::<H, H::Attribute>::attributes(alloc, bytes) {
         Ok(attributes) => attributes,
-        Err(refusal) => return Err(Place { refusal, offset: 0 }),
+        Err(refusal) => return Err(Located { refusal, offset: 0 }),
     };
     match read_each(attributes) {
         Ok(()) => Ok(()),

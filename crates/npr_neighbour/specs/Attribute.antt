@@ -3,12 +3,12 @@ use Rattle.std.proofs.Common.{◌≡◌, inl, inr, refl}
 use Rattle.npr_base.specs.declared.address_family.AddressFamily.{AddressFamily}
 use Rattle.npr_base.specs.declared.refusal.AttrFamily.TheVariants.{Neighbour}
 use Rattle.npr_base.specs.EnumTableLaws.{rewritten}
-use Rattle.npr_base.specs.Table.{Writing}
+use Rattle.npr_base.specs.Family.{Writing}
 use Rattle.npr_base.specs.Tables.{EnumTable, table_of, row, others, ◌or◌, value, items, seen, exactly, leading, raw, le16, le32, be16, Reading}
 use Rattle.npr_base.specs.Tables.{Family, Meanings, writing_of, attributes_of, family_of_table}
 use Rattle.npr_scalar.specs.RouteProtocol.{route_protocol}
 use Rattle.npr_neighbour.specs.CacheInfo.{cache_info}
-use Rattle.npr_neighbour.specs.Flags.{extended_flags}
+use Rattle.npr_neighbour.specs.Flags.{ext_flags}
 use Rattle.npr_neighbour.specs.NeighbourAddress.{address_of, address_in, Form, any, form_of}
 use Rattle.npr_neighbour.specs.contracts.attribute.NeighbourAttribute.{enum}
 use Rattle.npr_neighbour.specs.declared.attribute.NeighbourAttribute.{NeighbourAttribute}
@@ -18,7 +18,7 @@ abbrev pub table : Form → EnumTable enum
 table form =
     table_of enum (
     row Neighbour 1 (address_in form) (seen address_of NeighbourAttribute.Destination)  -- NDA_DST
-    or row Neighbour 2 raw (items NeighbourAttribute.LinkLayerAddress)  -- NDA_LLADDR
+    or row Neighbour 2 raw (items NeighbourAttribute.LinkLocalAddress)  -- NDA_LLADDR
     or row Neighbour 3 (leading cache_info) (value NeighbourAttribute.CacheInfo)  -- NDA_CACHEINFO
     or row Neighbour 4 (exactly le32) (value NeighbourAttribute.Probes)  -- NDA_PROBES
     or row Neighbour 5 (exactly le16) (value NeighbourAttribute.Vlan)  -- NDA_VLAN
@@ -30,7 +30,7 @@ table form =
     or row Neighbour 11 (exactly le32) (value NeighbourAttribute.SourceVni)  -- NDA_SRC_VNI
     or row Neighbour 12 (exactly route_protocol) (value NeighbourAttribute.Protocol)  -- NDA_PROTOCOL
     or row Neighbour 13 (exactly le32) (value NeighbourAttribute.NhId)  -- NDA_NH_ID
-    or row Neighbour 15 (exactly extended_flags) (value NeighbourAttribute.FlagsExt)  -- NDA_FLAGS_EXT
+    or row Neighbour 15 (exactly ext_flags) (value NeighbourAttribute.ExtFlags)  -- NDA_FLAGS_EXT
     or others (value NeighbourAttribute.Other)) refl refl
 
 -- what an attribute is, without where it lies in memory

@@ -1,12 +1,8 @@
 -- The header of a neighbour message (linux/neighbour.h, struct ndmsg): twelve bytes, three of which are padding.
-use Rattle.std.specs.Prelude.{ℤ, pos, FitsSigned, ◌++◌}
-use Rattle.std.specs.Int.{w32, to_le_bytes, cast_signed, cast_unsigned}
-use Rattle.std.proofs.Common.{refl, ap, ◌∙◌}
-use Rattle.std.proofs.Math.Facts.{Fits-bits, sfits_to_z}
+use Rattle.std.proofs.Common.{refl}
 use Rattle.npr_base.specs.AddressFamily.{families}
-use Rattle.npr_base.specs.Fields.{Field, one_byte, le_two, unused, family_byte, ◌holding◌, ◌before◌, ◌fills◌, ◌then◌, last, structure, le32-behind}
-use Rattle.npr_base.specs.Layout.{Layout, le32_at, le32_at-holds}
-use Rattle.npr_base.specs.LayoutLaws.{signed32-back}
+use Rattle.npr_base.specs.Fields.{one_byte, le_two, le_four, unused, family_byte, ◌holding◌, ◌before◌, ◌fills◌, ◌then◌, last, structure}
+use Rattle.npr_base.specs.Layout.{Layout}
 use Rattle.npr_base.specs.declared.address_family.AddressFamily.TheVariants.{Unspec}
 use Rattle.npr_scalar.specs.RouteType.{route_types}
 use Rattle.npr_scalar.specs.declared.route_type.RouteType.TheVariants.{Unspec as NoType}
@@ -17,23 +13,11 @@ use Rattle.npr_neighbour.specs.contracts.header.NeighbourMessageBuffer.{struct a
 use Rattle.npr_neighbour.specs.declared.header.NeighbourHeader.{NeighbourHeader}
 use Rattle.npr_neighbour.specs.declared.header.NeighbourMessageBuffer.{NeighbourMessageBuffer as Buffer}
 
--- a signed number of four bytes, the lowest byte first
-abbrev pub signed_four : Field ℤ
-signed_four = record {
-  width = 4;
-  at = λ bytes i. cast_signed w32 (le32_at bytes i);
-  encode = λ z. to_le_bytes w32 (cast_unsigned w32 z);
-  Holds = FitsSigned w32;
-  length-encode = λ z. refl;
-  at-encode = λ front more z h. ap (cast_signed w32) (le32-behind front (to_le_bytes w32 (cast_unsigned w32 z) ++ more)) ∙ signed32-back z h;
-  Holds-at = λ bytes i is. sfits_to_z {w = w32} (Fits-bits {w = w32} 32 tt (le32_at-holds bytes i is));
-}
-
 -- in this order, little endian; the padding is not looked at, and written 0
 abbrev pub header : Layout NeighbourHeader
 header =
     structure struct
-    (NeighbourHeader.family fills family_byte then NeighbourHeader.ifindex fills unused before unused before unused before signed_four
+    (NeighbourHeader.family fills family_byte then NeighbourHeader.ifindex fills unused before unused before unused before le_four
     then NeighbourHeader.state fills le_two holding state_bits then NeighbourHeader.flags fills one_byte holding flag_bits
     then last (NeighbourHeader.kind fills one_byte holding route_types)) refl (λ v. tt)
 
@@ -41,7 +25,7 @@ header =
 abbrev pub header_buffer : Layout Buffer
 header_buffer =
     structure buffer_struct
-    (Buffer.family fills one_byte then Buffer.ifindex fills unused before unused before unused before signed_four then Buffer.state fills le_two
+    (Buffer.family fills one_byte then Buffer.ifindex fills unused before unused before unused before le_four then Buffer.state fills le_two
     then Buffer.flags fills one_byte then last (Buffer.kind fills one_byte)) refl (λ v. tt)
 
 abbrev pub buffer_of : NeighbourHeader → Buffer
@@ -55,4 +39,4 @@ buffer_of h = record {
 
 -- each field at its default
 abbrev pub default_header : NeighbourHeader
-default_header = record { family = Unspec; ifindex = pos 0; state = state_bits.of 0; flags = flag_bits.of 0; kind = NoType }
+default_header = record { family = Unspec; ifindex = 0; state = state_bits.of 0; flags = flag_bits.of 0; kind = NoType }

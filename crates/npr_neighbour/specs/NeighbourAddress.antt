@@ -45,7 +45,7 @@ address_by four = variant (exactly (octets 4)) inet address_bytes (λ v. refl) (
 address_by sixteen = variant (exactly (octets 16)) inet6 address_bytes (λ v. refl) (λ v. refl)
 address_by any = variant raw other address_bytes (λ v. refl) (λ v. refl)
 
-pub address-alike : (form : Form) → ((address_by form).writes ≡ address_bytes) × ((a : Address) → (address_by form).inside 0 a ≡ None)
+pub address-alike : (form : Form) → ((address_by form).encode ≡ address_bytes) × ((a : Address) → (address_by form).unfit 0 a ≡ None)
 address-alike four = (refl, λ a. refl)
 address-alike sixteen = (refl, λ a. refl)
 address-alike any = (refl, λ a. refl)

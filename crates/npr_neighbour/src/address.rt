@@ -67,7 +67,8 @@ impl NeighbourAddress {
         }
     }
 
-    /// Writes its bytes at the front of the slice, leaves the rest, and answers their length.
+    /// Writes its bytes at the front of the slice, leaves the rest, and answers their length. Asks for
+    /// room of `len`.
     pub fn write(&self, out: &mut [u8]) -> usize
         requires { length (address_bytes (address_of self.now)) ≤ length out.old }
         ensures len { result ≡ length (address_bytes (address_of self.now)) }
@@ -84,7 +85,7 @@ impl NeighbourAddress {
     ///
     /// # Errors
     /// `AllocError` where memory is refused.
-    pub fn clone(&self, alloc: Global) -> Result<Self, AllocError>
+    pub fn try_clone(&self, alloc: Global) -> Result<Self, AllocError>
         ensures { IfOk result (λ a. address_of a ≡ address_of self.now) }
     {
         match self {

@@ -4,7 +4,7 @@ ghost use Rattle.{npr_base.specs.Tables.{shape_by, shape-by}, npr_neighbour.spec
 
 use crate::address::NeighbourAddress;
 use crate::cache_info::NeighbourCacheInfo;
-use crate::flags::NeighbourExtendedFlags;
+use crate::flags::NeighbourExtFlags;
 use bitflags::Flags;
 use npr_base::{
     AddressFamily, AttrFamily, Attribute, DecodeError, DefaultNla, EmitError, Looks, Nla,
@@ -20,7 +20,7 @@ pub enum NeighbourAttribute {
     /// `NDA_DST`: the address.
     Destination(NeighbourAddress),
     /// `NDA_LLADDR`: the address on the link, as it stands.
-    LinkLayerAddress(Vec<u8>),
+    LinkLocalAddress(Vec<u8>),
     /// `NDA_CACHEINFO`: when it was confirmed, used and changed.
     CacheInfo(NeighbourCacheInfo),
     /// `NDA_PROBES`: how often it was asked.
@@ -44,7 +44,7 @@ pub enum NeighbourAttribute {
     /// `NDA_NH_ID`: the id of a next hop object.
     NhId(u32),
     /// `NDA_FLAGS_EXT`: the flags for which the header has no room.
-    FlagsExt(NeighbourExtendedFlags),
+    ExtFlags(NeighbourExtFlags),
     /// An attribute of another number, as it stands.
     Other(DefaultNla),
 }
@@ -56,7 +56,7 @@ const NDA_DST: u16 = 1;
 macro_rules! rows {
     ($body:ident ($($given:tt)*)) => {
         npr_base::$body!(($($given)*) NeighbourAttribute of Neighbour {
-            2 LinkLayerAddress(raw);
+            2 LinkLocalAddress(raw);
             3 CacheInfo(NeighbourCacheInfo leading 16);
             4 Probes(le32);
             5 Vlan(le16);
@@ -68,7 +68,7 @@ macro_rules! rows {
             11 SourceVni(le32);
             12 Protocol(RouteProtocol as byte);
             13 NhId(le32);
-            15 FlagsExt(NeighbourExtendedFlags flags le32);
+            15 ExtFlags(NeighbourExtFlags flags le32);
         })
     };
 }
@@ -116,9 +116,9 @@ impl Attribute for NeighbourAttribute {
         ))
     }
 
-    fn clone(&self, alloc: Global) -> Result<Self, AllocError> {
+    fn try_clone(&self, alloc: Global) -> Result<Self, AllocError> {
         rows!(clone_rows(self, alloc;
-            NeighbourAttribute::Destination(a) => a.clone(alloc).map(NeighbourAttribute::Destination),
+            NeighbourAttribute::Destination(a) => a.try_clone(alloc).map(NeighbourAttribute::Destination),
         ))
     }
 }

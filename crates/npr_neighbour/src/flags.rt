@@ -1,7 +1,7 @@
 //! What a neighbour is besides: `NTF_*` of `linux/neighbour.h`. Every bit is kept.
 
 ghost use Rattle.std.specs.Prelude.{⊤, [], ◌∷◌, codes};
-ghost use Rattle.npr_neighbour.specs.Flags.{flag_bits, extended_flag_bits};
+ghost use Rattle.npr_neighbour.specs.Flags.{flag_bits, ext_flag_bits};
 
 use bitflags::{Flag, Flags};
 use npr_base::named_flags;
@@ -65,36 +65,42 @@ impl Flags for NeighbourFlags {
 
 /// Those for which the header has no room, as the attribute `NDA_FLAGS_EXT` has them.
 #[derive(Clone, Copy, Debug, Default, PartialEq, Eq)]
-pub struct NeighbourExtendedFlags(u32);
+pub struct NeighbourExtFlags(u32);
 
-impl NeighbourExtendedFlags {
+impl NeighbourExtFlags {
     /// `NTF_EXT_MANAGED`: the kernel keeps it confirmed by itself.
-    pub const Managed: NeighbourExtendedFlags = NeighbourExtendedFlags(0x1);
+    pub const Managed: NeighbourExtFlags = NeighbourExtFlags(0x1);
 
-    const FLAGS: &'static [Flag<NeighbourExtendedFlags>] = named_flags![NeighbourExtendedFlags:
-        Managed;
+    /// `NTF_EXT_LOCKED`: learned on a locked port.
+    pub const Locked: NeighbourExtFlags = NeighbourExtFlags(0x2);
+
+    /// `NTF_EXT_EXT_VALIDATED`: a program confirms it.
+    pub const ExtValidated: NeighbourExtFlags = NeighbourExtFlags(0x4);
+
+    const FLAGS: &'static [Flag<NeighbourExtFlags>] = named_flags![NeighbourExtFlags:
+        Managed, Locked, ExtValidated;
         u32::MAX
     ];
 }
 
-impl Flags for NeighbourExtendedFlags {
+impl Flags for NeighbourExtFlags {
     type Bits = u32;
 
     ghost exact = { ⊤ };
 
-    ghost table = { (codes "Managed", 1) ∷ ([], 4294967295) ∷ [] };
+    ghost table = { (codes "Managed", 1) ∷ (codes "Locked", 2) ∷ (codes "ExtValidated", 4) ∷ ([], 4294967295) ∷ [] };
 
-    ghost set_of = { extended_flag_bits.number };
+    ghost set_of = { ext_flag_bits.number };
 
-    fn flags<'a>() -> &'a [Flag<NeighbourExtendedFlags>] {
-        NeighbourExtendedFlags::FLAGS
+    fn flags<'a>() -> &'a [Flag<NeighbourExtFlags>] {
+        NeighbourExtFlags::FLAGS
     }
 
     fn bits(&self) -> u32 {
         self.0
     }
 
-    fn from_bits_retain(bits: u32) -> NeighbourExtendedFlags {
-        NeighbourExtendedFlags(bits)
+    fn from_bits_retain(bits: u32) -> NeighbourExtFlags {
+        NeighbourExtFlags(bits)
     }
 }

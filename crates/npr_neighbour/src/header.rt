@@ -23,8 +23,8 @@ const NDMSG_SIZE: usize = 12;
 pub struct NeighbourHeader {
     /// The family of the address.
     pub family: AddressFamily,
-    /// The number of the interface. The kernel's has a sign.
-    pub ifindex: i32,
+    /// The index of the interface; 0 is none.
+    pub ifindex: u32,
     /// How far the neighbour is known.
     pub state: NeighbourState,
     /// The flags, as far as they have room here.
@@ -39,7 +39,7 @@ pub struct NeighbourHeader {
 #[derive(Clone, Copy, Debug, PartialEq, Eq)]
 pub struct NeighbourMessageBuffer {
     pub family: u8,
-    pub ifindex: i32,
+    pub ifindex: u32,
     pub state: u16,
     pub flags: u8,
     pub kind: u8,
@@ -57,7 +57,7 @@ impl NeighbourMessageBuffer {
         let b = leading_octets(bytes, NDMSG_SIZE)?;
         Ok(NeighbourMessageBuffer {
             family: b[0],
-            ifindex: i32::from_le_bytes([b[4], b[5], b[6], b[7]]),
+            ifindex: u32::from_le_bytes([b[4], b[5], b[6], b[7]]),
             state: u16::from_le_bytes([b[8], b[9]]),
             flags: b[10],
             kind: b[11],
@@ -138,7 +138,7 @@ impl Header for NeighbourHeader {
         let b = &bytes[..NDMSG_SIZE];
         NeighbourHeader {
             family: AddressFamily::from(b[0]),
-            ifindex: i32::from_le_bytes([b[4], b[5], b[6], b[7]]),
+            ifindex: u32::from_le_bytes([b[4], b[5], b[6], b[7]]),
             state: NeighbourState::from_bits_retain(u16::from_le_bytes([b[8], b[9]])),
             flags: NeighbourFlags::from_bits_retain(b[10]),
             kind: RouteType::from(b[11]),

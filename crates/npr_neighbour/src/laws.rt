@@ -6,7 +6,7 @@ ghost use Rattle.{
   npr_base.specs.{Equality.{IsEquality, IsEqualityOf}, Message.{view}, Rows.{agrees}},
   npr_neighbour.specs.{
     Attribute.{family},
-    Flags.{flag_bits, extended_flag_bits},
+    Flags.{flag_bits, ext_flag_bits},
     Header.{default_header, header},
     Message.{neighbours},
     NeighbourAddress.{Address, address_of, neighbour_address},
@@ -17,7 +17,7 @@ ghost use Rattle.{
 use crate::address::NeighbourAddress;
 use crate::attribute::NeighbourAttribute;
 use crate::cache_info::NeighbourCacheInfo;
-use crate::flags::{NeighbourExtendedFlags, NeighbourFlags};
+use crate::flags::{NeighbourExtFlags, NeighbourFlags};
 use crate::header::{NeighbourHeader, NeighbourMessageBuffer};
 use crate::message::NeighbourMessage;
 use crate::state::NeighbourState;
@@ -35,19 +35,19 @@ pub fn law_neighbour_flags()
     ensures flags { agrees flag_bits.number ((2 ^ 0, NeighbourFlags.Use) ∷ (2 ^ 1, NeighbourFlags.Own) ∷ (2 ^ 2, NeighbourFlags.Controller)
         ∷ (2 ^ 3, NeighbourFlags.Proxy) ∷ (2 ^ 4, NeighbourFlags.ExtLearned) ∷ (2 ^ 5, NeighbourFlags.Offloaded) ∷ (2 ^ 6, NeighbourFlags.Sticky)
         ∷ (2 ^ 7, NeighbourFlags.Router) ∷ []) ≡ true }
-    ensures extended_flags { agrees extended_flag_bits.number ((2 ^ 0, NeighbourExtendedFlags.Managed) ∷ []) ≡ true }
+    ensures ext_flags { agrees ext_flag_bits.number ((2 ^ 0, NeighbourExtFlags.Managed) ∷ []) ≡ true }
 {}
 
 /// An address that its family can hold is read again from its bytes.
 pub fn law_read_back()
-    ensures { (family : AddressFamily) (a : Address) → (neighbour_address family).Holds a → (neighbour_address family).Reads ((neighbour_address family).writes a) a }
+    ensures { (family : AddressFamily) (a : Address) → (neighbour_address family).Holds a → (neighbour_address family).Reads ((neighbour_address family).encode a) a }
 {}
 
 /// Which value is the default.
 pub fn law_default()
     ensures state { (x : NeighbourState) → ⟦<NeighbourState as Default>⟧.is_default x → x ≡ state_bits.of 0 }
     ensures flags { (x : NeighbourFlags) → ⟦<NeighbourFlags as Default>⟧.is_default x → x ≡ flag_bits.of 0 }
-    ensures extended_flags { (x : NeighbourExtendedFlags) → ⟦<NeighbourExtendedFlags as Default>⟧.is_default x → x ≡ extended_flag_bits.of 0 }
+    ensures ext_flags { (x : NeighbourExtFlags) → ⟦<NeighbourExtFlags as Default>⟧.is_default x → x ≡ ext_flag_bits.of 0 }
     ensures cache_info { (x : NeighbourCacheInfo) → ⟦<NeighbourCacheInfo as Default>⟧.is_default x → x ≡ record { confirmed = 0; used = 0; updated = 0; refcnt = 0 } }
     ensures header { (x : NeighbourHeader) → ⟦<NeighbourHeader as Default>⟧.is_default x → x ≡ default_header }
 {}
@@ -56,7 +56,7 @@ pub fn law_default()
 pub fn law_equality()
     ensures state { IsEquality ⟦<NeighbourState as PartialEq>⟧.eq }
     ensures flags { IsEquality ⟦<NeighbourFlags as PartialEq>⟧.eq }
-    ensures extended_flags { IsEquality ⟦<NeighbourExtendedFlags as PartialEq>⟧.eq }
+    ensures ext_flags { IsEquality ⟦<NeighbourExtFlags as PartialEq>⟧.eq }
     ensures cache_info { IsEquality ⟦<NeighbourCacheInfo as PartialEq>⟧.eq }
     ensures header { IsEquality ⟦<NeighbourHeader as PartialEq>⟧.eq }
     ensures header_buffer { IsEquality ⟦<NeighbourMessageBuffer as PartialEq>⟧.eq }

@@ -13,7 +13,7 @@ mod state;
 pub use address::NeighbourAddress;
 pub use attribute::NeighbourAttribute;
 pub use cache_info::{NeighbourCacheInfo, NeighbourCacheInfoBuffer};
-pub use flags::{NeighbourExtendedFlags, NeighbourFlags};
+pub use flags::{NeighbourExtFlags, NeighbourFlags};
 pub use header::{NeighbourHeader, NeighbourMessageBuffer};
 pub use message::NeighbourMessage;
 pub use state::NeighbourState;

@@ -11,7 +11,7 @@ use Rattle.npr_base.specs.AddressFamilyLaws.{family_equality}
 use Rattle.npr_base.specs.Equality.{IsEquality, IsEqualityOf}
 use Rattle.npr_base.specs.ViewEquality.{item_equality}
 use Rattle.npr_base.specs.EnumTable.{◌also◌}
-use Rattle.npr_base.specs.Table.{Row, held_kind}
+use Rattle.npr_base.specs.Table.{Row, slot_kind}
 use Rattle.npr_base.specs.Tables.{table_decides}
 use Rattle.npr_base.specs.MeaningLaws.{enum_meaning_at, one_meaning, one_meaning_by, text_equality, items_equality, items_meaning}
 use Rattle.npr_base.specs.EqualityLaws.{one_equality}
@@ -56,7 +56,7 @@ variant_number (multi_path hs) = 2 * 9
 variant_number (flat (Flat.new_destination_address a)) = 2 * 19 + 1
 variant_number (flat (Flat.multicast_expires a)) = 2 * 23 + 1
 variant_number (flat (Flat.other x)) = 2 * 2 ^ 16
-variant_number (flat m) = 2 * held_kind (Flat.held_of m)
+variant_number (flat m) = 2 * slot_kind (Flat.slot_of m)
 
 variant_numbers : List ℕ
 variant_numbers =

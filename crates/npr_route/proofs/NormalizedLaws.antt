@@ -3,7 +3,7 @@
 use Rattle.std.specs.Prelude.{map}
 use Rattle.std.proofs.Common.{◌≡◌, ℕ, ◌+◌, Bool, true, false, List, [], ◌∷◌, ◌++◌, length, Option, refl, sym, ap, subst, ◌∙◌, rules}
 use Rattle.npr_base.specs.declared.refusal.EmitError.{EmitError}
-use Rattle.npr_base.specs.Family.{AllOf, option_or, overlong, too_long, first_unfit, encodings}
+use Rattle.npr_base.specs.Lists.{AllOf, option_or, overlong, too_long, first_unfit, encodings}
 use Rattle.npr_base.specs.Framing.{Item, number_of, encoding, marked}
 use Rattle.npr_base.proofs.NormalizedLaws.{Normalizes, rows-normalized, has_row-normalized, list-normalized, encodings-normalized, unfit-normalized, again-normalized, all-normalized}
 use Rattle.npr_scalar.specs.RouteAddress.{Form, four, sixteen, label, any, form_of}
@@ -12,9 +12,9 @@ use Rattle.npr_tunnel.specs.Encapsulation as OfEncap
 use Rattle.npr_tunnel.proofs.EncapsulationNormalizedLaws as OfEncapLaws
 use Rattle.npr_tunnel.specs.declared.encap_type.RouteLwEnCapType.{RouteLwEnCapType}
 use Rattle.npr_route.specs.Attribute.{hop_text, hop_overlong, Meaning, flat, multi_path, Attributes, no_more, attribute, Hops, no_hops, hop}
-use Rattle.npr_route.specs.Attribute.{attributes_of, typed, type_held, first_type, ReadsBy, AreAttributesBy, AreHopsBy, Reads, AreAttributes, AreHops}
+use Rattle.npr_route.specs.Attribute.{attributes_of, typed, meaning_type, first_type, ReadsBy, AreAttributesBy, AreHopsBy, Reads, AreAttributes, AreHops}
 use Rattle.npr_route.specs.Attribute.{CoherentBy, AttributesCoherentBy, HopsCoherentBy, Coherent, AttributesCoherent, HopsCoherent}
-use Rattle.npr_route.specs.Attribute.{writes, attributes_bytes, hops_bytes, misfit, attributes_misfit, hops_misfit, normalized, attributes_normalized, hops_normalized}
+use Rattle.npr_route.specs.Attribute.{writes, attributes_bytes, hops_bytes, meaning_unfit, attributes_unfit, hops_unfit, normalized, attributes_normalized, hops_normalized}
 use Rattle.npr_route.specs.FlatAttribute as Flat
 use Rattle.npr_route.specs.FlatAttribute.{Context, rows, other, is_multicast, any_marks, marks, new_destination_variant}
 use Rattle.npr_route.specs.FlatAttribute.{NewDestinationValue, expires_variant}
@@ -22,10 +22,11 @@ use Rattle.npr_route.specs.FlatAttributeLaws as Flats
 use Rattle.npr_route.specs.AttributeFamily.{writing}
 use Rattle.npr_route.specs.Header.{header}
 use Rattle.npr_route.proofs.Normalizing.{attributes_of-normalized}
-use Rattle.npr_base.specs.Message.{IsMessage, IsCoherent, Meant, spelling, message_misfit}
+use Rattle.npr_base.specs.Message.{IsMessage, IsCoherent, View, canonical_bytes, message_unfit}
 use Rattle.npr_route.specs.Message.{routes, under, normalized_route, IsRouteMessageBy, IsCoherentRouteBy}
 use Rattle.npr_tunnel.specs.declared.encap_type.RouteLwEnCapType.TheVariants.{None as NoEncapsulation}
-use Rattle.npr_base.specs.Table.{RowReads, written_by, unfit_by}
+use Rattle.npr_base.specs.Family.{written_by, unfit_by}
+use Rattle.npr_base.specs.Table.{RowReads}
 
 -- ---- members of an encapsulation
 
@@ -48,15 +49,15 @@ pub flat-writes : (m : Flat.Meaning) → written_by Flats.writing (Flat.normaliz
 flat-writes (Flat.encap xs) = encap-item xs
 flat-writes m = refl
 
-list-misfit : (u : Option EmitError) (w : List ℕ) → Option EmitError
-list-misfit u w = option_or (option_or u (overlong (length w))) (too_long 22 (length w))
+list-unfit : (u : Option EmitError) (w : List ℕ) → Option EmitError
+list-unfit u w = option_or (option_or u (overlong (length w))) (too_long 22 (length w))
 
-pub flat-misfit : (m : Flat.Meaning) → unfit_by Flats.writing (Flat.normalized m) ≡ unfit_by Flats.writing m
-unfolding list-misfit
-flat-misfit (Flat.encap xs) =
-    ap (λ (o : Option EmitError). list-misfit o (encodings (written_by OfEncap.writing) (map OfEncap.normalized xs))) (unfit-normalized OfEncap.normalized (unfit_by OfEncap.writing) OfEncapLaws.member-misfit xs)
-    ∙ ap (list-misfit (first_unfit (unfit_by OfEncap.writing) xs)) (encodings-normalized OfEncap.normalized (written_by OfEncap.writing) OfEncapLaws.member-writes xs)
-flat-misfit m = refl
+pub flat-unfit : (m : Flat.Meaning) → unfit_by Flats.writing (Flat.normalized m) ≡ unfit_by Flats.writing m
+unfolding list-unfit
+flat-unfit (Flat.encap xs) =
+    ap (λ (o : Option EmitError). list-unfit o (encodings (written_by OfEncap.writing) (map OfEncap.normalized xs))) (unfit-normalized OfEncap.normalized (unfit_by OfEncap.writing) OfEncapLaws.member-unfit xs)
+    ∙ ap (list-unfit (first_unfit (unfit_by OfEncap.writing) xs)) (encodings-normalized OfEncap.normalized (written_by OfEncap.writing) OfEncapLaws.member-writes xs)
+flat-unfit m = refl
 
 pub flat-again : (m : Flat.Meaning) → Flat.normalized (Flat.normalized m) ≡ Flat.normalized m
 flat-again (Flat.encap xs) = ap Flat.encap (again-normalized OfEncap.normalized OfEncapLaws.member-again xs)
@@ -120,24 +121,24 @@ mutual
       ∙ ap (λ (w : List ℕ). hop_text h (attributes_bytes ms) ++ w) (hops_bytes-normalized hs)
 
 mutual
-  pub misfit-normalized : (m : Meaning) → misfit (normalized m) ≡ misfit m
-  misfit-normalized (flat m) = flat-misfit m
-  misfit-normalized (multi_path hs) =
-      ap (λ (o : Option EmitError). option_or (option_or o (overlong (length (hops_bytes (hops_normalized hs))))) (too_long 9 (length (hops_bytes (hops_normalized hs))))) (hops_misfit-normalized hs)
-      ∙ ap (λ (w : List ℕ). option_or (option_or (hops_misfit hs) (overlong (length w))) (too_long 9 (length w))) (hops_bytes-normalized hs)
+  pub meaning_unfit-normalized : (m : Meaning) → meaning_unfit (normalized m) ≡ meaning_unfit m
+  meaning_unfit-normalized (flat m) = flat-unfit m
+  meaning_unfit-normalized (multi_path hs) =
+      ap (λ (o : Option EmitError). option_or (option_or o (overlong (length (hops_bytes (hops_normalized hs))))) (too_long 9 (length (hops_bytes (hops_normalized hs))))) (hops_unfit-normalized hs)
+      ∙ ap (λ (w : List ℕ). option_or (option_or (hops_unfit hs) (overlong (length w))) (too_long 9 (length w))) (hops_bytes-normalized hs)
 
-  pub attributes_misfit-normalized : (ms : Attributes) → attributes_misfit (attributes_normalized ms) ≡ attributes_misfit ms
-  attributes_misfit-normalized no_more = refl
-  attributes_misfit-normalized (attribute m ms) =
-      ap (λ (o : Option EmitError). option_or o (attributes_misfit (attributes_normalized ms))) (misfit-normalized m)
-      ∙ ap (option_or (misfit m)) (attributes_misfit-normalized ms)
+  pub attributes_unfit-normalized : (ms : Attributes) → attributes_unfit (attributes_normalized ms) ≡ attributes_unfit ms
+  attributes_unfit-normalized no_more = refl
+  attributes_unfit-normalized (attribute m ms) =
+      ap (λ (o : Option EmitError). option_or o (attributes_unfit (attributes_normalized ms))) (meaning_unfit-normalized m)
+      ∙ ap (option_or (meaning_unfit m)) (attributes_unfit-normalized ms)
 
-  pub hops_misfit-normalized : (hs : Hops) → hops_misfit (hops_normalized hs) ≡ hops_misfit hs
-  hops_misfit-normalized no_hops = refl
-  hops_misfit-normalized (hop h ms hs) =
-      ap (λ (o : Option EmitError). option_or (option_or o (hop_overlong (8 + length (attributes_bytes (attributes_normalized ms))))) (hops_misfit (hops_normalized hs))) (attributes_misfit-normalized ms)
-      ∙ ap (λ (w : List ℕ). option_or (option_or (attributes_misfit ms) (hop_overlong (8 + length w))) (hops_misfit (hops_normalized hs))) (attributes_bytes-normalized ms)
-      ∙ ap (option_or (option_or (attributes_misfit ms) (hop_overlong (8 + length (attributes_bytes ms))))) (hops_misfit-normalized hs)
+  pub hops_unfit-normalized : (hs : Hops) → hops_unfit (hops_normalized hs) ≡ hops_unfit hs
+  hops_unfit-normalized no_hops = refl
+  hops_unfit-normalized (hop h ms hs) =
+      ap (λ (o : Option EmitError). option_or (option_or o (hop_overlong (8 + length (attributes_bytes (attributes_normalized ms))))) (hops_unfit (hops_normalized hs))) (attributes_unfit-normalized ms)
+      ∙ ap (λ (w : List ℕ). option_or (option_or (attributes_unfit ms) (hop_overlong (8 + length w))) (hops_unfit (hops_normalized hs))) (attributes_bytes-normalized ms)
+      ∙ ap (option_or (option_or (attributes_unfit ms) (hop_overlong (8 + length (attributes_bytes ms))))) (hops_unfit-normalized hs)
 
 mutual
   pub normalized-again : (m : Meaning) → normalized (normalized m) ≡ normalized m
@@ -155,15 +156,15 @@ mutual
       ap (λ (ns : Attributes). hop h ns (hops_normalized (hops_normalized hs))) (attributes_normalized-again ms) ∙ ap (hop h (attributes_normalized ms)) (hops_normalized-again hs)
 
 -- the type that governs stays
-held-normalized : (m : Meaning) → type_held (normalized m) ≡ type_held m
-held-normalized (flat (Flat.encap xs)) = refl
-held-normalized (flat (Flat.encap_type t)) = refl
-held-normalized (flat m) = refl
-held-normalized (multi_path hs) = refl
+type-normalized : (m : Meaning) → meaning_type (normalized m) ≡ meaning_type m
+type-normalized (flat (Flat.encap xs)) = refl
+type-normalized (flat (Flat.encap_type t)) = refl
+type-normalized (flat m) = refl
+type-normalized (multi_path hs) = refl
 
 pub first_type-normalized : (outer : RouteLwEnCapType) (ms : Attributes) → first_type outer (attributes_normalized ms) ≡ first_type outer ms
 first_type-normalized outer no_more = refl
-first_type-normalized outer (attribute m ms) = rw (held-normalized m, first_type-normalized outer ms) refl
+first_type-normalized outer (attribute m ms) = rw (type-normalized m, first_type-normalized outer ms) refl
 
 mutual
   pub reads-normalized : (by : ModeTable) (c : Context) (x : Item) (m : Meaning) → ReadsBy by c x m → Reads c x (normalized m)
@@ -200,20 +201,20 @@ mutual
 first_in_list : (outer : RouteLwEnCapType) (xs : List Meaning) → first_type outer (attributes_of (map normalized xs)) ≡ first_type outer (attributes_of xs)
 first_in_list outer xs = ap (first_type outer) (attributes_of-normalized xs) ∙ first_type-normalized outer (attributes_of xs)
 
-pub message-bytes : (m : Meant routes) → spelling routes (normalized_route m) ≡ spelling routes m
-unfolding spelling
+pub message-bytes : (m : View routes) → canonical_bytes routes (normalized_route m) ≡ canonical_bytes routes m
+unfolding canonical_bytes
 message-bytes m = ap (λ (w : List ℕ). header.encode m.header ++ w) (encodings-normalized normalized (written_by writing) writes-normalized m.attributes)
 
-pub message-misfit : (m : Meant routes) → message_misfit routes (normalized_route m) ≡ message_misfit routes m
-unfolding spelling message_misfit
-message-misfit m =
-    ap (λ (o : Option EmitError). option_or o (overlong (length (spelling routes (normalized_route m))))) (unfit-normalized normalized (unfit_by writing) misfit-normalized m.attributes)
+pub message-unfit : (m : View routes) → message_unfit routes (normalized_route m) ≡ message_unfit routes m
+unfolding canonical_bytes message_unfit
+message-unfit m =
+    ap (λ (o : Option EmitError). option_or o (overlong (length (canonical_bytes routes (normalized_route m))))) (unfit-normalized normalized (unfit_by writing) meaning_unfit-normalized m.attributes)
     ∙ ap (λ (w : List ℕ). option_or (first_unfit (unfit_by writing) m.attributes) (overlong (length w))) (message-bytes m)
 
-pub message-again : (m : Meant routes) → normalized_route (normalized_route m) ≡ normalized_route m
+pub message-again : (m : View routes) → normalized_route (normalized_route m) ≡ normalized_route m
 message-again m = ap (λ (xs : List Meaning). record { header = m.header; attributes = xs }) (again-normalized normalized normalized-again m.attributes)
 
-pub message-coherent : (by : ModeTable) (m : Meant routes) → IsCoherentRouteBy by m → IsCoherent routes (normalized_route m)
+pub message-coherent : (by : ModeTable) (m : View routes) → IsCoherentRouteBy by m → IsCoherent routes (normalized_route m)
 unfolding IsCoherentRouteBy IsCoherent
 message-coherent by m k =
     let (family, kind) = under m.header in
@@ -225,7 +226,7 @@ message-coherent by m k =
       attributes = subst (λ (t : RouteLwEnCapType). AllOf (Coherent (family, kind, t)) (map normalized m.attributes)) (sym first) all;
     }
 
-pub message-read : (by : ModeTable) (bytes : List ℕ) (m : Meant routes) → IsRouteMessageBy by bytes m → IsMessage routes bytes (normalized_route m)
+pub message-read : (by : ModeTable) (bytes : List ℕ) (m : View routes) → IsRouteMessageBy by bytes m → IsMessage routes bytes (normalized_route m)
 unfolding IsRouteMessageBy IsMessage
 message-read by bytes m p =
     let (family, kind) = under m.header in

@@ -4,7 +4,7 @@ use Rattle.std.proofs.lemmas.List.{map_push}
 use Rattle.npr_base.specs.declared.refusal.DecodeError.{DecodeError}
 use Rattle.npr_base.specs.Counts.{Counts, AddsAtMost, hit, miss}
 use Rattle.npr_base.specs.Framing.{Item, Passes}
-use Rattle.npr_base.specs.Family.{Each}
+use Rattle.npr_base.specs.Lists.{Each}
 use Rattle.npr_base.specs.FrontLaws.{Front-takes}
 use Rattle.npr_base.proofs.Lists.{ReadsTo-none}
 use Rattle.npr_base.specs.LookBounds.{Passes-length}

@@ -2,7 +2,7 @@
 use Rattle.std.proofs.Common.{◌≡◌, List, [], ◌∷◌, ◌++◌, refl}
 use Rattle.npr_base.specs.Counts.{Counts, hit}
 use Rattle.npr_base.specs.Framing.{Item}
-use Rattle.npr_base.specs.Family.{AllOf}
+use Rattle.npr_base.specs.Lists.{AllOf}
 use Rattle.npr_route.specs.Governing.{hit_each}
 
 -- one more of them

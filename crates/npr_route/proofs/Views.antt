@@ -5,9 +5,9 @@ use Rattle.std.proofs.lemmas.Bool.{cases_lt, lt-ltb, le-ltb}
 use Rattle.npr_base.specs.declared.refusal.EmitError.{EmitError}
 use Rattle.npr_base.specs.declared.refusal.EmitError.TheVariants.{Total}
 use Rattle.npr_base.specs.Framing.{encoding}
-use Rattle.npr_base.specs.Family.{checked, option_or, overlong, first_unfit, list_unfit, encodings, joined}
-use Rattle.npr_route.specs.Attribute.{HopHead, Meaning, flat, multi_path, Hop, shape_of, misfit, attributes_misfit, attributes_bytes, hops_misfit, hops_bytes, hop_misfit, hop_bytes, hop_overlong, attributes_of}
-use Rattle.npr_route.specs.AttributeView.{hops_of, attribute_step, hop_step, meaning_of, hop_of, attribute_item, attribute_misfit, next_hop_bytes, next_hop_misfit}
+use Rattle.npr_base.specs.Lists.{checked, option_or, overlong, first_unfit, list_unfit, encodings, joined}
+use Rattle.npr_route.specs.Attribute.{HopHead, Meaning, flat, multi_path, Hop, shape_of, meaning_unfit, attributes_unfit, attributes_bytes, hops_unfit, hops_bytes, hop_unfit, hop_bytes, hop_overlong, attributes_of}
+use Rattle.npr_route.specs.AttributeView.{hops_of, attribute_step, hop_step, meaning_of, hop_of, attribute_item, attribute_unfit, next_hop_bytes, next_hop_unfit}
 use Rattle.npr_scalar.specs.RouteFlags.{next_hop_flag_bits}
 use Rattle.npr_route.specs.declared.attribute.RouteAttribute.{RouteAttribute}
 use Rattle.npr_route.specs.declared.attribute.RouteAttribute.TheFolds.{fold_out-RouteNextHop, fold-roll-RouteNextHop, fold-roll-RouteAttribute}
@@ -61,17 +61,17 @@ view_multicast_expires n = ap meaning_of (sym (rolls-MulticastExpires n)) ∙ fo
 
 -- ---- lists of them
 
-pub attributes_fit : (xs : List RouteAttribute) → attributes_misfit (attributes_of (map meaning_of xs)) ≡ first_unfit attribute_misfit xs
+pub attributes_fit : (xs : List RouteAttribute) → attributes_unfit (attributes_of (map meaning_of xs)) ≡ first_unfit attribute_unfit xs
 attributes_fit [] = refl
-attributes_fit (x ∷ xs) = ap (option_or (misfit (meaning_of x))) (attributes_fit xs)
+attributes_fit (x ∷ xs) = ap (option_or (meaning_unfit (meaning_of x))) (attributes_fit xs)
 
 pub attributes_text : (xs : List RouteAttribute) → attributes_bytes (attributes_of (map meaning_of xs)) ≡ encodings attribute_item xs
 attributes_text [] = refl
 attributes_text (x ∷ xs) = ap (λ (w : List ℕ). encoding (attribute_item x) ++ w) (attributes_text xs)
 
-pub hops_fit : (xs : List RouteNextHop) → hops_misfit (hops_of (map hop_of xs)) ≡ first_unfit next_hop_misfit xs
+pub hops_fit : (xs : List RouteNextHop) → hops_unfit (hops_of (map hop_of xs)) ≡ first_unfit next_hop_unfit xs
 hops_fit [] = refl
-hops_fit (x ∷ xs) = ap (option_or (next_hop_misfit x)) (hops_fit xs)
+hops_fit (x ∷ xs) = ap (option_or (next_hop_unfit x)) (hops_fit xs)
 
 pub hops_text : (xs : List RouteNextHop) → hops_bytes (hops_of (map hop_of xs)) ≡ joined next_hop_bytes xs
 hops_text [] = refl
@@ -99,35 +99,35 @@ inside_fits None n m is = elim (cases_lt n (2 ^ 64)) [
 ]
 
 -- why a next hop can't be written, by what its attributes are
-pub hop_misfit-is : (h : RouteNextHop) → hop_misfit (hop_of h) ≡ option_or (first_unfit attribute_misfit h.attributes.items) (hop_overlong (8 + length (encodings attribute_item h.attributes.items)))
-hop_misfit-is h =
+pub hop_unfit-is : (h : RouteNextHop) → hop_unfit (hop_of h) ≡ option_or (first_unfit attribute_unfit h.attributes.items) (hop_overlong (8 + length (encodings attribute_item h.attributes.items)))
+hop_unfit-is h =
     let xs = h.attributes.items in
-    ap hop_misfit (view_hop h)
-    ∙ ap (λ (w : List ℕ). option_or (attributes_misfit (attributes_of (map meaning_of xs))) (hop_overlong (8 + length w))) (attributes_text xs)
+    ap hop_unfit (view_hop h)
+    ∙ ap (λ (w : List ℕ). option_or (attributes_unfit (attributes_of (map meaning_of xs))) (hop_overlong (8 + length w))) (attributes_text xs)
     ∙ ap (λ (o : Option EmitError). option_or o (hop_overlong (8 + length (encodings attribute_item xs)))) (attributes_fit xs)
 
 pub hop_bytes-length : (h : RouteNextHop) → length (next_hop_bytes h) ≡ 8 + length (encodings attribute_item h.attributes.items)
 hop_bytes-length h = omega (arith, ap (λ (k : Hop). length (hop_bytes k)) (view_hop h), ap length (attributes_text h.attributes.items))
 
-pub hop_unfit : (h : RouteNextHop) (e : EmitError) (n : ℕ) → Err e ≡ checked (list_unfit attribute_misfit attribute_item h.attributes.items) (length (encodings attribute_item h.attributes.items)) → Err e ≡ checked (hop_misfit (hop_of h)) n
-hop_unfit h e n is = let some = hop_misfit-is h ∙ inside_unfit (first_unfit attribute_misfit h.attributes.items) (length (encodings attribute_item h.attributes.items)) e is in sym (ap (λ (o : Option EmitError). checked o n) some)
+pub hop-unfit : (h : RouteNextHop) (e : EmitError) (n : ℕ) → Err e ≡ checked (list_unfit attribute_unfit attribute_item h.attributes.items) (length (encodings attribute_item h.attributes.items)) → Err e ≡ checked (hop-unfit (hop_of h)) n
+hop-unfit h e n is = let some = hop_unfit-is h ∙ inside_unfit (first_unfit attribute_unfit h.attributes.items) (length (encodings attribute_item h.attributes.items)) e is in sym (ap (λ (o : Option EmitError). checked o n) some)
 
-pub hop_checked : (h : RouteNextHop) (m : ℕ) → Ok m ≡ checked (list_unfit attribute_misfit attribute_item h.attributes.items) (length (encodings attribute_item h.attributes.items))
-    → checked (hop_overlong (8 + m)) (8 + m) ≡ checked (hop_misfit (hop_of h)) (length (next_hop_bytes h))
+pub hop_checked : (h : RouteNextHop) (m : ℕ) → Ok m ≡ checked (list_unfit attribute_unfit attribute_item h.attributes.items) (length (encodings attribute_item h.attributes.items))
+    → checked (hop_overlong (8 + m)) (8 + m) ≡ checked (hop_unfit (hop_of h)) (length (next_hop_bytes h))
 hop_checked h m is =
     let n = length (encodings attribute_item h.attributes.items) in
-    let k = inside_fits (first_unfit attribute_misfit h.attributes.items) n m is in
-    let fit : hop_misfit (hop_of h) ≡ hop_overlong (8 + n) = hop_misfit-is h ∙ ap (λ (o : Option EmitError). option_or o (hop_overlong (8 + n))) k.0 in
-    ap (λ (l : ℕ). checked (hop_overlong (8 + l)) (8 + l)) k.1 ∙ sym (ap (λ (o : Option EmitError). checked o (8 + n)) fit) ∙ sym (ap (checked (hop_misfit (hop_of h))) (hop_bytes-length h))
+    let k = inside_fits (first_unfit attribute_unfit h.attributes.items) n m is in
+    let fit : hop_unfit (hop_of h) ≡ hop_overlong (8 + n) = hop_unfit-is h ∙ ap (λ (o : Option EmitError). option_or o (hop_overlong (8 + n))) k.0 in
+    ap (λ (l : ℕ). checked (hop_overlong (8 + l)) (8 + l)) k.1 ∙ sym (ap (λ (o : Option EmitError). checked o (8 + n)) fit) ∙ sym (ap (checked (hop_unfit (hop_of h))) (hop_bytes-length h))
 
 -- a list of next hops as the value of an attribute
 pub multi_path-checked : (v : Vec RouteNextHop Global)
-    → checked (option_or (first_unfit next_hop_misfit v.items) (overlong (length (joined next_hop_bytes v.items)))) (length (joined next_hop_bytes v.items))
-    ≡ checked (shape_of (meaning_of (MultiPath v))).inside (length (shape_of (meaning_of (MultiPath v))).item.value)
+    → checked (option_or (first_unfit next_hop_unfit v.items) (overlong (length (joined next_hop_bytes v.items)))) (length (joined next_hop_bytes v.items))
+    ≡ checked (shape_of (meaning_of (MultiPath v))).unfit (length (shape_of (meaning_of (MultiPath v))).item.value)
 multi_path-checked v =
     let m = view_multi_path v in
-    let both : (u : Option EmitError) (w : List ℕ) → hops_misfit (hops_of (map hop_of v.items)) ≡ u → hops_bytes (hops_of (map hop_of v.items)) ≡ w
-    → checked (option_or u (overlong (length w))) (length w) ≡ checked (shape_of (multi_path (hops_of (map hop_of v.items)))).inside (length (hops_bytes (hops_of (map hop_of v.items))))
+    let both : (u : Option EmitError) (w : List ℕ) → hops_unfit (hops_of (map hop_of v.items)) ≡ u → hops_bytes (hops_of (map hop_of v.items)) ≡ w
+    → checked (option_or u (overlong (length w))) (length w) ≡ checked (shape_of (multi_path (hops_of (map hop_of v.items)))).unfit (length (hops_bytes (hops_of (map hop_of v.items))))
     = λ u w p q. rw (← p, ← q) refl in
-    both (first_unfit next_hop_misfit v.items) (joined next_hop_bytes v.items) (hops_fit v.items) (hops_text v.items)
-    ∙ sym (ap (λ (n : Meaning). checked (shape_of n).inside (length (shape_of n).item.value)) m)
+    both (first_unfit next_hop_unfit v.items) (joined next_hop_bytes v.items) (hops_fit v.items) (hops_text v.items)
+    ∙ sym (ap (λ (n : Meaning). checked (shape_of n).unfit (length (shape_of n).item.value)) m)

@@ -7,8 +7,8 @@ use Rattle.npr_base.specs.declared.refusal.DecodeError.{DecodeError}
 use Rattle.npr_base.specs.declared.refusal.DecodeError.TheVariants.{NextHopTooShort, NextHopLength}
 use Rattle.npr_base.specs.declared.refusal.EmitError.{EmitError}
 use Rattle.npr_base.specs.declared.refusal.EmitError.TheVariants.{NextHopTooLong, Total}
-use Rattle.npr_base.specs.Family.{option_or, overlong}
-use Rattle.npr_base.specs.Table.{Shape, written_as, unfit_as, written_by}
+use Rattle.npr_base.specs.Lists.{option_or, overlong}
+use Rattle.npr_base.specs.Family.{Shape, written_as, unfit_as, written_by}
 use Rattle.npr_base.specs.Framing.{Item, number_of, encoding, Front, Fault, pad}
 use Rattle.npr_route.specs.FlatAttribute as Flat
 use Rattle.npr_route.specs.FlatAttribute.{Context}
@@ -71,9 +71,9 @@ attributes_of [] = no_more
 attributes_of (m ∷ ms) = attribute m (attributes_of ms)
 
 -- the type that an attribute holds, and the first of a list, or else the outer one
-abbrev pub type_held : Meaning → Option RouteLwEnCapType
-type_held (flat (Flat.encap_type t)) = Some t
-type_held m = None
+abbrev pub meaning_type : Meaning → Option RouteLwEnCapType
+meaning_type (flat (Flat.encap_type t)) = Some t
+meaning_type m = None
 
 abbrev pub or_else : {A : Type 0} → Option A → A → A
 or_else (Some x) y = x
@@ -81,7 +81,7 @@ or_else None y = y
 
 abbrev pub first_type : RouteLwEnCapType → Attributes → RouteLwEnCapType
 first_type outer no_more = outer
-first_type outer (attribute m ms) = or_else (type_held m) (first_type outer ms)
+first_type outer (attribute m ms) = or_else (meaning_type m) (first_type outer ms)
 
 -- the context of a list that this type governs, in a list of that context
 abbrev pub typed : Context → RouteLwEnCapType → Context
@@ -164,7 +164,7 @@ abbrev mutual
   pub shape_of : Meaning → Shape
   shape_of (flat m) = Flats.writing.shape m
   shape_of (multi_path hs) =
-      record { item = record { kind = 9; value = hops_bytes hs }; nested = false; inside = option_or (hops_misfit hs) (overlong (length (hops_bytes hs))) }
+      record { item = record { kind = 9; value = hops_bytes hs }; nested = false; inside = option_or (hops_unfit hs) (overlong (length (hops_bytes hs))) }
 
   pub attributes_bytes : Attributes → List ℕ
   attributes_bytes no_more = []
@@ -174,26 +174,26 @@ abbrev mutual
   hops_bytes no_hops = []
   hops_bytes (hop h ms hs) = hop_text h (attributes_bytes ms) ++ hops_bytes hs
 
-  pub attributes_misfit : Attributes → Option EmitError
-  attributes_misfit no_more = None
-  attributes_misfit (attribute m ms) = option_or (unfit_as (shape_of m)) (attributes_misfit ms)
+  pub attributes_unfit : Attributes → Option EmitError
+  attributes_unfit no_more = None
+  attributes_unfit (attribute m ms) = option_or (unfit_as (shape_of m)) (attributes_unfit ms)
 
-  pub hops_misfit : Hops → Option EmitError
-  hops_misfit no_hops = None
-  hops_misfit (hop h ms hs) = option_or (option_or (attributes_misfit ms) (hop_overlong (8 + length (attributes_bytes ms)))) (hops_misfit hs)
+  pub hops_unfit : Hops → Option EmitError
+  hops_unfit no_hops = None
+  hops_unfit (hop h ms hs) = option_or (option_or (attributes_unfit ms) (hop_overlong (8 + length (attributes_bytes ms)))) (hops_unfit hs)
 
 abbrev pub writes : Meaning → Item
 writes m = written_as (shape_of m)
 
-abbrev pub misfit : Meaning → Option EmitError
-misfit m = unfit_as (shape_of m)
+abbrev pub meaning_unfit : Meaning → Option EmitError
+meaning_unfit m = unfit_as (shape_of m)
 
 -- one next hop, and the cause why it can't be written
 abbrev pub hop_bytes : Hop → List ℕ
 hop_bytes h = hop_text h.head (attributes_bytes h.attributes)
 
-abbrev pub hop_misfit : Hop → Option EmitError
-hop_misfit h = option_or (attributes_misfit h.attributes) (hop_overlong (8 + length (attributes_bytes h.attributes)))
+abbrev pub hop_unfit : Hop → Option EmitError
+hop_unfit h = option_or (attributes_unfit h.attributes) (hop_overlong (8 + length (attributes_bytes h.attributes)))
 
 -- what can be read, the attributes of a next hop under the first type among them
 abbrev mutual

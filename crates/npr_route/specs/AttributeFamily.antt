@@ -1,5 +1,5 @@
 -- The family of the attributes of a route message, with next hops among them.
-use Rattle.npr_base.specs.Table.{Writing, Reading}
+use Rattle.npr_base.specs.Family.{Writing, Reading}
 use Rattle.npr_route.specs.Attribute.{Meaning, Reads, Wrong, Coherent, shape_of, members}
 use Rattle.npr_route.specs.AttributeLaws.{reads-one, reads-sound, reads-coherent, kinds, reads-back, reads-grow}
 use Rattle.npr_route.specs.AttributeLooksLaws.{attribute_looking}

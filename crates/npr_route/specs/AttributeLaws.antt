@@ -7,11 +7,12 @@ use Rattle.std.proofs.lemmas.Bool.{eqb-true, cases_lt, lt-ltb, le-ltb}
 use Rattle.npr_base.specs.declared.refusal.DecodeError.{DecodeError}
 use Rattle.npr_base.specs.declared.refusal.EmitError.TheVariants.{NextHopTooLong, Total}
 use Rattle.npr_base.specs.Framing.{Item, IsBytes, Proper, Small, Front, number_of, marked, encoding, framed}
-use Rattle.npr_base.specs.Family.{option_or, overlong}
-use Rattle.npr_base.specs.FitLaws.{misfit_of-none, misfit_of-short, none_both}
+use Rattle.npr_base.specs.Lists.{option_or, overlong}
+use Rattle.npr_base.specs.FitLaws.{unfit_of-none, unfit_of-short, none_both}
 use Rattle.npr_base.specs.FrontLaws.{Front-same, Front-shrinks, Front-sound, Front-takes}
 use Rattle.npr_base.specs.ListLaws.{encoding-front, Front-proper, length-encoding}
-use Rattle.npr_base.specs.Table.{Reading, Row, ReadsAt, written_by}
+use Rattle.npr_base.specs.Family.{Reading, written_by}
+use Rattle.npr_base.specs.Table.{Row, ReadsAt}
 use Rattle.npr_base.specs.TableLaws.{one_of}
 use Rattle.npr_scalar.specs.RouteAddress.{Form, four, sixteen, label, any, form_of}
 use Rattle.npr_tunnel.specs.Encapsulation as OfEncap
@@ -23,8 +24,8 @@ use Rattle.npr_route.specs.Attribute.{HopHead, HoldsHead, hop_text, HopFront, Me
 use Rattle.npr_route.specs.Attribute.{Hops, no_hops, hop, typed, first_type, Reads, AreAttributes, AreGoverned, AreHops}
 use Rattle.npr_route.specs.Attribute.{Wrong, value_wrong, hops_wrong, AttributesWrong, GovernedWrong, governed_wrong}
 use Rattle.npr_route.specs.Attribute.{none_in_front, first_wrong, later_wrong, HopsWrong, no_hop_in_front, first_hop_wrong, later_hop_wrong}
-use Rattle.npr_route.specs.Attribute.{shape_of, writes, attributes_bytes, hops_bytes, hop_overlong, misfit, attributes_misfit}
-use Rattle.npr_route.specs.Attribute.{hops_misfit, Coherent, AttributesCoherent, HopsCoherent, depth, attributes_depth, hops_depth}
+use Rattle.npr_route.specs.Attribute.{shape_of, writes, attributes_bytes, hops_bytes, hop_overlong, meaning_unfit, attributes_unfit}
+use Rattle.npr_route.specs.Attribute.{hops_unfit, Coherent, AttributesCoherent, HopsCoherent, depth, attributes_depth, hops_depth}
 use Rattle.npr_route.specs.Governing.{Governs}
 use Rattle.npr_route.specs.GoverningLaws.{governs-one, first_governs, governs_first}
 use Rattle.npr_route.specs.NextHopFrontLaws.{HopFront-same, HopFront-sound, HopFront-length, HopFront-proper}
@@ -180,15 +181,15 @@ hop-short len e = elim (cases_lt len 65536) [
   ]
 ]
 
-pub fits-inside : (hs : Hops) → (shape_of (multi_path hs)).inside ≡ None → hops_misfit hs ≡ None
-fits-inside hs h = (none_both (hops_misfit hs) (overlong (length (hops_bytes hs))) h).0
+pub fits-inside : (hs : Hops) → (shape_of (multi_path hs)).unfit ≡ None → hops_unfit hs ≡ None
+fits-inside hs h = (none_both (hops_unfit hs) (overlong (length (hops_bytes hs))) h).0
 
 pub kinds : (c : Context) (m : Meaning) → Coherent c m → (writes m).kind < 2 ^ 16
 kinds c (flat m) k = (Flats.attributes c).kinds m k.0
 kinds c (multi_path hs) k = omega arith
 
-small : (c : Context) (m : Meaning) → Coherent c m → misfit m ≡ None → Small (writes m)
-small c m k h = record { kind = kinds c m k; value = misfit_of-short (shape_of m).inside (shape_of m).item h }
+small : (c : Context) (m : Meaning) → Coherent c m → meaning_unfit m ≡ None → Small (writes m)
+small c m k h = record { kind = kinds c m k; value = unfit_of-short (shape_of m).unfit (shape_of m).item h }
 
 -- what is written of a next hop needs no padding
 hop-front : (h : HopHead) (inside rest : List ℕ) → HoldsHead h → 8 + length inside ≤ 65535 → length inside % 4 ≡ 0
@@ -208,24 +209,24 @@ attributes-whole (attribute m ms) =
     omega (arith, length-append (encoding (writes m)) (attributes_bytes ms), length-encoding (writes m), attributes-whole ms)
 
 mutual
-  pub reads-back : (c : Context) (m : Meaning) → Coherent c m → misfit m ≡ None → Reads c (writes m) m
+  pub reads-back : (c : Context) (m : Meaning) → Coherent c m → meaning_unfit m ≡ None → Reads c (writes m) m
   reads-back c (flat m) k h = (k.1, (Flats.attributes c).reads_back m k.0 h)
   reads-back c (multi_path hs) k h =
-      (refl, hops-back c hs k (fits-inside hs (misfit_of-none (shape_of (multi_path hs)).inside (shape_of (multi_path hs)).item h)))
+      (refl, hops-back c hs k (fits-inside hs (unfit_of-none (shape_of (multi_path hs)).unfit (shape_of (multi_path hs)).item h)))
 
-  pub attributes-back : (c : Context) (ms : Attributes) → AttributesCoherent c ms → attributes_misfit ms ≡ None → AreAttributes c (attributes_bytes ms) ms
+  pub attributes-back : (c : Context) (ms : Attributes) → AttributesCoherent c ms → attributes_unfit ms ≡ None → AreAttributes c (attributes_bytes ms) ms
   attributes-back c no_more k h = refl
   attributes-back c (attribute m ms) k h =
-      let f = none_both (misfit m) (attributes_misfit ms) h in
+      let f = none_both (meaning_unfit m) (attributes_unfit ms) h in
       let front = encoding-front (writes m) (attributes_bytes ms) (small c m k.0 f.0) in
       (writes m, attributes_bytes ms, front, reads-back c m k.0 f.0, attributes-back c ms k.1 f.1)
 
-  pub hops-back : (c : Context) (hs : Hops) → HopsCoherent c hs → hops_misfit hs ≡ None → AreHops c (hops_bytes hs) hs
+  pub hops-back : (c : Context) (hs : Hops) → HopsCoherent c hs → hops_unfit hs ≡ None → AreHops c (hops_bytes hs) hs
   hops-back c no_hops k h = refl
   hops-back c (hop g ms hs) k h =
       let len : ℕ = 8 + length (attributes_bytes ms) in
-      let f = none_both (option_or (attributes_misfit ms) (hop_overlong len)) (hops_misfit hs) h in
-      let i = none_both (attributes_misfit ms) (hop_overlong len) f.0 in
+      let f = none_both (option_or (attributes_unfit ms) (hop_overlong len)) (hops_unfit hs) h in
+      let i = none_both (attributes_unfit ms) (hop_overlong len) f.0 in
       let front = hop-front g (attributes_bytes ms) (hops_bytes hs) k.0 (hop-short len i.1) (attributes-whole ms) in
       let type : RouteLwEnCapType = first_type c.2 ms in
       let inside : AreAttributes (typed c type) (attributes_bytes ms) ms = attributes-back (typed c type) ms k.1 i.0 in

@@ -3,7 +3,7 @@ use Rattle.std.proofs.Common.{◌≡◌, ℕ, Bool, true, false, List, [], ◌�
 use Rattle.std.proofs.Common.{arith, true≢false}
 use Rattle.npr_base.specs.declared.refusal.DecodeError.{DecodeError}
 use Rattle.npr_base.specs.Counts.{Counts, no_looks, hit, raised, looked}
-use Rattle.npr_base.specs.Family.{AllOf}
+use Rattle.npr_base.specs.Lists.{AllOf}
 use Rattle.npr_base.specs.Framing.{Item, Front, Passes, Step}
 use Rattle.npr_base.specs.FrontLaws.{Front-same, Front-shrinks, Front-sound}
 use Rattle.npr_base.specs.Looks.{Adds, Looking}
@@ -13,7 +13,7 @@ use Rattle.npr_route.specs.AttributeLooks.{AttributeLooks, value_read, value_fau
 use Rattle.npr_route.specs.AttributeLooks.{passed_in_hop, HopsLooks, hops_end, no_hop_stands, hop_stands, AttributeTakes}
 use Rattle.npr_route.specs.FlatAttribute.{Context}
 use Rattle.npr_route.specs.FlatAttributeLaws as Flats
-use Rattle.npr_route.specs.Governing.{told, hit_each, EndsSearch, Searches}
+use Rattle.npr_route.specs.Governing.{item_type, hit_each, EndsSearch, Searches}
 use Rattle.npr_route.specs.NextHopFrontLaws.{HopFront-same, HopFront-sound, HopFront-length}
 use Rattle.npr_tunnel.specs.declared.encap_type.RouteLwEnCapType.{RouteLwEnCapType}
 
@@ -26,8 +26,8 @@ no_hop bytes inside rest h is f = absurd (omega (arith, ap length is, HopFront-l
 the_same : {A : Type 0} (o : Option A) (x y : A) → o ≡ Some x → o ≡ Some y → x ≡ y
 the_same o x y p q = cc
 
-none_told : {A B : Type 0} (o : Option A) (x : A) → o ≡ None → o ≡ Some x → B
-none_told o x p q = absurd cc
+no_type : {A B : Type 0} (o : Option A) (x : A) → o ≡ None → o ≡ Some x → B
+no_type o x p q = absurd cc
 
 -- ---- a search
 
@@ -38,7 +38,7 @@ ends-one outer bytes r s None (Some (Ok y)) a b c m n p t i q u j = no_front byt
 ends-one outer bytes r s None (Some (Err e)) a b c m n p t i q u j = absurd (omega (arith, ap length p.0, q.0))
 ends-one outer bytes r s (Some (Ok x)) None a b c m n p t i q u j = no_front bytes r x q.0 p
 ends-one outer bytes r s (Some (Ok x)) (Some (Ok y)) a b c m n p t i q u j =
-    (the_same (told x) a b t (ap told (Front-same bytes x y r s p q).0 ∙ u), i ∙ sym j)
+    (the_same (item_type x) a b t (ap item_type (Front-same bytes x y r s p q).0 ∙ u), i ∙ sym j)
 ends-one outer bytes r s (Some (Ok x)) (Some (Err e)) a b c m n p t i q u j = absurd (Front-sound bytes x r e p q.1)
 ends-one outer bytes r s (Some (Err e)) None a b c m n p t i q u j = absurd (omega (arith, ap length q.0, p.0))
 ends-one outer bytes r s (Some (Err e)) (Some (Ok y)) a b c m n p t i q u j = absurd (Front-sound bytes y s e q p.1)
@@ -46,14 +46,14 @@ ends-one outer bytes r s (Some (Err e)) (Some (Err d)) a b c m n p t i q u j = (
 
 -- a search that ends at bytes does not pass an attribute there
 ends-here : (outer : RouteLwEnCapType) (bytes r w : List ℕ) (l : Option (Result Item DecodeError)) (a : RouteLwEnCapType) (y : Item) → Step bytes l r
-    → EndsSearch outer l a → Front bytes y w → told y ≡ None → ⊥
+    → EndsSearch outer l a → Front bytes y w → item_type y ≡ None → ⊥
 ends-here outer bytes r w None a y p t f none = no_front bytes w y p.0 f
-ends-here outer bytes r w (Some (Ok x)) a y p t f none = none_told (told y) a none (ap told (Front-same bytes y x w r f p).0 ∙ t)
+ends-here outer bytes r w (Some (Ok x)) a y p t f none = no_type (item_type y) a none (ap item_type (Front-same bytes y x w r f p).0 ∙ t)
 ends-here outer bytes r w (Some (Err e)) a y p t f none = Front-sound bytes y w e f p.1
 
 passes-one : (outer : RouteLwEnCapType) (xs ys : List Item) (bytes at r to s : List ℕ) (l k : Option (Result Item DecodeError)) (a b : RouteLwEnCapType)
-    (c m n : Counts) → Passes bytes xs at → AllOf (λ x. told x ≡ None) xs → Step at l r → EndsSearch outer l a → m ≡ looked l (hit_each xs c)
-    → Passes bytes ys to → AllOf (λ x. told x ≡ None) ys → Step to k s → EndsSearch outer k b → n ≡ looked k (hit_each ys c) → (a ≡ b) × (m ≡ n)
+    (c m n : Counts) → Passes bytes xs at → AllOf (λ x. item_type x ≡ None) xs → Step at l r → EndsSearch outer l a → m ≡ looked l (hit_each xs c)
+    → Passes bytes ys to → AllOf (λ x. item_type x ≡ None) ys → Step to k s → EndsSearch outer k b → n ≡ looked k (hit_each ys c) → (a ≡ b) × (m ≡ n)
 passes-one outer [] [] bytes at r to s l k a b c m n p none t i is q silent u j js =
     ends-one outer bytes r s l k a b c m n (subst (λ (z : List ℕ). Step z l r) (sym p) t) i is (subst (λ (z : List ℕ). Step z k s) (sym q) u) j js
 passes-one outer [] (y ∷ ys) bytes at r to s l k a b c m n p none t i is (w, g, q) silent u j js =

@@ -2,7 +2,7 @@
 use Rattle.std.specs.Prelude.{ℕ, List, [], ◌∷◌, map, Option}
 use Rattle.npr_base.specs.declared.refusal.EmitError.{EmitError}
 use Rattle.npr_base.specs.Framing.{Item}
-use Rattle.npr_base.specs.Table.{Family, family_of}
+use Rattle.npr_base.specs.Family.{Family, family_of}
 use Rattle.npr_scalar.specs.RouteAddress.{address_of}
 use Rattle.npr_scalar.specs.RouteFlags.{next_hop_flag_bits}
 use Rattle.npr_scalar.specs.RouteVia.{via_of}
@@ -11,8 +11,8 @@ use Rattle.npr_route.specs.Metric.{family as metric_family}
 use Rattle.npr_route.specs.FlatAttribute as Flat
 use Rattle.npr_route.specs.FlatAttribute.{Context}
 use Rattle.npr_route.specs.AttributeFamily.{attributes}
-use Rattle.npr_route.specs.Attribute.{Meaning, flat, multi_path, attributes_of, Hops, no_hops, hop, Hop, writes, misfit}
-use Rattle.npr_route.specs.Attribute.{hop_bytes, hop_misfit}
+use Rattle.npr_route.specs.Attribute.{Meaning, flat, multi_path, attributes_of, Hops, no_hops, hop, Hop, writes, meaning_unfit}
+use Rattle.npr_route.specs.Attribute.{hop_bytes, hop_unfit}
 use Rattle.npr_route.specs.declared.attribute.RouteAttribute.{RouteAttribute, fold-RouteAttribute}
 use Rattle.npr_route.specs.declared.attribute.RouteAttribute.TheOpen as Open
 use Rattle.npr_route.specs.declared.next_hops.RouteNextHop.{RouteNextHop, RouteNextHop-F, fold-RouteNextHop}
@@ -75,11 +75,11 @@ family = family_of meaning_of attributes
 abbrev pub attribute_item : RouteAttribute → Item
 attribute_item a = writes (meaning_of a)
 
-abbrev pub attribute_misfit : RouteAttribute → Option EmitError
-attribute_misfit a = misfit (meaning_of a)
+abbrev pub attribute_unfit : RouteAttribute → Option EmitError
+attribute_unfit a = meaning_unfit (meaning_of a)
 
 abbrev pub next_hop_bytes : RouteNextHop → List ℕ
 next_hop_bytes h = hop_bytes (hop_of h)
 
-abbrev pub next_hop_misfit : RouteNextHop → Option EmitError
-next_hop_misfit h = hop_misfit (hop_of h)
+abbrev pub next_hop_unfit : RouteNextHop → Option EmitError
+next_hop_unfit h = hop_unfit (hop_of h)

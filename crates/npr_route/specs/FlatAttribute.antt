@@ -6,7 +6,8 @@ use Rattle.npr_base.specs.Framing.{Item}
 use Rattle.npr_base.specs.Layout.{Layout, byte, le32, le64, be16, be32}
 use Rattle.npr_base.specs.Codec.{Codec, exactly, leading, raw, no_members}
 use Rattle.npr_base.specs.ListCodec.{list_of}
-use Rattle.npr_base.specs.Table.{Reading, Row, row, Held, held, held_marked, held_other, IsHeld}
+use Rattle.npr_base.specs.Family.{Reading}
+use Rattle.npr_base.specs.Table.{Row, row, Slot, slot_plain, slot_marked, slot_other, IsSlot}
 use Rattle.npr_scalar.specs.MplsLaws.{mpls_labels}
 use Rattle.npr_scalar.specs.Realm.{route_realm}
 use Rattle.npr_scalar.specs.RouteAddress.{Address as AddressMeaning, route_address_bytes, address_in, Form, four, sixteen, label, any}
@@ -164,36 +165,36 @@ rows form multicast family =
     ∷ []
 
 -- how each meaning is written, whatever the context
-abbrev pub held_of : Meaning → Held
-held_of (destination a) = held 1 raw (route_address_bytes a)
-held_of (source a) = held 2 raw (route_address_bytes a)
-held_of (iif a) = held 3 (exactly le32) a
-held_of (oif a) = held 4 (exactly le32) a
-held_of (gateway a) = held 5 raw (route_address_bytes a)
-held_of (priority a) = held 6 (exactly le32) a
-held_of (pref_source a) = held 7 raw (route_address_bytes a)
-held_of (metrics a) = held 8 (list_of metric_attributes) a
-held_of (realm a) = held 11 (exactly route_realm) a
-held_of (cache_info a) = held 12 (leading route_cache_info) a
-held_of (table a) = held 15 (exactly le32) a
-held_of (mark a) = held 16 (exactly le32) a
-held_of (mfc_stats a) = held 17 (leading route_mfc_stats) a
-held_of (via a) = held 18 via_value a
-held_of (new_destination a) = held 19 mpls_labels a
-held_of (new_destination_address a) = held 19 raw (route_address_bytes a)
-held_of (preference a) = held 20 (exactly route_preference) a
-held_of (encap_type a) = held 21 (exactly encap_type_layout) a
-held_of (encap a) = held_marked (any_marks a) 22 (list_of (OfEncap.encapsulation NoEncapsulation)) a
-held_of (expires a) = held 23 (exactly le32) a
-held_of (multicast_expires a) = held 23 (exactly le64) a
-held_of (uid a) = held 25 (exactly le32) a
-held_of (ttl_propagate a) = held 26 (exactly ttl_propagation) a
-held_of (ip_proto a) = held 27 (exactly byte) a
-held_of (sport a) = held 28 (exactly be16) a
-held_of (dport a) = held 29 (exactly be16) a
-held_of (nh_id a) = held 30 (exactly le32) a
-held_of (flowlabel a) = held 31 (exactly be32) a
-held_of (other x) = held_other x
+abbrev pub slot_of : Meaning → Slot
+slot_of (destination a) = slot_plain 1 raw (route_address_bytes a)
+slot_of (source a) = slot_plain 2 raw (route_address_bytes a)
+slot_of (iif a) = slot_plain 3 (exactly le32) a
+slot_of (oif a) = slot_plain 4 (exactly le32) a
+slot_of (gateway a) = slot_plain 5 raw (route_address_bytes a)
+slot_of (priority a) = slot_plain 6 (exactly le32) a
+slot_of (pref_source a) = slot_plain 7 raw (route_address_bytes a)
+slot_of (metrics a) = slot_plain 8 (list_of metric_attributes) a
+slot_of (realm a) = slot_plain 11 (exactly route_realm) a
+slot_of (cache_info a) = slot_plain 12 (leading route_cache_info) a
+slot_of (table a) = slot_plain 15 (exactly le32) a
+slot_of (mark a) = slot_plain 16 (exactly le32) a
+slot_of (mfc_stats a) = slot_plain 17 (leading route_mfc_stats) a
+slot_of (via a) = slot_plain 18 via_value a
+slot_of (new_destination a) = slot_plain 19 mpls_labels a
+slot_of (new_destination_address a) = slot_plain 19 raw (route_address_bytes a)
+slot_of (preference a) = slot_plain 20 (exactly route_preference) a
+slot_of (encap_type a) = slot_plain 21 (exactly encap_type_layout) a
+slot_of (encap a) = slot_marked (any_marks a) 22 (list_of (OfEncap.encapsulation NoEncapsulation)) a
+slot_of (expires a) = slot_plain 23 (exactly le32) a
+slot_of (multicast_expires a) = slot_plain 23 (exactly le64) a
+slot_of (uid a) = slot_plain 25 (exactly le32) a
+slot_of (ttl_propagate a) = slot_plain 26 (exactly ttl_propagation) a
+slot_of (ip_proto a) = slot_plain 27 (exactly byte) a
+slot_of (sport a) = slot_plain 28 (exactly be16) a
+slot_of (dport a) = slot_plain 29 (exactly be16) a
+slot_of (nh_id a) = slot_plain 30 (exactly le32) a
+slot_of (flowlabel a) = slot_plain 31 (exactly be32) a
+slot_of (other x) = slot_other x
 
 -- what can be read
 abbrev pub Coherent : Form → Bool → Reading OfEncap.writing → Meaning → Type 0
@@ -206,7 +207,7 @@ Coherent form multicast family (new_destination_address a) = (form ≢ label) ×
 Coherent form multicast family (encap xs) = (list_of family).Holds xs
 Coherent form multicast family (expires n) = (multicast ≡ false) × (n < 2 ^ 32)
 Coherent form multicast family (multicast_expires n) = (multicast ≡ true) × (n < 2 ^ 64)
-Coherent form multicast family m = IsHeld (rows form multicast family) (held_of m)
+Coherent form multicast family m = IsSlot (rows form multicast family) (slot_of m)
 
 -- the attribute with each SEG6 header of its encapsulation brought up to the table of modes of today
 abbrev pub normalized : Meaning → Meaning

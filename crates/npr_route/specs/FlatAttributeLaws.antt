@@ -5,7 +5,8 @@ use Rattle.npr_base.specs.Framing.{marked, number_of}
 use Rattle.npr_base.specs.Layout.{le32, le64}
 use Rattle.npr_base.specs.Codec.{exactly}
 use Rattle.npr_base.specs.ListCodec.{list_of}
-use Rattle.npr_base.specs.Table.{Writing, Reading, held_kind, held_value, held_inside, held-reads, item_of, writing_by, table_with, Aligned, IsWritten, ReadsAt}
+use Rattle.npr_base.specs.Family.{Writing, Reading}
+use Rattle.npr_base.specs.Table.{slot_kind, slot_value, slot_unfit, slot-reads, item_of, writing_by, table_with, Aligned, IsWritten, ReadsAt}
 use Rattle.npr_base.specs.TableLaws.{table_family, other-back}
 use Rattle.npr_scalar.specs.MplsLaws.{mpls_labels}
 use Rattle.npr_scalar.specs.RouteAddress.{address_in, Form, four, sixteen, label, any, form_of}
@@ -14,11 +15,11 @@ use Rattle.npr_tunnel.specs.Encapsulation as OfEncap
 use Rattle.npr_route.specs.FlatAttribute.{Context, Meaning, destination, source, gateway, pref_source, new_destination}
 use Rattle.npr_route.specs.FlatAttribute.{new_destination_address, encap, any_marks, expires, multicast_expires, other, rows}
 use Rattle.npr_route.specs.FlatAttribute.{new_destination_row, NewDestinationValue, expires_row}
-use Rattle.npr_route.specs.FlatAttribute.{held_of, Coherent, is_multicast}
+use Rattle.npr_route.specs.FlatAttribute.{slot_of, Coherent, is_multicast}
 
 -- how each is written, whatever the context
 abbrev pub writing : Writing Meaning
-writing = writing_by held_of
+writing = writing_by slot_of
 
 new_destination-written : (form : Form) (multicast : Bool) (family : Reading OfEncap.writing) (v : NewDestinationValue form)
     → IsWritten writing (Coherent form multicast family) (new_destination_row form) v
@@ -37,7 +38,7 @@ pub aligned : (form : Form) (multicast : Bool) (family : Reading OfEncap.writing
 aligned form multicast family = search (rules, new_destination-written form multicast family, expires-written form multicast family)
 
 pub kinds : (form : Form) (multicast : Bool) (family : Reading OfEncap.writing) (m : Meaning)
-    → Coherent form multicast family m → held_kind (held_of m) < 2 ^ 16
+    → Coherent form multicast family m → slot_kind (slot_of m) < 2 ^ 16
 kinds form multicast family (other x) c = c.proper.kind
 kinds form multicast family m c = omega arith
 
@@ -46,8 +47,8 @@ encap-number true = refl
 encap-number false = refl
 
 pub back : (form : Form) (multicast : Bool) (family : Reading OfEncap.writing) (m : Meaning) → Coherent form multicast family m
-    → held_inside (held_of m) ≡ None
-    → ReadsAt other (rows form multicast family) (number_of (item_of (held_of m)).kind) (item_of (held_of m)) m
+    → slot_unfit (slot_of m) ≡ None
+    → ReadsAt other (rows form multicast family) (number_of (item_of (slot_of m)).kind) (item_of (slot_of m)) m
 back form multicast family (other x) c fits = other-back other (rows form multicast family) (number_of x.kind) x c.alone
 back form multicast family (destination a) c fits = (a, (address_in form).reads_back 1 a c fits, refl)
 back form multicast family (source a) c fits = (a, (address_in form).reads_back 2 a c fits, refl)
@@ -66,7 +67,7 @@ back form false family (expires n) c fits = (n, (exactly le32).reads_back 23 n c
 back form true family (expires n) c fits = absurd (let e = c.0 in cc)
 back form true family (multicast_expires n) c fits = (n, (exactly le64).reads_back 23 n c.1 fits, refl)
 back form false family (multicast_expires n) c fits = absurd (let e = c.0 in cc)
-back form multicast family m c fits = (held_value (held_of m), held-reads (rows form multicast family) (held_of m) c fits, refl)
+back form multicast family m c fits = (slot_value (slot_of m), slot-reads (rows form multicast family) (slot_of m) c fits, refl)
 
 -- the family under a form of addresses, for multicast routes or others, and over a family of members
 abbrev pub attributes_in : Form → Bool → Reading OfEncap.writing → Reading writing
@@ -74,7 +75,7 @@ attributes_in form multicast family =
     let written = aligned form multicast family in
     let kinds = kinds form multicast family in
     let back = back form multicast family in
-    table_family (table_with (rows form multicast family) other held_of (Coherent form multicast family) written (λ x. refl) (λ x is. is) kinds back)
+    table_family (table_with (rows form multicast family) other slot_of (Coherent form multicast family) written (λ x. refl) (λ x is. is) kinds back)
 
 -- the family under a context, by a table of SEG6 modes
 abbrev pub attributes_by : ModeTable → Context → Reading writing

@@ -4,19 +4,20 @@ use Rattle.std.proofs.Common.{◌≡◌, ℕ, Bool, true, false, List, [], ◌�
 use Rattle.std.proofs.Common.{arith, rules, inl, inr}
 use Rattle.std.proofs.lemmas.Bool.{eqb-true, cases_Bool}
 use Rattle.npr_base.specs.Framing.{Item, number_of, Front, Passes}
-use Rattle.npr_base.specs.Family.{Each, AllOf, ReadsList}
+use Rattle.npr_base.specs.Lists.{Each, AllOf, ReadsList}
 use Rattle.npr_base.specs.FrontLaws.{Front-same, Front-shrinks, Front-sound}
-use Rattle.npr_base.specs.Table.{Reading, Row, ReadsAt}
+use Rattle.npr_base.specs.Family.{Reading}
+use Rattle.npr_base.specs.Table.{Row, ReadsAt}
 use Rattle.npr_base.specs.TableLaws.{one_of}
 use Rattle.npr_scalar.specs.RouteAddress.{Form, four, sixteen, label, any, form_of}
 use Rattle.npr_tunnel.specs.Encapsulation as OfEncap
 use Rattle.npr_tunnel.specs.declared.encap_type.RouteLwEnCapType.{RouteLwEnCapType}
 use Rattle.npr_route.specs.Attribute.{Meaning, flat, multi_path, Attributes, no_more, attribute, attributes_of, Reads, AreAttributes}
-use Rattle.npr_route.specs.Attribute.{type_held, or_else, first_type}
+use Rattle.npr_route.specs.Attribute.{meaning_type, or_else, first_type}
 use Rattle.npr_route.specs.FlatAttribute as Flat
 use Rattle.npr_route.specs.FlatAttribute.{Context, other, rows, is_multicast, new_destination_variant, NewDestinationValue, expires_variant}
 use Rattle.npr_route.specs.FlatAttributeLaws as Flats
-use Rattle.npr_route.specs.Governing.{told, NoneInFront, Tells, Governs}
+use Rattle.npr_route.specs.Governing.{item_type, NoneInFront, Tells, Governs}
 
 -- ---- one type
 
@@ -27,22 +28,22 @@ ends_empty rest more x (inr (e, left, bad)) f = Front-sound rest x more e f bad
 the_same : {A : Type 0} (o : Option A) (x y : A) → o ≡ Some x → o ≡ Some y → x ≡ y
 the_same o x y p q = cc
 
-none_told : {A B : Type 0} (o : Option A) (x : A) → o ≡ None → o ≡ Some x → B
-none_told o x p q = absurd cc
+no_type : {A B : Type 0} (o : Option A) (x : A) → o ≡ None → o ≡ Some x → B
+no_type o x p q = absurd cc
 
 tells-one : (outer : RouteLwEnCapType) (rest : List ℕ) (a b : RouteLwEnCapType) → Tells outer rest a → Tells outer rest b → a ≡ b
-tells-one outer rest a b (inl (x, r, f, p)) (inl (y, s, g, q)) = the_same (told x) a b p (ap told (Front-same rest x y r s f g).0 ∙ q)
+tells-one outer rest a b (inl (x, r, f, p)) (inl (y, s, g, q)) = the_same (item_type x) a b p (ap item_type (Front-same rest x y r s f g).0 ∙ q)
 tells-one outer rest a b (inl (x, r, f, p)) (inr (ends, q)) = absurd (ends_empty rest r x ends f)
 tells-one outer rest a b (inr (ends, p)) (inl (y, s, g, q)) = absurd (ends_empty rest s y ends g)
 tells-one outer rest a b (inr (ends, p)) (inr (also_ends, q)) = p ∙ sym q
 
 -- a list whose first attribute tells none is governed as what follows it
-tells-front : (outer : RouteLwEnCapType) (rest more : List ℕ) (x : Item) (a : RouteLwEnCapType) → Tells outer rest a → Front rest x more → told x ≡ None → ⊥
-tells-front outer rest more x a (inl (y, s, g, q)) f none = none_told (told y) a (ap told (Front-same rest y x s more g f).0 ∙ none) q
+tells-front : (outer : RouteLwEnCapType) (rest more : List ℕ) (x : Item) (a : RouteLwEnCapType) → Tells outer rest a → Front rest x more → item_type x ≡ None → ⊥
+tells-front outer rest more x a (inl (y, s, g, q)) f none = no_type (item_type y) a (ap item_type (Front-same rest y x s more g f).0 ∙ none) q
 tells-front outer rest more x a (inr (ends, p)) f none = ends_empty rest more x ends f
 
 governs-step : (outer : RouteLwEnCapType) (xs ys : List Item) (bytes r s : List ℕ) (a b : RouteLwEnCapType) → Passes bytes xs r
-    → AllOf (λ x. told x ≡ None) xs → Tells outer r a → Passes bytes ys s → AllOf (λ x. told x ≡ None) ys → Tells outer s b → a ≡ b
+    → AllOf (λ x. item_type x ≡ None) xs → Tells outer r a → Passes bytes ys s → AllOf (λ x. item_type x ≡ None) ys → Tells outer s b → a ≡ b
 governs-step outer [] [] bytes r s a b p n t q m u = tells-one outer r a b t (subst (λ (w : List ℕ). Tells outer w b) (sym q ∙ p) u)
 governs-step outer [] (y ∷ ys) bytes r s a b p n t (w, g, q) m u =
     absurd (tells-front outer bytes w y a (subst (λ (v : List ℕ). Tells outer v a) (sym p) t) g m.0)
@@ -71,7 +72,7 @@ unless-reads P n kept (r ∷ rs) all too k x m not p = one_of (k == r.at.kind)
 
 -- a type is held by number 21 alone
 abbrev HoldsNone : Flat.Meaning → Type 0
-HoldsNone m = type_held (flat m) ≡ None
+HoldsNone m = meaning_type (flat m) ≡ None
 
 destination_none : (form : Form) (v : NewDestinationValue form) → HoldsNone (new_destination_variant form v)
 destination_none four v = refl
@@ -87,11 +88,11 @@ rows_none : (form : Form) (multicast : Bool) (family : Reading OfEncap.writing) 
 rows_none form multicast family = search (rules, destination_none form, expires_none multicast)
 
 alike_at : (form : Form) (multicast : Bool) (family : Reading OfEncap.writing) (x : Item) (m : Flat.Meaning) → (number_of x.kind ≡ 21)
-    → ReadsAt other (rows form multicast family) 21 x m → told x ≡ type_held (flat m)
-alike_at form multicast family x m is (v, (size, p), q) = rw (is, size) (ap Some (sym p) ∙ sym (ap (λ (n : Flat.Meaning). type_held (flat n)) q))
+    → ReadsAt other (rows form multicast family) 21 x m → item_type x ≡ meaning_type (flat m)
+alike_at form multicast family x m is (v, (size, p), q) = rw (is, size) (ap Some (sym p) ∙ sym (ap (λ (n : Flat.Meaning). meaning_type (flat n)) q))
 
 flat-alike : (form : Form) (multicast : Bool) (family : Reading OfEncap.writing) (x : Item) (m : Flat.Meaning)
-    → (Flats.attributes_in form multicast family).Reads x m → told x ≡ type_held (flat m)
+    → (Flats.attributes_in form multicast family).Reads x m → item_type x ≡ meaning_type (flat m)
 flat-alike form multicast family x m p = elim (cases_Bool (number_of x.kind == 21)) [
   | inl e ↦
       let is : number_of x.kind ≡ 21 = eqb-true (number_of x.kind) 21 e in
@@ -100,13 +101,13 @@ flat-alike form multicast family x m p = elim (cases_Bool (number_of x.kind == 2
 ]
 
 -- an attribute tells the type that its meaning holds, and next hops tell none
-alike : (c : Context) (x : Item) (m : Meaning) → Reads c x m → told x ≡ type_held m
+alike : (c : Context) (x : Item) (m : Meaning) → Reads c x m → item_type x ≡ meaning_type m
 alike c x (flat m) p = flat-alike (form_of c.0) (is_multicast c.1) (OfEncap.encapsulation c.2) x m p.1
 alike c x (multi_path hs) p = rw p.0 refl
 
 -- an attribute that holds a type governs its list, and else what follows it does
 first_step : (outer : RouteLwEnCapType) (o : Option RouteLwEnCapType) (x : Item) (more bytes : List ℕ) (next : RouteLwEnCapType)
-    → told x ≡ o → Front bytes x more → Governs outer more next → Governs outer bytes (or_else o next)
+    → item_type x ≡ o → Front bytes x more → Governs outer more next → Governs outer bytes (or_else o next)
 first_step outer (Some t) x more bytes next is f g = ([], bytes, refl, tt, inl (x, more, f, is))
 first_step outer None x more bytes next is f (before, rest, p, silent, tells) = (x ∷ before, rest, (more, f, p), (is, silent), tells)
 
@@ -115,7 +116,7 @@ pub first_governs : (outer : RouteLwEnCapType) (c : Context) (bytes : List ℕ) 
     → Governs outer bytes (first_type outer ms)
 first_governs outer c bytes no_more p = ([], bytes, refl, tt, inr (inl p, refl))
 first_governs outer c bytes (attribute m ms) (x, rest, f, p, ps) =
-    first_step outer (type_held m) x rest bytes (first_type outer ms) (alike c x m p) f (first_governs outer c rest ms ps)
+    first_step outer (meaning_type m) x rest bytes (first_type outer ms) (alike c x m p) f (first_governs outer c rest ms ps)
 
 -- and no other does
 pub governs_first : (outer type : RouteLwEnCapType) (c : Context) (bytes : List ℕ) (ms : Attributes) → Governs outer bytes type

@@ -1,7 +1,7 @@
 -- A route message: its header, and attributes to the end, whose meaning rests on the header and on the type of
 -- encapsulation among them (linux/rtnetlink.h).
 use Rattle.std.specs.Prelude.{ℕ, List, map}
-use Rattle.npr_base.specs.Message.{Meant, Body, Grammar, grammar_of, IsMessageOf, IsCoherentOf}
+use Rattle.npr_base.specs.Message.{View, Body, Grammar, grammar_of, IsMessageOf, IsCoherentOf}
 use Rattle.npr_srh.specs.Seg6Mode.{ModeTable}
 use Rattle.npr_route.specs.Attribute.{normalized, attributes_depth, attributes_of}
 use Rattle.npr_route.specs.AttributeFamily.{writing}
@@ -39,12 +39,12 @@ abbrev pub routes : Grammar RouteHeader RouteAttribute
 routes = grammar_of family header default_header body
 
 -- the message with each SEG6 header in it brought up to the table of modes of today
-abbrev pub normalized_route : Meant routes → Meant routes
+abbrev pub normalized_route : View routes → View routes
 normalized_route m = record { header = m.header; attributes = map normalized m.attributes }
 
 -- the bytes are the message, and the message can be read, by a table of SEG6 modes
-unfoldable pub IsRouteMessageBy : ModeTable → List ℕ → Meant routes → Type 0
+unfoldable pub IsRouteMessageBy : ModeTable → List ℕ → View routes → Type 0
 IsRouteMessageBy by bytes m = IsMessageOf header (λ h. IsRouteListBy by (under h)) bytes m
 
-unfoldable pub IsCoherentRouteBy : ModeTable → Meant routes → Type 0
+unfoldable pub IsCoherentRouteBy : ModeTable → View routes → Type 0
 IsCoherentRouteBy by m = IsCoherentOf header (λ h. IsCoherentListBy by (under h)) m

@@ -23,8 +23,8 @@ under_type : (h : RouteHeader) (bytes : List ℕ) (type : RouteLwEnCapType) → 
     → IsUnder routes family h bytes (h.address_family, h.kind, type) (IsContext h bytes) (Searches NoEncapsulation bytes type)
 under_type h bytes type governs = record {
   alone =
-      λ d (other, told, is).
-      is ∙ ap (λ (t : RouteLwEnCapType). (h.address_family, h.kind, t)) (governs-one NoEncapsulation bytes other type told governs);
+      λ d (other, tells, is).
+      is ∙ ap (λ (t : RouteLwEnCapType). (h.address_family, h.kind, t)) (governs-one NoEncapsulation bytes other type tells governs);
   reads = λ xs reads. (type, governs, reads);
   faulty = λ e wrong. (type, governs, wrong);
   searched = searched NoEncapsulation bytes type;

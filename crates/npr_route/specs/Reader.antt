@@ -1,7 +1,7 @@
 -- What a stack of half-read lists of next hops means.
 use Rattle.std.specs.Prelude.{◌≡◌, ℕ, ◌+◌, ◌*◌, ◌/◌, ◌<◌, ◌≤◌, List, [], ◌∷◌, length, map}
 use Rattle.npr_base.specs.Counts.{Counts}
-use Rattle.npr_base.specs.Family.{ReadsTo}
+use Rattle.npr_base.specs.Lists.{ReadsTo}
 use Rattle.npr_base.specs.Framing.{Item, Front, number_of}
 use Rattle.npr_route.specs.Ahead.{stopped, walk_room}
 use Rattle.npr_route.specs.Attribute.{HopFront, Hop, typed, Reads, AreGoverned, AreHops}

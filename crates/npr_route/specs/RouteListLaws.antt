@@ -2,13 +2,13 @@
 use Rattle.std.proofs.Common.{◌≡◌, ℕ, ◌*◌, ◌≤◌, List, length, None, ap, subst, ◌∙◌}
 use Rattle.npr_base.specs.declared.refusal.DecodeError.{DecodeError}
 use Rattle.npr_base.specs.Framing.{IsBytes}
-use Rattle.npr_base.specs.Family.{AllOf, ReadsList, encodings, first_unfit, list_members}
+use Rattle.npr_base.specs.Lists.{AllOf, ReadsList, encodings, first_unfit, list_members}
 use Rattle.npr_base.specs.ListLaws.{ReadsList-one, FirstFault-excludes, ReadsList-known, encodings-read, ReadsList-grows}
 use Rattle.npr_base.specs.Counts.{Counts, AddsAtMostTwice, SawEach, raised}
 use Rattle.npr_base.specs.Looks.{Adds, Looking}
 use Rattle.npr_base.specs.LookBounds.{list_looking, list-walked, list-saw, searched-read, searched-saw}
 use Rattle.npr_base.specs.LooksLaws.{plus, raised-more}
-use Rattle.npr_base.specs.Table.{Reading, fits-small, written_by, unfit_by}
+use Rattle.npr_base.specs.Family.{Reading, fits-small, written_by, unfit_by}
 use Rattle.npr_tunnel.specs.declared.encap_type.RouteLwEnCapType.{RouteLwEnCapType}
 use Rattle.npr_tunnel.specs.declared.encap_type.RouteLwEnCapType.TheVariants.{None as NoEncapsulation}
 use Rattle.npr_route.specs.Attribute.{Meaning, attributes_of, attributes_depth, first_type}

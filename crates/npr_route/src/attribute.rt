@@ -1,7 +1,7 @@
 //! The attributes of a route message: `RTA_*` of `linux/rtnetlink.h`.
 
 ghost use Rattle.std.specs.Prelude.{refl};
-ghost use Rattle.{npr_base.specs.Table.{shaped}, npr_route.specs.AttributeView.{family}};
+ghost use Rattle.{npr_base.specs.Family.{shaped}, npr_route.specs.AttributeView.{family}};
 
 use crate::descent::{check_inside, clone_attribute, is_marked, write_value};
 use crate::metrics::RouteMetric;
@@ -216,7 +216,7 @@ impl Attribute for RouteAttribute {
         }
     }
 
-    fn clone(&self, alloc: Global) -> Result<Self, AllocError> {
+    fn try_clone(&self, alloc: Global) -> Result<Self, AllocError> {
         clone_attribute(alloc, self)
     }
 }

@@ -3,17 +3,17 @@
 
 ghost use Rattle.std.specs.Prelude.{◌≡◌, ◌≤◌, ◌<◌, ◌+◌, None, length, IfOk, OnErr, map};
 ghost use Rattle.{
-  npr_base.specs.{Family.{checked, option_or, overlong, first_unfit, list_unfit, encodings, joined}, Framing.{Writes, encoding, framed}},
+  npr_base.specs.{Lists.{checked, option_or, overlong, first_unfit, list_unfit, encodings, joined}, Framing.{Writes, encoding, framed}},
   npr_route.specs.{
-    Attribute.{shape_of, misfit, hop_misfit, hop_bytes, hop_overlong},
-    AttributeView.{meaning_of, hop_of, attribute_item, attribute_misfit, next_hop_bytes, next_hop_misfit},
+    Attribute.{shape_of, meaning_unfit, hop_unfit, hop_bytes, hop_overlong},
+    AttributeView.{meaning_of, hop_of, attribute_item, attribute_unfit, next_hop_bytes, next_hop_unfit},
     FlatAttribute.{marks, any_marks},
   },
   npr_tunnel.specs.Encapsulation.{meaning_of as member_of},
 };
 
 use crate::attribute::RouteAttribute;
-use crate::next_hop_buffer::RouteNextHopBuffer;
+use crate::next_hop_buffer::{NEXT_HOP_HEADER_SIZE, RouteNextHopBuffer};
 use crate::next_hops::RouteNextHop;
 use crate::route_rows;
 use bitflags::Flags;
@@ -25,11 +25,14 @@ use npr_scalar::{labels_len, write_labels};
 use npr_tunnel::{RouteIp6Tunnel, RouteIpTunnel, RouteLwTunnelEncap};
 use std::alloc::{AllocError, Global};
 
+/// The most bytes that a next hop has: its length stands in 16 bits.
+const LONGEST_NEXT_HOP: usize = 65535;
+
 /// The length of the value in bytes, or the first cause why the list inside has none.
 #[inline(always)]
 #[cycle(check)]
 pub(crate) fn check_inside(attribute: &RouteAttribute) -> Result<usize, EmitError>
-    ensures { result ≡ checked (shape_of (meaning_of attribute.now)).inside (length (shape_of (meaning_of attribute.now)).item.value) }
+    ensures { result ≡ checked (shape_of (meaning_of attribute.now)).unfit (length (shape_of (meaning_of attribute.now)).item.value) }
 {
     Ok(route_rows!(len_rows(attribute;
         RouteAttribute::Via(x) => x.len(),
@@ -47,7 +50,7 @@ pub(crate) fn check_inside(attribute: &RouteAttribute) -> Result<usize, EmitErro
 #[inline(always)]
 #[cycle(check)]
 fn check_attribute(attribute: &RouteAttribute) -> Result<usize, EmitError>
-    ensures { result ≡ checked (misfit (meaning_of attribute.now)) (framed (length (shape_of (meaning_of attribute.now)).item.value)) }
+    ensures { result ≡ checked (meaning_unfit (meaning_of attribute.now)) (framed (length (shape_of (meaning_of attribute.now)).item.value)) }
 {
     let len = check_inside(attribute)?;
     check_len(attribute.kind(), len)
@@ -56,7 +59,7 @@ fn check_attribute(attribute: &RouteAttribute) -> Result<usize, EmitError>
 /// The length of all encodings in bytes, or the first cause why there are none.
 #[cycle(check)]
 fn check_attributes(list: &[RouteAttribute]) -> Result<usize, EmitError>
-    ensures { result ≡ checked (list_unfit attribute_misfit attribute_item list.now) (length (encodings attribute_item list.now)) }
+    ensures { result ≡ checked (list_unfit attribute_unfit attribute_item list.now) (length (encodings attribute_item list.now)) }
 {
     let mut total = 0u128;
     for attribute in list {
@@ -72,8 +75,10 @@ fn check_attributes(list: &[RouteAttribute]) -> Result<usize, EmitError>
 fn hop_len(inside: usize) -> Result<usize, EmitError>
     ensures { result ≡ checked (hop_overlong (8 + inside)) (8 + inside) }
 {
-    let len = inside.checked_add(8).ok_or(EmitError::Total)?;
-    if len > 65535 {
+    let len = inside
+        .checked_add(NEXT_HOP_HEADER_SIZE)
+        .ok_or(EmitError::Total)?;
+    if len > LONGEST_NEXT_HOP {
         return Err(EmitError::NextHopTooLong { len });
     }
     Ok(len)
@@ -82,7 +87,7 @@ fn hop_len(inside: usize) -> Result<usize, EmitError>
 /// The length of a next hop in bytes, its header included, or the first cause why it has none.
 #[cycle(check)]
 pub(crate) fn check_hop(hop: &RouteNextHop) -> Result<usize, EmitError>
-    ensures { result ≡ checked (hop_misfit (hop_of hop.now)) (length (hop_bytes (hop_of hop.now))) }
+    ensures { result ≡ checked (hop_unfit (hop_of hop.now)) (length (hop_bytes (hop_of hop.now))) }
 {
     let inside = check_attributes(hop.attributes.as_slice())?;
     hop_len(inside)
@@ -92,7 +97,7 @@ pub(crate) fn check_hop(hop: &RouteNextHop) -> Result<usize, EmitError>
 #[inline(never)]
 #[cycle(check)]
 fn check_hops(hops: &[RouteNextHop]) -> Result<usize, EmitError>
-    ensures { result ≡ checked (option_or (first_unfit next_hop_misfit hops.now) (overlong (length (joined next_hop_bytes hops.now)))) (length (joined next_hop_bytes hops.now)) }
+    ensures { result ≡ checked (option_or (first_unfit next_hop_unfit hops.now) (overlong (length (joined next_hop_bytes hops.now)))) (length (joined next_hop_bytes hops.now)) }
 {
     let mut total = 0u128;
     for hop in hops {
@@ -105,7 +110,7 @@ fn check_hops(hops: &[RouteNextHop]) -> Result<usize, EmitError>
 #[inline(always)]
 #[cycle(write)]
 pub(crate) fn write_value(attribute: &RouteAttribute, out: &mut [u8]) -> usize
-    requires fits { (shape_of (meaning_of attribute.now)).inside ≡ None }
+    requires fits { (shape_of (meaning_of attribute.now)).unfit ≡ None }
     requires room { length (shape_of (meaning_of attribute.now)).item.value ≤ length out.old }
     ensures len { result ≡ length (shape_of (meaning_of attribute.now)).item.value }
     ensures after { Writes out.old out.new (shape_of (meaning_of attribute.now)).item.value }
@@ -127,7 +132,7 @@ pub(crate) fn write_value(attribute: &RouteAttribute, out: &mut [u8]) -> usize
 #[inline(never)]
 #[cycle(write)]
 fn write_inside(attribute: &RouteAttribute, out: &mut [u8]) -> usize
-    requires fits { (shape_of (meaning_of attribute.now)).inside ≡ None }
+    requires fits { (shape_of (meaning_of attribute.now)).unfit ≡ None }
     requires room { length (shape_of (meaning_of attribute.now)).item.value ≤ length out.old }
     ensures len { result ≡ length (shape_of (meaning_of attribute.now)).item.value }
     ensures after { Writes out.old out.new (shape_of (meaning_of attribute.now)).item.value }
@@ -138,7 +143,7 @@ fn write_inside(attribute: &RouteAttribute, out: &mut [u8]) -> usize
 /// Writes the attribute: its value behind four bytes, and then header and padding.
 #[cycle(write)]
 fn write_attribute(attribute: &RouteAttribute, out: &mut [u8]) -> usize
-    requires fits { misfit (meaning_of attribute.now) ≡ None }
+    requires fits { meaning_unfit (meaning_of attribute.now) ≡ None }
     requires room { framed (length (shape_of (meaning_of attribute.now)).item.value) ≤ length out.old }
     ensures len { result ≡ framed (length (shape_of (meaning_of attribute.now)).item.value) }
     ensures after { Writes out.old out.new (encoding (attribute_item attribute.now)) }
@@ -151,7 +156,7 @@ fn write_attribute(attribute: &RouteAttribute, out: &mut [u8]) -> usize
 /// Writes the attributes one after the other.
 #[cycle(write)]
 fn write_attributes(list: &[RouteAttribute], out: &mut [u8]) -> usize
-    requires fits { first_unfit attribute_misfit list.now ≡ None }
+    requires fits { first_unfit attribute_unfit list.now ≡ None }
     requires room { length (encodings attribute_item list.now) ≤ length out.old }
     ensures len { result ≡ length (encodings attribute_item list.now) }
     ensures after { Writes out.old out.new (encodings attribute_item list.now) }
@@ -166,12 +171,13 @@ fn write_attributes(list: &[RouteAttribute], out: &mut [u8]) -> usize
 /// Writes a next hop: its attributes behind eight bytes, and then its header.
 #[cycle(write)]
 pub(crate) fn write_hop(hop: &RouteNextHop, out: &mut [u8]) -> usize
-    requires fits { next_hop_misfit hop.now ≡ None }
+    requires fits { next_hop_unfit hop.now ≡ None }
     requires room { length (next_hop_bytes hop.now) ≤ length out.old }
     ensures len { result ≡ length (next_hop_bytes hop.now) }
     ensures after { Writes out.old out.new (next_hop_bytes hop.now) }
 {
-    let len = 8 + write_attributes(hop.attributes.as_slice(), &mut out[8..]);
+    let len = NEXT_HOP_HEADER_SIZE
+        + write_attributes(hop.attributes.as_slice(), &mut out[NEXT_HOP_HEADER_SIZE..]);
     let header = RouteNextHopBuffer {
         length: len as u16,
         flags: hop.flags.bits(),
@@ -186,7 +192,7 @@ pub(crate) fn write_hop(hop: &RouteNextHop, out: &mut [u8]) -> usize
 #[inline(never)]
 #[cycle(write)]
 fn write_hops(hops: &[RouteNextHop], out: &mut [u8]) -> usize
-    requires fits { first_unfit next_hop_misfit hops.now ≡ None }
+    requires fits { first_unfit next_hop_unfit hops.now ≡ None }
     requires room { length (joined next_hop_bytes hops.now) ≤ length out.old }
     ensures len { result ≡ length (joined next_hop_bytes hops.now) }
     ensures after { Writes out.old out.new (joined next_hop_bytes hops.now) }
@@ -212,9 +218,9 @@ pub(crate) fn clone_attribute(
     route_rows!(clone_rows(attribute, alloc;
         RouteAttribute::Metrics(x) => clone_list(alloc, x.as_slice()).map(RouteAttribute::Metrics),
         RouteAttribute::MultiPath(x) => clone_hops(alloc, x.as_slice()).map(RouteAttribute::MultiPath),
-        RouteAttribute::Via(x) => x.clone(alloc).map(RouteAttribute::Via),
+        RouteAttribute::Via(x) => x.try_clone(alloc).map(RouteAttribute::Via),
         RouteAttribute::NewDestination(x) => Vec::from_slice(alloc, x.as_slice()).map(RouteAttribute::NewDestination),
-        RouteAttribute::NewDestinationAddress(x) => x.clone(alloc).map(RouteAttribute::NewDestinationAddress),
+        RouteAttribute::NewDestinationAddress(x) => x.try_clone(alloc).map(RouteAttribute::NewDestinationAddress),
         RouteAttribute::Encap(x) => clone_list(alloc, x.as_slice()).map(RouteAttribute::Encap),
         RouteAttribute::Expires(x) => Ok(RouteAttribute::Expires(*x)),
         RouteAttribute::MulticastExpires(x) => Ok(RouteAttribute::MulticastExpires(*x)),

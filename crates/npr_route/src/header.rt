@@ -181,7 +181,7 @@ impl Header for RouteHeader {
     }
 
     fn context(&self, bytes: &[u8], looks: &mut Looks) -> Context {
-        let kind = governing_type(bytes, RouteLwEnCapType::None, looks);
-        (self.address_family, self.kind, kind)
+        let encap_type = governing_type(bytes, RouteLwEnCapType::None, looks);
+        (self.address_family, self.kind, encap_type)
     }
 }

@@ -8,7 +8,7 @@ ghost use Rattle.{
     declared.refusal.DecodeError.{DecodeError},
     Framing.{IsBytes},
     Counts.{Counts, AddsAtMost},
-    Message.{IsCoherent, IsMessage, Meant, message_misfit, spelling, view},
+    Message.{IsCoherent, IsMessage, View, message_unfit, canonical_bytes, view},
   },
   npr_srh.specs.Seg6Mode.{first_modes},
   npr_tunnel.specs.declared.encap_type.RouteLwEnCapType.{RouteLwEnCapType},
@@ -20,7 +20,7 @@ ghost use Rattle.{
     Header.{default_header, header},
     Metric.{family as metric_family},
     Message.{routes, normalized_route, IsRouteMessageBy, IsCoherentRouteBy},
-    Attribute.{Meaning, Attributes, attributes_of, first_type, AreGoverned, Hops, AreHops, HopsWrong, HopsCoherent, hops_bytes, hops_misfit, HopHead, no_hops, hop, no_more, attribute, multi_path, flat, hops_depth, attributes_depth},
+    Attribute.{Meaning, Attributes, attributes_of, first_type, AreGoverned, Hops, AreHops, HopsWrong, HopsCoherent, hops_bytes, hops_unfit, HopHead, no_hops, hop, no_more, attribute, multi_path, flat, hops_depth, attributes_depth},
     RouteList.{Under, IsRouteList},
   },
 };
@@ -49,7 +49,7 @@ pub fn law_next_hops()
     ensures one { (c : Context) (bytes : List ℕ) (gs hs : Hops) → AreHops c bytes gs → AreHops c bytes hs → gs ≡ hs }
     ensures none { (c : Context) (bytes : List ℕ) (hs : Hops) (e : DecodeError) → AreHops c bytes hs → HopsWrong c bytes e → ⊥ }
     ensures coherent { (c : Context) (bytes : List ℕ) (hs : Hops) → IsBytes bytes → AreHops c bytes hs → HopsCoherent c hs }
-    ensures back { (c : Context) (hs : Hops) → HopsCoherent c hs → hops_misfit hs ≡ None → AreHops c (hops_bytes hs) hs }
+    ensures back { (c : Context) (hs : Hops) → HopsCoherent c hs → hops_unfit hs ≡ None → AreHops c (hops_bytes hs) hs }
     ensures growth { (c : Context) (bytes : List ℕ) (hs : Hops) → IsBytes bytes → AreHops c bytes hs → 2 * length (hops_bytes hs) ≤ 5 * length bytes }
     ensures depth { (c : Context) (bytes : List ℕ) (hs : Hops) → AreHops c bytes hs → 12 * hops_depth hs ≤ 4 + length bytes }
     ensures no_depth { hops_depth no_hops ≡ 0 }
@@ -69,17 +69,17 @@ pub fn law_looks()
 {}
 
 /// A message of the first table of SEG6 modes, brought up to the table of today as `normalize` does.
-pub fn law_normalized()
+pub fn law_newer()
     // It is written by the same bytes,
-    ensures bytes { (m : Meant routes) → spelling routes (normalized_route m) ≡ spelling routes m }
+    ensures bytes { (m : View routes) → canonical_bytes routes (normalized_route m) ≡ canonical_bytes routes m }
     // and where it can't be written, for the same cause.
-    ensures fits { (m : Meant routes) → message_misfit routes (normalized_route m) ≡ message_misfit routes m }
+    ensures fits { (m : View routes) → message_unfit routes (normalized_route m) ≡ message_unfit routes m }
     // Once is enough.
-    ensures again { (m : Meant routes) → normalized_route (normalized_route m) ≡ normalized_route m }
+    ensures again { (m : View routes) → normalized_route (normalized_route m) ≡ normalized_route m }
     // What could be read then can be read now,
-    ensures coherent { (m : Meant routes) → IsCoherentRouteBy first_modes m → IsCoherent routes (normalized_route m) }
+    ensures coherent { (m : View routes) → IsCoherentRouteBy first_modes m → IsCoherent routes (normalized_route m) }
     // and what bytes meant then, they mean now brought up.
-    ensures read { (bytes : List ℕ) (m : Meant routes) → IsRouteMessageBy first_modes bytes m → IsMessage routes bytes (normalized_route m) }
+    ensures read { (bytes : List ℕ) (m : View routes) → IsRouteMessageBy first_modes bytes m → IsMessage routes bytes (normalized_route m) }
 {}
 
 /// The tables that have a name (`linux/rtnetlink.h`).

@@ -21,7 +21,7 @@ pub use list::{governing_type, read_route_list};
 pub use message::RouteMessage;
 pub use metrics::RouteMetric;
 pub use modes::normalize;
-pub use next_hop_buffer::RouteNextHopBuffer;
+pub use next_hop_buffer::{NEXT_HOP_HEADER_SIZE, RTNH_ALIGNTO, RouteNextHopBuffer};
 pub use next_hops::RouteNextHop;
 pub use path::RoutePath;
 pub use reader::read_next_hops;

@@ -5,7 +5,7 @@ ghost use Rattle.{
   npr_base.specs.{
     declared.refusal.DecodeError.TheVariants.{OutOfMemory},
     Counts.{AddsAtMostTwice, SawEach},
-    Family.{list_members},
+    Lists.{list_members},
     Framing.{Item, Front},
     Looks.{Answered},
   },
@@ -13,7 +13,7 @@ ghost use Rattle.{
     Attribute.{Meaning},
     AttributeView.{meaning_of},
     AttributeFamily.{writing},
-    Governing.{told, Governs, Searches},
+    Governing.{item_type, Governs, Searches},
     RouteList.{IsRouteList, RouteListFault, RouteListTakes},
   },
 };
@@ -25,8 +25,8 @@ use npr_tunnel::RouteLwEnCapType;
 use std::alloc::Global;
 
 /// The type that an `RTA_ENCAP_TYPE` of two bytes tells.
-fn told_by(item: &NlaBuffer<'_>) -> Option<RouteLwEnCapType>
-    ensures { result ≡ told item.now }
+fn stated_type(item: &NlaBuffer<'_>) -> Option<RouteLwEnCapType>
+    ensures { result ≡ item_type item.now }
 {
     match item.value() {
         [low, high] if item.kind() == RTA_ENCAP_TYPE => {
@@ -45,8 +45,8 @@ pub fn governing_type(bytes: &[u8], outer: RouteLwEnCapType, looks: &mut Looks) 
 {
     let mut walk = NlasIterator::new(bytes);
     while let Some(Ok(item)) = walk.next_counted(looks) {
-        if let Some(kind) = told_by(&item) {
-            return kind;
+        if let Some(encap_type) = stated_type(&item) {
+            return encap_type;
         }
     }
     outer
@@ -54,7 +54,8 @@ pub fn governing_type(bytes: &[u8], outer: RouteLwEnCapType, looks: &mut Looks) 
 
 /// The attributes that the bytes are cut into, in their order, under the family and the type of a
 /// header. Encapsulations are read by the first `RTA_ENCAP_TYPE` among them, which is looked for
-/// before anything is read; each look at a header is counted.
+/// before anything is read; each look at a header is counted. It is for callers: the library reads a
+/// message.
 ///
 /// # Errors
 /// `OutOfMemory` where memory is refused, and else the first fault in reading order.
@@ -78,6 +79,6 @@ pub fn read_route_list(
     ensures bounded { AddsAtMostTwice looks.old looks.new (length bytes.now) }
     ensures counted { IfOk result (λ v. SawEach looks.old looks.new (list_members writing.members (map meaning_of v.items))) }
 {
-    let kind = governing_type(bytes, RouteLwEnCapType::None, looks);
-    parse_list(alloc, (under.0, under.1, kind), bytes, looks)
+    let encap_type = governing_type(bytes, RouteLwEnCapType::None, looks);
+    parse_list(alloc, (under.0, under.1, encap_type), bytes, looks)
 }

@@ -5,7 +5,7 @@ ghost use Rattle.{
   npr_base.specs.{Codec.{leading}, Refusal.{no_place}},
   npr_route.specs.{
     Attribute.{HopFault},
-    AttributeView.{hop_of, next_hop_bytes, next_hop_misfit},
+    AttributeView.{hop_of, next_hop_bytes, next_hop_unfit},
     NextHopHeader.{next_hop_buffer, head_in, IsChecked},
   },
 };
@@ -13,6 +13,12 @@ ghost use Rattle.{
 use crate::next_hops::RouteNextHop;
 use bitflags::Flags;
 use npr_base::{DecodeError, Emitable, leading_octets};
+
+/// The bytes of a next hop's header (`linux/rtnetlink.h`, `sizeof(struct rtnexthop)`).
+pub const NEXT_HOP_HEADER_SIZE: usize = 8;
+
+/// The next hop behind one begins at a multiple of so many bytes (`linux/rtnetlink.h`).
+pub const RTNH_ALIGNTO: usize = 4;
 
 /// The layout of a next hop's header: 8 bytes, little endian.
 #[derive(Clone, Copy, Debug, PartialEq, Eq)]
@@ -31,7 +37,7 @@ impl RouteNextHopBuffer {
     /// The header of a next hop, with the length that it is written with. Asks that `check`
     /// accepts.
     pub fn of(hop: &RouteNextHop) -> Self
-        requires { next_hop_misfit hop.now ≡ None }
+        requires { next_hop_unfit hop.now ≡ None }
         ensures length { result.length ≡ length (next_hop_bytes hop.now) }
         ensures head { head_in result ≡ (hop_of hop.now).head }
     {
@@ -53,12 +59,12 @@ impl RouteNextHopBuffer {
         ensures refused { IfErr result (λ e. HopFault bytes.now e) }
     {
         let left = bytes.len();
-        if left < 8 {
+        if left < NEXT_HOP_HEADER_SIZE {
             return Err(DecodeError::NextHopTooShort { got: left });
         }
         let header = Self::in_front(bytes);
         let length = header.length;
-        if length < 8 || (length as usize) > left {
+        if (length as usize) < NEXT_HOP_HEADER_SIZE || (length as usize) > left {
             Err(DecodeError::NextHopLength { length, left })
         } else {
             Ok(header)
@@ -70,7 +76,7 @@ impl RouteNextHopBuffer {
         requires { 8 ≤ length bytes.now }
         ensures { (leading next_hop_buffer).Reads bytes.now result }
     {
-        let b = &bytes[..8];
+        let b = &bytes[..NEXT_HOP_HEADER_SIZE];
         RouteNextHopBuffer {
             length: u16::from_le_bytes([b[0], b[1]]),
             flags: b[2],
@@ -87,7 +93,7 @@ impl RouteNextHopBuffer {
         ensures ok { IfOk result (λ b. (leading next_hop_buffer).Reads bytes.now b) }
         ensures refused { IfErr result (λ e. (leading next_hop_buffer).Wrong no_place bytes.now e) }
     {
-        Ok(Self::in_front(leading_octets(bytes, 8)?))
+        Ok(Self::in_front(leading_octets(bytes, NEXT_HOP_HEADER_SIZE)?))
     }
 
     /// The 8 bytes of the layout.

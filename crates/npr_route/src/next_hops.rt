@@ -2,7 +2,7 @@
 //! attributes, which may be next hops again.
 
 ghost use Rattle.std.specs.Prelude.{◌≡◌, ◌<◌, length, IfOk, OnErr};
-ghost use Rattle.npr_route.specs.{Attribute.{default_hop}, AttributeView.{hop_of, next_hop_bytes, next_hop_misfit}};
+ghost use Rattle.npr_route.specs.{Attribute.{default_hop}, AttributeView.{hop_of, next_hop_bytes, next_hop_unfit}};
 
 use crate::attribute::RouteAttribute;
 use crate::descent::{check_hop, clone_hop, write_hop};
@@ -42,7 +42,7 @@ impl RouteNextHop {
     ///
     /// # Errors
     /// `AllocError` where memory is refused; without attributes none is taken.
-    pub fn clone(&self, alloc: Global) -> Result<Self, AllocError>
+    pub fn try_clone(&self, alloc: Global) -> Result<Self, AllocError>
         ensures ok { IfOk result (λ h. hop_of h ≡ hop_of self.now) }
         ensures memory { OnErr result (0 < length self.now.attributes.items) }
     {
@@ -53,7 +53,7 @@ impl RouteNextHop {
 impl Emitable for RouteNextHop {
     ghost bytes = { next_hop_bytes };
 
-    ghost unfit = { next_hop_misfit };
+    ghost unfit = { next_hop_unfit };
 
     fn check(&self) -> Result<usize, EmitError> {
         check_hop(self)

@@ -23,16 +23,16 @@ use std::alloc::{AllocError, Global};
 /// A route, or a next hop of one by several paths: what both have is attributes.
 pub trait RoutePath {
     /// The attributes.
-    ghost held: { Self → List Attribute };
+    ghost items: { Self → List Attribute };
 
     /// The attributes, in their order.
     fn attributes(&self) -> &[RouteAttribute]
-        ensures { result.now ≡ held self.now };
+        ensures { result.now ≡ items self.now };
 
     /// The address of the first gateway of IP (`RTA_GATEWAY`). Where a route goes by several paths,
     /// each next hop has its own.
     fn gateway(&self) -> Option<IpAddr>
-        ensures { IsFirst (λ a. gateway_ip (meaning_of a)) (held self.now) result }
+        ensures { IsFirst (λ a. gateway_ip (meaning_of a)) (items self.now) result }
     {
         self.attributes().iter().find_map(gateway_ip)
     }
@@ -40,35 +40,35 @@ pub trait RoutePath {
     /// The address of the first destination of IP (`RTA_DST`); the length of its prefix stands in
     /// the header.
     fn destination(&self) -> Option<IpAddr>
-        ensures { IsFirst (λ a. destination_ip (meaning_of a)) (held self.now) result }
+        ensures { IsFirst (λ a. destination_ip (meaning_of a)) (items self.now) result }
     {
         self.attributes().iter().find_map(destination_ip)
     }
 
     /// The number of the first table that is told in 32 bits (`RTA_TABLE`); the header has one of 8.
     fn table(&self) -> Option<u32>
-        ensures { IsFirst (λ a. table_number (meaning_of a)) (held self.now) result }
+        ensures { IsFirst (λ a. table_number (meaning_of a)) (items self.now) result }
     {
         self.attributes().iter().find_map(table_number)
     }
 
     /// The index of the first output interface (`RTA_OIF`); a next hop has its own in a field.
     fn output_interface(&self) -> Option<u32>
-        ensures { IsFirst (λ a. interface_index (meaning_of a)) (held self.now) result }
+        ensures { IsFirst (λ a. interface_index (meaning_of a)) (items self.now) result }
     {
         self.attributes().iter().find_map(interface_index)
     }
 
     /// The first next hops (`RTA_MULTIPATH`).
     fn next_hops(&self) -> Option<&[RouteNextHop]>
-        ensures { IsFirst (λ a. hops_inside (meaning_of a)) (held self.now) (option_map (λ hops. hops_of (map hop_of hops.now)) result) }
+        ensures { IsFirst (λ a. hops_inside (meaning_of a)) (items self.now) (option_map (λ hops. hops_of (map hop_of hops.now)) result) }
     {
         self.attributes().iter().find_map(hops_inside)
     }
 }
 
 impl RoutePath for RouteNextHop {
-    ghost held = { λ h. h.attributes.items };
+    ghost items = { λ h. h.attributes.items };
 
     fn attributes(&self) -> &[RouteAttribute] {
         self.attributes.as_slice()
@@ -76,7 +76,7 @@ impl RoutePath for RouteNextHop {
 }
 
 impl RoutePath for Message<RouteHeader, RouteAttribute> {
-    ghost held = { λ m. m.attributes.items };
+    ghost items = { λ m. m.attributes.items };
 
     fn attributes(&self) -> &[RouteAttribute] {
         self.attributes.as_slice()

@@ -18,7 +18,7 @@ ghost use Rattle.{
 
 use crate::attribute::{Context, RTA_MULTIPATH, RouteAttribute};
 use crate::list::governing_type;
-use crate::next_hop_buffer::RouteNextHopBuffer;
+use crate::next_hop_buffer::{NEXT_HOP_HEADER_SIZE, RTNH_ALIGNTO, RouteNextHopBuffer};
 use crate::next_hops::RouteNextHop;
 use crate::rows::push_flat;
 use bitflags::Flags;
@@ -27,10 +27,6 @@ use npr_scalar::RouteNextHopFlags;
 use npr_tunnel::RouteLwEnCapType;
 use std::alloc::Global;
 use std::mem;
-
-/// The next hop behind one begins at a multiple of so many bytes (`linux/rtnetlink.h`,
-/// `RTNH_ALIGNTO`).
-const RTNH_ALIGNTO: usize = 4;
 
 /// A list of next hops of which one is open.
 #[derive(Drop)]
@@ -135,7 +131,7 @@ fn open_hop<'a>(
     looks.hit();
     let end = header.length as usize;
     let next = end.next_multiple_of(RTNH_ALIGNTO).min(bytes.len());
-    Ok((header, &bytes[8..end], &bytes[next..]))
+    Ok((header, &bytes[NEXT_HOP_HEADER_SIZE..end], &bytes[next..]))
 }
 
 /// The list in the bytes, with its first next hop open.

@@ -7,20 +7,20 @@ use Rattle.npr_base.specs.Codec.{Codec, exactly, no_members}
 use Rattle.npr_scalar.specs.IpProtocol.{byte_of, ip_protocols, ip_protocol}
 use Rattle.npr_scalar.specs.declared.ip_protocol.IpProtocol.{IpProtocol}
 
-abbrev pub misfit_by : Option ℕ → EmitError → Option EmitError
-misfit_by (Some byte) cause = None
-misfit_by None cause = Some cause
+abbrev pub unfit_unless : Option ℕ → EmitError → Option EmitError
+unfit_unless (Some byte) cause = None
+unfit_unless None cause = Some cause
 
 -- why it can't be written, if so
-abbrev pub protocol_misfit : IpProtocol → Option EmitError
-protocol_misfit x = misfit_by (byte_of (ip_protocols.number x)) (NoByte (ip_protocols.number x))
+abbrev pub protocol_unfit : IpProtocol → Option EmitError
+protocol_unfit x = unfit_unless (byte_of (ip_protocols.number x)) (NoByte (ip_protocols.number x))
 
 abbrev pub ip_protocol_byte : Codec IpProtocol
 ip_protocol_byte = record {
   Reads = (exactly ip_protocol).Reads;
   Wrong = (exactly ip_protocol).Wrong;
-  writes = ip_protocol.encode;
-  inside = λ kind x. protocol_misfit x;
+  encode = ip_protocol.encode;
+  unfit = λ kind x. protocol_unfit x;
   Holds = ip_protocol.Holds;
   members = no_members;
   one_reading = (exactly ip_protocol).one_reading;

@@ -2,9 +2,9 @@
 
 ghost use Rattle.std.specs.Prelude.{◌≡◌, None};
 ghost use Rattle.{
-  npr_base.specs.{Family.{checked}, Tables.{shape_by, shape-by}},
+  npr_base.specs.{Lists.{checked}, Tables.{shape_by, shape-by}},
   npr_scalar.specs.IpProtocol.{above_zero, ip_protocols},
-  npr_rule.specs.{IpProtocolByte.{protocol_misfit}, Attribute.{table, family}},
+  npr_rule.specs.{IpProtocolByte.{protocol_unfit}, Attribute.{table, family}},
 };
 
 use crate::port_range::RulePortRange;
@@ -115,7 +115,7 @@ impl Nla for RuleAttribute {
 /// # Errors
 /// `IpProtocol` where no byte holds its number.
 fn check_protocol(protocol: IpProtocol) -> Result<usize, EmitError>
-    ensures { result ≡ checked (protocol_misfit protocol) 1 }
+    ensures { result ≡ checked (protocol_unfit protocol) 1 }
 {
     match protocol.as_u8() {
         Some(_) => Ok(1),
@@ -127,7 +127,7 @@ fn check_protocol(protocol: IpProtocol) -> Result<usize, EmitError>
 
 /// The byte of a protocol that has one.
 fn protocol_byte(protocol: IpProtocol) -> u8
-    requires { protocol_misfit protocol ≡ None }
+    requires { protocol_unfit protocol ≡ None }
     ensures { result ≡ above_zero (ip_protocols.number protocol) }
 {
     match protocol.as_u8() {
@@ -153,7 +153,7 @@ impl Attribute for RuleAttribute {
         rows!(put_rows(place, alloc, item, looks))
     }
 
-    fn clone(&self, alloc: Global) -> Result<Self, AllocError> {
+    fn try_clone(&self, alloc: Global) -> Result<Self, AllocError> {
         rows!(clone_rows(self, alloc))
     }
 }

@@ -17,6 +17,6 @@ mpls_label = structure struct (fields_of fills packed be_four entry (λ n. refl)
 abbrev pub mpls_labels : Codec (List MplsLabel)
 mpls_labels = blocks mpls_label (lit< tt)
 
-pub length-mpls_labels : (xs : List MplsLabel) → length (mpls_labels.writes xs) ≡ length xs * 4
+pub length-mpls_labels : (xs : List MplsLabel) → length (mpls_labels.encode xs) ≡ length xs * 4
 length-mpls_labels [] = refl
-length-mpls_labels (x ∷ xs) = omega (arith, length-mpls_labels xs, length-append (mpls_label.encode x) (mpls_labels.writes xs))
+length-mpls_labels (x ∷ xs) = omega (arith, length-mpls_labels xs, length-append (mpls_label.encode x) (mpls_labels.encode xs))

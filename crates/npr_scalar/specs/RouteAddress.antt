@@ -53,7 +53,7 @@ address_by sixteen = variant (exactly (octets 16)) inet6 route_address_bytes (λ
 address_by label = variant (exactly mpls_label) mpls route_address_bytes (λ v. refl) (λ v. refl)
 address_by any = variant raw other route_address_bytes (λ v. refl) (λ v. refl)
 
-pub address-alike : (form : Form) → ((address_by form).writes ≡ route_address_bytes) × ((a : Address) → (address_by form).inside 0 a ≡ None)
+pub address-alike : (form : Form) → ((address_by form).encode ≡ route_address_bytes) × ((a : Address) → (address_by form).unfit 0 a ≡ None)
 address-alike four = (refl, λ a. refl)
 address-alike sixteen = (refl, λ a. refl)
 address-alike label = (refl, λ a. refl)

@@ -159,8 +159,8 @@ abbrev pub via_value : Codec Via
 via_value = record {
   Reads = IsVia;
   Wrong = NotVia;
-  writes = via_bytes;
-  inside = λ kind v. None;
+  encode = via_bytes;
+  unfit = λ kind v. None;
   Holds = HoldsVia;
   members = no_members;
   one_reading =

@@ -79,7 +79,8 @@ impl RouteAddress {
         }
     }
 
-    /// Writes its bytes at the front of the slice, leaves the rest, and answers their length.
+    /// Writes its bytes at the front of the slice, leaves the rest, and answers their length. Asks for
+    /// room of `len`.
     pub fn write(&self, out: &mut [u8]) -> usize
         requires { length (route_address_bytes (address_of self.now)) ≤ length out.old }
         ensures len { result ≡ length (route_address_bytes (address_of self.now)) }
@@ -97,7 +98,7 @@ impl RouteAddress {
     ///
     /// # Errors
     /// `AllocError` where memory is refused.
-    pub fn clone(&self, alloc: Global) -> Result<Self, AllocError>
+    pub fn try_clone(&self, alloc: Global) -> Result<Self, AllocError>
         ensures { IfOk result (λ a. address_of a ≡ address_of self.now) }
     {
         match self {

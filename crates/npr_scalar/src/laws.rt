@@ -47,7 +47,7 @@ pub fn law_label_number()
 
 /// What is written of a stack is four bytes an entry.
 pub fn law_labels_length()
-    ensures { (xs : List MplsLabel) → length (mpls_labels.writes xs) ≡ length xs * 4 }
+    ensures { (xs : List MplsLabel) → length (mpls_labels.encode xs) ≡ length xs * 4 }
 {}
 
 /// A number is two realms and is written as that number again, and two realms of a program are
@@ -124,6 +124,6 @@ pub fn law_layouts()
 /// An address that its family can hold, and a gateway that can be read, are read again from their
 /// bytes.
 pub fn law_read_back()
-    ensures address { (family : AddressFamily) (a : Address) → (route_address family).Holds a → (route_address family).Reads ((route_address family).writes a) a }
-    ensures via { (v : Via) → via_value.Holds v → via_value.Reads (via_value.writes v) v }
+    ensures address { (family : AddressFamily) (a : Address) → (route_address family).Holds a → (route_address family).Reads ((route_address family).encode a) a }
+    ensures via { (v : Via) → via_value.Holds v → via_value.Reads (via_value.encode v) v }
 {}

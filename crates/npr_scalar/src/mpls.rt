@@ -98,17 +98,17 @@ pub fn read_labels(alloc: Global, bytes: &[u8]) -> Result<Vec<MplsLabel>, Decode
 
 /// The length of the entries, in bytes: four an entry.
 pub fn labels_len(labels: &[MplsLabel]) -> usize
-    ensures { result ≡ length (mpls_labels.writes labels.now) }
+    ensures { result ≡ length (mpls_labels.encode labels.now) }
 {
     labels.len() * 4
 }
 
 /// Writes the entries one after the other at the front of the slice, leaves the rest, and answers
-/// their length: four bytes an entry.
+/// their length: four bytes an entry. Asks for room of that length.
 pub fn write_labels(labels: &[MplsLabel], out: &mut [u8]) -> usize
-    requires { length (mpls_labels.writes labels.now) ≤ length out.old }
-    ensures len { result ≡ length (mpls_labels.writes labels.now) }
-    ensures after { Writes out.old out.new (mpls_labels.writes labels.now) }
+    requires { length (mpls_labels.encode labels.now) ≤ length out.old }
+    ensures len { result ≡ length (mpls_labels.encode labels.now) }
+    ensures after { Writes out.old out.new (mpls_labels.encode labels.now) }
 {
     let mut at = 0usize;
     for entry in labels {
@@ -117,11 +117,11 @@ pub fn write_labels(labels: &[MplsLabel], out: &mut [u8]) -> usize
     at
 }
 
-/// Writes the entries one after the other into a slice of exactly their length, which is four
-/// bytes an entry.
+/// Writes the entries one after the other. Asks for a slice of exactly their length, which is four
+/// bytes an entry. It is for callers: the library writes by `write_labels`.
 pub fn emit_labels(labels: &[MplsLabel], out: &mut [u8])
-    requires { length out.old ≡ length (mpls_labels.writes labels.now) }
-    ensures { out.new ≡ mpls_labels.writes labels.now }
+    requires { length out.old ≡ length (mpls_labels.encode labels.now) }
+    ensures { out.new ≡ mpls_labels.encode labels.now }
 {
     write_labels(labels, out);
 }

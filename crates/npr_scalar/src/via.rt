@@ -127,7 +127,8 @@ impl RouteVia {
         }
     }
 
-    /// Writes its bytes at the front of the slice, leaves the rest, and answers their length.
+    /// Writes its bytes at the front of the slice, leaves the rest, and answers their length. Asks for
+    /// room of `len`.
     pub fn write(&self, out: &mut [u8]) -> usize
         requires { length (via_bytes (via_of self.now)) ≤ length out.old }
         ensures len { result ≡ length (via_bytes (via_of self.now)) }
@@ -147,7 +148,7 @@ impl RouteVia {
     ///
     /// # Errors
     /// `AllocError` where memory is refused.
-    pub fn clone(&self, alloc: Global) -> Result<Self, AllocError>
+    pub fn try_clone(&self, alloc: Global) -> Result<Self, AllocError>
         ensures { IfOk result (λ via. via_of via ≡ via_of self.now) }
     {
         match self {

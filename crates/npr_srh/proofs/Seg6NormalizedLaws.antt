@@ -2,11 +2,11 @@
 -- what bytes meant, they mean brought up.
 use Rattle.std.specs.Prelude.{◌==◌}
 use Rattle.std.proofs.Common.{◌≡◌, ℕ, ◌<◌, ◌^◌, List, inl, inr, length, refl, sym, ap, subst, ◌∙◌}
-use Rattle.npr_base.specs.Family.{misfit_of, option_or, too_long}
+use Rattle.npr_base.specs.Lists.{unfit_of, option_or, too_long}
 use Rattle.npr_base.specs.Framing.{Item, number_of}
 use Rattle.npr_base.specs.EnumTableLaws.{matches}
 use Rattle.npr_base.specs.Numbering.{of_IsFormed}
-use Rattle.npr_base.specs.Table.{written_by, unfit_by}
+use Rattle.npr_base.specs.Family.{written_by, unfit_by}
 use Rattle.npr_srh.specs.Segments.{too_many}
 use Rattle.npr_srh.specs.Seg6.{Seg6, IsSeg6, IsSeg6By, HoldsSeg6By, seg6_bytes, most_segments, decode_message, normalized as normalized_header}
 use Rattle.npr_srh.specs.Seg6Mode.{ModeTable, modes, seg6_modes, mode_number, modes_by}
@@ -56,11 +56,11 @@ pub member-item : (m : Meaning) → written_by writing (normalized m) ≡ writte
 member-item (inl h) = rw (header-bytes h) refl
 member-item (inr m) = refl
 
-pub member-misfit : (m : Meaning) → unfit_by writing (normalized m) ≡ unfit_by writing m
-member-misfit (inl h) =
+pub member-unfit : (m : Meaning) → unfit_by writing (normalized m) ≡ unfit_by writing m
+member-unfit (inl h) =
     let few = too_many (most_segments h.hmac) (length h.segments) in
-    ap (λ (b : List ℕ). misfit_of (option_or (too_long 1 (length b)) few) (record { kind = 1; value = b })) (header-bytes h)
-member-misfit (inr m) = refl
+    ap (λ (b : List ℕ). unfit_of (option_or (too_long 1 (length b)) few) (record { kind = 1; value = b })) (header-bytes h)
+member-unfit (inr m) = refl
 
 pub member-again : (m : Meaning) → normalized (normalized m) ≡ normalized m
 member-again (inl h) = λ i. inl (header-again h i)

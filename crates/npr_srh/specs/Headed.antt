@@ -12,7 +12,7 @@ use Rattle.std.proofs.lemmas.List.{get_or_append_left}
 use Rattle.npr_base.specs.declared.refusal.DecodeError.TheVariants.{Unsupported}
 use Rattle.npr_base.specs.declared.refusal.EmitError.{EmitError}
 use Rattle.npr_base.specs.Framing.{IsBytes, framed}
-use Rattle.npr_base.specs.Family.{AllOf, option_or, too_long}
+use Rattle.npr_base.specs.Lists.{AllOf, option_or, too_long}
 use Rattle.npr_base.specs.CodecLaws.{framed-grows}
 use Rattle.npr_base.specs.Fields.{Field, one_byte, standing, ◌and◌, ◌before◌, fields}
 use Rattle.npr_base.specs.Layout.{Layout, formed}
@@ -60,8 +60,8 @@ pub record IsHeaded {F : Type 0} (L : Fixed F) (bytes : List ℕ) (h : Headed F)
 abbrev pub headed_bytes : {F : Type 0} → Fixed F → Headed F → List ℕ
 headed_bytes L h = (front_layout L (2 * length h.segments)).encode h.front ++ concat h.segments
 
-abbrev pub headed_misfit : {F : Type 0} → Fixed F → ℕ → Headed F → Option EmitError
-headed_misfit L kind h = option_or (too_long kind (length (headed_bytes L h))) (too_many 127 (length h.segments))
+abbrev pub headed_unfit : {F : Type 0} → Fixed F → ℕ → Headed F → Option EmitError
+headed_unfit L kind h = option_or (too_long kind (length (headed_bytes L h))) (too_many 127 (length h.segments))
 
 -- what can be read
 pub record HoldsHeaded {F : Type 0} (L : Fixed F) (h : Headed F) : Type 0 where
@@ -140,8 +140,8 @@ abbrev pub headed : {F : Type 0} → Fixed F → Codec (Headed F)
 headed L = record {
   Reads = IsHeaded L;
   Wrong = λ at bytes e. IsUnread (IsHeaded L) bytes × (e ≡ Unsupported at);
-  writes = headed_bytes L;
-  inside = headed_misfit L;
+  encode = headed_bytes L;
+  unfit = headed_unfit L;
   Holds = HoldsHeaded L;
   members = no_members;
   one_reading = headed-one L;

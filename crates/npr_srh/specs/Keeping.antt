@@ -5,10 +5,11 @@ use Rattle.npr_base.specs.Codec.{Codec}
 use Rattle.npr_base.specs.CodecLaws.{framed-grows}
 use Rattle.npr_base.specs.Counts.{Counts, SawEach}
 use Rattle.npr_base.specs.EnumTable.{EnumTable, other_in}
-use Rattle.npr_base.specs.EnumTableLaws.{held-other}
+use Rattle.npr_base.specs.EnumTableLaws.{slot-other}
 use Rattle.npr_base.specs.Framing.{Item, Proper, framed, number_of}
 use Rattle.npr_base.specs.LooksLaws.{none-saw}
-use Rattle.npr_base.specs.Table.{Reading, Writing, written_by, unfit_by, item_of, held_members}
+use Rattle.npr_base.specs.Family.{Reading, Writing, written_by, unfit_by}
+use Rattle.npr_base.specs.Table.{item_of, slot_members}
 use Rattle.npr_base.specs.Tables.{writing_of, attributes_of}
 use denote.Enum.Declared.{Record}
 
@@ -106,8 +107,8 @@ module _ {M V : Type 0} {w : Writing M} (f : Reading w) (other : Item → M) (ro
 -- of a table of an enum's variants
 pub others_alone : {N : Record} (t : EnumTable N) → IsAlone (writing_of t) (other_in N.parts t.rows)
 others_alone {N} t = record {
-  written = λ x. ap item_of (held-other N.parts t.rows x);
-  members = λ x. ap held_members (held-other N.parts t.rows x);
+  written = λ x. ap item_of (slot-other N.parts t.rows x);
+  members = λ x. ap slot_members (slot-other N.parts t.rows x);
 }
 
 abbrev pub keeping_in : {N : Record} (t : EnumTable N) {V : Type 0} (row : ℕ) (codec : Codec V) → IsRowOf (attributes_of t) row codec

@@ -11,7 +11,7 @@ use Rattle.npr_base.specs.declared.refusal.EmitError.{EmitError}
 use Rattle.npr_base.specs.declared.refusal.Seg6Fault.{Seg6Fault}
 use Rattle.npr_base.specs.declared.refusal.Seg6Fault.TheVariants.{Short, Length, Hmac, Segments}
 use Rattle.npr_base.specs.Framing.{IsBytes}
-use Rattle.npr_base.specs.Family.{AllOf, option_or, too_long}
+use Rattle.npr_base.specs.Lists.{AllOf, option_or, too_long}
 use Rattle.npr_base.specs.Fields.{one_byte, le_two, le_four, ◌fills◌, ◌then◌, last, structure}
 use Rattle.npr_base.specs.Layout.{Layout}
 use Rattle.npr_base.specs.Numbering.{IsFormed}
@@ -147,8 +147,8 @@ abbrev pub most_segments : Option ℕ → ℕ
 most_segments None = 127
 most_segments (Some key) = 125
 
-abbrev pub seg6_misfit : ℕ → Seg6 → Option EmitError
-seg6_misfit kind h = option_or (too_long kind (length (seg6_bytes h))) (too_many (most_segments h.hmac) (length h.segments))
+abbrev pub seg6_unfit : ℕ → Seg6 → Option EmitError
+seg6_unfit kind h = option_or (too_long kind (length (seg6_bytes h))) (too_many (most_segments h.hmac) (length h.segments))
 
 -- what can be read
 abbrev pub HoldsKey : Option ℕ → Type 0

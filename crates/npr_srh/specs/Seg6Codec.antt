@@ -10,7 +10,7 @@ use Rattle.npr_base.specs.declared.refusal.DecodeError.TheVariants.{Seg6Header a
 use Rattle.npr_base.specs.declared.refusal.Seg6Fault.{Seg6Fault}
 use Rattle.npr_base.specs.declared.refusal.Seg6Fault.TheVariants.{Short, Length, Hmac, Segments}
 use Rattle.npr_base.specs.Framing.{IsBytes, framed}
-use Rattle.npr_base.specs.Family.{AllOf, too_long}
+use Rattle.npr_base.specs.Lists.{AllOf, too_long}
 use Rattle.npr_base.specs.FitLaws.{none_both}
 use Rattle.npr_base.specs.CodecLaws.{framed-grows}
 use Rattle.npr_base.specs.LayoutLaws.{be32-holds}
@@ -23,7 +23,7 @@ use Rattle.npr_srh.specs.Seg6Mode.{ModeTable, modes, modes_by, mode_number}
 use Rattle.npr_srh.specs.declared.seg6_header.Seg6MessageBuffer.{Seg6MessageBuffer}
 use Rattle.npr_srh.specs.Segments.{too_many, few}
 use Rattle.npr_srh.specs.Seg6.{Seg6, IsSeg6By, IsKey, HasFront, Seg6Wrong, Seg6Faulty, HoldsSeg6By, HoldsKey, message, decode_message, encode_message}
-use Rattle.npr_srh.specs.Seg6.{header_len, hmac_len, front_of, seg6_bytes, key_bytes, key_eights, key_flags, most_segments, seg6_misfit}
+use Rattle.npr_srh.specs.Seg6.{header_len, hmac_len, front_of, seg6_bytes, key_bytes, key_eights, key_flags, most_segments, seg6_unfit}
 
 -- ---- one reading
 
@@ -120,7 +120,7 @@ key-room : (key : Option ℕ) (count : ℕ) → count ≤ most_segments key → 
 key-room None count le = (omega arith, omega arith)
 key-room (Some k) count le = (omega arith, omega arith)
 
-pub seg6-back : (table : ModeTable) (kind : ℕ) (h : Seg6) → HoldsSeg6By table h → seg6_misfit kind h ≡ None → IsSeg6By table (seg6_bytes h) h
+pub seg6-back : (table : ModeTable) (kind : ℕ) (h : Seg6) → HoldsSeg6By table h → seg6_unfit kind h ≡ None → IsSeg6By table (seg6_bytes h) h
 seg6-back table kind h holds fits =
     let count = few (most_segments h.hmac) (length h.segments)
     (none_both (too_long kind (length (seg6_bytes h))) (too_many (most_segments h.hmac) (length h.segments)) fits).1 in
@@ -174,8 +174,8 @@ abbrev pub seg6_by : ModeTable → Codec Seg6
 seg6_by table = record {
   Reads = IsSeg6By table;
   Wrong = λ at bytes e. Seg6Wrong bytes e;
-  writes = seg6_bytes;
-  inside = seg6_misfit;
+  encode = seg6_bytes;
+  unfit = seg6_unfit;
   Holds = HoldsSeg6By table;
   members = no_members;
   one_reading = seg6-one table;

@@ -2,7 +2,7 @@
 use Rattle.std.proofs.Common.{◌≡◌, inl, inr, refl}
 use Rattle.npr_base.specs.declared.refusal.AttrFamily.TheVariants.{Seg6}
 use Rattle.npr_base.specs.EnumTableLaws.{rewritten}
-use Rattle.npr_base.specs.Table.{Writing}
+use Rattle.npr_base.specs.Family.{Writing}
 use Rattle.npr_base.specs.Tables.{EnumTable, table_of, row, others, ◌or◌, value, seen, exactly, le32, octets, Reading, Family, Meanings, writing_of}
 use Rattle.npr_base.specs.Tables.{attributes_of, family_of_table}
 use Rattle.npr_srh.specs.Seg6.{seg6_of, normalized as normalized_header}

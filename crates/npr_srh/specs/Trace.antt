@@ -41,8 +41,8 @@ abbrev pub trace : Codec Ioam6TraceHdr
 trace = record {
   Reads = IsTrace;
   Wrong = λ at bytes e. IsUnread IsTrace bytes × (e ≡ Unsupported at);
-  writes = trace_layout.encode;
-  inside = λ kind t. None;
+  encode = trace_layout.encode;
+  unfit = λ kind t. None;
   Holds = trace_layout.Holds;
   members = no_members;
   one_reading = exactly-one trace_layout;

@@ -2,7 +2,7 @@
 
 ghost use Rattle.std.specs.{Prelude.{◌≡◌, ◌≢◌, IfOk, IfErr, IfSome, IfNone, refl, Some}, Fmt.{WritesOnOk}};
 ghost use Rattle.{
-  npr_base.specs.{Table.{shaped, shape_at, held}, declared.refusal.DecodeError.TheVariants.{OutOfMemory}},
+  npr_base.specs.{Family.{shaped}, Table.{shape_at, slot_plain}, declared.refusal.DecodeError.TheVariants.{OutOfMemory}},
   npr_srh.specs.{
     Ioam6Mode.{ioam6_modes, ioam6_mode_text},
     Keeping.{IsUnread},
@@ -107,7 +107,7 @@ impl Ioam6TraceHdr {
 }
 
 impl Nla for Ioam6TraceHdr {
-    ghost shape = { λ t. shape_at (held 3 trace t) };
+    ghost shape = { λ t. shape_at (slot_plain 3 trace t) };
 
     fn kind(&self) -> u16 {
         IOAM6_IPTUNNEL_TRACE
@@ -226,7 +226,7 @@ impl Attribute for RouteIoam6Tunnel {
         ))
     }
 
-    fn clone(&self, alloc: Global) -> Result<Self, AllocError> {
+    fn try_clone(&self, alloc: Global) -> Result<Self, AllocError> {
         rows!(clone_rows(self, alloc; RouteIoam6Tunnel::Trace(trace) => Ok(RouteIoam6Tunnel::Trace(*trace)),))
     }
 }

@@ -3,7 +3,7 @@
 
 ghost use Rattle.std.specs.Prelude.{◌≡◌, ◌≤◌, ◌*◌, length, [], IfOk, IfErr, IfSome, IfNone, refl};
 ghost use Rattle.{
-  npr_base.specs.{Table.{shaped, shape_at, held}, declared.refusal.DecodeError.TheVariants.{OutOfMemory}},
+  npr_base.specs.{Family.{shaped}, Table.{shape_at, slot_plain}, declared.refusal.DecodeError.TheVariants.{OutOfMemory}},
   npr_srh.specs.{
     Keeping.{IsUnread},
     Headed.{front_layout},
@@ -62,7 +62,7 @@ impl RplSrh {
     ///
     /// # Errors
     /// `AllocError` where memory is refused.
-    pub fn clone(&self, alloc: Global) -> Result<Self, AllocError>
+    pub fn try_clone(&self, alloc: Global) -> Result<Self, AllocError>
         ensures { IfOk result (λ h. rpl_of h ≡ rpl_of self.now) }
     {
         Ok(RplSrh {
@@ -114,7 +114,7 @@ impl RplSrh {
 }
 
 impl Nla for RplSrh {
-    ghost shape = { λ h. shape_at (held 1 rpl (rpl_of h)) };
+    ghost shape = { λ h. shape_at (slot_plain 1 rpl (rpl_of h)) };
 
     fn kind(&self) -> u16 {
         RPL_IPTUNNEL_SRH
@@ -175,7 +175,7 @@ impl Nla for RouteRplIpTunnel {
     ghost shape = { shaped family };
 
     fn kind(&self) -> u16 {
-        rows!(kind_rows(self; RouteRplIpTunnel::Srh(_) => 1,))
+        rows!(kind_rows(self; RouteRplIpTunnel::Srh(header) => header.kind(),))
     }
 
     fn is_nested(&self) -> bool {
@@ -214,8 +214,8 @@ impl Attribute for RouteRplIpTunnel {
         ))
     }
 
-    fn clone(&self, alloc: Global) -> Result<Self, AllocError> {
-        rows!(clone_rows(self, alloc; RouteRplIpTunnel::Srh(header) => header.clone(alloc).map(RouteRplIpTunnel::Srh),))
+    fn try_clone(&self, alloc: Global) -> Result<Self, AllocError> {
+        rows!(clone_rows(self, alloc; RouteRplIpTunnel::Srh(header) => header.try_clone(alloc).map(RouteRplIpTunnel::Srh),))
     }
 }
 

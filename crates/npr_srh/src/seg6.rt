@@ -1,7 +1,7 @@
 //! SEG6: members of its tunnel (RFC 8754; `linux/seg6_iptunnel.h`).
 
 ghost use Rattle.std.specs.Prelude.{refl};
-ghost use Rattle.{npr_base.specs.Table.{shaped}, npr_srh.specs.Seg6Tunnel.{family}};
+ghost use Rattle.{npr_base.specs.Family.{shaped}, npr_srh.specs.Seg6Tunnel.{family}};
 
 use crate::seg6_header::Seg6Header;
 use npr_base::{
@@ -36,7 +36,7 @@ impl Nla for RouteSeg6IpTunnel {
     ghost shape = { shaped family };
 
     fn kind(&self) -> u16 {
-        rows!(kind_rows(self; RouteSeg6IpTunnel::Seg6(_) => 1,))
+        rows!(kind_rows(self; RouteSeg6IpTunnel::Seg6(header) => header.kind(),))
     }
 
     fn is_nested(&self) -> bool {
@@ -70,7 +70,7 @@ impl Attribute for RouteSeg6IpTunnel {
         rows!(put_rows(place, alloc, item, looks; 1 => put_read(place, Seg6Header::read(alloc, item.value()), RouteSeg6IpTunnel::Seg6),))
     }
 
-    fn clone(&self, alloc: Global) -> Result<Self, AllocError> {
-        rows!(clone_rows(self, alloc; RouteSeg6IpTunnel::Seg6(header) => header.clone(alloc).map(RouteSeg6IpTunnel::Seg6),))
+    fn try_clone(&self, alloc: Global) -> Result<Self, AllocError> {
+        rows!(clone_rows(self, alloc; RouteSeg6IpTunnel::Seg6(header) => header.try_clone(alloc).map(RouteSeg6IpTunnel::Seg6),))
     }
 }

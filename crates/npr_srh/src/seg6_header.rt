@@ -3,7 +3,7 @@
 ghost use Rattle.std.specs.{Prelude.{◌≡◌, ◌≢◌, ◌≤◌, ◌*◌, ◌/◌, ◌%◌, None, length, take, reverse, [], Err, IfOk, IfErr}, List.{concat}};
 ghost use Rattle.{
   npr_base.specs.{
-    Table.{shape_at, held},
+    Table.{shape_at, slot_plain},
     Codec.{leading},
     Framing.{Writes},
     Refusal.{no_place},
@@ -175,7 +175,7 @@ impl Seg6Header {
     ///
     /// # Errors
     /// `AllocError` where memory is refused.
-    pub fn clone(&self, alloc: Global) -> Result<Self, AllocError>
+    pub fn try_clone(&self, alloc: Global) -> Result<Self, AllocError>
         ensures { IfOk result (λ h. seg6_of h ≡ seg6_of self.now) }
     {
         Ok(Seg6Header {
@@ -287,7 +287,7 @@ fn write_key(key: Option<u32>, out: &mut [u8]) -> usize
 }
 
 impl Nla for Seg6Header {
-    ghost shape = { λ h. shape_at (held 1 seg6 (seg6_of h)) };
+    ghost shape = { λ h. shape_at (slot_plain 1 seg6 (seg6_of h)) };
 
     fn kind(&self) -> u16 {
         SEG6_IPTUNNEL_SRH

@@ -1,7 +1,7 @@
 //! SEG6 local: members of its tunnel (RFC 8986; `linux/seg6_local.h`).
 
 ghost use Rattle.std.specs.Prelude.{refl};
-ghost use Rattle.{npr_base.specs.Table.{shaped}, npr_srh.specs.Seg6LocalTunnel.{family, local_text}};
+ghost use Rattle.{npr_base.specs.Family.{shaped}, npr_srh.specs.Seg6LocalTunnel.{family, local_text}};
 
 use crate::seg6local_action::Seg6LocalAction;
 use crate::seg6local_srh::Seg6LocalSrh;
@@ -59,7 +59,7 @@ impl Nla for RouteSeg6LocalTunnel {
     ghost shape = { shaped family };
 
     fn kind(&self) -> u16 {
-        rows!(kind_rows(self; RouteSeg6LocalTunnel::Srh(_) => 2,))
+        rows!(kind_rows(self; RouteSeg6LocalTunnel::Srh(header) => header.kind(),))
     }
 
     fn is_nested(&self) -> bool {
@@ -98,8 +98,8 @@ impl Attribute for RouteSeg6LocalTunnel {
         ))
     }
 
-    fn clone(&self, alloc: Global) -> Result<Self, AllocError> {
-        rows!(clone_rows(self, alloc; RouteSeg6LocalTunnel::Srh(header) => header.clone(alloc).map(RouteSeg6LocalTunnel::Srh),))
+    fn try_clone(&self, alloc: Global) -> Result<Self, AllocError> {
+        rows!(clone_rows(self, alloc; RouteSeg6LocalTunnel::Srh(header) => header.try_clone(alloc).map(RouteSeg6LocalTunnel::Srh),))
     }
 }
 

@@ -2,7 +2,7 @@
 
 ghost use Rattle.std.specs.Prelude.{◌≡◌, ◌≤◌, ◌*◌, length, [], IfOk, IfErr, IfSome, IfNone};
 ghost use Rattle.{
-  npr_base.specs.{Table.{shape_at, held}, declared.refusal.DecodeError.TheVariants.{OutOfMemory}},
+  npr_base.specs.{Table.{shape_at, slot_plain}, declared.refusal.DecodeError.TheVariants.{OutOfMemory}},
   npr_srh.specs.{Keeping.{IsUnread}, Headed.{front_layout}, Seg6Local.{local, local_of, local_front}, Seg6LocalTunnel.{srh_at}},
 };
 
@@ -55,7 +55,7 @@ impl Seg6LocalSrh {
     ///
     /// # Errors
     /// `AllocError` where memory is refused.
-    pub fn clone(&self, alloc: Global) -> Result<Self, AllocError>
+    pub fn try_clone(&self, alloc: Global) -> Result<Self, AllocError>
         ensures { IfOk result (λ h. local_of h ≡ local_of self.now) }
     {
         Ok(Seg6LocalSrh {
@@ -104,7 +104,7 @@ impl Seg6LocalSrh {
 }
 
 impl Nla for Seg6LocalSrh {
-    ghost shape = { λ h. shape_at (held 2 local (local_of h)) };
+    ghost shape = { λ h. shape_at (slot_plain 2 local (local_of h)) };
 
     fn kind(&self) -> u16 {
         SEG6_LOCAL_SRH

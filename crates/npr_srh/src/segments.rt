@@ -2,7 +2,7 @@
 
 ghost use Rattle.std.specs.{Prelude.{◌≡◌, ◌≤◌, ◌+◌, length, IfSome, IfNone, IfOk, IfErr}, List.{concat}, Fmt.{DisplaysOnOk}};
 ghost use Rattle.{
-  npr_base.specs.{Family.{AllOf, checked, option_or, too_long}, declared.refusal.DecodeError.TheVariants.{OutOfMemory}},
+  npr_base.specs.{Lists.{AllOf, checked, option_or, too_long}, declared.refusal.DecodeError.TheVariants.{OutOfMemory}},
   npr_srh.specs.{Headed.{IsParted}, Keeping.{IsUnread}, Segments.{too_many, header_text, segments_text}},
 };
 

@@ -77,7 +77,7 @@ where
     }
 
     fn copy(&self, alloc: Global) -> Result<Self, AllocError> {
-        self.clone(alloc)
+        self.try_clone(alloc)
     }
 
     fn attributes(&self) -> &[H::Attribute] {
@@ -238,7 +238,7 @@ pub fn members<A: Attribute + Debug + PartialEq>(
         let item = NlaBuffer::new_checked(bytes.as_slice())?;
         match A::read(rt.alloc(), context, &item, &mut Looks::new()) {
             Ok(member) => {
-                holds(member.clone(rt.alloc())? == member)?;
+                holds(member.try_clone(rt.alloc())? == member)?;
                 shows(rt, &member, text)?;
                 writes(rt, member, &[written])?;
             }

@@ -1,6 +1,6 @@
 -- Members of an encapsulation of an older table of SEG6 modes, brought up to the table of today.
 use Rattle.std.proofs.Common.{◌≡◌, refl, ap}
-use Rattle.npr_base.specs.Table.{written_by, unfit_by}
+use Rattle.npr_base.specs.Family.{written_by, unfit_by}
 use Rattle.npr_base.specs.Framing.{Item}
 use Rattle.npr_srh.specs.Seg6Mode.{ModeTable}
 use Rattle.npr_srh.specs.Seg6Tunnel as OfSeg6
@@ -14,9 +14,9 @@ pub member-writes : (m : Meaning) → written_by writing (normalized m) ≡ writ
 member-writes (seg6 m) = OfSeg6Laws.member-item m
 member-writes m = refl
 
-pub member-misfit : (m : Meaning) → unfit_by writing (normalized m) ≡ unfit_by writing m
-member-misfit (seg6 m) = OfSeg6Laws.member-misfit m
-member-misfit m = refl
+pub member-unfit : (m : Meaning) → unfit_by writing (normalized m) ≡ unfit_by writing m
+member-unfit (seg6 m) = OfSeg6Laws.member-unfit m
+member-unfit m = refl
 
 pub member-again : (m : Meaning) → normalized (normalized m) ≡ normalized m
 member-again (seg6 m) = ap seg6 (OfSeg6Laws.member-again m)

@@ -3,7 +3,7 @@ use Rattle.std.proofs.Common.{◌≡◌, ℕ, ◌+◌, ◌-◌, ◌<◌, ◌≤�
 use Rattle.std.proofs.lemmas.List.{length_push}
 use Rattle.npr_base.specs.declared.refusal.DecodeError.{DecodeError}
 use Rattle.npr_base.specs.Counts.{Counts, hit, miss}
-use Rattle.npr_base.specs.Family.{ReadsTo}
+use Rattle.npr_base.specs.Lists.{ReadsTo}
 use Rattle.npr_base.specs.Framing.{Item, Front, Fault}
 use Rattle.npr_base.specs.FrontLaws.{Front-shrinks, Front-sound, Front-takes}
 use Rattle.npr_base.specs.Looks.{list_ends, none_stands, faulty_stands, passed}

@@ -2,8 +2,9 @@
 -- stands (linux/lwtunnel.h, LWTUNNEL_ENCAP_*).
 use Rattle.std.proofs.Common.{refl}
 use Rattle.npr_base.specs.Framing.{Item}
-use Rattle.npr_base.specs.Tables.{held_at}
-use Rattle.npr_base.specs.Table.{Writing, Reading, Family, Held, held_other, family_of, writing_by}
+use Rattle.npr_base.specs.Tables.{slot_at}
+use Rattle.npr_base.specs.Family.{Writing, Reading, Family, family_of}
+use Rattle.npr_base.specs.Table.{Slot, slot_other, writing_by}
 use Rattle.npr_srh.specs.Ioam6Tunnel as OfIoam6
 use Rattle.npr_srh.specs.RplTunnel as OfRpl
 use Rattle.npr_srh.specs.Seg6LocalTunnel as OfSeg6Local
@@ -43,20 +44,20 @@ meaning_of (HasXfrm m) = xfrm (OfXfrm.family.meaning m)
 meaning_of (Other d) = other d
 
 -- where each stands in its tunnel's table, whatever the type
-abbrev pub held_of : Meaning → Held
-held_of (mpls m) = held_at OfMpls.table m
-held_of (seg6 m) = held_at (OfSeg6.table modes) m
-held_of (ip m) = held_at OfIp.table m
-held_of (ip6 m) = held_at OfIp.table6 m
-held_of (ioam6 m) = held_at OfIoam6.table m
-held_of (rpl m) = held_at OfRpl.table m
-held_of (seg6_local m) = held_at OfSeg6Local.table m
-held_of (xfrm m) = held_at OfXfrm.table m
-held_of (other x) = held_other x
+abbrev pub slot_of : Meaning → Slot
+slot_of (mpls m) = slot_at OfMpls.table m
+slot_of (seg6 m) = slot_at (OfSeg6.table modes) m
+slot_of (ip m) = slot_at OfIp.table m
+slot_of (ip6 m) = slot_at OfIp.table6 m
+slot_of (ioam6 m) = slot_at OfIoam6.table m
+slot_of (rpl m) = slot_at OfRpl.table m
+slot_of (seg6_local m) = slot_at OfSeg6Local.table m
+slot_of (xfrm m) = slot_at OfXfrm.table m
+slot_of (other x) = slot_other x
 
 -- how each is written
 abbrev pub writing : Writing Meaning
-writing = writing_by held_of
+writing = writing_by slot_of
 
 -- the family of a type, by a table of SEG6 modes
 unfoldable pub encapsulation_by : ModeTable → RouteLwEnCapType → Reading writing

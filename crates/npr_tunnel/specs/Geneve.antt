@@ -6,7 +6,7 @@ use Rattle.npr_base.specs.declared.refusal.DecodeError.{DecodeError}
 use Rattle.npr_base.specs.declared.refusal.DecodeError.TheVariants.{GeneveOrder, GeneveChild}
 use Rattle.npr_base.specs.declared.refusal.EmitError.{EmitError}
 use Rattle.npr_base.specs.Codec.{exactly, raw}
-use Rattle.npr_base.specs.Family.{ReadsList, ReadsTo, IsWrong, encodings, list_unfit, misfit_of}
+use Rattle.npr_base.specs.Lists.{ReadsList, ReadsTo, IsWrong, encodings, list_unfit, unfit_of}
 use Rattle.npr_base.specs.Framing.{Item, IsBytes, number_of}
 use Rattle.npr_base.specs.Layout.{byte, be16}
 use Rattle.npr_base.specs.Refusal.{at_number}
@@ -79,23 +79,23 @@ children_of [] = []
 children_of (o ∷ os) = class_child o.class ∷ type_child o.typ ∷ data_child o.opt_data ∷ children_of os
 
 abbrev pub child_item : Child → Item
-child_item (class_child n) = record { kind = 1; value = (exactly be16).writes n }
-child_item (type_child n) = record { kind = 2; value = (exactly byte).writes n }
+child_item (class_child n) = record { kind = 1; value = (exactly be16).encode n }
+child_item (type_child n) = record { kind = 2; value = (exactly byte).encode n }
 child_item (data_child d) = record { kind = 3; value = d }
 
-abbrev pub child_misfit : Child → Option EmitError
-child_misfit c = misfit_of None (child_item c)
+abbrev pub child_unfit : Child → Option EmitError
+child_unfit c = unfit_of None (child_item c)
 
 abbrev pub option_bytes : List Geneve → List ℕ
 option_bytes os = encodings child_item (children_of os)
 
 -- why an option can't be written, if so: its data are too long
-abbrev pub option_misfit : Geneve → Option EmitError
-option_misfit o = child_misfit (data_child o.opt_data)
+abbrev pub option_unfit : Geneve → Option EmitError
+option_unfit o = child_unfit (data_child o.opt_data)
 
 -- and why the options can't
 abbrev pub options_unfit : List Geneve → Option EmitError
-options_unfit os = list_unfit child_misfit child_item (children_of os)
+options_unfit os = list_unfit child_unfit child_item (children_of os)
 
 -- what can be read
 pub record IsOption (o : Geneve) : Type 0 where

@@ -9,7 +9,7 @@ use Rattle.npr_base.specs.Layout.{byte, be16}
 use Rattle.npr_base.specs.ListCodec.{list_of}
 use Rattle.npr_base.specs.LooksLaws.{no_looking, none-most, none-saw}
 use Rattle.npr_base.specs.Refusal.{at_number}
-use Rattle.npr_base.specs.Table.{Writing, Reading}
+use Rattle.npr_base.specs.Family.{Writing, Reading}
 use Rattle.npr_tunnel.specs.Geneve.{Child, class_child, type_child, data_child, child_item, ReadsChild, WrongChild, class_length, type_length, order, child}
 
 abbrev pub IsChild : Child → Type 0
@@ -55,7 +55,7 @@ child-grows x (data_child d) proper p = raw.grows x.value d proper.value p.1
 
 -- nothing stands inside a child
 abbrev pub child_writing : Writing Child
-child_writing = record { shape = λ c. record { item = child_item c; nested = false; inside = None }; members = λ c. 0 }
+child_writing = record { shape = λ c. record { item = child_item c; nested = false; unfit = None }; members = λ c. 0 }
 
 -- what they mean where an option is open
 abbrev pub child_reading : Reading child_writing

@@ -5,7 +5,7 @@ use Rattle.std.proofs.Common.{ap, subst, ◌∙◌, arith, inl, inr, length-appe
 use Rattle.npr_base.specs.declared.refusal.At.{At}
 use Rattle.npr_base.specs.declared.refusal.DecodeError.{DecodeError}
 use Rattle.npr_base.specs.Codec.{Codec}
-use Rattle.npr_base.specs.Family.{Each, AllOf}
+use Rattle.npr_base.specs.Lists.{Each, AllOf}
 use Rattle.npr_base.specs.Framing.{Item, IsBytes, Front, Passes, framed, encoding, pad}
 use Rattle.npr_base.specs.FrontLaws.{Front-takes}
 use Rattle.npr_base.specs.Looks.{looked_through}
@@ -145,8 +145,8 @@ abbrev pub geneve_options : Codec (List Geneve)
 geneve_options = record {
   Reads = AreOptions;
   Wrong = λ at bytes e. OptionsFault bytes e;
-  writes = option_bytes;
-  inside = λ kind os. options_unfit os;
+  encode = option_bytes;
+  unfit = λ kind os. options_unfit os;
   Holds = AllOf IsOption;
   members = record { count = length; looks = looked_through options_looking; bounded = options-bounded; saw = options-saw };
   one_reading = options-one;

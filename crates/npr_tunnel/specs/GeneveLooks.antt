@@ -1,7 +1,7 @@
 -- The looks that reading options of Geneve takes: one at the header of each child, up to the end or to the first that is faulty.
 use Rattle.std.proofs.Common.{◌≡◌, ◌≢◌, ℕ, ◌+◌, ◌≤◌, ◌⊎◌, Bool, true, false, List, [], ◌∷◌, length, sym, ap, ◌∙◌, inl, inr, arith}
 use Rattle.npr_base.specs.Counts.{Counts, AddsAtMost, SawEach, hit}
-use Rattle.npr_base.specs.Family.{list_members}
+use Rattle.npr_base.specs.Lists.{list_members}
 use Rattle.npr_base.specs.Framing.{Item, Front, number_of}
 use Rattle.npr_base.specs.FrontLaws.{Front-same, Front-shrinks, Front-takes}
 use Rattle.npr_base.specs.LookBounds.{list_looking, list-bounded, list-saw}

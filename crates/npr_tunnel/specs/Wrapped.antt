@@ -5,7 +5,8 @@ use Rattle.npr_base.specs.Codec.{raw}
 use Rattle.npr_base.specs.Framing.{Item, Proper, framed}
 use Rattle.npr_base.specs.Counts.{SawEach}
 use Rattle.npr_base.specs.LooksLaws.{no_looking, none-most, none-saw}
-use Rattle.npr_base.specs.Table.{Writing, Reading, held_other, writing_by, written_as, unfit_as, written_by, unfit_by}
+use Rattle.npr_base.specs.Family.{Writing, Reading, written_as, unfit_as, written_by, unfit_by}
+use Rattle.npr_base.specs.Table.{slot_other, writing_by}
 
 -- `made` is the variant, and what is written of it is what the family writes
 module _ {M W : Type 0} {v : Writing M} (F : Reading v) (made : M → W) (w : Writing W)
@@ -36,7 +37,7 @@ module _ {M W : Type 0} {v : Writing M} (F : Reading v) (made : M → W) (w : Wr
     saw = λ x n old new p t. subst (SawEach old new) (sym (ap w.members p.2 ∙ counted p.0)) (F.saw x p.0 old new p.1 t);
   }
 
-abbrev pub kept : Reading (writing_by held_other)
+abbrev pub kept : Reading (writing_by slot_other)
 kept = record {
   Reads = λ x y. y ≡ x;
   Faulty = λ x e. ⊥;

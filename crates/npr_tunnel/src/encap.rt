@@ -1,7 +1,7 @@
 //! The members of an encapsulation, by its type.
 
 ghost use Rattle.std.specs.Prelude.{◌≡◌, refl};
-ghost use Rattle.{npr_base.specs.Table.{shaped}, npr_tunnel.specs.Encapsulation.{meaning_of, normalized, family}};
+ghost use Rattle.{npr_base.specs.Family.{shaped}, npr_tunnel.specs.Encapsulation.{meaning_of, normalized, family}};
 
 use crate::encap_type::RouteLwEnCapType;
 use crate::ip::RouteIpTunnel;
@@ -67,16 +67,16 @@ macro_rules! asked {
 macro_rules! cloned {
     (($of:expr, $alloc:expr) { $($variant:ident($family:ident);)* }) => {
         match $of {
-            $(RouteLwTunnelEncap::$variant(member) => member.clone($alloc).map(RouteLwTunnelEncap::$variant),)*
-            RouteLwTunnelEncap::Other(nla) => nla.clone($alloc).map(RouteLwTunnelEncap::Other),
+            $(RouteLwTunnelEncap::$variant(member) => member.try_clone($alloc).map(RouteLwTunnelEncap::$variant),)*
+            RouteLwTunnelEncap::Other(nla) => nla.try_clone($alloc).map(RouteLwTunnelEncap::Other),
         }
     };
 }
 
 /// Puts the member of the family of a type.
 macro_rules! put_member {
-    (($place:expr, $kind:expr, $alloc:expr, $item:expr, $looks:expr) { $($variant:ident($family:ident);)* }) => {
-        match $kind {
+    (($place:expr, $encap_type:expr, $alloc:expr, $item:expr, $looks:expr) { $($variant:ident($family:ident);)* }) => {
+        match $encap_type {
             $(RouteLwEnCapType::$variant =>
                 put_read($place, $family::read($alloc, (), $item, $looks), RouteLwTunnelEncap::$variant),)*
             _ => put_read($place, DefaultNla::read($alloc, $item), RouteLwTunnelEncap::Other),
@@ -126,14 +126,14 @@ impl Attribute for RouteLwTunnelEncap {
     fn read_into<P: Place<Self>>(
         place: &mut P,
         alloc: Global,
-        kind: RouteLwEnCapType,
+        encap_type: RouteLwEnCapType,
         item: &NlaBuffer<'_>,
         looks: &mut Looks,
     ) -> Result<(), DecodeError> {
-        members!(put_member(place, kind, alloc, item, looks))
+        members!(put_member(place, encap_type, alloc, item, looks))
     }
 
-    fn clone(&self, alloc: Global) -> Result<Self, AllocError> {
+    fn try_clone(&self, alloc: Global) -> Result<Self, AllocError> {
         members!(cloned(self, alloc))
     }
 }

@@ -1,7 +1,7 @@
 //! Options of ERSPAN: `LWTUNNEL_IP_OPT_ERSPAN_*` of `linux/lwtunnel.h`.
 
 ghost use Rattle.std.specs.{Prelude.{map, refl}, Fmt.{WritesOnOk}};
-ghost use Rattle.{npr_base.specs.Table.{shaped}, npr_tunnel.specs.ErspanOptions.{family, erspan_text}};
+ghost use Rattle.{npr_base.specs.Family.{shaped}, npr_tunnel.specs.ErspanOptions.{family, erspan_text}};
 
 use npr_base::{Attribute, DecodeError, DefaultNla, EmitError, Looks, Nla, NlaBuffer, Place};
 use std::alloc::{AllocError, Global};
@@ -72,7 +72,7 @@ impl Attribute for RouteErspanOpt {
         rows!(put_rows(place, alloc, item, looks))
     }
 
-    fn clone(&self, alloc: Global) -> Result<Self, AllocError> {
+    fn try_clone(&self, alloc: Global) -> Result<Self, AllocError> {
         rows!(clone_rows(self, alloc))
     }
 }

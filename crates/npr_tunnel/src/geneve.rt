@@ -3,9 +3,9 @@
 ghost use Rattle.std.specs.Prelude.{false, ◌≡◌, ◌≢◌, ◌≤◌, ◌⊎◌, ◌+◌, ◌∷◌, ◌++◌, true, [], ℕ, Some, None, length, map, IfOk, IfErr, OnOk};
 ghost use Rattle.{
   npr_base.specs.{
-    Table.{shape_at, held},
+    Table.{shape_at, slot_plain},
     Codec.{exactly, raw},
-    Family.{checked},
+    Lists.{checked},
     Counts.{AddsAtMost},
     Looks.{Answered},
     Framing.{Writes, number_of},
@@ -14,7 +14,7 @@ ghost use Rattle.{
     declared.refusal.DecodeError.TheVariants.{OutOfMemory},
   },
   npr_tunnel.specs.{
-    Geneve.{Child, option_bytes, option_misfit, options_unfit, class_child, type_child, data_child, option_of, ReadsChild, WrongChild, AreOptions, OptionsFault, geneve_text},
+    Geneve.{Child, option_bytes, option_unfit, options_unfit, class_child, type_child, data_child, option_of, ReadsChild, WrongChild, AreOptions, OptionsFault, geneve_text},
     GeneveLooks.{OptionsLooks},
     GeneveSteps.{seen, listed, is_some, Changes},
   },
@@ -55,7 +55,7 @@ impl RouteGeneveOpt {
     ///
     /// # Errors
     /// `AllocError` where memory is refused.
-    pub fn clone(&self, alloc: Global) -> Result<Self, AllocError>
+    pub fn try_clone(&self, alloc: Global) -> Result<Self, AllocError>
         ensures { IfOk result (λ o. option_of o ≡ option_of self.now) }
     {
         Ok(RouteGeneveOpt {
@@ -204,7 +204,7 @@ pub(crate) fn read_options(
 struct Data<'a>(&'a [u8]);
 
 impl<'a> Nla for Data<'a> {
-    ghost shape = { λ d. shape_at (held 3 raw d.0.now) };
+    ghost shape = { λ d. shape_at (slot_plain 3 raw d.0.now) };
 
     fn kind(&self) -> u16 {
         LWTUNNEL_IP_OPT_GENEVE_DATA
@@ -228,7 +228,7 @@ impl<'a> Nla for Data<'a> {
 /// # Errors
 /// `TooLong` or `Total` where the data are too long.
 fn check_option(option: &RouteGeneveOpt) -> Result<usize, EmitError>
-    ensures { result ≡ checked (option_misfit (option_of option.now)) (length (option_bytes (option_of option.now ∷ []))) }
+    ensures { result ≡ checked (option_unfit (option_of option.now)) (length (option_bytes (option_of option.now ∷ []))) }
 {
     Ok(16 + Data(option.opt_data.as_slice()).check()?)
 }
@@ -236,7 +236,7 @@ fn check_option(option: &RouteGeneveOpt) -> Result<usize, EmitError>
 /// Writes class, type and data of an option at the front of the slice, leaves the rest, and
 /// answers their length.
 fn write_option(option: &RouteGeneveOpt, out: &mut [u8]) -> usize
-    requires fits { option_misfit (option_of option.now) ≡ None }
+    requires fits { option_unfit (option_of option.now) ≡ None }
     requires room { length (option_bytes (option_of option.now ∷ [])) ≤ length out.old }
     ensures len { result ≡ length (option_bytes (option_of option.now ∷ [])) }
     ensures after { Writes out.old out.new (option_bytes (option_of option.now ∷ [])) }
@@ -287,7 +287,7 @@ pub(crate) fn clone_options(
 {
     let mut copies = Vec::new(alloc);
     for option in options {
-        copies.push(option.clone(alloc)?)?;
+        copies.push(option.try_clone(alloc)?)?;
     }
     Ok(copies)
 }

@@ -1,7 +1,7 @@
 //! Tunnels over IP version 4: `LWTUNNEL_IP_*` of `linux/lwtunnel.h`.
 
 ghost use Rattle.std.specs.Prelude.{refl};
-ghost use Rattle.{npr_base.specs.Table.{shaped}, npr_tunnel.specs.IpTunnel.{family, ip_tunnel_text}};
+ghost use Rattle.{npr_base.specs.Family.{shaped}, npr_tunnel.specs.IpTunnel.{family, ip_tunnel_text}};
 
 use crate::flags::{RouteIpTunnelFlags, write_flags};
 use crate::ip_rows;
@@ -83,7 +83,7 @@ impl Attribute for RouteIpTunnel {
         rows!(put_rows(place, alloc, item, looks))
     }
 
-    fn clone(&self, alloc: Global) -> Result<Self, AllocError> {
+    fn try_clone(&self, alloc: Global) -> Result<Self, AllocError> {
         rows!(clone_rows(self, alloc))
     }
 }

@@ -1,7 +1,7 @@
 //! The tunnel of MPLS: `MPLS_IPTUNNEL_*` of `linux/mpls_iptunnel.h`.
 
 ghost use Rattle.std.specs.Prelude.{refl};
-ghost use Rattle.{npr_base.specs.Table.{shaped}, npr_tunnel.specs.MplsTunnel.{family}};
+ghost use Rattle.{npr_base.specs.Family.{shaped}, npr_tunnel.specs.MplsTunnel.{family}};
 
 use npr_base::{
     Attribute, DecodeError, DefaultNla, EmitError, Looks, Nla, NlaBuffer, Place, put_read,
@@ -67,7 +67,7 @@ impl Attribute for RouteMplsIpTunnel {
         rows!(put_rows(place, alloc, item, looks; 1 => put_read(place, read_labels(alloc, item.value()), RouteMplsIpTunnel::Destination),))
     }
 
-    fn clone(&self, alloc: Global) -> Result<Self, AllocError> {
+    fn try_clone(&self, alloc: Global) -> Result<Self, AllocError> {
         rows!(clone_rows(self, alloc; RouteMplsIpTunnel::Destination(x) => Vec::from_slice(alloc, x.as_slice()).map(RouteMplsIpTunnel::Destination),))
     }
 }

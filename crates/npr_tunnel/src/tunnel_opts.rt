@@ -1,7 +1,7 @@
 //! Options of tunnels over IP: `LWTUNNEL_IP_OPTS_*` of `linux/lwtunnel.h`.
 
 ghost use Rattle.std.specs.Prelude.{refl};
-ghost use Rattle.{npr_base.specs.Table.{shaped}, npr_tunnel.specs.TunnelOptions.{family, tunnel_option_text}};
+ghost use Rattle.{npr_base.specs.Family.{shaped}, npr_tunnel.specs.TunnelOptions.{family, tunnel_option_text}};
 
 use crate::erspan::{RouteErspanOpt, write_erspan};
 use crate::geneve::{RouteGeneveOpt, check_options, clone_options, read_options, write_options};
@@ -74,7 +74,7 @@ impl Attribute for RouteLwTunnelOpt {
         rows!(put_rows(place, alloc, item, looks; 1 => put_read(place, read_options(alloc, item.value(), looks), RouteLwTunnelOpt::Geneve),))
     }
 
-    fn clone(&self, alloc: Global) -> Result<Self, AllocError> {
+    fn try_clone(&self, alloc: Global) -> Result<Self, AllocError> {
         rows!(clone_rows(self, alloc; RouteLwTunnelOpt::Geneve(v) => clone_options(alloc, v.as_slice()).map(RouteLwTunnelOpt::Geneve),))
     }
 }

@@ -1,7 +1,7 @@
 //! The tunnel of an IPsec interface: `LWT_XFRM_*` of `linux/lwtunnel.h`.
 
 ghost use Rattle.std.specs.Prelude.{refl};
-ghost use Rattle.{npr_base.specs.Table.{shaped}, npr_tunnel.specs.XfrmTunnel.{family, xfrm_text}};
+ghost use Rattle.{npr_base.specs.Family.{shaped}, npr_tunnel.specs.XfrmTunnel.{family, xfrm_text}};
 
 use npr_base::{Attribute, DecodeError, DefaultNla, EmitError, Looks, Nla, NlaBuffer, Place};
 use std::alloc::{AllocError, Global};
@@ -70,7 +70,7 @@ impl Attribute for RouteXfrmTunnel {
         rows!(put_rows(place, alloc, item, looks))
     }
 
-    fn clone(&self, alloc: Global) -> Result<Self, AllocError> {
+    fn try_clone(&self, alloc: Global) -> Result<Self, AllocError> {
         rows!(clone_rows(self, alloc))
     }
 }

@@ -79,7 +79,7 @@ where
     }
 
     fn copy(&self, alloc: Global) -> Result<Self, AllocError> {
-        self.clone(alloc)
+        self.try_clone(alloc)
     }
 
     fn walk(alloc: Global, bytes: &[u8]) -> Ending {
@@ -106,7 +106,7 @@ impl Sample for RouteNextHop {
     }
 
     fn copy(&self, alloc: Global) -> Result<Self, AllocError> {
-        self.clone(alloc)
+        self.try_clone(alloc)
     }
 
     fn walk(_alloc: Global, _bytes: &[u8]) -> Ending {

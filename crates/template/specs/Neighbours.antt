@@ -12,7 +12,7 @@ use Rattle.template.specs.contracts.neighbour.NeighbourAttribute.{enum}
 use Rattle.template.specs.contracts.neighbour.NeighbourCacheInfo.{struct}
 use Rattle.template.specs.declared.neighbour.NeighbourCacheInfo.{NeighbourCacheInfo}
 use Rattle.template.specs.declared.neighbour.NeighbourAttribute.{NeighbourAttribute}
-use Rattle.template.specs.declared.neighbour.NeighbourAttribute.TheVariants.{Destination, LinkLayerAddress}
+use Rattle.template.specs.declared.neighbour.NeighbourAttribute.TheVariants.{Destination, LinkLocalAddress}
 
 -- what the kernel remembers of a neighbour (struct nda_cacheinfo): four numbers of four bytes, in this order
 abbrev pub cache_info : Layout NeighbourCacheInfo
@@ -26,7 +26,7 @@ abbrev pub table : EnumTable enum
 table =
     table_of enum (
     row Value 1 ip (value NeighbourAttribute.Destination)  -- NDA_DST
-    or row Value 2 raw (items NeighbourAttribute.LinkLayerAddress)  -- NDA_LLADDR
+    or row Value 2 raw (items NeighbourAttribute.LinkLocalAddress)  -- NDA_LLADDR
     or row Value 3 (leading cache_info) (value NeighbourAttribute.CacheInfo)  -- NDA_CACHEINFO
     or row Value 4 (exactly le32) (value NeighbourAttribute.Probes)  -- NDA_PROBES
     or others (value NeighbourAttribute.Other)) refl refl
@@ -42,7 +42,7 @@ destination_in a = None
 
 -- the bytes of a link-layer address
 abbrev pub link_layer_in : NeighbourAttribute → Option (List ℕ)
-link_layer_in (LinkLayerAddress bytes) = Some bytes.items
+link_layer_in (LinkLocalAddress bytes) = Some bytes.items
 link_layer_in a = None
 
 -- what is found for a destination: where the first one among the attributes is this, their first link-layer address

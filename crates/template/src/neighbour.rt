@@ -3,7 +3,7 @@
 ghost use Rattle.std.specs.Prelude.{◌≡◌, IfOk, IfErr, refl};
 ghost use Rattle.{
   template.specs.Neighbours.{family, cache_info},
-  netlink_packet_route.specs.{Codec.{leading}, Refusal.{no_place}, Table.{shaped}},
+  netlink_packet_route.specs.{Codec.{leading}, Refusal.{no_place}, Family.{shaped}},
 };
 
 use netlink_packet_route::family::{Place, leading_octets};
@@ -65,7 +65,7 @@ pub enum NeighbourAttribute {
     /// `NDA_DST`: the address of the neighbour.
     Destination(IpAddr),
     /// `NDA_LLADDR`: its link-layer address, as it stands.
-    LinkLayerAddress(Vec<u8>),
+    LinkLocalAddress(Vec<u8>),
     /// `NDA_CACHEINFO`: when it was confirmed, used and changed.
     CacheInfo(NeighbourCacheInfo),
     /// `NDA_PROBES`: how often it was asked.
@@ -79,7 +79,7 @@ macro_rules! rows {
     ($body:ident ($($given:tt)*)) => {
         npr_base::$body!(($($given)*) NeighbourAttribute of Value {
             1 Destination(ip);
-            2 LinkLayerAddress(raw);
+            2 LinkLocalAddress(raw);
             3 CacheInfo(NeighbourCacheInfo leading 16);
             4 Probes(le32);
         })
@@ -123,7 +123,7 @@ impl Attribute for NeighbourAttribute {
         rows!(put_rows(place, alloc, item, looks))
     }
 
-    fn clone(&self, alloc: Global) -> Result<Self, AllocError> {
+    fn try_clone(&self, alloc: Global) -> Result<Self, AllocError> {
         rows!(clone_rows(self, alloc))
     }
 }

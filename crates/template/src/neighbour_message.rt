@@ -9,7 +9,7 @@ ghost use Rattle.{
   },
   netlink_packet_route.specs.{
     Found.{IsFirst},
-    Messages.{governs_by, none_searched, view, Held, IsMessage, MessageFault},
+    Messages.{governs_by, none_searched, view, Stored, IsMessage, MessageFault},
     MessageLaws.{of_family, under_by},
     declared.framing.DecodeError.TheVariants.{OutOfMemory},
   },
@@ -107,7 +107,7 @@ pub fn read_link_layer_address(
     bytes: &[u8],
     destination: IpAddr,
 ) -> Result<Option<Vec<u8>>, DecodeError>
-    ensures ok { IfOk result (λ found. (m : Held neighbours) × IsMessage neighbours bytes.now (view neighbours m)
+    ensures ok { IfOk result (λ found. (m : Stored neighbours) × IsMessage neighbours bytes.now (view neighbours m)
         × (address : Option (List ℕ)) × IsAddressOf destination m.attributes.items address × (option_map (λ x. x.items) found ≡ address)) }
     ensures refused { IfErr result (λ e. e ≢ OutOfMemory → MessageFault neighbours bytes.now e) }
 {
@@ -153,7 +153,7 @@ fn link_layer_in(attribute: &NeighbourAttribute) -> Option<&[u8]>
     ensures { option_map (λ x. x.now) result ≡ link_layer_in attribute.now }
 {
     match attribute {
-        NeighbourAttribute::LinkLayerAddress(address) => Some(address.as_slice()),
+        NeighbourAttribute::LinkLocalAddress(address) => Some(address.as_slice()),
         _ => None,
     }
 }

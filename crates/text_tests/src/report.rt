@@ -2,7 +2,7 @@
 
 use netlink_packet_route::MessageKind;
 use netlink_packet_route::framing::{DecodeError, EmitError};
-use netlink_report::{Counted, RunError, bytes_of, finish, kind_of, read_all, run, write_text};
+use netlink_report::{Counted, RunError, bytes_of, Which, finish, read_all, run, write_text};
 use npr_testing::{holds, same, shows};
 use std::alloc::Global;
 use std::io;
@@ -47,7 +47,7 @@ fn one_known_word_is_wanted(rt: HostRuntime) -> Result<(), Fail> {
             for word in words.split_whitespace() {
                 owned.push(String::from_str(rt.alloc(), word)?)?;
             }
-            shows(&rt, kind_of(owned.as_slice()), kind.trim())?;
+            shows(&rt, Which::of(owned.as_slice()), kind.trim())?;
         }
     }
     Ok(())

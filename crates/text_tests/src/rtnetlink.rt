@@ -2,7 +2,7 @@
 
 use netlink_packet_route::envelope::{
     DoneMessage, ErrorMessage, NLMSG_DONE, NLMSG_ERROR, NLMSG_NOOP, NLMSG_OVERRUN, NetlinkBuffer,
-    NetlinkHeader, NetlinkIterator, NetlinkMessage, NetlinkPayload, keep_bytes,
+    NetlinkHeader, NetlinkIterator, NetlinkMessage, NetlinkPayload,
 };
 use netlink_packet_route::framing::{Emitable, Parseable, to_vec};
 use netlink_packet_route::request::{dump_addresses, dump_neighbours, dump_routes, dump_rules};
@@ -29,7 +29,7 @@ fn word_of(message: &NetlinkMessage<RouteNetlinkMessage>) -> &'static str {
 /// What the message is, and the bytes of a copy, whose header is that of what is written.
 fn rewrite(alloc: Global, found: &NetlinkBuffer<'_>) -> Result<(&'static str, Vec<u8>), Fail> {
     let message = NetlinkMessage::<RouteNetlinkMessage>::parse(alloc, found)?;
-    let mut copy = message.clone(alloc)?;
+    let mut copy = message.try_clone(alloc)?;
     holds(copy == message)?;
     copy.check()?;
     copy.finalize();
@@ -101,7 +101,7 @@ fn is_payload(
         bytes.as_slice(),
     )?;
     same(payload.message_type(), message_type)?;
-    let copy = payload.clone(rt.alloc())?;
+    let copy = payload.try_clone(rt.alloc())?;
     holds(copy == payload)?;
     shows(rt, copy, wanted)
 }
@@ -124,16 +124,16 @@ fn payloads_are_read_by_type(rt: HostRuntime) -> Result<(), Fail> {
 fn codes_are_read(rt: HostRuntime) -> Result<(), Fail> {
     let alloc = rt.alloc();
     let bytes = bytes_of(&rt, &["ffffffff 0102"])?;
-    let error = ErrorMessage::parse(alloc, bytes.as_slice())?.clone(alloc)?;
+    let error = ErrorMessage::parse(alloc, bytes.as_slice())?.try_clone(alloc)?;
     same(error.raw_code(), -1)?;
     shows(
         &rt,
         error,
         "ErrorMessage { code: Some(-1), header: [1, 2] }",
     )?;
-    let done = DoneMessage::parse(alloc, bytes.as_slice())?.clone(alloc)?;
+    let done = DoneMessage::parse(alloc, bytes.as_slice())?.try_clone(alloc)?;
     shows(&rt, done, "DoneMessage { code: -1, extended_ack: [1, 2] }")?;
-    same(keep_bytes(alloc, bytes.as_slice())?, bytes)
+    same(read_bytes(alloc, bytes.as_slice())?, bytes)
 }
 
 /// What was sent to the kernel whose dumps `conformance` reads: `NLM_F_REQUEST` and `NLM_F_DUMP`, the

@@ -103,7 +103,7 @@ fn keeps_an_unknown_attribute(rt: HostRuntime) -> Result<(), Fail> {
 fn copies_an_unknown_attribute(rt: HostRuntime) -> Result<(), Fail> {
     let value = [0xaa, 0xbb].to_vec(rt.alloc())?;
     let nla = DefaultNla::new(0xc063, value);
-    let copy = nla.clone(rt.alloc())?;
+    let copy = nla.try_clone(rt.alloc())?;
     same(copy, nla)
 }
 

@@ -34,7 +34,7 @@ fn is_address(
     match RouteAddress::read(rt.alloc(), family, bytes.as_slice(), PLACE) {
         Ok(found) => {
             same(found.len(), bytes.len())?;
-            shows(rt, found.clone(rt.alloc())?, text)?;
+            shows(rt, found.try_clone(rt.alloc())?, text)?;
             writes(rt, found, &[digits])
         }
         Err(fault) => says(rt, fault, text),
@@ -120,7 +120,7 @@ fn is_gateway(rt: &impl AllocGlobal, digits: &str, text: &str) -> Result<(), Fai
     match RouteVia::read(rt.alloc(), bytes.as_slice(), PLACE) {
         Ok(found) => {
             same(found.len(), bytes.len())?;
-            shows(rt, found.clone(rt.alloc())?, text)?;
+            shows(rt, found.try_clone(rt.alloc())?, text)?;
             writes(rt, found, &[digits])
         }
         Err(fault) => says(rt, fault, text),

@@ -74,11 +74,11 @@ fn the_most_segments(rt: HostRuntime) -> Result<(), Fail> {
 #[test]
 fn copies_of_headers(rt: HostRuntime) -> Result<(), Fail> {
     let header = header_of(rt.alloc(), 2, Some(1))?;
-    same(header.clone(rt.alloc())?, header)?;
+    same(header.try_clone(rt.alloc())?, header)?;
     let local = local(rt.alloc())?;
-    same(local.clone(rt.alloc())?, local)?;
+    same(local.try_clone(rt.alloc())?, local)?;
     let rpl = rpl(rt.alloc())?;
-    same(rpl.clone(rt.alloc())?, rpl)
+    same(rpl.try_clone(rt.alloc())?, rpl)
 }
 
 #[test]

@@ -79,7 +79,7 @@ fn a_copy_of_geneve(rt: HostRuntime) -> Result<(), Fail> {
     let mut option = RouteGeneveOpt::new(rt.alloc());
     option.class = 258;
     option.typ = 2;
-    same(option.clone(rt.alloc())?, option)
+    same(option.try_clone(rt.alloc())?, option)
 }
 
 #[test]

@@ -177,7 +177,7 @@ fn flags_of_routes() -> Result<(), Fail> {
 #[test]
 fn kinds_of_messages() -> Result<(), Fail> {
     for kind in MessageKind::ALL {
-        same(MessageKind::of(kind.name()), Some(kind))?;
+        same(MessageKind::named(kind.name()), Some(kind))?;
     }
-    same(MessageKind::of("Route"), None)
+    same(MessageKind::named("Route"), None)
 }

@@ -1,5 +1,5 @@
 use Rattle.std.proofs.Common.{◌++◌, List, ℕ, ap, sym, ◌∙◌, append_assoc, length, map, take, string_bytes}
-use Rattle.netlink_packet_route.specs.Table.{written_by, unfit_by}
+use Rattle.netlink_packet_route.specs.Family.{written_by, unfit_by}
 use Rattle.netlink_report.specs.Report.{line_text, lines_text}
 use Rattle.netlink_report.proofs.ReportLines.{lines-next, fits-next}
 use Rattle.netlink_report.proofs.report.lines.Goals as goal

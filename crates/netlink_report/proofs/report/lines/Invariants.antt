@@ -1,6 +1,6 @@
 use Rattle.std.proofs.Common.{◌≡◌, ◌++◌, map, take, drop, None, string_bytes}
-use Rattle.netlink_packet_route.specs.Table.{written_by, unfit_by}
-use Rattle.netlink_packet_route.specs.Family.{first_unfit}
+use Rattle.netlink_packet_route.specs.Family.{written_by, unfit_by}
+use Rattle.netlink_packet_route.specs.Lists.{first_unfit}
 use Rattle.netlink_report.specs.Report.{lines_text}
 use Rattle.netlink_report.proofs.report.lines.Given as goal
 

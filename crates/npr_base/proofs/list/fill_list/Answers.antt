@@ -4,7 +4,7 @@ use Rattle.std.proofs.lemmas.Result.{err_from_is_err_and}
 use Rattle.npr_base.specs.Counts.{Counts, AddsAtMost, hit, miss}
 use Rattle.npr_base.specs.Framing.{Front, Fault}
 use Rattle.npr_base.specs.Looks.{list_ends, none_stands, faulty_stands, passed}
-use Rattle.npr_base.specs.Family.{ReadsTo}
+use Rattle.npr_base.specs.Lists.{ReadsTo}
 use Rattle.npr_base.specs.FrontLaws.{Front-takes}
 use Rattle.npr_base.specs.LookBounds.{list-walked, list-saw}
 use Rattle.npr_base.proofs.Lists.{begins_so, ReadsTo-more}

@@ -1,7 +1,7 @@
 use Rattle.std.proofs.Common.{length, map, ◌-◌, ◌≤◌}
 use Rattle.npr_base.specs.Counts.{Counts}
 use Rattle.npr_base.specs.Looks.{ListLooks}
-use Rattle.npr_base.specs.Family.{ReadsTo}
+use Rattle.npr_base.specs.Lists.{ReadsTo}
 use Rattle.npr_base.proofs.Looking.{SoFar}
 use Rattle.npr_base.proofs.list.fill_list.Given as goal
 

@@ -1,6 +1,6 @@
 use Rattle.std.proofs.Common.{◌≡◌, ◌*◌, length, take}
 use Rattle.std.specs.List.{concat}
-use Rattle.npr_base.specs.Family.{AllOf}
+use Rattle.npr_base.specs.Lists.{AllOf}
 use Rattle.npr_base.proofs.v6_list.v6_list_len.Given as goal
 
 abbrev pub invariant-loop-address : goal.invariant-loop-address

@@ -1,6 +1,6 @@
 use Rattle.std.proofs.Common.{inl, inr, refl}
 use Rattle.npr_c.specs.Stops.{StandsAt}
-use Rattle.npr_c.proofs.Stopping.{placed, told_there}
+use Rattle.npr_c.proofs.Stopping.{placed, located_there}
 use Rattle.npr_c.proofs.faults.judged.Goals as goal
 
 pub returns-in-Ok-clause-fault : goal.returns-in-Ok-clause-fault
@@ -9,7 +9,7 @@ returns-in-Ok-clause-fault g c = let (m, is) = c.in-Ok.ensures.ok in inl (m, is,
 pub returns-in-Err-clause-fault : goal.returns-in-Err-clause-fault
 returns-in-Err-clause-fault g c =
     let place = c.in-Err.place in
-    inr (place.refusal, told_there c.standing.result c.of.result place.refusal place.offset c.of.ensures c.standing.ensures, c.in-Err.ensures.refused)
+    inr (place.refusal, located_there c.standing.result c.of.result place.refusal place.offset c.of.ensures c.standing.ensures, c.in-Err.ensures.refused)
 
 pub returns-in-Err-clause-place : goal.returns-in-Err-clause-place
 returns-in-Err-clause-place g c =

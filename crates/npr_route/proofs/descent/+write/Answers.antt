@@ -3,13 +3,13 @@ use Rattle.std.proofs.lemmas.List.{append-nil}
 use Rattle.std.proofs.Common.{rules, ◌≡◌, [], ◌∷◌, ◌++◌, ℕ, ◌+◌, ◌-◌, ◌≤◌, ap, sym, ◌∙◌, subst, refl, arith, length, take, drop, length-append, length-take, length-drop}
 use borrow.Rule.Slice.PartMut.{put_mid}
 use Rattle.npr_base.specs.Framing.{Item, Writes, encoding, marked}
-use Rattle.npr_base.specs.Family.{encodings, joined}
+use Rattle.npr_base.specs.Lists.{encodings, joined}
 use Rattle.npr_base.proofs.Checking.{first-none}
 use Rattle.npr_base.proofs.Joined.{joined-append}
 use Rattle.npr_base.proofs.Writing.{Writes-encoding, Writes-before, room_for, wrote_next}
 use Rattle.npr_base.specs.ListLaws.{length-encoding}
 use Rattle.npr_route.specs.Attribute.{shape_of}
-use Rattle.npr_route.specs.AttributeView.{meaning_of, attribute_item, attribute_misfit, next_hop_bytes, next_hop_misfit}
+use Rattle.npr_route.specs.AttributeView.{meaning_of, attribute_item, attribute_unfit, next_hop_bytes, next_hop_unfit}
 use Rattle.npr_route.specs.declared.attribute.RouteAttribute.TheViews.{the_lemmas}
 use Rattle.npr_route.proofs.Views.{head_of, hop_bytes-length}
 use Rattle.npr_route.proofs.HopWriting.{next_hop_bytes-is, hop_fits, multi_path_fits, multi_path_value}
@@ -38,7 +38,7 @@ write_attributes-write_attribute-at-requires t c =
     c.args.out.now c.requires.room c.loop-attribute.out c.loop-attribute.at past.len c.loop-attribute.auto.out in (
       search (rules, the_lemmas),
       (
-        (first-none attribute_misfit all i x c.loop-attribute-test.true c.attribute-item.is past.fits).0,
+        (first-none attribute_unfit all i x c.loop-attribute-test.true c.attribute-item.is past.fits).0,
         omega (arith, room, length-append (encoding (attribute_item x)) [], length-encoding (attribute_item x)),
       ),
     )
@@ -55,7 +55,7 @@ write_attributes-loop-attribute-preserved t c =
     c.write_attribute-at.result (append-nil (encoding (attribute_item x)))
     (c.write_attribute-at.ensures.len ∙ sym (length-encoding (attribute_item x))) c.write_attribute-at.ensures.after in
     record {
-      fits = (first-none attribute_misfit all i x c.loop-attribute-test.true c.attribute-item.is past.fits).1;
+      fits = (first-none attribute_unfit all i x c.loop-attribute-test.true c.attribute-item.is past.fits).1;
       len = wrote.len;
       after = wrote.after;
     }
@@ -105,7 +105,7 @@ write_hops-write_hop-at-requires t c =
     room_for (joined next_hop_bytes) (joined-append next_hop_bytes) all i x c.loop-hop-test.true c.hop-item.is c.args.out.now c.requires.room c.loop-hop.out
     c.loop-hop.at past.len c.loop-hop.auto.out in (
       search (rules, the_lemmas),
-      ((first-none next_hop_misfit all i x c.loop-hop-test.true c.hop-item.is past.fits).0, omega (arith, room, length-append (next_hop_bytes x) [])),
+      ((first-none next_hop_unfit all i x c.loop-hop-test.true c.hop-item.is past.fits).0, omega (arith, room, length-append (next_hop_bytes x) [])),
     )
 
 pub write_hops-loop-hop-preserved : goal.write_hops-loop-hop-preserved
@@ -118,7 +118,7 @@ write_hops-loop-hop-preserved t c =
     wrote_next (joined next_hop_bytes) (joined-append next_hop_bytes) all i x c.loop-hop-test.true c.hop-item.is c.args.out.now c.requires.room c.loop-hop.out
     c.loop-hop.at past.len past.after c.write_hop-at.new.out (next_hop_bytes x) c.write_hop-at.result (append-nil (next_hop_bytes x))
     c.write_hop-at.ensures.len c.write_hop-at.ensures.after in
-    record { fits = (first-none next_hop_misfit all i x c.loop-hop-test.true c.hop-item.is past.fits).1; len = wrote.len; after = wrote.after }
+    record { fits = (first-none next_hop_unfit all i x c.loop-hop-test.true c.hop-item.is past.fits).1; len = wrote.len; after = wrote.after }
 
 pub write_value-write_hops-requires : goal.write_value-write_hops-requires
 write_value-write_hops-requires t c =

@@ -11,6 +11,6 @@ loop-item-preserved c =
     let look : c.next_counted.new.looks ≡ hit c.loop-item.looks = rw c.in-Some-Ok.field-0-is at c.in-Some-Ok.ensures.counted in (
       so_far.0 ++ x ∷ [],
       Passes-more so_far.0 x c.args.bytes.now c.loop-item.walk c.next_counted.new.self so_far.1 (rw c.in-Some-Ok.field-0-is at c.in-Some-Ok.ensures.step),
-      AllOf-more _ so_far.0 x so_far.2 (sym c.told_by.ensures ∙ c.in_default-told_by.is),
+      AllOf-more _ so_far.0 x so_far.2 (sym c.stated_type.ensures ∙ c.in_default-stated_type.is),
       look ∙ ap hit so_far.3 ∙ sym (hit_each-more so_far.0 x c.args.looks.now),
     )

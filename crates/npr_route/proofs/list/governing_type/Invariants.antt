@@ -1,13 +1,13 @@
 use Rattle.std.proofs.Common.{◌≡◌, List, length, None}
-use Rattle.npr_base.specs.Family.{AllOf}
+use Rattle.npr_base.specs.Lists.{AllOf}
 use Rattle.npr_base.specs.Framing.{Item, Passes}
-use Rattle.npr_route.specs.Governing.{told, hit_each}
+use Rattle.npr_route.specs.Governing.{item_type, hit_each}
 use Rattle.npr_route.proofs.list.governing_type.Given as goal
 
 -- the attributes so far tell none, and each had its look
 abbrev pub invariant-loop-item : goal.invariant-loop-item
 invariant-loop-item l =
-    (before : List Item) × Passes l.bytes before l.walk × AllOf (λ x. told x ≡ None) before × (l.looks ≡ hit_each before l.fn.looks)
+    (before : List Item) × Passes l.bytes before l.walk × AllOf (λ x. item_type x ≡ None) before × (l.looks ≡ hit_each before l.fn.looks)
 
 abbrev pub decreases-loop-item : goal.decreases-loop-item
 decreases-loop-item l = length l.walk

@@ -1,5 +1,5 @@
 use Rattle.std.proofs.Common.{◌∙◌, ℕ, arith, sym, length-append, length-take}
-use Rattle.npr_base.specs.Message.{spelling, view}
+use Rattle.npr_base.specs.Message.{canonical_bytes, view}
 use Rattle.npr_base.proofs.Messages.{list_fits}
 use Rattle.npr_base.proofs.Writing.{Writes-before}
 use Rattle.npr_base.proofs.message.MessageAttributeEmitable.emit.Goals as goal
@@ -12,7 +12,7 @@ write_list-requires-clause-fits g c =
     rw (c.as_slice.ensures.value, same.unfit xs, same.written xs) (list_fits gr (view gr c.args.self.now) c.requires.fits)
 
 pub returns : goal.returns
-unfolding spelling
+unfolding canonical_bytes
 returns g c =
     let m = c.args.self.now in
     let head = g.met.H.Header.by_layout m.header in
@@ -21,14 +21,14 @@ returns g c =
     (omega (arith, c.requires.room, c.size.ensures, head.2, length-append {A = ℕ})) list (rw head.0 at c.emit.ensures)
 
 pub write_list-requires-clause-room : goal.write_list-requires-clause-room
-unfolding spelling
+unfolding canonical_bytes
 write_list-requires-clause-room g c =
     let m = c.args.self.now in
     rw (c.as_slice.ensures.value, g.met.H.Header.by_family.written m.attributes.items)
     (omega (arith, c.requires.room, c.size.ensures, (g.met.H.Header.by_layout m.header).2, length-append {A = ℕ}))
 
 pub emit-requires-clause-room : goal.emit-requires-clause-room
-unfolding spelling
+unfolding canonical_bytes
 emit-requires-clause-room g c =
     let head = g.met.H.Header.by_layout c.args.self.now.header in
     rw head.0 (omega (arith, c.requires.room, c.size.ensures, head.2, length-append {A = ℕ}, length-take {A = ℕ}))

@@ -11,7 +11,7 @@ use Rattle.netlink_packet_route.specs.declared.framing.DecodeError.{DecodeError}
 use Rattle.netlink_packet_route.specs.declared.framing.DecodeError.TheVariants.{OutOfMemory, HeaderTooShort, AttributeTooShort, AttributeLength}
 use Rattle.netlink_packet_route.specs.declared.framing.DecodeError.TheVariants.{NextHopTooShort, NextHopLength, ValueLength, NotUtf8, Seg6Header}
 use Rattle.netlink_packet_route.specs.declared.framing.DecodeError.TheVariants.{GeneveOrder, GeneveChild, ViaFamily, Unsupported}
-use Rattle.npr_c.specs.Faults.{family_number, seg6_number, told}
+use Rattle.npr_c.specs.Faults.{family_number, seg6_number, located}
 use Rattle.npr_c.specs.declared.faults.Fault.{Fault}
 
 -- the family, the fault and the refusal that have these numbers
@@ -66,7 +66,7 @@ seg6_back Segments = refl
 place_back : (at : At) → record { family = family_of (family_number at.family); kind = at.kind } ≡ at
 place_back at = λ i. record { family = family_back at.family i; kind = at.kind }
 
-refusal_back : (e : DecodeError) (k : ℕ) → refusal_of (told e k) ≡ e
+refusal_back : (e : DecodeError) (k : ℕ) → refusal_of (located e k) ≡ e
 refusal_back OutOfMemory k = refl
 refusal_back (HeaderTooShort got want) k = refl
 refusal_back (AttributeTooShort got) k = refl
@@ -82,5 +82,5 @@ refusal_back (ViaFamily family) k = refl
 refusal_back (Unsupported at) k = ap (λ (a : At). Unsupported a) (place_back at)
 
 -- two refusals that are told alike are one
-pub one_refusal : (d e : DecodeError) (j k : ℕ) → told d j ≡ told e k → d ≡ e
+pub one_refusal : (d e : DecodeError) (j k : ℕ) → located d j ≡ located e k → d ≡ e
 one_refusal d e j k same = sym (refusal_back d j) ∙ ap refusal_of same ∙ refusal_back e k
