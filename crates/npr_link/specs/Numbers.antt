@@ -55,18 +55,18 @@ abbrev pub signed_at : List ℤ → ℕ → ℤ
 signed_at numbers at = or_zero (pos 0) (slice_get numbers at)
 
 -- how long they are
-pub words32_length : (numbers : List ℕ) → length (words32.writes numbers) ≡ length numbers * 4
+pub words32_length : (numbers : List ℕ) → length (words32.encode numbers) ≡ length numbers * 4
 words32_length [] = refl
-words32_length (x ∷ numbers) = omega (arith, words32_length numbers, length-append (le32.encode x) (words32.writes numbers))
+words32_length (x ∷ numbers) = omega (arith, words32_length numbers, length-append (le32.encode x) (words32.encode numbers))
 
-pub words64_length : (numbers : List ℕ) → length (words64.writes numbers) ≡ length numbers * 8
+pub words64_length : (numbers : List ℕ) → length (words64.encode numbers) ≡ length numbers * 8
 words64_length [] = refl
-words64_length (x ∷ numbers) = omega (arith, words64_length numbers, length-append (le64.encode x) (words64.writes numbers))
+words64_length (x ∷ numbers) = omega (arith, words64_length numbers, length-append (le64.encode x) (words64.encode numbers))
 
-pub signed_words32_length : (numbers : List ℤ) → length (signed_words32.writes numbers) ≡ length numbers * 4
+pub signed_words32_length : (numbers : List ℤ) → length (signed_words32.encode numbers) ≡ length numbers * 4
 signed_words32_length [] = refl
-signed_words32_length (x ∷ numbers) = omega (arith, signed_words32_length numbers, length-append (signed32.encode x) (signed_words32.writes numbers))
+signed_words32_length (x ∷ numbers) = omega (arith, signed_words32_length numbers, length-append (signed32.encode x) (signed_words32.encode numbers))
 
-pub signed_words64_length : (numbers : List ℤ) → length (signed_words64.writes numbers) ≡ length numbers * 8
+pub signed_words64_length : (numbers : List ℤ) → length (signed_words64.encode numbers) ≡ length numbers * 8
 signed_words64_length [] = refl
-signed_words64_length (x ∷ numbers) = omega (arith, signed_words64_length numbers, length-append (signed64.encode x) (signed_words64.writes numbers))
+signed_words64_length (x ∷ numbers) = omega (arith, signed_words64_length numbers, length-append (signed64.encode x) (signed_words64.encode numbers))

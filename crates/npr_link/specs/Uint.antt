@@ -61,8 +61,8 @@ abbrev pub uint : Codec ℕ
 uint = record {
   Reads = IsUint;
   Wrong = λ at bytes e. (length bytes ≢ 4) × (length bytes ≢ 8) × (e ≡ ValueLength at (length bytes));
-  writes = uint_bytes;
-  inside = λ kind x. None;
+  encode = uint_bytes;
+  unfit = λ kind x. None;
   Holds = λ x. x < 2 ^ 64;
   members = no_members;
   one_reading = uint-one;

@@ -1,7 +1,7 @@
 //! What an address family says of a link: `AF_*` of `linux/socket.h`.
 
 ghost use Rattle.std.specs.Prelude.{refl};
-ghost use Rattle.{npr_base.specs.Table.{shaped}, npr_link.specs.AfSpec.{family}};
+ghost use Rattle.{npr_base.specs.Family.{shaped}, npr_link.specs.AfSpec.{family}};
 
 use crate::af_spec_inet::AfSpecInet;
 use crate::af_spec_inet6::AfSpecInet6;
@@ -67,7 +67,7 @@ impl Attribute for AfSpecUnspec {
         rows!(put_rows(place, alloc, item, looks))
     }
 
-    fn clone(&self, alloc: Global) -> Result<Self, AllocError> {
+    fn try_clone(&self, alloc: Global) -> Result<Self, AllocError> {
         rows!(clone_rows(self, alloc))
     }
 }

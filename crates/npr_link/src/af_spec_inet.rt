@@ -1,7 +1,7 @@
 //! What IP version 4 says of a link: `IFLA_INET_*` of `linux/if_link.h`.
 
 ghost use Rattle.std.specs.Prelude.{refl};
-ghost use Rattle.{npr_base.specs.Table.{shaped}, npr_link.specs.AfSpecInet.{family}};
+ghost use Rattle.{npr_base.specs.Family.{shaped}, npr_link.specs.AfSpecInet.{family}};
 
 use crate::dev_conf::InetDevConf;
 use crate::put_link_rows;
@@ -64,7 +64,7 @@ impl Attribute for AfSpecInet {
         rows!(put_link_rows(place, alloc, item, looks))
     }
 
-    fn clone(&self, alloc: Global) -> Result<Self, AllocError> {
+    fn try_clone(&self, alloc: Global) -> Result<Self, AllocError> {
         rows!(clone_rows(self, alloc))
     }
 }

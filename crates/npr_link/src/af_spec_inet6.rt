@@ -1,7 +1,7 @@
 //! What IP version 6 says of a link: `IFLA_INET6_*` of `linux/if_link.h`.
 
 ghost use Rattle.std.specs.Prelude.{refl};
-ghost use Rattle.{npr_base.specs.Table.{shaped}, npr_link.specs.AfSpecInet6.{family}};
+ghost use Rattle.{npr_base.specs.Family.{shaped}, npr_link.specs.AfSpecInet6.{family}};
 
 use crate::address_mode::In6AddrGenMode;
 use crate::dev_conf::Inet6DevConf;
@@ -90,7 +90,7 @@ impl Attribute for AfSpecInet6 {
         rows!(put_link_rows(place, alloc, item, looks))
     }
 
-    fn clone(&self, alloc: Global) -> Result<Self, AllocError> {
+    fn try_clone(&self, alloc: Global) -> Result<Self, AllocError> {
         rows!(clone_rows(self, alloc))
     }
 }

@@ -42,7 +42,7 @@ impl InetDevConf {
     ///
     /// # Errors
     /// `AllocError` where memory is refused.
-    pub fn clone(&self, alloc: Global) -> Result<Self, AllocError>
+    pub fn try_clone(&self, alloc: Global) -> Result<Self, AllocError>
         ensures { IfOk result (λ x. x.numbers.items ≡ self.now.numbers.items) }
     {
         Ok(InetDevConf {
@@ -53,16 +53,16 @@ impl InetDevConf {
     /// The length of the bytes: 4 for each.
     #[tactic(auto, using(crate::specs::Numbers::signed_words32_length))]
     pub fn len(&self) -> usize
-        ensures { result ≡ length (signed_words32.writes self.now.numbers.items) }
+        ensures { result ≡ length (signed_words32.encode self.now.numbers.items) }
     {
-        self.numbers.len() * 4
+        self.numbers.as_slice().len() * 4
     }
 
     /// Writes the bytes at the front of the slice, leaves the rest, and answers their length.
     pub fn write(&self, out: &mut [u8]) -> usize
-        requires { length (signed_words32.writes self.now.numbers.items) ≤ length out.old }
-        ensures len { result ≡ length (signed_words32.writes self.now.numbers.items) }
-        ensures after { Writes out.old out.new (signed_words32.writes self.now.numbers.items) }
+        requires { length (signed_words32.encode self.now.numbers.items) ≤ length out.old }
+        ensures len { result ≡ length (signed_words32.encode self.now.numbers.items) }
+        ensures after { Writes out.old out.new (signed_words32.encode self.now.numbers.items) }
     {
         write_numbers(self.numbers.as_slice(), out)
     }
@@ -349,7 +349,7 @@ impl Inet6DevConf {
     ///
     /// # Errors
     /// `AllocError` where memory is refused.
-    pub fn clone(&self, alloc: Global) -> Result<Self, AllocError>
+    pub fn try_clone(&self, alloc: Global) -> Result<Self, AllocError>
         ensures { IfOk result (λ x. x.numbers.items ≡ self.now.numbers.items) }
     {
         Ok(Inet6DevConf {
@@ -360,16 +360,16 @@ impl Inet6DevConf {
     /// The length of the bytes: 4 for each.
     #[tactic(auto, using(crate::specs::Numbers::signed_words32_length))]
     pub fn len(&self) -> usize
-        ensures { result ≡ length (signed_words32.writes self.now.numbers.items) }
+        ensures { result ≡ length (signed_words32.encode self.now.numbers.items) }
     {
-        self.numbers.len() * 4
+        self.numbers.as_slice().len() * 4
     }
 
     /// Writes the bytes at the front of the slice, leaves the rest, and answers their length.
     pub fn write(&self, out: &mut [u8]) -> usize
-        requires { length (signed_words32.writes self.now.numbers.items) ≤ length out.old }
-        ensures len { result ≡ length (signed_words32.writes self.now.numbers.items) }
-        ensures after { Writes out.old out.new (signed_words32.writes self.now.numbers.items) }
+        requires { length (signed_words32.encode self.now.numbers.items) ≤ length out.old }
+        ensures len { result ≡ length (signed_words32.encode self.now.numbers.items) }
+        ensures after { Writes out.old out.new (signed_words32.encode self.now.numbers.items) }
     {
         write_numbers(self.numbers.as_slice(), out)
     }

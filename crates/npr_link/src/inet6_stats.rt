@@ -42,7 +42,7 @@ impl Inet6Stats {
     ///
     /// # Errors
     /// `AllocError` where memory is refused.
-    pub fn clone(&self, alloc: Global) -> Result<Self, AllocError>
+    pub fn try_clone(&self, alloc: Global) -> Result<Self, AllocError>
         ensures { IfOk result (λ x. x.numbers.items ≡ self.now.numbers.items) }
     {
         Ok(Inet6Stats {
@@ -53,16 +53,16 @@ impl Inet6Stats {
     /// The length of the bytes: 8 for each.
     #[tactic(auto, using(crate::specs::Numbers::signed_words64_length))]
     pub fn len(&self) -> usize
-        ensures { result ≡ length (signed_words64.writes self.now.numbers.items) }
+        ensures { result ≡ length (signed_words64.encode self.now.numbers.items) }
     {
-        self.numbers.len() * 8
+        self.numbers.as_slice().len() * 8
     }
 
     /// Writes the bytes at the front of the slice, leaves the rest, and answers their length.
     pub fn write(&self, out: &mut [u8]) -> usize
-        requires { length (signed_words64.writes self.now.numbers.items) ≤ length out.old }
-        ensures len { result ≡ length (signed_words64.writes self.now.numbers.items) }
-        ensures after { Writes out.old out.new (signed_words64.writes self.now.numbers.items) }
+        requires { length (signed_words64.encode self.now.numbers.items) ≤ length out.old }
+        ensures len { result ≡ length (signed_words64.encode self.now.numbers.items) }
+        ensures after { Writes out.old out.new (signed_words64.encode self.now.numbers.items) }
     {
         write_numbers(self.numbers.as_slice(), out)
     }
@@ -111,7 +111,7 @@ impl Icmp6Stats {
     ///
     /// # Errors
     /// `AllocError` where memory is refused.
-    pub fn clone(&self, alloc: Global) -> Result<Self, AllocError>
+    pub fn try_clone(&self, alloc: Global) -> Result<Self, AllocError>
         ensures { IfOk result (λ x. x.numbers.items ≡ self.now.numbers.items) }
     {
         Ok(Icmp6Stats {
@@ -122,16 +122,16 @@ impl Icmp6Stats {
     /// The length of the bytes: 8 for each.
     #[tactic(auto, using(crate::specs::Numbers::signed_words64_length))]
     pub fn len(&self) -> usize
-        ensures { result ≡ length (signed_words64.writes self.now.numbers.items) }
+        ensures { result ≡ length (signed_words64.encode self.now.numbers.items) }
     {
-        self.numbers.len() * 8
+        self.numbers.as_slice().len() * 8
     }
 
     /// Writes the bytes at the front of the slice, leaves the rest, and answers their length.
     pub fn write(&self, out: &mut [u8]) -> usize
-        requires { length (signed_words64.writes self.now.numbers.items) ≤ length out.old }
-        ensures len { result ≡ length (signed_words64.writes self.now.numbers.items) }
-        ensures after { Writes out.old out.new (signed_words64.writes self.now.numbers.items) }
+        requires { length (signed_words64.encode self.now.numbers.items) ≤ length out.old }
+        ensures len { result ≡ length (signed_words64.encode self.now.numbers.items) }
+        ensures after { Writes out.old out.new (signed_words64.encode self.now.numbers.items) }
     {
         write_numbers(self.numbers.as_slice(), out)
     }

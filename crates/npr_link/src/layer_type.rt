@@ -224,7 +224,7 @@ macro_rules! numbers {
 }
 
 /// The name of a variant, where it has one.
-macro_rules! name_of_variant {
+macro_rules! layer_type_name {
     (($of:expr) $set:ident { $($n:literal $variant:ident $text:literal;)* }) => {
         match $of {
             $($set::$variant => Some($text),)*
@@ -254,7 +254,7 @@ impl LinkLayerType {
     fn name(&self) -> Option<&'static str>
         ensures { option_map (λ name. name.now) result ≡ layer_type_name self.now }
     {
-        numbers!(name_of_variant(self))
+        numbers!(layer_type_name(self))
     }
 }
 

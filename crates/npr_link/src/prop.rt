@@ -1,7 +1,7 @@
 //! A property of a link: `IFLA_*` of `linux/if_link.h`.
 
 ghost use Rattle.std.specs.Prelude.{refl};
-ghost use Rattle.{npr_base.specs.Table.{shaped}, npr_link.specs.Prop.{family}};
+ghost use Rattle.{npr_base.specs.Family.{shaped}, npr_link.specs.Prop.{family}};
 
 use npr_base::{Attribute, DecodeError, DefaultNla, EmitError, Looks, Nla, NlaBuffer, Place};
 use std::alloc::{AllocError, Global};
@@ -62,7 +62,7 @@ impl Attribute for Prop {
         rows!(put_rows(place, alloc, item, looks))
     }
 
-    fn clone(&self, alloc: Global) -> Result<Self, AllocError> {
+    fn try_clone(&self, alloc: Global) -> Result<Self, AllocError> {
         rows!(clone_rows(self, alloc))
     }
 }

@@ -1,7 +1,7 @@
 //! Who holds a link down: `IFLA_PROTO_DOWN_REASON_*` of `linux/if_link.h`.
 
 ghost use Rattle.std.specs.Prelude.{refl};
-ghost use Rattle.{npr_base.specs.Table.{shaped}, npr_link.specs.ProtocolDown.{family}};
+ghost use Rattle.{npr_base.specs.Family.{shaped}, npr_link.specs.ProtocolDown.{family}};
 
 use npr_base::{Attribute, DecodeError, DefaultNla, EmitError, Looks, Nla, NlaBuffer, Place};
 use std::alloc::{AllocError, Global};
@@ -65,7 +65,7 @@ impl Attribute for LinkProtocolDownReason {
         rows!(put_rows(place, alloc, item, looks))
     }
 
-    fn clone(&self, alloc: Global) -> Result<Self, AllocError> {
+    fn try_clone(&self, alloc: Global) -> Result<Self, AllocError> {
         rows!(clone_rows(self, alloc))
     }
 }

@@ -1,7 +1,7 @@
 //! Who asks for multicast groups: `BRIDGE_QUERIER_*` of `linux/if_bridge.h`.
 
 ghost use Rattle.std.specs.Prelude.{refl};
-ghost use Rattle.{npr_base.specs.Table.{shaped}, npr_link.specs.QuerierState.{family}};
+ghost use Rattle.{npr_base.specs.Family.{shaped}, npr_link.specs.QuerierState.{family}};
 
 use npr_base::{Attribute, DecodeError, DefaultNla, EmitError, Ipv4Addr, Ipv6Addr, Looks, Nla, NlaBuffer, Place};
 use std::alloc::{AllocError, Global};
@@ -77,7 +77,7 @@ impl Attribute for BridgeQuerierState {
         rows!(put_rows(place, alloc, item, looks))
     }
 
-    fn clone(&self, alloc: Global) -> Result<Self, AllocError> {
+    fn try_clone(&self, alloc: Global) -> Result<Self, AllocError> {
         rows!(clone_rows(self, alloc))
     }
 }

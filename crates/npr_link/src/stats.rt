@@ -42,7 +42,7 @@ impl Stats {
     ///
     /// # Errors
     /// `AllocError` where memory is refused.
-    pub fn clone(&self, alloc: Global) -> Result<Self, AllocError>
+    pub fn try_clone(&self, alloc: Global) -> Result<Self, AllocError>
         ensures { IfOk result (λ x. x.numbers.items ≡ self.now.numbers.items) }
     {
         Ok(Stats {
@@ -53,16 +53,16 @@ impl Stats {
     /// The length of the bytes: 4 for each.
     #[tactic(auto, using(crate::specs::Numbers::words32_length))]
     pub fn len(&self) -> usize
-        ensures { result ≡ length (words32.writes self.now.numbers.items) }
+        ensures { result ≡ length (words32.encode self.now.numbers.items) }
     {
-        self.numbers.len() * 4
+        self.numbers.as_slice().len() * 4
     }
 
     /// Writes the bytes at the front of the slice, leaves the rest, and answers their length.
     pub fn write(&self, out: &mut [u8]) -> usize
-        requires { length (words32.writes self.now.numbers.items) ≤ length out.old }
-        ensures len { result ≡ length (words32.writes self.now.numbers.items) }
-        ensures after { Writes out.old out.new (words32.writes self.now.numbers.items) }
+        requires { length (words32.encode self.now.numbers.items) ≤ length out.old }
+        ensures len { result ≡ length (words32.encode self.now.numbers.items) }
+        ensures after { Writes out.old out.new (words32.encode self.now.numbers.items) }
     {
         write_numbers(self.numbers.as_slice(), out)
     }
@@ -286,7 +286,7 @@ impl Stats64 {
     ///
     /// # Errors
     /// `AllocError` where memory is refused.
-    pub fn clone(&self, alloc: Global) -> Result<Self, AllocError>
+    pub fn try_clone(&self, alloc: Global) -> Result<Self, AllocError>
         ensures { IfOk result (λ x. x.numbers.items ≡ self.now.numbers.items) }
     {
         Ok(Stats64 {
@@ -297,16 +297,16 @@ impl Stats64 {
     /// The length of the bytes: 8 for each.
     #[tactic(auto, using(crate::specs::Numbers::words64_length))]
     pub fn len(&self) -> usize
-        ensures { result ≡ length (words64.writes self.now.numbers.items) }
+        ensures { result ≡ length (words64.encode self.now.numbers.items) }
     {
-        self.numbers.len() * 8
+        self.numbers.as_slice().len() * 8
     }
 
     /// Writes the bytes at the front of the slice, leaves the rest, and answers their length.
     pub fn write(&self, out: &mut [u8]) -> usize
-        requires { length (words64.writes self.now.numbers.items) ≤ length out.old }
-        ensures len { result ≡ length (words64.writes self.now.numbers.items) }
-        ensures after { Writes out.old out.new (words64.writes self.now.numbers.items) }
+        requires { length (words64.encode self.now.numbers.items) ≤ length out.old }
+        ensures len { result ≡ length (words64.encode self.now.numbers.items) }
+        ensures after { Writes out.old out.new (words64.encode self.now.numbers.items) }
     {
         write_numbers(self.numbers.as_slice(), out)
     }

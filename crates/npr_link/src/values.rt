@@ -27,16 +27,16 @@ pub(crate) fn read_uint(value: &[u8], at: At) -> Result<u64, DecodeError>
 
 /// The length of such a number: 4 bytes where they hold it, and else 8.
 pub(crate) fn uint_len(number: u64) -> usize
-    ensures { result ≡ length (uint.writes number) }
+    ensures { result ≡ length (uint.encode number) }
 {
     if number < 0x1_0000_0000 { 4 } else { 8 }
 }
 
 /// Writes such a number at the front of the slice, leaves the rest, and answers its length.
 pub(crate) fn write_uint(number: u64, out: &mut [u8]) -> usize
-    requires { length (uint.writes number) ≤ length out.old }
-    ensures len { result ≡ length (uint.writes number) }
-    ensures after { Writes out.old out.new (uint.writes number) }
+    requires { length (uint.encode number) ≤ length out.old }
+    ensures len { result ≡ length (uint.encode number) }
+    ensures after { Writes out.old out.new (uint.encode number) }
 {
     if number < 0x1_0000_0000 {
         write_array((number as u32).to_le_bytes(), out)

@@ -1,7 +1,7 @@
 //! The data of a VLAN: `IFLA_VLAN_*` of `linux/if_link.h`.
 
 ghost use Rattle.std.specs.Prelude.{refl};
-ghost use Rattle.{npr_base.specs.Table.{shaped}, npr_link.specs.Vlan.{family}};
+ghost use Rattle.{npr_base.specs.Family.{shaped}, npr_link.specs.Vlan.{family}};
 
 use crate::values::{read_two_flags, write_two_numbers};
 use crate::vlan_flags::VlanFlags;
@@ -78,7 +78,7 @@ impl Attribute for InfoVlan {
         rows!(put_rows(place, alloc, item, looks; 2 => put_read(place, read_two_flags(item.value(), AttrFamily::Value.at(2)), InfoVlan::Flags),))
     }
 
-    fn clone(&self, alloc: Global) -> Result<Self, AllocError> {
+    fn try_clone(&self, alloc: Global) -> Result<Self, AllocError> {
         rows!(clone_rows(self, alloc; InfoVlan::Flags(x) => Ok(InfoVlan::Flags(*x)),))
     }
 }

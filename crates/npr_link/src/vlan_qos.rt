@@ -1,7 +1,7 @@
 //! A mapping of priorities: `IFLA_VLAN_QOS_*` of `linux/if_link.h`.
 
 ghost use Rattle.std.specs.Prelude.{refl};
-ghost use Rattle.{npr_base.specs.Table.{shaped}, npr_link.specs.VlanQos.{family}};
+ghost use Rattle.{npr_base.specs.Family.{shaped}, npr_link.specs.VlanQos.{family}};
 
 use crate::values::{read_two_numbers, write_two_numbers};
 use npr_base::{AttrFamily, Attribute, DecodeError, DefaultNla, EmitError, Looks, Nla, NlaBuffer, Place};
@@ -62,7 +62,7 @@ impl Attribute for VlanQosMapping {
         rows!(put_rows(place, alloc, item, looks; 1 => { let (from, to) = read_two_numbers(item.value(), AttrFamily::Value.at(1))?; place.put(VlanQosMapping::Mapping(from, to)); Ok(()) }))
     }
 
-    fn clone(&self, alloc: Global) -> Result<Self, AllocError> {
+    fn try_clone(&self, alloc: Global) -> Result<Self, AllocError> {
         rows!(clone_rows(self, alloc; VlanQosMapping::Mapping(from, to) => Ok(VlanQosMapping::Mapping(*from, *to)),))
     }
 }

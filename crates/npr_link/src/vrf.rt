@@ -1,7 +1,7 @@
 //! The data of a routing domain, or of a port of one: `IFLA_VRF_*` of `linux/if_link.h`.
 
 ghost use Rattle.std.specs.Prelude.{refl};
-ghost use Rattle.{npr_base.specs.Table.{shaped}, npr_link.specs.Vrf.{family}};
+ghost use Rattle.{npr_base.specs.Family.{shaped}, npr_link.specs.Vrf.{family}};
 
 use npr_base::{Attribute, DecodeError, DefaultNla, EmitError, Looks, Nla, NlaBuffer, Place};
 use std::alloc::{AllocError, Global};
@@ -62,7 +62,7 @@ impl Attribute for InfoVrf {
         rows!(put_rows(place, alloc, item, looks))
     }
 
-    fn clone(&self, alloc: Global) -> Result<Self, AllocError> {
+    fn try_clone(&self, alloc: Global) -> Result<Self, AllocError> {
         rows!(clone_rows(self, alloc))
     }
 }

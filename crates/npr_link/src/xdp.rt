@@ -1,7 +1,7 @@
 //! The program at the driver of a link: `IFLA_XDP_*` of `linux/if_link.h`.
 
 ghost use Rattle.std.specs.Prelude.{refl};
-ghost use Rattle.{npr_base.specs.Table.{shaped}, npr_link.specs.Xdp.{family}};
+ghost use Rattle.{npr_base.specs.Family.{shaped}, npr_link.specs.Xdp.{family}};
 
 use crate::xdp_attached::XdpAttached;
 use npr_base::{Attribute, DecodeError, DefaultNla, EmitError, Looks, Nla, NlaBuffer, Place};
@@ -84,7 +84,7 @@ impl Attribute for LinkXdp {
         rows!(put_rows(place, alloc, item, looks))
     }
 
-    fn clone(&self, alloc: Global) -> Result<Self, AllocError> {
+    fn try_clone(&self, alloc: Global) -> Result<Self, AllocError> {
         rows!(clone_rows(self, alloc))
     }
 }
