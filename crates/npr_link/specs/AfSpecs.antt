@@ -16,14 +16,14 @@ pub data AfSpecs : Type 0 where
 
 -- the families under which it is a list; a family counts by its variant
 pub data Form : Type 0 where
-  listed : Form
-  kept : Form
+  as_list : Form
+  as_bytes : Form
 
 abbrev pub form_of : AddressFamily → Form
-form_of Unspec = listed
-form_of Inet = listed
-form_of Inet6 = listed
-form_of family = kept
+form_of Unspec = as_list
+form_of Inet = as_list
+form_of Inet6 = as_list
+form_of family = as_bytes
 
 abbrev encoded : AfSpecs → List ℕ
 encoded (unspec xs) = (list_of OfAfSpec.attributes).encode xs
@@ -41,7 +41,7 @@ abbrev pub variants : Variants AfSpecs
 variants = record { encode = encoded; unfit = unfit; count = count }
 
 abbrev pub case : Form → Case variants
-case listed = record {
+case as_list = record {
   V = List OfAfSpec.family.Meaning;
   codec = list_of OfAfSpec.attributes;
   made = unspec;
@@ -49,7 +49,7 @@ case listed = record {
   unfit = λ kind v. refl;
   counted = λ v. refl;
 }
-case kept = record { V = List ℕ; codec = raw; made = unknown; encoded = λ v. refl; unfit = λ kind v. refl; counted = λ v. refl }
+case as_bytes = record { V = List ℕ; codec = raw; made = unknown; encoded = λ v. refl; unfit = λ kind v. refl; counted = λ v. refl }
 
 abbrev pub af_specs : Form → Codec AfSpecs
 af_specs form = chosen variants (case form)

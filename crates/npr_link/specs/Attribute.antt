@@ -9,15 +9,15 @@ use Rattle.npr_base.specs.Family.{Writing, family_of}
 use Rattle.npr_base.specs.Tables.{marked_row, row, others, ◌or◌, boolean, byte, exactly, items, le16, le32, leading, list_of, listed, name, raw, seen}
 use Rattle.npr_base.specs.Tables.{signed32, text, value, refl, Reading, Family}
 use Rattle.npr_link.specs.AfSpec as OfAfSpec
-use Rattle.npr_link.specs.AfSpecs.{Form, listed, form_of, unspec, unknown, af_specs}
+use Rattle.npr_link.specs.AfSpecs.{Form, as_list, form_of, unspec, unknown, af_specs}
 use Rattle.npr_link.specs.ExtentMask.{extent_mask}
 use Rattle.npr_link.specs.LinkEvent.{link_event}
 use Rattle.npr_link.specs.LinkMode.{link_mode}
-use Rattle.npr_link.specs.Map.{map}
+use Rattle.npr_link.specs.Map.{device_map}
 use Rattle.npr_link.specs.Numbers.{words32, words64}
 use Rattle.npr_link.specs.Prop as OfProp
 use Rattle.npr_link.specs.ProtocolDown as OfProtocolDown
-use Rattle.npr_link.specs.SharedRow.{SharedTable, shared_meaning}
+use Rattle.npr_link.specs.SharedRow.{SharedTable, first_of, shared_meaning}
 use Rattle.npr_link.specs.State.{state}
 use Rattle.npr_link.specs.Uint.{uint}
 use Rattle.npr_link.specs.Xdp as OfXdp
@@ -42,7 +42,7 @@ rows form =
     or row AtAttribute 7 words32 (seen (λ x. x.numbers.items) LinkAttribute.Stats)  -- IFLA_STATS
     or row AtAttribute 10 (exactly le32) (value LinkAttribute.Controller)  -- IFLA_MASTER
     or row AtAttribute 13 (exactly le32) (value LinkAttribute.TxQueueLen)  -- IFLA_TXQLEN
-    or row AtAttribute 14 (leading map) (value LinkAttribute.Map)  -- IFLA_MAP
+    or row AtAttribute 14 (leading device_map) (value LinkAttribute.Map)  -- IFLA_MAP
     or row AtAttribute 16 (exactly state) (value LinkAttribute.OperState)  -- IFLA_OPERSTATE
     or row AtAttribute 17 (exactly link_mode) (value LinkAttribute.Mode)  -- IFLA_LINKMODE
     or row AtAttribute 19 (exactly le32) (value LinkAttribute.NetNsPid)  -- IFLA_NET_NS_PID
@@ -91,7 +91,7 @@ rows form =
     or row AtAttribute 69 (exactly le16) (value LinkAttribute.Tailroom)  -- IFLA_TAILROOM
     or others (value LinkAttribute.Other)
 
-abbrev pub table : Form → SharedTable _ later enum.as_values
+abbrev pub table : Form → SharedTable (first_of enum.parts) later enum.as_values
 table form = record {
   rows = (rows form).0;
   first = λ f. inl (unspec (map OfAfSpec.family.meaning f.0.items));
@@ -102,11 +102,11 @@ table form = record {
 
 -- what an attribute is, without where it lies in memory
 abbrev pub Meaning : Type 0
-Meaning = MeaningIn later (rows listed).0
+Meaning = MeaningIn later (rows as_list).0
 
 -- how each is written, whatever the family of the header
 abbrev pub writing : Writing Meaning
-writing = writing_in later (rows listed).0
+writing = writing_in later (rows as_list).0
 
 pub shapes : (form : Form) (m : Meaning) → writing.shape m ≡ (writing_in later (rows form).0).shape m
 shapes form (inl x) = refl
@@ -123,4 +123,4 @@ attributes family =
     rewritten (attributes_in later (rows form).0 (table form).apart) writing (shapes form) (members form)
 
 abbrev pub family : Family LinkAttribute AddressFamily
-family = family_of (shared_meaning (table listed)) attributes
+family = family_of (shared_meaning (table as_list)) attributes

@@ -1,10 +1,11 @@
 -- The table of an enum two variants of which have one number: which of them stands there the context tells. The first variant
 -- shares the row of the second.
+--     first_of             the fields of the first variant
 --     SharedTable          the rows of all variants but the first, what the first means, and the names of all
 --     shared_meaning       what a value means
 --     shared_shape, shared-shape      what is written of it, by its variant
 --     shared_decides       `==` answers whether two values mean the same, given what it answers of each variant's field
-use Rattle.std.proofs.Common.{◌≡◌, Bool, true, false, List, ◌∷◌, inl, inr, refl, sym, ap, true≢false}
+use Rattle.std.proofs.Common.{◌≡◌, Bool, true, false, List, [], ◌∷◌, inl, inr, refl, sym, ap, true≢false}
 use Rattle.std.specs.Bool.{Decides}
 use Rattle.npr_base.specs.EnumTable.{VariantRows, Names, each, places, MeaningIn, meaning_in, shape_in, numbered}
 use Rattle.npr_base.specs.EnumTableLaws.{writing_in, shape-in, FieldsDecide, choices-decide}
@@ -13,6 +14,11 @@ use denote.Enum.Compared.{Each, by}
 use denote.Enum.Declared.{Choice}
 use denote.Struct.Field.{Field}
 use denote.Struct.Values.{Values}
+
+-- the fields of the first variant
+abbrev pub first_of : List (List Field) → List Field
+first_of [] = []
+first_of (Fs ∷ Fss) = Fs
 
 pub record SharedTable {D : Type 0} (Fs : List Field) (Fss : List (List Field)) (as_values : D → Choice (Fs ∷ Fss)) : Type 1 where
   pub rows : VariantRows Fss

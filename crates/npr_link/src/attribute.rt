@@ -9,7 +9,7 @@ ghost use Rattle.{
     Refusal.{no_place},
   },
   npr_link.specs.{
-    AfSpecs.{AfSpecs, af_specs, form_of, listed},
+    AfSpecs.{AfSpecs, af_specs, form_of, as_list},
     Attribute.{table, family},
     SharedRow.{shared_meaning, shared_shape, shared-shape},
   },
@@ -225,7 +225,7 @@ macro_rules! rows {
 }
 
 impl Nla for LinkAttribute {
-    ghost shape = { shared_shape (table listed) };
+    ghost shape = { shared_shape (table as_list) };
 
     fn kind(&self) -> u16 {
         rows!(kind_rows(self;
@@ -268,7 +268,7 @@ fn put_af_spec<P: Place<LinkAttribute>>(
     looks: &mut Looks,
 ) -> Result<(), DecodeError>
     requires { P.ready place.old }
-    ensures ok { IfOk result (λ _. (a : LinkAttribute) × (x : AfSpecs) × P.puts place.old a place.new × (shared_meaning (table listed) a ≡ inl x)
+    ensures ok { IfOk result (λ _. (a : LinkAttribute) × (x : AfSpecs) × P.puts place.old a place.new × (shared_meaning (table as_list) a ≡ inl x)
         × (af_specs (form_of family)).Reads value.now x) }
     ensures refused { IfErr result (λ e. e ≢ OutOfMemory → (af_specs (form_of family)).Wrong no_place value.now e) }
     ensures exact { Answered result → TakesInside (af_specs (form_of family)).members.looks value.now looks.old looks.new }
@@ -292,7 +292,7 @@ impl Attribute for LinkAttribute {
 
     ghost family = { family };
 
-    ghost shape_is = { shared-shape (table listed) };
+    ghost shape_is = { shared-shape (table as_list) };
 
     fn read_into<P: Place<Self>>(
         place: &mut P,

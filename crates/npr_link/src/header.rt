@@ -15,7 +15,7 @@ use npr_base::{
 };
 
 /// The length of `struct ifinfomsg` of `linux/rtnetlink.h`, in bytes.
-const IFINFOMSG_SIZE: usize = 16;
+pub(crate) const IFINFOMSG_SIZE: usize = 16;
 
 /// The header of a link message.
 #[derive(Clone, Copy, Debug, Default, PartialEq, Eq)]

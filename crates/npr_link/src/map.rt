@@ -1,7 +1,7 @@
 //! The resources of a device: `struct rtnl_link_ifmap` of `linux/if_link.h`.
 
 ghost use Rattle.std.specs.Prelude.{◌≡◌, ◌<◌, IfOk, IfErr};
-ghost use Rattle.{npr_base.specs.{Codec.{leading}, Refusal.{no_place}}, npr_link.specs.Map.{map}};
+ghost use Rattle.{npr_base.specs.{Codec.{leading}, Refusal.{no_place}}, npr_link.specs.Map.{device_map}};
 
 use npr_base::{DecodeError, EmitError, Emitable, leading_octets, write_array};
 
@@ -32,8 +32,8 @@ impl Map {
     /// # Errors
     /// `HeaderTooShort` below 32 bytes.
     pub fn parse(bytes: &[u8]) -> Result<Self, DecodeError>
-        ensures ok { IfOk result (λ x. (leading map).Reads bytes.now x) }
-        ensures refused { IfErr result (λ e. (leading map).Wrong no_place bytes.now e) }
+        ensures ok { IfOk result (λ x. (leading device_map).Reads bytes.now x) }
+        ensures refused { IfErr result (λ e. (leading device_map).Wrong no_place bytes.now e) }
     {
         let b = leading_octets(bytes, 32)?;
         Ok(Map {
@@ -48,7 +48,7 @@ impl Map {
 
     /// The 32 bytes of the layout.
     pub fn to_bytes(&self) -> [u8; 32]
-        ensures { result ≡ map.encode self.now }
+        ensures { result ≡ device_map.encode self.now }
     {
         let [a0, a1, a2, a3, a4, a5, a6, a7] = self.memory_start.to_le_bytes();
         let [b0, b1, b2, b3, b4, b5, b6, b7] = self.memory_end.to_le_bytes();
@@ -62,7 +62,7 @@ impl Map {
 }
 
 impl Emitable for Map {
-    ghost bytes = { map.encode };
+    ghost bytes = { device_map.encode };
 
     fn check(&self) -> Result<usize, EmitError> {
         Ok(32)
