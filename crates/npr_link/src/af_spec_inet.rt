@@ -5,7 +5,10 @@ ghost use Rattle.{npr_base.specs.Family.{shaped}, npr_link.specs.AfSpecInet.{fam
 
 use crate::dev_conf::InetDevConf;
 use crate::put_link_rows;
-use npr_base::{Attribute, DecodeError, DefaultNla, EmitError, Looks, Nla, NlaBuffer, Place, clone_rows, kind_rows, len_rows, write_rows};
+use npr_base::{
+    Attribute, DecodeError, DefaultNla, EmitError, Looks, Nla, NlaBuffer, Place, clone_rows,
+    kind_rows, len_rows, write_rows,
+};
 use std::alloc::{AllocError, Global};
 
 /// What IP version 4 says of a link.

@@ -10,7 +10,10 @@ use crate::inet6_flags::Inet6IfaceFlags;
 use crate::inet6_stats::{Icmp6Stats, Inet6Stats};
 use crate::put_link_rows;
 use bitflags::Flags;
-use npr_base::{Attribute, DecodeError, DefaultNla, EmitError, Ipv6Addr, Looks, Nla, NlaBuffer, Place, clone_rows, kind_rows, len_rows, write_rows};
+use npr_base::{
+    Attribute, DecodeError, DefaultNla, EmitError, Ipv6Addr, Looks, Nla, NlaBuffer, Place,
+    clone_rows, kind_rows, len_rows, write_rows,
+};
 use std::alloc::{AllocError, Global};
 
 /// What IP version 6 says of a link.

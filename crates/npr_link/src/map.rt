@@ -39,7 +39,9 @@ impl Map {
         Ok(Map {
             memory_start: u64::from_le_bytes([b[0], b[1], b[2], b[3], b[4], b[5], b[6], b[7]]),
             memory_end: u64::from_le_bytes([b[8], b[9], b[10], b[11], b[12], b[13], b[14], b[15]]),
-            base_address: u64::from_le_bytes([b[16], b[17], b[18], b[19], b[20], b[21], b[22], b[23]]),
+            base_address: u64::from_le_bytes([
+                b[16], b[17], b[18], b[19], b[20], b[21], b[22], b[23],
+            ]),
             irq: u16::from_le_bytes([b[24], b[25]]),
             dma: b[26],
             port: b[27],
@@ -55,8 +57,8 @@ impl Map {
         let [c0, c1, c2, c3, c4, c5, c6, c7] = self.base_address.to_le_bytes();
         let [d0, d1] = self.irq.to_le_bytes();
         [
-            a0, a1, a2, a3, a4, a5, a6, a7, b0, b1, b2, b3, b4, b5, b6, b7, c0, c1, c2, c3, c4, c5, c6, c7,
-            d0, d1, self.dma, self.port, 0, 0, 0, 0,
+            a0, a1, a2, a3, a4, a5, a6, a7, b0, b1, b2, b3, b4, b5, b6, b7, c0, c1, c2, c3, c4, c5,
+            c6, c7, d0, d1, self.dma, self.port, 0, 0, 0, 0,
         ]
     }
 }

@@ -54,7 +54,10 @@ pub(crate) fn read_two_numbers(value: &[u8], at: At) -> Result<(u32, u32), Decod
     ensures refused { IfErr result (λ e. (exactly two_numbers).Wrong at value.now e) }
 {
     let [a, b, c, d, e, f, g, h] = read_octets::<8>(value, at)?;
-    Ok((u32::from_le_bytes([a, b, c, d]), u32::from_le_bytes([e, f, g, h])))
+    Ok((
+        u32::from_le_bytes([a, b, c, d]),
+        u32::from_le_bytes([e, f, g, h]),
+    ))
 }
 
 /// Writes two numbers at the front of the slice, leaves the rest, and answers their length.

@@ -8,7 +8,10 @@ use crate::vlan_flags::VlanFlags;
 use crate::vlan_protocol::VlanProtocol;
 use crate::vlan_qos::VlanQosMapping;
 use bitflags::Flags;
-use npr_base::{AttrFamily, Attribute, DecodeError, DefaultNla, EmitError, Looks, Nla, NlaBuffer, Place, put_read};
+use npr_base::{
+    AttrFamily, Attribute, DecodeError, DefaultNla, EmitError, Looks, Nla, NlaBuffer, Place,
+    put_read,
+};
 use std::alloc::{AllocError, Global};
 
 /// The data of a VLAN.
