@@ -18,6 +18,11 @@ pub enum BridgeMulticastRouterType {
     Other(u8),
 }
 
+impl BridgeMulticastRouterType {
+    /// Another name of [`BridgeMulticastRouterType::TempQuery`].
+    pub const Auto: BridgeMulticastRouterType = BridgeMulticastRouterType::TempQuery;
+}
+
 /// Their numbers.
 macro_rules! numbers {
     ($body:ident ($($given:tt)*)) => {

@@ -15,6 +15,9 @@ pub enum InfoVrf {
     Other(DefaultNla),
 }
 
+/// The data of a port of a routing domain are those of the domain.
+pub type InfoVrfPort = InfoVrf;
+
 /// The rows of the table.
 macro_rules! rows {
     ($body:ident ($($given:tt)*)) => {
