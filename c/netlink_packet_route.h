@@ -36,9 +36,9 @@
 
 /* The version of the library. */
 #define NPR_VERSION_MAJOR 0
-#define NPR_VERSION_MINOR 4
-#define NPR_VERSION_PATCH 14
-#define NPR_VERSION "0.4.14"
+#define NPR_VERSION_MINOR 5
+#define NPR_VERSION_PATCH 0
+#define NPR_VERSION "0.5.0"
 
 /* The stack of a thread that is enough for every call and every input, in bytes: 1 MiB. The deepest
  * message takes some 773 KiB (measured). */

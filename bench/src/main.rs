@@ -6,8 +6,6 @@
 mod timing;
 mod ways;
 
-// For its link line alone.
-use canonical as _;
 use netlink_packet_core::{Emitable, Parseable};
 use netlink_packet_route::{address::AddressMessage, route::RouteMessage, rule::RuleMessage};
 use std::hint::black_box;

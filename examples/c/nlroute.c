@@ -20,18 +20,19 @@
 
 enum ending { WELL = 0, REFUSED = 1, BAD_HEX = 2, UNFIT = 3, MEMORY = 4, FAILED = 5 };
 
-/* A kind of message: its name, the bytes of its header, and its call. */
+/* A kind of message: its name, the bytes of its header, and its calls. */
 struct kind {
     const char *name;
     size_t header;
     struct npr_answer (*canonical)(const uint8_t *, size_t, uint8_t *, size_t);
+    struct npr_fault (*fault)(const uint8_t *, size_t);
 };
 
 static const struct kind KINDS[] = {
-    {"address", 8, npr_address_canonical},
-    {"route", 12, npr_route_canonical},
-    {"rule", 12, npr_rule_canonical},
-    {"neighbour", 12, npr_neighbour_canonical},
+    {"address", 8, npr_address_canonical, npr_address_fault},
+    {"route", 12, npr_route_canonical, npr_route_fault},
+    {"rule", 12, npr_rule_canonical, npr_rule_fault},
+    {"neighbour", 12, npr_neighbour_canonical, npr_neighbour_fault},
 };
 
 static const struct kind *kind_of(const char *name) {
@@ -214,6 +215,11 @@ static bool is_told(const char *text, struct npr_answer answer, const uint8_t *c
     return strcmp(text, name_of(answer, name)) == 0;
 }
 
+/* Whether a fault is told exactly where the bytes are refused, and the same one. */
+static bool is_judged(const struct kind *kind, struct bytes bytes, struct npr_answer answer) {
+    return kind->fault(bytes.at, bytes.length).number == (answer.status == NPR_REFUSED ? answer.number : 0);
+}
+
 /* Compares a line, which is hexadecimal text, a tab and an answer. */
 static bool compare_line(const struct kind *kind, char *line, struct comparison *sum) {
     char *tab = strchr(line, '\t');
@@ -225,7 +231,7 @@ static bool compare_line(const struct kind *kind, char *line, struct comparison 
     bool well = decode(&bytes, false) && ask(kind, bytes, &out, &answer);
     if (well) {
         sum->lines++;
-        if (!is_told(tab + 1, answer, out.at)) {
+        if (!is_told(tab + 1, answer, out.at) || !is_judged(kind, bytes, answer)) {
             sum->differ++;
             printf("line %lu differs: %s\n", sum->lines, tab + 1);
         }

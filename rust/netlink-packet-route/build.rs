@@ -1,4 +1,4 @@
-//! Erases the proved libraries beside this package.
+//! Erases the proved libraries beside this package, and their tests.
 
 use std::env::var_os;
 use std::path::{Path, PathBuf};
@@ -6,13 +6,16 @@ use std::path::{Path, PathBuf};
 fn main() {
     let folder = |name| PathBuf::from(var_os(name).expect("cargo sets it"));
     let crates = folder("CARGO_MANIFEST_DIR").join("../../crates");
-    for library in erase::LIBRARIES {
+    for library in erase::LIBRARIES.iter().chain(&erase::TESTS) {
         println!(
             "cargo::rerun-if-changed={}",
             sources(&crates, library).display()
         );
     }
-    if let Err(fault) = erase::erase_all(&crates, &folder("OUT_DIR")) {
+    println!("cargo::rustc-check-cfg=cfg(exhaustive)");
+    let out = folder("OUT_DIR");
+    let erased = erase::erase_all(&crates, &out).and_then(|_| erase::erase_tests(&crates, &out));
+    if let Err(fault) = erased {
         println!("cargo::error={fault}");
     }
 }

@@ -5,8 +5,8 @@ use netlink_packet_route::framing::{
     At, AttrFamily, DecodeError, EmitError, Emitable, Header, NlaBuffer, ParseableParametrized,
 };
 use netlink_packet_route::neighbour::{
-    NeighbourAddress, NeighbourAttribute, NeighbourCacheInfo, NeighbourExtFlags,
-    NeighbourFlags, NeighbourHeader, NeighbourMessage, NeighbourMessageBuffer, NeighbourState,
+    NeighbourAddress, NeighbourAttribute, NeighbourCacheInfo, NeighbourExtFlags, NeighbourFlags,
+    NeighbourHeader, NeighbourMessage, NeighbourMessageBuffer, NeighbourState,
 };
 use netlink_packet_route::net::{IpAddr, Ipv4Addr, Ipv6Addr};
 use netlink_packet_route::{AddressFamily, MessageKind, RouteNetlinkMessage};
@@ -246,7 +246,10 @@ fn what_is_remembered(rt: HostRuntime) -> Result<(), Fail> {
 
 #[test]
 fn by_its_name_and_its_types(rt: HostRuntime) -> Result<(), Fail> {
-    same(MessageKind::named("neighbour"), Some(MessageKind::Neighbour))?;
+    same(
+        MessageKind::named("neighbour"),
+        Some(MessageKind::Neighbour),
+    )?;
     let message = NeighbourMessage::new(rt.alloc());
     writes(
         &rt,

@@ -39,7 +39,7 @@ use npr_route::RouteAttribute;
 pub use npr_route::laws::{
     law_constants as law_route_constants, law_default as law_route_default,
     law_equality as law_route_equality, law_governing_type, law_looks as law_route_looks,
-    law_next_hops, law_newer,
+    law_newer, law_next_hops,
 };
 use npr_rule::RuleAttribute;
 pub use npr_rule::laws::{

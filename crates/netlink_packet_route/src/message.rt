@@ -5,7 +5,7 @@ ghost use Rattle.{
   npr_base.specs.{Message.{MessageFault, view}, declared.refusal.DecodeError.TheVariants.{OutOfMemory}},
   netlink_packet_route.specs.{
     MessageKind.{kind_of_type, form_of},
-    RouteNetlinkMessage.{Meaning, meaning_of, other_of, address, route, neighbour, rule, rtnetlink, type_of, writes, meaning_unfit, IsMessageOf, ReadsUnder, FaultUnder, HasFirst, GrowsUnder, CopyGrows},
+    RouteNetlinkMessage.{Meaning, meaning_of, other_of, address, route, neighbour, rule, rtnetlink, type_of, encode, meaning_unfit, IsMessageOf, ReadsUnder, FaultUnder, HasFirst, GrowsUnder, CopyGrows},
   },
   npr_address.specs.Message.{addresses},
   npr_neighbour.specs.Message.{neighbours},
@@ -240,7 +240,7 @@ impl OtherMessage {
 }
 
 impl Emitable for RouteNetlinkMessage {
-    ghost bytes = { λ m. writes (meaning_of m) };
+    ghost bytes = { λ m. encode (meaning_of m) };
 
     ghost unfit = { λ m. meaning_unfit (meaning_of m) };
 

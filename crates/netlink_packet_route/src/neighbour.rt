@@ -2,6 +2,6 @@
 
 pub use npr_neighbour::{
     NeighbourAddress, NeighbourAttribute, NeighbourCacheInfo, NeighbourCacheInfoBuffer,
-    NeighbourExtFlags, NeighbourFlags, NeighbourHeader, NeighbourMessage,
-    NeighbourMessageBuffer, NeighbourState,
+    NeighbourExtFlags, NeighbourFlags, NeighbourHeader, NeighbourMessage, NeighbourMessageBuffer,
+    NeighbourState,
 };

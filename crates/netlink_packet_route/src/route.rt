@@ -2,8 +2,9 @@
 //! headers that stand in them.
 
 pub use npr_route::{
-    RouteAttribute, RouteHeader, RouteMessage, RouteMessageBuffer, RouteMetric, RouteNextHop,
-    RouteNextHopBuffer, RoutePath, NEXT_HOP_HEADER_SIZE, RTNH_ALIGNTO, governing_type, normalize, read_next_hops, read_route_list,
+    NEXT_HOP_HEADER_SIZE, RTNH_ALIGNTO, RouteAttribute, RouteHeader, RouteMessage,
+    RouteMessageBuffer, RouteMetric, RouteNextHop, RouteNextHopBuffer, RoutePath, governing_type,
+    normalize, read_next_hops, read_route_list,
 };
 pub use npr_scalar::{
     MplsLabel, RouteAddress, RouteCacheInfo, RouteCacheInfoBuffer, RouteFlags, RouteMfcStats,

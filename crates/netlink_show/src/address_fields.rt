@@ -2,6 +2,7 @@
 
 use crate::attribute_fields::push_unknown;
 use crate::field::{self, Fields, Word, Wording};
+use crate::manner::{Inet, Inet6};
 use crate::names::{ADDRESS_PROTOCOLS, SCOPES};
 use netlink_packet_route::address::{
     AddressAttribute, AddressFlags, AddressHeader, AddressMessage, CacheInfo,
@@ -121,12 +122,12 @@ fn push_flags(fields: &mut Fields, family: AddressFamily, bits: u32) {
 fn push_attribute(fields: &mut Fields, local: Option<&IpAddr>, attribute: &AddressAttribute) {
     match attribute {
         AddressAttribute::Address(ip) => push_peer(fields, local, ip),
-        AddressAttribute::Local(ip) => fields.text(LOCAL, ip),
+        AddressAttribute::Local(ip) => fields.text(LOCAL, &Inet(ip)),
         AddressAttribute::Label(name) => fields.text(LABEL, name),
         AddressAttribute::Broadcast(ip) => fields.text(BROADCAST, ip),
-        AddressAttribute::Anycast(ip) => fields.text(ANYCAST, ip),
+        AddressAttribute::Anycast(ip) => fields.text(ANYCAST, &Inet6(ip)),
         AddressAttribute::CacheInfo(info) => push_cache_info(fields, info),
-        AddressAttribute::Multicast(ip) => fields.text(MULTICAST, ip),
+        AddressAttribute::Multicast(ip) => fields.text(MULTICAST, &Inet6(ip)),
         // They stand among the fields of the message.
         AddressAttribute::Flags(_) => {}
         AddressAttribute::RoutePriority(metric) => fields.number(METRIC, *metric),
@@ -145,7 +146,7 @@ fn push_attribute(fields: &mut Fields, local: Option<&IpAddr>, attribute: &Addre
 /// The address of an interface without a local one, its peer, or the local one once more.
 fn push_peer(fields: &mut Fields, local: Option<&IpAddr>, ip: &IpAddr) {
     let word = if local.is_some() { PEER } else { LOCAL };
-    fields.text(word, ip);
+    fields.text(word, &Inet(ip));
     fields.hide_if(local == Some(ip));
 }
 

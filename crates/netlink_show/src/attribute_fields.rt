@@ -1,9 +1,10 @@
 //! What is shown of an attribute of any family.
 
 use crate::field::{Fields, UNKNOWN, Word, Wording};
-use crate::names::REALMS;
+use crate::names::{IP_PROTOCOLS, REALMS};
 use netlink_packet_route::framing::{DefaultNla, NLA_TYPE_MASK, Nla};
 use netlink_packet_route::route::RouteRealm;
+use std::alloc::AllocError;
 
 /// The last place of a line.
 const LAST: u8 = 250;
@@ -27,6 +28,17 @@ pub fn push_realm(fields: &mut Fields, words: RealmWords, realm: RouteRealm) {
     }
     fields.named(from, REALMS, realm.source);
     fields.named(to, REALMS, realm.destination);
+}
+
+/// The number of a protocol over IP.
+pub fn push_ip_number(fields: &mut Fields, word: Word, number: i32) {
+    if let Some(name) = fields.manner.name(IP_PROTOCOLS, number.cast_unsigned()) {
+        return fields.text(word, &name);
+    }
+    match format!(in fields.manner.alloc; "ipproto-{number}") {
+        Ok(text) => fields.text(word, &text),
+        Err(AllocError) => fields.refuse(),
+    }
 }
 
 /// An attribute that nobody knows: its number, the flags of its kind if it has any, and its value.

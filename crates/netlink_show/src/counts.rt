@@ -1,7 +1,8 @@
 //! How many messages there were.
 
-use netlink_packet_core::{NetlinkInner, NetlinkPayload};
-use netlink_packet_route::{MessageKind, MessageType, RouteNetlinkMessage};
+use crate::message_fields::type_of;
+use netlink_packet_core::NetlinkPayload;
+use netlink_packet_route::{MessageKind, RouteNetlinkMessage};
 use std::alloc::AllocError;
 
 /// How many messages there were, of each kind. No count goes past the greatest number.
@@ -28,18 +29,15 @@ pub struct Counts {
 impl Counts {
     /// Counts a message that was read. Bytes and refusals are for the caller to count.
     pub fn add(&mut self, payload: &NetlinkPayload<RouteNetlinkMessage>) {
-        let count = match payload {
-            NetlinkPayload::InnerMessage(message) => {
-                return self.add_type(MessageType::of(message.message_type()));
-            }
-            _ => &mut self.controls,
-        };
-        *count = count.saturating_add(1);
+        match payload {
+            NetlinkPayload::InnerMessage(message) => self.add_kind(type_of(message).kind()),
+            _ => self.controls = self.controls.saturating_add(1),
+        }
     }
 
-    /// Counts a message of rtnetlink of this type.
-    pub fn add_type(&mut self, message_type: MessageType) {
-        let count = match message_type.kind() {
+    /// Counts a message of rtnetlink of this kind, or of none that the library reads.
+    pub fn add_kind(&mut self, kind: Option<MessageKind>) {
+        let count = match kind {
             Some(MessageKind::Address) => &mut self.addresses,
             Some(MessageKind::Route) => &mut self.routes,
             Some(MessageKind::Rule) => &mut self.rules,

@@ -2,7 +2,7 @@
 
 use crate::attribute_fields::push_unknown;
 use crate::field::{Fields, ITEM, Word, Wording};
-use crate::manner::Labels;
+use crate::manner::{Inet6, Labels};
 use crate::names::{SEG6_MODES, TABLES};
 use crate::tunnel_fields::{push_ip, push_ip6};
 use netlink_packet_route::net::Ipv6Addr;
@@ -29,7 +29,7 @@ const SEG6_TABLE: Word = &Wording(4, "table", "table ");
 
 const ACTION: Word = &Wording(0, "action", "action ");
 
-const HEADER: Word = &Wording(1, "srh", "srh");
+const HEADER: Word = &Wording(1, "srh", "");
 
 const TABLE: Word = &Wording(2, "table", "table ");
 
@@ -118,7 +118,7 @@ fn push_mpls(fields: &mut Fields, member: &RouteMplsIpTunnel) {
 fn push_seg6(fields: &mut Fields, member: &RouteSeg6IpTunnel) {
     match member {
         RouteSeg6IpTunnel::Seg6(header) => push_seg6_header(fields, header),
-        RouteSeg6IpTunnel::Src(ip) => fields.text(SOURCE, ip),
+        RouteSeg6IpTunnel::Src(ip) => fields.text(SOURCE, &Inet6(ip)),
         RouteSeg6IpTunnel::Table(number) => fields.named(SEG6_TABLE, TABLES, *number),
         RouteSeg6IpTunnel::Other(nla) => push_unknown(fields, nla),
     }
@@ -128,17 +128,30 @@ fn push_seg6_header(fields: &mut Fields, header: &Seg6Header) {
     fields.named(MODE, SEG6_MODES, numbers::seg6_mode(header.mode));
     push_segments(fields, header.segments.as_slice());
     if let Some(key) = header.hmac {
-        fields.bits(HMAC, key);
+        fields.bits_shown(HMAC, key, &format_args!("{key:X}"));
     }
 }
 
 fn push_segments(fields: &mut Fields, segments: &[Ipv6Addr]) {
     let mut inside = Fields::new(fields.manner);
     for segment in segments {
-        inside.text(ITEM, segment);
+        inside.text(ITEM, &Inet6(segment));
     }
+    enclose_segments(fields, inside, segments.len());
+}
+
+/// The same from the last segment to the first.
+fn push_segments_back(fields: &mut Fields, segments: &[Ipv6Addr]) {
+    let mut inside = Fields::new(fields.manner);
+    for segment in segments.iter().rev() {
+        inside.text(ITEM, &Inet6(segment));
+    }
+    enclose_segments(fields, inside, segments.len());
+}
+
+fn enclose_segments(fields: &mut Fields, inside: Fields, count: usize) {
     fields.list(SEGMENTS, inside, " ");
-    fields.enclose("segs", segments.len());
+    fields.enclose("segs", count);
 }
 
 fn push_local(fields: &mut Fields, member: &RouteSeg6LocalTunnel) {
@@ -148,7 +161,7 @@ fn push_local(fields: &mut Fields, member: &RouteSeg6LocalTunnel) {
         RouteSeg6LocalTunnel::Srh(header) => push_local_header(fields, header),
         RouteSeg6LocalTunnel::Table(number) => fields.named(TABLE, TABLES, *number),
         RouteSeg6LocalTunnel::Nh4(ip) => fields.text(HOP4, ip),
-        RouteSeg6LocalTunnel::Nh6(ip) => fields.text(HOP6, ip),
+        RouteSeg6LocalTunnel::Nh6(ip) => fields.text(HOP6, &Inet6(ip)),
         RouteSeg6LocalTunnel::Iif(index) => fields.number(INCOMING, *index),
         RouteSeg6LocalTunnel::Oif(index) => fields.number(OUTGOING, *index),
         RouteSeg6LocalTunnel::VrfTable(number) => fields.named(VRF_TABLE, TABLES, *number),
@@ -165,7 +178,7 @@ fn push_local_action(fields: &mut Fields, action: Seg6LocalAction) {
 
 fn push_local_header(fields: &mut Fields, header: &Seg6LocalSrh) {
     let mut inside = Fields::new(fields.manner);
-    push_segments(&mut inside, header.segments.as_slice());
+    push_segments_back(&mut inside, header.segments.as_slice());
     let numbers = [
         (NEXT_HEADER, header.next_header),
         (ROUTING_TYPE, header.routing_type),
@@ -193,7 +206,7 @@ fn push_rpl(fields: &mut Fields, member: &RouteRplIpTunnel) {
 }
 
 fn push_rpl_header(fields: &mut Fields, header: &RplSrh) {
-    push_segments(fields, header.segments.as_slice());
+    push_segments_back(fields, header.segments.as_slice());
     let numbers = [
         (NEXT_HEADER, header.next_header),
         (ROUTING_TYPE, header.routing_type),
@@ -209,11 +222,11 @@ fn push_ioam6(fields: &mut Fields, member: &RouteIoam6Tunnel) {
     match member {
         RouteIoam6Tunnel::Unspecified => fields.mark(UNSPECIFIED),
         RouteIoam6Tunnel::Mode(mode) => push_mode(fields, *mode),
-        RouteIoam6Tunnel::Dst(ip) => fields.text(TUNNEL_DESTINATION, ip),
+        RouteIoam6Tunnel::Dst(ip) => fields.text(TUNNEL_DESTINATION, &Inet6(ip)),
         RouteIoam6Tunnel::Trace(header) => push_trace(fields, header),
         RouteIoam6Tunnel::FreqK(count) => fields.number(FREQUENCY, *count),
         RouteIoam6Tunnel::FreqN(count) => fields.number(OF, *count),
-        RouteIoam6Tunnel::Src(ip) => fields.text(TUNNEL_SOURCE, ip),
+        RouteIoam6Tunnel::Src(ip) => fields.text(TUNNEL_SOURCE, &Inet6(ip)),
         RouteIoam6Tunnel::Other(nla) => push_unknown(fields, nla),
     }
 }
@@ -228,12 +241,20 @@ fn push_mode(fields: &mut Fields, mode: Ioam6Mode) {
 fn push_trace(fields: &mut Fields, header: &Ioam6TraceHdr) {
     fields.mark(TRACE);
     fields.mark(PREALLOCATED);
-    fields.bits(TRACE_TYPE, header.trace_type);
+    push_trace_type(fields, header.trace_type);
     fields.number(NAMESPACE, header.namespace_id);
     fields.number(SIZE, u64::from(header.remlen) * 4);
     fields.number(NODE_LENGTH, header.nodelen);
     if header.overflow {
         fields.truth(OVERFLOW, true);
+    }
+}
+
+/// The data that is traced, as C prints it by `%#08x`.
+fn push_trace_type(fields: &mut Fields, bits: u32) {
+    match bits {
+        0 => fields.bits_shown(TRACE_TYPE, bits, &"00000000"),
+        _ => fields.bits_shown(TRACE_TYPE, bits, &format_args!("0x{bits:06x}")),
     }
 }
 

@@ -1,7 +1,7 @@
 //! What is shown of a message, piece by piece: each piece has its text and its value in JSON, so that
 //! a line and an object are made of one list.
 
-use crate::manner::{Hexadecimal, Manner};
+use crate::manner::{Bits, Hexadecimal, Manner};
 use crate::names::Names;
 use serde_json::{Map, Value};
 use std::alloc::{AllocError, Global};
@@ -139,17 +139,27 @@ impl Fields {
     pub fn lifetime(&mut self, word: Word, seconds: u32) {
         match seconds {
             u32::MAX => self.push(word, seconds, &"forever"),
-            _ => {
-                let text = format!(in self.manner.alloc; "{seconds}sec");
-                self.written(word, seconds, text)
-            }
+            _ => self.seconds(word, seconds),
         }
+    }
+
+    /// Seconds.
+    pub fn seconds<N: Into<Value> + fmt::Display + Copy>(&mut self, word: Word, seconds: N) {
+        let text = format!(in self.manner.alloc; "{seconds}sec");
+        self.written(word, seconds, text)
     }
 
     /// Bits, which are a hexadecimal text in JSON too.
     pub fn bits<N: Into<u64>>(&mut self, word: Word, bits: N) {
-        let bits = bits.into();
-        self.text(word, &format_args!("0x{bits:x}"));
+        self.text(word, &Bits(bits.into()));
+    }
+
+    /// Bits that a line shows so.
+    pub fn bits_shown<D: fmt::Display>(&mut self, word: Word, bits: u32, shown: &D) {
+        match format!(in self.manner.alloc; "{}", Bits(u64::from(bits))) {
+            Ok(text) => self.push(word, text, shown),
+            Err(AllocError) => self.is_cut = true,
+        }
     }
 
     /// Bits, if there are some.
@@ -212,14 +222,14 @@ impl Fields {
     /// The same, and the object is the only one of a list.
     pub fn object_alone(&mut self, word: Word, inside: Fields) {
         let mut objects = Fields::new(self.manner);
-        objects.object(word, inside);
+        objects.object(ITEM, inside);
         self.list(word, objects, " ");
     }
 
     /// Pieces whose values are a list in JSON, with this between their texts.
     pub fn list(&mut self, word: Word, inside: Fields, between: &str) {
         match inside.into_list(between) {
-            Ok((text, list)) => self.add(word, text, list),
+            Ok((text, list)) => self.push(word, list, &text),
             Err(AllocError) => self.is_cut = true,
         }
     }
@@ -292,7 +302,7 @@ impl Fields {
     }
 }
 
-/// A text of a list.
+/// A piece of a list.
 pub const ITEM: Word = &Wording(0, "", "");
 
 /// Whether a text goes on the one before it, without a blank.

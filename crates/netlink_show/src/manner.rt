@@ -1,6 +1,7 @@
 //! How values are shown.
 
 use crate::names::Names;
+use netlink_packet_route::net::{IpAddr, Ipv6Addr};
 use netlink_packet_route::route::{MplsLabel, RouteAddress};
 use std::alloc::Global;
 use std::fmt;
@@ -37,6 +38,47 @@ impl fmt::Display for Hexadecimal<'_> {
     }
 }
 
+/// Bits as C prints them by `%#x`.
+#[derive(Clone, Copy)]
+pub struct Bits(pub u64);
+
+impl fmt::Display for Bits {
+    fn fmt<W: fmt::Write>(&self, f: &mut fmt::Formatter<W>) -> fmt::Result {
+        match self.0 {
+            0 => write!(f, "0"),
+            bits => write!(f, "0x{bits:x}"),
+        }
+    }
+}
+
+/// An address of version 6 as C prints it: where its first six words alone are 0, the rest is dotted.
+#[derive(Clone, Copy)]
+pub struct Inet6<'a>(pub &'a Ipv6Addr);
+
+impl fmt::Display for Inet6<'_> {
+    fn fmt<W: fmt::Write>(&self, f: &mut fmt::Formatter<W>) -> fmt::Result {
+        match self.0.octets() {
+            [0, 0, 0, 0, 0, 0, 0, 0, 0, 0, 0, 0, a, b, c, d] if (a, b) != (0, 0) => {
+                write!(f, "::{a}.{b}.{c}.{d}")
+            }
+            _ => write!(f, "{}", self.0),
+        }
+    }
+}
+
+/// An address of version 4 or 6.
+#[derive(Clone, Copy)]
+pub struct Inet<'a>(pub &'a IpAddr);
+
+impl fmt::Display for Inet<'_> {
+    fn fmt<W: fmt::Write>(&self, f: &mut fmt::Formatter<W>) -> fmt::Result {
+        match self.0 {
+            IpAddr::V4(ip) => write!(f, "{ip}"),
+            IpAddr::V6(ip) => write!(f, "{}", Inet6(ip)),
+        }
+    }
+}
+
 /// An address, and of a family without a text its bytes.
 #[derive(Clone, Copy)]
 pub struct Address<'a>(pub &'a RouteAddress);
@@ -45,7 +87,7 @@ impl fmt::Display for Address<'_> {
     fn fmt<W: fmt::Write>(&self, f: &mut fmt::Formatter<W>) -> fmt::Result {
         match self.0 {
             RouteAddress::Inet(ip) => write!(f, "{ip}"),
-            RouteAddress::Inet6(ip) => write!(f, "{ip}"),
+            RouteAddress::Inet6(ip) => write!(f, "{}", Inet6(ip)),
             RouteAddress::Mpls(label) => write!(f, "{}", Label(*label, true)),
             RouteAddress::Other(bytes) => write!(f, "{}", Hexadecimal(bytes.as_slice(), "")),
         }

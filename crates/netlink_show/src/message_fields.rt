@@ -10,7 +10,7 @@ use netlink_packet_core::{
     DoneMessage, ErrorMessage, NetlinkHeader, NetlinkInner, NetlinkMessage, NetlinkPayload,
     done_attributes, error_attributes, error_text, refused_message,
 };
-use netlink_packet_route::{MessageType, OtherMessage, RouteNetlinkMessage};
+use netlink_packet_route::{Action, MessageType, OtherMessage, RouteNetlinkMessage};
 use std::alloc::AllocError;
 
 /// What a message is.
@@ -94,21 +94,24 @@ fn push_inner(fields: &mut Fields, message: &RouteNetlinkMessage) {
         | RouteNetlinkMessage::GetNeighbour(neighbour) => push_neighbour(fields, neighbour),
         RouteNetlinkMessage::Other(other) => push_other(fields, other),
     }
-    push_type(fields, message.message_type());
+    if let MessageType::Of(kind, action) = type_of(message) {
+        fields.text(KIND, &kind.name());
+        fields.hide();
+        push_action(fields, action);
+    }
 }
 
-/// What a message of a known type is, and what it does.
-fn push_type(fields: &mut Fields, message_type: u16) {
-    let Some(kind) = MessageType::of(message_type).kind() else {
-        return;
-    };
-    fields.text(KIND, &kind.name());
-    fields.hide();
-    // A type's last two bits are what the message does.
-    match message_type % 4 {
-        1 => fields.truth(DELETED, true),
-        2 => fields.truth(REQUEST, true),
-        _ => {}
+/// What its type says of a message.
+pub fn type_of(message: &RouteNetlinkMessage) -> MessageType {
+    MessageType::of(message.message_type())
+}
+
+/// What a message does.
+fn push_action(fields: &mut Fields, action: Action) {
+    match action {
+        Action::New => {}
+        Action::Del => fields.truth(DELETED, true),
+        Action::Get => fields.truth(REQUEST, true),
     }
 }
 

@@ -22,6 +22,7 @@ pub const PROTOCOLS: Names = &[
     (17, "mrouted"),
     (18, "keepalived"),
     (42, "babel"),
+    (99, "openr"),
     (186, "bgp"),
     (187, "isis"),
     (188, "ospf"),

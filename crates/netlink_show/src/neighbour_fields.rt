@@ -2,12 +2,13 @@
 
 use crate::attribute_fields::push_unknown;
 use crate::field::{self, Fields, Word, Wording};
-use crate::manner::Hexadecimal;
+use crate::manner::{Hexadecimal, Inet6};
 use crate::names::{Names, PROTOCOLS, TYPES};
 use netlink_packet_route::neighbour::{
-    NeighbourAddress, NeighbourAttribute, NeighbourCacheInfo, NeighbourExtFlags,
-    NeighbourHeader, NeighbourMessage,
+    NeighbourAddress, NeighbourAttribute, NeighbourCacheInfo, NeighbourExtFlags, NeighbourHeader,
+    NeighbourMessage,
 };
+use netlink_packet_route::route::RouteProtocol;
 use netlink_packet_route::{Flags, numbers};
 
 const DESTINATION: Word = &Wording(2, "dst", "");
@@ -16,56 +17,56 @@ const INTERFACE: Word = &Wording(3, "dev", "dev ");
 
 const LINK_LAYER: Word = &Wording(4, "lladdr", "lladdr ");
 
-const OTHER_FLAGS: Word = &Wording(6, "flags_ext", "flags_ext ");
+const OTHER_FLAGS: Word = &Wording(8, "flags_ext", "flags_ext ");
 
-const REFERENCES: Word = &Wording(7, "refcnt", "ref ");
+const REFERENCES: Word = &Wording(9, "refcnt", "ref ");
 
-const USED: Word = &Wording(8, "used", "used ");
+const USED: Word = &Wording(10, "used", "used ");
 
-const CONFIRMED: Word = &Wording(9, "confirmed", "/");
+const CONFIRMED: Word = &Wording(11, "confirmed", "/");
 
-const UPDATED: Word = &Wording(10, "updated", "/");
+const UPDATED: Word = &Wording(12, "updated", "/");
 
-const PROBES: Word = &Wording(11, "probes", "probes ");
+const PROBES: Word = &Wording(13, "probes", "probes ");
 
-const STATE: Word = &Wording(12, "state", "");
+const STATE: Word = &Wording(14, "state", "");
 
-const PROTOCOL: Word = &Wording(13, "protocol", "proto ");
+const PROTOCOL: Word = &Wording(15, "protocol", "proto ");
 
-const VLAN: Word = &Wording(14, "vlan", "vlan ");
+const VLAN: Word = &Wording(16, "vlan", "vlan ");
 
-const PORT: Word = &Wording(15, "port", "port ");
+const PORT: Word = &Wording(17, "port", "port ");
 
-const VNI: Word = &Wording(16, "vni", "vni ");
+const VNI: Word = &Wording(18, "vni", "vni ");
 
-const SOURCE_VNI: Word = &Wording(17, "src_vni", "src_vni ");
+const SOURCE_VNI: Word = &Wording(19, "src_vni", "src_vni ");
 
-const BY: Word = &Wording(18, "via_dev", "via dev ");
+const BY: Word = &Wording(20, "via_dev", "via dev ");
 
-const MASTER: Word = &Wording(19, "master", "master ");
+const MASTER: Word = &Wording(21, "master", "master ");
 
-const NAMESPACE: Word = &Wording(20, "link_netnsid", "link-netnsid ");
+const NAMESPACE: Word = &Wording(22, "link_netnsid", "link-netnsid ");
 
-const NEXT_HOP: Word = &Wording(21, "nhid", "nhid ");
+const NEXT_HOP: Word = &Wording(23, "nhid", "nhid ");
 
-const TYPE: Word = &Wording(22, "type", "type ");
+const TYPE: Word = &Wording(24, "type", "type ");
 
-const FAMILY: Word = &Wording(23, "family", "family ");
+const FAMILY: Word = &Wording(25, "family", "family ");
 
 /// The flags that have a word (`NTF_*`).
 const FLAGS: field::Flags = &[
-    (0x1, &Wording(5, "use", "use")),
-    (0x2, &Wording(5, "self", "self")),
-    (0x4, &Wording(5, "of_master", "of_master")),
-    (0x8, &Wording(5, "proxy", "proxy")),
-    (0x10, &Wording(5, "extern_learn", "extern_learn")),
-    (0x20, &Wording(5, "offload", "offload")),
-    (0x40, &Wording(5, "sticky", "sticky")),
     (0x80, &Wording(5, "router", "router")),
+    (0x8, &Wording(5, "proxy", "proxy")),
+    (0x10, &Wording(7, "extern_learn", "extern_learn")),
+    (0x20, &Wording(7, "offload", "offload")),
+    (0x1, &Wording(7, "use", "use")),
+    (0x2, &Wording(7, "self", "self")),
+    (0x4, &Wording(7, "of_master", "of_master")),
+    (0x40, &Wording(7, "sticky", "sticky")),
 ];
 
 /// The flag of those for which the header has no room that has a word (`NTF_EXT_MANAGED`).
-const MORE_FLAGS: field::Flags = &[(0x1, &Wording(5, "managed", "managed"))];
+const MORE_FLAGS: field::Flags = &[(0x1, &Wording(6, "managed", "managed"))];
 
 /// The states, each by its bit (`NUD_*`).
 const STATES: Names = &[
@@ -93,7 +94,7 @@ fn push_header(fields: &mut Fields, header: &NeighbourHeader) {
     fields.flags(FLAGS, u32::from(header.flags.bits()), None);
     let state = u32::from(header.state.bits());
     if state != 0 {
-        fields.set(STATE, STATES, state, ",");
+        fields.set(STATE, STATES, state, " ");
     }
     let kind = numbers::route_type(header.kind);
     fields.named(TYPE, TYPES, kind);
@@ -118,9 +119,7 @@ fn push_attribute(fields: &mut Fields, attribute: &NeighbourAttribute) {
         NeighbourAttribute::Controller(index) => fields.number(MASTER, *index),
         NeighbourAttribute::LinkNetNsId(id) => fields.number(NAMESPACE, *id),
         NeighbourAttribute::SourceVni(id) => fields.number(SOURCE_VNI, *id),
-        NeighbourAttribute::Protocol(made_by) => {
-            fields.named(PROTOCOL, PROTOCOLS, numbers::route_protocol(*made_by))
-        }
+        NeighbourAttribute::Protocol(made_by) => push_protocol(fields, *made_by),
         NeighbourAttribute::NhId(id) => fields.number(NEXT_HOP, *id),
         NeighbourAttribute::ExtFlags(flags) => push_flags(fields, *flags),
         NeighbourAttribute::Other(nla) => push_unknown(fields, nla),
@@ -130,7 +129,7 @@ fn push_attribute(fields: &mut Fields, attribute: &NeighbourAttribute) {
 fn push_address(fields: &mut Fields, address: &NeighbourAddress) {
     match address {
         NeighbourAddress::Inet(ip) => fields.text(DESTINATION, ip),
-        NeighbourAddress::Inet6(ip) => fields.text(DESTINATION, ip),
+        NeighbourAddress::Inet6(ip) => fields.text(DESTINATION, &Inet6(ip)),
         NeighbourAddress::Other(bytes) => fields.bytes(DESTINATION, bytes.as_slice()),
     }
 }
@@ -148,6 +147,12 @@ fn push_time(fields: &mut Fields, word: Word, hundredths: u32) {
     let (seconds, rest) = (hundredths / 100, hundredths % 100);
     let text = format!(in fields.manner.alloc; "{seconds}.{rest:02}");
     fields.written(word, seconds, text);
+}
+
+fn push_protocol(fields: &mut Fields, made_by: RouteProtocol) {
+    let number = numbers::route_protocol(made_by);
+    fields.named(PROTOCOL, PROTOCOLS, number);
+    fields.hide_if(number == 0);
 }
 
 fn push_flags(fields: &mut Fields, flags: NeighbourExtFlags) {

@@ -1,17 +1,17 @@
 //! What is shown of an attribute of a route or a next hop.
 
-use crate::attribute_fields::{RealmWords, push_raw, push_realm, push_unknown};
+use crate::attribute_fields::{RealmWords, push_ip_number, push_raw, push_realm, push_unknown};
 use crate::encap_fields::push_encap;
 use crate::field::{Fields, Word, Wording};
-use crate::manner::{Address, Hexadecimal, Labels};
+use crate::manner::{Address, Bits, Hexadecimal, Inet6, Labels};
 use crate::metric_fields::push_metrics;
-use crate::names::{IP_PROTOCOLS, Names, PREFERENCES, TABLES};
+use crate::names::{Names, PREFERENCES, TABLES};
 use netlink_packet_route::framing::{Emitable, Nla};
+use netlink_packet_route::numbers;
 use netlink_packet_route::route::{
-    RouteAttribute, RouteCacheInfo, RouteHeader, RouteLwEnCapType, RouteLwTunnelEncap, RouteMetric,
-    RouteMfcStats, RouteMplsTtlPropagation, RouteRealm, RouteVia,
+    MplsLabel, RouteAttribute, RouteCacheInfo, RouteHeader, RouteLwEnCapType, RouteLwTunnelEncap,
+    RouteMetric, RouteMfcStats, RouteMplsTtlPropagation, RoutePreference, RouteRealm, RouteVia,
 };
-use netlink_packet_route::{AddressFamily, numbers};
 use std::alloc::AllocError;
 use std::fmt;
 
@@ -22,7 +22,7 @@ pub const DESTINATION: Word = &Wording(3, "dst", "");
 pub const SOURCE: Word = &Wording(4, "from", "from ");
 
 /// The interface by which a packet goes out.
-pub const INTERFACE: Word = &Wording(12, "dev", "dev ");
+const INTERFACE: Word = &Wording(12, "dev", "dev ");
 
 const NEW_DESTINATION: Word = &Wording(5, "to", "as to ");
 
@@ -42,8 +42,6 @@ const PREFERRED_SOURCE: Word = &Wording(16, "prefsrc", "src ");
 
 const PRIORITY: Word = &Wording(17, "metric", "metric ");
 
-const FLAGS: Word = &Wording(18, "flags", "");
-
 const MARK: Word = &Wording(19, "mark", "mark ");
 
 const FLOW: Word = &Wording(20, "flow", "");
@@ -55,6 +53,8 @@ const METRICS: Word = &Wording(30, "metrics", "");
 const INCOMING: Word = &Wording(31, "iif", "iif ");
 
 const PREFERENCE: Word = &Wording(32, "pref", "pref ");
+
+const OTHER_PREFERENCE: Word = &Wording(32, "pref", "");
 
 const PROPAGATE: Word = &Wording(33, "ttl-propogate", "ttl-propogate ");
 
@@ -109,7 +109,7 @@ const HOST_FAMILY: Word = &Wording(0, "family", "");
 const HOST: Word = &Wording(1, "host", "");
 
 /// Ticks in a second, as the kernel tells them.
-const HERTZ: i32 = 100;
+const HERTZ: u8 = 100;
 
 /// The flags of a route or a next hop that have a word.
 const NAMED_FLAGS: Names = &[
@@ -132,8 +132,8 @@ const NAMED_FLAGS: Names = &[
 ];
 
 /// The flags that are set, by their words, and the others as a number.
-pub fn push_route_flags(fields: &mut Fields, bits: u32) {
-    fields.set(FLAGS, NAMED_FLAGS, bits, " ");
+pub fn push_route_flags(fields: &mut Fields, word: Word, bits: u32) {
+    fields.set(word, NAMED_FLAGS, bits, " ");
 }
 
 /// The table, which a line does not have where it is the main one.
@@ -153,40 +153,53 @@ pub fn push_attribute(fields: &mut Fields, attribute: &RouteAttribute) {
         RouteAttribute::Priority(metric) => fields.number(PRIORITY, *metric),
         RouteAttribute::PrefSource(address) => fields.text(PREFERRED_SOURCE, &Address(address)),
         RouteAttribute::Metrics(metrics) => push_all_metrics(fields, metrics.as_slice()),
+        RouteAttribute::MultiPath(_) => push_written(fields, attribute),
         RouteAttribute::Realm(realm) => push_realms(fields, *realm),
         RouteAttribute::CacheInfo(info) => push_cache_info(fields, info),
         RouteAttribute::Table(number) => push_table(fields, *number),
-        RouteAttribute::Mark(mark) => fields.bits(MARK, *mark),
+        RouteAttribute::Mark(mark) => push_mark(fields, *mark),
+        RouteAttribute::MfcStats(stats) => push_forwarded(fields, stats),
         RouteAttribute::Via(gateway) => push_via(fields, gateway),
+        RouteAttribute::NewDestination(labels) => push_labels(fields, labels.as_slice()),
+        RouteAttribute::NewDestinationAddress(to) => fields.text(NEW_DESTINATION, &Address(to)),
+        RouteAttribute::Preference(value) => push_preference(fields, *value),
         RouteAttribute::EncapType(kind) => push_encap_type(fields, *kind),
         RouteAttribute::Encap(members) => push_encap_info(fields, members.as_slice()),
-        RouteAttribute::NhId(id) => fields.number(NEXT_HOP, *id),
-        _ => push_rare(fields, attribute),
-    }
-}
-
-fn push_rare(fields: &mut Fields, attribute: &RouteAttribute) {
-    match attribute {
-        RouteAttribute::MfcStats(stats) => push_forwarded(fields, stats),
-        RouteAttribute::NewDestination(labels) => {
-            fields.text(NEW_DESTINATION, &Labels(labels.as_slice()))
-        }
-        RouteAttribute::NewDestinationAddress(address) => {
-            fields.text(NEW_DESTINATION, &Address(address))
-        }
-        RouteAttribute::Preference(value) => {
-            fields.named(PREFERENCE, PREFERENCES, numbers::route_preference(*value))
-        }
         RouteAttribute::Expires(seconds) => fields.lifetime(EXPIRES, *seconds),
         RouteAttribute::MulticastExpires(ticks) => fields.number(TICKS, *ticks),
         RouteAttribute::Uid(user) => fields.number(USER, *user),
         RouteAttribute::TtlPropagate(how) => push_propagate(fields, *how),
-        RouteAttribute::IpProto(number) => { fields.named(IP_PROTOCOL, IP_PROTOCOLS, *number) }
+        RouteAttribute::IpProto(number) => push_ip_number(fields, IP_PROTOCOL, i32::from(*number)),
         RouteAttribute::Sport(port) => fields.number(SOURCE_PORT, *port),
         RouteAttribute::Dport(port) => fields.number(DESTINATION_PORT, *port),
+        RouteAttribute::NhId(id) => fields.number(NEXT_HOP, *id),
         RouteAttribute::Flowlabel(label) => fields.bits(FLOW_LABEL, *label),
         RouteAttribute::Other(nla) => push_unknown(fields, nla),
-        _ => push_written(fields, attribute),
+    }
+}
+
+/// A mark, which is decimal below 16.
+fn push_mark(fields: &mut Fields, mark: u32) {
+    match mark {
+        0..16 => fields.number(MARK, mark),
+        _ => fields.push(MARK, mark, &Bits(u64::from(mark))),
+    }
+}
+
+fn push_labels(fields: &mut Fields, labels: &[MplsLabel]) {
+    fields.text(NEW_DESTINATION, &Labels(labels));
+}
+
+/// The preference of a router; `ip` has no word before a number without a name.
+fn push_preference(fields: &mut Fields, preference: RoutePreference) {
+    let number = numbers::route_preference(preference);
+    match preference {
+        RoutePreference::Low | RoutePreference::Medium | RoutePreference::High => {
+            fields.named(PREFERENCE, PREFERENCES, number)
+        }
+        RoutePreference::Invalid | RoutePreference::Other(_) => {
+            fields.number(OTHER_PREFERENCE, number)
+        }
     }
 }
 
@@ -234,24 +247,20 @@ fn push_realms(fields: &mut Fields, realm: RouteRealm) {
 /// A gateway of a family of its own.
 fn push_via(fields: &mut Fields, gateway: &RouteVia) {
     match gateway {
-        RouteVia::Inet(ip) => push_host(fields, AddressFamily::Inet, ip),
-        RouteVia::Inet6(ip) => push_host(fields, AddressFamily::Inet6, ip),
+        RouteVia::Inet(ip) => push_host(fields, &"inet", ip),
+        RouteVia::Inet6(ip) => push_host(fields, &"inet6", &Inet6(ip)),
         RouteVia::Packet(bytes) => {
-            push_host(
-                fields,
-                AddressFamily::Packet,
-                &Hexadecimal(bytes.as_slice(), ""),
-            )
+            push_host(fields, &"link", &Hexadecimal(bytes.as_slice(), ":"))
         }
         RouteVia::Other((family, bytes)) => {
-            push_host(fields, *family, &Hexadecimal(bytes.as_slice(), ""))
+            push_host(fields, family, &Hexadecimal(bytes.as_slice(), ""))
         }
     }
 }
 
-fn push_host<D: fmt::Display>(fields: &mut Fields, family: AddressFamily, host: &D) {
+fn push_host<F: fmt::Display, D: fmt::Display>(fields: &mut Fields, family: &F, host: &D) {
     let mut inside = Fields::new(fields.manner);
-    inside.text(HOST_FAMILY, &family);
+    inside.text(HOST_FAMILY, family);
     inside.text(HOST, host);
     fields.object(VIA, inside);
 }
@@ -275,22 +284,25 @@ fn push_forwarded(fields: &mut Fields, stats: &RouteMfcStats) {
 /// What the kernel remembers of a route, where it is not 0.
 fn push_cache_info(fields: &mut Fields, info: &RouteCacheInfo) {
     if info.expires != 0 {
-        let seconds = info.expires.cast_signed() / HERTZ;
-        let text = format!(in fields.manner.alloc; "{seconds}sec");
-        fields.written(EXPIRY, seconds, text);
+        fields.seconds(EXPIRY, info.expires.cast_signed() / i32::from(HERTZ));
     }
     for (word, number) in [
         (ERROR, info.error),
         (USERS, info.clntref),
         (USED, info.used),
-        (AGE, info.last_use),
-        (STAMP_AGE, info.ts_age),
     ] {
         if number != 0 {
             fields.number(word, number);
         }
     }
-    for (word, bits) in [(IDENTIFICATION, info.id), (STAMP, info.ts)] {
-        fields.some_bits(word, bits);
+    if info.last_use != 0 {
+        fields.seconds(AGE, info.last_use / u32::from(HERTZ));
+    }
+    if info.id != 0 {
+        fields.bits_shown(IDENTIFICATION, info.id, &format_args!("0x{:04x}", info.id));
+    }
+    if info.ts != 0 || info.ts_age != 0 {
+        fields.bits_shown(STAMP, info.ts, &format_args!("0x{:x}", info.ts));
+        fields.seconds(STAMP_AGE, info.ts_age);
     }
 }

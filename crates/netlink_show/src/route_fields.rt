@@ -16,6 +16,8 @@ const PROTOCOL: Word = &Wording(14, "protocol", "proto ");
 
 const SCOPE: Word = &Wording(15, "scope", "scope ");
 
+const FLAGS: Word = &Wording(18, "flags", "");
+
 const FAMILY: Word = &Wording(41, "family", "family ");
 
 /// The type of most routes (`RTN_UNICAST`).
@@ -71,7 +73,7 @@ fn push_header(fields: &mut Fields, header: &RouteHeader) {
     );
     fields.named(SCOPE, SCOPES, scope);
     fields.hide_if(scope == 0);
-    push_route_flags(fields, header.flags.bits());
+    push_route_flags(fields, FLAGS, header.flags.bits());
     push_family(fields, header.address_family);
     if header.tos != 0 {
         fields.text(SERVICE, &format_args!("0x{:02x}", header.tos));

@@ -1,24 +1,25 @@
 //! What is shown of a rule.
 
-use crate::attribute_fields::{RealmWords, push_raw, push_realm, push_unknown};
+use crate::attribute_fields::{RealmWords, push_ip_number, push_realm, push_unknown};
 use crate::field::{self, Fields, Word, Wording};
-use crate::names::{GROUPS, IP_PROTOCOLS, PROTOCOLS, TABLES, TYPES};
+use crate::manner::Inet;
+use crate::names::{GROUPS, PROTOCOLS, TABLES, TYPES};
 use netlink_packet_route::framing::Nla;
 use netlink_packet_route::net::IpAddr;
+use netlink_packet_route::route::RouteProtocol;
 use netlink_packet_route::rule::{
     RuleAction, RuleAttribute, RuleHeader, RuleMessage, RulePortRange, RuleUidRange,
 };
-use netlink_packet_route::{Flags, IpProtocol, numbers};
+use netlink_packet_route::{Flags, numbers};
 
 const PRIORITY: Word = &Wording(2, "priority", "");
 
-const SOURCE: Word = &Wording(4, "src", "from ");
+/// The words for an address and for the length of its prefix.
+type PrefixWords = (Word, Word);
 
-const SOURCE_LENGTH: Word = &Wording(5, "srclen", "/");
+const FROM: PrefixWords = (&Wording(4, "src", "from "), &Wording(5, "srclen", "/"));
 
-const DESTINATION: Word = &Wording(6, "dst", "to ");
-
-const DESTINATION_LENGTH: Word = &Wording(7, "dstlen", "/");
+const TO: PrefixWords = (&Wording(6, "dst", "to "), &Wording(7, "dstlen", "/"));
 
 const SERVICE: Word = &Wording(8, "tos", "tos ");
 
@@ -55,6 +56,8 @@ const FLOW: RealmWords = (
 const GOTO: Word = &Wording(31, "goto", "goto ");
 
 const NOP: Word = &Wording(33, "nop", "nop");
+
+const MASQUERADE: Word = &Wording(33, "masquerade", "masquerade");
 
 const ACTION: Word = &Wording(34, "action", "");
 
@@ -94,6 +97,9 @@ const FRA_TABLE: u16 = 15;
 
 const FRA_FWMASK: u16 = 16;
 
+/// The action that `ip` calls `masquerade` (`RTN_NAT`).
+const RTN_NAT: u8 = 10;
+
 /// The flags that have a word (`FIB_RULE_*`).
 const FLAGS: field::Flags = &[
     (0x1, &Wording(36, "permanent", "permanent")),
@@ -130,7 +136,12 @@ fn push_action(fields: &mut Fields, action: RuleAction) {
         // What they do is told by attributes.
         RuleAction::ToTable | RuleAction::Goto => {}
         RuleAction::Nop => fields.mark(NOP),
-        _ => fields.named(ACTION, TYPES, numbers::rule_action(action)),
+        RuleAction::Other(RTN_NAT) => fields.mark(MASQUERADE),
+        RuleAction::Unspec
+        | RuleAction::Blackhole
+        | RuleAction::Unreachable
+        | RuleAction::Prohibit
+        | RuleAction::Other(_) => fields.named(ACTION, TYPES, numbers::rule_action(action)),
     }
 }
 
@@ -146,12 +157,12 @@ fn push_absent(fields: &mut Fields, header: &RuleHeader, attributes: &[RuleAttri
     }
     if !has(attributes, FRA_SRC) {
         let source = if header.src_len == 0 { "all" } else { "0" };
-        fields.text(SOURCE, &source);
-        push_length(fields, SOURCE_LENGTH, header.src_len, 0);
+        fields.text(FROM.0, &source);
+        push_length(fields, FROM.1, header.src_len, 0);
     }
     if !has(attributes, FRA_DST) && header.dst_len != 0 {
-        fields.text(DESTINATION, &"0");
-        push_length(fields, DESTINATION_LENGTH, header.dst_len, 0);
+        fields.text(TO.0, &"0");
+        push_length(fields, TO.1, header.dst_len, 0);
     }
     if has(attributes, FRA_FWMASK) && !has(attributes, FRA_FWMARK) {
         fields.bits(MARK, 0u32);
@@ -193,20 +204,8 @@ fn push_table(fields: &mut Fields, number: u32) {
 /// What is shown of an attribute.
 fn push_attribute(fields: &mut Fields, header: &RuleHeader, attribute: &RuleAttribute) {
     match attribute {
-        RuleAttribute::Source(ip) => push_prefix(
-            fields,
-            (SOURCE, SOURCE_LENGTH),
-            ip,
-            header.src_len,
-        ),
-        RuleAttribute::Destination(ip) => {
-            push_prefix(
-                fields,
-                (DESTINATION, DESTINATION_LENGTH),
-                ip,
-                header.dst_len,
-            )
-        }
+        RuleAttribute::Source(ip) => push_prefix(fields, FROM, ip, header.src_len),
+        RuleAttribute::Destination(ip) => push_prefix(fields, TO, ip, header.dst_len),
         RuleAttribute::Realm(realm) => push_realm(fields, FLOW, *realm),
         RuleAttribute::UidRange(users) => push_users(fields, *users),
         RuleAttribute::SourcePortRange(ports) => push_ports(fields, SOURCE_PORTS, *ports),
@@ -219,27 +218,20 @@ fn push_attribute(fields: &mut Fields, header: &RuleHeader, attribute: &RuleAttr
         RuleAttribute::FwMask(mask) => push_mask(fields, *mask),
         RuleAttribute::TunId(id) => fields.number(TUNNEL, *id),
         RuleAttribute::Table(number) => push_table(fields, *number),
-        _ => push_rare(fields, attribute),
-    }
-}
-
-fn push_rare(fields: &mut Fields, attribute: &RuleAttribute) {
-    match attribute {
         RuleAttribute::SuppressIfGroup(group) => push_group(fields, *group),
         RuleAttribute::SuppressPrefixLen(length) => push_suppressed(fields, *length),
         RuleAttribute::L3MDev(is_so) => push_master(fields, *is_so),
-        RuleAttribute::Protocol(made_by) => {
-            fields.named(PROTOCOL, PROTOCOLS, numbers::route_protocol(*made_by))
+        RuleAttribute::Protocol(made_by) => push_protocol(fields, *made_by),
+        RuleAttribute::IpProtocol(protocol) => {
+            push_ip_number(fields, IP_PROTOCOL, numbers::ip_protocol(*protocol))
         }
-        RuleAttribute::IpProtocol(protocol) => push_ip_protocol(fields, *protocol),
         RuleAttribute::Other(nla) => push_unknown(fields, nla),
-        _ => push_raw(fields, attribute.kind(), &[]),
     }
 }
 
 /// An address and the length of its prefix.
-fn push_prefix(fields: &mut Fields, words: (Word, Word), ip: &IpAddr, length: u8) {
-    fields.text(words.0, ip);
+fn push_prefix(fields: &mut Fields, words: PrefixWords, ip: &IpAddr, length: u8) {
+    fields.text(words.0, &Inet(ip));
     push_length(fields, words.1, length, whole_length(ip));
 }
 
@@ -249,7 +241,10 @@ fn push_mask(fields: &mut Fields, mask: u32) {
 }
 
 fn push_group(fields: &mut Fields, group: u32) {
-    fields.named(GROUP, GROUPS, group);
+    match fields.manner.name(GROUPS, group) {
+        Some(name) => fields.text(GROUP, &name),
+        None => fields.text(GROUP, &group.cast_signed()),
+    }
     fields.hide_if(group == u32::MAX);
 }
 
@@ -266,9 +261,8 @@ fn push_master(fields: &mut Fields, is_so: bool) {
     fields.hide();
 }
 
-fn push_ip_protocol(fields: &mut Fields, protocol: IpProtocol) {
-    let number = protocol.as_u8().map_or(u32::MAX, u32::from);
-    fields.named(IP_PROTOCOL, IP_PROTOCOLS, number)
+fn push_protocol(fields: &mut Fields, made_by: RouteProtocol) {
+    fields.named(PROTOCOL, PROTOCOLS, numbers::route_protocol(made_by))
 }
 
 fn push_users(fields: &mut Fields, users: RuleUidRange) {

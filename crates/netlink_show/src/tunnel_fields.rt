@@ -1,8 +1,10 @@
 //! What is shown of tunnels over IP, with their options.
 
 use crate::attribute_fields::push_unknown;
-use crate::field::{self, Fields, Word, Wording};
+use crate::field::{self, Fields, ITEM, Word, Wording};
+use crate::manner::Inet6;
 use netlink_packet_route::Flags;
+use netlink_packet_route::framing::Nla;
 use netlink_packet_route::route::{
     RouteErspanOpt, RouteGeneveOpt, RouteIp6Tunnel, RouteIpTunnel, RouteLwTunnelOpt, RouteVxlanOpt,
 };
@@ -25,11 +27,11 @@ const OTHER_FLAGS: Word = &Wording(8, "flags", "flags ");
 
 const UNSPECIFIED: Word = &Wording(100, "unspecified", "unspecified");
 
-const GENEVE: Word = &Wording(9, "geneve_opts", "geneve_opts");
+const GENEVE: Word = &Wording(9, "geneve_opts", "geneve_opts ");
 
-const VXLAN: Word = &Wording(10, "vxlan_opts", "vxlan_opts");
+const VXLAN: Word = &Wording(10, "vxlan_opts", "vxlan_opts ");
 
-const ERSPAN: Word = &Wording(11, "erspan_opts", "erspan_opts");
+const ERSPAN: Word = &Wording(11, "erspan_opts", "erspan_opts ");
 
 const CLASS: Word = &Wording(0, "class", "");
 
@@ -37,15 +39,15 @@ const TYPE: Word = &Wording(1, "type", ":");
 
 const DATA: Word = &Wording(2, "data", ":");
 
-const POLICY: Word = &Wording(0, "gbp", "gbp ");
+const POLICY: Word = &Wording(0, "gbp", "");
 
-const VERSION: Word = &Wording(0, "ver", "ver ");
+const VERSION: Word = &Wording(0, "ver", "");
 
-const INDEX: Word = &Wording(1, "index", "index ");
+const INDEX: Word = &Wording(1, "index", ":");
 
-const DIRECTION: Word = &Wording(2, "dir", "dir ");
+const DIRECTION: Word = &Wording(2, "dir", ":");
 
-const HARDWARE: Word = &Wording(3, "hwid", "hwid ");
+const HARDWARE: Word = &Wording(3, "hwid", ":");
 
 /// The flags that have a word (`TUNNEL_*`).
 const FLAGS: field::Flags = &[
@@ -74,8 +76,8 @@ pub fn push_ip6(fields: &mut Fields, member: &RouteIp6Tunnel) {
     match member {
         RouteIp6Tunnel::Unspecified => fields.mark(UNSPECIFIED),
         RouteIp6Tunnel::Id(id) => fields.number(ID, *id),
-        RouteIp6Tunnel::Destination(ip) => fields.text(DESTINATION, ip),
-        RouteIp6Tunnel::Source(ip) => fields.text(SOURCE, ip),
+        RouteIp6Tunnel::Destination(ip) => fields.text(DESTINATION, &Inet6(ip)),
+        RouteIp6Tunnel::Source(ip) => fields.text(SOURCE, &Inet6(ip)),
         RouteIp6Tunnel::Hoplimit(hops) => fields.number(HOP_LIMIT, *hops),
         RouteIp6Tunnel::Tc(class) => fields.number(TRAFFIC_CLASS, *class),
         RouteIp6Tunnel::Flags(flags) => push_flags(fields, flags.bits()),
@@ -111,9 +113,9 @@ fn push_geneve(fields: &mut Fields, options: &[RouteGeneveOpt]) {
         inside.number(CLASS, option.class);
         inside.number(TYPE, option.typ);
         inside.bytes(DATA, option.opt_data.as_slice());
-        objects.object(GENEVE, inside);
+        objects.object(ITEM, inside);
     }
-    fields.list(GENEVE, objects, " ");
+    fields.list(GENEVE, objects, ",");
 }
 
 fn push_vxlan(fields: &mut Fields, options: &[RouteVxlanOpt]) {
@@ -124,15 +126,21 @@ fn push_vxlan(fields: &mut Fields, options: &[RouteVxlanOpt]) {
             RouteVxlanOpt::Gbp(policy) => inside.number(POLICY, *policy),
             RouteVxlanOpt::Other(nla) => push_unknown(&mut inside, nla),
         }
-        objects.object(VXLAN, inside);
+        objects.object(ITEM, inside);
     }
     fields.list(VXLAN, objects, " ");
 }
 
+/// The four members, of which `ip` prints 0 for one that is not there.
 fn push_erspan(fields: &mut Fields, options: &[RouteErspanOpt]) {
     let mut inside = Fields::new(fields.manner);
     for option in options {
         push_erspan_member(&mut inside, option);
+    }
+    for (kind, word) in [(1u16, VERSION), (2, INDEX), (3, DIRECTION), (4, HARDWARE)] {
+        if !options.iter().any(|option| option.kind() == kind) {
+            inside.number(word, 0u8);
+        }
     }
     fields.object_alone(ERSPAN, inside);
 }

@@ -17,7 +17,7 @@ pub const HELP: &str =
   --numeric   numbers in place of names
   --hex       the input is hexadecimal text, a message a line
   --as KIND   messages of this kind without an envelope: address, route, rule or neighbour
-  --keep FILE writes the messages that are refused to FILE, which is made anew
+  --keep FILE writes the messages that are refused to FILE, which is made anew at the first
   -h, --help  this text
   --version   the version
   FILE        a file that is read; - is standard input
@@ -25,7 +25,7 @@ pub const HELP: &str =
 Status 1: a message was refused; 2: a wrong word; 4: no memory; 5: a file failed.";
 
 /// What is told of messages.
-#[derive(Clone, Copy)]
+#[derive(Clone, Copy, PartialEq, Eq)]
 pub enum Form {
     /// A line each.
     Lines,
@@ -91,6 +91,8 @@ pub enum WrongWord<'a> {
     Kind(&'a str),
     /// A file that is read would be made anew.
     Kept(&'a str),
+    /// Objects and counts are wanted.
+    Forms,
 }
 
 impl<'a> fmt::Display for WrongWord<'a> {
@@ -100,6 +102,7 @@ impl<'a> fmt::Display for WrongWord<'a> {
             WrongWord::Alone(word) => write!(f, "`{word}` wants a word behind it"),
             WrongWord::Kind(word) => write!(f, "`{word}` is no kind of message"),
             WrongWord::Kept(word) => write!(f, "`{word}` is read, and `--keep` would empty it"),
+            WrongWord::Forms => write!(f, "`--json` and `--count` do not go together"),
         }
     }
 }
@@ -121,22 +124,25 @@ pub fn command_of<'a>(alloc: Global, words: &'a [String]) -> Result<Command<'a>,
             (None, "--help" | "-h") => return Ok(Command::Help),
             (None, "--version") => return Ok(Command::Version),
             (None, "--as" | "--keep") => waiting = Some(word),
+            (None, "--json") if take_form(&mut request.options, Form::Json) => {}
+            (None, "--count") if take_form(&mut request.options, Form::Count) => {}
+            (None, "--json" | "--count") => return Ok(Command::Wrong(WrongWord::Forms)),
             (None, _) if set_option(&mut request.options, word) => {}
             (None, _) if is_option(word) => return Ok(Command::Wrong(WrongWord::Option(word))),
             (None, _) => request.files.push(word)?,
         }
     }
-    Ok(match (waiting, emptied(&request)) {
-        (Some(word), _) => Command::Wrong(WrongWord::Alone(word)),
-        (None, Some(file)) => Command::Wrong(WrongWord::Kept(file)),
-        (None, None) => Command::Show(request),
+    Ok(match waiting {
+        Some(word) => Command::Wrong(WrongWord::Alone(word)),
+        None => Command::Show(request),
     })
 }
 
-/// The file that is read, and by its name is the one for what is refused.
-fn emptied<'a>(request: &Request<'a>) -> Option<&'a str> {
-    let keep = request.keep?;
-    request.files.iter().copied().find(|file| *file == keep)
+/// Takes what is to be told, and answers whether nothing else was before.
+fn take_form(options: &mut Options, form: Form) -> bool {
+    let is_alone = options.form == Form::Lines || options.form == form;
+    options.form = form;
+    is_alone
 }
 
 /// Takes the word behind an option, and answers whether it can stand there.
@@ -145,7 +151,7 @@ fn take_word<'a>(request: &mut Request<'a>, option: &str, word: &'a str) -> bool
         request.keep = Some(word);
         return true;
     }
-    request.options.kind = MessageKind::of(word);
+    request.options.kind = MessageKind::named(word);
     request.options.kind.is_some()
 }
 
@@ -157,8 +163,6 @@ fn is_option(word: &str) -> bool {
 /// Sets what an option without a word behind it says, and answers whether it is one.
 fn set_option(options: &mut Options, word: &str) -> bool {
     match word {
-        "--json" => options.form = Form::Json,
-        "--count" => options.form = Form::Count,
         "--numeric" => options.numeric = true,
         "--hex" => options.is_hex = true,
         _ => return false,

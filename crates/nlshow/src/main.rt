@@ -2,20 +2,23 @@
 #![tactic(auto)]
 
 mod command_line;
+mod guess;
 mod hex_line;
+mod kept;
 mod reading;
 mod refusal;
 mod session;
 
 use byte_window::Stop;
-use command_line::{Command, HELP, Request, USAGE, command_of};
+use command_line::{Command, HELP, Request, USAGE, WrongWord, command_of};
+use kept::{Kept, is_emptied};
 use reading::read_input;
 use session::Session;
 use std::process::ExitCode;
 use std::{env, fs, io};
 
 /// The version, which is the repository's.
-const VERSION: &str = "nlshow 0.4.14";
+const VERSION: &str = "nlshow 0.5.0";
 
 fn main(rt: HostRuntime) -> ExitCode {
     // Also where a word is no UTF-8.
@@ -26,10 +29,7 @@ fn main(rt: HostRuntime) -> ExitCode {
         Err(_) => stopped(&rt, "nlshow", Stop::Memory),
         Ok(Command::Help) => say(&rt, &[USAGE, HELP]),
         Ok(Command::Version) => say(&rt, &[VERSION]),
-        Ok(Command::Wrong(word)) => {
-            let _ = rt.eprintln(format_args!("nlshow: {word}\n{USAGE}"));
-            ExitCode::from(2)
-        }
+        Ok(Command::Wrong(word)) => wrong(&rt, word),
         Ok(Command::Show(request)) => show(&rt, &request),
     }
 }
@@ -58,37 +58,53 @@ fn stopped(rt: &impl Eprint, name: &str, stop: Stop) -> ExitCode {
     ExitCode::from(stop.status())
 }
 
+/// Says which word is wrong.
+fn wrong(rt: &impl Eprint, word: WrongWord<'_>) -> ExitCode {
+    let _ = rt.eprintln(format_args!("nlshow: {word}\n{USAGE}"));
+    ExitCode::from(2)
+}
+
 /// Shows each input.
 fn show(rt: &HostRuntime, request: &Request<'_>) -> ExitCode {
-    let keep = match request.keep.map(|name| fs::create(rt, name)) {
-        None => None,
-        Some(Ok(file)) => Some(file),
-        Some(Err(_)) => return stopped(rt, request.keep.unwrap_or(""), Stop::Open),
-    };
-    let mut session = Session::new(rt, request.options, keep);
+    let keep = request.keep;
     let files = request.files.as_slice();
-    for name in if files.is_empty() { &["-"] } else { files } {
+    let files = if files.is_empty() { &["-"] } else { files };
+    for name in files {
+        if is_emptied(rt, name, keep) {
+            return wrong(rt, WrongWord::Kept(name));
+        }
+    }
+    let mut session = Session::new(rt, request.options, Kept::new(rt, keep));
+    for name in files {
+        // What was not there before may be made by now.
+        if is_emptied(rt, name, keep) {
+            return wrong(rt, WrongWord::Kept(name));
+        }
         if let Err(stop) = show_input(rt, &mut session, name) {
-            return ended(rt, &session, name, stop);
+            return ended(rt, &session, stop);
         }
     }
     match session.finish() {
-        Err(stop) => ended(rt, &session, "nlshow", stop),
-        Ok(()) => ended(rt, &session, "nlshow", Stop::Closed),
+        Err(stop) => ended(rt, &session, stop),
+        Ok(()) => ended(rt, &session, Stop::Closed),
     }
 }
 
 /// The status of a run that ends so.
-fn ended(rt: &impl Eprint, session: &Session, name: &str, stop: Stop) -> ExitCode {
+fn ended(rt: &impl Eprint, session: &Session<'_, '_>, stop: Stop) -> ExitCode {
     if matches!(stop, Stop::Closed) && session.counts.refused != 0 {
         return ExitCode::from(1);
     }
-    stopped(rt, name, stop)
+    stopped(rt, session.subject, stop)
 }
 
 /// Shows the input of this name.
-fn show_input(rt: &HostRuntime, session: &mut Session, name: &str) -> Result<(), Stop> {
-    session.open(name)?;
+fn show_input<'a>(
+    rt: &HostRuntime,
+    session: &mut Session<'_, 'a>,
+    name: &'a str,
+) -> Result<(), Stop> {
+    session.open(name);
     if name == "-" {
         return read_input(session, rt.stdin());
     }

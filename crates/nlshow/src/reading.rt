@@ -9,7 +9,7 @@ use netlink_packet_route::MessageKind;
 use std::io::Read;
 
 /// How many bytes of an input are held at a time, which is what the longest message has.
-const WINDOW: usize = 1 << 18;
+pub const WINDOW: usize = 1 << 18;
 
 /// What stands in front of some bytes.
 #[derive(Clone, Copy)]
@@ -70,6 +70,9 @@ fn read_datagrams<R: Read + Drop>(
     let mut number = 0u64;
     for _ in 0..u64::MAX {
         let is_more = fill(session, window)?;
+        if number == 0 {
+            session.look(window.held());
+        }
         let front = take_messages(session, window, &mut number, !is_more)?;
         match front {
             Front::TooLong(length) => pass_long(session, window, &mut number, length)?,
@@ -198,6 +201,7 @@ fn read_lone<R: Read + Drop>(
             break;
         }
     }
+    session.look(window.held());
     let mut place = Place {
         what: "message",
         number: 1,
@@ -323,6 +327,9 @@ fn take_bytes(session: &mut Session, place: Place, bytes: &[u8]) -> Result<(), S
         length: bytes.len() as u64,
         ..place
     };
+    if place.number == 1 {
+        session.look(bytes);
+    }
     if let Some(kind) = session.options.kind {
         return session.lone(kind, whole, bytes);
     }

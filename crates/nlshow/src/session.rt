@@ -1,20 +1,19 @@
 //! What is done with each message: it is told of, counted or refused.
 
 use crate::command_line::{Form, Options};
+use crate::guess::hint_of;
+use crate::kept::Kept;
 use crate::refusal::Refusal;
 use byte_window::Stop;
-use netlink_packet_core::{
-    NetlinkBuffer, NetlinkHeader, NetlinkInner, NetlinkMessage, NetlinkPayload,
-};
+use netlink_packet_core::{NetlinkBuffer, NetlinkHeader, NetlinkMessage, NetlinkPayload};
 use netlink_packet_route::address::AddressMessage;
 use netlink_packet_route::framing::{Attributes, DecodeError, Header, Parseable};
 use netlink_packet_route::neighbour::NeighbourMessage;
 use netlink_packet_route::route::RouteMessage;
 use netlink_packet_route::rule::RuleMessage;
-use netlink_packet_route::{MessageKind, MessageType, RouteNetlinkMessage};
+use netlink_packet_route::{Action, Entry, MessageKind, MessageType, RouteNetlinkMessage};
 use netlink_show::{Counts, Manner, append_lines, append_object};
-use std::alloc::{AllocError, Global};
-use std::fs::File;
+use std::alloc::Global;
 use std::io::{IsTerminal, Write};
 use std::rt::{Stderr, Stdout};
 
@@ -39,91 +38,80 @@ pub struct Place {
 
 /// A run over inputs: where lines, refusals and refused bytes go.
 #[derive(Drop)]
-pub struct Session {
+pub struct Session<'r, 'a> {
     /// Where memory comes from.
     pub alloc: Global,
     /// How messages are read and told.
     pub options: Options,
     /// How many there were.
     pub counts: Counts,
+    /// The name of what is read, or else of what failed.
+    pub subject: &'a str,
     output: Stdout,
     errors: Stderr,
-    keep: Option<File>,
+    kept: Kept<'r, 'a>,
     is_watched: bool,
     text: String,
-    input: String,
+    /// What is told of the input at its first refusal.
+    hint: Option<&'static str>,
 }
 
-impl Session {
+impl<'r, 'a> Session<'r, 'a> {
     /// A run that has read nothing. Where standard error is a terminal, long input shows how far it is.
-    pub fn new(rt: &HostRuntime, options: Options, keep: Option<File>) -> Session {
+    pub fn new(rt: &HostRuntime, options: Options, kept: Kept<'r, 'a>) -> Session<'r, 'a> {
         Session {
             alloc: rt.alloc(),
             options,
             counts: Counts::default(),
+            subject: "nlshow",
             output: rt.stdout(),
             errors: rt.stderr(),
-            keep,
+            kept,
             is_watched: rt.stderr().is_terminal(),
             text: String::new(rt.alloc()),
-            input: String::new(rt.alloc()),
+            hint: None,
         }
     }
 
     /// Goes on with the input of this name.
-    pub fn open(&mut self, name: &str) -> Result<(), AllocError> {
-        self.input.clear();
-        self.input.push_str(name)
+    pub fn open(&mut self, name: &'a str) {
+        self.subject = name;
+        self.hint = None;
+    }
+
+    /// Looks at the first bytes of the input.
+    pub fn look(&mut self, bytes: &[u8]) {
+        self.hint = hint_of(bytes, &self.options);
     }
 
     /// A message in its envelope.
     pub fn message(&mut self, place: Place, bytes: &[u8]) -> Result<(), Stop> {
-        match self.read(bytes) {
-            Ok(read) => self.take(read),
-            Err(Refusal::Payload(DecodeError::OutOfMemory)) => Err(Stop::Memory),
-            Err(refusal) => {
-                self.refuse(place, refusal);
-                self.keep(bytes)
-            }
-        }
-    }
-
-    /// The message that these bytes are, an envelope and what stands in it. Where messages are
-    /// counted, what the library reads is read attribute by attribute, and nothing of it is kept.
-    fn read(&self, bytes: &[u8]) -> Result<Read, Refusal> {
-        let Ok(envelope) = NetlinkBuffer::new_checked(bytes) else {
-            let left = bytes.len() as u64;
-            return Err(Refusal::MessageTooShort { left });
-        };
-        if matches!(self.options.form, Form::Count) {
-            let message_type = MessageType::of(envelope.message_type());
-            if let Some(kind) = message_type.kind() {
-                read_through(self.alloc, kind, envelope.payload()).map_err(Refusal::Payload)?;
-                return Ok(Read::Through(message_type));
-            }
-        }
-        let message = NetlinkMessage::parse(self.alloc, &envelope).map_err(Refusal::Payload)?;
-        Ok(Read::Whole(message))
-    }
-
-    /// Takes a message that was read.
-    fn take(&mut self, read: Read) -> Result<(), Stop> {
-        match read {
-            Read::Whole(message) => self.tell(&message),
-            Read::Through(message_type) => {
-                self.counts.add_type(message_type);
-                Ok(())
-            }
-        }
+        let read = read_message(self.alloc, self.options.form, bytes);
+        self.take(place, bytes, read)
     }
 
     /// A message of this kind without an envelope.
     pub fn lone(&mut self, kind: MessageKind, place: Place, bytes: &[u8]) -> Result<(), Stop> {
-        match read_lone(self.alloc, kind, bytes) {
-            Ok(message) => self.tell(&message),
-            Err(DecodeError::OutOfMemory) => Err(Stop::Memory),
-            Err(fault) => {
-                self.refuse(place, Refusal::Payload(fault));
+        let read = read_lone(self.alloc, kind, bytes);
+        self.take(place, bytes, read.map_err(Refusal::Payload))
+    }
+
+    /// Takes what was read of these bytes.
+    fn take(
+        &mut self,
+        place: Place,
+        bytes: &[u8],
+        read: Result<Read, Refusal>,
+    ) -> Result<(), Stop> {
+        match read {
+            Ok(Read::Whole(message)) => self.tell(&message),
+            Ok(Read::Through(kind)) => {
+                self.counts.add_kind(Some(kind));
+                Ok(())
+            }
+            Err(Refusal::Payload(DecodeError::OutOfMemory)) => Err(Stop::Memory),
+            Err(refusal) => {
+                self.refuse(place, refusal);
                 self.keep(bytes)
             }
         }
@@ -150,7 +138,7 @@ impl Session {
     /// Says that a message is refused.
     pub fn refuse(&mut self, place: Place, refusal: Refusal) {
         self.counts.refused = self.counts.refused.saturating_add(1);
-        let input = self.input.as_str();
+        let input = self.subject;
         let what = place.what;
         let number = place.number;
         let offset = place.offset;
@@ -160,6 +148,12 @@ impl Session {
             self.errors,
             "{input}: {what} {number} at byte {offset}, {length} bytes: {refusal}"
         );
+        match self.hint.take() {
+            Some(hint) if number == 1 => {
+                let _ = writeln!(self.errors, "{input}: this {hint}");
+            }
+            _ => {}
+        }
     }
 
     /// Keeps bytes of the input that are refused. Of hexadecimal text the line is kept in their place.
@@ -172,10 +166,11 @@ impl Session {
 
     /// Keeps these bytes.
     pub fn keep_as_it_stands(&mut self, bytes: &[u8]) -> Result<(), Stop> {
-        match &mut self.keep {
-            None => Ok(()),
-            Some(file) => file.write_all(bytes).map_err(|_| Stop::Write),
+        let kept = self.kept.add(bytes);
+        if kept.is_err() {
+            self.subject = self.kept.name.unwrap_or(self.subject);
         }
+        kept
     }
 
     /// Writes what is told so far.
@@ -193,12 +188,13 @@ impl Session {
         let before = self.counts.bytes / STEP;
         self.counts.bytes = self.counts.bytes.saturating_add(more);
         if self.is_watched && self.counts.bytes / STEP != before {
-            let _ = write!(self.errors, "\r{}: {passed} bytes", self.input);
+            let _ = write!(self.errors, "\r{}: {passed} bytes", self.subject);
         }
     }
 
     /// Writes the rest.
     pub fn finish(&mut self) -> Result<(), Stop> {
+        self.subject = "nlshow";
         if self.is_watched && self.counts.bytes >= STEP {
             let _ = writeln!(self.errors, "");
         }
@@ -214,18 +210,33 @@ impl Session {
 enum Read {
     /// All of it.
     Whole(NetlinkMessage<RouteNetlinkMessage>),
-    /// All of it, of which nothing was kept but its type.
-    Through(MessageType),
+    /// All of it, of which nothing was kept but its kind.
+    Through(MessageKind),
+}
+
+/// The message that these bytes are, an envelope and what stands in it. Where messages are counted,
+/// what the library reads is read attribute by attribute, and nothing of it is kept.
+fn read_message(alloc: Global, form: Form, bytes: &[u8]) -> Result<Read, Refusal> {
+    let Ok(envelope) = NetlinkBuffer::new_checked(bytes) else {
+        let left = bytes.len() as u64;
+        return Err(Refusal::MessageTooShort { left });
+    };
+    let read = match (form, MessageType::of(envelope.message_type()).kind()) {
+        (Form::Count, Some(kind)) => read_through(alloc, kind, envelope.payload()),
+        _ => NetlinkMessage::parse(alloc, &envelope).map(Read::Whole),
+    };
+    read.map_err(Refusal::Payload)
 }
 
 /// Reads the attributes of a message of this kind one after the other, and keeps none.
-fn read_through(alloc: Global, kind: MessageKind, bytes: &[u8]) -> Result<(), DecodeError> {
+fn read_through(alloc: Global, kind: MessageKind, bytes: &[u8]) -> Result<Read, DecodeError> {
     match kind {
-        MessageKind::Address => read_each(AddressMessage::attributes(alloc, bytes)?),
-        MessageKind::Route => read_each(RouteMessage::attributes(alloc, bytes)?),
-        MessageKind::Rule => read_each(RuleMessage::attributes(alloc, bytes)?),
-        MessageKind::Neighbour => read_each(NeighbourMessage::attributes(alloc, bytes)?),
+        MessageKind::Address => read_each(AddressMessage::attributes(alloc, bytes)?)?,
+        MessageKind::Route => read_each(RouteMessage::attributes(alloc, bytes)?)?,
+        MessageKind::Rule => read_each(RuleMessage::attributes(alloc, bytes)?)?,
+        MessageKind::Neighbour => read_each(NeighbourMessage::attributes(alloc, bytes)?)?,
     }
+    Ok(Read::Through(kind))
 }
 
 fn read_each<H: Header>(attributes: Attributes<'_, H>) -> Result<(), DecodeError> {
@@ -235,29 +246,16 @@ fn read_each<H: Header>(attributes: Attributes<'_, H>) -> Result<(), DecodeError
     Ok(())
 }
 
-/// The message of this kind that these bytes are, as if it stood in an envelope that tells of it.
-fn read_lone(
-    alloc: Global,
-    kind: MessageKind,
-    bytes: &[u8],
-) -> Result<NetlinkMessage<RouteNetlinkMessage>, DecodeError> {
-    let header = NetlinkHeader {
-        message_type: type_of(kind),
-        ..NetlinkHeader::default()
+/// The message of this kind that these bytes are, as one that says that it is there.
+fn read_lone(alloc: Global, kind: MessageKind, bytes: &[u8]) -> Result<Read, DecodeError> {
+    let message = match kind {
+        MessageKind::Address => AddressMessage::parse(alloc, bytes)?.under(Action::New),
+        MessageKind::Route => RouteMessage::parse(alloc, bytes)?.under(Action::New),
+        MessageKind::Rule => RuleMessage::parse(alloc, bytes)?.under(Action::New),
+        MessageKind::Neighbour => NeighbourMessage::parse(alloc, bytes)?.under(Action::New),
     };
-    let message = RouteNetlinkMessage::deserialize(alloc, &header, bytes)?;
-    Ok(NetlinkMessage {
-        header,
+    Ok(Read::Whole(NetlinkMessage {
+        header: NetlinkHeader::default(),
         payload: NetlinkPayload::InnerMessage(message),
-    })
-}
-
-/// The type that tells of such a message (`RTM_NEW*` of `linux/rtnetlink.h`).
-fn type_of(kind: MessageKind) -> u16 {
-    match kind {
-        MessageKind::Address => 20,
-        MessageKind::Route => 24,
-        MessageKind::Rule => 32,
-        MessageKind::Neighbour => 28,
-    }
+    }))
 }

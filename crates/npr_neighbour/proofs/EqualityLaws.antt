@@ -1,6 +1,6 @@
 -- What `==` answers of addresses, attributes and messages: whether they mean the same.
 use Rattle.std.specs.Prelude.{ℕ}
-use Rattle.std.specs.Cmp.{signed_Decides, unsigned_Decides}
+use Rattle.std.specs.Cmp.{unsigned_Decides}
 use Rattle.std.proofs.Common.{refl, rules}
 use Rattle.npr_base.specs.AddressFamilyLaws.{family_equality}
 use Rattle.npr_base.specs.Equality.{IsEquality, IsEqualityOf}
@@ -19,7 +19,7 @@ use Rattle.npr_neighbour.specs.contracts.address.NeighbourAddress.{enum as addre
 use Rattle.npr_neighbour.specs.contracts.address.NeighbourAddressPartialEq.TheImpl as AddressEq
 use Rattle.npr_neighbour.specs.contracts.attribute.NeighbourAttributePartialEq.TheImpl as AttributeEq
 use Rattle.npr_neighbour.specs.contracts.cache_info.NeighbourCacheInfoPartialEq.TheImpl as InfoEq
-use Rattle.npr_neighbour.specs.contracts.flags.NeighbourExtendedFlagsPartialEq.TheImpl as ExtendedFlagsEq
+use Rattle.npr_neighbour.specs.contracts.flags.NeighbourExtFlagsPartialEq.TheImpl as ExtendedFlagsEq
 use Rattle.npr_neighbour.specs.contracts.flags.NeighbourFlagsPartialEq.TheImpl as FlagsEq
 use Rattle.npr_neighbour.specs.contracts.header.NeighbourHeaderPartialEq.TheImpl as HeaderEq
 use Rattle.npr_neighbour.specs.contracts.state.NeighbourStatePartialEq.TheImpl as StateEq
@@ -53,7 +53,7 @@ state_equality = search rules
 pub header_equality : IsEquality HeaderEq.ghosts.eq
 header_equality =
     struct_equality struct (λ v. tt) (λ d. refl)
-    (family_equality beside signed_Decides beside state_equality beside flags_equality beside one_equality route_type_equality)
+    (family_equality beside unsigned_Decides beside state_equality beside flags_equality beside one_equality route_type_equality)
 
 pub attribute_equality : IsEqualityOf family.meaning AttributeEq.ghosts.eq
 attribute_equality =

@@ -24,7 +24,7 @@ hop_fits h fits =
 
 -- next hops as the value of an attribute that can be written
 pub multi_path_fits : (v : Vec RouteNextHop Global) → (shape_of (meaning_of (MultiPath v))).unfit ≡ None → first_unfit next_hop_unfit v.items ≡ None
-multi_path_fits v fits = sym (hops_fit v.items) ∙ fits-inside (hops_of (map hop_of v.items)) (sym (ap (λ (m : Meaning). (shape_of m).inside) (view_multi_path v)) ∙ fits)
+multi_path_fits v fits = sym (hops_fit v.items) ∙ fits-inside (hops_of (map hop_of v.items)) (sym (ap (λ (m : Meaning). (shape_of m).unfit) (view_multi_path v)) ∙ fits)
 
 pub multi_path_value : (v : Vec RouteNextHop Global) → (shape_of (meaning_of (MultiPath v))).item.value ≡ joined next_hop_bytes v.items
 multi_path_value v = ap (λ (m : Meaning). (shape_of m).item.value) (view_multi_path v) ∙ hops_text v.items

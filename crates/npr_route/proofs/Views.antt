@@ -109,8 +109,8 @@ hop_unfit-is h =
 pub hop_bytes-length : (h : RouteNextHop) → length (next_hop_bytes h) ≡ 8 + length (encodings attribute_item h.attributes.items)
 hop_bytes-length h = omega (arith, ap (λ (k : Hop). length (hop_bytes k)) (view_hop h), ap length (attributes_text h.attributes.items))
 
-pub hop-unfit : (h : RouteNextHop) (e : EmitError) (n : ℕ) → Err e ≡ checked (list_unfit attribute_unfit attribute_item h.attributes.items) (length (encodings attribute_item h.attributes.items)) → Err e ≡ checked (hop-unfit (hop_of h)) n
-hop-unfit h e n is = let some = hop_unfit-is h ∙ inside_unfit (first_unfit attribute_unfit h.attributes.items) (length (encodings attribute_item h.attributes.items)) e is in sym (ap (λ (o : Option EmitError). checked o n) some)
+pub hop_unchecked : (h : RouteNextHop) (e : EmitError) (n : ℕ) → Err e ≡ checked (list_unfit attribute_unfit attribute_item h.attributes.items) (length (encodings attribute_item h.attributes.items)) → Err e ≡ checked (hop_unfit (hop_of h)) n
+hop_unchecked h e n is = let some = hop_unfit-is h ∙ inside_unfit (first_unfit attribute_unfit h.attributes.items) (length (encodings attribute_item h.attributes.items)) e is in sym (ap (λ (o : Option EmitError). checked o n) some)
 
 pub hop_checked : (h : RouteNextHop) (m : ℕ) → Ok m ≡ checked (list_unfit attribute_unfit attribute_item h.attributes.items) (length (encodings attribute_item h.attributes.items))
     → checked (hop_overlong (8 + m)) (8 + m) ≡ checked (hop_unfit (hop_of h)) (length (next_hop_bytes h))

@@ -164,7 +164,7 @@ abbrev mutual
   pub shape_of : Meaning → Shape
   shape_of (flat m) = Flats.writing.shape m
   shape_of (multi_path hs) =
-      record { item = record { kind = 9; value = hops_bytes hs }; nested = false; inside = option_or (hops_unfit hs) (overlong (length (hops_bytes hs))) }
+      record { item = record { kind = 9; value = hops_bytes hs }; nested = false; unfit = option_or (hops_unfit hs) (overlong (length (hops_bytes hs))) }
 
   pub attributes_bytes : Attributes → List ℕ
   attributes_bytes no_more = []

@@ -2,7 +2,7 @@
 
 use netlink_packet_route::MessageKind;
 use netlink_packet_route::framing::{DecodeError, EmitError};
-use netlink_report::{Counted, RunError, bytes_of, Which, finish, read_all, run, write_text};
+use netlink_report::{Counted, RunError, Which, bytes_of, finish, read_all, run, write_text};
 use npr_testing::{holds, same, shows};
 use std::alloc::Global;
 use std::io;

@@ -4,6 +4,7 @@ use netlink_packet_route::envelope::{
     DoneMessage, ErrorMessage, NLMSG_DONE, NLMSG_ERROR, NLMSG_NOOP, NLMSG_OVERRUN, NetlinkBuffer,
     NetlinkHeader, NetlinkIterator, NetlinkMessage, NetlinkPayload,
 };
+use netlink_packet_route::family::read_bytes;
 use netlink_packet_route::framing::{Emitable, Parseable, to_vec};
 use netlink_packet_route::request::{dump_addresses, dump_neighbours, dump_routes, dump_rules};
 use netlink_packet_route::{AddressFamily, RouteNetlinkMessage};

@@ -68,6 +68,18 @@ impl Edits {
         self.add(source, behind, "", end..end, kind, put)
     }
 
+    /// Puts a text in front of a token.
+    pub fn insert_before(
+        &mut self,
+        source: &Source,
+        token: usize,
+        kind: &'static str,
+        put: &str,
+    ) -> Result<(), Fault> {
+        let start = source.tokens[token].at;
+        self.add(source, token, "", start..start, kind, put)
+    }
+
     fn add(
         &mut self,
         source: &Source,

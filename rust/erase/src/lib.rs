@@ -8,10 +8,13 @@
 pub mod audit;
 mod edit;
 mod fault;
+mod hints;
 mod kind;
+mod own_tests;
 mod rules;
 mod source;
 mod token;
+mod upstream;
 
 pub use edit::Tally;
 pub use fault::Fault;
@@ -33,25 +36,41 @@ pub const LIBRARIES: [&str; 10] = [
     "netlink_packet_route",
 ];
 
+/// The crates of their tests, likewise.
+pub const TESTS: [&str; 5] = [
+    "npr_testing",
+    "template",
+    "message_tests",
+    "value_tests",
+    "text_tests",
+];
+
 /// Erases the libraries of a folder into another, with a file `modules.rs` that names them, and
 /// fails where the audit counts otherwise. Answers how often each kind of edit was made.
 pub fn erase_all(crates: &Path, out: &Path) -> Result<Tally, Fault> {
+    erase_some(crates, out, &LIBRARIES, "modules.rs")
+}
+
+/// The same of the crates of tests, with a file `tests.rs`.
+pub fn erase_tests(crates: &Path, out: &Path) -> Result<Tally, Fault> {
+    erase_some(crates, out, &TESTS, "tests.rs")
+}
+
+fn erase_some(crates: &Path, out: &Path, some: &[&str], list: &str) -> Result<Tally, Fault> {
     let mut tally = Tally::new();
-    for library in LIBRARIES {
+    for library in some {
         for (kind, count) in erase_library(crates, out, library)? {
             *tally.entry(kind).or_default() += count;
         }
     }
-    let modules: String = LIBRARIES
-        .iter()
-        .map(|name| format!("mod {name};\n"))
-        .collect();
-    write(&out.join("modules.rs"), &modules)?;
-    audit::audit(crates, out, &tally)?;
+    let modules: String = some.iter().map(|name| format!("mod {name};\n")).collect();
+    write(&out.join(list), &modules)?;
+    audit::audit(crates, out, some, &tally)?;
     Ok(tally)
 }
 
-/// The files of a library in order, but that of its laws, which are functions that do nothing.
+/// The files of a library in order, but that of its laws, which are functions that do nothing, and
+/// tests of programs.
 pub fn sources(crates: &Path, library: &str) -> Result<Vec<PathBuf>, Fault> {
     let folder = crates.join(library).join("src");
     let entries = fs::read_dir(&folder).map_err(|e| unread(&folder, e))?;
@@ -63,7 +82,14 @@ pub fn sources(crates: &Path, library: &str) -> Result<Vec<PathBuf>, Fault> {
         }
         found.push(path);
     }
-    found.retain(|path| !path.ends_with("laws.rt"));
+    let stem = |path: &PathBuf| path.file_stem().unwrap_or_default().to_owned();
+    let is_test = TESTS.contains(&library);
+    found.retain(|path| match is_test {
+        true => own_tests::OF_PROGRAMS
+            .iter()
+            .all(|name| stem(path) != *name),
+        false => stem(path) != "laws",
+    });
     found.sort();
     Ok(found)
 }

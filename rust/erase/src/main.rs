@@ -1,15 +1,21 @@
-//! `erase CRATES OUT` erases the libraries of a folder, audits what was written, and counts.
+//! `erase CRATES OUT` erases the libraries of a folder, and `erase --tests CRATES OUT` their tests. It
+//! audits what was written, and counts.
 
 use std::path::Path;
 use std::process::ExitCode;
 
 fn main() -> ExitCode {
     let words: Vec<String> = std::env::args().skip(1).collect();
-    let [crates, out] = &words[..] else {
-        eprintln!("usage: erase CRATES OUT");
-        return ExitCode::from(2);
+    let words: Vec<&str> = words.iter().map(String::as_str).collect();
+    let erased = match words[..] {
+        ["--tests", crates, out] => erase::erase_tests(Path::new(crates), Path::new(out)),
+        [crates, out] => erase::erase_all(Path::new(crates), Path::new(out)),
+        _ => {
+            eprintln!("usage: erase [--tests] CRATES OUT");
+            return ExitCode::from(2);
+        }
     };
-    match erase::erase_all(Path::new(crates), Path::new(out)) {
+    match erased {
         Ok(tally) => {
             for (kind, count) in tally {
                 println!("{count:6} {kind}");

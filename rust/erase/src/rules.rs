@@ -1,22 +1,26 @@
 //! What is erased of a file, and what is rewritten.
 
-use crate::LIBRARIES;
 use crate::edit::{Edits, Tally};
 use crate::fault::Fault;
+use crate::own_tests;
 use crate::source::Source;
 use crate::token::Sort;
+use crate::upstream;
+use crate::{LIBRARIES, TESTS};
 
 /// What no word of Rust may be: where one is left, a rule is missing.
 const REFUSED: &[&str] = &[
     "ghost", "requires", "ensures", "tactic", "cycle", "final", "Model", "prove", "unsafe",
 ];
-const IMPORT: &str = " use crate::memory::{StringIn as _, VecIn as _};";
+const IMPORT: &str = " use crate::memory::{SetIn as _, StringIn as _, VecIn as _};";
 
 /// A file as it is erased.
 pub struct Eraser<'a> {
-    source: Source<'a>,
+    pub(crate) source: Source<'a>,
     library: &'a str,
-    edits: Edits,
+    /// Whether the library is one of tests.
+    pub(crate) is_test: bool,
+    pub(crate) edits: Edits,
     macros: Vec<&'a str>,
     imports: bool,
 }
@@ -31,9 +35,14 @@ pub struct Erased<'a> {
 
 /// Erases a file of a library.
 pub fn erase<'a>(path: &'a str, library: &'a str, text: &'a str) -> Result<Erased<'a>, Fault> {
+    let source = Source::new(path, text)?;
+    if upstream::has_addresses(library, path) {
+        return upstream::addresses(&source);
+    }
     let mut eraser = Eraser {
-        source: Source::new(path, text)?,
+        source,
         library,
+        is_test: TESTS.contains(&library),
         edits: Edits::default(),
         macros: Vec::new(),
         imports: false,
@@ -61,6 +70,7 @@ impl<'a> Eraser<'a> {
             "impl" => self.implementation(at),
             "use" => self.import(at),
             "pub" if self.source.is(at, "pub mod laws ;") => self.cut_item(at, 4, "mod laws"),
+            "pub" => self.declaration(at),
             "final" if self.source.is(at, "final fn") => self.cut(at, 1, "final"),
             "fn" => self.function(at),
             "Flag" if self.source.is(at, "Flag { name :") => self.flag(at),
@@ -70,7 +80,12 @@ impl<'a> Eraser<'a> {
         }
     }
 
-    fn cut(&mut self, at: usize, count: usize, kind: &'static str) -> Result<usize, Fault> {
+    pub(crate) fn cut(
+        &mut self,
+        at: usize,
+        count: usize,
+        kind: &'static str,
+    ) -> Result<usize, Fault> {
         self.replace(at, count, kind, "")
     }
 
@@ -79,7 +94,7 @@ impl<'a> Eraser<'a> {
         Ok(at + count)
     }
 
-    fn replace(
+    pub(crate) fn replace(
         &mut self,
         at: usize,
         count: usize,
@@ -105,6 +120,10 @@ impl<'a> Eraser<'a> {
             "macro_export" => self.export(at, behind),
             "derive" => self.derive(at, open + 2, behind),
             "default" | "error" | "inline" => Ok(behind),
+            "cfg" if self.is_test && self.is_of_program(at) => {
+                self.cut_item(at, 10, "mod of a program's tests")
+            }
+            "cfg" | "test" if self.is_test => Ok(behind),
             other => Err(self
                 .source
                 .fault(at, format!("the attribute `{other}` is not known"))),
@@ -126,12 +145,21 @@ impl<'a> Eraser<'a> {
         Ok(behind)
     }
 
-    /// Each type of Rust may be dropped.
+    /// Each type of Rust may be dropped. One that proved text drops can be cloned.
     fn derive(&mut self, at: usize, open: usize, behind: usize) -> Result<usize, Fault> {
         let close = self.source.closing(open)?;
-        let Some(drop) = (open..close).find(|&i| self.source.word(i) == "Drop") else {
+        let derived = |name| (open..close).find(|&i| self.source.word(i) == name);
+        let (debug, drop, clone) = (derived("Debug"), derived("Drop"), derived("Clone"));
+        if let Some(debug) = debug.filter(|_| self.is_set(behind)) {
+            self.debug_of_set(debug, behind)?;
+        }
+        let Some(drop) = drop else {
             return Ok(behind);
         };
+        if clone.is_none() {
+            self.replace(drop, 1, "derived Drop -> Clone", "Clone")?;
+            return Ok(behind);
+        }
         match (self.source.word(drop - 1), self.source.word(drop + 1)) {
             ("(", ")") => self.cut(at, behind - at, "derived Drop")?,
             (_, ",") => self.cut(drop, 2, "derived Drop")?,
@@ -191,8 +219,11 @@ impl<'a> Eraser<'a> {
                 .source
                 .find(at, ";")
                 .ok_or_else(|| self.source.fault(at, "a use without an end"))?;
-            self.edits
-                .insert(&self.source, end, "use of memory", IMPORT)?;
+            let (kind, put) = match self.is_test {
+                true => ("use of testing", own_tests::IMPORT),
+                false => ("use of memory", IMPORT),
+            };
+            self.edits.insert(&self.source, end, kind, put)?;
             self.imports = true;
         }
         Ok(at + 1)
@@ -200,6 +231,10 @@ impl<'a> Eraser<'a> {
 
     /// A function that prints has no parameter for the writer in Rust, and a set has its flags in a constant.
     fn function(&mut self, at: usize) -> Result<usize, Fault> {
+        self.hint(at)?;
+        if self.is_test {
+            self.runtime(at)?;
+        }
         if self.source.is(at + 2, "< W : fmt :: Write >") {
             self.cut(at + 2, 7, "writer parameter")?;
             return Ok(at + 9);
@@ -259,7 +294,12 @@ impl<'a> Eraser<'a> {
         let is_method = self.source.before(at) == "." && next == "(";
         let is_new = self.source.is(at + 1, ":: new (") && self.source.word(at + 4) != ")";
         let kind = "call that takes memory";
+        if let Some(next) = self.call_in_test(at)? {
+            return Ok(next);
+        }
         match word {
+            "bits" | "contains" if is_method => self.call_of_set(at),
+            "from_bits_retain" if self.source.before(at) == "::" => self.call_of_set(at),
             "push" | "reserve" | "reserve_exact" if is_method => {
                 self.replace(at, 1, kind, &format!("{word}_in"))
             }
@@ -277,6 +317,9 @@ impl<'a> Eraser<'a> {
         if self.source.word(at + 1) != "::" || before == "::" {
             return Ok(at + 1);
         }
+        if let Some(next) = self.path_in_test(at)? {
+            return Ok(next);
+        }
         if word == "crate" {
             let own = format!("crate::{}", self.library);
             return self.replace(at, 1, "path of its own crate", &own);
@@ -286,6 +329,9 @@ impl<'a> Eraser<'a> {
         }
         if LIBRARIES.contains(&word) && before != "$" {
             return self.replace(at, 1, "path of a library", &format!("crate::{word}"));
+        }
+        if self.is_test && TESTS.contains(&word) && before != "$" {
+            return self.replace(at, 1, "path of tests", &format!("crate::{word}"));
         }
         Ok(at + 1)
     }

@@ -23,7 +23,7 @@ fn audited(was: &str, is: &str) -> String {
 #[test]
 fn clauses_become_comments() {
     let was = "fn f(x: u8) -> u8\n    // why\n    requires small { x < 9 }\n    ensures { result ≡ x }\n{\n    x\n}\n";
-    let is = "fn f(x: u8) -> u8\n    // why\n    // requires small { x < 9 }\n    // ensures { result ≡ x }\n{\n    x\n}\n";
+    let is = "#[inline] fn f(x: u8) -> u8\n    // why\n    // requires small { x < 9 }\n    // ensures { result ≡ x }\n{\n    x\n}\n";
     assert_eq!(erased(was), is);
 }
 
@@ -45,26 +45,77 @@ fn ghost_members_take_their_words_along() {
 }
 
 #[test]
-fn derived_drops_go() {
+fn what_is_dropped_is_cloned() {
     assert_eq!(
         erased("#[derive(Debug, Drop, Eq)]\nstruct S;\n"),
-        "#[derive(Debug, Eq)]\nstruct S;\n"
-    );
-    assert_eq!(
-        erased("#[derive(Debug, Drop)]\nstruct S;\n"),
-        "#[derive(Debug)]\nstruct S;\n"
+        "#[derive(Debug, Clone, Eq)]\nstruct S;\n"
     );
     assert_eq!(
         erased("#[derive(Drop)]\nstruct S;\n"),
-        "// #[derive(Drop)]\nstruct S;\n"
+        "#[derive(Clone)]\nstruct S;\n"
+    );
+    assert_eq!(
+        erased("#[derive(Clone, Drop)]\nstruct S;\n"),
+        "#[derive(Clone)]\nstruct S;\n"
+    );
+}
+
+#[test]
+fn sets_have_calls_of_their_own() {
+    assert_eq!(
+        erased("#[derive(Clone, Copy, Debug, Eq)]\npub struct S(u8);\n"),
+        "#[derive(Clone, Copy, Eq)] #[cfg_attr(test, derive(Debug))]\npub struct S(pub(crate) u8);\n"
+    );
+    assert_eq!(
+        erased("fn f() { S::from_bits_retain(s.bits()).contains(s) }"),
+        "#[inline] fn f() { S::from_bits_retain_in(s.bits_in()).contains_in(s) }\n"
+    );
+    assert_eq!(
+        refusal("#[derive(Clone, Debug)]\npub struct S(u8);\n"),
+        "file.rt:1: `Debug,` was expected"
+    );
+}
+
+#[test]
+fn what_may_grow_is_told() {
+    let was = "pub enum RouteType {}\npub enum Action {}\npub struct Message<A> {}\npub struct RouteHeader {}\n";
+    let is = "#[cfg_attr(not(exhaustive), non_exhaustive)] pub enum RouteType {}\npub enum Action {}\n#[cfg_attr(not(exhaustive), non_exhaustive)] pub struct Message<A> {}\npub struct RouteHeader {}\n";
+    assert_eq!(erased(was), is);
+}
+
+#[test]
+fn addresses_are_those_of_the_standard_library() {
+    let erased_as = |path, text| {
+        let erased = erase(path, "npr_base", text)?;
+        let audited = audit_text(path, "npr_base", text, &erased.text)?;
+        assert_eq!(audited, erased.tally);
+        Ok::<_, erase::Fault>(erased.text)
+    };
+    let was = "//! It.\n\npub struct Ipv4Addr {}\npub struct Ipv6Addr {}\npub enum IpAddr {}\n";
+    let is = "//! It.\npub use std::net::{IpAddr, Ipv4Addr, Ipv6Addr};\n// pub struct Ipv4Addr {}\n// pub struct Ipv6Addr {}\n// pub enum IpAddr {}\n";
+    assert_eq!(erased_as("src/ip.rt", was).as_deref(), Ok(is));
+    let more = erased_as("src/ip.rt", "\npub struct MacAddr {}\n");
+    let told = more.map_err(|fault| fault.to_string());
+    assert_eq!(
+        told.expect_err("another type"),
+        "src/ip.rt:2: three types of addresses were expected"
     );
 }
 
 #[test]
 fn crates_are_modules() {
     let was = "use npr_scalar::A;\nuse std::alloc::Global;\nuse crate::b::{self, C};\n";
-    let is = "use crate::npr_scalar::A; use crate::memory::{StringIn as _, VecIn as _};\nuse crate::memory::Global;\nuse crate::npr_base::b::{self, C};\n";
+    let is = "use crate::npr_scalar::A; use crate::memory::{SetIn as _, StringIn as _, VecIn as _};\nuse crate::memory::Global;\nuse crate::npr_base::b::{self, C};\n";
     assert_eq!(erased(was), is);
+}
+
+#[test]
+fn functions_with_bodies_are_hinted() {
+    let was = "pub final fn f(x: fn(u8)) -> u8 requires r { x } { x }\nfn g();\n#[inline(never)]\n#[cycle(c)]\nfn h() {}\n";
+    let is = "#[inline] pub fn f(x: fn(u8)) -> u8 { x }\nfn g();\n#[inline(never)]\n// #[cycle(c)]\nfn h() {}\n";
+    assert_eq!(erased(was), is);
+    let is = "#[inline] pub(crate) const fn f() {}\n";
+    assert_eq!(erased("pub(crate) const fn f() {}"), is);
 }
 
 #[test]
@@ -112,6 +163,20 @@ fn the_audit_sees_what_is_cut_put_in_and_moved() {
     );
     assert_eq!(audited("a => b, c => d,", "a => b,"), told("c = > d ,", ""));
     assert_eq!(audited("a b", "a\nb"), told("b", "b"));
+    assert_eq!(
+        audited(
+            "f(pub struct S)",
+            "f(#[cfg_attr(not(exhaustive), non_exhaustive)] pub struct S)"
+        ),
+        r#"{"non_exhaustive": 1}"#
+    );
+    assert_eq!(
+        audited(
+            "f(struct S)",
+            "f(#[cfg_attr(not(exhaustive), non_exhaustive)] struct S)"
+        ),
+        told("struct S )", "# [ cfg_attr ( not (")
+    );
     assert_eq!(
         audited("ensures { a }", "ensures { a }"),
         told("", "ensures { a }")

@@ -1,5 +1,5 @@
-//! What takes memory. The proved text hands an allocator to each such call, and each may refuse.
-//! Here they are calls of Rust's own `Vec` and `String`, by their ways that may fail.
+//! What the proved text calls by other names than Rust. What takes memory is handed an allocator, and
+//! may refuse: here it is Rust's own `Vec` and `String`, by their ways that may fail.
 
 use std::collections::TryReserveError;
 use std::fmt;
@@ -38,6 +38,31 @@ impl<T> From<AllocFailed<T>> for AllocError {
     }
 }
 
+/// Whether a request for memory is refused: in tests alone.
+#[cfg(not(test))]
+#[inline(always)]
+fn is_refused() -> bool {
+    false
+}
+#[cfg(test)]
+use crate::refused::is_refused;
+
+/// Room for so many more, and no more where `exact`.
+#[inline(always)]
+fn room<T>(list: &mut Vec<T>, count: usize, exact: bool) -> Result<(), AllocError> {
+    if count <= list.capacity() - list.len() {
+        return Ok(());
+    }
+    if is_refused() {
+        return Err(AllocError);
+    }
+    match exact {
+        true => list.try_reserve_exact(count)?,
+        false => list.try_reserve(count)?,
+    }
+    Ok(())
+}
+
 /// Lists whose memory may be refused.
 pub(crate) trait VecIn<T>: Sized {
     fn new_within(alloc: Global) -> Self;
@@ -57,33 +82,37 @@ pub(crate) trait VecIn<T>: Sized {
 }
 
 impl<T> VecIn<T> for Vec<T> {
+    #[inline(always)]
     fn new_within(_alloc: Global) -> Self {
         Vec::new()
     }
 
+    #[inline]
     fn from_slice(_alloc: Global, items: &[T]) -> Result<Self, AllocError>
     where
         T: Copy,
     {
         let mut list = Vec::new();
-        list.try_reserve_exact(items.len())?;
+        room(&mut list, items.len(), true)?;
         list.extend_from_slice(items);
         Ok(list)
     }
 
+    #[inline]
     fn reserve_in(&mut self, count: usize) -> Result<(), AllocError> {
-        Ok(self.try_reserve(count)?)
+        room(self, count, false)
     }
 
+    #[inline]
     fn reserve_exact_in(&mut self, count: usize) -> Result<(), AllocError> {
-        Ok(self.try_reserve_exact(count)?)
+        room(self, count, true)
     }
 
     #[inline]
     fn push_in(&mut self, item: T) -> Result<(), AllocFailed<T>> {
-        match self.try_reserve(1) {
+        match room(self, 1, false) {
             Ok(()) => self.push(item),
-            Err(_) => return Err(AllocFailed { value: item }),
+            Err(AllocError) => return Err(AllocFailed { value: item }),
         }
         Ok(())
     }
@@ -102,12 +131,32 @@ pub(crate) trait StringIn: Sized {
 
 impl StringIn for String {
     fn from_str(_alloc: Global, text: &str) -> Result<Self, AllocError> {
+        if !text.is_empty() && is_refused() {
+            return Err(AllocError);
+        }
         let mut copy = String::new();
         copy.try_reserve_exact(text.len())?;
         copy.push_str(text);
         Ok(copy)
     }
 }
+
+/// Sets of flags, by their proved trait: the calls of these names without `_in` are those of `sets`.
+pub(crate) trait SetIn: bitflags::Flags {
+    fn bits_in(&self) -> Self::Bits {
+        bitflags::Flags::bits(self)
+    }
+
+    fn contains_in(&self, other: Self) -> bool {
+        bitflags::Flags::contains(self, other)
+    }
+
+    fn from_bits_retain_in(bits: Self::Bits) -> Self {
+        bitflags::Flags::from_bits_retain(bits)
+    }
+}
+
+impl<F: bitflags::Flags> SetIn for F {}
 
 /// A list of so many times the same.
 macro_rules! filled {
@@ -123,7 +172,7 @@ pub(crate) fn repeated<T: Copy>(
     count: usize,
 ) -> Result<Vec<T>, AllocError> {
     let mut list = Vec::new();
-    list.try_reserve_exact(count)?;
+    room(&mut list, count, true)?;
     list.resize(count, item);
     Ok(list)
 }

@@ -1,12 +1,30 @@
-//! What a user of Rust looks for besides, written by hand: each line is one call of the proved text.
-//! No method here has a name that the proved text calls on such a type: it would be called instead.
+//! What a user of Rust looks for besides, written by hand: each line is one call of the proved text,
+//! which is handed the allocator of Rust. No method here has a name that the proved text calls on such
+//! a type: it would be called instead.
 
-use crate::envelope::{NetlinkInner, NetlinkMessage};
+use crate::address::AddressHeader;
+use crate::envelope::{
+    EnvelopeError, NetlinkBuffer, NetlinkInner, NetlinkIterator, NetlinkMessage,
+};
 use crate::framing::{DecodeError, Header, Message, Parseable, WriteError, to_vec};
 use crate::memory::Global;
-use crate::net::{IpAddr, Ipv4Addr, Ipv6Addr};
-use crate::route::{RouteAddress, RouteGeneveOpt, RouteNextHop, RplSrh, Seg6Header, Seg6LocalSrh};
-use std::net;
+use crate::neighbour::{NeighbourHeader, NeighbourState};
+use crate::route::{RouteGeneveOpt, RouteHeader, RouteNextHop, RplSrh, Seg6Header, Seg6LocalSrh};
+use crate::rule::RuleHeader;
+use std::fmt;
+use thiserror::Error;
+
+/// Why there is no message at a place of a datagram.
+#[derive(Clone, Copy, Debug, PartialEq, Eq, Error)]
+#[non_exhaustive]
+pub enum Fault {
+    /// The envelope.
+    #[error(transparent)]
+    Envelope(#[from] EnvelopeError),
+    /// What stands in it.
+    #[error(transparent)]
+    Message(#[from] DecodeError),
+}
 
 impl<H: Header> Message<H, H::Attribute> {
     /// The canonical bytes.
@@ -32,6 +50,21 @@ impl<H: Header> Default for Message<H, H::Attribute> {
     }
 }
 
+macro_rules! headers {
+    ($($header:ty)*) => {$(
+        impl $header {
+            /// The header in front of the bytes.
+            ///
+            /// # Errors
+            /// `HeaderTooShort` where there are too few.
+            pub fn parse(bytes: &[u8]) -> Result<Self, DecodeError> {
+                Header::parse(bytes)
+            }
+        }
+    )*};
+}
+headers!(AddressHeader RouteHeader RuleHeader NeighbourHeader);
+
 impl<I: NetlinkInner> NetlinkMessage<I> {
     /// The bytes that are sent.
     ///
@@ -39,6 +72,20 @@ impl<I: NetlinkInner> NetlinkMessage<I> {
     /// Why there are none.
     pub fn to_bytes(&self) -> Result<Vec<u8>, WriteError> {
         to_vec(Global, self)
+    }
+
+    /// The messages of a datagram, one by one. One that can't be read is told, and the next follows;
+    /// the fault of an envelope is the last item.
+    pub fn all(datagram: &[u8]) -> impl Iterator<Item = Result<Self, Fault>> {
+        NetlinkIterator::new(datagram).map(|found| Ok(Self::try_from(&found?)?))
+    }
+}
+
+impl<I: NetlinkInner> TryFrom<&NetlinkBuffer<'_>> for NetlinkMessage<I> {
+    type Error = DecodeError;
+
+    fn try_from(envelope: &NetlinkBuffer<'_>) -> Result<Self, DecodeError> {
+        NetlinkMessage::parse(Global, envelope)
     }
 }
 
@@ -53,49 +100,26 @@ macro_rules! defaults {
 }
 defaults!(RouteGeneveOpt RouteNextHop RplSrh Seg6Header Seg6LocalSrh);
 
-macro_rules! addresses {
-    ($($version:ident)*) => {$(
-        impl From<net::$version> for $version {
-            fn from(ip: net::$version) -> Self {
-                ip.octets().into()
-            }
-        }
-
-        impl From<$version> for net::$version {
-            fn from(ip: $version) -> Self {
-                ip.octets().into()
-            }
-        }
-
-        impl From<net::$version> for RouteAddress {
-            fn from(ip: net::$version) -> Self {
-                $version::from(ip).into()
-            }
-        }
-    )*};
-}
-addresses!(Ipv4Addr Ipv6Addr);
-
-impl From<net::IpAddr> for IpAddr {
-    fn from(ip: net::IpAddr) -> Self {
-        match ip {
-            net::IpAddr::V4(ip) => IpAddr::V4(ip.into()),
-            net::IpAddr::V6(ip) => IpAddr::V6(ip.into()),
-        }
+impl From<NeighbourState> for u16 {
+    fn from(state: NeighbourState) -> u16 {
+        state.bits()
     }
 }
 
-impl From<IpAddr> for net::IpAddr {
-    fn from(ip: IpAddr) -> Self {
-        match ip {
-            IpAddr::V4(ip) => net::IpAddr::V4(ip.into()),
-            IpAddr::V6(ip) => net::IpAddr::V6(ip.into()),
-        }
+impl From<u16> for NeighbourState {
+    fn from(bits: u16) -> NeighbourState {
+        NeighbourState::from_bits_retain(bits)
     }
 }
 
-impl From<net::IpAddr> for RouteAddress {
-    fn from(ip: net::IpAddr) -> Self {
-        IpAddr::from(ip).into()
+/// The names of the states, of none `none`.
+impl fmt::Display for NeighbourState {
+    fn fmt(&self, f: &mut fmt::Formatter<'_>) -> fmt::Result {
+        let mut names = String::new();
+        bitflags::parser::to_writer(self, &mut names)?;
+        match self.is_empty() {
+            true => f.write_str("none"),
+            false => f.write_str(&names.to_lowercase()),
+        }
     }
 }

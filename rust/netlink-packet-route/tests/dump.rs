@@ -1,9 +1,7 @@
 //! A dump of a kernel, as a program reads it.
 
 use netlink_packet_route::RouteNetlinkMessage;
-use netlink_packet_route::envelope::{NetlinkIterator, NetlinkMessage, NetlinkPayload};
-use netlink_packet_route::framing::Parseable;
-use netlink_packet_route::memory::Global;
+use netlink_packet_route::envelope::{NetlinkMessage, NetlinkPayload};
 
 #[test]
 fn routes_of_a_kernel() {
@@ -13,9 +11,7 @@ fn routes_of_a_kernel() {
     );
     let dump = std::fs::read(path).expect("a stored dump");
     let mut routes = Vec::new();
-    for envelope in NetlinkIterator::new(&dump) {
-        let envelope = envelope.expect("a whole message");
-        let message = NetlinkMessage::<RouteNetlinkMessage>::parse(Global, &envelope);
+    for message in NetlinkMessage::all(&dump) {
         match message.expect("a known message").payload {
             NetlinkPayload::InnerMessage(RouteNetlinkMessage::NewRoute(route)) => {
                 routes.push(route)

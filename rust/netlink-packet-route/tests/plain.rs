@@ -1,10 +1,12 @@
 //! The layer that is written by hand.
 
-use netlink_packet_route::AddressFamily;
+use netlink_packet_route::envelope::{EnvelopeError, NetlinkMessage, NetlinkPayload};
 use netlink_packet_route::framing::DecodeError;
+use netlink_packet_route::neighbour::NeighbourState;
 use netlink_packet_route::request::dump;
 use netlink_packet_route::route::{RouteAddress, RouteAttribute, RouteMessage, RouteNextHop};
-use std::net::{IpAddr, Ipv4Addr, Ipv6Addr};
+use netlink_packet_route::{AddressFamily, Fault, RouteNetlinkMessage};
+use std::net::Ipv4Addr;
 
 /// A route to 192.0.2.0/24.
 fn route() -> RouteMessage {
@@ -35,19 +37,43 @@ fn requests_become_bytes() {
 }
 
 #[test]
-fn addresses_are_those_of_the_standard_library() {
-    use netlink_packet_route::net;
-    for ip in [
-        IpAddr::from(Ipv4Addr::LOCALHOST),
-        IpAddr::from(Ipv6Addr::LOCALHOST),
-    ] {
-        assert_eq!(IpAddr::from(net::IpAddr::from(ip)), ip);
+fn a_datagram_is_walked() {
+    let request = dump(7, route());
+    let mut datagram = request.to_bytes().expect("a request");
+    datagram.extend([17, 0, 0, 0, 26, 0, 0, 0, 0, 0, 0, 0, 0, 0, 0, 0, 2, 0, 0, 0]);
+    datagram.extend(request.to_bytes().expect("a request"));
+    datagram.push(0);
+    let found: Vec<_> = NetlinkMessage::<RouteNetlinkMessage>::all(&datagram).collect();
+    let short = DecodeError::HeaderTooShort { got: 1, want: 12 };
+    let end = EnvelopeError::MessageTooShort {
+        offset: 92,
+        left: 1,
+    };
+    assert_eq!(found.len(), 4);
+    for at in [0, 2] {
+        let message = found[at].as_ref().expect("the request");
+        let wanted = NetlinkPayload::InnerMessage(RouteNetlinkMessage::GetRoute(route()));
+        assert_eq!(message.payload, wanted);
     }
-    let address = RouteAddress::from(IpAddr::from(Ipv6Addr::LOCALHOST));
-    assert_eq!(
-        address,
-        RouteAddress::Inet6(net::Ipv6Addr::from(Ipv6Addr::LOCALHOST))
-    );
+    assert_eq!(found[1], Err(Fault::Message(short)));
+    assert_eq!(found[3], Err(Fault::Envelope(end)));
+}
+
+#[test]
+fn copies_are_equal_and_apart() {
+    let (first, mut second) = (route(), route().clone());
+    assert_eq!(first, second);
+    second.attributes.clear();
+    assert_ne!(first, second);
+}
+
+#[test]
+fn states_of_neighbours_are_numbers_and_names() {
+    assert_eq!(u16::from(NeighbourState::Stale), 4);
+    let two = NeighbourState::from(0x42);
+    assert_eq!(two, NeighbourState::Reachable | NeighbourState::Noarp);
+    let texts = [two, NeighbourState::None, NeighbourState::Failed].map(|s| s.to_string());
+    assert_eq!(texts, ["reachable | noarp", "none", "failed"]);
 }
 
 #[test]

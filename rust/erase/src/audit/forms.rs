@@ -1,7 +1,7 @@
 //! The written forms of what may be taken out and put in.
 
 use super::words::Word;
-use crate::LIBRARIES;
+use crate::{LIBRARIES, TESTS};
 
 /// What words may become which. A pattern is words with spaces between; `_` is any word, `()`, `[]`
 /// and `{}` are such brackets with what is in them, `<>` may be missing, and `..;` goes to the next
@@ -12,6 +12,8 @@ pub struct Form {
     before: String,
     taken: String,
     put: String,
+    /// What stands behind it.
+    after: String,
 }
 
 /// Words that no erased file has.
@@ -46,6 +48,11 @@ const TAKEN: &[(&str, &str, &str)] = &[
     ("derived Drop", ",", "Drop ,"),
     ("derived Drop", "derive (", "Drop ,"),
     ("derived Drop", "", ", Drop"),
+    (
+        "derived Debug of a set",
+        "derive ( Clone , Copy ,",
+        "Debug ,",
+    ),
     ("macro_export", "", "# [ macro_export ]"),
     ("writer parameter", "", "< W : fmt : : Write >"),
     ("writer parameter", "<", "W : fmt : : Write ,"),
@@ -59,6 +66,16 @@ const TAKEN: &[(&str, &str, &str)] = &[
 
 /// Changed: kind, words before, words, words in their place.
 const CHANGED: &[(&str, &str, &str, &str)] = &[
+    ("derived Drop -> Clone", "derive (", "Drop", "Clone"),
+    ("derived Drop -> Clone", ",", "Drop", "Clone"),
+    ("call of a set", ".", "bits", "bits_in"),
+    ("call of a set", ".", "contains", "contains_in"),
+    (
+        "call of a set",
+        ": :",
+        "from_bits_retain",
+        "from_bits_retain_in",
+    ),
     ("bound Drop -> Sized", ":", "Drop", "Sized"),
     ("bound Drop -> Sized", "+", "Drop", "Sized"),
     ("Formatter<W> -> Formatter<'_>", "Formatter <", "W", "'_"),
@@ -104,7 +121,92 @@ const CHANGED: &[(&str, &str, &str, &str)] = &[
         "use of memory",
         ";",
         "",
-        "use crate : : memory : : { StringIn as _ , VecIn as _ } ;",
+        "use crate : : memory : : { SetIn as _ , StringIn as _ , VecIn as _ } ;",
+    ),
+    ("field of a set", "pub struct _ (", "", "pub ( crate )"),
+];
+
+/// The same in crates of tests.
+const CHANGED_IN_TESTS: &[(&str, &str, &str, &str)] = &[
+    ("runtime of a test", "(", "rt : HostRuntime", ""),
+    ("let of the runtime", "{", "", "let rt = HostRuntime ;"),
+    (
+        "mod of a program's tests",
+        "",
+        "# [ cfg ( test ) ] mod report ;",
+        "",
+    ),
+    (
+        "mod of a program's tests",
+        "",
+        "# [ cfg ( test ) ] mod shown ;",
+        "",
+    ),
+    (
+        "call in a test that takes memory",
+        ".",
+        "extend_from_slice",
+        "extend_from_slice_in",
+    ),
+    (
+        "call in a test that takes memory",
+        ".",
+        "push_str",
+        "push_str_in",
+    ),
+    (
+        "call in a test that takes memory",
+        ".",
+        "to_vec",
+        "copied_in",
+    ),
+    (
+        "call in a test that takes memory",
+        "String : :",
+        "new",
+        "new_within",
+    ),
+    (
+        "call in a test that takes memory",
+        "",
+        "format",
+        "crate : : testing : : formatted",
+    ),
+    (
+        "call in a test that takes memory",
+        "",
+        "vec",
+        "crate : : testing : : list",
+    ),
+    ("path of std::test", "", "std : : test", "crate : : testing"),
+    ("path of hex", "", "hex", "crate : : testing : : hex"),
+    ("use of testing", ";", "", "use crate : : testing : : * ;"),
+];
+
+/// Put in front: kind, words, words behind them.
+const IN_FRONT: &[(&str, &str, &str)] = &[
+    (
+        "non_exhaustive",
+        "# [ cfg_attr ( not ( exhaustive ) , non_exhaustive ) ]",
+        "pub enum _",
+    ),
+    (
+        "non_exhaustive",
+        "# [ cfg_attr ( not ( exhaustive ) , non_exhaustive ) ]",
+        "pub struct _",
+    ),
+    ("inline", "# [ inline ]", "fn _"),
+    ("inline", "# [ inline ]", "const fn _"),
+    ("inline", "# [ inline ]", "final fn _"),
+    ("inline", "# [ inline ]", "pub fn _"),
+    ("inline", "# [ inline ]", "pub final fn _"),
+    ("inline", "# [ inline ]", "pub const fn _"),
+    ("inline", "# [ inline ]", "pub ( crate ) fn _"),
+    ("inline", "# [ inline ]", "pub ( crate ) const fn _"),
+    (
+        "derived Debug in tests",
+        "# [ cfg_attr ( test , derive ( Debug ) ) ]",
+        "pub struct _ ( _ ) ;",
     ),
 ];
 
@@ -115,10 +217,17 @@ pub fn forms(library: &str) -> Vec<Form> {
         before: before.into(),
         taken: taken.into(),
         put: put.into(),
+        after: String::new(),
     };
-    let own = format!("{library} : :");
-    let mut all: Vec<Form> = CHANGED.iter().map(|f| form(f.0, f.1, f.2, f.3)).collect();
+    let (own, is_test) = (format!("{library} : :"), TESTS.contains(&library));
+    let of_tests = CHANGED_IN_TESTS.iter().filter(|_| is_test);
+    let changed = of_tests.chain(CHANGED);
+    let mut all: Vec<Form> = changed.map(|f| form(f.0, f.1, f.2, f.3)).collect();
     all.extend(TAKEN.iter().map(|f| form(f.0, f.1, f.2, "")));
+    all.extend(IN_FRONT.iter().map(|f| Form {
+        after: f.2.into(),
+        ..form(f.0, "", "", f.1)
+    }));
     all.push(form("path of its own crate", "crate : :", "", &own));
     all.push(form(
         "use of a macro in lib",
@@ -128,6 +237,12 @@ pub fn forms(library: &str) -> Vec<Form> {
     ));
     all.extend(
         LIBRARIES.map(|name| form("path of a library", "", name, &format!("crate : : {name}"))),
+    );
+    all.extend(
+        TESTS
+            .iter()
+            .filter(|_| is_test)
+            .map(|name| form("path of tests", "", name, &format!("crate : : {name}"))),
     );
     all
 }
@@ -149,12 +264,14 @@ impl Form {
             return (at == was.len()).then_some((at, behind(&self.put, is, to)?));
         }
         let (end, put) = (behind(&self.taken, was, at)?, behind(&self.put, is, to)?);
-        let of = if self.taken.is_empty() {
-            at.checked_sub(1)?
-        } else {
-            at
+        behind(&self.after, was, end)?;
+        let line = |word: usize| was.get(word).map(|w| w.line);
+        let beside = match (self.taken.is_empty(), self.after.is_empty()) {
+            (true, true) => [at.checked_sub(1).and_then(line); 2],
+            (true, false) => [at.checked_sub(1).and_then(line), line(at)],
+            _ => [line(at); 2],
         };
-        let stands = is[to..put].iter().all(|w| w.line == was[of].line);
+        let stands = is[to..put].iter().all(|w| beside.contains(&Some(w.line)));
         stands.then_some((end, put))
     }
 }

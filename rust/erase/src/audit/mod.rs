@@ -4,15 +4,16 @@
 mod forms;
 mod words;
 
-use crate::{Fault, LIBRARIES, Tally, read, sources, target};
+use crate::upstream::{USE_OF_ADDRESSES, has_addresses};
+use crate::{Fault, Tally, read, sources, target};
 use forms::{Form, NEVER, forms};
 use std::path::Path;
 use words::{Word, words};
 
 /// Fails on a difference that no form says, and on counts other than those told.
-pub fn audit(crates: &Path, out: &Path, told: &Tally) -> Result<(), Fault> {
+pub fn audit(crates: &Path, out: &Path, some: &[&str], told: &Tally) -> Result<(), Fault> {
     let mut found = Tally::new();
-    for library in LIBRARIES {
+    for library in some {
         for path in sources(crates, library)? {
             let (was, is) = (read(&path)?, read(&target(out, library, &path))?);
             for (kind, count) in audit_text(&path.to_string_lossy(), library, &was, &is)? {
@@ -32,11 +33,30 @@ pub fn audit(crates: &Path, out: &Path, told: &Tally) -> Result<(), Fault> {
 
 /// How often each kind of difference stands between a file of a library and its erased one.
 pub fn audit_text(path: &str, library: &str, was: &str, is: &str) -> Result<Tally, Fault> {
+    if has_addresses(library, path) {
+        return addresses(path, is);
+    }
     let mut tally = Tally::new();
     for kind in differences(path, was, is, &forms(library))? {
         *tally.entry(kind).or_default() += 1;
     }
     Ok(tally)
+}
+
+/// In the place of the file stands one line.
+fn addresses(path: &str, is: &str) -> Result<Tally, Fault> {
+    match words(is)
+        .iter()
+        .map(|w| w.text)
+        .eq(words(USE_OF_ADDRESSES).iter().map(|w| w.text))
+    {
+        true => Ok([("addresses of std", 1)].into()),
+        false => Err(Fault::new(
+            path,
+            0,
+            "more is left than the standard library's addresses",
+        )),
+    }
 }
 
 /// The kind of each difference.

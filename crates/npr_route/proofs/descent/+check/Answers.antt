@@ -7,7 +7,7 @@ use Rattle.npr_base.proofs.Joined.{joined-more}
 use Rattle.npr_base.specs.ListLaws.{length-encoding}
 use Rattle.npr_route.specs.Attribute.{meaning_unfit, shape_of}
 use Rattle.npr_route.specs.AttributeView.{meaning_of, attribute_item, attribute_unfit, next_hop_bytes, next_hop_unfit}
-use Rattle.npr_route.proofs.Views.{hop-unfit, hop_checked, multi_path-checked}
+use Rattle.npr_route.proofs.Views.{hop_unchecked, hop_checked, multi_path-checked}
 use Rattle.npr_route.proofs.descent.+check.Goals as goal
 
 pub check_attributes-loop-attribute-preserved : goal.check_attributes-loop-attribute-preserved
@@ -31,7 +31,7 @@ pub check_hop-returns-in_err-inside : goal.check_hop-returns-in_err-inside
 check_hop-returns-in_err-inside t c =
     let p = err_from_is_err_and c.from_residual.result c.from_residual.ensures.1 in
     let is = sym c.in_err-inside.was ∙ c.check_attributes.ensures in
-    p.1 ∙ ap Err p.2 ∙ hop-unfit c.args.hop.now c.in_err-inside.field-0.0 (length (next_hop_bytes c.args.hop.now)) (rw c.as_slice.ensures.value at is)
+    p.1 ∙ ap Err p.2 ∙ hop_unchecked c.args.hop.now c.in_err-inside.field-0.0 (length (next_hop_bytes c.args.hop.now)) (rw c.as_slice.ensures.value at is)
 
 pub check_hop-returns : goal.check_hop-returns
 check_hop-returns t c =

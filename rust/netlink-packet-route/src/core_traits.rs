@@ -1,0 +1,240 @@
+//! The traits of `netlink-packet-core` 0.8, written by hand: each line is one call of the proved text.
+//! Its lengths can't fail, so each asks that the value can be written, and panics else.
+
+use crate::framing::{self, Attribute, EmitError, Header, Looks, Message, NlaBuffer, marked_kind};
+use crate::memory::Global;
+use crate::route::RouteProtocol;
+use crate::{AddressFamily, RouteNetlinkMessage, address, envelope, neighbour, route, rule};
+use netlink_packet_core as core;
+
+fn length(checked: Result<usize, EmitError>) -> usize {
+    checked.unwrap_or_else(|cause| panic!("it can't be written: {cause}"))
+}
+
+impl From<framing::DecodeError> for core::DecodeError {
+    fn from(cause: framing::DecodeError) -> Self {
+        cause.to_string().into()
+    }
+}
+
+impl From<core::DefaultNla> for framing::DefaultNla {
+    fn from(nla: core::DefaultNla) -> Self {
+        let mut value = vec![0; core::Nla::value_len(&nla)];
+        core::Nla::emit_value(&nla, &mut value);
+        framing::DefaultNla::new(core::Nla::kind(&nla), value)
+    }
+}
+
+impl From<framing::DefaultNla> for core::DefaultNla {
+    fn from(nla: framing::DefaultNla) -> Self {
+        core::DefaultNla::new(framing::Nla::kind(&nla), nla.value().to_vec())
+    }
+}
+
+impl core::NetlinkSerializable for RouteNetlinkMessage {
+    fn message_type(&self) -> u16 {
+        envelope::NetlinkInner::message_type(self)
+    }
+
+    /// # Panics
+    /// Where the message can't be written.
+    fn buffer_len(&self) -> usize {
+        length(framing::Emitable::check(self))
+    }
+
+    fn serialize(&self, buffer: &mut [u8]) {
+        framing::Emitable::emit(self, buffer);
+    }
+}
+
+impl core::NetlinkDeserializable for RouteNetlinkMessage {
+    type Error = framing::DecodeError;
+
+    fn deserialize(header: &core::NetlinkHeader, payload: &[u8]) -> Result<Self, Self::Error> {
+        let header = envelope::NetlinkHeader {
+            length: header.length,
+            message_type: header.message_type,
+            flags: header.flags,
+            sequence_number: header.sequence_number,
+            port_number: header.port_number,
+        };
+        envelope::NetlinkInner::deserialize(Global, &header, payload)
+    }
+}
+
+impl From<RouteNetlinkMessage> for core::NetlinkPayload<RouteNetlinkMessage> {
+    fn from(message: RouteNetlinkMessage) -> Self {
+        core::NetlinkPayload::InnerMessage(message)
+    }
+}
+
+impl<H: Header> core::Parseable<[u8]> for Message<H, H::Attribute> {
+    fn parse(bytes: &[u8]) -> Result<Self, core::DecodeError> {
+        Ok(Self::try_from(bytes)?)
+    }
+}
+
+impl core::Parseable<[u8]> for RouteProtocol {
+    fn parse(bytes: &[u8]) -> Result<Self, core::DecodeError> {
+        Ok(RouteProtocol::parse(bytes)?)
+    }
+}
+
+/// What the attributes of a next hop are read in.
+type HopContext = (AddressFamily, route::RouteType, route::RouteLwEnCapType);
+
+impl core::ParseableParametrized<[u8], HopContext> for route::RouteNextHop {
+    fn parse_with_param(bytes: &[u8], context: HopContext) -> Result<Self, core::DecodeError> {
+        let parse = framing::ParseableParametrized::parse_with_param;
+        Ok(parse(Global, bytes, context)?)
+    }
+}
+
+/// A value that is written as bytes.
+macro_rules! emitable {
+    ($([$($params:tt)*] $value:ty;)*) => {$(
+        impl<$($params)*> core::Emitable for $value {
+            /// # Panics
+            /// Where the value can't be written.
+            fn buffer_len(&self) -> usize {
+                length(framing::Emitable::check(self))
+            }
+
+            fn emit(&self, buffer: &mut [u8]) {
+                framing::Emitable::emit(self, buffer);
+            }
+        }
+    )*};
+}
+emitable! {
+    [H: Header] Message<H, H::Attribute>;
+    [] address::AddressHeader;
+    [] address::CacheInfo;
+    [] neighbour::NeighbourAddress;
+    [] neighbour::NeighbourCacheInfo;
+    [] neighbour::NeighbourHeader;
+    [] route::MplsLabel;
+    [] route::RouteAddress;
+    [] route::RouteCacheInfo;
+    [] route::RouteHeader;
+    [] route::RouteLwEnCapType;
+    [] route::RouteMfcStats;
+    [] route::RouteNextHop;
+    [] route::RouteProtocol;
+    [] route::RouteRealm;
+    [] route::RouteVia;
+    [] rule::RuleHeader;
+    [] rule::RulePortRange;
+    [] rule::RuleUidRange;
+}
+
+/// A value that is written as an attribute, whose frame is that of the other crate.
+macro_rules! nla {
+    ($($attribute:ty;)*) => {$(
+        impl core::Nla for $attribute {
+            /// # Panics
+            /// Where the value can't be written.
+            fn value_len(&self) -> usize {
+                length(framing::Nla::check_value(self))
+            }
+
+            fn kind(&self) -> u16 {
+                framing::Nla::kind(self)
+            }
+
+            fn emit_value(&self, buffer: &mut [u8]) {
+                framing::Nla::emit_value(self, buffer);
+            }
+
+            fn is_nested(&self) -> bool {
+                let kind = marked_kind(framing::Nla::kind(self), framing::Nla::is_nested(self));
+                kind & framing::NLA_F_NESTED != 0
+            }
+        }
+    )*};
+}
+
+/// An attribute under the other crate's buffer, in its context.
+fn read<A: Attribute, T: AsRef<[u8]> + ?Sized>(
+    buffer: &core::NlaBuffer<&T>,
+    context: A::Context,
+) -> Result<A, core::DecodeError> {
+    let item = NlaBuffer::new_checked(buffer.into_inner().as_ref())?;
+    Ok(A::read(Global, context, &item, &mut Looks::new())?)
+}
+
+/// Attributes that are read in a context.
+macro_rules! under_context {
+    ($($attribute:ty, $context:ty;)*) => {$(
+        nla!($attribute;);
+
+        impl<'a, T: AsRef<[u8]> + ?Sized>
+            core::ParseableParametrized<core::NlaBuffer<&'a T>, $context> for $attribute
+        {
+            fn parse_with_param(
+                buffer: &core::NlaBuffer<&'a T>,
+                context: $context,
+            ) -> Result<Self, core::DecodeError> {
+                read(buffer, context)
+            }
+        }
+    )*};
+}
+
+/// Attributes that are read in none.
+macro_rules! alone {
+    ($($attribute:ty;)*) => {$(
+        nla!($attribute;);
+
+        impl<'a, T: AsRef<[u8]> + ?Sized> core::Parseable<core::NlaBuffer<&'a T>> for $attribute {
+            fn parse(buffer: &core::NlaBuffer<&'a T>) -> Result<Self, core::DecodeError> {
+                read(buffer, ())
+            }
+        }
+    )*};
+}
+
+/// Headers that are read of an attribute's value.
+macro_rules! headers {
+    ($($header:ty;)*) => {$(
+        nla!($header;);
+
+        impl<'a, T: AsRef<[u8]> + ?Sized> core::Parseable<core::NlaBuffer<&'a T>> for $header {
+            fn parse(buffer: &core::NlaBuffer<&'a T>) -> Result<Self, core::DecodeError> {
+                let item = NlaBuffer::new_checked(buffer.into_inner().as_ref())?;
+                Ok(framing::Parseable::parse(Global, &item)?)
+            }
+        }
+    )*};
+}
+
+nla! {
+    framing::DefaultNla;
+    route::Seg6Header;
+}
+headers! {
+    route::Ioam6TraceHdr;
+    route::RplSrh;
+    route::Seg6LocalSrh;
+}
+under_context! {
+    neighbour::NeighbourAttribute, AddressFamily;
+    route::RouteAttribute, HopContext;
+    route::RouteLwTunnelEncap, route::RouteLwEnCapType;
+}
+alone! {
+    address::AddressAttribute;
+    route::RouteErspanOpt;
+    route::RouteIoam6Tunnel;
+    route::RouteIp6Tunnel;
+    route::RouteIpTunnel;
+    route::RouteLwTunnelOpt;
+    route::RouteMetric;
+    route::RouteMplsIpTunnel;
+    route::RouteRplIpTunnel;
+    route::RouteSeg6IpTunnel;
+    route::RouteSeg6LocalTunnel;
+    route::RouteVxlanOpt;
+    route::RouteXfrmTunnel;
+    rule::RuleAttribute;
+}
