@@ -1,0 +1,22 @@
+-- What an address family says of a link (linux/socket.h, AF_*), by the table.
+use Rattle.npr_base.specs.declared.refusal.AttrFamily.TheVariants.{Value as AtAfSpec}
+use Rattle.npr_base.specs.Tables.{EnumTable, table_of, row, others, ◌or◌, list_of, listed, value, refl, Reading, Family, writing_of, attributes_of, family_of_table}
+use Rattle.npr_link.specs.AfSpecInet as OfAfSpecInet
+use Rattle.npr_link.specs.AfSpecInet6 as OfAfSpecInet6
+use Rattle.npr_link.specs.contracts.af_spec.AfSpecUnspec.{enum}
+use Rattle.npr_link.specs.declared.af_spec.AfSpecUnspec.{AfSpecUnspec}
+
+-- the table, in the order of the variants
+abbrev pub table : EnumTable enum
+table =
+    table_of enum (
+    row AtAfSpec 2 (list_of OfAfSpecInet.attributes) (listed OfAfSpecInet.family.meaning AfSpecUnspec.Inet)  -- AF_INET
+    or row AtAfSpec 10 (list_of OfAfSpecInet6.attributes) (listed OfAfSpecInet6.family.meaning AfSpecUnspec.Inet6)  -- AF_INET6
+    or others (value AfSpecUnspec.Other)) refl refl
+
+-- the family
+unfoldable pub attributes : Reading (writing_of table)
+attributes = attributes_of table
+
+abbrev pub family : Family AfSpecUnspec (Unit {0})
+family = family_of_table table (λ c. attributes)

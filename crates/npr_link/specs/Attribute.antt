@@ -1,0 +1,169 @@
+-- The attributes of a link message (linux/if_link.h, IFLA_*), by their table under the header's family.
+use Rattle.npr_base.specs.declared.refusal.AttrFamily.TheVariants.{Value as AtAttribute}
+use Rattle.std.specs.Prelude.{List, drop, map}
+use Rattle.std.proofs.Common.{◌≡◌, inl, inr}
+use Rattle.npr_base.specs.declared.address_family.AddressFamily.{AddressFamily}
+use Rattle.npr_base.specs.Counts.{Counts}
+use Rattle.npr_base.specs.declared.refusal.DecodeError.{DecodeError}
+use Rattle.npr_base.specs.EnumTable.{VariantRows, Names, MeaningIn, ReadsIn, WrongIn, looks_in}
+use Rattle.npr_base.specs.EnumTableLaws.{writing_in, attributes_in, rewritten}
+use Rattle.npr_base.specs.Family.{Writing, family_of}
+use Rattle.npr_base.specs.Framing.{Item, number_of}
+use Rattle.npr_base.specs.Tables.{marked_row, row, others, ◌or◌, boolean, byte, exactly, items, le16, le32, leading, list_of, listed, name, raw, seen}
+use Rattle.npr_base.specs.Tables.{signed32, text, value, refl, Reading, Family}
+use Rattle.npr_link.specs.AfSpec as OfAfSpec
+use Rattle.npr_link.specs.AfSpecs.{AfSpecs, Form, as_list, form_of, unspec, unknown, af_specs}
+use Rattle.npr_link.specs.ExtentMask.{extent_mask}
+use Rattle.npr_link.specs.Info as OfInfo
+use Rattle.npr_link.specs.InfoList.{info_list}
+use Rattle.npr_link.specs.LinkEvent.{link_event}
+use Rattle.npr_link.specs.LinkMode.{link_mode}
+use Rattle.npr_link.specs.Map.{device_map}
+use Rattle.npr_link.specs.Numbers.{words32, words64}
+use Rattle.npr_link.specs.Prop as OfProp
+use Rattle.npr_link.specs.ProtocolDown as OfProtocolDown
+use Rattle.npr_link.specs.SharedRow.{SharedTable, first_of, shared_meaning}
+use Rattle.npr_link.specs.State.{state}
+use Rattle.npr_link.specs.Uint.{uint}
+use Rattle.npr_link.specs.Xdp as OfXdp
+use Rattle.npr_link.specs.contracts.attribute.LinkAttribute.{enum}
+use Rattle.npr_link.specs.declared.attribute.LinkAttribute.{LinkAttribute}
+use denote.Struct.Field.{Field}
+
+-- the variants but the first
+abbrev pub later : List (List Field)
+later = drop 1 enum.parts
+
+-- those that stand for themselves
+abbrev pub flat : List (List Field)
+flat = drop 3 enum.parts
+
+-- their rows, in the order of the variants
+abbrev pub flat_rows : VariantRows flat × Names LinkAttribute flat
+flat_rows =
+    row AtAttribute 1 raw (items LinkAttribute.Address)  -- IFLA_ADDRESS
+    or row AtAttribute 2 raw (items LinkAttribute.Broadcast)  -- IFLA_BROADCAST
+    or row AtAttribute 3 name (text LinkAttribute.IfName)  -- IFLA_IFNAME
+    or row AtAttribute 4 (exactly le32) (value LinkAttribute.Mtu)  -- IFLA_MTU
+    or row AtAttribute 5 (exactly le32) (value LinkAttribute.Link)  -- IFLA_LINK
+    or row AtAttribute 6 name (text LinkAttribute.Qdisc)  -- IFLA_QDISC
+    or row AtAttribute 7 words32 (seen (λ x. x.numbers.items) LinkAttribute.Stats)  -- IFLA_STATS
+    or row AtAttribute 10 (exactly le32) (value LinkAttribute.Controller)  -- IFLA_MASTER
+    or row AtAttribute 13 (exactly le32) (value LinkAttribute.TxQueueLen)  -- IFLA_TXQLEN
+    or row AtAttribute 14 (leading device_map) (value LinkAttribute.Map)  -- IFLA_MAP
+    or row AtAttribute 16 (exactly state) (value LinkAttribute.OperState)  -- IFLA_OPERSTATE
+    or row AtAttribute 17 (exactly link_mode) (value LinkAttribute.Mode)  -- IFLA_LINKMODE
+    or row AtAttribute 19 (exactly le32) (value LinkAttribute.NetNsPid)  -- IFLA_NET_NS_PID
+    or row AtAttribute 20 name (text LinkAttribute.IfAlias)  -- IFLA_IFALIAS
+    or row AtAttribute 21 (exactly le32) (value LinkAttribute.NumVf)  -- IFLA_NUM_VF
+    or row AtAttribute 23 words64 (seen (λ x. x.numbers.items) LinkAttribute.Stats64)  -- IFLA_STATS64
+    or row AtAttribute 27 (exactly le32) (value LinkAttribute.Group)  -- IFLA_GROUP
+    or row AtAttribute 28 (exactly signed32) (value LinkAttribute.NetNsFd)  -- IFLA_NET_NS_FD
+    or row AtAttribute 29 (exactly extent_mask) (value LinkAttribute.ExtMask)  -- IFLA_EXT_MASK
+    or row AtAttribute 30 (exactly le32) (value LinkAttribute.Promiscuity)  -- IFLA_PROMISCUITY
+    or row AtAttribute 31 (exactly le32) (value LinkAttribute.NumTxQueues)  -- IFLA_NUM_TX_QUEUES
+    or row AtAttribute 32 (exactly le32) (value LinkAttribute.NumRxQueues)  -- IFLA_NUM_RX_QUEUES
+    or row AtAttribute 33 (exactly byte) (value LinkAttribute.Carrier)  -- IFLA_CARRIER
+    or row AtAttribute 34 raw (items LinkAttribute.PhysPortId)  -- IFLA_PHYS_PORT_ID
+    or row AtAttribute 35 (exactly le32) (value LinkAttribute.CarrierChanges)  -- IFLA_CARRIER_CHANGES
+    or row AtAttribute 36 raw (items LinkAttribute.PhysSwitchId)  -- IFLA_PHYS_SWITCH_ID
+    or row AtAttribute 37 (exactly signed32) (value LinkAttribute.LinkNetNsId)  -- IFLA_LINK_NETNSID
+    or row AtAttribute 38 name (text LinkAttribute.PhysPortName)  -- IFLA_PHYS_PORT_NAME
+    or row AtAttribute 39 (exactly byte) (value LinkAttribute.ProtoDown)  -- IFLA_PROTO_DOWN
+    or row AtAttribute 40 (exactly le32) (value LinkAttribute.GsoMaxSegs)  -- IFLA_GSO_MAX_SEGS
+    or row AtAttribute 41 (exactly le32) (value LinkAttribute.GsoMaxSize)  -- IFLA_GSO_MAX_SIZE
+    or row AtAttribute 43 (list_of OfXdp.attributes) (listed OfXdp.family.meaning LinkAttribute.Xdp)  -- IFLA_XDP
+    or row AtAttribute 44 (exactly link_event) (value LinkAttribute.Event)  -- IFLA_EVENT
+    or row AtAttribute 45 (exactly signed32) (value LinkAttribute.NewNetnsId)  -- IFLA_NEW_NETNSID
+    or row AtAttribute 46 (exactly signed32) (value LinkAttribute.IfNetnsId)  -- IFLA_IF_NETNSID
+    or row AtAttribute 47 (exactly le32) (value LinkAttribute.CarrierUpCount)  -- IFLA_CARRIER_UP_COUNT
+    or row AtAttribute 48 (exactly le32) (value LinkAttribute.CarrierDownCount)  -- IFLA_CARRIER_DOWN_COUNT
+    or row AtAttribute 49 (exactly signed32) (value LinkAttribute.NewIfIndex)  -- IFLA_NEW_IFINDEX
+    or row AtAttribute 50 (exactly le32) (value LinkAttribute.MinMtu)  -- IFLA_MIN_MTU
+    or row AtAttribute 51 (exactly le32) (value LinkAttribute.MaxMtu)  -- IFLA_MAX_MTU
+    or marked_row AtAttribute 52 (list_of OfProp.attributes) (listed OfProp.family.meaning LinkAttribute.PropList)  -- IFLA_PROP_LIST
+    or row AtAttribute 53 name (text LinkAttribute.AltIfName)  -- IFLA_ALT_IFNAME
+    or row AtAttribute 54 raw (items LinkAttribute.PermAddress)  -- IFLA_PERM_ADDRESS
+    or marked_row AtAttribute 55 (list_of OfProtocolDown.attributes) (listed OfProtocolDown.family.meaning LinkAttribute.ProtoDownReason)  -- IFLA_PROTO_DOWN_REASON
+    or row AtAttribute 56 name (text LinkAttribute.ParentDevName)  -- IFLA_PARENT_DEV_NAME
+    or row AtAttribute 57 name (text LinkAttribute.ParentDevBusName)  -- IFLA_PARENT_DEV_BUS_NAME
+    or row AtAttribute 58 (exactly le32) (value LinkAttribute.GroMaxSize)  -- IFLA_GRO_MAX_SIZE
+    or row AtAttribute 59 (exactly le32) (value LinkAttribute.TsoMaxSize)  -- IFLA_TSO_MAX_SIZE
+    or row AtAttribute 60 (exactly le32) (value LinkAttribute.TsoMaxSegs)  -- IFLA_TSO_MAX_SEGS
+    or row AtAttribute 61 (exactly le32) (value LinkAttribute.AllMulti)  -- IFLA_ALLMULTI
+    or row AtAttribute 63 (exactly le32) (value LinkAttribute.GsoIpv4MaxSize)  -- IFLA_GSO_IPV4_MAX_SIZE
+    or row AtAttribute 64 (exactly le32) (value LinkAttribute.GroIpv4MaxSize)  -- IFLA_GRO_IPV4_MAX_SIZE
+    or row AtAttribute 66 uint (value LinkAttribute.MaxPacingOffloadHorizon)  -- IFLA_MAX_PACING_OFFLOAD_HORIZON
+    or row AtAttribute 67 (exactly boolean) (value LinkAttribute.NetnsImmutable)  -- IFLA_NETNS_IMMUTABLE
+    or row AtAttribute 68 (exactly le16) (value LinkAttribute.Headroom)  -- IFLA_HEADROOM
+    or row AtAttribute 69 (exactly le16) (value LinkAttribute.Tailroom)  -- IFLA_TAILROOM
+    or others (value LinkAttribute.Other)
+
+-- all rows; the first variant, a list of what address families say, has the number of the second
+abbrev pub rows : Form → VariantRows later × Names LinkAttribute later
+rows form =
+    row AtAttribute 26 (af_specs form) (λ f. unknown f.0.items, λ f. LinkAttribute.AfSpecUnknown f.0)  -- IFLA_AF_SPEC
+    or row AtAttribute 18 info_list (listed OfInfo.family.meaning LinkAttribute.LinkInfo)  -- IFLA_LINKINFO
+    or flat_rows
+
+abbrev pub table : Form → SharedTable (first_of enum.parts) later enum.as_values
+table form = record {
+  rows = (rows form).0;
+  first = λ f. inl (unspec (map OfAfSpec.family.meaning f.0.items));
+  names = (λ f. LinkAttribute.AfSpecUnspec f.0, (rows form).1);
+  apart = refl;
+  named = refl;
+}
+
+-- what an attribute is, without where it lies in memory
+abbrev pub Meaning : Type 0
+Meaning = MeaningIn later (rows as_list).0
+
+-- how each is written, whatever the family of the header
+abbrev pub writing : Writing Meaning
+writing = writing_in later (rows as_list).0
+
+pub shapes : (form : Form) (m : Meaning) → writing.shape m ≡ (writing_in later (rows form).0).shape m
+shapes form (inl x) = refl
+shapes form (inr m) = refl
+
+pub members : (form : Form) (m : Meaning) → writing.members m ≡ (writing_in later (rows form).0).members m
+members form (inl x) = refl
+members form (inr m) = refl
+
+-- the family, under an address family
+abbrev pub attributes : AddressFamily → Reading writing
+attributes family =
+    let form = form_of family in
+    rewritten (attributes_in later (rows form).0 (table form).apart) writing (shapes form) (members form)
+
+-- what a value means
+abbrev pub meaning : LinkAttribute → Meaning
+meaning = shared_meaning (table as_list)
+
+abbrev pub family : Family LinkAttribute AddressFamily
+family = family_of meaning attributes
+
+-- ---- of the rows that stand for themselves: what an attribute means by them, why it means nothing, and the looks that it takes
+
+abbrev pub FlatReads : Item → Meaning → Type 0
+FlatReads x (inr (inr m)) = ReadsIn flat flat_rows.0 (number_of x.kind) x m
+FlatReads x m = ⊥
+
+unfoldable pub IsFlat : Item → LinkAttribute → Type 0
+IsFlat x a = FlatReads x (meaning a)
+
+unfoldable pub FlatFault : Item → DecodeError → Type 0
+FlatFault x e = WrongIn flat flat_rows.0 (number_of x.kind) x e
+
+unfoldable pub FlatLooks : Item → Counts → Counts → Type 0
+FlatLooks x old new = (looks_in flat flat_rows.0).Takes x old new
+
+-- ---- and of the first: what address families say is meant
+
+unfoldable pub MeansAfSpecs : LinkAttribute → AfSpecs → Type 0
+MeansAfSpecs a x = meaning a ≡ inl x
+
+-- and what a driver says
+unfoldable pub MeansInfo : LinkAttribute → List OfInfo.Meaning → Type 0
+MeansInfo a x = meaning a ≡ inr (inl x)

@@ -1,0 +1,36 @@
+-- The kind of a link, by its name (linux/if_link.h, IFLA_INFO_KIND).
+use Rattle.std.specs.Prelude.{ℕ, List, [], ◌∷◌, map, codes, if◌then◌else◌}
+use Rattle.std.specs.Str.{bytes_eq}
+use Rattle.std.specs.String.{string_bytes}
+use Rattle.npr_base.specs.Codec.{Codec}
+use Rattle.npr_base.specs.Rows.{at_variant}
+use Rattle.npr_link.specs.Kinds.{Kind, known, other, kind_codec}
+use Rattle.npr_link.specs.declared.info_kind.InfoKind.{InfoKind}
+use Rattle.npr_link.specs.declared.info_kind.InfoForm.{InfoForm}
+use Rattle.npr_link.specs.declared.info_kind.InfoForm.TheVariants.{Bridge, Vlan, Veth, Vrf, Kept}
+use Rattle.npr_link.specs.contracts.info_kind.InfoKind.{enum}
+
+-- in the order of the variants
+abbrev pub info_kind_names : List (List ℕ)
+info_kind_names =
+    codes "dummy" ∷ codes "ifb" ∷ codes "bridge" ∷ codes "tun" ∷ codes "nlmon" ∷ codes "vlan" ∷ codes "veth"
+    ∷ codes "vxlan" ∷ codes "bond" ∷ codes "ipvlan" ∷ codes "ipvtap" ∷ codes "macvlan" ∷ codes "macvtap" ∷ codes "gretap"
+    ∷ codes "ip6gretap" ∷ codes "ipip" ∷ codes "ip6tnl" ∷ codes "sit" ∷ codes "gre" ∷ codes "ip6gre" ∷ codes "vti"
+    ∷ codes "vrf" ∷ codes "gtp" ∷ codes "ipoib" ∷ codes "wireguard" ∷ codes "xfrm" ∷ codes "macsec" ∷ codes "hsr"
+    ∷ codes "geneve" ∷ codes "netkit" ∷ []
+
+-- a kind, without where its name lies in memory
+abbrev pub info_kind_of : InfoKind → Kind
+info_kind_of x = at_variant enum (other []) (map known info_kind_names) (λ f. other (string_bytes f.0)) x
+
+abbrev pub info_kind : Codec Kind
+info_kind = kind_codec info_kind_names
+
+-- what governs data under a kind of this name
+abbrev pub form_named : List ℕ → InfoForm
+form_named text =
+    if bytes_eq text (codes "bridge") then Bridge
+    else if bytes_eq text (codes "vlan") then Vlan
+    else if bytes_eq text (codes "veth") then Veth
+    else if bytes_eq text (codes "vrf") then Vrf
+    else Kept

@@ -1,0 +1,73 @@
+//! What an address family says of a link: `AF_*` of `linux/socket.h`.
+
+ghost use Rattle.std.specs.Prelude.{refl};
+ghost use Rattle.{npr_base.specs.Family.{shaped}, npr_link.specs.AfSpec.{family}};
+
+use crate::af_spec_inet::AfSpecInet;
+use crate::af_spec_inet6::AfSpecInet6;
+use npr_base::{Attribute, DecodeError, DefaultNla, EmitError, Looks, Nla, NlaBuffer, Place};
+use std::alloc::{AllocError, Global};
+
+/// What an address family says of a link.
+#[derive(Debug, Drop, PartialEq, Eq)]
+pub enum AfSpecUnspec {
+    /// `AF_INET`: IP version 4.
+    Inet(Vec<AfSpecInet>),
+    /// `AF_INET6`: IP version 6.
+    Inet6(Vec<AfSpecInet6>),
+    /// An attribute of another number, as it stands.
+    Other(DefaultNla),
+}
+
+/// The rows of the table.
+macro_rules! rows {
+    ($body:ident ($($given:tt)*)) => {
+        npr_base::$body!(($($given)*) AfSpecUnspec of Value {
+            2 Inet(list);
+            10 Inet6(list);
+        })
+    };
+}
+
+impl Nla for AfSpecUnspec {
+    ghost shape = { shaped family };
+
+    fn kind(&self) -> u16 {
+        rows!(kind_rows(self))
+    }
+
+    fn is_nested(&self) -> bool {
+        false
+    }
+
+    fn check_value(&self) -> Result<usize, EmitError> {
+        Ok(rows!(len_rows(self)))
+    }
+
+    fn write_value(&self, out: &mut [u8]) -> usize {
+        rows!(write_rows(self, out))
+    }
+}
+
+impl Attribute for AfSpecUnspec {
+    type Context = ();
+
+    ghost family = { family };
+
+    ghost shape_is = { λ a. refl };
+
+    #[tactic(auto, unfolding(crate::specs::AfSpec::attributes))]
+    fn read_into<P: Place<Self>>(
+        place: &mut P,
+        alloc: Global,
+        _context: (),
+        item: &NlaBuffer<'_>,
+        looks: &mut Looks,
+    ) -> Result<(), DecodeError> {
+        rows!(put_rows(place, alloc, item, looks))
+    }
+
+    fn try_clone(&self, alloc: Global) -> Result<Self, AllocError> {
+        rows!(clone_rows(self, alloc))
+    }
+}

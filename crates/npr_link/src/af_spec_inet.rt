@@ -1,0 +1,73 @@
+//! What IP version 4 says of a link: `IFLA_INET_*` of `linux/if_link.h`.
+
+ghost use Rattle.std.specs.Prelude.{refl};
+ghost use Rattle.{npr_base.specs.Family.{shaped}, npr_link.specs.AfSpecInet.{family}};
+
+use crate::dev_conf::InetDevConf;
+use crate::put_link_rows;
+use npr_base::{
+    Attribute, DecodeError, DefaultNla, EmitError, Looks, Nla, NlaBuffer, Place, clone_rows,
+    kind_rows, len_rows, write_rows,
+};
+use std::alloc::{AllocError, Global};
+
+/// What IP version 4 says of a link.
+#[derive(Debug, Drop, PartialEq, Eq)]
+pub enum AfSpecInet {
+    /// `IFLA_INET_CONF`: the settings.
+    DevConf(InetDevConf),
+    /// An attribute of another number, as it stands.
+    Other(DefaultNla),
+}
+
+/// The rows of the table.
+macro_rules! rows {
+    ($body:ident ($($given:tt)*)) => {
+        $body!(($($given)*) AfSpecInet of Value {
+            1 DevConf(InetDevConf value);
+        })
+    };
+}
+
+impl Nla for AfSpecInet {
+    ghost shape = { shaped family };
+
+    fn kind(&self) -> u16 {
+        rows!(kind_rows(self))
+    }
+
+    fn is_nested(&self) -> bool {
+        false
+    }
+
+    fn check_value(&self) -> Result<usize, EmitError> {
+        Ok(rows!(len_rows(self)))
+    }
+
+    fn write_value(&self, out: &mut [u8]) -> usize {
+        rows!(write_rows(self, out))
+    }
+}
+
+impl Attribute for AfSpecInet {
+    type Context = ();
+
+    ghost family = { family };
+
+    ghost shape_is = { λ a. refl };
+
+    #[tactic(auto, unfolding(crate::specs::AfSpecInet::attributes))]
+    fn read_into<P: Place<Self>>(
+        place: &mut P,
+        alloc: Global,
+        _context: (),
+        item: &NlaBuffer<'_>,
+        looks: &mut Looks,
+    ) -> Result<(), DecodeError> {
+        rows!(put_link_rows(place, alloc, item, looks))
+    }
+
+    fn try_clone(&self, alloc: Global) -> Result<Self, AllocError> {
+        rows!(clone_rows(self, alloc))
+    }
+}

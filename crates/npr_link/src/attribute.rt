@@ -1,0 +1,387 @@
+//! An attribute of a link message: `IFLA_*` of `linux/if_link.h`.
+
+ghost use Rattle.std.specs.Prelude.{◌≢◌, List, length, IfOk, IfErr};
+ghost use Rattle.{
+  npr_base.specs.{
+    declared.refusal.DecodeError.TheVariants.{OutOfMemory},
+    Counts.{AddsAtMost},
+    Looks.{Answered, TakesInside},
+    Refusal.{no_place},
+  },
+  npr_link.specs.{
+    AfSpecs.{AfSpecs, af_specs, form_of, as_list},
+    Attribute.{table, family, IsFlat, FlatFault, FlatLooks, MeansAfSpecs, MeansInfo},
+    Info.{Meaning as InfoMeaning},
+    InfoList.{info_list, InfoLooks},
+    SharedRow.{shared_shape, shared-shape},
+  },
+};
+
+use crate::af_spec::AfSpecUnspec;
+use crate::extent_mask::LinkExtentMask;
+use crate::info::LinkInfo;
+use crate::info_list::read_info;
+use crate::link_event::LinkEvent;
+use crate::link_mode::LinkMode;
+use crate::map::Map;
+use crate::prop::Prop;
+use crate::protocol_down::LinkProtocolDownReason;
+use crate::put_link_rows;
+use crate::state::State;
+use crate::stats::{Stats, Stats64};
+use crate::values::{read_uint, uint_len, write_uint};
+use crate::xdp::LinkXdp;
+use bitflags::Flags;
+use npr_base::{
+    AddressFamily, AttrFamily, Attribute, DecodeError, DefaultNla, EmitError, Looks, NLA_F_NESTED,
+    Nla, NlaBuffer, Place, check_list, clone_list, clone_rows, kind_rows, len_rows, parse_list,
+    put_read, read_bytes, write_bytes, write_list, write_rows,
+};
+use std::alloc::{AllocError, Global};
+
+/// An attribute of a link message. What address families say of it is a list or bytes as they stand, by
+/// the family of the message's header.
+#[derive(Debug, Drop, PartialEq, Eq)]
+pub enum LinkAttribute {
+    /// `IFLA_AF_SPEC`: what address families say of the link, where the header has no family, or that of IP.
+    AfSpecUnspec(Vec<AfSpecUnspec>),
+    /// `IFLA_AF_SPEC` under any other family, as it stands.
+    AfSpecUnknown(Vec<u8>),
+    /// `IFLA_LINKINFO`: what the driver says of the link.
+    LinkInfo(Vec<LinkInfo>),
+    /// `IFLA_ADDRESS`: the address on the link, as it stands.
+    Address(Vec<u8>),
+    /// `IFLA_BROADCAST`: the broadcast address on the link, as it stands.
+    Broadcast(Vec<u8>),
+    /// `IFLA_IFNAME`: the name.
+    IfName(String),
+    /// `IFLA_MTU`: the longest packet, in bytes.
+    Mtu(u32),
+    /// `IFLA_LINK`: the index of the link under it.
+    Link(u32),
+    /// `IFLA_QDISC`: the queueing discipline.
+    Qdisc(String),
+    /// `IFLA_STATS`: counters of 32 bits.
+    Stats(Stats),
+    /// `IFLA_MASTER`: the index of the link that controls it.
+    Controller(u32),
+    /// `IFLA_TXQLEN`: the length of the transmit queue, in packets.
+    TxQueueLen(u32),
+    /// `IFLA_MAP`: the resources of the device.
+    Map(Map),
+    /// `IFLA_OPERSTATE`: the operational state.
+    OperState(State),
+    /// `IFLA_LINKMODE`: what the link is up for.
+    Mode(LinkMode),
+    /// `IFLA_NET_NS_PID`: a process whose network namespace is meant.
+    NetNsPid(u32),
+    /// `IFLA_IFALIAS`: a text of the administrator's.
+    IfAlias(String),
+    /// `IFLA_NUM_VF`: how many virtual functions there are.
+    NumVf(u32),
+    /// `IFLA_STATS64`: counters of 64 bits.
+    Stats64(Stats64),
+    /// `IFLA_GROUP`: the group.
+    Group(u32),
+    /// `IFLA_NET_NS_FD`: a file descriptor of the network namespace that is meant.
+    NetNsFd(i32),
+    /// `IFLA_EXT_MASK`: what an answer is to say besides.
+    ExtMask(LinkExtentMask),
+    /// `IFLA_PROMISCUITY`: how many ask for all packets.
+    Promiscuity(u32),
+    /// `IFLA_NUM_TX_QUEUES`: how many transmit queues there are.
+    NumTxQueues(u32),
+    /// `IFLA_NUM_RX_QUEUES`: how many receive queues there are.
+    NumRxQueues(u32),
+    /// `IFLA_CARRIER`: whether there is a carrier.
+    Carrier(u8),
+    /// `IFLA_PHYS_PORT_ID`: the id of the physical port, as it stands.
+    PhysPortId(Vec<u8>),
+    /// `IFLA_CARRIER_CHANGES`: how often the carrier came or went.
+    CarrierChanges(u32),
+    /// `IFLA_PHYS_SWITCH_ID`: the id of the switch, as it stands.
+    PhysSwitchId(Vec<u8>),
+    /// `IFLA_LINK_NETNSID`: the id of the network namespace of the link under it.
+    LinkNetNsId(i32),
+    /// `IFLA_PHYS_PORT_NAME`: the name of the physical port.
+    PhysPortName(String),
+    /// `IFLA_PROTO_DOWN`: whether a protocol holds the link down.
+    ProtoDown(u8),
+    /// `IFLA_GSO_MAX_SEGS`: into how many segments a packet may be cut at most.
+    GsoMaxSegs(u32),
+    /// `IFLA_GSO_MAX_SIZE`: how long a packet that will be cut may be, in bytes.
+    GsoMaxSize(u32),
+    /// `IFLA_XDP`: the program at the driver.
+    Xdp(Vec<LinkXdp>),
+    /// `IFLA_EVENT`: what happened.
+    Event(LinkEvent),
+    /// `IFLA_NEW_NETNSID`: the id of the network namespace that it goes to.
+    NewNetnsId(i32),
+    /// `IFLA_IF_NETNSID`: the id of the network namespace that is asked.
+    IfNetnsId(i32),
+    /// `IFLA_CARRIER_UP_COUNT`: how often the carrier came.
+    CarrierUpCount(u32),
+    /// `IFLA_CARRIER_DOWN_COUNT`: how often the carrier went.
+    CarrierDownCount(u32),
+    /// `IFLA_NEW_IFINDEX`: the index in the network namespace that it goes to.
+    NewIfIndex(i32),
+    /// `IFLA_MIN_MTU`: the least `Mtu`, in bytes.
+    MinMtu(u32),
+    /// `IFLA_MAX_MTU`: the greatest `Mtu`, in bytes.
+    MaxMtu(u32),
+    /// `IFLA_PROP_LIST`: other properties.
+    PropList(Vec<Prop>),
+    /// `IFLA_ALT_IFNAME`: another name.
+    AltIfName(String),
+    /// `IFLA_PERM_ADDRESS`: the address that the device was made with, as it stands.
+    PermAddress(Vec<u8>),
+    /// `IFLA_PROTO_DOWN_REASON`: who holds the link down.
+    ProtoDownReason(Vec<LinkProtocolDownReason>),
+    /// `IFLA_PARENT_DEV_NAME`: the name of the device that it belongs to.
+    ParentDevName(String),
+    /// `IFLA_PARENT_DEV_BUS_NAME`: the bus of that device.
+    ParentDevBusName(String),
+    /// `IFLA_GRO_MAX_SIZE`: how long a packet that is put together may be, in bytes.
+    GroMaxSize(u32),
+    /// `IFLA_TSO_MAX_SIZE`: how long a packet that the device cuts may be, in bytes.
+    TsoMaxSize(u32),
+    /// `IFLA_TSO_MAX_SEGS`: into how many segments the device cuts a packet at most.
+    TsoMaxSegs(u32),
+    /// `IFLA_ALLMULTI`: how many ask for all multicast packets.
+    AllMulti(u32),
+    /// `IFLA_GSO_IPV4_MAX_SIZE`: `GsoMaxSize` for IP version 4.
+    GsoIpv4MaxSize(u32),
+    /// `IFLA_GRO_IPV4_MAX_SIZE`: `GroMaxSize` for IP version 4.
+    GroIpv4MaxSize(u32),
+    /// `IFLA_MAX_PACING_OFFLOAD_HORIZON`: how far ahead the device can hold packets back, in nanoseconds.
+    MaxPacingOffloadHorizon(u64),
+    /// `IFLA_NETNS_IMMUTABLE`: whether it stays in its network namespace. True for a byte above 0.
+    NetnsImmutable(bool),
+    /// `IFLA_HEADROOM`: the room in front of a packet, in bytes.
+    Headroom(u16),
+    /// `IFLA_TAILROOM`: the room behind a packet, in bytes.
+    Tailroom(u16),
+    /// An attribute of another number, as it stands.
+    Other(DefaultNla),
+}
+
+/// The number of what address families say, `IFLA_AF_SPEC`.
+const IFLA_AF_SPEC: u16 = 26;
+
+/// The number of how far ahead packets can be held back, `IFLA_MAX_PACING_OFFLOAD_HORIZON`.
+const IFLA_MAX_PACING_OFFLOAD_HORIZON: u16 = 66;
+
+/// The number of what a driver says, `IFLA_LINKINFO`.
+const IFLA_LINKINFO: u16 = 18;
+
+/// The rows of the table that stand for themselves. Numbers 18, 26 and 66 stand beside them.
+macro_rules! rows {
+    ($body:ident ($($given:tt)*)) => {
+        $body!(($($given)*) LinkAttribute of Value {
+            1 Address(raw);
+            2 Broadcast(raw);
+            3 IfName(name);
+            4 Mtu(le32);
+            5 Link(le32);
+            6 Qdisc(name);
+            7 Stats(Stats value);
+            10 Controller(le32);
+            13 TxQueueLen(le32);
+            14 Map(Map leading 32);
+            16 OperState(State as byte);
+            17 Mode(LinkMode as byte);
+            19 NetNsPid(le32);
+            20 IfAlias(name);
+            21 NumVf(le32);
+            23 Stats64(Stats64 value);
+            27 Group(le32);
+            28 NetNsFd(signed32);
+            29 ExtMask(LinkExtentMask flags le32);
+            30 Promiscuity(le32);
+            31 NumTxQueues(le32);
+            32 NumRxQueues(le32);
+            33 Carrier(byte);
+            34 PhysPortId(raw);
+            35 CarrierChanges(le32);
+            36 PhysSwitchId(raw);
+            37 LinkNetNsId(signed32);
+            38 PhysPortName(name);
+            39 ProtoDown(byte);
+            40 GsoMaxSegs(le32);
+            41 GsoMaxSize(le32);
+            43 Xdp(list);
+            44 Event(LinkEvent as le32);
+            45 NewNetnsId(signed32);
+            46 IfNetnsId(signed32);
+            47 CarrierUpCount(le32);
+            48 CarrierDownCount(le32);
+            49 NewIfIndex(signed32);
+            50 MinMtu(le32);
+            51 MaxMtu(le32);
+            52 PropList(list) as NLA_F_NESTED + 52;
+            53 AltIfName(name);
+            54 PermAddress(raw);
+            55 ProtoDownReason(list) as NLA_F_NESTED + 55;
+            56 ParentDevName(name);
+            57 ParentDevBusName(name);
+            58 GroMaxSize(le32);
+            59 TsoMaxSize(le32);
+            60 TsoMaxSegs(le32);
+            61 AllMulti(le32);
+            63 GsoIpv4MaxSize(le32);
+            64 GroIpv4MaxSize(le32);
+            67 NetnsImmutable(boolean);
+            68 Headroom(le16);
+            69 Tailroom(le16);
+        })
+    };
+}
+
+impl Nla for LinkAttribute {
+    ghost shape = { shared_shape (table as_list) };
+
+    fn kind(&self) -> u16 {
+        rows!(kind_rows(self;
+            LinkAttribute::AfSpecUnspec(_) => IFLA_AF_SPEC,
+            LinkAttribute::AfSpecUnknown(_) => IFLA_AF_SPEC,
+            LinkAttribute::LinkInfo(_) => IFLA_LINKINFO,
+            LinkAttribute::MaxPacingOffloadHorizon(_) => IFLA_MAX_PACING_OFFLOAD_HORIZON,
+        ))
+    }
+
+    fn is_nested(&self) -> bool {
+        false
+    }
+
+    fn check_value(&self) -> Result<usize, EmitError> {
+        Ok(rows!(len_rows(self;
+            LinkAttribute::AfSpecUnspec(xs) => check_list(xs.as_slice())?,
+            LinkAttribute::AfSpecUnknown(x) => x.len(),
+            LinkAttribute::LinkInfo(xs) => check_list(xs.as_slice())?,
+            LinkAttribute::MaxPacingOffloadHorizon(x) => uint_len(*x),
+        )))
+    }
+
+    fn write_value(&self, out: &mut [u8]) -> usize {
+        rows!(write_rows(self, out;
+            LinkAttribute::AfSpecUnspec(xs) => write_list(xs.as_slice(), out),
+            LinkAttribute::AfSpecUnknown(x) => write_bytes(x.as_slice(), out),
+            LinkAttribute::LinkInfo(xs) => write_list(xs.as_slice(), out),
+            LinkAttribute::MaxPacingOffloadHorizon(x) => write_uint(*x, out),
+        ))
+    }
+}
+
+/// Puts what address families say: a list where the header has no family, or that of IP.
+///
+/// # Errors
+/// `OutOfMemory` where memory is refused, and else the first fault in reading order.
+#[tactic(auto, using(crate::specs::AttributeSteps::unspec_means, crate::specs::AttributeSteps::unknown_means))]
+fn put_af_spec<P: Place<LinkAttribute>>(
+    place: &mut P,
+    alloc: Global,
+    family: AddressFamily,
+    value: &[u8],
+    looks: &mut Looks,
+) -> Result<(), DecodeError>
+    requires { P.ready place.old }
+    ensures ok { IfOk result (λ _. (a : LinkAttribute) × (x : AfSpecs) × P.puts place.old a place.new × MeansAfSpecs a x
+        × (af_specs (form_of family)).Reads value.now x) }
+    ensures refused { IfErr result (λ e. e ≢ OutOfMemory → (af_specs (form_of family)).Wrong no_place value.now e) }
+    ensures exact { Answered result → TakesInside (af_specs (form_of family)).members.looks value.now looks.old looks.new }
+    ensures bounded { AddsAtMost looks.old looks.new (length value.now) }
+{
+    match family {
+        AddressFamily::Unspec | AddressFamily::Inet | AddressFamily::Inet6 => {
+            place.put(LinkAttribute::AfSpecUnspec(parse_list(alloc, (), value, looks)?));
+            Ok(())
+        }
+        _ => {
+            place.put(LinkAttribute::AfSpecUnknown(read_bytes(alloc, value)?));
+            Ok(())
+        }
+    }
+}
+
+/// Puts what a driver says, under the kinds that stand in it.
+///
+/// # Errors
+/// `OutOfMemory` where memory is refused, and else the first fault in reading order.
+#[tactic(auto, using(crate::specs::AttributeSteps::info_means))]
+fn put_info<P: Place<LinkAttribute>>(
+    place: &mut P,
+    alloc: Global,
+    value: &[u8],
+    looks: &mut Looks,
+) -> Result<(), DecodeError>
+    requires { P.ready place.old }
+    ensures ok { IfOk result (λ _. (a : LinkAttribute) × (x : List InfoMeaning) × P.puts place.old a place.new × MeansInfo a x
+        × info_list.Reads value.now x) }
+    ensures refused { IfErr result (λ e. e ≢ OutOfMemory → info_list.Wrong no_place value.now e) }
+    ensures exact { Answered result → InfoLooks value.now looks.old looks.new }
+    ensures bounded { AddsAtMost looks.old looks.new (length value.now) }
+{
+    put_read(
+        place,
+        read_info(alloc, value, looks),
+        LinkAttribute::LinkInfo,
+    )
+}
+
+/// Puts an attribute that stands for itself.
+///
+/// # Errors
+/// `OutOfMemory` where memory is refused, and else the first fault in reading order.
+#[tactic(auto, unfolding(crate::specs::Attribute::IsFlat, crate::specs::Attribute::FlatFault, crate::specs::Attribute::FlatLooks))]
+fn put_flat<P: Place<LinkAttribute>>(
+    place: &mut P,
+    alloc: Global,
+    item: &NlaBuffer<'_>,
+    looks: &mut Looks,
+) -> Result<(), DecodeError>
+    requires { P.ready place.old }
+    ensures ok { IfOk result (λ _. (a : LinkAttribute) × P.puts place.old a place.new × IsFlat item.now a) }
+    ensures refused { IfErr result (λ e. e ≢ OutOfMemory → FlatFault item.now e) }
+    ensures exact { Answered result → FlatLooks item.now looks.old looks.new }
+    ensures bounded { AddsAtMost looks.old looks.new (length (item.now).value) }
+{
+    rows!(put_link_rows(place, alloc, item, looks;
+        IFLA_MAX_PACING_OFFLOAD_HORIZON => put_read(
+            place,
+            read_uint(item.value(), AttrFamily::Value.at(IFLA_MAX_PACING_OFFLOAD_HORIZON)),
+            LinkAttribute::MaxPacingOffloadHorizon,
+        ),
+    ))
+}
+
+impl Attribute for LinkAttribute {
+    type Context = AddressFamily;
+
+    ghost family = { family };
+
+    ghost shape_is = { shared-shape (table as_list) };
+
+    #[tactic(auto, using(crate::specs::AttributeSteps::af_reads, crate::specs::AttributeSteps::af_wrong, crate::specs::AttributeSteps::af_looks, crate::specs::AttributeSteps::info_reads, crate::specs::AttributeSteps::info_wrong, crate::specs::AttributeSteps::info_looks, crate::specs::AttributeSteps::flat_reads, crate::specs::AttributeSteps::flat_wrong, crate::specs::AttributeSteps::flat_looks))]
+    fn read_into<P: Place<Self>>(
+        place: &mut P,
+        alloc: Global,
+        family: AddressFamily,
+        item: &NlaBuffer<'_>,
+        looks: &mut Looks,
+    ) -> Result<(), DecodeError> {
+        match item.kind() {
+            IFLA_AF_SPEC => put_af_spec(place, alloc, family, item.value(), looks),
+            IFLA_LINKINFO => put_info(place, alloc, item.value(), looks),
+            _ => put_flat(place, alloc, item, looks),
+        }
+    }
+
+    fn try_clone(&self, alloc: Global) -> Result<Self, AllocError> {
+        rows!(clone_rows(self, alloc;
+            LinkAttribute::AfSpecUnspec(xs) => clone_list(alloc, xs.as_slice()).map(LinkAttribute::AfSpecUnspec),
+            LinkAttribute::LinkInfo(xs) => clone_list(alloc, xs.as_slice()).map(LinkAttribute::LinkInfo),
+            LinkAttribute::AfSpecUnknown(x) => Vec::from_slice(alloc, x.as_slice()).map(LinkAttribute::AfSpecUnknown),
+            LinkAttribute::MaxPacingOffloadHorizon(x) => Ok(LinkAttribute::MaxPacingOffloadHorizon(*x)),
+        ))
+    }
+}

@@ -1,0 +1,68 @@
+//! A property of a link: `IFLA_*` of `linux/if_link.h`.
+
+ghost use Rattle.std.specs.Prelude.{refl};
+ghost use Rattle.{npr_base.specs.Family.{shaped}, npr_link.specs.Prop.{family}};
+
+use npr_base::{Attribute, DecodeError, DefaultNla, EmitError, Looks, Nla, NlaBuffer, Place};
+use std::alloc::{AllocError, Global};
+
+/// A property of a link.
+#[derive(Debug, Drop, PartialEq, Eq)]
+pub enum Prop {
+    /// `IFLA_ALT_IFNAME`: another name.
+    AltIfName(String),
+    /// An attribute of another number, as it stands.
+    Other(DefaultNla),
+}
+
+/// The rows of the table.
+macro_rules! rows {
+    ($body:ident ($($given:tt)*)) => {
+        npr_base::$body!(($($given)*) Prop of Value {
+            53 AltIfName(name);
+        })
+    };
+}
+
+impl Nla for Prop {
+    ghost shape = { shaped family };
+
+    fn kind(&self) -> u16 {
+        rows!(kind_rows(self))
+    }
+
+    fn is_nested(&self) -> bool {
+        false
+    }
+
+    fn check_value(&self) -> Result<usize, EmitError> {
+        Ok(rows!(len_rows(self)))
+    }
+
+    fn write_value(&self, out: &mut [u8]) -> usize {
+        rows!(write_rows(self, out))
+    }
+}
+
+impl Attribute for Prop {
+    type Context = ();
+
+    ghost family = { family };
+
+    ghost shape_is = { λ a. refl };
+
+    #[tactic(auto, unfolding(crate::specs::Prop::attributes))]
+    fn read_into<P: Place<Self>>(
+        place: &mut P,
+        alloc: Global,
+        _context: (),
+        item: &NlaBuffer<'_>,
+        looks: &mut Looks,
+    ) -> Result<(), DecodeError> {
+        rows!(put_rows(place, alloc, item, looks))
+    }
+
+    fn try_clone(&self, alloc: Global) -> Result<Self, AllocError> {
+        rows!(clone_rows(self, alloc))
+    }
+}

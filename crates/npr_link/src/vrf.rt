@@ -1,0 +1,71 @@
+//! The data of a routing domain, or of a port of one: `IFLA_VRF_*` of `linux/if_link.h`.
+
+ghost use Rattle.std.specs.Prelude.{refl};
+ghost use Rattle.{npr_base.specs.Family.{shaped}, npr_link.specs.Vrf.{family}};
+
+use npr_base::{Attribute, DecodeError, DefaultNla, EmitError, Looks, Nla, NlaBuffer, Place};
+use std::alloc::{AllocError, Global};
+
+/// The data of a routing domain, or of a port of one.
+#[derive(Debug, Drop, PartialEq, Eq)]
+pub enum InfoVrf {
+    /// `IFLA_VRF_TABLE`: the table that its packets are routed by.
+    TableId(u32),
+    /// An attribute of another number, as it stands.
+    Other(DefaultNla),
+}
+
+/// The data of a port of a routing domain are those of the domain.
+pub type InfoVrfPort = InfoVrf;
+
+/// The rows of the table.
+macro_rules! rows {
+    ($body:ident ($($given:tt)*)) => {
+        npr_base::$body!(($($given)*) InfoVrf of Value {
+            1 TableId(le32);
+        })
+    };
+}
+
+impl Nla for InfoVrf {
+    ghost shape = { shaped family };
+
+    fn kind(&self) -> u16 {
+        rows!(kind_rows(self))
+    }
+
+    fn is_nested(&self) -> bool {
+        false
+    }
+
+    fn check_value(&self) -> Result<usize, EmitError> {
+        Ok(rows!(len_rows(self)))
+    }
+
+    fn write_value(&self, out: &mut [u8]) -> usize {
+        rows!(write_rows(self, out))
+    }
+}
+
+impl Attribute for InfoVrf {
+    type Context = ();
+
+    ghost family = { family };
+
+    ghost shape_is = { λ a. refl };
+
+    #[tactic(auto, unfolding(crate::specs::Vrf::attributes))]
+    fn read_into<P: Place<Self>>(
+        place: &mut P,
+        alloc: Global,
+        _context: (),
+        item: &NlaBuffer<'_>,
+        looks: &mut Looks,
+    ) -> Result<(), DecodeError> {
+        rows!(put_rows(place, alloc, item, looks))
+    }
+
+    fn try_clone(&self, alloc: Global) -> Result<Self, AllocError> {
+        rows!(clone_rows(self, alloc))
+    }
+}
