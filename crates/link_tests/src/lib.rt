@@ -1,0 +1,10 @@
+//! Tests of link messages: what they are read from, what is written of them, and what is refused.
+//!
+//! Bytes stand as hexadecimal text, as a dump shows them. What a clause proves has no test but an
+//! example of the format.
+#![tactic(auto)]
+
+#[cfg(test)]
+mod flat;
+#[cfg(test)]
+mod info;
