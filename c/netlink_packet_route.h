@@ -164,7 +164,39 @@ enum npr_family {
     /* IOAM6_IPTUNNEL_* of linux/ioam6_iptunnel.h. */
     NPR_FAMILY_IOAM6 = 16,
     /* NDA_* of linux/neighbour.h. */
-    NPR_FAMILY_NEIGHBOUR = 17
+    NPR_FAMILY_NEIGHBOUR = 17,
+    /* IFLA_* of linux/if_link.h. */
+    NPR_FAMILY_LINK = 18,
+    /* IFLA_INFO_* of linux/if_link.h. */
+    NPR_FAMILY_LINK_INFO = 19,
+    /* IFLA_XDP_* of linux/if_link.h. */
+    NPR_FAMILY_LINK_XDP = 20,
+    /* IFLA_ALT_IFNAME of linux/if_link.h, the one property. */
+    NPR_FAMILY_PROP = 21,
+    /* IFLA_PROTO_DOWN_REASON_* of linux/if_link.h. */
+    NPR_FAMILY_LINK_PROTOCOL_DOWN_REASON = 22,
+    /* Address families in IFLA_AF_SPEC: AF_* of linux/socket.h. */
+    NPR_FAMILY_AF_SPEC_UNSPEC = 23,
+    /* IFLA_INET_* of linux/if_link.h. */
+    NPR_FAMILY_AF_SPEC_INET = 24,
+    /* IFLA_INET6_* of linux/if_link.h. */
+    NPR_FAMILY_AF_SPEC_INET6 = 25,
+    /* IFLA_BR_* of linux/if_link.h. */
+    NPR_FAMILY_INFO_BRIDGE = 26,
+    /* BRIDGE_QUERIER_* of linux/if_bridge.h. */
+    NPR_FAMILY_BRIDGE_QUERIER_STATE = 27,
+    /* IFLA_BRPORT_* of linux/if_link.h. */
+    NPR_FAMILY_INFO_BRIDGE_PORT = 28,
+    /* IFLA_VLAN_* of linux/if_link.h. */
+    NPR_FAMILY_INFO_VLAN = 29,
+    /* IFLA_VLAN_QOS_* of linux/if_link.h. */
+    NPR_FAMILY_VLAN_QOS_MAPPING = 30,
+    /* IFLA_VRF_* of linux/if_link.h. */
+    NPR_FAMILY_INFO_VRF = 31,
+    /* VETH_INFO_* of linux/veth.h. */
+    NPR_FAMILY_INFO_VETH = 32,
+    /* IFLA_* of linux/if_link.h, in the peer of a link. */
+    NPR_FAMILY_PEER = 33
 };
 
 /* What is wrong with a SEG6 routing header (RFC 8754, section 2). */

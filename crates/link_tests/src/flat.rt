@@ -89,9 +89,9 @@ fn reads_attributes(rt: HostRuntime) -> Result<(), Fail> {
 #[test]
 fn refuses_values(rt: HostRuntime) -> Result<(), Fail> {
     let lines = "
-        06000400 dc050000 => a value of 2 bytes at At { family: Value, kind: 4 }
-        08001400 636166e9 => no UTF-8 at At { family: Value, kind: 20 }
-        0a004200 00000000 00000000 => a value of 6 bytes at At { family: Value, kind: 66 }
+        06000400 dc050000 => a value of 2 bytes at At { family: Link, kind: 4 }
+        08001400 636166e9 => no UTF-8 at At { family: Link, kind: 20 }
+        0a004200 00000000 00000000 => a value of 6 bytes at At { family: Link, kind: 66 }
         20000e00 00000000 00000000 00000000 00000000 00000000 00000000 00000000 => \
             28 bytes, where a header of 32 is wanted";
     messages::<LinkMessage>(&rt, ETHERNET, lines)
@@ -157,7 +157,7 @@ fn reads_statistics(rt: HostRuntime) -> Result<(), Fail> {
 fn checks_and_writes(rt: HostRuntime) -> Result<(), Fail> {
     let mut name = String::new(rt.alloc());
     for _ in 0..65531 {
-        name.push('a')?;
+        name.push_str("a")?;
     }
     let long = EmitError::TooLong {
         kind: 3,
@@ -173,4 +173,21 @@ fn prints_kinds_of_links(rt: HostRuntime) -> Result<(), Fail> {
     says(&rt, LinkLayerType::Ieee802154Monitor, "IEEE802154_MONITOR")?;
     says(&rt, LinkLayerType::Sixlowpan, "6LOWPAN")?;
     says(&rt, LinkLayerType::Other(0x1234), "4660")
+}
+
+/// The names of the flags that are set, and last the bits without one.
+#[test]
+fn prints_flags(rt: HostRuntime) -> Result<(), Fail> {
+    says(
+        &rt,
+        LinkFlags::from_bits_retain(0x80041),
+        "Up | Running | 0x80000",
+    )?;
+    says(
+        &rt,
+        LinkFlags::from_bits_retain(0x51043),
+        "Up | Broadcast | Running | Multicast | LowerUp | Echo",
+    )?;
+    says(&rt, LinkFlags::from_bits_retain(0xfff80000), "0xfff80000")?;
+    says(&rt, LinkFlags::from_bits_retain(0), "")
 }

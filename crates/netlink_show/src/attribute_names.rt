@@ -1,5 +1,6 @@
 //! The names of attributes, as the kernel's headers have them.
 
+use crate::link_attribute_names as link;
 use netlink_packet_route::framing::AttrFamily;
 
 const ADDRESS: &[&str] = &[
@@ -233,6 +234,20 @@ fn names_of(family: AttrFamily) -> &'static [&'static str] {
         AttrFamily::Seg6Local => SEG6_LOCAL,
         AttrFamily::Rpl => RPL,
         AttrFamily::Ioam6 => IOAM6,
+        AttrFamily::Link | AttrFamily::Prop | AttrFamily::Peer => link::LINK,
+        AttrFamily::LinkInfo => link::INFO,
+        AttrFamily::LinkXdp => link::XDP,
+        AttrFamily::LinkProtocolDownReason => link::PROTOCOL_DOWN,
+        AttrFamily::AfSpecUnspec => link::AF_SPEC,
+        AttrFamily::AfSpecInet => link::AF_SPEC_INET,
+        AttrFamily::AfSpecInet6 => link::AF_SPEC_INET6,
+        AttrFamily::InfoBridge => link::BRIDGE,
+        AttrFamily::BridgeQuerierState => link::QUERIER,
+        AttrFamily::InfoBridgePort => link::BRIDGE_PORT,
+        AttrFamily::InfoVlan => link::VLAN,
+        AttrFamily::VlanQosMapping => link::VLAN_QOS,
+        AttrFamily::InfoVrf => link::VRF,
+        AttrFamily::InfoVeth => link::VETH,
     }
 }
 

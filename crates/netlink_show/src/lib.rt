@@ -10,6 +10,7 @@ mod attribute_names;
 mod counts;
 mod encap_fields;
 mod field;
+mod link_attribute_names;
 mod manner;
 mod message_fields;
 mod metric_fields;

@@ -152,7 +152,8 @@ ReadsList-grows written R grows bs ms bytes (items, p, h) = grow_all written R g
 
 framed_lengths : {M : Type 0} (written : M → Item) (ms : List M) → length (encodings written ms) % 4 ≡ 0
 framed_lengths written [] = refl
-framed_lengths written (m ∷ ms) = omega (arith, length-append (encoding (written m)) (encodings written ms), length-encoding (written m), framed_lengths written ms)
+framed_lengths written (m ∷ ms) =
+    omega (arith, length-append (encoding (written m)) (encodings written ms), length-encoding (written m), framed_lengths written ms)
 
 -- and so is the attribute that holds them
 pub list-grows : {M : Type 0} (written : M → Item) (R : Item → M → Type 0)

@@ -36,8 +36,8 @@ under_context f L standard context_of h bytes = record {
   looks = λ old mid new same takes. subst (λ (c : Counts). (list_looking (f.reading (context_of h))).Takes bytes c new) same takes;
 }
 
-pub under_by : {H A C : Type 0} (f : Family A C) (L : Layout H) (standard : H) (context_of : H → C) (h : H) (bytes : List ℕ) (c : C) → governs_by context_of h bytes c
-    → IsUnder (grammar_by f L standard context_of) f h bytes c (governs_by context_of h bytes) none_searched
+pub under_by : {H A C : Type 0} (f : Family A C) (L : Layout H) (standard : H) (context_of : H → C) (h : H) (bytes : List ℕ) (c : C)
+    → governs_by context_of h bytes c → IsUnder (grammar_by f L standard context_of) f h bytes c (governs_by context_of h bytes) none_searched
 under_by {H} {A} {C} f L standard context_of h bytes c is =
     subst (λ (d : C). IsUnder (grammar_by f L standard context_of) f h bytes d (governs_by context_of h bytes) none_searched) (sym is)
     (under_context f L standard context_of h bytes)

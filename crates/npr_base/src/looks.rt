@@ -1,7 +1,7 @@
 //! Counts of looks at headers.
 
 ghost use Rattle.std.specs.{Prelude.{◌≡◌}, Cmp.{decided, partial_equiv_from_equiv}};
-ghost use Rattle.npr_base.specs.{Counts.{Counts, no_looks, hit, miss, looked}, ViewEquality.{same_counts, counts_equality}};
+ghost use Rattle.npr_base.specs.{Counts.{Counts, no_looks, hit, miss, looked, raised}, ViewEquality.{same_counts, counts_equality}};
 
 use std::marker::Model;
 
@@ -56,6 +56,14 @@ impl Looks {
         ensures { self.new ≡ miss self.old }
     {
         self.failed = self.failed.saturating_add(1);
+    }
+
+    /// Counts the looks that were counted apart.
+    pub fn add(&mut self, more: &Looks)
+        ensures { self.new ≡ raised more.now self.old }
+    {
+        self.successful = self.successful.saturating_add(more.successful);
+        self.failed = self.failed.saturating_add(more.failed);
     }
 
     /// Counts the look that a step of a walk was; the end of a list is none.

@@ -45,6 +45,38 @@ pub enum AttrFamily {
     Rpl,
     /// `IOAM6_IPTUNNEL_*` of `linux/ioam6_iptunnel.h`.
     Ioam6,
+    /// `IFLA_*` of `linux/if_link.h`.
+    Link,
+    /// `IFLA_INFO_*` of `linux/if_link.h`.
+    LinkInfo,
+    /// `IFLA_XDP_*` of `linux/if_link.h`.
+    LinkXdp,
+    /// `IFLA_ALT_IFNAME` of `linux/if_link.h`, the one property.
+    Prop,
+    /// `IFLA_PROTO_DOWN_REASON_*` of `linux/if_link.h`.
+    LinkProtocolDownReason,
+    /// Address families in `IFLA_AF_SPEC`: `AF_*` of `linux/socket.h`.
+    AfSpecUnspec,
+    /// `IFLA_INET_*` of `linux/if_link.h`.
+    AfSpecInet,
+    /// `IFLA_INET6_*` of `linux/if_link.h`.
+    AfSpecInet6,
+    /// `IFLA_BR_*` of `linux/if_link.h`.
+    InfoBridge,
+    /// `BRIDGE_QUERIER_*` of `linux/if_bridge.h`.
+    BridgeQuerierState,
+    /// `IFLA_BRPORT_*` of `linux/if_link.h`.
+    InfoBridgePort,
+    /// `IFLA_VLAN_*` of `linux/if_link.h`.
+    InfoVlan,
+    /// `IFLA_VLAN_QOS_*` of `linux/if_link.h`.
+    VlanQosMapping,
+    /// `IFLA_VRF_*` of `linux/if_link.h`.
+    InfoVrf,
+    /// `VETH_INFO_*` of `linux/veth.h`.
+    InfoVeth,
+    /// `IFLA_*` of `linux/if_link.h`, in the peer of a link.
+    Peer,
 }
 
 /// The place of a value: the family of its attribute, and the attribute's number.

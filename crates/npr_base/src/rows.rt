@@ -13,7 +13,7 @@
 //! | `T flags le32` | a set of flags over such a number |
 //! | `T exactly 8` | a structure of so many bytes |
 //! | `T leading 8` | one in front, behind which more may stand |
-//! | `T value` | a value with methods `clone`, `len` and `write`, which its family reads |
+//! | `T value` | a value with `read`, which refuses memory alone, `try_clone`, `len` and `write` |
 
 /// An equal attribute.
 #[macro_export]
@@ -279,6 +279,10 @@ macro_rules! put_row {
     ([$place:expr, $family:ident::$variant:ident, $alloc:expr, $value:expr, $at:expr, $looks:expr] list) => {
         $crate::put_read($place, $crate::parse_list($alloc, (), $value, $looks), $family::$variant)
     };
+    ([$place:expr, $family:ident::$variant:ident, $alloc:expr, $value:expr, $at:expr, $looks:expr] $of:ident value) => {{
+        $place.put($family::$variant($of::read($alloc, $value)?));
+        Ok(())
+    }};
     ([$place:expr, $family:ident::$variant:ident, $alloc:expr, $value:expr, $at:expr, $looks:expr] $of:ident as $number:ident $(by $by:ident)?) => {{
         $place.put($family::$variant($of::from($crate::read_value!([$alloc, $value, $at] $number)?)));
         Ok(())

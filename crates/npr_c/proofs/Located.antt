@@ -5,6 +5,9 @@ use Rattle.netlink_packet_route.specs.declared.framing.At.{At}
 use Rattle.netlink_packet_route.specs.declared.framing.AttrFamily.{AttrFamily}
 use Rattle.netlink_packet_route.specs.declared.framing.AttrFamily.TheVariants.{Value, Address, Rule, Route, Neighbour, Metric, Mpls, Ip, Ip6, Xfrm}
 use Rattle.netlink_packet_route.specs.declared.framing.AttrFamily.TheVariants.{Opt, Geneve, Vxlan, Erspan, Seg6, Seg6Local, Rpl, Ioam6}
+use Rattle.netlink_packet_route.specs.declared.framing.AttrFamily.TheVariants.{Link, LinkInfo, LinkXdp, Prop, LinkProtocolDownReason, AfSpecUnspec}
+use Rattle.netlink_packet_route.specs.declared.framing.AttrFamily.TheVariants.{AfSpecInet, AfSpecInet6, InfoBridge, BridgeQuerierState, InfoBridgePort}
+use Rattle.netlink_packet_route.specs.declared.framing.AttrFamily.TheVariants.{InfoVlan, VlanQosMapping, InfoVrf, InfoVeth, Peer}
 use Rattle.netlink_packet_route.specs.declared.framing.Seg6Fault.{Seg6Fault}
 use Rattle.netlink_packet_route.specs.declared.framing.Seg6Fault.TheVariants.{Short, Length, Hmac, Segments}
 use Rattle.netlink_packet_route.specs.declared.framing.DecodeError.{DecodeError}
@@ -17,7 +20,9 @@ use Rattle.npr_c.specs.declared.faults.Fault.{Fault}
 -- the family, the fault and the refusal that have these numbers
 abbrev families : List AttrFamily
 families =
-    Value ∷ Address ∷ Rule ∷ Route ∷ Metric ∷ Mpls ∷ Ip ∷ Ip6 ∷ Xfrm ∷ Opt ∷ Geneve ∷ Vxlan ∷ Erspan ∷ Seg6 ∷ Seg6Local ∷ Rpl ∷ Ioam6 ∷ Neighbour ∷ []
+    Value ∷ Address ∷ Rule ∷ Route ∷ Metric ∷ Mpls ∷ Ip ∷ Ip6 ∷ Xfrm ∷ Opt ∷ Geneve ∷ Vxlan ∷ Erspan ∷ Seg6 ∷ Seg6Local ∷ Rpl ∷ Ioam6 ∷ Neighbour
+    ∷ Link ∷ LinkInfo ∷ LinkXdp ∷ Prop ∷ LinkProtocolDownReason ∷ AfSpecUnspec ∷ AfSpecInet ∷ AfSpecInet6
+    ∷ InfoBridge ∷ BridgeQuerierState ∷ InfoBridgePort ∷ InfoVlan ∷ VlanQosMapping ∷ InfoVrf ∷ InfoVeth ∷ Peer ∷ []
 
 abbrev family_of : ℕ → AttrFamily
 family_of number = unwrap_or (slice_get families number) Value
@@ -56,6 +61,22 @@ family_back Seg6Local = refl
 family_back Rpl = refl
 family_back Ioam6 = refl
 family_back Neighbour = refl
+family_back Link = refl
+family_back LinkInfo = refl
+family_back LinkXdp = refl
+family_back Prop = refl
+family_back LinkProtocolDownReason = refl
+family_back AfSpecUnspec = refl
+family_back AfSpecInet = refl
+family_back AfSpecInet6 = refl
+family_back InfoBridge = refl
+family_back BridgeQuerierState = refl
+family_back InfoBridgePort = refl
+family_back InfoVlan = refl
+family_back VlanQosMapping = refl
+family_back InfoVrf = refl
+family_back InfoVeth = refl
+family_back Peer = refl
 
 seg6_back : (f : Seg6Fault) → seg6_of (seg6_number f) ≡ f
 seg6_back Short = refl

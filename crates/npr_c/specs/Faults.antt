@@ -3,6 +3,9 @@ use Rattle.std.specs.Prelude.{◌≡◌, ◌≢◌, ◌⊎◌, ℕ, List}
 use Rattle.netlink_packet_route.specs.declared.framing.AttrFamily.{AttrFamily}
 use Rattle.netlink_packet_route.specs.declared.framing.AttrFamily.TheVariants.{Value, Address, Rule, Route, Neighbour, Metric, Mpls, Ip, Ip6, Xfrm}
 use Rattle.netlink_packet_route.specs.declared.framing.AttrFamily.TheVariants.{Opt, Geneve, Vxlan, Erspan, Seg6, Seg6Local, Rpl, Ioam6}
+use Rattle.netlink_packet_route.specs.declared.framing.AttrFamily.TheVariants.{Link, LinkInfo, LinkXdp, Prop, LinkProtocolDownReason, AfSpecUnspec}
+use Rattle.netlink_packet_route.specs.declared.framing.AttrFamily.TheVariants.{AfSpecInet, AfSpecInet6, InfoBridge, BridgeQuerierState, InfoBridgePort}
+use Rattle.netlink_packet_route.specs.declared.framing.AttrFamily.TheVariants.{InfoVlan, VlanQosMapping, InfoVrf, InfoVeth, Peer}
 use Rattle.netlink_packet_route.specs.declared.framing.Seg6Fault.{Seg6Fault}
 use Rattle.netlink_packet_route.specs.declared.framing.Seg6Fault.TheVariants.{Short, Length, Hmac, Segments}
 use Rattle.netlink_packet_route.specs.declared.framing.DecodeError.{DecodeError}
@@ -32,6 +35,22 @@ family_number Seg6Local = 14
 family_number Rpl = 15
 family_number Ioam6 = 16
 family_number Neighbour = 17
+family_number Link = 18
+family_number LinkInfo = 19
+family_number LinkXdp = 20
+family_number Prop = 21
+family_number LinkProtocolDownReason = 22
+family_number AfSpecUnspec = 23
+family_number AfSpecInet = 24
+family_number AfSpecInet6 = 25
+family_number InfoBridge = 26
+family_number BridgeQuerierState = 27
+family_number InfoBridgePort = 28
+family_number InfoVlan = 29
+family_number VlanQosMapping = 30
+family_number InfoVrf = 31
+family_number InfoVeth = 32
+family_number Peer = 33
 
 abbrev pub seg6_number : Seg6Fault → ℕ
 seg6_number Short = 1

@@ -83,6 +83,22 @@ fn family_number(family: AttrFamily) -> u32
         AttrFamily::Rpl => 15,
         AttrFamily::Ioam6 => 16,
         AttrFamily::Neighbour => 17,
+        AttrFamily::Link => 18,
+        AttrFamily::LinkInfo => 19,
+        AttrFamily::LinkXdp => 20,
+        AttrFamily::Prop => 21,
+        AttrFamily::LinkProtocolDownReason => 22,
+        AttrFamily::AfSpecUnspec => 23,
+        AttrFamily::AfSpecInet => 24,
+        AttrFamily::AfSpecInet6 => 25,
+        AttrFamily::InfoBridge => 26,
+        AttrFamily::BridgeQuerierState => 27,
+        AttrFamily::InfoBridgePort => 28,
+        AttrFamily::InfoVlan => 29,
+        AttrFamily::VlanQosMapping => 30,
+        AttrFamily::InfoVrf => 31,
+        AttrFamily::InfoVeth => 32,
+        AttrFamily::Peer => 33,
     }
 }
 

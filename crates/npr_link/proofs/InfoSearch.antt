@@ -1,53 +1,35 @@
--- A search for what governs a list, one attribute more; and counts of looks that are added.
-use Rattle.std.proofs.Common.{◌≡◌, ℕ, ◌+◌, List, Option, sym, ap, ◌∙◌, arith}
-use Rattle.std.specs.Prelude.{◌≢◌, IfErr, Result, Ok, Err}
+-- A search for what governs a list, and the reading under what it finds.
+use Rattle.std.proofs.Common.{◌≡◌, ℕ, List, true, Some, map, ap, ◌∙◌}
+use Rattle.std.specs.Prelude.{◌≢◌, ◌==◌, IfOk, IfErr, Result, Ok, Err}
+use Rattle.std.specs.declared.alloc.Global.{Global}
+use Rattle.std.specs.declared.vec.Vec.{Vec}
+use Rattle.npr_base.specs.Counts.{Counts}
 use Rattle.npr_base.specs.declared.refusal.DecodeError.{DecodeError}
 use Rattle.npr_base.specs.declared.refusal.DecodeError.TheVariants.{OutOfMemory}
-use Rattle.npr_base.specs.Lists.{FirstFault}
-use Rattle.npr_link.specs.Info.{attributes}
-use Rattle.npr_link.specs.InfoList.{InfoListFault}
-use Rattle.npr_base.specs.Counts.{Counts, hit, miss, raised}
 use Rattle.npr_base.specs.Framing.{Item, number_of}
-use Rattle.npr_base.specs.LooksLaws.{same_counts}
+use Rattle.npr_base.specs.Lists.{ReadsList, FirstFault}
 use Rattle.npr_base.specs.NameLaws.{IsUnterminated, name-one}
-use Rattle.npr_link.specs.Governing.{Forms, Sought, State, first, noted, noted_at}
-use Rattle.npr_link.specs.InfoKind as OfKind
+use Rattle.npr_link.specs.Governing.{Forms, told_by, Searches}
+use Rattle.npr_link.specs.Info.{attributes, family}
+use Rattle.npr_link.specs.InfoList.{IsInfoList, InfoListFault, read-searched, fault-searched}
 use Rattle.npr_link.specs.Kinds.{unterminated, is-unterminated}
-use Rattle.npr_link.specs.PortKind as OfPortKind
-use Rattle.npr_link.specs.declared.info_kind.InfoForm.{InfoForm}
-use Rattle.npr_link.specs.declared.port_kind.InfoPortForm.{InfoPortForm}
+use Rattle.npr_link.specs.declared.info.LinkInfo.{LinkInfo}
 
-name_found : (x : Item) (value name : List ℕ) → value ≡ x.value → IsUnterminated value name → name ≡ unterminated x.value
-name_found x value name same is = name-one value name (unterminated value) is (is-unterminated value) ∙ ap unterminated same
+-- an attribute of the number tells the form of its name
+pub name_told : {F : Type 0} (number : ℕ) (form_named : List ℕ → F) (x : Item) (value name : List ℕ) (form : F) → value ≡ x.value
+    → IsUnterminated value name → (number_of x.kind == number) ≡ true → form ≡ form_named name → Some form ≡ told_by number form_named x
+name_told number form_named x value name form same is here named =
+    let found : name ≡ unterminated x.value = name-one value name (unterminated value) is (is-unterminated value) ∙ ap unterminated same in
+    rw here (ap Some (named ∙ ap form_named found))
 
-pub kind_noted : (s : State) (x : Item) (value name : List ℕ) (form : InfoForm) (found : Option InfoForm) → value ≡ x.value → IsUnterminated value name
-    → number_of x.kind ≡ 1 → form ≡ OfKind.form_named name → found ≡ first s.0 form → (found, s.1) ≡ noted s x
-kind_noted s x value name form found same is number named found_is =
-    let whole = found_is ∙ ap (first s.0) (named ∙ ap OfKind.form_named (name_found x value name same is)) in
-    ap (λ (o : Option InfoForm). (o, s.1)) whole ∙ sym (ap (λ (n : ℕ). noted_at n s x.value) number)
+-- what is read or refused under what a search finds is so of the list
+pub read_under : (bytes : List ℕ) (c : Forms) (old mid : Counts) → Searches bytes c old mid → (r : Result (Vec LinkInfo Global) DecodeError)
+    → IfOk r (λ v. ReadsList (attributes c).Reads bytes (map family.meaning v.items)) → IfOk r (λ v. IsInfoList bytes (map family.meaning v.items))
+read_under bytes c old mid s (Ok v) h = read-searched bytes (map family.meaning v.items) c old mid s h
+read_under bytes c old mid s (Err e) h = tt
 
-pub port_kind_noted : (s : State) (x : Item) (value name : List ℕ) (form : InfoPortForm) (found : Option InfoPortForm) → value ≡ x.value
-    → IsUnterminated value name → number_of x.kind ≡ 4 → form ≡ OfPortKind.form_named name → found ≡ first s.1 form → (s.0, found) ≡ noted s x
-port_kind_noted s x value name form found same is number named found_is =
-    let whole = found_is ∙ ap (first s.1) (named ∙ ap OfPortKind.form_named (name_found x value name same is)) in
-    ap (λ (o : Option InfoPortForm). (s.0, o)) whole ∙ sym (ap (λ (n : ℕ). noted_at n s x.value) number)
-
--- so many looks of one kind more, and one more still
-abbrev pub hits : ℕ → Counts
-hits n = record { successful = n; failed = 0 }
-
-pub hit_more : (n : ℕ) (c : Counts) → hit (raised (hits n) c) ≡ raised (hits (n + 1)) c
-hit_more n c = same_counts (hit (raised (hits n) c)) (raised (hits (n + 1)) c) (omega arith) (omega arith)
-
-abbrev pub with_misses : Counts → ℕ → Counts
-with_misses more n = record { successful = more.successful; failed = n }
-
-pub miss_more : (more c : Counts) (n : ℕ) → miss (raised (with_misses more n) c) ≡ raised (with_misses more (n + 1)) c
-miss_more more c n = same_counts (miss (raised (with_misses more n) c)) (raised (with_misses more (n + 1)) c) (omega arith) (omega arith)
-
--- what is refused under what governs a list is refused of the list
-pub refused_under : {V : Type 0} (bytes : List ℕ) (c : Forms) (old mid : Counts) → Sought bytes c old mid → (r : Result V DecodeError)
+pub refused_under : {V : Type 0} (bytes : List ℕ) (c : Forms) (old mid : Counts) → Searches bytes c old mid → (r : Result V DecodeError)
     → IfErr r (λ e. e ≢ OutOfMemory → FirstFault (attributes c).Reads (attributes c).Faulty bytes e)
     → IfErr r (λ e. e ≢ OutOfMemory → InfoListFault bytes e)
 refused_under bytes c old mid s (Ok v) h = tt
-refused_under bytes c old mid s (Err e) h = λ other. (c, (old, mid, s), h other)
+refused_under bytes c old mid s (Err e) h = λ other. fault-searched bytes e c old mid s (h other)

@@ -1,3 +1,6 @@
 mod Absent
+mod EqualityLaws
 mod InfoSearch
+mod Names
 mod OkAs
+mod ValueEquality

@@ -1,6 +1,7 @@
 -- What an address family says of a link (linux/socket.h, AF_*), by the table.
-use Rattle.npr_base.specs.declared.refusal.AttrFamily.TheVariants.{Value as AtAfSpec}
-use Rattle.npr_base.specs.Tables.{EnumTable, table_of, row, others, ◌or◌, list_of, listed, value, refl, Reading, Family, writing_of, attributes_of, family_of_table}
+use Rattle.npr_base.specs.declared.refusal.AttrFamily.TheVariants.{AfSpecUnspec as AtAfSpec}
+use Rattle.npr_base.specs.Tables.{EnumTable, table_of, row, others, ◌or◌, list_of, listed, value, refl, Reading, Family, writing_of, attributes_of}
+use Rattle.npr_base.specs.Tables.{family_of_table}
 use Rattle.npr_link.specs.AfSpecInet as OfAfSpecInet
 use Rattle.npr_link.specs.AfSpecInet6 as OfAfSpecInet6
 use Rattle.npr_link.specs.contracts.af_spec.AfSpecUnspec.{enum}

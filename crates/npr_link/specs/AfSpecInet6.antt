@@ -1,10 +1,11 @@
 -- What IP version 6 says of a link (linux/if_link.h, IFLA_INET6_*), by the table.
-use Rattle.npr_base.specs.declared.refusal.AttrFamily.TheVariants.{Value as AtAfSpecInet6}
-use Rattle.npr_base.specs.Tables.{EnumTable, table_of, row, others, ◌or◌, exactly, le32, leading, octets, seen, value, refl, Reading, Family, writing_of, attributes_of, family_of_table}
+use Rattle.npr_base.specs.declared.refusal.AttrFamily.TheVariants.{AfSpecInet6 as AtAfSpecInet6}
+use Rattle.npr_base.specs.Tables.{EnumTable, table_of, row, others, ◌or◌, exactly, le32, leading, octets, seen, value, refl, Reading, Family, writing_of}
+use Rattle.npr_base.specs.Tables.{attributes_of, family_of_table}
 use Rattle.npr_link.specs.AddressMode.{address_mode}
 use Rattle.npr_link.specs.Inet6CacheInfo.{inet6_cache_info}
 use Rattle.npr_link.specs.Inet6Flags.{inet6_flags}
-use Rattle.npr_link.specs.Numbers.{signed_words32, signed_words64}
+use Rattle.npr_link_numbers.specs.Numbers.{signed_words32, signed_words64}
 use Rattle.npr_link.specs.contracts.af_spec_inet6.AfSpecInet6.{enum}
 use Rattle.npr_link.specs.declared.af_spec_inet6.AfSpecInet6.{AfSpecInet6}
 

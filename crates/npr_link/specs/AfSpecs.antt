@@ -1,14 +1,12 @@
 -- What address families say of a link (linux/if_link.h, IFLA_AF_SPEC), by the family of the message's header: a list of them, or
 -- bytes as they stand.
-use Rattle.std.specs.Prelude.{ℕ, List, Option, None}
+use Rattle.std.specs.Prelude.{ℕ, List}
 use Rattle.std.proofs.Common.{refl}
-use Rattle.npr_base.specs.Codec.{Codec, raw}
+use Rattle.npr_base.specs.Codec.{Codec}
 use Rattle.npr_base.specs.declared.address_family.AddressFamily.{AddressFamily}
 use Rattle.npr_base.specs.declared.address_family.AddressFamily.TheVariants.{Unspec, Inet, Inet6}
-use Rattle.npr_base.specs.declared.refusal.EmitError.{EmitError}
-use Rattle.npr_base.specs.ListCodec.{list_of}
 use Rattle.npr_link.specs.AfSpec as OfAfSpec
-use Rattle.npr_link.specs.Choices.{Variants, Case, chosen}
+use Rattle.npr_link.specs.Choices.{Held, as_list as listed, as_bytes as kept, Case, list_case, bytes_case, chosen}
 
 pub data AfSpecs : Type 0 where
   unspec : List OfAfSpec.family.Meaning → AfSpecs
@@ -25,31 +23,15 @@ form_of Inet = as_list
 form_of Inet6 = as_list
 form_of family = as_bytes
 
-abbrev encoded : AfSpecs → List ℕ
-encoded (unspec xs) = (list_of OfAfSpec.attributes).encode xs
-encoded (unknown bytes) = bytes
+-- how it is written, whatever the family
+abbrev pub held : AfSpecs → Held
+held (unspec xs) = listed OfAfSpec.attributes xs
+held (unknown bytes) = kept bytes
 
-abbrev unfit : AfSpecs → Option EmitError
-unfit (unspec xs) = (list_of OfAfSpec.attributes).unfit 0 xs
-unfit (unknown bytes) = None
-
-abbrev count : AfSpecs → ℕ
-count (unspec xs) = (list_of OfAfSpec.attributes).members.count xs
-count (unknown bytes) = 0
-
-abbrev pub variants : Variants AfSpecs
-variants = record { encode = encoded; unfit = unfit; count = count }
-
-abbrev pub case : Form → Case variants
-case as_list = record {
-  V = List OfAfSpec.family.Meaning;
-  codec = list_of OfAfSpec.attributes;
-  made = unspec;
-  encoded = λ v. refl;
-  unfit = λ kind v. refl;
-  counted = λ v. refl;
-}
-case as_bytes = record { V = List ℕ; codec = raw; made = unknown; encoded = λ v. refl; unfit = λ kind v. refl; counted = λ v. refl }
+-- and read
+abbrev pub case : Form → Case held
+case as_list = list_case held OfAfSpec.attributes unspec (λ xs. refl)
+case as_bytes = bytes_case held unknown (λ bytes. refl)
 
 abbrev pub af_specs : Form → Codec AfSpecs
-af_specs form = chosen variants (case form)
+af_specs form = chosen held (case form)

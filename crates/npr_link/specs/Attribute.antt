@@ -1,5 +1,5 @@
 -- The attributes of a link message (linux/if_link.h, IFLA_*), by their table under the header's family.
-use Rattle.npr_base.specs.declared.refusal.AttrFamily.TheVariants.{Value as AtAttribute}
+use Rattle.npr_base.specs.declared.refusal.AttrFamily.TheVariants.{Link as AtAttribute}
 use Rattle.std.specs.Prelude.{List, drop, map}
 use Rattle.std.proofs.Common.{◌≡◌, inl, inr}
 use Rattle.npr_base.specs.declared.address_family.AddressFamily.{AddressFamily}
@@ -19,9 +19,9 @@ use Rattle.npr_link.specs.InfoList.{info_list}
 use Rattle.npr_link.specs.LinkEvent.{link_event}
 use Rattle.npr_link.specs.LinkMode.{link_mode}
 use Rattle.npr_link.specs.Map.{device_map}
-use Rattle.npr_link.specs.Numbers.{words32, words64}
+use Rattle.npr_link_numbers.specs.Numbers.{words32, words64}
 use Rattle.npr_link.specs.Prop as OfProp
-use Rattle.npr_link.specs.ProtocolDown as OfProtocolDown
+use Rattle.npr_link.specs.ProtocolDown as OfReason
 use Rattle.npr_link.specs.SharedRow.{SharedTable, first_of, shared_meaning}
 use Rattle.npr_link.specs.State.{state}
 use Rattle.npr_link.specs.Uint.{uint}
@@ -84,7 +84,7 @@ flat_rows =
     or marked_row AtAttribute 52 (list_of OfProp.attributes) (listed OfProp.family.meaning LinkAttribute.PropList)  -- IFLA_PROP_LIST
     or row AtAttribute 53 name (text LinkAttribute.AltIfName)  -- IFLA_ALT_IFNAME
     or row AtAttribute 54 raw (items LinkAttribute.PermAddress)  -- IFLA_PERM_ADDRESS
-    or marked_row AtAttribute 55 (list_of OfProtocolDown.attributes) (listed OfProtocolDown.family.meaning LinkAttribute.ProtoDownReason)  -- IFLA_PROTO_DOWN_REASON
+    or marked_row AtAttribute 55 (list_of OfReason.attributes) (listed OfReason.family.meaning LinkAttribute.ProtoDownReason)  -- IFLA_PROTO_DOWN_REASON
     or row AtAttribute 56 name (text LinkAttribute.ParentDevName)  -- IFLA_PARENT_DEV_NAME
     or row AtAttribute 57 name (text LinkAttribute.ParentDevBusName)  -- IFLA_PARENT_DEV_BUS_NAME
     or row AtAttribute 58 (exactly le32) (value LinkAttribute.GroMaxSize)  -- IFLA_GRO_MAX_SIZE

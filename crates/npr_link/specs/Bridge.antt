@@ -1,11 +1,12 @@
 -- The data of a bridge (linux/if_link.h, IFLA_BR_*), by the table.
-use Rattle.npr_base.specs.declared.refusal.AttrFamily.TheVariants.{Value as AtBridge}
-use Rattle.npr_base.specs.Tables.{EnumTable, table_of, marked_row, row, others, ◌or◌, boolean, byte, dropped, exactly, le16, le32, le64, leading, list_of, listed, nothing, octets}
+use Rattle.npr_base.specs.declared.refusal.AttrFamily.TheVariants.{InfoBridge as AtBridge}
+use Rattle.npr_base.specs.Tables.{EnumTable, table_of, marked_row, row, others, ◌or◌, boolean, byte, dropped, exactly, le16, le32, le64, leading, list_of}
+use Rattle.npr_base.specs.Tables.{listed, nothing, octets}
 use Rattle.npr_base.specs.Tables.{value, refl, Reading, Family, writing_of, attributes_of, family_of_table}
 use Rattle.npr_link.specs.BooleanOptions.{boolean_options}
 use Rattle.npr_link.specs.BridgeId.{bridge_id}
 use Rattle.npr_link.specs.MulticastRouter.{router_type}
-use Rattle.npr_link.specs.QuerierState as OfQuerierState
+use Rattle.npr_link.specs.QuerierState as OfQuerier
 use Rattle.npr_link.specs.StpState.{stp_state}
 use Rattle.npr_link.specs.VlanProtocol.{vlan_protocol}
 use Rattle.npr_link.specs.contracts.bridge.InfoBridge.{enum}
@@ -60,7 +61,7 @@ table =
     or row AtBridge 44 (exactly byte) (value InfoBridge.MulticastMldVersion)  -- IFLA_BR_MCAST_MLD_VERSION
     or row AtBridge 45 (exactly boolean) (value InfoBridge.VlanStatsPerPort)  -- IFLA_BR_VLAN_STATS_PER_PORT
     or row AtBridge 46 (exactly boolean_options) (value InfoBridge.MultiBoolOpt)  -- IFLA_BR_MULTI_BOOLOPT
-    or marked_row AtBridge 47 (list_of OfQuerierState.attributes) (listed OfQuerierState.family.meaning InfoBridge.MulticastQuerierState)  -- IFLA_BR_MCAST_QUERIER_STATE
+    or marked_row AtBridge 47 (list_of OfQuerier.attributes) (listed OfQuerier.family.meaning InfoBridge.MulticastQuerierState)  -- IFLA_BR_MCAST_QUERIER_STATE
     or row AtBridge 48 (exactly le32) (value InfoBridge.FdbNLearned)  -- IFLA_BR_FDB_N_LEARNED
     or row AtBridge 49 (exactly le32) (value InfoBridge.FdbMaxLearned)  -- IFLA_BR_FDB_MAX_LEARNED
     or row AtBridge 50 (exactly le32) (value InfoBridge.StpMode)  -- IFLA_BR_STP_MODE

@@ -1,6 +1,7 @@
 -- The data of a port of a bridge (linux/if_link.h, IFLA_BRPORT_*), by the table.
-use Rattle.npr_base.specs.declared.refusal.AttrFamily.TheVariants.{Value as AtBridgePort}
-use Rattle.npr_base.specs.Tables.{EnumTable, table_of, row, others, ◌or◌, boolean, dropped, exactly, le16, le32, le64, leading, nothing, value, refl, Reading, Family, writing_of}
+use Rattle.npr_base.specs.declared.refusal.AttrFamily.TheVariants.{InfoBridgePort as AtBridgePort}
+use Rattle.npr_base.specs.Tables.{EnumTable, table_of, row, others, ◌or◌, boolean, dropped, exactly, le16, le32, le64, leading, nothing, value, refl}
+use Rattle.npr_base.specs.Tables.{Reading, Family, writing_of}
 use Rattle.npr_base.specs.Tables.{attributes_of, family_of_table}
 use Rattle.npr_link.specs.BridgeId.{bridge_id}
 use Rattle.npr_link.specs.MulticastRouter.{router_type}

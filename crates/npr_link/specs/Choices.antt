@@ -1,61 +1,103 @@
 -- A value that is one of several variants, which a context chooses: each is read by a codec of its own, and written whatever the
 -- context is.
---     Variants         what is written of each variant, why what is inside can't be, and how many attributes stand inside
---     Case             a variant, with the codec that reads it
---     chosen           the codec of a case
-use Rattle.std.specs.Prelude.{◌≡◌, ℕ, ◌+◌, ◌*◌, ◌≤◌, List, length, Option, None}
-use Rattle.std.proofs.Common.{sym, ap, subst, ◌∙◌}
-use Rattle.npr_base.specs.Codec.{Codec}
+--     Held                 what a value is written as, why it can't be, and how much stands in it
+--     as_list, as_bytes    attributes of a family, and bytes as they stand
+--     Case                 a variant, with the codec that reads it: list_case, bytes_case
+--     chosen               the codec of a case
+use Rattle.std.specs.Prelude.{◌≡◌, ℕ, ◌+◌, ◌*◌, ◌≤◌, ◌<◌, List, length, Option, None}
+use Rattle.std.proofs.Common.{refl, sym, ap, subst, ◌∙◌}
+use Rattle.npr_base.specs.Codec.{Codec, raw}
 use Rattle.npr_base.specs.Counts.{SawEach}
 use Rattle.npr_base.specs.declared.refusal.EmitError.{EmitError}
-use Rattle.npr_base.specs.Framing.{IsBytes, framed}
+use Rattle.npr_base.specs.Family.{Writing, Reading}
+use Rattle.npr_base.specs.Framing.{Item, IsBytes, Front, framed}
+use Rattle.npr_base.specs.ListCodec.{list_of}
 
-pub record Variants (W : Type 0) : Type 0 where
-  pub encode : W → List ℕ
-  pub unfit : W → Option EmitError
-  pub count : W → ℕ
+-- its bytes, the first cause inside why there are none, how many attributes stand inside, and its members or bytes
+pub record Held : Type 0 where
+  pub encoded : List ℕ
+  pub unfit : Option EmitError
+  pub count : ℕ
+  pub size : ℕ
 
--- it is written as the codec says
-pub record Case {W : Type 0} (w : Variants W) : Type 1 where
+abbrev pub as_list : {M : Type 0} {w : Writing M} → Reading w → List M → Held
+as_list f xs = record {
+  encoded = (list_of f).encode xs;
+  unfit = (list_of f).unfit 0 xs;
+  count = (list_of f).members.count xs;
+  size = length xs;
+}
+
+abbrev pub as_bytes : List ℕ → Held
+as_bytes bytes = record { encoded = bytes; unfit = None; count = 0; size = length bytes }
+
+-- it is written as the codec says, and its reading takes memory for such bytes alone
+pub record Case {W : Type 0} (held : W → Held) : Type 1 where
   pub V : Type 0
   pub codec : Codec V
   pub made : V → W
-  pub encoded : (v : V) → w.encode (made v) ≡ codec.encode v
-  pub unfit : (kind : ℕ) (v : V) → w.unfit (made v) ≡ codec.unfit kind v
-  pub counted : (v : V) → w.count (made v) ≡ codec.members.count v
+  pub encoded : (v : V) → (held (made v)).encoded ≡ codec.encode v
+  pub unfit : (kind : ℕ) (v : V) → (held (made v)).unfit ≡ codec.unfit kind v
+  pub counted : (v : V) → (held (made v)).count ≡ codec.members.count v
+  pub memory : List ℕ → Type 0
 
-module _ {W : Type 0} (w : Variants W) (c : Case w) where
+module _ {W : Type 0} (held : W → Held) where
+  abbrev pub list_case : {M : Type 0} {w : Writing M} (f : Reading w) (made : List M → W) → ((xs : List M) → held (made xs) ≡ as_list f xs) → Case held
+  list_case {M} f made is = record {
+    V = List M;
+    codec = list_of f;
+    made = made;
+    encoded = λ xs. ap (λ (h : Held). h.encoded) (is xs);
+    unfit = λ kind xs. ap (λ (h : Held). h.unfit) (is xs);
+    counted = λ xs. ap (λ (h : Held). h.count) (is xs);
+    memory = λ bytes. (x : Item) × (rest : List ℕ) × Front bytes x rest;
+  }
+
+  abbrev pub bytes_case : (made : List ℕ → W) → ((bytes : List ℕ) → held (made bytes) ≡ as_bytes bytes) → Case held
+  bytes_case made is = record {
+    V = List ℕ;
+    codec = raw;
+    made = made;
+    encoded = λ bytes. ap (λ (h : Held). h.encoded) (is bytes);
+    unfit = λ kind bytes. ap (λ (h : Held). h.unfit) (is bytes);
+    counted = λ bytes. ap (λ (h : Held). h.count) (is bytes);
+    memory = λ bytes. 0 < length bytes;
+  }
+
+module _ {W : Type 0} (held : W → Held) (c : Case held) where
   abbrev pub IsChosen : (c.V → Type 0) → W → Type 0
   IsChosen P x = (v : c.V) × P v × (x ≡ c.made v)
 
   pub chosen-one : (bytes : List ℕ) (x y : W) → IsChosen (c.codec.Reads bytes) x → IsChosen (c.codec.Reads bytes) y → x ≡ y
   chosen-one bytes x y p q = p.2 ∙ ap c.made (c.codec.one_reading bytes p.0 q.0 p.1 q.1) ∙ sym q.2
 
-  pub chosen-back : (kind : ℕ) (x : W) → IsChosen c.codec.Holds x → w.unfit x ≡ None → IsChosen (c.codec.Reads (w.encode x)) x
+  written_as : (x : W) (v : c.V) → x ≡ c.made v → (held x).encoded ≡ c.codec.encode v
+  written_as x v is = ap (λ (y : W). (held y).encoded) is ∙ c.encoded v
+
+  pub chosen-back : (kind : ℕ) (x : W) → IsChosen c.codec.Holds x → (held x).unfit ≡ None → IsChosen (c.codec.Reads (held x).encoded) x
   chosen-back kind x p fits =
-      let is : w.encode x ≡ c.codec.encode p.0 = ap w.encode p.2 ∙ c.encoded p.0 in
-      let free : c.codec.unfit kind p.0 ≡ None = sym (ap w.unfit p.2 ∙ c.unfit kind p.0) ∙ fits in
-      (p.0, subst (λ (b : List ℕ). c.codec.Reads b p.0) (sym is) (c.codec.reads_back kind p.0 p.1 free), p.2)
+      let free : c.codec.unfit kind p.0 ≡ None = sym (ap (λ (y : W). (held y).unfit) p.2 ∙ c.unfit kind p.0) ∙ fits in
+      (p.0, subst (λ (b : List ℕ). c.codec.Reads b p.0) (sym (written_as x p.0 p.2)) (c.codec.reads_back kind p.0 p.1 free), p.2)
 
   pub chosen-grows : (bytes : List ℕ) (x : W) → IsBytes bytes → IsChosen (c.codec.Reads bytes) x
-      → 2 * framed (length (w.encode x)) ≤ 5 * (4 + length bytes)
+      → 2 * framed (length (held x).encoded) ≤ 5 * (4 + length bytes)
   chosen-grows bytes x is p =
-      let written : w.encode x ≡ c.codec.encode p.0 = ap w.encode p.2 ∙ c.encoded p.0 in
-      subst (λ (b : List ℕ). 2 * framed (length b) ≤ 5 * (4 + length bytes)) (sym written) (c.codec.grows bytes p.0 is p.1)
+      subst (λ (b : List ℕ). 2 * framed (length b) ≤ 5 * (4 + length bytes)) (sym (written_as x p.0 p.2)) (c.codec.grows bytes p.0 is p.1)
 
   abbrev pub chosen : Codec W
   chosen = record {
     Reads = λ bytes x. IsChosen (c.codec.Reads bytes) x;
     Wrong = c.codec.Wrong;
-    encode = w.encode;
-    unfit = λ kind x. w.unfit x;
+    encode = λ x. (held x).encoded;
+    unfit = λ kind x. (held x).unfit;
     Holds = IsChosen c.codec.Holds;
     members = record {
-      count = w.count;
+      count = λ x. (held x).count;
       looks = c.codec.members.looks;
       bounded = c.codec.members.bounded;
       saw =
-          λ bytes x old new p t. subst (SawEach old new) (sym (ap w.count p.2 ∙ c.counted p.0)) (c.codec.members.saw bytes p.0 old new p.1 t);
+          λ bytes x old new p t.
+          subst (SawEach old new) (sym (ap (λ (y : W). (held y).count) p.2 ∙ c.counted p.0)) (c.codec.members.saw bytes p.0 old new p.1 t);
     };
     one_reading = chosen-one;
     no_fault = λ at bytes x e p q. c.codec.no_fault at bytes p.0 e p.1 q;

@@ -1,13 +1,16 @@
 -- What governs the data in a list of IFLA_LINKINFO (linux/if_link.h): the first IFLA_INFO_KIND those of the link, and the first
--- IFLA_INFO_SLAVE_KIND those of a port, wherever they stand.
---     State                what was found so far
---     noted                with one attribute more
---     Searching            a search through bytes: what governs them, and the looks that it takes
-use Rattle.std.specs.Prelude.{◌≡◌, ℕ, ◌<◌, ◌==◌, Bool, true, false, List, [], length, Option, Some, None, nat_lt, if◌then◌else◌}
+-- IFLA_INFO_SLAVE_KIND those of a port, wherever they stand before a fault.
+--     told, port_told      what an attribute tells of them
+--     Governs              what governs bytes
+--     State, noted         what a search found so far, and with one attribute more
+--     Searches             a search through bytes: what it finds, and the looks that it takes
+use Rattle.std.specs.Prelude.{◌≡◌, ℕ, ◌<◌, ◌==◌, ◌⊎◌, Bool, true, false, List, [], length, Option, Some, None, nat_lt, if◌then◌else◌}
 use Rattle.std.specs.Bool.{MatchBool}
+use Rattle.std.specs.Option.{option_or}
 use Rattle.npr_base.specs.Counts.{Counts, hit, miss}
 use Rattle.npr_base.specs.declared.refusal.DecodeError.{DecodeError}
-use Rattle.npr_base.specs.Framing.{Item, number_of, Front, Fault}
+use Rattle.npr_base.specs.Framing.{Item, number_of, Front, Passes, Fault}
+use Rattle.npr_base.specs.Lists.{AllOf}
 use Rattle.npr_link.specs.InfoKind as OfKind
 use Rattle.npr_link.specs.Kinds.{unterminated}
 use Rattle.npr_link.specs.PortKind as OfPortKind
@@ -23,25 +26,45 @@ Forms = InfoForm × InfoPortForm
 abbrev pub none_governs : Forms
 none_governs = (Kept, PortKept)
 
+-- ---- the rule
+
+-- an attribute of this number tells the form of the name that it holds
+abbrev pub told_by : {F : Type 0} → ℕ → (List ℕ → F) → Item → Option F
+told_by number form_named x = if number_of x.kind == number then Some (form_named (unterminated x.value)) else None
+
+abbrev pub told : Item → Option InfoForm
+told x = told_by 1 OfKind.form_named x
+
+abbrev pub port_told : Item → Option InfoPortForm
+port_told x = told_by 4 OfPortKind.form_named x
+
+-- no attribute stands in front: no bytes are left, or what is left is faulty
+abbrev pub NoneInFront : List ℕ → Type 0
+NoneInFront rest = (rest ≡ []) ⊎ ((e : DecodeError) × (0 < length rest) × Fault rest e)
+
+module _ {F : Type 0} (tells : Item → Option F) (kept : F) where
+  -- what comes next tells the form; where nothing comes, data are kept
+  abbrev pub Tells : List ℕ → F → Type 0
+  Tells rest form = ((x : Item) × (more : List ℕ) × Front rest x more × (tells x ≡ Some form)) ⊎ (NoneInFront rest × (form ≡ kept))
+
+  -- attributes that tell none, and then one that does, or the end
+  abbrev pub FirstTells : List ℕ → F → Type 0
+  FirstTells bytes form = (before : List Item) × (rest : List ℕ) × Passes bytes before rest × AllOf (λ x. tells x ≡ None) before × Tells rest form
+
+abbrev pub Governs : List ℕ → Forms → Type 0
+Governs bytes forms = FirstTells told Kept bytes forms.0 × FirstTells port_told PortKept bytes forms.1
+
+-- ---- the search
+
 abbrev pub State : Type 0
 State = Option InfoForm × Option InfoPortForm
 
 abbrev pub start : State
 start = (None, None)
 
--- the first counts
-abbrev pub first : {A : Type 0} → Option A → A → Option A
-first (Some found) later = Some found
-first None later = Some later
-
-abbrev pub noted_at : ℕ → State → List ℕ → State
-noted_at number s value =
-    if number == 1 then (first s.0 (OfKind.form_named (unterminated value)), s.1)
-    else if number == 4 then (s.0, first s.1 (OfPortKind.form_named (unterminated value)))
-    else s
-
+-- what is found stays
 abbrev pub noted : State → Item → State
-noted s x = noted_at (number_of x.kind) s x.value
+noted s x = (option_or s.0 (told x), option_or s.1 (port_told x))
 
 abbrev pub is_complete : State → Bool
 is_complete (Some form, Some port) = true
@@ -55,8 +78,8 @@ or_else default None = default
 abbrev pub forms_of : State → Forms
 forms_of s = (or_else Kept s.0, or_else PortKept s.1)
 
--- the search ends where both are found, at the end, or at a fault, which is refused when the list is read; each attribute that is
--- looked at takes a look, and the fault one that fails
+-- it ends where both are found, at the end, or at a fault, which is refused when the list is read; each attribute that is looked at
+-- takes a look, and the fault one that fails
 pub data Searching : State → List ℕ → Forms → Counts → Counts → Type 0 where
   search_ends : {s : State} {bytes : List ℕ} {c : Forms} {old new : Counts} → bytes ≡ [] → c ≡ forms_of s → new ≡ old → Searching s bytes c old new
   search_stops : {s : State} {bytes : List ℕ} {c : Forms} {old new : Counts} (e : DecodeError) → 0 < length bytes → Fault bytes e → c ≡ forms_of s
@@ -67,10 +90,6 @@ pub data Searching : State → List ℕ → Forms → Counts → Counts → Type
       → is_complete (noted s x) ≡ false → Searching (noted s x) rest c (hit old) new → Searching s bytes c old new
 
 -- a list of fewer than eight bytes has no room for a kind and for data beside it, and is not searched
-abbrev pub Sought : List ℕ → Forms → Counts → Counts → Type 0
-Sought bytes c old new =
+abbrev pub Searches : List ℕ → Forms → Counts → Counts → Type 0
+Searches bytes c old new =
     MatchBool (nat_lt (length bytes) 8) ((c ≡ none_governs) × (new ≡ old)) (Searching start bytes c old new)
-
--- what governs the bytes
-abbrev pub Governs : List ℕ → Forms → Type 0
-Governs bytes c = (old : Counts) × (new : Counts) × Sought bytes c old new

@@ -100,3 +100,7 @@ pub known_reads : (names : List (List ℕ)) (bytes text told : List ℕ) (k : Ki
 known_reads names bytes text told k is same known_as =
     let t : text ≡ kind_name k = sym (ap kind_name known_as ∙ (kinds names).back told ∙ same) in
     (subst (IsName bytes) t is, known_as ∙ ap (kind_in names) (same ∙ t))
+
+-- reading takes memory for a name that is none of these
+abbrev pub TakesMemory : List (List ℕ) → List ℕ → Type 0
+TakesMemory names bytes = (text : List ℕ) × IsName bytes text × (kind_in names text ≡ other text)

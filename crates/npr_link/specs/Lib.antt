@@ -14,6 +14,7 @@ pub mod ExtentMask
 pub mod Fails
 pub mod Flags
 pub mod Governing
+pub mod GoverningLaws
 pub mod Header
 pub mod Inet6CacheInfo
 pub mod Inet6Flags
@@ -31,7 +32,6 @@ pub mod Map
 pub mod Message
 pub mod MoreFields
 pub mod MulticastRouter
-pub mod Numbers
 pub mod Pairs
 pub mod Peer
 pub mod PeerAttribute
@@ -42,6 +42,7 @@ pub mod Prop
 pub mod ProtocolDown
 pub mod QuerierState
 pub mod SharedRow
+pub mod ShortLists
 pub mod State
 pub mod StpState
 pub mod Uint

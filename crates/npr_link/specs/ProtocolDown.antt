@@ -1,6 +1,7 @@
 -- Who holds a link down (linux/if_link.h, IFLA_PROTO_DOWN_REASON_*), by the table.
-use Rattle.npr_base.specs.declared.refusal.AttrFamily.TheVariants.{Value as AtProtocolDown}
-use Rattle.npr_base.specs.Tables.{EnumTable, table_of, row, others, ◌or◌, exactly, le32, value, refl, Reading, Family, writing_of, attributes_of, family_of_table}
+use Rattle.npr_base.specs.declared.refusal.AttrFamily.TheVariants.{LinkProtocolDownReason as AtProtocolDown}
+use Rattle.npr_base.specs.Tables.{EnumTable, table_of, row, others, ◌or◌, exactly, le32, value, refl, Reading, Family, writing_of, attributes_of}
+use Rattle.npr_base.specs.Tables.{family_of_table}
 use Rattle.npr_link.specs.contracts.protocol_down.LinkProtocolDownReason.{enum}
 use Rattle.npr_link.specs.declared.protocol_down.LinkProtocolDownReason.{LinkProtocolDownReason}
 

@@ -1,6 +1,7 @@
 -- The data of a VLAN (linux/if_link.h, IFLA_VLAN_*), by the table.
-use Rattle.npr_base.specs.declared.refusal.AttrFamily.TheVariants.{Value as AtVlan}
-use Rattle.npr_base.specs.Tables.{EnumTable, table_of, row, others, ◌or◌, exactly, le16, list_of, listed, value, refl, Reading, Family, writing_of, attributes_of, family_of_table}
+use Rattle.npr_base.specs.declared.refusal.AttrFamily.TheVariants.{InfoVlan as AtVlan}
+use Rattle.npr_base.specs.Tables.{EnumTable, table_of, row, others, ◌or◌, exactly, le16, list_of, listed, value, refl, Reading, Family, writing_of}
+use Rattle.npr_base.specs.Tables.{attributes_of, family_of_table}
 use Rattle.npr_link.specs.Pairs.{two_flags}
 use Rattle.npr_link.specs.VlanProtocol.{vlan_protocol}
 use Rattle.npr_link.specs.VlanQos as OfVlanQos

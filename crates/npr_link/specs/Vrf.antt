@@ -1,6 +1,7 @@
 -- The data of a routing domain, or of a port of one (linux/if_link.h, IFLA_VRF_*), by the table.
-use Rattle.npr_base.specs.declared.refusal.AttrFamily.TheVariants.{Value as AtVrf}
-use Rattle.npr_base.specs.Tables.{EnumTable, table_of, row, others, ◌or◌, exactly, le32, value, refl, Reading, Family, writing_of, attributes_of, family_of_table}
+use Rattle.npr_base.specs.declared.refusal.AttrFamily.TheVariants.{InfoVrf as AtVrf}
+use Rattle.npr_base.specs.Tables.{EnumTable, table_of, row, others, ◌or◌, exactly, le32, value, refl, Reading, Family, writing_of, attributes_of}
+use Rattle.npr_base.specs.Tables.{family_of_table}
 use Rattle.npr_link.specs.contracts.vrf.InfoVrf.{enum}
 use Rattle.npr_link.specs.declared.vrf.InfoVrf.{InfoVrf}
 

@@ -1,6 +1,7 @@
 -- The program at the driver of a link (linux/if_link.h, IFLA_XDP_*), by the table.
-use Rattle.npr_base.specs.declared.refusal.AttrFamily.TheVariants.{Value as AtXdp}
-use Rattle.npr_base.specs.Tables.{EnumTable, table_of, row, others, ◌or◌, exactly, le32, signed32, value, refl, Reading, Family, writing_of, attributes_of, family_of_table}
+use Rattle.npr_base.specs.declared.refusal.AttrFamily.TheVariants.{LinkXdp as AtXdp}
+use Rattle.npr_base.specs.Tables.{EnumTable, table_of, row, others, ◌or◌, exactly, le32, signed32, value, refl, Reading, Family, writing_of, attributes_of}
+use Rattle.npr_base.specs.Tables.{family_of_table}
 use Rattle.npr_link.specs.XdpAttached.{attachment}
 use Rattle.npr_link.specs.contracts.xdp.LinkXdp.{enum}
 use Rattle.npr_link.specs.declared.xdp.LinkXdp.{LinkXdp}

@@ -22,7 +22,7 @@ pub enum AfSpecUnspec {
 /// The rows of the table.
 macro_rules! rows {
     ($body:ident ($($given:tt)*)) => {
-        npr_base::$body!(($($given)*) AfSpecUnspec of Value {
+        npr_base::$body!(($($given)*) AfSpecUnspec of AfSpecUnspec {
             2 Inet(list);
             10 Inet6(list);
         })

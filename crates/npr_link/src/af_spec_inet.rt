@@ -3,12 +3,8 @@
 ghost use Rattle.std.specs.Prelude.{refl};
 ghost use Rattle.{npr_base.specs.Family.{shaped}, npr_link.specs.AfSpecInet.{family}};
 
-use crate::dev_conf::InetDevConf;
-use crate::put_link_rows;
-use npr_base::{
-    Attribute, DecodeError, DefaultNla, EmitError, Looks, Nla, NlaBuffer, Place, clone_rows,
-    kind_rows, len_rows, write_rows,
-};
+use npr_base::{Attribute, DecodeError, DefaultNla, EmitError, Looks, Nla, NlaBuffer, Place};
+use npr_link_numbers::InetDevConf;
 use std::alloc::{AllocError, Global};
 
 /// What IP version 4 says of a link.
@@ -23,7 +19,7 @@ pub enum AfSpecInet {
 /// The rows of the table.
 macro_rules! rows {
     ($body:ident ($($given:tt)*)) => {
-        $body!(($($given)*) AfSpecInet of Value {
+        npr_base::$body!(($($given)*) AfSpecInet of AfSpecInet {
             1 DevConf(InetDevConf value);
         })
     };
@@ -64,7 +60,7 @@ impl Attribute for AfSpecInet {
         item: &NlaBuffer<'_>,
         looks: &mut Looks,
     ) -> Result<(), DecodeError> {
-        rows!(put_link_rows(place, alloc, item, looks))
+        rows!(put_rows(place, alloc, item, looks))
     }
 
     fn try_clone(&self, alloc: Global) -> Result<Self, AllocError> {

@@ -4,16 +4,13 @@ ghost use Rattle.std.specs.Prelude.{refl};
 ghost use Rattle.{npr_base.specs.Family.{shaped}, npr_link.specs.AfSpecInet6.{family}};
 
 use crate::address_mode::In6AddrGenMode;
-use crate::dev_conf::Inet6DevConf;
 use crate::inet6_cache_info::Inet6CacheInfo;
 use crate::inet6_flags::Inet6IfaceFlags;
-use crate::inet6_stats::{Icmp6Stats, Inet6Stats};
-use crate::put_link_rows;
 use bitflags::Flags;
 use npr_base::{
     Attribute, DecodeError, DefaultNla, EmitError, Ipv6Addr, Looks, Nla, NlaBuffer, Place,
-    clone_rows, kind_rows, len_rows, write_rows,
 };
+use npr_link_numbers::{Icmp6Stats, Inet6DevConf, Inet6Stats};
 use std::alloc::{AllocError, Global};
 
 /// What IP version 6 says of a link.
@@ -42,7 +39,7 @@ pub enum AfSpecInet6 {
 /// The rows of the table.
 macro_rules! rows {
     ($body:ident ($($given:tt)*)) => {
-        $body!(($($given)*) AfSpecInet6 of Value {
+        npr_base::$body!(($($given)*) AfSpecInet6 of AfSpecInet6 {
             1 Flags(Inet6IfaceFlags flags le32);
             2 DevConf(Inet6DevConf value);
             3 Stats(Inet6Stats value);
@@ -90,7 +87,7 @@ impl Attribute for AfSpecInet6 {
         item: &NlaBuffer<'_>,
         looks: &mut Looks,
     ) -> Result<(), DecodeError> {
-        rows!(put_link_rows(place, alloc, item, looks))
+        rows!(put_rows(place, alloc, item, looks))
     }
 
     fn try_clone(&self, alloc: Global) -> Result<Self, AllocError> {

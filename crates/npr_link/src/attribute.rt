@@ -26,17 +26,16 @@ use crate::link_mode::LinkMode;
 use crate::map::Map;
 use crate::prop::Prop;
 use crate::protocol_down::LinkProtocolDownReason;
-use crate::put_link_rows;
 use crate::state::State;
-use crate::stats::{Stats, Stats64};
 use crate::values::{read_uint, uint_len, write_uint};
 use crate::xdp::LinkXdp;
 use bitflags::Flags;
 use npr_base::{
     AddressFamily, AttrFamily, Attribute, DecodeError, DefaultNla, EmitError, Looks, NLA_F_NESTED,
-    Nla, NlaBuffer, Place, check_list, clone_list, clone_rows, kind_rows, len_rows, parse_list,
-    put_read, read_bytes, write_bytes, write_list, write_rows,
+    Nla, NlaBuffer, Place, check_list, clone_list, parse_list, put_read, read_bytes, write_bytes,
+    write_list,
 };
+use npr_link_numbers::{Stats, Stats64};
 use std::alloc::{AllocError, Global};
 
 /// An attribute of a link message. What address families say of it is a list or bytes as they stand, by
@@ -177,7 +176,7 @@ const IFLA_LINKINFO: u16 = 18;
 /// The rows of the table that stand for themselves. Numbers 18, 26 and 66 stand beside them.
 macro_rules! rows {
     ($body:ident ($($given:tt)*)) => {
-        $body!(($($given)*) LinkAttribute of Value {
+        npr_base::$body!(($($given)*) LinkAttribute of Link {
             1 Address(raw);
             2 Broadcast(raw);
             3 IfName(name);
@@ -345,10 +344,10 @@ fn put_flat<P: Place<LinkAttribute>>(
     ensures exact { Answered result → FlatLooks item.now looks.old looks.new }
     ensures bounded { AddsAtMost looks.old looks.new (length (item.now).value) }
 {
-    rows!(put_link_rows(place, alloc, item, looks;
+    rows!(put_rows(place, alloc, item, looks;
         IFLA_MAX_PACING_OFFLOAD_HORIZON => put_read(
             place,
-            read_uint(item.value(), AttrFamily::Value.at(IFLA_MAX_PACING_OFFLOAD_HORIZON)),
+            read_uint(item.value(), AttrFamily::Link.at(IFLA_MAX_PACING_OFFLOAD_HORIZON)),
             LinkAttribute::MaxPacingOffloadHorizon,
         ),
     ))

@@ -37,7 +37,8 @@ impl Flags for BridgeBooleanOptionFlags {
 
     ghost exact = { ⊤ };
 
-    ghost table = { (codes "NoLinkLocalLearn", 1) ∷ (codes "VlanMulticastSnooping", 2) ∷ (codes "MstEnable", 4) ∷ (codes "MdbOffloadFailNotif", 8) ∷ (codes "FdbLocalVlan0", 16) ∷ ([], 4294967295) ∷ [] };
+    ghost table = { (codes "NoLinkLocalLearn", 1) ∷ (codes "VlanMulticastSnooping", 2) ∷ (codes "MstEnable", 4)
+        ∷ (codes "MdbOffloadFailNotif", 8) ∷ (codes "FdbLocalVlan0", 16) ∷ ([], 4294967295) ∷ [] };
 
     ghost set_of = { boolean_option_bits.number };
 

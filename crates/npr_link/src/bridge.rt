@@ -122,7 +122,7 @@ pub enum InfoBridge {
 /// The rows of the table.
 macro_rules! rows {
     ($body:ident ($($given:tt)*)) => {
-        npr_base::$body!(($($given)*) InfoBridge of Value {
+        npr_base::$body!(($($given)*) InfoBridge of InfoBridge {
             1 ForwardDelay(le32);
             2 HelloTime(le32);
             3 MaxAge(le32);
@@ -210,7 +210,7 @@ impl Attribute for InfoBridge {
         item: &NlaBuffer<'_>,
         looks: &mut Looks,
     ) -> Result<(), DecodeError> {
-        rows!(put_rows(place, alloc, item, looks; 20 => put_read(place, read_octets::<6>(item.value(), AttrFamily::Value.at(20)), InfoBridge::GroupAddr),))
+        rows!(put_rows(place, alloc, item, looks; 20 => put_read(place, read_octets::<6>(item.value(), AttrFamily::InfoBridge.at(20)), InfoBridge::GroupAddr),))
     }
 
     fn try_clone(&self, alloc: Global) -> Result<Self, AllocError> {

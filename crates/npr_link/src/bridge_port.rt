@@ -106,7 +106,7 @@ pub enum InfoBridgePort {
 /// The rows of the table.
 macro_rules! rows {
     ($body:ident ($($given:tt)*)) => {
-        npr_base::$body!(($($given)*) InfoBridgePort of Value {
+        npr_base::$body!(($($given)*) InfoBridgePort of InfoBridgePort {
             1 State(BridgePortState as byte);
             2 Priority(le16);
             3 Cost(le32);

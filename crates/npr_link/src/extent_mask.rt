@@ -49,7 +49,8 @@ impl Flags for LinkExtentMask {
 
     ghost exact = { ⊤ };
 
-    ghost table = { (codes "Vf", 1) ∷ (codes "Brvlan", 2) ∷ (codes "BrvlanCompressed", 4) ∷ (codes "SkipStats", 8) ∷ (codes "Mrp", 16) ∷ (codes "CfmConfig", 32) ∷ (codes "CfmStatus", 64) ∷ (codes "Mst", 128) ∷ (codes "NameOnly", 256) ∷ ([], 4294967295) ∷ [] };
+    ghost table = { (codes "Vf", 1) ∷ (codes "Brvlan", 2) ∷ (codes "BrvlanCompressed", 4) ∷ (codes "SkipStats", 8) ∷ (codes "Mrp", 16)
+        ∷ (codes "CfmConfig", 32) ∷ (codes "CfmStatus", 64) ∷ (codes "Mst", 128) ∷ (codes "NameOnly", 256) ∷ ([], 4294967295) ∷ [] };
 
     ghost set_of = { extent_mask_bits.number };
 

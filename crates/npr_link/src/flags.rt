@@ -1,10 +1,14 @@
 //! The flags of a link: `IFF_*` of `linux/if.h`. Every bit is kept.
 
-ghost use Rattle.std.specs.Prelude.{⊤, [], ◌∷◌, codes};
-ghost use Rattle.npr_link.specs.Flags.{link_flag_bits};
+ghost use Rattle.std.specs.{
+  Prelude.{⊤, [], ◌∷◌, ◌++◌, codes, map, Some, false, if◌then◌else◌},
+  Fmt.{DisplaysOnOk, WritesOnOk, digits},
+};
+ghost use Rattle.{npr_base.specs.Text.{joined_by}, npr_link.specs.Flags.{link_flag_bits, link_flags_text, names_set, unnamed_text}};
 
 use bitflags::{Flag, Flags};
 use npr_base::named_flags;
+use std::fmt;
 
 /// The flags of a link.
 #[derive(Clone, Copy, Debug, Default, PartialEq, Eq)]
@@ -69,7 +73,8 @@ impl LinkFlags {
     pub const Echo: LinkFlags = LinkFlags(0x40000);
 
     const FLAGS: &'static [Flag<LinkFlags>] = named_flags![LinkFlags:
-        Up, Broadcast, Debug, Loopback, Pointopoint, Notrailers, Running, Noarp, Promisc, Allmulti, Controller, Port, Multicast, Portsel, Automedia, Dynamic, LowerUp, Dormant, Echo;
+        Up, Broadcast, Debug, Loopback, Pointopoint, Notrailers, Running, Noarp, Promisc, Allmulti,
+        Controller, Port, Multicast, Portsel, Automedia, Dynamic, LowerUp, Dormant, Echo;
         u32::MAX
     ];
 }
@@ -79,7 +84,11 @@ impl Flags for LinkFlags {
 
     ghost exact = { ⊤ };
 
-    ghost table = { (codes "Up", 1) ∷ (codes "Broadcast", 2) ∷ (codes "Debug", 4) ∷ (codes "Loopback", 8) ∷ (codes "Pointopoint", 16) ∷ (codes "Notrailers", 32) ∷ (codes "Running", 64) ∷ (codes "Noarp", 128) ∷ (codes "Promisc", 256) ∷ (codes "Allmulti", 512) ∷ (codes "Controller", 1024) ∷ (codes "Port", 2048) ∷ (codes "Multicast", 4096) ∷ (codes "Portsel", 8192) ∷ (codes "Automedia", 16384) ∷ (codes "Dynamic", 32768) ∷ (codes "LowerUp", 65536) ∷ (codes "Dormant", 131072) ∷ (codes "Echo", 262144) ∷ ([], 4294967295) ∷ [] };
+    ghost table = { (codes "Up", 1) ∷ (codes "Broadcast", 2) ∷ (codes "Debug", 4) ∷ (codes "Loopback", 8) ∷ (codes "Pointopoint", 16)
+        ∷ (codes "Notrailers", 32) ∷ (codes "Running", 64) ∷ (codes "Noarp", 128) ∷ (codes "Promisc", 256) ∷ (codes "Allmulti", 512)
+        ∷ (codes "Controller", 1024) ∷ (codes "Port", 2048) ∷ (codes "Multicast", 4096) ∷ (codes "Portsel", 8192)
+        ∷ (codes "Automedia", 16384) ∷ (codes "Dynamic", 32768) ∷ (codes "LowerUp", 65536) ∷ (codes "Dormant", 131072)
+        ∷ (codes "Echo", 262144) ∷ ([], 4294967295) ∷ [] };
 
     ghost set_of = { link_flag_bits.number };
 
@@ -94,4 +103,75 @@ impl Flags for LinkFlags {
     fn from_bits_retain(bits: u32) -> LinkFlags {
         LinkFlags(bits)
     }
+}
+
+/// The names of the flags that are set, in the order of the table, and last the bits without a name as
+/// one number in hexadecimal, ` | ` between them.
+impl fmt::Display for LinkFlags {
+    ghost output = { λ flags. link_flags_text flags };
+
+    fn fmt<W: fmt::Write>(&self, f: &mut fmt::Formatter<W>) -> fmt::Result {
+        let names = [
+            (self.contains(LinkFlags::Up), "Up"),
+            (self.contains(LinkFlags::Broadcast), "Broadcast"),
+            (self.contains(LinkFlags::Debug), "Debug"),
+            (self.contains(LinkFlags::Loopback), "Loopback"),
+            (self.contains(LinkFlags::Pointopoint), "Pointopoint"),
+            (self.contains(LinkFlags::Notrailers), "Notrailers"),
+            (self.contains(LinkFlags::Running), "Running"),
+            (self.contains(LinkFlags::Noarp), "Noarp"),
+            (self.contains(LinkFlags::Promisc), "Promisc"),
+            (self.contains(LinkFlags::Allmulti), "Allmulti"),
+            (self.contains(LinkFlags::Controller), "Controller"),
+            (self.contains(LinkFlags::Port), "Port"),
+            (self.contains(LinkFlags::Multicast), "Multicast"),
+            (self.contains(LinkFlags::Portsel), "Portsel"),
+            (self.contains(LinkFlags::Automedia), "Automedia"),
+            (self.contains(LinkFlags::Dynamic), "Dynamic"),
+            (self.contains(LinkFlags::LowerUp), "LowerUp"),
+            (self.contains(LinkFlags::Dormant), "Dormant"),
+            (self.contains(LinkFlags::Echo), "Echo"),
+        ];
+        write_flags(f, &names, self.0 & 0xfff8_0000)
+    }
+}
+
+/// Writes the names that are set, and the bits without a name where there are some, ` | ` between them.
+fn write_flags<W: fmt::Write>(
+    f: &mut fmt::Formatter<W>,
+    names: &[(bool, &str)],
+    unnamed: u32,
+) -> fmt::Result
+    ensures { DisplaysOnOk W.write_str_gives f.old result
+        (joined_by (codes " | ") Some (names_set (map (λ n. (n.0, n.1.now)) names.now) ++ unnamed_text unnamed)) f.new }
+{
+    let mut started = false;
+    for (is_set, name) in names {
+        if *is_set {
+            write_next(f, started, name)?;
+            started = true;
+        }
+    }
+    if unnamed == 0 {
+        return Ok(());
+    }
+    write_unnamed(f, started, unnamed)
+}
+
+/// Writes a name, behind a bar where others stand before it.
+fn write_next<W: fmt::Write>(f: &mut fmt::Formatter<W>, started: bool, name: &str) -> fmt::Result
+    ensures { WritesOnOk W.write_str_gives f.old result ((if started then codes " | " else []) ++ name.now) f.new }
+{
+    if started {
+        f.write_str(" | ")?;
+    }
+    f.write_str(name)
+}
+
+/// Writes bits without a name so.
+fn write_unnamed<W: fmt::Write>(f: &mut fmt::Formatter<W>, started: bool, bits: u32) -> fmt::Result
+    ensures { WritesOnOk W.write_str_gives f.old result ((if started then codes " | " else []) ++ codes "0x" ++ digits 16 false bits) f.new }
+{
+    write_next(f, started, "0x")?;
+    write!(f, "{bits:x}")
 }

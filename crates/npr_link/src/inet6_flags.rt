@@ -37,7 +37,8 @@ impl Flags for Inet6IfaceFlags {
 
     ghost exact = { ⊤ };
 
-    ghost table = { (codes "RsSent", 16) ∷ (codes "RaRcvd", 32) ∷ (codes "RaManaged", 64) ∷ (codes "Otherconf", 128) ∷ (codes "Ready", 2147483648) ∷ ([], 4294967295) ∷ [] };
+    ghost table = { (codes "RsSent", 16) ∷ (codes "RaRcvd", 32) ∷ (codes "RaManaged", 64) ∷ (codes "Otherconf", 128)
+        ∷ (codes "Ready", 2147483648) ∷ ([], 4294967295) ∷ [] };
 
     ghost set_of = { inet6_flag_bits.number };
 

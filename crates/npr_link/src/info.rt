@@ -104,7 +104,7 @@ impl Attribute for LinkInfo {
         match item.kind() {
             IFLA_INFO_KIND => put_read(
                 place,
-                InfoKind::read(alloc, value, AttrFamily::Value.at(IFLA_INFO_KIND)),
+                InfoKind::read(alloc, value, AttrFamily::LinkInfo.at(IFLA_INFO_KIND)),
                 LinkInfo::Kind,
             ),
             IFLA_INFO_DATA => put_read(
@@ -118,7 +118,7 @@ impl Attribute for LinkInfo {
             }
             IFLA_INFO_SLAVE_KIND => put_read(
                 place,
-                InfoPortKind::read(alloc, value, AttrFamily::Value.at(IFLA_INFO_SLAVE_KIND)),
+                InfoPortKind::read(alloc, value, AttrFamily::LinkInfo.at(IFLA_INFO_SLAVE_KIND)),
                 LinkInfo::PortKind,
             ),
             IFLA_INFO_SLAVE_DATA => put_read(

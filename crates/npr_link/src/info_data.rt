@@ -1,6 +1,6 @@
 //! The data of a link: `IFLA_INFO_DATA` of `linux/if_link.h`.
 
-ghost use Rattle.std.specs.Prelude.{◌≡◌, ◌≢◌, ◌≤◌, None, length, IfOk, IfErr};
+ghost use Rattle.std.specs.Prelude.{◌≡◌, ◌≢◌, ◌≤◌, ◌<◌, None, length, IfOk, IfErr, IsErrOf, OnErr};
 ghost use Rattle.{
   npr_base.specs.{
     declared.refusal.DecodeError.TheVariants.{OutOfMemory},
@@ -10,7 +10,7 @@ ghost use Rattle.{
     Looks.{Answered, TakesInside},
     Refusal.{no_place},
   },
-  npr_link.specs.InfoData.{variants, info_data, info_data_of},
+  npr_link.specs.InfoData.{case, held, info_data, info_data_of},
 };
 
 use crate::bridge::InfoBridge;
@@ -18,10 +18,8 @@ use crate::info_kind::InfoForm;
 use crate::veth::InfoVeth;
 use crate::vlan::InfoVlan;
 use crate::vrf::InfoVrf;
-use npr_base::{
-    DecodeError, EmitError, Looks, check_list, clone_list, parse_list, read_bytes, write_bytes,
-    write_list,
-};
+use crate::{data_checked, data_cloned, data_written};
+use npr_base::{DecodeError, EmitError, Looks, parse_list, read_bytes};
 use std::alloc::{AllocError, Global};
 
 /// The data of a link: what they are follows from the first kind in the list that they stand in.
@@ -39,6 +37,18 @@ pub enum InfoData {
     Other(Vec<u8>),
 }
 
+/// The variants that hold attributes.
+macro_rules! variants {
+    ($body:ident ($($given:tt)*)) => {
+        $body!(($($given)*) InfoData {
+            Bridge;
+            Vlan;
+            Veth;
+            Vrf;
+        })
+    };
+}
+
 impl InfoData {
     /// The data of these bytes. Each look at a header is counted.
     ///
@@ -53,6 +63,8 @@ impl InfoData {
         ensures ok { IfOk result (λ x. (info_data form).Reads bytes.now (info_data_of x)) }
         ensures refused { IfErr result (λ e. e ≢ OutOfMemory → (info_data form).Wrong no_place bytes.now e) }
         ensures exact { Answered result → TakesInside (info_data form).members.looks bytes.now looks.old looks.new }
+        // Memory is taken for a first whole attribute, and for bytes that are kept.
+        ensures memory { IsErrOf result OutOfMemory → (case form).memory bytes.now }
         ensures bounded { AddsAtMost looks.old looks.new (length bytes.now) }
     {
         match form {
@@ -67,45 +79,28 @@ impl InfoData {
     /// An equal value.
     ///
     /// # Errors
-    /// `AllocError` where memory is refused.
+    /// `AllocError` where memory is refused; where nothing stands in it none is taken.
     pub fn try_clone(&self, alloc: Global) -> Result<Self, AllocError>
-        ensures { IfOk result (λ x. info_data_of x ≡ info_data_of self.now) }
+        ensures ok { IfOk result (λ x. info_data_of x ≡ info_data_of self.now) }
+        ensures memory { OnErr result (0 < (held (info_data_of self.now)).size) }
     {
-        match self {
-            InfoData::Bridge(xs) => clone_list(alloc, xs.as_slice()).map(InfoData::Bridge),
-            InfoData::Vlan(xs) => clone_list(alloc, xs.as_slice()).map(InfoData::Vlan),
-            InfoData::Veth(xs) => clone_list(alloc, xs.as_slice()).map(InfoData::Veth),
-            InfoData::Vrf(xs) => clone_list(alloc, xs.as_slice()).map(InfoData::Vrf),
-            InfoData::Other(bytes) => Vec::from_slice(alloc, bytes.as_slice()).map(InfoData::Other),
-        }
+        variants!(data_cloned(self, alloc))
     }
 
     /// The length of the bytes, or the first cause inside why there are none.
     pub(crate) fn check(&self) -> Result<usize, EmitError>
-        ensures { result ≡ checked (variants.unfit (info_data_of self.now)) (length (variants.encode (info_data_of self.now))) }
+        ensures { result ≡ checked (held (info_data_of self.now)).unfit (length (held (info_data_of self.now)).encoded) }
     {
-        match self {
-            InfoData::Bridge(xs) => check_list(xs.as_slice()),
-            InfoData::Vlan(xs) => check_list(xs.as_slice()),
-            InfoData::Veth(xs) => check_list(xs.as_slice()),
-            InfoData::Vrf(xs) => check_list(xs.as_slice()),
-            InfoData::Other(bytes) => Ok(bytes.len()),
-        }
+        variants!(data_checked(self))
     }
 
     /// Writes the bytes at the front of the slice, leaves the rest, and answers their length.
     pub(crate) fn write(&self, out: &mut [u8]) -> usize
-        requires fits { variants.unfit (info_data_of self.now) ≡ None }
-        requires room { length (variants.encode (info_data_of self.now)) ≤ length out.old }
-        ensures len { result ≡ length (variants.encode (info_data_of self.now)) }
-        ensures after { Writes out.old out.new (variants.encode (info_data_of self.now)) }
+        requires fits { (held (info_data_of self.now)).unfit ≡ None }
+        requires room { length (held (info_data_of self.now)).encoded ≤ length out.old }
+        ensures len { result ≡ length (held (info_data_of self.now)).encoded }
+        ensures after { Writes out.old out.new (held (info_data_of self.now)).encoded }
     {
-        match self {
-            InfoData::Bridge(xs) => write_list(xs.as_slice(), out),
-            InfoData::Vlan(xs) => write_list(xs.as_slice(), out),
-            InfoData::Veth(xs) => write_list(xs.as_slice(), out),
-            InfoData::Vrf(xs) => write_list(xs.as_slice(), out),
-            InfoData::Other(bytes) => write_bytes(bytes.as_slice(), out),
-        }
+        variants!(data_written(self, out))
     }
 }

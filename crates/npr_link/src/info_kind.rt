@@ -1,15 +1,16 @@
 //! The kind of a link: `IFLA_INFO_KIND` of `linux/if_link.h`, by the names of the kernel's drivers.
 
-ghost use Rattle.std.specs.Prelude.{◌≡◌, ◌≢◌, ◌≤◌, ◌+◌, Some, length, IfOk, IfErr};
+ghost use Rattle.std.specs.Prelude.{◌≡◌, ◌≢◌, ◌≤◌, ◌+◌, ℕ, List, Some, length, IfOk, IfErr, IsErrOf, OnErr};
 ghost use Rattle.{
   npr_base.specs.{declared.refusal.DecodeError.TheVariants.{OutOfMemory}, Framing.{Writes}, Refusal.{no_place}},
-  npr_link.specs.{Kinds.{IsKnown, kind_name}, InfoKind.{info_kind_of, info_kind_names, info_kind, form_named}},
+  npr_link.specs.{Kinds.{IsKnown, TakesMemory, other, kind_in, kind_name}, InfoKind.{info_kind_of, info_kind_names, info_kind, form_named}},
 };
 
 use crate::{name_of_variant, variant_cloned, variant_of_name};
-use npr_base::{At, DecodeError, read_name, write_name};
+use npr_base::{At, DecodeError, without_zero, write_name};
 use std::alloc::{AllocError, Global};
 use std::fmt;
+use std::str::from_utf8;
 
 /// The kind of a link, by its name.
 #[derive(Debug, Drop, PartialEq, Eq)]
@@ -138,6 +139,20 @@ fn known(text: &str) -> Option<InfoKind>
     names!(variant_of_name(text))
 }
 
+/// The kind of this name.
+///
+/// # Errors
+/// `AllocError` where memory is refused, which is taken for a name that is not known alone.
+fn named(alloc: Global, text: &str) -> Result<InfoKind, AllocError>
+    ensures ok { IfOk result (λ x. info_kind_of x ≡ kind_in info_kind_names text.now) }
+    ensures memory { OnErr result (kind_in info_kind_names text.now ≡ other text.now) }
+{
+    match known(text) {
+        Some(kind) => Ok(kind),
+        None => String::from_str(alloc, text).map(InfoKind::Other),
+    }
+}
+
 /// What governs data under a kind of this name.
 pub(crate) fn form_of_name(name: &[u8]) -> InfoForm
     ensures { result ≡ form_named name.now }
@@ -163,6 +178,7 @@ impl InfoKind {
     pub fn parse(alloc: Global, bytes: &[u8]) -> Result<Self, DecodeError>
         ensures ok { IfOk result (λ x. info_kind.Reads bytes.now (info_kind_of x)) }
         ensures refused { IfErr result (λ e. e ≢ OutOfMemory → info_kind.Wrong no_place bytes.now e) }
+        ensures memory { IsErrOf result OutOfMemory → TakesMemory info_kind_names bytes.now }
     {
         Self::read(alloc, bytes, At::NO_PLACE)
     }
@@ -171,11 +187,12 @@ impl InfoKind {
     pub(crate) fn read(alloc: Global, bytes: &[u8], at: At) -> Result<Self, DecodeError>
         ensures ok { IfOk result (λ x. info_kind.Reads bytes.now (info_kind_of x)) }
         ensures refused { IfErr result (λ e. e ≢ OutOfMemory → info_kind.Wrong at bytes.now e) }
+        // Memory is taken for a name that is not known alone.
+        ensures memory { IsErrOf result OutOfMemory → TakesMemory info_kind_names bytes.now }
     {
-        let name = read_name(alloc, bytes, at)?;
-        match known(name.as_str()) {
-            Some(kind) => Ok(kind),
-            None => Ok(InfoKind::Other(name)),
+        match from_utf8(without_zero(bytes)) {
+            Ok(text) => Ok(named(alloc, text)?),
+            Err(_) => Err(DecodeError::NotUtf8 { at }),
         }
     }
 
@@ -196,9 +213,10 @@ impl InfoKind {
     /// An equal kind.
     ///
     /// # Errors
-    /// `AllocError` where memory is refused.
+    /// `AllocError` where memory is refused, which is taken for a name that is not known alone.
     pub fn try_clone(&self, alloc: Global) -> Result<Self, AllocError>
-        ensures { IfOk result (λ x. info_kind_of x ≡ info_kind_of self.now) }
+        ensures ok { IfOk result (λ x. info_kind_of x ≡ info_kind_of self.now) }
+        ensures memory { OnErr result ((text : List ℕ) × (info_kind_of self.now ≡ other text)) }
     {
         names!(variant_cloned(self, alloc))
     }

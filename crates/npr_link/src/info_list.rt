@@ -1,16 +1,17 @@
 //! The value of `IFLA_LINKINFO` of `linux/if_link.h`: what governs the data is found first, and then the
 //! list is read.
 
-ghost use Rattle.std.specs.Prelude.{◌≡◌, ◌≢◌, true, false, length, map, IfOk, IfErr};
+ghost use Rattle.std.specs.Prelude.{◌≡◌, ◌≢◌, ℕ, List, true, false, length, map, IfOk, IfErr, IsErrOf};
 ghost use Rattle.{
   npr_base.specs.{
     declared.refusal.DecodeError.TheVariants.{OutOfMemory},
-    Counts.{AddsAtMost, raised},
+    Counts.{AddsAtMost},
+    Framing.{Item, Front},
     Looks.{Answered},
     Refusal.{no_place},
   },
   npr_link.specs.{
-    Governing.{first, forms_of, is_complete, noted, start, Searching, Sought},
+    Governing.{told, port_told, forms_of, is_complete, noted, start, Searching, Searches},
     Info.{family},
     InfoList.{info_list, InfoLooks},
   },
@@ -25,13 +26,23 @@ use std::alloc::Global;
 /// What was found so far of what governs the data of a link, and of a port.
 type Found = (Option<InfoForm>, Option<InfoPortForm>);
 
-/// The first counts.
-fn first_of<T: Copy>(found: Option<T>, later: T) -> Option<T>
-    ensures { result ≡ first found later }
+/// What an attribute tells of the data of a link: a form, where it is their kind.
+fn told(item: &NlaBuffer<'_>) -> Option<InfoForm>
+    ensures { result ≡ told item.now }
 {
-    match found {
-        Some(_) => found,
-        None => Some(later),
+    match item.kind() {
+        IFLA_INFO_KIND => Some(form_of_name(without_zero(item.value()))),
+        _ => None,
+    }
+}
+
+/// What it tells of those of a port.
+fn port_told(item: &NlaBuffer<'_>) -> Option<InfoPortForm>
+    ensures { result ≡ port_told item.now }
+{
+    match item.kind() {
+        IFLA_INFO_SLAVE_KIND => Some(port_form_of_name(without_zero(item.value()))),
+        _ => None,
     }
 }
 
@@ -39,12 +50,7 @@ fn first_of<T: Copy>(found: Option<T>, later: T) -> Option<T>
 fn noted_with(found: Found, item: &NlaBuffer<'_>) -> Found
     ensures { result ≡ noted found item.now }
 {
-    let name = without_zero(item.value());
-    match item.kind() {
-        IFLA_INFO_KIND => (first_of(found.0, form_of_name(name)), found.1),
-        IFLA_INFO_SLAVE_KIND => (found.0, first_of(found.1, port_form_of_name(name))),
-        _ => found,
-    }
+    (found.0.or(told(item)), found.1.or(port_told(item)))
 }
 
 /// Whether both were found.
@@ -91,24 +97,12 @@ fn search(bytes: &[u8], looks: &mut Looks) -> (InfoForm, InfoPortForm)
 /// The same of a list of any length: one of fewer than 8 bytes has no room for a kind and for data
 /// beside it, and is not searched.
 fn governing(bytes: &[u8], looks: &mut Looks) -> (InfoForm, InfoPortForm)
-    ensures { Sought bytes.now result looks.old looks.new }
+    ensures { Searches bytes.now result looks.old looks.new }
 {
     if bytes.len() < 8 {
         return (InfoForm::Kept, InfoPortForm::Kept);
     }
     search(bytes, looks)
-}
-
-/// Counts the looks that another count has.
-fn count_more(looks: &mut Looks, more: &Looks)
-    ensures { looks.new ≡ raised more.now looks.old }
-{
-    for _ in 0..more.successful() {
-        looks.hit();
-    }
-    for _ in 0..more.failed() {
-        looks.miss();
-    }
 }
 
 /// Whether memory was refused.
@@ -137,6 +131,8 @@ pub(crate) fn read_info(
 ) -> Result<Vec<LinkInfo>, DecodeError>
     ensures ok { IfOk result (λ v. info_list.Reads bytes.now (map family.meaning v.items)) }
     ensures refused { IfErr result (λ e. e ≢ OutOfMemory → info_list.Wrong no_place bytes.now e) }
+    // Memory is taken behind a first whole attribute alone.
+    ensures memory { IsErrOf result OutOfMemory → (x : Item) × (rest : List ℕ) × Front bytes.now x rest }
     ensures exact { Answered result → InfoLooks bytes.now looks.old looks.new }
     ensures bounded { AddsAtMost looks.old looks.new (length bytes.now) }
 {
@@ -146,6 +142,6 @@ pub(crate) fn read_info(
     if wants_memory(&read) {
         return read;
     }
-    count_more(looks, &inside);
+    looks.add(&inside);
     read
 }

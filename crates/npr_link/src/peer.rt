@@ -1,11 +1,11 @@
 //! The other end of a pair, as a request for the pair has it: `VETH_INFO_PEER` of `linux/veth.h`.
 
-ghost use Rattle.std.specs.Prelude.{◌≡◌, ◌≢◌, ◌≤◌, [], length, IfOk, IfErr};
+ghost use Rattle.std.specs.Prelude.{◌≡◌, ◌≢◌, ◌≤◌, ◌<◌, ℕ, List, [], length, drop, IfOk, IfErr, IsErrOf, OnErr};
 ghost use Rattle.{
   npr_base.specs.{
     declared.refusal.DecodeError.TheVariants.{OutOfMemory},
     Counts.{AddsAtMost},
-    Framing.{Writes},
+    Framing.{Item, Front, Writes},
     Looks.{Answered},
     Message.{IsMessage, MessageFault, MessageLooks},
   },
@@ -46,6 +46,8 @@ impl LinkPeer {
     pub fn parse(alloc: Global, bytes: &[u8]) -> Result<Self, DecodeError>
         ensures ok { IfOk result (λ p. IsMessage peers bytes.now (peer_of p)) }
         ensures refused { IfErr result (λ e. e ≢ OutOfMemory → MessageFault peers bytes.now e) }
+        // Memory is taken behind a first whole attribute alone.
+        ensures memory { IsErrOf result OutOfMemory → (x : Item) × (rest : List ℕ) × Front (drop 16 bytes.now) x rest }
     {
         Self::read(alloc, bytes, &mut Looks::new())
     }
@@ -54,6 +56,8 @@ impl LinkPeer {
     pub(crate) fn read(alloc: Global, bytes: &[u8], looks: &mut Looks) -> Result<Self, DecodeError>
         ensures ok { IfOk result (λ p. IsMessage peers bytes.now (peer_of p)) }
         ensures refused { IfErr result (λ e. e ≢ OutOfMemory → MessageFault peers bytes.now e) }
+        // Memory is taken behind a first whole attribute alone.
+        ensures memory { IsErrOf result OutOfMemory → (x : Item) × (rest : List ℕ) × Front (drop 16 bytes.now) x rest }
         ensures exact { Answered result → MessageLooks peers bytes.now looks.old looks.new }
         ensures bounded { AddsAtMost looks.old looks.new (length bytes.now) }
     {
@@ -71,9 +75,10 @@ impl LinkPeer {
     /// An equal value.
     ///
     /// # Errors
-    /// `AllocError` where memory is refused.
+    /// `AllocError` where memory is refused; without attributes none is taken.
     pub fn try_clone(&self, alloc: Global) -> Result<Self, AllocError>
-        ensures { IfOk result (λ p. peer_of p ≡ peer_of self.now) }
+        ensures ok { IfOk result (λ p. peer_of p ≡ peer_of self.now) }
+        ensures memory { OnErr result (0 < length self.now.attributes.items) }
     {
         Ok(LinkPeer {
             header: self.header,

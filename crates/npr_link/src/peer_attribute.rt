@@ -53,7 +53,7 @@ pub enum PeerAttribute {
 /// The rows of the table.
 macro_rules! rows {
     ($body:ident ($($given:tt)*)) => {
-        npr_base::$body!(($($given)*) PeerAttribute of Value {
+        npr_base::$body!(($($given)*) PeerAttribute of Peer {
             1 Address(raw);
             2 Broadcast(raw);
             3 IfName(name);

@@ -1,6 +1,6 @@
 //! The data of a port: `IFLA_INFO_SLAVE_DATA` of `linux/if_link.h`.
 
-ghost use Rattle.std.specs.Prelude.{◌≡◌, ◌≢◌, ◌≤◌, None, length, IfOk, IfErr};
+ghost use Rattle.std.specs.Prelude.{◌≡◌, ◌≢◌, ◌≤◌, ◌<◌, None, length, IfOk, IfErr, IsErrOf, OnErr};
 ghost use Rattle.{
   npr_base.specs.{
     declared.refusal.DecodeError.TheVariants.{OutOfMemory},
@@ -10,16 +10,14 @@ ghost use Rattle.{
     Looks.{Answered, TakesInside},
     Refusal.{no_place},
   },
-  npr_link.specs.PortData.{variants, port_data, port_data_of},
+  npr_link.specs.PortData.{case, held, port_data, port_data_of},
 };
 
 use crate::bridge_port::InfoBridgePort;
 use crate::port_kind::InfoPortForm;
 use crate::vrf::InfoVrf;
-use npr_base::{
-    DecodeError, EmitError, Looks, check_list, clone_list, parse_list, read_bytes, write_bytes,
-    write_list,
-};
+use crate::{data_checked, data_cloned, data_written};
+use npr_base::{DecodeError, EmitError, Looks, parse_list, read_bytes};
 use std::alloc::{AllocError, Global};
 
 /// The data of a port: what they are follows from the first kind in the list that they stand in.
@@ -31,6 +29,16 @@ pub enum InfoPortData {
     VrfPort(Vec<InfoVrf>),
     /// The bytes of data that nothing governs, or a kind without a family.
     Other(Vec<u8>),
+}
+
+/// The variants that hold attributes.
+macro_rules! variants {
+    ($body:ident ($($given:tt)*)) => {
+        $body!(($($given)*) InfoPortData {
+            BridgePort;
+            VrfPort;
+        })
+    };
 }
 
 impl InfoPortData {
@@ -47,6 +55,8 @@ impl InfoPortData {
         ensures ok { IfOk result (λ x. (port_data form).Reads bytes.now (port_data_of x)) }
         ensures refused { IfErr result (λ e. e ≢ OutOfMemory → (port_data form).Wrong no_place bytes.now e) }
         ensures exact { Answered result → TakesInside (port_data form).members.looks bytes.now looks.old looks.new }
+        // Memory is taken for a first whole attribute, and for bytes that are kept.
+        ensures memory { IsErrOf result OutOfMemory → (case form).memory bytes.now }
         ensures bounded { AddsAtMost looks.old looks.new (length bytes.now) }
     {
         match form {
@@ -64,45 +74,28 @@ impl InfoPortData {
     /// An equal value.
     ///
     /// # Errors
-    /// `AllocError` where memory is refused.
+    /// `AllocError` where memory is refused; where nothing stands in it none is taken.
     pub fn try_clone(&self, alloc: Global) -> Result<Self, AllocError>
-        ensures { IfOk result (λ x. port_data_of x ≡ port_data_of self.now) }
+        ensures ok { IfOk result (λ x. port_data_of x ≡ port_data_of self.now) }
+        ensures memory { OnErr result (0 < (held (port_data_of self.now)).size) }
     {
-        match self {
-            InfoPortData::BridgePort(xs) => clone_list(alloc, xs.as_slice()).map(
-                InfoPortData::BridgePort,
-            ),
-            InfoPortData::VrfPort(xs) => clone_list(alloc, xs.as_slice()).map(
-                InfoPortData::VrfPort,
-            ),
-            InfoPortData::Other(bytes) => Vec::from_slice(alloc, bytes.as_slice()).map(
-                InfoPortData::Other,
-            ),
-        }
+        variants!(data_cloned(self, alloc))
     }
 
     /// The length of the bytes, or the first cause inside why there are none.
     pub(crate) fn check(&self) -> Result<usize, EmitError>
-        ensures { result ≡ checked (variants.unfit (port_data_of self.now)) (length (variants.encode (port_data_of self.now))) }
+        ensures { result ≡ checked (held (port_data_of self.now)).unfit (length (held (port_data_of self.now)).encoded) }
     {
-        match self {
-            InfoPortData::BridgePort(xs) => check_list(xs.as_slice()),
-            InfoPortData::VrfPort(xs) => check_list(xs.as_slice()),
-            InfoPortData::Other(bytes) => Ok(bytes.len()),
-        }
+        variants!(data_checked(self))
     }
 
     /// Writes the bytes at the front of the slice, leaves the rest, and answers their length.
     pub(crate) fn write(&self, out: &mut [u8]) -> usize
-        requires fits { variants.unfit (port_data_of self.now) ≡ None }
-        requires room { length (variants.encode (port_data_of self.now)) ≤ length out.old }
-        ensures len { result ≡ length (variants.encode (port_data_of self.now)) }
-        ensures after { Writes out.old out.new (variants.encode (port_data_of self.now)) }
+        requires fits { (held (port_data_of self.now)).unfit ≡ None }
+        requires room { length (held (port_data_of self.now)).encoded ≤ length out.old }
+        ensures len { result ≡ length (held (port_data_of self.now)).encoded }
+        ensures after { Writes out.old out.new (held (port_data_of self.now)).encoded }
     {
-        match self {
-            InfoPortData::BridgePort(xs) => write_list(xs.as_slice(), out),
-            InfoPortData::VrfPort(xs) => write_list(xs.as_slice(), out),
-            InfoPortData::Other(bytes) => write_bytes(bytes.as_slice(), out),
-        }
+        variants!(data_written(self, out))
     }
 }

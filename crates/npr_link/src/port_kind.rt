@@ -1,15 +1,16 @@
 //! The kind of a link that controls a port: `IFLA_INFO_SLAVE_KIND` of `linux/if_link.h`, by the names of the kernel's drivers.
 
-ghost use Rattle.std.specs.Prelude.{◌≡◌, ◌≢◌, ◌≤◌, ◌+◌, Some, length, IfOk, IfErr};
+ghost use Rattle.std.specs.Prelude.{◌≡◌, ◌≢◌, ◌≤◌, ◌+◌, ℕ, List, Some, length, IfOk, IfErr, IsErrOf, OnErr};
 ghost use Rattle.{
   npr_base.specs.{declared.refusal.DecodeError.TheVariants.{OutOfMemory}, Framing.{Writes}, Refusal.{no_place}},
-  npr_link.specs.{Kinds.{IsKnown, kind_name}, PortKind.{port_kind_of, port_kind_names, port_kind, form_named}},
+  npr_link.specs.{Kinds.{IsKnown, TakesMemory, other, kind_in, kind_name}, PortKind.{port_kind_of, port_kind_names, port_kind, form_named}},
 };
 
 use crate::{name_of_variant, variant_cloned, variant_of_name};
-use npr_base::{At, DecodeError, read_name, write_name};
+use npr_base::{At, DecodeError, without_zero, write_name};
 use std::alloc::{AllocError, Global};
 use std::fmt;
+use std::str::from_utf8;
 
 /// The kind of a link that controls a port, by its name.
 #[derive(Debug, Drop, PartialEq, Eq)]
@@ -53,6 +54,20 @@ fn known(text: &str) -> Option<InfoPortKind>
     names!(variant_of_name(text))
 }
 
+/// The kind of this name.
+///
+/// # Errors
+/// `AllocError` where memory is refused, which is taken for a name that is not known alone.
+fn named(alloc: Global, text: &str) -> Result<InfoPortKind, AllocError>
+    ensures ok { IfOk result (λ x. port_kind_of x ≡ kind_in port_kind_names text.now) }
+    ensures memory { OnErr result (kind_in port_kind_names text.now ≡ other text.now) }
+{
+    match known(text) {
+        Some(kind) => Ok(kind),
+        None => String::from_str(alloc, text).map(InfoPortKind::Other),
+    }
+}
+
 /// What governs data under a kind of this name.
 pub(crate) fn form_of_name(name: &[u8]) -> InfoPortForm
     ensures { result ≡ form_named name.now }
@@ -74,6 +89,7 @@ impl InfoPortKind {
     pub fn parse(alloc: Global, bytes: &[u8]) -> Result<Self, DecodeError>
         ensures ok { IfOk result (λ x. port_kind.Reads bytes.now (port_kind_of x)) }
         ensures refused { IfErr result (λ e. e ≢ OutOfMemory → port_kind.Wrong no_place bytes.now e) }
+        ensures memory { IsErrOf result OutOfMemory → TakesMemory port_kind_names bytes.now }
     {
         Self::read(alloc, bytes, At::NO_PLACE)
     }
@@ -82,11 +98,12 @@ impl InfoPortKind {
     pub(crate) fn read(alloc: Global, bytes: &[u8], at: At) -> Result<Self, DecodeError>
         ensures ok { IfOk result (λ x. port_kind.Reads bytes.now (port_kind_of x)) }
         ensures refused { IfErr result (λ e. e ≢ OutOfMemory → port_kind.Wrong at bytes.now e) }
+        // Memory is taken for a name that is not known alone.
+        ensures memory { IsErrOf result OutOfMemory → TakesMemory port_kind_names bytes.now }
     {
-        let name = read_name(alloc, bytes, at)?;
-        match known(name.as_str()) {
-            Some(kind) => Ok(kind),
-            None => Ok(InfoPortKind::Other(name)),
+        match from_utf8(without_zero(bytes)) {
+            Ok(text) => Ok(named(alloc, text)?),
+            Err(_) => Err(DecodeError::NotUtf8 { at }),
         }
     }
 
@@ -107,9 +124,10 @@ impl InfoPortKind {
     /// An equal kind.
     ///
     /// # Errors
-    /// `AllocError` where memory is refused.
+    /// `AllocError` where memory is refused, which is taken for a name that is not known alone.
     pub fn try_clone(&self, alloc: Global) -> Result<Self, AllocError>
-        ensures { IfOk result (λ x. port_kind_of x ≡ port_kind_of self.now) }
+        ensures ok { IfOk result (λ x. port_kind_of x ≡ port_kind_of self.now) }
+        ensures memory { OnErr result ((text : List ℕ) × (port_kind_of self.now ≡ other text)) }
     {
         names!(variant_cloned(self, alloc))
     }

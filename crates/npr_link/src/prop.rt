@@ -18,7 +18,7 @@ pub enum Prop {
 /// The rows of the table.
 macro_rules! rows {
     ($body:ident ($($given:tt)*)) => {
-        npr_base::$body!(($($given)*) Prop of Value {
+        npr_base::$body!(($($given)*) Prop of Prop {
             53 AltIfName(name);
         })
     };

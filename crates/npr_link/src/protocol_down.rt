@@ -20,7 +20,7 @@ pub enum LinkProtocolDownReason {
 /// The rows of the table.
 macro_rules! rows {
     ($body:ident ($($given:tt)*)) => {
-        npr_base::$body!(($($given)*) LinkProtocolDownReason of Value {
+        npr_base::$body!(($($given)*) LinkProtocolDownReason of LinkProtocolDownReason {
             1 Mask(le32);
             2 Value(le32);
         })

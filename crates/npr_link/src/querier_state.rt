@@ -30,7 +30,7 @@ pub enum BridgeQuerierState {
 /// The rows of the table.
 macro_rules! rows {
     ($body:ident ($($given:tt)*)) => {
-        npr_base::$body!(($($given)*) BridgeQuerierState of Value {
+        npr_base::$body!(($($given)*) BridgeQuerierState of BridgeQuerierState {
             1 Ipv4Address(octets4);
             2 Ipv4Port(le32);
             3 Ipv4OtherTimer(le64);

@@ -3,7 +3,8 @@
 ghost use Rattle.std.specs.Prelude.{◌≡◌};
 ghost use Rattle.npr_link.specs.StpState.{stp_states};
 
-/// Who runs the spanning tree of a bridge: `BR_NO_STP`, `BR_KERNEL_STP` and `BR_USER_STP` of `net/bridge/br_private.h`. It is written as 4 bytes, little endian.
+/// Who runs the spanning tree of a bridge: `BR_NO_STP`, `BR_KERNEL_STP` and `BR_USER_STP` of `net/bridge/br_private.h`. It is
+/// written as 4 bytes, little endian.
 #[derive(Clone, Copy, Debug, PartialEq, Eq)]
 pub enum BridgeStpState {
     /// Nobody.

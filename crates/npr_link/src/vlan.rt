@@ -34,7 +34,7 @@ pub enum InfoVlan {
 /// The rows of the table.
 macro_rules! rows {
     ($body:ident ($($given:tt)*)) => {
-        npr_base::$body!(($($given)*) InfoVlan of Value {
+        npr_base::$body!(($($given)*) InfoVlan of InfoVlan {
             1 Id(le16);
             3 EgressQos(list);
             4 IngressQos(list);
@@ -78,7 +78,7 @@ impl Attribute for InfoVlan {
         item: &NlaBuffer<'_>,
         looks: &mut Looks,
     ) -> Result<(), DecodeError> {
-        rows!(put_rows(place, alloc, item, looks; 2 => put_read(place, read_two_flags(item.value(), AttrFamily::Value.at(2)), InfoVlan::Flags),))
+        rows!(put_rows(place, alloc, item, looks; 2 => put_read(place, read_two_flags(item.value(), AttrFamily::InfoVlan.at(2)), InfoVlan::Flags),))
     }
 
     fn try_clone(&self, alloc: Global) -> Result<Self, AllocError> {

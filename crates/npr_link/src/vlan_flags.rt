@@ -37,7 +37,8 @@ impl Flags for VlanFlags {
 
     ghost exact = { ⊤ };
 
-    ghost table = { (codes "ReorderHdr", 1) ∷ (codes "Gvrp", 2) ∷ (codes "LooseBinding", 4) ∷ (codes "Mvrp", 8) ∷ (codes "BridgeBinding", 16) ∷ ([], 4294967295) ∷ [] };
+    ghost table = { (codes "ReorderHdr", 1) ∷ (codes "Gvrp", 2) ∷ (codes "LooseBinding", 4) ∷ (codes "Mvrp", 8)
+        ∷ (codes "BridgeBinding", 16) ∷ ([], 4294967295) ∷ [] };
 
     ghost set_of = { vlan_flag_bits.number };
 

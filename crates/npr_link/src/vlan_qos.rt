@@ -21,7 +21,7 @@ pub enum VlanQosMapping {
 /// The rows of the table.
 macro_rules! rows {
     ($body:ident ($($given:tt)*)) => {
-        npr_base::$body!(($($given)*) VlanQosMapping of Value {
+        npr_base::$body!(($($given)*) VlanQosMapping of VlanQosMapping {
         })
     };
 }
@@ -61,7 +61,13 @@ impl Attribute for VlanQosMapping {
         item: &NlaBuffer<'_>,
         looks: &mut Looks,
     ) -> Result<(), DecodeError> {
-        rows!(put_rows(place, alloc, item, looks; 1 => { let (from, to) = read_two_numbers(item.value(), AttrFamily::Value.at(1))?; place.put(VlanQosMapping::Mapping(from, to)); Ok(()) }))
+        rows!(put_rows(place, alloc, item, looks;
+            1 => {
+                let (from, to) = read_two_numbers(item.value(), AttrFamily::VlanQosMapping.at(1))?;
+                place.put(VlanQosMapping::Mapping(from, to));
+                Ok(())
+            }
+        ))
     }
 
     fn try_clone(&self, alloc: Global) -> Result<Self, AllocError> {

@@ -21,7 +21,7 @@ pub type InfoVrfPort = InfoVrf;
 /// The rows of the table.
 macro_rules! rows {
     ($body:ident ($($given:tt)*)) => {
-        npr_base::$body!(($($given)*) InfoVrf of Value {
+        npr_base::$body!(($($given)*) InfoVrf of InfoVrf {
             1 TableId(le32);
         })
     };

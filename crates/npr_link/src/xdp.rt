@@ -33,7 +33,7 @@ pub enum LinkXdp {
 /// The rows of the table.
 macro_rules! rows {
     ($body:ident ($($given:tt)*)) => {
-        npr_base::$body!(($($given)*) LinkXdp of Value {
+        npr_base::$body!(($($given)*) LinkXdp of LinkXdp {
             1 Fd(signed32);
             2 Attached(XdpAttached as byte);
             3 Flags(le32);

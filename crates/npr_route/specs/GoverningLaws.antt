@@ -38,7 +38,8 @@ tells-one outer rest a b (inr (ends, p)) (inl (y, s, g, q)) = absurd (ends_empty
 tells-one outer rest a b (inr (ends, p)) (inr (also_ends, q)) = p ∙ sym q
 
 -- a list whose first attribute tells none is governed as what follows it
-tells-front : (outer : RouteLwEnCapType) (rest more : List ℕ) (x : Item) (a : RouteLwEnCapType) → Tells outer rest a → Front rest x more → item_type x ≡ None → ⊥
+tells-front : (outer : RouteLwEnCapType) (rest more : List ℕ) (x : Item) (a : RouteLwEnCapType) → Tells outer rest a → Front rest x more
+    → item_type x ≡ None → ⊥
 tells-front outer rest more x a (inl (y, s, g, q)) f none = no_type (item_type y) a (ap item_type (Front-same rest y x s more g f).0 ∙ none) q
 tells-front outer rest more x a (inr (ends, p)) f none = ends_empty rest more x ends f
 

@@ -25,7 +25,13 @@ returns-in_ok-read_bytes-in_default g c =
     let f : form_of c.args.family ≡ as_bytes = search rules in
     let v = c.in_ok-read_bytes-in_default.field-0 in
     record {
-      ok = (LinkAttribute.AfSpecUnknown v, unknown v.items, c.put-in_default.ensures, unknown_means v, rw f (v.items, c.in_ok-read_bytes-in_default.ensures.ok, refl));
+      ok = (
+        LinkAttribute.AfSpecUnknown v,
+        unknown v.items,
+        c.put-in_default.ensures,
+        unknown_means v,
+        rw f (v.items, c.in_ok-read_bytes-in_default.ensures.ok, refl),
+      );
       refused = tt;
       exact = λ answered. rw f refl;
       bounded = none-most _ _ _ refl;

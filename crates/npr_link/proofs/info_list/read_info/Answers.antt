@@ -1,5 +1,5 @@
 use Rattle.npr_link.specs.InfoList.{apart-looks, info-bounded, sought-bounded}
-use Rattle.npr_link.proofs.InfoSearch.{refused_under}
+use Rattle.npr_link.proofs.InfoSearch.{read_under, refused_under}
 use Rattle.npr_link.proofs.info_list.read_info.Goals as goal
 
 pub returns-then-wants_memory-clause-bounded : goal.returns-then-wants_memory-clause-bounded
@@ -9,7 +9,7 @@ returns-then-wants_memory-clause-bounded c =
 pub returns-clause-exact : goal.returns-clause-exact
 returns-clause-exact c = λ answered.
     apart-looks c.args.bytes.now c.governing-forms.result c.args.looks.now c.governing-forms.new.looks c.parse_list-read.new.looks
-    c.count_more.new.looks c.governing-forms.ensures (rw c.new-inside.ensures at (c.parse_list-read.ensures.exact answered)) c.count_more.ensures
+    c.add.new.self c.governing-forms.ensures (rw c.new-inside.ensures at (c.parse_list-read.ensures.exact answered)) c.add.ensures
 
 pub returns-clause-refused : goal.returns-clause-refused
 returns-clause-refused c =
@@ -26,5 +26,15 @@ returns-then-wants_memory-clause-refused c =
 
 pub returns-clause-bounded : goal.returns-clause-bounded
 returns-clause-bounded c =
-    info-bounded c.args.bytes.now c.args.looks.now c.count_more.new.looks
+    info-bounded c.args.bytes.now c.args.looks.now c.add.new.self
     (returns-clause-exact c (c.wants_memory.ensures.answered c.if-wants_memory.false))
+
+pub returns-clause-ok : goal.returns-clause-ok
+returns-clause-ok c =
+    read_under c.args.bytes.now c.governing-forms.result c.args.looks.now c.governing-forms.new.looks c.governing-forms.ensures
+    c.parse_list-read.result c.parse_list-read.ensures.ok
+
+pub returns-then-wants_memory-clause-ok : goal.returns-then-wants_memory-clause-ok
+returns-then-wants_memory-clause-ok c =
+    read_under c.args.bytes.now c.governing-forms.result c.args.looks.now c.governing-forms.new.looks c.governing-forms.ensures
+    c.parse_list-read.result c.parse_list-read.ensures.ok

@@ -1,6 +1,8 @@
 use Rattle.std.proofs.Common.{◌≡◌, List, ℕ, sym, subst, rules, ◌∙◌}
 use Rattle.npr_link.specs.AfSpecs.{af_specs, form_of}
-use Rattle.npr_link.specs.AttributeSteps.{af_reads, info_reads, flat_reads}
+use Rattle.std.proofs.lemmas.Result.{IfErr-weaker}
+use Rattle.npr_base.specs.Refusal.{no_place}
+use Rattle.npr_link.specs.AttributeSteps.{af_reads, info_reads, info_wrong, flat_reads}
 use Rattle.npr_link.specs.InfoList.{info_list}
 use Rattle.npr_link.proofs.OkAs.{ok_as}
 use Rattle.npr_link.proofs.attribute.LinkAttributeAttribute.read_into.Goals as goal
@@ -30,3 +32,10 @@ returns-in_default-clause-ok g c =
     ok_as c.put_flat.result (λ u p.
     (p.0, p.1, flat_reads c.args.family c.args.item.now p.0 (λ e. af (c.kind.ensures ∙ e)) (λ e. info (c.kind.ensures ∙ e)) p.2))
     c.put_flat.ensures.ok
+
+pub returns-in-18-clause-refused : goal.returns-in-18-clause-refused
+returns-in-18-clause-refused g c =
+    IfErr-weaker c.put_info.result _ _
+    (λ e wrong other. info_wrong c.args.family c.args.item.now no_place e (sym c.kind.ensures ∙ c.in-18.is)
+    (subst (λ (w : List ℕ). info_list.Wrong no_place w e) c.value-in-18.ensures (wrong other)))
+    c.put_info.ensures.refused

@@ -1,6 +1,9 @@
+use Rattle.std.specs.Prelude.{Result, Ok, Err}
 use Rattle.std.proofs.Common.{map, inl, refl}
 use Rattle.std.proofs.lemmas.List.{take_rest}
 use Rattle.std.proofs.lemmas.Result.{err_from_is_err_and}
+use Rattle.npr_base.specs.declared.refusal.DecodeError.{DecodeError}
+use Rattle.npr_base.specs.declared.refusal.DecodeError.TheVariants.{OutOfMemory}
 use Rattle.npr_base.specs.Message.{MessageFault, MessageLooks}
 use Rattle.npr_base.proofs.Messages.{message_read, fault_after, looks_after}
 use Rattle.npr_link.specs.Peer.{peers}
@@ -42,3 +45,12 @@ returns-clause-exact c = λ answered.
     let head = c.at_front-header.ensures in
     looks_after peers c.args.bytes.now c.at_front-header.result c.args.looks.now c.parse_list.new.looks head.0 head.1
     (rw take_rest at (c.in_ok-attributes.ensures.exact tt))
+
+abbrev cause : {T : Type 0} → Result T DecodeError → DecodeError
+cause (Ok v) = OutOfMemory
+cause (Err e) = e
+
+pub returns-in_err-attributes-clause-memory : goal.returns-in_err-attributes-clause-memory
+returns-in_err-attributes-clause-memory c =
+    let p = err_from_is_err_and c.from_residual.result c.from_residual.ensures.1 in
+    rw (p.1, p.2) (λ wants. rw take_rest at (c.in_err-attributes.ensures.memory (λ i. Err (cause (wants i)))))

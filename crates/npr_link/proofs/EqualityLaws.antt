@@ -1,0 +1,330 @@
+-- What `==` answers of attributes and messages of links: whether they mean the same.
+use Rattle.std.specs.Prelude.{ℕ, Bool, true, List, [], ◌∷◌, ◌&&◌, ◌==◌, map, length, nat_eq, if◌then◌else◌}
+use Rattle.std.specs.Bool.{Decides, beq}
+use Rattle.std.specs.Cmp.{booleans_Decides, signed_Decides, unsigned_Decides}
+use Rattle.std.specs.Cmp.Lexicographic.{pointwise}
+use Rattle.std.specs.Str.{bytes_eq}
+use Rattle.std.specs.String.{string_bytes}
+use Rattle.std.specs.declared.alloc.Global.{Global}
+use Rattle.std.specs.declared.vec.Vec.{Vec}
+use Rattle.std.proofs.Common.{◌≡◌, ◌+◌, refl, ap, inl, inr}
+use Rattle.npr_base.specs.Equality.{IsEqualityOf}
+use Rattle.npr_base.specs.EnumTable.{◌also◌}
+use Rattle.npr_base.specs.Framing.{Item}
+use Rattle.npr_base.specs.Message.{View}
+use Rattle.npr_base.specs.IpLaws.{ipv4_equality, ipv6_equality}
+use Rattle.npr_base.specs.MeaningLaws.{enum_meaning, one_meaning, items_equality, items_meaning, text_equality}
+use Rattle.npr_base.specs.StructLaws.{◌beside◌, and_decides, decides_as}
+use Rattle.npr_base.specs.Tables.{table_decides}
+use Rattle.npr_base.specs.EnumTable.{meaning_in}
+use Rattle.npr_base.specs.ViewEquality.{bytes_equality, item_equality, same_item}
+use Rattle.npr_link.specs.AfSpecInet as OfAfSpecInet
+use Rattle.npr_link.specs.contracts.af_spec_inet.AfSpecInetPartialEq.TheImpl as InetEq
+use Rattle.npr_link.specs.AfSpecInet6 as OfAfSpecInet6
+use Rattle.npr_link.specs.contracts.af_spec_inet6.AfSpecInet6PartialEq.TheImpl as Inet6Eq
+use Rattle.npr_link.specs.AfSpec as OfAfSpec
+use Rattle.npr_link.specs.contracts.af_spec.AfSpecUnspecPartialEq.TheImpl as AfSpecEq
+use Rattle.npr_link.specs.Xdp as OfXdp
+use Rattle.npr_link.specs.contracts.xdp.LinkXdpPartialEq.TheImpl as XdpEq
+use Rattle.npr_link.specs.Prop as OfProp
+use Rattle.npr_link.specs.contracts.prop.PropPartialEq.TheImpl as PropEq
+use Rattle.npr_link.specs.ProtocolDown as OfProtocolDown
+use Rattle.npr_link.specs.contracts.protocol_down.LinkProtocolDownReasonPartialEq.TheImpl as ReasonEq
+use Rattle.npr_link.specs.QuerierState as OfQuerierState
+use Rattle.npr_link.specs.contracts.querier_state.BridgeQuerierStatePartialEq.TheImpl as QuerierEq
+use Rattle.npr_link.specs.Bridge as OfBridge
+use Rattle.npr_link.specs.contracts.bridge.InfoBridgePartialEq.TheImpl as BridgeEq
+use Rattle.npr_link.specs.BridgePort as OfBridgePort
+use Rattle.npr_link.specs.contracts.bridge_port.InfoBridgePortPartialEq.TheImpl as BridgePortEq
+use Rattle.npr_link.specs.VlanQos as OfVlanQos
+use Rattle.npr_link.specs.contracts.vlan_qos.VlanQosMappingPartialEq.TheImpl as QosEq
+use Rattle.npr_link.specs.Vlan as OfVlan
+use Rattle.npr_link.specs.contracts.vlan.InfoVlanPartialEq.TheImpl as VlanEq
+use Rattle.npr_link.specs.Vrf as OfVrf
+use Rattle.npr_link.specs.contracts.vrf.InfoVrfPartialEq.TheImpl as VrfEq
+use Rattle.npr_link.specs.PeerAttribute as OfPeerAttribute
+use Rattle.npr_link.specs.contracts.peer_attribute.PeerAttributePartialEq.TheImpl as PeerAttributeEq
+use Rattle.npr_link.specs.Veth as OfVeth
+use Rattle.npr_link.specs.contracts.veth.InfoVethPartialEq.TheImpl as VethEq
+use Rattle.npr_link.specs.Info as OfInfo
+use Rattle.npr_link.specs.contracts.info.LinkInfoPartialEq.TheImpl as InfoEq
+use Rattle.npr_link.specs.Attribute as OfAttribute
+use Rattle.npr_link.specs.contracts.attribute.LinkAttribute.{enum as attribute_enum}
+use Rattle.npr_link.specs.contracts.attribute.LinkAttributePartialEq.TheImpl as AttributeEq
+use Rattle.npr_link.specs.contracts.info_kind.InfoKind.{enum as kind_enum}
+use Rattle.npr_link.specs.contracts.info_kind.InfoKindPartialEq.TheImpl as KindEq
+use Rattle.npr_link.specs.contracts.port_kind.InfoPortKind.{enum as port_kind_enum}
+use Rattle.npr_link.specs.contracts.port_kind.InfoPortKindPartialEq.TheImpl as PortKindEq
+use Rattle.npr_link.specs.contracts.info_data.InfoData.{enum as data_enum}
+use Rattle.npr_link.specs.contracts.info_data.InfoDataPartialEq.TheImpl as DataEq
+use Rattle.npr_link.specs.contracts.port_data.InfoPortData.{enum as port_data_enum}
+use Rattle.npr_link.specs.contracts.port_data.InfoPortDataPartialEq.TheImpl as PortDataEq
+use Rattle.npr_link.specs.contracts.peer.LinkPeerPartialEq.TheImpl as PeerEq
+use Rattle.npr_link.specs.InfoKind.{info_kind_of, info_kind_names}
+use Rattle.npr_link.specs.PortKind.{port_kind_of, port_kind_names}
+use Rattle.npr_link.specs.Kinds.{Kind, known, other}
+use Rattle.npr_link.specs.InfoData as D
+use Rattle.npr_link.specs.PortData as Q
+use Rattle.npr_link.specs.Peer.{peer_of, peers}
+use Rattle.npr_link.specs.Governing.{none_governs}
+use Rattle.npr_link.specs.AfSpecs.{as_list, unspec, unknown}
+use Rattle.npr_link.specs.SharedRow.{first_of, shared_decides}
+use Rattle.npr_link.proofs.ValueEquality.{address_mode_equality, attachment_equality, boolean_options_equality, bridge_id_equality}
+use Rattle.npr_link.proofs.ValueEquality.{cache_info_equality, extent_mask_equality, inet6_flags_equality, link_event_equality}
+use Rattle.npr_link.proofs.ValueEquality.{link_mode_equality, map_equality, port_state_equality, router_type_equality, state_equality}
+use Rattle.npr_link.proofs.ValueEquality.{stp_state_equality, vlan_flags_equality, vlan_protocol_equality, header_equality}
+use Rattle.npr_link_numbers.specs.declared.inet_devconf.InetDevConf.{InetDevConf}
+use Rattle.npr_link_numbers.specs.contracts.inet_devconf.InetDevConfPartialEq.TheImpl as InetDevConfEq
+use Rattle.npr_link_numbers.specs.declared.inet6_devconf.Inet6DevConf.{Inet6DevConf}
+use Rattle.npr_link_numbers.specs.contracts.inet6_devconf.Inet6DevConfPartialEq.TheImpl as Inet6DevConfEq
+use Rattle.npr_link_numbers.specs.declared.inet6_stats.Inet6Stats.{Inet6Stats}
+use Rattle.npr_link_numbers.specs.contracts.inet6_stats.Inet6StatsPartialEq.TheImpl as Inet6StatsEq
+use Rattle.npr_link_numbers.specs.declared.inet6_icmp.Icmp6Stats.{Icmp6Stats}
+use Rattle.npr_link_numbers.specs.contracts.inet6_icmp.Icmp6StatsPartialEq.TheImpl as Icmp6StatsEq
+use Rattle.npr_link_numbers.specs.declared.stats.Stats.{Stats}
+use Rattle.npr_link_numbers.specs.contracts.stats.StatsPartialEq.TheImpl as StatsEq
+use Rattle.npr_link_numbers.specs.declared.stats64.Stats64.{Stats64}
+use Rattle.npr_link_numbers.specs.contracts.stats64.Stats64PartialEq.TheImpl as Stats64Eq
+use denote.Enum.Declared.{Choice}
+use denote.Struct.Values.{Values}
+
+-- ---- a variant of one field, by what it holds
+
+one : {A : Type 0} {P : A → A → Type 0} → ((a b : A) → P a b) → (x y : A × Unit {0}) → P x.0 y.0
+one h x y = h x.0 y.0
+
+list : {A M : Type 0} {meaning : A → M} {test : A → A → Bool} → IsEqualityOf meaning test → (x y : Vec A Global × Unit {0})
+    → Decides (pointwise test x.0.items y.0.items) (map meaning x.0.items ≡ map meaning y.0.items)
+list {meaning = meaning} h x y = items_meaning meaning h x.0 y.0
+
+number : (x y : ℕ × Unit {0}) → Decides (x.0 == y.0) (x.0 ≡ y.0)
+number = one unsigned_Decides
+
+truth : (x y : Bool × Unit {0}) → Decides (beq x.0 y.0) (x.0 ≡ y.0)
+truth = one booleans_Decides
+
+bytes : (x y : Vec ℕ Global × Unit {0}) → Decides (pointwise nat_eq x.0.items y.0.items) (x.0.items ≡ y.0.items)
+bytes = one (items_equality unsigned_Decides)
+
+kept : (x y : Item × Unit {0}) → Decides (same_item x.0 y.0) (x.0 ≡ y.0)
+kept = one item_equality
+
+nothing : (x y : Unit {0}) → Decides true (◌≡◌ {A = Unit {0}} tt tt)
+nothing x y = (λ e. refl, λ e. refl)
+
+two_numbers : (x y : ℕ × (ℕ × Unit {0})) → Decides ((x.0 == y.0) && (x.1.0 == y.1.0)) (◌≡◌ {A = ℕ × ℕ} (x.0, x.1.0) (y.0, y.1.0))
+two_numbers x y = (unsigned_Decides beside unsigned_Decides) (x.0, x.1.0) (y.0, y.1.0)
+
+-- ---- numbers of any kernel
+
+inet_conf_equality : IsEqualityOf (λ (x : InetDevConf). x.numbers.items) InetDevConfEq.ghosts.eq
+inet_conf_equality a b = items_equality signed_Decides a.numbers b.numbers
+
+inet6_conf_equality : IsEqualityOf (λ (x : Inet6DevConf). x.numbers.items) Inet6DevConfEq.ghosts.eq
+inet6_conf_equality a b = items_equality signed_Decides a.numbers b.numbers
+
+inet6_stats_equality : IsEqualityOf (λ (x : Inet6Stats). x.numbers.items) Inet6StatsEq.ghosts.eq
+inet6_stats_equality a b = items_equality signed_Decides a.numbers b.numbers
+
+icmp6_stats_equality : IsEqualityOf (λ (x : Icmp6Stats). x.numbers.items) Icmp6StatsEq.ghosts.eq
+icmp6_stats_equality a b = items_equality signed_Decides a.numbers b.numbers
+
+stats_equality : IsEqualityOf (λ (x : Stats). x.numbers.items) StatsEq.ghosts.eq
+stats_equality a b = items_equality unsigned_Decides a.numbers b.numbers
+
+stats64_equality : IsEqualityOf (λ (x : Stats64). x.numbers.items) Stats64Eq.ghosts.eq
+stats64_equality a b = items_equality unsigned_Decides a.numbers b.numbers
+
+-- ---- families
+
+pub inet_equality : IsEqualityOf OfAfSpecInet.family.meaning InetEq.ghosts.eq
+inet_equality =
+    table_decides OfAfSpecInet.table _
+    (one inet_conf_equality also kept also tt)
+
+pub inet6_equality : IsEqualityOf OfAfSpecInet6.family.meaning Inet6Eq.ghosts.eq
+inet6_equality =
+    table_decides OfAfSpecInet6.table _
+    (one inet6_flags_equality also one inet6_conf_equality also one inet6_stats_equality also one cache_info_equality also
+    one icmp6_stats_equality also one ipv6_equality also one address_mode_equality also number also kept also tt)
+
+pub af_spec_equality : IsEqualityOf OfAfSpec.family.meaning AfSpecEq.ghosts.eq
+af_spec_equality =
+    table_decides OfAfSpec.table _
+    (list inet_equality also list inet6_equality also kept also tt)
+
+pub xdp_equality : IsEqualityOf OfXdp.family.meaning XdpEq.ghosts.eq
+xdp_equality =
+    table_decides OfXdp.table _
+    (one signed_Decides also one attachment_equality also number also number also number also number also number also number also
+    kept also tt)
+
+pub prop_equality : IsEqualityOf OfProp.family.meaning PropEq.ghosts.eq
+prop_equality =
+    table_decides OfProp.table _
+    (one text_equality also kept also tt)
+
+pub reason_equality : IsEqualityOf OfProtocolDown.family.meaning ReasonEq.ghosts.eq
+reason_equality =
+    table_decides OfProtocolDown.table _
+    (number also number also kept also tt)
+
+pub querier_equality : IsEqualityOf OfQuerierState.family.meaning QuerierEq.ghosts.eq
+querier_equality =
+    table_decides OfQuerierState.table _
+    (one ipv4_equality also number also number also one ipv6_equality also number also number also kept also tt)
+
+pub bridge_equality : IsEqualityOf OfBridge.family.meaning BridgeEq.ghosts.eq
+bridge_equality =
+    table_decides OfBridge.table _
+    (number also number also number also number also one stp_state_equality also number also truth also
+    one vlan_protocol_equality also number also one bridge_id_equality also one bridge_id_equality also number also number also
+    number also number also number also number also number also number also one bytes_equality also nothing also
+    one router_type_equality also truth also truth also truth also number also number also number also number also number also
+    number also number also number also number also number also truth also truth also truth also number also truth also truth also
+    number also number also truth also one boolean_options_equality also list querier_equality also number also number also
+    number also kept also tt)
+
+pub bridge_port_equality : IsEqualityOf OfBridgePort.family.meaning BridgePortEq.ghosts.eq
+bridge_port_equality =
+    table_decides OfBridgePort.table _
+    (one port_state_equality also number also number also truth also truth also truth also truth also truth also truth also
+    truth also truth also truth also one bridge_id_equality also one bridge_id_equality also number also number also number also
+    number also truth also truth also number also number also number also nothing also one router_type_equality also truth also
+    truth also truth also truth also number also truth also truth also number also truth also truth also number also number also
+    truth also truth also number also number also truth also number also truth also kept also tt)
+
+pub qos_equality : IsEqualityOf OfVlanQos.family.meaning QosEq.ghosts.eq
+qos_equality =
+    table_decides OfVlanQos.table _
+    (two_numbers also kept also tt)
+
+pub vlan_equality : IsEqualityOf OfVlan.family.meaning VlanEq.ghosts.eq
+vlan_equality =
+    table_decides OfVlan.table _
+    (number also one (vlan_flags_equality beside vlan_flags_equality) also list qos_equality also list qos_equality also
+    one vlan_protocol_equality also kept also tt)
+
+pub vrf_equality : IsEqualityOf OfVrf.family.meaning VrfEq.ghosts.eq
+vrf_equality =
+    table_decides OfVrf.table _
+    (number also kept also tt)
+
+pub peer_attribute_equality : IsEqualityOf OfPeerAttribute.family.meaning PeerAttributeEq.ghosts.eq
+peer_attribute_equality =
+    table_decides OfPeerAttribute.table _
+    (bytes also bytes also one text_equality also number also number also one state_equality also one link_mode_equality also
+    number also number also one signed_Decides also number also number also number also number also one signed_Decides also
+    number also number also number also kept also tt)
+
+-- ---- the other end of a pair
+
+pub peer_equality : IsEqualityOf peer_of PeerEq.ghosts.eq
+peer_equality a b =
+    decides_as
+    (λ p. λ i. record { header = p.0 i; attributes = p.1 i })
+    (λ e. (ap (λ (m : View peers). m.header) e, ap (λ (m : View peers). m.attributes) e))
+    (and_decides (header_equality a.header b.header) (items_meaning OfPeerAttribute.family.meaning peer_attribute_equality a.attributes b.attributes))
+
+pub veth_equality : IsEqualityOf OfVeth.family.meaning VethEq.ghosts.eq
+veth_equality = table_decides OfVeth.table _ (one peer_equality also kept also tt)
+
+-- ---- kinds
+
+-- the place of a kind among these names
+place : List (List ℕ) → List ℕ → ℕ
+place [] text = 0
+place (n ∷ names) text = if bytes_eq text n then 0 else 1 + place names text
+
+order : List (List ℕ) → Kind → ℕ
+order names (known text) = place names text
+order names (other text) = length names
+
+bare : (names : List (List ℕ)) {t m : Kind} {n : ℕ} → order names m ≡ n
+    → ((x : Unit {0}) → order names m ≡ n) × ((x y : Unit {0}) → m ≡ t → Decides true (m ≡ m))
+bare names is = (λ x. is, λ x y e. (λ h. refl, λ h. refl))
+
+pub kind_equality : IsEqualityOf info_kind_of KindEq.ghosts.eq
+unfolding order place
+kind_equality =
+    enum_meaning (order info_kind_names) kind_enum info_kind_of _ (λ t.
+    bare info_kind_names refl also bare info_kind_names refl also bare info_kind_names refl also bare info_kind_names refl also
+    bare info_kind_names refl also bare info_kind_names refl also bare info_kind_names refl also bare info_kind_names refl also
+    bare info_kind_names refl also bare info_kind_names refl also bare info_kind_names refl also bare info_kind_names refl also
+    bare info_kind_names refl also bare info_kind_names refl also bare info_kind_names refl also bare info_kind_names refl also
+    bare info_kind_names refl also bare info_kind_names refl also bare info_kind_names refl also bare info_kind_names refl also
+    bare info_kind_names refl also bare info_kind_names refl also bare info_kind_names refl also bare info_kind_names refl also
+    bare info_kind_names refl also bare info_kind_names refl also bare info_kind_names refl also bare info_kind_names refl also
+    bare info_kind_names refl also bare info_kind_names refl also
+    (λ x. refl, one_meaning (λ s. string_bytes s) other text_equality (λ p q e. cc)) also tt)
+
+pub port_kind_equality : IsEqualityOf port_kind_of PortKindEq.ghosts.eq
+unfolding order place
+port_kind_equality =
+    enum_meaning (order port_kind_names) port_kind_enum port_kind_of _ (λ t.
+    bare port_kind_names refl also bare port_kind_names refl also bare port_kind_names refl also
+    (λ x. refl, one_meaning (λ s. string_bytes s) other text_equality (λ p q e. cc)) also tt)
+
+-- ---- data
+
+data_order : D.Data → ℕ
+data_order (D.bridge xs) = 0
+data_order (D.vlan xs) = 1
+data_order (D.veth xs) = 2
+data_order (D.vrf xs) = 3
+data_order (D.other bytes) = 4
+
+pub data_equality : IsEqualityOf D.info_data_of DataEq.ghosts.eq
+unfolding data_order
+data_equality =
+    enum_meaning data_order data_enum D.info_data_of _ (λ t.
+    (λ x. refl, one_meaning (λ v. map OfBridge.family.meaning v.items) D.bridge (items_meaning OfBridge.family.meaning bridge_equality) (λ p q e. cc)) also
+    (λ x. refl, one_meaning (λ v. map OfVlan.family.meaning v.items) D.vlan (items_meaning OfVlan.family.meaning vlan_equality) (λ p q e. cc)) also
+    (λ x. refl, one_meaning (λ v. map OfVeth.family.meaning v.items) D.veth (items_meaning OfVeth.family.meaning veth_equality) (λ p q e. cc)) also
+    (λ x. refl, one_meaning (λ v. map OfVrf.family.meaning v.items) D.vrf (items_meaning OfVrf.family.meaning vrf_equality) (λ p q e. cc)) also
+    (λ x. refl, one_meaning (λ v. v.items) D.other (items_equality unsigned_Decides) (λ p q e. cc)) also tt)
+
+port_data_order : Q.Data → ℕ
+port_data_order (Q.bridge xs) = 0
+port_data_order (Q.vrf xs) = 1
+port_data_order (Q.other bytes) = 2
+
+pub port_data_equality : IsEqualityOf Q.port_data_of PortDataEq.ghosts.eq
+unfolding port_data_order
+port_data_equality =
+    enum_meaning port_data_order port_data_enum Q.port_data_of _ (λ t. (
+      λ x. refl,
+      one_meaning (λ v. map OfBridgePort.family.meaning v.items) Q.bridge
+          (items_meaning OfBridgePort.family.meaning bridge_port_equality) (λ p q e. cc),
+    ) also
+    (λ x. refl, one_meaning (λ v. map OfVrf.family.meaning v.items) Q.vrf (items_meaning OfVrf.family.meaning vrf_equality) (λ p q e. cc)) also
+    (λ x. refl, one_meaning (λ v. v.items) Q.other (items_equality unsigned_Decides) (λ p q e. cc)) also tt)
+
+pub info_equality : IsEqualityOf OfInfo.family.meaning InfoEq.ghosts.eq
+info_equality =
+    table_decides (OfInfo.table none_governs) _
+    (one kind_equality also one data_equality also bytes also one port_kind_equality also one port_data_equality also kept also
+    tt)
+
+-- ---- attributes of a message
+
+-- what the first variant means, no other does
+first_apart : (v : Values (first_of attribute_enum.parts)) (c : Choice OfAttribute.later)
+    → (OfAttribute.table as_list).first v ≡ meaning_in OfAttribute.later (OfAttribute.rows as_list).0 c → ⊥
+first_apart v (inl w) e = absurd cc
+first_apart v (inr c) e = absurd cc
+
+pub attribute_equality : IsEqualityOf OfAttribute.meaning AttributeEq.ghosts.eq
+attribute_equality =
+    shared_decides (OfAttribute.table as_list) _
+    (λ x y. decides_as (λ e. ap (λ (xs : List OfAfSpec.family.Meaning). inl (unspec xs)) e) (λ e. cc) (list af_spec_equality x y))
+    ((λ x y. decides_as (λ e. ap unknown e) (λ e. cc) (bytes x y)) also list info_equality also bytes also bytes also one text_equality also
+    number also number also one text_equality also one stats_equality also number also number also one map_equality also
+    one state_equality also one link_mode_equality also number also one text_equality also number also one stats64_equality also
+    number also one signed_Decides also one extent_mask_equality also number also number also number also number also bytes also
+    number also bytes also one signed_Decides also one text_equality also number also number also number also list xdp_equality also
+    one link_event_equality also one signed_Decides also one signed_Decides also number also number also one signed_Decides also
+    number also number also list prop_equality also one text_equality also bytes also list reason_equality also
+    one text_equality also one text_equality also number also number also number also number also number also number also
+    number also truth also number also number also kept also tt)
+    first_apart
