@@ -6,10 +6,10 @@ use Rattle.npr_base.specs.Equality.{IsEqualityOf}
 use Rattle.npr_base.specs.MeaningLaws.{items_equality}
 use Rattle.npr_base.specs.StructLaws.{and_decides, decides_as}
 use Rattle.netlink_packet_route.specs.MessageKind.{MessageOf}
-use Rattle.netlink_packet_route.specs.RouteNetlinkMessage.{Meaning, message, other, other_of}
+use Rattle.netlink_packet_route.specs.RouteNetlinkMessage.{Meaning, message, set_link, link_prop, other, other_of}
 use Rattle.netlink_packet_route.specs.contracts.message.OtherMessagePartialEq.TheImpl as OtherEq
 use Rattle.netlink_packet_route.specs.declared.kind.MessageKind.{MessageKind}
-use Rattle.netlink_packet_route.specs.declared.kind.MessageKind.TheVariants.{Address, Route, Rule, Neighbour}
+use Rattle.netlink_packet_route.specs.declared.kind.MessageKind.TheVariants.{Address, Route, Rule, Neighbour, Link}
 use Rattle.netlink_packet_route.specs.declared.message.Action.{Action}
 use Rattle.netlink_packet_route.specs.declared.message.Action.TheVariants.{New, Del, Get}
 
@@ -19,14 +19,17 @@ action_order Del = 1
 action_order Get = 2
 
 abbrev kind_order : MessageKind → ℕ
-kind_order Address = 0
-kind_order Route = 3
-kind_order Neighbour = 6
-kind_order Rule = 9
+kind_order Link = 0
+kind_order Address = 4
+kind_order Route = 7
+kind_order Neighbour = 10
+kind_order Rule = 13
 
 unfoldable pub order : Meaning → ℕ
 order (message kind a m) = kind_order kind + action_order a
-order (other type bytes) = 12
+order (set_link m) = 3
+order (link_prop a m) = 16 + action_order a
+order (other type bytes) = 19
 
 -- a message of a kind is one
 abbrev as_kind : (kind : MessageKind) → MessageOf kind → Meaning → MessageOf kind
@@ -34,6 +37,7 @@ as_kind Address m (message Address a n) = n
 as_kind Route m (message Route a n) = n
 as_kind Neighbour m (message Neighbour a n) = n
 as_kind Rule m (message Rule a n) = n
+as_kind Link m (message Link a n) = n
 as_kind kind m x = m
 
 pub message_one : (kind : MessageKind) (a : Action) (m n : MessageOf kind) → message kind a m ≡ message kind a n → m ≡ n
@@ -41,6 +45,22 @@ message_one Address a m n e = ap (as_kind Address m) e
 message_one Route a m n e = ap (as_kind Route m) e
 message_one Neighbour a m n e = ap (as_kind Neighbour m) e
 message_one Rule a m n e = ap (as_kind Rule m) e
+message_one Link a m n e = ap (as_kind Link m) e
+
+-- and so is a link message of another type
+abbrev as_set : MessageOf Link → Meaning → MessageOf Link
+as_set m (set_link n) = n
+as_set m x = m
+
+pub set_one : (m n : MessageOf Link) → set_link m ≡ set_link n → m ≡ n
+set_one m n e = ap (as_set m) e
+
+abbrev as_prop : MessageOf Link → Meaning → MessageOf Link
+as_prop m (link_prop a n) = n
+as_prop m x = m
+
+pub prop_one : (a : Action) (m n : MessageOf Link) → link_prop a m ≡ link_prop a n → m ≡ n
+prop_one a m n e = ap (as_prop m) e
 
 abbrev pub other_by : ℕ × List ℕ → Meaning
 other_by p = other p.0 p.1

@@ -109,6 +109,65 @@ pub use Rattle.npr_address.specs.Attribute as AddressAttribute
 pub use Rattle.npr_address.specs.CacheInfo
 pub use Rattle.npr_address.specs.Header as AddressHeader
 pub use Rattle.npr_address.specs.Message as AddressMessage
+-- link messages
+pub use Rattle.npr_link.specs.AddressMode as LinkAddressMode
+pub use Rattle.npr_link.specs.AfSpec as LinkAfSpec
+pub use Rattle.npr_link.specs.AfSpecInet as LinkAfSpecInet
+pub use Rattle.npr_link.specs.AfSpecInet6 as LinkAfSpecInet6
+pub use Rattle.npr_link.specs.AfSpecs as LinkAfSpecs
+pub use Rattle.npr_link.specs.Attribute as LinkAttribute
+pub use Rattle.npr_link.specs.AttributeSteps as LinkAttributeSteps
+pub use Rattle.npr_link.specs.BooleanOptions as LinkBooleanOptions
+pub use Rattle.npr_link.specs.Bridge as LinkBridge
+pub use Rattle.npr_link.specs.BridgeId as LinkBridgeId
+pub use Rattle.npr_link.specs.BridgePort as LinkBridgePort
+pub use Rattle.npr_link.specs.Choices as LinkChoices
+pub use Rattle.npr_link.specs.ExtentMask as LinkExtentMask
+pub use Rattle.npr_link.specs.Fails as LinkFails
+pub use Rattle.npr_link.specs.Flags as LinkFlags
+pub use Rattle.npr_link.specs.Governing as LinkGoverning
+pub use Rattle.npr_link.specs.GoverningLaws as LinkGoverningLaws
+pub use Rattle.npr_link.specs.Header as LinkHeader
+pub use Rattle.npr_link.specs.Inet6CacheInfo as LinkInet6CacheInfo
+pub use Rattle.npr_link.specs.Inet6Flags as LinkInet6Flags
+pub use Rattle.npr_link.specs.Info
+pub use Rattle.npr_link.specs.InfoData
+pub use Rattle.npr_link.specs.InfoKind
+pub use Rattle.npr_link.specs.InfoList
+pub use Rattle.npr_link.specs.InfoLooks
+pub use Rattle.npr_link.specs.InfoOnce
+pub use Rattle.npr_link.specs.Kinds as LinkKinds
+pub use Rattle.npr_link.specs.LayerType as LinkLayerType
+pub use Rattle.npr_link.specs.LinkEvent
+pub use Rattle.npr_link.specs.LinkMode
+pub use Rattle.npr_link.specs.Map as LinkMap
+pub use Rattle.npr_link.specs.Message as LinkMessage
+pub use Rattle.npr_link.specs.MoreFields as LinkMoreFields
+pub use Rattle.npr_link.specs.MulticastRouter as LinkMulticastRouter
+pub use Rattle.npr_link.specs.Pairs as LinkPairs
+pub use Rattle.npr_link.specs.Peer as LinkPeer
+pub use Rattle.npr_link.specs.PeerAttribute as LinkPeerAttribute
+pub use Rattle.npr_link.specs.PortData as LinkPortData
+pub use Rattle.npr_link.specs.PortKind as LinkPortKind
+pub use Rattle.npr_link.specs.PortState as LinkPortState
+pub use Rattle.npr_link.specs.Prop as LinkProp
+pub use Rattle.npr_link.specs.ProtocolDown as LinkProtocolDown
+pub use Rattle.npr_link.specs.QuerierState as LinkQuerierState
+pub use Rattle.npr_link.specs.SharedRow as LinkSharedRow
+pub use Rattle.npr_link.specs.ShortLists as LinkShortLists
+pub use Rattle.npr_link.specs.State as LinkState
+pub use Rattle.npr_link.specs.StpState as LinkStpState
+pub use Rattle.npr_link.specs.Uint as LinkUint
+pub use Rattle.npr_link.specs.Veth as LinkVeth
+pub use Rattle.npr_link.specs.Vlan as LinkVlan
+pub use Rattle.npr_link.specs.VlanFlags as LinkVlanFlags
+pub use Rattle.npr_link.specs.VlanProtocol as LinkVlanProtocol
+pub use Rattle.npr_link.specs.VlanQos as LinkVlanQos
+pub use Rattle.npr_link.specs.Vrf as LinkVrf
+pub use Rattle.npr_link.specs.Xdp as LinkXdp
+pub use Rattle.npr_link.specs.XdpAttached as LinkXdpAttached
+pub use Rattle.npr_link_numbers.specs.Names as LinkNumberNames
+pub use Rattle.npr_link_numbers.specs.Numbers as LinkNumbers
 -- neighbour messages
 pub use Rattle.npr_neighbour.specs.Attribute as NeighbourAttribute
 pub use Rattle.npr_neighbour.specs.CacheInfo as NeighbourCacheInfo

@@ -14,15 +14,18 @@ pub enum MessageKind {
     Rule,
     /// Neighbour messages.
     Neighbour,
+    /// Link messages.
+    Link,
 }
 
 impl MessageKind {
     /// Each kind.
-    pub const ALL: [MessageKind; 4] = [
+    pub const ALL: [MessageKind; 5] = [
         MessageKind::Address,
         MessageKind::Route,
         MessageKind::Rule,
         MessageKind::Neighbour,
+        MessageKind::Link,
     ];
 
     /// The kind that the words of a command line, those after the program's name, consist of.
@@ -46,6 +49,7 @@ impl MessageKind {
             "route" => Some(MessageKind::Route),
             "rule" => Some(MessageKind::Rule),
             "neighbour" => Some(MessageKind::Neighbour),
+            "link" => Some(MessageKind::Link),
             _ => None,
         }
     }
@@ -59,6 +63,7 @@ impl MessageKind {
             MessageKind::Route => "route",
             MessageKind::Rule => "rule",
             MessageKind::Neighbour => "neighbour",
+            MessageKind::Link => "link",
         }
     }
 }

@@ -5,6 +5,7 @@ ghost use Rattle.std.specs.{Prelude.{◌≡◌}, List.{Contains}};
 ghost use Rattle.{
   npr_base.specs.{Equality.{IsEquality, IsEqualityOf}, Walk.{CutsInTwo}, declared.address_family.AddressFamily.{AddressFamily}},
   npr_address.specs.Attribute.{attributes as address_attributes},
+  npr_link.specs.Attribute.{attributes as link_attributes},
   npr_neighbour.specs.Attribute.{attributes as neighbour_attributes},
   npr_route.specs.{FlatAttribute.{Context}, AttributeFamily.{attributes as route_attributes}},
   npr_rule.specs.Attribute.{attributes as rule_attributes},
@@ -29,6 +30,13 @@ pub use npr_base::laws::{
     law_canonical, law_constants as law_framing_constants, law_cut as law_cut_in_two,
     law_default as law_family_default, law_equality as law_framing_equality, law_family_number,
     law_looks, law_one_reading, law_read_back, law_walk,
+};
+use npr_link::LinkAttribute;
+pub use npr_link::laws::{
+    law_default as law_link_default, law_equality as law_link_value_equality,
+    law_equality_of_meanings as law_link_equality, law_flags as law_link_value_flags,
+    law_governing as law_link_governing, law_link_flags, law_numbers as law_link_numbers,
+    law_router_types, law_search as law_link_search,
 };
 use npr_neighbour::NeighbourAttribute;
 pub use npr_neighbour::laws::{
@@ -68,11 +76,13 @@ pub fn law_cut()
     ensures route { (context : Context) → CutsInTwo (route_attributes context).Reads }
     ensures rule { CutsInTwo rule_attributes.Reads }
     ensures neighbour { (family : AddressFamily) → CutsInTwo (neighbour_attributes family).Reads }
+    ensures link { (family : AddressFamily) → CutsInTwo (link_attributes family).Reads }
 {
     law_cut_in_two::<AddressAttribute>();
     law_cut_in_two::<RouteAttribute>();
     law_cut_in_two::<RuleAttribute>();
     law_cut_in_two::<NeighbourAttribute>();
+    law_cut_in_two::<LinkAttribute>();
 }
 
 /// Each kind of message is one of `MessageKind::ALL`, no two have one name, and `==` answers whether
@@ -93,5 +103,6 @@ pub fn law_rtnetlink_equality()
     law_route_equality();
     law_rule_equality();
     law_neighbour_equality();
+    law_link_equality();
     law_message_equality::<RouteNetlinkMessage>();
 }

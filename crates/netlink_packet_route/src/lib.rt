@@ -1,5 +1,5 @@
-//! Messages of Linux rtnetlink on addresses, routes, neighbours and rules: bytes to typed values and
-//! back.
+//! Messages of Linux rtnetlink on links, addresses, routes, neighbours and rules: bytes to typed values
+//! and back.
 //!
 //! A message is read by `parse` and written by `emit`, once `check` accepts it. Names and paths are
 //! those of the Rust crate `netlink-packet-route`; what that crate takes from others stands in
@@ -15,6 +15,7 @@ pub mod family;
 pub mod framing;
 mod kind;
 pub mod laws;
+pub mod link;
 mod message;
 pub mod neighbour;
 pub mod net;

@@ -5,9 +5,10 @@ ghost use Rattle.{
   npr_base.specs.{Message.{MessageFault, view}, declared.refusal.DecodeError.TheVariants.{OutOfMemory}},
   netlink_packet_route.specs.{
     MessageKind.{kind_of_type, form_of},
-    RouteNetlinkMessage.{Meaning, meaning_of, other_of, address, route, neighbour, rule, rtnetlink, type_of, encode, meaning_unfit, IsMessageOf, ReadsUnder, FaultUnder, HasFirst, GrowsUnder, CopyGrows},
+    RouteNetlinkMessage.{Meaning, meaning_of, other_of, address, route, neighbour, rule, link, link_prop, rtnetlink, type_of, encode, meaning_unfit, IsMessageOf, ReadsUnder, FaultUnder, HasFirst, GrowsUnder, CopyGrows},
   },
   npr_address.specs.Message.{addresses},
+  npr_link.specs.Message.{links},
   npr_neighbour.specs.Message.{neighbours},
   npr_route.specs.Message.{routes},
   npr_rule.specs.Message.{rules},
@@ -17,6 +18,7 @@ use crate::kind::MessageKind;
 use netlink_packet_core::{NetlinkHeader, NetlinkInner};
 use npr_address::AddressMessage;
 use npr_base::{DecodeError, EmitError, Emitable, Parseable, read_bytes, write_bytes};
+use npr_link::LinkMessage;
 use npr_neighbour::NeighbourMessage;
 use npr_route::RouteMessage;
 use npr_rule::RuleMessage;
@@ -34,6 +36,14 @@ pub struct OtherMessage {
 /// A message of rtnetlink, by its type.
 #[derive(Debug, Drop, PartialEq, Eq)]
 pub enum RouteNetlinkMessage {
+    /// `RTM_NEWLINK`, 16.
+    NewLink(LinkMessage),
+    /// `RTM_DELLINK`, 17.
+    DelLink(LinkMessage),
+    /// `RTM_GETLINK`, 18.
+    GetLink(LinkMessage),
+    /// `RTM_SETLINK`, 19.
+    SetLink(LinkMessage),
     /// `RTM_NEWADDR`, 20.
     NewAddress(AddressMessage),
     /// `RTM_DELADDR`, 21.
@@ -58,6 +68,12 @@ pub enum RouteNetlinkMessage {
     DelRule(RuleMessage),
     /// `RTM_GETRULE`, 34.
     GetRule(RuleMessage),
+    /// `RTM_NEWLINKPROP`, 108.
+    NewLinkProp(LinkMessage),
+    /// `RTM_DELLINKPROP`, 109.
+    DelLinkProp(LinkMessage),
+    /// `RTM_GETLINKPROP`, 110.
+    GetLinkProp(LinkMessage),
     /// Any other type.
     Other(OtherMessage),
 }
@@ -78,28 +94,46 @@ pub enum Action {
 pub enum MessageType {
     /// A message of this kind, which does this.
     Of(MessageKind, Action),
+    /// A link message which asks to change a link that is there.
+    SetLink,
+    /// A link message on other properties of a link, as its other names, which does this.
+    LinkProp(Action),
     /// Any other.
     Unknown,
 }
 
-/// The types, by the kinds of messages: for each kind its message, and for each type its number, its
-/// message and what that does.
+/// The types: of each its number, the variant of its messages, and what it says.
 macro_rules! types {
     ($body:ident ($($given:tt)*)) => {
-        $body!(($($given)*) {
-            AddressMessage Address { 20 NewAddress New; 21 DelAddress Del; 22 GetAddress Get; }
-            RouteMessage Route { 24 NewRoute New; 25 DelRoute Del; 26 GetRoute Get; }
-            NeighbourMessage Neighbour { 28 NewNeighbour New; 29 DelNeighbour Del; 30 GetNeighbour Get; }
-            RuleMessage Rule { 32 NewRule New; 33 DelRule Del; 34 GetRule Get; }
-        })
+        $body!(($($given)*)
+            16 NewLink MessageType::Of(MessageKind::Link, Action::New);
+            17 DelLink MessageType::Of(MessageKind::Link, Action::Del);
+            18 GetLink MessageType::Of(MessageKind::Link, Action::Get);
+            19 SetLink MessageType::SetLink;
+            20 NewAddress MessageType::Of(MessageKind::Address, Action::New);
+            21 DelAddress MessageType::Of(MessageKind::Address, Action::Del);
+            22 GetAddress MessageType::Of(MessageKind::Address, Action::Get);
+            24 NewRoute MessageType::Of(MessageKind::Route, Action::New);
+            25 DelRoute MessageType::Of(MessageKind::Route, Action::Del);
+            26 GetRoute MessageType::Of(MessageKind::Route, Action::Get);
+            28 NewNeighbour MessageType::Of(MessageKind::Neighbour, Action::New);
+            29 DelNeighbour MessageType::Of(MessageKind::Neighbour, Action::Del);
+            30 GetNeighbour MessageType::Of(MessageKind::Neighbour, Action::Get);
+            32 NewRule MessageType::Of(MessageKind::Rule, Action::New);
+            33 DelRule MessageType::Of(MessageKind::Rule, Action::Del);
+            34 GetRule MessageType::Of(MessageKind::Rule, Action::Get);
+            108 NewLinkProp MessageType::LinkProp(Action::New);
+            109 DelLinkProp MessageType::LinkProp(Action::Del);
+            110 GetLinkProp MessageType::LinkProp(Action::Get);
+        )
     };
 }
 
 /// What a number says.
 macro_rules! type_of {
-    (($of:expr) { $($message:ident $kind:ident { $($number:tt $variant:ident $action:ident;)* })* }) => {
+    (($of:expr) $($number:tt $variant:ident $says:expr;)*) => {
         match $of {
-            $($($number => MessageType::Of(MessageKind::$kind, Action::$action),)*)*
+            $($number => $says,)*
             _ => MessageType::Unknown,
         }
     };
@@ -107,9 +141,9 @@ macro_rules! type_of {
 
 /// The number of a message that is read, or else that of another one.
 macro_rules! number_of {
-    (($of_message:expr; $other:ident => $otherwise:expr) { $($message:ident $kind:ident { $($number:tt $variant:ident $action:ident;)* })* }) => {
+    (($of_message:expr; $other:ident => $otherwise:expr) $($number:tt $variant:ident $says:expr;)*) => {
         match $of_message {
-            $($(RouteNetlinkMessage::$variant(_) => $number,)*)*
+            $(RouteNetlinkMessage::$variant(_) => $number,)*
             RouteNetlinkMessage::Other($other) => $otherwise,
         }
     };
@@ -117,9 +151,9 @@ macro_rules! number_of {
 
 /// The same of each message that is read, and something else of another one.
 macro_rules! each {
-    (($of_message:expr; $m:ident => $then:expr; $other:ident => $otherwise:expr) { $($message:ident $kind:ident { $($number:tt $variant:ident $action:ident;)* })* }) => {
+    (($of_message:expr; $m:ident => $then:expr; $other:ident => $otherwise:expr) $($number:tt $variant:ident $says:expr;)*) => {
         match $of_message {
-            $($(RouteNetlinkMessage::$variant($m) => $then,)*)*
+            $(RouteNetlinkMessage::$variant($m) => $then,)*
             RouteNetlinkMessage::Other($other) => $otherwise,
         }
     };
@@ -127,19 +161,10 @@ macro_rules! each {
 
 /// An equal message.
 macro_rules! clone_of {
-    (($of_message:expr, $alloc:expr) { $($message:ident $kind:ident { $($number:tt $variant:ident $action:ident;)* })* }) => {
+    (($of_message:expr, $alloc:expr) $($number:tt $variant:ident $says:expr;)*) => {
         match $of_message {
-            $($(RouteNetlinkMessage::$variant(m) => m.try_clone($alloc)?.under(Action::$action),)*)*
+            $(RouteNetlinkMessage::$variant(m) => RouteNetlinkMessage::$variant(m.try_clone($alloc)?),)*
             RouteNetlinkMessage::Other(m) => RouteNetlinkMessage::Other(m.try_clone($alloc)?),
-        }
-    };
-}
-
-/// The message of a kind that the bytes are.
-macro_rules! read_as {
-    (($of_kind:expr, $does:expr, $alloc:expr, $payload:expr) { $($message:ident $kind:ident { $($number:tt $variant:ident $action:ident;)* })* }) => {
-        match $of_kind {
-            $(MessageKind::$kind => Ok($message::parse($alloc, $payload)?.under($does)),)*
         }
     };
 }
@@ -158,12 +183,13 @@ impl MessageType {
     {
         match self {
             MessageType::Of(kind, _) => Some(kind),
+            MessageType::SetLink | MessageType::LinkProp(_) => Some(MessageKind::Link),
             MessageType::Unknown => None,
         }
     }
 }
 
-/// A message on an entry of the kernel's tables: an address, a route, a neighbour or a rule.
+/// A message on an entry of the kernel's tables: a link, an address, a route, a neighbour or a rule.
 pub trait Entry: Drop {
     ghost use Rattle.netlink_packet_route.specs.declared.message.Action.{Action};
 
@@ -219,6 +245,18 @@ impl Entry for RuleMessage {
             Action::New => RouteNetlinkMessage::NewRule(self),
             Action::Del => RouteNetlinkMessage::DelRule(self),
             Action::Get => RouteNetlinkMessage::GetRule(self),
+        }
+    }
+}
+
+impl Entry for LinkMessage {
+    ghost as_meaning = { λ a m. link a (view links m) };
+
+    fn under(self, action: Action) -> RouteNetlinkMessage {
+        match action {
+            Action::New => RouteNetlinkMessage::NewLink(self),
+            Action::Del => RouteNetlinkMessage::DelLink(self),
+            Action::Get => RouteNetlinkMessage::GetLink(self),
         }
     }
 }
@@ -297,10 +335,27 @@ fn read_under(
 {
     match MessageType::of(message_type) {
         MessageType::Of(kind, action) => read_kind(alloc, kind, action, payload),
+        MessageType::SetLink => Ok(RouteNetlinkMessage::SetLink(LinkMessage::parse(
+            alloc, payload,
+        )?)),
+        MessageType::LinkProp(action) => {
+            Ok(on_properties(LinkMessage::parse(alloc, payload)?, action))
+        }
         MessageType::Unknown => Ok(RouteNetlinkMessage::Other(OtherMessage {
             message_type,
             payload: read_bytes(alloc, payload)?,
         })),
+    }
+}
+
+/// The message on other properties of a link that does this.
+fn on_properties(message: LinkMessage, action: Action) -> RouteNetlinkMessage
+    ensures { meaning_of result ≡ link_prop action (view links message) }
+{
+    match action {
+        Action::New => RouteNetlinkMessage::NewLinkProp(message),
+        Action::Del => RouteNetlinkMessage::DelLinkProp(message),
+        Action::Get => RouteNetlinkMessage::GetLinkProp(message),
     }
 }
 
@@ -315,5 +370,11 @@ fn read_kind(
     ensures refused { IfErr result (λ e. e ≢ OutOfMemory → MessageFault (form_of kind).grammar payload.now e) }
     ensures memory { IsErrOf result OutOfMemory → HasFirst kind payload.now }
 {
-    types!(read_as(kind, action, alloc, payload))
+    Ok(match kind {
+        MessageKind::Address => AddressMessage::parse(alloc, payload)?.under(action),
+        MessageKind::Route => RouteMessage::parse(alloc, payload)?.under(action),
+        MessageKind::Rule => RuleMessage::parse(alloc, payload)?.under(action),
+        MessageKind::Neighbour => NeighbourMessage::parse(alloc, payload)?.under(action),
+        MessageKind::Link => LinkMessage::parse(alloc, payload)?.under(action),
+    })
 }

@@ -1,12 +1,13 @@
-//! Requests to the kernel on addresses, routes, neighbours and rules, with the flags that `ip` sets. A
+//! Requests to the kernel on links, addresses, routes, neighbours and rules, with the flags that `ip` sets. A
 //! sequence number is one of the caller's choice, which the answer has again.
 
+ghost use Rattle.std.specs.Prelude.{IfOk};
 ghost use Rattle.{
   netlink_packet_core.specs.{Message.{message_of}, Request.{IsRequest, dump_flags, get_flags, new_flags, replace_flags, delete_flags}},
   netlink_packet_route.specs.{
     declared.message.Action.TheVariants.{New, Del, Get},
-    RouteNetlinkMessage.{meaning_of, rtnetlink, address, route, neighbour, rule},
-    Request.{addresses_of, routes_of, neighbours_of, rules_of},
+    RouteNetlinkMessage.{meaning_of, rtnetlink, address, route, neighbour, rule, link},
+    Request.{addresses_of, routes_of, neighbours_of, rules_of, links_of},
   },
 };
 
@@ -14,10 +15,11 @@ use crate::message::{Action, Entry, RouteNetlinkMessage};
 use netlink_packet_core::NetlinkMessage;
 use npr_address::AddressMessage;
 use npr_base::AddressFamily;
+use npr_link::{LinkAttribute, LinkExtentMask, LinkMessage};
 use npr_neighbour::NeighbourMessage;
 use npr_route::RouteMessage;
 use npr_rule::RuleMessage;
-use std::alloc::Global;
+use std::alloc::{AllocError, Global};
 
 /// Asks for all that the message names, as `ip route show table 100`.
 pub fn dump<M: Entry>(sequence_number: u32, message: M) -> NetlinkMessage<RouteNetlinkMessage>
@@ -79,6 +81,23 @@ pub fn dump_neighbours(
     let mut message = NeighbourMessage::new(alloc);
     message.header.family = family;
     dump(sequence_number, message)
+}
+
+/// Asks for all links, and what the mask names besides, as `ip link`, which sets `Vf` and, without
+/// `-s`, `SkipStats`.
+///
+/// # Errors
+/// `AllocError` where memory for the mask is refused.
+pub fn dump_links(
+    alloc: Global,
+    sequence_number: u32,
+    mask: LinkExtentMask,
+) -> Result<NetlinkMessage<RouteNetlinkMessage>, AllocError>
+    ensures { IfOk result (λ r. IsRequest rtnetlink dump_flags sequence_number (link Get (links_of mask)) (message_of meaning_of r)) }
+{
+    let mut message = LinkMessage::new(alloc);
+    message.attributes.push(LinkAttribute::ExtMask(mask))?;
+    Ok(dump(sequence_number, message))
 }
 
 /// Asks for the one that the message names, as `ip route get`.

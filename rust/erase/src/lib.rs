@@ -23,7 +23,7 @@ use std::fs;
 use std::path::{Path, PathBuf};
 
 /// The libraries, each before those that stand on it.
-pub const LIBRARIES: [&str; 10] = [
+pub const LIBRARIES: [&str; 12] = [
     "npr_base",
     "netlink_packet_core",
     "npr_scalar",
@@ -32,6 +32,8 @@ pub const LIBRARIES: [&str; 10] = [
     "npr_address",
     "npr_rule",
     "npr_neighbour",
+    "npr_link_numbers",
+    "npr_link",
     "npr_route",
     "netlink_packet_route",
 ];

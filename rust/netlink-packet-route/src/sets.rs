@@ -236,6 +236,11 @@ macro_rules! sets {
 sets! {
     address::AddressFlags u32;
     address::AddressHeaderFlags u8;
+    link::BridgeBooleanOptionFlags u32;
+    link::Inet6IfaceFlags u32;
+    link::LinkExtentMask u32;
+    link::LinkFlags u32;
+    link::VlanFlags u32;
     neighbour::NeighbourExtFlags u32;
     neighbour::NeighbourFlags u8;
     neighbour::NeighbourState u16;

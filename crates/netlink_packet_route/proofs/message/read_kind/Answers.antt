@@ -1,5 +1,6 @@
 use Rattle.npr_base.specs.Message.{view}
 use Rattle.npr_address.specs.Message.{addresses}
+use Rattle.npr_link.specs.Message.{links}
 use Rattle.npr_neighbour.specs.Message.{neighbours}
 use Rattle.npr_route.specs.Message.{routes}
 use Rattle.npr_rule.specs.Message.{rules}
@@ -24,3 +25,8 @@ pub returns-in_ok-parse-in-Rule-clause-ok : goal.returns-in_ok-parse-in-Rule-cla
 returns-in_ok-parse-in-Rule-clause-ok c =
     let read = c.in_ok-parse-in-Rule in
     rw c.in-Rule.is (view rules read.field-0, read.ensures.ok, c.under-in-Rule.ensures)
+
+pub returns-in_ok-parse-in-Link-clause-ok : goal.returns-in_ok-parse-in-Link-clause-ok
+returns-in_ok-parse-in-Link-clause-ok c =
+    let read = c.in_ok-parse-in-Link in
+    rw c.in-Link.is (view links read.field-0, read.ensures.ok, c.under-in-Link.ensures)
