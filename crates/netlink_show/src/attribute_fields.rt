@@ -46,6 +46,12 @@ pub fn push_unknown(fields: &mut Fields, nla: &DefaultNla) {
     push_raw(fields, nla.kind(), nla.value())
 }
 
+/// The same, which a line does not have where nothing stands in the attribute, as in padding.
+pub fn push_other(fields: &mut Fields, nla: &DefaultNla) {
+    push_unknown(fields, nla);
+    fields.hide_if(nla.value().is_empty());
+}
+
 /// The same of an attribute that is not at hand as one.
 pub fn push_raw(fields: &mut Fields, kind: u16, value: &[u8]) {
     let mut inside = Fields::new(fields.manner);
@@ -53,4 +59,18 @@ pub fn push_raw(fields: &mut Fields, kind: u16, value: &[u8]) {
     inside.some_bits(FLAGS, kind & !NLA_TYPE_MASK);
     inside.bytes(VALUE, value);
     fields.object(WHOLE, inside);
+}
+
+/// An attribute as it is written, in the place of words for it.
+pub fn push_written<A: Nla>(fields: &mut Fields, attribute: &A) {
+    let Ok(length) = attribute.check_value() else {
+        return push_raw(fields, attribute.kind(), &[]);
+    };
+    match vec![in fields.manner.alloc; 0u8; length] {
+        Ok(mut value) => {
+            attribute.write_value(value.as_mut_slice());
+            push_raw(fields, attribute.kind(), value.as_slice());
+        }
+        Err(AllocError) => fields.refuse(),
+    }
 }
