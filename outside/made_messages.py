@@ -98,12 +98,12 @@ BESIDE = {7: {1: four(3)}, 9: {4: four(1), 5: four(1), 1: BYTES[2], 2: V6[1], 3:
 LINK_NAMES = [b"q7\0", b"q7", b"abcdefghijklmno\0"]
 MACS = [b"\x02\0\0\0\0\x01", b"\xff" * 6, bytes(20), b"\0"]
 QOS = [b"", listed((1, four(1, 2))), listed((1, four(1, 2)), (1, four(0, 2 ** 32 - 1)))]
-KIND_NAMES = [b"dummy\0", b"vlan", b"no-such-kind\0"]
+KIND_NAMES = [b"dummy\0", b"tun", b"no-such-kind\0"]
 IDS = [bytes(8), b"\x80\0\x02\0\0\0\x0a\xff", b"\xff" * 8]
 TIMERS = [struct.pack("<Q", it) for it in (0, 5, 99, 100, 12345, 2 ** 31 - 1)]
 BRIDGE_ROWS = {**{kind: number(4) for kind in (1, 2, 3, 4, 5, 13, 26, 27, 28, 29, 48, 49, 50)}, **{kind: number(2) for kind in (6, 9, 12, 39)},
                **{kind: BYTES[:2] for kind in (7, 14, 15, 23, 24, 25, 36, 37, 38, 41, 42, 45)}, 8: [b"\x81\0", b"\x88\xa8", b"\x12\x34"],
-               10: IDS, 11: IDS, **{kind: TIMERS for kind in (16, 17, 18, 19)}, 20: MACS[:2], 21: [b""], 22: BYTES[:4], 43: BYTES[:3],
+               11: IDS, **{kind: TIMERS for kind in (16, 17, 18, 19)}, 20: MACS[:2], 21: [b""], 22: BYTES[:4], 43: BYTES[:3],
                44: BYTES[:3], **{kind: number(8) for kind in range(30, 36)},
                46: [four(value, mask) for value in (0, 1, 3, 31, 2 ** 32 - 1) for mask in (0, 1, 3, 31, 2 ** 32 - 1)],
                47: [b"", listed((1, V4[1]), (2, INDEXES[1]), (3, number(8)[3])), listed((5, V6[1]), (6, INDEXES[1]), (7, number(8)[3]))]}
@@ -124,7 +124,7 @@ LINK_ROWS = {1: MACS, 2: MACS, 54: MACS, 5: INDEXES, 10: INDEXES, 6: NAMES, 20: 
              **{kind: number(4) for kind in (4, 13, 19, 21, 27, 28, 30, 31, 32, 35, 37, 40, 41, 44, 45, 46, 47, 48, 49, 50, 51, 58, 59, 60,
                                               61, 63, 64)},
              7: STATS, 23: [bytes(192), bytes(range(200)), bytes(8)], 14: [bytes(28) + bytes(4), bytes(range(32))], 16: BYTES[:8] + BYTES[255:],
-             17: BYTES[:3], 33: BYTES[:2], 39: BYTES[:3], 34: [b"\1\2", bytes(32)], 36: [b"\1\2", bytes(32)], 29: bits(4),
+             17: BYTES[:3], 33: BYTES[:2], 39: BYTES[:3], 34: [b"\1\2", bytes(8)], 36: [b"\1\2", bytes(8)], 29: bits(4),
              52: [listed((53, b"second\0"), (53, b"a longer name than sixteen\0"))], 55: [listed((1, four(8)), (2, four(9)))],
              66: number(8), 67: BYTES[:2], 68: number(2), 69: number(2),
              26: [listed((2, listed((1, four(*range(33))))), (10, listed((8, BYTES[0])))), listed((2, listed((1, four(*range(35))))))]}
@@ -214,10 +214,12 @@ def link_lists():
     yield from ([(37, four(1)), (5, it)] for it in INDEXES)
     yield from ([(1, MACS[0]), (54, it)] for it in MACS[:2])
     yield from ([(18, listed((kind, name), (data, listed(*it))))] for kind, name, data, table in INFO_ROWS for it in rows(table))
-    yield from ([(18, listed((1, b"vlan\0"), (2, listed((5, b"\x81\0"), (1, two(7)), *it))))] for it in rows(VLAN_ROWS))
+    # `ip` shows the bridge in the place of its root, and of a VLAN nothing without its number
+    yield from ([(18, listed((1, b"bridge\0"), (2, listed((10, it), (11, it)))))] for it in IDS)
+    yield from ([(18, listed((1, b"vlan\0"), (2, listed(*{5: b"\x81\0", 1: two(7), **dict(it)}.items()))))] for it in rows(VLAN_ROWS))
     yield from ([(18, listed((1, b"veth\0"), (2, listed((1, head + listed(*it))))))] for head in (bytes(16), link_header(1, 9, 772, 1, 7)) for it in rows(PEER_ROWS))
     yield from ([(18, listed((1, it), (4, it), *more))] for it in KIND_NAMES for more in ([], [(2, b"\1\2"), (3, b"\3"), (5, b"\4")]))
-    yield from ([(43, listed((2, BYTES[1]), *it))] for it in rows(XDP_ROWS))
+    yield from ([(43, listed(*{2: BYTES[1], **dict(it)}.items()))] for it in rows(XDP_ROWS))
     yield from ([(26, listed((10, listed(*it))))] for it in rows(INET6_ROWS))
 
 
@@ -232,7 +234,7 @@ def links():
     yield from ((header, [name, *it]) for it in link_lists())
     for index, flags in ((DOWN, 0), (UP, 1)):
         yield link_header(flags, index), [(3, b"below\0")]
-        yield header, [name, (5, four(index)), (10, four(index))]
+        yield link_header(2), [name, (5, four(index)), (10, four(index))]
 
 
 def messages():

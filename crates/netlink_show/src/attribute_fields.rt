@@ -1,7 +1,7 @@
 //! What is shown of an attribute of any family.
 
 use crate::field::{Fields, UNKNOWN, Word, Wording};
-use crate::names::{IP_PROTOCOLS, REALMS};
+use crate::names::{GROUPS, IP_PROTOCOLS, REALMS};
 use netlink_packet_route::framing::{DefaultNla, NLA_TYPE_MASK, Nla};
 use netlink_packet_route::route::RouteRealm;
 use std::alloc::AllocError;
@@ -28,6 +28,14 @@ pub fn push_realm(fields: &mut Fields, words: RealmWords, realm: RouteRealm) {
     }
     fields.named(from, REALMS, realm.source);
     fields.named(to, REALMS, realm.destination);
+}
+
+/// A group of interfaces.
+pub fn push_group(fields: &mut Fields, word: Word, group: u32) {
+    match fields.manner.name(GROUPS, group) {
+        Some(name) => fields.text(word, &name),
+        None => fields.text(word, &group.cast_signed()),
+    }
 }
 
 /// The number of a protocol over IP.

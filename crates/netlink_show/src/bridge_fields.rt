@@ -6,9 +6,7 @@ use crate::manner::{Hexadecimal, Inet6};
 use crate::vlan_fields::push_tag;
 use netlink_packet_route::Flags;
 use netlink_packet_route::framing::Nla;
-use netlink_packet_route::link::{
-    BridgeBooleanOptions, BridgeId, BridgeQuerierState, InfoBridge,
-};
+use netlink_packet_route::link::{BridgeBooleanOptions, BridgeId, BridgeQuerierState, InfoBridge};
 use std::fmt;
 
 const VLAN_PROTOCOL: Word = &Wording(8, "vlan_protocol", "vlan_protocol ");
@@ -43,30 +41,83 @@ const NUMBERS: NumberWords = &[
     (12, &Wording(11, "root_port", "root_port ")),
     (13, &Wording(12, "root_path_cost", "root_path_cost ")),
     (14, &Wording(13, "topology_change", "topology_change ")),
-    (15, &Wording(14, "topology_change_detected", "topology_change_detected ")),
+    (
+        15,
+        &Wording(14, "topology_change_detected", "topology_change_detected "),
+    ),
     (22, &Wording(33, "mcast_router", "mcast_router ")),
     (23, &Wording(26, "mcast_snooping", "mcast_snooping ")),
-    (24, &Wording(34, "mcast_query_use_ifaddr", "mcast_query_use_ifaddr ")),
+    (
+        24,
+        &Wording(34, "mcast_query_use_ifaddr", "mcast_query_use_ifaddr "),
+    ),
     (25, &Wording(35, "mcast_querier", "mcast_querier ")),
-    (26, &Wording(38, "mcast_hash_elasticity", "mcast_hash_elasticity ")),
+    (
+        26,
+        &Wording(38, "mcast_hash_elasticity", "mcast_hash_elasticity "),
+    ),
     (27, &Wording(39, "mcast_hash_max", "mcast_hash_max ")),
-    (28, &Wording(40, "mcast_last_member_cnt", "mcast_last_member_count ")),
-    (29, &Wording(41, "mcast_startup_query_cnt", "mcast_startup_query_count ")),
-    (30, &Wording(42, "mcast_last_member_intvl", "mcast_last_member_interval ")),
-    (31, &Wording(43, "mcast_membership_intvl", "mcast_membership_interval ")),
-    (32, &Wording(44, "mcast_querier_intvl", "mcast_querier_interval ")),
-    (33, &Wording(45, "mcast_query_intvl", "mcast_query_interval ")),
-    (34, &Wording(46, "mcast_query_response_intvl", "mcast_query_response_interval ")),
-    (35, &Wording(47, "mcast_startup_query_intvl", "mcast_startup_query_interval ")),
+    (
+        28,
+        &Wording(40, "mcast_last_member_cnt", "mcast_last_member_count "),
+    ),
+    (
+        29,
+        &Wording(41, "mcast_startup_query_cnt", "mcast_startup_query_count "),
+    ),
+    (
+        30,
+        &Wording(42, "mcast_last_member_intvl", "mcast_last_member_interval "),
+    ),
+    (
+        31,
+        &Wording(43, "mcast_membership_intvl", "mcast_membership_interval "),
+    ),
+    (
+        32,
+        &Wording(44, "mcast_querier_intvl", "mcast_querier_interval "),
+    ),
+    (
+        33,
+        &Wording(45, "mcast_query_intvl", "mcast_query_interval "),
+    ),
+    (
+        34,
+        &Wording(
+            46,
+            "mcast_query_response_intvl",
+            "mcast_query_response_interval ",
+        ),
+    ),
+    (
+        35,
+        &Wording(
+            47,
+            "mcast_startup_query_intvl",
+            "mcast_startup_query_interval ",
+        ),
+    ),
     (36, &Wording(51, "nf_call_iptables", "nf_call_iptables ")),
     (37, &Wording(52, "nf_call_ip6tables", "nf_call_ip6tables ")),
     (38, &Wording(53, "nf_call_arptables", "nf_call_arptables ")),
     (39, &Wording(21, "vlan_default_pvid", "vlan_default_pvid ")),
-    (41, &Wording(22, "vlan_stats_enabled", "vlan_stats_enabled ")),
-    (42, &Wording(48, "mcast_stats_enabled", "mcast_stats_enabled ")),
-    (43, &Wording(49, "mcast_igmp_version", "mcast_igmp_version ")),
+    (
+        41,
+        &Wording(22, "vlan_stats_enabled", "vlan_stats_enabled "),
+    ),
+    (
+        42,
+        &Wording(48, "mcast_stats_enabled", "mcast_stats_enabled "),
+    ),
+    (
+        43,
+        &Wording(49, "mcast_igmp_version", "mcast_igmp_version "),
+    ),
     (44, &Wording(50, "mcast_mld_version", "mcast_mld_version ")),
-    (45, &Wording(23, "vlan_stats_per_port", "vlan_stats_per_port ")),
+    (
+        45,
+        &Wording(23, "vlan_stats_per_port", "vlan_stats_per_port "),
+    ),
     (48, &Wording(19, "fdb_n_learned", "fdb_n_learned ")),
     (49, &Wording(20, "fdb_max_learned", "fdb_max_learned ")),
     (50, &Wording(54, "stp_mode", "stp_mode ")),
@@ -76,16 +127,32 @@ const NUMBERS: NumberWords = &[
 const TIMERS: NumberWords = &[
     (16, &Wording(15, "hello_timer", "hello_timer ")),
     (17, &Wording(16, "tcn_timer", "tcn_timer ")),
-    (18, &Wording(17, "topology_change_timer", "topology_change_timer ")),
+    (
+        18,
+        &Wording(17, "topology_change_timer", "topology_change_timer "),
+    ),
     (19, &Wording(18, "gc_timer", "gc_timer ")),
 ];
 
 /// The options of a bit that have a word (`BR_BOOLOPT_*`).
 const BITS: field::Flags = &[
-    (0x1, &Wording(27, "no_linklocal_learn", "no_linklocal_learn ")),
-    (0x2, &Wording(28, "mcast_vlan_snooping", "mcast_vlan_snooping ")),
+    (
+        0x1,
+        &Wording(27, "no_linklocal_learn", "no_linklocal_learn "),
+    ),
+    (
+        0x2,
+        &Wording(28, "mcast_vlan_snooping", "mcast_vlan_snooping "),
+    ),
     (0x4, &Wording(29, "mst_enabled", "mst_enabled ")),
-    (0x8, &Wording(30, "mdb_offload_fail_notification", "mdb_offload_fail_notification ")),
+    (
+        0x8,
+        &Wording(
+            30,
+            "mdb_offload_fail_notification",
+            "mdb_offload_fail_notification ",
+        ),
+    ),
     (0x10, &Wording(31, "fdb_local_vlan_0", "fdb_local_vlan_0 ")),
 ];
 

@@ -34,11 +34,20 @@ const NUMBERS: NumberWords = &[
     (3, &Wording(3, "cost", "cost ")),
     (15, &Wording(12, "designated_port", "designated_port ")),
     (16, &Wording(13, "designated_cost", "designated_cost ")),
-    (19, &Wording(19, "topology_change_ack", "topology_change_ack ")),
+    (
+        19,
+        &Wording(19, "topology_change_ack", "topology_change_ack "),
+    ),
     (20, &Wording(20, "config_pending", "config_pending ")),
     (25, &Wording(23, "multicast_router", "mcast_router ")),
-    (37, &Wording(41, "mcast_eht_hosts_limit", "mcast_eht_hosts_limit ")),
-    (38, &Wording(42, "mcast_eht_hosts_cnt", "mcast_eht_hosts_cnt ")),
+    (
+        37,
+        &Wording(41, "mcast_eht_hosts_limit", "mcast_eht_hosts_limit "),
+    ),
+    (
+        38,
+        &Wording(42, "mcast_eht_hosts_cnt", "mcast_eht_hosts_cnt "),
+    ),
     (41, &Wording(39, "mcast_n_groups", "mcast_n_groups ")),
     (42, &Wording(40, "mcast_max_groups", "mcast_max_groups ")),
     (44, &Wording(37, "backup_nhid", "backup_nhid ")),
@@ -65,14 +74,23 @@ const SWITCHES: NumberWords = &[
     (36, &Wording(44, "mrp_in_open", "mrp_in_open ")),
     (39, &Wording(34, "locked", "locked ")),
     (40, &Wording(35, "mab", "mab ")),
-    (43, &Wording(29, "neigh_vlan_suppress", "neigh_vlan_suppress ")),
-    (45, &Wording(45, "neigh_forward_grat", "neigh_forward_grat ")),
+    (
+        43,
+        &Wording(29, "neigh_vlan_suppress", "neigh_vlan_suppress "),
+    ),
+    (
+        45,
+        &Wording(45, "neigh_forward_grat", "neigh_forward_grat "),
+    ),
 ];
 
 /// The timers.
 const TIMERS: NumberWords = &[
     (21, &Wording(17, "message_age_timer", "message_age_timer ")),
-    (22, &Wording(18, "forward_delay_timer", "forward_delay_timer ")),
+    (
+        22,
+        &Wording(18, "forward_delay_timer", "forward_delay_timer "),
+    ),
     (23, &Wording(16, "hold_timer", "hold_timer ")),
 ];
 

@@ -1,17 +1,18 @@
 //! What is shown of an attribute of a link.
 
 use crate::af_spec_fields::push_af_spec;
-use crate::attribute_fields::{push_other, push_written};
+use crate::attribute_fields::{push_group, push_other, push_written};
 use crate::field::{Fields, NumberWords, Word, Wording};
 use crate::link_device_fields::{push_properties, push_reasons, push_xdp};
 use crate::link_info_fields::push_link_info;
 use crate::link_names::{EVENTS, FILTERS, LINK_MODES, STATES};
 use crate::link_number_fields::{push_map, push_stats, push_stats64};
 use crate::manner::{Bits, Hexadecimal, LinkAddress};
-use crate::names::GROUPS;
 use netlink_packet_route::Flags;
 use netlink_packet_route::framing::Nla;
-use netlink_packet_route::link::{LinkAttribute, LinkEvent, LinkFlags, LinkMessage, LinkMode, State};
+use netlink_packet_route::link::{
+    LinkAttribute, LinkEvent, LinkExtentMask, LinkFlags, LinkMessage, LinkMode, State,
+};
 
 const MASTER: Word = &Wording(8, "master", "master ");
 
@@ -38,6 +39,9 @@ const PEER: Word = &Wording(22, "broadcast", "peer ");
 /// Whether the broadcast address is that of the other end.
 const TO_PEER: Word = &Wording(22, "link_pointtopoint", "");
 
+/// The network namespace of the link under it.
+const NAMESPACE: Word = &Wording(24, "link_netnsid", "link-netnsid ");
+
 const MADE_ADDRESS: Word = &Wording(23, "permaddr", "permaddr ");
 
 const PROTOCOL_DOWN: Word = &Wording(27, "proto_down", "protodown ");
@@ -61,7 +65,10 @@ const NUMBERS: NumberWords = &[
     (40, &Wording(54, "gso_max_segs", "gso_max_segs ")),
     (41, &Wording(53, "gso_max_size", "gso_max_size ")),
     (47, &Wording(73, "carrier_up_count", "carrier_up_count ")),
-    (48, &Wording(74, "carrier_down_count", "carrier_down_count ")),
+    (
+        48,
+        &Wording(74, "carrier_down_count", "carrier_down_count "),
+    ),
     (50, &Wording(31, "min_mtu", "minmtu ")),
     (51, &Wording(32, "max_mtu", "maxmtu ")),
     (58, &Wording(57, "gro_max_size", "gro_max_size ")),
@@ -70,7 +77,14 @@ const NUMBERS: NumberWords = &[
     (61, &Wording(30, "allmulti", "allmulti ")),
     (63, &Wording(58, "gso_ipv4_max_size", "gso_ipv4_max_size ")),
     (64, &Wording(59, "gro_ipv4_max_size", "gro_ipv4_max_size ")),
-    (66, &Wording(78, "max_pacing_offload_horizon", "max_pacing_offload_horizon ")),
+    (
+        66,
+        &Wording(
+            78,
+            "max_pacing_offload_horizon",
+            "max_pacing_offload_horizon ",
+        ),
+    ),
     (68, &Wording(79, "headroom", "headroom ")),
     (69, &Wording(80, "tailroom", "tailroom ")),
 ];
@@ -78,7 +92,6 @@ const NUMBERS: NumberWords = &[
 /// Those with a sign.
 const SIGNED: NumberWords = &[
     (28, &Wording(84, "net_ns_fd", "netns-fd ")),
-    (37, &Wording(24, "link_netnsid", "link-netnsid ")),
     (45, &Wording(25, "new_netnsid", "new-netnsid ")),
     (46, &Wording(85, "if_netnsid", "if-netnsid ")),
     (49, &Wording(26, "new_ifindex", "new-ifindex ")),
@@ -91,7 +104,7 @@ const TEXTS: NumberWords = &[
     (34, &Wording(64, "phys_port_id", "portid ")),
     (36, &Wording(65, "phys_switch_id", "switchid ")),
     (38, &Wording(63, "phys_port_name", "portname ")),
-    (53, &Wording(81, "altname", "altname ")),
+    (53, &Wording(81, "alt_ifname", "alt-ifname ")),
     (56, &Wording(67, "parentdev", "parentdev ")),
     (57, &Wording(66, "parentbus", "parentbus ")),
 ];
@@ -131,7 +144,6 @@ fn push_text(fields: &mut Fields, message: &LinkMessage, attribute: &LinkAttribu
     let kind = attribute.kind();
     match attribute {
         LinkAttribute::NetNsFd(number)
-        | LinkAttribute::LinkNetNsId(number)
         | LinkAttribute::NewNetnsId(number)
         | LinkAttribute::IfNetnsId(number)
         | LinkAttribute::NewIfIndex(number) => fields.number_of(SIGNED, kind, *number),
@@ -160,14 +172,15 @@ fn push_text(fields: &mut Fields, message: &LinkMessage, attribute: &LinkAttribu
 fn push_named(fields: &mut Fields, message: &LinkMessage, attribute: &LinkAttribute) {
     match attribute {
         LinkAttribute::Controller(index) => fields.interface(MASTER, *index),
+        LinkAttribute::LinkNetNsId(id) => push_namespace(fields, *id),
         LinkAttribute::TxQueueLen(length) => push_queue_length(fields, *length),
         LinkAttribute::OperState(state) => push_state(fields, *state),
         LinkAttribute::Mode(mode) => push_mode(fields, *mode),
         LinkAttribute::Event(event) => push_event(fields, *event),
-        LinkAttribute::Group(group) => fields.named(GROUP, GROUPS, *group),
+        LinkAttribute::Group(group) => push_group(fields, GROUP, *group),
         LinkAttribute::ProtoDown(number) => push_protocol_down(fields, *number),
         LinkAttribute::NetnsImmutable(is_so) => fields.switch(IS_FIXED, *is_so),
-        LinkAttribute::ExtMask(filter) => fields.set(FILTER, FILTERS, filter.bits(), ","),
+        LinkAttribute::ExtMask(filter) => push_filter(fields, *filter),
         LinkAttribute::Map(map) => push_map(fields, map),
         LinkAttribute::Stats(stats) => push_stats(fields, stats),
         LinkAttribute::Stats64(stats) => push_stats64(fields, stats, carrier_changes(message)),
@@ -227,6 +240,19 @@ fn address_of(attribute: &LinkAttribute) -> Option<&[u8]> {
         LinkAttribute::Address(bytes) => Some(bytes.as_slice()),
         _ => None,
     }
+}
+
+/// The id of a network namespace, which is negative where there is none.
+fn push_namespace(fields: &mut Fields, id: i32) {
+    match id {
+        0.. => fields.number(NAMESPACE, id),
+        _ => fields.push(NAMESPACE, id, &"unknown"),
+    }
+}
+
+fn push_filter(fields: &mut Fields, filter: LinkExtentMask) {
+    fields.set(FILTER, FILTERS, filter.bits(), ",");
+    fields.hide_if(filter.bits() == 0);
 }
 
 fn push_queue_length(fields: &mut Fields, length: u32) {

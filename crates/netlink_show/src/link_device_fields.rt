@@ -18,7 +18,7 @@ const PROGRAM: Word = &Wording(6, "xdp", "");
 
 const MODE: Word = &Wording(0, "mode", "");
 
-const ID: Word = &Wording(1, "prog", "/id:");
+const ID: Word = &Wording(1, "prog", "");
 
 const ATTACHED: Word = &Wording(2, "attached", "");
 
@@ -29,11 +29,9 @@ const EXPECTED: Word = &Wording(4, "expected_fd", "expected_fd ");
 const FLAGS: Word = &Wording(5, "flags", "flags ");
 
 /// A program: its number, and where it stands.
-const NUMBER: Word = &Wording(0, "id", "");
+const NUMBER: Word = &Wording(0, "id", "/id:");
 
 const PLACE: Word = &Wording(0, "mode", "");
-
-const PROGRAM_THERE: Word = &Wording(1, "prog", "/id:");
 
 /// Other properties.
 pub fn push_properties(fields: &mut Fields, properties: &[Prop]) {
@@ -89,7 +87,7 @@ fn mode_of(member: &LinkXdp) -> Option<u8> {
 fn push_member(fields: &mut Fields, member: &LinkXdp) {
     match member {
         LinkXdp::Attached(mode) => push_mode(fields, u8::from(*mode)),
-        LinkXdp::ProgId(id) => push_program(fields, ID, *id),
+        LinkXdp::ProgId(id) => push_program(fields, *id),
         // They stand in a list.
         LinkXdp::DrvProgId(_) | LinkXdp::SkbProgId(_) | LinkXdp::HwProgId(_) => {}
         LinkXdp::Fd(number) => fields.number(DESCRIPTOR, *number),
@@ -108,10 +106,11 @@ fn push_mode(fields: &mut Fields, mode: u8) {
     fields.hide_if(mode == 0);
 }
 
-fn push_program(fields: &mut Fields, word: Word, id: u32) {
+fn push_program(fields: &mut Fields, id: u32) {
     let mut inside = Fields::new(fields.manner);
     inside.number(NUMBER, id);
-    fields.object(word, inside);
+    inside.hide_if(id == 0);
+    fields.object(ID, inside);
 }
 
 /// Each program with its place: those at several places, or else the one.
@@ -152,8 +151,11 @@ fn place_of(member: &LinkXdp) -> Option<(u8, u32)> {
 
 fn push_place(fields: &mut Fields, mode: u8, id: u32) {
     let mut inside = Fields::new(fields.manner);
-    let name = fields.manner.name(PROGRAMS, u32::from(mode)).unwrap_or("xdp");
+    let name = fields
+        .manner
+        .name(PROGRAMS, u32::from(mode))
+        .unwrap_or("xdp");
     inside.push(PLACE, mode, &name);
-    push_program(&mut inside, PROGRAM_THERE, id);
+    push_program(&mut inside, id);
     fields.object(ITEM, inside);
 }

@@ -1,13 +1,12 @@
 //! What is shown of the other end of a pair.
 
-use crate::attribute_fields::push_other;
+use crate::attribute_fields::{push_group, push_other};
 use crate::field::{Fields, NumberWords, Word, Wording};
 use crate::link_names::{LINK_MODES, LINK_TYPES, STATES};
 use crate::manner::LinkAddress;
-use crate::names::GROUPS;
-use netlink_packet_route::{AddressFamily, Flags};
 use netlink_packet_route::framing::Nla;
 use netlink_packet_route::link::{LinkHeader, LinkPeer, PeerAttribute};
+use netlink_packet_route::{AddressFamily, Flags};
 
 const INDEX: Word = &Wording(0, "ifindex", "index ");
 
@@ -81,7 +80,7 @@ fn push_attribute(fields: &mut Fields, kind: u16, attribute: &PeerAttribute) {
         PeerAttribute::IfName(name) => fields.text(NAME, name),
         PeerAttribute::OperState(state) => fields.named(STATE, STATES, u8::from(*state)),
         PeerAttribute::Mode(mode) => fields.named(MODE, LINK_MODES, u8::from(*mode)),
-        PeerAttribute::Group(group) => fields.named(GROUP, GROUPS, *group),
+        PeerAttribute::Group(group) => push_group(fields, GROUP, *group),
         PeerAttribute::Mtu(number)
         | PeerAttribute::TxQueueLen(number)
         | PeerAttribute::NetNsPid(number)

@@ -1,8 +1,6 @@
 //! What is shown of an attribute of a route or a next hop.
 
-use crate::attribute_fields::{
-    RealmWords, push_ip_number, push_realm, push_unknown, push_written,
-};
+use crate::attribute_fields::{RealmWords, push_ip_number, push_realm, push_unknown, push_written};
 use crate::encap_fields::push_encap;
 use crate::field::{Fields, Word, Wording};
 use crate::manner::{Address, Bits, Hexadecimal, Inet6, Labels};

@@ -39,7 +39,8 @@ const NEIGHBOUR: &str = "02000000 0f000000 80000001 08000100 c0000203 0a000200 0
 const TAG: &str = "00000100 1d000000 82000000 00000000 09000300 76313031 00000000 08000500 0f000000
     24001200 09000100 766c616e 00000000 14000200 06000500 81000000 06000100 64000000";
 
-const LINES: &str = "15: d0: <BROADCAST,NOARP,UP,LOWER_UP> mtu 1500 qdisc noqueue state UNKNOWN group 7
+const LINES: &str =
+    "15: d0: <BROADCAST,NOARP,UP,LOWER_UP> mtu 1500 qdisc noqueue state UNKNOWN group 7
     link/ether 9a:d4:62:c0:c5:4b brd ff:ff:ff:ff:ff:ff
     alias of its own
     altname second-one
@@ -60,7 +61,8 @@ Deleted 15: d0: <BROADCAST,NOARP,UP,LOWER_UP> mtu 1500 qdisc noqueue state UNKNO
 192.0.2.3 dev 15 lladdr 02:00:00:00:00:01 PERMANENT
 ";
 
-const OBJECT: &str = "{\"change\":\"0\",\"family\":\"unspec\",\"flags\":[\"BROADCAST\",\"NOARP\"],\"ifindex\":29,\"ifname\":\"v101\",\"link\":\"d0\",\"link_type\":\"ether\",\"linkinfo\":{\"info_data\":{\"id\":100,\"protocol\":\"802.1Q\"},\"info_kind\":\"vlan\"},\"message\":\"link\"}
+const OBJECT: &str =
+    "{\"change\":\"0\",\"family\":\"unspec\",\"flags\":[\"BROADCAST\",\"NOARP\"],\"ifindex\":29,\"ifname\":\"v101\",\"link\":\"d0\",\"link_type\":\"ether\",\"linkinfo\":{\"info_data\":{\"id\":100,\"protocol\":\"802.1Q\"},\"info_kind\":\"vlan\"},\"message\":\"link\"}
 ";
 
 /// A message without an envelope in one that says nothing.
