@@ -120,7 +120,7 @@ XDP_ROWS = {2: BYTES[:6], 4: number(4), 5: number(4)[1:], 6: number(4)[1:], 7: n
 INET6_ROWS = {1: bits(4), 2: [four(*range(60)), four(*range(62)), four(7)], 3: [b"", bytes(range(24))], 5: [four(1, 2, 3, 4)], 6: [bytes(56), bytes(64)],
               7: V6, 8: BYTES[:5], 9: number(4)}
 STATS = [bytes(96), four(*range(1, 24)), four(*range(30))]
-LINK_ROWS = {1: MACS, 2: MACS, 54: MACS, 5: INDEXES, 10: INDEXES, 6: NAMES, 20: NAMES, 38: NAMES, 53: NAMES, 56: NAMES, 57: NAMES,
+LINK_ROWS = {1: MACS, 2: MACS, 54: MACS, 5: INDEXES, 10: INDEXES, 6: NAMES, 20: NAMES, 38: NAMES, 53: LINK_NAMES, 56: NAMES, 57: NAMES,
              **{kind: number(4) for kind in (4, 13, 19, 21, 27, 28, 30, 31, 32, 35, 37, 40, 41, 44, 45, 46, 47, 48, 49, 50, 51, 58, 59, 60,
                                               61, 63, 64)},
              7: STATS, 23: [bytes(192), bytes(range(200)), bytes(8)], 14: [bytes(28) + bytes(4), bytes(range(32))], 16: BYTES[:8] + BYTES[255:],
