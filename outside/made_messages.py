@@ -9,8 +9,8 @@ TYPES = {"link": 16, "address": 20, "route": 24, "neighbour": 28, "rule": 32}
 INET, INET6, MPLS, BRIDGE = 2, 10, 28, 7
 # the number of an interface that no machine has, so that `ip` has no name for it
 INDEX = 70001
-# the numbers of a link that is shown, of one that is down, and of one that is up; nothing else names them
-LINK, DOWN, UP = 70002, 70003, 70004
+# the numbers of a link that is shown, of one that is down, of one that is up, and of one whose name an address has
+LINK, DOWN, UP, NAMED = 70002, 70003, 70004, 70005
 
 
 def number(size, order="little"):
@@ -237,9 +237,18 @@ def links():
         yield link_header(2), [name, (5, four(index)), (10, four(index))]
 
 
+def message(kind, header, attributes, is_gone=0):
+    body = header + listed(*attributes)
+    return kind, four(16 + len(body)) + two(TYPES[kind] + is_gone, 0) + four(0, 0) + body
+
+
 def messages():
-    """Each message with its kind; of each kind one more says that something is gone."""
+    """Each message with its kind; of each kind one more says that something is gone. The first is a link, whose name the next two have."""
+    yield message("link", link_header(index=NAMED), [(3, b"named\0")])
+    yield message("link", link_header(index=NAMED), [])
+    yield message("address", bytes([INET, 24, 0x80, 0]) + four(NAMED), [(2, V4[1])])
     for kind, made in (("address", addresses()), ("rule", rules()), ("neighbour", neighbours()), ("route", routes()), ("link", links())):
-        for at, (header, attributes) in enumerate(made):
-            body = header + listed(*attributes)
-            yield from ((kind, four(16 + len(body)) + two(TYPES[kind] + it, 0) + four(0, 0) + body) for it in (range(2) if at == 0 else [0]))
+        for at, it in enumerate(made):
+            yield message(kind, *it)
+            if at == 0:
+                yield message(kind, *it, is_gone=1)

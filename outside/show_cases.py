@@ -1,0 +1,113 @@
+"""What nlshow is run with by `outside/run`, and how it answers."""
+
+ROUTE = "02000000fe03000100000000"
+
+# the end of a dump, and what nlshow is tried with
+DONE = bytes.fromhex("1400000003000200000000000000000000000000")
+SHOW_USAGE = b"usage: nlshow [--json | --count] [--numeric] [--hex] [--as address|route|rule|neighbour|link] [--links FILE] [--keep FILE] [FILE..]\n"
+# a link, and a route by it
+LINK = bytes.fromhex("28000000100000000000000000000000" "00000100020000000000000000000000" "0700030064300000")
+ROUTE_BY_LINK = bytes.fromhex("24000000180000000000000000000000" "02000000fe03000100000000" "0800040002000000")
+COUNTS = b"bytes 40\naddresses 0\nroutes 0\nrules 0\nneighbours 0\nlinks 0\nothers 0\ncontrols 2\nrefused 0\n"
+LABELS = f"0x{ROUTE} 10001600 0c000100 00064600:000c81ff 0600150001000000 # two labels\n\n".encode()
+LONG_MESSAGE = bytes.fromhex("04000400") + bytes(1 << 18) + DONE
+LONG_LINE = b"0" * (1 << 18) + b"\n"
+BAD_HEX = b"BadHex: no pairs of hexadecimal digits\n"
+# what an input looks like that is refused
+OF_TEXT = b"-: this looks like hexadecimal text, which `--hex` reads\n"
+NO_DATAGRAM = b"-: this looks like no datagram; `--as` reads a message without an envelope\n"
+DATAGRAM = b"-: this looks like a datagram, which is read without `--as`\n"
+OF_LINES = b"-: this looks like a message over several lines, of which `tr -d '\\n'` makes one\n"
+SHOWN = [
+    ("a wrong option", ["--jsn", "--hex"], b"", 2, b"", b"nlshow: `--jsn` is no option\n" + SHOW_USAGE),
+    ("an option without its word", ["--json", "--keep"], b"", 2, b"", b"nlshow: `--keep` wants a word behind it\n" + SHOW_USAGE),
+    ("objects and a count", ["--json", "--count"], b"", 2, b"", b"nlshow: `--json` and `--count` do not go together\n" + SHOW_USAGE),
+    ("a kind of no message", ["--as", "links"], b"", 2, b"", b"nlshow: `links` is no kind of message\n" + SHOW_USAGE),
+    ("a word that is no text", [b"\xff"], b"", 4, b"", b"nlshow: out of memory\n"),
+    ("a file that is not there", ["/no/file"], b"", 5, b"", b"/no/file: cannot be opened\n"),
+    ("a file that need not be made", ["--keep", "/no/file"], DONE, 0, b"done\n", b""),
+    ("a file that cannot be made", ["--keep", "/no/file", "--hex"], b"0\n", 5, b"", b"-: line 1 at byte 0, 1 bytes: " + BAD_HEX + b"/no/file: cannot be opened\n"),
+    ("no input", [], b"", 0, b"", b""),
+    ("datagrams", ["-", "--numeric"], 3 * DONE, 0, b"done\ndone\ndone\n", b""),
+    ("datagrams as JSON", ["--json"], DONE, 0, b'{"code":0,"message":"done"}\n', b""),
+    ("a count", ["--count"], 2 * DONE, 0, COUNTS, b""),
+    ("a name of an interface that its link tells", [], LINK + ROUTE_BY_LINK, 0, b"2: d0: <>\n    link/ether\ndefault dev d0 proto boot\n", b""),
+    ("names that a file tells", ["--links", "-", "/dev/null"], LINK, 0, b"", b""),
+    ("a file of names that is not there", ["--links", "/no/file"], DONE, 5, b"", b"/no/file: cannot be opened\n"),
+    ("a file of names that is no dump", ["--links", "-", "/dev/null"], DONE[:7], 1, b"",
+     b"-: message 1 at byte 0, 7 bytes: MessageTooShort: 7 bytes, where a message begins with 16\n"),
+    ("a count, which has no names", ["--count", "--links", "-", "/dev/null"], LINK, 0, COUNTS.replace(b"bytes 40", b"bytes 0").replace(b"controls 2", b"controls 0"), b""),
+    ("a text with blanks and a comment", ["--hex", "--as", "route"], LABELS, 0, b"default encap mpls 100[tc 3]/200[ttl 255] proto boot\n", b""),
+    ("a message that is too long", ["--keep", "/dev/full"], LONG_MESSAGE, 5, b"", b"/dev/full: write failed\n"),
+    ("the message behind it", [], LONG_MESSAGE, 1, b"done\n",
+     b"-: message 1 at byte 0, 262148 bytes: TooLong: 262148 bytes, where 262144 have room\n" + NO_DATAGRAM),
+    ("a message alone that is too long", ["--as", "route"], LONG_LINE, 1, b"",
+     b"-: message 1 at byte 0, 262145 bytes: TooLong: 262145 bytes, where 262143 have room\n" + OF_TEXT),
+    ("a line that is too long", ["--hex"], LONG_LINE, 1, b"",
+     b"-: line 1 at byte 0, 262145 bytes: TooLong: 262145 bytes, where 262143 have room\n"),
+]
+
+
+def counted(count):
+    return count.to_bytes(2, "little").hex()
+
+
+def encapsulation(kind, members):
+    """The attributes of an encapsulation of this type."""
+    return f"06001500{counted(kind)}0000{counted(4 + len(members) // 2)}1600{members}"
+
+
+# refusals of nlshow: the kind, the message in hexadecimal, and the words for it
+REFUSED = [
+    ("route", "02", "HeaderTooShort: 1 bytes, where a header of 12 is wanted"),
+    ("route", ROUTE + "0400", "AttributeTooShort: 2 bytes, where an attribute begins with 4"),
+    ("route", ROUTE + "03000100", "AttributeLength: an attribute of length 3 with 4 bytes left"),
+    ("route", ROUTE + "0800090001000000", "NextHopTooShort: 4 bytes, where a next hop begins with 8"),
+    ("route", ROUTE + "0c0009000700000001000000", "NextHopLength: a next hop of length 7 with 8 bytes left"),
+    ("route", ROUTE + "06000f0001020000", "ValueLength: a value of 2 bytes at RTA_TABLE (15)"),
+    ("address", "020880fe01000000060003006cff0000", "NotUtf8: no UTF-8 at IFA_LABEL (3)"),
+    ("rule", "02000000fe000001000000000500060001000000", "ValueLength: a value of 1 bytes at FRA_PRIORITY (6)"),
+    ("link", "11000000", "HeaderTooShort: 4 bytes, where a header of 16 is wanted"),
+    ("link", 32 * "0" + "06000400dc050000", "ValueLength: a value of 2 bytes at IFLA_MTU (4)"),
+    ("link", 32 * "0" + "1c00120009000100766c616e000000000c0002000800010064000000", "ValueLength: a value of 4 bytes at IFLA_VLAN_ID (1)"),
+    ("route", ROUTE + "0a00120002010a0000010000", "ViaFamily: a gateway of address family 258"),
+    ("route", ROUTE + encapsulation(5, "0800010000000000"), "Seg6Header: a SEG6 routing header: Short"),
+    ("route", ROUTE + encapsulation(5, "10000100000000000002040000000000"), "Seg6Header: a SEG6 routing header: Length"),
+    ("route", ROUTE + encapsulation(5, "18000100000000000001040000080000" + "00" * 8), "Seg6Header: a SEG6 routing header: Hmac"),
+    ("route", ROUTE + encapsulation(5, "18000100000000000001040000000000" + "00" * 8), "Seg6Header: a SEG6 routing header: Segments"),
+    ("route", ROUTE + encapsulation(2, "100008800c0001800500020001000000"), "GeneveOrder: LWTUNNEL_IP_OPT_GENEVE_TYPE (2) before a class"),
+    ("route", ROUTE + encapsulation(2, "100008800c0001800500090001000000"), "GeneveChild: Geneve 9 is unknown"),
+]
+
+# bytes in which no message stands, how many those of the refused message are, the words for it and what they look like
+BROKEN = [
+    (DONE[:7], 7, "MessageTooShort: 7 bytes, where a message begins with 16", b""),
+    (DONE[:17], 17, "MessageLength: a message of length 20 with 17 bytes left", b""),
+    (b"\x0f" + DONE[1:], 20, "MessageLength: a message of length 15 with 20 bytes left", NO_DATAGRAM),
+    (DONE[:3] + b"\xff" + DONE[4:], 4278190100, "MessageLength: a message of length 4278190100 with 20 bytes left", NO_DATAGRAM),
+]
+BAD_LINES = [b"0 2", b"0g", b"020"]
+# inputs of another form than that which is read
+LOOKS = [
+    (["--as", "route"], DONE, "message 1 at byte 0, 20 bytes: AttributeLength: an attribute of length 0 with 8 bytes left", DATAGRAM),
+    ([], DONE.hex().encode(), "message 1 at byte 0, 808465457 bytes: MessageLength: a message of length 808465457 with 40 bytes left", OF_TEXT),
+    ([], b"no datagram at all", "message 1 at byte 0, 1679847278 bytes: MessageLength: a message of length 1679847278 with 18 bytes left", NO_DATAGRAM),
+    (["--hex"], DONE[:18].hex().encode() + b"\n", "line 1 at byte 0, 18 bytes: MessageLength: a message of length 20 with 18 bytes left", OF_LINES),
+]
+# calls that would empty the file `f`
+SPARED = [
+    ("a file that is read and kept into", ["--keep", "f", "-", "f"]),
+    ("a file that tells names and is kept into", ["--keep", "f", "--links", "f"]),
+    ("the same by another path", ["--keep", "./f", "-", "f"]),
+    ("the same by a link", ["--keep", "f", "link"]),
+    ("standard input that is kept into", ["--keep", "f", "-"], True),
+]
+
+# words and texts for nlshow
+SHOWN_WITHOUT = [
+    ("a line", [], 2 * DONE),
+    ("an object", ["--json", "--hex", "--as", "route"], LABELS),
+    ("a count", ["--count"], DONE),
+    ("a link, and a route by its name", [], LINK + ROUTE_BY_LINK),
+    ("names that a file tells", ["--links", "-", "/dev/null"], LINK),
+]
