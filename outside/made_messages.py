@@ -243,9 +243,8 @@ def message(kind, header, attributes, is_gone=0):
 
 
 def messages():
-    """Each message with its kind; of each kind one more says that something is gone. The first is a link, whose name the next two have."""
+    """Each message with its kind; of each kind one more says that something is gone. The first is a link, whose name the next has."""
     yield message("link", link_header(index=NAMED), [(3, b"named\0")])
-    yield message("link", link_header(index=NAMED), [])
     yield message("address", bytes([INET, 24, 0x80, 0]) + four(NAMED), [(2, V4[1])])
     for kind, made in (("address", addresses()), ("rule", rules()), ("neighbour", neighbours()), ("route", routes()), ("link", links())):
         for at, it in enumerate(made):
