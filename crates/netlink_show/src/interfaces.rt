@@ -1,5 +1,12 @@
 //! The names of interfaces, as link messages tell them.
 
+ghost use Rattle.std.specs.{
+  Prelude.{◌≡◌, ℕ, None, Some, OnOk, OnErr, option_map, string_bytes},
+  BTreeMap.{IsUnchanged, Updates},
+  Ordering.{nat_cmp},
+};
+ghost use Rattle.netlink_show.specs.Interfaces.{told, is_known_down};
+
 use netlink_packet_core::{NLM_F_REQUEST, NetlinkMessage, NetlinkPayload};
 use netlink_packet_route::link::{LinkAttribute, LinkFlags, LinkHeader, LinkMessage};
 use netlink_packet_route::{AddressFamily, Flags, RouteNetlinkMessage};
@@ -23,20 +30,26 @@ pub struct Interfaces {
 
 impl Interfaces {
     /// None.
-    pub fn new(alloc: Global) -> Interfaces {
+    pub fn new(alloc: Global) -> Interfaces
+        ensures { (index : ℕ) → told result index ≡ None }
+    {
         Interfaces {
             known: BTreeMap::new(alloc),
         }
     }
 
     /// The name of the interface of this number, if it was told.
-    pub fn name_of(&self, index: u32) -> Option<&str> {
+    pub fn name_of(&self, index: u32) -> Option<&str>
+        ensures { option_map (λ name. name.now) result ≡ option_map (λ interface. string_bytes interface.name) (told self.now index) }
+    {
         let interface = self.known.get(&index)?;
         Some(interface.name.as_str())
     }
 
     /// Whether the interface of this number is known not to be up.
-    pub fn is_down(&self, index: u32) -> bool {
+    pub fn is_down(&self, index: u32) -> bool
+        ensures { result ≡ is_known_down (told self.now index) }
+    {
         match self.known.get(&index) {
             Some(interface) => !interface.is_up,
             None => false,
@@ -47,13 +60,18 @@ impl Interfaces {
     ///
     /// # Errors
     /// `AllocError` where memory is refused; what was told before stands then.
-    pub fn learn(&mut self, index: u32, interface: Interface) -> Result<(), AllocError> {
+    pub fn learn(&mut self, index: u32, interface: Interface) -> Result<(), AllocError>
+        ensures ok { OnOk result (Updates nat_cmp self.old.known self.new.known index (Some interface)) }
+        ensures refused { OnErr result (IsUnchanged self.old.known self.new.known) }
+    {
         self.known.insert(index, interface)?;
         Ok(())
     }
 
     /// Takes notice that there is no interface of this number any more.
-    pub fn forget(&mut self, index: u32) {
+    pub fn forget(&mut self, index: u32)
+        ensures { Updates nat_cmp self.old.known self.new.known index None }
+    {
         self.known.remove(&index);
     }
 
@@ -61,10 +79,9 @@ impl Interfaces {
     ///
     /// # Errors
     /// `AllocError` where memory is refused; what was told before stands then.
-    pub fn note(
-        &mut self,
-        message: &NetlinkMessage<RouteNetlinkMessage>,
-    ) -> Result<(), AllocError> {
+    pub fn note(&mut self, message: &NetlinkMessage<RouteNetlinkMessage>) -> Result<(), AllocError>
+        ensures refused { OnErr result (IsUnchanged self.old.known self.new.known) }
+    {
         if message.header.flags & NLM_F_REQUEST != 0 {
             return Ok(());
         }
@@ -79,7 +96,9 @@ impl Interfaces {
     }
 
     /// A link that is there. Nothing is learned of one without a name, or without a number.
-    fn note_new(&mut self, message: &LinkMessage) -> Result<(), AllocError> {
+    fn note_new(&mut self, message: &LinkMessage) -> Result<(), AllocError>
+        ensures refused { OnErr result (IsUnchanged self.old.known self.new.known) }
+    {
         let header = &message.header;
         match message.attributes.iter().find_map(name_of) {
             Some(name) if header.index != 0 => {
