@@ -1,5 +1,5 @@
-//! Messages of Linux rtnetlink on addresses, routes, neighbours and rules: bytes to typed values and
-//! back.
+//! Messages of Linux rtnetlink on links, addresses, routes, neighbours and rules: bytes to typed values
+//! and back.
 //!
 //! The text of the modules is that of a library that is proved in Rattle; its contracts are taken
 //! out when this crate is built. `memory`, `plain`, `sets` and `core_traits` are written by hand.
