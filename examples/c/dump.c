@@ -143,18 +143,13 @@ static const struct {
     uint32_t flag;
     const char *name;
 } FLAGS[] = {
-    {IFF_LOOPBACK, "LOOPBACK"},
-    {IFF_BROADCAST, "BROADCAST"},
-    {IFF_POINTOPOINT, "POINTOPOINT"},
-    {IFF_MULTICAST, "MULTICAST"},
-    {IFF_NOARP, "NOARP"},
-    {IFF_ALLMULTI, "ALLMULTI"},
-    {IFF_PROMISC, "PROMISC"},
-    {IFF_MASTER, "MASTER"},
-    {IFF_SLAVE, "SLAVE"},
-    {IFF_UP, "UP"},
-    {IFF_RUNNING, "RUNNING"},
-    {IFF_LOWER_UP, "LOWER_UP"},
+    {IFF_LOOPBACK, "LOOPBACK"},   {IFF_BROADCAST, "BROADCAST"},   {IFF_POINTOPOINT, "POINTOPOINT"},
+    {IFF_MULTICAST, "MULTICAST"}, {IFF_NOARP, "NOARP"},           {IFF_ALLMULTI, "ALLMULTI"},
+    {IFF_PROMISC, "PROMISC"},     {IFF_MASTER, "MASTER"},         {IFF_SLAVE, "SLAVE"},
+    {IFF_DEBUG, "DEBUG"},         {IFF_DYNAMIC, "DYNAMIC"},       {IFF_AUTOMEDIA, "AUTOMEDIA"},
+    {IFF_PORTSEL, "PORTSEL"},     {IFF_NOTRAILERS, "NOTRAILERS"}, {IFF_UP, "UP"},
+    {IFF_RUNNING, "RUNNING"},     {IFF_LOWER_UP, "LOWER_UP"},     {IFF_DORMANT, "DORMANT"},
+    {IFF_ECHO, "ECHO"},
 };
 
 static void print_flags(uint32_t flags) {
