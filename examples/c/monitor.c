@@ -21,7 +21,11 @@ static int fail(const char *what) {
 static const int GROUPS[] = {RTNLGRP_LINK,      RTNLGRP_NEIGH,       RTNLGRP_IPV4_IFADDR, RTNLGRP_IPV4_ROUTE,
                              RTNLGRP_IPV4_RULE, RTNLGRP_IPV6_IFADDR, RTNLGRP_IPV6_ROUTE,  RTNLGRP_IPV6_RULE};
 
+/* Takes a port, without which the kernel tells a socket nothing, and joins each group. */
 static int join_groups(int socket) {
+    struct sockaddr_nl own = {.nl_family = AF_NETLINK};
+    if (bind(socket, (struct sockaddr *)&own, sizeof own) != 0)
+        return -1;
     for (size_t i = 0; i < sizeof GROUPS / sizeof *GROUPS; i++)
         if (setsockopt(socket, SOL_NETLINK, NETLINK_ADD_MEMBERSHIP, &GROUPS[i], sizeof GROUPS[i]) != 0)
             return -1;
