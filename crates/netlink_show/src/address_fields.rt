@@ -12,6 +12,8 @@ use netlink_packet_route::{AddressFamily, Flags, numbers};
 
 const INDEX: Word = &Wording(2, "ifindex", "");
 
+const INTERFACE: Word = &Wording(3, "dev", "");
+
 const FAMILY: Word = &Wording(3, "family", "");
 
 const LOCAL: Word = &Wording(4, "local", "");
@@ -87,6 +89,9 @@ fn push_header(fields: &mut Fields, header: &AddressHeader) {
     let index = header.index;
     let text = format!(in fields.manner.alloc; "{index}:");
     fields.written(INDEX, index, text);
+    if let Some(name) = fields.manner.interface(index) {
+        fields.text(INTERFACE, &name);
+    }
     fields.text(FAMILY, &header.family);
     fields.number(PREFIX, header.prefix_len);
     fields.named(SCOPE, SCOPES, numbers::address_scope(header.scope));

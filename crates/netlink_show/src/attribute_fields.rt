@@ -1,7 +1,7 @@
 //! What is shown of an attribute of any family.
 
 use crate::field::{Fields, UNKNOWN, Word, Wording};
-use crate::names::{IP_PROTOCOLS, REALMS};
+use crate::names::{GROUPS, IP_PROTOCOLS, REALMS};
 use netlink_packet_route::framing::{DefaultNla, NLA_TYPE_MASK, Nla};
 use netlink_packet_route::route::RouteRealm;
 use std::alloc::AllocError;
@@ -30,6 +30,14 @@ pub fn push_realm(fields: &mut Fields, words: RealmWords, realm: RouteRealm) {
     fields.named(to, REALMS, realm.destination);
 }
 
+/// A group of interfaces.
+pub fn push_group(fields: &mut Fields, word: Word, group: u32) {
+    match fields.manner.name(GROUPS, group) {
+        Some(name) => fields.text(word, &name),
+        None => fields.text(word, &group.cast_signed()),
+    }
+}
+
 /// The number of a protocol over IP.
 pub fn push_ip_number(fields: &mut Fields, word: Word, number: i32) {
     if let Some(name) = fields.manner.name(IP_PROTOCOLS, number.cast_unsigned()) {
@@ -46,6 +54,12 @@ pub fn push_unknown(fields: &mut Fields, nla: &DefaultNla) {
     push_raw(fields, nla.kind(), nla.value())
 }
 
+/// The same, which a line does not have where nothing stands in the attribute, as in padding.
+pub fn push_other(fields: &mut Fields, nla: &DefaultNla) {
+    push_unknown(fields, nla);
+    fields.hide_if(nla.value().is_empty());
+}
+
 /// The same of an attribute that is not at hand as one.
 pub fn push_raw(fields: &mut Fields, kind: u16, value: &[u8]) {
     let mut inside = Fields::new(fields.manner);
@@ -53,4 +67,18 @@ pub fn push_raw(fields: &mut Fields, kind: u16, value: &[u8]) {
     inside.some_bits(FLAGS, kind & !NLA_TYPE_MASK);
     inside.bytes(VALUE, value);
     fields.object(WHOLE, inside);
+}
+
+/// An attribute as it is written, in the place of words for it.
+pub fn push_written<A: Nla>(fields: &mut Fields, attribute: &A) {
+    let Ok(length) = attribute.check_value() else {
+        return push_raw(fields, attribute.kind(), &[]);
+    };
+    match vec![in fields.manner.alloc; 0u8; length] {
+        Ok(mut value) => {
+            attribute.write_value(value.as_mut_slice());
+            push_raw(fields, attribute.kind(), value.as_slice());
+        }
+        Err(AllocError) => fields.refuse(),
+    }
 }

@@ -18,6 +18,8 @@ pub struct Counts {
     pub rules: u64,
     /// Of neighbours.
     pub neighbours: u64,
+    /// Of links.
+    pub links: u64,
     /// Of types that the library has no message for.
     pub others: u64,
     /// Ends, errors and the like.
@@ -42,6 +44,7 @@ impl Counts {
             Some(MessageKind::Route) => &mut self.routes,
             Some(MessageKind::Rule) => &mut self.rules,
             Some(MessageKind::Neighbour) => &mut self.neighbours,
+            Some(MessageKind::Link) => &mut self.links,
             None => &mut self.others,
         };
         *count = count.saturating_add(1);
@@ -58,6 +61,7 @@ impl Counts {
             ("routes", self.routes),
             ("rules", self.rules),
             ("neighbours", self.neighbours),
+            ("links", self.links),
             ("others", self.others),
             ("controls", self.controls),
             ("refused", self.refused),

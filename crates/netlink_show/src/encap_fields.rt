@@ -162,8 +162,8 @@ fn push_local(fields: &mut Fields, member: &RouteSeg6LocalTunnel) {
         RouteSeg6LocalTunnel::Table(number) => fields.named(TABLE, TABLES, *number),
         RouteSeg6LocalTunnel::Nh4(ip) => fields.text(HOP4, ip),
         RouteSeg6LocalTunnel::Nh6(ip) => fields.text(HOP6, &Inet6(ip)),
-        RouteSeg6LocalTunnel::Iif(index) => fields.number(INCOMING, *index),
-        RouteSeg6LocalTunnel::Oif(index) => fields.number(OUTGOING, *index),
+        RouteSeg6LocalTunnel::Iif(index) => fields.interface(INCOMING, *index),
+        RouteSeg6LocalTunnel::Oif(index) => fields.interface(OUTGOING, *index),
         RouteSeg6LocalTunnel::VrfTable(number) => fields.named(VRF_TABLE, TABLES, *number),
         RouteSeg6LocalTunnel::Other(nla) => push_unknown(fields, nla),
     }
@@ -262,7 +262,7 @@ fn push_xfrm(fields: &mut Fields, member: &RouteXfrmTunnel) {
     match member {
         RouteXfrmTunnel::Unspecified => fields.mark(UNSPECIFIED),
         RouteXfrmTunnel::IfId(id) => fields.number(INTERFACE_ID, *id),
-        RouteXfrmTunnel::Link(index) => fields.number(LINK, *index),
+        RouteXfrmTunnel::Link(index) => fields.interface(LINK, *index),
         RouteXfrmTunnel::Other(nla) => push_unknown(fields, nla),
     }
 }

@@ -1,8 +1,7 @@
 //! What is shown of a message, piece by piece: each piece has its text and its value in JSON, so that
 //! a line and an object are made of one list.
 
-use crate::manner::{Bits, Hexadecimal, Manner};
-use crate::names::Names;
+use crate::manner::Manner;
 use serde_json::{Map, Value};
 use std::alloc::{AllocError, Global};
 use std::fmt;
@@ -19,6 +18,9 @@ pub struct Wording(pub u8, pub &'static str, pub &'static str);
 
 /// A word of `ip`. A reference to one costs the prover a fifth of what the words themselves do.
 pub type Word = &'static Wording;
+
+/// Attributes, each by its number with its word.
+pub type NumberWords = &'static [(u16, Word)];
 
 /// Bits, each with its word.
 pub type Flags = &'static [(u32, Word)];
@@ -39,17 +41,17 @@ struct Field {
 /// The pieces of a message, or of an object inside one. Where memory is refused for one, pieces are
 /// still taken, and what is made of them is refused in the end.
 #[derive(Drop)]
-pub struct Fields {
+pub struct Fields<'a> {
     /// How values are shown.
-    pub manner: Manner,
+    pub manner: Manner<'a>,
     items: Vec<Field>,
     /// Whether memory was refused for a piece.
     is_cut: bool,
 }
 
-impl Fields {
+impl<'a> Fields<'a> {
     /// No pieces.
-    pub fn new(manner: Manner) -> Fields {
+    pub fn new(manner: Manner<'a>) -> Fields<'a> {
         Fields {
             manner,
             items: Vec::new(manner.alloc),
@@ -94,6 +96,10 @@ impl Fields {
             text,
             value,
         };
+        self.keep(field);
+    }
+
+    fn keep(&mut self, field: Field) {
         if self.items.push(field).is_err() {
             self.is_cut = true;
         }
@@ -121,94 +127,15 @@ impl Fields {
         }
     }
 
-    /// A number's name among these, or the number.
-    pub fn named<N: Into<u32>>(&mut self, word: Word, names: Names, number: N) {
-        let number = number.into();
-        match self.manner.name(names, number) {
-            Some(name) => self.text(word, &name),
-            None => self.text(word, &number),
-        }
-    }
-
-    /// A number.
-    pub fn number<N: Into<Value> + fmt::Display + Copy>(&mut self, word: Word, number: N) {
-        self.push(word, number, &number);
-    }
-
-    /// Seconds that are left; the greatest number is for ever.
-    pub fn lifetime(&mut self, word: Word, seconds: u32) {
-        match seconds {
-            u32::MAX => self.push(word, seconds, &"forever"),
-            _ => self.seconds(word, seconds),
-        }
-    }
-
-    /// Seconds.
-    pub fn seconds<N: Into<Value> + fmt::Display + Copy>(&mut self, word: Word, seconds: N) {
-        let text = format!(in self.manner.alloc; "{seconds}sec");
-        self.written(word, seconds, text)
-    }
-
-    /// Bits, which are a hexadecimal text in JSON too.
-    pub fn bits<N: Into<u64>>(&mut self, word: Word, bits: N) {
-        self.text(word, &Bits(bits.into()));
-    }
-
-    /// Bits that a line shows so.
-    pub fn bits_shown<D: fmt::Display>(&mut self, word: Word, bits: u32, shown: &D) {
-        match format!(in self.manner.alloc; "{}", Bits(u64::from(bits))) {
-            Ok(text) => self.push(word, text, shown),
-            Err(AllocError) => self.is_cut = true,
-        }
-    }
-
-    /// Bits, if there are some.
-    pub fn some_bits<N: Into<u64>>(&mut self, word: Word, bits: N) {
-        let bits = bits.into();
-        if bits != 0 {
-            self.bits(word, bits);
-        }
-    }
-
-    /// Bytes in hexadecimal.
-    pub fn bytes(&mut self, word: Word, bytes: &[u8]) {
-        self.text(word, &Hexadecimal(bytes, ""));
-    }
-
-    /// A word without a value: `null` in JSON.
-    pub fn mark(&mut self, word: Word) {
-        self.push(word, (), &"");
-    }
-
-    /// A word without a value, which tells that something is so, or is not.
-    pub fn truth(&mut self, word: Word, is_so: bool) {
-        self.push(word, is_so, &"");
-    }
-
-    /// The words of the bits that are set, of which this is the value. Answers the bits without a word.
-    pub fn flags(&mut self, flags: Flags, bits: u32, value: Option<bool>) -> u32 {
-        let mut rest = bits;
-        for (bit, word) in flags {
-            if bits & *bit != 0 {
-                self.push(*word, value, &"");
-            }
-            rest &= !*bit;
-        }
-        rest
-    }
-
-    /// The names of the bits that are set, and the rest as a number, which are a list in JSON.
-    pub fn set(&mut self, word: Word, names: Names, bits: u32, between: &str) {
-        let mut inside = Fields::new(self.manner);
-        let mut rest = bits;
-        for (bit, name) in names {
-            if bits & *bit != 0 {
-                inside.text(ITEM, name);
-            }
-            rest &= !*bit;
-        }
-        inside.some_bits(ITEM, rest);
-        self.list(word, inside, between);
+    /// A number by its key, which no line shows.
+    pub fn counted<N: Into<Value>>(&mut self, key: &'static str, number: N) {
+        let field = Field {
+            place: 0,
+            key,
+            text: String::new(self.manner.alloc),
+            value: number.into(),
+        };
+        self.keep(field);
     }
 
     /// Pieces of its own: an object in JSON.
@@ -228,8 +155,14 @@ impl Fields {
 
     /// Pieces whose values are a list in JSON, with this between their texts.
     pub fn list(&mut self, word: Word, inside: Fields, between: &str) {
+        self.list_in(word, inside, ("", between, ""))
+    }
+
+    /// The same, with these before, between and behind their texts.
+    pub fn list_in(&mut self, word: Word, inside: Fields, marks: (&str, &str, &str)) {
+        let (before, between, behind) = marks;
         match inside.into_list(between) {
-            Ok((text, list)) => self.push(word, list, &text),
+            Ok((text, list)) => self.push(word, list, &format_args!("{before}{text}{behind}")),
             Err(AllocError) => self.is_cut = true,
         }
     }

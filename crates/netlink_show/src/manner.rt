@@ -1,21 +1,32 @@
 //! How values are shown.
 
+use crate::interfaces::Interfaces;
 use crate::names::Names;
-use netlink_packet_route::net::{IpAddr, Ipv6Addr};
+use netlink_packet_route::net::{IpAddr, Ipv4Addr, Ipv6Addr};
 use netlink_packet_route::route::{MplsLabel, RouteAddress};
 use std::alloc::Global;
 use std::fmt;
 
 /// How values are shown, and where memory comes from.
 #[derive(Clone, Copy)]
-pub struct Manner {
+pub struct Manner<'a> {
     /// Where memory comes from.
     pub alloc: Global,
     /// Numbers stand in place of their names.
     pub numeric: bool,
+    /// The names of interfaces.
+    pub interfaces: &'a Interfaces,
 }
 
-impl Manner {
+impl<'a> Manner<'a> {
+    /// The name of the interface of this number, if it has one that is shown.
+    pub fn interface(self, index: u32) -> Option<&'a str> {
+        if self.numeric {
+            return None;
+        }
+        self.interfaces.name_of(index)
+    }
+
     /// The number's name among these, if it has one that is shown.
     pub fn name(self, names: Names, number: u32) -> Option<&'static str> {
         let (_, name) = names.iter().find(|row| row.0 == number && !self.numeric)?;
@@ -183,6 +194,49 @@ impl fmt::Display for Milliseconds {
             (_, 0, _) => write!(f, "{seconds}.{}s", rest / 100),
             (_, _, 0) => write!(f, "{seconds}.{:02}s", rest / 10),
             _ => write!(f, "{seconds}.{rest:03}s"),
+        }
+    }
+}
+
+/// An address on a link of this type: one of IP where the type is a tunnel over it.
+#[derive(Clone, Copy)]
+pub struct LinkAddress<'a>(pub &'a [u8], pub u16);
+
+/// The types of tunnels over version 4, and over version 6 (`ARPHRD_*`).
+const TUNNELS: [u16; 3] = [768, 776, 778];
+
+const TUNNELS_OVER_6: [u16; 2] = [769, 823];
+
+impl fmt::Display for LinkAddress<'_> {
+    fn fmt<W: fmt::Write>(&self, f: &mut fmt::Formatter<W>) -> fmt::Result {
+        let LinkAddress(bytes, kind) = *self;
+        match (<[u8; 4]>::try_from(bytes), <[u8; 16]>::try_from(bytes)) {
+            (Ok(octets), _) if TUNNELS.contains(&kind) => write!(f, "{}", Ipv4Addr::from(octets)),
+            (_, Ok(octets)) if TUNNELS_OVER_6.contains(&kind) => {
+                write!(f, "{}", Inet6(&Ipv6Addr::from(octets)))
+            }
+            _ => write!(f, "{}", Hexadecimal(bytes, ":")),
+        }
+    }
+}
+
+/// The names of the bits that are set, with `,` between them.
+#[derive(Clone, Copy)]
+pub struct BitNames(pub Names, pub u32);
+
+impl fmt::Display for BitNames {
+    fn fmt<W: fmt::Write>(&self, f: &mut fmt::Formatter<W>) -> fmt::Result {
+        let BitNames(names, bits) = *self;
+        let mut between = "";
+        for (bit, name) in names {
+            if bits & *bit != 0 {
+                write!(f, "{between}{name}")?;
+                between = ",";
+            }
+        }
+        match bits {
+            0 => write!(f, "0x0"),
+            _ => Ok(()),
         }
     }
 }

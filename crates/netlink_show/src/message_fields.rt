@@ -2,6 +2,7 @@
 
 use crate::address_fields::push_address;
 use crate::field::{Fields, Word, Wording};
+use crate::link_fields::push_link;
 use crate::manner::Manner;
 use crate::neighbour_fields::push_neighbour;
 use crate::route_fields::push_route;
@@ -20,6 +21,11 @@ const DELETED: Word = &Wording(1, "deleted", "Deleted");
 
 const REQUEST: Word = &Wording(1, "request", "Request");
 
+/// A message that changes what is there, and one on other properties.
+const SET: Word = &Wording(1, "set", "Set");
+
+const PROPERTIES: Word = &Wording(1, "properties", "Properties");
+
 const CODE: Word = &Wording(1, "code", "");
 
 const TEXT: Word = &Wording(2, "text", "");
@@ -33,7 +39,10 @@ const TYPE: Word = &Wording(1, "message_type", "type ");
 const LENGTH: Word = &Wording(2, "length", "length ");
 
 /// What is shown of a message.
-pub fn message_fields(manner: Manner, message: &NetlinkMessage<RouteNetlinkMessage>) -> Fields {
+pub fn message_fields<'a>(
+    manner: Manner<'a>,
+    message: &NetlinkMessage<RouteNetlinkMessage>,
+) -> Fields<'a> {
     let mut fields = Fields::new(manner);
     let header = &message.header;
     match &message.payload {
@@ -80,6 +89,13 @@ fn push_overrun(fields: &mut Fields, bytes: &[u8]) {
 
 fn push_inner(fields: &mut Fields, message: &RouteNetlinkMessage) {
     match message {
+        RouteNetlinkMessage::NewLink(link)
+        | RouteNetlinkMessage::DelLink(link)
+        | RouteNetlinkMessage::GetLink(link)
+        | RouteNetlinkMessage::SetLink(link)
+        | RouteNetlinkMessage::NewLinkProp(link)
+        | RouteNetlinkMessage::DelLinkProp(link)
+        | RouteNetlinkMessage::GetLinkProp(link) => push_link(fields, link),
         RouteNetlinkMessage::NewAddress(address)
         | RouteNetlinkMessage::DelAddress(address)
         | RouteNetlinkMessage::GetAddress(address) => push_address(fields, address),
@@ -94,10 +110,24 @@ fn push_inner(fields: &mut Fields, message: &RouteNetlinkMessage) {
         | RouteNetlinkMessage::GetNeighbour(neighbour) => push_neighbour(fields, neighbour),
         RouteNetlinkMessage::Other(other) => push_other(fields, other),
     }
-    if let MessageType::Of(kind, action) = type_of(message) {
-        fields.text(KIND, &kind.name());
-        fields.hide();
-        push_action(fields, action);
+    push_type(fields, type_of(message));
+}
+
+/// What its type says of a message: its kind, and what it does.
+fn push_type(fields: &mut Fields, message_type: MessageType) {
+    let Some(kind) = message_type.kind() else {
+        return;
+    };
+    fields.text(KIND, &kind.name());
+    fields.hide();
+    match message_type {
+        MessageType::Of(_, action) => push_action(fields, action),
+        MessageType::SetLink => fields.truth(SET, true),
+        MessageType::LinkProp(action) => {
+            push_action(fields, action);
+            fields.truth(PROPERTIES, true);
+        }
+        MessageType::Unknown => {}
     }
 }
 

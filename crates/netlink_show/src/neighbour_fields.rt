@@ -89,7 +89,7 @@ pub fn push_neighbour(fields: &mut Fields, message: &NeighbourMessage) {
 }
 
 fn push_header(fields: &mut Fields, header: &NeighbourHeader) {
-    fields.number(INTERFACE, header.ifindex);
+    fields.interface(INTERFACE, header.ifindex);
     fields.hide_if(header.ifindex == 0);
     fields.flags(FLAGS, u32::from(header.flags.bits()), None);
     let state = u32::from(header.state.bits());
@@ -115,8 +115,8 @@ fn push_attribute(fields: &mut Fields, attribute: &NeighbourAttribute) {
         NeighbourAttribute::Vlan(id) => fields.number(VLAN, *id),
         NeighbourAttribute::Port(port) => fields.number(PORT, *port),
         NeighbourAttribute::Vni(id) => fields.number(VNI, *id),
-        NeighbourAttribute::IfIndex(index) => fields.number(BY, *index),
-        NeighbourAttribute::Controller(index) => fields.number(MASTER, *index),
+        NeighbourAttribute::IfIndex(index) => fields.interface(BY, *index),
+        NeighbourAttribute::Controller(index) => fields.interface(MASTER, *index),
         NeighbourAttribute::LinkNetNsId(id) => fields.number(NAMESPACE, *id),
         NeighbourAttribute::SourceVni(id) => fields.number(SOURCE_VNI, *id),
         NeighbourAttribute::Protocol(made_by) => push_protocol(fields, *made_by),

@@ -29,7 +29,7 @@ pub fn push_next_hops(fields: &mut Fields, hops: &[RouteNextHop]) {
 }
 
 fn push_hop(fields: &mut Fields, hop: &RouteNextHop) {
-    fields.number(INTERFACE, hop.interface_index);
+    fields.interface(INTERFACE, hop.interface_index);
     fields.number(WEIGHT, u64::from(hop.hops) + 1);
     push_route_flags(fields, FLAGS, u32::from(hop.flags.bits()));
     for attribute in hop.attributes.iter() {

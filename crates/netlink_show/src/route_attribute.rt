@@ -1,18 +1,16 @@
 //! What is shown of an attribute of a route or a next hop.
 
-use crate::attribute_fields::{RealmWords, push_ip_number, push_raw, push_realm, push_unknown};
+use crate::attribute_fields::{RealmWords, push_ip_number, push_realm, push_unknown, push_written};
 use crate::encap_fields::push_encap;
 use crate::field::{Fields, Word, Wording};
 use crate::manner::{Address, Bits, Hexadecimal, Inet6, Labels};
 use crate::metric_fields::push_metrics;
 use crate::names::{Names, PREFERENCES, TABLES};
-use netlink_packet_route::framing::{Emitable, Nla};
 use netlink_packet_route::numbers;
 use netlink_packet_route::route::{
     MplsLabel, RouteAttribute, RouteCacheInfo, RouteHeader, RouteLwEnCapType, RouteLwTunnelEncap,
     RouteMetric, RouteMfcStats, RouteMplsTtlPropagation, RoutePreference, RouteRealm, RouteVia,
 };
-use std::alloc::AllocError;
 use std::fmt;
 
 /// The destination.
@@ -147,12 +145,13 @@ pub fn push_attribute(fields: &mut Fields, attribute: &RouteAttribute) {
     match attribute {
         RouteAttribute::Destination(address) => fields.text(DESTINATION, &Address(address)),
         RouteAttribute::Source(address) => fields.text(SOURCE, &Address(address)),
-        RouteAttribute::Iif(index) => fields.number(INCOMING, *index),
-        RouteAttribute::Oif(index) => fields.number(INTERFACE, *index),
+        RouteAttribute::Iif(index) => fields.interface(INCOMING, *index),
+        RouteAttribute::Oif(index) => fields.interface(INTERFACE, *index),
         RouteAttribute::Gateway(address) => fields.text(GATEWAY, &Address(address)),
         RouteAttribute::Priority(metric) => fields.number(PRIORITY, *metric),
         RouteAttribute::PrefSource(address) => fields.text(PREFERRED_SOURCE, &Address(address)),
         RouteAttribute::Metrics(metrics) => push_all_metrics(fields, metrics.as_slice()),
+        // Next hops inside a next hop, which no kernel makes.
         RouteAttribute::MultiPath(_) => push_written(fields, attribute),
         RouteAttribute::Realm(realm) => push_realms(fields, *realm),
         RouteAttribute::CacheInfo(info) => push_cache_info(fields, info),
@@ -216,20 +215,6 @@ fn push_encap_info(fields: &mut Fields, members: &[RouteLwTunnelEncap]) {
         push_encap(&mut inside, member);
     }
     fields.object(ENCAP_INFO, inside);
-}
-
-/// An attribute as it is written: next hops inside a next hop, which no kernel makes.
-fn push_written(fields: &mut Fields, attribute: &RouteAttribute) {
-    if attribute.check().is_err() {
-        return push_raw(fields, attribute.kind(), &[]);
-    }
-    match vec![in fields.manner.alloc; 0u8; attribute.value_len()] {
-        Ok(mut value) => {
-            attribute.emit_value(value.as_mut_slice());
-            push_raw(fields, attribute.kind(), value.as_slice());
-        }
-        Err(AllocError) => fields.refuse(),
-    }
 }
 
 fn push_all_metrics(fields: &mut Fields, metrics: &[RouteMetric]) {

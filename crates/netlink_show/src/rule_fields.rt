@@ -1,9 +1,9 @@
 //! What is shown of a rule.
 
-use crate::attribute_fields::{RealmWords, push_ip_number, push_realm, push_unknown};
+use crate::attribute_fields::{RealmWords, push_group, push_ip_number, push_realm, push_unknown};
 use crate::field::{self, Fields, Word, Wording};
 use crate::manner::Inet;
-use crate::names::{GROUPS, PROTOCOLS, TABLES, TYPES};
+use crate::names::{PROTOCOLS, TABLES, TYPES};
 use netlink_packet_route::framing::Nla;
 use netlink_packet_route::net::IpAddr;
 use netlink_packet_route::route::RouteProtocol;
@@ -218,7 +218,7 @@ fn push_attribute(fields: &mut Fields, header: &RuleHeader, attribute: &RuleAttr
         RuleAttribute::FwMask(mask) => push_mask(fields, *mask),
         RuleAttribute::TunId(id) => fields.number(TUNNEL, *id),
         RuleAttribute::Table(number) => push_table(fields, *number),
-        RuleAttribute::SuppressIfGroup(group) => push_group(fields, *group),
+        RuleAttribute::SuppressIfGroup(group) => push_suppressed_group(fields, *group),
         RuleAttribute::SuppressPrefixLen(length) => push_suppressed(fields, *length),
         RuleAttribute::L3MDev(is_so) => push_master(fields, *is_so),
         RuleAttribute::Protocol(made_by) => push_protocol(fields, *made_by),
@@ -240,11 +240,8 @@ fn push_mask(fields: &mut Fields, mask: u32) {
     fields.hide_if(mask == u32::MAX);
 }
 
-fn push_group(fields: &mut Fields, group: u32) {
-    match fields.manner.name(GROUPS, group) {
-        Some(name) => fields.text(GROUP, &name),
-        None => fields.text(GROUP, &group.cast_signed()),
-    }
+fn push_suppressed_group(fields: &mut Fields, group: u32) {
+    push_group(fields, GROUP, group);
     fields.hide_if(group == u32::MAX);
 }
 

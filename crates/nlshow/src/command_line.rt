@@ -6,7 +6,7 @@ use std::fmt;
 
 /// The line for a command line that says nothing that can be done.
 pub const USAGE: &str =
-    "usage: nlshow [--json | --count] [--numeric] [--hex] [--as address|route|rule|neighbour] [--keep FILE] [FILE..]";
+    "usage: nlshow [--json | --count] [--numeric] [--hex] [--as address|route|rule|neighbour|link] [--links FILE] [--keep FILE] [FILE..]";
 
 /// What `--help` says.
 pub const HELP: &str =
@@ -16,7 +16,10 @@ pub const HELP: &str =
   --count     how many messages there are, of each kind
   --numeric   numbers in place of names
   --hex       the input is hexadecimal text, a message a line
-  --as KIND   messages of this kind without an envelope: address, route, rule or neighbour
+  --as KIND   messages of this kind without an envelope: address, route, rule, neighbour or link
+  --links FILE
+              the names of interfaces are those of the links in FILE, a dump that is not shown;
+              a link that is shown tells its name to what stands behind it
   --keep FILE writes the messages that are refused to FILE, which is made anew at the first
   -h, --help  this text
   --version   the version
@@ -49,7 +52,7 @@ pub struct Options {
 }
 
 /// Lines of datagrams.
-const PLAIN: Options = Options {
+pub const PLAIN: Options = Options {
     form: Form::Lines,
     numeric: false,
     is_hex: false,
@@ -61,6 +64,8 @@ const PLAIN: Options = Options {
 pub struct Request<'a> {
     /// How.
     pub options: Options,
+    /// The file that tells the names of interfaces.
+    pub links: Option<&'a str>,
     /// The file for what is refused.
     pub keep: Option<&'a str>,
     /// The files; of none standard input.
@@ -111,6 +116,7 @@ impl<'a> fmt::Display for WrongWord<'a> {
 pub fn command_of<'a>(alloc: Global, words: &'a [String]) -> Result<Command<'a>, AllocError> {
     let mut request = Request {
         options: PLAIN,
+        links: None,
         keep: None,
         files: Vec::new(alloc),
     };
@@ -123,7 +129,7 @@ pub fn command_of<'a>(alloc: Global, words: &'a [String]) -> Result<Command<'a>,
             (Some(_), _) => return Ok(Command::Wrong(WrongWord::Kind(word))),
             (None, "--help" | "-h") => return Ok(Command::Help),
             (None, "--version") => return Ok(Command::Version),
-            (None, "--as" | "--keep") => waiting = Some(word),
+            (None, "--as" | "--links" | "--keep") => waiting = Some(word),
             (None, "--json") if take_form(&mut request.options, Form::Json) => {}
             (None, "--count") if take_form(&mut request.options, Form::Count) => {}
             (None, "--json" | "--count") => return Ok(Command::Wrong(WrongWord::Forms)),
@@ -147,12 +153,15 @@ fn take_form(options: &mut Options, form: Form) -> bool {
 
 /// Takes the word behind an option, and answers whether it can stand there.
 fn take_word<'a>(request: &mut Request<'a>, option: &str, word: &'a str) -> bool {
-    if option == "--keep" {
-        request.keep = Some(word);
-        return true;
+    match option {
+        "--links" => request.links = Some(word),
+        "--keep" => request.keep = Some(word),
+        _ => {
+            request.options.kind = MessageKind::named(word);
+            return request.options.kind.is_some();
+        }
     }
-    request.options.kind = MessageKind::named(word);
-    request.options.kind.is_some()
+    true
 }
 
 /// Whether a word is an option and no file; `-` is standard input.

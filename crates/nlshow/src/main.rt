@@ -69,12 +69,15 @@ fn show(rt: &HostRuntime, request: &Request<'_>) -> ExitCode {
     let keep = request.keep;
     let files = request.files.as_slice();
     let files = if files.is_empty() { &["-"] } else { files };
-    for name in files {
+    for name in files.iter().chain(request.links.iter()) {
         if is_emptied(rt, name, keep) {
             return wrong(rt, WrongWord::Kept(name));
         }
     }
     let mut session = Session::new(rt, request.options, Kept::new(rt, keep));
+    if let Err(stop) = learn_names(rt, &mut session, request) {
+        return ended(rt, &session, stop);
+    }
     for name in files {
         // What was not there before may be made by now.
         if is_emptied(rt, name, keep) {
@@ -88,6 +91,21 @@ fn show(rt: &HostRuntime, request: &Request<'_>) -> ExitCode {
         Err(stop) => ended(rt, &session, stop),
         Ok(()) => ended(rt, &session, Stop::Closed),
     }
+}
+
+/// Learns the names of interfaces from the file that tells them, if there is one.
+fn learn_names<'a>(
+    rt: &HostRuntime,
+    session: &mut Session<'_, 'a>,
+    request: &Request<'a>,
+) -> Result<(), Stop> {
+    let Some(name) = request.links else {
+        return Ok(());
+    };
+    session.begin_learning();
+    show_input(rt, session, name)?;
+    session.end_learning(request.options);
+    Ok(())
 }
 
 /// The status of a run that ends so.

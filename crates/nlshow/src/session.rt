@@ -1,6 +1,6 @@
 //! What is done with each message: it is told of, counted or refused.
 
-use crate::command_line::{Form, Options};
+use crate::command_line::{Form, Options, PLAIN};
 use crate::guess::hint_of;
 use crate::kept::Kept;
 use crate::refusal::Refusal;
@@ -8,11 +8,12 @@ use byte_window::Stop;
 use netlink_packet_core::{NetlinkBuffer, NetlinkHeader, NetlinkMessage, NetlinkPayload};
 use netlink_packet_route::address::AddressMessage;
 use netlink_packet_route::framing::{Attributes, DecodeError, Header, Parseable};
+use netlink_packet_route::link::LinkMessage;
 use netlink_packet_route::neighbour::NeighbourMessage;
 use netlink_packet_route::route::RouteMessage;
 use netlink_packet_route::rule::RuleMessage;
 use netlink_packet_route::{Action, Entry, MessageKind, MessageType, RouteNetlinkMessage};
-use netlink_show::{Counts, Manner, append_lines, append_object};
+use netlink_show::{Counts, Interfaces, Manner, append_lines, append_object};
 use std::alloc::Global;
 use std::io::{IsTerminal, Write};
 use std::rt::{Stderr, Stdout};
@@ -51,6 +52,10 @@ pub struct Session<'r, 'a> {
     errors: Stderr,
     kept: Kept<'r, 'a>,
     is_watched: bool,
+    /// The interfaces that messages told of.
+    interfaces: Interfaces,
+    /// Whether messages tell of interfaces alone, and are not shown.
+    is_learning: bool,
     text: String,
     /// What is told of the input at its first refusal.
     hint: Option<&'static str>,
@@ -68,9 +73,24 @@ impl<'r, 'a> Session<'r, 'a> {
             errors: rt.stderr(),
             kept,
             is_watched: rt.stderr().is_terminal(),
+            interfaces: Interfaces::new(rt.alloc()),
+            is_learning: false,
             text: String::new(rt.alloc()),
             hint: None,
         }
+    }
+
+    /// From now on datagrams are read whose messages tell the names of interfaces, and are not shown.
+    pub fn begin_learning(&mut self) {
+        self.is_learning = true;
+        self.options = PLAIN;
+    }
+
+    /// From now on inputs are read and told so, with the names that are known.
+    pub fn end_learning(&mut self, options: Options) {
+        self.is_learning = false;
+        self.options = options;
+        self.counts.bytes = 0;
     }
 
     /// Goes on with the input of this name.
@@ -119,10 +139,15 @@ impl<'r, 'a> Session<'r, 'a> {
 
     /// Tells of a message that was read.
     fn tell(&mut self, message: &NetlinkMessage<RouteNetlinkMessage>) -> Result<(), Stop> {
+        self.interfaces.note(message)?;
+        if self.is_learning {
+            return Ok(());
+        }
         self.counts.add(&message.payload);
         let manner = Manner {
             alloc: self.alloc,
             numeric: self.options.numeric,
+            interfaces: &self.interfaces,
         };
         match self.options.form {
             Form::Count => return Ok(()),
@@ -158,7 +183,7 @@ impl<'r, 'a> Session<'r, 'a> {
 
     /// Keeps bytes of the input that are refused. Of hexadecimal text the line is kept in their place.
     pub fn keep(&mut self, bytes: &[u8]) -> Result<(), Stop> {
-        if self.options.is_hex {
+        if self.options.is_hex || self.is_learning {
             return Ok(());
         }
         self.keep_as_it_stands(bytes)
@@ -235,6 +260,7 @@ fn read_through(alloc: Global, kind: MessageKind, bytes: &[u8]) -> Result<Read, 
         MessageKind::Route => read_each(RouteMessage::attributes(alloc, bytes)?)?,
         MessageKind::Rule => read_each(RuleMessage::attributes(alloc, bytes)?)?,
         MessageKind::Neighbour => read_each(NeighbourMessage::attributes(alloc, bytes)?)?,
+        MessageKind::Link => read_each(LinkMessage::attributes(alloc, bytes)?)?,
     }
     Ok(Read::Through(kind))
 }
@@ -253,6 +279,7 @@ fn read_lone(alloc: Global, kind: MessageKind, bytes: &[u8]) -> Result<Read, Dec
         MessageKind::Route => RouteMessage::parse(alloc, bytes)?.under(Action::New),
         MessageKind::Rule => RuleMessage::parse(alloc, bytes)?.under(Action::New),
         MessageKind::Neighbour => NeighbourMessage::parse(alloc, bytes)?.under(Action::New),
+        MessageKind::Link => LinkMessage::parse(alloc, bytes)?.under(Action::New),
     };
     Ok(Read::Whole(NetlinkMessage {
         header: NetlinkHeader::default(),

@@ -17,6 +17,8 @@ mod rtnetlink;
 #[cfg(test)]
 mod shown;
 #[cfg(test)]
+mod shown_links;
+#[cfg(test)]
 mod texts;
 #[cfg(test)]
 mod tunnel_displays;

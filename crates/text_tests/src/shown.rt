@@ -4,7 +4,7 @@ use netlink_packet_core::{NetlinkHeader, NetlinkMessage, NetlinkPayload};
 use netlink_packet_route::RouteNetlinkMessage;
 use netlink_packet_route::framing::{AttrFamily, Parseable};
 use netlink_packet_route::route::RouteMessage;
-use netlink_show::{Counts, Manner, append_lines, append_object, attribute_name};
+use netlink_show::{Counts, Interfaces, Manner, append_lines, append_object, attribute_name};
 use npr_testing::{INET, bytes_of, same};
 use std::alloc::Global;
 use std::test::Fail;
@@ -19,6 +19,7 @@ addresses 0
 routes 1
 rules 0
 neighbours 0
+links 0
 others 0
 controls 0
 refused 0
@@ -36,9 +37,11 @@ fn route_of_labels(rt: &impl AllocGlobal) -> Result<NetlinkMessage<RouteNetlinkM
 
 /// The message as a line, as an object and as counts.
 fn shown(alloc: Global, message: &NetlinkMessage<RouteNetlinkMessage>) -> Result<String, Fail> {
+    let interfaces = Interfaces::new(alloc);
     let manner = Manner {
         alloc,
         numeric: false,
+        interfaces: &interfaces,
     };
     let mut counts = Counts::default();
     counts.add(&message.payload);
