@@ -7,7 +7,7 @@
 #include <netlink/route/route.h>
 #include <string.h>
 
-/* the greatest number of an attribute that has a place in the table */
+/* the greatest number of an attribute that has a place in the table; links have greater ones */
 #define GREATEST 40
 
 static int put(const struct nlattr *attribute, void *data)
@@ -18,6 +18,11 @@ static int put(const struct nlattr *attribute, void *data)
     return MNL_CB_OK;
 }
 
+static size_t header_of(uint16_t type)
+{
+    return type == RTM_NEWADDR ? sizeof(struct ifaddrmsg) : type == RTM_NEWLINK ? sizeof(struct ifinfomsg) : sizeof(struct rtmsg);
+}
+
 /* Pointers to the attributes of each message, in a table by their numbers: how many. No value is read. */
 size_t peer_table(const void *datagram, size_t length)
 {
@@ -25,8 +30,7 @@ size_t peer_table(const void *datagram, size_t length)
     int left = (int)length;
     for (const struct nlmsghdr *message = datagram; mnl_nlmsg_ok(message, left); message = mnl_nlmsg_next(message, &left)) {
         const struct nlattr *table[GREATEST + 1] = {0};
-        size_t header = message->nlmsg_type == RTM_NEWADDR ? sizeof(struct ifaddrmsg) : sizeof(struct rtmsg);
-        mnl_attr_parse(message, header, put, table);
+        mnl_attr_parse(message, header_of(message->nlmsg_type), put, table);
         for (int number = 0; number <= GREATEST; number++)
             count += table[number] != NULL;
     }

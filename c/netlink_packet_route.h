@@ -1,11 +1,13 @@
-/* Address, route, rule and neighbour messages of Linux rtnetlink for C: the canonical bytes of given
- * bytes, whether bytes are a message and what is wrong with them, the names of that, and steps over the
- * messages of a datagram, over attributes and over next hops.
+/* Address, route, rule, neighbour and link messages of Linux rtnetlink for C: the canonical bytes of
+ * given bytes, whether bytes are a message and what is wrong with them, the names of that, and steps
+ * over the messages of a datagram, over attributes and over next hops.
  *
  * A message of a kind is what stands behind `struct nlmsghdr`: a header of 8 bytes
- * (`struct ifaddrmsg`) or 12 (`struct rtmsg`, `struct fib_rule_hdr`, `struct ndmsg`), and attributes to
- * the end. In a datagram of a socket it is found by `npr_message_at`, and its type says its kind. Two
- * inputs that have canonical bytes mean the same exactly if these are equal.
+ * (`struct ifaddrmsg`), 12 (`struct rtmsg`, `struct fib_rule_hdr`, `struct ndmsg`) or 16
+ * (`struct ifinfomsg`), and attributes to the end. In a datagram of a socket it is found by
+ * `npr_message_at`, and its type says its kind: of links RTM_NEWLINK, RTM_DELLINK, RTM_GETLINK,
+ * RTM_SETLINK, and RTM_NEWLINKPROP and its like. Two inputs that have canonical bytes mean the same
+ * exactly if these are equal.
  *
  * The calls are proved for all bytes: none reads or writes outside what it is given, none keeps
  * anything of it, and none ends the process, but for one whose thread has too little stack (below).
@@ -36,9 +38,9 @@
 
 /* The version of the library. */
 #define NPR_VERSION_MAJOR 0
-#define NPR_VERSION_MINOR 5
+#define NPR_VERSION_MINOR 6
 #define NPR_VERSION_PATCH 0
-#define NPR_VERSION "0.5.0"
+#define NPR_VERSION "0.6.0"
 
 /* The stack of a thread that is enough for every call and every input, in bytes: 1 MiB. The deepest
  * message takes some 773 KiB (measured). */
@@ -65,7 +67,7 @@ enum npr_refusal {
     /* Memory was refused, which says nothing of the bytes. Never where no whole attribute follows
      * the header. */
     NPR_OUT_OF_MEMORY = 1,
-    /* Fewer bytes than the header takes. */
+    /* Fewer bytes than a header takes: that of the message, or of a structure in a value. */
     NPR_HEADER_TOO_SHORT = 2,
     /* Fewer than 4 bytes where an attribute begins. */
     NPR_ATTRIBUTE_TOO_SHORT = 3,
@@ -126,6 +128,7 @@ struct npr_answer npr_address_canonical(const uint8_t *bytes, size_t length, uin
 struct npr_answer npr_route_canonical(const uint8_t *bytes, size_t length, uint8_t *out, size_t room);
 struct npr_answer npr_rule_canonical(const uint8_t *bytes, size_t length, uint8_t *out, size_t room);
 struct npr_answer npr_neighbour_canonical(const uint8_t *bytes, size_t length, uint8_t *out, size_t room);
+struct npr_answer npr_link_canonical(const uint8_t *bytes, size_t length, uint8_t *out, size_t room);
 
 /* The family in which the number of an attribute is to be understood. */
 enum npr_family {
@@ -232,8 +235,9 @@ struct npr_fault {
     size_t limit;
     /* Where an attribute of the message begins, from the first of the bytes: the one that is wrong, or
      * that none can be where one should begin. It is at the level of the message: what is wrong inside
-     * an encapsulation or a next hop stands in the RTA_ENCAP or RTA_MULTIPATH that begins there. Each
-     * attribute before it is read. 0 at NPR_OUT_OF_MEMORY and NPR_HEADER_TOO_SHORT. */
+     * an encapsulation or a next hop stands in the RTA_ENCAP or RTA_MULTIPATH that begins there, and
+     * what is wrong in the data of a kind of link in its IFLA_LINKINFO. Each attribute before it is
+     * read. 0 at NPR_OUT_OF_MEMORY and where the bytes are fewer than a header. */
     size_t offset;
 };
 
@@ -243,6 +247,7 @@ struct npr_fault npr_address_fault(const uint8_t *bytes, size_t length);
 struct npr_fault npr_route_fault(const uint8_t *bytes, size_t length);
 struct npr_fault npr_rule_fault(const uint8_t *bytes, size_t length);
 struct npr_fault npr_neighbour_fault(const uint8_t *bytes, size_t length);
+struct npr_fault npr_link_fault(const uint8_t *bytes, size_t length);
 
 /* Room for every name and its zero. */
 #define NPR_NAME_ROOM 18
@@ -340,7 +345,7 @@ struct npr_step {
 };
 
 /* The attribute that begins `at` bytes from the first. In a message the first one begins behind the
- * header, at 8 or 12; inside a value that is a list, at its first byte. It takes no memory. */
+ * header, at 8, 12 or 16; inside a value that is a list, at its first byte. It takes no memory. */
 struct npr_step npr_step_at(const uint8_t *bytes, size_t length, size_t at);
 
 /* The first attribute of this number (below 0x4000: a kind without its two flags) that begins at `at`

@@ -1,12 +1,13 @@
 """What nlshow is run with by `outside/run`, and how it answers."""
 
 ROUTE = "02000000fe03000100000000"
+LINK = "00000100040000004310010000000000"
 
 # the end of a dump, and what nlshow is tried with
 DONE = bytes.fromhex("1400000003000200000000000000000000000000")
 SHOW_USAGE = b"usage: nlshow [--json | --count] [--numeric] [--hex] [--as address|route|rule|neighbour|link] [--links FILE] [--keep FILE] [FILE..]\n"
 # a link, and a route by it
-LINK = bytes.fromhex("28000000100000000000000000000000" "00000100020000000000000000000000" "0700030064300000")
+LINK_MESSAGE = bytes.fromhex("28000000100000000000000000000000" "00000100020000000000000000000000" "0700030064300000")
 ROUTE_BY_LINK = bytes.fromhex("24000000180000000000000000000000" "02000000fe03000100000000" "0800040002000000")
 COUNTS = b"bytes 40\naddresses 0\nroutes 0\nrules 0\nneighbours 0\nlinks 0\nothers 0\ncontrols 2\nrefused 0\n"
 LABELS = f"0x{ROUTE} 10001600 0c000100 00064600:000c81ff 0600150001000000 # two labels\n\n".encode()
@@ -31,12 +32,12 @@ SHOWN = [
     ("datagrams", ["-", "--numeric"], 3 * DONE, 0, b"done\ndone\ndone\n", b""),
     ("datagrams as JSON", ["--json"], DONE, 0, b'{"code":0,"message":"done"}\n', b""),
     ("a count", ["--count"], 2 * DONE, 0, COUNTS, b""),
-    ("a name of an interface that its link tells", [], LINK + ROUTE_BY_LINK, 0, b"2: d0: <>\n    link/ether\ndefault dev d0 proto boot\n", b""),
-    ("names that a file tells", ["--links", "-", "/dev/null"], LINK, 0, b"", b""),
+    ("a name of an interface that its link tells", [], LINK_MESSAGE + ROUTE_BY_LINK, 0, b"2: d0: <>\n    link/ether\ndefault dev d0 proto boot\n", b""),
+    ("names that a file tells", ["--links", "-", "/dev/null"], LINK_MESSAGE, 0, b"", b""),
     ("a file of names that is not there", ["--links", "/no/file"], DONE, 5, b"", b"/no/file: cannot be opened\n"),
     ("a file of names that is no dump", ["--links", "-", "/dev/null"], DONE[:7], 1, b"",
      b"-: message 1 at byte 0, 7 bytes: MessageTooShort: 7 bytes, where a message begins with 16\n"),
-    ("a count, which has no names", ["--count", "--links", "-", "/dev/null"], LINK, 0, COUNTS.replace(b"bytes 40", b"bytes 0").replace(b"controls 2", b"controls 0"), b""),
+    ("a count, which has no names", ["--count", "--links", "-", "/dev/null"], LINK_MESSAGE, 0, COUNTS.replace(b"bytes 40", b"bytes 0").replace(b"controls 2", b"controls 0"), b""),
     ("a text with blanks and a comment", ["--hex", "--as", "route"], LABELS, 0, b"default encap mpls 100[tc 3]/200[ttl 255] proto boot\n", b""),
     ("a message that is too long", ["--keep", "/dev/full"], LONG_MESSAGE, 5, b"", b"/dev/full: write failed\n"),
     ("the message behind it", [], LONG_MESSAGE, 1, b"done\n",
@@ -68,8 +69,8 @@ REFUSED = [
     ("address", "020880fe01000000060003006cff0000", "NotUtf8: no UTF-8 at IFA_LABEL (3)"),
     ("rule", "02000000fe000001000000000500060001000000", "ValueLength: a value of 1 bytes at FRA_PRIORITY (6)"),
     ("link", "11000000", "HeaderTooShort: 4 bytes, where a header of 16 is wanted"),
-    ("link", 32 * "0" + "06000400dc050000", "ValueLength: a value of 2 bytes at IFLA_MTU (4)"),
-    ("link", 32 * "0" + "1c00120009000100766c616e000000000c0002000800010064000000", "ValueLength: a value of 4 bytes at IFLA_VLAN_ID (1)"),
+    ("link", LINK + "06000400dc050000", "ValueLength: a value of 2 bytes at IFLA_MTU (4)"),
+    ("link", LINK + "1c00120009000100766c616e000000000c0002000800010064000000", "ValueLength: a value of 4 bytes at IFLA_VLAN_ID (1)"),
     ("route", ROUTE + "0a00120002010a0000010000", "ViaFamily: a gateway of address family 258"),
     ("route", ROUTE + encapsulation(5, "0800010000000000"), "Seg6Header: a SEG6 routing header: Short"),
     ("route", ROUTE + encapsulation(5, "10000100000000000002040000000000"), "Seg6Header: a SEG6 routing header: Length"),
@@ -108,6 +109,6 @@ SHOWN_WITHOUT = [
     ("a line", [], 2 * DONE),
     ("an object", ["--json", "--hex", "--as", "route"], LABELS),
     ("a count", ["--count"], DONE),
-    ("a link, and a route by its name", [], LINK + ROUTE_BY_LINK),
-    ("names that a file tells", ["--links", "-", "/dev/null"], LINK),
+    ("a link, and a route by its name", [], LINK_MESSAGE + ROUTE_BY_LINK),
+    ("names that a file tells", ["--links", "-", "/dev/null"], LINK_MESSAGE),
 ]

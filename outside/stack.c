@@ -21,6 +21,7 @@ static const struct kind KINDS[] = {
     {"route", npr_route_canonical, npr_route_fault},
     {"rule", npr_rule_canonical, npr_rule_fault},
     {"neighbour", npr_neighbour_canonical, npr_neighbour_fault},
+    {"link", npr_link_canonical, npr_link_fault},
 };
 
 #define KIND_COUNT (sizeof KINDS / sizeof *KINDS)

@@ -3,11 +3,13 @@
 //! `bench [ROUNDS [ROUTES]]` reads the real messages of `crates/conformance/data`. A figure is the median over
 //! rounds of the ratio of both times, ours by upstream's: below 1 is faster.
 
+mod links;
 mod timing;
 mod ways;
 
 use netlink_packet_core::{Emitable, Parseable};
 use netlink_packet_route::{address::AddressMessage, route::RouteMessage, rule::RuleMessage};
+use links::{Link, NEW_LINK};
 use std::hint::black_box;
 use std::time::{Duration, Instant};
 use timing::median;
@@ -24,6 +26,7 @@ unsafe extern "C" {
     fn npr_address_canonical(bytes: *const u8, length: usize, out: *mut u8, room: usize) -> Answer;
     fn npr_route_canonical(bytes: *const u8, length: usize, out: *mut u8, room: usize) -> Answer;
     fn npr_rule_canonical(bytes: *const u8, length: usize, out: *mut u8, room: usize) -> Answer;
+    fn npr_link_canonical(bytes: *const u8, length: usize, out: *mut u8, room: usize) -> Answer;
 }
 
 type Ours = unsafe extern "C" fn(*const u8, usize, *mut u8, usize) -> Answer;
@@ -114,7 +117,7 @@ struct Kind {
     ways: fn(&[u8], usize, usize),
 }
 
-const KINDS: [Kind; 3] = [
+const KINDS: [Kind; 4] = [
     Kind {
         name: "address",
         message_type: 20,
@@ -135,6 +138,13 @@ const KINDS: [Kind; 3] = [
         call: npr_rule_canonical,
         theirs: upstream::<RuleMessage>,
         ways: compare_ways::<RuleMessage>,
+    },
+    Kind {
+        name: "link",
+        message_type: NEW_LINK,
+        call: npr_link_canonical,
+        theirs: upstream::<Link>,
+        ways: compare_ways::<Link>,
     },
 ];
 

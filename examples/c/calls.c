@@ -105,6 +105,27 @@ static const struct told TOLD[] = {
      25,
      {NPR_VALUE_LENGTH, NPR_FAMILY_NEIGHBOUR, 6, 0, 1, 0, 20}},
     {npr_neighbour_fault, {2, 0, 0, 0, 3, 0, 0, 0, 2, 0, 0, 1, 8, 0, 1, 0, 192, 0, 2, 3}, 20, {0, 0, 0, 0, 0, 0, 0}},
+    /* a link: four bytes of a header, a largest packet of two bytes, a name */
+    {npr_link_fault, {17, 0, 0, 0}, 4, {NPR_HEADER_TOO_SHORT, 0, 0, 0, 4, 16, 0}},
+    {npr_link_fault,
+     {0, 0, 1, 0, 4, 0, 0, 0, 67, 16, 1, 0, 0, 0, 0, 0, 6, 0, 4, 0, 220, 5},
+     22,
+     {NPR_VALUE_LENGTH, NPR_FAMILY_LINK, 4, 0, 2, 0, 16}},
+    {npr_link_fault,
+     {0, 0, 4, 3, 1, 0, 0, 0, 73, 0, 1, 0, 0, 0, 0, 0, 7, 0, 3, 0, 'l', 'o', 0},
+     23,
+     {0, 0, 0, 0, 0, 0, 0}},
+    /* a name, and data of a vlan whose number has four bytes */
+    {npr_link_fault,
+     {0,  0, 1,  0, 4, 0, 0, 0, 0,   0,   0,   0,   0,  0, 0, 0, 7, 0, 3, 0, 'l', 'o', 0, 0,
+      24, 0, 18, 0, 8, 0, 1, 0, 'v', 'l', 'a', 'n', 12, 0, 2, 0, 8, 0, 1, 0, 100, 0,   0, 0},
+     48,
+     {NPR_VALUE_LENGTH, NPR_FAMILY_INFO_VLAN, 1, 0, 4, 0, 24}},
+    /* a structure that takes 32 bytes, in 4 */
+    {npr_link_fault,
+     {0, 0, 1, 0, 4, 0, 0, 0, 0, 0, 0, 0, 0, 0, 0, 0, 8, 0, 14, 0, 0, 0, 0, 0},
+     24,
+     {NPR_HEADER_TOO_SHORT, 0, 0, 0, 4, 32, 16}},
 };
 
 static int same_fault(struct npr_fault one, struct npr_fault other) {

@@ -1,21 +1,27 @@
-/* Asks the kernel for a table of addresses, routes, rules or neighbours, and prints each message of the answer in a line.
+/* Asks the kernel for a table of addresses, routes, rules, neighbours or links, and prints each message of the answer
+ * in a line.
  *
- *   dump [-4|-6] [-w FILE] address|route|rule|neighbour
+ *   dump [-4|-6] [-w FILE] address|route|rule|neighbour|link
  *   dump -r FILE
+ *   dump monitor
  *
  * With -w the datagrams of the answer are written to a file as they came, one behind the other; with -r such a
- * file is read in place of an answer. The bytes are read by the library's calls alone.
+ * file is read in place of an answer. The bytes are read by the library's calls alone. With `monitor` what the kernel
+ * tells of changes in these tables is written to standard output as it comes, until the program is stopped.
  *
  * It ends with 0; or with a line on standard error and 1 (a message is refused, or the kernel refused the request),
  * 2 (the usage), 3 (the tables changed while they were read: ask again) or 5 (reading or writing failed). */
 
 #define _POSIX_C_SOURCE 200809L
 
+#include "monitor.h"
 #include "netlink_packet_route.h"
 #include <arpa/inet.h>
 #include <errno.h>
 #include <linux/fib_rules.h>
+#include <linux/if.h>
 #include <linux/if_addr.h>
+#include <linux/if_link.h>
 #include <linux/neighbour.h>
 #include <linux/netlink.h>
 #include <linux/rtnetlink.h>
@@ -26,7 +32,8 @@
 #include <sys/socket.h>
 #include <unistd.h>
 
-#define USAGE "usage: dump [-4|-6] [-w FILE] address|route|rule|neighbour\n       dump -r FILE"
+#define USAGE                                                                                                          \
+    "usage: dump [-4|-6] [-w FILE] address|route|rule|neighbour|link\n       dump -r FILE\n       dump monitor"
 
 enum ending { WELL = 0, REFUSED = 1, UNKNOWN_WORD = 2, INTERRUPTED = 3, FAILED = 5 };
 
@@ -43,6 +50,7 @@ static const struct kind KINDS[] = {
     {"route", RTM_NEWROUTE, RTM_DELROUTE, RTM_GETROUTE, 12, npr_route_fault},
     {"rule", RTM_NEWRULE, RTM_DELRULE, RTM_GETRULE, 12, npr_rule_fault},
     {"neighbour", RTM_NEWNEIGH, RTM_DELNEIGH, RTM_GETNEIGH, 12, npr_neighbour_fault},
+    {"link", RTM_NEWLINK, RTM_DELLINK, RTM_GETLINK, 16, npr_link_fault},
 };
 
 #define KIND_COUNT (sizeof KINDS / sizeof *KINDS)
@@ -111,13 +119,59 @@ static void print_next_hops(struct bytes message) {
     }
 }
 
-/* The address on the link, as `:` joins its bytes. */
-static void print_link(struct bytes message) {
+/* An address on the link, as `:` joins its bytes. */
+static void print_on_link(struct bytes message, size_t from, uint16_t number) {
     struct bytes value;
-    if (!has(message, 12, NDA_LLADDR, &value))
+    if (!has(message, from, number, &value))
         return;
     for (size_t i = 0; i < value.length; i++)
         printf("%s%02x", i == 0 ? " at " : ":", value.at[i]);
+}
+
+/* A name up to its zero, with `?` for what is no plain character. */
+static void print_name(const char *word, struct bytes message, size_t from, uint16_t number) {
+    struct bytes value;
+    if (!has(message, from, number, &value))
+        return;
+    printf(" %s ", word);
+    for (size_t i = 0; i < value.length && value.at[i] != 0; i++)
+        putchar(value.at[i] > ' ' && value.at[i] < 0x7f ? value.at[i] : '?');
+}
+
+/* Flags of a link in the order of `ip`. */
+static const struct {
+    uint32_t flag;
+    const char *name;
+} FLAGS[] = {
+    {IFF_LOOPBACK, "LOOPBACK"},   {IFF_BROADCAST, "BROADCAST"},   {IFF_POINTOPOINT, "POINTOPOINT"},
+    {IFF_MULTICAST, "MULTICAST"}, {IFF_NOARP, "NOARP"},           {IFF_ALLMULTI, "ALLMULTI"},
+    {IFF_PROMISC, "PROMISC"},     {IFF_MASTER, "MASTER"},         {IFF_SLAVE, "SLAVE"},
+    {IFF_DEBUG, "DEBUG"},         {IFF_DYNAMIC, "DYNAMIC"},       {IFF_AUTOMEDIA, "AUTOMEDIA"},
+    {IFF_PORTSEL, "PORTSEL"},     {IFF_NOTRAILERS, "NOTRAILERS"}, {IFF_UP, "UP"},
+    {IFF_RUNNING, "RUNNING"},     {IFF_LOWER_UP, "LOWER_UP"},     {IFF_DORMANT, "DORMANT"},
+    {IFF_ECHO, "ECHO"},
+};
+
+static void print_flags(uint32_t flags) {
+    const char *between = " flags ";
+    for (size_t i = 0; i < sizeof FLAGS / sizeof *FLAGS; i++)
+        if (flags & FLAGS[i].flag) {
+            printf("%s%s", between, FLAGS[i].name);
+            between = ",";
+        }
+}
+
+static void print_link(struct bytes message) {
+    uint32_t index, flags;
+    memcpy(&index, message.at + 4, sizeof index);
+    memcpy(&flags, message.at + 8, sizeof flags);
+    print_name("is", message, 16, IFLA_IFNAME);
+    printf(" dev %u", (unsigned)index);
+    print_flags(flags);
+    print_number("mtu", message, 16, IFLA_MTU);
+    print_number("master", message, 16, IFLA_MASTER);
+    print_name("qdisc", message, 16, IFLA_QDISC);
+    print_on_link(message, 16, IFLA_ADDRESS);
 }
 
 /* Prints a message that is one. */
@@ -138,8 +192,10 @@ static void print_message(const struct kind *kind, struct bytes message) {
         int32_t index;
         memcpy(&index, message.at + 4, sizeof index);
         print_address("is", message, 12, NDA_DST);
-        print_link(message);
+        print_on_link(message, 12, NDA_LLADDR);
         printf(" dev %d", (int)index);
+    } else if (kind->asked == RTM_GETLINK) {
+        print_link(message);
     } else {
         print_number("priority", message, 12, FRA_PRIORITY);
         print_prefix("from", message, 12, FRA_SRC, message.at[2]);
@@ -241,13 +297,20 @@ static int read_file(const char *path) {
     return ending_of(walk);
 }
 
-/* Asks for a table: a request to dump, behind an envelope of 16 bytes, with a header of zeros but for the family. */
+/* Asks for a table: a request to dump, behind an envelope of 16 bytes, with a header of zeros but for the family.
+ * Behind that of links stands what is wanted of them besides: virtual functions, and no statistics. */
 static int request(int socket, const struct kind *kind, uint8_t family, uint32_t sequence) {
     struct {
         struct nlmsghdr envelope;
-        uint8_t header[12];
+        uint8_t header[16];
+        struct nlattr front;
+        uint32_t mask;
     } message = {{NLMSG_HDRLEN + (uint32_t)kind->header, kind->asked, NLM_F_REQUEST | NLM_F_DUMP, sequence, 0},
-                 {family}};
+                 {family},
+                 {NLA_HDRLEN + sizeof message.mask, IFLA_EXT_MASK},
+                 RTEXT_FILTER_VF | RTEXT_FILTER_SKIP_STATS};
+    if (kind->asked == RTM_GETLINK)
+        message.envelope.nlmsg_len = sizeof message;
     return send(socket, &message, message.envelope.nlmsg_len, 0) < 0 ? -1 : 0;
 }
 
@@ -285,6 +348,16 @@ static int dump(const struct kind *kind, uint8_t family, const char *path) {
     return status;
 }
 
+/* Does what the word behind the options names. */
+static int run(const char *word, bool has_options, uint8_t family, const char *path) {
+    if (!has_options && strcmp(word, "monitor") == 0)
+        return monitor() == 0 ? WELL : FAILED;
+    for (size_t i = 0; i < KIND_COUNT; i++)
+        if (strcmp(KINDS[i].name, word) == 0)
+            return dump(&KINDS[i], family, path);
+    return UNKNOWN_WORD;
+}
+
 int main(int count, char **words) {
     uint8_t family = AF_UNSPEC;
     const char *to = NULL, *from = NULL;
@@ -296,9 +369,8 @@ int main(int count, char **words) {
         from = option == 'r' ? optarg : from;
     }
     int status = UNKNOWN_WORD;
-    for (size_t i = 0; from == NULL && optind == count - 1 && i < KIND_COUNT; i++)
-        if (strcmp(KINDS[i].name, words[optind]) == 0)
-            status = dump(&KINDS[i], family, to);
+    if (from == NULL && optind == count - 1)
+        status = run(words[optind], optind > 1, family, to);
     if (from != NULL && optind == count)
         status = read_file(from);
     if (status == UNKNOWN_WORD)

@@ -1,8 +1,10 @@
 /* Reads a message of rtnetlink as hexadecimal text from standard input and prints the report on it,
  * as the program of crates/nlroute does; or compares answers with those that stand in files.
  *
- *   nlroute address|route|rule|neighbour
- *   nlroute compare address|route|rule|neighbour FILE.. [address|route|rule|neighbour FILE..]
+ *   nlroute KIND
+ *   nlroute compare KIND FILE.. [KIND FILE..]
+ *
+ * A KIND is address, route, rule, neighbour or link.
  *
  * It ends with 0 and the report; or with one line on standard error and 1 (refused), 2 (bad
  * hexadecimal text, or the usage), 3 (unfit), 4 (out of memory) or 5 (reading or writing failed). A
@@ -16,7 +18,9 @@
 #include <stdlib.h>
 #include <string.h>
 
-#define USAGE "usage: nlroute address|route|rule|neighbour\n       nlroute compare address|route|rule|neighbour FILE.."
+#define USAGE                                                                                                          \
+    "usage: nlroute address|route|rule|neighbour|link\n       nlroute compare address|route|rule|neighbour|link "      \
+    "FILE.."
 
 enum ending { WELL = 0, REFUSED = 1, BAD_HEX = 2, UNFIT = 3, MEMORY = 4, FAILED = 5 };
 
@@ -33,6 +37,7 @@ static const struct kind KINDS[] = {
     {"route", 12, npr_route_canonical, npr_route_fault},
     {"rule", 12, npr_rule_canonical, npr_rule_fault},
     {"neighbour", 12, npr_neighbour_canonical, npr_neighbour_fault},
+    {"link", 16, npr_link_canonical, npr_link_fault},
 };
 
 static const struct kind *kind_of(const char *name) {

@@ -14,11 +14,20 @@ static const std::uint8_t *place_of(const Bytes &bytes) {
     return bytes.empty() ? &none : bytes.data();
 }
 
-// The canonical bytes of a route message, or the name of what is wrong.
-static std::optional<Bytes> canonical(const Bytes &bytes, const char *&name) {
+// A call for canonical bytes, and how many bytes the header of its messages has.
+struct Kind {
+    decltype(&npr_route_canonical) canonical;
+    std::size_t header;
+};
+
+static const Kind ROUTES = {npr_route_canonical, 12};
+static const Kind LINKS = {npr_link_canonical, 16};
+
+// The canonical bytes of a message, or the name of what is wrong.
+static std::optional<Bytes> canonical(const Kind &kind, const Bytes &bytes, const char *&name) {
     // Five halves of the length are never too few, and there is a byte where the length is 0.
     Bytes out(bytes.size() / 2 * 5 + 4);
-    npr_answer answer = npr_route_canonical(place_of(bytes), bytes.size(), out.data(), out.size());
+    npr_answer answer = kind.canonical(place_of(bytes), bytes.size(), out.data(), out.size());
     if (answer.status == NPR_WRITTEN) {
         out.resize(answer.length);
         return out;
@@ -28,18 +37,24 @@ static std::optional<Bytes> canonical(const Bytes &bytes, const char *&name) {
 }
 
 // How many attributes stand behind the header.
-static std::size_t count_of(const Bytes &bytes) {
+static std::size_t count_of(const Kind &kind, const Bytes &bytes) {
     std::size_t count = 0;
-    for (npr_step step = npr_step_at(place_of(bytes), bytes.size(), 12); step.status == NPR_FOUND; count++)
+    for (npr_step step = npr_step_at(place_of(bytes), bytes.size(), kind.header); step.status == NPR_FOUND; count++)
         step = npr_step_at(place_of(bytes), bytes.size(), step.next);
     return count;
 }
 
-int main() {
+// Whether a message without bytes is refused, and this one has so many attributes and is its own canonical bytes.
+static bool is_right(const Kind &kind, const Bytes &message, std::size_t count) {
     const char *name = "";
-    if (canonical({}, name) || std::string(name) != "HeaderTooShort")
-        return 1;
+    if (canonical(kind, {}, name) || std::string(name) != "HeaderTooShort")
+        return false;
+    auto out = canonical(kind, message, name);
+    return out && *out == message && count_of(kind, *out) == count;
+}
+
+int main() {
     const Bytes route = {2, 0, 0, 0, 254, 3, 0, 1, 0, 0, 0, 0, 8, 0, 4, 0, 2, 0, 0, 0, 8, 0, 5, 0, 192, 0, 2, 1};
-    auto out = canonical(route, name);
-    return !out || *out != route || count_of(*out) != 2;
+    const Bytes link = {0, 0, 4, 3, 1, 0, 0, 0, 73, 0, 1, 0, 0, 0, 0, 0, 7, 0, 3, 0, 'l', 'o', 0, 0};
+    return !is_right(ROUTES, route, 2) || !is_right(LINKS, link, 1);
 }

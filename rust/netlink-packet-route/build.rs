@@ -12,7 +12,6 @@ fn main() {
             sources(&crates, library).display()
         );
     }
-    println!("cargo::rustc-check-cfg=cfg(exhaustive)");
     let out = folder("OUT_DIR");
     let erased = erase::erase_all(&crates, &out).and_then(|_| erase::erase_tests(&crates, &out));
     if let Err(fault) = erased {

@@ -3,6 +3,7 @@
 use netlink_packet_core::NetlinkIterator;
 use netlink_packet_route::address::{AddressHeader, AddressMessage};
 use netlink_packet_route::framing::{Header, Message, Parseable};
+use netlink_packet_route::link::{LinkHeader, LinkMessage};
 use netlink_packet_route::neighbour::{NeighbourHeader, NeighbourMessage};
 use netlink_packet_route::route::{RouteHeader, RouteMessage};
 use netlink_packet_route::rule::{RuleHeader, RuleMessage};
@@ -49,6 +50,7 @@ impl Way for Anew {
             MessageKind::Route => parse::<RouteHeader>(self.alloc, bytes),
             MessageKind::Rule => parse::<RuleHeader>(self.alloc, bytes),
             MessageKind::Neighbour => parse::<NeighbourHeader>(self.alloc, bytes),
+            MessageKind::Link => parse::<LinkHeader>(self.alloc, bytes),
         }
     }
 }
@@ -61,6 +63,7 @@ struct Into {
     route: RouteMessage,
     rule: RuleMessage,
     neighbour: NeighbourMessage,
+    link: LinkMessage,
 }
 
 fn parse_into<H: Header>(
@@ -81,6 +84,7 @@ impl Way for Into {
             MessageKind::Route => parse_into(self.alloc, &mut self.route, bytes),
             MessageKind::Rule => parse_into(self.alloc, &mut self.rule, bytes),
             MessageKind::Neighbour => parse_into(self.alloc, &mut self.neighbour, bytes),
+            MessageKind::Link => parse_into(self.alloc, &mut self.link, bytes),
         }
     }
 }
@@ -112,6 +116,7 @@ impl Way for OneByOne {
             MessageKind::Route => step_through::<RouteHeader>(self.alloc, bytes),
             MessageKind::Rule => step_through::<RuleHeader>(self.alloc, bytes),
             MessageKind::Neighbour => step_through::<NeighbourHeader>(self.alloc, bytes),
+            MessageKind::Link => step_through::<LinkHeader>(self.alloc, bytes),
         }
     }
 }
@@ -131,6 +136,7 @@ pub extern "C" fn bench_parse_into(alloc: Global, datagram: &[u8]) -> u64 {
         route: RouteMessage::new(alloc),
         rule: RuleMessage::new(alloc),
         neighbour: NeighbourMessage::new(alloc),
+        link: LinkMessage::new(alloc),
     };
     read_all(&mut way, datagram)
 }

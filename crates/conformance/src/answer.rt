@@ -5,6 +5,7 @@ use crate::stop::Stop;
 use netlink_packet_route::MessageKind;
 use netlink_packet_route::address::AddressHeader;
 use netlink_packet_route::framing::{Header, Message, Parseable, to_vec};
+use netlink_packet_route::link::LinkHeader;
 use netlink_packet_route::neighbour::NeighbourHeader;
 use netlink_packet_route::route::RouteHeader;
 use netlink_packet_route::rule::RuleHeader;
@@ -36,6 +37,7 @@ impl Asked {
             Asked::Message(MessageKind::Route) => answer::<RouteHeader>(alloc, bytes),
             Asked::Message(MessageKind::Rule) => answer::<RuleHeader>(alloc, bytes),
             Asked::Message(MessageKind::Neighbour) => answer::<NeighbourHeader>(alloc, bytes),
+            Asked::Message(MessageKind::Link) => answer::<LinkHeader>(alloc, bytes),
             Asked::Datagrams => datagrams_answer(alloc, bytes),
         };
         match answered {

@@ -7,6 +7,7 @@ use netlink_packet_route::address::AddressHeader;
 use netlink_packet_route::framing::{
     DecodeError, Emitable, Header, Looks, Message, Parseable, WriteError, to_vec,
 };
+use netlink_packet_route::link::LinkHeader;
 use netlink_packet_route::neighbour::NeighbourHeader;
 use netlink_packet_route::route::RouteHeader;
 use netlink_packet_route::rule::RuleHeader;
@@ -23,11 +24,12 @@ pub enum Subject {
 
 impl Subject {
     /// Each of them.
-    pub const ALL: [Subject; 5] = [
+    pub const ALL: [Subject; 6] = [
         Subject::Message(MessageKind::Address),
         Subject::Message(MessageKind::Route),
         Subject::Message(MessageKind::Rule),
         Subject::Message(MessageKind::Neighbour),
+        Subject::Message(MessageKind::Link),
         Subject::Datagram,
     ];
 
@@ -63,6 +65,7 @@ pub fn answer_to(alloc: Global, subject: Subject, bytes: &[u8]) -> Result<Answer
         Subject::Message(MessageKind::Route) => answer_by::<RouteHeader>(alloc, bytes),
         Subject::Message(MessageKind::Rule) => answer_by::<RuleHeader>(alloc, bytes),
         Subject::Message(MessageKind::Neighbour) => answer_by::<NeighbourHeader>(alloc, bytes),
+        Subject::Message(MessageKind::Link) => answer_by::<LinkHeader>(alloc, bytes),
         Subject::Datagram => answer_to_datagram(alloc, bytes),
     }
 }

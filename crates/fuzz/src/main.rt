@@ -8,6 +8,8 @@
 
 mod asking;
 mod datagrams;
+mod lengths;
+mod links;
 mod making;
 mod random;
 mod tally;

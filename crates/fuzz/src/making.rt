@@ -2,39 +2,19 @@
 //! that fits, lists inside lists, and bytes that are changed behind.
 
 use crate::asking::Subject;
+use crate::lengths::{
+    ADDRESS, ANSWERS, ANY, MEMBERS, NEIGHBOUR, NUMBERS, OF_FAMILY, OPTIONS, ROUTE, RULE,
+};
 use crate::random::Random;
 use netlink_packet_route::MessageKind;
 use std::alloc::{AllocError, Global};
 use std::mem;
 
-const NESTED: u16 = 0x8000;
-
-/// Any length.
-const ANY: u8 = 255;
-
-/// The length of an address of the family.
-const OF_FAMILY: u8 = 254;
-
-/// The lengths of values that fit, by the number of the attribute.
-const ADDRESS: [u8; 12] = [ANY, OF_FAMILY, OF_FAMILY, ANY, 4, 16, 16, 16, 4, 4, ANY, 1];
-
-const ROUTE: [u8; 32] = [
-    ANY, OF_FAMILY, OF_FAMILY, 4, 4, OF_FAMILY, 4, OF_FAMILY, 0, 0, ANY, 4, 32, ANY, ANY, 4, 4, 24,
-    6, OF_FAMILY, 1, 2, 0, 4, ANY, 4, 1, 1, 2, 2, 4, 4,
-];
-
-const RULE: [u8; 25] = [
-    ANY, OF_FAMILY, OF_FAMILY, ANY, 4, ANY, 4, ANY, ANY, ANY, 4, 4, 8, 4, 4, 4, 4, ANY, ANY, 1, 8,
-    1, 1, 4, 4,
-];
-
-const NEIGHBOUR: [u8; 16] = [ANY, OF_FAMILY, 6, 16, 4, 2, 2, 4, 4, 4, 4, 4, 1, 4, ANY, 4];
-
-/// Attributes of an extended answer.
-const ANSWERS: [u8; 7] = [ANY, ANY, 4, ANY, ANY, 4, 4];
+/// The flag of a kind whose value is a list.
+pub const NESTED: u16 = 0x8000;
 
 /// Types of messages, with the kind of those that have one.
-const TYPES: [(u16, Option<MessageKind>); 11] = [
+const TYPES: [(u16, Option<MessageKind>); 14] = [
     (20, Some(MessageKind::Address)),
     (22, Some(MessageKind::Address)),
     (24, Some(MessageKind::Route)),
@@ -42,26 +22,21 @@ const TYPES: [(u16, Option<MessageKind>); 11] = [
     (28, Some(MessageKind::Neighbour)),
     (29, Some(MessageKind::Neighbour)),
     (32, Some(MessageKind::Rule)),
+    (16, Some(MessageKind::Link)),
+    (19, Some(MessageKind::Link)),
+    (109, Some(MessageKind::Link)),
     (1, None),
     (2, None),
     (3, None),
-    (16, None),
+    (104, None),
 ];
-
-/// Members of encapsulations, of whichever type.
-const MEMBERS: [u8; 10] = [ANY, 8, 4, 4, 1, 1, 2, ANY, 0, 4];
-
-/// Metrics, and options of tunnels.
-const NUMBERS: [u8; 18] = [ANY, 4, 4, 4, 4, 4, 4, 4, 4, 4, 4, 4, 4, 4, 4, 4, ANY, 4];
-
-const OPTIONS: [u8; 5] = [ANY, 2, 1, ANY, 4];
 
 /// A maker of messages.
 #[derive(Drop)]
 pub struct Maker {
-    random: Random,
+    pub(crate) random: Random,
     /// The list that is made.
-    list: Vec<u8>,
+    pub(crate) list: Vec<u8>,
     /// The list that stands inside it.
     inside: Vec<u8>,
     family: u8,
@@ -125,6 +100,7 @@ impl Maker {
         let size = match kind {
             Some(MessageKind::Address) => 24usize,
             Some(MessageKind::Route | MessageKind::Rule | MessageKind::Neighbour) => 28,
+            Some(MessageKind::Link) => 32,
             None => 16,
         };
         match kind {
@@ -168,6 +144,7 @@ impl Maker {
             MessageKind::Rule => self.leaves(&RULE),
             MessageKind::Neighbour => self.leaves(&NEIGHBOUR),
             MessageKind::Route => self.route(),
+            MessageKind::Link => self.link(),
         }
     }
 
@@ -180,11 +157,15 @@ impl Maker {
             let [a, b, c, d, ..] = self.random.number().to_le_bytes();
             out.extend_from_slice(&[a, b, c, d])?;
         }
+        if kind == MessageKind::Link {
+            let [a, b, c, d, ..] = self.random.number().to_le_bytes();
+            out.extend_from_slice(&[a, b, c, d])?;
+        }
         Ok(())
     }
 
     /// Up to four attributes that hold no list, of numbers that the table has.
-    fn leaves(&mut self, lengths: &[u8]) -> Result<(), AllocError> {
+    pub(crate) fn leaves(&mut self, lengths: &[u8]) -> Result<(), AllocError> {
         for _ in 0..self.random.below(5) {
             self.leaf(lengths)?;
         }
@@ -222,14 +203,14 @@ impl Maker {
     }
 
     /// The header of an attribute whose value has so many bytes.
-    fn front(&mut self, kind: u16, count: usize) -> Result<(), AllocError> {
+    pub(crate) fn front(&mut self, kind: u16, count: usize) -> Result<(), AllocError> {
         let length = u16::try_from(count.saturating_add(4)).unwrap_or(u16::MAX);
         self.list.extend_from_slice(&length.to_le_bytes())?;
         self.list.extend_from_slice(&kind.to_le_bytes())
     }
 
     /// What was made becomes the value of an attribute of a new list, behind these bytes.
-    fn wrap(&mut self, kind: u16, before: &[u8]) -> Result<(), AllocError> {
+    pub(crate) fn wrap(&mut self, kind: u16, before: &[u8]) -> Result<(), AllocError> {
         mem::swap(&mut self.list, &mut self.inside);
         self.list.clear();
         let count = self.inside.len().saturating_add(before.len());
@@ -347,7 +328,7 @@ impl Maker {
 }
 
 /// Zeros up to a multiple of four bytes.
-fn pad(bytes: &mut Vec<u8>) -> Result<(), AllocError> {
+pub fn pad(bytes: &mut Vec<u8>) -> Result<(), AllocError> {
     for _ in 0..3 {
         if bytes.len() % 4 != 0 {
             bytes.push(0)?;

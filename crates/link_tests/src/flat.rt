@@ -3,7 +3,7 @@
 use bitflags::Flags;
 use netlink_packet_route::AddressFamily;
 use netlink_packet_route::framing::{EmitError, Emitable, Header, Looks, Parseable};
-use npr_link::{
+use netlink_packet_route::link::{
     LinkAttribute, LinkFlags, LinkHeader, LinkLayerType, LinkMessage, LinkMessageBuffer, Stats64,
 };
 use npr_testing::{bytes_of, check_of, holds, messages, same, says, shows, writes};

@@ -1,7 +1,7 @@
 //! What drivers say of links: kinds, and the data that they govern.
 
 use netlink_packet_route::framing::{Looks, Parseable};
-use npr_link::{InfoKind, InfoPortKind, LinkMessage, LinkPeer};
+use netlink_packet_route::link::{InfoKind, InfoPortKind, LinkMessage, LinkPeer};
 use npr_testing::{bytes_of, messages, same, says};
 use std::test::Fail;
 

@@ -67,9 +67,11 @@ fn a_message_is_read_into_again(rt: HostRuntime) -> Result<(), Fail> {
     holds(message == RuleMessage::new(alloc))
 }
 
-/// `RTM_GETNEIGH` and `RTM_NEWLINK`.
+/// `RTM_GETNEIGH`, `RTM_SETLINK`, `RTM_GETLINKPROP` and `RTM_NEWQDISC`.
 #[test]
 fn a_type_has_a_kind() -> Result<(), Fail> {
     same(MessageType::of(30).kind(), Some(MessageKind::Neighbour))?;
-    same(MessageType::of(16).kind(), None)
+    same(MessageType::of(19).kind(), Some(MessageKind::Link))?;
+    same(MessageType::of(110).kind(), Some(MessageKind::Link))?;
+    same(MessageType::of(36).kind(), None)
 }

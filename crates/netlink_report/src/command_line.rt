@@ -3,7 +3,7 @@
 use netlink_packet_route::MessageKind;
 
 /// The line for a command line that names no kind of message.
-pub const USAGE: &str = "usage: nlroute address|route|rule|neighbour";
+pub const USAGE: &str = "usage: nlroute address|route|rule|neighbour|link";
 
 /// Which message is reported on: `Which::of` reads the words after the program's name.
 pub type Which = MessageKind;

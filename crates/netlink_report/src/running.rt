@@ -32,6 +32,7 @@ use crate::report::whole;
 use netlink_packet_route::MessageKind;
 use netlink_packet_route::address::AddressHeader;
 use netlink_packet_route::framing::{Attribute, Emitable, Header, Message, Parseable, to_vec};
+use netlink_packet_route::link::LinkHeader;
 use netlink_packet_route::neighbour::NeighbourHeader;
 use netlink_packet_route::route::RouteHeader;
 use netlink_packet_route::rule::RuleHeader;
@@ -83,6 +84,7 @@ fn answer(alloc: Global, kind: MessageKind, bytes: &[u8]) -> Result<String, RunE
         MessageKind::Neighbour => {
             answer_by::<NeighbourHeader>(alloc, MessageKind::Neighbour, bytes)
         }
+        MessageKind::Link => answer_by::<LinkHeader>(alloc, MessageKind::Link, bytes),
     }
 }
 

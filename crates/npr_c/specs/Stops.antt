@@ -9,6 +9,8 @@ use Rattle.netlink_packet_route.specs.AddressAttribute as OfAddress
 use Rattle.netlink_packet_route.specs.AddressHeader.{header as address_header}
 use Rattle.netlink_packet_route.specs.RuleAttribute as OfRule
 use Rattle.netlink_packet_route.specs.RuleHeader.{header as rule_header}
+use Rattle.netlink_packet_route.specs.LinkAttribute as OfLink
+use Rattle.netlink_packet_route.specs.LinkHeader.{header as link_header}
 use Rattle.netlink_packet_route.specs.NeighbourAttribute as OfNeighbour
 use Rattle.netlink_packet_route.specs.NeighbourHeader.{header as neighbour_header}
 use Rattle.netlink_packet_route.specs.RouteAttributeView as OfRoute
@@ -41,6 +43,9 @@ RuleStandsAt bytes offset e = StandsAt rule_header (governs_by (λ h. tt)) OfRul
 
 abbrev pub NeighbourStandsAt : List ℕ → ℕ → DecodeError → Type 0
 NeighbourStandsAt bytes offset e = StandsAt neighbour_header (governs_by (λ h. h.family)) OfNeighbour.family bytes offset e
+
+abbrev pub LinkStandsAt : List ℕ → ℕ → DecodeError → Type 0
+LinkStandsAt bytes offset e = StandsAt link_header (governs_by (λ h. h.interface_family)) OfLink.family bytes offset e
 
 abbrev pub RouteStandsAt : List ℕ → ℕ → DecodeError → Type 0
 RouteStandsAt bytes offset e = StandsAt route_header IsContext OfRoute.family bytes offset e

@@ -5,6 +5,7 @@ ghost use Rattle.{
   netlink_packet_route.specs.{
     AddressMessage.{addresses},
     Framing.{Item, Front},
+    LinkMessage.{links},
     NeighbourMessage.{neighbours},
     RouteMessage.{routes},
     RuleMessage.{rules},
@@ -16,6 +17,7 @@ ghost use Rattle.{
 use crate::answer::Answer;
 use netlink_packet_route::address::AddressHeader;
 use netlink_packet_route::framing::{Emitable, Header, Message, Parseable};
+use netlink_packet_route::link::LinkHeader;
 use netlink_packet_route::neighbour::NeighbourHeader;
 use netlink_packet_route::route::RouteHeader;
 use netlink_packet_route::rule::RuleHeader;
@@ -97,4 +99,17 @@ pub extern "C" fn npr_neighbour_canonical(alloc: Global, bytes: &[u8], out: &mut
     ensures room { 5 * length bytes.now ≤ 2 * length out.old → result.status ≢ 3 }
 {
     canonical::<NeighbourHeader>(alloc, bytes, out)
+}
+
+/// Writes the canonical bytes of the link message that the bytes are to the front of the buffer,
+/// and leaves the rest of it. The buffer is as it was where they aren't written.
+#[unsafe(no_mangle)]
+pub extern "C" fn npr_link_canonical(alloc: Global, bytes: &[u8], out: &mut [u8]) -> Answer
+    ensures answer { Tells links bytes.now out.old out.new result }
+    // Memory is refused behind a first whole attribute alone.
+    ensures memory { result ≡ refused_answer OutOfMemory → (x : Item) × (rest : List ℕ) × Front (drop 16 bytes.now) x rest }
+    // A buffer two and a half times as long as the bytes is never too short.
+    ensures room { 5 * length bytes.now ≤ 2 * length out.old → result.status ≢ 3 }
+{
+    canonical::<LinkHeader>(alloc, bytes, out)
 }

@@ -5,6 +5,7 @@ ghost use Rattle.{
   netlink_packet_route.specs.{
     AddressMessage.{addresses},
     Framing.{Item, Front},
+    LinkMessage.{links},
     NeighbourMessage.{neighbours},
     RouteMessage.{routes},
     RuleMessage.{rules},
@@ -12,7 +13,7 @@ ghost use Rattle.{
   },
   npr_c.specs.{
     Faults.{IsJudged, fault_of, family_number, seg6_number},
-    Stops.{AddressStandsAt, IsPlaced, NeighbourStandsAt, RouteStandsAt, RuleStandsAt, StandsAt},
+    Stops.{AddressStandsAt, IsPlaced, LinkStandsAt, NeighbourStandsAt, RouteStandsAt, RuleStandsAt, StandsAt},
   },
 };
 
@@ -20,6 +21,7 @@ use crate::answer::refusal_number;
 use crate::placing::read_through;
 use netlink_packet_route::address::AddressHeader;
 use netlink_packet_route::framing::{At, AttrFamily, DecodeError, Header, Seg6Fault};
+use netlink_packet_route::link::LinkHeader;
 use netlink_packet_route::neighbour::NeighbourHeader;
 use netlink_packet_route::route::RouteHeader;
 use netlink_packet_route::rule::RuleHeader;
@@ -236,4 +238,16 @@ pub extern "C" fn npr_neighbour_fault(alloc: Global, bytes: &[u8]) -> Fault
     ensures memory { result ≡ fault_of OutOfMemory → (x : Item) × (rest : List ℕ) × Front (drop 12 bytes.now) x rest }
 {
     judged::<NeighbourHeader>(alloc, bytes)
+}
+
+/// What is wrong with the bytes as a link message and where it stands, or that they are one.
+#[unsafe(no_mangle)]
+pub extern "C" fn npr_link_fault(alloc: Global, bytes: &[u8]) -> Fault
+    ensures fault { IsJudged links bytes.now result }
+    // Up to the place attributes read, and what stands there is wrong.
+    ensures place { IsPlaced 16 LinkStandsAt bytes.now result }
+    // Memory is refused behind a first whole attribute alone.
+    ensures memory { result ≡ fault_of OutOfMemory → (x : Item) × (rest : List ℕ) × Front (drop 16 bytes.now) x rest }
+{
+    judged::<LinkHeader>(alloc, bytes)
 }

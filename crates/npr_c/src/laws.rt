@@ -4,7 +4,7 @@
 ghost use Rattle.std.specs.Prelude.{◌≡◌, ℕ, List};
 ghost use Rattle.{
   netlink_packet_route.specs.declared.framing.DecodeError.{DecodeError},
-  npr_c.specs.{Faults.{located}, Stops.{AddressStandsAt, NeighbourStandsAt, RouteStandsAt, RuleStandsAt}},
+  npr_c.specs.{Faults.{located}, Stops.{AddressStandsAt, LinkStandsAt, NeighbourStandsAt, RouteStandsAt, RuleStandsAt}},
 };
 
 /// The first fault of a message stands at one place.
@@ -13,6 +13,7 @@ pub fn law_places()
     ensures route { (bytes : List ℕ) (j k : ℕ) (d e : DecodeError) → RouteStandsAt bytes j d → RouteStandsAt bytes k e → j ≡ k }
     ensures rule { (bytes : List ℕ) (j k : ℕ) (d e : DecodeError) → RuleStandsAt bytes j d → RuleStandsAt bytes k e → j ≡ k }
     ensures neighbour { (bytes : List ℕ) (j k : ℕ) (d e : DecodeError) → NeighbourStandsAt bytes j d → NeighbourStandsAt bytes k e → j ≡ k }
+    ensures link { (bytes : List ℕ) (j k : ℕ) (d e : DecodeError) → LinkStandsAt bytes j d → LinkStandsAt bytes k e → j ≡ k }
 {}
 
 /// Two refusals that are told alike are one.

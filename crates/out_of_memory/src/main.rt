@@ -9,6 +9,7 @@ mod trial;
 
 use netlink_packet_route::MessageKind;
 use netlink_packet_route::address::AddressMessage;
+use netlink_packet_route::link::LinkMessage;
 use netlink_packet_route::neighbour::NeighbourMessage;
 use netlink_packet_route::route::{RouteMessage, RouteNextHop};
 use netlink_packet_route::rule::RuleMessage;
@@ -59,6 +60,7 @@ fn tried_message(alloc: Global, kind: MessageKind, row: Row) -> Endings {
         MessageKind::Route => try_each::<RouteMessage>(alloc, row.text, row.canonical),
         MessageKind::Rule => try_each::<RuleMessage>(alloc, row.text, row.canonical),
         MessageKind::Neighbour => try_each::<NeighbourMessage>(alloc, row.text, row.canonical),
+        MessageKind::Link => try_each::<LinkMessage>(alloc, row.text, row.canonical),
     }
 }
 

@@ -32,6 +32,8 @@ const RULE: Parsed = Parsed::Message(MessageKind::Rule);
 
 const NEIGHBOUR: Parsed = Parsed::Message(MessageKind::Neighbour);
 
+const LINK: Parsed = Parsed::Message(MessageKind::Link);
+
 /// The address of the loopback interface.
 const LOOPBACK: &str =
     "020880fe01000000080001007f000001080002007f000001070003006c6f0000080008008000000014000600ffffffffffffffff9c0000009c000000";
@@ -72,6 +74,30 @@ const RPL_CANONICAL: &str =
 /// A neighbour of a bridge, whose address and address on the link are bytes.
 const OF_BRIDGE: &str = "070000000300000080000200080001000a0000090a0002000200000000130000";
 
+/// A link with the number of a vlan and a list of its priorities, whose kind stands behind them and has no
+/// zero at its end.
+const VLAN: &str =
+    "00000000000000000000000000000000280012001c0002000600010064000000100004000c000100010000000200000008000100766c616e";
+
+const VLAN_CANONICAL: &str =
+    "000000000000000000000000000000002c0012001c0002000600010064000000100004000c000100010000000200000009000100766c616e00000000";
+
+/// A link and its peer.
+const PEER: &str =
+    "0000000000000000000000000000000030001200090001007665746800000000200002001c000100000000000000000000000000000000000800030076653100";
+
+/// A link of a kind without a family of data, as that of its port.
+const KEPT: &str =
+    "00000000000000000000000000000000340012000c00010062617265756470000c0002000600010019eb000009000400626f6e64000000000c0005000500010000000000";
+
+/// What both versions of IP say of a link, the one in numbers.
+const FAMILIES: &str =
+    "0000000000000000000000000000000024001a0014000200100001000100000000000000020000000c000a000500080001000000";
+
+/// Other names of a link.
+const NAMES: &str =
+    "000000000000000000000000000000001c0034800a00350066697273740000000b0035007365636f6e640000";
+
 /// A next hop, its attributes two addresses.
 const NEXT_HOP: &str = "1800000002000000080005000a000001080001000a000002";
 
@@ -87,6 +113,11 @@ impl Row {
             "name" => (RULE, NAME, NAME_CANONICAL),
             "rpl" => (ROUTE, RPL, RPL_CANONICAL),
             "of_bridge" => (NEIGHBOUR, OF_BRIDGE, OF_BRIDGE),
+            "vlan" => (LINK, VLAN, VLAN_CANONICAL),
+            "peer" => (LINK, PEER, PEER),
+            "kept_data" => (LINK, KEPT, KEPT),
+            "families" => (LINK, FAMILIES, FAMILIES),
+            "other_names" => (LINK, NAMES, NAMES),
             "next_hop" => (Parsed::NextHop, NEXT_HOP, NEXT_HOP),
             "levels" => (Parsed::Levels, "", ""),
             _ => return None,

@@ -6,13 +6,16 @@ use netlink_packet_route::envelope::{
 };
 use netlink_packet_route::family::read_bytes;
 use netlink_packet_route::framing::{Emitable, Parseable, to_vec};
-use netlink_packet_route::request::{dump_addresses, dump_neighbours, dump_routes, dump_rules};
+use netlink_packet_route::link::LinkExtentMask;
+use netlink_packet_route::request::{
+    dump_addresses, dump_links, dump_neighbours, dump_routes, dump_rules,
+};
 use netlink_packet_route::{AddressFamily, RouteNetlinkMessage};
 use npr_testing::{bytes_of, holds, same, shows, writes};
 use std::alloc::Global;
 use std::test::Fail;
 
-/// What a message is, in a word; a message on a link keeps a payload of 17 bytes.
+/// What a message is, in a word; one on a queueing discipline keeps a payload of 17 bytes.
 fn word_of(message: &NetlinkMessage<RouteNetlinkMessage>) -> &'static str {
     match &message.payload {
         NetlinkPayload::Done(_) => "done",
@@ -22,7 +25,21 @@ fn word_of(message: &NetlinkMessage<RouteNetlinkMessage>) -> &'static str {
         NetlinkPayload::Overrun(_) => "overrun",
         NetlinkPayload::InnerMessage(RouteNetlinkMessage::NewRule(_)) => "rule",
         NetlinkPayload::InnerMessage(RouteNetlinkMessage::Other(other))
-            if other.message_type == 16 && other.payload.len() == 17 => "other",
+            if other.message_type == 36 && other.payload.len() == 17 => "other",
+        _ => "something else",
+    }
+}
+
+/// The same of a message on a link.
+fn link_word_of(message: &NetlinkMessage<RouteNetlinkMessage>) -> &'static str {
+    match &message.payload {
+        NetlinkPayload::InnerMessage(RouteNetlinkMessage::NewLink(_)) => "new",
+        NetlinkPayload::InnerMessage(RouteNetlinkMessage::DelLink(_)) => "del",
+        NetlinkPayload::InnerMessage(RouteNetlinkMessage::GetLink(_)) => "get",
+        NetlinkPayload::InnerMessage(RouteNetlinkMessage::SetLink(_)) => "set",
+        NetlinkPayload::InnerMessage(RouteNetlinkMessage::NewLinkProp(_)) => "new property",
+        NetlinkPayload::InnerMessage(RouteNetlinkMessage::DelLinkProp(_)) => "del property",
+        NetlinkPayload::InnerMessage(RouteNetlinkMessage::GetLinkProp(_)) => "get property",
         _ => "something else",
     }
 }
@@ -50,7 +67,7 @@ fn rewritten(alloc: Global, datagram: &[u8]) -> Result<(Vec<&'static str>, Vec<u
     Ok((words, written))
 }
 
-/// A rule of a dump, the end of the dump, and a message on a link: each is read by its type, and
+/// A rule of a dump, the end of the dump, and a message on a queueing discipline: each is read by its type, and
 /// written as the same bytes, padding included.
 #[test]
 fn a_datagram_is_read_by_type(rt: HostRuntime) -> Result<(), Fail> {
@@ -58,12 +75,38 @@ fn a_datagram_is_read_by_type(rt: HostRuntime) -> Result<(), Fail> {
         "34000000 20000200 07000000 9c6c0000 0a000000 ff000001 00000000",
         "08000f00 ff000000 08000e00 ffffffff 05001500 02000000",
         "14000000 03000200 07000000 9c6c0000 00000000",
-        "21000000 10000000 00000000 00000000 00000100 02000000 03000000 00000000 04000000",
+        "21000000 24000000 00000000 00000000 00000100 02000000 03000000 00000000 04000000",
     ];
     let bytes = bytes_of(&rt, texts.as_slice())?;
     let (words, written) = rewritten(rt.alloc(), bytes.as_slice())?;
     shows(&rt, words, "[\"rule\", \"done\", \"other\"]")?;
     same(written, bytes)
+}
+
+/// A link of each type, with its number alone.
+#[test]
+fn links_are_read_by_type(rt: HostRuntime) -> Result<(), Fail> {
+    let words = [
+        (16, "new"),
+        (17, "del"),
+        (18, "get"),
+        (19, "set"),
+        (108, "new property"),
+        (109, "del property"),
+        (110, "get property"),
+    ];
+    for (message_type, wanted) in words {
+        let header = NetlinkHeader {
+            message_type,
+            ..NetlinkHeader::default()
+        };
+        let bytes = bytes_of(&rt, &["00000000 04000000 00000000 00000000"])?;
+        let payload = NetlinkPayload::parse(rt.alloc(), header, bytes.as_slice())?;
+        let message = NetlinkMessage { header, payload };
+        same(message.payload.message_type(), message_type)?;
+        same(link_word_of(&message.try_clone(rt.alloc())?), wanted)?;
+    }
+    Ok(())
 }
 
 /// Nothing, lost data without bytes and with three, an acknowledgement, and a refusal with the header
@@ -116,8 +159,8 @@ fn payloads_are_read_by_type(rt: HostRuntime) -> Result<(), Fail> {
     let done = "Done(DoneMessage { code: 0, extended_ack: [] })";
     is_payload(&rt, NLMSG_DONE, "00000000", done)?;
     is_payload(&rt, NLMSG_OVERRUN, "c0ffee", "Overrun([192, 255, 238])")?;
-    let other = "InnerMessage(Other(OtherMessage { message_type: 16, payload: [] }))";
-    is_payload(&rt, 16, "", other)
+    let other = "InnerMessage(Other(OtherMessage { message_type: 36, payload: [] }))";
+    is_payload(&rt, 36, "", other)
 }
 
 /// A code and the bytes behind it, by themselves.
@@ -138,7 +181,7 @@ fn codes_are_read(rt: HostRuntime) -> Result<(), Fail> {
 }
 
 /// What was sent to the kernel whose dumps `conformance` reads: `NLM_F_REQUEST` and `NLM_F_DUMP`, the
-/// number 7, and a header of zeros but for the family.
+/// number 7, and a header of zeros but for the family; for links, which family `ip` gives is all one.
 #[test]
 fn dumps_are_asked_for(rt: HostRuntime) -> Result<(), Fail> {
     let alloc = rt.alloc();
@@ -165,5 +208,9 @@ fn dumps_are_asked_for(rt: HostRuntime) -> Result<(), Fail> {
         &rt,
         neighbours,
         &["1c000000 1e00 0103 07000000 00000000 020000000000000000000000"],
-    )
+    )?;
+    let links = dump_links(alloc, 7, LinkExtentMask::Vf)?;
+    let header = "28000000 1200 0103 07000000 00000000";
+    let zeros = "00000000 00000000 00000000 00000000";
+    writes(&rt, links, &[header, zeros, "08001d00 01000000"])
 }

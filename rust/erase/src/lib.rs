@@ -39,12 +39,13 @@ pub const LIBRARIES: [&str; 12] = [
 ];
 
 /// The crates of their tests, likewise.
-pub const TESTS: [&str; 5] = [
+pub const TESTS: [&str; 6] = [
     "npr_testing",
     "template",
     "message_tests",
     "value_tests",
     "text_tests",
+    "link_tests",
 ];
 
 /// Erases the libraries of a folder into another, with a file `modules.rs` that names them, and

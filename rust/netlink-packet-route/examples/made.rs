@@ -128,12 +128,16 @@ fn lines(kind: &Kind, seed: u64, count: usize) -> String {
     let mut random = Random(seed);
     let generated = format!("generated_{}", kind.word);
     let files: &[&str] = match kind.word {
-        "datagrams" | "neighbour" => &[kind.word],
+        "datagrams" | "neighbour" | "link" => &[kind.word],
         _ => &[kind.word, &generated],
     };
     let stored = files.iter().flat_map(|file| lines_of(file));
     let all: Vec<Vec<u8>> = stored.map(|(bytes, _)| bytes).collect();
-    let header = if kind.word == "address" { 8 } else { 12 };
+    let header = match kind.word {
+        "address" => 8,
+        "link" => 16,
+        _ => 12,
+    };
     let pool: Vec<_> = all
         .iter()
         .flat_map(|bytes| attributes(bytes, header))

@@ -4,7 +4,7 @@
 use crate::framing::{self, Attribute, EmitError, Header, Looks, Message, NlaBuffer, marked_kind};
 use crate::memory::Global;
 use crate::route::RouteProtocol;
-use crate::{AddressFamily, RouteNetlinkMessage, address, envelope, neighbour, route, rule};
+use crate::{AddressFamily, RouteNetlinkMessage, address, envelope, link, neighbour, route, rule};
 use netlink_packet_core as core;
 
 fn length(checked: Result<usize, EmitError>) -> usize {
@@ -110,6 +110,12 @@ emitable! {
     [H: Header] Message<H, H::Attribute>;
     [] address::AddressHeader;
     [] address::CacheInfo;
+    [] link::BridgeBooleanOptions;
+    [] link::BridgeId;
+    [] link::Inet6CacheInfo;
+    [] link::LinkHeader;
+    [] link::LinkPeer;
+    [] link::Map;
     [] neighbour::NeighbourAddress;
     [] neighbour::NeighbourCacheInfo;
     [] neighbour::NeighbourHeader;
@@ -218,12 +224,28 @@ headers! {
     route::Seg6LocalSrh;
 }
 under_context! {
+    link::LinkAttribute, AddressFamily;
+    link::LinkInfo, (link::InfoForm, link::InfoPortForm);
     neighbour::NeighbourAttribute, AddressFamily;
     route::RouteAttribute, HopContext;
     route::RouteLwTunnelEncap, route::RouteLwEnCapType;
 }
 alone! {
     address::AddressAttribute;
+    link::AfSpecInet;
+    link::AfSpecInet6;
+    link::AfSpecUnspec;
+    link::BridgeQuerierState;
+    link::InfoBridge;
+    link::InfoBridgePort;
+    link::InfoVeth;
+    link::InfoVlan;
+    link::InfoVrf;
+    link::LinkProtocolDownReason;
+    link::LinkXdp;
+    link::PeerAttribute;
+    link::Prop;
+    link::VlanQosMapping;
     route::RouteErspanOpt;
     route::RouteIoam6Tunnel;
     route::RouteIp6Tunnel;

@@ -1,10 +1,9 @@
-//! Messages of Linux rtnetlink on addresses, routes, neighbours and rules: bytes to typed values and
-//! back.
+//! Messages of Linux rtnetlink on links, addresses, routes, neighbours and rules: bytes to typed values
+//! and back.
 //!
-//! The text of the modules is that of a library that is proved in Rattle; its contracts are taken
-//! out when this crate is built. `memory`, `plain`, `sets` and `core_traits` are written by hand.
-//! Where the proved text asks something of a caller, its documentation says `Asks`, and nothing here
-//! tests it: see `docs/RUST.md`.
+//! The text of the modules is that of a library that is proved in Rattle, without its contracts.
+//! `memory`, `plain`, `sets` and `core_traits` are written by hand. Where the proved text asks something
+//! of a caller, its documentation says `Asks`, and nothing here tests it.
 #![forbid(unsafe_code)]
 // Flags have upstream's names; clauses alone name some imports, and rows of macros use not each name.
 #![allow(non_upper_case_globals, unused_imports, unused_variables)]

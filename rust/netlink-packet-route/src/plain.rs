@@ -7,6 +7,7 @@ use crate::envelope::{
     EnvelopeError, NetlinkBuffer, NetlinkInner, NetlinkIterator, NetlinkMessage,
 };
 use crate::framing::{DecodeError, Header, Message, Parseable, WriteError, to_vec};
+use crate::link::LinkHeader;
 use crate::memory::Global;
 use crate::neighbour::{NeighbourHeader, NeighbourState};
 use crate::route::{RouteGeneveOpt, RouteHeader, RouteNextHop, RplSrh, Seg6Header, Seg6LocalSrh};
@@ -63,7 +64,7 @@ macro_rules! headers {
         }
     )*};
 }
-headers!(AddressHeader RouteHeader RuleHeader NeighbourHeader);
+headers!(AddressHeader RouteHeader RuleHeader NeighbourHeader LinkHeader);
 
 impl<I: NetlinkInner> NetlinkMessage<I> {
     /// The bytes that are sent.

@@ -4,6 +4,7 @@
 use crate::address::AddressHeader;
 use crate::framing::{DecodeError, Header, Message, Parseable, WriteError, to_vec};
 use crate::memory::Global;
+use crate::link::LinkHeader;
 use crate::neighbour::NeighbourHeader;
 use crate::route::RouteHeader;
 use crate::rule::RuleHeader;
@@ -74,6 +75,7 @@ fn each_request_that_is_refused_is_answered() {
         of_file("rule", runs_of::<RuleHeader>),
         of_file("generated_rule", runs_of::<RuleHeader>),
         of_file("neighbour", runs_of::<NeighbourHeader>),
+        of_file("link", runs_of::<LinkHeader>),
     ];
     let count: usize = counts.iter().sum();
     println!("{count} requests refused, each answered");

@@ -39,6 +39,11 @@ fn neighbours() {
 }
 
 #[test]
+fn links() {
+    assert!(compare("link", &["link"]) > 200);
+}
+
+#[test]
 fn datagrams_with_envelopes() {
     assert!(compare("datagrams", &["datagrams"]) > 0);
 }

@@ -1,4 +1,4 @@
-//! `dump address|route|rule|neighbour` prints what the kernel has in that table, over `netlink-proto`.
+//! `dump link|address|route|rule|neighbour` prints what the kernel has in that table, over `netlink-proto`.
 
 use futures::StreamExt;
 use netlink_packet_core::{
@@ -11,6 +11,7 @@ use std::error::Error;
 /// What asks for a whole table.
 fn request(table: &str) -> Option<RouteNetlinkMessage> {
     match table {
+        "link" => Some(RouteNetlinkMessage::GetLink(Default::default())),
         "address" => Some(RouteNetlinkMessage::GetAddress(Default::default())),
         "route" => Some(RouteNetlinkMessage::GetRoute(Default::default())),
         "rule" => Some(RouteNetlinkMessage::GetRule(Default::default())),
@@ -22,7 +23,7 @@ fn request(table: &str) -> Option<RouteNetlinkMessage> {
 #[tokio::main(flavor = "current_thread")]
 async fn main() -> Result<(), Box<dyn Error>> {
     let table = std::env::args().nth(1).unwrap_or_default();
-    let request = request(&table).ok_or("usage: dump address|route|rule|neighbour")?;
+    let request = request(&table).ok_or("usage: dump link|address|route|rule|neighbour")?;
     let mut header = NetlinkHeader::default();
     header.flags = NLM_F_REQUEST | NLM_F_DUMP;
 

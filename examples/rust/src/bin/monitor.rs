@@ -1,13 +1,13 @@
-//! `monitor` prints what changes in the kernel's tables of addresses, routes, rules and neighbours, until
-//! it is ended; `monitor COUNT` so many messages.
+//! `monitor` prints what changes in the kernel's tables of links, addresses, routes, rules and neighbours,
+//! until it is ended; `monitor COUNT` so many messages.
 
 use netlink_packet_route::RouteNetlinkMessage;
 use netlink_packet_route::envelope::{NetlinkMessage, NetlinkPayload};
 use netlink_sys::{Socket, SocketAddr, protocols::NETLINK_ROUTE};
 use std::error::Error;
 
-/// Groups of `linux/rtnetlink.h`, as bits: neighbours, and of both versions addresses, routes and rules.
-const GROUPS: u32 = 0x4 | 0x10 | 0x40 | 0x80 | 0x100 | 0x400 | 1 << 18;
+/// Groups of `linux/rtnetlink.h`, as bits: links, neighbours, and of both versions addresses, routes and rules.
+const GROUPS: u32 = 0x1 | 0x4 | 0x10 | 0x40 | 0x80 | 0x100 | 0x400 | 1 << 18;
 
 fn main() -> Result<(), Box<dyn Error>> {
     let count = std::env::args().nth(1);

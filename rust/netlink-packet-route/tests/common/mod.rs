@@ -8,6 +8,7 @@ use netlink_packet_route::envelope::{
 use netlink_packet_route::framing::{
     DecodeError, Emitable, Header, Message, Nla, Parseable, WriteError, to_vec,
 };
+use netlink_packet_route::link::LinkHeader;
 use netlink_packet_route::memory::Global;
 use netlink_packet_route::neighbour::NeighbourHeader;
 use netlink_packet_route::route::RouteHeader;
@@ -30,7 +31,7 @@ impl Kind {
     }
 }
 
-pub const KINDS: [Kind; 5] = [
+pub const KINDS: [Kind; 6] = [
     Kind {
         word: "address",
         answer: message::<AddressHeader>,
@@ -46,6 +47,10 @@ pub const KINDS: [Kind; 5] = [
     Kind {
         word: "neighbour",
         answer: message::<NeighbourHeader>,
+    },
+    Kind {
+        word: "link",
+        answer: message::<LinkHeader>,
     },
     Kind {
         word: "datagrams",

@@ -2,6 +2,7 @@
 use Rattle.std.proofs.lemmas.Result.{IfOk-weaker}
 use Rattle.netlink_packet_route.specs.Messages.{view}
 use Rattle.netlink_packet_route.specs.AddressMessage.{addresses}
+use Rattle.netlink_packet_route.specs.LinkMessage.{links}
 use Rattle.netlink_packet_route.specs.NeighbourMessage.{neighbours}
 use Rattle.netlink_packet_route.specs.RouteMessage.{routes}
 use Rattle.netlink_packet_route.specs.RuleMessage.{rules}
@@ -55,3 +56,15 @@ returns-in-Neighbour-clause-refused c = rw c.in-Neighbour.is c.answer_by-in-Neig
 pub returns-in-Neighbour-clause-unfit : goal.returns-in-Neighbour-clause-unfit
 unfolding IsUnfit
 returns-in-Neighbour-clause-unfit c = rw c.in-Neighbour.is c.answer_by-in-Neighbour.ensures.unfit
+
+pub returns-in-Link-clause-ok : goal.returns-in-Link-clause-ok
+unfolding IsReport
+returns-in-Link-clause-ok c = rw c.in-Link.is (IfOk-weaker c.answer_by-in-Link.result _ _ (λ text r. (view links r.0, r.1, r.2, r.3)) c.answer_by-in-Link.ensures.ok)
+
+pub returns-in-Link-clause-refused : goal.returns-in-Link-clause-refused
+unfolding IsRefused
+returns-in-Link-clause-refused c = rw c.in-Link.is c.answer_by-in-Link.ensures.refused
+
+pub returns-in-Link-clause-unfit : goal.returns-in-Link-clause-unfit
+unfolding IsUnfit
+returns-in-Link-clause-unfit c = rw c.in-Link.is c.answer_by-in-Link.ensures.unfit

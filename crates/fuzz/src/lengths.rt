@@ -1,0 +1,78 @@
+//! The lengths of values that fit, by the number of the attribute.
+
+/// Any length.
+pub const ANY: u8 = 255;
+
+/// The length of an address of the family.
+pub const OF_FAMILY: u8 = 254;
+
+/// Of addresses.
+pub const ADDRESS: [u8; 12] = [ANY, OF_FAMILY, OF_FAMILY, ANY, 4, 16, 16, 16, 4, 4, ANY, 1];
+
+/// Of routes.
+pub const ROUTE: [u8; 32] = [
+    ANY, OF_FAMILY, OF_FAMILY, 4, 4, OF_FAMILY, 4, OF_FAMILY, 0, 0, ANY, 4, 32, ANY, ANY, 4, 4, 24,
+    6, OF_FAMILY, 1, 2, 0, 4, ANY, 4, 1, 1, 2, 2, 4, 4,
+];
+
+/// Of rules.
+pub const RULE: [u8; 25] = [
+    ANY, OF_FAMILY, OF_FAMILY, ANY, 4, ANY, 4, ANY, ANY, ANY, 4, 4, 8, 4, 4, 4, 4, ANY, ANY, 1, 8,
+    1, 1, 4, 4,
+];
+
+/// Of neighbours.
+pub const NEIGHBOUR: [u8; 16] = [ANY, OF_FAMILY, 6, 16, 4, 2, 2, 4, 4, 4, 4, 4, 1, 4, ANY, 4];
+
+/// Of an extended answer.
+pub const ANSWERS: [u8; 7] = [ANY, ANY, 4, ANY, ANY, 4, 4];
+
+/// Of members of encapsulations, of whichever type.
+pub const MEMBERS: [u8; 10] = [ANY, 8, 4, 4, 1, 1, 2, ANY, 0, 4];
+
+/// Of metrics.
+pub const NUMBERS: [u8; 18] = [ANY, 4, 4, 4, 4, 4, 4, 4, 4, 4, 4, 4, 4, 4, 4, 4, ANY, 4];
+
+/// Of options of tunnels.
+pub const OPTIONS: [u8; 5] = [ANY, 2, 1, ANY, 4];
+
+/// Of links; lists are empty here.
+pub const LINK: [u8; 70] = [
+    ANY, 6, 6, ANY, 4, 4, ANY, ANY, ANY, ANY, 4, ANY, ANY, 4, 32, ANY, 1, 1, 0, 4, ANY, 4, ANY,
+    ANY, ANY, ANY, 0, 4, 4, 4, 4, 4, 4, 1, ANY, 4, ANY, 4, ANY, 1, 4, 4, ANY, 0, 4, 4, 4, 4, 4, 4,
+    4, 4, 0, ANY, ANY, 0, ANY, ANY, 4, 4, 4, 4, ANY, 4, 4, ANY, 8, 1, 2, 2,
+];
+
+/// Of what drivers say of a link.
+pub const INFO: [u8; 6] = [ANY, ANY, 0, ANY, ANY, 0];
+
+/// Of the data of a bridge, of its querier, and of a port of it.
+pub const BRIDGE: [u8; 51] = [
+    ANY, 4, 4, 4, 4, 4, 2, 1, 2, 2, 8, 8, 2, 4, 1, 1, 8, 8, 8, 8, 6, 0, 1, 1, 1, 1, 4, 4, 4, 4, 8,
+    8, 8, 8, 8, 8, 1, 1, 1, 2, ANY, 1, 1, 1, 1, 1, 8, 0, 4, 4, 4,
+];
+
+pub const QUERIER: [u8; 8] = [ANY, 4, 4, 8, ANY, 16, 4, 8];
+
+pub const BRIDGE_PORT: [u8; 46] = [
+    ANY, 1, 2, 4, 1, 1, 1, 1, 1, 1, 1, 1, 1, 8, 8, 2, 2, 2, 2, 1, 1, 8, 8, 8, 0, 1, ANY, 1, 1, 1,
+    1, 2, 1, 1, 4, 1, 1, 4, 4, 1, 1, 4, 4, 1, 4, 1,
+];
+
+/// Of the data of a vlan, and of a list of its priorities.
+pub const VLAN: [u8; 6] = [ANY, 2, 8, 0, 0, 2];
+
+pub const PRIORITIES: [u8; 2] = [ANY, 8];
+
+/// Of the data of a vrf.
+pub const VRF: [u8; 2] = [ANY, 4];
+
+/// Of what the two versions of IP say of a link.
+pub const INET: [u8; 2] = [ANY, ANY];
+
+pub const INET6: [u8; 10] = [ANY, 4, ANY, ANY, ANY, 16, ANY, 16, 1, 4];
+
+/// Of programs at a link, and of reasons why it is down.
+pub const XDP: [u8; 9] = [ANY, 4, 1, 4, 4, 4, 4, 4, 4];
+
+pub const REASONS: [u8; 3] = [ANY, 4, 4];

@@ -1,0 +1,13 @@
+# Completes the words of nlshow by what its own help names.
+_nlshow() {
+    local word=${COMP_WORDS[COMP_CWORD]} help words=
+    help=$("$1" --help 2> /dev/null)
+    if [[ ${COMP_WORDS[COMP_CWORD - 1]} == --as ]]; then
+        words=$(sed -n 's/.*\[--as \([a-z|]*\)\].*/\1/p' <<< "$help" | tr '|' ' ')
+    elif [[ $word == -* ]]; then
+        words=$(grep -o -- '--[a-z]*' <<< "$help" | sort -u)
+    fi
+    mapfile -t COMPREPLY < <(compgen -W "$words" -- "$word")
+}
+# where nothing is named, a file
+complete -o default -F _nlshow nlshow
