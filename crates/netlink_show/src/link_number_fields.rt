@@ -106,7 +106,10 @@ fn push_counters<N: Into<u64> + Copy>(
 
 fn push_keyed<N: Into<u64> + Copy>(fields: &mut Fields, counters: Counters, numbers: &[N]) {
     for (at, key, is_always) in counters {
-        let number: u64 = numbers.get(*at).map_or(0, |number| (*number).into());
+        let number: u64 = match numbers.get(*at) {
+            Some(number) => (*number).into(),
+            None => 0,
+        };
         if *is_always || number != 0 {
             fields.counted(key, number);
         }
