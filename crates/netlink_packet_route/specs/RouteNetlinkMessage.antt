@@ -131,7 +131,7 @@ IsMessageOf kind a bytes x = (m : MessageOf kind) × IsMessage (form_of kind).gr
 
 -- the bytes are a link message under another type
 abbrev pub IsLinkMessage : (MessageOf Link → Meaning) → List ℕ → Meaning → Type 0
-IsLinkMessage as bytes x = (m : MessageOf Link) × IsMessage links bytes m × (x ≡ as m)
+IsLinkMessage form bytes x = (m : MessageOf Link) × IsMessage links bytes m × (x ≡ form m)
 
 -- what bytes mean under what the type says
 abbrev pub ReadsUnder : MessageType → ℕ → List ℕ → Meaning → Type 0

@@ -370,11 +370,11 @@ fn read_kind(
     ensures refused { IfErr result (λ e. e ≢ OutOfMemory → MessageFault (form_of kind).grammar payload.now e) }
     ensures memory { IsErrOf result OutOfMemory → HasFirst kind payload.now }
 {
-    Ok(match kind {
-        MessageKind::Address => AddressMessage::parse(alloc, payload)?.under(action),
-        MessageKind::Route => RouteMessage::parse(alloc, payload)?.under(action),
-        MessageKind::Rule => RuleMessage::parse(alloc, payload)?.under(action),
-        MessageKind::Neighbour => NeighbourMessage::parse(alloc, payload)?.under(action),
-        MessageKind::Link => LinkMessage::parse(alloc, payload)?.under(action),
-    })
+    match kind {
+        MessageKind::Address => Ok(AddressMessage::parse(alloc, payload)?.under(action)),
+        MessageKind::Route => Ok(RouteMessage::parse(alloc, payload)?.under(action)),
+        MessageKind::Neighbour => Ok(NeighbourMessage::parse(alloc, payload)?.under(action)),
+        MessageKind::Rule => Ok(RuleMessage::parse(alloc, payload)?.under(action)),
+        MessageKind::Link => Ok(LinkMessage::parse(alloc, payload)?.under(action)),
+    }
 }

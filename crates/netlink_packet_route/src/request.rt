@@ -1,8 +1,10 @@
 //! Requests to the kernel on links, addresses, routes, neighbours and rules, with the flags that `ip` sets. A
 //! sequence number is one of the caller's choice, which the answer has again.
 
-ghost use Rattle.std.specs.Prelude.{IfOk};
+ghost use Rattle.std.specs.Prelude.{◌≡◌, IfOk};
 ghost use Rattle.{
+  npr_base.specs.Message.{view},
+  npr_link.specs.Message.{links},
   netlink_packet_core.specs.{Message.{message_of}, Request.{IsRequest, dump_flags, get_flags, new_flags, replace_flags, delete_flags}},
   netlink_packet_route.specs.{
     declared.message.Action.TheVariants.{New, Del, Get},
@@ -95,9 +97,16 @@ pub fn dump_links(
 ) -> Result<NetlinkMessage<RouteNetlinkMessage>, AllocError>
     ensures { IfOk result (λ r. IsRequest rtnetlink dump_flags sequence_number (link Get (links_of mask)) (message_of meaning_of r)) }
 {
+    Ok(dump(sequence_number, masked(alloc, mask)?))
+}
+
+/// A message with this mask alone.
+fn masked(alloc: Global, mask: LinkExtentMask) -> Result<LinkMessage, AllocError>
+    ensures { IfOk result (λ m. view links m ≡ links_of mask) }
+{
     let mut message = LinkMessage::new(alloc);
     message.attributes.push(LinkAttribute::ExtMask(mask))?;
-    Ok(dump(sequence_number, message))
+    Ok(message)
 }
 
 /// Asks for the one that the message names, as `ip route get`.
