@@ -162,7 +162,10 @@ impl<'a> Fields<'a> {
     pub fn list_in(&mut self, word: Word, inside: Fields, marks: (&str, &str, &str)) {
         let (before, between, behind) = marks;
         match inside.into_list(between) {
-            Ok((text, list)) => self.push(word, list, &format_args!("{before}{text}{behind}")),
+            Ok((text, list)) => {
+                let text = format!(in self.manner.alloc; "{before}{text}{behind}");
+                self.written(word, list, text)
+            }
             Err(AllocError) => self.is_cut = true,
         }
     }
