@@ -5,7 +5,6 @@
 pub mod addresses;
 pub mod again;
 pub mod fault;
-pub mod links;
 pub mod one_by_one;
 pub mod routes;
 pub mod stored;
