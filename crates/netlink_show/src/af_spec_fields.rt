@@ -98,7 +98,10 @@ fn push_address_mode(fields: &mut Fields, mode: In6AddrGenMode) {
     let number = u8::from(mode);
     match fields.manner.name(ADDRESS_MODES, u32::from(number)) {
         Some(name) => fields.text(ADDRESS_MODE, &name),
-        None => fields.text(ADDRESS_MODE, &format_args!("0x{number:02x}")),
+        None => {
+            let text = format!(in fields.manner.alloc; "0x{number:02x}");
+            fields.made(ADDRESS_MODE, text)
+        }
     }
 }
 

@@ -179,6 +179,9 @@ fn push_state(fields: &mut Fields, state: BridgePortState) {
     let number = u8::from(state);
     match fields.manner.name(PORT_STATES, u32::from(number)) {
         Some(name) => fields.text(STATE, &name),
-        None => fields.push(OTHER_STATE, number, &format_args!("({number})")),
+        None => {
+            let text = format!(in fields.manner.alloc; "({number})");
+            fields.written(OTHER_STATE, number, text)
+        }
     }
 }

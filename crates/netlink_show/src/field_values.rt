@@ -9,15 +9,23 @@ use std::fmt;
 use std::num::nearest_u64_to_f64;
 
 impl Fields<'_> {
-    /// A text that a line shows so.
-    pub fn text_shown<V: fmt::Display, D: fmt::Display>(
+    /// A text that is made for it, which is a text in JSON too.
+    pub fn made(&mut self, word: Word, text: Result<String, AllocError>) {
+        match text {
+            Ok(text) => self.text(word, &text),
+            Err(AllocError) => self.refuse(),
+        }
+    }
+
+    /// A value as it is printed, in the place of which a line shows this text.
+    pub fn text_shown<V: fmt::Display>(
         &mut self,
         word: Word,
         value: &V,
-        shown: &D,
+        text: Result<String, AllocError>,
     ) {
         match format!(in self.manner.alloc; "{value}") {
-            Ok(text) => self.push(word, text, shown),
+            Ok(value) => self.written(word, value, text),
             Err(AllocError) => self.refuse(),
         }
     }

@@ -101,7 +101,10 @@ fn push_member(fields: &mut Fields, member: &LinkXdp) {
 fn push_mode(fields: &mut Fields, mode: u8) {
     match fields.manner.name(PROGRAMS, u32::from(mode)) {
         Some(name) => fields.push(MODE, mode, &name),
-        None => fields.push(MODE, mode, &format_args!("xdp[{mode}]")),
+        None => {
+            let text = format!(in fields.manner.alloc; "xdp[{mode}]");
+            fields.written(MODE, mode, text)
+        }
     }
     fields.hide_if(mode == 0);
 }

@@ -112,12 +112,19 @@ fn push_index(fields: &mut Fields, index: u32) {
 /// The name, behind which a line has the link under it: that which the message tells, or else that
 /// which was told before.
 fn push_name(fields: &mut Fields, index: u32, under: Under, attributes: &[LinkAttribute]) {
+    let alloc = fields.manner.alloc;
     let behind = behind_of(fields, under);
     let told = attributes.iter().find_map(name_of);
     let learned = fields.manner.interface(index);
     match (told, learned) {
-        (Some(name), _) => fields.text_shown(NAME, name, &format_args!("{name}{behind}:")),
-        (None, Some(name)) => fields.text_shown(INTERFACE, &name, &format_args!("{name}{behind}:")),
+        (Some(name), _) => {
+            let text = format!(in alloc; "{name}{behind}:");
+            fields.text_shown(NAME, name, text)
+        }
+        (None, Some(name)) => {
+            let text = format!(in alloc; "{name}{behind}:");
+            fields.text_shown(INTERFACE, &name, text)
+        }
         (None, None) => return push_under(fields, under),
     }
     push_under(fields, under);
@@ -187,6 +194,9 @@ fn push_header(fields: &mut Fields, header: &LinkHeader) {
 fn push_type(fields: &mut Fields, number: u16) {
     match fields.manner.name(LINK_TYPES, u32::from(number)) {
         Some(name) => fields.text(TYPE, &name),
-        None => fields.text(TYPE, &format_args!("[{number}]")),
+        None => {
+            let text = format!(in fields.manner.alloc; "[{number}]");
+            fields.made(TYPE, text)
+        }
     }
 }

@@ -48,7 +48,8 @@ pub fn push_link_info(fields: &mut Fields, members: &[LinkInfo]) {
 }
 
 fn push_port_kind(fields: &mut Fields, kind: &InfoPortKind) {
-    fields.text_shown(PORT_KIND, kind, &format_args!("{kind}_slave"));
+    let text = format!(in fields.manner.alloc; "{kind}_slave");
+    fields.text_shown(PORT_KIND, kind, text)
 }
 
 fn push_data(fields: &mut Fields, data: &InfoData) {

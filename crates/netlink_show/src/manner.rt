@@ -210,13 +210,17 @@ const TUNNELS_OVER_6: [u16; 2] = [769, 823];
 impl fmt::Display for LinkAddress<'_> {
     fn fmt<W: fmt::Write>(&self, f: &mut fmt::Formatter<W>) -> fmt::Result {
         let LinkAddress(bytes, kind) = *self;
-        match (<[u8; 4]>::try_from(bytes), <[u8; 16]>::try_from(bytes)) {
-            (Ok(octets), _) if TUNNELS.contains(&kind) => write!(f, "{}", Ipv4Addr::from(octets)),
-            (_, Ok(octets)) if TUNNELS_OVER_6.contains(&kind) => {
-                write!(f, "{}", Inet6(&Ipv6Addr::from(octets)))
+        if TUNNELS.contains(&kind) {
+            if let Ok(octets) = <[u8; 4]>::try_from(bytes) {
+                return write!(f, "{}", Ipv4Addr::from(octets));
             }
-            _ => write!(f, "{}", Hexadecimal(bytes, ":")),
         }
+        if TUNNELS_OVER_6.contains(&kind) {
+            if let Ok(octets) = <[u8; 16]>::try_from(bytes) {
+                return write!(f, "{}", Inet6(&Ipv6Addr::from(octets)));
+            }
+        }
+        write!(f, "{}", Hexadecimal(bytes, ":"))
     }
 }
 

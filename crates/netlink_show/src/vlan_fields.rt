@@ -6,7 +6,6 @@ use crate::link_fields::push_bits;
 use crate::link_names::{TAGS, VLAN_FLAGS};
 use netlink_packet_route::Flags;
 use netlink_packet_route::link::{InfoVlan, VlanFlags, VlanProtocol, VlanQosMapping};
-use std::alloc::AllocError;
 
 const PROTOCOL: Word = &Wording(0, "protocol", "protocol ");
 
@@ -42,12 +41,12 @@ pub fn push_vlan(fields: &mut Fields, members: &[InfoVlan]) {
 /// The protocol of tags.
 pub fn push_tag(fields: &mut Fields, word: Word, protocol: VlanProtocol) {
     let number = u16::from(protocol);
-    if let Some(name) = fields.manner.name(TAGS, u32::from(number)) {
-        return fields.text(word, &name);
-    }
-    match format!(in fields.manner.alloc; "[{number}]") {
-        Ok(text) => fields.text(word, &text),
-        Err(AllocError) => fields.refuse(),
+    match fields.manner.name(TAGS, u32::from(number)) {
+        Some(name) => fields.text(word, &name),
+        None => {
+            let text = format!(in fields.manner.alloc; "[{number}]");
+            fields.made(word, text)
+        }
     }
 }
 
