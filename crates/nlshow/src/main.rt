@@ -69,7 +69,12 @@ fn show(rt: &HostRuntime, request: &Request<'_>) -> ExitCode {
     let keep = request.keep;
     let files = request.files.as_slice();
     let files = if files.is_empty() { &["-"] } else { files };
-    for name in files.iter().chain(request.links.iter()) {
+    for name in files {
+        if is_emptied(rt, name, keep) {
+            return wrong(rt, WrongWord::Kept(name));
+        }
+    }
+    if let Some(name) = request.links {
         if is_emptied(rt, name, keep) {
             return wrong(rt, WrongWord::Kept(name));
         }
