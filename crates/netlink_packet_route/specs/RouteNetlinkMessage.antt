@@ -20,7 +20,8 @@ use Rattle.netlink_packet_route.specs.declared.kind.MessageKind.{MessageKind}
 use Rattle.netlink_packet_route.specs.declared.kind.MessageKind.TheVariants.{Address, Route, Rule, Neighbour, Link}
 use Rattle.netlink_packet_route.specs.declared.message.OtherMessage.{OtherMessage}
 use Rattle.netlink_packet_route.specs.declared.message.RouteNetlinkMessage.{RouteNetlinkMessage}
-use Rattle.netlink_packet_route.specs.declared.message.RouteNetlinkMessage.TheVariants.{NewLink, DelLink, GetLink, SetLink as SetLinkMessage, NewLinkProp, DelLinkProp, GetLinkProp}
+use Rattle.netlink_packet_route.specs.declared.message.RouteNetlinkMessage.TheVariants.{NewLink, DelLink, GetLink}
+use Rattle.netlink_packet_route.specs.declared.message.RouteNetlinkMessage.TheVariants.{SetLink as SetLinkMessage, NewLinkProp, DelLinkProp, GetLinkProp}
 use Rattle.netlink_packet_route.specs.declared.message.RouteNetlinkMessage.TheVariants.{NewAddress, DelAddress, GetAddress, NewRoute, DelRoute, GetRoute}
 use Rattle.netlink_packet_route.specs.declared.message.RouteNetlinkMessage.TheVariants.{NewNeighbour, DelNeighbour, GetNeighbour}
 use Rattle.netlink_packet_route.specs.declared.message.RouteNetlinkMessage.TheVariants.{NewRule, DelRule, GetRule, Other}
