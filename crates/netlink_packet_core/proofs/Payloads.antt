@@ -1,5 +1,5 @@
 -- What stands behind the header of an envelope: one reading, no fault beside it, and both ways.
-use Rattle.std.specs.Prelude.{ℤ, pos, FitsSigned, zero, suc, [], ◌∷◌, length, ◌≢◌, Result, Ok, Err, IfOk, IfErr}
+use Rattle.std.specs.Prelude.{ℤ, pos, FitsSigned, zero, suc, [], ◌∷◌, ◌≢◌, Result, Ok, Err, IfOk, IfErr}
 use Rattle.std.specs.Bool.{MatchBool}
 use Rattle.std.specs.Int.{w32}
 use Rattle.std.proofs.Common.{◌≡◌, ℕ, ◌<◌, ◌^◌, ◌==◌, Bool, true, false, List, take, None, refl, sym, ap, subst, ◌∙◌, arith, length-take}

@@ -9,8 +9,8 @@ ghost use Rattle.{
 use crate::constants::{NETLINK_HEADER_LEN, NLM_F_ACK_TLVS, NLM_F_CAPPED, NLMSG_ALIGNTO};
 use crate::header::NetlinkHeader;
 use npr_base::{
-    Attribute, DecodeError, DefaultNla, EmitError, Looks, Nla, NlaBuffer, NlasIterator, Place,
-    without_zero,
+    At, Attribute, DecodeError, DefaultNla, EmitError, Form, Looks, Nla, NlaBuffer, NlasIterator,
+    Place, without_zero,
 };
 use std::alloc::{AllocError, Global};
 
@@ -83,6 +83,10 @@ impl Attribute for ErrorAttribute {
         looks: &mut Looks,
     ) -> Result<(), DecodeError> {
         rows!(put_rows(place, alloc, item, looks))
+    }
+
+    fn form(_context: (), number: u16) -> (At, Form) {
+        rows!(form_rows(number))
     }
 
     fn try_clone(&self, alloc: Global) -> Result<Self, AllocError> {

@@ -8,8 +8,8 @@ use crate::addr_protocol::AddressProtocol;
 use crate::cache_info::{CacheInfo, CacheInfoBuffer};
 use bitflags::Flags;
 use npr_base::{
-    Attribute, DecodeError, DefaultNla, EmitError, IpAddr, Ipv4Addr, Ipv6Addr, Looks, Nla,
-    NlaBuffer, Place,
+    At, Attribute, DecodeError, DefaultNla, EmitError, Form, IpAddr, Ipv4Addr, Ipv6Addr, Looks,
+    Nla, NlaBuffer, Place,
 };
 use std::alloc::{AllocError, Global};
 
@@ -96,6 +96,10 @@ impl Attribute for AddressAttribute {
         looks: &mut Looks,
     ) -> Result<(), DecodeError> {
         rows!(put_rows(place, alloc, item, looks))
+    }
+
+    fn form(_context: (), number: u16) -> (At, Form) {
+        rows!(form_rows(number))
     }
 
     fn try_clone(&self, alloc: Global) -> Result<Self, AllocError> {

@@ -1,23 +1,23 @@
 -- The laws of messages.
 use Rattle.std.specs.Prelude.{◌≢◌, Bool, ◌&&◌, IfOk, IfErr}
 use Rattle.std.specs.Cmp.Lexicographic.{pointwise}
-use Rattle.std.proofs.Common.{◌≡◌, ℕ, ◌*◌, ◌-◌, ◌≤◌, List, ◌++◌, length, take, drop, None, Result, Ok, Err, refl, sym, ap, subst, ◌∙◌, arith, inl, inr, length-append, length-take, length-drop}
+use Rattle.std.proofs.Common.{◌≡◌, ℕ, ◌*◌, ◌-◌, ◌≤◌, List, ◌++◌, length, map, take, drop, None, Result, Ok, Err, refl, sym, ap, subst, ◌∙◌, arith, inl, inr, length-append, length-take, length-drop}
 use Rattle.std.proofs.lemmas.Bool.Decides.{nat_tests}
 use Rattle.std.proofs.lemmas.List.{take-append-drop, take_at, drop_at}
 use Rattle.npr_base.specs.declared.refusal.DecodeError.{DecodeError}
 use Rattle.npr_base.specs.declared.refusal.DecodeError.TheVariants.{OutOfMemory}
 use Rattle.npr_base.specs.Counts.{Counts, AddsAtMostTwice, SawEach, no_looks}
 use Rattle.npr_base.specs.Framing.{IsBytes}
-use Rattle.npr_base.specs.Lists.{first_unfit, list_unfit, overlong, encodings, list_members}
+use Rattle.npr_base.specs.Lists.{ReadsList, first_unfit, list_unfit, overlong, encodings, list_members}
 use Rattle.npr_base.specs.FitLaws.{none_both}
 use Rattle.npr_base.specs.ListLaws.{IsBytes-left, IsBytes-right}
 use Rattle.npr_base.specs.Looks.{Adds}
 use Rattle.npr_base.specs.LooksLaws.{raised-none}
-use Rattle.npr_base.specs.Message.{Message, Grammar, Stored, View, IsMessage, MessageFault, MessageLooks, IsCoherent, canonical_bytes, message_unfit, view}
+use Rattle.npr_base.specs.Message.{Message, Grammar, IsUnder, Stored, View, IsMessage, MessageFault, MessageLooks, IsCoherent, canonical_bytes, message_unfit, view}
 use Rattle.npr_base.specs.Equality.{IsEquality, IsEqualityOf}
 use Rattle.npr_base.specs.MeaningLaws.{items_meaning}
 use Rattle.npr_base.specs.StructLaws.{and_decides, decides_as}
-use Rattle.npr_base.specs.Family.{written_by, unfit_by}
+use Rattle.npr_base.specs.Family.{Family, written_by, unfit_by}
 
 same_message : {H M : Type 0} (m : Message H M) (h : H) (xs : List M) → m.header ≡ h → m.attributes ≡ xs → m ≡ record { header = h; attributes = xs }
 same_message {H} {M} m h xs p q = ap (λ (k : H). record { header = k; attributes = m.attributes }) p ∙ ap (λ (ys : List M). record { header = h; attributes = ys }) q
@@ -51,6 +51,19 @@ module _ {H A : Type 0} (g : Grammar H A) where
   pub fault_after : (bytes : List ℕ) (h : H) (e : DecodeError) → g.layout.size ≤ length bytes → h ≡ g.layout.decode (take g.layout.size bytes) → g.body.Faulty h (drop g.layout.size bytes) e → MessageFault g bytes e
   unfolding MessageFault
   fault_after bytes h e long header bad = inr (take g.layout.size bytes, drop g.layout.size bytes, sym (take-append-drop g.layout.size bytes), omega (arith, length-take g.layout.size bytes), subst (λ (k : H). g.body.Faulty k (drop g.layout.size bytes) e) header bad)
+
+  pub fault_behind : (bytes : List ℕ) (h : H) (behind : List ℕ) (e : DecodeError) → g.layout.size ≤ length bytes → h ≡ g.layout.decode (take g.layout.size bytes)
+      → behind ≡ drop g.layout.size bytes → g.body.Faulty h behind e → MessageFault g bytes e
+  fault_behind bytes h behind e long header same bad = fault_after bytes h e long header (subst (λ (b : List ℕ). g.body.Faulty h b e) same bad)
+
+  -- the attributes of a message in memory, as the family reads them
+  pub message_list : {C : Type 0} (f : Family A C) {governs : C → Type 0} {searches : Counts → Counts → Type 0} (bytes : List ℕ) (h : H) (behind : List ℕ) (c : C)
+      → IsUnder g f h behind c governs searches → h ≡ g.layout.decode (take g.layout.size bytes) → behind ≡ drop g.layout.size bytes
+      → (m : Stored g) → IsMessage g bytes (view g m) → (m.header ≡ h) × ReadsList (f.reading c).Reads behind (map f.meaning m.attributes.items)
+  message_list f bytes h behind c under header same m is =
+      let own : m.header ≡ h = header_is bytes (view g m) is ∙ sym header in
+      let reads = subst (λ (k : H). g.body.Reads k (drop g.layout.size bytes) (map g.meaning m.attributes.items)) own (rest_reads bytes (view g m) is) in
+      (own, under.means m.attributes.items (subst (λ (b : List ℕ). g.body.Reads h b (map g.meaning m.attributes.items)) (sym same) reads))
 
   -- the looks behind the header
   pub looks_after : (bytes : List ℕ) (h : H) (old new : Counts) → g.layout.size ≤ length bytes → h ≡ g.layout.decode (take g.layout.size bytes) → (g.body.looks h).Takes (drop g.layout.size bytes) old new

@@ -12,6 +12,7 @@ use Rattle.npr_base.specs.ListLaws.{IsBytes-take, IsBytes-right}
 use Rattle.npr_base.specs.CodecLaws.{framed-grows}
 use Rattle.npr_base.specs.Layout.{Layout}
 use Rattle.npr_base.specs.Codec.{Codec, no_members}
+use Rattle.npr_base.specs.Showing.{shows_inside}
 
 -- a value stands in front, in as many bytes as the layout has
 pub record IsBlock {V : Type 0} (L : Layout V) (bytes : List ℕ) (x : V) : Type 0 where
@@ -85,4 +86,5 @@ blocks L positive = record {
   reads_holds = blocks-hold L;
   reads_back = λ kind xs all fits. blocks-back L positive xs all;
   grows = blocks-grow L;
+  showing = shows_inside;
 }

@@ -7,10 +7,11 @@ use Rattle.npr_base.specs.declared.refusal.EmitError.{EmitError}
 use Rattle.npr_base.specs.Counts.{Counts, AddsAtMost, SawEach}
 use Rattle.npr_base.specs.Framing.{IsBytes, framed}
 use Rattle.npr_base.specs.Layout.{Layout}
+use Rattle.npr_base.specs.Showing.{Showing, shows_bytes}
 use Rattle.npr_base.specs.Looks.{Inside, nothing, TakesInside}
 use Rattle.npr_base.specs.LooksLaws.{none-most, none-saw}
-use Rattle.npr_base.specs.CodecLaws.{exactly-one, exactly-sound, exactly-holds, exactly-back, exactly-grows}
-use Rattle.npr_base.specs.CodecLaws.{leading-one, leading-sound, leading-holds, leading-back, leading-grows}
+use Rattle.npr_base.specs.CodecLaws.{exactly-one, exactly-sound, exactly-holds, exactly-back, exactly-grows, exactly-showing}
+use Rattle.npr_base.specs.CodecLaws.{leading-one, leading-sound, leading-holds, leading-back, leading-grows, leading-showing}
 use Rattle.npr_base.specs.CodecLaws.{raw-grows}
 use Rattle.std.proofs.Common.{refl, sym, ◌∙◌, subst}
 
@@ -44,6 +45,8 @@ pub record Codec (V : Type 0) : Type 1 where
   pub Holds : V → Type 0
   -- the attributes inside it
   pub members : Members Reads
+  -- what it is seen as in the bytes
+  pub showing : Showing Reads Wrong
   -- and the laws
   pub one_reading : (bytes : List ℕ) (x y : V) → Reads bytes x → Reads bytes y → x ≡ y
   pub no_fault : (at : At) (bytes : List ℕ) (x : V) (e : DecodeError) → Reads bytes x → Wrong at bytes e → ⊥
@@ -65,6 +68,7 @@ exactly L = record {
   reads_holds = exactly-holds L;
   reads_back = λ kind x h fits. exactly-back L x h;
   grows = exactly-grows L;
+  showing = exactly-showing L;
 }
 
 -- a fixed header, after which more bytes may stand that are not looked at
@@ -81,6 +85,7 @@ leading L = record {
   reads_holds = leading-holds L;
   reads_back = λ kind x h fits. leading-back L x h;
   grows = leading-grows L;
+  showing = leading-showing L;
 }
 
 -- bytes as they stand
@@ -97,4 +102,5 @@ raw = record {
   reads_holds = λ bytes x is p. subst IsBytes (sym p) is;
   reads_back = λ kind x h f. refl;
   grows = raw-grows;
+  showing = shows_bytes;
 }

@@ -1,13 +1,16 @@
 -- The laws of values of fixed size and of bytes as they stand.
 use Rattle.std.specs.Prelude.{◌≢◌}
-use Rattle.std.proofs.Common.{◌≡◌, ℕ, ◌+◌, ◌*◌, ◌<◌, ◌≤◌, List, length, take, sym, ap, subst, ◌∙◌, arith, length-take}
+use Rattle.std.proofs.Common.{◌≡◌, ℕ, ◌+◌, ◌*◌, ◌<◌, ◌≤◌, List, length, take, refl, sym, ap, subst, ◌∙◌, arith, length-take}
 use Rattle.std.proofs.lemmas.List.{take_all}
 use Rattle.npr_base.specs.declared.refusal.At.{At}
 use Rattle.npr_base.specs.declared.refusal.DecodeError.{DecodeError}
 use Rattle.npr_base.specs.declared.refusal.DecodeError.TheVariants.{ValueLength, HeaderTooShort}
+use Rattle.npr_base.specs.declared.value.Form.TheVariants.{Leading}
 use Rattle.npr_base.specs.Framing.{IsBytes, framed}
 use Rattle.npr_base.specs.Layout.{Layout}
 use Rattle.npr_base.specs.ListLaws.{IsBytes-take}
+use Rattle.npr_base.specs.Showing.{Showing}
+use Rattle.npr_base.specs.Value.{is_structure}
 
 -- padding is at most three bytes
 pub framed-grows : (n m : ℕ) → n ≤ m + 1 → 2 * framed n ≤ 5 * (4 + m)
@@ -51,6 +54,27 @@ module _ {V : Type 0} (L : Layout V) where
   pub leading-grows : (bytes : List ℕ) (x : V) → IsBytes bytes → (L.size ≤ length bytes) × (x ≡ L.decode (take L.size bytes))
       → 2 * framed (length (L.encode x)) ≤ 5 * (4 + length bytes)
   leading-grows bytes x is p = framed-grows (length (L.encode x)) (length bytes) (omega (arith, L.length-encode x (leading-holds bytes x is p), p.0))
+
+  abbrev pub exactly-showing : Showing (λ bytes (x : V). (length bytes ≡ L.size) × (x ≡ L.decode bytes))
+      (λ at bytes e. (length bytes ≢ L.size) × (e ≡ ValueLength at (length bytes)))
+  exactly-showing = record {
+    form = L.form;
+    sees = L.sees;
+    shows = λ bytes s x p q. (L.shows bytes s p).1 ∙ ap (L.sees bytes) (sym q.1);
+    whole = λ bytes s w p. (L.decode bytes, ((L.shows bytes s p).0, refl));
+    wrong = L.misshown;
+  }
+
+  -- a structure, whose bytes are those in front
+  abbrev pub leading-showing : Showing (λ bytes (x : V). (L.size ≤ length bytes) × (x ≡ L.decode (take L.size bytes)))
+      (λ at bytes e. (length bytes < L.size) × (e ≡ HeaderTooShort (length bytes) L.size))
+  leading-showing = record {
+    form = Leading L.size;
+    sees = λ bytes x. is_structure (take L.size bytes);
+    shows = λ bytes s x p q. p.1;
+    whole = λ bytes s w p. (L.decode (take L.size bytes), (p.0, refl));
+    wrong = λ at bytes e p. p;
+  }
 
 pub raw-grows : (bytes x : List ℕ) → IsBytes bytes → x ≡ bytes → 2 * framed (length x) ≤ 5 * (4 + length bytes)
 raw-grows bytes x is p = framed-grows (length x) (length bytes) (omega (arith, ap length p))

@@ -3,6 +3,7 @@ use Rattle.std.specs.Prelude.{ℕ, ◌+◌, ◌*◌, ◌≤◌, List, [], length
 use Rattle.std.proofs.Common.{refl, arith}
 use Rattle.npr_base.specs.Framing.{framed}
 use Rattle.npr_base.specs.Codec.{Codec, no_members}
+use Rattle.npr_base.specs.Showing.{shows_nothing}
 
 pub dropped-grows : (bytes : List ℕ) → 2 * framed 0 ≤ 5 * (4 + length bytes)
 dropped-grows bytes = omega arith
@@ -20,4 +21,5 @@ dropped = record {
   reads_holds = λ bytes x is p. tt;
   reads_back = λ kind x h f. tt;
   grows = λ bytes x is p. dropped-grows bytes;
+  showing = shows_nothing;
 }

@@ -19,6 +19,9 @@ use Rattle.std.proofs.Common.{inl, inr}
 use Rattle.npr_base.specs.declared.refusal.At.{At}
 use Rattle.npr_base.specs.declared.refusal.AttrFamily.{AttrFamily}
 use Rattle.npr_base.specs.declared.refusal.DecodeError.{DecodeError}
+use Rattle.npr_base.specs.declared.refusal.AttrFamily.TheVariants.{Value as OfValue}
+use Rattle.npr_base.specs.declared.value.Form.{Form}
+use Rattle.npr_base.specs.declared.value.Form.TheVariants.{Raw}
 use Rattle.npr_base.specs.Codec.{Codec}
 use Rattle.npr_base.specs.Framing.{Item, marked, number_of}
 use Rattle.npr_base.specs.Looks.{Looking}
@@ -164,6 +167,18 @@ abbrev pub looks_in : (Fss : List (List Field)) → VariantRows Fss → Looking 
 looks_in [] rows = no_looking
 looks_in (Fs ∷ []) rows = no_looking
 looks_in (Fs ∷ Gs ∷ Fss) rows = looking_inside rows.0.at.kind rows.0.codec.members.looks (looks_in (Gs ∷ Fss) rows.1)
+
+-- by a number: where it stands, and how its value is read without memory. A number without a row stands in the family of the
+-- first row, and its bytes are left as they are
+abbrev pub family_in : (Fss : List (List Field)) → VariantRows Fss → AttrFamily
+family_in [] rows = OfValue
+family_in (Fs ∷ []) rows = OfValue
+family_in (Fs ∷ Gs ∷ Fss) rows = rows.0.at.family
+
+abbrev pub form_in : AttrFamily → (Fss : List (List Field)) → VariantRows Fss → ℕ → At × Form
+form_in family [] rows k = (at_number family k, Raw)
+form_in family (Fs ∷ []) rows k = (at_number family k, Raw)
+form_in family (Fs ∷ Gs ∷ Fss) rows k = if k == rows.0.at.kind then (rows.0.at, rows.0.codec.showing.form) else form_in family (Gs ∷ Fss) rows.1 k
 
 -- what is written of a value of the enum
 abbrev pub shape_in : (Fss : List (List Field)) (rows : VariantRows Fss) → Choice Fss → Shape

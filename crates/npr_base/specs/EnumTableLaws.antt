@@ -8,19 +8,24 @@ use Rattle.std.specs.Cmp.{first_so, second_so}
 use Rattle.std.proofs.lemmas.Bool.{eqb-true, eqb-false, ne_eqb, not-true}
 use Rattle.std.proofs.Common.{◌≡◌, ℕ, ◌+◌, ◌*◌, ◌<◌, ◌≤◌, ◌^◌, length, Bool, true, false, List, [], ◌∷◌, inl, inr, refl, sym, ap, subst, None, ◌∙◌}
 use Rattle.std.proofs.Common.{true≢false, arith}
+use Rattle.npr_base.specs.declared.refusal.At.{At}
+use Rattle.npr_base.specs.declared.refusal.AttrFamily.{AttrFamily}
 use Rattle.npr_base.specs.declared.refusal.DecodeError.{DecodeError}
+use Rattle.npr_base.specs.declared.value.Form.{Form}
 use Rattle.npr_base.specs.FitLaws.{unfit_of-none}
 use Rattle.npr_base.specs.Counts.{SawEach}
 use Rattle.npr_base.specs.Framing.{Item, framed, marked, number_of}
 use Rattle.npr_base.specs.Looks.{Looking}
 use Rattle.npr_base.specs.EnumTable.{VariantRows, kind_at, MeaningIn, meaning_in, other_in, row_in, rows_in, slot_in, shape_in, has_number, numbered}
-use Rattle.npr_base.specs.EnumTable.{ReadsIn, WrongIn, looks_in}
+use Rattle.npr_base.specs.EnumTable.{ReadsIn, WrongIn, looks_in, family_in, form_in}
 use Rattle.npr_base.specs.Family.{Writing, Reading}
+use Rattle.npr_base.specs.Showing.{Seeing}
+use Rattle.npr_base.specs.Value.{Shown, Shows, Misshown, IsWhole}
 use Rattle.npr_base.specs.Table.{Row, ReadsAt, WrongAt, Slot, slot_other, slot_unfit, slot_kind, slot_members, IsSlot, IsWritten}
-use Rattle.npr_base.specs.Table.{Aligned, Table}
+use Rattle.npr_base.specs.Table.{Aligned, Table, form_from, slot_sees, seen_by}
 use Rattle.npr_base.specs.Family.{unfit_as, written_as}
 use Rattle.npr_base.specs.Table.{has_row, item_of, plain_item, shape_at, table_with, writing_by}
-use Rattle.npr_base.specs.TableLaws.{table_family, marked-small, looks_of, looking_inside}
+use Rattle.npr_base.specs.TableLaws.{table_family, marked-small, looks_of, looking_inside, rows-show, wrong_or}
 use denote.Struct.Field.{Field}
 use denote.Struct.Values.{Values}
 use denote.Enum.Compared.{Each, by}
@@ -98,6 +103,13 @@ looks-in (Fs ∷ []) rows part = refl
 looks-in (Fs ∷ Gs ∷ Fss) rows part =
     ap (looking_inside rows.0.at.kind rows.0.codec.members.looks) (looks-in (Gs ∷ Fss) rows.1 (λ n. part (inr n)))
 
+pub form-in : {M : Type 0} (family : AttrFamily) (Fss : List (List Field)) (rows : VariantRows Fss) (part : MeaningIn Fss rows → M) (k : ℕ)
+    → form_in family Fss rows k ≡ form_from family (rows_in Fss rows part) k
+form-in family [] rows part k = refl
+form-in family (Fs ∷ []) rows part k = refl
+form-in family (Fs ∷ Gs ∷ Fss) rows part k =
+    ap (λ f. if k == rows.0.at.kind then (rows.0.at, rows.0.codec.showing.form) else f) (form-in family (Gs ∷ Fss) rows.1 (λ n. part (inr n)) k)
+
 -- what is written of a meaning is read as it
 module _ {M : Type 0} (all : List (Row M)) where
   apart : (this : ℕ) (Fss : List (List Field)) (rows : VariantRows Fss) → numbered Fss rows ≡ true → has_number Fss rows this ≡ false
@@ -134,16 +146,55 @@ module _ {M : Type 0} (all : List (Row M)) where
 module _ {M : Type 0} (all : List (Row M)) (slot_of : M → Slot) where
   pub aligned-in : (Fss : List (List Field)) (rows : VariantRows Fss) (part : MeaningIn Fss rows → M)
       → ((m : MeaningIn Fss rows) → slot_of (part m) ≡ slot_in Fss rows m) → numbered Fss rows ≡ true
-      → Aligned (writing_by slot_of) (λ m. IsSlot all (slot_of m)) (rows_in Fss rows part)
+      → Aligned slot_of (λ m. IsSlot all (slot_of m)) (rows_in Fss rows part)
   aligned-in [] rows part same h = tt
   aligned-in (Fs ∷ []) rows part same h = tt
   aligned-in (Fs ∷ Gs ∷ Fss) rows part same h =
-      let own : (v : rows.0.V) → IsWritten (writing_by slot_of) (λ m. IsSlot all (slot_of m)) (row_in Fs Gs Fss rows part) v =
+      let own : (v : rows.0.V) → IsWritten slot_of (λ m. IsSlot all (slot_of m)) (row_in Fs Gs Fss rows part) v =
       λ v.
-      let written = ap (λ (at : Slot). (written_as (shape_at at)).value) (same (inl v)) in
-      (written, ap slot_members (same (inl v)), λ holds. subst (IsSlot all) (sym (same (inl v))) holds) in
+      let written = ap (λ (at : Slot). (written_as (shape_at at)).value) (same (inl v)) in (
+        written,
+        ap slot_members (same (inl v)),
+        λ holds. subst (IsSlot all) (sym (same (inl v))) holds,
+        λ b. ap (λ (at : Slot). slot_sees at b) (same (inl v)),
+      ) in
       let alone = row_numbers (Gs ∷ Fss) rows.1 (λ m. part (inr m)) rows.0.at.kind ∙ row_alone Fs Gs Fss rows h in
       (own, alone, aligned-in (Gs ∷ Fss) rows.1 (λ m. part (inr m)) (λ m. same (inr m)) (rows_behind Fs Gs Fss rows h))
+
+abbrev EitherOf : {A B : Type 0} → (A → Type 0) → (B → Type 0) → A ⊎ B → Type 0
+EitherOf P Q (inl v) = P v
+EitherOf P Q (inr m) = Q m
+
+either_is : (Fs Gs : List Field) (Fss : List (List Field)) (rows : VariantRows (Fs ∷ Gs ∷ Fss)) (k : ℕ) (x : Item) (m : MeaningIn (Fs ∷ Gs ∷ Fss) rows)
+    → EitherOf (λ v. MatchBool (k == rows.0.at.kind) (rows.0.codec.Reads x.value v) ⊥)
+    (λ n. MatchBool (k == rows.0.at.kind) ⊥ (ReadsIn (Gs ∷ Fss) rows.1 k x n)) m → ReadsIn (Fs ∷ Gs ∷ Fss) rows k x m
+either_is Fs Gs Fss rows k x (inl v) p = p
+either_is Fs Gs Fss rows k x (inr m) p = p
+
+-- what is shown whole is read, and what is not shown is wrong
+reads_or : {A B : Type 0} {P : A → Type 0} {Q : B → Type 0} (b : Bool) (f g : At × Form) (x : Item) (s : Shown)
+    → (IsWhole f.1 → Shows f.1 x.value s → (v : A) × P v) → (IsWhole g.1 → Shows g.1 x.value s → (m : B) × Q m)
+    → IsWhole (if b then f else g).1 → Shows (if b then f else g).1 x.value s
+    → (m : A ⊎ B) × EitherOf (λ v. MatchBool b (P v) ⊥) (λ n. MatchBool b ⊥ (Q n)) m
+reads_or true f g x s here rest w p = let v = here w p in (inl v.0, v.1)
+reads_or false f g x s here rest w p = let m = rest w p in (inr m.0, m.1)
+
+pub whole-in : (family : AttrFamily) (Fss : List (List Field)) (rows : VariantRows Fss) (k : ℕ) (x : Item) (s : Shown)
+    → IsWhole (form_in family Fss rows k).1 → Shows (form_in family Fss rows k).1 x.value s → (m : MeaningIn Fss rows) × ReadsIn Fss rows k x m
+whole-in family [] rows k x s w p = (x, refl)
+whole-in family (Fs ∷ []) rows k x s w p = (x, refl)
+whole-in family (Fs ∷ Gs ∷ Fss) rows k x s w p =
+    let m = reads_or (k == rows.0.at.kind) (rows.0.at, rows.0.codec.showing.form) (form_in family (Gs ∷ Fss) rows.1 k) x s
+    (λ whole shows. rows.0.codec.showing.whole x.value s whole shows) (λ whole shows. whole-in family (Gs ∷ Fss) rows.1 k x s whole shows) w p in
+    (m.0, either_is Fs Gs Fss rows k x m.0 m.1)
+
+pub wrong-shown : (family : AttrFamily) (Fss : List (List Field)) (rows : VariantRows Fss) (k : ℕ) (x : Item) (e : DecodeError)
+    → Misshown (form_in family Fss rows k).1 (form_in family Fss rows k).0 x.value e → WrongIn Fss rows k x e
+wrong-shown family [] rows k x e p = p
+wrong-shown family (Fs ∷ []) rows k x e p = p
+wrong-shown family (Fs ∷ Gs ∷ Fss) rows k x e p =
+    wrong_or (k == rows.0.at.kind) (rows.0.at, rows.0.codec.showing.form) (form_in family (Gs ∷ Fss) rows.1 k) x e
+    (λ wrong. rows.0.codec.showing.wrong rows.0.at x.value e wrong) (λ wrong. wrong-shown family (Gs ∷ Fss) rows.1 k x e wrong) p
 
 pub slot-other : (Fss : List (List Field)) (rows : VariantRows Fss) (x : Item) → slot_in Fss rows (other_in Fss rows x) ≡ slot_other x
 slot-other [] rows x = refl
@@ -179,6 +230,22 @@ module _ (Fss : List (List Field)) (rows : VariantRows Fss) where
       → ReadsAt (other_in Fss rows) all_rows (number_of x.kind) x m
   rows-read x m p = reads-in (other_in Fss rows) Fss rows (λ n. n) (λ y. refl) (number_of x.kind) x m p
 
+  abbrev pub enum_seeing : numbered Fss rows ≡ true
+      → Seeing (λ x m. ReadsIn Fss rows (number_of x.kind) x m) (λ x e. WrongIn Fss rows (number_of x.kind) x e)
+  enum_seeing h =
+      let t = enum_table h in
+      let family = family_in Fss rows in
+      let same = form-in family Fss rows (λ n. n) in
+      record {
+        form_at = form_in family Fss rows;
+        sees = λ x m. seen_by (slot_in Fss rows) m x.value;
+        shows = λ x s m p q.
+            rows-show t.other t.slot_of t.Coherent family t.rows t.aligned t.other_is (number_of x.kind) x s m
+            (subst (λ (f : At × Form). Shows f.1 x.value s) (same (number_of x.kind)) p) (rows-read x m q);
+        whole = λ x s w p. whole-in family Fss rows (number_of x.kind) x s w p;
+        wrong = λ x e p. wrong-shown family Fss rows (number_of x.kind) x e p;
+      }
+
   -- the family of the attributes
   abbrev pub attributes_in : numbered Fss rows ≡ true → Reading (writing_in Fss rows)
   attributes_in h0 =
@@ -197,6 +264,7 @@ module _ (Fss : List (List Field)) (rows : VariantRows Fss) where
         grows = λ x m proper p. t.grows x m proper (rows-read x m p);
         bounded = λ x old new takes. t.bounded x old new (subst (λ (l : Looking Item). l.Takes x old new) same takes);
         saw = λ x m old new p takes. t.saw x m old new (rows-read x m p) (subst (λ (l : Looking Item). l.Takes x old new) same takes);
+        seeing = enum_seeing h0;
       }
 
 -- what is written of a value is written of its meaning
@@ -224,6 +292,7 @@ rewritten f w same counted = record {
       λ x m proper p. subst (λ (y : Item). 2 * framed (length y.value) ≤ 5 * (4 + length x.value)) (sym (ap written_as (same m))) (f.grows x m proper p);
   bounded = f.bounded;
   saw = λ x m old new p takes. subst (SawEach old new) (sym (counted m)) (f.saw x m old new p takes);
+  seeing = f.seeing;
 }
 
 -- ---- `==`

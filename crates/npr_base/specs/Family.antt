@@ -7,6 +7,7 @@ use Rattle.npr_base.specs.Lists.{unfit_of}
 use Rattle.npr_base.specs.FitLaws.{unfit_of-short}
 use Rattle.npr_base.specs.Counts.{Counts, AddsAtMost, SawEach}
 use Rattle.npr_base.specs.Looks.{Looking}
+use Rattle.npr_base.specs.Showing.{Seeing}
 
 -- what is written of a value as an attribute: its kind and value, whether NESTED is set in the kind besides, and why what is
 -- inside can't be written, if so
@@ -55,6 +56,8 @@ pub record Reading {M : Type 0} (w : Writing M) : Type 1 where
   pub grows : (x : Item) (m : M) → Proper x → Reads x m → 2 * framed (length (written_by w m).value) ≤ 5 * (4 + length x.value)
   pub bounded : (x : Item) (old new : Counts) → looks.Takes x old new → AddsAtMost old new (length x.value)
   pub saw : (x : Item) (m : M) (old new : Counts) → Reads x m → looks.Takes x old new → SawEach old new (w.members m)
+  -- what they are seen as, read without memory
+  pub seeing : Seeing Reads Faulty
 
 -- a family of values: what one is, without where it lies in memory, how that is written, and what attributes mean in a context
 pub record Family (A C : Type 0) : Type 1 where

@@ -21,9 +21,11 @@ use Rattle.std.proofs.lemmas.Nat.{from_le_bytes-to_le_bytes_2, from_le_bytes-to_
 use Rattle.std.proofs.lemmas.Nat.{from_be_bytes-to_be_bytes_2, from_be_bytes-to_be_bytes_4}
 use Rattle.npr_base.specs.AddressFamily.{families}
 use Rattle.npr_base.specs.declared.address_family.AddressFamily.{AddressFamily}
+use Rattle.npr_base.specs.declared.value.Form.TheVariants.{Exactly}
 use Rattle.npr_base.specs.Framing.{IsBytes}
 use Rattle.npr_base.specs.Numbering.{Numbering, IsFormed, of_IsFormed}
 use Rattle.npr_base.specs.Layout.{Layout, formed, le16_at, le32_at, le64_at, le16_at-holds, le32_at-holds, le64_at-holds}
+use Rattle.npr_base.specs.Value.{is_structure}
 use Rattle.npr_base.specs.Layout.{be16_at, be32_at, be16_at-holds, be32_at-holds}
 use denote.Struct.Record.{Record}
 use denote.Struct.Values.{Values}
@@ -187,6 +189,10 @@ module _ {V : Type 0} (F : Field V) where
     length-encode = λ x h. F.length-encode x;
     decode-encode = fields-back;
     Holds-decode = λ bytes is e. F.Holds-at bytes 0 is;
+    form = Exactly F.width;
+    sees = λ bytes x. is_structure bytes;
+    shows = λ bytes s p. p;
+    misshown = λ at bytes e p. p;
   }
 
 -- fields of a struct D: which they are, and how they stand in the bytes

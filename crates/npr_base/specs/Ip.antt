@@ -1,5 +1,5 @@
 -- Addresses of IP, by their bytes.
-use Rattle.std.specs.Prelude.{ℕ, List}
+use Rattle.std.specs.Prelude.{◌≡◌, ℕ, List, length}
 use Rattle.std.specs.Net.Text.{ipv4_text, ipv6_text}
 use Rattle.std.specs.Net.Addr.{segments_of}
 use Rattle.npr_base.specs.declared.ip.IpAddr.{IpAddr}
@@ -9,6 +9,11 @@ use Rattle.npr_base.specs.declared.ip.IpAddr.TheVariants.{V4, V6}
 abbrev pub octets_of : IpAddr → List ℕ
 octets_of (V4 address) = address
 octets_of (V6 address) = address
+
+-- four bytes or sixteen are an address, whatever the family of the message
+abbrev pub IsIp : List ℕ → IpAddr → Type 0
+IsIp bytes (V4 octets) = (length bytes ≡ 4) × (octets ≡ bytes)
+IsIp bytes (V6 octets) = (length bytes ≡ 16) × (octets ≡ bytes)
 
 abbrev pub IsIpv4 : IpAddr → Type 0
 IsIpv4 (V4 address) = Unit {0}

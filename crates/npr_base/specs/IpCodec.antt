@@ -6,14 +6,13 @@ use Rattle.npr_base.specs.declared.refusal.DecodeError.{DecodeError}
 use Rattle.npr_base.specs.declared.refusal.DecodeError.TheVariants.{ValueLength}
 use Rattle.npr_base.specs.declared.ip.IpAddr.{IpAddr}
 use Rattle.npr_base.specs.declared.ip.IpAddr.TheVariants.{V4, V6}
+use Rattle.npr_base.specs.declared.value.Form.TheVariants.{Ip as IpForm}
 use Rattle.npr_base.specs.Framing.{IsBytes, framed}
 use Rattle.npr_base.specs.CodecLaws.{framed-grows}
-use Rattle.npr_base.specs.Ip.{octets_of}
+use Rattle.npr_base.specs.Ip.{IsIp, octets_of}
+use Rattle.npr_base.specs.Showing.{Showing}
+use Rattle.npr_base.specs.Value.{is_address}
 use Rattle.npr_base.specs.Codec.{Codec, no_members}
-
-abbrev pub IsIp : List ℕ → IpAddr → Type 0
-IsIp bytes (V4 octets) = (length bytes ≡ 4) × (octets ≡ bytes)
-IsIp bytes (V6 octets) = (length bytes ≡ 16) × (octets ≡ bytes)
 
 -- what an address can be
 abbrev pub HoldsIp : IpAddr → Type 0
@@ -43,6 +42,15 @@ pub ip-grows : (bytes : List ℕ) (a : IpAddr) → IsIp bytes a → 2 * framed (
 ip-grows bytes (V4 x) p = framed-grows (length x) (length bytes) (omega (arith, ap length p.1))
 ip-grows bytes (V6 x) p = framed-grows (length x) (length bytes) (omega (arith, ap length p.1))
 
+abbrev pub ip_showing : Showing IsIp (λ at bytes e. (length bytes ≢ 4) × (length bytes ≢ 16) × (e ≡ ValueLength at (length bytes)))
+ip_showing = record {
+  form = IpForm;
+  sees = λ bytes a. is_address a;
+  shows = λ bytes s a p q. p.2 ∙ ap is_address (ip-one bytes p.0 a p.1 q);
+  whole = λ bytes s w p. (p.0, p.1);
+  wrong = λ at bytes e p. p;
+}
+
 abbrev pub ip : Codec IpAddr
 ip = record {
   Reads = IsIp;
@@ -56,4 +64,5 @@ ip = record {
   reads_holds = ip-holds;
   reads_back = λ kind a h f. ip-back a h;
   grows = λ bytes a is p. ip-grows bytes a p;
+  showing = ip_showing;
 }

@@ -1,9 +1,16 @@
 -- Values of a fixed length.
 use Rattle.std.specs.Prelude.{◌≡◌, ℕ, ◌+◌, ◌^◌, ◌<◌, Bool, true, false, nat_lt, ℤ, FitsSigned, List, [], ◌∷◌, length, slice_index}
 use Rattle.std.specs.Int.{w16, w32, w64, to_le_bytes, from_le_bytes, to_be_bytes, from_be_bytes, cast_signed, cast_unsigned}
+use Rattle.npr_base.specs.declared.ip.IpAddr.TheVariants.{V4, V6}
+use Rattle.npr_base.specs.declared.refusal.At.{At}
+use Rattle.npr_base.specs.declared.refusal.DecodeError.{DecodeError}
+use Rattle.npr_base.specs.declared.value.Form.{Form}
+use Rattle.npr_base.specs.declared.value.Form.TheVariants.{Byte, Boolean, Signed32, Little16, Little32, Little64, Big16, Big32, Big64}
+use Rattle.npr_base.specs.declared.value.Form.TheVariants.{Octets4, Octets16, Exactly}
 use Rattle.npr_base.specs.Framing.{IsBytes}
 use Rattle.npr_base.specs.Numbering.{Numbering, IsFormed, of_IsFormed}
 use Rattle.npr_base.specs.LayoutLaws.{le16-holds, le32-holds, le64-holds, be16-holds, be32-holds, be64-holds, signed32-back, signed32-holds}
+use Rattle.npr_base.specs.Value.{Shown, is_number, is_signed, is_truth, is_address, is_structure, Shows, Misshown, Sized, Missized}
 use Rattle.std.proofs.Common.{arith, refl, sym, ap, subst, ◌∙◌}
 use Rattle.std.proofs.lemmas.Nat.{from_le_bytes-to_le_bytes_2, from_le_bytes-to_le_bytes_4, from_le_bytes-to_le_bytes_8}
 use Rattle.std.proofs.lemmas.Nat.{from_be_bytes-to_be_bytes_2, from_be_bytes-to_be_bytes_4, from_be_bytes-to_be_bytes_8}
@@ -19,12 +26,19 @@ pub record Layout (V : Type 0) : Type 1 where
   pub length-encode : (x : V) → Holds x → length (encode x) ≡ size
   pub decode-encode : (x : V) → Holds x → decode (encode x) ≡ x
   pub Holds-decode : (bytes : List ℕ) → IsBytes bytes → length bytes ≡ size → Holds (decode bytes)
+  -- how it is read without memory, and what a value is seen as that stands in bytes
+  pub form : Form
+  pub sees : List ℕ → V → Shown
+  pub shows : (bytes : List ℕ) (s : Shown) → Shows form bytes s → Sized size (λ b. sees b (decode b)) bytes s
+  pub misshown : (at : At) (bytes : List ℕ) (e : DecodeError) → Misshown form at bytes e → Missized size at bytes e
 
 -- a number in so many bytes, of so many bits
-abbrev pub number_in : (size bits : ℕ) (decode : List ℕ → ℕ) (encode : ℕ → List ℕ)
+abbrev pub number_in : (size bits : ℕ) (decode : List ℕ → ℕ) (encode : ℕ → List ℕ) (form : Form)
+    → ((bytes : List ℕ) (s : Shown) → Shows form bytes s → Sized size (λ b. is_number size (decode b)) bytes s)
+    → ((at : At) (bytes : List ℕ) (e : DecodeError) → Misshown form at bytes e → Missized size at bytes e)
     → ((n : ℕ) → n < 2 ^ bits → length (encode n) ≡ size) → ((n : ℕ) → n < 2 ^ bits → decode (encode n) ≡ n)
     → ((bytes : List ℕ) → IsBytes bytes → length bytes ≡ size → decode bytes < 2 ^ bits) → Layout ℕ
-number_in size bits decode encode long back holds = record {
+number_in size bits decode encode form shows misshown long back holds = record {
   size = size;
   decode = decode;
   encode = encode;
@@ -32,31 +46,35 @@ number_in size bits decode encode long back holds = record {
   length-encode = long;
   decode-encode = back;
   Holds-decode = holds;
+  form = form;
+  sees = λ bytes n. is_number size n;
+  shows = shows;
+  misshown = misshown;
 }
 
 -- a number in one byte
 abbrev pub byte : Layout ℕ
-byte = number_in 1 8 (λ bytes. slice_index bytes 0) (λ n. n ∷ []) (λ n h. refl) (λ n h. refl) (λ bytes is e. is 0)
+byte = number_in 1 8 (λ bytes. slice_index bytes 0) (λ n. n ∷ []) Byte (λ bytes s p. p) (λ at bytes e p. p) (λ n h. refl) (λ n h. refl) (λ bytes is e. is 0)
 
 -- numbers in two, four and eight bytes, the lowest first
 abbrev pub le16 : Layout ℕ
-le16 = number_in 2 16 (from_le_bytes w16) (to_le_bytes w16) (λ n h. refl) from_le_bytes-to_le_bytes_2 le16-holds
+le16 = number_in 2 16 (from_le_bytes w16) (to_le_bytes w16) Little16 (λ bytes s p. p) (λ at bytes e p. p) (λ n h. refl) from_le_bytes-to_le_bytes_2 le16-holds
 
 abbrev pub le32 : Layout ℕ
-le32 = number_in 4 32 (from_le_bytes w32) (to_le_bytes w32) (λ n h. refl) from_le_bytes-to_le_bytes_4 le32-holds
+le32 = number_in 4 32 (from_le_bytes w32) (to_le_bytes w32) Little32 (λ bytes s p. p) (λ at bytes e p. p) (λ n h. refl) from_le_bytes-to_le_bytes_4 le32-holds
 
 abbrev pub le64 : Layout ℕ
-le64 = number_in 8 64 (from_le_bytes w64) (to_le_bytes w64) (λ n h. refl) from_le_bytes-to_le_bytes_8 le64-holds
+le64 = number_in 8 64 (from_le_bytes w64) (to_le_bytes w64) Little64 (λ bytes s p. p) (λ at bytes e p. p) (λ n h. refl) from_le_bytes-to_le_bytes_8 le64-holds
 
 -- the same, the highest byte first
 abbrev pub be16 : Layout ℕ
-be16 = number_in 2 16 (from_be_bytes w16) (to_be_bytes w16) (λ n h. refl) from_be_bytes-to_be_bytes_2 be16-holds
+be16 = number_in 2 16 (from_be_bytes w16) (to_be_bytes w16) Big16 (λ bytes s p. p) (λ at bytes e p. p) (λ n h. refl) from_be_bytes-to_be_bytes_2 be16-holds
 
 abbrev pub be32 : Layout ℕ
-be32 = number_in 4 32 (from_be_bytes w32) (to_be_bytes w32) (λ n h. refl) from_be_bytes-to_be_bytes_4 be32-holds
+be32 = number_in 4 32 (from_be_bytes w32) (to_be_bytes w32) Big32 (λ bytes s p. p) (λ at bytes e p. p) (λ n h. refl) from_be_bytes-to_be_bytes_4 be32-holds
 
 abbrev pub be64 : Layout ℕ
-be64 = number_in 8 64 (from_be_bytes w64) (to_be_bytes w64) (λ n h. refl) from_be_bytes-to_be_bytes_8 be64-holds
+be64 = number_in 8 64 (from_be_bytes w64) (to_be_bytes w64) Big64 (λ bytes s p. p) (λ at bytes e p. p) (λ n h. refl) from_be_bytes-to_be_bytes_8 be64-holds
 
 -- true for a byte above 0, written as 1 or 0
 abbrev pub truth_byte : Bool → ℕ
@@ -76,6 +94,10 @@ boolean = record {
   length-encode = λ b h. refl;
   decode-encode = boolean-back;
   Holds-decode = λ bytes is e. tt;
+  form = Boolean;
+  sees = λ bytes b. is_truth b;
+  shows = λ bytes s p. p;
+  misshown = λ at bytes e p. p;
 }
 
 -- a signed number in four bytes, the lowest first
@@ -88,6 +110,10 @@ signed32 = record {
   length-encode = λ z h. refl;
   decode-encode = signed32-back;
   Holds-decode = signed32-holds;
+  form = Signed32;
+  sees = λ bytes z. is_signed z;
+  shows = λ bytes s p. p;
+  misshown = λ at bytes e p. p;
 }
 
 -- so many bytes, as they stand
@@ -100,6 +126,27 @@ octets n = record {
   length-encode = λ bytes h. h.0;
   decode-encode = λ bytes h. refl;
   Holds-decode = λ bytes is e. (e, is);
+  form = Exactly n;
+  sees = λ bytes x. is_structure x;
+  shows = λ bytes s p. p;
+  misshown = λ at bytes e p. p;
+}
+
+-- an address of version 4, and one of version 6
+abbrev pub octets4 : Layout (List ℕ)
+octets4 = record (octets 4) {
+  form = Octets4;
+  sees = λ bytes x. is_address (V4 x);
+  shows = λ bytes s p. p;
+  misshown = λ at bytes e p. p;
+}
+
+abbrev pub octets16 : Layout (List ℕ)
+octets16 = record (octets 16) {
+  form = Octets16;
+  sees = λ bytes x. is_address (V6 x);
+  shows = λ bytes s p. p;
+  misshown = λ at bytes e p. p;
 }
 
 -- values with numbers: the number is written, and a value can be held if it is what its number reads as; likewise a struct of
@@ -111,6 +158,9 @@ module _ {N V : Type 0} (L : Layout N) (n : Numbering N V) where
   pub formed-holds : (bytes : List ℕ) → IsBytes bytes → length bytes ≡ L.size → L.Holds (n.number (n.of (L.decode bytes))) × IsFormed n (n.of (L.decode bytes))
   formed-holds bytes is e = (subst L.Holds (sym (n.back (L.decode bytes))) (L.Holds-decode bytes is e), of_IsFormed n (L.decode bytes))
 
+  pub formed-shows : (bytes : List ℕ) (s : Shown) → Shows L.form bytes s → Sized L.size (λ b. L.sees b (n.number (n.of (L.decode b)))) bytes s
+  formed-shows bytes s p = let q = L.shows bytes s p in (q.0, q.1 ∙ ap (L.sees bytes) (sym (n.back (L.decode bytes))))
+
   abbrev pub formed : Layout V
   formed = record {
     size = L.size;
@@ -120,6 +170,10 @@ module _ {N V : Type 0} (L : Layout N) (n : Numbering N V) where
     length-encode = λ x h. L.length-encode (n.number x) h.0;
     decode-encode = formed-back;
     Holds-decode = formed-holds;
+    form = L.form;
+    sees = λ bytes x. L.sees bytes (n.number x);
+    shows = formed-shows;
+    misshown = L.misshown;
   }
 
 -- the numbers that stand at a place of a fixed layout, the lowest byte first

@@ -3,6 +3,8 @@ pub mod Counts
 pub mod Framing
 pub mod Attributes
 pub mod AttributesLaws
+pub mod Values
+pub mod ValuesLaws
 pub mod Walk
 pub mod Family
 pub mod Lists
@@ -13,6 +15,9 @@ pub mod ListLaws
 pub mod Looks
 pub mod LooksLaws
 pub mod LookBounds
+pub mod NameText
+pub mod Value
+pub mod Showing
 pub mod Name
 pub mod NameLaws
 pub mod Table
@@ -48,4 +53,5 @@ pub mod Text
 pub mod EnumTable
 pub mod EnumTableLaws
 pub mod EnumTableValues
+pub mod PlaceLaws
 pub mod Tables

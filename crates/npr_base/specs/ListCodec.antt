@@ -4,6 +4,7 @@ use Rattle.npr_base.specs.Lists.{AllOf, ReadsList, FirstFault, encodings, first_
 use Rattle.npr_base.specs.FitLaws.{none_both}
 use Rattle.npr_base.specs.ListLaws.{ReadsList-one, FirstFault-excludes, ReadsList-known, encodings-read, list-grows}
 use Rattle.npr_base.specs.Codec.{Codec}
+use Rattle.npr_base.specs.Showing.{shows_inside}
 use Rattle.npr_base.specs.LookBounds.{list_looking, list-bounded, list-saw}
 use Rattle.npr_base.specs.Looks.{looked_through}
 use Rattle.npr_base.specs.Family.{Writing, Reading, fits-small, written_by, unfit_by}
@@ -28,4 +29,5 @@ list_of {M} {w} f = record {
       let fits = none_both (first_unfit (unfit_by w) xs) (overlong (length (encodings (written_by w) xs))) h in
       encodings-read f.Coherent (unfit_by w) (written_by w) f.Reads (fits-small f) f.reads_back xs all fits.0;
   grows = λ bytes xs is p. list-grows (written_by w) f.Reads f.grows bytes xs is p;
+  showing = shows_inside;
 }

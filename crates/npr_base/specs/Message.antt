@@ -143,6 +143,7 @@ pub record IsUnder {H A C : Type 0} (g : Grammar H A) (f : Family A C) (h : H) (
     (searches : Counts → Counts → Type 0) : Type 0 where
   pub alone : (d : C) → governs d → d ≡ c
   pub reads : (xs : List A) → ReadsList (f.reading c).Reads bytes (map f.meaning xs) → g.body.Reads h bytes (map g.meaning xs)
+  pub means : (xs : List A) → g.body.Reads h bytes (map g.meaning xs) → ReadsList (f.reading c).Reads bytes (map f.meaning xs)
   pub faulty : (e : DecodeError) → FirstFault (f.reading c).Reads (f.reading c).Faulty bytes e → g.body.Faulty h bytes e
   pub searched : (old mid : Counts) → searches old mid → Searched bytes old mid
   pub looks : (old mid new : Counts) → searches old mid → (list_looking (f.reading c)).Takes bytes mid new → (g.body.looks h).Takes bytes old new

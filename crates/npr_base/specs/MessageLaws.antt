@@ -31,6 +31,7 @@ pub under_context : {H A C : Type 0} (f : Family A C) (L : Layout H) (standard :
 under_context f L standard context_of h bytes = record {
   alone = λ d is. is;
   reads = λ xs reads. reads;
+  means = λ xs reads. reads;
   faulty = λ e wrong. wrong;
   searched = unsearched bytes;
   looks = λ old mid new same takes. subst (λ (c : Counts). (list_looking (f.reading (context_of h))).Takes bytes c new) same takes;

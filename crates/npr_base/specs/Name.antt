@@ -1,18 +1,23 @@
 -- Names: UTF-8 with one final zero, which may be missing where it is read.
 use Rattle.std.specs.Prelude.{◌≡◌, ℕ, List, [], ◌∷◌, ◌++◌, None}
 use Rattle.std.specs.Str.{IsUtf8}
-use Rattle.std.proofs.Common.{refl, inl}
+use Rattle.std.proofs.Common.{refl, inl, ap, ◌∙◌}
 use Rattle.npr_base.specs.declared.refusal.DecodeError.TheVariants.{NotUtf8}
 use Rattle.npr_base.specs.Codec.{Codec, no_members}
-use Rattle.npr_base.specs.NameLaws.{IsUnterminated, name-one, name-grows}
+use Rattle.npr_base.specs.Showing.{Showing}
+use Rattle.npr_base.specs.Value.{is_name}
+use Rattle.npr_base.specs.declared.value.Form.TheVariants.{Name as NameForm}
+use Rattle.npr_base.specs.NameLaws.{name-one, name-grows}
+pub use Rattle.npr_base.specs.NameText.{IsName, IsNoName}
 
--- the bytes are a UTF-8 text, with or without its zero
-abbrev pub IsName : List ℕ → List ℕ → Type 0
-IsName bytes text = IsUtf8 text × IsUnterminated bytes text
-
--- what stands in front of the zero is no UTF-8
-pub record IsNoName (bytes : List ℕ) : Type 0 where
-  pub no_text : (text : List ℕ) → IsUnterminated bytes text → IsUtf8 text → ⊥
+abbrev pub name_showing : Showing IsName (λ at bytes e. IsNoName bytes × (e ≡ NotUtf8 at))
+name_showing = record {
+  form = NameForm;
+  sees = λ bytes text. is_name text;
+  shows = λ bytes s text p q. p.2 ∙ ap is_name (name-one bytes p.0 text p.1.1 q.1);
+  whole = λ bytes s w p. (p.0, p.1);
+  wrong = λ at bytes e p. p;
+}
 
 abbrev pub name : Codec (List ℕ)
 name = record {
@@ -27,4 +32,5 @@ name = record {
   reads_holds = λ bytes x is p. p.0;
   reads_back = λ kind x h f. (h, inl refl);
   grows = λ bytes x is p. name-grows bytes x p.1;
+  showing = name_showing;
 }

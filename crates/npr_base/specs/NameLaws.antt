@@ -1,13 +1,10 @@
 -- Bytes without one final zero.
 use Rattle.std.specs.Prelude.{◌≢◌}
-use Rattle.std.proofs.Common.{◌≡◌, ℕ, zero, suc, ◌+◌, ◌-◌, ◌*◌, ◌≤◌, ◌⊎◌, List, [], ◌∷◌, ◌++◌, length, take, get_or}
+use Rattle.std.proofs.Common.{◌≡◌, ℕ, zero, suc, ◌+◌, ◌-◌, ◌*◌, ◌≤◌, List, [], ◌∷◌, ◌++◌, length, take, get_or}
 use Rattle.std.proofs.Common.{refl, sym, ap, ◌∙◌, arith, inl, inr, length-append}
 use Rattle.npr_base.specs.Framing.{framed}
 use Rattle.npr_base.specs.CodecLaws.{framed-grows}
-
--- the text, with one final zero taken off where there is one
-abbrev pub IsUnterminated : List ℕ → List ℕ → Type 0
-IsUnterminated bytes text = (bytes ≡ text ++ 0 ∷ []) ⊎ ((bytes ≡ text) × ((front : List ℕ) → bytes ≢ front ++ 0 ∷ []))
+pub use Rattle.npr_base.specs.NameText.{IsUnterminated}
 
 but_last : List ℕ → List ℕ
 but_last [] = []

@@ -6,10 +6,14 @@ use Rattle.npr_base.specs.declared.refusal.At.{At}
 use Rattle.npr_base.specs.declared.refusal.AttrFamily.{AttrFamily}
 use Rattle.npr_base.specs.declared.refusal.DecodeError.{DecodeError}
 use Rattle.npr_base.specs.declared.refusal.EmitError.{EmitError}
+use Rattle.npr_base.specs.declared.refusal.AttrFamily.TheVariants.{Value as OfValue}
+use Rattle.npr_base.specs.declared.value.Form.{Form}
+use Rattle.npr_base.specs.declared.value.Form.TheVariants.{Raw}
 use Rattle.npr_base.specs.Framing.{Item, Proper, marked, number_of}
 use Rattle.npr_base.specs.Family.{Shape, Writing, written_by}
 use Rattle.npr_base.specs.Codec.{Codec, raw}
 use Rattle.npr_base.specs.Refusal.{at_number}
+use Rattle.npr_base.specs.Value.{Shown, are_bytes}
 
 -- a row of a table: where it stands, how its values are read and written, and what they mean
 pub record Row (M : Type 0) : Type 1 where
@@ -36,6 +40,16 @@ ReadsAt other (r ∷ rows) k x m = MatchBool (k == r.at.kind) (RowReads r x.valu
 abbrev pub WrongAt : {M : Type 0} → List (Row M) → ℕ → Item → DecodeError → Type 0
 WrongAt [] k x e = ⊥
 WrongAt (r ∷ rows) k x e = MatchBool (k == r.at.kind) (RowWrong r x.value e) (WrongAt rows k x e)
+
+-- by a number: where it stands, and how its value is read without memory. A number without a row stands in the family of the
+-- first row, and its bytes are left as they are
+abbrev pub form_from : {M : Type 0} → AttrFamily → List (Row M) → ℕ → At × Form
+form_from family [] k = (at_number family k, Raw)
+form_from family (r ∷ rows) k = if k == r.at.kind then (r.at, r.codec.showing.form) else form_from family rows k
+
+abbrev pub first_family : {M : Type 0} → List (Row M) → AttrFamily
+first_family [] = OfValue
+first_family (r ∷ rows) = r.at.family
 
 -- the number has a row
 abbrev pub has_row : {M : Type 0} → List (Row M) → ℕ → Bool
@@ -89,6 +103,11 @@ abbrev pub slot_members : Slot → ℕ
 slot_members (slot_marked nested kind codec value) = codec.members.count value
 slot_members (slot_other x) = 0
 
+-- what it is seen as in bytes
+abbrev pub slot_sees : Slot → List ℕ → Shown
+slot_sees (slot_marked nested kind codec value) b = codec.showing.sees b value
+slot_sees (slot_other x) b = are_bytes b
+
 -- its codec can hold it, or no row has its number
 abbrev pub IsSlot : {M : Type 0} → List (Row M) → Slot → Type 0
 IsSlot rows (slot_marked nested kind codec value) = codec.Holds value
@@ -117,16 +136,22 @@ writing_by slot_of =
       members = λ m. slot_members (slot_of m);
     }
 
--- each row's variant is written by that row with the attributes inside it, and is coherent where the row can hold its value
-abbrev pub IsWritten : {M : Type 0} (w : Writing M) (Coherent : M → Type 0) (r : Row M) → r.V → Type 0
-IsWritten w Coherent r v =
+-- what each is seen as from its place
+abbrev pub seen_by : {M : Type 0} → (M → Slot) → M → List ℕ → Shown
+seen_by slot_of m = slot_sees (slot_of m)
+
+-- each row's variant is written by that row with the attributes inside it, is coherent where the row can hold its value, and is
+-- seen as the row sees it
+abbrev pub IsWritten : {M : Type 0} (slot_of : M → Slot) (Coherent : M → Type 0) (r : Row M) → r.V → Type 0
+IsWritten slot_of Coherent r v =
+    let w = writing_by slot_of in
     ((written_by w (r.variant v)).value ≡ r.codec.encode v) × (w.members (r.variant v) ≡ r.codec.members.count v)
-    × (r.codec.Holds v → Coherent (r.variant v))
+    × (r.codec.Holds v → Coherent (r.variant v)) × ((b : List ℕ) → seen_by slot_of (r.variant v) b ≡ r.codec.showing.sees b v)
 
 -- and each row has a number of its own
-abbrev pub Aligned : {M : Type 0} → Writing M → (M → Type 0) → List (Row M) → Type 0
-Aligned w Coherent [] = Unit {0}
-Aligned w Coherent (r ∷ rows) = ((v : r.V) → IsWritten w Coherent r v) × (has_row rows r.at.kind ≡ false) × Aligned w Coherent rows
+abbrev pub Aligned : {M : Type 0} → (M → Slot) → (M → Type 0) → List (Row M) → Type 0
+Aligned slot_of Coherent [] = Unit {0}
+Aligned slot_of Coherent (r ∷ rows) = ((v : r.V) → IsWritten slot_of Coherent r v) × (has_row rows r.at.kind ≡ false) × Aligned slot_of Coherent rows
 
 -- a table: its rows, what an attribute of another number means, the place of each meaning, and which are coherent
 pub record Table (M : Type 0) : Type 1 where
@@ -134,14 +159,14 @@ pub record Table (M : Type 0) : Type 1 where
   pub other : Item → M
   pub slot_of : M → Slot
   pub Coherent : M → Type 0
-  pub aligned : Aligned (writing_by slot_of) Coherent rows
+  pub aligned : Aligned slot_of Coherent rows
   pub other_is : (x : Item) → slot_of (other x) ≡ slot_other x
   pub other_coherent : (x : Item) → IsOther rows x → Coherent (other x)
   pub kinds : (m : M) → Coherent m → slot_kind (slot_of m) < 2 ^ 16
   pub back : (m : M) → Coherent m → slot_unfit (slot_of m) ≡ None → ReadsAt other rows (number_of (item_of (slot_of m)).kind) (item_of (slot_of m)) m
 
 abbrev pub table_with : {M : Type 0} (rows : List (Row M)) (other : Item → M) (slot_of : M → Slot) (Coherent : M → Type 0)
-    → Aligned (writing_by slot_of) Coherent rows → ((x : Item) → slot_of (other x) ≡ slot_other x) → ((x : Item) → IsOther rows x → Coherent (other x))
+    → Aligned slot_of Coherent rows → ((x : Item) → slot_of (other x) ≡ slot_other x) → ((x : Item) → IsOther rows x → Coherent (other x))
     → ((m : M) → Coherent m → slot_kind (slot_of m) < 2 ^ 16)
     → ((m : M) → Coherent m → slot_unfit (slot_of m) ≡ None → ReadsAt other rows (number_of (item_of (slot_of m)).kind) (item_of (slot_of m)) m) → Table M
 table_with rows other slot_of Coherent aligned other_is other_coherent kinds back = record {

@@ -1,17 +1,23 @@
 -- A table is a family.
-use Rattle.std.specs.Prelude.{◌==◌}
+use Rattle.std.specs.Prelude.{◌==◌, if◌then◌else◌}
 use Rattle.std.specs.Bool.{MatchBool}
 use Rattle.std.proofs.lemmas.Bool.{eqb-true}
 use Rattle.std.proofs.Common.{◌≡◌, ℕ, ◌+◌, ◌*◌, ◌<◌, ◌≤◌, ◌^◌, Bool, true, false, cond, List, [], ◌∷◌, length, refl, sym, ap, subst, ◌∙◌, arith}
+use Rattle.npr_base.specs.declared.refusal.At.{At}
+use Rattle.npr_base.specs.declared.refusal.AttrFamily.{AttrFamily}
 use Rattle.npr_base.specs.declared.refusal.DecodeError.{DecodeError}
+use Rattle.npr_base.specs.declared.value.Form.{Form}
 use Rattle.npr_base.specs.Framing.{Item, IsBytes, framed, marked, number_of}
 use Rattle.npr_base.specs.CodecLaws.{framed-grows}
 use Rattle.npr_base.specs.FitLaws.{unfit_of-none}
 use Rattle.npr_base.specs.Counts.{Counts, AddsAtMost, SawEach}
 use Rattle.npr_base.specs.Looks.{Adds, Looking, LooksAt, Inside, nothing, looked_through, TakesInside}
 use Rattle.npr_base.specs.LooksLaws.{no_looking, none-most, none-saw}
-use Rattle.npr_base.specs.Family.{Writing, Reading}
-use Rattle.npr_base.specs.Table.{Row, ReadsAt, WrongAt, has_row}
+use Rattle.npr_base.specs.Family.{Reading}
+use Rattle.npr_base.specs.Showing.{Seeing}
+use Rattle.npr_base.specs.Table.{Row, ReadsAt, WrongAt, form_from, first_family, has_row}
+use Rattle.npr_base.specs.Table.{Slot, slot_other, slot_sees, seen_by}
+use Rattle.npr_base.specs.Value.{Shown, Shows, Misshown, IsWhole}
 use Rattle.npr_base.specs.Family.{written_by}
 use Rattle.npr_base.specs.Table.{item_of, plain_item, slot_unfit, slot_kind, slot_nested, slot_members, writing_by, Aligned, Table}
 
@@ -35,24 +41,27 @@ pub table-sound : {M : Type 0} (other : Item → M) (rows : List (Row M)) (k : �
 table-sound other [] k x m e p q = q
 table-sound other (r ∷ rows) k x m e p q = both (k == r.at.kind) (λ a b. r.codec.no_fault r.at x.value a.0 e a.1 b) (table-sound other rows k x m e) p q
 
-pub table-coherent : {M : Type 0} (other : Item → M) (w : Writing M) (Coherent : M → Type 0) (rows : List (Row M)) → Aligned w Coherent rows
+pub table-coherent : {M : Type 0} (other : Item → M) (slot_of : M → Slot) (Coherent : M → Type 0) (rows : List (Row M)) → Aligned slot_of Coherent rows
     → (k : ℕ) (x : Item) → IsBytes x.value → (has_row rows k ≡ false → Coherent (other x)) → (m : M) → ReadsAt other rows k x m → Coherent m
-table-coherent other w Coherent [] aligned k x bytes alone m p = subst Coherent (sym p) (alone refl)
-table-coherent other w Coherent (r ∷ rows) aligned k x bytes alone m p = one_of (k == r.at.kind)
+table-coherent other slot_of Coherent [] aligned k x bytes alone m p = subst Coherent (sym p) (alone refl)
+table-coherent other slot_of Coherent (r ∷ rows) aligned k x bytes alone m p = one_of (k == r.at.kind)
     (λ e a. subst Coherent (sym a.2) ((aligned.0 a.0).2 (r.codec.reads_holds x.value a.0 bytes a.1)))
-    (λ e a. table-coherent other w Coherent rows aligned.2 k x bytes (λ h. alone (rw e h)) m a) p
+    (λ e a. table-coherent other slot_of Coherent rows aligned.2 k x bytes (λ h. alone (rw e h)) m a) p
 
-pub table-grows : {M : Type 0} (other : Item → M) (w : Writing M) (Coherent : M → Type 0) (rows : List (Row M)) → Aligned w Coherent rows
-    → ((x : Item) → written_by w (other x) ≡ x)
-    → (k : ℕ) (x : Item) → IsBytes x.value → (m : M) → ReadsAt other rows k x m → 2 * framed (length (written_by w m).value) ≤ 5 * (4 + length x.value)
-table-grows other w Coherent [] aligned same k x bytes m p =
+pub table-grows : {M : Type 0} (other : Item → M) (slot_of : M → Slot) (Coherent : M → Type 0) (rows : List (Row M)) → Aligned slot_of Coherent rows
+    → ((x : Item) → written_by (writing_by slot_of) (other x) ≡ x)
+    → (k : ℕ) (x : Item) → IsBytes x.value → (m : M) → ReadsAt other rows k x m
+    → 2 * framed (length (written_by (writing_by slot_of) m).value) ≤ 5 * (4 + length x.value)
+table-grows other slot_of Coherent [] aligned same k x bytes m p =
+    let w = writing_by slot_of in
     framed-grows (length (written_by w m).value) (length x.value)
     (omega (arith, ap (λ n. length (written_by w n).value) p, ap (λ (y : Item). length y.value) (same x)))
-table-grows other w Coherent (r ∷ rows) aligned same k x bytes m p = one_of (k == r.at.kind)
+table-grows other slot_of Coherent (r ∷ rows) aligned same k x bytes m p = one_of (k == r.at.kind)
     (λ e. λ (a : (v : r.V) × r.codec.Reads x.value v × (m ≡ r.variant v)).
+    let w = writing_by slot_of in
     let v : length (written_by w m).value ≡ length (r.codec.encode a.0) = ap (λ n. length (written_by w n).value) a.2 ∙ ap length (aligned.0 a.0).0 in
     rw v (r.codec.grows x.value a.0 bytes a.1))
-    (λ e a. table-grows other w Coherent rows aligned.2 same k x bytes m a) p
+    (λ e a. table-grows other slot_of Coherent rows aligned.2 same k x bytes m a) p
 
 pub marked-small : (b : Bool) (k : ℕ) → k < 2 ^ 16 → marked b k < 2 ^ 16
 marked-small true k h = omega arith
@@ -122,17 +131,72 @@ no_row-looks [] x old new h t = t
 no_row-looks (r ∷ rows) x old new h t = not_here (number_of x.kind == r.at.kind) (has_row rows (number_of x.kind)) h
     (λ e f. no_row-looks rows x old new f (inside_past r.at.kind r.codec.members.looks (looks_of rows) x old new e t))
 
-pub rows-saw : {M : Type 0} (other : Item → M) (w : Writing M) (Coherent : M → Type 0) (rows : List (Row M)) → Aligned w Coherent rows
-    → ((x : Item) → w.members (other x) ≡ 0) → (x : Item) (m : M) (old new : Counts) → ReadsAt other rows (number_of x.kind) x m
-    → (looks_of rows).Takes x old new → SawEach old new (w.members m)
-rows-saw other w Coherent [] aligned none x m old new p t = subst (SawEach old new) (sym (ap w.members p ∙ none x)) (none-saw old new t)
-rows-saw other w Coherent (r ∷ rows) aligned none x m old new p t = one_of (number_of x.kind == r.at.kind)
+pub rows-saw : {M : Type 0} (other : Item → M) (slot_of : M → Slot) (Coherent : M → Type 0) (rows : List (Row M)) → Aligned slot_of Coherent rows
+    → ((x : Item) → (writing_by slot_of).members (other x) ≡ 0) → (x : Item) (m : M) (old new : Counts) → ReadsAt other rows (number_of x.kind) x m
+    → (looks_of rows).Takes x old new → SawEach old new ((writing_by slot_of).members m)
+rows-saw other slot_of Coherent [] aligned none x m old new p t =
+    subst (SawEach old new) (sym (ap (writing_by slot_of).members p ∙ none x)) (none-saw old new t)
+rows-saw other slot_of Coherent (r ∷ rows) aligned none x m old new p t = one_of (number_of x.kind == r.at.kind)
     (λ e. λ (a : (v : r.V) × r.codec.Reads x.value v × (m ≡ r.variant v)).
+    let w = writing_by slot_of in
     let own = subst (λ (k : ℕ). has_row rows k ≡ false) (sym (eqb-true (number_of x.kind) r.at.kind e)) aligned.1 in
     let inside = inside_here r.at.kind r.codec.members.looks (looks_of rows) x old new e (no_row-looks rows x old new own) t in
     let members : w.members m ≡ r.codec.members.count a.0 = ap w.members a.2 ∙ (aligned.0 a.0).1 in
     subst (SawEach old new) (sym members) (r.codec.members.saw x.value a.0 old new a.1 inside))
-    (λ e a. rows-saw other w Coherent rows aligned.2 none x m old new a (inside_past r.at.kind r.codec.members.looks (looks_of rows) x old new e t)) p
+    (λ e a. rows-saw other slot_of Coherent rows aligned.2 none x m old new a (inside_past r.at.kind r.codec.members.looks (looks_of rows) x old new e t)) p
+
+-- ---- what is seen
+
+-- by the form of this row, or else by that of later rows
+pub shown_or : {P Q R : Type 0} (b : Bool) (f g : At × Form) (x : Item) (s : Shown) → (Shows f.1 x.value s → P → R) → (Shows g.1 x.value s → Q → R)
+    → Shows (if b then f else g).1 x.value s → MatchBool b P Q → R
+shown_or true f g x s here later p q = here p q
+shown_or false f g x s here later p q = later p q
+
+pub whole_or : {M : Type 0} {P Q : M → Type 0} (b : Bool) (f g : At × Form) (x : Item) (s : Shown)
+    → (IsWhole f.1 → Shows f.1 x.value s → (m : M) × P m) → (IsWhole g.1 → Shows g.1 x.value s → (m : M) × Q m)
+    → IsWhole (if b then f else g).1 → Shows (if b then f else g).1 x.value s → (m : M) × MatchBool b (P m) (Q m)
+whole_or true f g x s here later w p = here w p
+whole_or false f g x s here later w p = later w p
+
+pub wrong_or : {P Q : Type 0} (b : Bool) (f g : At × Form) (x : Item) (e : DecodeError) → (Misshown f.1 f.0 x.value e → P)
+    → (Misshown g.1 g.0 x.value e → Q) → Misshown (if b then f else g).1 (if b then f else g).0 x.value e → MatchBool b P Q
+wrong_or true f g x e here later p = here p
+wrong_or false f g x e here later p = later p
+
+module _ {M : Type 0} (other : Item → M) (slot_of : M → Slot) (Coherent : M → Type 0) (family : AttrFamily) where
+  pub rows-show : (rows : List (Row M)) → Aligned slot_of Coherent rows → ((x : Item) → slot_of (other x) ≡ slot_other x)
+      → (k : ℕ) (x : Item) (s : Shown) (m : M) → Shows (form_from family rows k).1 x.value s → ReadsAt other rows k x m → s ≡ seen_by slot_of m x.value
+  rows-show [] aligned same k x s m p q = p ∙ sym (ap (λ n. seen_by slot_of n x.value) q ∙ ap (λ (h : Slot). slot_sees h x.value) (same x))
+  rows-show (r ∷ rows) aligned same k x s m p q = shown_or (k == r.at.kind) (r.at, r.codec.showing.form) (form_from family rows k) x s
+      (λ shows. λ (a : (v : r.V) × r.codec.Reads x.value v × (m ≡ r.variant v)).
+      r.codec.showing.shows x.value s a.0 shows a.1 ∙ sym (ap (λ n. seen_by slot_of n x.value) a.2 ∙ (aligned.0 a.0).3 x.value))
+      (λ shows reads. rows-show rows aligned.2 same k x s m shows reads) p q
+
+  pub rows-whole : (rows : List (Row M)) (k : ℕ) (x : Item) (s : Shown) → IsWhole (form_from family rows k).1 → Shows (form_from family rows k).1 x.value s
+      → (m : M) × ReadsAt other rows k x m
+  rows-whole [] k x s w p = (other x, refl)
+  rows-whole (r ∷ rows) k x s w p = whole_or (k == r.at.kind) (r.at, r.codec.showing.form) (form_from family rows k) x s
+      (λ whole shows. let v = r.codec.showing.whole x.value s whole shows in (r.variant v.0, (v.0, v.1, refl)))
+      (λ whole shows. rows-whole rows k x s whole shows) w p
+
+  pub rows-wrong : (rows : List (Row M)) (k : ℕ) (x : Item) (e : DecodeError)
+      → Misshown (form_from family rows k).1 (form_from family rows k).0 x.value e → WrongAt rows k x e
+  rows-wrong [] k x e p = p
+  rows-wrong (r ∷ rows) k x e p = wrong_or (k == r.at.kind) (r.at, r.codec.showing.form) (form_from family rows k) x e
+      (λ wrong. r.codec.showing.wrong r.at x.value e wrong) (λ wrong. rows-wrong rows k x e wrong) p
+
+abbrev pub table_seeing : {M : Type 0} (t : Table M)
+    → Seeing (λ x m. ReadsAt t.other t.rows (number_of x.kind) x m) (λ x e. WrongAt t.rows (number_of x.kind) x e)
+table_seeing t =
+    let family = first_family t.rows in
+    record {
+      form_at = form_from family t.rows;
+      sees = λ x m. seen_by t.slot_of m x.value;
+      shows = λ x s m p q. rows-show t.other t.slot_of t.Coherent family t.rows t.aligned t.other_is (number_of x.kind) x s m p q;
+      whole = λ x s w p. rows-whole t.other t.slot_of t.Coherent family t.rows (number_of x.kind) x s w p;
+      wrong = λ x e p. rows-wrong t.other t.slot_of t.Coherent family t.rows (number_of x.kind) x e p;
+    }
 
 -- the family of a table
 abbrev pub table_family : {M : Type 0} → (t : Table M) → Reading (writing_by t.slot_of)
@@ -146,13 +210,14 @@ table_family t = record {
   reads_coherent =
       λ x m proper p.
       let alone = λ (a : has_row t.rows (number_of x.kind) ≡ false). t.other_coherent x (record { proper = proper; alone = a }) in
-      table-coherent t.other (writing_by t.slot_of) t.Coherent t.rows t.aligned (number_of x.kind) x proper.value alone m p;
+      table-coherent t.other t.slot_of t.Coherent t.rows t.aligned (number_of x.kind) x proper.value alone m p;
   kinds = λ m c. marked-small (slot_nested (t.slot_of m)) (slot_kind (t.slot_of m)) (t.kinds m c);
   reads_back = λ m c h. t.back m c (unfit_of-none (slot_unfit (t.slot_of m)) (plain_item (t.slot_of m)) h);
   grows =
       λ x m proper p.
       let same = λ (y : Item). ap item_of (t.other_is y) in
-      table-grows t.other (writing_by t.slot_of) t.Coherent t.rows t.aligned same (number_of x.kind) x proper.value m p;
+      table-grows t.other t.slot_of t.Coherent t.rows t.aligned same (number_of x.kind) x proper.value m p;
   bounded = rows-bounded t.rows;
-  saw = rows-saw t.other (writing_by t.slot_of) t.Coherent t.rows t.aligned (λ x. ap slot_members (t.other_is x));
+  saw = rows-saw t.other t.slot_of t.Coherent t.rows t.aligned (λ x. ap slot_members (t.other_is x));
+  seeing = table_seeing t;
 }

@@ -6,13 +6,17 @@ ghost use Rattle.npr_base.specs.{
   Counts.{AddsAtMost, SawEach},
   Looks.{Answered},
   Family.{Family, shaped},
+  Framing.{number_of},
+  Value.{shown},
+  Values.{Seen, Unseen},
 };
 
 use crate::framing::NlaBuffer;
 use crate::looks::Looks;
 use crate::place::Place;
-use crate::refusal::DecodeError;
+use crate::refusal::{At, DecodeError};
 use crate::traits::{Nla, Parseable, ParseableParametrized};
+use crate::value::{Form, Value, read_form};
 use std::alloc::{AllocError, Global};
 
 /// A family of attributes. Each is read in a context, as the family of the message's addresses.
@@ -87,6 +91,29 @@ pub trait Attribute: Nla + Drop {
     {
         list.reserve(1)?;
         Self::read_into(list, alloc, context, item, looks)
+    }
+
+    /// By a number: the place that refusals tell, and how the value is read without memory.
+    fn form(context: Self::Context, number: u16) -> (At, Form)
+        ensures { result ≡ (family.reading context).seeing.form_at number };
+
+    /// The place of the attribute, and its value where it stands. It takes no memory.
+    ///
+    /// # Errors
+    /// What is wrong with the value.
+    final fn value<'a>(
+        context: Self::Context,
+        item: &NlaBuffer<'a>,
+    ) -> Result<(At, Value<'a>), DecodeError>
+        ensures place { IfOk result (λ v. v.0 ≡ ((family.reading context).seeing.form_at (number_of (item.now).kind)).0) }
+        ensures ok { IfOk result (λ v. Seen (family.reading context) item.now (shown v.1)) }
+        ensures refused { IfErr result (λ e. Unseen (family.reading context) item.now e) }
+    {
+        let (at, form) = Self::form(context, item.kind());
+        match read_form(form, item.value(), at) {
+            Ok(value) => Ok((at, value)),
+            Err(refusal) => Err(refusal),
+        }
     }
 
     /// An equal value.

@@ -20,6 +20,8 @@ mod rows;
 mod text;
 mod traits;
 mod v6_list;
+mod value;
+mod value_walk;
 mod values;
 
 pub use address_family::AddressFamily;
@@ -44,6 +46,8 @@ pub use traits::{
     Emitable, Nla, Parseable, ParseableParametrized, check_attribute_len, write_attribute,
 };
 pub use v6_list::{emit_v6_list, read_v6_list, v6_list_len, write_v6_list};
+pub use value::{Form, Value, read_form};
+pub use value_walk::Values;
 pub use values::{
     borrow_octets, ip_len, leading_octets, read_bool, read_bytes, read_i32, read_ip, read_ipv4,
     read_ipv6, read_name, read_octets, read_u8, read_u16, read_u16_be, read_u32, read_u32_be,

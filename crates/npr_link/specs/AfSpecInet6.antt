@@ -1,6 +1,6 @@
 -- What IP version 6 says of a link (linux/if_link.h, IFLA_INET6_*), by the table.
 use Rattle.npr_base.specs.declared.refusal.AttrFamily.TheVariants.{AfSpecInet6 as AtAfSpecInet6}
-use Rattle.npr_base.specs.Tables.{EnumTable, table_of, row, others, ◌or◌, exactly, le32, leading, octets, seen, value, refl, Reading, Family, writing_of}
+use Rattle.npr_base.specs.Tables.{EnumTable, table_of, row, others, ◌or◌, exactly, le32, leading, octets16, seen, value, refl, Reading, Family, writing_of}
 use Rattle.npr_base.specs.Tables.{attributes_of, family_of_table}
 use Rattle.npr_link.specs.AddressMode.{address_mode}
 use Rattle.npr_link.specs.Inet6CacheInfo.{inet6_cache_info}
@@ -18,7 +18,7 @@ table =
     or row AtAfSpecInet6 3 signed_words64 (seen (λ x. x.numbers.items) AfSpecInet6.Stats)  -- IFLA_INET6_STATS
     or row AtAfSpecInet6 5 (leading inet6_cache_info) (value AfSpecInet6.CacheInfo)  -- IFLA_INET6_CACHEINFO
     or row AtAfSpecInet6 6 signed_words64 (seen (λ x. x.numbers.items) AfSpecInet6.Icmp6Stats)  -- IFLA_INET6_ICMP6STATS
-    or row AtAfSpecInet6 7 (exactly (octets 16)) (value AfSpecInet6.Token)  -- IFLA_INET6_TOKEN
+    or row AtAfSpecInet6 7 (exactly octets16) (value AfSpecInet6.Token)  -- IFLA_INET6_TOKEN
     or row AtAfSpecInet6 8 (exactly address_mode) (value AfSpecInet6.AddrGenMode)  -- IFLA_INET6_ADDR_GEN_MODE
     or row AtAfSpecInet6 9 (exactly le32) (value AfSpecInet6.RaMtu)  -- IFLA_INET6_RA_MTU
     or others (value AfSpecInet6.Other)) refl refl

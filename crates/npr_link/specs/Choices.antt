@@ -1,6 +1,6 @@
 -- A value that is one of several variants, which a context chooses: each is read by a codec of its own, and written whatever the
 -- context is.
---     Held                 what a value is written as, why it can't be, and how much stands in it
+--     Held                 what a value is written as, why it can't be, how much stands in it, and what it is seen as
 --     as_list, as_bytes    attributes of a family, and bytes as they stand
 --     Case                 a variant, with the codec that reads it: list_case, bytes_case
 --     chosen               the codec of a case
@@ -12,6 +12,8 @@ use Rattle.npr_base.specs.declared.refusal.EmitError.{EmitError}
 use Rattle.npr_base.specs.Family.{Writing, Reading}
 use Rattle.npr_base.specs.Framing.{Item, IsBytes, Front, framed}
 use Rattle.npr_base.specs.ListCodec.{list_of}
+use Rattle.npr_base.specs.Showing.{Showing}
+use Rattle.npr_base.specs.Value.{Shown, is_inside, are_bytes}
 
 -- its bytes, the first cause inside why there are none, how many attributes stand inside, and its members or bytes
 pub record Held : Type 0 where
@@ -19,6 +21,8 @@ pub record Held : Type 0 where
   pub unfit : Option EmitError
   pub count : ℕ
   pub size : ℕ
+  -- what it is seen as in these bytes
+  pub seen : List ℕ → Shown
 
 abbrev pub as_list : {M : Type 0} {w : Writing M} → Reading w → List M → Held
 as_list f xs = record {
@@ -26,12 +30,13 @@ as_list f xs = record {
   unfit = (list_of f).unfit 0 xs;
   count = (list_of f).members.count xs;
   size = length xs;
+  seen = λ b. is_inside b;
 }
 
 abbrev pub as_bytes : List ℕ → Held
-as_bytes bytes = record { encoded = bytes; unfit = None; count = 0; size = length bytes }
+as_bytes bytes = record { encoded = bytes; unfit = None; count = 0; size = length bytes; seen = λ b. are_bytes bytes }
 
--- it is written as the codec says, and its reading takes memory for such bytes alone
+-- it is written and seen as the codec says, and its reading takes memory for such bytes alone
 pub record Case {W : Type 0} (held : W → Held) : Type 1 where
   pub V : Type 0
   pub codec : Codec V
@@ -39,6 +44,7 @@ pub record Case {W : Type 0} (held : W → Held) : Type 1 where
   pub encoded : (v : V) → (held (made v)).encoded ≡ codec.encode v
   pub unfit : (kind : ℕ) (v : V) → (held (made v)).unfit ≡ codec.unfit kind v
   pub counted : (v : V) → (held (made v)).count ≡ codec.members.count v
+  pub shown : (b : List ℕ) (v : V) → (held (made v)).seen b ≡ codec.showing.sees b v
   pub memory : List ℕ → Type 0
 
 module _ {W : Type 0} (held : W → Held) where
@@ -50,6 +56,7 @@ module _ {W : Type 0} (held : W → Held) where
     encoded = λ xs. ap (λ (h : Held). h.encoded) (is xs);
     unfit = λ kind xs. ap (λ (h : Held). h.unfit) (is xs);
     counted = λ xs. ap (λ (h : Held). h.count) (is xs);
+    shown = λ b xs. ap (λ (h : Held). h.seen b) (is xs);
     memory = λ bytes. (x : Item) × (rest : List ℕ) × Front bytes x rest;
   }
 
@@ -61,6 +68,7 @@ module _ {W : Type 0} (held : W → Held) where
     encoded = λ bytes. ap (λ (h : Held). h.encoded) (is bytes);
     unfit = λ kind bytes. ap (λ (h : Held). h.unfit) (is bytes);
     counted = λ bytes. ap (λ (h : Held). h.count) (is bytes);
+    shown = λ b bytes. ap (λ (h : Held). h.seen b) (is bytes);
     memory = λ bytes. 0 < length bytes;
   }
 
@@ -84,6 +92,15 @@ module _ {W : Type 0} (held : W → Held) (c : Case held) where
   chosen-grows bytes x is p =
       subst (λ (b : List ℕ). 2 * framed (length b) ≤ 5 * (4 + length bytes)) (sym (written_as x p.0 p.2)) (c.codec.grows bytes p.0 is p.1)
 
+  abbrev pub chosen_showing : Showing (λ bytes x. IsChosen (c.codec.Reads bytes) x) c.codec.Wrong
+  chosen_showing = record {
+    form = c.codec.showing.form;
+    sees = λ bytes x. (held x).seen bytes;
+    shows = λ bytes s x p q. c.codec.showing.shows bytes s q.0 p q.1 ∙ sym (ap (λ (y : W). (held y).seen bytes) q.2 ∙ c.shown bytes q.0);
+    whole = λ bytes s whole p. let v = c.codec.showing.whole bytes s whole p in (c.made v.0, (v.0, v.1, refl));
+    wrong = c.codec.showing.wrong;
+  }
+
   abbrev pub chosen : Codec W
   chosen = record {
     Reads = λ bytes x. IsChosen (c.codec.Reads bytes) x;
@@ -104,4 +121,5 @@ module _ {W : Type 0} (held : W → Held) (c : Case held) where
     reads_holds = λ bytes x is p. (p.0, c.codec.reads_holds bytes p.0 is p.1, p.2);
     reads_back = chosen-back;
     grows = chosen-grows;
+    showing = chosen_showing;
   }

@@ -7,7 +7,9 @@ use Rattle.std.proofs.lemmas.Bool.{eqb-true, eqb-false}
 use Rattle.npr_base.specs.Codec.{Codec, no_members}
 use Rattle.npr_base.specs.Name.{IsName, name}
 use Rattle.npr_base.specs.NameLaws.{IsUnterminated}
-use Rattle.npr_base.specs.Numbering.{Numbering, IsFormed}
+use Rattle.npr_base.specs.Numbering.{Numbering, IsFormed, of_IsFormed}
+use Rattle.npr_base.specs.Showing.{Showing}
+use Rattle.npr_base.specs.Value.{is_name}
 
 -- by its name: one of those that are known, or another
 pub data Kind : Type 0 where
@@ -44,6 +46,19 @@ module _ (names : List (List ℕ)) where
   pub kind-one : (bytes : List ℕ) (x y : Kind) → IsKind bytes x → IsKind bytes y → x ≡ y
   kind-one bytes x y p q = p.1 ∙ ap (kind_in names) (name.one_reading bytes (kind_name x) (kind_name y) p.0 q.0) ∙ sym q.1
 
+  pub kind-whole : (bytes text : List ℕ) → IsName bytes text → IsKind bytes (kind_in names text)
+  kind-whole bytes text is = (subst (IsName bytes) (sym ((kinds names).back text)) is, of_IsFormed (kinds names) text)
+
+  -- a kind is seen as its name
+  abbrev pub kind_showing : Showing IsKind name.Wrong
+  kind_showing = record {
+    form = name.showing.form;
+    sees = λ bytes k. is_name (kind_name k);
+    shows = λ bytes s k p q. name.showing.shows bytes s (kind_name k) p q.0;
+    whole = λ bytes s w p. let text = name.showing.whole bytes s w p in (kind_in names text.0, kind-whole bytes text.0 text.1);
+    wrong = name.showing.wrong;
+  }
+
   abbrev pub kind_codec : Codec Kind
   kind_codec = record {
     Reads = IsKind;
@@ -57,6 +72,7 @@ module _ (names : List (List ℕ)) where
     reads_holds = λ bytes k is p. (name.reads_holds bytes (kind_name k) is p.0, p.1);
     reads_back = λ kind k h f. (name.reads_back kind (kind_name k) h.0 refl, h.1);
     grows = λ bytes k is p. name.grows bytes (kind_name k) is p.0;
+    showing = kind_showing;
   }
 
 -- what the name is among these, of what a program makes of it: the kind that is known, or none

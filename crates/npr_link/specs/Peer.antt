@@ -11,6 +11,7 @@ use Rattle.npr_base.specs.Lists.{encodings, first_unfit, list_members, option_or
 use Rattle.npr_base.specs.Looks.{Looking, looked_through}
 use Rattle.npr_base.specs.LooksLaws.{none-most}
 use Rattle.npr_base.specs.Message.{Grammar, View, grammar_by, IsMessage, MessageFault, MessageLooks, IsCoherent, canonical_bytes, message_unfit}
+use Rattle.npr_base.specs.Showing.{shows_inside}
 use Rattle.npr_base.proofs.Messages.{message-one, message-sound, message-coherent, message-back, message-grows, message-saw}
 use Rattle.npr_base.proofs.Messages.{message-looks-one, message-looks-add}
 use Rattle.npr_link.specs.Header.{header, default_header}
@@ -71,4 +72,5 @@ peer = record {
   reads_holds = λ bytes p is reads. message-coherent peers bytes p is reads;
   reads_back = λ kind p holds fits. peer-back p holds fits;
   grows = peer-grows;
+  showing = shows_inside;
 }

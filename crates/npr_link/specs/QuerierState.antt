@@ -1,6 +1,6 @@
 -- Who asks for multicast groups (linux/if_bridge.h, BRIDGE_QUERIER_*), by the table.
 use Rattle.npr_base.specs.declared.refusal.AttrFamily.TheVariants.{BridgeQuerierState as AtQuerierState}
-use Rattle.npr_base.specs.Tables.{EnumTable, table_of, row, others, ◌or◌, exactly, le32, le64, octets, value, refl, Reading, Family, writing_of}
+use Rattle.npr_base.specs.Tables.{EnumTable, table_of, row, others, ◌or◌, exactly, le32, le64, octets4, octets16, value, refl, Reading, Family, writing_of}
 use Rattle.npr_base.specs.Tables.{attributes_of, family_of_table}
 use Rattle.npr_link.specs.contracts.querier_state.BridgeQuerierState.{enum}
 use Rattle.npr_link.specs.declared.querier_state.BridgeQuerierState.{BridgeQuerierState}
@@ -9,10 +9,10 @@ use Rattle.npr_link.specs.declared.querier_state.BridgeQuerierState.{BridgeQueri
 abbrev pub table : EnumTable enum
 table =
     table_of enum (
-    row AtQuerierState 1 (exactly (octets 4)) (value BridgeQuerierState.Ipv4Address)  -- BRIDGE_QUERIER_IP_ADDRESS
+    row AtQuerierState 1 (exactly octets4) (value BridgeQuerierState.Ipv4Address)  -- BRIDGE_QUERIER_IP_ADDRESS
     or row AtQuerierState 2 (exactly le32) (value BridgeQuerierState.Ipv4Port)  -- BRIDGE_QUERIER_IP_PORT
     or row AtQuerierState 3 (exactly le64) (value BridgeQuerierState.Ipv4OtherTimer)  -- BRIDGE_QUERIER_IP_OTHER_TIMER
-    or row AtQuerierState 5 (exactly (octets 16)) (value BridgeQuerierState.Ipv6Address)  -- BRIDGE_QUERIER_IPV6_ADDRESS
+    or row AtQuerierState 5 (exactly octets16) (value BridgeQuerierState.Ipv6Address)  -- BRIDGE_QUERIER_IPV6_ADDRESS
     or row AtQuerierState 6 (exactly le32) (value BridgeQuerierState.Ipv6Port)  -- BRIDGE_QUERIER_IPV6_PORT
     or row AtQuerierState 7 (exactly le64) (value BridgeQuerierState.Ipv6OtherTimer)  -- BRIDGE_QUERIER_IPV6_OTHER_TIMER
     or others (value BridgeQuerierState.Other)) refl refl

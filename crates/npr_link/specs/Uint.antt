@@ -10,6 +10,7 @@ use Rattle.npr_base.specs.declared.refusal.DecodeError.{DecodeError}
 use Rattle.npr_base.specs.declared.refusal.DecodeError.TheVariants.{ValueLength}
 use Rattle.npr_base.specs.Framing.{IsBytes, framed}
 use Rattle.npr_base.specs.Layout.{le32, le64}
+use Rattle.npr_base.specs.Showing.{shows_inside}
 
 abbrev pub IsUint : List ℕ → ℕ → Type 0
 IsUint bytes n = ((length bytes ≡ 4) × (n ≡ le32.decode bytes)) ⊎ ((length bytes ≡ 8) × (n ≡ le64.decode bytes))
@@ -70,4 +71,6 @@ uint = record {
   reads_holds = uint-holds;
   reads_back = λ kind x h f. uint-back x h;
   grows = uint-grows;
+  -- four bytes and eight have no form in common
+  showing = shows_inside;
 }

@@ -5,7 +5,9 @@ ghost use Rattle.{npr_base.specs.Family.{shaped}, npr_link.specs.AfSpec.{family}
 
 use crate::af_spec_inet::AfSpecInet;
 use crate::af_spec_inet6::AfSpecInet6;
-use npr_base::{Attribute, DecodeError, DefaultNla, EmitError, Looks, Nla, NlaBuffer, Place};
+use npr_base::{
+    At, Attribute, DecodeError, DefaultNla, EmitError, Form, Looks, Nla, NlaBuffer, Place,
+};
 use std::alloc::{AllocError, Global};
 
 /// What an address family says of a link.
@@ -65,6 +67,11 @@ impl Attribute for AfSpecUnspec {
         looks: &mut Looks,
     ) -> Result<(), DecodeError> {
         rows!(put_rows(place, alloc, item, looks))
+    }
+
+    #[tactic(auto, unfolding(crate::specs::AfSpec::attributes))]
+    fn form(_context: (), number: u16) -> (At, Form) {
+        rows!(form_rows(number))
     }
 
     fn try_clone(&self, alloc: Global) -> Result<Self, AllocError> {

@@ -8,7 +8,7 @@ use crate::inet6_cache_info::Inet6CacheInfo;
 use crate::inet6_flags::Inet6IfaceFlags;
 use bitflags::Flags;
 use npr_base::{
-    Attribute, DecodeError, DefaultNla, EmitError, Ipv6Addr, Looks, Nla, NlaBuffer, Place,
+    At, Attribute, DecodeError, DefaultNla, EmitError, Form, Ipv6Addr, Looks, Nla, NlaBuffer, Place,
 };
 use npr_link_numbers::{Icmp6Stats, Inet6DevConf, Inet6Stats};
 use std::alloc::{AllocError, Global};
@@ -88,6 +88,11 @@ impl Attribute for AfSpecInet6 {
         looks: &mut Looks,
     ) -> Result<(), DecodeError> {
         rows!(put_rows(place, alloc, item, looks))
+    }
+
+    #[tactic(auto, unfolding(crate::specs::AfSpecInet6::attributes))]
+    fn form(_context: (), number: u16) -> (At, Form) {
+        rows!(form_rows(number))
     }
 
     fn try_clone(&self, alloc: Global) -> Result<Self, AllocError> {

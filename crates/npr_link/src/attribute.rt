@@ -1,6 +1,6 @@
 //! An attribute of a link message: `IFLA_*` of `linux/if_link.h`.
 
-ghost use Rattle.std.specs.Prelude.{◌≢◌, List, length, IfOk, IfErr};
+ghost use Rattle.std.specs.Prelude.{◌≡◌, ◌≢◌, List, length, IfOk, IfErr};
 ghost use Rattle.{
   npr_base.specs.{
     declared.refusal.DecodeError.TheVariants.{OutOfMemory},
@@ -31,9 +31,9 @@ use crate::values::{read_uint, uint_len, write_uint};
 use crate::xdp::LinkXdp;
 use bitflags::Flags;
 use npr_base::{
-    AddressFamily, AttrFamily, Attribute, DecodeError, DefaultNla, EmitError, Looks, NLA_F_NESTED,
-    Nla, NlaBuffer, Place, check_list, clone_list, parse_list, put_read, read_bytes, write_bytes,
-    write_list,
+    AddressFamily, At, AttrFamily, Attribute, DecodeError, DefaultNla, EmitError, Form, Looks,
+    NLA_F_NESTED, Nla, NlaBuffer, Place, check_list, clone_list, parse_list, put_read, read_bytes,
+    write_bytes, write_list,
 };
 use npr_link_numbers::{Stats, Stats64};
 use std::alloc::{AllocError, Global};
@@ -271,6 +271,16 @@ impl Nla for LinkAttribute {
     }
 }
 
+/// How what address families say is read without memory.
+fn af_spec_form(family: AddressFamily) -> Form
+    ensures { result ≡ (af_specs (form_of family)).showing.form }
+{
+    match family {
+        AddressFamily::Unspec | AddressFamily::Inet | AddressFamily::Inet6 => Form::Inside,
+        _ => Form::Raw,
+    }
+}
+
 /// Puts what address families say: a list where the header has no family, or that of IP.
 ///
 /// # Errors
@@ -373,6 +383,14 @@ impl Attribute for LinkAttribute {
             IFLA_LINKINFO => put_info(place, alloc, item.value(), looks),
             _ => put_flat(place, alloc, item, looks),
         }
+    }
+
+    fn form(family: AddressFamily, number: u16) -> (At, Form) {
+        rows!(form_rows(number;
+            IFLA_AF_SPEC => af_spec_form(family),
+            IFLA_LINKINFO => Form::Inside,
+            IFLA_MAX_PACING_OFFLOAD_HORIZON => Form::Inside,
+        ))
     }
 
     fn try_clone(&self, alloc: Global) -> Result<Self, AllocError> {

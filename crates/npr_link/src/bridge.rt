@@ -7,10 +7,10 @@ use crate::bridge_id::BridgeId;
 use crate::multicast_router::BridgeMulticastRouterType;
 use crate::querier_state::BridgeQuerierState;
 use crate::stp_state::BridgeStpState;
-use crate::vlan_protocol::VlanProtocol;
+use crate::vlan_protocol::{VlanProtocol, vlan_protocol_number};
 use npr_base::{
-    AttrFamily, Attribute, DecodeError, DefaultNla, EmitError, Looks, NLA_F_NESTED, Nla, NlaBuffer,
-    Place, put_read, read_octets, write_bytes,
+    At, AttrFamily, Attribute, DecodeError, DefaultNla, EmitError, Form, Looks, NLA_F_NESTED, Nla,
+    NlaBuffer, Place, put_read, read_octets, write_bytes,
 };
 use std::alloc::{AllocError, Global};
 
@@ -130,7 +130,7 @@ macro_rules! rows {
             5 StpState(BridgeStpState as le32);
             6 Priority(le16);
             7 VlanFiltering(boolean);
-            8 VlanProtocol(VlanProtocol exactly 2);
+            8 VlanProtocol(VlanProtocol as be16 by vlan_protocol_number);
             9 GroupFwdMask(le16);
             10 RootId(BridgeId leading 8);
             11 BridgeId(BridgeId leading 8);
@@ -211,6 +211,11 @@ impl Attribute for InfoBridge {
         looks: &mut Looks,
     ) -> Result<(), DecodeError> {
         rows!(put_rows(place, alloc, item, looks; 20 => put_read(place, read_octets::<6>(item.value(), AttrFamily::InfoBridge.at(20)), InfoBridge::GroupAddr),))
+    }
+
+    #[tactic(auto, unfolding(crate::specs::Bridge::attributes))]
+    fn form(_context: (), number: u16) -> (At, Form) {
+        rows!(form_rows(number; 20 => Form::Exactly(6),))
     }
 
     fn try_clone(&self, alloc: Global) -> Result<Self, AllocError> {

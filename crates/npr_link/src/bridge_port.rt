@@ -5,7 +5,9 @@ ghost use Rattle.{npr_base.specs.Tables.{shape_by, shape-by}, npr_link.specs.Bri
 use crate::bridge_id::BridgeId;
 use crate::multicast_router::BridgeMulticastRouterType;
 use crate::port_state::BridgePortState;
-use npr_base::{Attribute, DecodeError, DefaultNla, EmitError, Looks, Nla, NlaBuffer, Place};
+use npr_base::{
+    At, Attribute, DecodeError, DefaultNla, EmitError, Form, Looks, Nla, NlaBuffer, Place,
+};
 use std::alloc::{AllocError, Global};
 
 /// The data of a port of a bridge. Times are in hundredths of a second.
@@ -191,6 +193,11 @@ impl Attribute for InfoBridgePort {
         looks: &mut Looks,
     ) -> Result<(), DecodeError> {
         rows!(put_rows(place, alloc, item, looks))
+    }
+
+    #[tactic(auto, unfolding(crate::specs::BridgePort::attributes))]
+    fn form(_context: (), number: u16) -> (At, Form) {
+        rows!(form_rows(number))
     }
 
     fn try_clone(&self, alloc: Global) -> Result<Self, AllocError> {

@@ -8,8 +8,8 @@ use crate::info_kind::{InfoForm, InfoKind};
 use crate::port_data::InfoPortData;
 use crate::port_kind::{InfoPortForm, InfoPortKind};
 use npr_base::{
-    AttrFamily, Attribute, DecodeError, DefaultNla, EmitError, Looks, Nla, NlaBuffer, Place,
-    put_read, read_bytes, write_bytes,
+    At, AttrFamily, Attribute, DecodeError, DefaultNla, EmitError, Form, Looks, Nla, NlaBuffer,
+    Place, put_read, read_bytes, write_bytes,
 };
 use std::alloc::{AllocError, Global};
 
@@ -128,6 +128,16 @@ impl Attribute for LinkInfo {
             ),
             _ => put_read(place, DefaultNla::read(alloc, item), LinkInfo::Other),
         }
+    }
+
+    fn form(forms: (InfoForm, InfoPortForm), number: u16) -> (At, Form) {
+        let form = match number {
+            IFLA_INFO_KIND | IFLA_INFO_SLAVE_KIND => Form::Name,
+            IFLA_INFO_DATA => InfoData::form(forms.0),
+            IFLA_INFO_SLAVE_DATA => InfoPortData::form(forms.1),
+            _ => Form::Raw,
+        };
+        (AttrFamily::LinkInfo.at(number), form)
     }
 
     fn try_clone(&self, alloc: Global) -> Result<Self, AllocError> {

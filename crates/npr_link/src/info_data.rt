@@ -19,7 +19,7 @@ use crate::veth::InfoVeth;
 use crate::vlan::InfoVlan;
 use crate::vrf::InfoVrf;
 use crate::{data_checked, data_cloned, data_written};
-use npr_base::{DecodeError, EmitError, Looks, parse_list, read_bytes};
+use npr_base::{DecodeError, EmitError, Form, Looks, parse_list, read_bytes};
 use std::alloc::{AllocError, Global};
 
 /// The data of a link: what they are follows from the first kind in the list that they stand in.
@@ -73,6 +73,16 @@ impl InfoData {
             InfoForm::Veth => Ok(InfoData::Veth(parse_list(alloc, (), bytes, looks)?)),
             InfoForm::Vrf => Ok(InfoData::Vrf(parse_list(alloc, (), bytes, looks)?)),
             InfoForm::Kept => Ok(InfoData::Other(read_bytes(alloc, bytes)?)),
+        }
+    }
+
+    /// How the data are read without memory.
+    pub(crate) fn form(form: InfoForm) -> Form
+        ensures { result ≡ (info_data form).showing.form }
+    {
+        match form {
+            InfoForm::Kept => Form::Raw,
+            _ => Form::Inside,
         }
     }
 

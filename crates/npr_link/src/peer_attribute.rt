@@ -4,7 +4,9 @@ ghost use Rattle.{npr_base.specs.Tables.{shape_by, shape-by}, npr_link.specs.Pee
 
 use crate::link_mode::LinkMode;
 use crate::state::State;
-use npr_base::{Attribute, DecodeError, DefaultNla, EmitError, Looks, Nla, NlaBuffer, Place};
+use npr_base::{
+    At, Attribute, DecodeError, DefaultNla, EmitError, Form, Looks, Nla, NlaBuffer, Place,
+};
 use std::alloc::{AllocError, Global};
 
 /// An attribute of the other end of a pair, as a request for the pair has it.
@@ -112,6 +114,11 @@ impl Attribute for PeerAttribute {
         looks: &mut Looks,
     ) -> Result<(), DecodeError> {
         rows!(put_rows(place, alloc, item, looks))
+    }
+
+    #[tactic(auto, unfolding(crate::specs::PeerAttribute::attributes))]
+    fn form(_context: (), number: u16) -> (At, Form) {
+        rows!(form_rows(number))
     }
 
     fn try_clone(&self, alloc: Global) -> Result<Self, AllocError> {

@@ -17,7 +17,7 @@ use crate::bridge_port::InfoBridgePort;
 use crate::port_kind::InfoPortForm;
 use crate::vrf::InfoVrf;
 use crate::{data_checked, data_cloned, data_written};
-use npr_base::{DecodeError, EmitError, Looks, parse_list, read_bytes};
+use npr_base::{DecodeError, EmitError, Form, Looks, parse_list, read_bytes};
 use std::alloc::{AllocError, Global};
 
 /// The data of a port: what they are follows from the first kind in the list that they stand in.
@@ -68,6 +68,16 @@ impl InfoPortData {
             )?)),
             InfoPortForm::Vrf => Ok(InfoPortData::VrfPort(parse_list(alloc, (), bytes, looks)?)),
             InfoPortForm::Kept => Ok(InfoPortData::Other(read_bytes(alloc, bytes)?)),
+        }
+    }
+
+    /// How the data are read without memory.
+    pub(crate) fn form(form: InfoPortForm) -> Form
+        ensures { result ≡ (port_data form).showing.form }
+    {
+        match form {
+            InfoPortForm::Kept => Form::Raw,
+            _ => Form::Inside,
         }
     }
 

@@ -4,7 +4,8 @@ ghost use Rattle.std.specs.Prelude.{refl};
 ghost use Rattle.{npr_base.specs.Family.{shaped}, npr_link.specs.QuerierState.{family}};
 
 use npr_base::{
-    Attribute, DecodeError, DefaultNla, EmitError, Ipv4Addr, Ipv6Addr, Looks, Nla, NlaBuffer, Place,
+    At, Attribute, DecodeError, DefaultNla, EmitError, Form, Ipv4Addr, Ipv6Addr, Looks, Nla,
+    NlaBuffer, Place,
 };
 use std::alloc::{AllocError, Global};
 
@@ -77,6 +78,11 @@ impl Attribute for BridgeQuerierState {
         looks: &mut Looks,
     ) -> Result<(), DecodeError> {
         rows!(put_rows(place, alloc, item, looks))
+    }
+
+    #[tactic(auto, unfolding(crate::specs::QuerierState::attributes))]
+    fn form(_context: (), number: u16) -> (At, Form) {
+        rows!(form_rows(number))
     }
 
     fn try_clone(&self, alloc: Global) -> Result<Self, AllocError> {

@@ -5,7 +5,8 @@ ghost use Rattle.{npr_base.specs.Family.{shaped}, npr_link.specs.Veth.{family}};
 
 use crate::peer::LinkPeer;
 use npr_base::{
-    Attribute, DecodeError, DefaultNla, EmitError, Emitable, Looks, Nla, NlaBuffer, Place, put_read,
+    At, AttrFamily, Attribute, DecodeError, DefaultNla, EmitError, Emitable, Form, Looks, Nla,
+    NlaBuffer, Place, put_read,
 };
 use std::alloc::{AllocError, Global};
 
@@ -73,6 +74,15 @@ impl Attribute for InfoVeth {
             ),
             _ => put_read(place, DefaultNla::read(alloc, item), InfoVeth::Other),
         }
+    }
+
+    #[tactic(auto, unfolding(crate::specs::Veth::attributes))]
+    fn form(_context: (), number: u16) -> (At, Form) {
+        let form = match number {
+            VETH_INFO_PEER => Form::Inside,
+            _ => Form::Raw,
+        };
+        (AttrFamily::InfoVeth.at(number), form)
     }
 
     fn try_clone(&self, alloc: Global) -> Result<Self, AllocError> {

@@ -5,12 +5,12 @@ ghost use Rattle.{npr_base.specs.Family.{shaped}, npr_link.specs.Vlan.{family}};
 
 use crate::values::{read_two_flags, write_two_numbers};
 use crate::vlan_flags::VlanFlags;
-use crate::vlan_protocol::VlanProtocol;
+use crate::vlan_protocol::{VlanProtocol, vlan_protocol_number};
 use crate::vlan_qos::VlanQosMapping;
 use bitflags::Flags;
 use npr_base::{
-    AttrFamily, Attribute, DecodeError, DefaultNla, EmitError, Looks, Nla, NlaBuffer, Place,
-    put_read,
+    At, AttrFamily, Attribute, DecodeError, DefaultNla, EmitError, Form, Looks, Nla, NlaBuffer,
+    Place, put_read,
 };
 use std::alloc::{AllocError, Global};
 
@@ -38,7 +38,7 @@ macro_rules! rows {
             1 Id(le16);
             3 EgressQos(list);
             4 IngressQos(list);
-            5 Protocol(VlanProtocol exactly 2);
+            5 Protocol(VlanProtocol as be16 by vlan_protocol_number);
         })
     };
 }
@@ -79,6 +79,11 @@ impl Attribute for InfoVlan {
         looks: &mut Looks,
     ) -> Result<(), DecodeError> {
         rows!(put_rows(place, alloc, item, looks; 2 => put_read(place, read_two_flags(item.value(), AttrFamily::InfoVlan.at(2)), InfoVlan::Flags),))
+    }
+
+    #[tactic(auto, unfolding(crate::specs::Vlan::attributes))]
+    fn form(_context: (), number: u16) -> (At, Form) {
+        rows!(form_rows(number; 2 => Form::Exactly(8),))
     }
 
     fn try_clone(&self, alloc: Global) -> Result<Self, AllocError> {

@@ -1,9 +1,8 @@
 //! The protocol of the tags of a VLAN: `ETH_P_8021Q` and `ETH_P_8021AD` of `linux/if_ether.h`.
 
-ghost use Rattle.std.specs.Prelude.{◌≡◌, Some, IfOk, IfErr};
-ghost use Rattle.{npr_base.specs.Codec.{exactly}, npr_link.specs.VlanProtocol.{vlan_protocol, vlan_protocols, vlan_protocol_text}};
+ghost use Rattle.std.specs.Prelude.{◌≡◌, Some};
+ghost use Rattle.npr_link.specs.VlanProtocol.{vlan_protocols, vlan_protocol_text};
 
-use npr_base::{At, DecodeError, read_u16_be};
 use std::fmt;
 
 /// The protocol of the tags of a VLAN: `ETH_P_8021Q` and `ETH_P_8021AD` of `linux/if_ether.h`. It is written as 2 bytes, big endian.
@@ -44,24 +43,11 @@ impl From<VlanProtocol> for u16 {
     }
 }
 
-impl VlanProtocol {
-    /// The protocol of 2 bytes at a place.
-    ///
-    /// # Errors
-    /// `ValueLength` at another length.
-    pub(crate) fn read(bytes: &[u8], at: At) -> Result<Self, DecodeError>
-        ensures ok { IfOk result (λ value. (exactly vlan_protocol).Reads bytes.now value) }
-        ensures refused { IfErr result (λ e. (exactly vlan_protocol).Wrong at bytes.now e) }
-    {
-        Ok(VlanProtocol::from(read_u16_be(bytes, at)?))
-    }
-
-    /// The 2 bytes of its number.
-    pub(crate) fn to_bytes(self) -> [u8; 2]
-        ensures { result ≡ vlan_protocol.encode self }
-    {
-        u16::from(self).to_be_bytes()
-    }
+/// The number of a protocol.
+pub(crate) fn vlan_protocol_number(protocol: VlanProtocol) -> u16
+    ensures { result ≡ vlan_protocols.number protocol }
+{
+    u16::from(protocol)
 }
 
 /// The name, and of any other its number.

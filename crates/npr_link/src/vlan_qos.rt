@@ -5,7 +5,8 @@ ghost use Rattle.{npr_base.specs.Family.{shaped}, npr_link.specs.VlanQos.{family
 
 use crate::values::{read_two_numbers, write_two_numbers};
 use npr_base::{
-    AttrFamily, Attribute, DecodeError, DefaultNla, EmitError, Looks, Nla, NlaBuffer, Place,
+    At, AttrFamily, Attribute, DecodeError, DefaultNla, EmitError, Form, Looks, Nla, NlaBuffer,
+    Place,
 };
 use std::alloc::{AllocError, Global};
 
@@ -68,6 +69,11 @@ impl Attribute for VlanQosMapping {
                 Ok(())
             }
         ))
+    }
+
+    #[tactic(auto, unfolding(crate::specs::VlanQos::attributes))]
+    fn form(_context: (), number: u16) -> (At, Form) {
+        rows!(form_rows(number; 1 => Form::Exactly(8),))
     }
 
     fn try_clone(&self, alloc: Global) -> Result<Self, AllocError> {

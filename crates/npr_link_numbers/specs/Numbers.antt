@@ -6,11 +6,13 @@ use Rattle.std.proofs.Common.{◌≡◌, ℕ, ◌*◌, List, [], ◌∷◌, leng
 use Rattle.std.proofs.Math.Facts.{Fits-lt-pow, Fits-bits, sfits_to_z}
 use Rattle.std.proofs.lemmas.Nat.{from_le_bytes-to_le_bytes_8}
 use mir.ValLaws.{of_z_fits}
+use Rattle.npr_base.specs.declared.value.Form.TheVariants.{Exactly}
 use Rattle.npr_base.specs.Blocks.{blocks}
 use Rattle.npr_base.specs.Codec.{Codec}
 use Rattle.npr_base.specs.Framing.{IsBytes}
 use Rattle.npr_base.specs.Layout.{Layout, le32, le64, signed32}
 use Rattle.npr_base.specs.LayoutLaws.{le64-holds}
+use Rattle.npr_base.specs.Value.{is_structure}
 
 pub signed64-back : (z : ℤ) → FitsSigned w64 z → cast_signed w64 (from_le_bytes w64 (to_le_bytes w64 (cast_unsigned w64 z))) ≡ z
 signed64-back z fits = ap (cast_signed w64) (from_le_bytes-to_le_bytes_8 (cast_unsigned w64 z) (Fits-lt-pow (of_z_fits w64 z fits))) ∙ to_z-of_z fits
@@ -28,6 +30,10 @@ signed64 = record {
   length-encode = λ z h. refl;
   decode-encode = signed64-back;
   Holds-decode = signed64-holds;
+  form = Exactly 8;
+  sees = λ bytes z. is_structure bytes;
+  shows = λ bytes s p. p;
+  misshown = λ at bytes e p. p;
 }
 
 -- the lowest byte first

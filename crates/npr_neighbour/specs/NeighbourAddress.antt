@@ -5,8 +5,9 @@ use Rattle.npr_base.specs.declared.address_family.AddressFamily.{AddressFamily}
 use Rattle.npr_base.specs.declared.address_family.AddressFamily.TheVariants.{Inet, Inet6}
 use Rattle.npr_base.specs.declared.ip.IpAddr.{IpAddr}
 use Rattle.npr_base.specs.declared.ip.IpAddr.TheVariants.{V4, V6}
-use Rattle.npr_base.specs.Layout.{octets}
+use Rattle.npr_base.specs.Layout.{octets4, octets16}
 use Rattle.npr_base.specs.Codec.{Codec, exactly, raw}
+use Rattle.npr_base.specs.Value.{Shown, is_address, are_bytes}
 use Rattle.npr_base.specs.VariantCodec.{variant, written_alike}
 use Rattle.npr_neighbour.specs.declared.address.NeighbourAddress.{NeighbourAddress}
 use Rattle.npr_neighbour.specs.declared.address.NeighbourAddress.TheVariants.{Inet as AddressInet, Inet6 as AddressInet6, Other as AddressOther}
@@ -39,11 +40,17 @@ address_bytes (inet a) = a
 address_bytes (inet6 a) = a
 address_bytes (other v) = v
 
+-- what is seen of it in these bytes
+abbrev pub address_shown : List ℕ → Address → Shown
+address_shown b (inet a) = is_address (V4 a)
+address_shown b (inet6 a) = is_address (V6 a)
+address_shown b (other v) = are_bytes v
+
 -- four bytes, sixteen, or any bytes as they stand
 abbrev pub address_by : Form → Codec Address
-address_by four = variant (exactly (octets 4)) inet address_bytes (λ v. refl) (λ v. refl)
-address_by sixteen = variant (exactly (octets 16)) inet6 address_bytes (λ v. refl) (λ v. refl)
-address_by any = variant raw other address_bytes (λ v. refl) (λ v. refl)
+address_by four = variant (exactly octets4) inet address_bytes address_shown (λ v. refl) (λ v. refl) (λ b v. refl)
+address_by sixteen = variant (exactly octets16) inet6 address_bytes address_shown (λ v. refl) (λ v. refl) (λ b v. refl)
+address_by any = variant raw other address_bytes address_shown (λ v. refl) (λ v. refl) (λ b v. refl)
 
 pub address-alike : (form : Form) → ((address_by form).encode ≡ address_bytes) × ((a : Address) → (address_by form).unfit 0 a ≡ None)
 address-alike four = (refl, λ a. refl)

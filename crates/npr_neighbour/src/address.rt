@@ -10,8 +10,8 @@ ghost use Rattle.{
 };
 
 use npr_base::{
-    AddressFamily, At, DecodeError, EmitError, Emitable, IpAddr, Ipv4Addr, Ipv6Addr, read_bytes,
-    read_ipv4, read_ipv6, write_array, write_bytes,
+    AddressFamily, At, DecodeError, EmitError, Emitable, Form, IpAddr, Ipv4Addr, Ipv6Addr,
+    read_bytes, read_ipv4, read_ipv6, write_array, write_bytes,
 };
 use std::alloc::{AllocError, Global};
 
@@ -53,6 +53,17 @@ impl NeighbourAddress {
             AddressFamily::Inet => Ok(NeighbourAddress::Inet(read_ipv4(bytes, at)?)),
             AddressFamily::Inet6 => Ok(NeighbourAddress::Inet6(read_ipv6(bytes, at)?)),
             _ => Ok(NeighbourAddress::Other(read_bytes(alloc, bytes)?)),
+        }
+    }
+
+    /// How the address of this family is read without memory.
+    pub fn form(family: AddressFamily) -> Form
+        ensures { result ≡ (neighbour_address family).showing.form }
+    {
+        match family {
+            AddressFamily::Inet => Form::Octets4,
+            AddressFamily::Inet6 => Form::Octets16,
+            _ => Form::Raw,
         }
     }
 

@@ -7,7 +7,7 @@ use crate::cache_info::NeighbourCacheInfo;
 use crate::flags::NeighbourExtFlags;
 use bitflags::Flags;
 use npr_base::{
-    AddressFamily, AttrFamily, Attribute, DecodeError, DefaultNla, EmitError, Looks, Nla,
+    AddressFamily, At, AttrFamily, Attribute, DecodeError, DefaultNla, EmitError, Form, Looks, Nla,
     NlaBuffer, Place, put_read,
 };
 use npr_scalar::RouteProtocol;
@@ -114,6 +114,10 @@ impl Attribute for NeighbourAttribute {
                 NeighbourAttribute::Destination,
             ),
         ))
+    }
+
+    fn form(family: AddressFamily, number: u16) -> (At, Form) {
+        rows!(form_rows(number; NDA_DST => NeighbourAddress::form(family),))
     }
 
     fn try_clone(&self, alloc: Global) -> Result<Self, AllocError> {

@@ -1,9 +1,10 @@
 -- Number 19 under a family that is not mpls, and number 23 under a type that is not multicast.
-use Rattle.std.proofs.Common.{◌≡◌, ℕ, List, refl}
+use Rattle.std.proofs.Common.{◌≡◌, ℕ, List, refl, sym, subst}
 use Rattle.npr_base.specs.declared.address_family.AddressFamily.{AddressFamily}
 use Rattle.npr_base.specs.declared.address_family.AddressFamily.TheVariants.{Inet, Inet6, Mpls}
 use Rattle.npr_base.specs.declared.refusal.AttrFamily.TheVariants.{Route as OfRoute}
 use Rattle.npr_base.specs.declared.refusal.DecodeError.{DecodeError}
+use Rattle.npr_base.specs.declared.value.Form.TheVariants.{Inside}
 use Rattle.npr_base.specs.Refusal.{at_number}
 use Rattle.npr_base.specs.Table.{RowReads, RowWrong}
 use Rattle.npr_scalar.specs.RouteAddress.{form_of, route_address, Address}
@@ -28,3 +29,13 @@ address_wrong family not bytes e p = p
 pub expires_reads : (kind : RouteType) → (kind ≡ Multicast → ⊥) → (bytes : List ℕ) (n : ℕ) → (exactly le32).Reads bytes n → RowReads (expires_row (is_multicast kind)) bytes (expires n)
 expires_reads Multicast not bytes n p = absurd (not refl)
 expires_reads kind not bytes n p = (n, p, refl)
+
+-- how it is read without memory
+pub labels_form : (family : AddressFamily) → family ≡ Mpls → Inside ≡ (new_destination_row (form_of family)).codec.showing.form
+labels_form family is = subst (λ f. Inside ≡ (new_destination_row (form_of f)).codec.showing.form) (sym is) refl
+
+pub address_form : (family : AddressFamily) → (family ≡ Mpls → ⊥) → (route_address family).showing.form ≡ (new_destination_row (form_of family)).codec.showing.form
+address_form Inet not = refl
+address_form Inet6 not = refl
+address_form Mpls not = absurd (not refl)
+address_form family not = refl

@@ -2,6 +2,7 @@
 use Rattle.npr_base.specs.Family.{Writing, Reading}
 use Rattle.npr_route.specs.Attribute.{Meaning, Reads, Wrong, Coherent, shape_of, members}
 use Rattle.npr_route.specs.AttributeLaws.{reads-one, reads-sound, reads-coherent, kinds, reads-back, reads-grow}
+use Rattle.npr_route.specs.AttributeSeeing.{attributes-seeing}
 use Rattle.npr_route.specs.AttributeLooksLaws.{attribute_looking}
 use Rattle.npr_route.specs.FlatAttribute.{Context}
 use Rattle.npr_route.specs.LookBounds.{attributes-bounded, attributes-saw}
@@ -25,4 +26,5 @@ attributes c = record {
   grows = reads-grow c;
   bounded = attributes-bounded c;
   saw = attributes-saw c;
+  seeing = attributes-seeing c;
 }

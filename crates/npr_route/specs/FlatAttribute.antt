@@ -166,13 +166,13 @@ rows form multicast family =
 
 -- how each meaning is written, whatever the context
 abbrev pub slot_of : Meaning → Slot
-slot_of (destination a) = slot_plain 1 raw (route_address_bytes a)
-slot_of (source a) = slot_plain 2 raw (route_address_bytes a)
+slot_of (destination a) = slot_plain 1 (address_in any) a
+slot_of (source a) = slot_plain 2 (address_in any) a
 slot_of (iif a) = slot_plain 3 (exactly le32) a
 slot_of (oif a) = slot_plain 4 (exactly le32) a
-slot_of (gateway a) = slot_plain 5 raw (route_address_bytes a)
+slot_of (gateway a) = slot_plain 5 (address_in any) a
 slot_of (priority a) = slot_plain 6 (exactly le32) a
-slot_of (pref_source a) = slot_plain 7 raw (route_address_bytes a)
+slot_of (pref_source a) = slot_plain 7 (address_in any) a
 slot_of (metrics a) = slot_plain 8 (list_of metric_attributes) a
 slot_of (realm a) = slot_plain 11 (exactly route_realm) a
 slot_of (cache_info a) = slot_plain 12 (leading route_cache_info) a
@@ -181,7 +181,7 @@ slot_of (mark a) = slot_plain 16 (exactly le32) a
 slot_of (mfc_stats a) = slot_plain 17 (leading route_mfc_stats) a
 slot_of (via a) = slot_plain 18 via_value a
 slot_of (new_destination a) = slot_plain 19 mpls_labels a
-slot_of (new_destination_address a) = slot_plain 19 raw (route_address_bytes a)
+slot_of (new_destination_address a) = slot_plain 19 (address_in any) a
 slot_of (preference a) = slot_plain 20 (exactly route_preference) a
 slot_of (encap_type a) = slot_plain 21 (exactly encap_type_layout) a
 slot_of (encap a) = slot_marked (any_marks a) 22 (list_of (OfEncap.encapsulation NoEncapsulation)) a

@@ -22,19 +22,19 @@ abbrev pub writing : Writing Meaning
 writing = writing_by slot_of
 
 new_destination-written : (form : Form) (multicast : Bool) (family : Reading OfEncap.writing) (v : NewDestinationValue form)
-    → IsWritten writing (Coherent form multicast family) (new_destination_row form) v
-new_destination-written four multicast family v = (refl, refl, λ h. (λ e. cc, h))
-new_destination-written sixteen multicast family v = (refl, refl, λ h. (λ e. cc, h))
-new_destination-written label multicast family v = (refl, refl, λ h. (refl, h))
-new_destination-written any multicast family v = (refl, refl, λ h. (λ e. cc, h))
+    → IsWritten slot_of (Coherent form multicast family) (new_destination_row form) v
+new_destination-written four multicast family v = (refl, refl, λ h. (λ e. cc, h), λ b. refl)
+new_destination-written sixteen multicast family v = (refl, refl, λ h. (λ e. cc, h), λ b. refl)
+new_destination-written label multicast family v = (refl, refl, λ h. (refl, h), λ b. refl)
+new_destination-written any multicast family v = (refl, refl, λ h. (λ e. cc, h), λ b. refl)
 
 expires-written : (form : Form) (multicast : Bool) (family : Reading OfEncap.writing) (v : ℕ)
-    → IsWritten writing (Coherent form multicast family) (expires_row multicast) v
-expires-written form true family v = (refl, refl, λ h. (refl, h))
-expires-written form false family v = (refl, refl, λ h. (refl, h))
+    → IsWritten slot_of (Coherent form multicast family) (expires_row multicast) v
+expires-written form true family v = (refl, refl, λ h. (refl, h), λ b. refl)
+expires-written form false family v = (refl, refl, λ h. (refl, h), λ b. refl)
 
 pub aligned : (form : Form) (multicast : Bool) (family : Reading OfEncap.writing)
-    → Aligned writing (Coherent form multicast family) (rows form multicast family)
+    → Aligned slot_of (Coherent form multicast family) (rows form multicast family)
 aligned form multicast family = search (rules, new_destination-written form multicast family, expires-written form multicast family)
 
 pub kinds : (form : Form) (multicast : Bool) (family : Reading OfEncap.writing) (m : Meaning)

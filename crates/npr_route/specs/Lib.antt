@@ -5,6 +5,7 @@ pub mod AttributeLaws
 pub mod Ahead
 pub mod AheadLaws
 pub mod LookBounds
+pub mod AttributeSeeing
 pub mod AttributeFamily
 pub mod AttributeView
 pub mod FlatAttribute

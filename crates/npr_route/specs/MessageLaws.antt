@@ -1,6 +1,7 @@
 -- A route message is read under the type that its list is searched for.
-use Rattle.std.proofs.Common.{◌≡◌, ℕ, List, sym, ap, subst, ◌∙◌}
+use Rattle.std.proofs.Common.{◌≡◌, ℕ, List, map, sym, ap, subst, ◌∙◌}
 use Rattle.npr_base.specs.Counts.{Counts}
+use Rattle.npr_base.specs.Lists.{ReadsList}
 use Rattle.npr_base.specs.Message.{IsUnder}
 use Rattle.npr_tunnel.specs.declared.encap_type.RouteLwEnCapType.{RouteLwEnCapType}
 use Rattle.npr_tunnel.specs.declared.encap_type.RouteLwEnCapType.TheVariants.{None as NoEncapsulation}
@@ -26,6 +27,10 @@ under_type h bytes type governs = record {
       λ d (other, tells, is).
       is ∙ ap (λ (t : RouteLwEnCapType). (h.address_family, h.kind, t)) (governs-one NoEncapsulation bytes other type tells governs);
   reads = λ xs reads. (type, governs, reads);
+  means =
+      λ xs (other, tells, reads).
+      subst (λ (t : RouteLwEnCapType). ReadsList (family.reading (h.address_family, h.kind, t)).Reads bytes (map family.meaning xs))
+      (governs-one NoEncapsulation bytes other type tells governs) reads;
   faulty = λ e wrong. (type, governs, wrong);
   searched = searched NoEncapsulation bytes type;
   looks = λ old mid new searches takes. (type, mid, searches, takes);

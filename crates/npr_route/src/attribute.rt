@@ -7,10 +7,10 @@ use crate::descent::{check_inside, clone_attribute, is_marked, write_value};
 use crate::metrics::RouteMetric;
 use crate::next_hops::RouteNextHop;
 use crate::reader::read_next_hops;
-use crate::rows::{push_flat, read_flat};
+use crate::rows::{form_at, push_flat, read_flat};
 use npr_base::{
-    AddressFamily, Attribute, DecodeError, DefaultNla, EmitError, Looks, Nla, NlaBuffer, Place,
-    kind_rows,
+    AddressFamily, At, Attribute, DecodeError, DefaultNla, EmitError, Form, Looks, Nla, NlaBuffer,
+    Place, kind_rows,
 };
 use npr_scalar::{
     MplsLabel, RouteAddress, RouteCacheInfo, RouteMfcStats, RouteMplsTtlPropagation,
@@ -214,6 +214,10 @@ impl Attribute for RouteAttribute {
         } else {
             push_flat(list, alloc, context, context.2, item, looks)
         }
+    }
+
+    fn form(context: Context, number: u16) -> (At, Form) {
+        form_at(context, number)
     }
 
     fn try_clone(&self, alloc: Global) -> Result<Self, AllocError> {

@@ -2,7 +2,9 @@
 
 ghost use Rattle.{npr_base.specs.Tables.{shape_by, shape-by}, npr_route.specs.Metric.{table, family}};
 
-use npr_base::{Attribute, DecodeError, DefaultNla, EmitError, Looks, Nla, NlaBuffer, Place};
+use npr_base::{
+    At, Attribute, DecodeError, DefaultNla, EmitError, Form, Looks, Nla, NlaBuffer, Place,
+};
 use std::alloc::{AllocError, Global};
 
 /// A metric of a route.
@@ -107,6 +109,11 @@ impl Attribute for RouteMetric {
         looks: &mut Looks,
     ) -> Result<(), DecodeError> {
         rows!(put_rows(place, alloc, item, looks))
+    }
+
+    #[tactic(auto, unfolding(crate::specs::Metric::attributes))]
+    fn form(_context: (), number: u16) -> (At, Form) {
+        rows!(form_rows(number))
     }
 
     fn try_clone(&self, alloc: Global) -> Result<Self, AllocError> {

@@ -35,8 +35,8 @@ use crate::attribute::{
 };
 use crate::route_rows;
 use npr_base::{
-    AddressFamily, AttrFamily, DecodeError, DefaultNla, Ipv6Addr, Looks, NlaBuffer, Parseable,
-    borrow_octets, parse_list, read_ipv4, read_u32, read_u64, read_value,
+    AddressFamily, At, AttrFamily, DecodeError, DefaultNla, Form, Ipv6Addr, Looks, NlaBuffer,
+    Parseable, borrow_octets, form_row, parse_list, read_ipv4, read_u32, read_u64, read_value,
 };
 use npr_scalar::{
     RouteAddress, RouteCacheInfo, RouteMfcStats, RouteMplsTtlPropagation, RoutePreference,
@@ -258,4 +258,62 @@ pub(crate) fn push_flat(
     list.push(RouteAttribute::Uid(0))?;
     let last = list.len() - 1;
     read_flat(&mut list[last], alloc, context, encap_type, item, looks)
+}
+
+/// The arms of the rows, behind those that are given.
+macro_rules! route_forms {
+    (($number:expr, $address:expr; $($more:tt)*) RouteAttribute of $at:ident { $($row:tt $variant:ident($($codec:tt)+);)* }) => {
+        match $number {
+            $($more)*
+            $($row => route_form!([$address] $($codec)+),)*
+            _ => Form::Raw,
+        }
+    };
+}
+
+macro_rules! route_form {
+    ([$address:expr] RouteAddress value) => {
+        $address
+    };
+    ([$address:expr] $($codec:tt)+) => {
+        form_row!($($codec)+)
+    };
+}
+
+/// By a number: the place that refusals tell, and how the value is read without memory. Next hops,
+/// lists and labels have readers of their own.
+pub(crate) fn form_at(context: Context, number: u16) -> (At, Form)
+    ensures { result ≡ (attributes context).seeing.form_at number }
+{
+    let address = RouteAddress::form(context.0);
+    let form = route_rows!(route_forms(number, address;
+        RTA_METRICS => Form::Inside,
+        RTA_MULTIPATH => Form::Inside,
+        RTA_VIA => Form::Inside,
+        RTA_NEWDST => new_destination_form(context.0),
+        RTA_ENCAP => Form::Inside,
+        RTA_EXPIRES => expires_form(context.1),
+    ));
+    (FAMILY.at(number), form)
+}
+
+/// That of number 19: labels for family mpls, else an address.
+fn new_destination_form(family: AddressFamily) -> Form
+    ensures { result ≡ (new_destination_row (form_of family)).codec.showing.form }
+{
+    match family {
+        AddressFamily::Mpls => Form::Inside,
+        _ => RouteAddress::form(family),
+    }
+}
+
+/// That of number 23: eight bytes of a multicast route, else four.
+fn expires_form(kind: RouteType) -> Form
+    ensures { result ≡ (expires_row (is_multicast kind)).codec.showing.form }
+{
+    if matches!(kind, RouteType::Multicast) {
+        Form::Little64
+    } else {
+        Form::Little32
+    }
 }

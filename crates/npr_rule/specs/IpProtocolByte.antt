@@ -28,4 +28,5 @@ ip_protocol_byte = record {
   reads_holds = (exactly ip_protocol).reads_holds;
   reads_back = λ kind x h fits. (exactly ip_protocol).reads_back 0 x h refl;
   grows = (exactly ip_protocol).grows;
+  showing = (exactly ip_protocol).showing;
 }

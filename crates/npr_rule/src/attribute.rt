@@ -10,7 +10,7 @@ ghost use Rattle.{
 use crate::port_range::RulePortRange;
 use crate::uid_range::RuleUidRange;
 use npr_base::{
-    Attribute, DecodeError, DefaultNla, EmitError, IpAddr, Looks, Nla, NlaBuffer, Place,
+    At, Attribute, DecodeError, DefaultNla, EmitError, Form, IpAddr, Looks, Nla, NlaBuffer, Place,
 };
 use npr_scalar::{IpProtocol, RouteProtocol, RouteRealm};
 use std::alloc::{AllocError, Global};
@@ -151,6 +151,10 @@ impl Attribute for RuleAttribute {
         looks: &mut Looks,
     ) -> Result<(), DecodeError> {
         rows!(put_rows(place, alloc, item, looks))
+    }
+
+    fn form(_context: (), number: u16) -> (At, Form) {
+        rows!(form_rows(number))
     }
 
     fn try_clone(&self, alloc: Global) -> Result<Self, AllocError> {

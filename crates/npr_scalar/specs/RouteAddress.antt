@@ -5,8 +5,9 @@ use Rattle.npr_base.specs.declared.address_family.AddressFamily.{AddressFamily}
 use Rattle.npr_base.specs.declared.address_family.AddressFamily.TheVariants.{Inet, Inet6, Mpls}
 use Rattle.npr_base.specs.declared.ip.IpAddr.{IpAddr}
 use Rattle.npr_base.specs.declared.ip.IpAddr.TheVariants.{V4, V6}
-use Rattle.npr_base.specs.Layout.{octets}
+use Rattle.npr_base.specs.Layout.{octets4, octets16}
 use Rattle.npr_base.specs.Codec.{Codec, exactly, raw}
+use Rattle.npr_base.specs.Value.{Shown, is_address, is_structure, are_bytes}
 use Rattle.npr_base.specs.VariantCodec.{variant, written_alike}
 use Rattle.npr_scalar.specs.MplsLaws.{mpls_label}
 use Rattle.npr_scalar.specs.declared.mpls.MplsLabel.{MplsLabel}
@@ -46,12 +47,19 @@ route_address_bytes (inet6 a) = a
 route_address_bytes (mpls l) = mpls_label.encode l
 route_address_bytes (other v) = v
 
+-- what is seen of it in these bytes
+abbrev pub address_shown : List ℕ → Address → Shown
+address_shown b (inet a) = is_address (V4 a)
+address_shown b (inet6 a) = is_address (V6 a)
+address_shown b (mpls l) = is_structure b
+address_shown b (other v) = are_bytes v
+
 -- four bytes, sixteen, one label of four bytes, or any bytes as they stand
 abbrev pub address_by : Form → Codec Address
-address_by four = variant (exactly (octets 4)) inet route_address_bytes (λ v. refl) (λ v. refl)
-address_by sixteen = variant (exactly (octets 16)) inet6 route_address_bytes (λ v. refl) (λ v. refl)
-address_by label = variant (exactly mpls_label) mpls route_address_bytes (λ v. refl) (λ v. refl)
-address_by any = variant raw other route_address_bytes (λ v. refl) (λ v. refl)
+address_by four = variant (exactly octets4) inet route_address_bytes address_shown (λ v. refl) (λ v. refl) (λ b v. refl)
+address_by sixteen = variant (exactly octets16) inet6 route_address_bytes address_shown (λ v. refl) (λ v. refl) (λ b v. refl)
+address_by label = variant (exactly mpls_label) mpls route_address_bytes address_shown (λ v. refl) (λ v. refl) (λ b v. refl)
+address_by any = variant raw other route_address_bytes address_shown (λ v. refl) (λ v. refl) (λ b v. refl)
 
 pub address-alike : (form : Form) → ((address_by form).encode ≡ route_address_bytes) × ((a : Address) → (address_by form).unfit 0 a ≡ None)
 address-alike four = (refl, λ a. refl)

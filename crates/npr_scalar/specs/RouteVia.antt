@@ -15,6 +15,7 @@ use Rattle.npr_base.specs.CodecLaws.{framed-grows}
 use Rattle.npr_base.specs.ListLaws.{IsBytes-drop}
 use Rattle.npr_base.specs.Layout.{le16_at}
 use Rattle.npr_base.specs.Codec.{Codec, no_members}
+use Rattle.npr_base.specs.Showing.{shows_inside}
 use Rattle.npr_base.specs.declared.ip.IpAddr.{IpAddr}
 use Rattle.npr_base.specs.declared.ip.IpAddr.TheVariants.{V4, V6}
 use Rattle.npr_scalar.specs.declared.via.RouteVia.{RouteVia}
@@ -171,6 +172,7 @@ via_value = record {
       (IsBytes-drop 2 bytes is) p.address;
   reads_back = λ kind v h fits. via-back v h;
   grows = λ bytes v is p. via-grows bytes v p;
+  showing = shows_inside;
 }
 
 -- the gateway that an address of IP is

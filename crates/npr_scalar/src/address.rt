@@ -11,8 +11,8 @@ ghost use Rattle.{
 
 use crate::mpls::MplsLabel;
 use npr_base::{
-    AddressFamily, At, DecodeError, EmitError, Emitable, IpAddr, Ipv4Addr, Ipv6Addr, read_bytes,
-    read_ipv4, read_ipv6, read_u32_be, write_array, write_bytes,
+    AddressFamily, At, DecodeError, EmitError, Emitable, Form, IpAddr, Ipv4Addr, Ipv6Addr,
+    read_bytes, read_ipv4, read_ipv6, read_u32_be, write_array, write_bytes,
 };
 use std::alloc::{AllocError, Global};
 
@@ -64,6 +64,18 @@ impl RouteAddress {
                 Ok(RouteAddress::Mpls(MplsLabel::from(entry)))
             }
             _ => Ok(RouteAddress::Other(read_bytes(alloc, bytes)?)),
+        }
+    }
+
+    /// How the address of this family is read without memory.
+    pub fn form(family: AddressFamily) -> Form
+        ensures { result ≡ (route_address family).showing.form }
+    {
+        match family {
+            AddressFamily::Inet => Form::Octets4,
+            AddressFamily::Inet6 => Form::Octets16,
+            AddressFamily::Mpls => Form::Exactly(4),
+            _ => Form::Raw,
         }
     }
 

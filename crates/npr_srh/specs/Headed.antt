@@ -20,6 +20,7 @@ use Rattle.npr_base.specs.Numbering.{Numbering}
 use Rattle.npr_base.specs.ListLaws.{IsBytes-left, IsBytes-right}
 use Rattle.npr_base.specs.V6ListLaws.{same_parts, length-concat, v6_list-one, v6_list-bytes}
 use Rattle.npr_base.specs.Codec.{Codec, no_members}
+use Rattle.npr_base.specs.Showing.{shows_inside}
 use Rattle.npr_srh.specs.Keeping.{IsUnread}
 use Rattle.npr_srh.specs.Segments.{too_many}
 
@@ -149,4 +150,5 @@ headed L = record {
   reads_holds = headed-holds L;
   reads_back = λ kind h holds fits. headed-back L h holds;
   grows = headed-grows L;
+  showing = shows_inside;
 }

@@ -6,7 +6,7 @@ use Rattle.npr_base.specs.declared.refusal.At.{At}
 use Rattle.npr_base.specs.declared.refusal.AttrFamily.TheVariants.{Ioam6}
 use Rattle.npr_base.specs.Refusal.{at_number}
 use Rattle.npr_base.specs.Text.{nla_text}
-use Rattle.npr_base.specs.Tables.{EnumTable, table_of, row, others, ◌or◌, ◌also◌, value, nothing, exactly, dropped, le32, octets, refl, Reading}
+use Rattle.npr_base.specs.Tables.{EnumTable, table_of, row, others, ◌or◌, ◌also◌, value, nothing, exactly, dropped, le32, octets16, refl, Reading}
 use Rattle.npr_base.specs.Tables.{Family, writing_of, attributes_of, table-read, family_of_table, made_of}
 use Rattle.npr_srh.specs.Keeping.{keeping_in, IsRowOf}
 use Rattle.npr_srh.specs.Ioam6Mode.{ioam6_mode, ioam6_mode_text}
@@ -24,11 +24,11 @@ table =
     table_of enum (
     row Ioam6 0 dropped (nothing RouteIoam6Tunnel.Unspecified)  -- IOAM6_IPTUNNEL_UNSPEC
     or row Ioam6 1 (exactly ioam6_mode) (value RouteIoam6Tunnel.Mode)  -- IOAM6_IPTUNNEL_MODE
-    or row Ioam6 2 (exactly (octets 16)) (value RouteIoam6Tunnel.Dst)  -- IOAM6_IPTUNNEL_DST
+    or row Ioam6 2 (exactly octets16) (value RouteIoam6Tunnel.Dst)  -- IOAM6_IPTUNNEL_DST
     or row Ioam6 3 trace (value RouteIoam6Tunnel.Trace)  -- IOAM6_IPTUNNEL_TRACE
     or row Ioam6 4 (exactly le32) (value RouteIoam6Tunnel.FreqK)  -- IOAM6_IPTUNNEL_FREQ_K
     or row Ioam6 5 (exactly le32) (value RouteIoam6Tunnel.FreqN)  -- IOAM6_IPTUNNEL_FREQ_N
-    or row Ioam6 6 (exactly (octets 16)) (value RouteIoam6Tunnel.Src)  -- IOAM6_IPTUNNEL_SRC
+    or row Ioam6 6 (exactly octets16) (value RouteIoam6Tunnel.Src)  -- IOAM6_IPTUNNEL_SRC
     or others (value RouteIoam6Tunnel.Other)) refl refl
 
 -- at its number a value is read by its row

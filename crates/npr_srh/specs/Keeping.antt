@@ -1,6 +1,11 @@
 -- Families in which an attribute is kept as it stands, besides those of numbers without a row, where one row's value means nothing.
-use Rattle.std.proofs.Common.{◌≡◌, ℕ, List, ◌+◌, ◌*◌, ◌<◌, ◌≤◌, ◌^◌, ◌⊎◌, length, None, sym, ap, subst, ◌∙◌, inl, inr, arith}
+use Rattle.std.proofs.Common.{◌≡◌, ℕ, List, ◌+◌, ◌*◌, ◌<◌, ◌≤◌, ◌^◌, ◌⊎◌, length, None, refl, sym, ap, subst, ◌∙◌, inl, inr, arith}
+use Rattle.std.specs.Prelude.{◌==◌, Bool, true, false, if◌then◌else◌}
+use Rattle.std.proofs.lemmas.Bool.{eqb-false}
+use Rattle.npr_base.specs.declared.refusal.At.{At}
 use Rattle.npr_base.specs.declared.refusal.DecodeError.{DecodeError}
+use Rattle.npr_base.specs.declared.value.Form.{Form}
+use Rattle.npr_base.specs.declared.value.Form.TheVariants.{Inside}
 use Rattle.npr_base.specs.Codec.{Codec}
 use Rattle.npr_base.specs.CodecLaws.{framed-grows}
 use Rattle.npr_base.specs.Counts.{Counts, SawEach}
@@ -9,6 +14,8 @@ use Rattle.npr_base.specs.EnumTableLaws.{slot-other}
 use Rattle.npr_base.specs.Framing.{Item, Proper, framed, number_of}
 use Rattle.npr_base.specs.LooksLaws.{none-saw}
 use Rattle.npr_base.specs.Family.{Reading, Writing, written_by, unfit_by}
+use Rattle.npr_base.specs.Showing.{Seeing}
+use Rattle.npr_base.specs.Value.{Shown, is_inside, Shows, Misshown, IsWhole}
 use Rattle.npr_base.specs.Table.{item_of, slot_members}
 use Rattle.npr_base.specs.Tables.{writing_of, attributes_of}
 use denote.Enum.Declared.{Record}
@@ -88,6 +95,53 @@ module _ {M V : Type 0} {w : Writing M} (f : Reading w) (other : Item → M) (ro
     keeping-saw quiet x m old new (inr k) looks =
         subst (SawEach old new) (sym (ap w.members k.is ∙ alone.members x)) (none-saw old new (quiet x old new looks))
 
+    -- the row's values have a reader of their own
+    abbrev pub keeping_form : ℕ → At × Form
+    keeping_form k = if k == row then ((f.seeing.form_at k).0, Inside) else f.seeing.form_at k
+
+    abbrev pub keeping_sees : Item → M → Shown
+    keeping_sees x m = if number_of x.kind == row then is_inside x.value else f.seeing.sees x m
+
+    keeping-shown : (b : Bool) (x : Item) (s : Shown) (m : M) (at : At) (g : At × Form) (t : Shown) → (b ≡ false → Shows g.1 x.value s → s ≡ t)
+        → Shows (if b then (at, Inside) else g).1 x.value s → s ≡ (if b then is_inside x.value else t)
+    keeping-shown true x s m at g t later p = p
+    keeping-shown false x s m at g t later p = later refl p
+
+    pub keeping-shows : (x : Item) (s : Shown) (m : M) → Shows (keeping_form (number_of x.kind)).1 x.value s → ReadsOrKept x m → s ≡ keeping_sees x m
+    keeping-shows x s m p (inl reads) =
+        keeping-shown (number_of x.kind == row) x s m (f.seeing.form_at (number_of x.kind)).0 (f.seeing.form_at (number_of x.kind)) (f.seeing.sees x m)
+        (λ other shows. f.seeing.shows x s m shows reads) p
+    keeping-shows x s m p (inr kept) =
+        keeping-shown (number_of x.kind == row) x s m (f.seeing.form_at (number_of x.kind)).0 (f.seeing.form_at (number_of x.kind)) (f.seeing.sees x m)
+        (λ other shows. absurd (eqb-false (number_of x.kind) row other kept.unreadable.number)) p
+
+    pub keeping-whole-or : (b : Bool) (x : Item) (s : Shown) (at : At) (g : At × Form)
+        → (IsWhole g.1 → Shows g.1 x.value s → (m : M) × f.Reads x m)
+        → IsWhole (if b then (at, Inside) else g).1 → Shows (if b then (at, Inside) else g).1 x.value s → (m : M) × ReadsOrKept x m
+    keeping-whole-or true x s at g later w p = absurd w
+    keeping-whole-or false x s at g later w p = let m = later w p in (m.0, inl m.1)
+
+    pub keeping-wrong-or : (b : Bool) (x : Item) (e : DecodeError) (at : At) (g : At × Form)
+        → (b ≡ false → Misshown g.1 g.0 x.value e → f.Faulty x e × (IsUnreadable row codec.Reads x → ⊥))
+        → (let h = if b then (at, Inside) else g in Misshown h.1 h.0 x.value e) → f.Faulty x e × (IsUnreadable row codec.Reads x → ⊥)
+    keeping-wrong-or true x e at g later p = absurd p
+    keeping-wrong-or false x e at g later p = later refl p
+
+    abbrev pub keeping-seeing : Seeing ReadsOrKept (λ x e. f.Faulty x e × (IsUnreadable row codec.Reads x → ⊥))
+    keeping-seeing = record {
+      form_at = keeping_form;
+      sees = keeping_sees;
+      shows = keeping-shows;
+      whole =
+          λ x s w p.
+          keeping-whole-or (number_of x.kind == row) x s (f.seeing.form_at (number_of x.kind)).0 (f.seeing.form_at (number_of x.kind))
+          (λ whole shows. f.seeing.whole x s whole shows) w p;
+      wrong =
+          λ x e p.
+          keeping-wrong-or (number_of x.kind == row) x e (f.seeing.form_at (number_of x.kind)).0 (f.seeing.form_at (number_of x.kind))
+          (λ other wrong. (f.seeing.wrong x e wrong, λ u. eqb-false (number_of x.kind) row other u.number)) p;
+    }
+
     abbrev pub keeping : IsRowOf f row codec → IsQuiet f → Reading w
     keeping here quiet = record {
       Reads = ReadsOrKept;
@@ -102,6 +156,7 @@ module _ {M V : Type 0} {w : Writing M} (f : Reading w) (other : Item → M) (ro
       grows = keeping-grows;
       bounded = f.bounded;
       saw = keeping-saw quiet;
+      seeing = keeping-seeing;
     }
 
 -- of a table of an enum's variants

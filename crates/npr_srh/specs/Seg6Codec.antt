@@ -19,6 +19,7 @@ use Rattle.npr_base.specs.V6ListLaws.{same_parts, AllOf-reverse, length-concat, 
 use Rattle.npr_base.specs.Numbering.{of_IsFormed}
 use Rattle.npr_base.specs.Numbering.{IsFormed}
 use Rattle.npr_base.specs.Codec.{Codec, no_members}
+use Rattle.npr_base.specs.Showing.{shows_inside}
 use Rattle.npr_srh.specs.Seg6Mode.{ModeTable, modes, modes_by, mode_number}
 use Rattle.npr_srh.specs.declared.seg6_header.Seg6MessageBuffer.{Seg6MessageBuffer}
 use Rattle.npr_srh.specs.Segments.{too_many, few}
@@ -183,6 +184,7 @@ seg6_by table = record {
   reads_holds = seg6-holds table;
   reads_back = seg6-back table;
   grows = seg6-grows table;
+  showing = shows_inside;
 }
 
 abbrev pub seg6 : Codec Seg6

@@ -6,7 +6,7 @@ use Rattle.npr_base.specs.declared.refusal.At.{At}
 use Rattle.npr_base.specs.declared.refusal.AttrFamily.TheVariants.{Seg6Local}
 use Rattle.npr_base.specs.Refusal.{at_number}
 use Rattle.npr_base.specs.Text.{nla_text}
-use Rattle.npr_base.specs.Tables.{EnumTable, table_of, row, others, ◌or◌, ◌also◌, value, seen, nothing, exactly, dropped, le32, octets, refl}
+use Rattle.npr_base.specs.Tables.{EnumTable, table_of, row, others, ◌or◌, ◌also◌, value, seen, nothing, exactly, dropped, le32, octets4, octets16, refl}
 use Rattle.npr_base.specs.Tables.{Reading, Family, writing_of, attributes_of, table-read, family_of_table, made_of}
 use Rattle.npr_srh.specs.Keeping.{keeping_in, IsRowOf}
 use Rattle.npr_srh.specs.Seg6LocalAction.{action, action_text}
@@ -27,8 +27,8 @@ table =
     or row Seg6Local 1 (exactly action) (value RouteSeg6LocalTunnel.Action)  -- SEG6_LOCAL_ACTION
     or row Seg6Local 2 local (seen local_of RouteSeg6LocalTunnel.Srh)  -- SEG6_LOCAL_SRH
     or row Seg6Local 3 (exactly le32) (value RouteSeg6LocalTunnel.Table)  -- SEG6_LOCAL_TABLE
-    or row Seg6Local 4 (exactly (octets 4)) (value RouteSeg6LocalTunnel.Nh4)  -- SEG6_LOCAL_NH4
-    or row Seg6Local 5 (exactly (octets 16)) (value RouteSeg6LocalTunnel.Nh6)  -- SEG6_LOCAL_NH6
+    or row Seg6Local 4 (exactly octets4) (value RouteSeg6LocalTunnel.Nh4)  -- SEG6_LOCAL_NH4
+    or row Seg6Local 5 (exactly octets16) (value RouteSeg6LocalTunnel.Nh6)  -- SEG6_LOCAL_NH6
     or row Seg6Local 6 (exactly le32) (value RouteSeg6LocalTunnel.Iif)  -- SEG6_LOCAL_IIF
     or row Seg6Local 7 (exactly le32) (value RouteSeg6LocalTunnel.Oif)  -- SEG6_LOCAL_OIF
     or row Seg6Local 9 (exactly le32) (value RouteSeg6LocalTunnel.VrfTable)  -- SEG6_LOCAL_VRFTABLE

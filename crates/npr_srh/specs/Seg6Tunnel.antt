@@ -3,7 +3,7 @@ use Rattle.std.proofs.Common.{◌≡◌, inl, inr, refl}
 use Rattle.npr_base.specs.declared.refusal.AttrFamily.TheVariants.{Seg6}
 use Rattle.npr_base.specs.EnumTableLaws.{rewritten}
 use Rattle.npr_base.specs.Family.{Writing}
-use Rattle.npr_base.specs.Tables.{EnumTable, table_of, row, others, ◌or◌, value, seen, exactly, le32, octets, Reading, Family, Meanings, writing_of}
+use Rattle.npr_base.specs.Tables.{EnumTable, table_of, row, others, ◌or◌, value, seen, exactly, le32, octets16, Reading, Family, Meanings, writing_of}
 use Rattle.npr_base.specs.Tables.{attributes_of, family_of_table}
 use Rattle.npr_srh.specs.Seg6.{seg6_of, normalized as normalized_header}
 use Rattle.npr_srh.specs.Seg6Codec.{seg6_by}
@@ -16,7 +16,7 @@ abbrev pub table : ModeTable → EnumTable enum
 table by =
     table_of enum (
     row Seg6 1 (seg6_by by) (seen seg6_of RouteSeg6IpTunnel.Seg6)  -- SEG6_IPTUNNEL_SRH
-    or row Seg6 2 (exactly (octets 16)) (value RouteSeg6IpTunnel.Src)  -- SEG6_IPTUNNEL_SRC
+    or row Seg6 2 (exactly octets16) (value RouteSeg6IpTunnel.Src)  -- SEG6_IPTUNNEL_SRC
     or row Seg6 3 (exactly le32) (value RouteSeg6IpTunnel.Table)  -- SEG6_IPTUNNEL_TABLE
     or others (value RouteSeg6IpTunnel.Other)) refl refl
 

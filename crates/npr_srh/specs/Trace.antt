@@ -7,6 +7,7 @@ use Rattle.npr_base.specs.Fields.{one_byte, be_two, be_four, ◌fills◌, ◌the
 use Rattle.npr_base.specs.Layout.{Layout}
 use Rattle.npr_base.specs.CodecLaws.{exactly-one, exactly-holds, exactly-back, exactly-grows}
 use Rattle.npr_base.specs.Codec.{Codec, no_members}
+use Rattle.npr_base.specs.Showing.{shows_inside}
 use Rattle.npr_base.specs.Text.{padded_hex_text}
 use Rattle.npr_srh.specs.Keeping.{IsUnread}
 use Rattle.npr_srh.specs.contracts.ioam6.Ioam6TraceHdr.{struct}
@@ -50,6 +51,7 @@ trace = record {
   reads_holds = exactly-holds trace_layout;
   reads_back = λ kind t h fits. exactly-back trace_layout t h;
   grows = exactly-grows trace_layout;
+  showing = shows_inside;
 }
 
 -- the text of a trace; its room is printed in bytes

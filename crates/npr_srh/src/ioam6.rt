@@ -12,8 +12,8 @@ ghost use Rattle.{
 };
 
 use npr_base::{
-    AttrFamily, Attribute, DecodeError, DefaultNla, EmitError, Ipv6Addr, Looks, Nla, NlaBuffer,
-    Parseable, Place, put_read, write_array, write_six_hex_digits,
+    At, AttrFamily, Attribute, DecodeError, DefaultNla, EmitError, Form, Ipv6Addr, Looks, Nla,
+    NlaBuffer, Parseable, Place, put_read, write_array, write_six_hex_digits,
 };
 use std::alloc::{AllocError, Global};
 use std::fmt;
@@ -224,6 +224,11 @@ impl Attribute for RouteIoam6Tunnel {
                 None => put_read(place, DefaultNla::read(alloc, item), RouteIoam6Tunnel::Other),
             },
         ))
+    }
+
+    #[tactic(auto, unfolding(crate::specs::Ioam6Tunnel::attributes))]
+    fn form(_context: (), number: u16) -> (At, Form) {
+        rows!(form_rows(number; IOAM6_IPTUNNEL_TRACE => Form::Inside,))
     }
 
     fn try_clone(&self, alloc: Global) -> Result<Self, AllocError> {

@@ -14,8 +14,8 @@ ghost use Rattle.{
 
 use crate::segments::{check_header, read_parts, write_header};
 use npr_base::{
-    AttrFamily, Attribute, DecodeError, DefaultNla, EmitError, Ipv6Addr, Looks, Nla, NlaBuffer,
-    Parseable, Place, put_read, write_array, write_v6_list,
+    At, AttrFamily, Attribute, DecodeError, DefaultNla, EmitError, Form, Ipv6Addr, Looks, Nla,
+    NlaBuffer, Parseable, Place, put_read, write_array, write_v6_list,
 };
 use std::alloc::{AllocError, Global};
 use std::fmt;
@@ -212,6 +212,11 @@ impl Attribute for RouteRplIpTunnel {
                 None => put_read(place, DefaultNla::read(alloc, item), RouteRplIpTunnel::Other),
             },
         ))
+    }
+
+    #[tactic(auto, unfolding(crate::specs::RplTunnel::attributes))]
+    fn form(_context: (), number: u16) -> (At, Form) {
+        rows!(form_rows(number; RPL_IPTUNNEL_SRH => Form::Inside,))
     }
 
     fn try_clone(&self, alloc: Global) -> Result<Self, AllocError> {

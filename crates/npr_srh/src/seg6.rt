@@ -5,7 +5,8 @@ ghost use Rattle.{npr_base.specs.Family.{shaped}, npr_srh.specs.Seg6Tunnel.{fami
 
 use crate::seg6_header::Seg6Header;
 use npr_base::{
-    Attribute, DecodeError, DefaultNla, EmitError, Ipv6Addr, Looks, Nla, NlaBuffer, Place, put_read,
+    At, Attribute, DecodeError, DefaultNla, EmitError, Form, Ipv6Addr, Looks, Nla, NlaBuffer,
+    Place, put_read,
 };
 use std::alloc::{AllocError, Global};
 
@@ -68,6 +69,11 @@ impl Attribute for RouteSeg6IpTunnel {
         looks: &mut Looks,
     ) -> Result<(), DecodeError> {
         rows!(put_rows(place, alloc, item, looks; 1 => put_read(place, Seg6Header::read(alloc, item.value()), RouteSeg6IpTunnel::Seg6),))
+    }
+
+    #[tactic(auto, unfolding(crate::specs::Seg6Tunnel::attributes_by))]
+    fn form(_context: (), number: u16) -> (At, Form) {
+        rows!(form_rows(number; 1 => Form::Inside,))
     }
 
     fn try_clone(&self, alloc: Global) -> Result<Self, AllocError> {

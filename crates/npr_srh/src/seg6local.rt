@@ -7,8 +7,8 @@ use crate::seg6local_action::Seg6LocalAction;
 use crate::seg6local_srh::Seg6LocalSrh;
 use crate::segments::write_header;
 use npr_base::{
-    Attribute, DecodeError, DefaultNla, EmitError, Ipv4Addr, Ipv6Addr, Looks, Nla, NlaBuffer,
-    Place, put_read,
+    At, Attribute, DecodeError, DefaultNla, EmitError, Form, Ipv4Addr, Ipv6Addr, Looks, Nla,
+    NlaBuffer, Place, put_read,
 };
 use std::alloc::{AllocError, Global};
 use std::fmt;
@@ -96,6 +96,11 @@ impl Attribute for RouteSeg6LocalTunnel {
                 None => put_read(place, DefaultNla::read(alloc, item), RouteSeg6LocalTunnel::Other),
             },
         ))
+    }
+
+    #[tactic(auto, unfolding(crate::specs::Seg6LocalTunnel::attributes))]
+    fn form(_context: (), number: u16) -> (At, Form) {
+        rows!(form_rows(number; 2 => Form::Inside,))
     }
 
     fn try_clone(&self, alloc: Global) -> Result<Self, AllocError> {

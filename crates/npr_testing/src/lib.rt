@@ -47,6 +47,8 @@ pub trait Message: Emitable + PartialEq + Drop + Sized {
 
     fn one_by_one(alloc: Global, bytes: &[u8]) -> Result<Vec<Self::Attribute>, DecodeError>;
 
+    fn seen(bytes: &[u8]) -> Result<usize, DecodeError>;
+
     fn read_again(&mut self, alloc: Global, bytes: &[u8]) -> Result<(), DecodeError>;
 
     fn copy(&self, alloc: Global) -> Result<Self, AllocError>;
@@ -70,6 +72,18 @@ where
             found.push(attribute?)?;
         }
         Ok(found)
+    }
+
+    fn seen(bytes: &[u8]) -> Result<usize, DecodeError> {
+        let (_, values) = Stored::<H, H::Attribute>::values(bytes)?;
+        let mut count = 0usize;
+        for value in values {
+            if let Err(refusal) = value {
+                return Err(refusal);
+            }
+            count = count.saturating_add(1);
+        }
+        Ok(count)
     }
 
     fn read_again(&mut self, alloc: Global, bytes: &[u8]) -> Result<(), DecodeError> {
@@ -167,7 +181,7 @@ fn parts_of(line: &str) -> (&str, &str, &str) {
 }
 
 /// The message is what the bytes are, and so is its copy; its attributes are printed so, they come
-/// so one by one, and are so read into a message that stands.
+/// so one by one, each has a value that is seen, and they are so read into a message that stands.
 fn is_message<M: Message>(
     rt: &impl AllocGlobal,
     message: &mut M,
@@ -176,6 +190,7 @@ fn is_message<M: Message>(
 ) -> Result<(), Fail> {
     let found = M::one_by_one(rt.alloc(), bytes)?;
     holds(message.attributes() == found.as_slice())?;
+    same(M::seen(bytes)?, found.len())?;
     holds(message.copy(rt.alloc())? == *message)?;
     message.read_again(rt.alloc(), bytes)?;
     holds(message.attributes() == found.as_slice())?;
@@ -238,6 +253,7 @@ pub fn members<A: Attribute + Debug + PartialEq>(
         let item = NlaBuffer::new_checked(bytes.as_slice())?;
         match A::read(rt.alloc(), context, &item, &mut Looks::new()) {
             Ok(member) => {
+                holds(A::value(context, &item).is_ok())?;
                 holds(member.try_clone(rt.alloc())? == member)?;
                 shows(rt, &member, text)?;
                 writes(rt, member, &[written])?;

@@ -4,6 +4,7 @@ use Rattle.std.proofs.Common.{refl}
 use Rattle.npr_base.specs.Framing.{Item}
 use Rattle.npr_base.specs.Tables.{slot_at}
 use Rattle.npr_base.specs.Family.{Writing, Reading, Family, family_of}
+use Rattle.npr_base.specs.Value.{Shown, are_bytes}
 use Rattle.npr_base.specs.Table.{Slot, slot_other, writing_by}
 use Rattle.npr_srh.specs.Ioam6Tunnel as OfIoam6
 use Rattle.npr_srh.specs.RplTunnel as OfRpl
@@ -59,17 +60,29 @@ slot_of (other x) = slot_other x
 abbrev pub writing : Writing Meaning
 writing = writing_by slot_of
 
+-- what each is seen as
+abbrev pub member_shown : ModeTable → Item → Meaning → Shown
+member_shown by x (mpls m) = OfMpls.attributes.seeing.sees x m
+member_shown by x (seg6 m) = (OfSeg6.attributes_by by).seeing.sees x m
+member_shown by x (ip m) = OfIp.attributes.seeing.sees x m
+member_shown by x (ip6 m) = OfIp.attributes6.seeing.sees x m
+member_shown by x (ioam6 m) = OfIoam6.attributes.seeing.sees x m
+member_shown by x (rpl m) = OfRpl.attributes.seeing.sees x m
+member_shown by x (seg6_local m) = OfSeg6Local.attributes.seeing.sees x m
+member_shown by x (xfrm m) = OfXfrm.attributes.seeing.sees x m
+member_shown by x (other y) = are_bytes y.value
+
 -- the family of a type, by a table of SEG6 modes
 unfoldable pub encapsulation_by : ModeTable → RouteLwEnCapType → Reading writing
-encapsulation_by by Mpls = wrapped OfMpls.attributes mpls writing (λ m. refl) (λ m. refl)
-encapsulation_by by Seg6 = wrapped (OfSeg6.attributes_by by) seg6 writing (λ m. refl) (λ m. refl)
-encapsulation_by by Ip = wrapped OfIp.attributes ip writing (λ m. refl) (λ m. refl)
-encapsulation_by by Ip6 = wrapped OfIp.attributes6 ip6 writing (λ m. refl) (λ m. refl)
-encapsulation_by by Ioam6 = wrapped OfIoam6.attributes ioam6 writing (λ m. refl) (λ m. refl)
-encapsulation_by by Rpl = wrapped OfRpl.attributes rpl writing (λ m. refl) (λ m. refl)
-encapsulation_by by Seg6Local = wrapped OfSeg6Local.attributes seg6_local writing (λ m. refl) (λ m. refl)
-encapsulation_by by Xfrm = wrapped OfXfrm.attributes xfrm writing (λ m. refl) (λ m. refl)
-encapsulation_by by type = wrapped kept other writing (λ x. refl) (λ x. refl)
+encapsulation_by by Mpls = wrapped OfMpls.attributes mpls writing (member_shown by) (λ m. refl) (λ m. refl) (λ x m. refl)
+encapsulation_by by Seg6 = wrapped (OfSeg6.attributes_by by) seg6 writing (member_shown by) (λ m. refl) (λ m. refl) (λ x m. refl)
+encapsulation_by by Ip = wrapped OfIp.attributes ip writing (member_shown by) (λ m. refl) (λ m. refl) (λ x m. refl)
+encapsulation_by by Ip6 = wrapped OfIp.attributes6 ip6 writing (member_shown by) (λ m. refl) (λ m. refl) (λ x m. refl)
+encapsulation_by by Ioam6 = wrapped OfIoam6.attributes ioam6 writing (member_shown by) (λ m. refl) (λ m. refl) (λ x m. refl)
+encapsulation_by by Rpl = wrapped OfRpl.attributes rpl writing (member_shown by) (λ m. refl) (λ m. refl) (λ x m. refl)
+encapsulation_by by Seg6Local = wrapped OfSeg6Local.attributes seg6_local writing (member_shown by) (λ m. refl) (λ m. refl) (λ x m. refl)
+encapsulation_by by Xfrm = wrapped OfXfrm.attributes xfrm writing (member_shown by) (λ m. refl) (λ m. refl) (λ x m. refl)
+encapsulation_by by type = wrapped kept other writing (member_shown by) (λ x. refl) (λ x. refl) (λ x m. refl)
 
 -- and by that of today
 abbrev pub encapsulation : RouteLwEnCapType → Reading writing

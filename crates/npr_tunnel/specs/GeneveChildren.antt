@@ -3,12 +3,14 @@ use Rattle.std.proofs.Common.{◌≡◌, ◌+◌, ◌*◌, ◌^◌, ◌<◌, ◌
 use Rattle.std.specs.Prelude.{None}
 use Rattle.npr_base.specs.declared.refusal.AttrFamily.TheVariants.{Geneve as OfGeneve}
 use Rattle.npr_base.specs.declared.refusal.DecodeError.{DecodeError}
+use Rattle.npr_base.specs.declared.value.Form.TheVariants.{Inside}
 use Rattle.npr_base.specs.Codec.{Codec, exactly, raw}
 use Rattle.npr_base.specs.Framing.{Item, Proper, IsBytes, framed}
 use Rattle.npr_base.specs.Layout.{byte, be16}
 use Rattle.npr_base.specs.ListCodec.{list_of}
 use Rattle.npr_base.specs.LooksLaws.{no_looking, none-most, none-saw}
 use Rattle.npr_base.specs.Refusal.{at_number}
+use Rattle.npr_base.specs.Value.{is_inside}
 use Rattle.npr_base.specs.Family.{Writing, Reading}
 use Rattle.npr_tunnel.specs.Geneve.{Child, class_child, type_child, data_child, child_item, ReadsChild, WrongChild, class_length, type_length, order, child}
 
@@ -57,7 +59,7 @@ child-grows x (data_child d) proper p = raw.grows x.value d proper.value p.1
 abbrev pub child_writing : Writing Child
 child_writing = record { shape = λ c. record { item = child_item c; nested = false; unfit = None }; members = λ c. 0 }
 
--- what they mean where an option is open
+-- what they mean where an option is open; an option is read of several, by a reader of its own
 abbrev pub child_reading : Reading child_writing
 child_reading = record {
   Reads = ReadsChild;
@@ -72,6 +74,13 @@ child_reading = record {
   grows = child-grows;
   bounded = λ x old new t. none-most (length x.value) old new t;
   saw = λ x c old new p t. none-saw old new t;
+  seeing = record {
+    form_at = λ k. (at_number OfGeneve k, Inside);
+    sees = λ x c. is_inside x.value;
+    shows = λ x s c p q. p;
+    whole = λ x s whole p. absurd whole;
+    wrong = λ x e p. absurd p;
+  };
 }
 
 -- a list of them

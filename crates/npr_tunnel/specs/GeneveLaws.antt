@@ -5,6 +5,7 @@ use Rattle.std.proofs.Common.{ap, subst, ◌∙◌, arith, inl, inr, length-appe
 use Rattle.npr_base.specs.declared.refusal.At.{At}
 use Rattle.npr_base.specs.declared.refusal.DecodeError.{DecodeError}
 use Rattle.npr_base.specs.Codec.{Codec}
+use Rattle.npr_base.specs.Showing.{shows_inside}
 use Rattle.npr_base.specs.Lists.{Each, AllOf}
 use Rattle.npr_base.specs.Framing.{Item, IsBytes, Front, Passes, framed, encoding, pad}
 use Rattle.npr_base.specs.FrontLaws.{Front-takes}
@@ -154,4 +155,5 @@ geneve_options = record {
   reads_holds = options-known;
   reads_back = options-back;
   grows = options-grow;
+  showing = shows_inside;
 }

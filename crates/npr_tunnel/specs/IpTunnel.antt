@@ -7,9 +7,10 @@ use Rattle.npr_base.specs.declared.refusal.AttrFamily.{AttrFamily}
 use Rattle.npr_base.specs.declared.refusal.AttrFamily.TheVariants.{Ip, Ip6}
 use Rattle.npr_base.specs.EnumTable.{VariantRows, Variant, Names}
 use Rattle.npr_base.specs.Framing.{Item}
+use Rattle.npr_base.specs.Layout.{Layout}
 use Rattle.npr_base.specs.Text.{joined_by, nla_text}
 use Rattle.npr_base.specs.Tables.{EnumTable, table_of, row, marked_row, others, ◌or◌, ◌also◌, value, seen, listed, nothing, exactly, list_of, dropped}
-use Rattle.npr_base.specs.Tables.{byte, be16, be64, octets, refl, Reading, Family, found_at, writing_of, attributes_of, family_of_table, made_of}
+use Rattle.npr_base.specs.Tables.{byte, be16, be64, octets4, octets16, refl, Reading, Family, found_at, writing_of, attributes_of, family_of_table, made_of}
 use Rattle.npr_tunnel.specs.TunnelFlags.{ip_flag_bits, ip6_flag_bits, flags_text}
 use Rattle.npr_tunnel.specs.TunnelOptions as OfOption
 use Rattle.npr_tunnel.specs.contracts.ip.RouteIpTunnel.{enum}
@@ -18,16 +19,16 @@ use Rattle.npr_tunnel.specs.declared.ip.RouteIpTunnel.{RouteIpTunnel}
 use Rattle.npr_tunnel.specs.declared.ip6.RouteIp6Tunnel.{RouteIp6Tunnel}
 use denote.Struct.Field.{Field}
 
--- the table, in the order of the variants, where an address has so many bytes, over the variants and what their fields hold
-abbrev pub rows_over : {T : Type 0} {U N A B F O D : List Field} → AttrFamily → (width : ℕ) → Variant T U (Unit {0}) → (id : Variant T N ℕ)
+-- the table, in the order of the variants, where an address has this layout, over the variants and what their fields hold
+abbrev pub rows_over : {T : Type 0} {U N A B F O D : List Field} → AttrFamily → (address : Layout (List ℕ)) → Variant T U (Unit {0}) → (id : Variant T N ℕ)
     → (destination source : Variant T A (List ℕ)) → (limit class : Variant T B ℕ) → (flags : Variant T F ℕ)
     → (options : Variant T O (List OfOption.family.Meaning)) → (other : Variant T D Item)
     → VariantRows (U ∷ N ∷ A ∷ A ∷ B ∷ B ∷ F ∷ O ∷ D ∷ []) × Names T (U ∷ N ∷ A ∷ A ∷ B ∷ B ∷ F ∷ O ∷ D ∷ [])
-rows_over family width unspecified id destination source limit class flags options other =
+rows_over family address unspecified id destination source limit class flags options other =
     row family 0 dropped unspecified  -- LWTUNNEL_IP_UNSPEC
     or row family 1 (exactly be64) id  -- LWTUNNEL_IP_ID
-    or row family 2 (exactly (octets width)) destination  -- LWTUNNEL_IP_DST
-    or row family 3 (exactly (octets width)) source  -- LWTUNNEL_IP_SRC
+    or row family 2 (exactly address) destination  -- LWTUNNEL_IP_DST
+    or row family 3 (exactly address) source  -- LWTUNNEL_IP_SRC
     or row family 4 (exactly byte) limit  -- LWTUNNEL_IP_TTL, LWTUNNEL_IP6_HOPLIMIT
     or row family 5 (exactly byte) class  -- LWTUNNEL_IP_TOS, LWTUNNEL_IP6_TC
     or row family 6 (exactly be16) flags  -- LWTUNNEL_IP_FLAGS
@@ -37,14 +38,14 @@ rows_over family width unspecified id destination source limit class flags optio
 abbrev pub table : EnumTable enum
 table =
     table_of enum
-    (rows_over Ip 4 (nothing RouteIpTunnel.Unspecified) (value RouteIpTunnel.Id) (value RouteIpTunnel.Destination) (value RouteIpTunnel.Source)
+    (rows_over Ip octets4 (nothing RouteIpTunnel.Unspecified) (value RouteIpTunnel.Id) (value RouteIpTunnel.Destination) (value RouteIpTunnel.Source)
     (value RouteIpTunnel.Ttl) (value RouteIpTunnel.Tos) (seen ip_flag_bits.number RouteIpTunnel.Flags)
     (listed OfOption.family.meaning RouteIpTunnel.Opts) (value RouteIpTunnel.Other)) refl refl
 
 abbrev pub table6 : EnumTable enum6
 table6 =
     table_of enum6
-    (rows_over Ip6 16 (nothing RouteIp6Tunnel.Unspecified) (value RouteIp6Tunnel.Id) (value RouteIp6Tunnel.Destination) (value RouteIp6Tunnel.Source)
+    (rows_over Ip6 octets16 (nothing RouteIp6Tunnel.Unspecified) (value RouteIp6Tunnel.Id) (value RouteIp6Tunnel.Destination) (value RouteIp6Tunnel.Source)
     (value RouteIp6Tunnel.Hoplimit) (value RouteIp6Tunnel.Tc) (seen ip6_flag_bits.number RouteIp6Tunnel.Flags)
     (listed OfOption.family.meaning RouteIp6Tunnel.Opts) (value RouteIp6Tunnel.Other)) refl refl
 

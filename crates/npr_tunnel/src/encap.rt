@@ -9,7 +9,8 @@ use crate::ip6::RouteIp6Tunnel;
 use crate::mpls::RouteMplsIpTunnel;
 use crate::xfrm::RouteXfrmTunnel;
 use npr_base::{
-    Attribute, DecodeError, DefaultNla, EmitError, Looks, Nla, NlaBuffer, Place, put_read,
+    At, AttrFamily, Attribute, DecodeError, DefaultNla, EmitError, Form, Looks, Nla, NlaBuffer,
+    Place, put_read,
 };
 use npr_srh::{RouteIoam6Tunnel, RouteRplIpTunnel, RouteSeg6IpTunnel, RouteSeg6LocalTunnel};
 use std::alloc::{AllocError, Global};
@@ -95,6 +96,15 @@ impl RouteLwTunnelEncap {
     }
 }
 
+macro_rules! form_of_member {
+    (($encap_type:expr, $number:expr) { $($variant:ident($family:ident);)* }) => {
+        match $encap_type {
+            $(RouteLwEnCapType::$variant => $family::form((), $number),)*
+            _ => (AttrFamily::Value.at($number), Form::Raw),
+        }
+    };
+}
+
 impl Nla for RouteLwTunnelEncap {
     ghost shape = { shaped family };
 
@@ -131,6 +141,11 @@ impl Attribute for RouteLwTunnelEncap {
         looks: &mut Looks,
     ) -> Result<(), DecodeError> {
         members!(put_member(place, encap_type, alloc, item, looks))
+    }
+
+    #[tactic(auto, unfolding(crate::specs::Encapsulation::encapsulation_by))]
+    fn form(encap_type: RouteLwEnCapType, number: u16) -> (At, Form) {
+        members!(form_of_member(encap_type, number))
     }
 
     fn try_clone(&self, alloc: Global) -> Result<Self, AllocError> {

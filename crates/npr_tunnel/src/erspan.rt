@@ -3,7 +3,9 @@
 ghost use Rattle.std.specs.{Prelude.{map, refl}, Fmt.{WritesOnOk}};
 ghost use Rattle.{npr_base.specs.Family.{shaped}, npr_tunnel.specs.ErspanOptions.{family, erspan_text}};
 
-use npr_base::{Attribute, DecodeError, DefaultNla, EmitError, Looks, Nla, NlaBuffer, Place};
+use npr_base::{
+    At, Attribute, DecodeError, DefaultNla, EmitError, Form, Looks, Nla, NlaBuffer, Place,
+};
 use std::alloc::{AllocError, Global};
 use std::fmt;
 
@@ -70,6 +72,11 @@ impl Attribute for RouteErspanOpt {
         looks: &mut Looks,
     ) -> Result<(), DecodeError> {
         rows!(put_rows(place, alloc, item, looks))
+    }
+
+    #[tactic(auto, unfolding(crate::specs::ErspanOptions::attributes))]
+    fn form(_context: (), number: u16) -> (At, Form) {
+        rows!(form_rows(number))
     }
 
     fn try_clone(&self, alloc: Global) -> Result<Self, AllocError> {

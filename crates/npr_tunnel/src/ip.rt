@@ -8,8 +8,8 @@ use crate::ip_rows;
 use crate::tunnel_opts::RouteLwTunnelOpt;
 use bitflags::Flags;
 use npr_base::{
-    Attribute, DecodeError, DefaultNla, EmitError, Ipv4Addr, Looks, Nla, NlaBuffer, Place,
-    write_joined,
+    At, Attribute, DecodeError, DefaultNla, EmitError, Form, Ipv4Addr, Looks, Nla, NlaBuffer,
+    Place, write_joined,
 };
 use std::alloc::{AllocError, Global};
 use std::fmt;
@@ -81,6 +81,11 @@ impl Attribute for RouteIpTunnel {
         looks: &mut Looks,
     ) -> Result<(), DecodeError> {
         rows!(put_rows(place, alloc, item, looks))
+    }
+
+    #[tactic(auto, unfolding(crate::specs::IpTunnel::attributes))]
+    fn form(_context: (), number: u16) -> (At, Form) {
+        rows!(form_rows(number))
     }
 
     fn try_clone(&self, alloc: Global) -> Result<Self, AllocError> {

@@ -4,7 +4,7 @@ ghost use Rattle.std.specs.Prelude.{refl};
 ghost use Rattle.{npr_base.specs.Family.{shaped}, npr_tunnel.specs.MplsTunnel.{family}};
 
 use npr_base::{
-    Attribute, DecodeError, DefaultNla, EmitError, Looks, Nla, NlaBuffer, Place, put_read,
+    At, Attribute, DecodeError, DefaultNla, EmitError, Form, Looks, Nla, NlaBuffer, Place, put_read,
 };
 use npr_scalar::{MplsLabel, labels_len, read_labels, write_labels};
 use std::alloc::{AllocError, Global};
@@ -65,6 +65,11 @@ impl Attribute for RouteMplsIpTunnel {
         looks: &mut Looks,
     ) -> Result<(), DecodeError> {
         rows!(put_rows(place, alloc, item, looks; 1 => put_read(place, read_labels(alloc, item.value()), RouteMplsIpTunnel::Destination),))
+    }
+
+    #[tactic(auto, unfolding(crate::specs::MplsTunnel::attributes))]
+    fn form(_context: (), number: u16) -> (At, Form) {
+        rows!(form_rows(number; 1 => Form::Inside,))
     }
 
     fn try_clone(&self, alloc: Global) -> Result<Self, AllocError> {

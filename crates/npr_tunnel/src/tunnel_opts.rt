@@ -7,8 +7,8 @@ use crate::erspan::{RouteErspanOpt, write_erspan};
 use crate::geneve::{RouteGeneveOpt, check_options, clone_options, read_options, write_options};
 use crate::vxlan::RouteVxlanOpt;
 use npr_base::{
-    Attribute, DecodeError, DefaultNla, EmitError, Looks, NLA_F_NESTED, Nla, NlaBuffer, Place,
-    put_read, write_joined,
+    At, Attribute, DecodeError, DefaultNla, EmitError, Form, Looks, NLA_F_NESTED, Nla, NlaBuffer,
+    Place, put_read, write_joined,
 };
 use std::alloc::{AllocError, Global};
 use std::fmt;
@@ -72,6 +72,11 @@ impl Attribute for RouteLwTunnelOpt {
         looks: &mut Looks,
     ) -> Result<(), DecodeError> {
         rows!(put_rows(place, alloc, item, looks; 1 => put_read(place, read_options(alloc, item.value(), looks), RouteLwTunnelOpt::Geneve),))
+    }
+
+    #[tactic(auto, unfolding(crate::specs::TunnelOptions::attributes))]
+    fn form(_context: (), number: u16) -> (At, Form) {
+        rows!(form_rows(number; 1 => Form::Inside,))
     }
 
     fn try_clone(&self, alloc: Global) -> Result<Self, AllocError> {

@@ -8,7 +8,7 @@ ghost use Rattle.{
 
 use netlink_packet_route::family::{Place, leading_octets};
 use netlink_packet_route::framing::{
-    Attribute, DecodeError, DefaultNla, EmitError, Looks, Nla, NlaBuffer,
+    At, Attribute, DecodeError, DefaultNla, EmitError, Form, Looks, Nla, NlaBuffer,
 };
 use netlink_packet_route::net::IpAddr;
 use std::alloc::{AllocError, Global};
@@ -121,6 +121,10 @@ impl Attribute for NeighbourAttribute {
         looks: &mut Looks,
     ) -> Result<(), DecodeError> {
         rows!(put_rows(place, alloc, item, looks))
+    }
+
+    fn form(_context: (), number: u16) -> (At, Form) {
+        rows!(form_rows(number))
     }
 
     fn try_clone(&self, alloc: Global) -> Result<Self, AllocError> {
