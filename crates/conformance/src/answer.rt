@@ -4,7 +4,7 @@ use crate::datagram::datagrams_answer;
 use crate::stop::Stop;
 use netlink_packet_route::MessageKind;
 use netlink_packet_route::address::AddressHeader;
-use netlink_packet_route::framing::{Header, Message, Parseable, to_vec};
+use netlink_packet_route::framing::{Header, Message, NLA_F_NET_BYTEORDER, Nla, Parseable, to_vec};
 use netlink_packet_route::link::LinkHeader;
 use netlink_packet_route::neighbour::NeighbourHeader;
 use netlink_packet_route::route::RouteHeader;
@@ -52,7 +52,24 @@ impl Asked {
 /// `canonical` with the canonical bytes of a message with such a header in hexadecimal.
 fn answer<H: Header>(alloc: Global, bytes: &[u8]) -> Result<String, Stop> {
     let message = Message::<H, H::Attribute>::parse(alloc, bytes)?;
+    if !is_seen(&message, bytes) {
+        return Ok(format!(in alloc; "seen otherwise")?);
+    }
     let written = to_vec(alloc, &message)?;
     let digits = hex::encode(alloc, written)?;
     Ok(format!(in alloc; "canonical {digits}")?)
+}
+
+/// Whether the values that are seen of the bytes stand at the numbers of the message's attributes.
+fn is_seen<H: Header>(message: &Message<H, H::Attribute>, bytes: &[u8]) -> bool {
+    let Ok((_, mut values)) = Message::<H, H::Attribute>::values(bytes) else {
+        return false;
+    };
+    for attribute in message.attributes.iter() {
+        match values.next() {
+            Some(Ok((at, _))) if at.kind == attribute.kind() % NLA_F_NET_BYTEORDER => {}
+            _ => return false,
+        }
+    }
+    values.next().is_none()
 }

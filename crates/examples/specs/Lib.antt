@@ -2,4 +2,5 @@ pub mod Addresses
 pub mod Fault
 pub mod OneByOne
 pub mod Routes
+pub mod Seen
 pub mod Walk

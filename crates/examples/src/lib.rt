@@ -8,4 +8,5 @@ pub mod fault;
 pub mod one_by_one;
 pub mod routes;
 pub mod stored;
+pub mod values;
 pub mod walk;

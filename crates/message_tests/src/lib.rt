@@ -24,3 +24,5 @@ mod own_message;
 mod route;
 #[cfg(test)]
 mod rule;
+#[cfg(test)]
+mod values;
