@@ -5,7 +5,10 @@ ghost use Rattle.std.specs.{
   BTreeMap.{IsUnchanged, Updates},
   Ordering.{nat_cmp},
 };
-ghost use Rattle.netlink_show.specs.Interfaces.{told, is_known_down};
+ghost use Rattle.{
+  netlink_packet_route.specs.Found.{IsFirst},
+  netlink_show.specs.Interfaces.{told, is_known_down, is_up, name_in, Learns, LearnsNew, LearnsName, LearnsGone},
+};
 
 use netlink_packet_core::{NLM_F_REQUEST, NetlinkMessage, NetlinkPayload};
 use netlink_packet_route::link::{LinkAttribute, LinkFlags, LinkHeader, LinkMessage};
@@ -80,6 +83,7 @@ impl Interfaces {
     /// # Errors
     /// `AllocError` where memory is refused; what was told before stands then.
     pub fn note(&mut self, message: &NetlinkMessage<RouteNetlinkMessage>) -> Result<(), AllocError>
+        ensures ok { OnOk result (Learns self.old message.now self.new) }
         ensures refused { OnErr result (IsUnchanged self.old.known self.new.known) }
     {
         if message.header.flags & NLM_F_REQUEST != 0 {
@@ -97,31 +101,50 @@ impl Interfaces {
 
     /// A link that is there. Nothing is learned of one without a name, or without a number.
     fn note_new(&mut self, message: &LinkMessage) -> Result<(), AllocError>
+        ensures ok { OnOk result (LearnsNew self.old message.now.header message.now.attributes.items self.new) }
         ensures refused { OnErr result (IsUnchanged self.old.known self.new.known) }
     {
         let header = &message.header;
-        match message.attributes.iter().find_map(name_of) {
-            Some(name) if header.index != 0 => {
-                let interface = Interface {
-                    name: name.clone()?,
-                    is_up: header.flags.contains(LinkFlags::Up),
-                };
-                self.learn(header.index, interface)
-            }
+        match first_name(message.attributes.as_slice()) {
+            Some(name) if header.index != 0 => self.note_name(header, name),
             _ => Ok(()),
         }
     }
 
+    /// The name of a link that is there, and whether it is up.
+    fn note_name(&mut self, header: &LinkHeader, name: &String) -> Result<(), AllocError>
+        ensures ok { OnOk result (LearnsName self.old header.now.index (string_bytes name.now) (is_up header.now) self.new) }
+        ensures refused { OnErr result (IsUnchanged self.old.known self.new.known) }
+    {
+        let interface = Interface {
+            name: name.clone()?,
+            is_up: header.flags.contains(LinkFlags::Up),
+        };
+        self.learn(header.index, interface)?;
+        Ok(())
+    }
+
     /// A link that is gone. Under a family it has left that alone, as a port its bridge.
-    fn note_gone(&mut self, header: &LinkHeader) {
-        if header.interface_family == AddressFamily::Unspec {
+    fn note_gone(&mut self, header: &LinkHeader)
+        ensures { LearnsGone self.old header.now.index header.now.interface_family self.new }
+    {
+        if let AddressFamily::Unspec = header.interface_family {
             self.forget(header.index);
         }
     }
 }
 
+/// The first name that its attributes give to a link.
+pub fn first_name(attributes: &[LinkAttribute]) -> Option<&String>
+    ensures { IsFirst name_in attributes.now (option_map (λ name. string_bytes name.now) result) }
+{
+    attributes.iter().find_map(name_of)
+}
+
 /// The name that an attribute gives to its link.
-pub fn name_of(attribute: &LinkAttribute) -> Option<&String> {
+fn name_of(attribute: &LinkAttribute) -> Option<&String>
+    ensures { option_map (λ name. string_bytes name.now) result ≡ name_in attribute.now }
+{
     match attribute {
         LinkAttribute::IfName(name) => Some(name),
         _ => None,

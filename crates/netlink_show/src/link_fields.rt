@@ -1,7 +1,7 @@
 //! What is shown of a link.
 
 use crate::field::{Fields, ITEM, Word, Wording};
-use crate::interfaces::name_of;
+use crate::interfaces::first_name;
 use crate::link_attribute_fields::push_attribute;
 use crate::link_names::{LINK_FLAGS, LINK_TYPES};
 use crate::names::Names;
@@ -114,7 +114,7 @@ fn push_index(fields: &mut Fields, index: u32) {
 fn push_name(fields: &mut Fields, index: u32, under: Under, attributes: &[LinkAttribute]) {
     let alloc = fields.manner.alloc;
     let behind = behind_of(fields, under);
-    let told = attributes.iter().find_map(name_of);
+    let told = first_name(attributes);
     let learned = fields.manner.interface(index);
     match (told, learned) {
         (Some(name), _) => {
