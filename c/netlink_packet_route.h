@@ -38,9 +38,9 @@
 
 /* The version of the library. */
 #define NPR_VERSION_MAJOR 0
-#define NPR_VERSION_MINOR 6
+#define NPR_VERSION_MINOR 7
 #define NPR_VERSION_PATCH 0
-#define NPR_VERSION "0.6.0"
+#define NPR_VERSION "0.7.0"
 
 /* The stack of a thread that is enough for every call and every input, in bytes: 1 MiB. The deepest
  * message takes some 773 KiB (measured). */
