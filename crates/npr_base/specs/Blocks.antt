@@ -3,8 +3,10 @@
 --     AreBlocks        the bytes are blocks of these values, and what is left has no room for one more
 --     block_bytes      what is written: the blocks, joined
 --     blocks           how such values are read and written, with the laws of both; it refuses no bytes
-use Rattle.std.specs.Prelude.{◌≡◌, ℕ, ◌+◌, ◌*◌, ◌<◌, ◌≤◌, List, [], ◌∷◌, ◌++◌, length, take, drop, None}
+use Rattle.std.specs.Prelude.{◌≡◌, ℕ, zero, suc, ◌+◌, ◌*◌, ◌<◌, ◌≤◌, List, [], ◌∷◌, ◌++◌, length, take, drop, None}
 use Rattle.std.proofs.Common.{refl, sym, ap, subst, ◌∙◌, arith, length-append, length-take, length-drop}
+use Rattle.std.proofs.Common.{inl, inr}
+use Rattle.std.proofs.lemmas.Bool.{cases_lt}
 use Rattle.std.proofs.lemmas.List.{take_at, drop_at, take-append-drop}
 use Rattle.npr_base.specs.Framing.{IsBytes, framed}
 use Rattle.npr_base.specs.Lists.{AllOf, joined}
@@ -12,7 +14,9 @@ use Rattle.npr_base.specs.ListLaws.{IsBytes-take, IsBytes-right}
 use Rattle.npr_base.specs.CodecLaws.{framed-grows}
 use Rattle.npr_base.specs.Layout.{Layout}
 use Rattle.npr_base.specs.Codec.{Codec, no_members}
-use Rattle.npr_base.specs.Showing.{shows_inside}
+use Rattle.npr_base.specs.declared.value.Form.TheVariants.{Raw}
+use Rattle.npr_base.specs.Showing.{Showing}
+use Rattle.npr_base.specs.Value.{are_bytes}
 
 -- a value stands in front, in as many bytes as the layout has
 pub record IsBlock {V : Type 0} (L : Layout V) (bytes : List ℕ) (x : V) : Type 0 where
@@ -72,6 +76,26 @@ module _ {V : Type 0} (L : Layout V) where
   pub blocks-grow : (bytes : List ℕ) (xs : List V) → IsBytes bytes → AreBlocks L bytes xs → 2 * framed (length (block_bytes L xs)) ≤ 5 * (4 + length bytes)
   blocks-grow bytes xs is p = framed-grows (length (block_bytes L xs)) (length bytes) (omega (arith, blocks-short bytes xs is p))
 
+  -- all bytes are blocks of some values
+  pub blocks-whole : 0 < L.size → (n : ℕ) (bytes : List ℕ) → length bytes ≤ n → (xs : List V) × AreBlocks L bytes xs
+  blocks-whole positive zero bytes p = ([], omega (arith, positive, p))
+  blocks-whole positive (suc n) bytes p = elim (cases_lt (length bytes) L.size) [
+    | inl few ↦ ([], few)
+    | inr room ↦
+        let more = blocks-whole positive n (drop L.size bytes) (omega (arith, p, positive, room, length-drop L.size bytes)) in
+        (L.decode (take L.size bytes) ∷ more.0, (record { long = room; is = refl }, more.1))
+  ]
+
+  -- they are seen as they stand
+  abbrev pub shows_blocks : 0 < L.size → Showing (AreBlocks L) (λ at bytes e. ⊥)
+  shows_blocks positive = record {
+    form = Raw;
+    sees = λ b x. are_bytes b;
+    shows = λ b s x p q. p;
+    whole = λ b s w p. blocks-whole positive (length b) b (omega arith);
+    wrong = λ at b e p. p;
+  }
+
 -- a block has a byte at least
 abbrev pub blocks : {V : Type 0} (L : Layout V) → 0 < L.size → Codec (List V)
 blocks L positive = record {
@@ -86,5 +110,5 @@ blocks L positive = record {
   reads_holds = blocks-hold L;
   reads_back = λ kind xs all fits. blocks-back L positive xs all;
   grows = blocks-grow L;
-  showing = shows_inside;
+  showing = shows_blocks L positive;
 }

@@ -32,6 +32,7 @@ pub mod Bits
 pub mod Message
 pub mod MessageLaws
 pub mod Numbering
+pub mod Opening
 pub mod Rows
 pub mod RowLaws
 pub mod AddressFamily

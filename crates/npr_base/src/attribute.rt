@@ -101,6 +101,7 @@ pub trait Attribute: Nla + Drop {
     ///
     /// # Errors
     /// What is wrong with the value.
+    #[inline(always)]
     final fn value<'a>(
         context: Self::Context,
         item: &NlaBuffer<'a>,

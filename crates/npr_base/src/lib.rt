@@ -7,6 +7,7 @@ mod attributes;
 mod default_nla;
 mod emit;
 mod flags;
+mod forms;
 mod framing;
 mod ip;
 pub mod laws;

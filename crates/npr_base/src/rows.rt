@@ -14,6 +14,7 @@
 //! | `T exactly 8` | a structure of so many bytes |
 //! | `T leading 8` | one in front, behind which more may stand |
 //! | `T value` | a value with `read`, which refuses memory alone, `try_clone`, `len` and `write` |
+//! | `T value raw` | such a value, which is seen as bytes where it stands |
 
 /// An equal attribute.
 #[macro_export]
@@ -43,7 +44,7 @@ macro_rules! clone_row {
     ([$family:ident::$variant:ident, $x:ident, $alloc:expr] list) => {
         $crate::clone_list($alloc, $x.as_slice()).map($family::$variant)
     };
-    ([$family:ident::$variant:ident, $x:ident, $alloc:expr] $of:ident value) => {
+    ([$family:ident::$variant:ident, $x:ident, $alloc:expr] $of:ident value $($raw:ident)?) => {
         $x.try_clone($alloc).map($family::$variant)
     };
     ([$family:ident::$variant:ident, $x:ident, $alloc:expr] $($codec:tt)+) => {
@@ -105,7 +106,7 @@ macro_rules! len_row {
     ([$x:ident] $of:ident leading $len:literal) => {
         $len
     };
-    ([$x:ident] $of:ident value) => {
+    ([$x:ident] $of:ident value $($raw:ident)?) => {
         $x.len()
     };
     ([$x:ident] $of:ident as $number:ident $(by $by:ident)?) => {
@@ -181,7 +182,7 @@ macro_rules! write_row {
     ([$x:ident, $out:expr] $of:ident leading $len:literal) => {
         $crate::write_array($x.to_bytes(), $out)
     };
-    ([$x:ident, $out:expr] $of:ident value) => {
+    ([$x:ident, $out:expr] $of:ident value $($raw:ident)?) => {
         $x.write($out)
     };
     ([$x:ident, $out:expr] $of:ident as $number:ident) => {
@@ -279,7 +280,7 @@ macro_rules! put_row {
     ([$place:expr, $family:ident::$variant:ident, $alloc:expr, $value:expr, $at:expr, $looks:expr] list) => {
         $crate::put_read($place, $crate::parse_list($alloc, (), $value, $looks), $family::$variant)
     };
-    ([$place:expr, $family:ident::$variant:ident, $alloc:expr, $value:expr, $at:expr, $looks:expr] $of:ident value) => {{
+    ([$place:expr, $family:ident::$variant:ident, $alloc:expr, $value:expr, $at:expr, $looks:expr] $of:ident value $($raw:ident)?) => {{
         $place.put($family::$variant($of::read($alloc, $value)?));
         Ok(())
     }};
@@ -295,89 +296,6 @@ macro_rules! put_row {
         $place.put($family::$variant($crate::read_value!([$alloc, $value, $at] $($codec)+)?));
         Ok(())
     }};
-}
-
-/// By a number: the place that refusals tell, and how the value is read without memory.
-#[macro_export]
-macro_rules! form_rows {
-    (($number:expr $(; $($more:tt)*)?) $family:ident of $at:ident { $($row:tt $variant:ident $(($($codec:tt)+))? $(as $kind:expr)?;)* }) => {
-        (
-            $crate::AttrFamily::$at.at($number),
-            match $number {
-                $($($more)*)?
-                $($row => $crate::form_row!($($($codec)+)?),)*
-                _ => $crate::Form::Raw,
-            },
-        )
-    };
-}
-
-/// A row's part of it.
-#[macro_export]
-macro_rules! form_row {
-    () => {
-        $crate::Form::Dropped
-    };
-    (byte) => {
-        $crate::Form::Byte
-    };
-    (boolean) => {
-        $crate::Form::Boolean
-    };
-    (signed32) => {
-        $crate::Form::Signed32
-    };
-    (le16) => {
-        $crate::Form::Little16
-    };
-    (le32) => {
-        $crate::Form::Little32
-    };
-    (le64) => {
-        $crate::Form::Little64
-    };
-    (be16) => {
-        $crate::Form::Big16
-    };
-    (be32) => {
-        $crate::Form::Big32
-    };
-    (be64) => {
-        $crate::Form::Big64
-    };
-    (octets4) => {
-        $crate::Form::Octets4
-    };
-    (octets16) => {
-        $crate::Form::Octets16
-    };
-    (ip) => {
-        $crate::Form::Ip
-    };
-    (name) => {
-        $crate::Form::Name
-    };
-    (raw) => {
-        $crate::Form::Raw
-    };
-    (list) => {
-        $crate::Form::Inside
-    };
-    ($of:ident value) => {
-        $crate::Form::Inside
-    };
-    ($of:ident as $number:ident $(by $by:ident)?) => {
-        $crate::form_row!($number)
-    };
-    ($of:ident flags $number:ident) => {
-        $crate::form_row!($number)
-    };
-    ($of:ident exactly $len:literal) => {
-        $crate::Form::Exactly($len)
-    };
-    ($of:ident leading $len:literal) => {
-        $crate::Form::Leading($len)
-    };
 }
 
 /// What a value is, by its codec.

@@ -12,7 +12,7 @@ use crate::values::{
 use std::str::from_utf8;
 
 /// How the value of an attribute is read: what a row of a family says of its bytes.
-#[derive(Debug, Clone, Copy)]
+#[derive(Debug, Clone, Copy, PartialEq, Eq)]
 pub enum Form {
     /// A number of one byte.
     Byte,
@@ -54,7 +54,7 @@ pub enum Form {
 
 /// The value of an attribute, in the bytes where it stands. An enumeration or a set of flags is its
 /// number.
-#[derive(Debug, Clone, Copy)]
+#[derive(Debug, Clone, Copy, PartialEq, Eq)]
 pub enum Value<'a> {
     /// A number of one byte.
     U8(u8),
@@ -87,6 +87,7 @@ pub enum Value<'a> {
 ///
 /// # Errors
 /// `NotUtf8`.
+#[inline(always)]
 fn borrow_name(value: &[u8], at: At) -> Result<&str, DecodeError>
     ensures ok { IfOk result (λ text. name.Reads value.now text.now) }
     ensures refused { IfErr result (λ e. name.Wrong at value.now e) }
@@ -101,6 +102,7 @@ fn borrow_name(value: &[u8], at: At) -> Result<&str, DecodeError>
 ///
 /// # Errors
 /// `ValueLength` at another length.
+#[inline(always)]
 fn whole_octets(value: &[u8], size: usize, at: At) -> Result<&[u8], DecodeError>
     ensures ok { IfOk result (λ b. (length value.now ≡ size) × (b.now ≡ value.now)) }
     ensures refused { IfErr result (λ e. Missized size at value.now e) }
@@ -118,6 +120,7 @@ fn whole_octets(value: &[u8], size: usize, at: At) -> Result<&[u8], DecodeError>
 ///
 /// # Errors
 /// What is wrong with the bytes; `at` is the attribute that holds them.
+#[inline(always)]
 pub fn read_form<'a>(form: Form, bytes: &'a [u8], at: At) -> Result<Value<'a>, DecodeError>
     ensures ok { IfOk result (λ v. Shows form bytes.now (shown v)) }
     ensures refused { IfErr result (λ e. Misshown form at bytes.now e) }

@@ -22,7 +22,7 @@ pub enum AfSpecInet {
 macro_rules! rows {
     ($body:ident ($($given:tt)*)) => {
         npr_base::$body!(($($given)*) AfSpecInet of AfSpecInet {
-            1 DevConf(InetDevConf value);
+            1 DevConf(InetDevConf value raw);
         })
     };
 }

@@ -41,10 +41,10 @@ macro_rules! rows {
     ($body:ident ($($given:tt)*)) => {
         npr_base::$body!(($($given)*) AfSpecInet6 of AfSpecInet6 {
             1 Flags(Inet6IfaceFlags flags le32);
-            2 DevConf(Inet6DevConf value);
-            3 Stats(Inet6Stats value);
+            2 DevConf(Inet6DevConf value raw);
+            3 Stats(Inet6Stats value raw);
             5 CacheInfo(Inet6CacheInfo leading 16);
-            6 Icmp6Stats(Icmp6Stats value);
+            6 Icmp6Stats(Icmp6Stats value raw);
             7 Token(octets16);
             8 AddrGenMode(In6AddrGenMode as byte);
             9 RaMtu(le32);

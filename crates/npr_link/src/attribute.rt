@@ -168,7 +168,7 @@ pub enum LinkAttribute {
 const IFLA_AF_SPEC: u16 = 26;
 
 /// The number of how far ahead packets can be held back, `IFLA_MAX_PACING_OFFLOAD_HORIZON`.
-const IFLA_MAX_PACING_OFFLOAD_HORIZON: u16 = 66;
+pub(crate) const IFLA_MAX_PACING_OFFLOAD_HORIZON: u16 = 66;
 
 /// The number of what a driver says, `IFLA_LINKINFO`.
 const IFLA_LINKINFO: u16 = 18;
@@ -183,7 +183,7 @@ macro_rules! rows {
             4 Mtu(le32);
             5 Link(le32);
             6 Qdisc(name);
-            7 Stats(Stats value);
+            7 Stats(Stats value raw);
             10 Controller(le32);
             13 TxQueueLen(le32);
             14 Map(Map leading 32);
@@ -192,7 +192,7 @@ macro_rules! rows {
             19 NetNsPid(le32);
             20 IfAlias(name);
             21 NumVf(le32);
-            23 Stats64(Stats64 value);
+            23 Stats64(Stats64 value raw);
             27 Group(le32);
             28 NetNsFd(signed32);
             29 ExtMask(LinkExtentMask flags le32);

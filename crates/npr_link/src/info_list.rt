@@ -94,9 +94,10 @@ fn search(bytes: &[u8], looks: &mut Looks) -> (InfoForm, InfoPortForm)
     forms_of(found)
 }
 
-/// The same of a list of any length: one of fewer than 8 bytes has no room for a kind and for data
-/// beside it, and is not searched.
-fn governing(bytes: &[u8], looks: &mut Looks) -> (InfoForm, InfoPortForm)
+/// What governs the data in the bytes of an `IFLA_LINKINFO`: the first kind of a link and the first of a
+/// port, wherever they stand before a fault. A list of fewer than 8 bytes has no room for a kind and
+/// for data beside it, and is not searched. Each look at a header is counted.
+pub fn governing_forms(bytes: &[u8], looks: &mut Looks) -> (InfoForm, InfoPortForm)
     ensures { Searches bytes.now result looks.old looks.new }
 {
     if bytes.len() < 8 {
@@ -136,7 +137,7 @@ pub(crate) fn read_info(
     ensures exact { Answered result → InfoLooks bytes.now looks.old looks.new }
     ensures bounded { AddsAtMost looks.old looks.new (length bytes.now) }
 {
-    let forms = governing(bytes, looks);
+    let forms = governing_forms(bytes, looks);
     let mut inside = Looks::new();
     let read = parse_list(alloc, forms, bytes, &mut inside);
     if wants_memory(&read) {

@@ -4,7 +4,7 @@ use Rattle.npr_base.specs.declared.address_family.AddressFamily.{AddressFamily}
 use Rattle.npr_base.specs.declared.address_family.AddressFamily.TheVariants.{Inet, Inet6, Mpls}
 use Rattle.npr_base.specs.declared.refusal.AttrFamily.TheVariants.{Route as OfRoute}
 use Rattle.npr_base.specs.declared.refusal.DecodeError.{DecodeError}
-use Rattle.npr_base.specs.declared.value.Form.TheVariants.{Inside}
+use Rattle.npr_base.specs.declared.value.Form.TheVariants.{Raw}
 use Rattle.npr_base.specs.Refusal.{at_number}
 use Rattle.npr_base.specs.Table.{RowReads, RowWrong}
 use Rattle.npr_scalar.specs.RouteAddress.{form_of, route_address, Address}
@@ -31,8 +31,8 @@ expires_reads Multicast not bytes n p = absurd (not refl)
 expires_reads kind not bytes n p = (n, p, refl)
 
 -- how it is read without memory
-pub labels_form : (family : AddressFamily) → family ≡ Mpls → Inside ≡ (new_destination_row (form_of family)).codec.showing.form
-labels_form family is = subst (λ f. Inside ≡ (new_destination_row (form_of f)).codec.showing.form) (sym is) refl
+pub labels_form : (family : AddressFamily) → family ≡ Mpls → Raw ≡ (new_destination_row (form_of family)).codec.showing.form
+labels_form family is = subst (λ f. Raw ≡ (new_destination_row (form_of f)).codec.showing.form) (sym is) refl
 
 pub address_form : (family : AddressFamily) → (family ≡ Mpls → ⊥) → (route_address family).showing.form ≡ (new_destination_row (form_of family)).codec.showing.form
 address_form Inet not = refl

@@ -302,7 +302,7 @@ fn new_destination_form(family: AddressFamily) -> Form
     ensures { result ≡ (new_destination_row (form_of family)).codec.showing.form }
 {
     match family {
-        AddressFamily::Mpls => Form::Inside,
+        AddressFamily::Mpls => Form::Raw,
         _ => RouteAddress::form(family),
     }
 }

@@ -10,7 +10,7 @@ ghost use Rattle.{
     Refusal.{no_place},
   },
   npr_scalar.specs.{
-    RouteVia.{via_of, via_bytes, via_value, via_of_ip, via_form_of, IsAddress, NotAddress},
+    RouteVia.{Via, via_of, via_bytes, via_value, via_of_ip, via_form_of, IsAddress, NotAddress},
     ViaBuffer.{via_buffer},
     declared.via.RouteVia.TheVariants.{Inet, Inet6},
   },
@@ -85,6 +85,23 @@ fn read_address(
     }
 }
 
+/// Whether the bytes are an address of a family. It takes no memory.
+fn check_address(family: AddressFamily, bytes: &[u8], at: At) -> Result<(), DecodeError>
+    ensures ok { IfOk result (λ _. (via : Via) × IsAddress family (via_form_of family) bytes.now via) }
+    ensures refused { IfErr result (λ e. NotAddress (via_form_of family) at bytes.now e) }
+{
+    match family {
+        AddressFamily::Inet => {
+            read_ipv4(bytes, at)?;
+        }
+        AddressFamily::Inet6 => {
+            read_ipv6(bytes, at)?;
+        }
+        _ => {}
+    }
+    Ok(())
+}
+
 impl RouteVia {
     /// The gateway that the bytes are.
     ///
@@ -113,6 +130,21 @@ impl RouteVia {
             return Err(DecodeError::ViaFamily(number));
         }
         read_address(alloc, AddressFamily::from(number as u8), &bytes[2..], at)
+    }
+
+    /// Whether the bytes at a place are a gateway. It takes no memory.
+    ///
+    /// # Errors
+    /// As `parse`, without `OutOfMemory`.
+    pub fn check_value(bytes: &[u8], at: At) -> Result<(), DecodeError>
+        ensures ok { IfOk result (λ _. (via : Via) × via_value.Reads bytes.now via) }
+        ensures refused { IfErr result (λ e. via_value.Wrong at bytes.now e) }
+    {
+        let RouteViaBuffer { address_family } = RouteViaBuffer::parse(bytes)?;
+        if address_family > 255 {
+            return Err(DecodeError::ViaFamily(address_family));
+        }
+        check_address(AddressFamily::from(address_family as u8), &bytes[2..], at)
     }
 
     /// The length of its bytes.

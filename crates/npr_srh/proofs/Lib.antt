@@ -1,3 +1,4 @@
 pub mod Headers
 mod SegmentTexts
 pub mod Seg6NormalizedLaws
+mod Apart

@@ -2,12 +2,12 @@
 
 ghost use Rattle.std.specs.{Prelude.{◌≡◌, ◌≢◌, IfOk, IfErr, IfSome, IfNone, refl, Some}, Fmt.{WritesOnOk}};
 ghost use Rattle.{
-  npr_base.specs.{Family.{shaped}, Table.{shape_at, slot_plain}, declared.refusal.DecodeError.TheVariants.{OutOfMemory}},
+  npr_base.specs.{Family.{shaped}, Framing.{number_of}, Table.{shape_at, slot_plain}, declared.refusal.DecodeError.TheVariants.{OutOfMemory}},
   npr_srh.specs.{
     Ioam6Mode.{ioam6_modes, ioam6_mode_text},
     Keeping.{IsUnread},
     Trace.{trace, trace_layout, IsTrace, trace_text},
-    Ioam6Tunnel.{family, ioam6_text, trace_at},
+    Ioam6Tunnel.{family, attributes, ioam6_text, trace_at},
   },
 };
 
@@ -233,6 +233,22 @@ impl Attribute for RouteIoam6Tunnel {
 
     fn try_clone(&self, alloc: Global) -> Result<Self, AllocError> {
         rows!(clone_rows(self, alloc; RouteIoam6Tunnel::Trace(trace) => Ok(RouteIoam6Tunnel::Trace(*trace)),))
+    }
+}
+
+impl RouteIoam6Tunnel {
+    /// Whether the trace is read, which has a reader of its own, or `None` for an attribute
+    /// of another number. It is read of any bytes: what is none is kept as it stands.
+    pub fn check_apart(item: &NlaBuffer<'_>) -> Option<Result<(), DecodeError>>
+        ensures apart { IfSome result (λ _. number_of (item.now).kind ≡ 3) }
+        ensures other { IfNone result (number_of (item.now).kind ≢ 3) }
+        ensures ok { IfSome result (λ r. IfOk r (λ _. (m : family.Meaning) × attributes.Reads item.now m)) }
+        ensures refused { IfSome result (λ r. IfErr r (λ e. attributes.Faulty item.now e)) }
+    {
+        if item.kind() != IOAM6_IPTUNNEL_TRACE {
+            return None;
+        }
+        Some(Ok(()))
     }
 }
 

@@ -1,14 +1,14 @@
 //! RPL: source routes of a network of low power (RFC 6554; `linux/rpl.h` and
 //! `linux/rpl_iptunnel.h`).
 
-ghost use Rattle.std.specs.Prelude.{◌≡◌, ◌≤◌, ◌*◌, length, [], IfOk, IfErr, IfSome, IfNone, refl};
+ghost use Rattle.std.specs.Prelude.{◌≡◌, ◌≢◌, ◌≤◌, ◌*◌, length, [], IfOk, IfErr, IfSome, IfNone, refl};
 ghost use Rattle.{
-  npr_base.specs.{Family.{shaped}, Table.{shape_at, slot_plain}, declared.refusal.DecodeError.TheVariants.{OutOfMemory}},
+  npr_base.specs.{Family.{shaped}, Framing.{number_of}, Table.{shape_at, slot_plain}, declared.refusal.DecodeError.TheVariants.{OutOfMemory}},
   npr_srh.specs.{
     Keeping.{IsUnread},
     Headed.{front_layout},
     Rpl.{rpl, rpl_of, rpl_front},
-    RplTunnel.{family, rpl_text, srh_at},
+    RplTunnel.{family, attributes, rpl_text, srh_at},
   },
 };
 
@@ -221,6 +221,22 @@ impl Attribute for RouteRplIpTunnel {
 
     fn try_clone(&self, alloc: Global) -> Result<Self, AllocError> {
         rows!(clone_rows(self, alloc; RouteRplIpTunnel::Srh(header) => header.try_clone(alloc).map(RouteRplIpTunnel::Srh),))
+    }
+}
+
+impl RouteRplIpTunnel {
+    /// Whether the routing header is read, which has a reader of its own, or `None` for an attribute
+    /// of another number. It is read of any bytes: what is none is kept as it stands.
+    pub fn check_apart(item: &NlaBuffer<'_>) -> Option<Result<(), DecodeError>>
+        ensures apart { IfSome result (λ _. number_of (item.now).kind ≡ 1) }
+        ensures other { IfNone result (number_of (item.now).kind ≢ 1) }
+        ensures ok { IfSome result (λ r. IfOk r (λ _. (m : family.Meaning) × attributes.Reads item.now m)) }
+        ensures refused { IfSome result (λ r. IfErr r (λ e. attributes.Faulty item.now e)) }
+    {
+        if item.kind() != RPL_IPTUNNEL_SRH {
+            return None;
+        }
+        Some(Ok(()))
     }
 }
 

@@ -1,9 +1,9 @@
 //! SEG6: members of its tunnel (RFC 8754; `linux/seg6_iptunnel.h`).
 
-ghost use Rattle.std.specs.Prelude.{refl};
-ghost use Rattle.{npr_base.specs.Family.{shaped}, npr_srh.specs.Seg6Tunnel.{family}};
+ghost use Rattle.std.specs.Prelude.{◌≡◌, ◌≢◌, IfSome, IfNone, IfOk, IfErr, refl};
+ghost use Rattle.{npr_base.specs.{Family.{shaped}, Framing.{number_of}}, npr_srh.specs.Seg6Tunnel.{family, attributes}};
 
-use crate::seg6_header::Seg6Header;
+use crate::seg6_header::{SEG6_IPTUNNEL_SRH, Seg6Header};
 use npr_base::{
     At, Attribute, DecodeError, DefaultNla, EmitError, Form, Ipv6Addr, Looks, Nla, NlaBuffer,
     Place, put_read,
@@ -78,5 +78,24 @@ impl Attribute for RouteSeg6IpTunnel {
 
     fn try_clone(&self, alloc: Global) -> Result<Self, AllocError> {
         rows!(clone_rows(self, alloc; RouteSeg6IpTunnel::Seg6(header) => header.try_clone(alloc).map(RouteSeg6IpTunnel::Seg6),))
+    }
+}
+
+impl RouteSeg6IpTunnel {
+    /// Whether the routing header is read, which has a reader of its own, or `None` for an attribute
+    /// of another number. It takes no memory.
+    ///
+    /// # Errors
+    /// `Seg6Header` with the first fault.
+    pub fn check_apart(item: &NlaBuffer<'_>) -> Option<Result<(), DecodeError>>
+        ensures apart { IfSome result (λ _. number_of (item.now).kind ≡ 1) }
+        ensures other { IfNone result (number_of (item.now).kind ≢ 1) }
+        ensures ok { IfSome result (λ r. IfOk r (λ _. (m : family.Meaning) × attributes.Reads item.now m)) }
+        ensures refused { IfSome result (λ r. IfErr r (λ e. attributes.Faulty item.now e)) }
+    {
+        if item.kind() != SEG6_IPTUNNEL_SRH {
+            return None;
+        }
+        Some(Seg6Header::check_value(item.value()))
     }
 }

@@ -10,7 +10,7 @@ ghost use Rattle.{
     declared.refusal.DecodeError.TheVariants.{OutOfMemory, Seg6Header as Refused},
   },
   npr_srh.specs.{
-    Seg6.{message, seg6_of, normalized, IsSeg6, IsKey, HasFront, Seg6Wrong, front_of, key_bytes, body_bytes, key_eights, most_segments},
+    Seg6.{Seg6, message, seg6_of, normalized, IsSeg6, IsKey, HasFront, Seg6Wrong, front_of, key_bytes, body_bytes, key_eights, most_segments},
     Seg6Codec.{seg6},
   },
 };
@@ -83,7 +83,7 @@ impl Seg6MessageBuffer {
 }
 
 /// `SEG6_IPTUNNEL_SRH` of `linux/seg6_iptunnel.h`.
-const SEG6_IPTUNNEL_SRH: u16 = 1;
+pub(crate) const SEG6_IPTUNNEL_SRH: u16 = 1;
 
 /// A SEG6 header (RFC 8754): how it is put in, and the segments in the order in which they are
 /// visited, the reverse of the wire.
@@ -158,6 +158,18 @@ impl Seg6Header {
             segments,
             hmac: read_key(front.flags, &value[12 + len..]),
         })
+    }
+
+    /// Whether the value of an attribute is a header. It takes no memory.
+    ///
+    /// # Errors
+    /// `Seg6Header` with the first fault.
+    pub fn check_value(value: &[u8]) -> Result<(), DecodeError>
+        ensures ok { IfOk result (λ _. (h : Seg6) × IsSeg6 value.now h) }
+        ensures refused { IfErr result (λ e. Seg6Wrong value.now e) }
+    {
+        read_front(value)?;
+        Ok(())
     }
 
     /// A header of the default mode, with no segments and no key. It takes no memory.

@@ -1,10 +1,10 @@
 //! SEG6 local: members of its tunnel (RFC 8986; `linux/seg6_local.h`).
 
-ghost use Rattle.std.specs.Prelude.{refl};
-ghost use Rattle.{npr_base.specs.Family.{shaped}, npr_srh.specs.Seg6LocalTunnel.{family, local_text}};
+ghost use Rattle.std.specs.Prelude.{◌≡◌, ◌≢◌, IfSome, IfNone, IfOk, IfErr, refl};
+ghost use Rattle.{npr_base.specs.{Family.{shaped}, Framing.{number_of}}, npr_srh.specs.Seg6LocalTunnel.{family, attributes, local_text}};
 
 use crate::seg6local_action::Seg6LocalAction;
-use crate::seg6local_srh::Seg6LocalSrh;
+use crate::seg6local_srh::{SEG6_LOCAL_SRH, Seg6LocalSrh};
 use crate::segments::write_header;
 use npr_base::{
     At, Attribute, DecodeError, DefaultNla, EmitError, Form, Ipv4Addr, Ipv6Addr, Looks, Nla,
@@ -105,6 +105,22 @@ impl Attribute for RouteSeg6LocalTunnel {
 
     fn try_clone(&self, alloc: Global) -> Result<Self, AllocError> {
         rows!(clone_rows(self, alloc; RouteSeg6LocalTunnel::Srh(header) => header.try_clone(alloc).map(RouteSeg6LocalTunnel::Srh),))
+    }
+}
+
+impl RouteSeg6LocalTunnel {
+    /// Whether the routing header is read, which has a reader of its own, or `None` for an attribute
+    /// of another number. It is read of any bytes: what is none is kept as it stands.
+    pub fn check_apart(item: &NlaBuffer<'_>) -> Option<Result<(), DecodeError>>
+        ensures apart { IfSome result (λ _. number_of (item.now).kind ≡ 2) }
+        ensures other { IfNone result (number_of (item.now).kind ≢ 2) }
+        ensures ok { IfSome result (λ r. IfOk r (λ _. (m : family.Meaning) × attributes.Reads item.now m)) }
+        ensures refused { IfSome result (λ r. IfErr r (λ e. attributes.Faulty item.now e)) }
+    {
+        if item.kind() != SEG6_LOCAL_SRH {
+            return None;
+        }
+        Some(Ok(()))
     }
 }
 

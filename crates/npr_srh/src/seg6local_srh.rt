@@ -33,7 +33,7 @@ pub struct Seg6LocalSrh {
 }
 
 /// `SEG6_LOCAL_SRH` of `linux/seg6_local.h`.
-const SEG6_LOCAL_SRH: u16 = 2;
+pub(crate) const SEG6_LOCAL_SRH: u16 = 2;
 
 impl Seg6LocalSrh {
     /// A header with each field 0 and no segments. It takes no memory.

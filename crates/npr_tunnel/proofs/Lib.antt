@@ -2,3 +2,4 @@ pub mod Groups
 pub mod Options
 pub mod Texts
 pub mod EncapsulationNormalizedLaws
+mod Checked

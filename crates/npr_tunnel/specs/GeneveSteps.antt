@@ -21,3 +21,8 @@ Changes before (class_child n) closed opened = (closed ≡ before) × (opened �
 Changes (Some o) (type_child n) closed opened = (closed ≡ None) × (opened ≡ record o { typ = n })
 Changes (Some o) (data_child d) closed opened = (closed ≡ None) × (opened ≡ record o { opt_data = d })
 Changes None c closed opened = ⊥
+
+-- a class stands anywhere, and a type or data where an option is open
+abbrev pub Stands : Bool → Child → Type 0
+Stands inside (class_child n) = Unit {0}
+Stands inside c = inside ≡ true

@@ -14,3 +14,4 @@ pub mod IpTunnel
 pub mod Wrapped
 pub mod Encapsulation
 pub mod EqualityLaws
+pub mod Apart

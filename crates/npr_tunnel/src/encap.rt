@@ -1,7 +1,10 @@
 //! The members of an encapsulation, by its type.
 
-ghost use Rattle.std.specs.Prelude.{◌≡◌, refl};
-ghost use Rattle.{npr_base.specs.Family.{shaped}, npr_tunnel.specs.Encapsulation.{meaning_of, normalized, family}};
+ghost use Rattle.std.specs.Prelude.{◌≡◌, IfSome, IfNone, IfOk, IfErr, refl};
+ghost use Rattle.{
+  npr_base.specs.{Family.{shaped}, Framing.{number_of}},
+  npr_tunnel.specs.{Encapsulation.{meaning_of, normalized, encapsulation, family}, Apart.{IsApart}},
+};
 
 use crate::encap_type::RouteLwEnCapType;
 use crate::ip::RouteIpTunnel;
@@ -150,5 +153,30 @@ impl Attribute for RouteLwTunnelEncap {
 
     fn try_clone(&self, alloc: Global) -> Result<Self, AllocError> {
         members!(cloned(self, alloc))
+    }
+}
+
+impl RouteLwTunnelEncap {
+    /// Whether a routing header or a trace is read, which has a reader of its own, or `None` for
+    /// another type or number. It takes no memory.
+    ///
+    /// # Errors
+    /// `Seg6Header` with the first fault, under the type SEG6 alone.
+    pub fn check_apart(
+        encap_type: RouteLwEnCapType,
+        item: &NlaBuffer<'_>,
+    ) -> Option<Result<(), DecodeError>>
+        ensures apart { IfSome result (λ _. IsApart encap_type (number_of (item.now).kind)) }
+        ensures other { IfNone result (IsApart encap_type (number_of (item.now).kind) → ⊥) }
+        ensures ok { IfSome result (λ r. IfOk r (λ _. (m : family.Meaning) × (encapsulation encap_type).Reads item.now m)) }
+        ensures refused { IfSome result (λ r. IfErr r (λ e. (encapsulation encap_type).Faulty item.now e)) }
+    {
+        match encap_type {
+            RouteLwEnCapType::Seg6 => RouteSeg6IpTunnel::check_apart(item),
+            RouteLwEnCapType::Ioam6 => RouteIoam6Tunnel::check_apart(item),
+            RouteLwEnCapType::Rpl => RouteRplIpTunnel::check_apart(item),
+            RouteLwEnCapType::Seg6Local => RouteSeg6LocalTunnel::check_apart(item),
+            _ => None,
+        }
     }
 }

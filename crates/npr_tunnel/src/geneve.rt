@@ -1,6 +1,6 @@
 //! Options of Geneve: `LWTUNNEL_IP_OPT_GENEVE_*` of `linux/lwtunnel.h`.
 
-ghost use Rattle.std.specs.Prelude.{false, ◌≡◌, ◌≢◌, ◌≤◌, ◌⊎◌, ◌+◌, ◌∷◌, ◌++◌, true, [], ℕ, Some, None, length, map, IfOk, IfErr, OnOk};
+ghost use Rattle.std.specs.Prelude.{false, ◌≡◌, ◌≢◌, ◌≤◌, ◌⊎◌, ◌+◌, ◌∷◌, ◌++◌, true, [], ℕ, List, Some, None, length, map, IfOk, IfErr, OnOk};
 ghost use Rattle.{
   npr_base.specs.{
     Table.{shape_at, slot_plain},
@@ -14,9 +14,9 @@ ghost use Rattle.{
     declared.refusal.DecodeError.TheVariants.{OutOfMemory},
   },
   npr_tunnel.specs.{
-    Geneve.{Child, option_bytes, option_unfit, options_unfit, class_child, type_child, data_child, option_of, ReadsChild, WrongChild, AreOptions, OptionsFault, geneve_text},
+    Geneve.{Geneve, Child, option_bytes, option_unfit, options_unfit, class_child, type_child, data_child, option_of, ReadsChild, WrongChild, AreOptions, OptionsFault, geneve_text},
     GeneveLooks.{OptionsLooks},
-    GeneveSteps.{seen, listed, is_some, Changes},
+    GeneveSteps.{seen, listed, is_some, Changes, Stands},
   },
 };
 
@@ -197,6 +197,50 @@ pub(crate) fn read_options(
     }
     close(&mut options, current)?;
     Ok(options)
+}
+
+/// Whether a child stands where an option is open, or where none is. It takes no memory.
+fn check_child(inside: bool, child: &NlaBuffer<'_>) -> Result<(), DecodeError>
+    ensures ok { IfOk result (λ _. (c : Child) × ReadsChild child.now c × Stands inside c) }
+    ensures refused { IfErr result (λ e. WrongChild inside child.now e) }
+{
+    let kind = child.kind();
+    match kind {
+        LWTUNNEL_IP_OPT_GENEVE_CLASS => {
+            read_u16_be(child.value(), FAMILY.at(LWTUNNEL_IP_OPT_GENEVE_CLASS))?;
+        }
+        LWTUNNEL_IP_OPT_GENEVE_TYPE => {
+            if !inside {
+                return Err(DecodeError::GeneveOrder { kind });
+            }
+            read_u8(child.value(), FAMILY.at(LWTUNNEL_IP_OPT_GENEVE_TYPE))?;
+        }
+        LWTUNNEL_IP_OPT_GENEVE_DATA => {
+            if !inside {
+                return Err(DecodeError::GeneveOrder { kind });
+            }
+        }
+        _ => return Err(DecodeError::GeneveChild { kind }),
+    }
+    Ok(())
+}
+
+/// Whether the bytes are options. It takes no memory.
+///
+/// # Errors
+/// The first fault in reading order, as `read_options` tells it.
+pub(crate) fn check_options_value(bytes: &[u8]) -> Result<(), DecodeError>
+    ensures ok { IfOk result (λ _. (os : List Geneve) × AreOptions bytes.now os) }
+    ensures refused { IfErr result (λ e. OptionsFault bytes.now e) }
+{
+    let mut walk = NlasIterator::new(bytes);
+    let mut inside = false;
+    while let Some(next) = walk.next() {
+        let child = next?;
+        check_child(inside, &child)?;
+        inside = true;
+    }
+    Ok(())
 }
 
 /// The data of an option, to be written as an attribute.

@@ -69,7 +69,7 @@ impl Attribute for RouteMplsIpTunnel {
 
     #[tactic(auto, unfolding(crate::specs::MplsTunnel::attributes))]
     fn form(_context: (), number: u16) -> (At, Form) {
-        rows!(form_rows(number; 1 => Form::Inside,))
+        rows!(form_rows(number; 1 => Form::Raw,))
     }
 
     fn try_clone(&self, alloc: Global) -> Result<Self, AllocError> {

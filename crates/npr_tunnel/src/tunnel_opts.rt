@@ -1,10 +1,15 @@
 //! Options of tunnels over IP: `LWTUNNEL_IP_OPTS_*` of `linux/lwtunnel.h`.
 
-ghost use Rattle.std.specs.Prelude.{refl};
-ghost use Rattle.{npr_base.specs.Family.{shaped}, npr_tunnel.specs.TunnelOptions.{family, tunnel_option_text}};
+ghost use Rattle.std.specs.Prelude.{◌≡◌, ◌≢◌, IfSome, IfNone, IfOk, IfErr, refl};
+ghost use Rattle.{
+  npr_base.specs.{Family.{shaped}, Framing.{number_of}},
+  npr_tunnel.specs.TunnelOptions.{family, attributes, tunnel_option_text},
+};
 
 use crate::erspan::{RouteErspanOpt, write_erspan};
-use crate::geneve::{RouteGeneveOpt, check_options, clone_options, read_options, write_options};
+use crate::geneve::{
+    RouteGeneveOpt, check_options, check_options_value, clone_options, read_options, write_options,
+};
 use crate::vxlan::RouteVxlanOpt;
 use npr_base::{
     At, Attribute, DecodeError, DefaultNla, EmitError, Form, Looks, NLA_F_NESTED, Nla, NlaBuffer,
@@ -81,6 +86,25 @@ impl Attribute for RouteLwTunnelOpt {
 
     fn try_clone(&self, alloc: Global) -> Result<Self, AllocError> {
         rows!(clone_rows(self, alloc; RouteLwTunnelOpt::Geneve(v) => clone_options(alloc, v.as_slice()).map(RouteLwTunnelOpt::Geneve),))
+    }
+}
+
+impl RouteLwTunnelOpt {
+    /// Whether options of Geneve are read, which have a reader of their own, or `None` for an
+    /// attribute of another number. It takes no memory.
+    ///
+    /// # Errors
+    /// The first fault of the options in reading order.
+    pub fn check_apart(item: &NlaBuffer<'_>) -> Option<Result<(), DecodeError>>
+        ensures apart { IfSome result (λ _. number_of (item.now).kind ≡ 1) }
+        ensures other { IfNone result (number_of (item.now).kind ≢ 1) }
+        ensures ok { IfSome result (λ r. IfOk r (λ _. (m : family.Meaning) × attributes.Reads item.now m)) }
+        ensures refused { IfSome result (λ r. IfErr r (λ e. attributes.Faulty item.now e)) }
+    {
+        if item.kind() != 1 {
+            return None;
+        }
+        Some(check_options_value(item.value()))
     }
 }
 
