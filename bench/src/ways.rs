@@ -10,6 +10,7 @@ unsafe extern "C" {
     fn bench_parse(datagram: *const u8, length: usize) -> u64;
     fn bench_parse_into(datagram: *const u8, length: usize) -> u64;
     fn bench_attributes(datagram: *const u8, length: usize) -> u64;
+    fn bench_values(datagram: *const u8, length: usize) -> u64;
 }
 
 #[cfg(feature = "peers")]
@@ -66,6 +67,7 @@ pub fn compare_ways<M: Parseable<[u8]>>(datagram: &[u8], messages: usize, rounds
         ("parse", Box::new(|| ours(bench_parse, datagram))),
         ("parse_into", Box::new(|| ours(bench_parse_into, datagram))),
         ("attributes", Box::new(|| ours(bench_attributes, datagram))),
+        ("values", Box::new(|| ours(bench_values, datagram))),
     ];
     #[cfg(feature = "peers")]
     works.extend::<[(&str, Work); 2]>([

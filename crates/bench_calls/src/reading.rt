@@ -2,7 +2,7 @@
 
 use netlink_packet_core::NetlinkIterator;
 use netlink_packet_route::address::{AddressHeader, AddressMessage};
-use netlink_packet_route::framing::{Header, Message, Parseable};
+use netlink_packet_route::framing::{Header, Message, Parseable, Value};
 use netlink_packet_route::link::{LinkHeader, LinkMessage};
 use netlink_packet_route::neighbour::{NeighbourHeader, NeighbourMessage};
 use netlink_packet_route::route::{RouteHeader, RouteMessage};
@@ -119,6 +119,52 @@ impl Way for OneByOne {
             MessageKind::Link => step_through::<LinkHeader>(self.alloc, bytes),
         }
     }
+}
+
+/// Each value where it stands, without memory.
+#[derive(Drop)]
+struct Seen;
+
+fn see<H: Header>(bytes: &[u8]) -> u64 {
+    let mut values = match Message::<H, H::Attribute>::values(bytes) {
+        Ok((_, values)) => values,
+        Err(_) => return 0,
+    };
+    let mut count = 0u64;
+    while let Some(next) = values.next() {
+        match next {
+            Ok((_, value)) => count = count.saturating_add(taken(&value)),
+            Err(_) => return 0,
+        }
+    }
+    count
+}
+
+/// One for a value; nothing for one that is none, so that each is looked at.
+fn taken(value: &Value<'_>) -> u64 {
+    match value {
+        Value::U64(u64::MAX) => 0,
+        Value::Bytes([]) => 0,
+        _ => 1,
+    }
+}
+
+impl Way for Seen {
+    fn read(&mut self, kind: MessageKind, bytes: &[u8]) -> u64 {
+        match kind {
+            MessageKind::Address => see::<AddressHeader>(bytes),
+            MessageKind::Route => see::<RouteHeader>(bytes),
+            MessageKind::Rule => see::<RuleHeader>(bytes),
+            MessageKind::Neighbour => see::<NeighbourHeader>(bytes),
+            MessageKind::Link => see::<LinkHeader>(bytes),
+        }
+    }
+}
+
+/// Sees each value of each message where it stands.
+#[unsafe(no_mangle)]
+pub extern "C" fn bench_values(datagram: &[u8]) -> u64 {
+    read_all(&mut Seen, datagram)
 }
 
 /// Reads each message anew.

@@ -2,13 +2,13 @@
 
 use crate::datagram::datagrams_answer;
 use crate::stop::Stop;
-use netlink_packet_route::MessageKind;
 use netlink_packet_route::address::AddressHeader;
 use netlink_packet_route::framing::{Header, Message, NLA_F_NET_BYTEORDER, Nla, Parseable, to_vec};
 use netlink_packet_route::link::LinkHeader;
 use netlink_packet_route::neighbour::NeighbourHeader;
 use netlink_packet_route::route::RouteHeader;
 use netlink_packet_route::rule::RuleHeader;
+use netlink_packet_route::{MessageKind, validate};
 use std::alloc::{AllocError, Global};
 
 /// What the lines of a file are.
@@ -33,11 +33,7 @@ impl Asked {
     /// the first fault, or `unfit` with the name of the cause.
     pub fn answer(self, alloc: Global, bytes: &[u8]) -> Result<String, AllocError> {
         let answered = match self {
-            Asked::Message(MessageKind::Address) => answer::<AddressHeader>(alloc, bytes),
-            Asked::Message(MessageKind::Route) => answer::<RouteHeader>(alloc, bytes),
-            Asked::Message(MessageKind::Rule) => answer::<RuleHeader>(alloc, bytes),
-            Asked::Message(MessageKind::Neighbour) => answer::<NeighbourHeader>(alloc, bytes),
-            Asked::Message(MessageKind::Link) => answer::<LinkHeader>(alloc, bytes),
+            Asked::Message(kind) => message_answer(kind, alloc, bytes),
             Asked::Datagrams => datagrams_answer(alloc, bytes),
         };
         match answered {
@@ -47,6 +43,27 @@ impl Asked {
             Err(Stop::Unfit(name)) => format!(in alloc; "unfit {name}"),
         }
     }
+}
+
+/// What is answered to a message of a kind, where `validate` says the same of it.
+fn message_answer(kind: MessageKind, alloc: Global, bytes: &[u8]) -> Result<String, Stop> {
+    let answered = match kind {
+        MessageKind::Address => answer::<AddressHeader>(alloc, bytes),
+        MessageKind::Route => answer::<RouteHeader>(alloc, bytes),
+        MessageKind::Rule => answer::<RuleHeader>(alloc, bytes),
+        MessageKind::Neighbour => answer::<NeighbourHeader>(alloc, bytes),
+        MessageKind::Link => answer::<LinkHeader>(alloc, bytes),
+    };
+    let is_alike = match (&answered, validate(kind, bytes)) {
+        (Err(Stop::Memory), _) => true,
+        (Err(Stop::Refused(name)), Err(fault)) => *name == fault.name(),
+        (Err(Stop::Refused(_)), Ok(())) => false,
+        (_, told) => told.is_ok(),
+    };
+    if is_alike {
+        return answered;
+    }
+    Ok(format!(in alloc; "validated otherwise")?)
 }
 
 /// `canonical` with the canonical bytes of a message with such a header in hexadecimal.

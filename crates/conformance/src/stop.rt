@@ -5,6 +5,7 @@ use netlink_packet_route::framing::{DecodeError, WriteError};
 use std::alloc::AllocError;
 
 /// Why bytes are not written again.
+#[derive(Drop)]
 pub enum Stop {
     /// Memory is refused.
     Memory,

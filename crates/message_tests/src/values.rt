@@ -1,8 +1,11 @@
 //! Values that are seen where they stand, without memory.
 
 use netlink_packet_route::address::AddressMessage;
-use netlink_packet_route::framing::{At, DecodeError, Value, Values};
+use netlink_packet_route::framing::{
+    At, AttrFamily, DecodeError, NlaBuffer, NlasIterator, Value, Values,
+};
 use netlink_packet_route::route::{RouteLwTunnelEncap, RouteMessage, RouteMetric};
+use netlink_packet_route::{Level, MessageKind, validate};
 use npr_testing::{INET, bytes_of, holds, same, shows};
 use std::test::Fail;
 
@@ -50,7 +53,7 @@ fn a_list_is_entered_in_its_context(rt: HostRuntime) -> Result<(), Fail> {
     shows(&rt, &metrics.next(), mtu)?;
     let (_, _, encap_type) = values.context();
     let mut members = Values::<RouteLwTunnelEncap>::new(encap_type, inside(&values.next())?);
-    let labels = "Some(Ok((At { family: Mpls, kind: 1 }, Inside([0, 6, 65, 255]))))";
+    let labels = "Some(Ok((At { family: Mpls, kind: 1 }, Bytes([0, 6, 65, 255]))))";
     shows(&rt, &members.next(), labels)?;
     let governing = "Some(Ok((At { family: Route, kind: 21 }, U16(1))))";
     shows(&rt, &values.next(), governing)
@@ -71,4 +74,57 @@ fn a_value_that_is_wrong_is_the_last(rt: HostRuntime) -> Result<(), Fail> {
     let fault = "Some(Err(ValueLength { at: At { family: Route, kind: 15 }, got: 3 }))";
     shows(&rt, &values.next(), fault)?;
     holds(values.next().is_none())
+}
+
+/// A link whose driver says VLAN 5, and behind it that this is the data of a VLAN.
+const VLAN: [&str; 4] = [
+    "00000100 02000000 43100100 00000000",
+    "1c001200",
+    "0c000200 06000100 05000000",
+    "09000100 766c616e 00000000",
+];
+
+/// The first attribute of a list.
+fn first(bytes: &[u8]) -> Result<NlaBuffer<'_>, Fail> {
+    match NlasIterator::new(bytes).next() {
+        Some(Ok(item)) => Ok(item),
+        _ => Err(Fail::new("no attribute")),
+    }
+}
+
+#[test]
+fn a_level_leads_into_the_lists_of_values(rt: HostRuntime) -> Result<(), Fail> {
+    let bytes = bytes_of(&rt, &VLAN)?;
+    let (level, attributes) = Level::begin(MessageKind::Link, bytes.as_slice())?;
+    let told = first(attributes)?;
+    let Some((driver, list)) = level.inside(told.kind(), told.value()) else {
+        return Err(Fail::new("no list"));
+    };
+    shows(&rt, &driver, "LinkInfo(Vlan, Kept)")?;
+    let data = first(list)?;
+    let Some((vlan, members)) = driver.inside(data.kind(), data.value()) else {
+        return Err(Fail::new("no data"));
+    };
+    let member = first(members)?;
+    let number = "Ok((At { family: InfoVlan, kind: 1 }, U16(5)))";
+    shows(&rt, &vlan.value(&member), number)?;
+    holds(vlan.inside(member.kind(), member.value()).is_none())?;
+    same(vlan.check(members), Ok(()))?;
+    same(driver.check_attribute(&data), Ok(()))
+}
+
+#[test]
+fn a_fault_at_any_depth_is_told_without_memory(rt: HostRuntime) -> Result<(), Fail> {
+    let bytes = bytes_of(&rt, &VLAN)?;
+    same(validate(MessageKind::Link, bytes.as_slice()), Ok(()))?;
+    // a next hop with a gateway of three bytes
+    let bytes = bytes_of(&rt, &[INET, "14000900 10000000 02000000 07000500 c0000200"])?;
+    let (level, attributes) = Level::begin(MessageKind::Route, bytes.as_slice())?;
+    let Some(inside) = attributes.get(12..) else {
+        return Err(Fail::new("no next hop"));
+    };
+    shows(&rt, level.of_next_hop(inside), "Route(Inet, Unicast, None)")?;
+    let at = AttrFamily::Route.at(5);
+    let fault = Err(DecodeError::ValueLength { at, got: 3 });
+    same(validate(MessageKind::Route, bytes.as_slice()), fault)
 }

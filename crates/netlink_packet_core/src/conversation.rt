@@ -72,6 +72,26 @@ impl Conversation {
         }
     }
 
+    /// The conversation of a caller that keeps its words itself: what `new` begins, and whether a part of
+    /// the answer said that the tables changed.
+    pub fn resumed(sequence_number: u32, port_number: u32, interrupted: bool) -> Self
+        ensures { result ≡ record (asked sequence_number port_number) { interrupted = interrupted } }
+    {
+        Conversation {
+            sequence_number,
+            port_number,
+            interrupted,
+            over: false,
+        }
+    }
+
+    /// Whether a part of the answer said that the tables changed.
+    pub fn is_interrupted(&self) -> bool
+        ensures { result ≡ self.now.interrupted }
+    {
+        self.interrupted
+    }
+
     /// Whether the end has come.
     pub fn is_over(&self) -> bool
         ensures { result ≡ self.now.over }

@@ -10,11 +10,15 @@
 #![tactic(auto)]
 
 pub mod address;
+mod apart;
+mod checking;
 pub mod envelope;
 pub mod family;
 pub mod framing;
+mod inside;
 mod kind;
 pub mod laws;
+mod levels;
 pub mod link;
 mod message;
 pub mod neighbour;
@@ -23,9 +27,12 @@ pub mod numbers;
 pub mod request;
 pub mod route;
 pub mod rule;
+mod validity;
 
 pub use bitflags::Flags;
 pub use kind::MessageKind;
+pub use levels::Level;
 pub use message::{Action, Entry, MessageType, OtherMessage, RouteNetlinkMessage};
 pub use npr_base::AddressFamily;
 pub use npr_scalar::IpProtocol;
+pub use validity::validate;

@@ -9,5 +9,5 @@ pub use npr_link::{
     LinkAttribute, LinkEvent, LinkExtentMask, LinkFlags, LinkHeader, LinkInfo, LinkLayerType,
     LinkMessage, LinkMessageBuffer, LinkMode, LinkPeer, LinkProtocolDownReason, LinkXdp, Map,
     MapBuffer, PeerAttribute, Prop, State, Stats, Stats64, VlanFlags, VlanProtocol, VlanQosMapping,
-    XdpAttached,
+    XdpAttached, governing_forms,
 };

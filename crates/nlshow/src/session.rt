@@ -7,12 +7,14 @@ use crate::refusal::Refusal;
 use byte_window::Stop;
 use netlink_packet_core::{NetlinkBuffer, NetlinkHeader, NetlinkMessage, NetlinkPayload};
 use netlink_packet_route::address::AddressMessage;
-use netlink_packet_route::framing::{Attributes, DecodeError, Header, Parseable};
+use netlink_packet_route::framing::{DecodeError, Parseable};
 use netlink_packet_route::link::LinkMessage;
 use netlink_packet_route::neighbour::NeighbourMessage;
 use netlink_packet_route::route::RouteMessage;
 use netlink_packet_route::rule::RuleMessage;
-use netlink_packet_route::{Action, Entry, MessageKind, MessageType, RouteNetlinkMessage};
+use netlink_packet_route::{
+    Action, Entry, MessageKind, MessageType, RouteNetlinkMessage, validate,
+};
 use netlink_show::{Counts, Interfaces, Manner, append_lines, append_object};
 use std::alloc::Global;
 use std::io::{IsTerminal, Write};
@@ -240,36 +242,19 @@ enum Read {
 }
 
 /// The message that these bytes are, an envelope and what stands in it. Where messages are counted,
-/// what the library reads is read attribute by attribute, and nothing of it is kept.
+/// what the library reads is looked through, and takes no memory.
 fn read_message(alloc: Global, form: Form, bytes: &[u8]) -> Result<Read, Refusal> {
     let Ok(envelope) = NetlinkBuffer::new_checked(bytes) else {
         let left = bytes.len() as u64;
         return Err(Refusal::MessageTooShort { left });
     };
     let read = match (form, MessageType::of(envelope.message_type()).kind()) {
-        (Form::Count, Some(kind)) => read_through(alloc, kind, envelope.payload()),
+        (Form::Count, Some(kind)) => {
+            validate(kind, envelope.payload()).map(|()| Read::Through(kind))
+        }
         _ => NetlinkMessage::parse(alloc, &envelope).map(Read::Whole),
     };
     read.map_err(Refusal::Payload)
-}
-
-/// Reads the attributes of a message of this kind one after the other, and keeps none.
-fn read_through(alloc: Global, kind: MessageKind, bytes: &[u8]) -> Result<Read, DecodeError> {
-    match kind {
-        MessageKind::Address => read_each(AddressMessage::attributes(alloc, bytes)?)?,
-        MessageKind::Route => read_each(RouteMessage::attributes(alloc, bytes)?)?,
-        MessageKind::Rule => read_each(RuleMessage::attributes(alloc, bytes)?)?,
-        MessageKind::Neighbour => read_each(NeighbourMessage::attributes(alloc, bytes)?)?,
-        MessageKind::Link => read_each(LinkMessage::attributes(alloc, bytes)?)?,
-    }
-    Ok(Read::Through(kind))
-}
-
-fn read_each<H: Header>(attributes: Attributes<'_, H>) -> Result<(), DecodeError> {
-    for attribute in attributes {
-        attribute?;
-    }
-    Ok(())
 }
 
 /// The message of this kind that these bytes are, as one that says that it is there.

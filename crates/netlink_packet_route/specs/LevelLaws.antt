@@ -1,0 +1,365 @@
+-- Each list that stands in a value is read where the attribute is.
+use Rattle.std.specs.Prelude.{◌≡◌, ◌≢◌, ℕ, ◌≤◌, ◌⊎◌, List, length, drop, take}
+use Rattle.std.proofs.Common.{refl, sym, ap, subst, ◌∙◌, arith, inl, inr}
+use Rattle.std.proofs.lemmas.List.{drop_at, length-take-le, take-append-drop}
+use Rattle.npr_base.specs.Counts.{Counts}
+use Rattle.npr_base.specs.declared.address_family.AddressFamily.{AddressFamily}
+use Rattle.npr_base.specs.declared.address_family.AddressFamily.TheVariants.{Unspec, Inet, Inet6}
+use Rattle.npr_base.specs.declared.refusal.DecodeError.{DecodeError}
+use Rattle.npr_base.specs.Family.{Writing, Reading}
+use Rattle.npr_base.specs.Framing.{Item, number_of}
+use Rattle.npr_base.specs.Lists.{ReadsList, FirstFault}
+use Rattle.npr_base.specs.Message.{View, IsMessage, MessageFault}
+use Rattle.npr_base.specs.Opening.{Opens, Holding, opens-in, opens-where}
+use Rattle.npr_base.specs.Table.{Row, ReadsAt, WrongAt}
+use Rattle.npr_base.specs.Tables.{EnumTable, attributes_of, value_at}
+use Rattle.npr_base.specs.EnumTable.{other_in, ReadsIn, WrongIn}
+use Rattle.npr_base.specs.EnumTableLaws.{all_rows, rows-read}
+use Rattle.npr_base.specs.EnumTableValues.{value_in}
+use Rattle.npr_link.specs.AfSpec as OfAfSpec
+use Rattle.npr_link.specs.AfSpecInet as OfAfSpecInet
+use Rattle.npr_link.specs.AfSpecInet6 as OfAfSpecInet6
+use Rattle.npr_link.specs.AfSpecs.{form_of, unspec}
+use Rattle.npr_link.specs.Attribute as OfLink
+use Rattle.npr_link.specs.Bridge as OfBridge
+use Rattle.npr_link.specs.BridgePort as OfBridgePort
+use Rattle.npr_link.specs.Governing.{Searches}
+use Rattle.npr_link.specs.Info as OfInfo
+use Rattle.npr_link.specs.InfoData as OfData
+use Rattle.npr_link.specs.Header.{header}
+use Rattle.npr_link.specs.InfoList.{IsInfoList, InfoListFault, read-searched, fault-searched, searched-reads}
+use Rattle.npr_link.specs.Peer.{peers}
+use Rattle.npr_link.specs.PortData as OfPortData
+use Rattle.npr_link.specs.PeerAttribute as OfPeer
+use Rattle.npr_link.specs.Prop as OfProp
+use Rattle.npr_link.specs.ProtocolDown as OfReason
+use Rattle.npr_link.specs.QuerierState as OfQuerier
+use Rattle.npr_link.specs.Veth as OfVeth
+use Rattle.npr_link.specs.Vlan as OfVlan
+use Rattle.npr_link.specs.VlanQos as OfVlanQos
+use Rattle.npr_link.specs.Vrf as OfVrf
+use Rattle.npr_link.specs.Xdp as OfXdp
+use Rattle.npr_link.specs.contracts.info.LinkInfo.{enum}
+use Rattle.npr_link.specs.contracts.veth.InfoVeth.{enum as enum_of_pair}
+use Rattle.npr_link.specs.declared.info_kind.InfoForm.{InfoForm}
+use Rattle.npr_link.specs.declared.info_kind.InfoForm.TheVariants as Data
+use Rattle.npr_link.specs.declared.port_kind.InfoPortForm.{InfoPortForm}
+use Rattle.npr_link.specs.declared.port_kind.InfoPortForm.TheVariants as Port
+use Rattle.npr_route.specs.Attribute.{Meaning, Reads, flat, multi_path, value_wrong}
+use Rattle.npr_route.specs.AttributeFamily as OfRoute
+use Rattle.npr_route.specs.FlatAttribute as Flat
+use Rattle.npr_route.specs.FlatAttributeLaws as FlatLaws
+use Rattle.npr_route.specs.Metric as OfMetric
+use Rattle.npr_scalar.specs.RouteAddress.{form_of as address_form}
+use Rattle.npr_scalar.specs.declared.route_type.RouteType.{RouteType}
+use Rattle.npr_tunnel.specs.Encapsulation as OfEncap
+use Rattle.npr_tunnel.specs.ErspanOptions as OfErspan
+use Rattle.npr_tunnel.specs.IpTunnel as OfIp
+use Rattle.npr_tunnel.specs.TunnelOptions as OfOption
+use Rattle.npr_tunnel.specs.VxlanOptions as OfVxlan
+use Rattle.npr_tunnel.specs.declared.encap_type.RouteLwEnCapType.{RouteLwEnCapType}
+use Rattle.npr_tunnel.specs.declared.encap_type.RouteLwEnCapType.TheVariants.{Ip, Ip6}
+use Rattle.netlink_packet_route.specs.declared.levels.Level.TheVariants.{Route, Link, Metric, Encap, Opt, Vxlan, Erspan}
+use Rattle.netlink_packet_route.specs.declared.levels.Level.TheVariants.{LinkInfo, LinkXdp, Prop, LinkProtocolDownReason, AfSpecUnspec, AfSpecInet}
+use Rattle.netlink_packet_route.specs.declared.levels.Level.TheVariants.{AfSpecInet6, InfoBridge, BridgeQuerierState, InfoBridgePort, InfoVlan}
+use Rattle.netlink_packet_route.specs.declared.levels.Level.TheVariants.{VlanQosMapping, InfoVrf, InfoVeth, Peer}
+use Rattle.netlink_packet_route.specs.Levels.{IsPlainInside, IsInsideAt}
+use denote.Enum.Declared.{Record}
+use denote.Struct.Field.{Field}
+
+-- a list from the first byte of a value
+none-long : (bytes : List ℕ) → 0 ≤ length bytes
+none-long bytes = omega arith
+
+-- ---- in tables
+
+module _ {N : Record} (t : EnumTable N) {P : Type 0} {v : Writing P} (g : Reading v) (number : ℕ) where
+  in-table : Holding (ReadsAt (other_in N.parts t.rows) (all_rows N.parts t.rows) number) (ReadsIn N.parts t.rows number) (WrongIn N.parts t.rows number) g 0
+      → (bytes : List ℕ) → Opens (attributes_of t) g number 0 bytes
+  in-table holds bytes = opens-in N.parts t.rows t.apart g number 0 holds bytes (none-long bytes)
+
+pub vlan-out : (bytes : List ℕ) → IsPlainInside InfoVlan 3 bytes VlanQosMapping
+unfolding OfVlan.attributes
+vlan-out bytes =
+    in-table OfVlan.table OfVlanQos.attributes 3
+    (record { down = λ x m p. (p.0, p.1); up = λ x ps long p. (value_at OfVlan.table 3 ps, p); fault = λ x e long p. p }) bytes
+
+pub vlan-in : (bytes : List ℕ) → IsPlainInside InfoVlan 4 bytes VlanQosMapping
+unfolding OfVlan.attributes
+vlan-in bytes =
+    in-table OfVlan.table OfVlanQos.attributes 4
+    (record { down = λ x m p. (p.0, p.1); up = λ x ps long p. (value_at OfVlan.table 4 ps, p); fault = λ x e long p. p }) bytes
+
+pub families-inet : (bytes : List ℕ) → IsPlainInside AfSpecUnspec 2 bytes AfSpecInet
+unfolding OfAfSpec.attributes
+families-inet bytes =
+    in-table OfAfSpec.table OfAfSpecInet.attributes 2
+    (record { down = λ x m p. (p.0, p.1); up = λ x ps long p. (value_at OfAfSpec.table 2 ps, p); fault = λ x e long p. p }) bytes
+
+pub families-inet6 : (bytes : List ℕ) → IsPlainInside AfSpecUnspec 10 bytes AfSpecInet6
+unfolding OfAfSpec.attributes
+families-inet6 bytes =
+    in-table OfAfSpec.table OfAfSpecInet6.attributes 10
+    (record { down = λ x m p. (p.0, p.1); up = λ x ps long p. (value_at OfAfSpec.table 10 ps, p); fault = λ x e long p. p }) bytes
+
+pub bridge-querier : (bytes : List ℕ) → IsPlainInside InfoBridge 47 bytes BridgeQuerierState
+unfolding OfBridge.attributes
+bridge-querier bytes =
+    in-table OfBridge.table OfQuerier.attributes 47
+    (record { down = λ x m p. (p.0, p.1); up = λ x ps long p. (value_at OfBridge.table 47 ps, p); fault = λ x e long p. p }) bytes
+
+pub options-vxlan : (bytes : List ℕ) → IsPlainInside Opt 2 bytes Vxlan
+unfolding OfOption.attributes
+options-vxlan bytes =
+    in-table OfOption.table OfVxlan.attributes 2
+    (record { down = λ x m p. (p.0, p.1); up = λ x ps long p. (value_at OfOption.table 2 ps, p); fault = λ x e long p. p }) bytes
+
+pub options-erspan : (bytes : List ℕ) → IsPlainInside Opt 3 bytes Erspan
+unfolding OfOption.attributes
+options-erspan bytes =
+    in-table OfOption.table OfErspan.attributes 3
+    (record { down = λ x m p. (p.0, p.1); up = λ x ps long p. (value_at OfOption.table 3 ps, p); fault = λ x e long p. p }) bytes
+
+-- ---- in a link's attributes, whose table is shared by two variants
+
+module _ (family : AddressFamily) {P : Type 0} {v : Writing P} (g : Reading v) (number : ℕ) where
+  in-link : Holding (ReadsAt (other_in OfLink.later (OfLink.rows (form_of family)).0) (all_rows OfLink.later (OfLink.rows (form_of family)).0) number)
+      (ReadsIn OfLink.later (OfLink.rows (form_of family)).0 number) (WrongIn OfLink.later (OfLink.rows (form_of family)).0 number) g 0
+      → (bytes : List ℕ) → Opens (OfLink.attributes family) g number 0 bytes
+  in-link holds bytes =
+      let o = opens-in OfLink.later (OfLink.rows (form_of family)).0 (OfLink.table (form_of family)).apart g number 0 holds bytes (none-long bytes) in
+      record { long = o.long; down = o.down; up = o.up; fault = o.fault }
+
+pub link-programs : (family : AddressFamily) (bytes : List ℕ) → IsPlainInside (Link family) 43 bytes LinkXdp
+link-programs family bytes =
+    in-link family OfXdp.attributes 43
+    (record {
+      down = λ x m p. (p.0, p.1);
+      up = λ x ps long p. (value_in OfLink.later (OfLink.rows (form_of family)).0 43 ps, p);
+      fault = λ x e long p. p;
+    }) bytes
+
+pub link-properties : (family : AddressFamily) (bytes : List ℕ) → IsPlainInside (Link family) 52 bytes Prop
+link-properties family bytes =
+    in-link family OfProp.attributes 52
+    (record {
+      down = λ x m p. (p.0, p.1);
+      up = λ x ps long p. (value_in OfLink.later (OfLink.rows (form_of family)).0 52 ps, p);
+      fault = λ x e long p. p;
+    }) bytes
+
+pub link-reasons : (family : AddressFamily) (bytes : List ℕ) → IsPlainInside (Link family) 55 bytes LinkProtocolDownReason
+link-reasons family bytes =
+    in-link family OfReason.attributes 55
+    (record {
+      down = λ x m p. (p.0, p.1);
+      up = λ x ps long p. (value_in OfLink.later (OfLink.rows (form_of family)).0 55 ps, p);
+      fault = λ x e long p. p;
+    }) bytes
+
+-- what address families say, where the header has none or that of IP
+link-families-unspec : (bytes : List ℕ) → IsPlainInside (Link Unspec) 26 bytes AfSpecUnspec
+link-families-unspec bytes =
+    in-link Unspec OfAfSpec.attributes 26
+    (record { down = λ x m p. (p.1.0, p.1.1); up = λ x ps long p. (inl (unspec ps), (ps, p, refl)); fault = λ x e long p. p }) bytes
+
+link-families-inet : (bytes : List ℕ) → IsPlainInside (Link Inet) 26 bytes AfSpecUnspec
+link-families-inet bytes =
+    in-link Inet OfAfSpec.attributes 26
+    (record { down = λ x m p. (p.1.0, p.1.1); up = λ x ps long p. (inl (unspec ps), (ps, p, refl)); fault = λ x e long p. p }) bytes
+
+link-families-inet6 : (bytes : List ℕ) → IsPlainInside (Link Inet6) 26 bytes AfSpecUnspec
+link-families-inet6 bytes =
+    in-link Inet6 OfAfSpec.attributes 26
+    (record { down = λ x m p. (p.1.0, p.1.1); up = λ x ps long p. (inl (unspec ps), (ps, p, refl)); fault = λ x e long p. p }) bytes
+
+pub link-families : (family : AddressFamily) (bytes : List ℕ) → (family ≡ Unspec) ⊎ ((family ≡ Inet) ⊎ (family ≡ Inet6))
+    → IsPlainInside (Link family) 26 bytes AfSpecUnspec
+link-families family bytes (inl e) = subst (λ (f : AddressFamily). IsPlainInside (Link f) 26 bytes AfSpecUnspec) (sym e) (link-families-unspec bytes)
+link-families family bytes (inr (inl e)) = subst (λ (f : AddressFamily). IsPlainInside (Link f) 26 bytes AfSpecUnspec) (sym e) (link-families-inet bytes)
+link-families family bytes (inr (inr e)) = subst (λ (f : AddressFamily). IsPlainInside (Link f) 26 bytes AfSpecUnspec) (sym e) (link-families-inet6 bytes)
+
+-- what a driver says, under what is found
+pub link-info : (family : AddressFamily) (bytes : List ℕ) (link : InfoForm) (port : InfoPortForm) (old new : Counts) → Searches bytes (link, port) old new
+    → IsPlainInside (Link family) 18 bytes (LinkInfo link port)
+link-info family bytes link port old new found =
+    let rows = (OfLink.rows (form_of family)).0 in
+    record {
+      long = none-long bytes;
+      down = λ x m k b p.
+          let q = subst (λ (n : ℕ). ReadsAt (other_in OfLink.later rows) (all_rows OfLink.later rows) n x m) k (rows-read OfLink.later rows x m p) in
+          (q.0, searched-reads bytes q.0 (link, port) old new (subst (λ (c : List ℕ). IsInfoList c q.0) b q.1) found);
+      up = λ x ps k b p.
+          let m = value_in OfLink.later rows 18 ps in
+          let q = subst (λ (c : List ℕ). IsInfoList c ps) (sym b) (read-searched bytes ps (link, port) old new found p) in
+          (m, subst (λ (n : ℕ). ReadsIn OfLink.later rows n x m) (sym k) q);
+      fault = λ x e k b p.
+          let q = subst (λ (c : List ℕ). InfoListFault c e) (sym b) (fault-searched bytes e (link, port) old new found p) in
+          subst (λ (n : ℕ). WrongIn OfLink.later rows n x e) (sym k) q;
+    }
+
+-- ---- what a driver says
+
+abbrev info_parts : List (List Field)
+info_parts = enum.parts
+
+module _ (link : InfoForm) (port : InfoPortForm) {P : Type 0} {v : Writing P} (g : Reading v) (number : ℕ) where
+  in-driver : Holding (ReadsAt (other_in info_parts (OfInfo.table (link, port)).rows) (all_rows info_parts (OfInfo.table (link, port)).rows) number)
+      (ReadsIn info_parts (OfInfo.table (link, port)).rows number) (WrongIn info_parts (OfInfo.table (link, port)).rows number) g 0
+      → (bytes : List ℕ) → Opens (OfInfo.attributes (link, port)) g number 0 bytes
+  in-driver holds bytes =
+      let o = in-table (OfInfo.table (link, port)) g number holds bytes in
+      record { long = o.long; down = o.down; up = o.up; fault = o.fault }
+
+pub data-bridge : (port : InfoPortForm) (bytes : List ℕ) → IsPlainInside (LinkInfo Data.Bridge port) 2 bytes InfoBridge
+data-bridge port bytes =
+    in-driver Data.Bridge port OfBridge.attributes 2
+    (record { down = λ x m p. (p.1.0, p.1.1); up = λ x ps long p. (inr (inl (OfData.bridge ps)), (ps, p, refl)); fault = λ x e long p. p }) bytes
+
+pub data-vlan : (port : InfoPortForm) (bytes : List ℕ) → IsPlainInside (LinkInfo Data.Vlan port) 2 bytes InfoVlan
+data-vlan port bytes =
+    in-driver Data.Vlan port OfVlan.attributes 2
+    (record { down = λ x m p. (p.1.0, p.1.1); up = λ x ps long p. (inr (inl (OfData.vlan ps)), (ps, p, refl)); fault = λ x e long p. p }) bytes
+
+pub data-veth : (port : InfoPortForm) (bytes : List ℕ) → IsPlainInside (LinkInfo Data.Veth port) 2 bytes InfoVeth
+data-veth port bytes =
+    in-driver Data.Veth port OfVeth.attributes 2
+    (record { down = λ x m p. (p.1.0, p.1.1); up = λ x ps long p. (inr (inl (OfData.veth ps)), (ps, p, refl)); fault = λ x e long p. p }) bytes
+
+pub data-vrf : (port : InfoPortForm) (bytes : List ℕ) → IsPlainInside (LinkInfo Data.Vrf port) 2 bytes InfoVrf
+data-vrf port bytes =
+    in-driver Data.Vrf port OfVrf.attributes 2
+    (record { down = λ x m p. (p.1.0, p.1.1); up = λ x ps long p. (inr (inl (OfData.vrf ps)), (ps, p, refl)); fault = λ x e long p. p }) bytes
+
+pub port-bridge : (link : InfoForm) (bytes : List ℕ) → IsPlainInside (LinkInfo link Port.Bridge) 5 bytes InfoBridgePort
+port-bridge link bytes =
+    in-driver link Port.Bridge OfBridgePort.attributes 5
+    (record {
+      down = λ x m p. (p.1.0, p.1.1);
+      up = λ x ps long p. (inr (inr (inr (inr (inl (OfPortData.bridge ps))))), (ps, p, refl));
+      fault = λ x e long p. p;
+    }) bytes
+
+pub port-vrf : (link : InfoForm) (bytes : List ℕ) → IsPlainInside (LinkInfo link Port.Vrf) 5 bytes InfoVrf
+port-vrf link bytes =
+    in-driver link Port.Vrf OfVrf.attributes 5
+    (record {
+      down = λ x m p. (p.1.0, p.1.1);
+      up = λ x ps long p. (inr (inr (inr (inr (inl (OfPortData.vrf ps))))), (ps, p, refl));
+      fault = λ x e long p. p;
+    }) bytes
+
+-- ---- in a route's attributes
+
+module _ (family : AddressFamily) (kind : RouteType) (encap_type : RouteLwEnCapType) {P : Type 0} {v : Writing P} (g : Reading v) (number : ℕ)
+    (other : number ≢ 9) where
+  abbrev route_rows : List (Row Flat.Meaning)
+  route_rows = Flat.rows (address_form family) (Flat.is_multicast kind) (OfEncap.encapsulation encap_type)
+
+  flat-opens : Holding (ReadsAt Flat.other route_rows number) (ReadsAt Flat.other route_rows number) (WrongAt route_rows number) g 0
+      → (bytes : List ℕ) → Opens (FlatLaws.attributes (family, kind, encap_type)) g number 0 bytes
+  flat-opens holds bytes =
+      opens-where (FlatLaws.attributes (family, kind, encap_type)) g number 0 (ReadsAt Flat.other route_rows) (ReadsAt Flat.other route_rows)
+      (WrongAt route_rows) holds (λ x m p. p) (λ x m p. p) (λ x e p. p) bytes (none-long bytes)
+
+  -- next hops have another number
+  route-down : (bytes : List ℕ) → Opens (FlatLaws.attributes (family, kind, encap_type)) g number 0 bytes → (x : Item) (m : Meaning)
+      → number_of x.kind ≡ number → x.value ≡ bytes → Reads (family, kind, encap_type) x m → (ps : List P) × ReadsList g.Reads bytes ps
+  route-down bytes o x (flat m) k b p = o.down x m k b p.1
+  route-down bytes o x (multi_path hs) k b p = absurd (other (sym k ∙ p.0))
+
+  in-route : Holding (ReadsAt Flat.other route_rows number) (ReadsAt Flat.other route_rows number) (WrongAt route_rows number) g 0
+      → (bytes : List ℕ) → Opens (OfRoute.attributes (family, kind, encap_type)) g number 0 bytes
+  in-route holds bytes =
+      let o = flat-opens holds bytes in
+      record {
+        long = o.long;
+        down = route-down bytes o;
+        up = λ x ps k b p. let q = o.up x ps k b p in (flat q.0, (λ e. other (sym k ∙ e), q.1));
+        fault = λ x e k b p. value_wrong (λ n. other (sym k ∙ n)) (o.fault x e k b p);
+      }
+
+pub route-metrics : (family : AddressFamily) (kind : RouteType) (encap_type : RouteLwEnCapType) (bytes : List ℕ)
+    → IsPlainInside (Route family kind encap_type) 8 bytes Metric
+route-metrics family kind encap_type bytes =
+    in-route family kind encap_type OfMetric.attributes 8 (λ e. omega arith)
+    (record { down = λ x m p. (p.0, p.1); up = λ x ps long p. (Flat.metrics ps, (ps, p, refl)); fault = λ x e long p. p }) bytes
+
+pub route-encap : (family : AddressFamily) (kind : RouteType) (encap_type : RouteLwEnCapType) (bytes : List ℕ)
+    → IsPlainInside (Route family kind encap_type) 22 bytes (Encap encap_type)
+route-encap family kind encap_type bytes =
+    in-route family kind encap_type (OfEncap.encapsulation encap_type) 22 (λ e. omega arith)
+    (record { down = λ x m p. (p.0, p.1); up = λ x ps long p. (Flat.encap ps, (ps, p, refl)); fault = λ x e long p. p }) bytes
+
+-- ---- in an encapsulation over IP
+
+options : (bytes : List ℕ) → Opens OfIp.attributes OfOption.attributes 8 0 bytes
+unfolding OfIp.attributes
+options bytes =
+    in-table OfIp.table OfOption.attributes 8
+    (record { down = λ x m p. (p.0, p.1); up = λ x ps long p. (value_at OfIp.table 8 ps, p); fault = λ x e long p. p }) bytes
+
+options6 : (bytes : List ℕ) → Opens OfIp.attributes6 OfOption.attributes 8 0 bytes
+unfolding OfIp.attributes6
+options6 bytes =
+    in-table OfIp.table6 OfOption.attributes 8
+    (record { down = λ x m p. (p.0, p.1); up = λ x ps long p. (value_at OfIp.table6 8 ps, p); fault = λ x e long p. p }) bytes
+
+pub encap-options : (bytes : List ℕ) → IsPlainInside (Encap Ip) 8 bytes Opt
+unfolding OfEncap.encapsulation_by
+encap-options bytes =
+    let o = options bytes in
+    record {
+      long = o.long;
+      down = λ x m k b p. o.down x p.0 k b p.1;
+      up = λ x ps k b p. let q = o.up x ps k b p in (OfEncap.ip q.0, (q.0, q.1, refl));
+      fault = o.fault;
+    }
+
+pub encap-options6 : (bytes : List ℕ) → IsPlainInside (Encap Ip6) 8 bytes Opt
+unfolding OfEncap.encapsulation_by
+encap-options6 bytes =
+    let o = options6 bytes in
+    record {
+      long = o.long;
+      down = λ x m k b p. o.down x p.0 k b p.1;
+      up = λ x ps k b p. let q = o.up x ps k b p in (OfEncap.ip6 q.0, (q.0, q.1, refl));
+      fault = o.fault;
+    }
+
+-- ---- the other end of a pair
+
+peer-down : (bytes : List ℕ) (m : View peers) → IsMessage peers bytes m → ReadsList OfPeer.attributes.Reads (drop 16 bytes) m.attributes
+unfolding IsMessage
+peer-down bytes m p =
+    let same : drop 16 bytes ≡ p.rest = ap (drop 16) p.is ∙ drop_at p.front p.rest 16 p.size in
+    subst (λ (r : List ℕ). ReadsList OfPeer.attributes.Reads r m.attributes) (sym same) p.attributes
+
+peer-up : (bytes : List ℕ) (ps : List OfPeer.family.Meaning) → 16 ≤ length bytes → ReadsList OfPeer.attributes.Reads (drop 16 bytes) ps
+    → IsMessage peers bytes (record { header = header.decode (take 16 bytes); attributes = ps })
+unfolding IsMessage
+peer-up bytes ps long p = record {
+  front = take 16 bytes;
+  rest = drop 16 bytes;
+  is = sym (take-append-drop 16 bytes);
+  size = length-take-le 16 bytes long;
+  header = refl;
+  attributes = p;
+}
+
+peer-fault : (bytes : List ℕ) (e : DecodeError) → 16 ≤ length bytes → FirstFault OfPeer.attributes.Reads OfPeer.attributes.Faulty (drop 16 bytes) e
+    → MessageFault peers bytes e
+unfolding MessageFault
+peer-fault bytes e long p = inr (take 16 bytes, drop 16 bytes, sym (take-append-drop 16 bytes), length-take-le 16 bytes long, p)
+
+pub pair-peer : (bytes : List ℕ) → 16 ≤ length bytes → IsInsideAt 16 InfoVeth 1 bytes Peer
+unfolding OfVeth.attributes
+pair-peer bytes long =
+    opens-in enum_of_pair.parts OfVeth.table.rows OfVeth.table.apart OfPeer.attributes 1 16
+    (record {
+      down = λ x m p. (p.0.attributes, peer-down x.value p.0 p.1);
+      up = λ x ps long p.
+          let peer : View peers = record { header = header.decode (take 16 x.value); attributes = ps } in
+          (value_at OfVeth.table 1 peer, peer-up x.value ps long p);
+      fault = λ x e long p. peer-fault x.value e long p;
+    }) bytes long

@@ -1,0 +1,307 @@
+-- Values with a reader of their own, by their numbers; any other is read where it stands.
+--     stands_apart    whether a value has a check of its own and is no list: the other end of a pair has, where its header is cut off
+--     holds_hops      whether it holds next hops
+--     seen-whole      a value that has neither of them and holds no list is read where it stands
+use Rattle.std.specs.Prelude.{◌≡◌, ℕ, ◌==◌, ◌||◌, ◌&&◌, not, nat_lt, Bool, true, false, List, [], ◌∷◌, length, if◌then◌else◌}
+use Rattle.std.specs.Cmp.{first_so, second_so}
+use Rattle.std.proofs.Common.{refl, subst}
+use Rattle.std.proofs.lemmas.Bool.{eqb-true}
+use Rattle.npr_base.specs.Family.{Reading}
+use Rattle.npr_base.specs.EnumTable.{VariantRows, EnumTable, form_in, family_in}
+use Rattle.npr_base.specs.Table.{Row, form_from, first_family}
+use Rattle.npr_base.specs.Tables.{attributes_of}
+use Rattle.npr_base.specs.Value.{IsWhole}
+use Rattle.npr_base.specs.declared.refusal.At.{At}
+use Rattle.npr_base.specs.declared.refusal.AttrFamily.{AttrFamily}
+use Rattle.npr_base.specs.declared.value.Form.{Form}
+use Rattle.npr_base.specs.declared.value.Form.TheVariants.{Inside}
+use Rattle.npr_address.specs.Attribute as OfAddress
+use Rattle.npr_link.specs.AfSpec as OfAfSpec
+use Rattle.npr_link.specs.AfSpecInet as OfAfSpecInet
+use Rattle.npr_link.specs.AfSpecInet6 as OfAfSpecInet6
+use Rattle.npr_link.specs.AfSpecs as OfAfSpecs
+use Rattle.npr_link.specs.Attribute as OfLink
+use Rattle.npr_link.specs.Bridge as OfBridge
+use Rattle.npr_link.specs.BridgePort as OfBridgePort
+use Rattle.npr_link.specs.Info as OfInfo
+use Rattle.npr_link.specs.PeerAttribute as OfPeer
+use Rattle.npr_link.specs.Prop as OfProp
+use Rattle.npr_link.specs.ProtocolDown as OfReason
+use Rattle.npr_link.specs.QuerierState as OfQuerier
+use Rattle.npr_link.specs.Veth as OfVeth
+use Rattle.npr_link.specs.Vlan as OfVlan
+use Rattle.npr_link.specs.VlanQos as OfVlanQos
+use Rattle.npr_link.specs.Vrf as OfVrf
+use Rattle.npr_link.specs.Xdp as OfXdp
+use Rattle.npr_link.specs.contracts.info.LinkInfo.{enum}
+use Rattle.npr_link.specs.declared.info_kind.InfoForm.{InfoForm}
+use Rattle.npr_link.specs.declared.info_kind.InfoForm.TheVariants as Data
+use Rattle.npr_link.specs.declared.port_kind.InfoPortForm.{InfoPortForm}
+use Rattle.npr_link.specs.declared.port_kind.InfoPortForm.TheVariants as Port
+use Rattle.npr_neighbour.specs.Attribute as OfNeighbour
+use Rattle.npr_neighbour.specs.NeighbourAddress as OfNeighbourAddress
+use Rattle.npr_route.specs.FlatAttribute as Flat
+use Rattle.npr_route.specs.Metric as OfMetric
+use Rattle.npr_rule.specs.Attribute as OfRule
+use Rattle.npr_scalar.specs.RouteAddress as OfRouteAddress
+use Rattle.npr_srh.specs.Ioam6Tunnel as OfIoam6
+use Rattle.npr_srh.specs.RplTunnel as OfRpl
+use Rattle.npr_srh.specs.Seg6LocalTunnel as OfSeg6Local
+use Rattle.npr_srh.specs.Seg6Mode.{modes}
+use Rattle.npr_srh.specs.Seg6Tunnel as OfSeg6
+use Rattle.npr_tunnel.specs.Encapsulation as OfEncap
+use Rattle.npr_tunnel.specs.ErspanOptions as OfErspan
+use Rattle.npr_tunnel.specs.IpTunnel as OfIp
+use Rattle.npr_tunnel.specs.MplsTunnel as OfMpls
+use Rattle.npr_tunnel.specs.TunnelOptions as OfOption
+use Rattle.npr_tunnel.specs.VxlanOptions as OfVxlan
+use Rattle.npr_tunnel.specs.XfrmTunnel as OfXfrm
+use Rattle.npr_tunnel.specs.declared.encap_type.RouteLwEnCapType.{RouteLwEnCapType}
+use Rattle.npr_tunnel.specs.declared.encap_type.RouteLwEnCapType.TheVariants as Tunnel
+use Rattle.netlink_packet_route.specs.declared.levels.Level.{Level}
+use Rattle.netlink_packet_route.specs.declared.levels.Level.TheVariants.{Address, Rule, Route, Neighbour, Link, Metric, Encap, Opt, Vxlan, Erspan}
+use Rattle.netlink_packet_route.specs.declared.levels.Level.TheVariants.{LinkInfo, LinkXdp, Prop, LinkProtocolDownReason, AfSpecUnspec, AfSpecInet}
+use Rattle.netlink_packet_route.specs.declared.levels.Level.TheVariants.{AfSpecInet6, InfoBridge, BridgeQuerierState, InfoBridgePort, InfoVlan}
+use Rattle.netlink_packet_route.specs.declared.levels.Level.TheVariants.{VlanQosMapping, InfoVrf, InfoVeth, Peer}
+use Rattle.netlink_packet_route.specs.Levels.{reading_at, holds_list, is_list, has_family, has_port_family, has_options}
+use denote.Enum.Declared.{Record}
+use denote.Struct.Field.{Field}
+
+-- the routing headers and the trace of encapsulations
+abbrev pub apart_in : RouteLwEnCapType → ℕ → Bool
+apart_in Tunnel.Seg6 k = k == 1
+apart_in Tunnel.Ioam6 k = k == 3
+apart_in Tunnel.Rpl k = k == 1
+apart_in Tunnel.Seg6Local k = k == 2
+apart_in type k = false
+
+abbrev pub stands_apart : Level → ℕ → List ℕ → Bool
+stands_apart (Route family kind encap_type) k value = k == 18
+stands_apart (Encap encap_type) k value = apart_in encap_type k
+stands_apart Opt k value = k == 1
+stands_apart (Link family) k value = k == 66
+stands_apart InfoVeth k value = k == 1 && nat_lt (length value) 16
+stands_apart level k value = false
+
+abbrev pub holds_hops : Level → ℕ → Bool
+holds_hops (Route family kind encap_type) k = k == 9
+holds_hops level k = false
+
+-- ---- by tables
+
+abbrev is_whole : Form → Bool
+is_whole Inside = false
+is_whole form = true
+
+whole : (form : Form) → is_whole form ≡ true → IsWhole form
+whole Inside e = absurd cc
+whole form e = tt
+
+or-right : (a b : Bool) → a ≡ false → (a || b) ≡ true → b ≡ true
+or-right false b out e = e
+or-right true b out e = absurd cc
+
+-- each row is read where it stands, or has one of these numbers
+abbrev rows_whole : {M : Type 0} → (ℕ → Bool) → List (Row M) → Bool
+rows_whole apart [] = true
+rows_whole apart (r ∷ rows) = (apart r.at.kind || is_whole r.codec.showing.form) && rows_whole apart rows
+
+abbrev variants_whole : (ℕ → Bool) → (Fss : List (List Field)) → VariantRows Fss → Bool
+variants_whole apart [] rows = true
+variants_whole apart (Fs ∷ []) rows = true
+variants_whole apart (Fs ∷ Gs ∷ Fss) rows = (apart rows.0.at.kind || is_whole rows.0.codec.showing.form) && variants_whole apart (Gs ∷ Fss) rows.1
+
+module _ (apart : ℕ → Bool) (k : ℕ) (out : apart k ≡ false) where
+  -- a row of this number is no other
+  here-whole : (b : Bool) (number : ℕ) (p q : At × Form) → (k == number) ≡ b → (apart number || is_whole p.1) ≡ true → IsWhole q.1
+      → IsWhole (if b then p else q).1
+  here-whole true number p q same all later =
+      let none : apart number ≡ false = subst (λ (n : ℕ). apart n ≡ false) (eqb-true k number same) out in
+      whole p.1 (or-right (apart number) (is_whole p.1) none all)
+  here-whole false number p q same all later = later
+
+  from-rows : {M : Type 0} (family : AttrFamily) (rows : List (Row M)) → rows_whole apart rows ≡ true → IsWhole (form_from family rows k).1
+  from-rows family [] all = tt
+  from-rows family (r ∷ rows) all =
+      let first = apart r.at.kind || is_whole r.codec.showing.form in
+      let later = from-rows family rows (second_so first (rows_whole apart rows) all) in
+      here-whole (k == r.at.kind) r.at.kind (r.at, r.codec.showing.form) (form_from family rows k) refl (first_so first (rows_whole apart rows) all) later
+
+  from-variants : (family : AttrFamily) (Fss : List (List Field)) (rows : VariantRows Fss) → variants_whole apart Fss rows ≡ true
+      → IsWhole (form_in family Fss rows k).1
+  from-variants family [] rows all = tt
+  from-variants family (Fs ∷ []) rows all = tt
+  from-variants family (Fs ∷ Gs ∷ Fss) rows all =
+      let first = apart rows.0.at.kind || is_whole rows.0.codec.showing.form in
+      let others = variants_whole apart (Gs ∷ Fss) rows.1 in
+      let later = from-variants family (Gs ∷ Fss) rows.1 (second_so first others all) in
+      here-whole (k == rows.0.at.kind) rows.0.at.kind (rows.0.at, rows.0.codec.showing.form) (form_in family (Gs ∷ Fss) rows.1 k) refl
+      (first_so first others all) later
+
+-- of a table of an enum
+in-table : {N : Record} (t : EnumTable N) (apart : ℕ → Bool) → variants_whole apart N.parts t.rows ≡ true → (k : ℕ) → apart k ≡ false
+    → IsWhole ((attributes_of t).seeing.form_at k).1
+in-table {N} t apart all k out = from-variants apart k out (family_in N.parts t.rows) N.parts t.rows all
+
+-- of a number that a family keeps apart besides
+but-whole : (b : Bool) (p q : At × Form) → b ≡ false → IsWhole q.1 → IsWhole (if b then p else q).1
+but-whole false p q out later = later
+but-whole true p q out later = absurd cc
+
+or-false : (a b : Bool) → a ≡ false → b ≡ false → (a || b) ≡ false
+or-false false b e f = f
+or-false true b e f = absurd cc
+
+and-true : (a : Bool) → (a && true) ≡ false → a ≡ false
+and-true true e = e
+and-true false e = e
+
+abbrev none : ℕ → Bool
+none k = false
+
+-- ---- by levels
+
+neighbour-whole : (form : OfNeighbourAddress.Form) (k : ℕ) → IsWhole ((attributes_of (OfNeighbour.table form)).seeing.form_at k).1
+neighbour-whole OfNeighbourAddress.four k = in-table (OfNeighbour.table OfNeighbourAddress.four) none refl k refl
+neighbour-whole OfNeighbourAddress.sixteen k = in-table (OfNeighbour.table OfNeighbourAddress.sixteen) none refl k refl
+neighbour-whole OfNeighbourAddress.any k = in-table (OfNeighbour.table OfNeighbourAddress.any) none refl k refl
+
+abbrev route_lists : ℕ → Bool
+route_lists k = k == 18 || (k == 8 || k == 22)
+
+route-whole : (form : OfRouteAddress.Form) (multicast : Bool) (family : Reading OfEncap.writing)
+    → rows_whole route_lists (Flat.rows form multicast family) ≡ true
+route-whole OfRouteAddress.four true family = refl
+route-whole OfRouteAddress.four false family = refl
+route-whole OfRouteAddress.sixteen true family = refl
+route-whole OfRouteAddress.sixteen false family = refl
+route-whole OfRouteAddress.label true family = refl
+route-whole OfRouteAddress.label false family = refl
+route-whole OfRouteAddress.any true family = refl
+route-whole OfRouteAddress.any false family = refl
+
+abbrev link_lists : OfAfSpecs.Form → ℕ → Bool
+link_lists form k = k == 66 || (k == 18 || (k == 26 && is_list form || (k == 43 || (k == 52 || k == 55))))
+
+link-rows : (form : OfAfSpecs.Form) → variants_whole (link_lists form) OfLink.later (OfLink.rows form).0 ≡ true
+link-rows OfAfSpecs.as_list = refl
+link-rows OfAfSpecs.as_bytes = refl
+
+abbrev driver_lists : InfoForm → InfoPortForm → ℕ → Bool
+driver_lists link port k = k == 2 && has_family link || k == 5 && has_port_family port
+
+abbrev driver_whole : InfoForm → InfoPortForm → Type 0
+driver_whole link port = variants_whole (driver_lists link port) enum.parts (OfInfo.table (link, port)).rows ≡ true
+
+port-rows : (port : InfoPortForm) → driver_whole Data.Kept port
+port-rows Port.Bridge = refl
+port-rows Port.Vrf = refl
+port-rows Port.Kept = refl
+
+bridge-rows : (port : InfoPortForm) → driver_whole Data.Bridge port
+bridge-rows Port.Bridge = refl
+bridge-rows Port.Vrf = refl
+bridge-rows Port.Kept = refl
+
+vlan-rows : (port : InfoPortForm) → driver_whole Data.Vlan port
+vlan-rows Port.Bridge = refl
+vlan-rows Port.Vrf = refl
+vlan-rows Port.Kept = refl
+
+veth-rows : (port : InfoPortForm) → driver_whole Data.Veth port
+veth-rows Port.Bridge = refl
+veth-rows Port.Vrf = refl
+veth-rows Port.Kept = refl
+
+vrf-rows : (port : InfoPortForm) → driver_whole Data.Vrf port
+vrf-rows Port.Bridge = refl
+vrf-rows Port.Vrf = refl
+vrf-rows Port.Kept = refl
+
+driver-rows : (link : InfoForm) (port : InfoPortForm) → driver_whole link port
+driver-rows Data.Bridge port = bridge-rows port
+driver-rows Data.Vlan port = vlan-rows port
+driver-rows Data.Veth port = veth-rows port
+driver-rows Data.Vrf port = vrf-rows port
+driver-rows Data.Kept port = port-rows port
+
+abbrev ioam6_lists : ℕ → Bool
+ioam6_lists k = k == 3
+
+abbrev first_list : ℕ → Bool
+first_list k = k == 1
+
+abbrev local_list : ℕ → Bool
+local_list k = k == 2
+
+abbrev eighth_list : ℕ → Bool
+eighth_list k = k == 8
+
+encap-whole : (type : RouteLwEnCapType) (k : ℕ) → apart_in type k ≡ false → (k == 8 && has_options type) ≡ false
+    → IsWhole ((OfEncap.encapsulation type).seeing.form_at k).1
+unfolding OfEncap.encapsulation_by OfMpls.attributes OfSeg6.attributes_by OfIp.attributes OfIp.attributes6
+    OfIoam6.attributes OfRpl.attributes OfSeg6Local.attributes OfXfrm.attributes
+encap-whole Tunnel.Mpls k apart lists = in-table OfMpls.table none refl k refl
+encap-whole Tunnel.Seg6 k apart lists = in-table (OfSeg6.table modes) first_list refl k apart
+encap-whole Tunnel.Ip k apart lists = in-table OfIp.table eighth_list refl k (and-true (k == 8) lists)
+encap-whole Tunnel.Ip6 k apart lists = in-table OfIp.table6 eighth_list refl k (and-true (k == 8) lists)
+encap-whole Tunnel.Ioam6 k apart lists = but-whole (k == 3) _ _ apart (in-table OfIoam6.table ioam6_lists refl k apart)
+encap-whole Tunnel.Rpl k apart lists = but-whole (k == 1) _ _ apart (in-table OfRpl.table first_list refl k apart)
+encap-whole Tunnel.Seg6Local k apart lists = but-whole (k == 2) _ _ apart (in-table OfSeg6Local.table local_list refl k apart)
+encap-whole Tunnel.Xfrm k apart lists = in-table OfXfrm.table none refl k refl
+encap-whole type k apart lists = tt
+
+neither : (a b : Bool) → (a && b) ≡ false → (a && not b) ≡ false → a ≡ false
+neither false b e f = refl
+neither true true e f = e
+neither true false e f = f
+
+abbrev options_apart : ℕ → Bool
+options_apart k = k == 1 || (k == 2 || k == 3)
+
+abbrev families_lists : ℕ → Bool
+families_lists k = k == 2 || k == 10
+
+abbrev bridge_list : ℕ → Bool
+bridge_list k = k == 47
+
+abbrev vlan_lists : ℕ → Bool
+vlan_lists k = k == 3 || k == 4
+
+pub seen-whole : (level : Level) (k : ℕ) (value : List ℕ) → stands_apart level k value ≡ false → holds_hops level k ≡ false
+    → holds_list level k value ≡ false → IsWhole ((reading_at level).reading.seeing.form_at k).1
+unfolding OfMetric.attributes OfOption.attributes OfVxlan.attributes OfErspan.attributes OfXdp.attributes OfProp.attributes
+    OfReason.attributes OfAfSpec.attributes OfAfSpecInet.attributes OfAfSpecInet6.attributes OfBridge.attributes OfQuerier.attributes
+    OfBridgePort.attributes OfVlan.attributes OfVlanQos.attributes OfVrf.attributes OfVeth.attributes OfPeer.attributes
+seen-whole Address k value apart hops lists = in-table OfAddress.table none refl k refl
+seen-whole Rule k value apart hops lists = in-table OfRule.table none refl k refl
+seen-whole (Route family kind encap_type) k value apart hops lists =
+    let rows = Flat.rows (OfRouteAddress.form_of family) (Flat.is_multicast kind) (OfEncap.encapsulation encap_type) in
+    but-whole (k == 9) _ _ hops
+    (from-rows route_lists k (or-false (k == 18) (k == 8 || k == 22) apart lists) (first_family rows) rows
+    (route-whole (OfRouteAddress.form_of family) (Flat.is_multicast kind) (OfEncap.encapsulation encap_type)))
+seen-whole (Neighbour family) k value apart hops lists = neighbour-whole (OfNeighbourAddress.form_of family) k
+seen-whole (Link family) k value apart hops lists =
+    let form = OfAfSpecs.form_of family in
+    from-variants (link_lists form) k (or-false (k == 66) (k == 18 || (k == 26 && is_list form || (k == 43 || (k == 52 || k == 55)))) apart lists)
+    (family_in OfLink.later (OfLink.rows form).0) OfLink.later (OfLink.rows form).0 (link-rows form)
+seen-whole Metric k value apart hops lists = in-table OfMetric.table none refl k refl
+seen-whole (Encap encap_type) k value apart hops lists = encap-whole encap_type k apart lists
+seen-whole Opt k value apart hops lists = in-table OfOption.table options_apart refl k (or-false (k == 1) (k == 2 || k == 3) apart lists)
+seen-whole Vxlan k value apart hops lists = in-table OfVxlan.table none refl k refl
+seen-whole Erspan k value apart hops lists = in-table OfErspan.table none refl k refl
+seen-whole (LinkInfo link port) k value apart hops lists = in-table (OfInfo.table (link, port)) (driver_lists link port) (driver-rows link port) k lists
+seen-whole LinkXdp k value apart hops lists = in-table OfXdp.table none refl k refl
+seen-whole Prop k value apart hops lists = in-table OfProp.table none refl k refl
+seen-whole LinkProtocolDownReason k value apart hops lists = in-table OfReason.table none refl k refl
+seen-whole AfSpecUnspec k value apart hops lists = in-table OfAfSpec.table families_lists refl k lists
+seen-whole AfSpecInet k value apart hops lists = in-table OfAfSpecInet.table none refl k refl
+seen-whole AfSpecInet6 k value apart hops lists = in-table OfAfSpecInet6.table none refl k refl
+seen-whole InfoBridge k value apart hops lists = in-table OfBridge.table bridge_list refl k lists
+seen-whole BridgeQuerierState k value apart hops lists = in-table OfQuerier.table none refl k refl
+seen-whole InfoBridgePort k value apart hops lists = in-table OfBridgePort.table none refl k refl
+seen-whole InfoVlan k value apart hops lists = in-table OfVlan.table vlan_lists refl k lists
+seen-whole VlanQosMapping k value apart hops lists = in-table OfVlanQos.table none refl k refl
+seen-whole InfoVrf k value apart hops lists = in-table OfVrf.table none refl k refl
+seen-whole InfoVeth k value apart hops lists = in-table OfVeth.table first_list refl k (neither (k == 1) (nat_lt (length value) 16) apart lists)
+seen-whole Peer k value apart hops lists = in-table OfPeer.table none refl k refl

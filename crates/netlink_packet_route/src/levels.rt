@@ -1,0 +1,219 @@
+//! Lists of attributes of any family, gone through value by value, and into the lists that stand in
+//! values. Nothing takes memory.
+
+ghost use Rattle.std.specs.Prelude.{◌≡◌, ◌<◌, ℕ, false, length, drop, IfOk, IfErr, IfSome, IsNone};
+ghost use Rattle.{
+  npr_base.specs.{
+    Codec.{leading},
+    Framing.{number_of},
+    Value.{shown},
+    Values.{Seen, Unseen},
+    declared.refusal.DecodeError.TheVariants.{HeaderTooShort},
+  },
+  netlink_packet_route.specs.Levels.{Begins, FromBytes, IsInside, OfNextHop, header_size, holds_list, reading_at},
+};
+
+use crate::inside::{
+    inside_bridge, inside_encap, inside_families, inside_info, inside_link, inside_options,
+    inside_pair, inside_route, inside_vlan,
+};
+use crate::kind::MessageKind;
+use npr_address::{AddressAttribute, AddressHeader};
+use npr_base::{
+    AddressFamily, At, Attribute, DecodeError, Header, Looks, Message, NlaBuffer, Value,
+};
+use npr_link::{
+    AfSpecInet, AfSpecInet6, AfSpecUnspec, BridgeQuerierState, InfoBridge, InfoBridgePort,
+    InfoForm, InfoPortForm, InfoVeth, InfoVlan, InfoVrf, LinkAttribute, LinkHeader, LinkInfo,
+    LinkProtocolDownReason, LinkXdp, PeerAttribute, Prop, VlanQosMapping,
+};
+use npr_neighbour::{NeighbourAttribute, NeighbourHeader};
+use npr_route::{RouteAttribute, RouteHeader, RouteMetric, governing_type};
+use npr_rule::{RuleAttribute, RuleHeader};
+use npr_scalar::RouteType;
+use npr_tunnel::{
+    RouteErspanOpt, RouteLwEnCapType, RouteLwTunnelEncap, RouteLwTunnelOpt, RouteVxlanOpt,
+};
+
+/// Where attributes stand in a list: their family, and what their numbers rest on there.
+#[derive(Debug, Clone, Copy, PartialEq, Eq)]
+pub enum Level {
+    /// Of an address message: `IFA_*` of `linux/if_addr.h`.
+    Address,
+    /// Of a rule message: `FRA_*` of `linux/fib_rules.h`.
+    Rule,
+    /// Of a route message or of a next hop in it: `RTA_*` of `linux/rtnetlink.h`, under the family and
+    /// the type of the header and the type that governs the encapsulation.
+    Route(AddressFamily, RouteType, RouteLwEnCapType),
+    /// Of a neighbour message: `NDA_*` of `linux/neighbour.h`, under the family of the header.
+    Neighbour(AddressFamily),
+    /// Of a link message: `IFLA_*` of `linux/if_link.h`, under the family of the header.
+    Link(AddressFamily),
+    /// Metrics: `RTAX_*` of `linux/rtnetlink.h`.
+    Metric,
+    /// Of an encapsulation of this type.
+    Encap(RouteLwEnCapType),
+    /// Options of a tunnel: `LWTUNNEL_IP_OPTS_*` of `linux/lwtunnel.h`.
+    Opt,
+    /// Options of VXLAN: `LWTUNNEL_IP_OPT_VXLAN_*` of `linux/lwtunnel.h`.
+    Vxlan,
+    /// Options of ERSPAN: `LWTUNNEL_IP_OPT_ERSPAN_*` of `linux/lwtunnel.h`.
+    Erspan,
+    /// What a driver says: `IFLA_INFO_*` of `linux/if_link.h`, under what governs the data of the link
+    /// and of the port.
+    LinkInfo(InfoForm, InfoPortForm),
+    /// Programs on a link: `IFLA_XDP_*` of `linux/if_link.h`.
+    LinkXdp,
+    /// Properties: `IFLA_ALT_IFNAME` of `linux/if_link.h`.
+    Prop,
+    /// Why a link is held down: `IFLA_PROTO_DOWN_REASON_*` of `linux/if_link.h`.
+    LinkProtocolDownReason,
+    /// What address families say: their numbers are `AF_*` of `linux/socket.h`.
+    AfSpecUnspec,
+    /// What IP version 4 says: `IFLA_INET_*` of `linux/if_link.h`.
+    AfSpecInet,
+    /// What IP version 6 says: `IFLA_INET6_*` of `linux/if_link.h`.
+    AfSpecInet6,
+    /// The data of a bridge: `IFLA_BR_*` of `linux/if_link.h`.
+    InfoBridge,
+    /// Who asks for members: `BRIDGE_QUERIER_*` of `linux/if_bridge.h`.
+    BridgeQuerierState,
+    /// The data of a port of a bridge: `IFLA_BRPORT_*` of `linux/if_link.h`.
+    InfoBridgePort,
+    /// The data of a VLAN: `IFLA_VLAN_*` of `linux/if_link.h`.
+    InfoVlan,
+    /// Priorities of a VLAN: `IFLA_VLAN_QOS_*` of `linux/if_link.h`.
+    VlanQosMapping,
+    /// The data of a routing domain, or of a port of one: `IFLA_VRF_*` of `linux/if_link.h`.
+    InfoVrf,
+    /// The data of a pair: `VETH_INFO_*` of `linux/veth.h`.
+    InfoVeth,
+    /// Of the other end of a pair: `IFLA_*` of `linux/if_link.h`.
+    Peer,
+}
+
+/// What the attributes behind the header of a message rest on, and their bytes.
+///
+/// # Errors
+/// `HeaderTooShort` where there is no whole header.
+fn behind<H: Header>(
+    bytes: &[u8],
+) -> Result<(<H::Attribute as Attribute>::Context, &[u8]), DecodeError>
+    ensures ok { IfOk result (λ s. (h : H) × (leading H.grammar.layout).Reads bytes.now h × (s.1.now ≡ drop H.grammar.layout.size bytes.now)
+        × H.governs h s.1.now s.0) }
+    ensures short { IfErr result (λ e. (length bytes.now < H.grammar.layout.size) × (e ≡ HeaderTooShort (length bytes.now) H.grammar.layout.size)) }
+{
+    let (_, values) = Message::<H, H::Attribute>::values(bytes)?;
+    Ok((values.context(), values.rest()))
+}
+
+impl Level {
+    /// The list behind the header of a message of this kind: its level, and its bytes.
+    ///
+    /// # Errors
+    /// `HeaderTooShort` where there is no whole header.
+    pub fn begin(kind: MessageKind, bytes: &[u8]) -> Result<(Level, &[u8]), DecodeError>
+        ensures ok { IfOk result (λ s. Begins kind bytes.now s.0 s.1.now) }
+        ensures numbers { IfOk result (λ s. FromBytes s.0) }
+        ensures short { IfErr result (λ e. (length bytes.now < header_size kind) × (e ≡ HeaderTooShort (length bytes.now) (header_size kind))) }
+    {
+        match kind {
+            MessageKind::Address => {
+                let (_, attributes) = behind::<AddressHeader>(bytes)?;
+                Ok((Level::Address, attributes))
+            }
+            MessageKind::Rule => {
+                let (_, attributes) = behind::<RuleHeader>(bytes)?;
+                Ok((Level::Rule, attributes))
+            }
+            MessageKind::Route => {
+                let (context, attributes) = behind::<RouteHeader>(bytes)?;
+                Ok((Level::Route(context.0, context.1, context.2), attributes))
+            }
+            MessageKind::Neighbour => {
+                let (family, attributes) = behind::<NeighbourHeader>(bytes)?;
+                Ok((Level::Neighbour(family), attributes))
+            }
+            MessageKind::Link => {
+                let (family, attributes) = behind::<LinkHeader>(bytes)?;
+                Ok((Level::Link(family), attributes))
+            }
+        }
+    }
+
+    /// The place of an attribute at this level, and its value where it stands. It takes no memory.
+    ///
+    /// # Errors
+    /// What is wrong with the value.
+    pub fn value<'a>(self, item: &NlaBuffer<'a>) -> Result<(At, Value<'a>), DecodeError>
+        ensures place { IfOk result (λ v. v.0 ≡ ((reading_at self).reading.seeing.form_at (number_of (item.now).kind)).0) }
+        ensures ok { IfOk result (λ v. Seen (reading_at self).reading item.now (shown v.1)) }
+        ensures refused { IfErr result (λ e. Unseen (reading_at self).reading item.now e) }
+    {
+        match self {
+            Level::Address => AddressAttribute::value((), item),
+            Level::Rule => RuleAttribute::value((), item),
+            Level::Route(family, kind, encap) => RouteAttribute::value((family, kind, encap), item),
+            Level::Neighbour(family) => NeighbourAttribute::value(family, item),
+            Level::Link(family) => LinkAttribute::value(family, item),
+            Level::Metric => RouteMetric::value((), item),
+            Level::Encap(encap_type) => RouteLwTunnelEncap::value(encap_type, item),
+            Level::Opt => RouteLwTunnelOpt::value((), item),
+            Level::Vxlan => RouteVxlanOpt::value((), item),
+            Level::Erspan => RouteErspanOpt::value((), item),
+            Level::LinkInfo(link, port) => LinkInfo::value((link, port), item),
+            Level::LinkXdp => LinkXdp::value((), item),
+            Level::Prop => Prop::value((), item),
+            Level::LinkProtocolDownReason => LinkProtocolDownReason::value((), item),
+            Level::AfSpecUnspec => AfSpecUnspec::value((), item),
+            Level::AfSpecInet => AfSpecInet::value((), item),
+            Level::AfSpecInet6 => AfSpecInet6::value((), item),
+            Level::InfoBridge => InfoBridge::value((), item),
+            Level::BridgeQuerierState => BridgeQuerierState::value((), item),
+            Level::InfoBridgePort => InfoBridgePort::value((), item),
+            Level::InfoVlan => InfoVlan::value((), item),
+            Level::VlanQosMapping => VlanQosMapping::value((), item),
+            Level::InfoVrf => InfoVrf::value((), item),
+            Level::InfoVeth => InfoVeth::value((), item),
+            Level::Peer => PeerAttribute::value((), item),
+        }
+    }
+
+    /// The list in a value of this number at this level: its own level, and its bytes; none where the
+    /// value holds no list of attributes. Next hops, Geneve options and structures have readers of
+    /// their own.
+    pub fn inside(self, number: u16, value: &[u8]) -> Option<(Level, &[u8])>
+        ensures opens { IfSome result (λ s. IsInside self number value.now s.0 s.1.now) }
+        ensures none { IsNone result → holds_list self number value.now ≡ false }
+        ensures numbers { IfSome result (λ s. FromBytes self → FromBytes s.0) }
+    {
+        let level = match self {
+            Level::Route(_, _, encap_type) => inside_route(encap_type, number)?,
+            Level::Encap(encap_type) => inside_encap(encap_type, number)?,
+            Level::Opt => inside_options(number)?,
+            Level::Link(family) => inside_link(family, number, value)?,
+            Level::LinkInfo(link, port) => inside_info(link, port, number)?,
+            Level::AfSpecUnspec => inside_families(number)?,
+            Level::InfoBridge => inside_bridge(number)?,
+            Level::InfoVlan => inside_vlan(number)?,
+            Level::InfoVeth => return inside_pair(number, value),
+            _ => return None,
+        };
+        Some((level, value))
+    }
+
+    /// The level of the attributes of a next hop in a list at this level: its encapsulation is
+    /// governed by the first `RTA_ENCAP_TYPE` among them, or else from outside.
+    pub fn of_next_hop(self, attributes: &[u8]) -> Level
+        ensures level { OfNextHop self attributes.now result }
+        ensures numbers { FromBytes self → FromBytes result }
+    {
+        match self {
+            Level::Route(family, kind, outer) => {
+                let encap_type = governing_type(attributes, outer, &mut Looks::new());
+                Level::Route(family, kind, encap_type)
+            }
+            _ => self,
+        }
+    }
+}
