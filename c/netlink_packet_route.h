@@ -1,6 +1,7 @@
 /* Address, route, rule, neighbour and link messages of Linux rtnetlink for C: the canonical bytes of
- * given bytes, whether bytes are a message and what is wrong with them, the names of that, and steps
- * over the messages of a datagram, over attributes and over next hops.
+ * given bytes, whether bytes are a message and what is wrong with them, the names of that, the values
+ * of attributes, what is said of messages in the answer to a request, and steps over the messages of a
+ * datagram, over attributes and over next hops.
  *
  * A message of a kind is what stands behind `struct nlmsghdr`: a header of 8 bytes
  * (`struct ifaddrmsg`), 12 (`struct rtmsg`, `struct fib_rule_hdr`, `struct ndmsg`) or 16
@@ -38,9 +39,9 @@
 
 /* The version of the library. */
 #define NPR_VERSION_MAJOR 0
-#define NPR_VERSION_MINOR 7
+#define NPR_VERSION_MINOR 8
 #define NPR_VERSION_PATCH 0
-#define NPR_VERSION "0.7.0"
+#define NPR_VERSION "0.8.0"
 
 /* The stack of a thread that is enough for every call and every input, in bytes: 1 MiB. The deepest
  * message takes some 773 KiB (measured). */
@@ -242,7 +243,9 @@ struct npr_fault {
 };
 
 /* Whether the bytes are a message, and else the first fault in reading order. Nothing is written; a
- * message of which all members are 0 here may still have no canonical bytes (NPR_UNFIT). */
+ * message of which all members are 0 here may still have no canonical bytes (NPR_UNFIT). In such a
+ * message each value has a length that its attribute takes, at all depths, and each name is UTF-8: so a
+ * walk over its values (`npr_next`, `npr_enter`) ends at NPR_END. */
 struct npr_fault npr_address_fault(const uint8_t *bytes, size_t length);
 struct npr_fault npr_route_fault(const uint8_t *bytes, size_t length);
 struct npr_fault npr_rule_fault(const uint8_t *bytes, size_t length);
@@ -345,11 +348,13 @@ struct npr_step {
 };
 
 /* The attribute that begins `at` bytes from the first. In a message the first one begins behind the
- * header, at 8, 12 or 16; inside a value that is a list, at its first byte. It takes no memory. */
+ * header, at 8, 12 or 16; inside a value that is a list, at its first byte. In a larger buffer `length`
+ * is where the bytes end, as that of a message or of a value. It takes no memory. */
 struct npr_step npr_step_at(const uint8_t *bytes, size_t length, size_t at);
 
 /* The first attribute of this number (below 0x4000: a kind without its two flags) that begins at `at`
- * or behind it, or the fault or the end that comes before one. It takes no memory. */
+ * or behind it, or the fault or the end that comes before one. `length` is where the bytes end. It takes
+ * no memory. */
 struct npr_step npr_find(const uint8_t *bytes, size_t length, size_t at, uint16_t number);
 
 /* What a step over next hops answers. All members but `status` and `number` are 0 unless the status is
@@ -377,6 +382,155 @@ struct npr_next_hop {
 /* The next hop that begins `at` bytes from the first. In the value of RTA_MULTIPATH the first one
  * begins at its first byte. Its attributes are not looked at. It takes no memory. */
 struct npr_next_hop npr_next_hop_at(const uint8_t *bytes, size_t length, size_t at);
+
+/* How the value of an attribute is seen. An enumeration or a set of flags is its number. */
+enum npr_form {
+    /* Nothing: what stood there is dropped. */
+    NPR_FORM_NOTHING = 0,
+    /* A number of 1, 2, 4 or 8 bytes, in `integer`. */
+    NPR_FORM_U8 = 1,
+    NPR_FORM_U16 = 2,
+    NPR_FORM_U32 = 3,
+    NPR_FORM_U64 = 4,
+    /* A signed number of 4 bytes: `npr_signed`. */
+    NPR_FORM_I32 = 5,
+    /* A truth value, 0 or 1 in `integer`. */
+    NPR_FORM_BOOL = 6,
+    /* An address of 4 or 16 bytes, for `inet_ntop`. */
+    NPR_FORM_ADDRESS = 7,
+    /* A name in UTF-8, without its final zero. It may hold a zero, and it has no zero behind it that may be relied on. */
+    NPR_FORM_NAME = 8,
+    /* Bytes as they stand. */
+    NPR_FORM_BYTES = 9,
+    /* The bytes of a structure of the kernel's headers, as a cache's or a range's. */
+    NPR_FORM_STRUCTURE = 10,
+    /* The bytes of a list of attributes, which `npr_enter` enters; of next hops, for `npr_next_hop_at`; or of what else is
+     * read by none of these calls. They can be wrong, and a walk that does not enter them passes what is. */
+    NPR_FORM_INSIDE = 11
+};
+
+/* What a step over values answers. All members but `status` and `number` are 0 unless the status is NPR_FOUND. */
+struct npr_value {
+    /* One of `enum npr_step_status`. */
+    uint32_t status;
+    /* At NPR_FAULT one of `enum npr_refusal`: the attribute that begins there is none, or its value is wrong. Else 0. */
+    uint32_t number;
+    /* One of `enum npr_family`, in which `kind` is to be understood. */
+    uint32_t family;
+    /* The number of the attribute, without the two flags of a kind. */
+    uint16_t kind;
+    /* One of `enum npr_form`. */
+    uint16_t form;
+    /* A number in the order of the machine, whatever its order in the bytes; of a signed one the two's complement. Else 0. */
+    uint64_t integer;
+    /* Where the value begins, from the first of the bytes. */
+    size_t value;
+    /* How many bytes of it there are: of a number those that it takes, of a name those without its zero. */
+    size_t length;
+    /* Where the next attribute begins, from the first of the bytes; where none follows, their length. */
+    size_t next;
+};
+
+/* A list of attributes, as the calls below answer it and take it. All members but `status` and `number` are 0 unless the status
+ * is NPR_FOUND. */
+struct npr_list {
+    /* NPR_FOUND; NPR_FAULT where the bytes are fewer than a header; NPR_END where the value holds no list of attributes. */
+    uint32_t status;
+    /* At NPR_FAULT NPR_HEADER_TOO_SHORT, and else 0. */
+    uint32_t number;
+    /* One of `enum npr_family`: that of the attributes. */
+    uint32_t family;
+    /* What their numbers rest on besides, as the family of the header or what governs a list. Give it back as it is. */
+    uint32_t context;
+    /* Where the list begins, and where it ends, from the first of the bytes. */
+    size_t at;
+    size_t end;
+};
+
+/* The attributes of a message, behind its header. No memory is taken, here and below. */
+struct npr_list npr_address_begin(const uint8_t *bytes, size_t length);
+struct npr_list npr_route_begin(const uint8_t *bytes, size_t length);
+struct npr_list npr_rule_begin(const uint8_t *bytes, size_t length);
+struct npr_list npr_neighbour_begin(const uint8_t *bytes, size_t length);
+struct npr_list npr_link_begin(const uint8_t *bytes, size_t length);
+
+/* The value of the attribute that begins `at` bytes from the first, in a list of this family and context. `length` is where the
+ * list ends. `npr_next` is for a whole list. */
+struct npr_value npr_value_at(const uint8_t *bytes, size_t length, size_t at, uint32_t family, uint32_t context);
+
+/* The list in the value of the attribute that begins `at` bytes from the first. `npr_enter` is for the value of a reader. */
+struct npr_list npr_inside_at(const uint8_t *bytes, size_t length, size_t at, uint32_t family, uint32_t context);
+
+/* The list of the attributes of a next hop, which begin at `at` and end at `length`, in a list of this family and context.
+ * `npr_enter_hop` is for the next hops of a reader. */
+struct npr_list npr_hop_inside(const uint8_t *bytes, size_t length, size_t at, uint32_t family, uint32_t context);
+
+/* A walk over the values of a list, kept by the caller:
+ *
+ *     struct npr_reader reader = npr_read(bytes, npr_route_begin(bytes, length));
+ *     for (struct npr_value value; npr_next(&reader, &value);)
+ *         if (value.kind == RTA_OIF)
+ *             index = (uint32_t)value.integer;
+ */
+struct npr_reader {
+    const uint8_t *bytes;
+    struct npr_list list;
+    /* Where the next attribute begins. */
+    size_t at;
+};
+
+/* The reader of a list in these bytes. That of no list has no values. */
+static inline struct npr_reader npr_read(const uint8_t *bytes, struct npr_list list) {
+    struct npr_reader reader = {bytes, list, list.at};
+    return reader;
+}
+
+/* The next value. Answers 1 where there is one; else 0, and the status of the value tells whether the list is at its end or is
+ * wrong there. */
+static inline int npr_next(struct npr_reader *reader, struct npr_value *value) {
+    *value = npr_value_at(reader->bytes, reader->list.end, reader->at, reader->list.family, reader->list.context);
+    if (value->status != NPR_FOUND)
+        return 0;
+    reader->at = value->next;
+    return 1;
+}
+
+/* Enters the list in a value that the reader gave. Answers 1 where there is one, and else 0. */
+static inline int npr_enter(const struct npr_reader *reader, const struct npr_value *value, struct npr_reader *inside) {
+    struct npr_list list = npr_inside_at(reader->bytes, reader->list.end, value->value - 4, reader->list.family, reader->list.context);
+    *inside = npr_read(reader->bytes, list);
+    return list.status == NPR_FOUND;
+}
+
+/* The first next hop in a value that the reader gave, and the one behind a next hop. */
+static inline struct npr_next_hop npr_first_hop(const struct npr_reader *reader, const struct npr_value *value) {
+    return npr_next_hop_at(reader->bytes, value->value + value->length, value->value);
+}
+
+static inline struct npr_next_hop npr_hop_behind(const struct npr_reader *reader, const struct npr_value *value, struct npr_next_hop hop) {
+    return npr_next_hop_at(reader->bytes, value->value + value->length, hop.next);
+}
+
+/* Enters the attributes of a next hop in a value that the reader gave. */
+static inline struct npr_reader npr_enter_hop(const struct npr_reader *reader, const struct npr_next_hop *hop) {
+    return npr_read(reader->bytes, npr_hop_inside(reader->bytes, hop->end, hop->attributes, reader->list.family, reader->list.context));
+}
+
+/* The first byte of a value that the reader gave. */
+static inline const uint8_t *npr_bytes(const struct npr_reader *reader, const struct npr_value *value) {
+    return reader->bytes + value->value;
+}
+
+/* A name that the reader gave: `length` of the value says how long it is. */
+static inline const char *npr_text(const struct npr_reader *reader, const struct npr_value *value) {
+    return (const char *)(reader->bytes + value->value);
+}
+
+/* A signed number. */
+static inline int32_t npr_signed(const struct npr_value *value) {
+    uint32_t low = (uint32_t)value->integer;
+    return low <= INT32_MAX ? (int32_t)low : -(int32_t)(UINT32_MAX - low) - 1;
+}
 
 /* What a step over the messages of a datagram answers. All members but `status` and `number` are 0
  * unless the status is NPR_FOUND. */
@@ -406,6 +560,87 @@ struct npr_message {
 /* The message that begins `at` bytes from the first of a datagram. The first one begins at 0. It takes
  * no memory. */
 struct npr_message npr_message_at(const uint8_t *datagram, size_t length, size_t at);
+
+/* What is said of a message in a conversation. */
+enum npr_hearing {
+    /* It is of the answer. */
+    NPR_ANSWER = 0,
+    /* It has the number of another request, or another port. */
+    NPR_FOREIGN = 1,
+    /* No message is left in the datagram: read the next one. */
+    NPR_NO_MORE = 2,
+    /* The answer ends: `ending` tells how. */
+    NPR_ENDED = 3
+};
+
+/* How an answer ends. */
+enum npr_ending {
+    /* The dump is whole. */
+    NPR_DONE = 1,
+    /* The request was done. */
+    NPR_ACKNOWLEDGED = 2,
+    /* The kernel refused the request: `code` is the number of the error of errno.h, below 0. */
+    NPR_REFUSED_REQUEST = 3,
+    /* The dump is over, and the tables changed meanwhile: ask again. */
+    NPR_INTERRUPTED = 4,
+    /* Messages were lost: NLMSG_OVERRUN. */
+    NPR_OVERRUN = 5,
+    /* A datagram has bytes that are no message. */
+    NPR_BROKEN = 6,
+    /* An error or an end that has fewer bytes than its code takes. */
+    NPR_CUT = 7
+};
+
+/* What is said of the next message of a datagram. All members but `status` and `interrupted` are 0 unless they are told. */
+struct npr_heard {
+    /* One of `enum npr_hearing`. */
+    uint32_t status;
+    /* At NPR_ENDED one of `enum npr_ending`, and else 0. */
+    uint32_t ending;
+    /* At NPR_REFUSED_REQUEST the code of the error, below 0. */
+    int32_t code;
+    /* 1 where a part of the answer said that the tables changed. */
+    uint32_t interrupted;
+    /* As in `struct npr_message`; 0 where no message stands. */
+    uint16_t message_type;
+    uint16_t flags;
+    size_t payload;
+    size_t length;
+    size_t next;
+};
+
+/* What is said of the message that begins `at` bytes from the first of a datagram, in the conversation that a request of this
+ * number began from a socket of this port, or of any where it is 0. `interrupted` is what the call before answered there, and 0
+ * before any. `npr_hear` keeps all of it. */
+struct npr_heard npr_hear_at(const uint8_t *datagram, size_t length, size_t at, uint32_t sequence_number, uint32_t port_number,
+                             uint32_t interrupted);
+
+/* The answer to a request, kept by the caller, over the datagrams that come:
+ *
+ *     struct npr_conversation talk = {sequence_number, 0, 0, 0};
+ *     do {
+ *         length = recv(..); talk.at = 0;
+ *         while ((heard = npr_hear(&talk, datagram, length)).status == NPR_ANSWER || heard.status == NPR_FOREIGN)
+ *             ..
+ *     } while (heard.status == NPR_NO_MORE); */
+struct npr_conversation {
+    /* The number of the request. */
+    uint32_t sequence_number;
+    /* The port of the socket, or 0 for any. */
+    uint32_t port_number;
+    /* 1 where a part of the answer said that the tables changed; 0 at first. */
+    uint32_t interrupted;
+    /* Where the next message of the datagram begins; 0 at the first byte of each. */
+    size_t at;
+};
+
+static inline struct npr_heard npr_hear(struct npr_conversation *talk, const uint8_t *datagram, size_t length) {
+    struct npr_heard heard = npr_hear_at(datagram, length, talk->at, talk->sequence_number, talk->port_number, talk->interrupted);
+    talk->interrupted = heard.interrupted;
+    if (heard.next != 0)
+        talk->at = heard.next;
+    return heard;
+}
 
 #ifdef __cplusplus
 }

@@ -173,6 +173,51 @@ static int next_hops(void) {
     return 0;
 }
 
+static int same_value(struct npr_value value, uint32_t family, uint16_t kind, uint16_t form, uint64_t integer, size_t length) {
+    return value.status == NPR_FOUND && value.family == family && value.kind == kind && value.form == form &&
+           value.integer == integer && value.length == length;
+}
+
+static int values(void) {
+    struct npr_value value;
+    struct npr_reader inside, reader = npr_read(ADDRESS, npr_address_begin(ADDRESS, sizeof ADDRESS));
+    WANT(npr_next(&reader, &value) && same_value(value, NPR_FAMILY_ADDRESS, 1, NPR_FORM_ADDRESS, 0, 4));
+    WANT(npr_bytes(&reader, &value) == ADDRESS + 12 && !npr_enter(&reader, &value, &inside));
+    WANT(npr_next(&reader, &value) && same_value(value, NPR_FAMILY_ADDRESS, 3, NPR_FORM_NAME, 0, 2));
+    WANT(memcmp(npr_text(&reader, &value), "lo", 2) == 0);
+    WANT(!npr_next(&reader, &value) && value.number == NPR_ATTRIBUTE_TOO_SHORT);
+    WANT(npr_address_begin(ADDRESS, 7).number == NPR_HEADER_TOO_SHORT);
+    return 0;
+}
+
+static int values_inside(void) {
+    struct npr_value value;
+    struct npr_reader reader = npr_read(ROUTE, npr_route_begin(ROUTE, sizeof ROUTE));
+    WANT(npr_next(&reader, &value) && same_value(value, NPR_FAMILY_ROUTE, 9, NPR_FORM_INSIDE, 0, 24));
+    struct npr_next_hop hop = npr_first_hop(&reader, &value);
+    struct npr_reader inside = npr_enter_hop(&reader, &hop);
+    struct npr_value preference;
+    WANT(npr_next(&inside, &preference) && same_value(preference, NPR_FAMILY_ROUTE, 20, NPR_FORM_U8, ROUTE[28], 1));
+    hop = npr_hop_behind(&reader, &value, hop);
+    inside = npr_enter_hop(&reader, &hop);
+    WANT(hop.interface_index == 3 && !npr_next(&inside, &preference) && preference.status == NPR_END);
+    WANT(!npr_next(&reader, &value) && value.status == NPR_END);
+    return 0;
+}
+
+static int conversations(void) {
+    struct npr_conversation talk = {7, 0, 0, 0};
+    struct npr_heard heard = npr_hear(&talk, DATAGRAM, sizeof DATAGRAM);
+    WANT(heard.status == NPR_ANSWER && heard.message_type == 20 && heard.payload == 16 && heard.length == 9);
+    heard = npr_hear(&talk, DATAGRAM, sizeof DATAGRAM);
+    WANT(heard.status == NPR_ENDED && heard.ending == NPR_INTERRUPTED && heard.interrupted == 1);
+    struct npr_conversation other = {8, 0, 0, 0};
+    WANT(npr_hear(&other, DATAGRAM, sizeof DATAGRAM).status == NPR_FOREIGN);
+    other.at = sizeof DATAGRAM;
+    WANT(npr_hear(&other, DATAGRAM, sizeof DATAGRAM).status == NPR_NO_MORE);
+    return 0;
+}
+
 static int messages(void) {
     struct npr_message message = npr_message_at(DATAGRAM, sizeof DATAGRAM, 0);
     WANT(message.status == NPR_FOUND && message.message_type == 20 && message.flags == 18 &&
@@ -212,4 +257,4 @@ static int version(void) {
     return 0;
 }
 
-int main(void) { return steps() || finds() || next_hops() || messages() || faults() || names() || version(); }
+int main(void) { return steps() || finds() || next_hops() || values() || values_inside() || conversations() || messages() || faults() || names() || version(); }

@@ -18,6 +18,7 @@
 #include "netlink_packet_route.h"
 #include <arpa/inet.h>
 #include <errno.h>
+#include <inttypes.h>
 #include <linux/fib_rules.h>
 #include <linux/if.h>
 #include <linux/if_addr.h>
@@ -37,105 +38,90 @@
 
 enum ending { WELL = 0, REFUSED = 1, UNKNOWN_WORD = 2, INTERRUPTED = 3, FAILED = 5 };
 
-/* A kind of message: its name, the types of its messages, the bytes of its header, and its call. */
+/* A kind of message: its name, the types of its messages, the bytes of its header, and its calls. */
 struct kind {
     const char *name;
     uint16_t created, deleted, asked;
     size_t header;
     struct npr_fault (*fault)(const uint8_t *, size_t);
+    struct npr_list (*begin)(const uint8_t *, size_t);
 };
 
 static const struct kind KINDS[] = {
-    {"address", RTM_NEWADDR, RTM_DELADDR, RTM_GETADDR, 8, npr_address_fault},
-    {"route", RTM_NEWROUTE, RTM_DELROUTE, RTM_GETROUTE, 12, npr_route_fault},
-    {"rule", RTM_NEWRULE, RTM_DELRULE, RTM_GETRULE, 12, npr_rule_fault},
-    {"neighbour", RTM_NEWNEIGH, RTM_DELNEIGH, RTM_GETNEIGH, 12, npr_neighbour_fault},
-    {"link", RTM_NEWLINK, RTM_DELLINK, RTM_GETLINK, 16, npr_link_fault},
+    {"address", RTM_NEWADDR, RTM_DELADDR, RTM_GETADDR, 8, npr_address_fault, npr_address_begin},
+    {"route", RTM_NEWROUTE, RTM_DELROUTE, RTM_GETROUTE, 12, npr_route_fault, npr_route_begin},
+    {"rule", RTM_NEWRULE, RTM_DELRULE, RTM_GETRULE, 12, npr_rule_fault, npr_rule_begin},
+    {"neighbour", RTM_NEWNEIGH, RTM_DELNEIGH, RTM_GETNEIGH, 12, npr_neighbour_fault, npr_neighbour_begin},
+    {"link", RTM_NEWLINK, RTM_DELLINK, RTM_GETLINK, 16, npr_link_fault, npr_link_begin},
 };
 
 #define KIND_COUNT (sizeof KINDS / sizeof *KINDS)
 
-/* A message, or a part of one. */
-struct bytes {
-    const uint8_t *at;
-    size_t length;
-};
-
 /* Printing */
 
-/* The value of the first attribute of a number, or none. */
-static bool has(struct bytes message, size_t from, uint16_t number, struct bytes *value) {
-    struct npr_step step = npr_find(message.at, message.length, from, number);
-    *value = (struct bytes){message.at + step.value, step.length};
-    return step.status == NPR_FOUND;
+/* A name up to its zero, with `?` for what is no plain character. */
+static void print_text(const char *text, size_t length) {
+    for (size_t i = 0; i < length && text[i] != 0; i++)
+        putchar(text[i] > ' ' && text[i] < 0x7f ? text[i] : '?');
 }
 
-static void print_address(const char *word, struct bytes message, size_t from, uint16_t number) {
+/* A value, as its form says; bytes, as those of an address on the link, are joined by `:`. */
+static void print_value(const struct npr_reader *reader, const struct npr_value *value) {
     char text[INET6_ADDRSTRLEN];
-    struct bytes value;
-    if (has(message, from, number, &value) && (value.length == 4 || value.length == 16))
-        printf(" %s %s", word, inet_ntop(value.length == 4 ? AF_INET : AF_INET6, value.at, text, sizeof text));
-}
-
-static bool print_prefix(const char *word, struct bytes message, size_t from, uint16_t number, unsigned bits) {
-    struct bytes value;
-    print_address(word, message, from, number);
-    if (!has(message, from, number, &value))
-        return false;
-    printf("/%u", bits);
-    return true;
-}
-
-static void print_number(const char *word, struct bytes message, size_t from, uint16_t number) {
-    uint32_t read;
-    struct bytes value;
-    if (has(message, from, number, &value) && value.length == sizeof read)
-        printf(" %s %u", word, (memcpy(&read, value.at, sizeof read), (unsigned)read));
-}
-
-/* A message's attribute of the table, or else the byte in its header. */
-static void print_table(struct bytes message, uint16_t number) {
-    struct bytes value;
-    if (has(message, 12, number, &value))
-        print_number("table", message, 12, number);
+    const uint8_t *bytes = npr_bytes(reader, value);
+    if (value->form == NPR_FORM_ADDRESS)
+        fputs(inet_ntop(value->length == 4 ? AF_INET : AF_INET6, bytes, text, sizeof text), stdout);
+    else if (value->form == NPR_FORM_NAME)
+        print_text(npr_text(reader, value), value->length);
+    else if (value->form <= NPR_FORM_BOOL)
+        printf("%" PRIu64, value->integer);
     else
-        printf(" table %u", message.at[4]);
+        for (size_t i = 0; i < value->length; i++)
+            printf("%s%02x", i == 0 ? "" : ":", bytes[i]);
 }
 
-static void print_path(struct bytes message, size_t from) {
-    print_address("via", message, from, RTA_GATEWAY);
-    print_number("dev", message, from, RTA_OIF);
+/* Prints the first value of a number behind a word. Answers whether there is one. */
+static bool print(const char *word, struct npr_reader reader, uint16_t number) {
+    for (struct npr_value value; npr_next(&reader, &value);)
+        if (value.kind == number) {
+            printf(" %s ", word);
+            print_value(&reader, &value);
+            return true;
+        }
+    return false;
 }
 
-static void print_next_hops(struct bytes message) {
-    struct npr_step list = npr_find(message.at, message.length, 12, RTA_MULTIPATH);
-    if (list.status != NPR_FOUND)
+static bool print_prefix(const char *word, struct npr_reader reader, uint16_t number, unsigned bits) {
+    bool is_there = print(word, reader, number);
+    if (is_there)
+        printf("/%u", bits);
+    return is_there;
+}
+
+static void print_path(struct npr_reader reader) {
+    print("via", reader, RTA_GATEWAY);
+    print("dev", reader, RTA_OIF);
+}
+
+static void print_next_hops(struct npr_reader reader) {
+    for (struct npr_value value; npr_next(&reader, &value);) {
+        if (value.kind != RTA_MULTIPATH)
+            continue;
+        struct npr_next_hop hop = npr_first_hop(&reader, &value);
+        for (; hop.status == NPR_FOUND; hop = npr_hop_behind(&reader, &value, hop)) {
+            printf(" nexthop dev %u", (unsigned)hop.interface_index);
+            print("via", npr_enter_hop(&reader, &hop), RTA_GATEWAY);
+        }
         return;
-    size_t end = list.value + list.length;
-    for (struct npr_next_hop hop = npr_next_hop_at(message.at, end, list.value); hop.status == NPR_FOUND;
-         hop = npr_next_hop_at(message.at, end, hop.next)) {
-        printf(" nexthop dev %u", (unsigned)hop.interface_index);
-        print_address("via", (struct bytes){message.at, hop.end}, hop.attributes, RTA_GATEWAY);
     }
 }
 
-/* An address on the link, as `:` joins its bytes. */
-static void print_on_link(struct bytes message, size_t from, uint16_t number) {
-    struct bytes value;
-    if (!has(message, from, number, &value))
-        return;
-    for (size_t i = 0; i < value.length; i++)
-        printf("%s%02x", i == 0 ? " at " : ":", value.at[i]);
-}
-
-/* A name up to its zero, with `?` for what is no plain character. */
-static void print_name(const char *word, struct bytes message, size_t from, uint16_t number) {
-    struct bytes value;
-    if (!has(message, from, number, &value))
-        return;
-    printf(" %s ", word);
-    for (size_t i = 0; i < value.length && value.at[i] != 0; i++)
-        putchar(value.at[i] > ' ' && value.at[i] < 0x7f ? value.at[i] : '?');
+/* The kind of a link, from what its driver says. */
+static void print_driver(struct npr_reader reader) {
+    struct npr_reader inside;
+    for (struct npr_value value; npr_next(&reader, &value);)
+        if (value.kind == IFLA_LINKINFO && npr_enter(&reader, &value, &inside))
+            print("kind", inside, IFLA_INFO_KIND);
 }
 
 /* Flags of a link in the order of `ip`. */
@@ -161,46 +147,57 @@ static void print_flags(uint32_t flags) {
         }
 }
 
-static void print_link(struct bytes message) {
-    uint32_t index, flags;
-    memcpy(&index, message.at + 4, sizeof index);
-    memcpy(&flags, message.at + 8, sizeof flags);
-    print_name("is", message, 16, IFLA_IFNAME);
-    printf(" dev %u", (unsigned)index);
-    print_flags(flags);
-    print_number("mtu", message, 16, IFLA_MTU);
-    print_number("master", message, 16, IFLA_MASTER);
-    print_name("qdisc", message, 16, IFLA_QDISC);
-    print_on_link(message, 16, IFLA_ADDRESS);
+/* A number of the header. */
+static uint32_t number_at(const uint8_t *header, size_t at) {
+    uint32_t number;
+    memcpy(&number, header + at, sizeof number);
+    return number;
 }
 
-/* Prints a message that is one. */
-static void print_message(const struct kind *kind, struct bytes message) {
+static void print_link(const uint8_t *header, struct npr_reader reader) {
+    print("is", reader, IFLA_IFNAME);
+    printf(" dev %u", (unsigned)number_at(header, 4));
+    print_flags(number_at(header, 8));
+    print("mtu", reader, IFLA_MTU);
+    print("master", reader, IFLA_MASTER);
+    print("qdisc", reader, IFLA_QDISC);
+    print_driver(reader);
+    print("at", reader, IFLA_ADDRESS);
+}
+
+static void print_rule(const uint8_t *header, struct npr_reader reader) {
+    print("priority", reader, FRA_PRIORITY);
+    print_prefix("from", reader, FRA_SRC, header[2]);
+    print_prefix("to", reader, FRA_DST, header[1]);
+    if (!print("table", reader, FRA_TABLE))
+        printf(" table %u", header[4]);
+}
+
+static void print_route(const uint8_t *header, struct npr_reader reader) {
+    if (!print_prefix("to", reader, RTA_DST, header[1]))
+        printf(" default");
+    print_path(reader);
+    print_next_hops(reader);
+    if (!print("table", reader, RTA_TABLE))
+        printf(" table %u", header[4]);
+}
+
+/* Prints a message that is one: its header, and a reader of its attributes. */
+static void print_message(const struct kind *kind, const uint8_t *header, struct npr_reader reader) {
     if (kind->asked == RTM_GETADDR) {
-        uint32_t index;
-        memcpy(&index, message.at + 4, sizeof index);
-        print_prefix("is", message, 8, IFA_ADDRESS, message.at[1]);
-        print_address("local", message, 8, IFA_LOCAL);
-        printf(" dev %u", (unsigned)index);
+        print_prefix("is", reader, IFA_ADDRESS, header[1]);
+        print("local", reader, IFA_LOCAL);
+        printf(" dev %u", (unsigned)number_at(header, 4));
     } else if (kind->asked == RTM_GETROUTE) {
-        if (!print_prefix("to", message, 12, RTA_DST, message.at[1]))
-            printf(" default");
-        print_path(message, 12);
-        print_next_hops(message);
-        print_table(message, RTA_TABLE);
+        print_route(header, reader);
     } else if (kind->asked == RTM_GETNEIGH) {
-        int32_t index;
-        memcpy(&index, message.at + 4, sizeof index);
-        print_address("is", message, 12, NDA_DST);
-        print_on_link(message, 12, NDA_LLADDR);
-        printf(" dev %d", (int)index);
+        print("is", reader, NDA_DST);
+        print("at", reader, NDA_LLADDR);
+        printf(" dev %d", (int)number_at(header, 4));
     } else if (kind->asked == RTM_GETLINK) {
-        print_link(message);
+        print_link(header, reader);
     } else {
-        print_number("priority", message, 12, FRA_PRIORITY);
-        print_prefix("from", message, 12, FRA_SRC, message.at[2]);
-        print_prefix("to", message, 12, FRA_DST, message.at[1]);
-        print_table(message, FRA_TABLE);
+        print_rule(header, reader);
     }
 }
 
@@ -212,17 +209,17 @@ static const struct kind *kind_of(uint16_t type) {
     return NULL;
 }
 
-/* Prints a line for the payload of a message of this type. Answers whether it is what its type says. */
-static bool print_line(uint16_t type, struct bytes payload) {
+/* Prints a line for a message of this type. Answers whether it is what its type says. */
+static bool print_line(uint16_t type, const uint8_t *bytes, size_t length) {
     const struct kind *kind = kind_of(type);
     if (kind == NULL) {
-        printf("type %u, %zu bytes\n", type, payload.length);
+        printf("type %u, %zu bytes\n", type, length);
         return true;
     }
     printf("%s%s", type == kind->deleted ? "deleted " : "", kind->name);
-    struct npr_fault fault = kind->fault(payload.at, payload.length);
+    struct npr_fault fault = kind->fault(bytes, length);
     if (fault.number == 0)
-        print_message(kind, payload);
+        print_message(kind, bytes, npr_read(bytes, kind->begin(bytes, length)));
     else
         printf(" refused: %s, family %u, attribute %u, length %zu, at %zu", npr_refusal_text(fault.number),
                (unsigned)fault.family, fault.kind, fault.length, fault.offset);
@@ -232,48 +229,26 @@ static bool print_line(uint16_t type, struct bytes payload) {
 
 /* Datagrams */
 
-/* What a walk over datagrams has met. */
-struct walk {
-    /* The number of the request, or 0 where messages of any are printed. */
-    uint32_t sequence;
-    bool is_done, is_interrupted, is_refused;
-};
-
-/* The code of an error or of an end, which is 0 where nothing failed. */
-static int code_of(struct bytes payload) {
-    int code = 0;
-    if (payload.length >= sizeof code)
-        memcpy(&code, payload.at, sizeof code);
-    return code;
+/* Prints the messages of the answer that stand in a datagram. Answers how the datagram or the answer ends. */
+static struct npr_heard walk_over(struct npr_conversation *talk, const uint8_t *datagram, size_t length, bool *is_wrong) {
+    struct npr_heard heard = npr_hear(talk, datagram, length);
+    for (; heard.status == NPR_ANSWER || heard.status == NPR_FOREIGN; heard = npr_hear(talk, datagram, length))
+        if (heard.status == NPR_ANSWER)
+            *is_wrong |= !print_line(heard.message_type, datagram + heard.payload, heard.length);
+    return heard;
 }
 
-/* Goes over the messages of a datagram, and prints those that are asked for. */
-static void walk_over(struct walk *walk, struct bytes datagram) {
-    struct npr_message message = npr_message_at(datagram.at, datagram.length, 0);
-    for (; message.status == NPR_FOUND; message = npr_message_at(datagram.at, datagram.length, message.next)) {
-        struct bytes payload = {datagram.at + message.payload, message.length};
-        if (walk->sequence != 0 && message.sequence_number != walk->sequence)
-            continue;
-        walk->is_interrupted |= (message.flags & NLM_F_DUMP_INTR) != 0;
-        if (message.message_type == NLMSG_DONE || message.message_type == NLMSG_ERROR) {
-            walk->is_done = true;
-            if (code_of(payload) != 0)
-                fprintf(stderr, "refused by the kernel: %s\n", strerror(-code_of(payload)));
-            walk->is_refused |= code_of(payload) != 0;
-        } else {
-            walk->is_refused |= !print_line(message.message_type, payload);
-        }
-    }
-    if (message.status == NPR_FAULT) {
-        fprintf(stderr, "no datagram: %s\n", npr_refusal_text(message.number));
-        walk->is_refused = true;
-    }
-}
-
-static int ending_of(struct walk walk) {
-    if (walk.is_interrupted)
+/* How the program ends, by how the answer did. */
+static int ending_of(struct npr_heard heard, bool is_wrong) {
+    if (heard.ending == NPR_INTERRUPTED)
         fprintf(stderr, "the tables changed while they were read: ask again\n");
-    return walk.is_refused ? REFUSED : walk.is_interrupted ? INTERRUPTED : WELL;
+    if (heard.ending == NPR_REFUSED_REQUEST)
+        fprintf(stderr, "refused by the kernel: %s\n", strerror(-heard.code));
+    if (heard.ending >= NPR_OVERRUN)
+        fprintf(stderr, "no whole answer\n");
+    if (is_wrong || heard.ending == NPR_REFUSED_REQUEST || heard.ending >= NPR_OVERRUN)
+        return REFUSED;
+    return heard.ending == NPR_INTERRUPTED ? INTERRUPTED : WELL;
 }
 
 static int fail(const char *what) {
@@ -281,20 +256,27 @@ static int fail(const char *what) {
     return FAILED;
 }
 
-/* The whole of a file is taken for one datagram: each of a kernel's ends at a multiple of four. */
+/* A file holds the answers to one request or more. It is taken for one datagram: each of a kernel's ends at a multiple of four. */
 static int read_file(const char *path) {
     static uint8_t bytes[1 << 24];
     FILE *file = fopen(path, "rb");
     if (file == NULL)
         return fail(path);
     size_t length = fread(bytes, 1, sizeof bytes, file);
-    bool is_whole = !ferror(file) && length < sizeof bytes;
+    bool is_wrong = ferror(file) || length == sizeof bytes;
     fclose(file);
-    if (!is_whole)
+    if (is_wrong)
         return fail(path);
-    struct walk walk = {0, false, false, false};
-    walk_over(&walk, (struct bytes){bytes, length});
-    return ending_of(walk);
+    struct npr_conversation talk = {0, 0, 0, 0};
+    struct npr_heard heard;
+    int status;
+    do {
+        talk.sequence_number = npr_message_at(bytes, length, talk.at).sequence_number;
+        talk.interrupted = 0;
+        heard = walk_over(&talk, bytes, length, &is_wrong);
+        status = ending_of(heard, is_wrong);
+    } while (status == WELL && heard.next != 0 && heard.next < length);
+    return status;
 }
 
 /* Asks for a table: a request to dump, behind an envelope of 16 bytes, with a header of zeros but for the family.
@@ -317,8 +299,10 @@ static int request(int socket, const struct kind *kind, uint8_t family, uint32_t
 /* Reads the answer to its end, and writes its datagrams to the file, if there is one. */
 static int read_answer(int socket, uint32_t sequence, FILE *file) {
     static uint8_t bytes[1 << 16];
-    struct walk walk = {sequence, false, false, false};
-    while (!walk.is_done) {
+    struct npr_conversation talk = {sequence, 0, 0, 0};
+    struct npr_heard heard = {.status = NPR_NO_MORE};
+    bool is_wrong = false;
+    while (heard.status == NPR_NO_MORE) {
         ssize_t length = recv(socket, bytes, sizeof bytes, MSG_TRUNC);
         if (length < 0 && errno == EINTR)
             continue;
@@ -326,9 +310,10 @@ static int read_answer(int socket, uint32_t sequence, FILE *file) {
             return fail("read");
         if (file != NULL && fwrite(bytes, 1, (size_t)length, file) != (size_t)length)
             return fail("write");
-        walk_over(&walk, (struct bytes){bytes, (size_t)length});
+        talk.at = 0;
+        heard = walk_over(&talk, bytes, (size_t)length, &is_wrong);
     }
-    return ending_of(walk);
+    return ending_of(heard, is_wrong);
 }
 
 static int dump(const struct kind *kind, uint8_t family, const char *path) {

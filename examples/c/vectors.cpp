@@ -14,14 +14,14 @@ static const std::uint8_t *place_of(const Bytes &bytes) {
     return bytes.empty() ? &none : bytes.data();
 }
 
-// A call for canonical bytes, and how many bytes the header of its messages has.
+// The calls of a kind: for canonical bytes, and for its attributes.
 struct Kind {
     decltype(&npr_route_canonical) canonical;
-    std::size_t header;
+    decltype(&npr_route_begin) begin;
 };
 
-static const Kind ROUTES = {npr_route_canonical, 12};
-static const Kind LINKS = {npr_link_canonical, 16};
+static const Kind ROUTES = {npr_route_canonical, npr_route_begin};
+static const Kind LINKS = {npr_link_canonical, npr_link_begin};
 
 // The canonical bytes of a message, or the name of what is wrong.
 static std::optional<Bytes> canonical(const Kind &kind, const Bytes &bytes, const char *&name) {
@@ -39,8 +39,9 @@ static std::optional<Bytes> canonical(const Kind &kind, const Bytes &bytes, cons
 // How many attributes stand behind the header.
 static std::size_t count_of(const Kind &kind, const Bytes &bytes) {
     std::size_t count = 0;
-    for (npr_step step = npr_step_at(place_of(bytes), bytes.size(), kind.header); step.status == NPR_FOUND; count++)
-        step = npr_step_at(place_of(bytes), bytes.size(), step.next);
+    npr_reader reader = npr_read(place_of(bytes), kind.begin(place_of(bytes), bytes.size()));
+    for (npr_value value; npr_next(&reader, &value);)
+        count++;
     return count;
 }
 

@@ -2,14 +2,15 @@
 
     for message in npr.messages(datagram):
         if message.kind == "route":
-            for attribute in npr.attributes(message):
-                print(attribute.number, attribute.value.hex())
+            for it in npr.values(message):
+                print(it.family, it.number, it.value)
 
 Bytes that are no message raise a `Fault`, which has its place.
 """
 
 import ctypes
-from ctypes import c_char_p as data, c_size_t as size, c_uint16 as u16, c_uint32 as u32
+import ipaddress
+from ctypes import c_char_p as data, c_size_t as size, c_uint8 as u8, c_uint16 as u16, c_uint32 as u32, c_uint64 as u64
 from typing import NamedTuple
 
 LIBRARY = ctypes.CDLL("libnetlink_packet_route.so.0")
@@ -30,10 +31,17 @@ def function(name, gives, *takes):
 ANSWER = structure(status=u32, number=u32, length=size)
 TOLD = structure(number=u32, family=u32, kind=u16, detail=u16, length=size, limit=size, offset=size)
 STEP = structure(status=u32, number=u32, value=size, length=size, next=size, kind=u16)
+VALUE = structure(status=u32, number=u32, family=u32, kind=u16, form=u16, integer=u64, value=size, length=size, next=size)
+LIST = structure(status=u32, number=u32, family=u32, context=u32, at=size, end=size)
+HOP = structure(status=u32, number=u32, interface_index=u32, flags=u8, hops=u8, attributes=size, end=size, next=size)
 ENVELOPE = structure(status=u32, number=u32, type=u16, flags=u16, sequence_number=u32, port_number=u32, payload=size, length=size, next=size)
 
 message_at = function("npr_message_at", ENVELOPE, data, size, size)
 step_at = function("npr_step_at", STEP, data, size, size)
+value_at = function("npr_value_at", VALUE, data, size, size, u32, u32)
+inside_at = function("npr_inside_at", LIST, data, size, size, u32, u32)
+hop_at = function("npr_next_hop_at", HOP, data, size, size)
+hop_inside = function("npr_hop_inside", LIST, data, size, size, u32, u32)
 refusal_name = function("npr_refusal_name", size, u32, data, size)
 cause_name = function("npr_cause_name", size, u32, data, size)
 
@@ -45,6 +53,7 @@ class Kind(NamedTuple):
     header: int
     canonical: object
     fault: object
+    begin: object
 
 
 ROWS = {
@@ -56,7 +65,12 @@ ROWS = {
 }
 # those that the library has
 KINDS = {
-    name: Kind(*row, function(f"npr_{name}_canonical", ANSWER, data, size, data, size), function(f"npr_{name}_fault", TOLD, data, size))
+    name: Kind(
+        *row,
+        function(f"npr_{name}_canonical", ANSWER, data, size, data, size),
+        function(f"npr_{name}_fault", TOLD, data, size),
+        function(f"npr_{name}_begin", LIST, data, size),
+    )
     for name, row in ROWS.items() if hasattr(LIBRARY, f"npr_{name}_fault")
 }
 
@@ -98,6 +112,38 @@ class Attribute(NamedTuple):
         return self.kind & 0x3FFF
 
 
+class Value(NamedTuple):
+    """A value of an attribute: the number of its family (`enum npr_family`), in which its own number is to be understood, and an
+    int, a bool, an address, a str, bytes, None, a list of values, or a list of next hops."""
+
+    family: int
+    number: int
+    value: object
+
+
+class NextHop(NamedTuple):
+    """A next hop of a route: its interface, RTNH_F_*, its weight less one, and its values."""
+
+    interface_index: int
+    flags: int
+    hops: int
+    values: list
+
+
+# the family of a route's attributes, and the number of its next hops
+ROUTE, MULTIPATH = 3, 9
+# what a value is by its form, of its number and its bytes
+FORMS = {
+    0: lambda integer, given: None,
+    **dict.fromkeys(range(1, 5), lambda integer, given: integer),
+    5: lambda integer, given: integer - (integer >> 63 << 64),
+    6: lambda integer, given: integer != 0,
+    7: lambda integer, given: ipaddress.ip_address(given),
+    8: lambda integer, given: given.decode(),
+    **dict.fromkeys(range(9, 12), lambda integer, given: given),
+}
+
+
 def messages(datagram):
     """The messages of a datagram, or of a dump's datagrams one behind the other."""
     at = 0
@@ -117,6 +163,43 @@ def attributes(of):
         at = step.next
     if step.status == FAULT:
         raise Fault(step.number, at)
+
+
+def values(message):
+    """The values of a message that is one, with those of the lists that stand in them."""
+    return read(message.payload, checked(message).begin(message.payload, len(message.payload)))
+
+
+def read(given, of):
+    """The values of a list in these bytes."""
+    found, at = [], of.at
+    while (step := value_at(given, of.end, at, of.family, of.context)).status == FOUND:
+        found.append(Value(step.family, step.kind, inside(given, of, at, step)))
+        at = step.next
+    if step.status == FAULT:
+        raise Fault(step.number, at)
+    return found
+
+
+def inside(given, of, at, step):
+    """What a value is: the list that stands in it, or its next hops, if it has either."""
+    entered = inside_at(given, of.end, at, of.family, of.context)
+    if entered.status == FOUND:
+        return read(given, entered)
+    end = step.value + step.length
+    if (step.family, step.kind) == (ROUTE, MULTIPATH):
+        return list(next_hops(given, of, step.value, end))
+    return FORMS[step.form](step.integer, given[step.value : end])
+
+
+def next_hops(given, of, at, end):
+    """The next hops that stand between two places, in a list."""
+    while (hop := hop_at(given, end, at)).status == FOUND:
+        entered = hop_inside(given, hop.end, hop.attributes, of.family, of.context)
+        yield NextHop(hop.interface_index, hop.flags, hop.hops, read(given, entered))
+        at = hop.next
+    if hop.status == FAULT:
+        raise Fault(hop.number, at)
 
 
 def canonical(message):

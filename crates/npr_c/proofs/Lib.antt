@@ -4,3 +4,7 @@ mod Places
 mod Searches
 mod Stopping
 mod Located
+mod LevelLaws
+mod ValuePlaces
+mod ValueSteps
+mod Hearing

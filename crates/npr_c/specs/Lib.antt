@@ -1,9 +1,12 @@
 pub mod Answers
 pub mod Envelopes
 pub mod Faults
+pub mod Hearing
+pub mod Levels
 pub mod Names
 pub mod NextHops
 pub mod Numbers
 pub mod Steps
 pub mod Stops
 pub mod StopsLaws
+pub mod Values

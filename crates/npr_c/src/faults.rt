@@ -63,7 +63,7 @@ const NO_FAULT: Fault = Fault {
 };
 
 /// The number of a family of attributes.
-fn family_number(family: AttrFamily) -> u32
+pub fn family_number(family: AttrFamily) -> u32
     ensures { result ≡ family_number family }
 {
     match family {

@@ -1,10 +1,13 @@
-//! What faults tell, over their definitions alone. Each function does nothing, and its contract is
-//! the law.
+//! What faults and levels tell, over their definitions alone. Each function does nothing, and its
+//! contract is the law.
 
 ghost use Rattle.std.specs.Prelude.{◌≡◌, ℕ, List};
 ghost use Rattle.{
-  netlink_packet_route.specs.declared.framing.DecodeError.{DecodeError},
-  npr_c.specs.{Faults.{located}, Stops.{AddressStandsAt, LinkStandsAt, NeighbourStandsAt, RouteStandsAt, RuleStandsAt}},
+  netlink_packet_route.specs.{
+    Levels.{FromBytes},
+    declared.{framing.DecodeError.{DecodeError}, levels.Level.{Level}},
+  },
+  npr_c.specs.{Faults.{located}, Levels.{level_context, level_family, level_of}, Stops.{AddressStandsAt, LinkStandsAt, NeighbourStandsAt, RouteStandsAt, RuleStandsAt}},
 };
 
 /// The first fault of a message stands at one place.
@@ -19,4 +22,9 @@ pub fn law_places()
 /// Two refusals that are told alike are one.
 pub fn law_located()
     ensures { (d e : DecodeError) (j k : ℕ) → located d j ≡ located e k → d ≡ e }
+{}
+
+/// A level comes back from the two numbers that tell it, if its own are of bytes.
+pub fn law_levels()
+    ensures { (level : Level) → FromBytes level → level_of (level_family level) (level_context level) ≡ level }
 {}

@@ -1,17 +1,21 @@
 //! The library for C: canonical bytes of messages, whether bytes are a message and what is wrong with
-//! them, the names of that, and steps over the messages of a datagram, over attributes and over next
-//! hops. No call keeps anything of what it is given, and none ends the process, but where a thread has
-//! too little stack for a message's levels of next hops (`NPR_STACK` in the header).
+//! them, the names of that, and steps over the messages of a datagram and of an answer, over attributes,
+//! over values and the lists in them, and over next hops. No call keeps anything of what it is given,
+//! and none ends the process, but where a thread has too little stack for a message's levels of next
+//! hops (`NPR_STACK` in the header).
 //!
 //! A slice is a pointer and then a length in C, and an allocator is nothing there.
 #![tactic(auto)]
 
 mod answer;
 mod canonical;
+mod conversation;
 mod envelopes;
 mod faults;
 pub mod laws;
+mod levels;
 mod names;
 mod next_hops;
 mod placing;
 mod steps;
+mod values;

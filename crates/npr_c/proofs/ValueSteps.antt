@@ -1,0 +1,181 @@
+-- A value that stands at a place, and the lists that values and messages hold.
+use Rattle.std.proofs.Common.{◌≡◌, ℕ, ◌+◌, ◌-◌, ◌<◌, ◌≤◌, List, ◌++◌, length, take, drop, false, refl, sym, ap, subst, ◌∙◌, inl, inr}
+use Rattle.std.proofs.Common.{arith, length-drop}
+use Rattle.std.proofs.lemmas.List.{drop-drop, drop-take, take-append-drop, take_all}
+use Rattle.netlink_packet_route.specs.Framing.{Item, Front, number_of}
+use Rattle.netlink_packet_route.specs.FrontLaws.{Front-same}
+use Rattle.netlink_packet_route.specs.Levels.{reading_at, header_size, Begins, FromBytes, IsInside, OfNextHop, holds_list}
+use Rattle.netlink_packet_route.specs.Value.{Shown}
+use Rattle.netlink_packet_route.specs.Values.{Seen}
+use Rattle.netlink_packet_route.specs.declared.framing.At.{At}
+use Rattle.netlink_packet_route.specs.declared.kind.MessageKind.{MessageKind}
+use Rattle.netlink_packet_route.specs.declared.kind.MessageKind.TheVariants.{Address, Link, Neighbour, Route, Rule}
+use Rattle.netlink_packet_route.specs.declared.levels.Level.{Level}
+use Rattle.npr_c.proofs.LevelLaws.{level_back}
+use Rattle.npr_c.proofs.Places.{found_in, rest_is, step_over}
+use Rattle.npr_c.proofs.ValuePlaces.{stands_there}
+use Rattle.npr_c.specs.Faults.{family_number}
+use Rattle.npr_c.specs.Levels.{level_context, level_family}
+use Rattle.npr_c.specs.Steps.{FoundAt, item_of}
+use Rattle.npr_c.specs.Values.{BeginsAt, HopInside, InsideAt, ListFound, ValueFound, form_number, integer_of, length_of, no_list}
+use Rattle.npr_c.specs.declared.steps.Step.{Step}
+use Rattle.npr_c.specs.declared.values.ListStep.{ListStep}
+use Rattle.npr_c.specs.declared.values.ValueStep.{ValueStep}
+
+-- ---- values
+
+abbrev pub value_over : List ℕ → ℕ → ℕ → At → Shown → List ℕ → ValueStep
+value_over bytes at kind place s left = record {
+  status = 0;
+  number = 0;
+  family = family_number place.family;
+  kind = kind;
+  form = form_number s;
+  integer = integer_of s;
+  value = at + 4;
+  length = length_of s;
+  next = length bytes - length left;
+}
+
+-- what stands at a place is one attribute
+item_is : (bytes : List ℕ) (at : ℕ) (x : Item) (rest : List ℕ) (step : Step) → FoundAt bytes at step → Front (drop at bytes) x rest → x ≡ item_of bytes step
+item_is bytes at x rest step found f = (Front-same (drop at bytes) x (item_of bytes step) rest (drop step.next bytes) f found.front).0
+
+pub value_found : (bytes inside left : List ℕ) (at kind : ℕ) (level : Level) (x : Item) (rest : List ℕ) (place : At) (s : Shown) → at < length bytes
+    → inside ≡ drop at bytes → Front inside x rest → left ≡ rest → kind ≡ number_of x.kind
+    → place ≡ ((reading_at level).reading.seeing.form_at (number_of x.kind)).0 → Seen (reading_at level).reading x s
+    → ValueFound bytes at level (value_over bytes at kind place s left)
+value_found bytes inside left at kind level x rest place s within same f l k p seen =
+    let step : Step = step_over bytes at x.kind x.value left in
+    let found : FoundAt bytes at step = found_in bytes inside x.value left at x.kind x rest within same f refl l refl in
+    let is : x ≡ item_of bytes step = item_is bytes at x rest step found (subst (λ (w : List ℕ). Front w x rest) same f) in
+    let there : Seen (reading_at level).reading (item_of bytes step) s = subst (λ (y : Item). Seen (reading_at level).reading y s) is seen in
+    record {
+      step = step;
+      stands = found;
+      status = refl;
+      number = refl;
+      kind = k;
+      family = ap (λ (a : At). family_number a.family) p;
+      value = refl;
+      next = refl;
+      shown = s;
+      seen = there;
+      form = refl;
+      integer = refl;
+      length = refl;
+      bytes = stands_there bytes (at + 4) (length x.value) ((reading_at level).reading.seeing.form_at (number_of x.kind)).1 s there;
+    }
+
+-- ---- lists
+
+abbrev pub list_over : Level → ℕ → ℕ → ListStep
+list_over level at end =
+    record { status = 0; number = 0; family = level_family level; context = level_context level; at = at; end = end }
+
+list_found : (bytes : List ℕ) (level : Level) (at end : ℕ) (Of : Level → List ℕ → Type 0) → at ≤ end → end ≤ length bytes → FromBytes level
+    → Of level (drop at (take end bytes)) → ListFound bytes (list_over level at end) Of
+list_found bytes level at end Of order within from of = record {
+  status = refl;
+  number = refl;
+  order = order;
+  within = within;
+  of = subst (λ (l : Level). Of l (drop at (take end bytes))) (sym (level_back level from)) of;
+}
+
+-- ---- of a message
+
+behind_header : (kind : MessageKind) (bytes : List ℕ) (level : Level) (rest : List ℕ) → Begins kind bytes level rest → rest ≡ drop (header_size kind) bytes
+behind_header Address bytes level rest (h, reads, is, same) = is
+behind_header Rule bytes level rest (h, reads, is, same) = is
+behind_header Route bytes level rest (h, reads, is, governs) = is
+behind_header Neighbour bytes level rest (h, reads, is, same) = is
+behind_header Link bytes level rest (h, reads, is, same) = is
+
+pub behind_short : (kind : MessageKind) (bytes : List ℕ) (level : Level) (rest : List ℕ) → Begins kind bytes level rest → length rest ≤ length bytes
+behind_short kind bytes level rest begins =
+    omega (arith, ap length (behind_header kind bytes level rest begins), length-drop (header_size kind) bytes)
+
+pub begin_found : (kind : MessageKind) (bytes : List ℕ) (level : Level) (rest : List ℕ) → Begins kind bytes level rest → FromBytes level
+    → BeginsAt kind bytes (list_over level (length bytes - length rest) (length bytes))
+begin_found kind bytes level rest begins from =
+    let n : ℕ = header_size kind in
+    let is : rest ≡ drop n bytes = behind_header kind bytes level rest begins in
+    let split : bytes ≡ take n bytes ++ rest = sym (take-append-drop n bytes) ∙ ap (λ (w : List ℕ). take n bytes ++ w) (sym is) in
+    let all : take (length bytes) bytes ≡ bytes = take_all (length bytes) bytes (omega arith) in
+    let there : drop (length bytes - length rest) (take (length bytes) bytes) ≡ rest =
+    ap (drop (length bytes - length rest)) all ∙ rest_is bytes (take n bytes) rest split in
+    inr (list_found bytes level (length bytes - length rest) (length bytes) (Begins kind bytes) (omega arith) (omega arith) from
+    (subst (λ (w : List ℕ). Begins kind bytes level w) (sym there) begins))
+
+-- ---- inside a value
+
+pub nothing_inside : (bytes inside value : List ℕ) (at number : ℕ) (outer : Level) (x : Item) (rest : List ℕ) → inside ≡ drop at bytes
+    → Front inside x rest → number ≡ number_of x.kind → value ≡ x.value → holds_list outer number value ≡ false → InsideAt bytes at outer (no_list 2 0)
+nothing_inside bytes inside value at number outer x rest same f k v none =
+    let front : Front (drop at bytes) x rest = subst (λ (w : List ℕ). Front w x rest) same f in
+    let of_item : holds_list outer (number_of x.kind) x.value ≡ false = sym (λ i. holds_list outer (k i) (v i)) ∙ none in
+    inl (
+      refl,
+      λ step found.
+          subst (λ (y : Item). holds_list outer (number_of y.kind) y.value ≡ false) (item_is bytes at x rest step found front) of_item,
+    )
+
+module _ (bytes : List ℕ) (at : ℕ) (outer inner : Level) (x : Item) (rest attributes : List ℕ) (within : at < length bytes)
+    (f : Front (drop at bytes) x rest) (from : FromBytes inner) (holds : IsInside outer (number_of x.kind) x.value inner attributes) where
+  abbrev front : ℕ
+  front = holds.0
+
+  abbrev size : ℕ
+  size = length x.value
+
+  abbrev step : Step
+  step = step_over bytes at x.kind x.value rest
+
+  found : FoundAt bytes at step
+  found = found_in bytes (drop at bytes) x.value rest at x.kind x rest within refl f refl refl refl
+
+  is : x ≡ item_of bytes step
+  is = item_is bytes at x rest step found f
+
+  counted : length attributes ≡ size - front
+  counted = ap length holds.1 ∙ length-drop front x.value
+
+  -- the attributes are the end of the value
+  there : drop (at + 4 + size - length attributes) (take (at + 4 + size) bytes) ≡ attributes
+  there =
+      let place : at + 4 + size - length attributes ≡ at + 4 + front = omega (arith, counted, holds.2.long) in
+      ap (λ (n : ℕ). drop n (take (at + 4 + size) bytes)) place ∙ sym (drop-drop front (at + 4) (take (at + 4 + size) bytes))
+      ∙ ap (drop front) (drop-take (at + 4) size bytes ∙ sym (ap (λ (y : Item). y.value) is)) ∙ sym holds.1
+
+  inside_same : InsideAt bytes at outer (list_over inner (at + 4 + size - length attributes) (at + 4 + size))
+  inside_same =
+      let last : at + 4 + size ≤ length bytes = omega (arith, found.within, found.end) in
+      let held : IsInside outer (number_of step.kind) (item_of bytes step).value inner attributes =
+      subst (λ (y : Item). IsInside outer (number_of y.kind) y.value inner attributes) is holds in
+      inr (
+        step,
+        found,
+        list_found bytes inner (at + 4 + size - length attributes) (at + 4 + size)
+            (λ l w. IsInside outer (number_of step.kind) (item_of bytes step).value l w) (omega arith) last from
+            (subst (λ (w : List ℕ). IsInside outer (number_of step.kind) (item_of bytes step).value inner w) (sym there) held),
+      )
+
+pub inside_found : (bytes inside value attributes : List ℕ) (at number count : ℕ) (outer inner : Level) (x : Item) (rest : List ℕ) → at < length bytes
+    → inside ≡ drop at bytes → Front inside x rest → number ≡ number_of x.kind → value ≡ x.value → count ≡ length value → FromBytes inner
+    → IsInside outer number value inner attributes → InsideAt bytes at outer (list_over inner (at + 4 + count - length attributes) (at + 4 + count))
+inside_found bytes inside value attributes at number count outer inner x rest within same f k v n from holds =
+    let front : Front (drop at bytes) x rest = subst (λ (w : List ℕ). Front w x rest) same f in
+    let held : IsInside outer (number_of x.kind) x.value inner attributes =
+    subst (λ (m : ℕ). IsInside outer m x.value inner attributes) k (subst (λ (w : List ℕ). IsInside outer number w inner attributes) v holds) in
+    subst (λ (m : ℕ). InsideAt bytes at outer (list_over inner (at + 4 + m - length attributes) (at + 4 + m))) (sym (n ∙ ap length v))
+    (inside_same bytes at outer inner x rest attributes within front from held)
+
+-- ---- of a next hop
+
+pub hop_list : (bytes inside : List ℕ) (at : ℕ) (outer inner : Level) → at ≤ length bytes → inside ≡ drop at bytes → FromBytes inner
+    → OfNextHop outer inside inner → HopInside bytes at outer (list_over inner at (length bytes))
+hop_list bytes inside at outer inner within same from of =
+    let there : drop at (take (length bytes) bytes) ≡ drop at bytes = ap (drop at) (take_all (length bytes) bytes (omega arith)) in
+    let held : OfNextHop outer (drop at (take (length bytes) bytes)) inner = subst (λ (w : List ℕ). OfNextHop outer w inner) (same ∙ sym there) of in
+    inr (list_found bytes inner at (length bytes) (λ l w. (w ≡ drop at bytes) × OfNextHop outer w l) within (omega arith) from (there, held))

@@ -1,0 +1,176 @@
+//! Levels of lists as two numbers, which C gives back as it got them.
+
+ghost use Rattle.std.specs.Prelude.{◌≡◌, ◌%◌};
+ghost use Rattle.netlink_packet_route.specs.AddressFamily.{families};
+ghost use Rattle.npr_c.specs.Levels.{
+  encap_family,
+  form_number,
+  form_of,
+  level_context,
+  level_family,
+  level_of,
+  port_form_number,
+  port_form_of,
+};
+
+use netlink_packet_route::link::{InfoForm, InfoPortForm};
+use netlink_packet_route::route::{RouteLwEnCapType, RouteType};
+use netlink_packet_route::{AddressFamily, Level, numbers};
+
+/// The family of the members of an encapsulation, or 0 where it has none.
+fn encap_family(encap_type: RouteLwEnCapType) -> u32
+    ensures { result ≡ encap_family encap_type }
+{
+    match encap_type {
+        RouteLwEnCapType::Mpls => 5,
+        RouteLwEnCapType::Ip => 6,
+        RouteLwEnCapType::Ip6 => 7,
+        RouteLwEnCapType::Xfrm => 8,
+        RouteLwEnCapType::Seg6 => 13,
+        RouteLwEnCapType::Seg6Local => 14,
+        RouteLwEnCapType::Rpl => 15,
+        RouteLwEnCapType::Ioam6 => 16,
+        _ => 0,
+    }
+}
+
+/// The number of the family of attributes at a level.
+pub fn level_family(level: Level) -> u32
+    ensures { result ≡ level_family level }
+{
+    match level {
+        Level::Address => 1,
+        Level::Rule => 2,
+        Level::Route(_, _, _) => 3,
+        Level::Metric => 4,
+        Level::Encap(encap_type) => encap_family(encap_type),
+        Level::Opt => 9,
+        Level::Vxlan => 11,
+        Level::Erspan => 12,
+        Level::Neighbour(_) => 17,
+        Level::Link(_) => 18,
+        Level::LinkInfo(_, _) => 19,
+        Level::LinkXdp => 20,
+        Level::Prop => 21,
+        Level::LinkProtocolDownReason => 22,
+        Level::AfSpecUnspec => 23,
+        Level::AfSpecInet => 24,
+        Level::AfSpecInet6 => 25,
+        Level::InfoBridge => 26,
+        Level::BridgeQuerierState => 27,
+        Level::InfoBridgePort => 28,
+        Level::InfoVlan => 29,
+        Level::VlanQosMapping => 30,
+        Level::InfoVrf => 31,
+        Level::InfoVeth => 32,
+        Level::Peer => 33,
+    }
+}
+
+fn code_of(form: InfoForm) -> u32
+    ensures { result ≡ form_number form }
+{
+    match form {
+        InfoForm::Kept => 0,
+        InfoForm::Bridge => 1,
+        InfoForm::Vlan => 2,
+        InfoForm::Veth => 3,
+        InfoForm::Vrf => 4,
+    }
+}
+
+fn form_of(number: u32) -> InfoForm
+    ensures { result ≡ form_of number }
+{
+    match number {
+        1 => InfoForm::Bridge,
+        2 => InfoForm::Vlan,
+        3 => InfoForm::Veth,
+        4 => InfoForm::Vrf,
+        _ => InfoForm::Kept,
+    }
+}
+
+fn port_code_of(form: InfoPortForm) -> u32
+    ensures { result ≡ port_form_number form }
+{
+    match form {
+        InfoPortForm::Kept => 0,
+        InfoPortForm::Bridge => 1,
+        InfoPortForm::Vrf => 2,
+    }
+}
+
+fn port_form_of(number: u32) -> InfoPortForm
+    ensures { result ≡ port_form_of number }
+{
+    match number {
+        1 => InfoPortForm::Bridge,
+        2 => InfoPortForm::Vrf,
+        _ => InfoPortForm::Kept,
+    }
+}
+
+/// What a level tells besides its family.
+pub fn level_context(level: Level) -> u32
+    ensures { result ≡ level_context level }
+{
+    match level {
+        Level::Route(family, kind, encap_type) => {
+            let family_number = u32::from(numbers::address_family(family));
+            let type_number = u32::from(numbers::route_type(kind));
+            let encap_number = u32::from(numbers::encap_type(encap_type));
+            family_number + 256 * type_number + 65536 * encap_number
+        }
+        Level::Neighbour(family) | Level::Link(family) => {
+            u32::from(numbers::address_family(family))
+        }
+        Level::Encap(encap_type) => u32::from(numbers::encap_type(encap_type)),
+        Level::LinkInfo(link, port) => code_of(link) + 256 * port_code_of(port),
+        _ => 0,
+    }
+}
+
+/// The family in the lowest byte.
+fn family_in(context: u32) -> AddressFamily
+    ensures { result ≡ families.of (context % 256) }
+{
+    AddressFamily::from((context % 256) as u8)
+}
+
+/// The level of a family's number, and of what it tells besides.
+pub fn level_of(family: u32, context: u32) -> Level
+    ensures { result ≡ level_of family context }
+{
+    match family {
+        1 => Level::Address,
+        2 => Level::Rule,
+        3 => Level::Route(
+            family_in(context),
+            RouteType::from((context / 256 % 256) as u8),
+            RouteLwEnCapType::from((context / 65536) as u16),
+        ),
+        4 => Level::Metric,
+        9 => Level::Opt,
+        11 => Level::Vxlan,
+        12 => Level::Erspan,
+        17 => Level::Neighbour(family_in(context)),
+        18 => Level::Link(family_in(context)),
+        19 => Level::LinkInfo(form_of(context % 256), port_form_of(context / 256 % 256)),
+        20 => Level::LinkXdp,
+        21 => Level::Prop,
+        22 => Level::LinkProtocolDownReason,
+        23 => Level::AfSpecUnspec,
+        24 => Level::AfSpecInet,
+        25 => Level::AfSpecInet6,
+        26 => Level::InfoBridge,
+        27 => Level::BridgeQuerierState,
+        28 => Level::InfoBridgePort,
+        29 => Level::InfoVlan,
+        30 => Level::VlanQosMapping,
+        31 => Level::InfoVrf,
+        32 => Level::InfoVeth,
+        33 => Level::Peer,
+        _ => Level::Encap(RouteLwEnCapType::from((context % 65536) as u16)),
+    }
+}

@@ -1,0 +1,264 @@
+//! Values of attributes, one by one where they stand, and the lists that they hold. No call takes
+//! memory.
+
+ghost use Rattle.std.specs.Prelude.{◌≡◌};
+ghost use Rattle.{
+  netlink_packet_route.specs.{Value.{shown}, declared.kind.MessageKind.TheVariants.{Address, Link, Neighbour, Route, Rule}},
+  npr_c.specs.{
+    Levels.{level_context, level_family, level_of},
+    Numbers.{refusal_number},
+    Values.{BeginsAt, HopInside, InsideAt, ValuesAt, form_number, integer_of, length_of, no_value},
+  },
+};
+
+use crate::answer::refusal_number;
+use crate::faults::family_number;
+use crate::levels::{level_context, level_family, level_of};
+use netlink_packet_route::framing::{DecodeError, NLA_HEADER_SIZE, NlasIterator, Value};
+use netlink_packet_route::net::IpAddr;
+use netlink_packet_route::{Level, MessageKind};
+
+/// What a step over values answers.
+///
+/// Layout: three numbers of 4 bytes, two of 2 bytes, one of 8 bytes, and three of the machine's word,
+/// in this order.
+#[repr(C)]
+#[derive(Clone, Copy)]
+pub struct ValueStep {
+    /// 0 where a value is found, 1 where none stands or it is wrong, 2 at the end of the bytes.
+    pub status: u32,
+    /// The number of the refusal at status 1, and else 0.
+    pub number: u32,
+    /// The number of the attribute's family; 0 unless the status is 0.
+    pub family: u32,
+    /// The attribute's number there, without the two flags; 0 unless the status is 0.
+    pub kind: u16,
+    /// What the value is; 0 unless the status is 0.
+    pub form: u16,
+    /// A number, in the order of the machine, and else 0.
+    pub integer: u64,
+    /// Where the value begins, in bytes from the first; 0 unless the status is 0.
+    pub value: usize,
+    /// How many bytes of it there are, of a name without its zero; 0 unless the status is 0.
+    pub length: usize,
+    /// Where the next attribute begins, in bytes from the first, or how many bytes there are; 0 unless
+    /// the status is 0.
+    pub next: usize,
+}
+
+/// What a call for a list answers.
+///
+/// Layout: four numbers of 4 bytes, and two of the machine's word, in this order.
+#[repr(C)]
+#[derive(Clone, Copy)]
+pub struct ListStep {
+    /// 0 where a list is found, 1 where the bytes are fewer than a header, 2 where none stands.
+    pub status: u32,
+    /// The number of the refusal at status 1, and else 0.
+    pub number: u32,
+    /// The number of the family of its attributes; 0 unless the status is 0.
+    pub family: u32,
+    /// What their numbers rest on besides; 0 unless the status is 0.
+    pub context: u32,
+    /// Where the list begins, in bytes from the first; 0 unless the status is 0.
+    pub at: usize,
+    /// Where it ends, in bytes from the first; 0 unless the status is 0.
+    pub end: usize,
+}
+
+const NO_VALUE: ValueStep = ValueStep {
+    status: 0,
+    number: 0,
+    family: 0,
+    kind: 0,
+    form: 0,
+    integer: 0,
+    value: 0,
+    length: 0,
+    next: 0,
+};
+
+const END_OF_VALUES: ValueStep = ValueStep {
+    status: 2,
+    ..NO_VALUE
+};
+
+const NO_LIST: ListStep = ListStep {
+    status: 2,
+    number: 0,
+    family: 0,
+    context: 0,
+    at: 0,
+    end: 0,
+};
+
+/// A value without its place: its form, its number, and its length.
+type Told = (u16, u64, usize);
+
+/// What is told of a value.
+fn told(value: &Value<'_>) -> Told
+    ensures { result ≡ (form_number (shown value.now), integer_of (shown value.now), length_of (shown value.now)) }
+{
+    match value {
+        Value::Nothing => (0, 0, 0),
+        Value::U8(n) => (1, u64::from(*n), 1),
+        Value::U16(n) => (2, u64::from(*n), 2),
+        Value::U32(n) => (3, u64::from(*n), 4),
+        Value::U64(n) => (4, *n, 8),
+        Value::I32(n) => (5, i64::from(*n).cast_unsigned(), 4),
+        Value::Bool(b) => (6, u64::from(*b), 1),
+        Value::Address(IpAddr::V4(address)) => (7, 0, address.octets().len()),
+        Value::Address(IpAddr::V6(address)) => (7, 0, address.octets().len()),
+        Value::Name(text) => (8, 0, text.len()),
+        Value::Bytes(bytes) => (9, 0, bytes.len()),
+        Value::Structure(bytes) => (10, 0, bytes.len()),
+        Value::Inside(bytes) => (11, 0, bytes.len()),
+    }
+}
+
+/// A refusal in place of a value.
+fn refused(fault: DecodeError) -> ValueStep
+    ensures { result ≡ no_value 1 (refusal_number fault) }
+{
+    ValueStep {
+        status: 1,
+        number: refusal_number(fault),
+        ..NO_VALUE
+    }
+}
+
+/// The value of the attribute that begins `at` bytes from the first of a list at this level, or why
+/// there is none. At the length of the bytes, and past it, is their end. It takes no memory.
+#[unsafe(no_mangle)]
+pub extern "C" fn npr_value_at(bytes: &[u8], at: usize, family: u32, context: u32) -> ValueStep
+    ensures { ValuesAt bytes.now at (level_of family context) result }
+{
+    if at >= bytes.len() {
+        return END_OF_VALUES;
+    }
+    let mut walk = NlasIterator::new(&bytes[at..]);
+    let item = match walk.next() {
+        None => return END_OF_VALUES,
+        Some(Err(fault)) => return refused(fault),
+        Some(Ok(item)) => item,
+    };
+    match level_of(family, context).value(&item) {
+        Err(fault) => refused(fault),
+        Ok((place, value)) => {
+            let (form, integer, length) = told(&value);
+            ValueStep {
+                family: family_number(place.family),
+                kind: item.kind(),
+                form,
+                integer,
+                value: at + NLA_HEADER_SIZE,
+                length,
+                next: bytes.len() - walk.rest().len(),
+                ..NO_VALUE
+            }
+        }
+    }
+}
+
+/// The list at a level that stands between two places.
+fn list_at(level: Level, at: usize, end: usize) -> ListStep
+    ensures { result ≡ record { status = 0; number = 0; family = level_family level; context = level_context level; at = at; end = end } }
+{
+    ListStep {
+        status: 0,
+        number: 0,
+        family: level_family(level),
+        context: level_context(level),
+        at,
+        end,
+    }
+}
+
+/// The list behind the header of a message.
+fn begin(kind: MessageKind, bytes: &[u8]) -> ListStep
+    ensures { BeginsAt kind bytes.now result }
+{
+    match Level::begin(kind, bytes) {
+        Ok((level, attributes)) => list_at(level, bytes.len() - attributes.len(), bytes.len()),
+        Err(fault) => ListStep {
+            status: 1,
+            number: refusal_number(fault),
+            ..NO_LIST
+        },
+    }
+}
+
+/// The list of the attributes of an address message, behind its header. It takes no memory.
+#[unsafe(no_mangle)]
+pub extern "C" fn npr_address_begin(bytes: &[u8]) -> ListStep
+    ensures { BeginsAt Address bytes.now result }
+{
+    begin(MessageKind::Address, bytes)
+}
+
+/// The list of the attributes of a route message, behind its header. It takes no memory.
+#[unsafe(no_mangle)]
+pub extern "C" fn npr_route_begin(bytes: &[u8]) -> ListStep
+    ensures { BeginsAt Route bytes.now result }
+{
+    begin(MessageKind::Route, bytes)
+}
+
+/// The list of the attributes of a rule message, behind its header. It takes no memory.
+#[unsafe(no_mangle)]
+pub extern "C" fn npr_rule_begin(bytes: &[u8]) -> ListStep
+    ensures { BeginsAt Rule bytes.now result }
+{
+    begin(MessageKind::Rule, bytes)
+}
+
+/// The list of the attributes of a neighbour message, behind its header. It takes no memory.
+#[unsafe(no_mangle)]
+pub extern "C" fn npr_neighbour_begin(bytes: &[u8]) -> ListStep
+    ensures { BeginsAt Neighbour bytes.now result }
+{
+    begin(MessageKind::Neighbour, bytes)
+}
+
+/// The list of the attributes of a link message, behind its header. It takes no memory.
+#[unsafe(no_mangle)]
+pub extern "C" fn npr_link_begin(bytes: &[u8]) -> ListStep
+    ensures { BeginsAt Link bytes.now result }
+{
+    begin(MessageKind::Link, bytes)
+}
+
+/// The list of attributes in the value of the attribute that begins `at` bytes from the first of a
+/// list at this level, or that there is none. It takes no memory.
+#[unsafe(no_mangle)]
+pub extern "C" fn npr_inside_at(bytes: &[u8], at: usize, family: u32, context: u32) -> ListStep
+    ensures { InsideAt bytes.now at (level_of family context) result }
+{
+    if at >= bytes.len() {
+        return NO_LIST;
+    }
+    let mut walk = NlasIterator::new(&bytes[at..]);
+    let Some(Ok(item)) = walk.next() else {
+        return NO_LIST;
+    };
+    match level_of(family, context).inside(item.kind(), item.value()) {
+        None => NO_LIST,
+        Some((level, attributes)) => {
+            let end = at + NLA_HEADER_SIZE + item.value().len();
+            list_at(level, end - attributes.len(), end)
+        }
+    }
+}
+
+/// The list of the attributes of a next hop in a list at this level, which begins `at` bytes from the
+/// first, and ends with the bytes. It takes no memory.
+#[unsafe(no_mangle)]
+pub extern "C" fn npr_hop_inside(bytes: &[u8], at: usize, family: u32, context: u32) -> ListStep
+    ensures { HopInside bytes.now at (level_of family context) result }
+{
+    if at > bytes.len() {
+        return NO_LIST;
+    }
+    let level = level_of(family, context).of_next_hop(&bytes[at..]);
+    list_at(level, at, bytes.len())
+}
