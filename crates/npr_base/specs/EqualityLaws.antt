@@ -1,13 +1,15 @@
 -- What a derived `==` of an enum answers, from what it answers at each variant: one fact a variant with fields, and none for a pair of variants.
 --     enum_equality      it answers whether two values are equal
 --     one_equality       the fact for a variant of one field
+--     bare_equality      it answers that of an enum without fields
 use Rattle.std.specs.Prelude.{◌≡◌, Bool, true, false, List, [], ◌∷◌, ⊤, ◌⊎◌, ◌&&◌}
 use Rattle.std.specs.Bool.{Decides}
 use Rattle.std.specs.Cmp.{first_so, second_so}
 use Rattle.std.proofs.Common.{refl, sym, ap, inl, inr, ⊎_elim, true≢false}
 use Rattle.npr_base.specs.Equality.{IsEquality}
 use denote.Struct.Field.{Field}
-use denote.Enum.Declared.{Record, left_or, right_or, values_one}
+use denote.Enum.Bare.{Bare, sameb, same_true, true_same}
+use denote.Enum.Declared.{Declared, Record, left_or, right_or, values_one}
 use denote.Enum.Compared.{Each, by}
 
 -- at each variant with no field the answer is true
@@ -52,3 +54,7 @@ enum_equality N tests bare all a b =
 
 pub one_equality : {A : Type 0} {test : A → A → Bool} → IsEquality test → (x y : A × Unit {0}) → Decides (test x.0 y.0) (x ≡ y)
 one_equality {A} h x y = (λ e. λ i. ((h x.0 y.0).0 e i, tt), λ e. (h x.0 y.0).1 (ap (λ (v : A × Unit {0}). v.0) e))
+
+-- of an enum whose variants hold nothing; D is `the_type` of its module in `specs.contracts`
+pub bare_equality : (D : Declared) → Bare D.parts → (a b : D.D) → Decides (sameb D a b) (a ≡ b)
+bare_equality D bare a b = (same_true D bare a b, true_same D a b)

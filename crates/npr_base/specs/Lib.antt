@@ -16,6 +16,7 @@ pub mod Looks
 pub mod LooksLaws
 pub mod LookBounds
 pub mod NameText
+pub mod Widths
 pub mod Value
 pub mod Showing
 pub mod Name
@@ -28,6 +29,7 @@ pub mod CodecLaws
 pub mod Codec
 pub mod Layout
 pub mod Fields
+pub mod MoreFields
 pub mod Bits
 pub mod Message
 pub mod MessageLaws
@@ -43,6 +45,8 @@ pub mod EqualityLaws
 pub mod MeaningLaws
 pub mod Ip
 pub mod IpCodec
+pub mod FlagCodec
+pub mod UintCodec
 pub mod ViewEquality
 pub mod StructLaws
 pub mod Blocks
@@ -51,6 +55,7 @@ pub mod DroppedCodec
 pub mod V6List
 pub mod V6ListLaws
 pub mod Text
+pub mod FieldEquality
 pub mod EnumTable
 pub mod EnumTableLaws
 pub mod EnumTableValues

@@ -11,11 +11,12 @@ use Rattle.npr_base.specs.declared.refusal.DecodeError.{DecodeError}
 use Rattle.npr_base.specs.declared.refusal.DecodeError.TheVariants.{ValueLength, HeaderTooShort, NotUtf8}
 use Rattle.npr_base.specs.declared.value.Form.{Form}
 use Rattle.npr_base.specs.declared.value.Form.TheVariants.{Byte, Boolean, Signed32, Little16, Little32, Little64, Big16, Big32, Big64}
-use Rattle.npr_base.specs.declared.value.Form.TheVariants.{Octets4, Octets16, Ip, Name, Raw, Exactly, Leading, Inside, Dropped}
+use Rattle.npr_base.specs.declared.value.Form.TheVariants.{Uint, Flag, Octets4, Octets16, Ip, Name, Raw, Exactly, Leading, Inside, Dropped}
 use Rattle.npr_base.specs.declared.value.Value.{Value}
 use Rattle.npr_base.specs.declared.value.Value.TheVariants as Of
 use Rattle.npr_base.specs.Ip.{IsIp}
 use Rattle.npr_base.specs.NameText.{IsName, IsNoName}
+use Rattle.npr_base.specs.Widths.{IsUint, IsNoUint, IsFlag, IsNoFlag}
 
 -- what a value is
 pub data Shown : Type 0 where
@@ -60,6 +61,8 @@ Shows Little64 b s = Sized 8 (λ c. is_number 8 (from_le_bytes w64 c)) b s
 Shows Big16 b s = Sized 2 (λ c. is_number 2 (from_be_bytes w16 c)) b s
 Shows Big32 b s = Sized 4 (λ c. is_number 4 (from_be_bytes w32 c)) b s
 Shows Big64 b s = Sized 8 (λ c. is_number 8 (from_be_bytes w64 c)) b s
+Shows Uint b s = (n : ℕ) × IsUint b n × (s ≡ is_number 8 n)
+Shows Flag b s = (t : Bool) × IsFlag b t × (s ≡ is_truth t)
 Shows Octets4 b s = Sized 4 (λ c. is_address (V4 c)) b s
 Shows Octets16 b s = Sized 16 (λ c. is_address (V6 c)) b s
 Shows Ip b s = (a : IpAddr) × IsIp b a × (s ≡ is_address a)
@@ -85,6 +88,8 @@ Misshown Little64 at b e = Missized 8 at b e
 Misshown Big16 at b e = Missized 2 at b e
 Misshown Big32 at b e = Missized 4 at b e
 Misshown Big64 at b e = Missized 8 at b e
+Misshown Uint at b e = IsNoUint b × (e ≡ ValueLength at (length b))
+Misshown Flag at b e = IsNoFlag b × (e ≡ ValueLength at (length b))
 Misshown Octets4 at b e = Missized 4 at b e
 Misshown Octets16 at b e = Missized 16 at b e
 Misshown Ip at b e = (length b ≢ 4) × (length b ≢ 16) × (e ≡ ValueLength at (length b))

@@ -48,6 +48,12 @@ macro_rules! form_row {
     (be64) => {
         $crate::Form::Big64
     };
+    (uint) => {
+        $crate::Form::Uint
+    };
+    (flag) => {
+        $crate::Form::Flag
+    };
     (octets4) => {
         $crate::Form::Octets4
     };

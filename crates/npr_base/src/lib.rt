@@ -24,6 +24,7 @@ mod v6_list;
 mod value;
 mod value_walk;
 mod values;
+mod widths;
 
 pub use address_family::AddressFamily;
 pub use attribute::Attribute;
@@ -54,3 +55,4 @@ pub use values::{
     read_ipv6, read_name, read_octets, read_u8, read_u16, read_u16_be, read_u32, read_u32_be,
     read_u64, read_u64_be, without_zero, write_array, write_bytes, write_ip, write_name,
 };
+pub use widths::{flag_len, read_flag, read_uint, uint_len, write_flag, write_uint};

@@ -77,6 +77,66 @@ pub enum AttrFamily {
     InfoVeth,
     /// `IFLA_*` of `linux/if_link.h`, in the peer of a link.
     Peer,
+    /// `IFLA_BRIDGE_*` of `linux/if_bridge.h`.
+    AfSpecBridge,
+    /// `IFLA_BRIDGE_VLAN_TUNNEL_*` of `linux/if_bridge.h`.
+    BridgeVlanTunnelInfo,
+    /// `IFLA_BRIDGE_MST_ENTRY` of `linux/if_bridge.h`, the one state in a list of states.
+    BridgeMst,
+    /// `IFLA_BRIDGE_MST_ENTRY_*` of `linux/if_bridge.h`.
+    BridgeMstEntry,
+    /// `IFLA_BOND_*` of `linux/if_link.h`.
+    InfoBond,
+    /// `IFLA_BOND_AD_INFO_*` of `linux/if_link.h`.
+    BondAdInfo,
+    /// `IFLA_BOND_SLAVE_*` of `linux/if_link.h`.
+    InfoBondPort,
+    /// `IFLA_MACVLAN_*` of `linux/if_link.h`.
+    InfoMacVlan,
+    /// `IFLA_MACVLAN_MACADDR` of `linux/if_link.h`, in a list of addresses.
+    MacVlanAddress,
+    /// `IFLA_IPVLAN_*` of `linux/if_link.h`.
+    InfoIpVlan,
+    /// `IFLA_NETKIT_*` of `linux/if_link.h`.
+    InfoNetkit,
+    /// `IFLA_TUN_*` of `linux/if_link.h`.
+    InfoTun,
+    /// `IFLA_VXLAN_*` of `linux/if_link.h`.
+    InfoVxlan,
+    /// `IFLA_GENEVE_*` of `linux/if_link.h`.
+    InfoGeneve,
+    /// `IFLA_GRE_*` of `linux/if_tunnel.h`, over version 4.
+    InfoGre,
+    /// `IFLA_GRE_*` of `linux/if_tunnel.h`, over version 6.
+    InfoGre6,
+    /// `IFLA_IPTUN_*` of `linux/if_tunnel.h`.
+    InfoIpTunnel,
+    /// `IFLA_VTI_*` of `linux/if_tunnel.h`.
+    InfoVti,
+    /// `IFLA_XFRM_*` of `linux/if_link.h`.
+    InfoXfrm,
+    /// `NHA_*` of `linux/nexthop.h`.
+    NextHop,
+    /// `NHA_RES_GROUP_*` of `linux/nexthop.h`.
+    NextHopResGroup,
+    /// `NHA_RES_BUCKET_*` of `linux/nexthop.h`.
+    NextHopResBucket,
+    /// `NHA_GROUP_STATS_ENTRY` of `linux/nexthop.h`, the one entry in a list of entries.
+    NextHopGroupStats,
+    /// `NHA_GROUP_STATS_ENTRY_*` of `linux/nexthop.h`.
+    NextHopGroupStatsEntry,
+    /// `NETNSA_*` of `linux/net_namespace.h`.
+    Nsid,
+    /// `PREFIX_*` of `linux/rtnetlink.h`.
+    Prefix,
+    /// `NETCONFA_*` of `linux/netconf.h`.
+    Netconf,
+    /// `NDTA_*` of `linux/neighbour.h`.
+    NeighbourTable,
+    /// `NDTPA_*` of `linux/neighbour.h`.
+    NeighbourTableParameter,
+    /// `IFAL_*` of `linux/if_addrlabel.h`.
+    AddressLabel,
 }
 
 /// The place of a value: the family of its attribute, and the attribute's number.

@@ -7,6 +7,7 @@
 //! | Codec | The value |
 //! |---|---|
 //! | `byte`, `boolean`, `signed32`, `le16`, `le32`, `le64`, `be16`, `be32`, `be64` | a number, the lowest byte first or last |
+//! | `uint`; `flag` | a number of 4 or 8 bytes, the lowest first; true without bytes or as one above 0 |
 //! | `octets4`, `octets16`, `ip` | an address of version 4, of version 6, of both |
 //! | `name`, `raw`, `list` | a name; bytes as they stand; attributes of another family |
 //! | `T as le32`, `T as byte by f` | an enumeration over such a number, which `f` gives where not each value has one |
@@ -84,6 +85,12 @@ macro_rules! len_row {
     };
     ([$x:ident] ip) => {
         $crate::ip_len($x)
+    };
+    ([$x:ident] uint) => {
+        $crate::uint_len(*$x)
+    };
+    ([$x:ident] flag) => {
+        $crate::flag_len(*$x)
     };
     ([$x:ident] octets4) => {
         $x.octets().len()
@@ -166,6 +173,12 @@ macro_rules! write_row {
     };
     ([$x:ident, $out:expr] ip) => {
         $crate::write_ip($x, $out)
+    };
+    ([$x:ident, $out:expr] uint) => {
+        $crate::write_uint(*$x, $out)
+    };
+    ([$x:ident, $out:expr] flag) => {
+        $crate::write_flag(*$x, $out)
     };
     ([$x:ident, $out:expr] raw) => {
         $crate::write_bytes($x.as_slice(), $out)
@@ -327,6 +340,12 @@ macro_rules! read_value {
     };
     ([$alloc:expr, $value:expr, $at:expr] be64) => {
         $crate::read_u64_be($value, $at)
+    };
+    ([$alloc:expr, $value:expr, $at:expr] uint) => {
+        $crate::read_uint($value, $at)
+    };
+    ([$alloc:expr, $value:expr, $at:expr] flag) => {
+        $crate::read_flag($value, $at)
     };
     ([$alloc:expr, $value:expr, $at:expr] octets4) => {
         $crate::read_ipv4($value, $at)

@@ -9,6 +9,7 @@ use crate::values::{
     leading_octets, read_bool, read_i32, read_ip, read_ipv4, read_ipv6, read_u8, read_u16,
     read_u16_be, read_u32, read_u32_be, read_u64, read_u64_be, without_zero,
 };
+use crate::widths::{read_flag, read_uint};
 use std::str::from_utf8;
 
 /// How the value of an attribute is read: what a row of a family says of its bytes.
@@ -32,6 +33,10 @@ pub enum Form {
     Big32,
     /// A number of eight bytes, big endian.
     Big64,
+    /// A number of four bytes or of eight, little endian.
+    Uint,
+    /// A truth value: true without bytes, or as one above 0.
+    Flag,
     /// An address of version 4.
     Octets4,
     /// An address of version 6.
@@ -135,6 +140,8 @@ pub fn read_form<'a>(form: Form, bytes: &'a [u8], at: At) -> Result<Value<'a>, D
         Form::Big16 => Value::U16(read_u16_be(bytes, at)?),
         Form::Big32 => Value::U32(read_u32_be(bytes, at)?),
         Form::Big64 => Value::U64(read_u64_be(bytes, at)?),
+        Form::Uint => Value::U64(read_uint(bytes, at)?),
+        Form::Flag => Value::Bool(read_flag(bytes, at)?),
         Form::Octets4 => Value::Address(IpAddr::V4(read_ipv4(bytes, at)?)),
         Form::Octets16 => Value::Address(IpAddr::V6(read_ipv6(bytes, at)?)),
         Form::Ip => Value::Address(read_ip(bytes, at)?),

@@ -5,7 +5,7 @@ use Rattle.npr_base.specs.Tables.{EnumTable, table_of, row, others, ◌or◌, va
 use Rattle.npr_base.specs.Tables.{ValueAt, value_at, found_at, writing_of, attributes_of, family_of_table}
 use Rattle.npr_scalar.specs.Realm.{route_realm}
 use Rattle.npr_scalar.specs.RouteProtocol.{route_protocol}
-use Rattle.npr_rule.specs.IpProtocolByte.{ip_protocol_byte}
+use Rattle.npr_scalar.specs.IpProtocolByte.{ip_protocol_byte}
 use Rattle.npr_rule.specs.PortRange.{port_range}
 use Rattle.npr_rule.specs.UidRange.{uid_range}
 use Rattle.npr_rule.specs.declared.attribute.RuleAttribute.{RuleAttribute}

@@ -2,7 +2,6 @@ pub mod Action
 pub mod Attribute
 pub mod Flags
 pub mod Header
-pub mod IpProtocolByte
 pub mod Message
 pub mod PortRange
 pub mod UidRange

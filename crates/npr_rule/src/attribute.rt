@@ -1,10 +1,8 @@
 //! The attributes of a rule message: `FRA_*` of `linux/fib_rules.h`.
 
-ghost use Rattle.std.specs.Prelude.{◌≡◌, None};
 ghost use Rattle.{
-  npr_base.specs.{Lists.{checked}, Tables.{shape_by, shape-by}},
-  npr_scalar.specs.IpProtocol.{above_zero, ip_protocols},
-  npr_rule.specs.{IpProtocolByte.{protocol_unfit}, Attribute.{table, family}},
+  npr_base.specs.Tables.{shape_by, shape-by},
+  npr_rule.specs.Attribute.{table, family},
 };
 
 use crate::port_range::RulePortRange;
@@ -12,7 +10,7 @@ use crate::uid_range::RuleUidRange;
 use npr_base::{
     At, Attribute, DecodeError, DefaultNla, EmitError, Form, IpAddr, Looks, Nla, NlaBuffer, Place,
 };
-use npr_scalar::{IpProtocol, RouteProtocol, RouteRealm};
+use npr_scalar::{IpProtocol, RouteProtocol, RouteRealm, check_protocol, protocol_byte};
 use std::alloc::{AllocError, Global};
 
 /// An attribute of a rule message.
@@ -107,32 +105,6 @@ impl Nla for RuleAttribute {
 
     fn write_value(&self, out: &mut [u8]) -> usize {
         rows!(write_rows(self, out))
-    }
-}
-
-/// The length of the value of a protocol: 1 byte.
-///
-/// # Errors
-/// `IpProtocol` where no byte holds its number.
-fn check_protocol(protocol: IpProtocol) -> Result<usize, EmitError>
-    ensures { result ≡ checked (protocol_unfit protocol) 1 }
-{
-    match protocol.as_u8() {
-        Some(_) => Ok(1),
-        None => Err(EmitError::IpProtocol {
-            number: i32::from(protocol),
-        }),
-    }
-}
-
-/// The byte of a protocol that has one.
-fn protocol_byte(protocol: IpProtocol) -> u8
-    requires { protocol_unfit protocol ≡ None }
-    ensures { result ≡ above_zero (ip_protocols.number protocol) }
-{
-    match protocol.as_u8() {
-        Some(byte) => byte,
-        None => unreachable!(),
     }
 }
 

@@ -1,4 +1,5 @@
 pub mod IpProtocol
+pub mod IpProtocolByte
 pub mod Mpls
 pub mod MplsLaws
 pub mod Realm

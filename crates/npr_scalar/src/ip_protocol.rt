@@ -1,7 +1,9 @@
 //! Protocols over IP: `IPPROTO_*` of `linux/in.h`.
 
-ghost use Rattle.std.specs.Prelude.{◌≡◌, pos};
-ghost use Rattle.npr_scalar.specs.IpProtocol.{ip_protocols, byte_of};
+ghost use Rattle.std.specs.Prelude.{◌≡◌, None, pos};
+ghost use Rattle.{npr_base.specs.Lists.{checked}, npr_scalar.specs.{IpProtocol.{above_zero, ip_protocols, byte_of}, IpProtocolByte.{protocol_unfit}}};
+
+use npr_base::EmitError;
 
 /// A protocol over IP: `IPPROTO_*` of `linux/in.h`, a signed number of 32 bits.
 #[derive(Clone, Copy, Debug, Default, PartialEq, Eq)]
@@ -106,5 +108,31 @@ impl IpProtocol {
         ensures { result ≡ byte_of (ip_protocols.number self.now) }
     {
         u8::try_from(i32::from(*self)).ok()
+    }
+}
+
+/// The length of the value of a protocol: 1 byte.
+///
+/// # Errors
+/// `IpProtocol` where no byte holds its number.
+pub fn check_protocol(protocol: IpProtocol) -> Result<usize, EmitError>
+    ensures { result ≡ checked (protocol_unfit protocol) 1 }
+{
+    match protocol.as_u8() {
+        Some(_) => Ok(1),
+        None => Err(EmitError::IpProtocol {
+            number: i32::from(protocol),
+        }),
+    }
+}
+
+/// The byte of a protocol. Asks that it has one.
+pub fn protocol_byte(protocol: IpProtocol) -> u8
+    requires { protocol_unfit protocol ≡ None }
+    ensures { result ≡ above_zero (ip_protocols.number protocol) }
+{
+    match protocol.as_u8() {
+        Some(byte) => byte,
+        None => unreachable!(),
     }
 }

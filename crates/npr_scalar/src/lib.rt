@@ -18,7 +18,7 @@ mod via;
 pub use address::RouteAddress;
 pub use cache_info::{RouteCacheInfo, RouteCacheInfoBuffer};
 pub use flags::{RouteFlags, RouteNextHopFlags};
-pub use ip_protocol::IpProtocol;
+pub use ip_protocol::{IpProtocol, check_protocol, protocol_byte};
 pub use mfc_stats::{RouteMfcStats, RouteMfcStatsBuffer};
 pub use mpls::{MplsLabel, emit_labels, labels_len, read_labels, write_labels};
 pub use preference::{RouteMplsTtlPropagation, RoutePreference};
