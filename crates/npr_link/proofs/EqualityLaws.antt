@@ -10,9 +10,10 @@ use Rattle.std.specs.declared.vec.Vec.{Vec}
 use Rattle.std.proofs.Common.{◌≡◌, ◌+◌, refl, ap, inl, inr}
 use Rattle.npr_base.specs.Equality.{IsEqualityOf}
 use Rattle.npr_base.specs.EnumTable.{◌also◌}
+use Rattle.npr_base.specs.FieldEquality.{one, list, number, truth, bytes, kept}
 use Rattle.npr_base.specs.Framing.{Item}
 use Rattle.npr_base.specs.Message.{View}
-use Rattle.npr_base.specs.IpLaws.{ipv4_equality, ipv6_equality}
+use Rattle.npr_base.specs.IpLaws.{ipv6_equality}
 use Rattle.npr_base.specs.MeaningLaws.{enum_meaning, one_meaning, items_equality, items_meaning, text_equality}
 use Rattle.npr_base.specs.StructLaws.{◌beside◌, and_decides, decides_as}
 use Rattle.npr_base.specs.Tables.{table_decides}
@@ -30,12 +31,25 @@ use Rattle.npr_link.specs.Prop as OfProp
 use Rattle.npr_link.specs.contracts.prop.PropPartialEq.TheImpl as PropEq
 use Rattle.npr_link.specs.ProtocolDown as OfProtocolDown
 use Rattle.npr_link.specs.contracts.protocol_down.LinkProtocolDownReasonPartialEq.TheImpl as ReasonEq
-use Rattle.npr_link.specs.QuerierState as OfQuerierState
-use Rattle.npr_link.specs.contracts.querier_state.BridgeQuerierStatePartialEq.TheImpl as QuerierEq
-use Rattle.npr_link.specs.Bridge as OfBridge
-use Rattle.npr_link.specs.contracts.bridge.InfoBridgePartialEq.TheImpl as BridgeEq
-use Rattle.npr_link.specs.BridgePort as OfBridgePort
-use Rattle.npr_link.specs.contracts.bridge_port.InfoBridgePortPartialEq.TheImpl as BridgePortEq
+use Rattle.npr_link_bridge.specs.Bridge as OfBridge
+use Rattle.npr_link_bridge.specs.BridgePort as OfBridgePort
+use Rattle.npr_link.specs.Netkit as OfNetkit
+use Rattle.npr_link_devices.specs.Bond as OfBond
+use Rattle.npr_link_devices.specs.BondPort as OfBondPort
+use Rattle.npr_link_devices.specs.IpVlan as OfIpVlan
+use Rattle.npr_link_devices.specs.MacVlan as OfMacVlan
+use Rattle.npr_link_devices.specs.Tun as OfTun
+use Rattle.npr_link_tunnels.specs.Geneve as OfGeneve
+use Rattle.npr_link_tunnels.specs.Gre as OfGre
+use Rattle.npr_link_tunnels.specs.Gre6 as OfGre6
+use Rattle.npr_link_tunnels.specs.IpTunnel as OfIpTunnel
+use Rattle.npr_link_tunnels.specs.Vti as OfVti
+use Rattle.npr_link_tunnels.specs.Vxlan as OfVxlan
+use Rattle.npr_link_tunnels.specs.Xfrm as OfXfrm
+use Rattle.npr_link.specs.contracts.netkit.InfoNetkitPartialEq.TheImpl as NetkitEq
+use Rattle.npr_link_devices.proofs.EqualityLaws.{tun_equality, bond_equality, bond_port_equality, ip_vlan_equality, mac_vlan_equality}
+use Rattle.npr_link_tunnels.proofs.EqualityLaws.{vxlan_equality, geneve_equality, gre_equality, gre6_equality, ip_tunnel_equality, vti_equality, xfrm_equality}
+use Rattle.npr_link.proofs.ValueEquality.{netkit_mode_equality, netkit_policy_equality, netkit_scrub_equality}
 use Rattle.npr_link.specs.VlanQos as OfVlanQos
 use Rattle.npr_link.specs.contracts.vlan_qos.VlanQosMappingPartialEq.TheImpl as QosEq
 use Rattle.npr_link.specs.Vlan as OfVlan
@@ -69,10 +83,9 @@ use Rattle.npr_link.specs.Peer.{peer_of, peers}
 use Rattle.npr_link.specs.Governing.{none_governs}
 use Rattle.npr_link.specs.AfSpecs.{as_list, unspec, unknown}
 use Rattle.npr_link.specs.SharedRow.{first_of, shared_decides}
-use Rattle.npr_link.proofs.ValueEquality.{address_mode_equality, attachment_equality, boolean_options_equality, bridge_id_equality}
-use Rattle.npr_link.proofs.ValueEquality.{cache_info_equality, extent_mask_equality, inet6_flags_equality, link_event_equality}
-use Rattle.npr_link.proofs.ValueEquality.{link_mode_equality, map_equality, port_state_equality, router_type_equality, state_equality}
-use Rattle.npr_link.proofs.ValueEquality.{stp_state_equality, vlan_flags_equality, vlan_protocol_equality, header_equality}
+use Rattle.npr_link.proofs.ValueEquality.{address_mode_equality, attachment_equality, cache_info_equality, extent_mask_equality, inet6_flags_equality}
+use Rattle.npr_link.proofs.ValueEquality.{link_event_equality, link_mode_equality, map_equality, state_equality, vlan_flags_equality, header_equality}
+use Rattle.npr_link_bridge.specs.EqualityLaws.{vlan_protocol_equality, bridge_equality, bridge_port_equality}
 use Rattle.npr_link_numbers.specs.declared.inet_devconf.InetDevConf.{InetDevConf}
 use Rattle.npr_link_numbers.specs.contracts.inet_devconf.InetDevConfPartialEq.TheImpl as InetDevConfEq
 use Rattle.npr_link_numbers.specs.declared.inet6_devconf.Inet6DevConf.{Inet6DevConf}
@@ -88,29 +101,7 @@ use Rattle.npr_link_numbers.specs.contracts.stats64.Stats64PartialEq.TheImpl as 
 use denote.Enum.Declared.{Choice}
 use denote.Struct.Values.{Values}
 
--- ---- a variant of one field, by what it holds
-
-one : {A : Type 0} {P : A → A → Type 0} → ((a b : A) → P a b) → (x y : A × Unit {0}) → P x.0 y.0
-one h x y = h x.0 y.0
-
-list : {A M : Type 0} {meaning : A → M} {test : A → A → Bool} → IsEqualityOf meaning test → (x y : Vec A Global × Unit {0})
-    → Decides (pointwise test x.0.items y.0.items) (map meaning x.0.items ≡ map meaning y.0.items)
-list {meaning = meaning} h x y = items_meaning meaning h x.0 y.0
-
-number : (x y : ℕ × Unit {0}) → Decides (x.0 == y.0) (x.0 ≡ y.0)
-number = one unsigned_Decides
-
-truth : (x y : Bool × Unit {0}) → Decides (beq x.0 y.0) (x.0 ≡ y.0)
-truth = one booleans_Decides
-
-bytes : (x y : Vec ℕ Global × Unit {0}) → Decides (pointwise nat_eq x.0.items y.0.items) (x.0.items ≡ y.0.items)
-bytes = one (items_equality unsigned_Decides)
-
-kept : (x y : Item × Unit {0}) → Decides (same_item x.0 y.0) (x.0 ≡ y.0)
-kept = one item_equality
-
-nothing : (x y : Unit {0}) → Decides true (◌≡◌ {A = Unit {0}} tt tt)
-nothing x y = (λ e. refl, λ e. refl)
+-- ---- a variant of two fields
 
 two_numbers : (x y : ℕ × (ℕ × Unit {0})) → Decides ((x.0 == y.0) && (x.1.0 == y.1.0)) (◌≡◌ {A = ℕ × ℕ} (x.0, x.1.0) (y.0, y.1.0))
 two_numbers x y = (unsigned_Decides beside unsigned_Decides) (x.0, x.1.0) (y.0, y.1.0)
@@ -169,31 +160,6 @@ reason_equality =
     table_decides OfProtocolDown.table _
     (number also number also kept also tt)
 
-pub querier_equality : IsEqualityOf OfQuerierState.family.meaning QuerierEq.ghosts.eq
-querier_equality =
-    table_decides OfQuerierState.table _
-    (one ipv4_equality also number also number also one ipv6_equality also number also number also kept also tt)
-
-pub bridge_equality : IsEqualityOf OfBridge.family.meaning BridgeEq.ghosts.eq
-bridge_equality =
-    table_decides OfBridge.table _
-    (number also number also number also number also one stp_state_equality also number also truth also
-    one vlan_protocol_equality also number also one bridge_id_equality also one bridge_id_equality also number also number also
-    number also number also number also number also number also number also one bytes_equality also nothing also
-    one router_type_equality also truth also truth also truth also number also number also number also number also number also
-    number also number also number also number also number also truth also truth also truth also number also truth also truth also
-    number also number also truth also one boolean_options_equality also list querier_equality also number also number also
-    number also kept also tt)
-
-pub bridge_port_equality : IsEqualityOf OfBridgePort.family.meaning BridgePortEq.ghosts.eq
-bridge_port_equality =
-    table_decides OfBridgePort.table _
-    (one port_state_equality also number also number also truth also truth also truth also truth also truth also truth also
-    truth also truth also truth also one bridge_id_equality also one bridge_id_equality also number also number also number also
-    number also truth also truth also number also number also number also nothing also one router_type_equality also truth also
-    truth also truth also truth also number also truth also truth also number also truth also truth also number also number also
-    truth also truth also number also number also truth also number also truth also kept also tt)
-
 pub qos_equality : IsEqualityOf OfVlanQos.family.meaning QosEq.ghosts.eq
 qos_equality =
     table_decides OfVlanQos.table _
@@ -229,6 +195,12 @@ peer_equality a b =
 pub veth_equality : IsEqualityOf OfVeth.family.meaning VethEq.ghosts.eq
 veth_equality = table_decides OfVeth.table _ (one peer_equality also kept also tt)
 
+pub netkit_equality : IsEqualityOf OfNetkit.family.meaning NetkitEq.ghosts.eq
+netkit_equality =
+    table_decides OfNetkit.table _
+    (one peer_equality also truth also one netkit_policy_equality also one netkit_policy_equality also one netkit_mode_equality also
+    one netkit_scrub_equality also one netkit_scrub_equality also number also number also number also kept also tt)
+
 -- ---- kinds
 
 -- the place of a kind among these names
@@ -255,7 +227,7 @@ kind_equality =
     bare info_kind_names refl also bare info_kind_names refl also bare info_kind_names refl also bare info_kind_names refl also
     bare info_kind_names refl also bare info_kind_names refl also bare info_kind_names refl also bare info_kind_names refl also
     bare info_kind_names refl also bare info_kind_names refl also bare info_kind_names refl also bare info_kind_names refl also
-    bare info_kind_names refl also bare info_kind_names refl also
+    bare info_kind_names refl also bare info_kind_names refl also bare info_kind_names refl also
     (λ x. refl, one_meaning (λ s. string_bytes s) other text_equality (λ p q e. cc)) also tt)
 
 pub port_kind_equality : IsEqualityOf port_kind_of PortKindEq.ghosts.eq
@@ -269,35 +241,66 @@ port_kind_equality =
 
 data_order : D.Data → ℕ
 data_order (D.bridge xs) = 0
-data_order (D.vlan xs) = 1
-data_order (D.veth xs) = 2
-data_order (D.vrf xs) = 3
-data_order (D.other bytes) = 4
+data_order (D.tun xs) = 1
+data_order (D.vlan xs) = 2
+data_order (D.veth xs) = 3
+data_order (D.vxlan xs) = 4
+data_order (D.bond xs) = 5
+data_order (D.ip_vlan xs) = 6
+data_order (D.ip_vtap xs) = 7
+data_order (D.mac_vlan xs) = 8
+data_order (D.mac_vtap xs) = 9
+data_order (D.gre_tap xs) = 10
+data_order (D.gre_tap6 xs) = 11
+data_order (D.ip_tunnel xs) = 12
+data_order (D.gre_tun xs) = 13
+data_order (D.gre_tun6 xs) = 14
+data_order (D.vti xs) = 15
+data_order (D.vrf xs) = 16
+data_order (D.xfrm xs) = 17
+data_order (D.geneve xs) = 18
+data_order (D.netkit xs) = 19
+data_order (D.other bytes) = 20
 
 pub data_equality : IsEqualityOf D.info_data_of DataEq.ghosts.eq
 unfolding data_order
 data_equality =
     enum_meaning data_order data_enum D.info_data_of _ (λ t.
     (λ x. refl, one_meaning (λ v. map OfBridge.family.meaning v.items) D.bridge (items_meaning OfBridge.family.meaning bridge_equality) (λ p q e. cc)) also
+    (λ x. refl, one_meaning (λ v. map OfTun.family.meaning v.items) D.tun (items_meaning OfTun.family.meaning tun_equality) (λ p q e. cc)) also
     (λ x. refl, one_meaning (λ v. map OfVlan.family.meaning v.items) D.vlan (items_meaning OfVlan.family.meaning vlan_equality) (λ p q e. cc)) also
     (λ x. refl, one_meaning (λ v. map OfVeth.family.meaning v.items) D.veth (items_meaning OfVeth.family.meaning veth_equality) (λ p q e. cc)) also
+    (λ x. refl, one_meaning (λ v. map OfVxlan.family.meaning v.items) D.vxlan (items_meaning OfVxlan.family.meaning vxlan_equality) (λ p q e. cc)) also
+    (λ x. refl, one_meaning (λ v. map OfBond.family.meaning v.items) D.bond (items_meaning OfBond.family.meaning bond_equality) (λ p q e. cc)) also
+    (λ x. refl, one_meaning (λ v. map OfIpVlan.family.meaning v.items) D.ip_vlan (items_meaning OfIpVlan.family.meaning ip_vlan_equality) (λ p q e. cc)) also
+    (λ x. refl, one_meaning (λ v. map OfIpVlan.family.meaning v.items) D.ip_vtap (items_meaning OfIpVlan.family.meaning ip_vlan_equality) (λ p q e. cc)) also
+    (λ x. refl, one_meaning (λ v. map OfMacVlan.family.meaning v.items) D.mac_vlan (items_meaning OfMacVlan.family.meaning mac_vlan_equality) (λ p q e. cc)) also
+    (λ x. refl, one_meaning (λ v. map OfMacVlan.family.meaning v.items) D.mac_vtap (items_meaning OfMacVlan.family.meaning mac_vlan_equality) (λ p q e. cc)) also
+    (λ x. refl, one_meaning (λ v. map OfGre.family.meaning v.items) D.gre_tap (items_meaning OfGre.family.meaning gre_equality) (λ p q e. cc)) also
+    (λ x. refl, one_meaning (λ v. map OfGre6.family.meaning v.items) D.gre_tap6 (items_meaning OfGre6.family.meaning gre6_equality) (λ p q e. cc)) also
+    (λ x. refl, one_meaning (λ v. map OfIpTunnel.family.meaning v.items) D.ip_tunnel (items_meaning OfIpTunnel.family.meaning ip_tunnel_equality) (λ p q e. cc)) also
+    (λ x. refl, one_meaning (λ v. map OfGre.family.meaning v.items) D.gre_tun (items_meaning OfGre.family.meaning gre_equality) (λ p q e. cc)) also
+    (λ x. refl, one_meaning (λ v. map OfGre6.family.meaning v.items) D.gre_tun6 (items_meaning OfGre6.family.meaning gre6_equality) (λ p q e. cc)) also
+    (λ x. refl, one_meaning (λ v. map OfVti.family.meaning v.items) D.vti (items_meaning OfVti.family.meaning vti_equality) (λ p q e. cc)) also
     (λ x. refl, one_meaning (λ v. map OfVrf.family.meaning v.items) D.vrf (items_meaning OfVrf.family.meaning vrf_equality) (λ p q e. cc)) also
+    (λ x. refl, one_meaning (λ v. map OfXfrm.family.meaning v.items) D.xfrm (items_meaning OfXfrm.family.meaning xfrm_equality) (λ p q e. cc)) also
+    (λ x. refl, one_meaning (λ v. map OfGeneve.family.meaning v.items) D.geneve (items_meaning OfGeneve.family.meaning geneve_equality) (λ p q e. cc)) also
+    (λ x. refl, one_meaning (λ v. map OfNetkit.family.meaning v.items) D.netkit (items_meaning OfNetkit.family.meaning netkit_equality) (λ p q e. cc)) also
     (λ x. refl, one_meaning (λ v. v.items) D.other (items_equality unsigned_Decides) (λ p q e. cc)) also tt)
 
 port_data_order : Q.Data → ℕ
 port_data_order (Q.bridge xs) = 0
 port_data_order (Q.vrf xs) = 1
-port_data_order (Q.other bytes) = 2
+port_data_order (Q.bond xs) = 2
+port_data_order (Q.other bytes) = 3
 
 pub port_data_equality : IsEqualityOf Q.port_data_of PortDataEq.ghosts.eq
 unfolding port_data_order
 port_data_equality =
-    enum_meaning port_data_order port_data_enum Q.port_data_of _ (λ t. (
-      λ x. refl,
-      one_meaning (λ v. map OfBridgePort.family.meaning v.items) Q.bridge
-          (items_meaning OfBridgePort.family.meaning bridge_port_equality) (λ p q e. cc),
-    ) also
+    enum_meaning port_data_order port_data_enum Q.port_data_of _ (λ t.
+    (λ x. refl, one_meaning (λ v. map OfBridgePort.family.meaning v.items) Q.bridge (items_meaning OfBridgePort.family.meaning bridge_port_equality) (λ p q e. cc)) also
     (λ x. refl, one_meaning (λ v. map OfVrf.family.meaning v.items) Q.vrf (items_meaning OfVrf.family.meaning vrf_equality) (λ p q e. cc)) also
+    (λ x. refl, one_meaning (λ v. map OfBondPort.family.meaning v.items) Q.bond (items_meaning OfBondPort.family.meaning bond_port_equality) (λ p q e. cc)) also
     (λ x. refl, one_meaning (λ v. v.items) Q.other (items_equality unsigned_Decides) (λ p q e. cc)) also tt)
 
 pub info_equality : IsEqualityOf OfInfo.family.meaning InfoEq.ghosts.eq

@@ -5,7 +5,6 @@ use Rattle.npr_base.specs.AddressFamilyLaws.{family_equality}
 use Rattle.npr_base.specs.Equality.{IsEquality}
 use Rattle.npr_base.specs.EqualityLaws.{enum_equality, one_equality}
 use Rattle.npr_base.specs.StructLaws.{◌beside◌, struct_equality}
-use Rattle.npr_base.specs.ViewEquality.{bytes_equality}
 use Rattle.npr_link.specs.contracts.address_mode.In6AddrGenMode.{enum as address_mode_enum}
 use Rattle.npr_link.specs.contracts.address_mode.In6AddrGenModePartialEq.TheImpl as AddressModeEq
 use Rattle.npr_link.specs.contracts.layer_type.LinkLayerType.{enum as layer_type_enum}
@@ -14,29 +13,21 @@ use Rattle.npr_link.specs.contracts.link_event.LinkEvent.{enum as link_event_enu
 use Rattle.npr_link.specs.contracts.link_event.LinkEventPartialEq.TheImpl as LinkEventEq
 use Rattle.npr_link.specs.contracts.link_mode.LinkMode.{enum as link_mode_enum}
 use Rattle.npr_link.specs.contracts.link_mode.LinkModePartialEq.TheImpl as LinkModeEq
-use Rattle.npr_link.specs.contracts.multicast_router.BridgeMulticastRouterType.{enum as router_type_enum}
-use Rattle.npr_link.specs.contracts.multicast_router.BridgeMulticastRouterTypePartialEq.TheImpl as RouterTypeEq
-use Rattle.npr_link.specs.contracts.port_state.BridgePortState.{enum as port_state_enum}
-use Rattle.npr_link.specs.contracts.port_state.BridgePortStatePartialEq.TheImpl as PortStateEq
+use Rattle.npr_link.specs.contracts.netkit_mode.NetkitMode.{enum as netkit_mode_enum}
+use Rattle.npr_link.specs.contracts.netkit_mode.NetkitModePartialEq.TheImpl as NetkitModeEq
+use Rattle.npr_link.specs.contracts.netkit_policy.NetkitPolicy.{enum as netkit_policy_enum}
+use Rattle.npr_link.specs.contracts.netkit_policy.NetkitPolicyPartialEq.TheImpl as NetkitPolicyEq
+use Rattle.npr_link.specs.contracts.netkit_scrub.NetkitScrub.{enum as netkit_scrub_enum}
+use Rattle.npr_link.specs.contracts.netkit_scrub.NetkitScrubPartialEq.TheImpl as NetkitScrubEq
 use Rattle.npr_link.specs.contracts.state.State.{enum as state_enum}
 use Rattle.npr_link.specs.contracts.state.StatePartialEq.TheImpl as StateEq
-use Rattle.npr_link.specs.contracts.stp_state.BridgeStpState.{enum as stp_state_enum}
-use Rattle.npr_link.specs.contracts.stp_state.BridgeStpStatePartialEq.TheImpl as StpStateEq
-use Rattle.npr_link.specs.contracts.vlan_protocol.VlanProtocol.{enum as vlan_protocol_enum}
-use Rattle.npr_link.specs.contracts.vlan_protocol.VlanProtocolPartialEq.TheImpl as VlanProtocolEq
 use Rattle.npr_link.specs.contracts.xdp_attached.XdpAttached.{enum as attachment_enum}
 use Rattle.npr_link.specs.contracts.xdp_attached.XdpAttachedPartialEq.TheImpl as AttachmentEq
-use Rattle.npr_link.specs.contracts.info_kind.InfoFormPartialEq.TheImpl as FormEq
 use Rattle.npr_link.specs.contracts.port_kind.InfoPortFormPartialEq.TheImpl as PortFormEq
 use Rattle.npr_link.specs.contracts.flags.LinkFlagsPartialEq.TheImpl as FlagsEq
 use Rattle.npr_link.specs.contracts.extent_mask.LinkExtentMaskPartialEq.TheImpl as ExtentMaskEq
 use Rattle.npr_link.specs.contracts.inet6_flags.Inet6IfaceFlagsPartialEq.TheImpl as Inet6FlagsEq
 use Rattle.npr_link.specs.contracts.vlan_flags.VlanFlagsPartialEq.TheImpl as VlanFlagsEq
-use Rattle.npr_link.specs.contracts.boolean_options.BridgeBooleanOptionFlagsPartialEq.TheImpl as BooleanOptionFlagsEq
-use Rattle.npr_link.specs.contracts.boolean_options.BridgeBooleanOptions.{struct as boolean_options_struct}
-use Rattle.npr_link.specs.contracts.boolean_options.BridgeBooleanOptionsPartialEq.TheImpl as BooleanOptionsEq
-use Rattle.npr_link.specs.contracts.bridge_id.BridgeId.{struct as bridge_id_struct}
-use Rattle.npr_link.specs.contracts.bridge_id.BridgeIdPartialEq.TheImpl as BridgeIdEq
 use Rattle.npr_link.specs.contracts.inet6_cache_info.Inet6CacheInfo.{struct as cache_info_struct}
 use Rattle.npr_link.specs.contracts.inet6_cache_info.Inet6CacheInfoPartialEq.TheImpl as CacheInfoEq
 use Rattle.npr_link.specs.contracts.map.Map.{struct as map_struct}
@@ -60,26 +51,20 @@ link_event_equality = enum_equality link_event_enum _ refl (one_equality unsigne
 pub link_mode_equality : IsEquality LinkModeEq.ghosts.eq
 link_mode_equality = enum_equality link_mode_enum _ refl (one_equality unsigned_Decides, tt)
 
-pub router_type_equality : IsEquality RouterTypeEq.ghosts.eq
-router_type_equality = enum_equality router_type_enum _ refl (one_equality unsigned_Decides, tt)
+pub netkit_mode_equality : IsEquality NetkitModeEq.ghosts.eq
+netkit_mode_equality = enum_equality netkit_mode_enum _ refl (one_equality unsigned_Decides, tt)
 
-pub port_state_equality : IsEquality PortStateEq.ghosts.eq
-port_state_equality = enum_equality port_state_enum _ refl (one_equality unsigned_Decides, tt)
+pub netkit_policy_equality : IsEquality NetkitPolicyEq.ghosts.eq
+netkit_policy_equality = enum_equality netkit_policy_enum _ refl (one_equality unsigned_Decides, tt)
+
+pub netkit_scrub_equality : IsEquality NetkitScrubEq.ghosts.eq
+netkit_scrub_equality = enum_equality netkit_scrub_enum _ refl (one_equality unsigned_Decides, tt)
 
 pub state_equality : IsEquality StateEq.ghosts.eq
 state_equality = enum_equality state_enum _ refl (one_equality unsigned_Decides, tt)
 
-pub stp_state_equality : IsEquality StpStateEq.ghosts.eq
-stp_state_equality = enum_equality stp_state_enum _ refl (one_equality unsigned_Decides, tt)
-
-pub vlan_protocol_equality : IsEquality VlanProtocolEq.ghosts.eq
-vlan_protocol_equality = enum_equality vlan_protocol_enum _ refl (one_equality unsigned_Decides, tt)
-
 pub attachment_equality : IsEquality AttachmentEq.ghosts.eq
 attachment_equality = enum_equality attachment_enum _ refl (one_equality unsigned_Decides, tt)
-
-pub form_equality : IsEquality FormEq.ghosts.eq
-form_equality = search rules
 
 pub port_form_equality : IsEquality PortFormEq.ghosts.eq
 port_form_equality = search rules
@@ -98,20 +83,7 @@ inet6_flags_equality = search rules
 pub vlan_flags_equality : IsEquality VlanFlagsEq.ghosts.eq
 vlan_flags_equality = search rules
 
-pub boolean_option_flags_equality : IsEquality BooleanOptionFlagsEq.ghosts.eq
-boolean_option_flags_equality = search rules
-
 -- ---- structures
-
-pub boolean_options_equality : IsEquality BooleanOptionsEq.ghosts.eq
-boolean_options_equality =
-    struct_equality boolean_options_struct (λ v. tt) (λ d. refl)
-    (boolean_option_flags_equality beside one_equality boolean_option_flags_equality)
-
-pub bridge_id_equality : IsEquality BridgeIdEq.ghosts.eq
-bridge_id_equality =
-    struct_equality bridge_id_struct (λ v. tt) (λ d. refl)
-    (unsigned_Decides beside one_equality bytes_equality)
 
 pub cache_info_equality : IsEquality CacheInfoEq.ghosts.eq
 cache_info_equality =

@@ -10,7 +10,7 @@ use Rattle.npr_base.specs.EnumTableLaws.{writing_in, attributes_in, rewritten}
 use Rattle.npr_base.specs.Family.{Writing, family_of}
 use Rattle.npr_base.specs.Framing.{Item, number_of}
 use Rattle.npr_base.specs.Tables.{marked_row, row, others, ◌or◌, boolean, byte, exactly, items, le16, le32, leading, list_of, listed, name, raw, seen}
-use Rattle.npr_base.specs.Tables.{signed32, text, value, refl, Reading, Family}
+use Rattle.npr_base.specs.Tables.{signed32, text, uint, value, refl, Reading, Family}
 use Rattle.npr_link.specs.AfSpec as OfAfSpec
 use Rattle.npr_link.specs.AfSpecs.{AfSpecs, Form, as_list, form_of, unspec, unknown, af_specs}
 use Rattle.npr_link.specs.ExtentMask.{extent_mask}
@@ -24,7 +24,6 @@ use Rattle.npr_link.specs.Prop as OfProp
 use Rattle.npr_link.specs.ProtocolDown as OfReason
 use Rattle.npr_link.specs.SharedRow.{SharedTable, first_of, shared_meaning}
 use Rattle.npr_link.specs.State.{state}
-use Rattle.npr_link.specs.Uint.{uint}
 use Rattle.npr_link.specs.Xdp as OfXdp
 use Rattle.npr_link.specs.contracts.attribute.LinkAttribute.{enum}
 use Rattle.npr_link.specs.declared.attribute.LinkAttribute.{LinkAttribute}

@@ -14,8 +14,8 @@ use Rattle.npr_base.specs.Lists.{AllOf}
 use Rattle.npr_link.specs.InfoKind as OfKind
 use Rattle.npr_link.specs.Kinds.{unterminated}
 use Rattle.npr_link.specs.PortKind as OfPortKind
-use Rattle.npr_link.specs.declared.info_kind.InfoForm.{InfoForm}
-use Rattle.npr_link.specs.declared.info_kind.InfoForm.TheVariants.{Kept}
+use Rattle.npr_link_tunnels.specs.declared.form.InfoForm.{InfoForm}
+use Rattle.npr_link_tunnels.specs.declared.form.InfoForm.TheVariants.{Kept}
 use Rattle.npr_link.specs.declared.port_kind.InfoPortForm.{InfoPortForm}
 use Rattle.npr_link.specs.declared.port_kind.InfoPortForm.TheVariants.{Kept as PortKept}
 

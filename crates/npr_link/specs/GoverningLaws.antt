@@ -13,7 +13,7 @@ use Rattle.npr_base.specs.Lists.{AllOf}
 use Rattle.npr_base.specs.TableLaws.{one_of}
 use Rattle.npr_link.specs.Governing.{Forms, told_by, told, port_told, NoneInFront, Tells, FirstTells, Governs, none_governs, or_else}
 use Rattle.npr_link.specs.Governing.{State, start, noted, is_complete, forms_of, Searching, search_ends, search_stops, both_found, searched_past, Searches}
-use Rattle.npr_link.specs.declared.info_kind.InfoForm.TheVariants.{Kept}
+use Rattle.npr_link_tunnels.specs.declared.form.InfoForm.TheVariants.{Kept}
 use Rattle.npr_link.specs.declared.port_kind.InfoPortForm.TheVariants.{Kept as PortKept}
 
 none_begins : {B : Type 0} (rest more : List ℕ) (x : Item) → NoneInFront rest → Front rest x more → B

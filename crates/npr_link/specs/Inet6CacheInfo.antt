@@ -2,7 +2,7 @@
 use Rattle.std.proofs.Common.{refl}
 use Rattle.npr_base.specs.Fields.{◌fills◌, ◌then◌, last, structure}
 use Rattle.npr_base.specs.Layout.{Layout}
-use Rattle.npr_link.specs.MoreFields.{signed_four}
+use Rattle.npr_base.specs.MoreFields.{signed_four}
 use Rattle.npr_link.specs.contracts.inet6_cache_info.Inet6CacheInfo.{struct}
 use Rattle.npr_link.specs.declared.inet6_cache_info.Inet6CacheInfo.{Inet6CacheInfo}
 

@@ -2,46 +2,125 @@
 use Rattle.std.specs.Prelude.{ℕ, List, map}
 use Rattle.std.proofs.Common.{refl}
 use Rattle.npr_base.specs.Codec.{Codec}
-use Rattle.npr_link.specs.Bridge as OfBridge
+use Rattle.npr_link.specs.Netkit as OfNetkit
 use Rattle.npr_link.specs.Veth as OfVeth
 use Rattle.npr_link.specs.Vlan as OfVlan
 use Rattle.npr_link.specs.Vrf as OfVrf
+use Rattle.npr_link_bridge.specs.Bridge as OfBridge
+use Rattle.npr_link_devices.specs.Bond as OfBond
+use Rattle.npr_link_devices.specs.IpVlan as OfIpVlan
+use Rattle.npr_link_devices.specs.MacVlan as OfMacVlan
+use Rattle.npr_link_devices.specs.Tun as OfTun
+use Rattle.npr_link_tunnels.specs.Geneve as OfGeneve
+use Rattle.npr_link_tunnels.specs.Gre as OfGre
+use Rattle.npr_link_tunnels.specs.Gre6 as OfGre6
+use Rattle.npr_link_tunnels.specs.IpTunnel as OfIpTunnel
+use Rattle.npr_link_tunnels.specs.Vti as OfVti
+use Rattle.npr_link_tunnels.specs.Vxlan as OfVxlan
+use Rattle.npr_link_tunnels.specs.Xfrm as OfXfrm
 use Rattle.npr_link.specs.Choices.{Held, as_list, as_bytes, Case, list_case, bytes_case, chosen}
 use Rattle.npr_link.specs.declared.info_data.InfoData.{InfoData}
-use Rattle.npr_link.specs.declared.info_data.InfoData.TheVariants.{Bridge as HasBridge, Vlan as HasVlan, Veth as HasVeth, Vrf as HasVrf, Other as HasOther}
-use Rattle.npr_link.specs.declared.info_kind.InfoForm.{InfoForm}
-use Rattle.npr_link.specs.declared.info_kind.InfoForm.TheVariants.{Bridge, Vlan, Veth, Vrf, Kept}
+use Rattle.npr_link.specs.declared.info_data.InfoData.TheVariants as Has
+use Rattle.npr_link_tunnels.specs.declared.form.InfoForm.{InfoForm}
+use Rattle.npr_link_tunnels.specs.declared.form.InfoForm.TheVariants as InfoForm
 
 -- data, without where they lie in memory
 pub data Data : Type 0 where
   bridge : List OfBridge.family.Meaning → Data
+  tun : List OfTun.family.Meaning → Data
   vlan : List OfVlan.family.Meaning → Data
   veth : List OfVeth.family.Meaning → Data
+  vxlan : List OfVxlan.family.Meaning → Data
+  bond : List OfBond.family.Meaning → Data
+  ip_vlan : List OfIpVlan.family.Meaning → Data
+  ip_vtap : List OfIpVlan.family.Meaning → Data
+  mac_vlan : List OfMacVlan.family.Meaning → Data
+  mac_vtap : List OfMacVlan.family.Meaning → Data
+  gre_tap : List OfGre.family.Meaning → Data
+  gre_tap6 : List OfGre6.family.Meaning → Data
+  ip_tunnel : List OfIpTunnel.family.Meaning → Data
+  gre_tun : List OfGre.family.Meaning → Data
+  gre_tun6 : List OfGre6.family.Meaning → Data
+  vti : List OfVti.family.Meaning → Data
   vrf : List OfVrf.family.Meaning → Data
+  xfrm : List OfXfrm.family.Meaning → Data
+  geneve : List OfGeneve.family.Meaning → Data
+  netkit : List OfNetkit.family.Meaning → Data
   other : List ℕ → Data
 
 abbrev pub info_data_of : InfoData → Data
-info_data_of (HasBridge xs) = bridge (map OfBridge.family.meaning xs.items)
-info_data_of (HasVlan xs) = vlan (map OfVlan.family.meaning xs.items)
-info_data_of (HasVeth xs) = veth (map OfVeth.family.meaning xs.items)
-info_data_of (HasVrf xs) = vrf (map OfVrf.family.meaning xs.items)
-info_data_of (HasOther bytes) = other bytes.items
+info_data_of (Has.Bridge xs) = bridge (map OfBridge.family.meaning xs.items)
+info_data_of (Has.Tun xs) = tun (map OfTun.family.meaning xs.items)
+info_data_of (Has.Vlan xs) = vlan (map OfVlan.family.meaning xs.items)
+info_data_of (Has.Veth xs) = veth (map OfVeth.family.meaning xs.items)
+info_data_of (Has.Vxlan xs) = vxlan (map OfVxlan.family.meaning xs.items)
+info_data_of (Has.Bond xs) = bond (map OfBond.family.meaning xs.items)
+info_data_of (Has.IpVlan xs) = ip_vlan (map OfIpVlan.family.meaning xs.items)
+info_data_of (Has.IpVtap xs) = ip_vtap (map OfIpVlan.family.meaning xs.items)
+info_data_of (Has.MacVlan xs) = mac_vlan (map OfMacVlan.family.meaning xs.items)
+info_data_of (Has.MacVtap xs) = mac_vtap (map OfMacVlan.family.meaning xs.items)
+info_data_of (Has.GreTap xs) = gre_tap (map OfGre.family.meaning xs.items)
+info_data_of (Has.GreTap6 xs) = gre_tap6 (map OfGre6.family.meaning xs.items)
+info_data_of (Has.IpTunnel xs) = ip_tunnel (map OfIpTunnel.family.meaning xs.items)
+info_data_of (Has.GreTun xs) = gre_tun (map OfGre.family.meaning xs.items)
+info_data_of (Has.GreTun6 xs) = gre_tun6 (map OfGre6.family.meaning xs.items)
+info_data_of (Has.Vti xs) = vti (map OfVti.family.meaning xs.items)
+info_data_of (Has.Vrf xs) = vrf (map OfVrf.family.meaning xs.items)
+info_data_of (Has.Xfrm xs) = xfrm (map OfXfrm.family.meaning xs.items)
+info_data_of (Has.Geneve xs) = geneve (map OfGeneve.family.meaning xs.items)
+info_data_of (Has.Netkit xs) = netkit (map OfNetkit.family.meaning xs.items)
+info_data_of (Has.Other bytes) = other bytes.items
 
 -- how they are written, whatever governs
 abbrev pub held : Data → Held
 held (bridge xs) = as_list OfBridge.attributes xs
+held (tun xs) = as_list OfTun.attributes xs
 held (vlan xs) = as_list OfVlan.attributes xs
 held (veth xs) = as_list OfVeth.attributes xs
+held (vxlan xs) = as_list OfVxlan.attributes xs
+held (bond xs) = as_list OfBond.attributes xs
+held (ip_vlan xs) = as_list OfIpVlan.attributes xs
+held (ip_vtap xs) = as_list OfIpVlan.attributes xs
+held (mac_vlan xs) = as_list OfMacVlan.attributes xs
+held (mac_vtap xs) = as_list OfMacVlan.attributes xs
+held (gre_tap xs) = as_list OfGre.attributes xs
+held (gre_tap6 xs) = as_list OfGre6.attributes xs
+held (ip_tunnel xs) = as_list (OfIpTunnel.attributes InfoForm.IpIp) xs
+held (gre_tun xs) = as_list OfGre.attributes xs
+held (gre_tun6 xs) = as_list OfGre6.attributes xs
+held (vti xs) = as_list OfVti.attributes xs
 held (vrf xs) = as_list OfVrf.attributes xs
+held (xfrm xs) = as_list OfXfrm.attributes xs
+held (geneve xs) = as_list OfGeneve.attributes xs
+held (netkit xs) = as_list OfNetkit.attributes xs
 held (other bytes) = as_bytes bytes
 
 -- and read
 abbrev pub case : InfoForm → Case held
-case Bridge = list_case held OfBridge.attributes bridge (λ xs. refl)
-case Vlan = list_case held OfVlan.attributes vlan (λ xs. refl)
-case Veth = list_case held OfVeth.attributes veth (λ xs. refl)
-case Vrf = list_case held OfVrf.attributes vrf (λ xs. refl)
-case Kept = bytes_case held other (λ bytes. refl)
+case InfoForm.Bridge = list_case held OfBridge.attributes bridge (λ xs. refl)
+case InfoForm.Tun = list_case held OfTun.attributes tun (λ xs. refl)
+case InfoForm.Vlan = list_case held OfVlan.attributes vlan (λ xs. refl)
+case InfoForm.Veth = list_case held OfVeth.attributes veth (λ xs. refl)
+case InfoForm.Vxlan = list_case held OfVxlan.attributes vxlan (λ xs. refl)
+case InfoForm.Bond = list_case held OfBond.attributes bond (λ xs. refl)
+case InfoForm.IpVlan = list_case held OfIpVlan.attributes ip_vlan (λ xs. refl)
+case InfoForm.IpVtap = list_case held OfIpVlan.attributes ip_vtap (λ xs. refl)
+case InfoForm.MacVlan = list_case held OfMacVlan.attributes mac_vlan (λ xs. refl)
+case InfoForm.MacVtap = list_case held OfMacVlan.attributes mac_vtap (λ xs. refl)
+case InfoForm.GreTap = list_case held OfGre.attributes gre_tap (λ xs. refl)
+case InfoForm.GreTap6 = list_case held OfGre6.attributes gre_tap6 (λ xs. refl)
+case InfoForm.IpIp = list_case held (OfIpTunnel.attributes InfoForm.IpIp) ip_tunnel (λ xs. refl)
+case InfoForm.Ip6Tnl = list_case held (OfIpTunnel.attributes InfoForm.Ip6Tnl) ip_tunnel (λ xs. refl)
+case InfoForm.SitTun = list_case held (OfIpTunnel.attributes InfoForm.SitTun) ip_tunnel (λ xs. refl)
+case InfoForm.GreTun = list_case held OfGre.attributes gre_tun (λ xs. refl)
+case InfoForm.GreTun6 = list_case held OfGre6.attributes gre_tun6 (λ xs. refl)
+case InfoForm.Vti = list_case held OfVti.attributes vti (λ xs. refl)
+case InfoForm.Vti6 = list_case held OfVti.attributes vti (λ xs. refl)
+case InfoForm.Vrf = list_case held OfVrf.attributes vrf (λ xs. refl)
+case InfoForm.Xfrm = list_case held OfXfrm.attributes xfrm (λ xs. refl)
+case InfoForm.Geneve = list_case held OfGeneve.attributes geneve (λ xs. refl)
+case InfoForm.Netkit = list_case held OfNetkit.attributes netkit (λ xs. refl)
+case InfoForm.Kept = bytes_case held other (λ bytes. refl)
 
 abbrev pub info_data : InfoForm → Codec Data
 info_data form = chosen held (case form)

@@ -6,8 +6,8 @@ use Rattle.npr_base.specs.Codec.{Codec}
 use Rattle.npr_base.specs.Rows.{at_variant}
 use Rattle.npr_link.specs.Kinds.{Kind, known, other, kind_codec}
 use Rattle.npr_link.specs.declared.info_kind.InfoKind.{InfoKind}
-use Rattle.npr_link.specs.declared.info_kind.InfoForm.{InfoForm}
-use Rattle.npr_link.specs.declared.info_kind.InfoForm.TheVariants.{Bridge, Vlan, Veth, Vrf, Kept}
+use Rattle.npr_link_tunnels.specs.declared.form.InfoForm.{InfoForm}
+use Rattle.npr_link_tunnels.specs.declared.form.InfoForm.TheVariants as InfoForm
 use Rattle.npr_link.specs.contracts.info_kind.InfoKind.{enum}
 
 -- in the order of the variants
@@ -17,7 +17,7 @@ info_kind_names =
     ∷ codes "vxlan" ∷ codes "bond" ∷ codes "ipvlan" ∷ codes "ipvtap" ∷ codes "macvlan" ∷ codes "macvtap" ∷ codes "gretap"
     ∷ codes "ip6gretap" ∷ codes "ipip" ∷ codes "ip6tnl" ∷ codes "sit" ∷ codes "gre" ∷ codes "ip6gre" ∷ codes "vti"
     ∷ codes "vrf" ∷ codes "gtp" ∷ codes "ipoib" ∷ codes "wireguard" ∷ codes "xfrm" ∷ codes "macsec" ∷ codes "hsr"
-    ∷ codes "geneve" ∷ codes "netkit" ∷ []
+    ∷ codes "geneve" ∷ codes "netkit" ∷ codes "vti6" ∷ []
 
 -- a kind, without where its name lies in memory
 abbrev pub info_kind_of : InfoKind → Kind
@@ -29,8 +29,27 @@ info_kind = kind_codec info_kind_names
 -- what governs data under a kind of this name
 abbrev pub form_named : List ℕ → InfoForm
 form_named text =
-    if bytes_eq text (codes "bridge") then Bridge
-    else if bytes_eq text (codes "vlan") then Vlan
-    else if bytes_eq text (codes "veth") then Veth
-    else if bytes_eq text (codes "vrf") then Vrf
-    else Kept
+    if bytes_eq text (codes "bridge") then InfoForm.Bridge
+    else if bytes_eq text (codes "tun") then InfoForm.Tun
+    else if bytes_eq text (codes "vlan") then InfoForm.Vlan
+    else if bytes_eq text (codes "veth") then InfoForm.Veth
+    else if bytes_eq text (codes "vxlan") then InfoForm.Vxlan
+    else if bytes_eq text (codes "bond") then InfoForm.Bond
+    else if bytes_eq text (codes "ipvlan") then InfoForm.IpVlan
+    else if bytes_eq text (codes "ipvtap") then InfoForm.IpVtap
+    else if bytes_eq text (codes "macvlan") then InfoForm.MacVlan
+    else if bytes_eq text (codes "macvtap") then InfoForm.MacVtap
+    else if bytes_eq text (codes "gretap") then InfoForm.GreTap
+    else if bytes_eq text (codes "ip6gretap") then InfoForm.GreTap6
+    else if bytes_eq text (codes "ipip") then InfoForm.IpIp
+    else if bytes_eq text (codes "ip6tnl") then InfoForm.Ip6Tnl
+    else if bytes_eq text (codes "sit") then InfoForm.SitTun
+    else if bytes_eq text (codes "gre") then InfoForm.GreTun
+    else if bytes_eq text (codes "ip6gre") then InfoForm.GreTun6
+    else if bytes_eq text (codes "vti") then InfoForm.Vti
+    else if bytes_eq text (codes "vrf") then InfoForm.Vrf
+    else if bytes_eq text (codes "xfrm") then InfoForm.Xfrm
+    else if bytes_eq text (codes "geneve") then InfoForm.Geneve
+    else if bytes_eq text (codes "netkit") then InfoForm.Netkit
+    else if bytes_eq text (codes "vti6") then InfoForm.Vti6
+    else InfoForm.Kept

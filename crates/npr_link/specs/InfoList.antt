@@ -29,8 +29,8 @@ use Rattle.npr_link.specs.InfoOnce.{info_once}
 use Rattle.npr_link.specs.Kinds.{Kind, IsKind, kind_name, unterminated, is-unterminated}
 use Rattle.npr_link.specs.PortKind as OfPortKind
 use Rattle.npr_link.specs.ShortLists.{short-reads, short-fault, short-plain}
-use Rattle.npr_link.specs.declared.info_kind.InfoForm.{InfoForm}
-use Rattle.npr_link.specs.declared.info_kind.InfoForm.TheVariants.{Kept}
+use Rattle.npr_link_tunnels.specs.declared.form.InfoForm.{InfoForm}
+use Rattle.npr_link_tunnels.specs.declared.form.InfoForm.TheVariants.{Kept}
 use Rattle.npr_link.specs.declared.port_kind.InfoPortForm.{InfoPortForm}
 use Rattle.npr_link.specs.declared.port_kind.InfoPortForm.TheVariants.{Kept as PortKept}
 

@@ -2,7 +2,7 @@
 use Rattle.std.proofs.Common.{refl}
 use Rattle.npr_base.specs.Fields.{one_byte, le_two, le_eight, unused, ◌fills◌, ◌then◌, last, structure}
 use Rattle.npr_base.specs.Layout.{Layout}
-use Rattle.npr_link.specs.MoreFields.{◌behind◌}
+use Rattle.npr_base.specs.MoreFields.{◌behind◌}
 use Rattle.npr_link.specs.contracts.map.Map.{struct}
 use Rattle.npr_link.specs.declared.map.Map.{Map}
 

@@ -7,7 +7,7 @@ use Rattle.npr_base.specs.Rows.{at_variant}
 use Rattle.npr_link.specs.Kinds.{Kind, known, other, kind_codec}
 use Rattle.npr_link.specs.declared.port_kind.InfoPortKind.{InfoPortKind}
 use Rattle.npr_link.specs.declared.port_kind.InfoPortForm.{InfoPortForm}
-use Rattle.npr_link.specs.declared.port_kind.InfoPortForm.TheVariants.{Bridge, Vrf, Kept}
+use Rattle.npr_link.specs.declared.port_kind.InfoPortForm.TheVariants as InfoPortForm
 use Rattle.npr_link.specs.contracts.port_kind.InfoPortKind.{enum}
 
 -- in the order of the variants
@@ -25,6 +25,7 @@ port_kind = kind_codec port_kind_names
 -- what governs data under a kind of this name
 abbrev pub form_named : List ℕ → InfoPortForm
 form_named text =
-    if bytes_eq text (codes "bridge") then Bridge
-    else if bytes_eq text (codes "vrf") then Vrf
-    else Kept
+    if bytes_eq text (codes "bridge") then InfoPortForm.Bridge
+    else if bytes_eq text (codes "vrf") then InfoPortForm.Vrf
+    else if bytes_eq text (codes "bond") then InfoPortForm.Bond
+    else InfoPortForm.Kept

@@ -3,7 +3,7 @@ use Rattle.npr_base.specs.declared.refusal.AttrFamily.TheVariants.{InfoVlan as A
 use Rattle.npr_base.specs.Tables.{EnumTable, table_of, row, others, ◌or◌, exactly, le16, list_of, listed, value, refl, Reading, Family, writing_of}
 use Rattle.npr_base.specs.Tables.{attributes_of, family_of_table}
 use Rattle.npr_link.specs.Pairs.{two_flags}
-use Rattle.npr_link.specs.VlanProtocol.{vlan_protocol}
+use Rattle.npr_link_bridge.specs.VlanProtocol.{vlan_protocol}
 use Rattle.npr_link.specs.VlanQos as OfVlanQos
 use Rattle.npr_link.specs.contracts.vlan.InfoVlan.{enum}
 use Rattle.npr_link.specs.declared.vlan.InfoVlan.{InfoVlan}

@@ -27,13 +27,12 @@ use crate::map::Map;
 use crate::prop::Prop;
 use crate::protocol_down::LinkProtocolDownReason;
 use crate::state::State;
-use crate::values::{read_uint, uint_len, write_uint};
 use crate::xdp::LinkXdp;
 use bitflags::Flags;
 use npr_base::{
-    AddressFamily, At, AttrFamily, Attribute, DecodeError, DefaultNla, EmitError, Form, Looks,
-    NLA_F_NESTED, Nla, NlaBuffer, Place, check_list, clone_list, parse_list, put_read, read_bytes,
-    write_bytes, write_list,
+    AddressFamily, At, Attribute, DecodeError, DefaultNla, EmitError, Form, Looks, NLA_F_NESTED,
+    Nla, NlaBuffer, Place, check_list, clone_list, parse_list, put_read, read_bytes, write_bytes,
+    write_list,
 };
 use npr_link_numbers::{Stats, Stats64};
 use std::alloc::{AllocError, Global};
@@ -167,9 +166,6 @@ pub enum LinkAttribute {
 /// The number of what address families say, `IFLA_AF_SPEC`.
 const IFLA_AF_SPEC: u16 = 26;
 
-/// The number of how far ahead packets can be held back, `IFLA_MAX_PACING_OFFLOAD_HORIZON`.
-pub(crate) const IFLA_MAX_PACING_OFFLOAD_HORIZON: u16 = 66;
-
 /// The number of what a driver says, `IFLA_LINKINFO`.
 const IFLA_LINKINFO: u16 = 18;
 
@@ -229,6 +225,7 @@ macro_rules! rows {
             61 AllMulti(le32);
             63 GsoIpv4MaxSize(le32);
             64 GroIpv4MaxSize(le32);
+            66 MaxPacingOffloadHorizon(uint);
             67 NetnsImmutable(boolean);
             68 Headroom(le16);
             69 Tailroom(le16);
@@ -244,7 +241,6 @@ impl Nla for LinkAttribute {
             LinkAttribute::AfSpecUnspec(_) => IFLA_AF_SPEC,
             LinkAttribute::AfSpecUnknown(_) => IFLA_AF_SPEC,
             LinkAttribute::LinkInfo(_) => IFLA_LINKINFO,
-            LinkAttribute::MaxPacingOffloadHorizon(_) => IFLA_MAX_PACING_OFFLOAD_HORIZON,
         ))
     }
 
@@ -257,7 +253,6 @@ impl Nla for LinkAttribute {
             LinkAttribute::AfSpecUnspec(xs) => check_list(xs.as_slice())?,
             LinkAttribute::AfSpecUnknown(x) => x.len(),
             LinkAttribute::LinkInfo(xs) => check_list(xs.as_slice())?,
-            LinkAttribute::MaxPacingOffloadHorizon(x) => uint_len(*x),
         )))
     }
 
@@ -266,7 +261,6 @@ impl Nla for LinkAttribute {
             LinkAttribute::AfSpecUnspec(xs) => write_list(xs.as_slice(), out),
             LinkAttribute::AfSpecUnknown(x) => write_bytes(x.as_slice(), out),
             LinkAttribute::LinkInfo(xs) => write_list(xs.as_slice(), out),
-            LinkAttribute::MaxPacingOffloadHorizon(x) => write_uint(*x, out),
         ))
     }
 }
@@ -354,13 +348,7 @@ fn put_flat<P: Place<LinkAttribute>>(
     ensures exact { Answered result → FlatLooks item.now looks.old looks.new }
     ensures bounded { AddsAtMost looks.old looks.new (length (item.now).value) }
 {
-    rows!(put_rows(place, alloc, item, looks;
-        IFLA_MAX_PACING_OFFLOAD_HORIZON => put_read(
-            place,
-            read_uint(item.value(), AttrFamily::Link.at(IFLA_MAX_PACING_OFFLOAD_HORIZON)),
-            LinkAttribute::MaxPacingOffloadHorizon,
-        ),
-    ))
+    rows!(put_rows(place, alloc, item, looks))
 }
 
 impl Attribute for LinkAttribute {
@@ -389,7 +377,6 @@ impl Attribute for LinkAttribute {
         rows!(form_rows(number;
             IFLA_AF_SPEC => af_spec_form(family),
             IFLA_LINKINFO => Form::Inside,
-            IFLA_MAX_PACING_OFFLOAD_HORIZON => Form::Inside,
         ))
     }
 
@@ -398,7 +385,6 @@ impl Attribute for LinkAttribute {
             LinkAttribute::AfSpecUnspec(xs) => clone_list(alloc, xs.as_slice()).map(LinkAttribute::AfSpecUnspec),
             LinkAttribute::LinkInfo(xs) => clone_list(alloc, xs.as_slice()).map(LinkAttribute::LinkInfo),
             LinkAttribute::AfSpecUnknown(x) => Vec::from_slice(alloc, x.as_slice()).map(LinkAttribute::AfSpecUnknown),
-            LinkAttribute::MaxPacingOffloadHorizon(x) => Ok(LinkAttribute::MaxPacingOffloadHorizon(*x)),
         ))
     }
 }

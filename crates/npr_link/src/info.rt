@@ -4,13 +4,14 @@ ghost use Rattle.std.specs.Prelude.{refl};
 ghost use Rattle.{npr_base.specs.Family.{shaped}, npr_link.specs.Info.{family}};
 
 use crate::info_data::InfoData;
-use crate::info_kind::{InfoForm, InfoKind};
+use crate::info_kind::InfoKind;
 use crate::port_data::InfoPortData;
 use crate::port_kind::{InfoPortForm, InfoPortKind};
 use npr_base::{
     At, AttrFamily, Attribute, DecodeError, DefaultNla, EmitError, Form, Looks, Nla, NlaBuffer,
     Place, put_read, read_bytes, write_bytes,
 };
+use npr_link_tunnels::InfoForm;
 use std::alloc::{AllocError, Global};
 
 /// What a driver says of a link. Data are read by the first kind of their list, wherever it stands.

@@ -13,13 +13,17 @@ ghost use Rattle.{
   npr_link.specs.InfoData.{case, held, info_data, info_data_of},
 };
 
-use crate::bridge::InfoBridge;
-use crate::info_kind::InfoForm;
+use crate::netkit::InfoNetkit;
 use crate::veth::InfoVeth;
 use crate::vlan::InfoVlan;
 use crate::vrf::InfoVrf;
 use crate::{data_checked, data_cloned, data_written};
 use npr_base::{DecodeError, EmitError, Form, Looks, parse_list, read_bytes};
+use npr_link_bridge::InfoBridge;
+use npr_link_devices::{InfoBond, InfoIpVlan, InfoIpVtap, InfoMacVlan, InfoMacVtap, InfoTun};
+use npr_link_tunnels::{
+    InfoForm, InfoGeneve, InfoGre, InfoGre6, InfoIpTunnel, InfoVti, InfoVxlan, InfoXfrm,
+};
 use std::alloc::{AllocError, Global};
 
 /// The data of a link: what they are follows from the first kind in the list that they stand in.
@@ -27,12 +31,44 @@ use std::alloc::{AllocError, Global};
 pub enum InfoData {
     /// A bridge.
     Bridge(Vec<InfoBridge>),
+    /// A tunnel to a program.
+    Tun(Vec<InfoTun>),
     /// A VLAN.
     Vlan(Vec<InfoVlan>),
     /// One of a pair.
     Veth(Vec<InfoVeth>),
+    /// A tunnel of VXLAN.
+    Vxlan(Vec<InfoVxlan>),
+    /// A bond.
+    Bond(Vec<InfoBond>),
+    /// A link that shares the address of the one under it.
+    IpVlan(Vec<InfoIpVlan>),
+    /// The same, with a character device.
+    IpVtap(Vec<InfoIpVtap>),
+    /// A link with an address of its own over another.
+    MacVlan(Vec<InfoMacVlan>),
+    /// The same, with a character device.
+    MacVtap(Vec<InfoMacVtap>),
+    /// Ethernet over GRE.
+    GreTap(Vec<InfoGre>),
+    /// Ethernet over GRE over IP version 6.
+    GreTap6(Vec<InfoGre6>),
+    /// A tunnel of IP in IP, over version 4 or 6.
+    IpTunnel(Vec<InfoIpTunnel>),
+    /// GRE.
+    GreTun(Vec<InfoGre>),
+    /// GRE over IP version 6.
+    GreTun6(Vec<InfoGre6>),
+    /// A virtual tunnel interface, over version 4 or 6.
+    Vti(Vec<InfoVti>),
     /// A routing domain.
     Vrf(Vec<InfoVrf>),
+    /// An IPsec interface.
+    Xfrm(Vec<InfoXfrm>),
+    /// A tunnel of Geneve.
+    Geneve(Vec<InfoGeneve>),
+    /// One of a pair that runs programs.
+    Netkit(Vec<InfoNetkit>),
     /// The bytes of data that nothing governs, or a kind without a family.
     Other(Vec<u8>),
 }
@@ -42,9 +78,25 @@ macro_rules! variants {
     ($body:ident ($($given:tt)*)) => {
         $body!(($($given)*) InfoData {
             Bridge;
+            Tun;
             Vlan;
             Veth;
+            Vxlan;
+            Bond;
+            IpVlan;
+            IpVtap;
+            MacVlan;
+            MacVtap;
+            GreTap;
+            GreTap6;
+            IpTunnel;
+            GreTun;
+            GreTun6;
+            Vti;
             Vrf;
+            Xfrm;
+            Geneve;
+            Netkit;
         })
     };
 }
@@ -69,9 +121,43 @@ impl InfoData {
     {
         match form {
             InfoForm::Bridge => Ok(InfoData::Bridge(parse_list(alloc, (), bytes, looks)?)),
+            InfoForm::Tun => Ok(InfoData::Tun(parse_list(alloc, (), bytes, looks)?)),
             InfoForm::Vlan => Ok(InfoData::Vlan(parse_list(alloc, (), bytes, looks)?)),
             InfoForm::Veth => Ok(InfoData::Veth(parse_list(alloc, (), bytes, looks)?)),
+            InfoForm::Vxlan => Ok(InfoData::Vxlan(parse_list(alloc, (), bytes, looks)?)),
+            InfoForm::Bond => Ok(InfoData::Bond(parse_list(alloc, (), bytes, looks)?)),
+            InfoForm::IpVlan => Ok(InfoData::IpVlan(parse_list(alloc, (), bytes, looks)?)),
+            InfoForm::IpVtap => Ok(InfoData::IpVtap(parse_list(alloc, (), bytes, looks)?)),
+            InfoForm::MacVlan => Ok(InfoData::MacVlan(parse_list(alloc, (), bytes, looks)?)),
+            InfoForm::MacVtap => Ok(InfoData::MacVtap(parse_list(alloc, (), bytes, looks)?)),
+            InfoForm::GreTap => Ok(InfoData::GreTap(parse_list(alloc, (), bytes, looks)?)),
+            InfoForm::GreTap6 => Ok(InfoData::GreTap6(parse_list(alloc, (), bytes, looks)?)),
+            InfoForm::IpIp => Ok(InfoData::IpTunnel(parse_list(
+                alloc,
+                InfoForm::IpIp,
+                bytes,
+                looks,
+            )?)),
+            InfoForm::Ip6Tnl => Ok(InfoData::IpTunnel(parse_list(
+                alloc,
+                InfoForm::Ip6Tnl,
+                bytes,
+                looks,
+            )?)),
+            InfoForm::SitTun => Ok(InfoData::IpTunnel(parse_list(
+                alloc,
+                InfoForm::SitTun,
+                bytes,
+                looks,
+            )?)),
+            InfoForm::GreTun => Ok(InfoData::GreTun(parse_list(alloc, (), bytes, looks)?)),
+            InfoForm::GreTun6 => Ok(InfoData::GreTun6(parse_list(alloc, (), bytes, looks)?)),
+            InfoForm::Vti => Ok(InfoData::Vti(parse_list(alloc, (), bytes, looks)?)),
+            InfoForm::Vti6 => Ok(InfoData::Vti(parse_list(alloc, (), bytes, looks)?)),
             InfoForm::Vrf => Ok(InfoData::Vrf(parse_list(alloc, (), bytes, looks)?)),
+            InfoForm::Xfrm => Ok(InfoData::Xfrm(parse_list(alloc, (), bytes, looks)?)),
+            InfoForm::Geneve => Ok(InfoData::Geneve(parse_list(alloc, (), bytes, looks)?)),
+            InfoForm::Netkit => Ok(InfoData::Netkit(parse_list(alloc, (), bytes, looks)?)),
             InfoForm::Kept => Ok(InfoData::Other(read_bytes(alloc, bytes)?)),
         }
     }

@@ -6,8 +6,9 @@ ghost use Rattle.{
   npr_link.specs.{Kinds.{IsKnown, TakesMemory, other, kind_in, kind_name}, InfoKind.{info_kind_of, info_kind_names, info_kind, form_named}},
 };
 
-use crate::{name_of_variant, variant_cloned, variant_of_name};
+use crate::{form_of_kind, name_of_variant, variant_cloned, variant_of_name};
 use npr_base::{At, DecodeError, without_zero, write_name};
+use npr_link_tunnels::InfoForm;
 use std::alloc::{AllocError, Global};
 use std::fmt;
 use std::str::from_utf8;
@@ -75,23 +76,10 @@ pub enum InfoKind {
     Geneve,
     /// `netkit`: one of a pair that runs programs.
     Netkit,
+    /// `vti6`: a virtual tunnel interface over IP version 6.
+    Vti6,
     /// Any other name.
     Other(String),
-}
-
-/// What governs the data of a link: the kinds whose data have a family.
-#[derive(Clone, Copy, Debug, PartialEq, Eq)]
-pub enum InfoForm {
-    /// The data of `bridge`.
-    Bridge,
-    /// The data of `vlan`.
-    Vlan,
-    /// The data of `veth`.
-    Veth,
-    /// The data of `vrf`.
-    Vrf,
-    /// Data that are kept as they stand.
-    Kept,
 }
 
 /// Their names.
@@ -128,6 +116,38 @@ macro_rules! names {
             "hsr" Hsr;
             "geneve" Geneve;
             "netkit" Netkit;
+            "vti6" Vti6;
+        })
+    };
+}
+
+/// What governs data, by the names of the kinds.
+macro_rules! forms {
+    ($body:ident ($($given:tt)*)) => {
+        $body!(($($given)*) InfoForm {
+            "bridge" Bridge;
+            "tun" Tun;
+            "vlan" Vlan;
+            "veth" Veth;
+            "vxlan" Vxlan;
+            "bond" Bond;
+            "ipvlan" IpVlan;
+            "ipvtap" IpVtap;
+            "macvlan" MacVlan;
+            "macvtap" MacVtap;
+            "gretap" GreTap;
+            "ip6gretap" GreTap6;
+            "ipip" IpIp;
+            "ip6tnl" Ip6Tnl;
+            "sit" SitTun;
+            "gre" GreTun;
+            "ip6gre" GreTun6;
+            "vti" Vti;
+            "vrf" Vrf;
+            "xfrm" Xfrm;
+            "geneve" Geneve;
+            "netkit" Netkit;
+            "vti6" Vti6;
         })
     };
 }
@@ -157,17 +177,7 @@ fn named(alloc: Global, text: &str) -> Result<InfoKind, AllocError>
 pub(crate) fn form_of_name(name: &[u8]) -> InfoForm
     ensures { result ≡ form_named name.now }
 {
-    if name == "bridge".as_bytes() {
-        InfoForm::Bridge
-    } else if name == "vlan".as_bytes() {
-        InfoForm::Vlan
-    } else if name == "veth".as_bytes() {
-        InfoForm::Veth
-    } else if name == "vrf".as_bytes() {
-        InfoForm::Vrf
-    } else {
-        InfoForm::Kept
-    }
+    forms!(form_of_kind(name))
 }
 
 impl InfoKind {

@@ -18,9 +18,10 @@ ghost use Rattle.{
 };
 
 use crate::info::{IFLA_INFO_KIND, IFLA_INFO_SLAVE_KIND, LinkInfo};
-use crate::info_kind::{InfoForm, form_of_name};
+use crate::info_kind::form_of_name;
 use crate::port_kind::{InfoPortForm, form_of_name as port_form_of_name};
 use npr_base::{DecodeError, Looks, NlaBuffer, NlasIterator, parse_list, without_zero};
+use npr_link_tunnels::InfoForm;
 use std::alloc::Global;
 
 /// What was found so far of what governs the data of a link, and of a port.

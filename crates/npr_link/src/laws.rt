@@ -18,9 +18,6 @@ ghost use Rattle.{
     AfSpecInet.{family as inet_family},
     AfSpecInet6.{family as inet6_family},
     Attribute.{family},
-    BooleanOptions.{boolean_option_bits},
-    Bridge.{family as bridge_family},
-    BridgePort.{family as bridge_port_family},
     ExtentMask.{extent_mask_bits},
     Flags.{link_flag_bits},
     Governing.{Forms, Governs, Searches},
@@ -34,21 +31,20 @@ ghost use Rattle.{
     LinkEvent.{link_events},
     LinkMode.{link_modes},
     Message.{links},
-    MulticastRouter.{router_types},
+    Netkit.{family as netkit_family},
+    NetkitMode.{netkit_modes},
+    NetkitPolicy.{netkit_policies},
+    NetkitScrub.{netkit_scrubs},
     Peer.{peer_of},
     PeerAttribute.{family as peer_family},
     PortData.{port_data_of},
     PortKind.{port_kind_of},
-    PortState.{port_states},
     Prop.{family as prop_family},
     ProtocolDown.{family as reason_family},
-    QuerierState.{family as querier_family},
     State.{states},
-    StpState.{stp_states},
     Veth.{family as veth_family},
     Vlan.{family as vlan_family},
     VlanFlags.{vlan_flag_bits},
-    VlanProtocol.{vlan_protocols},
     VlanQos.{family as qos_family},
     Vrf.{family as vrf_family},
     Xdp.{family as xdp_family},
@@ -61,10 +57,6 @@ use crate::af_spec::AfSpecUnspec;
 use crate::af_spec_inet::AfSpecInet;
 use crate::af_spec_inet6::AfSpecInet6;
 use crate::attribute::LinkAttribute;
-use crate::boolean_options::{BridgeBooleanOptionFlags, BridgeBooleanOptions};
-use crate::bridge::InfoBridge;
-use crate::bridge_id::BridgeId;
-use crate::bridge_port::InfoBridgePort;
 use crate::extent_mask::LinkExtentMask;
 use crate::flags::LinkFlags;
 use crate::header::{LinkHeader, LinkMessageBuffer};
@@ -72,27 +64,26 @@ use crate::inet6_cache_info::Inet6CacheInfo;
 use crate::inet6_flags::Inet6IfaceFlags;
 use crate::info::LinkInfo;
 use crate::info_data::InfoData;
-use crate::info_kind::{InfoForm, InfoKind};
+use crate::info_kind::InfoKind;
 use crate::layer_type::LinkLayerType;
 use crate::link_event::LinkEvent;
 use crate::link_mode::LinkMode;
 use crate::map::Map;
 use crate::message::LinkMessage;
-use crate::multicast_router::BridgeMulticastRouterType;
+use crate::netkit::InfoNetkit;
+use crate::netkit_mode::NetkitMode;
+use crate::netkit_policy::NetkitPolicy;
+use crate::netkit_scrub::NetkitScrub;
 use crate::peer::LinkPeer;
 use crate::peer_attribute::PeerAttribute;
 use crate::port_data::InfoPortData;
 use crate::port_kind::{InfoPortForm, InfoPortKind};
-use crate::port_state::BridgePortState;
 use crate::prop::Prop;
 use crate::protocol_down::LinkProtocolDownReason;
-use crate::querier_state::BridgeQuerierState;
 use crate::state::State;
-use crate::stp_state::BridgeStpState;
 use crate::veth::InfoVeth;
 use crate::vlan::InfoVlan;
 use crate::vlan_flags::VlanFlags;
-use crate::vlan_protocol::VlanProtocol;
 use crate::vlan_qos::VlanQosMapping;
 use crate::vrf::InfoVrf;
 use crate::xdp::LinkXdp;
@@ -103,12 +94,11 @@ pub fn law_numbers()
     ensures address_modes { (d : ℕ) → address_modes.number (address_modes.of d) ≡ d }
     ensures layer_types { (d : ℕ) → layer_types.number (layer_types.of d) ≡ d }
     ensures link_events { (d : ℕ) → link_events.number (link_events.of d) ≡ d }
+    ensures netkit_modes { (d : ℕ) → netkit_modes.number (netkit_modes.of d) ≡ d }
+    ensures netkit_policies { (d : ℕ) → netkit_policies.number (netkit_policies.of d) ≡ d }
+    ensures netkit_scrubs { (d : ℕ) → netkit_scrubs.number (netkit_scrubs.of d) ≡ d }
     ensures link_modes { (d : ℕ) → link_modes.number (link_modes.of d) ≡ d }
-    ensures router_types { (d : ℕ) → router_types.number (router_types.of d) ≡ d }
-    ensures port_states { (d : ℕ) → port_states.number (port_states.of d) ≡ d }
     ensures states { (d : ℕ) → states.number (states.of d) ≡ d }
-    ensures stp_states { (d : ℕ) → stp_states.number (stp_states.of d) ≡ d }
-    ensures vlan_protocols { (d : ℕ) → vlan_protocols.number (vlan_protocols.of d) ≡ d }
     ensures attachments { (d : ℕ) → attachments.number (attachments.of d) ≡ d }
 {}
 
@@ -131,9 +121,9 @@ pub fn law_search()
         → FirstFault (attributes c).Reads (attributes c).Faulty bytes e → info_list.Wrong no_place bytes e }
 {}
 
-/// `Auto` is another name of a type.
-pub fn law_router_types()
-    ensures { BridgeMulticastRouterType.Auto ≡ BridgeMulticastRouterType.TempQuery }
+/// `Forward` is another name of a policy.
+pub fn law_netkit_policies()
+    ensures { NetkitPolicy.Forward ≡ NetkitPolicy.Pass }
 {}
 
 /// The named flags of a link, by their bits (`linux/if.h`).
@@ -145,8 +135,8 @@ pub fn law_link_flags()
         ∷ (2 ^ 15, LinkFlags.Dynamic) ∷ (2 ^ 16, LinkFlags.LowerUp) ∷ (2 ^ 17, LinkFlags.Dormant) ∷ (2 ^ 18, LinkFlags.Echo) ∷ []) ≡ true }
 {}
 
-/// The named flags of what stands in a link message, by their bits (`linux/rtnetlink.h`, `net/if_inet6.h`,
-/// `linux/if_vlan.h` and `linux/if_bridge.h`).
+/// The named flags of what stands in a link message, by their bits (`linux/rtnetlink.h`, `net/if_inet6.h`
+/// and `linux/if_vlan.h`).
 pub fn law_flags()
     ensures extent_mask { agrees extent_mask_bits.number ((2 ^ 0, LinkExtentMask.Vf) ∷ (2 ^ 1, LinkExtentMask.Brvlan) ∷ (2 ^ 2, LinkExtentMask.BrvlanCompressed)
         ∷ (2 ^ 3, LinkExtentMask.SkipStats) ∷ (2 ^ 4, LinkExtentMask.Mrp) ∷ (2 ^ 5, LinkExtentMask.CfmConfig)
@@ -155,9 +145,6 @@ pub fn law_flags()
         ∷ (2 ^ 7, Inet6IfaceFlags.Otherconf) ∷ (2 ^ 31, Inet6IfaceFlags.Ready) ∷ []) ≡ true }
     ensures vlan_flags { agrees vlan_flag_bits.number ((2 ^ 0, VlanFlags.ReorderHdr) ∷ (2 ^ 1, VlanFlags.Gvrp) ∷ (2 ^ 2, VlanFlags.LooseBinding)
         ∷ (2 ^ 3, VlanFlags.Mvrp) ∷ (2 ^ 4, VlanFlags.BridgeBinding) ∷ []) ≡ true }
-    ensures boolean_options { agrees boolean_option_bits.number ((2 ^ 0, BridgeBooleanOptionFlags.NoLinkLocalLearn)
-        ∷ (2 ^ 1, BridgeBooleanOptionFlags.VlanMulticastSnooping) ∷ (2 ^ 2, BridgeBooleanOptionFlags.MstEnable)
-        ∷ (2 ^ 3, BridgeBooleanOptionFlags.MdbOffloadFailNotif) ∷ (2 ^ 4, BridgeBooleanOptionFlags.FdbLocalVlan0) ∷ []) ≡ true }
 {}
 
 /// Which value is the default.
@@ -166,14 +153,10 @@ pub fn law_default()
     ensures layer_type { (x : LinkLayerType) → ⟦<LinkLayerType as Default>⟧.is_default x → x ≡ LinkLayerType.Netrom }
     ensures link_event { (x : LinkEvent) → ⟦<LinkEvent as Default>⟧.is_default x → x ≡ LinkEvent.None }
     ensures link_mode { (x : LinkMode) → ⟦<LinkMode as Default>⟧.is_default x → x ≡ LinkMode.Default }
-    ensures vlan_protocol { (x : VlanProtocol) → ⟦<VlanProtocol as Default>⟧.is_default x → x ≡ VlanProtocol.Ieee8021Q }
     ensures flags { (x : LinkFlags) → ⟦<LinkFlags as Default>⟧.is_default x → x ≡ link_flag_bits.of 0 }
     ensures extent_mask { (x : LinkExtentMask) → ⟦<LinkExtentMask as Default>⟧.is_default x → x ≡ extent_mask_bits.of 0 }
     ensures inet6_flags { (x : Inet6IfaceFlags) → ⟦<Inet6IfaceFlags as Default>⟧.is_default x → x ≡ inet6_flag_bits.of 0 }
     ensures vlan_flags { (x : VlanFlags) → ⟦<VlanFlags as Default>⟧.is_default x → x ≡ vlan_flag_bits.of 0 }
-    ensures boolean_option_flags { (x : BridgeBooleanOptionFlags) → ⟦<BridgeBooleanOptionFlags as Default>⟧.is_default x → x ≡ boolean_option_bits.of 0 }
-    ensures boolean_options { (x : BridgeBooleanOptions) → ⟦<BridgeBooleanOptions as Default>⟧.is_default x → x ≡ record { value = boolean_option_bits.of 0; mask = boolean_option_bits.of 0 } }
-    ensures bridge_id { (x : BridgeId) → ⟦<BridgeId as Default>⟧.is_default x → x ≡ record { priority = 0; address = 0 ∷ 0 ∷ 0 ∷ 0 ∷ 0 ∷ 0 ∷ [] } }
     ensures cache_info { (x : Inet6CacheInfo) → ⟦<Inet6CacheInfo as Default>⟧.is_default x → x ≡ record { max_reasm_len = pos 0; tstamp = pos 0; reachable_time = pos 0; retrans_time = pos 0 } }
     ensures map { (x : Map) → ⟦<Map as Default>⟧.is_default x → x ≡ record { memory_start = 0; memory_end = 0; base_address = 0; irq = 0; dma = 0; port = 0 } }
     ensures header { (x : LinkHeader) → ⟦<LinkHeader as Default>⟧.is_default x → x ≡ default_header }
@@ -184,22 +167,17 @@ pub fn law_equality()
     ensures address_mode { IsEquality ⟦<In6AddrGenMode as PartialEq>⟧.eq }
     ensures layer_type { IsEquality ⟦<LinkLayerType as PartialEq>⟧.eq }
     ensures link_event { IsEquality ⟦<LinkEvent as PartialEq>⟧.eq }
+    ensures netkit_mode { IsEquality ⟦<NetkitMode as PartialEq>⟧.eq }
+    ensures netkit_policy { IsEquality ⟦<NetkitPolicy as PartialEq>⟧.eq }
+    ensures netkit_scrub { IsEquality ⟦<NetkitScrub as PartialEq>⟧.eq }
     ensures link_mode { IsEquality ⟦<LinkMode as PartialEq>⟧.eq }
-    ensures router_type { IsEquality ⟦<BridgeMulticastRouterType as PartialEq>⟧.eq }
-    ensures port_state { IsEquality ⟦<BridgePortState as PartialEq>⟧.eq }
     ensures state { IsEquality ⟦<State as PartialEq>⟧.eq }
-    ensures stp_state { IsEquality ⟦<BridgeStpState as PartialEq>⟧.eq }
-    ensures vlan_protocol { IsEquality ⟦<VlanProtocol as PartialEq>⟧.eq }
     ensures attachment { IsEquality ⟦<XdpAttached as PartialEq>⟧.eq }
-    ensures form { IsEquality ⟦<InfoForm as PartialEq>⟧.eq }
     ensures port_form { IsEquality ⟦<InfoPortForm as PartialEq>⟧.eq }
     ensures flags { IsEquality ⟦<LinkFlags as PartialEq>⟧.eq }
     ensures extent_mask { IsEquality ⟦<LinkExtentMask as PartialEq>⟧.eq }
     ensures inet6_flags { IsEquality ⟦<Inet6IfaceFlags as PartialEq>⟧.eq }
     ensures vlan_flags { IsEquality ⟦<VlanFlags as PartialEq>⟧.eq }
-    ensures boolean_option_flags { IsEquality ⟦<BridgeBooleanOptionFlags as PartialEq>⟧.eq }
-    ensures boolean_options { IsEquality ⟦<BridgeBooleanOptions as PartialEq>⟧.eq }
-    ensures bridge_id { IsEquality ⟦<BridgeId as PartialEq>⟧.eq }
     ensures cache_info { IsEquality ⟦<Inet6CacheInfo as PartialEq>⟧.eq }
     ensures map { IsEquality ⟦<Map as PartialEq>⟧.eq }
     ensures header { IsEquality ⟦<LinkHeader as PartialEq>⟧.eq }
@@ -214,15 +192,13 @@ pub fn law_equality_of_meanings()
     ensures xdp { IsEqualityOf xdp_family.meaning ⟦<LinkXdp as PartialEq>⟧.eq }
     ensures prop { IsEqualityOf prop_family.meaning ⟦<Prop as PartialEq>⟧.eq }
     ensures reason { IsEqualityOf reason_family.meaning ⟦<LinkProtocolDownReason as PartialEq>⟧.eq }
-    ensures querier { IsEqualityOf querier_family.meaning ⟦<BridgeQuerierState as PartialEq>⟧.eq }
-    ensures bridge { IsEqualityOf bridge_family.meaning ⟦<InfoBridge as PartialEq>⟧.eq }
-    ensures bridge_port { IsEqualityOf bridge_port_family.meaning ⟦<InfoBridgePort as PartialEq>⟧.eq }
     ensures qos { IsEqualityOf qos_family.meaning ⟦<VlanQosMapping as PartialEq>⟧.eq }
     ensures vlan { IsEqualityOf vlan_family.meaning ⟦<InfoVlan as PartialEq>⟧.eq }
     ensures vrf { IsEqualityOf vrf_family.meaning ⟦<InfoVrf as PartialEq>⟧.eq }
     ensures peer_attribute { IsEqualityOf peer_family.meaning ⟦<PeerAttribute as PartialEq>⟧.eq }
     ensures peer { IsEqualityOf peer_of ⟦<LinkPeer as PartialEq>⟧.eq }
     ensures veth { IsEqualityOf veth_family.meaning ⟦<InfoVeth as PartialEq>⟧.eq }
+    ensures netkit { IsEqualityOf netkit_family.meaning ⟦<InfoNetkit as PartialEq>⟧.eq }
     ensures kind { IsEqualityOf info_kind_of ⟦<InfoKind as PartialEq>⟧.eq }
     ensures port_kind { IsEqualityOf port_kind_of ⟦<InfoPortKind as PartialEq>⟧.eq }
     ensures info_data { IsEqualityOf info_data_of ⟦<InfoData as PartialEq>⟧.eq }

@@ -13,11 +13,12 @@ ghost use Rattle.{
   npr_link.specs.PortData.{case, held, port_data, port_data_of},
 };
 
-use crate::bridge_port::InfoBridgePort;
 use crate::port_kind::InfoPortForm;
 use crate::vrf::InfoVrf;
 use crate::{data_checked, data_cloned, data_written};
 use npr_base::{DecodeError, EmitError, Form, Looks, parse_list, read_bytes};
+use npr_link_bridge::InfoBridgePort;
+use npr_link_devices::InfoBondPort;
 use std::alloc::{AllocError, Global};
 
 /// The data of a port: what they are follows from the first kind in the list that they stand in.
@@ -27,6 +28,8 @@ pub enum InfoPortData {
     BridgePort(Vec<InfoBridgePort>),
     /// A port of a routing domain.
     VrfPort(Vec<InfoVrf>),
+    /// A port of a bond.
+    BondPort(Vec<InfoBondPort>),
     /// The bytes of data that nothing governs, or a kind without a family.
     Other(Vec<u8>),
 }
@@ -37,6 +40,7 @@ macro_rules! variants {
         $body!(($($given)*) InfoPortData {
             BridgePort;
             VrfPort;
+            BondPort;
         })
     };
 }
@@ -67,6 +71,7 @@ impl InfoPortData {
                 looks,
             )?)),
             InfoPortForm::Vrf => Ok(InfoPortData::VrfPort(parse_list(alloc, (), bytes, looks)?)),
+            InfoPortForm::Bond => Ok(InfoPortData::BondPort(parse_list(alloc, (), bytes, looks)?)),
             InfoPortForm::Kept => Ok(InfoPortData::Other(read_bytes(alloc, bytes)?)),
         }
     }

@@ -6,7 +6,7 @@ ghost use Rattle.{
   npr_link.specs.{Kinds.{IsKnown, TakesMemory, other, kind_in, kind_name}, PortKind.{port_kind_of, port_kind_names, port_kind, form_named}},
 };
 
-use crate::{name_of_variant, variant_cloned, variant_of_name};
+use crate::{form_of_kind, name_of_variant, variant_cloned, variant_of_name};
 use npr_base::{At, DecodeError, without_zero, write_name};
 use std::alloc::{AllocError, Global};
 use std::fmt;
@@ -32,6 +32,8 @@ pub enum InfoPortForm {
     Bridge,
     /// The data of `vrf`.
     Vrf,
+    /// The data of `bond`.
+    Bond,
     /// Data that are kept as they stand.
     Kept,
 }
@@ -40,6 +42,17 @@ pub enum InfoPortForm {
 macro_rules! names {
     ($body:ident ($($given:tt)*)) => {
         $body!(($($given)*) InfoPortKind {
+            "bridge" Bridge;
+            "vrf" Vrf;
+            "bond" Bond;
+        })
+    };
+}
+
+/// What governs data, by the names of the kinds.
+macro_rules! forms {
+    ($body:ident ($($given:tt)*)) => {
+        $body!(($($given)*) InfoPortForm {
             "bridge" Bridge;
             "vrf" Vrf;
             "bond" Bond;
@@ -72,13 +85,7 @@ fn named(alloc: Global, text: &str) -> Result<InfoPortKind, AllocError>
 pub(crate) fn form_of_name(name: &[u8]) -> InfoPortForm
     ensures { result ≡ form_named name.now }
 {
-    if name == "bridge".as_bytes() {
-        InfoPortForm::Bridge
-    } else if name == "vrf".as_bytes() {
-        InfoPortForm::Vrf
-    } else {
-        InfoPortForm::Kept
-    }
+    forms!(form_of_kind(name))
 }
 
 impl InfoPortKind {

@@ -5,13 +5,13 @@ ghost use Rattle.{npr_base.specs.Family.{shaped}, npr_link.specs.Vlan.{family}};
 
 use crate::values::{read_two_flags, write_two_numbers};
 use crate::vlan_flags::VlanFlags;
-use crate::vlan_protocol::{VlanProtocol, vlan_protocol_number};
 use crate::vlan_qos::VlanQosMapping;
 use bitflags::Flags;
 use npr_base::{
     At, AttrFamily, Attribute, DecodeError, DefaultNla, EmitError, Form, Looks, Nla, NlaBuffer,
     Place, put_read,
 };
+use npr_link_bridge::{VlanProtocol, vlan_protocol_number};
 use std::alloc::{AllocError, Global};
 
 /// The data of a VLAN.

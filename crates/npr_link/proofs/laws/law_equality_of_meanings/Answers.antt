@@ -2,8 +2,8 @@ use Rattle.npr_base.proofs.Messages.{message_equality}
 use Rattle.npr_link.specs.Message.{links}
 use Rattle.npr_link.proofs.ValueEquality.{header_equality}
 use Rattle.npr_link.proofs.EqualityLaws.{inet_equality, inet6_equality, af_spec_equality, xdp_equality, prop_equality, reason_equality}
-use Rattle.npr_link.proofs.EqualityLaws.{querier_equality, bridge_equality, bridge_port_equality, qos_equality, vlan_equality, vrf_equality}
-use Rattle.npr_link.proofs.EqualityLaws.{peer_attribute_equality, peer_equality, veth_equality, kind_equality, port_kind_equality, data_equality}
+use Rattle.npr_link.proofs.EqualityLaws.{qos_equality, vlan_equality, vrf_equality}
+use Rattle.npr_link.proofs.EqualityLaws.{peer_attribute_equality, peer_equality, veth_equality, netkit_equality, kind_equality, port_kind_equality, data_equality}
 use Rattle.npr_link.proofs.EqualityLaws.{port_data_equality, info_equality, attribute_equality}
 use Rattle.npr_link.proofs.laws.law_equality_of_meanings.Goals as goal
 
@@ -15,15 +15,13 @@ returns c = record {
   xdp = xdp_equality;
   prop = prop_equality;
   reason = reason_equality;
-  querier = querier_equality;
-  bridge = bridge_equality;
-  bridge_port = bridge_port_equality;
   qos = qos_equality;
   vlan = vlan_equality;
   vrf = vrf_equality;
   peer_attribute = peer_attribute_equality;
   peer = peer_equality;
   veth = veth_equality;
+  netkit = netkit_equality;
   kind = kind_equality;
   port_kind = port_kind_equality;
   info_data = data_equality;

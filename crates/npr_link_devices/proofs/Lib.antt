@@ -1,0 +1,3 @@
+mod AddressSteps
+pub mod EqualityLaws
+mod ValueEquality

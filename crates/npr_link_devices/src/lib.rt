@@ -1,0 +1,52 @@
+//! Devices over other links: bonds, MACVLANs, IPVLANs and TUN devices.
+#![tactic(auto)]
+
+mod ad_info;
+mod addresses;
+mod all_port_active;
+mod arp_all_targets;
+mod arp_validate;
+mod bond;
+mod bond_mode;
+mod bond_port;
+mod bond_port_state;
+mod fail_over_mac;
+mod ip_vlan;
+mod ip_vlan_flags;
+mod ip_vlan_mode;
+mod lacp_rate;
+pub mod laws;
+mod mac_vlan;
+mod mac_vlan_address;
+mod mac_vlan_address_mode;
+mod mac_vlan_flags;
+mod mac_vlan_mode;
+mod mii_status;
+mod primary_reselect;
+mod tun;
+mod tun_type;
+mod xmit_hash_policy;
+
+pub use ad_info::BondAdInfo;
+pub use all_port_active::BondAllPortActive;
+pub use arp_all_targets::BondArpAllTargets;
+pub use arp_validate::BondArpValidate;
+pub use bond::InfoBond;
+pub use bond_mode::BondMode;
+pub use bond_port::InfoBondPort;
+pub use bond_port_state::BondPortState;
+pub use fail_over_mac::BondFailOverMac;
+pub use ip_vlan::{InfoIpVlan, InfoIpVtap};
+pub use ip_vlan_flags::{IpVlanFlags, IpVtapFlags};
+pub use ip_vlan_mode::{IpVlanMode, IpVtapMode};
+pub use lacp_rate::BondLacpRate;
+pub use mac_vlan::{InfoMacVlan, InfoMacVtap};
+pub use mac_vlan_address::MacVlanAddress;
+pub use mac_vlan_address_mode::{MacVlanMacAddressMode, MacVtapMacAddressMode};
+pub use mac_vlan_flags::{MacVlanFlags, MacVtapFlags};
+pub use mac_vlan_mode::{MacVlanMode, MacVtapMode};
+pub use mii_status::MiiStatus;
+pub use primary_reselect::BondPrimaryReselect;
+pub use tun::InfoTun;
+pub use tun_type::TunType;
+pub use xmit_hash_policy::BondXmitHashPolicy;

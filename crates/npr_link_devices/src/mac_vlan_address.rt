@@ -1,0 +1,75 @@
+//! A source of a MACVLAN: `IFLA_MACVLAN_MACADDR` of `linux/if_link.h`.
+
+ghost use Rattle.std.specs.Prelude.{refl};
+ghost use Rattle.{npr_base.specs.Family.{shaped}, npr_link_devices.specs.MacVlanAddress.{family}};
+
+use npr_base::{
+    At, AttrFamily, Attribute, DecodeError, DefaultNla, EmitError, Form, Looks, Nla, NlaBuffer,
+    Place, put_read, read_octets, write_bytes,
+};
+use std::alloc::{AllocError, Global};
+
+/// A source of a MACVLAN.
+#[derive(Debug, Drop, PartialEq, Eq)]
+pub enum MacVlanAddress {
+    /// `IFLA_MACVLAN_MACADDR`: its address.
+    MacAddr([u8; 6]),
+    /// An attribute of another number, as it stands.
+    Other(DefaultNla),
+}
+
+/// The rows of the table.
+macro_rules! rows {
+    ($body:ident ($($given:tt)*)) => {
+        npr_base::$body!(($($given)*) MacVlanAddress of MacVlanAddress {
+        })
+    };
+}
+
+impl Nla for MacVlanAddress {
+    ghost shape = { shaped family };
+
+    fn kind(&self) -> u16 {
+        rows!(kind_rows(self; MacVlanAddress::MacAddr(_) => 4,))
+    }
+
+    fn is_nested(&self) -> bool {
+        false
+    }
+
+    fn check_value(&self) -> Result<usize, EmitError> {
+        Ok(rows!(len_rows(self; MacVlanAddress::MacAddr(x) => x.as_slice().len(),)))
+    }
+
+    fn write_value(&self, out: &mut [u8]) -> usize {
+        rows!(write_rows(self, out; MacVlanAddress::MacAddr(x) => write_bytes(x.as_slice(), out),))
+    }
+}
+
+impl Attribute for MacVlanAddress {
+    type Context = ();
+
+    ghost family = { family };
+
+    ghost shape_is = { λ a. refl };
+
+    #[tactic(auto, unfolding(crate::specs::MacVlanAddress::attributes))]
+    fn read_into<P: Place<Self>>(
+        place: &mut P,
+        alloc: Global,
+        _context: (),
+        item: &NlaBuffer<'_>,
+        looks: &mut Looks,
+    ) -> Result<(), DecodeError> {
+        rows!(put_rows(place, alloc, item, looks; 4 => put_read(place, read_octets::<6>(item.value(), AttrFamily::MacVlanAddress.at(4)), MacVlanAddress::MacAddr),))
+    }
+
+    #[tactic(auto, unfolding(crate::specs::MacVlanAddress::attributes))]
+    fn form(_context: (), number: u16) -> (At, Form) {
+        rows!(form_rows(number; 4 => Form::Exactly(6),))
+    }
+
+    fn try_clone(&self, alloc: Global) -> Result<Self, AllocError> {
+        rows!(clone_rows(self, alloc; MacVlanAddress::MacAddr(x) => Ok(MacVlanAddress::MacAddr(*x)),))
+    }
+}

@@ -1,0 +1,3 @@
+pub mod EqualityLaws
+mod Firsts
+mod ValueEquality
