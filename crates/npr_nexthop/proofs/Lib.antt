@@ -1,0 +1,2 @@
+mod EqualityLaws
+mod Searching

@@ -1,0 +1,14 @@
+pub mod Attribute
+pub mod FirstTold
+pub mod FirstToldLaws
+pub mod GovernedBody
+pub mod Governing
+pub mod Group
+pub mod GroupStats
+pub mod GroupStatsEntry
+pub mod GroupType
+pub mod Header
+pub mod Message
+pub mod OpFlags
+pub mod ResBucket
+pub mod ResGroup
