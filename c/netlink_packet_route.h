@@ -21,12 +21,12 @@
  * - The bytes that are read and the buffer that is written do not overlap, and no other thread
  *   writes the former, or uses the latter, while a call runs.
  * - `malloc`, `realloc` and `free` are of one allocator, and align as the C standard asks. Only the
- *   calls for canonical bytes and for faults use them, and these are not called from a signal
- *   handler, nor in the forked child of a process with threads.
- * - Next hops may hold next hops, 5,461 deep in one attribute, and the calls for canonical bytes and
- *   for faults use some 145 bytes of stack for each level. A thread with NPR_STACK bytes of stack is
- *   enough for every input. Where a message is deeper than the stack of its thread, the process ends
- *   by a signal, as where any C function has no stack left.
+ *   calls for canonical bytes use them, and these are not called from a signal handler, nor in the
+ *   forked child of a process with threads. All other calls may be, and take no memory.
+ * - Next hops may hold next hops, 5,461 deep in one attribute. Of stack the calls for canonical bytes
+ *   use some 145 bytes for each level, and the calls for faults some 80. A thread with NPR_STACK bytes
+ *   of stack is enough for every input; a signal handler may have a smaller one. Where a message is
+ *   deeper than the stack, the process ends by a signal, as where any C function has no stack left.
  *
  * Calls may run in several threads at once. Lengths and places are in bytes. The library is built
  * for x86-64 under Linux. */
@@ -39,12 +39,12 @@
 
 /* The version of the library. */
 #define NPR_VERSION_MAJOR 0
-#define NPR_VERSION_MINOR 8
+#define NPR_VERSION_MINOR 9
 #define NPR_VERSION_PATCH 0
-#define NPR_VERSION "0.8.0"
+#define NPR_VERSION "0.9.0"
 
 /* The stack of a thread that is enough for every call and every input, in bytes: 1 MiB. The deepest
- * message takes some 773 KiB (measured). */
+ * message takes some 773 KiB, and where a fault is looked for some 433 (measured). */
 #define NPR_STACK 1048576
 
 #ifdef __cplusplus
@@ -65,8 +65,8 @@ enum npr_status {
 
 /* Why bytes are refused: the first fault in reading order. */
 enum npr_refusal {
-    /* Memory was refused, which says nothing of the bytes. Never where no whole attribute follows
-     * the header. */
+    /* Memory was refused, which says nothing of the bytes: to a call for canonical bytes, and never
+     * where no whole attribute follows the header. */
     NPR_OUT_OF_MEMORY = 1,
     /* Fewer bytes than a header takes: that of the message, or of a structure in a value. */
     NPR_HEADER_TOO_SHORT = 2,
@@ -200,7 +200,67 @@ enum npr_family {
     /* VETH_INFO_* of linux/veth.h. */
     NPR_FAMILY_INFO_VETH = 32,
     /* IFLA_* of linux/if_link.h, in the peer of a link. */
-    NPR_FAMILY_PEER = 33
+    NPR_FAMILY_PEER = 33,
+    /* IFLA_BRIDGE_* of linux/if_bridge.h. */
+    NPR_FAMILY_AF_SPEC_BRIDGE = 34,
+    /* IFLA_BRIDGE_VLAN_TUNNEL_* of linux/if_bridge.h. */
+    NPR_FAMILY_BRIDGE_VLAN_TUNNEL_INFO = 35,
+    /* IFLA_BRIDGE_MST_ENTRY of linux/if_bridge.h, the one state in a list of states. */
+    NPR_FAMILY_BRIDGE_MST = 36,
+    /* IFLA_BRIDGE_MST_ENTRY_* of linux/if_bridge.h. */
+    NPR_FAMILY_BRIDGE_MST_ENTRY = 37,
+    /* IFLA_BOND_* of linux/if_link.h. */
+    NPR_FAMILY_INFO_BOND = 38,
+    /* IFLA_BOND_AD_INFO_* of linux/if_link.h. */
+    NPR_FAMILY_BOND_AD_INFO = 39,
+    /* IFLA_BOND_SLAVE_* of linux/if_link.h. */
+    NPR_FAMILY_INFO_BOND_PORT = 40,
+    /* IFLA_MACVLAN_* of linux/if_link.h. */
+    NPR_FAMILY_INFO_MAC_VLAN = 41,
+    /* IFLA_MACVLAN_MACADDR of linux/if_link.h, in a list of addresses. */
+    NPR_FAMILY_MAC_VLAN_ADDRESS = 42,
+    /* IFLA_IPVLAN_* of linux/if_link.h. */
+    NPR_FAMILY_INFO_IP_VLAN = 43,
+    /* IFLA_NETKIT_* of linux/if_link.h. */
+    NPR_FAMILY_INFO_NETKIT = 44,
+    /* IFLA_TUN_* of linux/if_link.h. */
+    NPR_FAMILY_INFO_TUN = 45,
+    /* IFLA_VXLAN_* of linux/if_link.h. */
+    NPR_FAMILY_INFO_VXLAN = 46,
+    /* IFLA_GENEVE_* of linux/if_link.h. */
+    NPR_FAMILY_INFO_GENEVE = 47,
+    /* IFLA_GRE_* of linux/if_tunnel.h, over version 4. */
+    NPR_FAMILY_INFO_GRE = 48,
+    /* IFLA_GRE_* of linux/if_tunnel.h, over version 6. */
+    NPR_FAMILY_INFO_GRE6 = 49,
+    /* IFLA_IPTUN_* of linux/if_tunnel.h. */
+    NPR_FAMILY_INFO_IP_TUNNEL = 50,
+    /* IFLA_VTI_* of linux/if_tunnel.h. */
+    NPR_FAMILY_INFO_VTI = 51,
+    /* IFLA_XFRM_* of linux/if_link.h. */
+    NPR_FAMILY_INFO_XFRM = 52,
+    /* NHA_* of linux/nexthop.h. */
+    NPR_FAMILY_NEXT_HOP = 53,
+    /* NHA_RES_GROUP_* of linux/nexthop.h. */
+    NPR_FAMILY_NEXT_HOP_RES_GROUP = 54,
+    /* NHA_RES_BUCKET_* of linux/nexthop.h. */
+    NPR_FAMILY_NEXT_HOP_RES_BUCKET = 55,
+    /* NHA_GROUP_STATS_ENTRY of linux/nexthop.h, the one entry in a list of entries. */
+    NPR_FAMILY_NEXT_HOP_GROUP_STATS = 56,
+    /* NHA_GROUP_STATS_ENTRY_* of linux/nexthop.h. */
+    NPR_FAMILY_NEXT_HOP_GROUP_STATS_ENTRY = 57,
+    /* NETNSA_* of linux/net_namespace.h. */
+    NPR_FAMILY_NSID = 58,
+    /* PREFIX_* of linux/rtnetlink.h. */
+    NPR_FAMILY_PREFIX = 59,
+    /* NETCONFA_* of linux/netconf.h. */
+    NPR_FAMILY_NETCONF = 60,
+    /* NDTA_* of linux/neighbour.h. */
+    NPR_FAMILY_NEIGHBOUR_TABLE = 61,
+    /* NDTPA_* of linux/neighbour.h. */
+    NPR_FAMILY_NEIGHBOUR_TABLE_PARAMETER = 62,
+    /* IFAL_* of linux/if_addrlabel.h. */
+    NPR_FAMILY_ADDRESS_LABEL = 63
 };
 
 /* What is wrong with a SEG6 routing header (RFC 8754, section 2). */
@@ -238,14 +298,15 @@ struct npr_fault {
      * that none can be where one should begin. It is at the level of the message: what is wrong inside
      * an encapsulation or a next hop stands in the RTA_ENCAP or RTA_MULTIPATH that begins there, and
      * what is wrong in the data of a kind of link in its IFLA_LINKINFO. Each attribute before it is
-     * read. 0 at NPR_OUT_OF_MEMORY and where the bytes are fewer than a header. */
+     * read. 0 where the bytes are fewer than a header. */
     size_t offset;
 };
 
-/* Whether the bytes are a message, and else the first fault in reading order. Nothing is written; a
- * message of which all members are 0 here may still have no canonical bytes (NPR_UNFIT). In such a
- * message each value has a length that its attribute takes, at all depths, and each name is UTF-8: so a
- * walk over its values (`npr_next`, `npr_enter`) ends at NPR_END. */
+/* Whether the bytes are a message, and else the first fault in reading order. Nothing is written, and
+ * no memory is taken: the number is never NPR_OUT_OF_MEMORY. A message of which all members are 0 here
+ * may still have no canonical bytes (NPR_UNFIT). In such a message each value has a length that its
+ * attribute takes, at all depths, and each name is UTF-8: so a walk over its values (`npr_next`,
+ * `npr_enter`) ends at NPR_END. */
 struct npr_fault npr_address_fault(const uint8_t *bytes, size_t length);
 struct npr_fault npr_route_fault(const uint8_t *bytes, size_t length);
 struct npr_fault npr_rule_fault(const uint8_t *bytes, size_t length);

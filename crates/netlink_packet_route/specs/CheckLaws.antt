@@ -7,11 +7,13 @@ use Rattle.std.proofs.Common.{refl, sym, ap, subst, arith, inl, inr, length-drop
 use Rattle.std.proofs.lemmas.Bool.{eqb-true}
 use Rattle.npr_base.specs.declared.refusal.DecodeError.{DecodeError}
 use Rattle.npr_base.specs.declared.refusal.DecodeError.TheVariants.{HeaderTooShort}
-use Rattle.npr_base.specs.Framing.{IsBytes, Item, Front, Fault, Passes, number_of}
+use Rattle.npr_base.specs.Framing.{Item, Front, Fault, Passes, number_of}
 use Rattle.npr_base.specs.FrontLaws.{Front-shrinks}
 use Rattle.npr_base.specs.Lists.{Each, ReadsList, FirstFault, IsWrong}
 use Rattle.npr_base.specs.Message.{MessageFault}
+use Rattle.npr_link.specs.Netkit as OfNetkit
 use Rattle.npr_link.specs.Veth as OfVeth
+use Rattle.npr_link.specs.contracts.netkit.InfoNetkit.{enum as netkit_enum}
 use Rattle.npr_link.specs.contracts.veth.InfoVeth.{enum}
 use Rattle.npr_route.specs.Attribute.{HopHead, HopFront, HopFault, Meaning, flat, multi_path, Attributes, attributes_of, Hops, no_hops, hop, Reads, AreHops}
 use Rattle.npr_route.specs.Attribute.{AreGoverned, Wrong, value_wrong, hops_wrong, AttributesWrong, none_in_front, first_wrong, later_wrong}
@@ -30,7 +32,7 @@ use Rattle.npr_tunnel.specs.Encapsulation.{encapsulation}
 use Rattle.netlink_packet_route.specs.Levels.{reading_at, OfNextHop, IsInside}
 use Rattle.netlink_packet_route.specs.WholeLaws.{holds_hops}
 use Rattle.netlink_packet_route.specs.declared.levels.Level.{Level}
-use Rattle.netlink_packet_route.specs.declared.levels.Level.TheVariants.{Route, InfoVeth}
+use Rattle.netlink_packet_route.specs.declared.levels.Level.TheVariants.{Route, InfoVeth, InfoNetkit}
 
 abbrev pub IsAttributeAt : Level → Item → Type 0
 IsAttributeAt level x = (m : (reading_at level).Meaning) × (reading_at level).reading.Reads x m
@@ -56,11 +58,6 @@ pub record Leads (Is : List ℕ → Type 0) (Faulty : List ℕ → DecodeError �
 
 pub leads-all : (Is : List ℕ → Type 0) (Faulty : List ℕ → DecodeError → Type 0) (bytes : List ℕ) → Leads Is Faulty bytes bytes
 leads-all Is Faulty bytes = record { within = omega arith; is = λ p. p; faulty = λ e p. p }
-
--- next hops that are left
-pub record HopsLead (level : Level) (bytes rest : List ℕ) : Type 0 where
-  pub leads : Leads (AreHopsAt level) (HopsWrongAt level) bytes rest
-  pub proper : IsBytes rest
 
 -- ---- lists
 
@@ -192,3 +189,10 @@ unfolding OfVeth.attributes MessageFault
 cut-pair x e one short is =
     let row : WrongIn enum.parts OfVeth.table.rows 1 x e = inl (short, is) in
     subst (λ (n : ℕ). WrongIn enum.parts OfVeth.table.rows n x e) (sym one) row
+
+pub cut-netkit : (x : Item) (e : DecodeError) → number_of x.kind ≡ 1 → length x.value < 16 → e ≡ HeaderTooShort (length x.value) 16
+    → (reading_at InfoNetkit).reading.Faulty x e
+unfolding OfNetkit.attributes MessageFault
+cut-netkit x e one short is =
+    let row : WrongIn netkit_enum.parts OfNetkit.table.rows 1 x e = inl (short, is) in
+    subst (λ (n : ℕ). WrongIn netkit_enum.parts OfNetkit.table.rows n x e) (sym one) row

@@ -16,13 +16,28 @@ use Rattle.npr_base.specs.Tables.{EnumTable, attributes_of, value_at}
 use Rattle.npr_base.specs.EnumTable.{other_in, ReadsIn, WrongIn}
 use Rattle.npr_base.specs.EnumTableLaws.{all_rows, rows-read}
 use Rattle.npr_base.specs.EnumTableValues.{value_in}
+use Rattle.npr_link.specs.Netkit as OfNetkit
+use Rattle.npr_link_devices.specs.AdInfo as OfAdInfo
+use Rattle.npr_link_devices.specs.Bond as OfBond
+use Rattle.npr_link_devices.specs.BondPort as OfBondPort
+use Rattle.npr_link_devices.specs.IpVlan as OfIpVlan
+use Rattle.npr_link_devices.specs.MacVlan as OfMacVlan
+use Rattle.npr_link_devices.specs.MacVlanAddress as OfMacVlanAddress
+use Rattle.npr_link_devices.specs.Tun as OfTun
+use Rattle.npr_link_tunnels.specs.Geneve as OfLinkGeneve
+use Rattle.npr_link_tunnels.specs.Gre as OfGre
+use Rattle.npr_link_tunnels.specs.Gre6 as OfGre6
+use Rattle.npr_link_tunnels.specs.IpTunnel as OfIpTunnel
+use Rattle.npr_link_tunnels.specs.Vti as OfVti
+use Rattle.npr_link_tunnels.specs.Vxlan as OfLinkVxlan
+use Rattle.npr_link_tunnels.specs.Xfrm as OfLinkXfrm
 use Rattle.npr_link.specs.AfSpec as OfAfSpec
 use Rattle.npr_link.specs.AfSpecInet as OfAfSpecInet
 use Rattle.npr_link.specs.AfSpecInet6 as OfAfSpecInet6
 use Rattle.npr_link.specs.AfSpecs.{form_of, unspec}
 use Rattle.npr_link.specs.Attribute as OfLink
-use Rattle.npr_link.specs.Bridge as OfBridge
-use Rattle.npr_link.specs.BridgePort as OfBridgePort
+use Rattle.npr_link_bridge.specs.Bridge as OfBridge
+use Rattle.npr_link_bridge.specs.BridgePort as OfBridgePort
 use Rattle.npr_link.specs.Governing.{Searches}
 use Rattle.npr_link.specs.Info as OfInfo
 use Rattle.npr_link.specs.InfoData as OfData
@@ -33,16 +48,17 @@ use Rattle.npr_link.specs.PortData as OfPortData
 use Rattle.npr_link.specs.PeerAttribute as OfPeer
 use Rattle.npr_link.specs.Prop as OfProp
 use Rattle.npr_link.specs.ProtocolDown as OfReason
-use Rattle.npr_link.specs.QuerierState as OfQuerier
+use Rattle.npr_link_bridge.specs.QuerierState as OfQuerier
 use Rattle.npr_link.specs.Veth as OfVeth
 use Rattle.npr_link.specs.Vlan as OfVlan
 use Rattle.npr_link.specs.VlanQos as OfVlanQos
 use Rattle.npr_link.specs.Vrf as OfVrf
 use Rattle.npr_link.specs.Xdp as OfXdp
 use Rattle.npr_link.specs.contracts.info.LinkInfo.{enum}
+use Rattle.npr_link.specs.contracts.netkit.InfoNetkit.{enum as enum_of_netkit}
 use Rattle.npr_link.specs.contracts.veth.InfoVeth.{enum as enum_of_pair}
-use Rattle.npr_link.specs.declared.info_kind.InfoForm.{InfoForm}
-use Rattle.npr_link.specs.declared.info_kind.InfoForm.TheVariants as Data
+use Rattle.npr_link_tunnels.specs.declared.form.InfoForm.{InfoForm}
+use Rattle.npr_link_tunnels.specs.declared.form.InfoForm.TheVariants as Data
 use Rattle.npr_link.specs.declared.port_kind.InfoPortForm.{InfoPortForm}
 use Rattle.npr_link.specs.declared.port_kind.InfoPortForm.TheVariants as Port
 use Rattle.npr_route.specs.Attribute.{Meaning, Reads, flat, multi_path, value_wrong}
@@ -63,6 +79,10 @@ use Rattle.netlink_packet_route.specs.declared.levels.Level.TheVariants.{Route, 
 use Rattle.netlink_packet_route.specs.declared.levels.Level.TheVariants.{LinkInfo, LinkXdp, Prop, LinkProtocolDownReason, AfSpecUnspec, AfSpecInet}
 use Rattle.netlink_packet_route.specs.declared.levels.Level.TheVariants.{AfSpecInet6, InfoBridge, BridgeQuerierState, InfoBridgePort, InfoVlan}
 use Rattle.netlink_packet_route.specs.declared.levels.Level.TheVariants.{VlanQosMapping, InfoVrf, InfoVeth, Peer}
+use Rattle.netlink_packet_route.specs.declared.levels.Level.TheVariants.{InfoBond, BondAdInfo, InfoBondPort, InfoMacVlan}
+use Rattle.netlink_packet_route.specs.declared.levels.Level.TheVariants.{MacVlanAddress, InfoIpVlan, InfoNetkit, InfoTun}
+use Rattle.netlink_packet_route.specs.declared.levels.Level.TheVariants.{InfoVxlan, InfoGeneve, InfoGre, InfoGre6, InfoIpTunnel}
+use Rattle.netlink_packet_route.specs.declared.levels.Level.TheVariants.{InfoVti, InfoXfrm}
 use Rattle.netlink_packet_route.specs.Levels.{IsPlainInside, IsInsideAt}
 use denote.Enum.Declared.{Record}
 use denote.Struct.Field.{Field}
@@ -119,6 +139,18 @@ unfolding OfOption.attributes
 options-erspan bytes =
     in-table OfOption.table OfErspan.attributes 3
     (record { down = λ x m p. (p.0, p.1); up = λ x ps long p. (value_at OfOption.table 3 ps, p); fault = λ x e long p. p }) bytes
+
+pub bond-aggregator : (bytes : List ℕ) → IsPlainInside InfoBond 23 bytes BondAdInfo
+unfolding OfBond.attributes
+bond-aggregator bytes =
+    in-table OfBond.table OfAdInfo.attributes 23
+    (record { down = λ x m p. (p.0, p.1); up = λ x ps long p. (value_at OfBond.table 23 ps, p); fault = λ x e long p. p }) bytes
+
+pub mac-vlan-addresses : (bytes : List ℕ) → IsPlainInside InfoMacVlan 5 bytes MacVlanAddress
+unfolding OfMacVlan.attributes
+mac-vlan-addresses bytes =
+    in-table OfMacVlan.table OfMacVlanAddress.attributes 5
+    (record { down = λ x m p. (p.0, p.1); up = λ x ps long p. (value_at OfMacVlan.table 5 ps, p); fault = λ x e long p. p }) bytes
 
 -- ---- in a link's attributes, whose table is shared by two variants
 
@@ -231,6 +263,101 @@ data-vrf port bytes =
     in-driver Data.Vrf port OfVrf.attributes 2
     (record { down = λ x m p. (p.1.0, p.1.1); up = λ x ps long p. (inr (inl (OfData.vrf ps)), (ps, p, refl)); fault = λ x e long p. p }) bytes
 
+pub data-tun : (port : InfoPortForm) (bytes : List ℕ) → IsPlainInside (LinkInfo Data.Tun port) 2 bytes InfoTun
+data-tun port bytes =
+    in-driver Data.Tun port OfTun.attributes 2
+    (record { down = λ x m p. (p.1.0, p.1.1); up = λ x ps long p. (inr (inl (OfData.tun ps)), (ps, p, refl)); fault = λ x e long p. p }) bytes
+
+pub data-vxlan : (port : InfoPortForm) (bytes : List ℕ) → IsPlainInside (LinkInfo Data.Vxlan port) 2 bytes InfoVxlan
+data-vxlan port bytes =
+    in-driver Data.Vxlan port OfLinkVxlan.attributes 2
+    (record { down = λ x m p. (p.1.0, p.1.1); up = λ x ps long p. (inr (inl (OfData.vxlan ps)), (ps, p, refl)); fault = λ x e long p. p }) bytes
+
+pub data-bond : (port : InfoPortForm) (bytes : List ℕ) → IsPlainInside (LinkInfo Data.Bond port) 2 bytes InfoBond
+data-bond port bytes =
+    in-driver Data.Bond port OfBond.attributes 2
+    (record { down = λ x m p. (p.1.0, p.1.1); up = λ x ps long p. (inr (inl (OfData.bond ps)), (ps, p, refl)); fault = λ x e long p. p }) bytes
+
+pub data-ip-vlan : (port : InfoPortForm) (bytes : List ℕ) → IsPlainInside (LinkInfo Data.IpVlan port) 2 bytes InfoIpVlan
+data-ip-vlan port bytes =
+    in-driver Data.IpVlan port OfIpVlan.attributes 2
+    (record { down = λ x m p. (p.1.0, p.1.1); up = λ x ps long p. (inr (inl (OfData.ip_vlan ps)), (ps, p, refl)); fault = λ x e long p. p }) bytes
+
+pub data-ip-vtap : (port : InfoPortForm) (bytes : List ℕ) → IsPlainInside (LinkInfo Data.IpVtap port) 2 bytes InfoIpVlan
+data-ip-vtap port bytes =
+    in-driver Data.IpVtap port OfIpVlan.attributes 2
+    (record { down = λ x m p. (p.1.0, p.1.1); up = λ x ps long p. (inr (inl (OfData.ip_vtap ps)), (ps, p, refl)); fault = λ x e long p. p }) bytes
+
+pub data-mac-vlan : (port : InfoPortForm) (bytes : List ℕ) → IsPlainInside (LinkInfo Data.MacVlan port) 2 bytes InfoMacVlan
+data-mac-vlan port bytes =
+    in-driver Data.MacVlan port OfMacVlan.attributes 2
+    (record { down = λ x m p. (p.1.0, p.1.1); up = λ x ps long p. (inr (inl (OfData.mac_vlan ps)), (ps, p, refl)); fault = λ x e long p. p }) bytes
+
+pub data-mac-vtap : (port : InfoPortForm) (bytes : List ℕ) → IsPlainInside (LinkInfo Data.MacVtap port) 2 bytes InfoMacVlan
+data-mac-vtap port bytes =
+    in-driver Data.MacVtap port OfMacVlan.attributes 2
+    (record { down = λ x m p. (p.1.0, p.1.1); up = λ x ps long p. (inr (inl (OfData.mac_vtap ps)), (ps, p, refl)); fault = λ x e long p. p }) bytes
+
+pub data-gre-tap : (port : InfoPortForm) (bytes : List ℕ) → IsPlainInside (LinkInfo Data.GreTap port) 2 bytes InfoGre
+data-gre-tap port bytes =
+    in-driver Data.GreTap port OfGre.attributes 2
+    (record { down = λ x m p. (p.1.0, p.1.1); up = λ x ps long p. (inr (inl (OfData.gre_tap ps)), (ps, p, refl)); fault = λ x e long p. p }) bytes
+
+pub data-gre-tap6 : (port : InfoPortForm) (bytes : List ℕ) → IsPlainInside (LinkInfo Data.GreTap6 port) 2 bytes InfoGre6
+data-gre-tap6 port bytes =
+    in-driver Data.GreTap6 port OfGre6.attributes 2
+    (record { down = λ x m p. (p.1.0, p.1.1); up = λ x ps long p. (inr (inl (OfData.gre_tap6 ps)), (ps, p, refl)); fault = λ x e long p. p }) bytes
+
+pub data-ip-ip : (port : InfoPortForm) (bytes : List ℕ) → IsPlainInside (LinkInfo Data.IpIp port) 2 bytes (InfoIpTunnel Data.IpIp)
+data-ip-ip port bytes =
+    in-driver Data.IpIp port (OfIpTunnel.attributes Data.IpIp) 2
+    (record { down = λ x m p. (p.1.0, p.1.1); up = λ x ps long p. (inr (inl (OfData.ip_tunnel ps)), (ps, p, refl)); fault = λ x e long p. p }) bytes
+
+pub data-ip6-tnl : (port : InfoPortForm) (bytes : List ℕ) → IsPlainInside (LinkInfo Data.Ip6Tnl port) 2 bytes (InfoIpTunnel Data.Ip6Tnl)
+data-ip6-tnl port bytes =
+    in-driver Data.Ip6Tnl port (OfIpTunnel.attributes Data.Ip6Tnl) 2
+    (record { down = λ x m p. (p.1.0, p.1.1); up = λ x ps long p. (inr (inl (OfData.ip_tunnel ps)), (ps, p, refl)); fault = λ x e long p. p }) bytes
+
+pub data-sit-tun : (port : InfoPortForm) (bytes : List ℕ) → IsPlainInside (LinkInfo Data.SitTun port) 2 bytes (InfoIpTunnel Data.SitTun)
+data-sit-tun port bytes =
+    in-driver Data.SitTun port (OfIpTunnel.attributes Data.SitTun) 2
+    (record { down = λ x m p. (p.1.0, p.1.1); up = λ x ps long p. (inr (inl (OfData.ip_tunnel ps)), (ps, p, refl)); fault = λ x e long p. p }) bytes
+
+pub data-gre-tun : (port : InfoPortForm) (bytes : List ℕ) → IsPlainInside (LinkInfo Data.GreTun port) 2 bytes InfoGre
+data-gre-tun port bytes =
+    in-driver Data.GreTun port OfGre.attributes 2
+    (record { down = λ x m p. (p.1.0, p.1.1); up = λ x ps long p. (inr (inl (OfData.gre_tun ps)), (ps, p, refl)); fault = λ x e long p. p }) bytes
+
+pub data-gre-tun6 : (port : InfoPortForm) (bytes : List ℕ) → IsPlainInside (LinkInfo Data.GreTun6 port) 2 bytes InfoGre6
+data-gre-tun6 port bytes =
+    in-driver Data.GreTun6 port OfGre6.attributes 2
+    (record { down = λ x m p. (p.1.0, p.1.1); up = λ x ps long p. (inr (inl (OfData.gre_tun6 ps)), (ps, p, refl)); fault = λ x e long p. p }) bytes
+
+pub data-vti : (port : InfoPortForm) (bytes : List ℕ) → IsPlainInside (LinkInfo Data.Vti port) 2 bytes InfoVti
+data-vti port bytes =
+    in-driver Data.Vti port OfVti.attributes 2
+    (record { down = λ x m p. (p.1.0, p.1.1); up = λ x ps long p. (inr (inl (OfData.vti ps)), (ps, p, refl)); fault = λ x e long p. p }) bytes
+
+pub data-vti6 : (port : InfoPortForm) (bytes : List ℕ) → IsPlainInside (LinkInfo Data.Vti6 port) 2 bytes InfoVti
+data-vti6 port bytes =
+    in-driver Data.Vti6 port OfVti.attributes 2
+    (record { down = λ x m p. (p.1.0, p.1.1); up = λ x ps long p. (inr (inl (OfData.vti ps)), (ps, p, refl)); fault = λ x e long p. p }) bytes
+
+pub data-xfrm : (port : InfoPortForm) (bytes : List ℕ) → IsPlainInside (LinkInfo Data.Xfrm port) 2 bytes InfoXfrm
+data-xfrm port bytes =
+    in-driver Data.Xfrm port OfLinkXfrm.attributes 2
+    (record { down = λ x m p. (p.1.0, p.1.1); up = λ x ps long p. (inr (inl (OfData.xfrm ps)), (ps, p, refl)); fault = λ x e long p. p }) bytes
+
+pub data-geneve : (port : InfoPortForm) (bytes : List ℕ) → IsPlainInside (LinkInfo Data.Geneve port) 2 bytes InfoGeneve
+data-geneve port bytes =
+    in-driver Data.Geneve port OfLinkGeneve.attributes 2
+    (record { down = λ x m p. (p.1.0, p.1.1); up = λ x ps long p. (inr (inl (OfData.geneve ps)), (ps, p, refl)); fault = λ x e long p. p }) bytes
+
+pub data-netkit : (port : InfoPortForm) (bytes : List ℕ) → IsPlainInside (LinkInfo Data.Netkit port) 2 bytes InfoNetkit
+data-netkit port bytes =
+    in-driver Data.Netkit port OfNetkit.attributes 2
+    (record { down = λ x m p. (p.1.0, p.1.1); up = λ x ps long p. (inr (inl (OfData.netkit ps)), (ps, p, refl)); fault = λ x e long p. p }) bytes
+
 pub port-bridge : (link : InfoForm) (bytes : List ℕ) → IsPlainInside (LinkInfo link Port.Bridge) 5 bytes InfoBridgePort
 port-bridge link bytes =
     in-driver link Port.Bridge OfBridgePort.attributes 5
@@ -246,6 +373,15 @@ port-vrf link bytes =
     (record {
       down = λ x m p. (p.1.0, p.1.1);
       up = λ x ps long p. (inr (inr (inr (inr (inl (OfPortData.vrf ps))))), (ps, p, refl));
+      fault = λ x e long p. p;
+    }) bytes
+
+pub port-bond : (link : InfoForm) (bytes : List ℕ) → IsPlainInside (LinkInfo link Port.Bond) 5 bytes InfoBondPort
+port-bond link bytes =
+    in-driver link Port.Bond OfBondPort.attributes 5
+    (record {
+      down = λ x m p. (p.1.0, p.1.1);
+      up = λ x ps long p. (inr (inr (inr (inr (inl (OfPortData.bond ps))))), (ps, p, refl));
       fault = λ x e long p. p;
     }) bytes
 
@@ -361,5 +497,17 @@ pair-peer bytes long =
       up = λ x ps long p.
           let peer : View peers = record { header = header.decode (take 16 x.value); attributes = ps } in
           (value_at OfVeth.table 1 peer, peer-up x.value ps long p);
+      fault = λ x e long p. peer-fault x.value e long p;
+    }) bytes long
+
+pub netkit-peer : (bytes : List ℕ) → 16 ≤ length bytes → IsInsideAt 16 InfoNetkit 1 bytes Peer
+unfolding OfNetkit.attributes
+netkit-peer bytes long =
+    opens-in enum_of_netkit.parts OfNetkit.table.rows OfNetkit.table.apart OfPeer.attributes 1 16
+    (record {
+      down = λ x m p. (p.0.attributes, peer-down x.value p.0 p.1);
+      up = λ x ps long p.
+          let peer : View peers = record { header = header.decode (take 16 x.value); attributes = ps } in
+          (value_at OfNetkit.table 1 peer, peer-up x.value ps long p);
       fault = λ x e long p. peer-fault x.value e long p;
     }) bytes long

@@ -16,28 +16,43 @@ use Rattle.npr_tunnel.specs.EncapType.{encap_types}
 use Rattle.npr_address.specs.Attribute as OfAddress
 use Rattle.npr_address.specs.Header.{header as address_header}
 use Rattle.npr_address.specs.declared.header.AddressHeader.{AddressHeader}
+use Rattle.npr_link.specs.Netkit as OfNetkit
+use Rattle.npr_link_devices.specs.AdInfo as OfAdInfo
+use Rattle.npr_link_devices.specs.Bond as OfBond
+use Rattle.npr_link_devices.specs.BondPort as OfBondPort
+use Rattle.npr_link_devices.specs.IpVlan as OfIpVlan
+use Rattle.npr_link_devices.specs.MacVlan as OfMacVlan
+use Rattle.npr_link_devices.specs.MacVlanAddress as OfMacVlanAddress
+use Rattle.npr_link_devices.specs.Tun as OfTun
+use Rattle.npr_link_tunnels.specs.Geneve as OfLinkGeneve
+use Rattle.npr_link_tunnels.specs.Gre as OfGre
+use Rattle.npr_link_tunnels.specs.Gre6 as OfGre6
+use Rattle.npr_link_tunnels.specs.IpTunnel as OfIpTunnel
+use Rattle.npr_link_tunnels.specs.Vti as OfVti
+use Rattle.npr_link_tunnels.specs.Vxlan as OfLinkVxlan
+use Rattle.npr_link_tunnels.specs.Xfrm as OfLinkXfrm
 use Rattle.npr_link.specs.AfSpec as OfAfSpec
 use Rattle.npr_link.specs.AfSpecInet as OfAfSpecInet
 use Rattle.npr_link.specs.AfSpecInet6 as OfAfSpecInet6
 use Rattle.npr_link.specs.AfSpecs as OfAfSpecs
 use Rattle.npr_link.specs.AfSpecs.{Form, form_of}
 use Rattle.npr_link.specs.Attribute as OfLink
-use Rattle.npr_link.specs.Bridge as OfBridge
-use Rattle.npr_link.specs.BridgePort as OfBridgePort
+use Rattle.npr_link_bridge.specs.Bridge as OfBridge
+use Rattle.npr_link_bridge.specs.BridgePort as OfBridgePort
 use Rattle.npr_link.specs.Header.{header as link_header}
 use Rattle.npr_link.specs.Info as OfInfo
 use Rattle.npr_link.specs.PeerAttribute as OfPeer
 use Rattle.npr_link.specs.Prop as OfProp
 use Rattle.npr_link.specs.ProtocolDown as OfReason
-use Rattle.npr_link.specs.QuerierState as OfQuerier
+use Rattle.npr_link_bridge.specs.QuerierState as OfQuerier
 use Rattle.npr_link.specs.Veth as OfVeth
 use Rattle.npr_link.specs.Vlan as OfVlan
 use Rattle.npr_link.specs.VlanQos as OfVlanQos
 use Rattle.npr_link.specs.Vrf as OfVrf
 use Rattle.npr_link.specs.Xdp as OfXdp
 use Rattle.npr_link.specs.declared.header.LinkHeader.{LinkHeader}
-use Rattle.npr_link.specs.declared.info_kind.InfoForm.{InfoForm}
-use Rattle.npr_link.specs.declared.info_kind.InfoForm.TheVariants.{Kept}
+use Rattle.npr_link_tunnels.specs.declared.form.InfoForm.{InfoForm}
+use Rattle.npr_link_tunnels.specs.declared.form.InfoForm.TheVariants.{Kept}
 use Rattle.npr_link.specs.declared.port_kind.InfoPortForm.{InfoPortForm}
 use Rattle.npr_link.specs.declared.port_kind.InfoPortForm.TheVariants.{Kept as PortKept}
 use Rattle.npr_neighbour.specs.Attribute as OfNeighbour
@@ -66,6 +81,10 @@ use Rattle.netlink_packet_route.specs.declared.levels.Level.TheVariants.{Address
 use Rattle.netlink_packet_route.specs.declared.levels.Level.TheVariants.{LinkInfo, LinkXdp, Prop, LinkProtocolDownReason, AfSpecUnspec, AfSpecInet}
 use Rattle.netlink_packet_route.specs.declared.levels.Level.TheVariants.{AfSpecInet6, InfoBridge, BridgeQuerierState, InfoBridgePort, InfoVlan}
 use Rattle.netlink_packet_route.specs.declared.levels.Level.TheVariants.{VlanQosMapping, InfoVrf, InfoVeth, Peer}
+use Rattle.netlink_packet_route.specs.declared.levels.Level.TheVariants.{InfoBond, BondAdInfo, InfoBondPort, InfoMacVlan}
+use Rattle.netlink_packet_route.specs.declared.levels.Level.TheVariants.{MacVlanAddress, InfoIpVlan, InfoNetkit, InfoTun}
+use Rattle.netlink_packet_route.specs.declared.levels.Level.TheVariants.{InfoVxlan, InfoGeneve, InfoGre, InfoGre6, InfoIpTunnel}
+use Rattle.netlink_packet_route.specs.declared.levels.Level.TheVariants.{InfoVti, InfoXfrm}
 
 -- what attributes mean, with what they mean
 pub record AnyReading : Type 1 where
@@ -102,6 +121,21 @@ reading_at VlanQosMapping = any_reading OfVlanQos.attributes
 reading_at InfoVrf = any_reading OfVrf.attributes
 reading_at InfoVeth = any_reading OfVeth.attributes
 reading_at Peer = any_reading OfPeer.attributes
+reading_at InfoBond = any_reading OfBond.attributes
+reading_at BondAdInfo = any_reading OfAdInfo.attributes
+reading_at InfoBondPort = any_reading OfBondPort.attributes
+reading_at InfoMacVlan = any_reading OfMacVlan.attributes
+reading_at MacVlanAddress = any_reading OfMacVlanAddress.attributes
+reading_at InfoIpVlan = any_reading OfIpVlan.attributes
+reading_at InfoNetkit = any_reading OfNetkit.attributes
+reading_at InfoTun = any_reading OfTun.attributes
+reading_at InfoVxlan = any_reading OfLinkVxlan.attributes
+reading_at InfoGeneve = any_reading OfLinkGeneve.attributes
+reading_at InfoGre = any_reading OfGre.attributes
+reading_at InfoGre6 = any_reading OfGre6.attributes
+reading_at (InfoIpTunnel form) = any_reading (OfIpTunnel.attributes form)
+reading_at InfoVti = any_reading OfVti.attributes
+reading_at InfoXfrm = any_reading OfLinkXfrm.attributes
 
 -- ---- what a level rests on
 
@@ -181,6 +215,9 @@ holds_list AfSpecUnspec k value = k == 2 || k == 10  -- AF_INET, AF_INET6
 holds_list InfoBridge k value = k == 47  -- IFLA_BR_MCAST_QUERIER_STATE
 holds_list InfoVlan k value = k == 3 || k == 4  -- IFLA_VLAN_EGRESS_QOS, IFLA_VLAN_INGRESS_QOS
 holds_list InfoVeth k value = k == 1 && not (nat_lt (length value) 16)  -- VETH_INFO_PEER
+holds_list InfoBond k value = k == 23  -- IFLA_BOND_AD_INFO
+holds_list InfoMacVlan k value = k == 5  -- IFLA_MACVLAN_MACADDR_DATA
+holds_list InfoNetkit k value = k == 1 && not (nat_lt (length value) 16)  -- IFLA_NETKIT_PEER_INFO
 holds_list level k value = false
 
 -- ---- next hops

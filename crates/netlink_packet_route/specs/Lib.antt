@@ -17,8 +17,10 @@ pub use Rattle.npr_base.specs.Equality
 pub use Rattle.npr_base.specs.EqualityLaws
 pub use Rattle.npr_base.specs.Family
 pub use Rattle.npr_base.specs.Lists
+pub use Rattle.npr_base.specs.FieldEquality
 pub use Rattle.npr_base.specs.Fields
 pub use Rattle.npr_base.specs.FitLaws
+pub use Rattle.npr_base.specs.FlagCodec
 pub use Rattle.npr_base.specs.Found
 pub use Rattle.npr_base.specs.Framing
 pub use Rattle.npr_base.specs.FrontLaws
@@ -34,6 +36,7 @@ pub use Rattle.npr_base.specs.MessageLaws
 pub use Rattle.npr_base.specs.Opening
 pub mod CheckLaws
 pub mod FaultLaws
+pub mod LeftLaws
 pub mod Levels
 pub mod LevelLaws
 pub mod MessageKind
@@ -43,6 +46,7 @@ pub mod Request
 pub mod RouteNetlinkMessage
 pub mod ValidityLaws
 pub mod WholeLaws
+pub use Rattle.npr_base.specs.MoreFields
 pub use Rattle.npr_base.specs.Name
 pub use Rattle.npr_base.specs.Numbering
 pub use Rattle.npr_base.specs.PlaceLaws
@@ -53,12 +57,14 @@ pub use Rattle.npr_base.specs.StructLaws
 pub use Rattle.npr_base.specs.Table
 pub use Rattle.npr_base.specs.TableLaws
 pub use Rattle.npr_base.specs.Text
+pub use Rattle.npr_base.specs.UintCodec
 pub use Rattle.npr_base.specs.V6List
 pub use Rattle.npr_base.specs.Value
 pub use Rattle.npr_base.specs.Values
 pub use Rattle.npr_base.specs.ValuesLaws
 pub use Rattle.npr_base.specs.VariantCodec
 pub use Rattle.npr_base.specs.Walk
+pub use Rattle.npr_base.specs.Widths
 -- the envelope
 pub use Rattle.netlink_packet_core.specs.Conversation
 pub use Rattle.netlink_packet_core.specs.Envelope
@@ -130,10 +136,10 @@ pub use Rattle.npr_link.specs.AfSpecInet6 as LinkAfSpecInet6
 pub use Rattle.npr_link.specs.AfSpecs as LinkAfSpecs
 pub use Rattle.npr_link.specs.Attribute as LinkAttribute
 pub use Rattle.npr_link.specs.AttributeSteps as LinkAttributeSteps
-pub use Rattle.npr_link.specs.BooleanOptions as LinkBooleanOptions
-pub use Rattle.npr_link.specs.Bridge as LinkBridge
-pub use Rattle.npr_link.specs.BridgeId as LinkBridgeId
-pub use Rattle.npr_link.specs.BridgePort as LinkBridgePort
+pub use Rattle.npr_link_bridge.specs.BooleanOptions as LinkBooleanOptions
+pub use Rattle.npr_link_bridge.specs.Bridge as LinkBridge
+pub use Rattle.npr_link_bridge.specs.BridgeId as LinkBridgeId
+pub use Rattle.npr_link_bridge.specs.BridgePort as LinkBridgePort
 pub use Rattle.npr_link.specs.Choices as LinkChoices
 pub use Rattle.npr_link.specs.ExtentMask as LinkExtentMask
 pub use Rattle.npr_link.specs.Fails as LinkFails
@@ -155,32 +161,43 @@ pub use Rattle.npr_link.specs.LinkEvent
 pub use Rattle.npr_link.specs.LinkMode
 pub use Rattle.npr_link.specs.Map as LinkMap
 pub use Rattle.npr_link.specs.Message as LinkMessage
-pub use Rattle.npr_link.specs.MoreFields as LinkMoreFields
-pub use Rattle.npr_link.specs.MulticastRouter as LinkMulticastRouter
+pub use Rattle.npr_link_bridge.specs.MulticastRouter as LinkMulticastRouter
+pub use Rattle.npr_link.specs.Netkit as LinkNetkit
+pub use Rattle.npr_link.specs.NetkitMode
+pub use Rattle.npr_link.specs.NetkitPolicy
+pub use Rattle.npr_link.specs.NetkitScrub
 pub use Rattle.npr_link.specs.Pairs as LinkPairs
 pub use Rattle.npr_link.specs.Peer as LinkPeer
 pub use Rattle.npr_link.specs.PeerAttribute as LinkPeerAttribute
 pub use Rattle.npr_link.specs.PortData as LinkPortData
 pub use Rattle.npr_link.specs.PortKind as LinkPortKind
-pub use Rattle.npr_link.specs.PortState as LinkPortState
+pub use Rattle.npr_link_bridge.specs.PortState as LinkPortState
 pub use Rattle.npr_link.specs.Prop as LinkProp
 pub use Rattle.npr_link.specs.ProtocolDown as LinkProtocolDown
-pub use Rattle.npr_link.specs.QuerierState as LinkQuerierState
+pub use Rattle.npr_link_bridge.specs.QuerierState as LinkQuerierState
 pub use Rattle.npr_link.specs.SharedRow as LinkSharedRow
 pub use Rattle.npr_link.specs.ShortLists as LinkShortLists
 pub use Rattle.npr_link.specs.State as LinkState
-pub use Rattle.npr_link.specs.StpState as LinkStpState
-pub use Rattle.npr_link.specs.Uint as LinkUint
+pub use Rattle.npr_link_bridge.specs.StpState as LinkStpState
 pub use Rattle.npr_link.specs.Veth as LinkVeth
 pub use Rattle.npr_link.specs.Vlan as LinkVlan
 pub use Rattle.npr_link.specs.VlanFlags as LinkVlanFlags
-pub use Rattle.npr_link.specs.VlanProtocol as LinkVlanProtocol
+pub use Rattle.npr_link_bridge.specs.VlanProtocol as LinkVlanProtocol
 pub use Rattle.npr_link.specs.VlanQos as LinkVlanQos
 pub use Rattle.npr_link.specs.Vrf as LinkVrf
 pub use Rattle.npr_link.specs.Xdp as LinkXdp
 pub use Rattle.npr_link.specs.XdpAttached as LinkXdpAttached
 pub use Rattle.npr_link_numbers.specs.Names as LinkNumberNames
 pub use Rattle.npr_link_numbers.specs.Numbers as LinkNumbers
+pub use Rattle.npr_link_bridge.specs.AfSpecBridge
+pub use Rattle.npr_link_bridge.specs.BridgeFlag
+pub use Rattle.npr_link_bridge.specs.BridgeMode
+pub use Rattle.npr_link_bridge.specs.Mst as LinkMst
+pub use Rattle.npr_link_bridge.specs.MstEntry as LinkMstEntry
+pub use Rattle.npr_link_bridge.specs.VlanInfo as LinkVlanInfo
+pub use Rattle.npr_link_bridge.specs.VlanInfoFlags as LinkVlanInfoFlags
+pub use Rattle.npr_link_bridge.specs.VlanTunnel as LinkVlanTunnel
+pub use Rattle.npr_link_bridge.specs.EqualityLaws as LinkBridgeEqualityLaws
 -- neighbour messages
 pub use Rattle.npr_neighbour.specs.Attribute as NeighbourAttribute
 pub use Rattle.npr_neighbour.specs.CacheInfo as NeighbourCacheInfo
@@ -194,7 +211,7 @@ pub use Rattle.npr_rule.specs.Action as RuleAction
 pub use Rattle.npr_rule.specs.Attribute as RuleAttribute
 pub use Rattle.npr_rule.specs.Flags as RuleFlags
 pub use Rattle.npr_rule.specs.Header as RuleHeader
-pub use Rattle.npr_rule.specs.IpProtocolByte
+pub use Rattle.npr_scalar.specs.IpProtocolByte
 pub use Rattle.npr_rule.specs.Message as RuleMessage
 pub use Rattle.npr_rule.specs.PortRange as RulePortRange
 pub use Rattle.npr_rule.specs.UidRange as RuleUidRange

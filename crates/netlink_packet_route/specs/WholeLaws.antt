@@ -2,7 +2,7 @@
 --     stands_apart    whether a value has a check of its own and is no list: the other end of a pair has, where its header is cut off
 --     holds_hops      whether it holds next hops
 --     seen-whole      a value that has neither of them and holds no list is read where it stands
-use Rattle.std.specs.Prelude.{◌≡◌, ℕ, ◌==◌, ◌||◌, ◌&&◌, not, nat_lt, Bool, true, false, List, [], ◌∷◌, length, if◌then◌else◌}
+use Rattle.std.specs.Prelude.{◌≡◌, ℕ, ◌==◌, ◌||◌, ◌&&◌, not, nat_lt, Bool, true, false, List, [], ◌∷◌, length, Option, Some, None, if◌then◌else◌}
 use Rattle.std.specs.Cmp.{first_so, second_so}
 use Rattle.std.proofs.Common.{refl, subst}
 use Rattle.std.proofs.lemmas.Bool.{eqb-true}
@@ -13,29 +13,48 @@ use Rattle.npr_base.specs.Tables.{attributes_of}
 use Rattle.npr_base.specs.Value.{IsWhole}
 use Rattle.npr_base.specs.declared.refusal.At.{At}
 use Rattle.npr_base.specs.declared.refusal.AttrFamily.{AttrFamily}
+use Rattle.npr_base.specs.declared.refusal.AttrFamily.TheVariants.{InfoIpTunnel as AtIpTunnel}
 use Rattle.npr_base.specs.declared.value.Form.{Form}
 use Rattle.npr_base.specs.declared.value.Form.TheVariants.{Inside}
 use Rattle.npr_address.specs.Attribute as OfAddress
+use Rattle.npr_link.specs.Netkit as OfNetkit
+use Rattle.npr_link_devices.specs.AdInfo as OfAdInfo
+use Rattle.npr_link_devices.specs.Bond as OfBond
+use Rattle.npr_link_devices.specs.BondPort as OfBondPort
+use Rattle.npr_link_devices.specs.IpVlan as OfIpVlan
+use Rattle.npr_link_devices.specs.MacVlan as OfMacVlan
+use Rattle.npr_link_devices.specs.MacVlanAddress as OfMacVlanAddress
+use Rattle.npr_link_devices.specs.Tun as OfTun
+use Rattle.npr_link_tunnels.specs.Geneve as OfLinkGeneve
+use Rattle.npr_link_tunnels.specs.Gre as OfGre
+use Rattle.npr_link_tunnels.specs.Gre6 as OfGre6
+use Rattle.npr_link_tunnels.specs.IpTunnel as OfIpTunnel
+use Rattle.npr_link_tunnels.specs.TunnelFlags as OfTunnelFlags
+use Rattle.npr_link_tunnels.specs.Vti as OfVti
+use Rattle.npr_link_tunnels.specs.Vxlan as OfLinkVxlan
+use Rattle.npr_link_tunnels.specs.Xfrm as OfLinkXfrm
 use Rattle.npr_link.specs.AfSpec as OfAfSpec
 use Rattle.npr_link.specs.AfSpecInet as OfAfSpecInet
 use Rattle.npr_link.specs.AfSpecInet6 as OfAfSpecInet6
 use Rattle.npr_link.specs.AfSpecs as OfAfSpecs
 use Rattle.npr_link.specs.Attribute as OfLink
-use Rattle.npr_link.specs.Bridge as OfBridge
-use Rattle.npr_link.specs.BridgePort as OfBridgePort
+use Rattle.npr_link_bridge.specs.Bridge as OfBridge
+use Rattle.npr_link_bridge.specs.BridgePort as OfBridgePort
 use Rattle.npr_link.specs.Info as OfInfo
+use Rattle.npr_link.specs.InfoData.{info_data}
+use Rattle.npr_link.specs.PortData.{port_data}
 use Rattle.npr_link.specs.PeerAttribute as OfPeer
 use Rattle.npr_link.specs.Prop as OfProp
 use Rattle.npr_link.specs.ProtocolDown as OfReason
-use Rattle.npr_link.specs.QuerierState as OfQuerier
+use Rattle.npr_link_bridge.specs.QuerierState as OfQuerier
 use Rattle.npr_link.specs.Veth as OfVeth
 use Rattle.npr_link.specs.Vlan as OfVlan
 use Rattle.npr_link.specs.VlanQos as OfVlanQos
 use Rattle.npr_link.specs.Vrf as OfVrf
 use Rattle.npr_link.specs.Xdp as OfXdp
 use Rattle.npr_link.specs.contracts.info.LinkInfo.{enum}
-use Rattle.npr_link.specs.declared.info_kind.InfoForm.{InfoForm}
-use Rattle.npr_link.specs.declared.info_kind.InfoForm.TheVariants as Data
+use Rattle.npr_link_tunnels.specs.declared.form.InfoForm.{InfoForm}
+use Rattle.npr_link_tunnels.specs.declared.form.InfoForm.TheVariants as Data
 use Rattle.npr_link.specs.declared.port_kind.InfoPortForm.{InfoPortForm}
 use Rattle.npr_link.specs.declared.port_kind.InfoPortForm.TheVariants as Port
 use Rattle.npr_neighbour.specs.Attribute as OfNeighbour
@@ -63,6 +82,10 @@ use Rattle.netlink_packet_route.specs.declared.levels.Level.TheVariants.{Address
 use Rattle.netlink_packet_route.specs.declared.levels.Level.TheVariants.{LinkInfo, LinkXdp, Prop, LinkProtocolDownReason, AfSpecUnspec, AfSpecInet}
 use Rattle.netlink_packet_route.specs.declared.levels.Level.TheVariants.{AfSpecInet6, InfoBridge, BridgeQuerierState, InfoBridgePort, InfoVlan}
 use Rattle.netlink_packet_route.specs.declared.levels.Level.TheVariants.{VlanQosMapping, InfoVrf, InfoVeth, Peer}
+use Rattle.netlink_packet_route.specs.declared.levels.Level.TheVariants.{InfoBond, BondAdInfo, InfoBondPort, InfoMacVlan}
+use Rattle.netlink_packet_route.specs.declared.levels.Level.TheVariants.{MacVlanAddress, InfoIpVlan, InfoNetkit, InfoTun}
+use Rattle.netlink_packet_route.specs.declared.levels.Level.TheVariants.{InfoVxlan, InfoGeneve, InfoGre, InfoGre6, InfoIpTunnel}
+use Rattle.netlink_packet_route.specs.declared.levels.Level.TheVariants.{InfoVti, InfoXfrm}
 use Rattle.netlink_packet_route.specs.Levels.{reading_at, holds_list, is_list, has_family, has_port_family, has_options}
 use denote.Enum.Declared.{Record}
 use denote.Struct.Field.{Field}
@@ -79,8 +102,9 @@ abbrev pub stands_apart : Level → ℕ → List ℕ → Bool
 stands_apart (Route family kind encap_type) k value = k == 18
 stands_apart (Encap encap_type) k value = apart_in encap_type k
 stands_apart Opt k value = k == 1
-stands_apart (Link family) k value = k == 66
 stands_apart InfoVeth k value = k == 1 && nat_lt (length value) 16
+stands_apart InfoBond k value = k == 8 || k == 31
+stands_apart InfoNetkit k value = k == 1 && nat_lt (length value) 16
 stands_apart level k value = false
 
 abbrev pub holds_hops : Level → ℕ → Bool
@@ -181,7 +205,7 @@ route-whole OfRouteAddress.any true family = refl
 route-whole OfRouteAddress.any false family = refl
 
 abbrev link_lists : OfAfSpecs.Form → ℕ → Bool
-link_lists form k = k == 66 || (k == 18 || (k == 26 && is_list form || (k == 43 || (k == 52 || k == 55))))
+link_lists form k = k == 18 || (k == 26 && is_list form || (k == 43 || (k == 52 || k == 55)))
 
 link-rows : (form : OfAfSpecs.Form) → variants_whole (link_lists form) OfLink.later (OfLink.rows form).0 ≡ true
 link-rows OfAfSpecs.as_list = refl
@@ -193,37 +217,46 @@ driver_lists link port k = k == 2 && has_family link || k == 5 && has_port_famil
 abbrev driver_whole : InfoForm → InfoPortForm → Type 0
 driver_whole link port = variants_whole (driver_lists link port) enum.parts (OfInfo.table (link, port)).rows ≡ true
 
-port-rows : (port : InfoPortForm) → driver_whole Data.Kept port
-port-rows Port.Bridge = refl
-port-rows Port.Vrf = refl
-port-rows Port.Kept = refl
+-- data are read where they stand, or their kind has a family
+data-row : (link : InfoForm) → ((has_family link || false) || is_whole (info_data link).showing.form) ≡ true
+data-row Data.Bridge = refl
+data-row Data.Tun = refl
+data-row Data.Vlan = refl
+data-row Data.Veth = refl
+data-row Data.Vxlan = refl
+data-row Data.Bond = refl
+data-row Data.IpVlan = refl
+data-row Data.IpVtap = refl
+data-row Data.MacVlan = refl
+data-row Data.MacVtap = refl
+data-row Data.GreTap = refl
+data-row Data.GreTap6 = refl
+data-row Data.IpIp = refl
+data-row Data.Ip6Tnl = refl
+data-row Data.SitTun = refl
+data-row Data.GreTun = refl
+data-row Data.GreTun6 = refl
+data-row Data.Vti = refl
+data-row Data.Vti6 = refl
+data-row Data.Vrf = refl
+data-row Data.Xfrm = refl
+data-row Data.Geneve = refl
+data-row Data.Netkit = refl
+data-row Data.Kept = refl
 
-bridge-rows : (port : InfoPortForm) → driver_whole Data.Bridge port
-bridge-rows Port.Bridge = refl
-bridge-rows Port.Vrf = refl
-bridge-rows Port.Kept = refl
+port-row : (port : InfoPortForm) → (has_port_family port || is_whole (port_data port).showing.form) ≡ true
+port-row Port.Bridge = refl
+port-row Port.Vrf = refl
+port-row Port.Bond = refl
+port-row Port.Kept = refl
 
-vlan-rows : (port : InfoPortForm) → driver_whole Data.Vlan port
-vlan-rows Port.Bridge = refl
-vlan-rows Port.Vrf = refl
-vlan-rows Port.Kept = refl
-
-veth-rows : (port : InfoPortForm) → driver_whole Data.Veth port
-veth-rows Port.Bridge = refl
-veth-rows Port.Vrf = refl
-veth-rows Port.Kept = refl
-
-vrf-rows : (port : InfoPortForm) → driver_whole Data.Vrf port
-vrf-rows Port.Bridge = refl
-vrf-rows Port.Vrf = refl
-vrf-rows Port.Kept = refl
+both-true : (a b : Bool) → a ≡ true → b ≡ true → (a && (b && true)) ≡ true
+both-true true true p q = refl
+both-true true false p q = q
+both-true false b p q = p
 
 driver-rows : (link : InfoForm) (port : InfoPortForm) → driver_whole link port
-driver-rows Data.Bridge port = bridge-rows port
-driver-rows Data.Vlan port = vlan-rows port
-driver-rows Data.Veth port = veth-rows port
-driver-rows Data.Vrf port = vrf-rows port
-driver-rows Data.Kept port = port-rows port
+driver-rows link port = both-true _ _ (data-row link) (port-row port)
 
 abbrev ioam6_lists : ℕ → Bool
 ioam6_lists k = k == 3
@@ -265,14 +298,38 @@ families_lists k = k == 2 || k == 10
 abbrev bridge_list : ℕ → Bool
 bridge_list k = k == 47
 
+abbrev bond_apart : ℕ → Bool
+bond_apart k = (k == 8 || k == 31) || k == 23
+
+abbrev mac_vlan_list : ℕ → Bool
+mac_vlan_list k = k == 5
+
 abbrev vlan_lists : ℕ → Bool
 vlan_lists k = k == 3 || k == 4
+
+flags-whole : (kind : Option OfTunnelFlags.Kind) → IsWhole (OfTunnelFlags.flags_form kind)
+flags-whole (Some OfTunnelFlags.ipip) = tt
+flags-whole (Some OfTunnelFlags.sit) = tt
+flags-whole (Some OfTunnelFlags.ip6tnl) = tt
+flags-whole None = tt
+
+either-whole : (b : Bool) (p q : At × Form) → IsWhole p.1 → IsWhole q.1 → IsWhole (if b then p else q).1
+either-whole true p q first later = first
+either-whole false p q first later = later
+
+ip-tunnel-whole : (form : InfoForm) (k : ℕ) → IsWhole ((OfIpTunnel.attributes form).seeing.form_at k).1
+unfolding OfIpTunnel.attributes
+ip-tunnel-whole form k =
+    either-whole (k == 8) _ _ (flags-whole (OfTunnelFlags.kind_of form))
+    (from-variants none k refl AtIpTunnel OfIpTunnel.flat OfIpTunnel.flat_rows.0 refl)
 
 pub seen-whole : (level : Level) (k : ℕ) (value : List ℕ) → stands_apart level k value ≡ false → holds_hops level k ≡ false
     → holds_list level k value ≡ false → IsWhole ((reading_at level).reading.seeing.form_at k).1
 unfolding OfMetric.attributes OfOption.attributes OfVxlan.attributes OfErspan.attributes OfXdp.attributes OfProp.attributes
     OfReason.attributes OfAfSpec.attributes OfAfSpecInet.attributes OfAfSpecInet6.attributes OfBridge.attributes OfQuerier.attributes
     OfBridgePort.attributes OfVlan.attributes OfVlanQos.attributes OfVrf.attributes OfVeth.attributes OfPeer.attributes
+    OfBond.attributes OfAdInfo.attributes OfBondPort.attributes OfMacVlan.attributes OfMacVlanAddress.attributes OfIpVlan.attributes OfNetkit.attributes OfTun.attributes
+    OfLinkVxlan.attributes OfLinkGeneve.attributes OfGre.attributes OfGre6.attributes OfVti.attributes OfLinkXfrm.attributes
 seen-whole Address k value apart hops lists = in-table OfAddress.table none refl k refl
 seen-whole Rule k value apart hops lists = in-table OfRule.table none refl k refl
 seen-whole (Route family kind encap_type) k value apart hops lists =
@@ -283,7 +340,7 @@ seen-whole (Route family kind encap_type) k value apart hops lists =
 seen-whole (Neighbour family) k value apart hops lists = neighbour-whole (OfNeighbourAddress.form_of family) k
 seen-whole (Link family) k value apart hops lists =
     let form = OfAfSpecs.form_of family in
-    from-variants (link_lists form) k (or-false (k == 66) (k == 18 || (k == 26 && is_list form || (k == 43 || (k == 52 || k == 55)))) apart lists)
+    from-variants (link_lists form) k lists
     (family_in OfLink.later (OfLink.rows form).0) OfLink.later (OfLink.rows form).0 (link-rows form)
 seen-whole Metric k value apart hops lists = in-table OfMetric.table none refl k refl
 seen-whole (Encap encap_type) k value apart hops lists = encap-whole encap_type k apart lists
@@ -305,3 +362,18 @@ seen-whole VlanQosMapping k value apart hops lists = in-table OfVlanQos.table no
 seen-whole InfoVrf k value apart hops lists = in-table OfVrf.table none refl k refl
 seen-whole InfoVeth k value apart hops lists = in-table OfVeth.table first_list refl k (neither (k == 1) (nat_lt (length value) 16) apart lists)
 seen-whole Peer k value apart hops lists = in-table OfPeer.table none refl k refl
+seen-whole InfoBond k value apart hops lists = in-table OfBond.table bond_apart refl k (or-false (k == 8 || k == 31) (k == 23) apart lists)
+seen-whole BondAdInfo k value apart hops lists = in-table OfAdInfo.table none refl k refl
+seen-whole InfoBondPort k value apart hops lists = in-table OfBondPort.table none refl k refl
+seen-whole InfoMacVlan k value apart hops lists = in-table OfMacVlan.table mac_vlan_list refl k lists
+seen-whole MacVlanAddress k value apart hops lists = in-table OfMacVlanAddress.table none refl k refl
+seen-whole InfoIpVlan k value apart hops lists = in-table OfIpVlan.table none refl k refl
+seen-whole InfoNetkit k value apart hops lists = in-table OfNetkit.table first_list refl k (neither (k == 1) (nat_lt (length value) 16) apart lists)
+seen-whole InfoTun k value apart hops lists = in-table OfTun.table none refl k refl
+seen-whole InfoVxlan k value apart hops lists = in-table OfLinkVxlan.table none refl k refl
+seen-whole InfoGeneve k value apart hops lists = in-table OfLinkGeneve.table none refl k refl
+seen-whole InfoGre k value apart hops lists = in-table OfGre.table none refl k refl
+seen-whole InfoGre6 k value apart hops lists = in-table OfGre6.table none refl k refl
+seen-whole (InfoIpTunnel form) k value apart hops lists = ip-tunnel-whole form k
+seen-whole InfoVti k value apart hops lists = in-table OfVti.table none refl k refl
+seen-whole InfoXfrm k value apart hops lists = in-table OfLinkXfrm.table none refl k refl

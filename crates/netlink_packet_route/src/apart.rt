@@ -6,13 +6,13 @@ ghost use Rattle.npr_route.specs.{Attribute.{Meaning as RouteMeaning}, Attribute
 ghost use Rattle.netlink_packet_route.specs.{
   Levels.{reading_at},
   WholeLaws.{stands_apart},
-  declared.levels.Level.TheVariants.{InfoVeth},
+  declared.levels.Level.TheVariants.{InfoVeth, InfoNetkit},
 };
 
 use crate::inside::PEER_HEADER_LEN;
 use crate::levels::Level;
 use npr_base::{AttrFamily, DecodeError, NlaBuffer};
-use npr_link::LinkAttribute;
+use npr_link::InfoBond;
 use npr_scalar::RouteVia;
 use npr_tunnel::{RouteLwTunnelEncap, RouteLwTunnelOpt};
 
@@ -21,6 +21,9 @@ const RTA_VIA: u16 = 18;
 
 /// `VETH_INFO_PEER` of `linux/veth.h`.
 const VETH_INFO_PEER: u16 = 1;
+
+/// `IFLA_NETKIT_PEER_INFO` of `linux/if_link.h`.
+const IFLA_NETKIT_PEER_INFO: u16 = 1;
 
 /// Whether a value with a check of its own is well formed, or `None` for any other. It takes no memory.
 ///
@@ -35,8 +38,9 @@ pub fn check_apart(level: Level, item: &NlaBuffer<'_>) -> Option<Result<(), Deco
         Level::Route(_, _, _) => check_gateway(item),
         Level::Encap(encap_type) => RouteLwTunnelEncap::check_apart(encap_type, item),
         Level::Opt => RouteLwTunnelOpt::check_apart(item),
-        Level::Link(family) => LinkAttribute::check_apart(family, item),
+        Level::InfoBond => InfoBond::check_apart(item),
         Level::InfoVeth => check_cut_pair(item),
+        Level::InfoNetkit => check_cut_netkit(item),
         _ => None,
     }
 }
@@ -61,6 +65,22 @@ fn check_cut_pair(item: &NlaBuffer<'_>) -> Option<Result<(), DecodeError>>
 {
     let got = item.value().len();
     if item.kind() != VETH_INFO_PEER || got >= PEER_HEADER_LEN {
+        return None;
+    }
+    Some(Err(DecodeError::HeaderTooShort {
+        got,
+        want: PEER_HEADER_LEN,
+    }))
+}
+
+/// The same of a pair that runs programs.
+fn check_cut_netkit(item: &NlaBuffer<'_>) -> Option<Result<(), DecodeError>>
+    ensures other { IfNone result (stands_apart InfoNetkit (number_of (item.now).kind) (item.now).value ≡ false) }
+    ensures ok { IfSome result (λ r. IfOk r (λ _. (m : (reading_at InfoNetkit).Meaning) × (reading_at InfoNetkit).reading.Reads item.now m)) }
+    ensures refused { IfSome result (λ r. IfErr r (λ e. (reading_at InfoNetkit).reading.Faulty item.now e)) }
+{
+    let got = item.value().len();
+    if item.kind() != IFLA_NETKIT_PEER_INFO || got >= PEER_HEADER_LEN {
         return None;
     }
     Some(Err(DecodeError::HeaderTooShort {

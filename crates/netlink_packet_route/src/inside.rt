@@ -3,12 +3,13 @@
 
 ghost use Rattle.std.specs.Prelude.{◌≡◌, ℕ, List, false, IfSome, IsNone};
 ghost use Rattle.npr_base.specs.declared.address_family.AddressFamily.{AddressFamily};
-ghost use Rattle.npr_link.specs.declared.{info_kind.InfoForm.{InfoForm}, port_kind.InfoPortForm.{InfoPortForm}};
+ghost use Rattle.npr_link.specs.declared.port_kind.InfoPortForm.{InfoPortForm};
+ghost use Rattle.npr_link_tunnels.specs.declared.form.InfoForm.{InfoForm};
 ghost use Rattle.npr_scalar.specs.declared.route_type.RouteType.{RouteType};
 ghost use Rattle.npr_tunnel.specs.EncapType.{encap_types};
 ghost use Rattle.netlink_packet_route.specs.{
   Levels.{FromBytes, IsInside, IsOf, IsPlainInside, holds_list},
-  declared.levels.Level.TheVariants.{Route, Encap, Opt, Link, LinkInfo, AfSpecUnspec, InfoBridge, InfoVlan, InfoVeth},
+  declared.levels.Level.TheVariants.{Route, Encap, Opt, Link, LinkInfo, AfSpecUnspec, InfoBridge, InfoVlan, InfoVeth, InfoBond, InfoMacVlan, InfoNetkit},
 };
 
 use crate::levels::Level;
@@ -117,8 +118,27 @@ fn inside_data(form: InfoForm) -> Option<Level>
 {
     match form {
         InfoForm::Bridge => Some(Level::InfoBridge),
+        InfoForm::Tun => Some(Level::InfoTun),
         InfoForm::Vlan => Some(Level::InfoVlan),
         InfoForm::Veth => Some(Level::InfoVeth),
+        InfoForm::Vxlan => Some(Level::InfoVxlan),
+        InfoForm::Bond => Some(Level::InfoBond),
+        InfoForm::IpVlan => Some(Level::InfoIpVlan),
+        InfoForm::IpVtap => Some(Level::InfoIpVlan),
+        InfoForm::MacVlan => Some(Level::InfoMacVlan),
+        InfoForm::MacVtap => Some(Level::InfoMacVlan),
+        InfoForm::GreTap => Some(Level::InfoGre),
+        InfoForm::GreTap6 => Some(Level::InfoGre6),
+        InfoForm::IpIp => Some(Level::InfoIpTunnel(InfoForm::IpIp)),
+        InfoForm::Ip6Tnl => Some(Level::InfoIpTunnel(InfoForm::Ip6Tnl)),
+        InfoForm::SitTun => Some(Level::InfoIpTunnel(InfoForm::SitTun)),
+        InfoForm::GreTun => Some(Level::InfoGre),
+        InfoForm::GreTun6 => Some(Level::InfoGre6),
+        InfoForm::Vti => Some(Level::InfoVti),
+        InfoForm::Vti6 => Some(Level::InfoVti),
+        InfoForm::Xfrm => Some(Level::InfoXfrm),
+        InfoForm::Geneve => Some(Level::InfoGeneve),
+        InfoForm::Netkit => Some(Level::InfoNetkit),
         InfoForm::Vrf => Some(Level::InfoVrf),
         InfoForm::Kept => None,
     }
@@ -133,6 +153,7 @@ fn inside_port_data(form: InfoPortForm) -> Option<Level>
     match form {
         InfoPortForm::Bridge => Some(Level::InfoBridgePort),
         InfoPortForm::Vrf => Some(Level::InfoVrf),
+        InfoPortForm::Bond => Some(Level::InfoBondPort),
         InfoPortForm::Kept => None,
     }
 }
@@ -178,10 +199,48 @@ pub fn inside_vlan(number: u16) -> Option<Level>
     }
 }
 
+/// In the data of a bond: what it says of its aggregator.
+pub fn inside_bond(number: u16) -> Option<Level>
+    ensures opens { IfSome result (λ level. (value : List ℕ) → IsPlainInside InfoBond number value level) }
+    ensures none { IsNone result → (value : List ℕ) → holds_list InfoBond number value ≡ false }
+    ensures numbers { IfSome result FromBytes }
+{
+    match number {
+        // IFLA_BOND_AD_INFO
+        23 => Some(Level::BondAdInfo),
+        _ => None,
+    }
+}
+
+/// In the data of a link with an address of its own: the addresses of sources.
+pub fn inside_mac_vlan(number: u16) -> Option<Level>
+    ensures opens { IfSome result (λ level. (value : List ℕ) → IsPlainInside InfoMacVlan number value level) }
+    ensures none { IsNone result → (value : List ℕ) → holds_list InfoMacVlan number value ≡ false }
+    ensures numbers { IfSome result FromBytes }
+{
+    match number {
+        // IFLA_MACVLAN_MACADDR_DATA
+        5 => Some(Level::MacVlanAddress),
+        _ => None,
+    }
+}
+
 /// In the data of a pair: the attributes of the other end, behind its header.
 pub fn inside_pair(number: u16, value: &[u8]) -> Option<(Level, &[u8])>
     ensures opens { IfSome result (λ s. IsInside InfoVeth number value.now s.0 s.1.now) }
     ensures none { IsNone result → holds_list InfoVeth number value.now ≡ false }
+    ensures numbers { IfSome result (λ s. FromBytes s.0) }
+{
+    if number != 1 || value.len() < PEER_HEADER_LEN {
+        return None;
+    }
+    Some((Level::Peer, &value[PEER_HEADER_LEN..]))
+}
+
+/// In the data of a pair that runs programs: the attributes of the other end, behind its header.
+pub fn inside_netkit(number: u16, value: &[u8]) -> Option<(Level, &[u8])>
+    ensures opens { IfSome result (λ s. IsInside InfoNetkit number value.now s.0 s.1.now) }
+    ensures none { IsNone result → holds_list InfoNetkit number value.now ≡ false }
     ensures numbers { IfSome result (λ s. FromBytes s.0) }
 {
     if number != 1 || value.len() < PEER_HEADER_LEN {

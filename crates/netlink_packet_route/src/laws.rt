@@ -35,8 +35,23 @@ use npr_link::LinkAttribute;
 pub use npr_link::laws::{
     law_default as law_link_default, law_equality as law_link_value_equality,
     law_equality_of_meanings as law_link_equality, law_flags as law_link_value_flags,
-    law_governing as law_link_governing, law_link_flags, law_numbers as law_link_numbers,
-    law_router_types, law_search as law_link_search,
+    law_governing as law_link_governing, law_link_flags, law_netkit_policies,
+    law_numbers as law_link_numbers, law_search as law_link_search,
+};
+pub use npr_link_bridge::laws::{
+    law_default as law_bridge_default, law_equality as law_bridge_value_equality,
+    law_equality_of_meanings as law_bridge_equality, law_flags as law_bridge_flags,
+    law_numbers as law_bridge_numbers, law_router_types,
+};
+pub use npr_link_devices::laws::{
+    law_default as law_device_default, law_equality as law_device_value_equality,
+    law_equality_of_meanings as law_device_equality, law_flags as law_device_flags,
+    law_numbers as law_device_numbers, law_targets,
+};
+pub use npr_link_tunnels::laws::{
+    law_default as law_link_tunnel_default, law_equality as law_link_tunnel_value_equality,
+    law_equality_of_meanings as law_link_tunnel_equality, law_flags as law_link_tunnel_flags,
+    law_numbers as law_link_tunnel_numbers,
 };
 use npr_neighbour::NeighbourAttribute;
 pub use npr_neighbour::laws::{

@@ -14,8 +14,8 @@ ghost use Rattle.{
 };
 
 use crate::inside::{
-    inside_bridge, inside_encap, inside_families, inside_info, inside_link, inside_options,
-    inside_pair, inside_route, inside_vlan,
+    inside_bond, inside_bridge, inside_encap, inside_families, inside_info, inside_link,
+    inside_mac_vlan, inside_netkit, inside_options, inside_pair, inside_route, inside_vlan,
 };
 use crate::kind::MessageKind;
 use npr_address::{AddressAttribute, AddressHeader};
@@ -23,9 +23,11 @@ use npr_base::{
     AddressFamily, At, Attribute, DecodeError, Header, Looks, Message, NlaBuffer, Value,
 };
 use npr_link::{
-    AfSpecInet, AfSpecInet6, AfSpecUnspec, BridgeQuerierState, InfoBridge, InfoBridgePort,
-    InfoForm, InfoPortForm, InfoVeth, InfoVlan, InfoVrf, LinkAttribute, LinkHeader, LinkInfo,
-    LinkProtocolDownReason, LinkXdp, PeerAttribute, Prop, VlanQosMapping,
+    AfSpecInet, AfSpecInet6, AfSpecUnspec, BondAdInfo, BridgeQuerierState, InfoBond, InfoBondPort,
+    InfoBridge, InfoBridgePort, InfoForm, InfoGeneve, InfoGre, InfoGre6, InfoIpTunnel, InfoIpVlan,
+    InfoMacVlan, InfoNetkit, InfoPortForm, InfoTun, InfoVeth, InfoVlan, InfoVrf, InfoVti,
+    InfoVxlan, InfoXfrm, LinkAttribute, LinkHeader, LinkInfo, LinkProtocolDownReason, LinkXdp,
+    MacVlanAddress, PeerAttribute, Prop, VlanQosMapping,
 };
 use npr_neighbour::{NeighbourAttribute, NeighbourHeader};
 use npr_route::{RouteAttribute, RouteHeader, RouteMetric, governing_type};
@@ -90,6 +92,36 @@ pub enum Level {
     InfoVeth,
     /// Of the other end of a pair: `IFLA_*` of `linux/if_link.h`.
     Peer,
+    /// The data of a bond: `IFLA_BOND_*` of `linux/if_link.h`.
+    InfoBond,
+    /// What a bond says of its aggregator: `IFLA_BOND_AD_INFO_*` of `linux/if_link.h`.
+    BondAdInfo,
+    /// The data of a port of a bond: `IFLA_BOND_SLAVE_*` of `linux/if_link.h`.
+    InfoBondPort,
+    /// The data of a link with an address of its own: `IFLA_MACVLAN_*` of `linux/if_link.h`.
+    InfoMacVlan,
+    /// Addresses of sources: `IFLA_MACVLAN_MACADDR` of `linux/if_link.h`.
+    MacVlanAddress,
+    /// The data of a link that shares an address: `IFLA_IPVLAN_*` of `linux/if_link.h`.
+    InfoIpVlan,
+    /// The data of a pair that runs programs: `IFLA_NETKIT_*` of `linux/if_link.h`.
+    InfoNetkit,
+    /// The data of a tunnel to a program: `IFLA_TUN_*` of `linux/if_link.h`.
+    InfoTun,
+    /// The data of a tunnel of VXLAN: `IFLA_VXLAN_*` of `linux/if_link.h`.
+    InfoVxlan,
+    /// The data of a tunnel of Geneve: `IFLA_GENEVE_*` of `linux/if_link.h`.
+    InfoGeneve,
+    /// The data of a tunnel of GRE over IP version 4: `IFLA_GRE_*` of `linux/if_tunnel.h`.
+    InfoGre,
+    /// The data of a tunnel of GRE over IP version 6: `IFLA_GRE_*` of `linux/if_tunnel.h`.
+    InfoGre6,
+    /// The data of a tunnel of IP in IP, under its kind: `IFLA_IPTUN_*` of `linux/if_tunnel.h`.
+    InfoIpTunnel(InfoForm),
+    /// The data of a virtual tunnel interface: `IFLA_VTI_*` of `linux/if_tunnel.h`.
+    InfoVti,
+    /// The data of an IPsec interface: `IFLA_XFRM_*` of `linux/if_link.h`.
+    InfoXfrm,
 }
 
 /// What the attributes behind the header of a message rest on, and their bytes.
@@ -176,6 +208,21 @@ impl Level {
             Level::InfoVrf => InfoVrf::value((), item),
             Level::InfoVeth => InfoVeth::value((), item),
             Level::Peer => PeerAttribute::value((), item),
+            Level::InfoBond => InfoBond::value((), item),
+            Level::BondAdInfo => BondAdInfo::value((), item),
+            Level::InfoBondPort => InfoBondPort::value((), item),
+            Level::InfoMacVlan => InfoMacVlan::value((), item),
+            Level::MacVlanAddress => MacVlanAddress::value((), item),
+            Level::InfoIpVlan => InfoIpVlan::value((), item),
+            Level::InfoNetkit => InfoNetkit::value((), item),
+            Level::InfoTun => InfoTun::value((), item),
+            Level::InfoVxlan => InfoVxlan::value((), item),
+            Level::InfoGeneve => InfoGeneve::value((), item),
+            Level::InfoGre => InfoGre::value((), item),
+            Level::InfoGre6 => InfoGre6::value((), item),
+            Level::InfoIpTunnel(form) => InfoIpTunnel::value(form, item),
+            Level::InfoVti => InfoVti::value((), item),
+            Level::InfoXfrm => InfoXfrm::value((), item),
         }
     }
 
@@ -196,7 +243,10 @@ impl Level {
             Level::AfSpecUnspec => inside_families(number)?,
             Level::InfoBridge => inside_bridge(number)?,
             Level::InfoVlan => inside_vlan(number)?,
+            Level::InfoBond => inside_bond(number)?,
+            Level::InfoMacVlan => inside_mac_vlan(number)?,
             Level::InfoVeth => return inside_pair(number, value),
+            Level::InfoNetkit => return inside_netkit(number, value),
             _ => return None,
         };
         Some((level, value))

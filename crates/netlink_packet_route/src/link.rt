@@ -1,13 +1,114 @@
 //! Link messages: `struct ifinfomsg` of `linux/rtnetlink.h`.
 
-pub use npr_link::{
-    AfSpecInet, AfSpecInet6, AfSpecUnspec, BridgeBooleanOptionFlags, BridgeBooleanOptions,
-    BridgeId, BridgeIdBuffer, BridgeMulticastRouterType, BridgePortState, BridgeQuerierState,
-    BridgeStpState, Icmp6Stats, In6AddrGenMode, Inet6CacheInfo, Inet6CacheInfoBuffer, Inet6DevConf,
-    Inet6IfaceFlags, Inet6Stats, InetDevConf, InfoBridge, InfoBridgePort, InfoData, InfoForm,
-    InfoKind, InfoPortData, InfoPortForm, InfoPortKind, InfoVeth, InfoVlan, InfoVrf, InfoVrfPort,
-    LinkAttribute, LinkEvent, LinkExtentMask, LinkFlags, LinkHeader, LinkInfo, LinkLayerType,
-    LinkMessage, LinkMessageBuffer, LinkMode, LinkPeer, LinkProtocolDownReason, LinkXdp, Map,
-    MapBuffer, PeerAttribute, Prop, State, Stats, Stats64, VlanFlags, VlanProtocol, VlanQosMapping,
-    XdpAttached, governing_forms,
-};
+pub use npr_link::AfSpecBridge;
+pub use npr_link::AfSpecInet;
+pub use npr_link::AfSpecInet6;
+pub use npr_link::AfSpecUnspec;
+pub use npr_link::BondAdInfo;
+pub use npr_link::BondAllPortActive;
+pub use npr_link::BondArpAllTargets;
+pub use npr_link::BondArpValidate;
+pub use npr_link::BondFailOverMac;
+pub use npr_link::BondLacpRate;
+pub use npr_link::BondMode;
+pub use npr_link::BondPortState;
+pub use npr_link::BondPrimaryReselect;
+pub use npr_link::BondXmitHashPolicy;
+pub use npr_link::BridgeBooleanOptionFlags;
+pub use npr_link::BridgeBooleanOptions;
+pub use npr_link::BridgeFlag;
+pub use npr_link::BridgeId;
+pub use npr_link::BridgeIdBuffer;
+pub use npr_link::BridgeMode;
+pub use npr_link::BridgeMst;
+pub use npr_link::BridgeMstEntry;
+pub use npr_link::BridgeMulticastRouterType;
+pub use npr_link::BridgePortState;
+pub use npr_link::BridgeQuerierState;
+pub use npr_link::BridgeStpState;
+pub use npr_link::BridgeVlanInfo;
+pub use npr_link::BridgeVlanInfoFlags;
+pub use npr_link::BridgeVlanTunnelInfo;
+pub use npr_link::GeneveDf;
+pub use npr_link::GreEncapFlags;
+pub use npr_link::GreEncapType;
+pub use npr_link::GreIOFlags;
+pub use npr_link::Icmp6Stats;
+pub use npr_link::In6AddrGenMode;
+pub use npr_link::Inet6CacheInfo;
+pub use npr_link::Inet6CacheInfoBuffer;
+pub use npr_link::Inet6DevConf;
+pub use npr_link::Inet6IfaceFlags;
+pub use npr_link::Inet6Stats;
+pub use npr_link::InetDevConf;
+pub use npr_link::InfoBond;
+pub use npr_link::InfoBondPort;
+pub use npr_link::InfoBridge;
+pub use npr_link::InfoBridgePort;
+pub use npr_link::InfoData;
+pub use npr_link::InfoForm;
+pub use npr_link::InfoGeneve;
+pub use npr_link::InfoGre;
+pub use npr_link::InfoGre6;
+pub use npr_link::InfoIpTunnel;
+pub use npr_link::InfoIpVlan;
+pub use npr_link::InfoIpVtap;
+pub use npr_link::InfoKind;
+pub use npr_link::InfoMacVlan;
+pub use npr_link::InfoMacVtap;
+pub use npr_link::InfoNetkit;
+pub use npr_link::InfoPortData;
+pub use npr_link::InfoPortForm;
+pub use npr_link::InfoPortKind;
+pub use npr_link::InfoTun;
+pub use npr_link::InfoVeth;
+pub use npr_link::InfoVlan;
+pub use npr_link::InfoVrf;
+pub use npr_link::InfoVrfPort;
+pub use npr_link::InfoVti;
+pub use npr_link::InfoVxlan;
+pub use npr_link::InfoXfrm;
+pub use npr_link::Ip6TunnelFlags;
+pub use npr_link::IpVlanFlags;
+pub use npr_link::IpVlanMode;
+pub use npr_link::IpVtapFlags;
+pub use npr_link::IpVtapMode;
+pub use npr_link::LinkAttribute;
+pub use npr_link::LinkEvent;
+pub use npr_link::LinkExtentMask;
+pub use npr_link::LinkFlags;
+pub use npr_link::LinkHeader;
+pub use npr_link::LinkInfo;
+pub use npr_link::LinkLayerType;
+pub use npr_link::LinkMessage;
+pub use npr_link::LinkMessageBuffer;
+pub use npr_link::LinkMode;
+pub use npr_link::LinkPeer;
+pub use npr_link::LinkProtocolDownReason;
+pub use npr_link::LinkXdp;
+pub use npr_link::MacVlanAddress;
+pub use npr_link::MacVlanFlags;
+pub use npr_link::MacVlanMacAddressMode;
+pub use npr_link::MacVlanMode;
+pub use npr_link::MacVtapFlags;
+pub use npr_link::MacVtapMacAddressMode;
+pub use npr_link::MacVtapMode;
+pub use npr_link::Map;
+pub use npr_link::MapBuffer;
+pub use npr_link::MiiStatus;
+pub use npr_link::NetkitMode;
+pub use npr_link::NetkitPolicy;
+pub use npr_link::NetkitScrub;
+pub use npr_link::PeerAttribute;
+pub use npr_link::Prop;
+pub use npr_link::State;
+pub use npr_link::Stats;
+pub use npr_link::Stats64;
+pub use npr_link::TunType;
+pub use npr_link::TunnelEncapFlags;
+pub use npr_link::TunnelEncapType;
+pub use npr_link::VlanFlags;
+pub use npr_link::VlanProtocol;
+pub use npr_link::VlanQosMapping;
+pub use npr_link::XdpAttached;
+pub use npr_link::governing_forms;

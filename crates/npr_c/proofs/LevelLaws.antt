@@ -10,6 +10,10 @@ use Rattle.netlink_packet_route.specs.declared.levels.Level.TheVariants.{Address
 use Rattle.netlink_packet_route.specs.declared.levels.Level.TheVariants.{LinkInfo, LinkXdp, Prop, LinkProtocolDownReason, AfSpecUnspec, AfSpecInet}
 use Rattle.netlink_packet_route.specs.declared.levels.Level.TheVariants.{AfSpecInet6, InfoBridge, BridgeQuerierState, InfoBridgePort, InfoVlan}
 use Rattle.netlink_packet_route.specs.declared.levels.Level.TheVariants.{VlanQosMapping, InfoVrf, InfoVeth, Peer}
+use Rattle.netlink_packet_route.specs.declared.levels.Level.TheVariants.{InfoBond, BondAdInfo, InfoBondPort, InfoMacVlan}
+use Rattle.netlink_packet_route.specs.declared.levels.Level.TheVariants.{MacVlanAddress, InfoIpVlan, InfoNetkit, InfoTun}
+use Rattle.netlink_packet_route.specs.declared.levels.Level.TheVariants.{InfoVxlan, InfoGeneve, InfoGre, InfoGre6, InfoIpTunnel}
+use Rattle.netlink_packet_route.specs.declared.levels.Level.TheVariants.{InfoVti, InfoXfrm}
 use Rattle.netlink_packet_route.specs.declared.link.InfoForm.{InfoForm}
 use Rattle.netlink_packet_route.specs.declared.link.InfoForm.TheVariants as Data
 use Rattle.netlink_packet_route.specs.declared.link.InfoPortForm.{InfoPortForm}
@@ -63,6 +67,25 @@ form_back Data.Bridge = refl
 form_back Data.Vlan = refl
 form_back Data.Veth = refl
 form_back Data.Vrf = refl
+form_back Data.Tun = refl
+form_back Data.Vxlan = refl
+form_back Data.Bond = refl
+form_back Data.IpVlan = refl
+form_back Data.IpVtap = refl
+form_back Data.MacVlan = refl
+form_back Data.MacVtap = refl
+form_back Data.GreTap = refl
+form_back Data.GreTap6 = refl
+form_back Data.IpIp = refl
+form_back Data.Ip6Tnl = refl
+form_back Data.SitTun = refl
+form_back Data.GreTun = refl
+form_back Data.GreTun6 = refl
+form_back Data.Vti = refl
+form_back Data.Vti6 = refl
+form_back Data.Xfrm = refl
+form_back Data.Geneve = refl
+form_back Data.Netkit = refl
 
 form_below : (form : InfoForm) → form_number form < 256
 form_below Data.Kept = omega arith
@@ -70,16 +93,37 @@ form_below Data.Bridge = omega arith
 form_below Data.Vlan = omega arith
 form_below Data.Veth = omega arith
 form_below Data.Vrf = omega arith
+form_below Data.Tun = omega arith
+form_below Data.Vxlan = omega arith
+form_below Data.Bond = omega arith
+form_below Data.IpVlan = omega arith
+form_below Data.IpVtap = omega arith
+form_below Data.MacVlan = omega arith
+form_below Data.MacVtap = omega arith
+form_below Data.GreTap = omega arith
+form_below Data.GreTap6 = omega arith
+form_below Data.IpIp = omega arith
+form_below Data.Ip6Tnl = omega arith
+form_below Data.SitTun = omega arith
+form_below Data.GreTun = omega arith
+form_below Data.GreTun6 = omega arith
+form_below Data.Vti = omega arith
+form_below Data.Vti6 = omega arith
+form_below Data.Xfrm = omega arith
+form_below Data.Geneve = omega arith
+form_below Data.Netkit = omega arith
 
 port_back : (form : InfoPortForm) → port_form_of (port_form_number form) ≡ form
 port_back Port.Kept = refl
 port_back Port.Bridge = refl
 port_back Port.Vrf = refl
+port_back Port.Bond = refl
 
 port_below : (form : InfoPortForm) → port_form_number form < 256
 port_below Port.Kept = omega arith
 port_below Port.Bridge = omega arith
 port_below Port.Vrf = omega arith
+port_below Port.Bond = omega arith
 
 low_of_two : (a b : ℕ) → a < 256 → (a + 256 * b) % 256 ≡ a
 low_of_two a b small = omega arith
@@ -134,6 +178,21 @@ level_back VlanQosMapping from = refl
 level_back InfoVrf from = refl
 level_back InfoVeth from = refl
 level_back Peer from = refl
+level_back InfoBond from = refl
+level_back BondAdInfo from = refl
+level_back InfoBondPort from = refl
+level_back InfoMacVlan from = refl
+level_back MacVlanAddress from = refl
+level_back InfoIpVlan from = refl
+level_back InfoNetkit from = refl
+level_back InfoTun from = refl
+level_back InfoVxlan from = refl
+level_back InfoGeneve from = refl
+level_back InfoGre from = refl
+level_back InfoGre6 from = refl
+level_back (InfoIpTunnel form) from = ap InfoIpTunnel (ap form_of (byte_below (form_number form) (form_below form)) ∙ form_back form)
+level_back InfoVti from = refl
+level_back InfoXfrm from = refl
 
 -- ---- from numbers
 
@@ -174,4 +233,19 @@ from_numbers family context small =
     from_either (family == 30) VlanQosMapping _ tt (
     from_either (family == 31) InfoVrf _ tt (
     from_either (family == 32) InfoVeth _ tt (
-    from_either (family == 33) Peer (Encap _) tt encap)))))))))))))))))))))))
+    from_either (family == 33) Peer _ tt (
+    from_either (family == 38) InfoBond _ tt (
+    from_either (family == 39) BondAdInfo _ tt (
+    from_either (family == 40) InfoBondPort _ tt (
+    from_either (family == 41) InfoMacVlan _ tt (
+    from_either (family == 42) MacVlanAddress _ tt (
+    from_either (family == 43) InfoIpVlan _ tt (
+    from_either (family == 44) InfoNetkit _ tt (
+    from_either (family == 45) InfoTun _ tt (
+    from_either (family == 46) InfoVxlan _ tt (
+    from_either (family == 47) InfoGeneve _ tt (
+    from_either (family == 48) InfoGre _ tt (
+    from_either (family == 49) InfoGre6 _ tt (
+    from_either (family == 50) (InfoIpTunnel _) _ tt (
+    from_either (family == 51) InfoVti _ tt (
+    from_either (family == 52) InfoXfrm (Encap _) tt encap))))))))))))))))))))))))))))))))))))))

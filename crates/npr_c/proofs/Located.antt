@@ -8,6 +8,15 @@ use Rattle.netlink_packet_route.specs.declared.framing.AttrFamily.TheVariants.{O
 use Rattle.netlink_packet_route.specs.declared.framing.AttrFamily.TheVariants.{Link, LinkInfo, LinkXdp, Prop, LinkProtocolDownReason, AfSpecUnspec}
 use Rattle.netlink_packet_route.specs.declared.framing.AttrFamily.TheVariants.{AfSpecInet, AfSpecInet6, InfoBridge, BridgeQuerierState, InfoBridgePort}
 use Rattle.netlink_packet_route.specs.declared.framing.AttrFamily.TheVariants.{InfoVlan, VlanQosMapping, InfoVrf, InfoVeth, Peer}
+use Rattle.netlink_packet_route.specs.declared.framing.AttrFamily.TheVariants.{AfSpecBridge, BridgeVlanTunnelInfo, BridgeMst}
+use Rattle.netlink_packet_route.specs.declared.framing.AttrFamily.TheVariants.{BridgeMstEntry, InfoBond, BondAdInfo, InfoBondPort}
+use Rattle.netlink_packet_route.specs.declared.framing.AttrFamily.TheVariants.{InfoMacVlan, MacVlanAddress, InfoIpVlan}
+use Rattle.netlink_packet_route.specs.declared.framing.AttrFamily.TheVariants.{InfoNetkit, InfoTun, InfoVxlan, InfoGeneve}
+use Rattle.netlink_packet_route.specs.declared.framing.AttrFamily.TheVariants.{InfoGre, InfoGre6, InfoIpTunnel, InfoVti, InfoXfrm}
+use Rattle.netlink_packet_route.specs.declared.framing.AttrFamily.TheVariants.{NextHop, NextHopResGroup, NextHopResBucket}
+use Rattle.netlink_packet_route.specs.declared.framing.AttrFamily.TheVariants.{NextHopGroupStats, NextHopGroupStatsEntry, Nsid}
+use Rattle.netlink_packet_route.specs.declared.framing.AttrFamily.TheVariants.{Prefix, Netconf, NeighbourTable}
+use Rattle.netlink_packet_route.specs.declared.framing.AttrFamily.TheVariants.{NeighbourTableParameter, AddressLabel}
 use Rattle.netlink_packet_route.specs.declared.framing.Seg6Fault.{Seg6Fault}
 use Rattle.netlink_packet_route.specs.declared.framing.Seg6Fault.TheVariants.{Short, Length, Hmac, Segments}
 use Rattle.netlink_packet_route.specs.declared.framing.DecodeError.{DecodeError}
@@ -22,7 +31,11 @@ abbrev families : List AttrFamily
 families =
     Value ∷ Address ∷ Rule ∷ Route ∷ Metric ∷ Mpls ∷ Ip ∷ Ip6 ∷ Xfrm ∷ Opt ∷ Geneve ∷ Vxlan ∷ Erspan ∷ Seg6 ∷ Seg6Local ∷ Rpl ∷ Ioam6 ∷ Neighbour
     ∷ Link ∷ LinkInfo ∷ LinkXdp ∷ Prop ∷ LinkProtocolDownReason ∷ AfSpecUnspec ∷ AfSpecInet ∷ AfSpecInet6
-    ∷ InfoBridge ∷ BridgeQuerierState ∷ InfoBridgePort ∷ InfoVlan ∷ VlanQosMapping ∷ InfoVrf ∷ InfoVeth ∷ Peer ∷ []
+    ∷ InfoBridge ∷ BridgeQuerierState ∷ InfoBridgePort ∷ InfoVlan ∷ VlanQosMapping ∷ InfoVrf ∷ InfoVeth ∷ Peer
+    ∷ AfSpecBridge ∷ BridgeVlanTunnelInfo ∷ BridgeMst ∷ BridgeMstEntry ∷ InfoBond ∷ BondAdInfo ∷ InfoBondPort ∷ InfoMacVlan
+    ∷ MacVlanAddress ∷ InfoIpVlan ∷ InfoNetkit ∷ InfoTun ∷ InfoVxlan ∷ InfoGeneve ∷ InfoGre ∷ InfoGre6 ∷ InfoIpTunnel
+    ∷ InfoVti ∷ InfoXfrm ∷ NextHop ∷ NextHopResGroup ∷ NextHopResBucket ∷ NextHopGroupStats ∷ NextHopGroupStatsEntry ∷ Nsid
+    ∷ Prefix ∷ Netconf ∷ NeighbourTable ∷ NeighbourTableParameter ∷ AddressLabel ∷ []
 
 abbrev family_of : ℕ → AttrFamily
 family_of number = unwrap_or (slice_get families number) Value
@@ -77,6 +90,36 @@ family_back VlanQosMapping = refl
 family_back InfoVrf = refl
 family_back InfoVeth = refl
 family_back Peer = refl
+family_back AfSpecBridge = refl
+family_back BridgeVlanTunnelInfo = refl
+family_back BridgeMst = refl
+family_back BridgeMstEntry = refl
+family_back InfoBond = refl
+family_back BondAdInfo = refl
+family_back InfoBondPort = refl
+family_back InfoMacVlan = refl
+family_back MacVlanAddress = refl
+family_back InfoIpVlan = refl
+family_back InfoNetkit = refl
+family_back InfoTun = refl
+family_back InfoVxlan = refl
+family_back InfoGeneve = refl
+family_back InfoGre = refl
+family_back InfoGre6 = refl
+family_back InfoIpTunnel = refl
+family_back InfoVti = refl
+family_back InfoXfrm = refl
+family_back NextHop = refl
+family_back NextHopResGroup = refl
+family_back NextHopResBucket = refl
+family_back NextHopGroupStats = refl
+family_back NextHopGroupStatsEntry = refl
+family_back Nsid = refl
+family_back Prefix = refl
+family_back Netconf = refl
+family_back NeighbourTable = refl
+family_back NeighbourTableParameter = refl
+family_back AddressLabel = refl
 
 seg6_back : (f : Seg6Fault) → seg6_of (seg6_number f) ≡ f
 seg6_back Short = refl

@@ -1,25 +1,80 @@
--- What stops the reading of attributes stands in the message.
-use Rattle.std.proofs.Common.{◌≡◌, ◌≢◌, ◌⊎◌, ℕ, ◌+◌, ◌<◌, ◌≤◌, List, length, take, drop, sym, ap, subst, ◌∙◌, inr}
-use Rattle.netlink_packet_route.specs.Layout.{Layout}
+-- What stops the check of attributes stands in the message.
+use Rattle.std.proofs.Common.{◌≡◌, ◌⊎◌, ℕ, ◌+◌, ◌<◌, ◌≤◌, List, [], ◌∷◌, length, take, drop, refl, sym, ap, subst, ◌∙◌, inl, inr}
+use Rattle.netlink_packet_route.specs.AddressAttribute as OfAddress
+use Rattle.netlink_packet_route.specs.AddressHeader.{header as address_header}
+use Rattle.netlink_packet_route.specs.CheckLaws.{IsAttributeAt}
 use Rattle.netlink_packet_route.specs.Family.{Family}
+use Rattle.netlink_packet_route.specs.Framing.{Item, Front, Fault as NoneInFront}
+use Rattle.netlink_packet_route.specs.Layout.{Layout}
+use Rattle.netlink_packet_route.specs.Levels.{Begins, reading_at}
+use Rattle.netlink_packet_route.specs.LinkAttribute as OfLink
+use Rattle.netlink_packet_route.specs.LinkHeader.{header as link_header}
+use Rattle.netlink_packet_route.specs.Messages.{governs_by}
+use Rattle.netlink_packet_route.specs.NeighbourAttribute as OfNeighbour
+use Rattle.netlink_packet_route.specs.NeighbourHeader.{header as neighbour_header}
+use Rattle.netlink_packet_route.specs.RouteAttributeView as OfRoute
+use Rattle.netlink_packet_route.specs.RouteHeader.{header as route_header}
+use Rattle.netlink_packet_route.specs.RouteMessageLaws.{IsContext}
+use Rattle.netlink_packet_route.specs.RuleAttribute as OfRule
+use Rattle.netlink_packet_route.specs.RuleHeader.{header as rule_header}
 use Rattle.netlink_packet_route.specs.declared.framing.DecodeError.{DecodeError}
-use Rattle.netlink_packet_route.specs.declared.framing.DecodeError.TheVariants.{OutOfMemory}
+use Rattle.netlink_packet_route.specs.declared.kind.MessageKind.{MessageKind}
+use Rattle.netlink_packet_route.specs.declared.kind.MessageKind.TheVariants as Kind
+use Rattle.netlink_packet_route.specs.declared.levels.Level.{Level}
+use Rattle.netlink_packet_route.specs.declared.levels.Level.TheVariants.{Address, Rule, Route, Neighbour, Link}
 use Rattle.npr_c.specs.Faults.{fault_of, located}
-use Rattle.npr_c.specs.Stops.{StopsBefore, StandsAt, IsPlaced}
+use Rattle.npr_c.specs.Stops.{StopsBefore, StopsAt, StandsAt, StandsIn, IsPlaced}
 use Rattle.npr_c.specs.declared.faults.Fault.{Fault}
 
-pub stands_there : {H A C : Type 0} (L : Layout H) (governs : H → List ℕ → C → Type 0) (f : Family A C) (bytes rest : List ℕ) (h : H) (c : C) (offset : ℕ)
-    (d e : DecodeError) → L.size ≤ length bytes → h ≡ L.decode (take L.size bytes) → governs h (drop L.size bytes) c
-    → StopsBefore (f.reading c).Reads (f.reading c).Faulty (drop L.size bytes) rest e → length bytes ≡ offset + length rest → d ≡ e
-    → StandsAt L governs f bytes offset d
-stands_there {H} L governs f bytes rest h c offset d e long header governed stops place same = record {
+-- ---- in a list
+
+module _ (level : Level) (bytes : List ℕ) where
+  pub stops-here : (e : DecodeError) → 0 < length bytes → NoneInFront bytes e → StopsAt level bytes bytes e
+  stops-here e left bad = ([], ([], refl, tt), inl (left, bad))
+
+  module _ (x : Item) (more : List ℕ) (front : Front bytes x more) where
+    pub stops-in : (e : DecodeError) → (reading_at level).reading.Faulty x e → StopsAt level bytes bytes e
+    stops-in e bad = ([], ([], refl, tt), inr (x, more, front, bad))
+
+    pub stops-later : (rest : List ℕ) (e : DecodeError) → IsAttributeAt level x → StopsAt level more rest e → StopsAt level bytes rest e
+    stops-later rest e (m, reads) (ms, (items, passes, each), bad) = (m ∷ ms, (x ∷ items, (more, front, passes), (reads, each)), bad)
+
+-- ---- in a message
+
+stands_there : {H A C : Type 0} (L : Layout H) (governs : H → List ℕ → C → Type 0) (f : Family A C) (bytes behind rest : List ℕ) (h : H) (c : C)
+    (offset : ℕ) (e : DecodeError) → L.size ≤ length bytes → h ≡ L.decode (take L.size bytes) → behind ≡ drop L.size bytes → governs h behind c
+    → StopsBefore (f.reading c).Reads (f.reading c).Faulty behind rest e → length bytes ≡ offset + length rest → StandsAt L governs f bytes offset e
+stands_there {H} L governs f bytes behind rest h c offset e long header is governed stops place = record {
   header = long;
   context = c;
-  governed = subst (λ (k : H). governs k (drop L.size bytes) c) header governed;
+  governed = subst (λ (k : H). governs k (drop L.size bytes) c) header (subst (λ (b : List ℕ). governs h b c) is governed);
   rest = rest;
   place = place;
-  stops = subst (λ (x : DecodeError). StopsBefore (f.reading c).Reads (f.reading c).Faulty (drop L.size bytes) rest x) (sym same) stops;
+  stops = subst (λ (b : List ℕ). StopsBefore (f.reading c).Reads (f.reading c).Faulty b rest e) is stops;
 }
+
+at_level : (a b : Level) (bytes rest : List ℕ) (e : DecodeError) → a ≡ b → StopsAt a bytes rest e → StopsAt b bytes rest e
+at_level a b bytes rest e is stops = subst (λ (l : Level). StopsAt l bytes rest e) is stops
+
+pub begun-stands : (kind : MessageKind) (bytes behind rest : List ℕ) (level : Level) (offset : ℕ) (e : DecodeError) → Begins kind bytes level behind
+    → StopsAt level behind rest e → length bytes ≡ offset + length rest → StandsIn kind bytes offset e
+begun-stands Kind.Address bytes behind rest level offset e (h, reads, is, at) stops place =
+    stands_there address_header (governs_by (λ h. tt)) OfAddress.family bytes behind rest h tt offset e reads.0 reads.1 is refl
+    (at_level level Address behind rest e at stops) place
+begun-stands Kind.Route bytes behind rest level offset e (h, reads, is, (c, context, at)) stops place =
+    stands_there route_header IsContext OfRoute.family bytes behind rest h c offset e reads.0 reads.1 is context
+    (at_level level (Route c.0 c.1 c.2) behind rest e at stops) place
+begun-stands Kind.Rule bytes behind rest level offset e (h, reads, is, at) stops place =
+    stands_there rule_header (governs_by (λ h. tt)) OfRule.family bytes behind rest h tt offset e reads.0 reads.1 is refl
+    (at_level level Rule behind rest e at stops) place
+begun-stands Kind.Neighbour bytes behind rest level offset e (h, reads, is, at) stops place =
+    stands_there neighbour_header (governs_by (λ h. h.family)) OfNeighbour.family bytes behind rest h h.family offset e reads.0 reads.1 is refl
+    (at_level level (Neighbour h.family) behind rest e at stops) place
+begun-stands Kind.Link bytes behind rest level offset e (h, reads, is, at) stops place =
+    stands_there link_header (governs_by (λ h. h.interface_family)) OfLink.family bytes behind rest h h.interface_family offset e reads.0 reads.1 is refl
+    (at_level level (Link h.interface_family) behind rest e at stops) place
+
+-- ---- as it is told
 
 -- a fault that is told with its place
 pub located_there : (answer fault : Fault) (e : DecodeError) (offset : ℕ) → fault ≡ fault_of e → answer ≡ record fault { offset = offset }
@@ -29,8 +84,8 @@ located_there answer fault e offset of standing =
     subst (λ (k : ℕ). answer ≡ located e k) (sym there) (standing ∙ ap (λ (f : Fault). record f { offset = offset }) of)
 
 pub placed : (size : ℕ) (stands : List ℕ → ℕ → DecodeError → Type 0) (bytes : List ℕ) (answer fault : Fault) (e : DecodeError)
-    (offset : ℕ) → fault ≡ fault_of e → answer ≡ record fault { offset = offset } → (e ≡ OutOfMemory → offset ≡ 0)
-    → (e ≢ OutOfMemory → ((length bytes < size) × (offset ≡ 0)) ⊎ stands bytes offset e) → IsPlaced size stands bytes answer
-placed size stands bytes answer fault e offset of standing memory place =
+    (offset : ℕ) → fault ≡ fault_of e → answer ≡ record fault { offset = offset } → ((length bytes < size) × (offset ≡ 0)) ⊎ stands bytes offset e
+    → IsPlaced size stands bytes answer
+placed size stands bytes answer fault e offset of standing place =
     let there : answer.offset ≡ offset = ap (λ (f : Fault). f.offset) standing in
-    inr (e, located_there answer fault e offset of standing, λ refused. there ∙ memory refused, λ other. rw there (place other))
+    inr (e, located_there answer fault e offset of standing, rw there place)

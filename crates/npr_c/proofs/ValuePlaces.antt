@@ -8,7 +8,7 @@ use Rattle.npr_base.specs.declared.ip.IpAddr.{IpAddr}
 use Rattle.npr_base.specs.declared.ip.IpAddr.TheVariants.{V4, V6}
 use Rattle.npr_base.specs.declared.value.Form.{Form}
 use Rattle.npr_base.specs.declared.value.Form.TheVariants.{Byte, Boolean, Signed32, Little16, Little32, Little64, Big16, Big32, Big64}
-use Rattle.npr_base.specs.declared.value.Form.TheVariants.{Octets4, Octets16, Ip, Name, Raw, Exactly, Leading, Inside, Dropped}
+use Rattle.npr_base.specs.declared.value.Form.TheVariants.{Uint, Flag, Octets4, Octets16, Ip, Name, Raw, Exactly, Leading, Inside, Dropped}
 use Rattle.npr_c.specs.Values.{Stands}
 
 -- a front of what stands in front of bytes stands there
@@ -44,6 +44,8 @@ module _ (bytes : List ℕ) (place count : ℕ) where
   stands_there Big16 s p = shown_as s _ p.1 tt
   stands_there Big32 s p = shown_as s _ p.1 tt
   stands_there Big64 s p = shown_as s _ p.1 tt
+  stands_there Uint s p = shown_as s _ p.2 tt
+  stands_there Flag s p = shown_as s _ p.2 tt
   stands_there Octets4 s p = shown_as s (is_address (V4 value)) p.1 (whole value refl)
   stands_there Octets16 s p = shown_as s (is_address (V6 value)) p.1 (whole value refl)
   stands_there Ip s (a, is, same) = address s a is same

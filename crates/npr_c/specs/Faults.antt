@@ -1,11 +1,20 @@
 -- A refusal with all that it tells, as numbers.
-use Rattle.std.specs.Prelude.{◌≡◌, ◌≢◌, ◌⊎◌, ℕ, List}
+use Rattle.std.specs.Prelude.{◌≡◌, ◌⊎◌, ℕ, List}
 use Rattle.netlink_packet_route.specs.declared.framing.AttrFamily.{AttrFamily}
 use Rattle.netlink_packet_route.specs.declared.framing.AttrFamily.TheVariants.{Value, Address, Rule, Route, Neighbour, Metric, Mpls, Ip, Ip6, Xfrm}
 use Rattle.netlink_packet_route.specs.declared.framing.AttrFamily.TheVariants.{Opt, Geneve, Vxlan, Erspan, Seg6, Seg6Local, Rpl, Ioam6}
 use Rattle.netlink_packet_route.specs.declared.framing.AttrFamily.TheVariants.{Link, LinkInfo, LinkXdp, Prop, LinkProtocolDownReason, AfSpecUnspec}
 use Rattle.netlink_packet_route.specs.declared.framing.AttrFamily.TheVariants.{AfSpecInet, AfSpecInet6, InfoBridge, BridgeQuerierState, InfoBridgePort}
 use Rattle.netlink_packet_route.specs.declared.framing.AttrFamily.TheVariants.{InfoVlan, VlanQosMapping, InfoVrf, InfoVeth, Peer}
+use Rattle.netlink_packet_route.specs.declared.framing.AttrFamily.TheVariants.{AfSpecBridge, BridgeVlanTunnelInfo, BridgeMst}
+use Rattle.netlink_packet_route.specs.declared.framing.AttrFamily.TheVariants.{BridgeMstEntry, InfoBond, BondAdInfo, InfoBondPort}
+use Rattle.netlink_packet_route.specs.declared.framing.AttrFamily.TheVariants.{InfoMacVlan, MacVlanAddress, InfoIpVlan}
+use Rattle.netlink_packet_route.specs.declared.framing.AttrFamily.TheVariants.{InfoNetkit, InfoTun, InfoVxlan, InfoGeneve}
+use Rattle.netlink_packet_route.specs.declared.framing.AttrFamily.TheVariants.{InfoGre, InfoGre6, InfoIpTunnel, InfoVti, InfoXfrm}
+use Rattle.netlink_packet_route.specs.declared.framing.AttrFamily.TheVariants.{NextHop, NextHopResGroup, NextHopResBucket}
+use Rattle.netlink_packet_route.specs.declared.framing.AttrFamily.TheVariants.{NextHopGroupStats, NextHopGroupStatsEntry, Nsid}
+use Rattle.netlink_packet_route.specs.declared.framing.AttrFamily.TheVariants.{Prefix, Netconf, NeighbourTable}
+use Rattle.netlink_packet_route.specs.declared.framing.AttrFamily.TheVariants.{NeighbourTableParameter, AddressLabel}
 use Rattle.netlink_packet_route.specs.declared.framing.Seg6Fault.{Seg6Fault}
 use Rattle.netlink_packet_route.specs.declared.framing.Seg6Fault.TheVariants.{Short, Length, Hmac, Segments}
 use Rattle.netlink_packet_route.specs.declared.framing.DecodeError.{DecodeError}
@@ -51,6 +60,36 @@ family_number VlanQosMapping = 30
 family_number InfoVrf = 31
 family_number InfoVeth = 32
 family_number Peer = 33
+family_number AfSpecBridge = 34
+family_number BridgeVlanTunnelInfo = 35
+family_number BridgeMst = 36
+family_number BridgeMstEntry = 37
+family_number InfoBond = 38
+family_number BondAdInfo = 39
+family_number InfoBondPort = 40
+family_number InfoMacVlan = 41
+family_number MacVlanAddress = 42
+family_number InfoIpVlan = 43
+family_number InfoNetkit = 44
+family_number InfoTun = 45
+family_number InfoVxlan = 46
+family_number InfoGeneve = 47
+family_number InfoGre = 48
+family_number InfoGre6 = 49
+family_number InfoIpTunnel = 50
+family_number InfoVti = 51
+family_number InfoXfrm = 52
+family_number NextHop = 53
+family_number NextHopResGroup = 54
+family_number NextHopResBucket = 55
+family_number NextHopGroupStats = 56
+family_number NextHopGroupStatsEntry = 57
+family_number Nsid = 58
+family_number Prefix = 59
+family_number Netconf = 60
+family_number NeighbourTable = 61
+family_number NeighbourTableParameter = 62
+family_number AddressLabel = 63
 
 abbrev pub seg6_number : Seg6Fault → ℕ
 seg6_number Short = 1
@@ -96,8 +135,7 @@ fault_of (Unsupported at) = fault_at (Unsupported at) at.family at.kind 0
 abbrev pub located : DecodeError → ℕ → Fault
 located e offset = record (fault_of e) { offset = offset }
 
--- the answer for bytes: they are a message, or refused for their first fault or for want of memory
+-- the answer for bytes: they are a message, or what it tells is their first fault
 abbrev pub IsJudged : {H A : Type 0} → Grammar H A → List ℕ → Fault → Type 0
 IsJudged g bytes answer =
-    ((m : View g) × IsMessage g bytes m × (answer ≡ no_fault))
-    ⊎ ((e : DecodeError) × (answer ≡ located e answer.offset) × (e ≢ OutOfMemory → MessageFault g bytes e))
+    ((m : View g) × IsMessage g bytes m × (answer ≡ no_fault)) ⊎ ((e : DecodeError) × (answer ≡ located e answer.offset) × MessageFault g bytes e)

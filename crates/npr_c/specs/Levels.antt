@@ -8,6 +8,10 @@ use Rattle.netlink_packet_route.specs.declared.levels.Level.TheVariants.{Address
 use Rattle.netlink_packet_route.specs.declared.levels.Level.TheVariants.{LinkInfo, LinkXdp, Prop, LinkProtocolDownReason, AfSpecUnspec, AfSpecInet}
 use Rattle.netlink_packet_route.specs.declared.levels.Level.TheVariants.{AfSpecInet6, InfoBridge, BridgeQuerierState, InfoBridgePort, InfoVlan}
 use Rattle.netlink_packet_route.specs.declared.levels.Level.TheVariants.{VlanQosMapping, InfoVrf, InfoVeth, Peer}
+use Rattle.netlink_packet_route.specs.declared.levels.Level.TheVariants.{InfoBond, BondAdInfo, InfoBondPort, InfoMacVlan}
+use Rattle.netlink_packet_route.specs.declared.levels.Level.TheVariants.{MacVlanAddress, InfoIpVlan, InfoNetkit, InfoTun}
+use Rattle.netlink_packet_route.specs.declared.levels.Level.TheVariants.{InfoVxlan, InfoGeneve, InfoGre, InfoGre6, InfoIpTunnel}
+use Rattle.netlink_packet_route.specs.declared.levels.Level.TheVariants.{InfoVti, InfoXfrm}
 use Rattle.netlink_packet_route.specs.declared.link.InfoForm.{InfoForm}
 use Rattle.netlink_packet_route.specs.declared.link.InfoForm.TheVariants as Data
 use Rattle.netlink_packet_route.specs.declared.link.InfoPortForm.{InfoPortForm}
@@ -54,6 +58,21 @@ level_family VlanQosMapping = 30
 level_family InfoVrf = 31
 level_family InfoVeth = 32
 level_family Peer = 33
+level_family InfoBond = 38
+level_family BondAdInfo = 39
+level_family InfoBondPort = 40
+level_family InfoMacVlan = 41
+level_family MacVlanAddress = 42
+level_family InfoIpVlan = 43
+level_family InfoNetkit = 44
+level_family InfoTun = 45
+level_family InfoVxlan = 46
+level_family InfoGeneve = 47
+level_family InfoGre = 48
+level_family InfoGre6 = 49
+level_family (InfoIpTunnel form) = 50
+level_family InfoVti = 51
+level_family InfoXfrm = 52
 
 -- what governs the data of a link, and of a port
 abbrev pub form_number : InfoForm → ℕ
@@ -62,17 +81,61 @@ form_number Data.Bridge = 1
 form_number Data.Vlan = 2
 form_number Data.Veth = 3
 form_number Data.Vrf = 4
+form_number Data.Tun = 5
+form_number Data.Vxlan = 6
+form_number Data.Bond = 7
+form_number Data.IpVlan = 8
+form_number Data.IpVtap = 9
+form_number Data.MacVlan = 10
+form_number Data.MacVtap = 11
+form_number Data.GreTap = 12
+form_number Data.GreTap6 = 13
+form_number Data.IpIp = 14
+form_number Data.Ip6Tnl = 15
+form_number Data.SitTun = 16
+form_number Data.GreTun = 17
+form_number Data.GreTun6 = 18
+form_number Data.Vti = 19
+form_number Data.Vti6 = 20
+form_number Data.Xfrm = 21
+form_number Data.Geneve = 22
+form_number Data.Netkit = 23
 
 abbrev pub form_of : ℕ → InfoForm
-form_of n = if n == 1 then Data.Bridge else if n == 2 then Data.Vlan else if n == 3 then Data.Veth else if n == 4 then Data.Vrf else Data.Kept
+form_of n =
+    if n == 1 then Data.Bridge
+    else if n == 2 then Data.Vlan
+    else if n == 3 then Data.Veth
+    else if n == 4 then Data.Vrf
+    else if n == 5 then Data.Tun
+    else if n == 6 then Data.Vxlan
+    else if n == 7 then Data.Bond
+    else if n == 8 then Data.IpVlan
+    else if n == 9 then Data.IpVtap
+    else if n == 10 then Data.MacVlan
+    else if n == 11 then Data.MacVtap
+    else if n == 12 then Data.GreTap
+    else if n == 13 then Data.GreTap6
+    else if n == 14 then Data.IpIp
+    else if n == 15 then Data.Ip6Tnl
+    else if n == 16 then Data.SitTun
+    else if n == 17 then Data.GreTun
+    else if n == 18 then Data.GreTun6
+    else if n == 19 then Data.Vti
+    else if n == 20 then Data.Vti6
+    else if n == 21 then Data.Xfrm
+    else if n == 22 then Data.Geneve
+    else if n == 23 then Data.Netkit
+    else Data.Kept
 
 abbrev pub port_form_number : InfoPortForm → ℕ
 port_form_number Port.Kept = 0
 port_form_number Port.Bridge = 1
 port_form_number Port.Vrf = 2
+port_form_number Port.Bond = 3
 
 abbrev pub port_form_of : ℕ → InfoPortForm
-port_form_of n = if n == 1 then Port.Bridge else if n == 2 then Port.Vrf else Port.Kept
+port_form_of n = if n == 1 then Port.Bridge else if n == 2 then Port.Vrf else if n == 3 then Port.Bond else Port.Kept
 
 -- what else the level tells: a family in the lowest byte, the type of a route in the next, and that of an encapsulation above both;
 -- or what governs the data of a link in the lowest byte, and of a port in the next
@@ -82,6 +145,7 @@ level_context (Neighbour family) = families.number family
 level_context (Link family) = families.number family
 level_context (Encap encap_type) = encap_types.number encap_type
 level_context (LinkInfo link port) = form_number link + 256 * port_form_number port
+level_context (InfoIpTunnel form) = form_number form
 level_context level = 0
 
 -- the level of two numbers; a family that is none of those above is that of the members of an encapsulation
@@ -111,4 +175,19 @@ level_of family context =
     else if family == 31 then InfoVrf
     else if family == 32 then InfoVeth
     else if family == 33 then Peer
+    else if family == 38 then InfoBond
+    else if family == 39 then BondAdInfo
+    else if family == 40 then InfoBondPort
+    else if family == 41 then InfoMacVlan
+    else if family == 42 then MacVlanAddress
+    else if family == 43 then InfoIpVlan
+    else if family == 44 then InfoNetkit
+    else if family == 45 then InfoTun
+    else if family == 46 then InfoVxlan
+    else if family == 47 then InfoGeneve
+    else if family == 48 then InfoGre
+    else if family == 49 then InfoGre6
+    else if family == 50 then InfoIpTunnel (form_of (context % 256))
+    else if family == 51 then InfoVti
+    else if family == 52 then InfoXfrm
     else Encap (encap_types.of (context % 65536))

@@ -1,8 +1,9 @@
 -- Where in a message the first fault stands: behind attributes that read, at the level of the message.
-use Rattle.std.specs.Prelude.{◌≡◌, ◌≢◌, ◌⊎◌, ◌<◌, ◌≤◌, ℕ, ◌+◌, List, length, take, drop}
+use Rattle.std.specs.Prelude.{◌≡◌, ◌⊎◌, ◌<◌, ◌≤◌, ℕ, ◌+◌, List, length, take, drop}
 use Rattle.netlink_packet_route.specs.Lists.{ReadsTo, IsWrong}
 use Rattle.netlink_packet_route.specs.Framing.{Item}
 use Rattle.netlink_packet_route.specs.Layout.{Layout}
+use Rattle.netlink_packet_route.specs.Levels.{reading_at}
 use Rattle.netlink_packet_route.specs.Messages.{governs_by}
 use Rattle.netlink_packet_route.specs.Family.{Family}
 use Rattle.netlink_packet_route.specs.AddressAttribute as OfAddress
@@ -17,13 +18,19 @@ use Rattle.netlink_packet_route.specs.RouteAttributeView as OfRoute
 use Rattle.netlink_packet_route.specs.RouteHeader.{header as route_header}
 use Rattle.netlink_packet_route.specs.RouteMessageLaws.{IsContext}
 use Rattle.netlink_packet_route.specs.declared.framing.DecodeError.{DecodeError}
-use Rattle.netlink_packet_route.specs.declared.framing.DecodeError.TheVariants.{OutOfMemory}
+use Rattle.netlink_packet_route.specs.declared.kind.MessageKind.{MessageKind}
+use Rattle.netlink_packet_route.specs.declared.kind.MessageKind.TheVariants as Kind
+use Rattle.netlink_packet_route.specs.declared.levels.Level.{Level}
 use Rattle.npr_c.specs.Faults.{no_fault, located}
 use Rattle.npr_c.specs.declared.faults.Fault.{Fault}
 
 -- attributes that read, up to the rest, in front of which something is wrong
 abbrev pub StopsBefore : {M : Type 0} → (Item → M → Type 0) → (Item → DecodeError → Type 0) → List ℕ → List ℕ → DecodeError → Type 0
 StopsBefore {M} reads faulty bytes rest e = (xs : List M) × ReadsTo reads bytes xs rest × IsWrong faulty rest e
+
+-- those of a list at a level
+abbrev pub StopsAt : Level → List ℕ → List ℕ → DecodeError → Type 0
+StopsAt level bytes rest e = StopsBefore (reading_at level).reading.Reads (reading_at level).reading.Faulty bytes rest e
 
 -- behind the header attributes read in the context that governs them, up to the rest, which begins at the offset in the message
 pub record StandsAt {H A C : Type 0} (L : Layout H) (governs : H → List ℕ → C → Type 0) (f : Family A C) (bytes : List ℕ) (offset : ℕ)
@@ -50,9 +57,15 @@ LinkStandsAt bytes offset e = StandsAt link_header (governs_by (λ h. h.interfac
 abbrev pub RouteStandsAt : List ℕ → ℕ → DecodeError → Type 0
 RouteStandsAt bytes offset e = StandsAt route_header IsContext OfRoute.family bytes offset e
 
--- what an answer tells of a place: the fault that it tells stands there, or there are fewer bytes than a header, or memory was refused
+abbrev pub StandsIn : MessageKind → List ℕ → ℕ → DecodeError → Type 0
+StandsIn Kind.Address = AddressStandsAt
+StandsIn Kind.Route = RouteStandsAt
+StandsIn Kind.Rule = RuleStandsAt
+StandsIn Kind.Neighbour = NeighbourStandsAt
+StandsIn Kind.Link = LinkStandsAt
+
+-- what an answer tells of a place: the fault that it tells stands there, or there are fewer bytes than a header
 abbrev pub IsPlaced : ℕ → (List ℕ → ℕ → DecodeError → Type 0) → List ℕ → Fault → Type 0
 IsPlaced size stands bytes answer =
     (answer ≡ no_fault)
-    ⊎ ((e : DecodeError) × (answer ≡ located e answer.offset) × (e ≡ OutOfMemory → answer.offset ≡ 0)
-    × (e ≢ OutOfMemory → ((length bytes < size) × (answer.offset ≡ 0)) ⊎ stands bytes answer.offset e))
+    ⊎ ((e : DecodeError) × (answer ≡ located e answer.offset) × (((length bytes < size) × (answer.offset ≡ 0)) ⊎ stands bytes answer.offset e))

@@ -1,31 +1,26 @@
 //! Whether bytes are a message, and what is wrong with them.
 
-ghost use Rattle.std.specs.Prelude.{◌≡◌, ℕ, List, drop};
+ghost use Rattle.std.specs.Prelude.{◌≡◌};
 ghost use Rattle.{
   netlink_packet_route.specs.{
     AddressMessage.{addresses},
-    Framing.{Item, Front},
+    Levels.{header_size},
     LinkMessage.{links},
+    MessageKind.{form_of},
     NeighbourMessage.{neighbours},
     RouteMessage.{routes},
     RuleMessage.{rules},
-    declared.framing.DecodeError.TheVariants.{OutOfMemory},
   },
   npr_c.specs.{
     Faults.{IsJudged, fault_of, family_number, seg6_number},
-    Stops.{AddressStandsAt, IsPlaced, LinkStandsAt, NeighbourStandsAt, RouteStandsAt, RuleStandsAt, StandsAt},
+    Stops.{AddressStandsAt, IsPlaced, LinkStandsAt, NeighbourStandsAt, RouteStandsAt, RuleStandsAt, StandsIn},
   },
 };
 
 use crate::answer::refusal_number;
-use crate::placing::read_through;
-use netlink_packet_route::address::AddressHeader;
-use netlink_packet_route::framing::{At, AttrFamily, DecodeError, Header, Seg6Fault};
-use netlink_packet_route::link::LinkHeader;
-use netlink_packet_route::neighbour::NeighbourHeader;
-use netlink_packet_route::route::RouteHeader;
-use netlink_packet_route::rule::RuleHeader;
-use std::alloc::Global;
+use crate::placing::check_through;
+use netlink_packet_route::MessageKind;
+use netlink_packet_route::framing::{At, AttrFamily, DecodeError, Seg6Fault};
 
 /// A refusal with all that it tells, or that there is none.
 ///
@@ -47,8 +42,8 @@ pub struct Fault {
     /// How many bytes are left, or are wanted, at a refusal with two lengths, and else 0.
     pub limit: usize,
     /// Where the first fault stands: where the attribute of the message begins that is wrong or holds
-    /// what is, or where none can stand, in bytes from the first; 0 where memory is refused, where
-    /// the bytes are fewer than a header, and where they are a message.
+    /// what is, or where none can stand, in bytes from the first; 0 where the bytes are fewer than a
+    /// header, and where they are a message.
     pub offset: usize,
 }
 
@@ -101,6 +96,36 @@ pub fn family_number(family: AttrFamily) -> u32
         AttrFamily::InfoVrf => 31,
         AttrFamily::InfoVeth => 32,
         AttrFamily::Peer => 33,
+        AttrFamily::AfSpecBridge => 34,
+        AttrFamily::BridgeVlanTunnelInfo => 35,
+        AttrFamily::BridgeMst => 36,
+        AttrFamily::BridgeMstEntry => 37,
+        AttrFamily::InfoBond => 38,
+        AttrFamily::BondAdInfo => 39,
+        AttrFamily::InfoBondPort => 40,
+        AttrFamily::InfoMacVlan => 41,
+        AttrFamily::MacVlanAddress => 42,
+        AttrFamily::InfoIpVlan => 43,
+        AttrFamily::InfoNetkit => 44,
+        AttrFamily::InfoTun => 45,
+        AttrFamily::InfoVxlan => 46,
+        AttrFamily::InfoGeneve => 47,
+        AttrFamily::InfoGre => 48,
+        AttrFamily::InfoGre6 => 49,
+        AttrFamily::InfoIpTunnel => 50,
+        AttrFamily::InfoVti => 51,
+        AttrFamily::InfoXfrm => 52,
+        AttrFamily::NextHop => 53,
+        AttrFamily::NextHopResGroup => 54,
+        AttrFamily::NextHopResBucket => 55,
+        AttrFamily::NextHopGroupStats => 56,
+        AttrFamily::NextHopGroupStatsEntry => 57,
+        AttrFamily::Nsid => 58,
+        AttrFamily::Prefix => 59,
+        AttrFamily::Netconf => 60,
+        AttrFamily::NeighbourTable => 61,
+        AttrFamily::NeighbourTableParameter => 62,
+        AttrFamily::AddressLabel => 63,
     }
 }
 
@@ -181,73 +206,67 @@ impl Fault {
 }
 
 /// What is wrong with the bytes as a message of this kind.
-fn judged<H: Header>(alloc: Global, bytes: &[u8]) -> Fault
-    ensures fault { IsJudged H.grammar bytes.now result }
-    ensures place { IsPlaced H.grammar.layout.size (StandsAt H.grammar.layout H.governs H.Attribute.family) bytes.now result }
-    ensures memory { result ≡ fault_of OutOfMemory → (x : Item) × (rest : List ℕ) × Front (drop H.grammar.layout.size bytes.now) x rest }
+fn judged(kind: MessageKind, bytes: &[u8]) -> Fault
+    ensures fault { IsJudged (form_of kind).grammar bytes.now result }
+    ensures place { IsPlaced (header_size kind) (StandsIn kind) bytes.now result }
 {
-    match read_through::<H>(alloc, bytes) {
+    match check_through(kind, bytes) {
         Ok(()) => NO_FAULT,
         Err(place) => Fault::of(place.refusal).standing(place.offset),
     }
 }
 
-/// What is wrong with the bytes as an address message and where it stands, or that they are one.
+/// What is wrong with the bytes as an address message and where it stands, or that they are one. It
+/// takes no memory.
 #[unsafe(no_mangle)]
-pub extern "C" fn npr_address_fault(alloc: Global, bytes: &[u8]) -> Fault
+pub extern "C" fn npr_address_fault(bytes: &[u8]) -> Fault
     ensures fault { IsJudged addresses bytes.now result }
     // Up to the place attributes read, and what stands there is wrong.
     ensures place { IsPlaced 8 AddressStandsAt bytes.now result }
-    // Memory is refused behind a first whole attribute alone.
-    ensures memory { result ≡ fault_of OutOfMemory → (x : Item) × (rest : List ℕ) × Front (drop 8 bytes.now) x rest }
 {
-    judged::<AddressHeader>(alloc, bytes)
+    judged(MessageKind::Address, bytes)
 }
 
-/// What is wrong with the bytes as a route message and where it stands, or that they are one.
+/// What is wrong with the bytes as a route message and where it stands, or that they are one. It
+/// takes no memory.
 #[unsafe(no_mangle)]
-pub extern "C" fn npr_route_fault(alloc: Global, bytes: &[u8]) -> Fault
+pub extern "C" fn npr_route_fault(bytes: &[u8]) -> Fault
     ensures fault { IsJudged routes bytes.now result }
     // Up to the place attributes read, and what stands there is wrong.
     ensures place { IsPlaced 12 RouteStandsAt bytes.now result }
-    // Memory is refused behind a first whole attribute alone.
-    ensures memory { result ≡ fault_of OutOfMemory → (x : Item) × (rest : List ℕ) × Front (drop 12 bytes.now) x rest }
 {
-    judged::<RouteHeader>(alloc, bytes)
+    judged(MessageKind::Route, bytes)
 }
 
-/// What is wrong with the bytes as a rule message and where it stands, or that they are one.
+/// What is wrong with the bytes as a rule message and where it stands, or that they are one. It
+/// takes no memory.
 #[unsafe(no_mangle)]
-pub extern "C" fn npr_rule_fault(alloc: Global, bytes: &[u8]) -> Fault
+pub extern "C" fn npr_rule_fault(bytes: &[u8]) -> Fault
     ensures fault { IsJudged rules bytes.now result }
     // Up to the place attributes read, and what stands there is wrong.
     ensures place { IsPlaced 12 RuleStandsAt bytes.now result }
-    // Memory is refused behind a first whole attribute alone.
-    ensures memory { result ≡ fault_of OutOfMemory → (x : Item) × (rest : List ℕ) × Front (drop 12 bytes.now) x rest }
 {
-    judged::<RuleHeader>(alloc, bytes)
+    judged(MessageKind::Rule, bytes)
 }
 
-/// What is wrong with the bytes as a neighbour message and where it stands, or that they are one.
+/// What is wrong with the bytes as a neighbour message and where it stands, or that they are one. It
+/// takes no memory.
 #[unsafe(no_mangle)]
-pub extern "C" fn npr_neighbour_fault(alloc: Global, bytes: &[u8]) -> Fault
+pub extern "C" fn npr_neighbour_fault(bytes: &[u8]) -> Fault
     ensures fault { IsJudged neighbours bytes.now result }
     // Up to the place attributes read, and what stands there is wrong.
     ensures place { IsPlaced 12 NeighbourStandsAt bytes.now result }
-    // Memory is refused behind a first whole attribute alone.
-    ensures memory { result ≡ fault_of OutOfMemory → (x : Item) × (rest : List ℕ) × Front (drop 12 bytes.now) x rest }
 {
-    judged::<NeighbourHeader>(alloc, bytes)
+    judged(MessageKind::Neighbour, bytes)
 }
 
-/// What is wrong with the bytes as a link message and where it stands, or that they are one.
+/// What is wrong with the bytes as a link message and where it stands, or that they are one. It
+/// takes no memory.
 #[unsafe(no_mangle)]
-pub extern "C" fn npr_link_fault(alloc: Global, bytes: &[u8]) -> Fault
+pub extern "C" fn npr_link_fault(bytes: &[u8]) -> Fault
     ensures fault { IsJudged links bytes.now result }
     // Up to the place attributes read, and what stands there is wrong.
     ensures place { IsPlaced 16 LinkStandsAt bytes.now result }
-    // Memory is refused behind a first whole attribute alone.
-    ensures memory { result ≡ fault_of OutOfMemory → (x : Item) × (rest : List ℕ) × Front (drop 16 bytes.now) x rest }
 {
-    judged::<LinkHeader>(alloc, bytes)
+    judged(MessageKind::Link, bytes)
 }

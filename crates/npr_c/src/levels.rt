@@ -64,6 +64,21 @@ pub fn level_family(level: Level) -> u32
         Level::InfoVrf => 31,
         Level::InfoVeth => 32,
         Level::Peer => 33,
+        Level::InfoBond => 38,
+        Level::BondAdInfo => 39,
+        Level::InfoBondPort => 40,
+        Level::InfoMacVlan => 41,
+        Level::MacVlanAddress => 42,
+        Level::InfoIpVlan => 43,
+        Level::InfoNetkit => 44,
+        Level::InfoTun => 45,
+        Level::InfoVxlan => 46,
+        Level::InfoGeneve => 47,
+        Level::InfoGre => 48,
+        Level::InfoGre6 => 49,
+        Level::InfoIpTunnel(_) => 50,
+        Level::InfoVti => 51,
+        Level::InfoXfrm => 52,
     }
 }
 
@@ -76,6 +91,25 @@ fn code_of(form: InfoForm) -> u32
         InfoForm::Vlan => 2,
         InfoForm::Veth => 3,
         InfoForm::Vrf => 4,
+        InfoForm::Tun => 5,
+        InfoForm::Vxlan => 6,
+        InfoForm::Bond => 7,
+        InfoForm::IpVlan => 8,
+        InfoForm::IpVtap => 9,
+        InfoForm::MacVlan => 10,
+        InfoForm::MacVtap => 11,
+        InfoForm::GreTap => 12,
+        InfoForm::GreTap6 => 13,
+        InfoForm::IpIp => 14,
+        InfoForm::Ip6Tnl => 15,
+        InfoForm::SitTun => 16,
+        InfoForm::GreTun => 17,
+        InfoForm::GreTun6 => 18,
+        InfoForm::Vti => 19,
+        InfoForm::Vti6 => 20,
+        InfoForm::Xfrm => 21,
+        InfoForm::Geneve => 22,
+        InfoForm::Netkit => 23,
     }
 }
 
@@ -87,6 +121,25 @@ fn form_of(number: u32) -> InfoForm
         2 => InfoForm::Vlan,
         3 => InfoForm::Veth,
         4 => InfoForm::Vrf,
+        5 => InfoForm::Tun,
+        6 => InfoForm::Vxlan,
+        7 => InfoForm::Bond,
+        8 => InfoForm::IpVlan,
+        9 => InfoForm::IpVtap,
+        10 => InfoForm::MacVlan,
+        11 => InfoForm::MacVtap,
+        12 => InfoForm::GreTap,
+        13 => InfoForm::GreTap6,
+        14 => InfoForm::IpIp,
+        15 => InfoForm::Ip6Tnl,
+        16 => InfoForm::SitTun,
+        17 => InfoForm::GreTun,
+        18 => InfoForm::GreTun6,
+        19 => InfoForm::Vti,
+        20 => InfoForm::Vti6,
+        21 => InfoForm::Xfrm,
+        22 => InfoForm::Geneve,
+        23 => InfoForm::Netkit,
         _ => InfoForm::Kept,
     }
 }
@@ -98,6 +151,7 @@ fn port_code_of(form: InfoPortForm) -> u32
         InfoPortForm::Kept => 0,
         InfoPortForm::Bridge => 1,
         InfoPortForm::Vrf => 2,
+        InfoPortForm::Bond => 3,
     }
 }
 
@@ -107,6 +161,7 @@ fn port_form_of(number: u32) -> InfoPortForm
     match number {
         1 => InfoPortForm::Bridge,
         2 => InfoPortForm::Vrf,
+        3 => InfoPortForm::Bond,
         _ => InfoPortForm::Kept,
     }
 }
@@ -127,6 +182,7 @@ pub fn level_context(level: Level) -> u32
         }
         Level::Encap(encap_type) => u32::from(numbers::encap_type(encap_type)),
         Level::LinkInfo(link, port) => code_of(link) + 256 * port_code_of(port),
+        Level::InfoIpTunnel(form) => code_of(form),
         _ => 0,
     }
 }
@@ -171,6 +227,21 @@ pub fn level_of(family: u32, context: u32) -> Level
         31 => Level::InfoVrf,
         32 => Level::InfoVeth,
         33 => Level::Peer,
+        38 => Level::InfoBond,
+        39 => Level::BondAdInfo,
+        40 => Level::InfoBondPort,
+        41 => Level::InfoMacVlan,
+        42 => Level::MacVlanAddress,
+        43 => Level::InfoIpVlan,
+        44 => Level::InfoNetkit,
+        45 => Level::InfoTun,
+        46 => Level::InfoVxlan,
+        47 => Level::InfoGeneve,
+        48 => Level::InfoGre,
+        49 => Level::InfoGre6,
+        50 => Level::InfoIpTunnel(form_of(context % 256)),
+        51 => Level::InfoVti,
+        52 => Level::InfoXfrm,
         _ => Level::Encap(RouteLwEnCapType::from((context % 65536) as u16)),
     }
 }

@@ -1,97 +1,66 @@
-//! Where in a message the first fault stands: its attributes are read one after the other.
+//! Where in a message the first fault stands: its attributes are checked one after the other.
 
-ghost use Rattle.std.specs.Prelude.{◌≡◌, ◌≢◌, ◌≤◌, ◌<◌, ◌⊎◌, ◌+◌, ℕ, List, [], Some, Err, length, drop, IfOk, IfErr};
+ghost use Rattle.std.specs.Prelude.{◌≡◌, ◌≤◌, ◌<◌, ◌⊎◌, ℕ, List, length, IfOk, IfErr};
 ghost use Rattle.{
   netlink_packet_route.specs.{
-    Attributes.{AttributeStep, AttributeSteps},
-    Framing.{Item, Front},
-    Messages.{View, IsMessage, MessageFault},
-    declared.framing.DecodeError.TheVariants.{OutOfMemory},
+    CheckLaws.{IsListAt},
+    Levels.{header_size},
+    MessageKind.{MessageOf, form_of},
+    Messages.{IsMessage, MessageFault},
   },
-  npr_c.specs.Stops.{StandsAt},
+  npr_c.specs.Stops.{StandsIn, StopsAt},
 };
 
-use netlink_packet_route::framing::{Attributes, DecodeError, Header, Message};
-use std::alloc::Global;
+use netlink_packet_route::framing::{DecodeError, NlasIterator};
+use netlink_packet_route::{Level, MessageKind};
 
-/// Why attributes are refused, and how many bytes are left where the first that is wrong begins.
-#[derive(Clone, Copy)]
-pub struct Stop {
-    pub refusal: DecodeError,
-    pub left: usize,
-}
-
-/// Reads the attributes one after the other, each let go before the next, up to the first that is
-/// wrong.
+/// Checks attributes one after the other, up to the first that is wrong, and puts how many bytes are
+/// left where it begins.
 ///
 /// # Errors
-/// What is wrong there, or `OutOfMemory`.
-fn read_each<H: Header>(attributes: Attributes<'_, H>) -> Result<(), Stop>
-    ensures ok { IfOk result (λ _. (xs : List H.Attribute)
-        × AttributeSteps H.Attribute.family.meaning (H.Attribute.family.reading attributes.entry.context) attributes.entry.walk xs []) }
-    ensures stopped { IfErr result (λ stop. (xs : List H.Attribute) × (rest : List ℕ)
-        × AttributeSteps H.Attribute.family.meaning (H.Attribute.family.reading attributes.entry.context) attributes.entry.walk xs rest
-        × AttributeStep H.Attribute.family.meaning (H.Attribute.family.reading attributes.entry.context) rest (Some (Err stop.refusal)) []
-        × (stop.left ≡ length rest)) }
-    ensures within { IfErr result (λ stop. stop.left ≤ length attributes.entry.walk) }
-    ensures memory { IfErr result (λ stop. stop.refusal ≡ OutOfMemory → (x : Item) × (rest : List ℕ) × Front attributes.entry.walk x rest) }
+/// What is wrong there.
+fn check_each(level: Level, attributes: &[u8], left: &mut usize) -> Result<(), DecodeError>
+    ensures ok { IfOk result (λ _. IsListAt level attributes.now) }
+    ensures stopped { IfErr result (λ e. (rest : List ℕ) × StopsAt level attributes.now rest e × (left.new ≡ length rest)) }
+    ensures within { IfErr result (λ _. left.new ≤ length attributes.now) }
 {
-    let mut attributes = attributes;
-    'attributes: loop {
-        let left = attributes.rest().len();
-        match attributes.next() {
-            None => return Ok(()),
-            Some(Ok(_)) => continue 'attributes,
-            Some(Err(refusal)) => return Err(Stop { refusal, left }),
-        }
+    *left = attributes.len();
+    let mut walk = NlasIterator::new(attributes);
+    while let Some(next) = walk.next() {
+        let item = next?;
+        level.check_attribute(&item)?;
+        *left = walk.rest().len();
     }
+    Ok(())
 }
 
-/// Why bytes are no message, and where in them the first fault stands: 0 where memory is refused, and
-/// where they are fewer than a header.
+/// Why bytes are no message, and where in them the first fault stands: 0 where they are fewer than a
+/// header.
 #[derive(Clone, Copy)]
 pub struct Located {
     pub refusal: DecodeError,
     pub offset: usize,
 }
 
-impl Stop {
-    /// The place in a message of so many bytes.
-    fn among(self, length: usize) -> Located
-        requires { self.left ≤ length }
-        ensures refusal { result.refusal ≡ self.refusal }
-        ensures place { self.refusal ≢ OutOfMemory → length ≡ result.offset + self.left }
-        ensures memory { self.refusal ≡ OutOfMemory → result.offset ≡ 0 }
-    {
-        let offset = match self.refusal {
-            DecodeError::OutOfMemory => 0,
-            _ => length - self.left,
-        };
-        Located {
-            refusal: self.refusal,
-            offset,
-        }
-    }
-}
-
-/// Reads a message attribute by attribute, and keeps none.
+/// Checks a message attribute by attribute. It takes no memory.
 ///
 /// # Errors
-/// The first fault with its place, or `OutOfMemory`.
-pub fn read_through<H: Header>(alloc: Global, bytes: &[u8]) -> Result<(), Located>
-    ensures ok { IfOk result (λ _. (m : View H.grammar) × IsMessage H.grammar bytes.now m) }
-    ensures refused { IfErr result (λ place. place.refusal ≢ OutOfMemory → MessageFault H.grammar bytes.now place.refusal) }
-    ensures place { IfErr result (λ place. place.refusal ≢ OutOfMemory
-        → ((length bytes.now < H.grammar.layout.size) × (place.offset ≡ 0)) ⊎ StandsAt H.grammar.layout H.governs H.Attribute.family bytes.now place.offset place.refusal) }
-    ensures memory { IfErr result (λ place. place.refusal ≡ OutOfMemory
-        → (place.offset ≡ 0) × ((x : Item) × (rest : List ℕ) × Front (drop H.grammar.layout.size bytes.now) x rest)) }
+/// The first fault with its place.
+pub fn check_through(kind: MessageKind, bytes: &[u8]) -> Result<(), Located>
+    ensures ok { IfOk result (λ _. (m : MessageOf kind) × IsMessage (form_of kind).grammar bytes.now m) }
+    ensures refused { IfErr result (λ place. MessageFault (form_of kind).grammar bytes.now place.refusal) }
+    ensures place { IfErr result (λ place. ((length bytes.now < header_size kind) × (place.offset ≡ 0)) ⊎ StandsIn kind bytes.now place.offset place.refusal) }
 {
-    let attributes = match Message::<H, H::Attribute>::attributes(alloc, bytes) {
-        Ok(attributes) => attributes,
+    let (level, attributes) = match Level::begin(kind, bytes) {
+        Ok(list) => list,
         Err(refusal) => return Err(Located { refusal, offset: 0 }),
     };
-    match read_each(attributes) {
+    let mut left = 0;
+    match check_each(level, attributes, &mut left) {
         Ok(()) => Ok(()),
-        Err(stop) => Err(stop.among(bytes.len())),
+        Err(refusal) => Err(Located {
+            refusal,
+            offset: bytes.len() - left,
+        }),
     }
 }

@@ -19,8 +19,11 @@ returns-in-Encap-clause-ok c = rw c.in-Encap.is c.check_apart.ensures.ok
 pub returns-in-Opt-clause-ok : goal.returns-in-Opt-clause-ok
 returns-in-Opt-clause-ok c = rw c.in-Opt.is c.check_apart-in-Opt.ensures.ok
 
-pub returns-in-Link-clause-ok : goal.returns-in-Link-clause-ok
-returns-in-Link-clause-ok c = rw c.in-Link.is c.check_apart-in-Link.ensures.ok
-
 pub returns-in-InfoVeth-clause-ok : goal.returns-in-InfoVeth-clause-ok
 returns-in-InfoVeth-clause-ok c = rw c.in-InfoVeth.is c.check_cut_pair.ensures.ok
+
+pub returns-in-InfoBond-clause-ok : goal.returns-in-InfoBond-clause-ok
+returns-in-InfoBond-clause-ok c = rw c.in-InfoBond.is c.check_apart-in-InfoBond.ensures.ok
+
+pub returns-in-InfoNetkit-clause-ok : goal.returns-in-InfoNetkit-clause-ok
+returns-in-InfoNetkit-clause-ok c = rw c.in-InfoNetkit.is c.check_cut_netkit.ensures.ok

@@ -1,6 +1,6 @@
 use Rattle.std.specs.Prelude.{◌≡◌, ℕ, List, false, Option, Some, None, IfSome}
 use Rattle.std.proofs.Common.{sym, subst}
-use Rattle.npr_link.specs.declared.info_kind.InfoForm.{InfoForm}
+use Rattle.npr_link_tunnels.specs.declared.form.InfoForm.{InfoForm}
 use Rattle.npr_link.specs.declared.port_kind.InfoPortForm.{InfoPortForm}
 use Rattle.netlink_packet_route.specs.declared.levels.Level.{Level}
 use Rattle.netlink_packet_route.specs.declared.levels.Level.TheVariants.{LinkInfo}

@@ -5,6 +5,7 @@ use Rattle.netlink_packet_route.proofs.levels.Level.inside.Goals.{in-Route+in_ok
 use Rattle.netlink_packet_route.proofs.levels.Level.inside.Goals.{in-Opt+in_ok-level-in-Opt, in-Link+in_ok-level-in-Link}
 use Rattle.netlink_packet_route.proofs.levels.Level.inside.Goals.{in-LinkInfo+in_ok-level-in-LinkInfo, in-AfSpecUnspec+in_ok-level-in-AfSpecUnspec}
 use Rattle.netlink_packet_route.proofs.levels.Level.inside.Goals.{in-InfoBridge+in_ok-level-in-InfoBridge, in-InfoVlan+in_ok-level-in-InfoVlan}
+use Rattle.netlink_packet_route.proofs.levels.Level.inside.Goals.{in-InfoBond+in_ok-level-in-InfoBond, in-InfoMacVlan+in_ok-level-in-InfoMacVlan}
 
 pub returns-clause-opens : goal.returns-clause-opens
 returns-clause-opens c =
@@ -19,6 +20,8 @@ returns-clause-opens c =
       | in-AfSpecUnspec+in_ok-level-in-AfSpecUnspec w ↦ rw (w.in-AfSpecUnspec.is, w.level-is) (w.in_ok-level-in-AfSpecUnspec.ensures.opens value)
       | in-InfoBridge+in_ok-level-in-InfoBridge w ↦ rw (w.in-InfoBridge.is, w.level-is) (w.in_ok-level-in-InfoBridge.ensures.opens value)
       | in-InfoVlan+in_ok-level-in-InfoVlan w ↦ rw (w.in-InfoVlan.is, w.level-is) (w.in_ok-level-in-InfoVlan.ensures.opens value)
+      | in-InfoBond+in_ok-level-in-InfoBond w ↦ rw (w.in-InfoBond.is, w.level-is) (w.in_ok-level-in-InfoBond.ensures.opens value)
+      | in-InfoMacVlan+in_ok-level-in-InfoMacVlan w ↦ rw (w.in-InfoMacVlan.is, w.level-is) (w.in_ok-level-in-InfoMacVlan.ensures.opens value)
     ] in
     (0, refl, opens)
 
@@ -47,6 +50,12 @@ returns-in_err-level-in-InfoBridge-clause-none c = λ h. rw c.in-InfoBridge.is (
 pub returns-in_err-level-in-InfoVlan-clause-none : goal.returns-in_err-level-in-InfoVlan-clause-none
 returns-in_err-level-in-InfoVlan-clause-none c = λ h. rw c.in-InfoVlan.is (c.in_err-level-in-InfoVlan.ensures.none refl c.args.value.now)
 
+pub returns-in_err-level-in-InfoBond-clause-none : goal.returns-in_err-level-in-InfoBond-clause-none
+returns-in_err-level-in-InfoBond-clause-none c = λ h. rw c.in-InfoBond.is (c.in_err-level-in-InfoBond.ensures.none refl c.args.value.now)
+
+pub returns-in_err-level-in-InfoMacVlan-clause-none : goal.returns-in_err-level-in-InfoMacVlan-clause-none
+returns-in_err-level-in-InfoMacVlan-clause-none c = λ h. rw c.in-InfoMacVlan.is (c.in_err-level-in-InfoMacVlan.ensures.none refl c.args.value.now)
+
 pub returns-clause-numbers : goal.returns-clause-numbers
 returns-clause-numbers c = λ from.
     elim c.match-self.branch [
@@ -58,4 +67,6 @@ returns-clause-numbers c = λ from.
       | in-AfSpecUnspec+in_ok-level-in-AfSpecUnspec w ↦ rw w.level-is w.in_ok-level-in-AfSpecUnspec.ensures.numbers
       | in-InfoBridge+in_ok-level-in-InfoBridge w ↦ rw w.level-is w.in_ok-level-in-InfoBridge.ensures.numbers
       | in-InfoVlan+in_ok-level-in-InfoVlan w ↦ rw w.level-is w.in_ok-level-in-InfoVlan.ensures.numbers
+      | in-InfoBond+in_ok-level-in-InfoBond w ↦ rw w.level-is w.in_ok-level-in-InfoBond.ensures.numbers
+      | in-InfoMacVlan+in_ok-level-in-InfoMacVlan w ↦ rw w.level-is w.in_ok-level-in-InfoMacVlan.ensures.numbers
     ]

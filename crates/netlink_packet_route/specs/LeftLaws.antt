@@ -1,0 +1,169 @@
+-- What is left of a list of attributes, and next hops in it: the walk that takes no memory goes from one to the next.
+--     Pending                what is left: the next hops of the attribute in hand, and the attributes behind it
+--     AreLeft, LeftWrong     all of it is well formed, and its first fault
+--     LeftLeads              what is left decides what all is
+--     HopLeads               the attributes of the next hop and what is left behind it do
+use Rattle.std.specs.Prelude.{◌≡◌, ℕ, ◌+◌, ◌<◌, ◌≤◌, ◌⊎◌, true, List, [], ◌∷◌, length}
+use Rattle.std.proofs.Common.{ap, arith, inl, inr}
+use Rattle.npr_base.specs.declared.refusal.DecodeError.{DecodeError}
+use Rattle.npr_base.specs.Framing.{Item, Front, Fault, number_of}
+use Rattle.npr_base.specs.FrontLaws.{Front-shrinks, Front-takes}
+use Rattle.npr_route.specs.Attribute.{HopHead, HopFront, HopFault}
+use Rattle.npr_route.specs.NextHopFrontLaws.{HopFront-length}
+use Rattle.netlink_packet_route.specs.CheckLaws.{IsAttributeAt, IsListAt, ListFaultAt, AreHopsAt, HopsWrongAt, Leads, leads-all}
+use Rattle.netlink_packet_route.specs.CheckLaws.{list-ends, list-stops, list-wrong, list-more, hop-more, hop-wrong, hops-end, hops-stop, hops-read, hops-faulty}
+use Rattle.netlink_packet_route.specs.Levels.{reading_at, OfNextHop}
+use Rattle.netlink_packet_route.specs.WholeLaws.{holds_hops}
+use Rattle.netlink_packet_route.specs.declared.levels.Level.{Level}
+
+-- at a level
+pub record Pending : Type 0 where
+  pub level : Level
+  pub hops : List ℕ
+  pub rest : List ℕ
+
+abbrev pub AreLeft : Pending → Type 0
+AreLeft p = AreHopsAt p.level p.hops × IsListAt p.level p.rest
+
+abbrev pub LeftWrong : Pending → DecodeError → Type 0
+LeftWrong p e = ((0 < length p.hops) × HopsWrongAt p.level p.hops e) ⊎ (AreHopsAt p.level p.hops × ListFaultAt p.level p.rest e)
+
+-- in bytes
+abbrev pub size_of : Pending → ℕ
+size_of p = length p.hops + length p.rest
+
+pub record LeftLeads (all left : Pending) : Type 0 where
+  pub within : size_of left ≤ size_of all
+  pub is : AreLeft left → AreLeft all
+  pub wrong : (e : DecodeError) → LeftWrong left e → LeftWrong all e
+
+pub record HopLeads (all left inner : Pending) : Type 0 where
+  pub fewer : size_of left < size_of all
+  pub inside : size_of inner < size_of all
+  pub is : AreLeft inner → AreLeft left → AreLeft all
+  pub wrong : (e : DecodeError) → LeftWrong inner e → LeftWrong all e
+  pub later : (e : DecodeError) → AreLeft inner → LeftWrong left e → LeftWrong all e
+
+pub left-all : (all : Pending) → LeftLeads all all
+left-all all = record { within = omega arith; is = λ p. p; wrong = λ e p. p }
+
+pub left-on : (all left more inner : Pending) → LeftLeads all left → HopLeads left more inner → AreLeft inner → LeftLeads all more
+left-on all left more inner past step are = record {
+  within = omega (arith, past.within, step.fewer);
+  is = λ p. past.is (step.is are p);
+  wrong = λ e bad. past.wrong e (step.later e are bad);
+}
+
+pub left-through : (all left more : Pending) → LeftLeads all left → LeftLeads left more → LeftLeads all more
+left-through all left more past step = record {
+  within = omega (arith, past.within, step.within);
+  is = λ p. past.is (step.is p);
+  wrong = λ e bad. past.wrong e (step.wrong e bad);
+}
+
+pub hop-reached : (all left inner reached : Pending) → HopLeads all left inner → LeftLeads inner reached → HopLeads all left reached
+hop-reached all left inner reached step past = record {
+  fewer = step.fewer;
+  inside = omega (arith, past.within, step.inside);
+  is = λ p q. step.is (past.is p) q;
+  wrong = λ e bad. step.wrong e (past.wrong e bad);
+  later = λ e p bad. step.later e (past.is p) bad;
+}
+
+-- ---- a list, or next hops, and nothing else
+
+pub list-wrong-alone : (level : Level) (rest : List ℕ) (e : DecodeError) → LeftWrong (record { level = level; hops = []; rest = rest }) e
+    → ListFaultAt level rest e
+list-wrong-alone level rest e (inl (left, bad)) = absurd (omega (arith, left))
+list-wrong-alone level rest e (inr (are, bad)) = bad
+
+nothing-wrong : (level : Level) (e : DecodeError) → ListFaultAt level [] e → ⊥
+nothing-wrong level e (ms, left, ([], passes, each), inl (some, bad)) = omega (arith, some, ap length passes)
+nothing-wrong level e (ms, left, ([], passes, each), inr (x, more, front, bad)) = omega (arith, Front-shrinks left x more front, ap length passes)
+nothing-wrong level e (ms, left, (x ∷ items, (more, front, passes), each), bad) = omega (arith, Front-shrinks [] x more front)
+
+pub hops-wrong-alone : (level : Level) (hops : List ℕ) (e : DecodeError) → LeftWrong (record { level = level; hops = hops; rest = [] }) e
+    → HopsWrongAt level hops e
+hops-wrong-alone level hops e (inl (left, bad)) = bad
+hops-wrong-alone level hops e (inr (are, bad)) = absurd (nothing-wrong level e bad)
+
+-- ---- no next hops are in hand
+
+module _ (level : Level) (hops rest : List ℕ) (none : hops ≡ []) where
+  here : AreHopsAt level hops
+  here = hops-end level hops none
+
+  pub left-ends : rest ≡ [] → AreLeft (record { level = level; hops = hops; rest = rest })
+  left-ends end = (here, list-ends level rest end)
+
+  pub left-stops : (e : DecodeError) → 0 < length rest → Fault rest e → LeftWrong (record { level = level; hops = hops; rest = rest }) e
+  left-stops e left bad = inr (here, list-stops level rest e left bad)
+
+  module _ (x : Item) (more : List ℕ) (front : Front rest x more) where
+    list-leads : IsAttributeAt level x → Leads (IsListAt level) (ListFaultAt level) rest more
+    list-leads reads = list-more level rest rest more x (leads-all (IsListAt level) (ListFaultAt level) rest) front reads
+
+    pub left-wrong : (e : DecodeError) → (reading_at level).reading.Faulty x e → LeftWrong (record { level = level; hops = hops; rest = rest }) e
+    left-wrong e bad = inr (here, list-wrong level rest more x e front bad)
+
+    -- the attribute holds no next hops
+    module _ (reads : IsAttributeAt level x) where
+      later-wrong : (e : DecodeError) → LeftWrong (record { level = level; hops = hops; rest = more }) e
+          → LeftWrong (record { level = level; hops = hops; rest = rest }) e
+      later-wrong e (inl (left, bad)) = inl (left, bad)
+      later-wrong e (inr (are, bad)) = inr (here, (list-leads reads).faulty e bad)
+
+      pub left-more : LeftLeads (record { level = level; hops = hops; rest = rest }) (record { level = level; hops = hops; rest = more })
+      left-more = record {
+        within = omega (arith, Front-shrinks rest x more front);
+        is = λ (are, list). (here, (list-leads reads).is list);
+        wrong = later-wrong;
+      }
+
+    -- it holds some, which come into hand
+    module _ (nine : holds_hops level (number_of x.kind) ≡ true) where
+      taken-wrong : (e : DecodeError) → LeftWrong (record { level = level; hops = x.value; rest = more }) e
+          → LeftWrong (record { level = level; hops = hops; rest = rest }) e
+      taken-wrong e (inl (left, bad)) = inr (here, list-wrong level rest more x e front (hops-faulty level x e nine bad))
+      taken-wrong e (inr (are, bad)) = inr (here, (list-leads (hops-read level x nine are)).faulty e bad)
+
+      pub left-taken : LeftLeads (record { level = level; hops = hops; rest = rest }) (record { level = level; hops = x.value; rest = more })
+      left-taken = record {
+        within = omega (arith, Front-takes rest x more front);
+        is = λ (are, list). (here, (list-leads (hops-read level x nine are)).is list);
+        wrong = taken-wrong;
+      }
+
+-- ---- next hops are in hand
+
+module _ (level : Level) (hops rest : List ℕ) where
+  pub hop-stops : (e : DecodeError) → 0 < length hops → HopFault hops e → LeftWrong (record { level = level; hops = hops; rest = rest }) e
+  hop-stops e left bad = inl (left, hops-stop level hops e left bad)
+
+  module _ (h : HopHead) (inside more : List ℕ) (inner : Level) (front : HopFront hops h inside more) (under : OfNextHop level inside inner) where
+    some : 0 < length hops
+    some = omega (arith, HopFront-length hops h inside more front)
+
+    behind : IsListAt inner inside → Leads (AreHopsAt level) (HopsWrongAt level) hops more
+    behind list =
+        hop-more hops hops inside more h inner level under (leads-all (AreHopsAt level) (HopsWrongAt level) hops) front
+        (omega (arith, HopFront-length hops h inside more front)) list
+
+    inside-wrong : (e : DecodeError) → LeftWrong (record { level = inner; hops = []; rest = inside }) e
+        → LeftWrong (record { level = level; hops = hops; rest = rest }) e
+    inside-wrong e bad = inl (some, hop-wrong hops hops inside more h inner level e under front (list-wrong-alone inner inside e bad))
+
+    behind-wrong : (e : DecodeError) → AreLeft (record { level = inner; hops = []; rest = inside })
+        → LeftWrong (record { level = level; hops = more; rest = rest }) e → LeftWrong (record { level = level; hops = hops; rest = rest }) e
+    behind-wrong e are (inl (left, bad)) = inl (some, (behind are.1).faulty e bad)
+    behind-wrong e are (inr (past, bad)) = inr ((behind are.1).is past, bad)
+
+    pub hop-leads : HopLeads (record { level = level; hops = hops; rest = rest }) (record { level = level; hops = more; rest = rest })
+        (record { level = inner; hops = []; rest = inside })
+    hop-leads = record {
+      fewer = omega (arith, HopFront-length hops h inside more front);
+      inside = omega (arith, HopFront-length hops h inside more front);
+      is = λ are (past, list). ((behind are.1).is past, list);
+      wrong = inside-wrong;
+      later = behind-wrong;
+    }

@@ -1,0 +1,14 @@
+use Rattle.std.proofs.Common.{◌≡◌, ◌≤◌, ℕ, List, length}
+use Rattle.netlink_packet_route.specs.declared.framing.DecodeError.{DecodeError}
+use Rattle.netlink_packet_route.specs.CheckLaws.{IsListAt}
+use Rattle.npr_c.specs.Stops.{StopsAt}
+use Rattle.npr_c.proofs.placing.check_each.Given as goal
+
+-- what is left decides what all is, and where it stops
+abbrev pub invariant-loop-next : goal.invariant-loop-next
+invariant-loop-next l = record {
+  list : IsListAt l.level l.walk → IsListAt l.level l.attributes;
+  stops : (rest : List ℕ) (e : DecodeError) → StopsAt l.level l.walk rest e → StopsAt l.level l.attributes rest e;
+  within : length l.walk ≤ length l.attributes;
+  left : l.left ≡ length l.walk;
+}
