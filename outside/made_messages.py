@@ -98,7 +98,7 @@ BESIDE = {7: {1: four(3)}, 9: {4: four(1), 5: four(1), 1: BYTES[2], 2: V6[1], 3:
 LINK_NAMES = [b"q7\0", b"q7", b"abcdefghijklmno\0"]
 MACS = [b"\x02\0\0\0\0\x01", b"\xff" * 6, bytes(20), b"\0"]
 QOS = [b"", listed((1, four(1, 2))), listed((1, four(1, 2)), (1, four(0, 2 ** 32 - 1)))]
-KIND_NAMES = [b"dummy\0", b"tun", b"no-such-kind\0"]
+KIND_NAMES = [b"dummy\0", b"ifb", b"no-such-kind\0"]
 IDS = [bytes(8), b"\x80\0\x02\0\0\0\x0a\xff", b"\xff" * 8]
 TIMERS = [struct.pack("<Q", it) for it in (0, 5, 99, 100, 12345, 2 ** 31 - 1)]
 BRIDGE_ROWS = {**{kind: number(4) for kind in (1, 2, 3, 4, 5, 13, 26, 27, 28, 29, 48, 49, 50)}, **{kind: number(2) for kind in (6, 9, 12, 39)},
@@ -115,7 +115,58 @@ PORT_ROWS = {1: BYTES[:6] + BYTES[255:], 3: number(4), **{kind: number(2) for ki
 VLAN_ROWS = {1: number(2), 2: [four(it, 2 ** 32 - 1) for it in (*(1 << at for at in range(6)), 31, 0xFFFFFFE0, 0)] + [four(3, 3)], 3: QOS, 4: QOS,
              5: [b"\x81\0", b"\x88\xa8", b"\x12\x34"]}
 PEER_ROWS = {1: MACS, 2: MACS, 3: LINK_NAMES, 16: BYTES[:8], 17: BYTES[:3], **{kind: number(4) for kind in (4, 13, 19, 27, 28, 31, 32, 40, 41, 46, 58, 63, 64)}}
-INFO_ROWS = [(1, b"bridge\0", 2, BRIDGE_ROWS), (4, b"bridge\0", 5, PORT_ROWS), (1, b"vrf\0", 2, {1: number(4)}), (4, b"vrf\0", 5, {1: number(4)})]
+BOND_ROWS = {**{kind: number(4) for kind in (3, 4, 5, 7, 15, 18, 19, 20, 28)}, 2: INDEXES, 11: INDEXES, 1: BYTES[:8],
+             8: [b"", listed((0, V4[1])), listed((0, V4[2]), (1, V4[1]), (2, V4[0]))], 31: [b"", listed((0, V6[1]), (1, V6[2]))],
+             **{kind: [four(it) for it in range(8)] for kind in (9, 10)}, **{kind: BYTES[:4] for kind in (12, 13, 21, 22)}, 14: BYTES[:7],
+             **{kind: number(1) for kind in (16, 30)}, **{kind: BYTES[:2] for kind in (6, 17, 27, 29, 32, 33, 34)},
+             23: [b"", listed(*((kind, two(kind)) for kind in (1, 2, 3, 4)), (5, MACS[0]))], 24: number(2), 25: number(2), 26: MACS[:2]}
+BOND_PORT_ROWS = {1: BYTES[:3], 2: BYTES[:5], 3: number(4), 4: MACS, 5: number(2), 6: number(2), 7: bits(1), 8: [it + b"\0" for it in bits(1)],
+                  9: number(4), 10: number(2), 11: BYTES[:2], 12: BYTES[:2]}
+MACVLAN_ROWS = {1: [four(it) for it in (0, 1, 2, 4, 8, 16, 32)], 2: bits(2), 3: [four(it) for it in range(5)], 4: MACS[:2], 6: number(4)[:5],
+                7: number(4), 8: number(4), 9: number(4), 5: [b"", listed((4, MACS[0])), listed((4, MACS[0]), (4, MACS[1]))]}
+IPVLAN_ROWS = {1: [two(it) for it in range(4)], 2: bits(2)}
+TUN_ROWS = {1: number(4), 2: number(4), 3: BYTES[:4], **{kind: BYTES[:2] for kind in (4, 5, 6, 7)}, 8: number(4), 9: number(4)}
+GROUPS = [bytes([224, 0, 0, 1]), bytes([239, 1, 1, 1])]
+UDP_RANGES = [b"\0\0\0\0", b"\x27\x10\x4e\x20"]
+VXLAN_ROWS = {1: number(4), 2: V4 + GROUPS, 3: INDEXES, 4: V4, 5: number(1), 6: number(1), 8: number(4), 9: number(4), 10: UDP_RANGES,
+              **{kind: BYTES[:2] for kind in (7, 11, 12, 13, 14, 18, 19, 20, 21, 22, 25, 30, 31, 34)},
+              **{kind: [b"", b"\1"] for kind in (23, 24, 27, 28)}, 15: number(2, "big"), 26: number(4, "big"), 29: BYTES[:4],
+              32: [four(it) for it in range(3)], 33: bits(8, "big")}
+GENEVE_ROWS = {1: number(4), 2: V4, 3: number(1), 4: number(1), 5: number(2, "big"), **{kind: BYTES[:2] for kind in (8, 9, 10, 12)},
+               11: number(4, "big"), 13: BYTES[:4], **{kind: [b""] for kind in (6, 14, 16)}, 15: UDP_RANGES, 17: V4}
+# what a tunnel is packed in once more, by the numbers of its type, flags and ports, and what GRE has in both versions
+encap = lambda kind: {kind: [two(it) for it in range(4)], kind + 1: bits(2), kind + 2: number(2, "big"), kind + 3: number(2, "big")}
+GRE_BOTH = {1: INDEXES, 2: bits(2, "big"), 3: bits(2, "big"), 4: number(4, "big"), 5: number(4, "big"), 8: number(1), **encap(14), 18: [b""],
+            20: number(4), 21: number(4), 22: BYTES[:3], 23: BYTES[:2], 24: number(2)}
+GRE_ROWS = {**GRE_BOTH, 6: V4, 7: V4, 9: number(1), 10: BYTES[:2], 19: BYTES[:2]}
+GRE6_ROWS = {**GRE_BOTH, 6: V6, 7: V6, 11: number(1), 12: number(4, "big"), 13: bits(4)}
+IP_BOTH = {1: INDEXES, 4: number(1), 9: [bytes([it]) for it in (0, 4, 41, 137, 17)], **encap(15), 19: [b"", b"\1"], 20: number(4)}
+IPIP_ROWS = {**IP_BOTH, 2: V4, 3: V4, 5: number(1), 8: bits(2), 10: BYTES[:2], 11: V6, 12: V4, 13: number(2), 14: number(2)}
+IP6TNL_ROWS = {**IP_BOTH, 2: V6, 3: V6, 5: number(1), 6: number(1), 7: number(4, "big"), 8: bits(4)}
+FLOW = b"\x0b\x11\x23\x45"
+VTI_BOTH = {1: INDEXES, 2: number(4, "big"), 3: number(4, "big"), 6: number(4)}
+# the rows without which `ip` tells of a tunnel what no row says, or ends
+GRE_BESIDE = {2: b"\0\0", 3: b"\0\0", 4: V4[1], 5: V4[2], 8: BYTES[0], 14: two(1), 15: two(0), 16: two(0), 17: two(0)}
+IP_BESIDE = {4: BYTES[0], 15: two(2), 16: two(0), 17: two(0), 18: two(0)}
+IPIP_BESIDE = {**IP_BESIDE, 2: V4[0], 3: V4[0], 10: BYTES[1], 11: V6[1], 12: V4[1], 13: two(32), 14: two(24)}
+ENDS, ENDS6 = {6: V4[1], 7: V4[1]}, {6: V6[1], 7: V6[1]}
+NETKIT_ROWS = {2: BYTES[:2], **{kind: [four(it) for it in (0, 1, 2, 7)] for kind in (3, 4, 5, 6, 7)}, 8: number(2), 9: number(2), 10: number(4)}
+# of each kind with words, and of each kind of ports: its rows, and those that stand beside each
+INFO_ROWS = [
+    *((1, name, rows, {}) for name, rows in (
+        ("bridge", BRIDGE_ROWS), ("vrf", {1: number(4)}), ("bond", BOND_ROWS),
+        ("ipvlan", IPVLAN_ROWS), ("ipvtap", IPVLAN_ROWS), ("tun", TUN_ROWS), ("vxlan", VXLAN_ROWS), ("vxlan", {16: V6, 17: V6}),
+        ("geneve", GENEVE_ROWS), ("geneve", {7: V6, 18: V6}), ("xfrm", {1: INDEXES, 2: number(4), 3: [b""]}), ("netkit", NETKIT_ROWS))),
+    *((4, name, rows, {}) for name, rows in (("bridge", PORT_ROWS), ("vrf", {1: number(4)}), ("bond", BOND_PORT_ROWS))),
+    # `ip` shows nothing of a MACVLAN without its mode, its sources in one mode alone, and numbers of queues of a device that has several
+    (1, "macvlan", MACVLAN_ROWS, {1: four(4)}), (1, "macvtap", MACVLAN_ROWS, {1: four(4)}), (1, "macvlan", MACVLAN_ROWS, {1: four(16), 6: four(2)}),
+    (1, "tun", TUN_ROWS, {7: BYTES[1]}),
+    (1, "gre", GRE_ROWS, {**GRE_BESIDE, **ENDS}), (1, "gretap", GRE_ROWS, {**GRE_BESIDE, **ENDS}),
+    (1, "ip6gre", GRE6_ROWS, {**GRE_BESIDE, **ENDS6}), (1, "ip6gretap", GRE6_ROWS, {**GRE_BESIDE, **ENDS6}),
+    (1, "ip6gre", {kind: GRE6_ROWS[kind] for kind in (11, 12, 13, 20)}, {**GRE_BESIDE, **ENDS6, 11: BYTES[4], 12: FLOW, 13: four(0), 20: four(7)}),
+    (1, "ipip", IPIP_ROWS, IPIP_BESIDE), (1, "sit", IPIP_ROWS, IPIP_BESIDE), (1, "ip6tnl", IP6TNL_ROWS, {**IP_BESIDE, 2: V6[0], 3: V6[0]}),
+    (1, "ip6tnl", IP6TNL_ROWS, {**IP_BESIDE, 2: V6[1], 3: V6[1], 6: BYTES[4], 7: FLOW, 8: four(0), 20: four(7)}),
+    (1, "vti", {**VTI_BOTH, 4: V4, 5: V4}, {4: V4[0], 5: V4[0]}), (1, "vti6", {**VTI_BOTH, 4: V6, 5: V6}, {4: V6[0], 5: V6[0]})]
 XDP_ROWS = {2: BYTES[:6], 4: number(4), 5: number(4)[1:], 6: number(4)[1:], 7: number(4)[1:], 1: number(4), 3: bits(4), 8: number(4)}
 INET6_ROWS = {1: bits(4), 2: [four(*range(60)), four(*range(62)), four(7)], 3: [b"", bytes(range(24))], 5: [four(1, 2, 3, 4)], 6: [bytes(56), bytes(64)],
               7: V6, 8: BYTES[:5], 9: number(4)}
@@ -213,11 +264,13 @@ def link_lists():
     yield from rows(LINK_ROWS)
     yield from ([(37, four(1)), (5, it)] for it in INDEXES)
     yield from ([(1, MACS[0]), (54, it)] for it in MACS[:2])
-    yield from ([(18, listed((kind, name), (data, listed(*it))))] for kind, name, data, table in INFO_ROWS for it in rows(table))
+    yield from ([(18, listed((kind, name.encode() + b"\0"), (kind + 1, listed(*{**beside, **dict(it)}.items()))))]
+                for kind, name, table, beside in INFO_ROWS for it in rows(table))
     # `ip` shows the bridge in the place of its root, and of a VLAN nothing without its number
     yield from ([(18, listed((1, b"bridge\0"), (2, listed((10, it), (11, it)))))] for it in IDS)
     yield from ([(18, listed((1, b"vlan\0"), (2, listed(*{5: b"\x81\0", 1: two(7), **dict(it)}.items()))))] for it in rows(VLAN_ROWS))
-    yield from ([(18, listed((1, b"veth\0"), (2, listed((1, head + listed(*it))))))] for head in (bytes(16), link_header(1, 9, 772, 1, 7)) for it in rows(PEER_ROWS))
+    yield from ([(18, listed((1, name), (2, listed((1, head + listed(*it))))))]
+                for name, head in ((b"veth\0", bytes(16)), (b"veth\0", link_header(1, 9, 772, 1, 7)), (b"netkit\0", bytes(16))) for it in rows(PEER_ROWS))
     yield from ([(18, listed((1, it), (4, it), *more))] for it in KIND_NAMES for more in ([], [(2, b"\1\2"), (3, b"\3"), (5, b"\4")]))
     yield from ([(43, listed(*{2: BYTES[1], **dict(it)}.items()))] for it in rows(XDP_ROWS))
     yield from ([(26, listed((10, listed(*it))))] for it in rows(INET6_ROWS))

@@ -1,6 +1,8 @@
 //! The names of attributes, as the kernel's headers have them.
 
-use crate::link_attribute_names as link;
+use crate::{
+    link_attribute_names as link, link_kind_attribute_names as kind, small_attribute_names as small,
+};
 use netlink_packet_route::framing::AttrFamily;
 
 const ADDRESS: &[&str] = &[
@@ -248,6 +250,34 @@ fn names_of(family: AttrFamily) -> &'static [&'static str] {
         AttrFamily::VlanQosMapping => link::VLAN_QOS,
         AttrFamily::InfoVrf => link::VRF,
         AttrFamily::InfoVeth => link::VETH,
+        AttrFamily::AfSpecBridge => kind::AF_SPEC_BRIDGE,
+        AttrFamily::BridgeVlanTunnelInfo => kind::VLAN_TUNNEL,
+        AttrFamily::BridgeMst => kind::MST,
+        AttrFamily::BridgeMstEntry => kind::MST_ENTRY,
+        AttrFamily::InfoBond => kind::BOND,
+        AttrFamily::BondAdInfo => kind::BOND_AD_INFO,
+        AttrFamily::InfoBondPort => kind::BOND_PORT,
+        AttrFamily::InfoIpVlan => kind::IP_VLAN,
+        AttrFamily::InfoNetkit => kind::NETKIT,
+        AttrFamily::InfoTun => kind::TUN,
+        AttrFamily::InfoVxlan => kind::VXLAN,
+        AttrFamily::InfoGeneve => kind::GENEVE,
+        AttrFamily::InfoIpTunnel => kind::IP_TUNNEL,
+        AttrFamily::InfoVti => kind::VTI,
+        AttrFamily::InfoXfrm => kind::XFRM,
+        AttrFamily::InfoMacVlan | AttrFamily::MacVlanAddress => kind::MAC_VLAN,
+        AttrFamily::InfoGre | AttrFamily::InfoGre6 => kind::GRE,
+        AttrFamily::NextHop => small::NEXT_HOP,
+        AttrFamily::NextHopResGroup => small::NEXT_HOP_RES_GROUP,
+        AttrFamily::NextHopResBucket => small::NEXT_HOP_RES_BUCKET,
+        AttrFamily::NextHopGroupStats => small::NEXT_HOP_GROUP_STATS,
+        AttrFamily::NextHopGroupStatsEntry => small::NEXT_HOP_GROUP_STATS_ENTRY,
+        AttrFamily::Nsid => small::NSID,
+        AttrFamily::Prefix => small::PREFIX,
+        AttrFamily::Netconf => small::NETCONF,
+        AttrFamily::NeighbourTable => small::NEIGHBOUR_TABLE,
+        AttrFamily::NeighbourTableParameter => small::NEIGHBOUR_TABLE_PARAMETER,
+        AttrFamily::AddressLabel => small::ADDRESS_LABEL,
     }
 }
 

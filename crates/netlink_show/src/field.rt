@@ -59,6 +59,11 @@ impl<'a> Fields<'a> {
         }
     }
 
+    /// Whether there is nothing, and no memory was refused.
+    pub fn is_empty(&self) -> bool {
+        self.items.is_empty() && !self.is_cut
+    }
+
     /// Takes notice that memory was refused.
     pub fn refuse(&mut self) {
         self.is_cut = true;

@@ -85,6 +85,12 @@ impl Fields<'_> {
         }
     }
 
+    /// An interface, of which a line has nothing where its number is 0.
+    pub fn some_interface(&mut self, word: Word, index: u32) {
+        self.interface(word, index);
+        self.hide_if(index == 0);
+    }
+
     /// Seconds that are left; the greatest number is for ever.
     pub fn lifetime(&mut self, word: Word, seconds: u32) {
         match seconds {
@@ -109,6 +115,24 @@ impl Fields<'_> {
     /// A truth value, which a line tells by `on` and `off`.
     pub fn switch(&mut self, word: Word, is_on: bool) {
         self.push(word, is_on, &(if is_on { "on" } else { "off" }));
+    }
+
+    /// A truth value, which a line tells by the first of two words or by the other.
+    pub fn either(&mut self, word: Word, is_so: bool, words: (&str, &str)) {
+        self.push(word, is_so, &(if is_so { words.0 } else { words.1 }));
+    }
+
+    /// A word without a value, which a line has where it is so.
+    pub fn word_if(&mut self, word: Word, is_so: bool) {
+        self.truth(word, is_so);
+        self.hide_if(!is_so);
+    }
+
+    /// The same of the attribute of this number.
+    pub fn word_of(&mut self, words: NumberWords, kind: u16, is_so: bool) {
+        if let Some((_, word)) = words.iter().find(|row| row.0 == kind) {
+            self.word_if(*word, is_so);
+        }
     }
 
     /// Bits, which are a hexadecimal text in JSON too.
