@@ -76,3 +76,64 @@ pub const INET6: [u8; 10] = [ANY, 4, ANY, ANY, ANY, 16, ANY, 16, 1, 4];
 pub const XDP: [u8; 9] = [ANY, 4, 1, 4, 4, 4, 4, 4, 4];
 
 pub const REASONS: [u8; 3] = [ANY, 4, 4];
+
+/// Of the data of a kind of link. A flag has no value, and a mark may have any.
+pub type Lengths = &'static [u8];
+
+const VXLAN: Lengths = &[
+    ANY, 4, 4, 4, 4, 1, 1, 1, 4, 4, 4, 1, 1, 1, 1, 2, 16, 16, 1, 1, 1, 1, 1, 0, 0, 1, 4, 0, 1, 1,
+    1, 1, 4, 8, 1,
+];
+
+const GENEVE: Lengths = &[
+    ANY, 4, 4, 1, 1, 2, ANY, 16, 1, 1, 1, 4, 1, 1, ANY, 4, ANY, 4, 16,
+];
+
+const GRE: Lengths = &[
+    ANY, 4, 2, 2, 4, 4, 4, 4, 1, 1, 1, ANY, ANY, ANY, 2, 2, 2, 2, ANY, 1, 4, 4, 1, 1, 2,
+];
+
+const GRE6: Lengths = &[
+    ANY, 4, 2, 2, 4, 4, 16, 16, 1, ANY, ANY, 1, 4, 4, 2, 2, 2, 2, ANY, ANY, 4, 4, 1, 1, 2,
+];
+
+const TUNNEL: Lengths = &[
+    ANY, 4, 4, 16, 1, 1, 1, 4, 2, 1, 1, 16, 4, 2, 2, 2, 2, 2, 2, 0, 4,
+];
+
+const TUNNEL6: Lengths = &[
+    ANY, 4, 16, 16, 1, 1, 1, 4, 4, 1, 1, ANY, ANY, ANY, ANY, 2, 2, 2, 2, 1, 4,
+];
+
+const BOND: Lengths = &[
+    ANY, 1, 4, 4, 4, 4, 1, 4, 0, 4, 4, 4, 1, 1, 1, 4, 1, 1, 4, 4, 4, 1, 1, 0, 2, 2, 6, 1, 4, 1, 1,
+    0, 1, 1, 1,
+];
+
+/// Of ports of a bond.
+pub const BOND_PORT: Lengths = &[ANY, 1, 1, 4, ANY, 2, 2, 1, 2, 4, 2, 1, 1];
+
+/// Kinds without a list inside that is made by itself, each with the lengths of its data.
+pub const KINDS: [(&str, Lengths); 16] = [
+    ("vxlan", VXLAN),
+    ("geneve", GENEVE),
+    ("gre", GRE),
+    ("gretap", GRE),
+    ("ip6gre", GRE6),
+    ("ip6gretap", GRE6),
+    ("ipip", TUNNEL),
+    ("sit", TUNNEL),
+    ("ip6tnl", TUNNEL6),
+    ("vti6", &[ANY, 4, 4, 4, 4, 16, 4]),
+    ("xfrm", &[ANY, 4, 4, ANY]),
+    ("tun", &[ANY, 4, 4, 1, 1, 1, 1, 1, 4, 4]),
+    ("bond", BOND),
+    ("macvlan", &[ANY, 4, 2, 4, 6, 0, 4, 4, 4, 4]),
+    ("ipvlan", &[ANY, 2, 2]),
+    ("netkit", &[ANY, 16, 1, 4, 4, 4, 4, 4, 2, 2, 4]),
+];
+
+/// Addresses in a list, of version 4 and 6.
+pub const TARGETS: Lengths = &[4, 4, 4, 4, 4, 4, 4, 4];
+
+pub const TARGETS6: Lengths = &[16, 16, 16, 16, 16, 16, 16, 16];

@@ -2,7 +2,8 @@
 //! other lists.
 
 use crate::lengths::{
-    BRIDGE, BRIDGE_PORT, INET, INET6, INFO, LINK, PRIORITIES, QUERIER, REASONS, VLAN, VRF, XDP,
+    BOND_PORT, BRIDGE, BRIDGE_PORT, INET, INET6, INFO, KINDS, LINK, PRIORITIES, QUERIER, REASONS,
+    TARGETS, TARGETS6, VLAN, VRF, XDP,
 };
 use crate::making::{Maker, NESTED, pad};
 use std::alloc::AllocError;
@@ -10,13 +11,15 @@ use std::alloc::AllocError;
 impl Maker {
     /// The list of a link: with data, or another list, or with none of them.
     pub(crate) fn link(&mut self) -> Result<(), AllocError> {
-        match self.random.below(8) {
+        match self.random.below(10) {
             0 => self.vlan()?,
             1 => self.bridge()?,
             2 => self.peer()?,
             3 => self.port()?,
             4 => self.families()?,
             5 => self.short_list()?,
+            6 | 7 => self.kind()?,
+            8 => self.targets()?,
             _ => {}
         }
         self.leaves(&LINK)
@@ -46,6 +49,32 @@ impl Maker {
         let count = self.random.one_of(&[16, 16, 16], 12usize);
         self.wrap(1, &header[..count.min(16)])?;
         self.under(2, 1, "veth")
+    }
+
+    /// Data of a kind of link.
+    fn kind(&mut self) -> Result<(), AllocError> {
+        let (name, lengths) = self.random.one_of(&KINDS, ("bond", BOND_PORT));
+        self.leaves(lengths)?;
+        self.under(2, 1, name)
+    }
+
+    /// Data of a bond with addresses, or of a port of one.
+    fn targets(&mut self) -> Result<(), AllocError> {
+        match self.random.below(3) {
+            0 => {
+                self.leaves(TARGETS)?;
+                self.wrap(8, &[])?;
+            }
+            1 => {
+                self.leaves(TARGETS6)?;
+                self.wrap(31 | NESTED, &[])?;
+            }
+            _ => {
+                self.leaves(BOND_PORT)?;
+                return self.under(5, 4, "bond");
+            }
+        }
+        self.under(2, 1, "bond")
     }
 
     /// Data of a port, or of a vrf, under this kind or another one.

@@ -8,3 +8,7 @@
 mod flat;
 #[cfg(test)]
 mod info;
+#[cfg(test)]
+mod kinds;
+#[cfg(test)]
+mod small;
