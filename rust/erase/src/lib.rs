@@ -23,7 +23,7 @@ use std::fs;
 use std::path::{Path, PathBuf};
 
 /// The libraries, each before those that stand on it.
-pub const LIBRARIES: [&str; 12] = [
+pub const LIBRARIES: [&str; 15] = [
     "npr_base",
     "netlink_packet_core",
     "npr_scalar",
@@ -33,13 +33,18 @@ pub const LIBRARIES: [&str; 12] = [
     "npr_rule",
     "npr_neighbour",
     "npr_link_numbers",
+    "npr_link_bridge",
+    "npr_link_devices",
+    "npr_link_tunnels",
     "npr_link",
     "npr_route",
     "netlink_packet_route",
 ];
 
-/// The crates of their tests, likewise.
-pub const TESTS: [&str; 6] = [
+/// The crates of their tests, likewise, with the libraries that no message's type leads to yet.
+pub const TESTS: [&str; 8] = [
+    "npr_small",
+    "npr_nexthop",
     "npr_testing",
     "template",
     "message_tests",

@@ -282,9 +282,10 @@ impl<'a> Eraser<'a> {
     fn bound(&mut self, at: usize) -> Result<usize, Fault> {
         match self.source.before(at) {
             ":" | "+" => self.replace(at, 1, "bound Drop -> Sized", "Sized"),
+            before if is_variant(before) => Ok(at + 1),
             _ => Err(self
                 .source
-                .fault(at, "`Drop` is known as a bound and in `derive` alone")),
+                .fault(at, "`Drop` is known as a bound, a variant and in `derive` alone")),
         }
     }
 
@@ -348,4 +349,9 @@ impl<'a> Eraser<'a> {
         }
         Ok(())
     }
+}
+
+/// Whether a word behind this one names a variant, in an enum or in a list of numbers.
+fn is_variant(before: &str) -> bool {
+    matches!(before, "," | "{") || before.starts_with(|c: char| c.is_ascii_digit())
 }

@@ -142,6 +142,10 @@ fn what_is_not_known_is_refused() {
         "file.rt:1: no token is known that begins so"
     );
     assert_eq!(
+        refusal("fn f() -> Drop {}"),
+        "file.rt:1: `Drop` is known as a bound, a variant and in `derive` alone"
+    );
+    assert_eq!(
         refusal("impl Drop for S {}"),
         "file.rt:1: `impl Drop` is not known"
     );

@@ -224,6 +224,7 @@ headers! {
     route::Seg6LocalSrh;
 }
 under_context! {
+    link::InfoIpTunnel, link::InfoForm;
     link::LinkAttribute, AddressFamily;
     link::LinkInfo, (link::InfoForm, link::InfoPortForm);
     neighbour::NeighbourAttribute, AddressFamily;
@@ -232,17 +233,35 @@ under_context! {
 }
 alone! {
     address::AddressAttribute;
+    link::AfSpecBridge;
     link::AfSpecInet;
     link::AfSpecInet6;
     link::AfSpecUnspec;
+    link::BondAdInfo;
+    link::BridgeMst;
+    link::BridgeMstEntry;
     link::BridgeQuerierState;
+    link::BridgeVlanTunnelInfo;
+    link::InfoBond;
+    link::InfoBondPort;
     link::InfoBridge;
     link::InfoBridgePort;
+    link::InfoGeneve;
+    link::InfoGre;
+    link::InfoGre6;
+    link::InfoIpVlan;
+    link::InfoMacVlan;
+    link::InfoNetkit;
+    link::InfoTun;
     link::InfoVeth;
     link::InfoVlan;
     link::InfoVrf;
+    link::InfoVti;
+    link::InfoVxlan;
+    link::InfoXfrm;
     link::LinkProtocolDownReason;
     link::LinkXdp;
+    link::MacVlanAddress;
     link::PeerAttribute;
     link::Prop;
     link::VlanQosMapping;

@@ -237,9 +237,16 @@ sets! {
     address::AddressFlags u32;
     address::AddressHeaderFlags u8;
     link::BridgeBooleanOptionFlags u32;
+    link::BridgeVlanInfoFlags u16;
+    link::GreEncapFlags u16;
+    link::GreIOFlags u16;
     link::Inet6IfaceFlags u32;
+    link::Ip6TunnelFlags u32;
+    link::IpVlanFlags u16;
     link::LinkExtentMask u32;
     link::LinkFlags u32;
+    link::MacVlanFlags u16;
+    link::TunnelEncapFlags u16;
     link::VlanFlags u32;
     neighbour::NeighbourExtFlags u32;
     neighbour::NeighbourFlags u8;

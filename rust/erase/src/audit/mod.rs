@@ -69,7 +69,7 @@ fn differences(
     let (was, is) = (words(was), words(is));
     let (mut at, mut to, mut kinds) = (0, 0, Vec::new());
     while at < was.len() || to < is.len() {
-        let is_left = is.get(to).is_some_and(|w| NEVER.contains(&w.text));
+        let is_left = is_left(&is, to);
         if at < was.len() && was.get(at) == is.get(to) && !is_left {
             (at, to) = (at + 1, to + 1);
             continue;
@@ -85,6 +85,16 @@ fn differences(
         (at, to) = ends;
     }
     Ok(kinds)
+}
+
+/// Whether a word stands there that is never left: `Drop` names a variant behind a comma or a number.
+fn is_left(words: &[Word], at: usize) -> bool {
+    let Some(word) = words.get(at) else {
+        return false;
+    };
+    let before = at.checked_sub(1).map_or("", |at| words[at].text);
+    let is_variant = before == "," || before.starts_with(|c: char| c.is_ascii_digit());
+    NEVER.contains(&word.text) && !(word.text == "Drop" && is_variant)
 }
 
 fn unknown(path: &str, was: &[Word], is: &[Word]) -> Fault {
