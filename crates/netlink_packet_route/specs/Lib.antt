@@ -35,6 +35,7 @@ pub use Rattle.npr_base.specs.LookBounds
 pub use Rattle.npr_base.specs.MessageLaws
 pub use Rattle.npr_base.specs.Opening
 pub mod CheckLaws
+pub mod DriverLevelLaws
 pub mod FaultLaws
 pub mod LeftLaws
 pub mod Levels

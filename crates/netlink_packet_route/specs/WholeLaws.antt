@@ -328,7 +328,8 @@ pub seen-whole : (level : Level) (k : ℕ) (value : List ℕ) → stands_apart l
 unfolding OfMetric.attributes OfOption.attributes OfVxlan.attributes OfErspan.attributes OfXdp.attributes OfProp.attributes
     OfReason.attributes OfAfSpec.attributes OfAfSpecInet.attributes OfAfSpecInet6.attributes OfBridge.attributes OfQuerier.attributes
     OfBridgePort.attributes OfVlan.attributes OfVlanQos.attributes OfVrf.attributes OfVeth.attributes OfPeer.attributes
-    OfBond.attributes OfAdInfo.attributes OfBondPort.attributes OfMacVlan.attributes OfMacVlanAddress.attributes OfIpVlan.attributes OfNetkit.attributes OfTun.attributes
+    OfBond.attributes OfAdInfo.attributes OfBondPort.attributes OfMacVlan.attributes OfMacVlanAddress.attributes OfIpVlan.attributes
+    OfNetkit.attributes OfTun.attributes
     OfLinkVxlan.attributes OfLinkGeneve.attributes OfGre.attributes OfGre6.attributes OfVti.attributes OfLinkXfrm.attributes
 seen-whole Address k value apart hops lists = in-table OfAddress.table none refl k refl
 seen-whole Rule k value apart hops lists = in-table OfRule.table none refl k refl

@@ -15,20 +15,26 @@ use Rattle.npr_route.specs.Attribute.{Meaning, flat, multi_path, Reads, Wrong, v
 use Rattle.npr_route.specs.FlatAttribute.{Context}
 use Rattle.npr_route.specs.FlatAttributeLaws as Flats
 
--- number 9 holds next hops
+-- number 9 holds next hops, and another what the table says
+abbrev form_or : Bool → At × Form → At × Form
+form_or b f = if b then (at_number OfRoute 9, Inside) else f
+
 abbrev pub attribute_form : Context → ℕ → At × Form
-attribute_form c k = if k == 9 then (at_number OfRoute 9, Inside) else (Flats.attributes c).seeing.form_at k
+attribute_form c k = form_or (k == 9) ((Flats.attributes c).seeing.form_at k)
+
+abbrev table_form : Context → Item → At × Form
+table_form c x = (Flats.attributes c).seeing.form_at (number_of x.kind)
 
 abbrev pub attribute_sees : Context → Item → Meaning → Shown
 attribute_sees c x (flat m) = (Flats.attributes c).seeing.sees x m
 attribute_sees c x (multi_path hops) = is_inside x.value
 
 module _ (c : Context) (x : Item) where
-  flat-shows : (b : Bool) (s : Shown) (f : At × Form) → b ≡ false → Shows (if b then (at_number OfRoute 9, Inside) else f).1 x.value s → Shows f.1 x.value s
+  flat-shows : (b : Bool) (s : Shown) (f : At × Form) → b ≡ false → Shows (form_or b f).1 x.value s → Shows f.1 x.value s
   flat-shows false s f e p = p
   flat-shows true s f e p = absurd cc
 
-  hops-show : (b : Bool) (s : Shown) (f : At × Form) → b ≡ true → Shows (if b then (at_number OfRoute 9, Inside) else f).1 x.value s → s ≡ is_inside x.value
+  hops-show : (b : Bool) (s : Shown) (f : At × Form) → b ≡ true → Shows (form_or b f).1 x.value s → s ≡ is_inside x.value
   hops-show true s f e p = p
   hops-show false s f e p = absurd cc
 
@@ -39,15 +45,15 @@ module _ (c : Context) (x : Item) where
   attribute-shows s (multi_path hops) p (nine, are) =
       hops-show (number_of x.kind == 9) s ((Flats.attributes c).seeing.form_at (number_of x.kind)) (subst (λ (k : ℕ). (k == 9) ≡ true) (sym nine) refl) p
 
-  pub whole-or : (b : Bool) → (number_of x.kind == 9) ≡ b → (s : Shown) → IsWhole (if b then (at_number OfRoute 9, Inside) else (Flats.attributes c).seeing.form_at (number_of x.kind)).1
-      → Shows (if b then (at_number OfRoute 9, Inside) else (Flats.attributes c).seeing.form_at (number_of x.kind)).1 x.value s → (m : Meaning) × Reads c x m
+  pub whole-or : (b : Bool) → (number_of x.kind == 9) ≡ b → (s : Shown) → IsWhole (form_or b (table_form c x)).1
+      → Shows (form_or b (table_form c x)).1 x.value s → (m : Meaning) × Reads c x m
   whole-or true e s w p = absurd w
   whole-or false e s w p =
       let m = (Flats.attributes c).seeing.whole x s w p in
       (flat m.0, (eqb-false (number_of x.kind) 9 e, m.1))
 
   pub wrong-or : (b : Bool) → (number_of x.kind == 9) ≡ b → (e : DecodeError)
-      → (let f = if b then (at_number OfRoute 9, Inside) else (Flats.attributes c).seeing.form_at (number_of x.kind) in Misshown f.1 f.0 x.value e) → Wrong c x e
+      → (let f = form_or b (table_form c x) in Misshown f.1 f.0 x.value e) → Wrong c x e
   wrong-or true e r p = absurd p
   wrong-or false e r p = value_wrong (eqb-false (number_of x.kind) 9 e) ((Flats.attributes c).seeing.wrong x r p)
 

@@ -4,11 +4,11 @@ use Rattle.netlink_packet_route.specs.declared.levels.Level.TheVariants.{LinkInf
 use Rattle.netlink_packet_route.specs.declared.levels.Level.TheVariants.{InfoBond, InfoGeneve, InfoGre, InfoGre6, InfoIpTunnel}
 use Rattle.netlink_packet_route.specs.declared.levels.Level.TheVariants.{InfoIpVlan, InfoMacVlan, InfoNetkit, InfoTun, InfoVti}
 use Rattle.netlink_packet_route.specs.declared.levels.Level.TheVariants.{InfoVxlan, InfoXfrm}
-use Rattle.netlink_packet_route.specs.LevelLaws.{data-bridge, data-vlan, data-veth, data-vrf}
-use Rattle.netlink_packet_route.specs.LevelLaws.{data-tun, data-vxlan, data-bond, data-ip-vlan, data-ip-vtap, data-mac-vlan}
-use Rattle.netlink_packet_route.specs.LevelLaws.{data-mac-vtap, data-gre-tap, data-gre-tap6, data-ip-ip, data-ip6-tnl}
-use Rattle.netlink_packet_route.specs.LevelLaws.{data-sit-tun, data-gre-tun, data-gre-tun6, data-vti, data-vti6, data-xfrm}
-use Rattle.netlink_packet_route.specs.LevelLaws.{data-geneve, data-netkit}
+use Rattle.netlink_packet_route.specs.DriverLevelLaws.{data-bridge, data-vlan, data-veth, data-vrf}
+use Rattle.netlink_packet_route.specs.DriverLevelLaws.{data-tun, data-vxlan, data-bond, data-ip-vlan, data-ip-vtap, data-mac-vlan}
+use Rattle.netlink_packet_route.specs.DriverLevelLaws.{data-mac-vtap, data-gre-tap, data-gre-tap6, data-ip-ip, data-ip6-tnl}
+use Rattle.netlink_packet_route.specs.DriverLevelLaws.{data-sit-tun, data-gre-tun, data-gre-tun6, data-vti, data-vti6, data-xfrm}
+use Rattle.netlink_packet_route.specs.DriverLevelLaws.{data-geneve, data-netkit}
 use Rattle.npr_link_tunnels.specs.declared.form.InfoForm.TheVariants as Data
 use Rattle.netlink_packet_route.specs.Levels.{IsPlainInside}
 use Rattle.netlink_packet_route.proofs.inside.inside_data.Goals as goal

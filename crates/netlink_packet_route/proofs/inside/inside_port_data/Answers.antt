@@ -1,7 +1,7 @@
 use Rattle.std.proofs.Common.{sym, subst}
 use Rattle.npr_link.specs.declared.port_kind.InfoPortForm.{InfoPortForm}
 use Rattle.netlink_packet_route.specs.declared.levels.Level.TheVariants.{LinkInfo, InfoBridgePort, InfoBondPort, InfoVrf}
-use Rattle.netlink_packet_route.specs.LevelLaws.{port-bridge, port-bond, port-vrf}
+use Rattle.netlink_packet_route.specs.DriverLevelLaws.{port-bridge, port-bond, port-vrf}
 use Rattle.netlink_packet_route.specs.Levels.{IsPlainInside}
 use Rattle.netlink_packet_route.proofs.inside.inside_port_data.Goals as goal
 
