@@ -2,6 +2,7 @@
 #![tactic(auto)]
 
 mod inet6_devconf;
+mod inet6_devconf_later;
 mod inet6_icmp;
 mod inet6_stats;
 mod inet_devconf;
