@@ -4,6 +4,7 @@ pub mod Checking
 pub mod Joined
 pub mod Lists
 pub mod Looking
+pub mod Searching
 pub mod Names
 pub mod Messages
 pub mod WalkLaws

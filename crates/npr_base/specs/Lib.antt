@@ -8,6 +8,8 @@ pub mod ValuesLaws
 pub mod Walk
 pub mod Family
 pub mod Lists
+pub mod FirstTold
+pub mod FirstToldLaws
 pub mod FitLaws
 pub mod Found
 pub mod FrontLaws
@@ -23,6 +25,7 @@ pub mod Name
 pub mod NameLaws
 pub mod Table
 pub mod TableLaws
+pub mod Unless
 pub mod ListCodec
 pub mod LayoutLaws
 pub mod CodecLaws
@@ -56,6 +59,10 @@ pub mod V6List
 pub mod V6ListLaws
 pub mod Text
 pub mod FieldEquality
+pub mod Firsts
+pub mod LeftOut
+pub mod ByNumber
+pub mod Beside
 pub mod EnumTable
 pub mod EnumTableLaws
 pub mod EnumTableValues

@@ -1,12 +1,9 @@
 -- What `==` answers of attributes and messages of links: whether they mean the same.
-use Rattle.std.specs.Prelude.{ℕ, Bool, true, List, [], ◌∷◌, ◌&&◌, ◌==◌, map, length, nat_eq, if◌then◌else◌}
-use Rattle.std.specs.Bool.{Decides, beq}
-use Rattle.std.specs.Cmp.{booleans_Decides, signed_Decides, unsigned_Decides}
-use Rattle.std.specs.Cmp.Lexicographic.{pointwise}
+use Rattle.std.specs.Prelude.{ℕ, true, List, [], ◌∷◌, ◌&&◌, ◌==◌, drop, map, length, if◌then◌else◌}
+use Rattle.std.specs.Bool.{Decides}
+use Rattle.std.specs.Cmp.{signed_Decides, unsigned_Decides}
 use Rattle.std.specs.Str.{bytes_eq}
 use Rattle.std.specs.String.{string_bytes}
-use Rattle.std.specs.declared.alloc.Global.{Global}
-use Rattle.std.specs.declared.vec.Vec.{Vec}
 use Rattle.std.proofs.Common.{◌≡◌, ◌+◌, refl, ap, inl, inr}
 use Rattle.npr_base.specs.Equality.{IsEqualityOf}
 use Rattle.npr_base.specs.EnumTable.{◌also◌}
@@ -17,8 +14,6 @@ use Rattle.npr_base.specs.IpLaws.{ipv6_equality}
 use Rattle.npr_base.specs.MeaningLaws.{enum_meaning, one_meaning, items_equality, items_meaning, text_equality}
 use Rattle.npr_base.specs.StructLaws.{◌beside◌, and_decides, decides_as}
 use Rattle.npr_base.specs.Tables.{table_decides}
-use Rattle.npr_base.specs.EnumTable.{meaning_in}
-use Rattle.npr_base.specs.ViewEquality.{bytes_equality, item_equality, same_item}
 use Rattle.npr_link.specs.AfSpecInet as OfAfSpecInet
 use Rattle.npr_link.specs.contracts.af_spec_inet.AfSpecInetPartialEq.TheImpl as InetEq
 use Rattle.npr_link.specs.AfSpecInet6 as OfAfSpecInet6
@@ -81,11 +76,14 @@ use Rattle.npr_link.specs.InfoData as D
 use Rattle.npr_link.specs.PortData as Q
 use Rattle.npr_link.specs.Peer.{peer_of, peers}
 use Rattle.npr_link.specs.Governing.{none_governs}
-use Rattle.npr_link.specs.AfSpecs.{as_list, unspec, unknown}
-use Rattle.npr_link.specs.SharedRow.{first_of, shared_decides}
+use Rattle.npr_link.specs.AfSpecs.{as_list, unspec, bridge, unknown}
+use Rattle.npr_link.specs.ProtoInfos as OfProto
+use Rattle.npr_base.specs.EnumTableLaws.{choices-decide}
+use Rattle.npr_base.specs.Firsts.{head_of, first-decides}
+use Rattle.npr_link_bridge.specs.AfSpecBridge as OfAfSpecBridge
 use Rattle.npr_link.proofs.ValueEquality.{address_mode_equality, attachment_equality, cache_info_equality, extent_mask_equality, inet6_flags_equality}
 use Rattle.npr_link.proofs.ValueEquality.{link_event_equality, link_mode_equality, map_equality, state_equality, vlan_flags_equality, header_equality}
-use Rattle.npr_link_bridge.specs.EqualityLaws.{vlan_protocol_equality, bridge_equality, bridge_port_equality}
+use Rattle.npr_link_bridge.specs.EqualityLaws.{vlan_protocol_equality, bridge_equality, bridge_port_equality, af_spec_bridge_equality}
 use Rattle.npr_link_numbers.specs.declared.inet_devconf.InetDevConf.{InetDevConf}
 use Rattle.npr_link_numbers.specs.contracts.inet_devconf.InetDevConfPartialEq.TheImpl as InetDevConfEq
 use Rattle.npr_link_numbers.specs.declared.inet6_devconf.Inet6DevConf.{Inet6DevConf}
@@ -311,16 +309,53 @@ info_equality =
 
 -- ---- attributes of a message
 
--- what the first variant means, no other does
-first_apart : (v : Values (first_of attribute_enum.parts)) (c : Choice OfAttribute.later)
-    → (OfAttribute.table as_list).first v ≡ meaning_in OfAttribute.later (OfAttribute.rows as_list).0 c → ⊥
-first_apart v (inl w) e = absurd cc
-first_apart v (inr c) e = absurd cc
+-- what each of the first five variants means, no later one does
+inet6_apart : (x : Values (head_of attribute_enum.parts)) (c : Choice (drop 1 attribute_enum.parts))
+    → OfAttribute.meaning_of (inl x) ≡ OfAttribute.meaning_of (inr c) → ⊥
+inet6_apart x (inl y) e = absurd cc
+inet6_apart x (inr (inl y)) e = absurd cc
+inet6_apart x (inr (inr (inl y))) e = absurd cc
+inet6_apart x (inr (inr (inr (inl y)))) e = absurd cc
+inet6_apart x (inr (inr (inr (inr c)))) e = absurd cc
+
+port_apart : (x : Values (head_of (drop 1 attribute_enum.parts))) (c : Choice (drop 2 attribute_enum.parts))
+    → OfAttribute.meaning_of (inr (inl x)) ≡ OfAttribute.meaning_of (inr (inr c)) → ⊥
+port_apart x (inl y) e = absurd cc
+port_apart x (inr (inl y)) e = absurd cc
+port_apart x (inr (inr (inl y))) e = absurd cc
+port_apart x (inr (inr (inr c))) e = absurd cc
+
+whole_apart : (x : Values (head_of (drop 2 attribute_enum.parts))) (c : Choice (drop 3 attribute_enum.parts))
+    → OfAttribute.meaning_of (inr (inr (inl x))) ≡ OfAttribute.meaning_of (inr (inr (inr c))) → ⊥
+whole_apart x (inl y) e = absurd cc
+whole_apart x (inr (inl y)) e = absurd cc
+whole_apart x (inr (inr c)) e = absurd cc
+
+unspec_apart : (x : Values (head_of (drop 3 attribute_enum.parts))) (c : Choice (drop 4 attribute_enum.parts))
+    → OfAttribute.meaning_of (inr (inr (inr (inl x)))) ≡ OfAttribute.meaning_of (inr (inr (inr (inr c)))) → ⊥
+unspec_apart x (inl y) e = absurd cc
+unspec_apart x (inr (inl y)) e = absurd cc
+unspec_apart x (inr (inr c)) e = absurd cc
+
+bridge_apart : (x : Values (head_of (drop 4 attribute_enum.parts))) (c : Choice OfAttribute.later)
+    → OfAttribute.meaning_of (inr (inr (inr (inr (inl x))))) ≡ OfAttribute.meaning_of (inr (inr (inr (inr (inr c))))) → ⊥
+bridge_apart x (inl y) e = absurd cc
+bridge_apart x (inr c) e = absurd cc
 
 pub attribute_equality : IsEqualityOf OfAttribute.meaning AttributeEq.ghosts.eq
-attribute_equality =
-    shared_decides (OfAttribute.table as_list) _
-    (λ x y. decides_as (λ e. ap (λ (xs : List OfAfSpec.family.Meaning). inl (unspec xs)) e) (λ e. cc) (list af_spec_equality x y))
+attribute_equality a b =
+    first-decides (head_of attribute_enum.parts) (drop 1 attribute_enum.parts) OfAttribute.meaning_of _
+    (λ x y. decides_as (λ e. ap (λ (xs : List OfAfSpecInet6.family.Meaning). inl (OfProto.inet6 xs)) e) (λ e. cc) (list inet6_equality x y))
+    (first-decides (head_of (drop 1 attribute_enum.parts)) (drop 2 attribute_enum.parts) (λ c. OfAttribute.meaning_of (inr c)) _
+    (λ x y. decides_as (λ e. ap (λ (xs : List OfBridgePort.family.Meaning). inl (OfProto.bridge xs)) e) (λ e. cc) (list bridge_port_equality x y))
+    (first-decides (head_of (drop 2 attribute_enum.parts)) (drop 3 attribute_enum.parts) (λ c. OfAttribute.meaning_of (inr (inr c))) _
+    (λ x y. decides_as (λ e. ap (λ (z : Item). inl (OfProto.unknown z)) e) (λ e. cc) (kept x y))
+    (first-decides (head_of (drop 3 attribute_enum.parts)) (drop 4 attribute_enum.parts) (λ c. OfAttribute.meaning_of (inr (inr (inr c)))) _
+    (λ x y. decides_as (λ e. ap (λ (xs : List OfAfSpec.family.Meaning). inr (inl (unspec xs))) e) (λ e. cc) (list af_spec_equality x y))
+    (first-decides (head_of (drop 4 attribute_enum.parts)) OfAttribute.later (λ c. OfAttribute.meaning_of (inr (inr (inr (inr c))))) _
+    (λ x y. decides_as (λ e. ap (λ (xs : List OfAfSpecBridge.family.Meaning). inr (inl (bridge xs))) e) (λ e. cc) (list af_spec_bridge_equality x y))
+    (λ c d. decides_as (λ e. ap (λ (m : OfAttribute.Rest). inr m) e) (λ e. cc)
+    (choices-decide OfAttribute.later (OfAttribute.rows as_list).0 _
     ((λ x y. decides_as (λ e. ap unknown e) (λ e. cc) (bytes x y)) also list info_equality also bytes also bytes also one text_equality also
     number also number also one text_equality also one stats_equality also number also number also one map_equality also
     one state_equality also one link_mode_equality also number also one text_equality also number also one stats64_equality also
@@ -329,5 +364,5 @@ attribute_equality =
     one link_event_equality also one signed_Decides also one signed_Decides also number also number also one signed_Decides also
     number also number also list prop_equality also one text_equality also bytes also list reason_equality also
     one text_equality also one text_equality also number also number also number also number also number also number also
-    number also truth also number also number also kept also tt)
-    first_apart
+    number also truth also number also number also kept also tt) c d))
+    bridge_apart) unspec_apart) whole_apart) port_apart) inet6_apart (attribute_enum.as_values a) (attribute_enum.as_values b)

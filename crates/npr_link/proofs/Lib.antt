@@ -1,5 +1,6 @@
 mod Absent
 mod EqualityLaws
+mod HeaderFamilies
 mod InfoSearch
 mod Names
 mod OkAs

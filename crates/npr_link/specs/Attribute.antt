@@ -1,18 +1,24 @@
 -- The attributes of a link message (linux/if_link.h, IFLA_*), by their table under the header's family.
 use Rattle.npr_base.specs.declared.refusal.AttrFamily.TheVariants.{Link as AtAttribute}
-use Rattle.std.specs.Prelude.{List, drop, map}
-use Rattle.std.proofs.Common.{◌≡◌, inl, inr}
+use Rattle.std.specs.Prelude.{◌≡◌, ℕ, ◌==◌, ◌⊎◌, true, false, List, drop, map, if◌then◌else◌}
+use Rattle.std.proofs.Common.{inl, inr, ap, ◌∙◌}
+use Rattle.npr_base.specs.Beside.{beside, has, numbers-in, Sides, side_writing}
 use Rattle.npr_base.specs.declared.address_family.AddressFamily.{AddressFamily}
 use Rattle.npr_base.specs.Counts.{Counts}
 use Rattle.npr_base.specs.declared.refusal.DecodeError.{DecodeError}
-use Rattle.npr_base.specs.EnumTable.{VariantRows, Names, MeaningIn, ReadsIn, WrongIn, looks_in}
-use Rattle.npr_base.specs.EnumTableLaws.{writing_in, attributes_in, rewritten}
-use Rattle.npr_base.specs.Family.{Writing, family_of}
+use Rattle.npr_base.specs.EnumTable.{VariantRows, Names, IsNamed, MeaningIn, meaning_in, shape_in, numbered, ReadsIn, WrongIn, looks_in}
+use Rattle.npr_base.specs.EnumTableLaws.{writing_in, attributes_in, rewritten, shape-in}
+use Rattle.npr_base.specs.Family.{Writing, Shape, family_of, written_as, written_by}
 use Rattle.npr_base.specs.Framing.{Item, number_of}
+use Rattle.npr_base.specs.LeftOut.{retold}
+use Rattle.npr_base.specs.Refusal.{at_number}
 use Rattle.npr_base.specs.Tables.{marked_row, row, others, ◌or◌, boolean, byte, exactly, items, le16, le32, leading, list_of, listed, name, raw, seen}
 use Rattle.npr_base.specs.Tables.{signed32, text, uint, value, refl, Reading, Family}
+use Rattle.npr_base.specs.declared.refusal.At.{At}
+use Rattle.npr_base.specs.declared.value.Form.{Form as ValueForm}
 use Rattle.npr_link.specs.AfSpec as OfAfSpec
-use Rattle.npr_link.specs.AfSpecs.{AfSpecs, Form, as_list, form_of, unspec, unknown, af_specs}
+use Rattle.npr_link.specs.AfSpecInet6 as OfAfSpecInet6
+use Rattle.npr_link.specs.AfSpecs.{AfSpecs, Form, as_list, form_of, unspec, bridge, unknown, af_specs}
 use Rattle.npr_link.specs.ExtentMask.{extent_mask}
 use Rattle.npr_link.specs.Info as OfInfo
 use Rattle.npr_link.specs.InfoList.{info_list}
@@ -21,21 +27,26 @@ use Rattle.npr_link.specs.LinkMode.{link_mode}
 use Rattle.npr_link.specs.Map.{device_map}
 use Rattle.npr_link_numbers.specs.Numbers.{words32, words64}
 use Rattle.npr_link.specs.Prop as OfProp
+use Rattle.npr_link.specs.ProtoInfos.{ProtoInfos, inet6 as proto_inet6, bridge as proto_bridge, unknown as proto_unknown}
+use Rattle.npr_link.specs.ProtoInfos.{Form as ProtoForm, as_inet6, as_bridge as as_bridge_port, as_whole, form_of as proto_form_of}
+use Rattle.npr_link.specs.ProtoInfos.{proto_infos, shown_as, kept-number, writing as proto_writing}
 use Rattle.npr_link.specs.ProtocolDown as OfReason
-use Rattle.npr_link.specs.SharedRow.{SharedTable, first_of, shared_meaning}
 use Rattle.npr_link.specs.State.{state}
 use Rattle.npr_link.specs.Xdp as OfXdp
+use Rattle.npr_link_bridge.specs.AfSpecBridge as OfAfSpecBridge
+use Rattle.npr_link_bridge.specs.BridgePort as OfBridgePort
 use Rattle.npr_link.specs.contracts.attribute.LinkAttribute.{enum}
 use Rattle.npr_link.specs.declared.attribute.LinkAttribute.{LinkAttribute}
+use denote.Enum.Declared.{Choice}
 use denote.Struct.Field.{Field}
 
--- the variants but the first
+-- the variants but the first five: what the protocol says, which has a number of its own, and two that share the row of the sixth
 abbrev pub later : List (List Field)
-later = drop 1 enum.parts
+later = drop 5 enum.parts
 
 -- those that stand for themselves
 abbrev pub flat : List (List Field)
-flat = drop 3 enum.parts
+flat = drop 7 enum.parts
 
 -- their rows, in the order of the variants
 abbrev pub flat_rows : VariantRows flat × Names LinkAttribute flat
@@ -98,47 +109,115 @@ flat_rows =
     or row AtAttribute 69 (exactly le16) (value LinkAttribute.Tailroom)  -- IFLA_TAILROOM
     or others (value LinkAttribute.Other)
 
--- all rows; the first variant, a list of what address families say, has the number of the second
+-- all rows but that of what the protocol says; two more variants share the first of them
 abbrev pub rows : Form → VariantRows later × Names LinkAttribute later
 rows form =
     row AtAttribute 26 (af_specs form) (λ f. unknown f.0.items, λ f. LinkAttribute.AfSpecUnknown f.0)  -- IFLA_AF_SPEC
     or row AtAttribute 18 info_list (listed OfInfo.family.meaning LinkAttribute.LinkInfo)  -- IFLA_LINKINFO
     or flat_rows
 
-abbrev pub table : Form → SharedTable (first_of enum.parts) later enum.as_values
-table form = record {
-  rows = (rows form).0;
-  first = λ f. inl (unspec (map OfAfSpec.family.meaning f.0.items));
-  names = (λ f. LinkAttribute.AfSpecUnspec f.0, (rows form).1);
-  apart = refl;
-  named = refl;
-}
+-- the numbers are apart, and the names at their places
+pub apart : (form : Form) → numbered later (rows form).0 ≡ true
+apart form = refl
+
+pub named : IsNamed enum (
+  λ f. LinkAttribute.ProtoInfoInet6 f.0,
+  (
+    λ f. LinkAttribute.ProtoInfoBridge f.0,
+    (
+      λ f. LinkAttribute.ProtoInfoUnknown f.0,
+      (λ f. LinkAttribute.AfSpecUnspec f.0, (λ f. LinkAttribute.AfSpecBridge f.0, (rows as_list).1)),
+    ),
+  ),
+)
+named = refl
 
 -- what an attribute is, without where it lies in memory
+abbrev pub Rest : Type 0
+Rest = MeaningIn later (rows as_list).0
+
 abbrev pub Meaning : Type 0
-Meaning = MeaningIn later (rows as_list).0
+Meaning = ProtoInfos ⊎ Rest
+
+abbrev pub meaning_of : Choice enum.parts → Meaning
+meaning_of (inl f) = inl (proto_inet6 (map OfAfSpecInet6.family.meaning f.0.items))
+meaning_of (inr (inl f)) = inl (proto_bridge (map OfBridgePort.family.meaning f.0.items))
+meaning_of (inr (inr (inl f))) = inl (proto_unknown f.0)
+meaning_of (inr (inr (inr (inl f)))) = inr (inl (unspec (map OfAfSpec.family.meaning f.0.items)))
+meaning_of (inr (inr (inr (inr (inl f))))) = inr (inl (bridge (map OfAfSpecBridge.family.meaning f.0.items)))
+meaning_of (inr (inr (inr (inr (inr c))))) = inr (meaning_in later (rows as_list).0 c)
+
+abbrev pub meaning : LinkAttribute → Meaning
+meaning a = meaning_of (enum.as_values a)
 
 -- how each is written, whatever the family of the header
-abbrev pub writing : Writing Meaning
-writing = writing_in later (rows as_list).0
+abbrev pub rest_writing : Writing Rest
+rest_writing = writing_in later (rows as_list).0
 
-pub shapes : (form : Form) (m : Meaning) → writing.shape m ≡ (writing_in later (rows form).0).shape m
+abbrev pub writing : Writing Meaning
+writing = side_writing proto_writing rest_writing
+
+pub shapes : (form : Form) (m : Rest) → rest_writing.shape m ≡ (writing_in later (rows form).0).shape m
 shapes form (inl x) = refl
 shapes form (inr m) = refl
 
-pub members : (form : Form) (m : Meaning) → writing.members m ≡ (writing_in later (rows form).0).members m
+pub members : (form : Form) (m : Rest) → rest_writing.members m ≡ (writing_in later (rows form).0).members m
 members form (inl x) = refl
 members form (inr m) = refl
+
+-- by the variant
+abbrev pub shape_of : Choice enum.parts → Shape
+shape_of (inl f) = writing.shape (meaning_of (inl f))
+shape_of (inr (inl f)) = writing.shape (meaning_of (inr (inl f)))
+shape_of (inr (inr (inl f))) = writing.shape (meaning_of (inr (inr (inl f))))
+shape_of (inr (inr (inr (inl f)))) = writing.shape (meaning_of (inr (inr (inr (inl f)))))
+shape_of (inr (inr (inr (inr (inl f))))) = writing.shape (meaning_of (inr (inr (inr (inr (inl f))))))
+shape_of (inr (inr (inr (inr (inr c))))) = shape_in later (rows as_list).0 c
+
+written-of : (c : Choice enum.parts) → shape_of c ≡ writing.shape (meaning_of c)
+written-of (inl f) = refl
+written-of (inr (inl f)) = refl
+written-of (inr (inr (inl f))) = refl
+written-of (inr (inr (inr (inl f)))) = refl
+written-of (inr (inr (inr (inr (inl f))))) = refl
+written-of (inr (inr (inr (inr (inr c))))) = shape-in later (rows as_list).0 c
+
+abbrev pub shape : LinkAttribute → Shape
+shape a = shape_of (enum.as_values a)
+
+pub shape-by : (a : LinkAttribute) → shape a ≡ writing.shape (meaning a)
+shape-by a = written-of (enum.as_values a)
+
+-- what attributes of all other numbers mean
+abbrev pub rest : Form → Reading rest_writing
+rest form = rewritten (attributes_in later (rows form).0 (apart form)) rest_writing (shapes form) (members form)
+
+pub other-numbers : (form : Form) (x : Item) (m : Rest) → has 12 x ≡ false → (rest form).Reads x m → has 12 (written_by rest_writing m) ≡ false
+other-numbers form x m other reads =
+    ap (λ (n : ℕ). n == 12)
+    (ap (λ (s : Shape). number_of (written_as s).kind) (shapes form m) ∙ numbers-in later (rows form).0 (apart form) x m reads) ∙ other
+
+pub sides : (proto : ProtoForm) (form : Form) → Sides 12 (proto_infos proto) (rest form)
+sides proto form = record { own = kept-number proto; others = other-numbers form }
+
+abbrev pub reading : ProtoForm → Form → Reading writing
+reading proto form = beside 12 (proto_infos proto) (rest form) (sides proto form)
+
+-- how a value is read without memory, by its number
+abbrev pub told : ProtoForm → Form → ℕ → At × ValueForm
+told proto form number = if number == 12 then (at_number AtAttribute 12, shown_as proto) else (rest form).seeing.form_at number
+
+pub told-same : (proto : ProtoForm) (form : Form) (number : ℕ) → told proto form number ≡ (reading proto form).seeing.form_at number
+told-same as_inet6 form number = refl
+told-same as_bridge_port form number = refl
+told-same as_whole form number = refl
 
 -- the family, under an address family
 abbrev pub attributes : AddressFamily → Reading writing
 attributes family =
+    let proto = proto_form_of family in
     let form = form_of family in
-    rewritten (attributes_in later (rows form).0 (table form).apart) writing (shapes form) (members form)
-
--- what a value means
-abbrev pub meaning : LinkAttribute → Meaning
-meaning = shared_meaning (table as_list)
+    retold (reading proto form) (told proto form) (told-same proto form)
 
 abbrev pub family : Family LinkAttribute AddressFamily
 family = family_of meaning attributes
@@ -146,7 +225,7 @@ family = family_of meaning attributes
 -- ---- of the rows that stand for themselves: what an attribute means by them, why it means nothing, and the looks that it takes
 
 abbrev pub FlatReads : Item → Meaning → Type 0
-FlatReads x (inr (inr m)) = ReadsIn flat flat_rows.0 (number_of x.kind) x m
+FlatReads x (inr (inr (inr m))) = ReadsIn flat flat_rows.0 (number_of x.kind) x m
 FlatReads x m = ⊥
 
 unfoldable pub IsFlat : Item → LinkAttribute → Type 0
@@ -158,11 +237,14 @@ FlatFault x e = WrongIn flat flat_rows.0 (number_of x.kind) x e
 unfoldable pub FlatLooks : Item → Counts → Counts → Type 0
 FlatLooks x old new = (looks_in flat flat_rows.0).Takes x old new
 
--- ---- and of the first: what address families say is meant
+-- ---- and of the others: what the protocol and address families say is meant
+
+unfoldable pub MeansProtoInfos : LinkAttribute → ProtoInfos → Type 0
+MeansProtoInfos a x = meaning a ≡ inl x
 
 unfoldable pub MeansAfSpecs : LinkAttribute → AfSpecs → Type 0
-MeansAfSpecs a x = meaning a ≡ inl x
+MeansAfSpecs a x = meaning a ≡ inr (inl x)
 
 -- and what a driver says
 unfoldable pub MeansInfo : LinkAttribute → List OfInfo.Meaning → Type 0
-MeansInfo a x = meaning a ≡ inr (inl x)
+MeansInfo a x = meaning a ≡ inr (inr (inl x))

@@ -4,13 +4,13 @@
 --     Governs              what governs bytes
 --     State, noted         what a search found so far, and with one attribute more
 --     Searches             a search through bytes: what it finds, and the looks that it takes
-use Rattle.std.specs.Prelude.{◌≡◌, ℕ, ◌<◌, ◌==◌, ◌⊎◌, Bool, true, false, List, [], length, Option, Some, None, nat_lt, if◌then◌else◌}
+use Rattle.std.specs.Prelude.{◌≡◌, ℕ, ◌<◌, ◌==◌, Bool, true, false, List, [], length, Option, Some, None, nat_lt, if◌then◌else◌}
 use Rattle.std.specs.Bool.{MatchBool}
 use Rattle.std.specs.Option.{option_or}
 use Rattle.npr_base.specs.Counts.{Counts, hit, miss}
 use Rattle.npr_base.specs.declared.refusal.DecodeError.{DecodeError}
-use Rattle.npr_base.specs.Framing.{Item, number_of, Front, Passes, Fault}
-use Rattle.npr_base.specs.Lists.{AllOf}
+use Rattle.npr_base.specs.FirstTold as Told
+use Rattle.npr_base.specs.Framing.{Item, number_of, Front, Fault}
 use Rattle.npr_link.specs.InfoKind as OfKind
 use Rattle.npr_link.specs.Kinds.{unterminated}
 use Rattle.npr_link.specs.PortKind as OfPortKind
@@ -38,21 +38,8 @@ told x = told_by 1 OfKind.form_named x
 abbrev pub port_told : Item → Option InfoPortForm
 port_told x = told_by 4 OfPortKind.form_named x
 
--- no attribute stands in front: no bytes are left, or what is left is faulty
-abbrev pub NoneInFront : List ℕ → Type 0
-NoneInFront rest = (rest ≡ []) ⊎ ((e : DecodeError) × (0 < length rest) × Fault rest e)
-
-module _ {F : Type 0} (tells : Item → Option F) (kept : F) where
-  -- what comes next tells the form; where nothing comes, data are kept
-  abbrev pub Tells : List ℕ → F → Type 0
-  Tells rest form = ((x : Item) × (more : List ℕ) × Front rest x more × (tells x ≡ Some form)) ⊎ (NoneInFront rest × (form ≡ kept))
-
-  -- attributes that tell none, and then one that does, or the end
-  abbrev pub FirstTells : List ℕ → F → Type 0
-  FirstTells bytes form = (before : List Item) × (rest : List ℕ) × Passes bytes before rest × AllOf (λ x. tells x ≡ None) before × Tells rest form
-
 abbrev pub Governs : List ℕ → Forms → Type 0
-Governs bytes forms = FirstTells told Kept bytes forms.0 × FirstTells port_told PortKept bytes forms.1
+Governs bytes forms = Told.Governs told Kept bytes forms.0 × Told.Governs port_told PortKept bytes forms.1
 
 -- ---- the search
 
@@ -71,12 +58,8 @@ is_complete (Some form, Some port) = true
 is_complete (Some form, None) = false
 is_complete (None, port) = false
 
-abbrev pub or_else : {A : Type 0} → A → Option A → A
-or_else default (Some found) = found
-or_else default None = default
-
 abbrev pub forms_of : State → Forms
-forms_of s = (or_else Kept s.0, or_else PortKept s.1)
+forms_of s = (Told.or_else s.0 Kept, Told.or_else s.1 PortKept)
 
 -- it ends where both are found, at the end, or at a fault, which is refused when the list is read; each attribute that is looked at
 -- takes a look, and the fault one that fails

@@ -7,29 +7,19 @@ use Rattle.std.proofs.lemmas.Bool.{eqb-true}
 use Rattle.std.proofs.lemmas.Bool.Decides.{nat_tests}
 use Rattle.npr_base.specs.Counts.{Counts, hit}
 use Rattle.npr_base.specs.declared.refusal.DecodeError.TheVariants.{AttributeTooShort}
-use Rattle.npr_base.specs.Framing.{Item, number_of, Front, Passes}
-use Rattle.npr_base.specs.FrontLaws.{Front-same, Front-shrinks, Front-sound}
-use Rattle.npr_base.specs.Lists.{AllOf}
+use Rattle.npr_base.specs.FirstTold as Told
+use Rattle.npr_base.specs.FirstToldLaws.{governs-one as told-one, first-step}
+use Rattle.npr_base.specs.Framing.{Item, number_of, Front}
 use Rattle.npr_base.specs.TableLaws.{one_of}
-use Rattle.npr_link.specs.Governing.{Forms, told_by, told, port_told, NoneInFront, Tells, FirstTells, Governs, none_governs, or_else}
+use Rattle.npr_link.specs.Governing.{Forms, told_by, told, port_told, Governs}
 use Rattle.npr_link.specs.Governing.{State, start, noted, is_complete, forms_of, Searching, search_ends, search_stops, both_found, searched_past, Searches}
 use Rattle.npr_link_tunnels.specs.declared.form.InfoForm.TheVariants.{Kept}
 use Rattle.npr_link.specs.declared.port_kind.InfoPortForm.TheVariants.{Kept as PortKept}
 
-none_begins : {B : Type 0} (rest more : List ℕ) (x : Item) → NoneInFront rest → Front rest x more → B
-none_begins rest more x (inl is) f = absurd (omega (arith, ap length is, Front-shrinks rest x more f))
-none_begins rest more x (inr (e, left, bad)) f = absurd (Front-sound rest x more e f bad)
-
 -- fewer bytes than a header
-pub short_ends : (rest : List ℕ) → length rest < 4 → NoneInFront rest
+pub short_ends : (rest : List ℕ) → length rest < 4 → Told.NoneInFront rest
 short_ends [] short = inl refl
 short_ends (b ∷ rest) short = inr (AttributeTooShort (length (b ∷ rest)), omega arith, (refl, short))
-
-the_same : {A : Type 0} (o : Option A) (x y : A) → o ≡ Some x → o ≡ Some y → x ≡ y
-the_same o x y p q = cc
-
-none_told : {A B : Type 0} (o : Option A) (x : A) → o ≡ None → o ≡ Some x → B
-none_told o x p q = absurd cc
 
 -- an attribute of another number tells none
 pub other_tells : {F : Type 0} (number k : ℕ) (form_named : List ℕ → F) (x : Item) → (number_of x.kind == k) ≡ true → (k == number) ≡ false
@@ -37,56 +27,23 @@ pub other_tells : {F : Type 0} (number k : ℕ) (form_named : List ℕ → F) (x
 other_tells number k form_named x e other = rw (ap (λ (n : ℕ). n == number) (eqb-true (number_of x.kind) k e) ∙ other) refl
 
 module _ {F : Type 0} (tells : Item → Option F) (kept : F) where
-  -- ---- one form
-
-  tells-one : (rest : List ℕ) (a b : F) → Tells tells kept rest a → Tells tells kept rest b → a ≡ b
-  tells-one rest a b (inl (x, r, f, p)) (inl (y, s, g, q)) = the_same (tells x) a b p (ap tells (Front-same rest x y r s f g).0 ∙ q)
-  tells-one rest a b (inl (x, r, f, p)) (inr (ends, q)) = none_begins rest r x ends f
-  tells-one rest a b (inr (ends, p)) (inl (y, s, g, q)) = none_begins rest s y ends g
-  tells-one rest a b (inr (ends, p)) (inr (also_ends, q)) = p ∙ sym q
-
-  -- an attribute in front that tells none is not what tells
-  tells-front : (rest more : List ℕ) (x : Item) (a : F) → Tells tells kept rest a → Front rest x more → tells x ≡ None → ⊥
-  tells-front rest more x a (inl (y, s, g, q)) f none = none_told (tells y) a (ap tells (Front-same rest y x s more g f).0 ∙ none) q
-  tells-front rest more x a (inr (ends, p)) f none = none_begins rest more x ends f
-
-  first-step : (xs ys : List Item) (bytes r s : List ℕ) (a b : F) → Passes bytes xs r → AllOf (λ x. tells x ≡ None) xs → Tells tells kept r a
-      → Passes bytes ys s → AllOf (λ x. tells x ≡ None) ys → Tells tells kept s b → a ≡ b
-  first-step [] [] bytes r s a b p n t q m u = tells-one r a b t (subst (λ (w : List ℕ). Tells tells kept w b) (sym q ∙ p) u)
-  first-step [] (y ∷ ys) bytes r s a b p n t (w, g, q) m u =
-      absurd (tells-front bytes w y a (subst (λ (v : List ℕ). Tells tells kept v a) (sym p) t) g m.0)
-  first-step (x ∷ xs) [] bytes r s a b (v, f, p) n t q m u =
-      absurd (tells-front bytes v x b (subst (λ (w : List ℕ). Tells tells kept w b) (sym q) u) f n.0)
-  first-step (x ∷ xs) (y ∷ ys) bytes r s a b (v, f, p) n t (w, g, q) m u =
-      first-step xs ys v r s a b p n.1 t (subst (λ (z : List ℕ). Passes z ys s) (Front-same bytes y x w v g f).1 q) m.1 u
-
-  pub first-one : (bytes : List ℕ) (a b : F) → FirstTells tells kept bytes a → FirstTells tells kept bytes b → a ≡ b
-  first-one bytes a b (xs, r, p, n, t) (ys, s, q, m, u) = first-step xs ys bytes r s a b p n t q m u
-
-  -- ---- from one attribute to the next
-
-  pub none-first : (bytes : List ℕ) → NoneInFront bytes → FirstTells tells kept bytes kept
+  pub none-first : (bytes : List ℕ) → Told.NoneInFront bytes → Told.Governs tells kept bytes kept
   none-first bytes ends = ([], bytes, refl, tt, inr (ends, refl))
-
-  pub told-first : (o : Option F) (x : Item) (bytes rest : List ℕ) (next : F) → tells x ≡ o → Front bytes x rest → FirstTells tells kept rest next
-      → FirstTells tells kept bytes (or_else next o)
-  told-first (Some form) x bytes rest next is f g = ([], bytes, refl, tt, inl (x, rest, f, is))
-  told-first None x bytes rest next is f (before, r, p, silent, t) = (x ∷ before, r, (rest, f, p), (is, silent), t)
 
   -- ---- a search, from what was found so far
 
   abbrev pub FirstFrom : Option F → List ℕ → F → Type 0
   FirstFrom (Some found) bytes form = form ≡ found
-  FirstFrom None bytes form = FirstTells tells kept bytes form
+  FirstFrom None bytes form = Told.Governs tells kept bytes form
 
-  pub from-end : (o : Option F) (bytes : List ℕ) (form : F) → NoneInFront bytes → form ≡ or_else kept o → FirstFrom o bytes form
+  pub from-end : (o : Option F) (bytes : List ℕ) (form : F) → Told.NoneInFront bytes → form ≡ Told.or_else o kept → FirstFrom o bytes form
   from-end (Some found) bytes form ends is = is
-  from-end None bytes form ends is = subst (FirstTells tells kept bytes) (sym is) (none-first bytes ends)
+  from-end None bytes form ends is = subst (Told.Governs tells kept bytes) (sym is) (none-first bytes ends)
 
   past-told : (o : Option F) (x : Item) (bytes rest : List ℕ) (form : F) → tells x ≡ o → Front bytes x rest → FirstFrom o rest form
-      → FirstTells tells kept bytes form
+      → Told.Governs tells kept bytes form
   past-told (Some found) x bytes rest form is f same = ([], bytes, refl, tt, inl (x, rest, f, is ∙ ap Some (sym same)))
-  past-told None x bytes rest form is f g = told-first None x bytes rest form is f g
+  past-told None x bytes rest form is f g = first-step tells kept None x rest bytes form is f g
 
   pub from-past : (o : Option F) (x : Item) (bytes rest : List ℕ) (form : F) → Front bytes x rest → FirstFrom (option_or o (tells x)) rest form
       → FirstFrom o bytes form
@@ -95,8 +52,8 @@ module _ {F : Type 0} (tells : Item → Option F) (kept : F) where
 
 pub governs-one : (bytes : List ℕ) (c d : Forms) → Governs bytes c → Governs bytes d → c ≡ d
 governs-one bytes c d g h =
-    let form = first-one told Kept bytes c.0 d.0 g.0 h.0 in
-    let port = first-one port_told PortKept bytes c.1 d.1 g.1 h.1 in
+    let form = told-one told Kept bytes c.0 d.0 g.0 h.0 in
+    let port = told-one port_told PortKept bytes c.1 d.1 g.1 h.1 in
     λ i. (form i, port i)
 
 -- ---- a search finds what governs
@@ -104,7 +61,7 @@ governs-one bytes c d g h =
 abbrev GovernsFrom : State → List ℕ → Forms → Type 0
 GovernsFrom s bytes c = FirstFrom told Kept s.0 bytes c.0 × FirstFrom port_told PortKept s.1 bytes c.1
 
-ends_from : (s : State) (bytes : List ℕ) (c : Forms) → NoneInFront bytes → c ≡ forms_of s → GovernsFrom s bytes c
+ends_from : (s : State) (bytes : List ℕ) (c : Forms) → Told.NoneInFront bytes → c ≡ forms_of s → GovernsFrom s bytes c
 ends_from s bytes c ends is = (
   from-end told Kept s.0 bytes c.0 ends (ap (λ (d : Forms). d.0) is),
   from-end port_told PortKept s.1 bytes c.1 ends (ap (λ (d : Forms). d.1) is),

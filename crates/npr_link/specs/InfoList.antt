@@ -3,15 +3,17 @@
 --     info_list            how such a list is read and written
 use Rattle.std.specs.Bool.{MatchBool}
 use Rattle.std.specs.Prelude.{◌==◌, nat_lt}
-use Rattle.std.proofs.Common.{◌≡◌, ℕ, ◌+◌, ◌≤◌, ◌<◌, Bool, true, false, List, [], ◌∷◌, length, Option, Some, None, refl, sym, ap, subst, ◌∙◌, arith}
+use Rattle.std.proofs.Common.{◌≡◌, ℕ, ◌+◌, ◌≤◌, ◌<◌, Bool, true, false, List, length, Option, Some, None, refl, sym, ap, subst, ◌∙◌, arith}
 use Rattle.std.proofs.Common.{inl, inr}
 use Rattle.npr_base.specs.Codec.{Codec}
 use Rattle.npr_base.specs.Counts.{Counts, AddsAtMost, SawEach, raised, no_looks}
 use Rattle.npr_base.specs.declared.refusal.DecodeError.{DecodeError}
 use Rattle.npr_base.specs.Family.{fits-small, written_by, unfit_by}
+use Rattle.npr_base.specs.FirstTold.{first_told}
+use Rattle.npr_base.specs.FirstToldLaws.{first_governs}
 use Rattle.npr_base.specs.FitLaws.{none_both}
-use Rattle.npr_base.specs.Framing.{Item, IsBytes, Passes, number_of}
-use Rattle.npr_base.specs.Lists.{AllOf, Each, ReadsList, FirstFault, encodings, first_unfit, list_unfit, list_members, overlong}
+use Rattle.npr_base.specs.Framing.{Item, IsBytes, number_of}
+use Rattle.npr_base.specs.Lists.{AllOf, ReadsList, FirstFault, encodings, first_unfit, list_unfit, list_members, overlong}
 use Rattle.npr_base.specs.ListLaws.{ReadsList-one, FirstFault-excludes, ReadsList-known, encodings-read, list-grows}
 use Rattle.npr_base.specs.LookBounds.{list_looking, list-bounded, list-saw, list-walked, searched-read, searched-saw, Passes-length}
 use Rattle.npr_base.specs.Looks.{Looking, Adds, ListLooks, looked_through}
@@ -20,8 +22,8 @@ use Rattle.npr_base.specs.NameLaws.{IsUnterminated, name-one}
 use Rattle.npr_base.specs.Showing.{shows_inside}
 use Rattle.npr_base.specs.TableLaws.{both, one_of}
 use Rattle.npr_link.specs.Fails.{list-once}
-use Rattle.npr_link.specs.Governing.{Forms, told_by, told, port_told, FirstTells, Governs, none_governs, start, or_else, Searching, Searches}
-use Rattle.npr_link.specs.GoverningLaws.{governs-one, none-first, other_tells, told-first, search-governs, below, not_below}
+use Rattle.npr_link.specs.Governing.{Forms, told_by, told, port_told, Governs, none_governs, start, Searching, Searches}
+use Rattle.npr_link.specs.GoverningLaws.{governs-one, other_tells, search-governs, below, not_below}
 use Rattle.npr_link.specs.Info.{Meaning, writing, attributes}
 use Rattle.npr_link.specs.InfoKind as OfKind
 use Rattle.npr_link.specs.InfoLooks.{search-one, looks-one, search-adds, search-searched}
@@ -43,11 +45,6 @@ told_of m = None
 abbrev pub port_told_of : Meaning → Option InfoPortForm
 port_told_of (inr (inr (inr (inl k)))) = Some (OfPortKind.form_named (kind_name k))
 port_told_of m = None
-
--- the first that tells, and where none does that data are kept
-abbrev pub first_told : {F : Type 0} → (Meaning → Option F) → F → List Meaning → F
-first_told told_of kept [] = kept
-first_told told_of kept (m ∷ ms) = or_else (first_told told_of kept ms) (told_of m)
 
 abbrev pub governing : List Meaning → Forms
 governing ms = (first_told told_of Kept ms, first_told port_told_of PortKept ms)
@@ -84,21 +81,11 @@ port-told-read c x (inr (inr (inr (inr m)))) reads = one_of (number_of x.kind ==
     (λ f. one_of (number_of x.kind == 3) (λ g none. absurd none)
     (λ g. one_of (number_of x.kind == 4) (λ h none. absurd none) (λ h p. rw h refl)))) reads
 
-first-read : {F : Type 0} (tells : Item → Option F) (of : Meaning → Option F) (kept : F) (R : Item → Meaning → Type 0)
-    → ((x : Item) (m : Meaning) → R x m → tells x ≡ of m) → (items : List Item) (ms : List Meaning) (bytes : List ℕ) → Passes bytes items []
-    → Each R items ms → FirstTells tells kept bytes (first_told of kept ms)
-first-read tells of kept R alike [] [] bytes is each = none-first tells kept bytes (inl is)
-first-read tells of kept R alike [] (m ∷ ms) bytes is each = absurd each
-first-read tells of kept R alike (x ∷ items) [] bytes is each = absurd each
-first-read tells of kept R alike (x ∷ items) (m ∷ ms) bytes (rest, f, is) each =
-    told-first tells kept (of m) x bytes rest (first_told of kept ms) (alike x m each.0) f
-    (first-read tells of kept R alike items ms rest is each.1)
-
 -- a list that is read, under whatever, is governed by its kinds
 pub read-governed : (c : Forms) (bytes : List ℕ) (ms : List Meaning) → ReadsList (attributes c).Reads bytes ms → Governs bytes (governing ms)
-read-governed c bytes ms (items, p, each) = (
-  first-read told told_of Kept (attributes c).Reads (told-read c) items ms bytes p each,
-  first-read port_told port_told_of PortKept (attributes c).Reads (port-told-read c) items ms bytes p each,
+read-governed c bytes ms p = (
+  first_governs told Kept told_of (attributes c).Reads (told-read c) bytes ms p,
+  first_governs port_told PortKept port_told_of (attributes c).Reads (port-told-read c) bytes ms p,
 )
 
 -- ---- reading

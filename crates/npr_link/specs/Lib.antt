@@ -4,6 +4,7 @@ pub mod AfSpecInet
 pub mod AfSpecInet6
 pub mod AfSpecs
 pub mod Attribute
+pub mod AttributeOpens
 pub mod AttributeSteps
 pub mod Choices
 pub mod ExtentMask
@@ -12,6 +13,7 @@ pub mod Flags
 pub mod Governing
 pub mod GoverningLaws
 pub mod Header
+pub mod HeaderFamily
 pub mod Inet6CacheInfo
 pub mod Inet6Flags
 pub mod Info
@@ -36,8 +38,8 @@ pub mod PeerAttribute
 pub mod PortData
 pub mod PortKind
 pub mod Prop
+pub mod ProtoInfos
 pub mod ProtocolDown
-pub mod SharedRow
 pub mod ShortLists
 pub mod State
 pub mod Veth

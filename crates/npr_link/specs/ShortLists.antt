@@ -4,13 +4,15 @@ use Rattle.std.specs.Prelude.{◌==◌}
 use Rattle.std.proofs.Common.{◌≡◌, ℕ, ◌<◌, ◌+◌, ◌*◌, ◌⊎◌, true, false, List, [], ◌∷◌, length, Option, None, refl, sym, ap, subst, ◌∙◌, arith, inl, inr}
 use Rattle.std.proofs.lemmas.Bool.{cases_Bool}
 use Rattle.npr_base.specs.declared.refusal.DecodeError.{DecodeError}
+use Rattle.npr_base.specs.FirstTold as Told
+use Rattle.npr_base.specs.FirstToldLaws.{governs-one as told-one, first-step}
 use Rattle.npr_base.specs.Framing.{Item, number_of, Front, Passes}
 use Rattle.npr_base.specs.FrontLaws.{Front-shrinks}
 use Rattle.npr_base.specs.Lists.{Each, ReadsTo, ReadsList, IsWrong, FirstFault}
 use Rattle.npr_base.specs.LookBounds.{Passes-length}
 use Rattle.npr_base.specs.TableLaws.{one_of}
-use Rattle.npr_link.specs.Governing.{Forms, told, port_told, NoneInFront, FirstTells, Governs, none_governs, or_else}
-use Rattle.npr_link.specs.GoverningLaws.{short_ends, first-one, none-first, other_tells, told-first}
+use Rattle.npr_link.specs.Governing.{Forms, told, port_told, Governs, none_governs}
+use Rattle.npr_link.specs.GoverningLaws.{short_ends, none-first, other_tells}
 use Rattle.npr_link.specs.Info.{Meaning, attributes}
 use Rattle.npr_link.specs.InfoKind as OfKind
 use Rattle.npr_link.specs.PortKind as OfPortKind
@@ -92,10 +94,10 @@ module _ (c d : Forms) where
 -- ---- what governs such a list
 
 short_kept : {F : Type 0} (tells : Item → Option F) (kept : F) (bytes rest : List ℕ) (x : Item) (form : F) → length bytes < 8 → Front bytes x rest
-    → tells x ≡ None → FirstTells tells kept bytes form → form ≡ kept
+    → tells x ≡ None → Told.Governs tells kept bytes form → form ≡ kept
 short_kept tells kept bytes rest x form short f none g =
     let after : length rest < 4 = omega (arith, short, Front-shrinks bytes x rest f) in
-    first-one tells kept bytes form kept g (told-first tells kept None x bytes rest kept none f (none-first tells kept rest (short_ends rest after)))
+    told-one tells kept bytes form kept g (first-step tells kept None x rest bytes kept none f (none-first tells kept rest (short_ends rest after)))
 
 alike_none : (bytes rest : List ℕ) (x : Item) (c : Forms) → length bytes < 8 → Governs bytes c → Front bytes x rest → Alike c none_governs x
 alike_none bytes rest x c short g f = (
@@ -108,16 +110,16 @@ none_alike bytes rest x c short g f = let a = alike_none bytes rest x c short g 
 
 -- something does
 abbrev Begins : List ℕ → Type 0
-Begins bytes = NoneInFront bytes ⊎ ((x : Item) × (rest : List ℕ) × Front bytes x rest)
+Begins bytes = Told.NoneInFront bytes ⊎ ((x : Item) × (rest : List ℕ) × Front bytes x rest)
 
 short_governed : (bytes : List ℕ) → length bytes < 8 → Begins bytes → (c : Forms) × Governs bytes c
 short_governed bytes short (inl ends) = (none_governs, (none-first told Kept bytes ends, none-first port_told PortKept bytes ends))
 short_governed bytes short (inr (x, rest, f)) =
     let ends = short_ends rest (omega (arith, short, Front-shrinks bytes x rest f)) in (
-      (or_else Kept (told x), or_else PortKept (port_told x)),
+      (Told.or_else (told x) Kept, Told.or_else (port_told x) PortKept),
       (
-        told-first told Kept (told x) x bytes rest Kept refl f (none-first told Kept rest ends),
-        told-first port_told PortKept (port_told x) x bytes rest PortKept refl f (none-first port_told PortKept rest ends),
+        first-step told Kept (told x) x rest bytes Kept refl f (none-first told Kept rest ends),
+        first-step port_told PortKept (port_told x) x rest bytes PortKept refl f (none-first port_told PortKept rest ends),
       ),
     )
 

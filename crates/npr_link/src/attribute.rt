@@ -9,15 +9,16 @@ ghost use Rattle.{
     Refusal.{no_place},
   },
   npr_link.specs.{
-    AfSpecs.{AfSpecs, af_specs, form_of, as_list},
-    Attribute.{table, family, IsFlat, FlatFault, FlatLooks, MeansAfSpecs, MeansInfo},
+    AfSpecs.{AfSpecs, af_specs, form_of},
+    Attribute.{family, shape, shape-by, IsFlat, FlatFault, FlatLooks, MeansProtoInfos, MeansAfSpecs, MeansInfo},
     Info.{Meaning as InfoMeaning},
     InfoList.{info_list, InfoLooks},
-    SharedRow.{shared_shape, shared-shape},
+    ProtoInfos.{ProtoInfos, proto_infos, shown_as, form_of as proto_form_of},
   },
 };
 
 use crate::af_spec::AfSpecUnspec;
+use crate::af_spec_inet6::AfSpecInet6;
 use crate::extent_mask::LinkExtentMask;
 use crate::info::LinkInfo;
 use crate::info_list::read_info;
@@ -34,15 +35,24 @@ use npr_base::{
     Nla, NlaBuffer, Place, check_list, clone_list, parse_list, put_read, read_bytes, write_bytes,
     write_list,
 };
+use npr_link_bridge::{AfSpecBridge, InfoBridgePort};
 use npr_link_numbers::{Stats, Stats64};
 use std::alloc::{AllocError, Global};
 
-/// An attribute of a link message. What address families say of it is a list or bytes as they stand, by
-/// the family of the message's header.
+/// An attribute of a link message. What its protocol and address families say of it is a list, or stands
+/// as it is, by the family of the message's header.
 #[derive(Debug, Drop, PartialEq, Eq)]
 pub enum LinkAttribute {
+    /// `IFLA_PROTINFO`, where the header's family is IP version 6: what that says of the link.
+    ProtoInfoInet6(Vec<AfSpecInet6>),
+    /// `IFLA_PROTINFO`, where it is that of bridges: what a bridge says of the link as its port. Written with NESTED.
+    ProtoInfoBridge(Vec<InfoBridgePort>),
+    /// `IFLA_PROTINFO` under any other family, as it stands.
+    ProtoInfoUnknown(DefaultNla),
     /// `IFLA_AF_SPEC`: what address families say of the link, where the header has no family, or that of IP.
     AfSpecUnspec(Vec<AfSpecUnspec>),
+    /// `IFLA_AF_SPEC`, where the header's family is that of bridges: what a bridge says.
+    AfSpecBridge(Vec<AfSpecBridge>),
     /// `IFLA_AF_SPEC` under any other family, as it stands.
     AfSpecUnknown(Vec<u8>),
     /// `IFLA_LINKINFO`: what the driver says of the link.
@@ -163,13 +173,22 @@ pub enum LinkAttribute {
     Other(DefaultNla),
 }
 
+/// What IP version 6 says of a link as its protocol: `IFLA_INET6_*` of `linux/if_link.h`.
+pub type LinkProtoInfoInet6 = AfSpecInet6;
+
+/// What a bridge says of a link as its port: `IFLA_BRPORT_*` of `linux/if_link.h`.
+pub type LinkProtoInfoBridge = InfoBridgePort;
+
+/// The number of what the protocol says, `IFLA_PROTINFO`.
+const IFLA_PROTINFO: u16 = 12;
+
 /// The number of what address families say, `IFLA_AF_SPEC`.
 const IFLA_AF_SPEC: u16 = 26;
 
 /// The number of what a driver says, `IFLA_LINKINFO`.
 const IFLA_LINKINFO: u16 = 18;
 
-/// The rows of the table that stand for themselves. Numbers 18, 26 and 66 stand beside them.
+/// The rows of the table that stand for themselves. Numbers 12, 18 and 26 stand beside them.
 macro_rules! rows {
     ($body:ident ($($given:tt)*)) => {
         npr_base::$body!(($($given)*) LinkAttribute of Link {
@@ -234,11 +253,15 @@ macro_rules! rows {
 }
 
 impl Nla for LinkAttribute {
-    ghost shape = { shared_shape (table as_list) };
+    ghost shape = { shape };
 
     fn kind(&self) -> u16 {
         rows!(kind_rows(self;
+            LinkAttribute::ProtoInfoInet6(_) => IFLA_PROTINFO,
+            LinkAttribute::ProtoInfoBridge(_) => NLA_F_NESTED + IFLA_PROTINFO,
+            LinkAttribute::ProtoInfoUnknown(nla) => nla.kind(),
             LinkAttribute::AfSpecUnspec(_) => IFLA_AF_SPEC,
+            LinkAttribute::AfSpecBridge(_) => IFLA_AF_SPEC,
             LinkAttribute::AfSpecUnknown(_) => IFLA_AF_SPEC,
             LinkAttribute::LinkInfo(_) => IFLA_LINKINFO,
         ))
@@ -250,7 +273,11 @@ impl Nla for LinkAttribute {
 
     fn check_value(&self) -> Result<usize, EmitError> {
         Ok(rows!(len_rows(self;
+            LinkAttribute::ProtoInfoInet6(xs) => check_list(xs.as_slice())?,
+            LinkAttribute::ProtoInfoBridge(xs) => check_list(xs.as_slice())?,
+            LinkAttribute::ProtoInfoUnknown(nla) => nla.value().len(),
             LinkAttribute::AfSpecUnspec(xs) => check_list(xs.as_slice())?,
+            LinkAttribute::AfSpecBridge(xs) => check_list(xs.as_slice())?,
             LinkAttribute::AfSpecUnknown(x) => x.len(),
             LinkAttribute::LinkInfo(xs) => check_list(xs.as_slice())?,
         )))
@@ -258,10 +285,24 @@ impl Nla for LinkAttribute {
 
     fn write_value(&self, out: &mut [u8]) -> usize {
         rows!(write_rows(self, out;
+            LinkAttribute::ProtoInfoInet6(xs) => write_list(xs.as_slice(), out),
+            LinkAttribute::ProtoInfoBridge(xs) => write_list(xs.as_slice(), out),
+            LinkAttribute::ProtoInfoUnknown(nla) => write_bytes(nla.value(), out),
             LinkAttribute::AfSpecUnspec(xs) => write_list(xs.as_slice(), out),
+            LinkAttribute::AfSpecBridge(xs) => write_list(xs.as_slice(), out),
             LinkAttribute::AfSpecUnknown(x) => write_bytes(x.as_slice(), out),
             LinkAttribute::LinkInfo(xs) => write_list(xs.as_slice(), out),
         ))
+    }
+}
+
+/// How what the protocol says is read without memory.
+fn proto_info_form(family: AddressFamily) -> Form
+    ensures { result ≡ shown_as (proto_form_of family) }
+{
+    match family {
+        AddressFamily::Inet6 | AddressFamily::Bridge => Form::Inside,
+        _ => Form::Raw,
     }
 }
 
@@ -270,16 +311,54 @@ fn af_spec_form(family: AddressFamily) -> Form
     ensures { result ≡ (af_specs (form_of family)).showing.form }
 {
     match family {
-        AddressFamily::Unspec | AddressFamily::Inet | AddressFamily::Inet6 => Form::Inside,
+        AddressFamily::Unspec
+        | AddressFamily::Inet
+        | AddressFamily::Bridge
+        | AddressFamily::Inet6 => Form::Inside,
         _ => Form::Raw,
     }
 }
 
-/// Puts what address families say: a list where the header has no family, or that of IP.
+/// Puts what the protocol says: a list where the header's family is IP version 6 or that of bridges.
 ///
 /// # Errors
 /// `OutOfMemory` where memory is refused, and else the first fault in reading order.
-#[tactic(auto, using(crate::specs::AttributeSteps::unspec_means, crate::specs::AttributeSteps::unknown_means))]
+#[tactic(auto, using(crate::specs::AttributeSteps::inet6_means, crate::specs::AttributeSteps::port_means, crate::specs::AttributeSteps::whole_means))]
+fn put_proto_info<P: Place<LinkAttribute>>(
+    place: &mut P,
+    alloc: Global,
+    family: AddressFamily,
+    item: &NlaBuffer<'_>,
+    looks: &mut Looks,
+) -> Result<(), DecodeError>
+    requires { P.ready place.old }
+    ensures ok { IfOk result (λ _. (a : LinkAttribute) × (x : ProtoInfos) × P.puts place.old a place.new × MeansProtoInfos a x
+        × (proto_infos (proto_form_of family)).Reads item.now x) }
+    ensures refused { IfErr result (λ e. e ≢ OutOfMemory → (proto_infos (proto_form_of family)).Faulty item.now e) }
+    ensures exact { Answered result → (proto_infos (proto_form_of family)).looks.Takes item.now looks.old looks.new }
+    ensures bounded { AddsAtMost looks.old looks.new (length (item.now).value) }
+{
+    match family {
+        AddressFamily::Inet6 => {
+            place.put(LinkAttribute::ProtoInfoInet6(parse_list(alloc, (), item.value(), looks)?));
+            Ok(())
+        }
+        AddressFamily::Bridge => {
+            place.put(LinkAttribute::ProtoInfoBridge(parse_list(alloc, (), item.value(), looks)?));
+            Ok(())
+        }
+        _ => {
+            place.put(LinkAttribute::ProtoInfoUnknown(DefaultNla::read(alloc, item)?));
+            Ok(())
+        }
+    }
+}
+
+/// Puts what address families say: a list where the header has no family, or that of IP or of bridges.
+///
+/// # Errors
+/// `OutOfMemory` where memory is refused, and else the first fault in reading order.
+#[tactic(auto, using(crate::specs::AttributeSteps::unspec_means, crate::specs::AttributeSteps::bridge_means, crate::specs::AttributeSteps::unknown_means))]
 fn put_af_spec<P: Place<LinkAttribute>>(
     place: &mut P,
     alloc: Global,
@@ -297,6 +376,10 @@ fn put_af_spec<P: Place<LinkAttribute>>(
     match family {
         AddressFamily::Unspec | AddressFamily::Inet | AddressFamily::Inet6 => {
             place.put(LinkAttribute::AfSpecUnspec(parse_list(alloc, (), value, looks)?));
+            Ok(())
+        }
+        AddressFamily::Bridge => {
+            place.put(LinkAttribute::AfSpecBridge(parse_list(alloc, (), value, looks)?));
             Ok(())
         }
         _ => {
@@ -356,9 +439,9 @@ impl Attribute for LinkAttribute {
 
     ghost family = { family };
 
-    ghost shape_is = { shared-shape (table as_list) };
+    ghost shape_is = { shape-by };
 
-    #[tactic(auto, using(crate::specs::AttributeSteps::af_reads, crate::specs::AttributeSteps::af_wrong, crate::specs::AttributeSteps::af_looks, crate::specs::AttributeSteps::info_reads, crate::specs::AttributeSteps::info_wrong, crate::specs::AttributeSteps::info_looks, crate::specs::AttributeSteps::flat_reads, crate::specs::AttributeSteps::flat_wrong, crate::specs::AttributeSteps::flat_looks))]
+    #[tactic(auto, using(crate::specs::AttributeSteps::proto_reads, crate::specs::AttributeSteps::proto_wrong, crate::specs::AttributeSteps::proto_looks, crate::specs::AttributeSteps::af_reads, crate::specs::AttributeSteps::af_wrong, crate::specs::AttributeSteps::af_looks, crate::specs::AttributeSteps::info_reads, crate::specs::AttributeSteps::info_wrong, crate::specs::AttributeSteps::info_looks, crate::specs::AttributeSteps::flat_reads, crate::specs::AttributeSteps::flat_wrong, crate::specs::AttributeSteps::flat_looks))]
     fn read_into<P: Place<Self>>(
         place: &mut P,
         alloc: Global,
@@ -367,6 +450,7 @@ impl Attribute for LinkAttribute {
         looks: &mut Looks,
     ) -> Result<(), DecodeError> {
         match item.kind() {
+            IFLA_PROTINFO => put_proto_info(place, alloc, family, item, looks),
             IFLA_AF_SPEC => put_af_spec(place, alloc, family, item.value(), looks),
             IFLA_LINKINFO => put_info(place, alloc, item.value(), looks),
             _ => put_flat(place, alloc, item, looks),
@@ -375,6 +459,7 @@ impl Attribute for LinkAttribute {
 
     fn form(family: AddressFamily, number: u16) -> (At, Form) {
         rows!(form_rows(number;
+            IFLA_PROTINFO => proto_info_form(family),
             IFLA_AF_SPEC => af_spec_form(family),
             IFLA_LINKINFO => Form::Inside,
         ))
@@ -382,7 +467,11 @@ impl Attribute for LinkAttribute {
 
     fn try_clone(&self, alloc: Global) -> Result<Self, AllocError> {
         rows!(clone_rows(self, alloc;
+            LinkAttribute::ProtoInfoInet6(xs) => clone_list(alloc, xs.as_slice()).map(LinkAttribute::ProtoInfoInet6),
+            LinkAttribute::ProtoInfoBridge(xs) => clone_list(alloc, xs.as_slice()).map(LinkAttribute::ProtoInfoBridge),
+            LinkAttribute::ProtoInfoUnknown(nla) => nla.try_clone(alloc).map(LinkAttribute::ProtoInfoUnknown),
             LinkAttribute::AfSpecUnspec(xs) => clone_list(alloc, xs.as_slice()).map(LinkAttribute::AfSpecUnspec),
+            LinkAttribute::AfSpecBridge(xs) => clone_list(alloc, xs.as_slice()).map(LinkAttribute::AfSpecBridge),
             LinkAttribute::LinkInfo(xs) => clone_list(alloc, xs.as_slice()).map(LinkAttribute::LinkInfo),
             LinkAttribute::AfSpecUnknown(x) => Vec::from_slice(alloc, x.as_slice()).map(LinkAttribute::AfSpecUnknown),
         ))

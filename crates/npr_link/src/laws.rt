@@ -1,12 +1,14 @@
 //! The laws of link messages, over their definitions alone. Each function does nothing, and its
 //! contract is the law.
 
-ghost use Rattle.std.specs.Prelude.{◌≡◌, ◌≤◌, ◌^◌, ℕ, pos, List, ◌∷◌, [], true, length};
+ghost use Rattle.std.specs.Prelude.{◌≡◌, ◌≢◌, ◌≤◌, ◌+◌, ◌^◌, ◌⊎◌, ℕ, pos, List, ◌∷◌, [], true, length};
 ghost use Rattle.{
   npr_base.specs.{
     Counts.{Counts},
     declared.refusal.DecodeError.{DecodeError},
     Equality.{IsEquality, IsEqualityOf},
+    Family.{written_as},
+    Framing.{Item, number_of},
     Lists.{ReadsList, FirstFault},
     Message.{view},
     Refusal.{no_place},
@@ -17,11 +19,12 @@ ghost use Rattle.{
     AfSpec.{family as af_spec_family},
     AfSpecInet.{family as inet_family},
     AfSpecInet6.{family as inet6_family},
-    Attribute.{family},
+    Attribute.{family, shape},
     ExtentMask.{extent_mask_bits},
     Flags.{link_flag_bits},
     Governing.{Forms, Governs, Searches},
     Header.{default_header},
+    HeaderFamily.{Several, StandsUnder},
     Inet6Flags.{inet6_flag_bits},
     Info.{Meaning, attributes, family as info_family},
     InfoData.{info_data_of},
@@ -88,6 +91,8 @@ use crate::vlan_qos::VlanQosMapping;
 use crate::vrf::InfoVrf;
 use crate::xdp::LinkXdp;
 use crate::xdp_attached::XdpAttached;
+use npr_base::AddressFamily;
+use npr_link_bridge::{AfSpecBridge, InfoBridgePort};
 
 /// What a number reads as is written as that number.
 pub fn law_numbers()
@@ -119,6 +124,19 @@ pub fn law_search()
         → info_list.Reads bytes ms → ReadsList (attributes c).Reads bytes ms }
     ensures refused { (bytes : List ℕ) (e : DecodeError) (c : Forms) (old new : Counts) → Searches bytes c old new
         → FirstFault (attributes c).Reads (attributes c).Faulty bytes e → info_list.Wrong no_place bytes e }
+{}
+
+/// What the protocol and what address families say of a link stands in the variant of the header's
+/// family, as it is read. What a bridge says of its port is written with NESTED, which is bit 15.
+pub fn law_header_family()
+    ensures proto_inet6 { (v : Several AfSpecInet6) → StandsUnder (λ f. f ≡ AddressFamily.Inet6) (LinkAttribute.ProtoInfoInet6 v) }
+    ensures proto_bridge { (v : Several InfoBridgePort) → StandsUnder (λ f. f ≡ AddressFamily.Bridge) (LinkAttribute.ProtoInfoBridge v) }
+    ensures proto_unknown { (x : Item) → StandsUnder (λ f. (f ≢ AddressFamily.Inet6) × (f ≢ AddressFamily.Bridge) × (number_of x.kind ≡ 12)) (LinkAttribute.ProtoInfoUnknown x) }
+    ensures unspec { (v : Several AfSpecUnspec) → StandsUnder (λ f. (f ≡ AddressFamily.Unspec) ⊎ ((f ≡ AddressFamily.Inet) ⊎ (f ≡ AddressFamily.Inet6))) (LinkAttribute.AfSpecUnspec v) }
+    ensures bridge { (v : Several AfSpecBridge) → StandsUnder (λ f. f ≡ AddressFamily.Bridge) (LinkAttribute.AfSpecBridge v) }
+    ensures unknown { (v : Several ℕ) → StandsUnder (λ f. (f ≢ AddressFamily.Unspec) × (f ≢ AddressFamily.Inet) × (f ≢ AddressFamily.Inet6) × (f ≢ AddressFamily.Bridge)) (LinkAttribute.AfSpecUnknown v) }
+    ensures other { (x : Item) → StandsUnder (λ f. number_of x.kind ≢ 12) (LinkAttribute.Other x) }
+    ensures nested { (v : Several InfoBridgePort) → (written_as (shape (LinkAttribute.ProtoInfoBridge v))).kind ≡ 2 ^ 15 + 12 }
 {}
 
 /// `Forward` is another name of a policy.

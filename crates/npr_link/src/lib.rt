@@ -48,6 +48,8 @@ pub use af_spec::AfSpecUnspec;
 pub use af_spec_inet::AfSpecInet;
 pub use af_spec_inet6::AfSpecInet6;
 pub use attribute::LinkAttribute;
+pub use attribute::LinkProtoInfoBridge;
+pub use attribute::LinkProtoInfoInet6;
 pub use extent_mask::LinkExtentMask;
 pub use flags::LinkFlags;
 pub use header::LinkHeader;

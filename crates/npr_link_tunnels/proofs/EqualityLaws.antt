@@ -12,7 +12,7 @@ use Rattle.npr_base.specs.Tables.{table_decides}
 use Rattle.npr_base.specs.ViewEquality.{item_equality, same_item}
 use Rattle.npr_base.specs.EnumTableLaws.{choices-decide}
 use Rattle.npr_scalar.specs.EqualityLaws.{ip_protocol_equality}
-use Rattle.npr_link_tunnels.proofs.Firsts.{head_of, first-decides}
+use Rattle.npr_base.specs.Firsts.{head_of, first-decides}
 use Rattle.npr_link_tunnels.specs.TunnelFlags.{Flags, ipv4_flags, sit_flags, ipv6_flags, ipip}
 use Rattle.npr_link_tunnels.specs.contracts.ip_tunnel.InfoIpTunnel.{enum}
 use denote.Enum.Declared.{Choice}

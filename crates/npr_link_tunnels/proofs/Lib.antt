@@ -1,3 +1,2 @@
 pub mod EqualityLaws
-mod Firsts
 mod ValueEquality

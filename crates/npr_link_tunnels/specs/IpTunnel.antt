@@ -13,7 +13,7 @@ use Rattle.npr_base.specs.declared.refusal.AttrFamily.TheVariants.{InfoIpTunnel 
 use Rattle.npr_base.specs.declared.refusal.DecodeError.{DecodeError}
 use Rattle.npr_base.specs.declared.value.Form.{Form}
 use Rattle.npr_scalar.specs.IpProtocolByte.{ip_protocol_byte}
-use Rattle.npr_link_tunnels.specs.LeftOut.{left_out, retold}
+use Rattle.npr_base.specs.LeftOut.{left_out, retold}
 use Rattle.npr_link_tunnels.specs.TunnelEncapFlags.{tunnel_encap_flags}
 use Rattle.npr_link_tunnels.specs.TunnelEncapType.{tunnel_encap_type}
 use Rattle.npr_link_tunnels.specs.TunnelFlags.{Flags, ipv4_flags, sit_flags, ipv6_flags, Kind, ipip, kind_of, flags_in, flags_form}

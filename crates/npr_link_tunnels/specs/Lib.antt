@@ -8,7 +8,6 @@ pub mod GreIoFlags
 pub mod Ip6TunnelFlags
 pub mod IpTunnel
 pub mod IpTunnelSteps
-pub mod LeftOut
 pub mod Ports
 pub mod TunnelEncapFlags
 pub mod TunnelEncapType

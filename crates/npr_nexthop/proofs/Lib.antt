@@ -1,2 +1,1 @@
 mod EqualityLaws
-mod Searching

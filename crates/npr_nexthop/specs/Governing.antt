@@ -1,23 +1,23 @@
 -- The type that governs a list of next hop attributes: NHA_ENCAP is read by the first NHA_ENCAP_TYPE beside it, wherever that stands
 -- (linux/nexthop.h).
 use Rattle.std.specs.Prelude.{◌==◌, if◌then◌else◌}
-use Rattle.std.proofs.Common.{◌≡◌, ℕ, false, List, [], ◌∷◌, length, Option, Some, None, refl, sym, ap, subst, ◌∙◌, rules, inl, inr}
+use Rattle.std.proofs.Common.{◌≡◌, ℕ, List, length, Option, Some, None, refl, sym, ap, subst, ◌∙◌, rules, inl, inr}
 use Rattle.std.proofs.lemmas.Bool.{eqb-true, cases_Bool}
 use Rattle.npr_base.specs.Counts.{Counts}
 use Rattle.npr_base.specs.Family.{Reading}
+use Rattle.npr_base.specs.FirstTold as Told
 use Rattle.npr_base.specs.Framing.{Item, number_of}
 use Rattle.npr_base.specs.Table.{Row, ReadsAt}
-use Rattle.npr_base.specs.TableLaws.{one_of}
 use Rattle.npr_base.specs.EnumTable.{other_in}
 use Rattle.npr_base.specs.EnumTableLaws.{all_rows}
 use Rattle.npr_base.specs.Tables.{table-read}
+use Rattle.npr_base.specs.Unless.{Unless, unless-reads}
 use Rattle.npr_scalar.specs.RouteAddress.{Form, form_of}
 use Rattle.npr_tunnel.specs.EncapType.{encap_type}
 use Rattle.npr_tunnel.specs.Encapsulation as OfEncap
 use Rattle.npr_tunnel.specs.declared.encap_type.RouteLwEnCapType.{RouteLwEnCapType}
 use Rattle.npr_tunnel.specs.declared.encap_type.RouteLwEnCapType.TheVariants.{None as NoEncapsulation}
 use Rattle.npr_nexthop.specs.Attribute.{Context, Meaning, attributes, table}
-use Rattle.npr_nexthop.specs.FirstTold as Told
 use Rattle.npr_nexthop.specs.contracts.attribute.NextHopAttribute.{enum}
 
 -- the type that an attribute tells: one of number 7 with a value of two bytes
@@ -41,19 +41,6 @@ abbrev pub first_type : List Meaning → RouteLwEnCapType
 first_type xs = Told.first_told meaning_type NoEncapsulation xs
 
 -- ---- an attribute tells the type that its meaning holds
-
--- what holds of the variants of all rows but those of one number
-abbrev Unless : {M : Type 0} → (M → Type 0) → ℕ → List (Row M) → Type 0
-Unless P n [] = Unit {0}
-Unless P n (r ∷ rs) = ((r.at.kind == n) ≡ false → (v : r.V) → P (r.variant v)) × Unless P n rs
-
--- holds of what another number reads as
-unless-reads : {M : Type 0} (P : M → Type 0) (n : ℕ) (kept : Item → M) (rs : List (Row M)) → Unless P n rs → ((x : Item) → P (kept x))
-    → (k : ℕ) (x : Item) (m : M) → (k == n) ≡ false → ReadsAt kept rs k x m → P m
-unless-reads P n kept [] all too k x m not p = subst P (sym p) (too x)
-unless-reads P n kept (r ∷ rs) all too k x m not p = one_of (k == r.at.kind)
-    (λ e a. subst P (sym a.2) (all.0 (subst (λ (z : ℕ). (z == n) ≡ false) (eqb-true k r.at.kind e) not) a.0))
-    (λ e a. unless-reads P n kept rs all.1 too k x m not a) p
 
 -- a type is held by number 7 alone
 abbrev HoldsNone : Meaning → Type 0

@@ -1,6 +1,4 @@
 pub mod Attribute
-pub mod FirstTold
-pub mod FirstToldLaws
 pub mod GovernedBody
 pub mod Governing
 pub mod Group

@@ -5,12 +5,13 @@ use Rattle.std.proofs.lemmas.Bool.{cases_Bool, cases_lt, le-ltb, lt-ltb}
 use Rattle.npr_base.specs.declared.refusal.DecodeError.{DecodeError}
 use Rattle.npr_base.specs.declared.refusal.DecodeError.TheVariants.{AttributeTooShort, AttributeLength}
 use Rattle.npr_base.specs.Counts.{Counts, hit, looked}
+use Rattle.npr_base.specs.FirstTold.{hit_each}
+use Rattle.npr_base.specs.FirstToldLaws.{hit_each-counts, searched}
 use Rattle.npr_base.specs.Framing.{Item, Front, Passes, Fault, Step, pad}
 use Rattle.npr_base.specs.FrontLaws.{length_at, length_at-is, rest_at, two_bytes, Front-is, Front-takes}
 use Rattle.npr_tunnel.specs.declared.encap_type.RouteLwEnCapType.{RouteLwEnCapType}
-use Rattle.npr_route.specs.Governing.{hit_each, Searches}
+use Rattle.npr_route.specs.Governing.{item_type, Searches}
 use Rattle.npr_route.specs.Ahead.{stands, along, ahead, stopped, walk_room, SoughtIn}
-use Rattle.npr_route.specs.SearchLaws.{hit_each-counts, searched}
 
 -- an attribute stands in front
 front_stands : (bs : List ℕ) (x : Item) (rest : List ℕ) → Front bs x rest → stands bs ≡ true
@@ -128,7 +129,7 @@ search_failed bytes items rest left (Some (Err e)) old new p step is =
 pub sought : (outer type : RouteLwEnCapType) (inside : List ℕ) (old mid new : Counts) → mid ≡ hit old → Searches outer inside type mid new
     → SoughtIn inside old new
 sought outer type inside old mid new is s =
-    let p = searched outer inside type mid new s in
+    let p = searched item_type outer inside type mid new s in
     let failed = search_failed inside s.before s.rest s.left s.last mid new s.passes s.step s.looks in
     let a = ap (λ (c : Counts). c.successful) is in
     let b = ap (λ (c : Counts). c.failed) is in

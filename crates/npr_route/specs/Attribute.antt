@@ -9,6 +9,7 @@ use Rattle.npr_base.specs.declared.refusal.EmitError.{EmitError}
 use Rattle.npr_base.specs.declared.refusal.EmitError.TheVariants.{NextHopTooLong, Total}
 use Rattle.npr_base.specs.Lists.{option_or, overlong}
 use Rattle.npr_base.specs.Family.{Shape, written_as, unfit_as, written_by}
+use Rattle.npr_base.specs.FirstTold.{or_else}
 use Rattle.npr_base.specs.Framing.{Item, number_of, encoding, Front, Fault, pad}
 use Rattle.npr_route.specs.FlatAttribute as Flat
 use Rattle.npr_route.specs.FlatAttribute.{Context}
@@ -74,10 +75,6 @@ attributes_of (m ∷ ms) = attribute m (attributes_of ms)
 abbrev pub meaning_type : Meaning → Option RouteLwEnCapType
 meaning_type (flat (Flat.encap_type t)) = Some t
 meaning_type m = None
-
-abbrev pub or_else : {A : Type 0} → Option A → A → A
-or_else (Some x) y = x
-or_else None y = y
 
 abbrev pub first_type : RouteLwEnCapType → Attributes → RouteLwEnCapType
 first_type outer no_more = outer

@@ -7,6 +7,7 @@ use Rattle.std.proofs.lemmas.Bool.{eqb-true, cases_lt, lt-ltb, le-ltb}
 use Rattle.npr_base.specs.declared.refusal.DecodeError.{DecodeError}
 use Rattle.npr_base.specs.declared.refusal.EmitError.TheVariants.{NextHopTooLong, Total}
 use Rattle.npr_base.specs.Framing.{Item, IsBytes, Proper, Small, Front, number_of, marked, encoding, framed}
+use Rattle.npr_base.specs.FirstToldLaws.{governs-one}
 use Rattle.npr_base.specs.Lists.{option_or, overlong}
 use Rattle.npr_base.specs.FitLaws.{unfit_of-none, unfit_of-short, none_both}
 use Rattle.npr_base.specs.FrontLaws.{Front-same, Front-shrinks, Front-sound, Front-takes}
@@ -26,8 +27,8 @@ use Rattle.npr_route.specs.Attribute.{Wrong, value_wrong, hops_wrong, Attributes
 use Rattle.npr_route.specs.Attribute.{none_in_front, first_wrong, later_wrong, HopsWrong, no_hop_in_front, first_hop_wrong, later_hop_wrong}
 use Rattle.npr_route.specs.Attribute.{shape_of, writes, attributes_bytes, hops_bytes, hop_overlong, meaning_unfit, attributes_unfit}
 use Rattle.npr_route.specs.Attribute.{hops_unfit, Coherent, AttributesCoherent, HopsCoherent, depth, attributes_depth, hops_depth}
-use Rattle.npr_route.specs.Governing.{Governs}
-use Rattle.npr_route.specs.GoverningLaws.{governs-one, first_governs, governs_first}
+use Rattle.npr_route.specs.Governing.{item_type, Governs}
+use Rattle.npr_route.specs.GoverningLaws.{first_governs, governs_first}
 use Rattle.npr_route.specs.NextHopFrontLaws.{HopFront-same, HopFront-sound, HopFront-length, HopFront-proper}
 
 no_front : {A : Type 0} (bytes rest : List ℕ) (x : Item) → bytes ≡ [] → Front bytes x rest → A
@@ -39,12 +40,12 @@ no_hop bytes inside rest h is f = absurd (omega (arith, ap length is, HopFront-l
 -- what is read, or is wrong, under the type that governs is so under this one
 under-it : (c : Context) (bytes : List ℕ) (type : RouteLwEnCapType) (ms : Attributes) → Governs c.2 bytes type → AreGoverned c bytes ms
     → AreAttributes (typed c type) bytes ms
-under-it c bytes a ms g (b, h, p) = subst (λ (t : RouteLwEnCapType). AreAttributes (typed c t) bytes ms) (governs-one c.2 bytes b a h g) p
+under-it c bytes a ms g (b, h, p) = subst (λ (t : RouteLwEnCapType). AreAttributes (typed c t) bytes ms) (governs-one item_type c.2 bytes b a h g) p
 
 wrong-under-it : (c : Context) (bytes : List ℕ) (type : RouteLwEnCapType) (e : DecodeError) → Governs c.2 bytes type → GovernedWrong c bytes e
     → AttributesWrong (typed c type) bytes e
 wrong-under-it c bytes a e g (governed_wrong b h w) =
-    subst (λ (t : RouteLwEnCapType). AttributesWrong (typed c t) bytes e) (governs-one c.2 bytes b a h g) w
+    subst (λ (t : RouteLwEnCapType). AttributesWrong (typed c t) bytes e) (governs-one item_type c.2 bytes b a h g) w
 
 -- ---- one reading
 

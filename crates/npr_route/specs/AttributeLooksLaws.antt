@@ -1,19 +1,18 @@
--- The looks of a search and those of route attributes are one number.
-use Rattle.std.proofs.Common.{◌≡◌, ℕ, Bool, true, false, List, [], ◌∷◌, length, Option, Some, None, Result, Ok, Err, refl, sym, ap, subst, ◌∙◌}
+-- The looks of route attributes are one number.
+use Rattle.std.proofs.Common.{◌≡◌, ℕ, Bool, true, false, List, [], length, refl, sym, ap, subst, ◌∙◌}
 use Rattle.std.proofs.Common.{arith, true≢false}
-use Rattle.npr_base.specs.declared.refusal.DecodeError.{DecodeError}
-use Rattle.npr_base.specs.Counts.{Counts, no_looks, hit, raised, looked}
-use Rattle.npr_base.specs.Lists.{AllOf}
-use Rattle.npr_base.specs.Framing.{Item, Front, Passes, Step}
+use Rattle.npr_base.specs.Counts.{Counts, no_looks, hit, raised}
+use Rattle.npr_base.specs.FirstToldLaws.{search-one, search-adds}
+use Rattle.npr_base.specs.Framing.{Item, Front}
 use Rattle.npr_base.specs.FrontLaws.{Front-same, Front-shrinks, Front-sound}
 use Rattle.npr_base.specs.Looks.{Adds, Looking}
-use Rattle.npr_base.specs.LooksLaws.{plus, one_hit, one_miss, raised-none, raised-hit, raised-miss, raised-more, raised-behind, raised-inside}
+use Rattle.npr_base.specs.LooksLaws.{plus, one_hit, one_miss, raised-none, raised-miss, raised-behind, raised-inside}
 use Rattle.npr_route.specs.Attribute.{HopHead, HopFront, typed}
 use Rattle.npr_route.specs.AttributeLooks.{AttributeLooks, value_read, value_faulty, hops_inside, HopLooks, hop_ends, none_in_hop, faulty_in_hop}
 use Rattle.npr_route.specs.AttributeLooks.{passed_in_hop, HopsLooks, hops_end, no_hop_stands, hop_stands, AttributeTakes}
 use Rattle.npr_route.specs.FlatAttribute.{Context}
 use Rattle.npr_route.specs.FlatAttributeLaws as Flats
-use Rattle.npr_route.specs.Governing.{item_type, hit_each, EndsSearch, Searches}
+use Rattle.npr_route.specs.Governing.{item_type, Searches}
 use Rattle.npr_route.specs.NextHopFrontLaws.{HopFront-same, HopFront-sound, HopFront-length}
 use Rattle.npr_tunnel.specs.declared.encap_type.RouteLwEnCapType.{RouteLwEnCapType}
 
@@ -22,96 +21,6 @@ no_front bytes rest x is f = absurd (omega (arith, ap length is, Front-shrinks b
 
 no_hop : {A : Type 0} (bytes inside rest : List ℕ) (h : HopHead) → bytes ≡ [] → HopFront bytes h inside rest → A
 no_hop bytes inside rest h is f = absurd (omega (arith, ap length is, HopFront-length bytes h inside rest f))
-
-the_same : {A : Type 0} (o : Option A) (x y : A) → o ≡ Some x → o ≡ Some y → x ≡ y
-the_same o x y p q = cc
-
-no_type : {A B : Type 0} (o : Option A) (x : A) → o ≡ None → o ≡ Some x → B
-no_type o x p q = absurd cc
-
--- ---- a search
-
-ends-one : (outer : RouteLwEnCapType) (bytes r s : List ℕ) (l k : Option (Result Item DecodeError)) (a b : RouteLwEnCapType) (c m n : Counts)
-    → Step bytes l r → EndsSearch outer l a → m ≡ looked l c → Step bytes k s → EndsSearch outer k b → n ≡ looked k c → (a ≡ b) × (m ≡ n)
-ends-one outer bytes r s None None a b c m n p t i q u j = (t ∙ sym u, i ∙ sym j)
-ends-one outer bytes r s None (Some (Ok y)) a b c m n p t i q u j = no_front bytes s y p.0 q
-ends-one outer bytes r s None (Some (Err e)) a b c m n p t i q u j = absurd (omega (arith, ap length p.0, q.0))
-ends-one outer bytes r s (Some (Ok x)) None a b c m n p t i q u j = no_front bytes r x q.0 p
-ends-one outer bytes r s (Some (Ok x)) (Some (Ok y)) a b c m n p t i q u j =
-    (the_same (item_type x) a b t (ap item_type (Front-same bytes x y r s p q).0 ∙ u), i ∙ sym j)
-ends-one outer bytes r s (Some (Ok x)) (Some (Err e)) a b c m n p t i q u j = absurd (Front-sound bytes x r e p q.1)
-ends-one outer bytes r s (Some (Err e)) None a b c m n p t i q u j = absurd (omega (arith, ap length q.0, p.0))
-ends-one outer bytes r s (Some (Err e)) (Some (Ok y)) a b c m n p t i q u j = absurd (Front-sound bytes y s e q p.1)
-ends-one outer bytes r s (Some (Err e)) (Some (Err d)) a b c m n p t i q u j = (t ∙ sym u, i ∙ sym j)
-
--- a search that ends at bytes does not pass an attribute there
-ends-here : (outer : RouteLwEnCapType) (bytes r w : List ℕ) (l : Option (Result Item DecodeError)) (a : RouteLwEnCapType) (y : Item) → Step bytes l r
-    → EndsSearch outer l a → Front bytes y w → item_type y ≡ None → ⊥
-ends-here outer bytes r w None a y p t f none = no_front bytes w y p.0 f
-ends-here outer bytes r w (Some (Ok x)) a y p t f none = no_type (item_type y) a none (ap item_type (Front-same bytes y x w r f p).0 ∙ t)
-ends-here outer bytes r w (Some (Err e)) a y p t f none = Front-sound bytes y w e f p.1
-
-passes-one : (outer : RouteLwEnCapType) (xs ys : List Item) (bytes at r to s : List ℕ) (l k : Option (Result Item DecodeError)) (a b : RouteLwEnCapType)
-    (c m n : Counts) → Passes bytes xs at → AllOf (λ x. item_type x ≡ None) xs → Step at l r → EndsSearch outer l a → m ≡ looked l (hit_each xs c)
-    → Passes bytes ys to → AllOf (λ x. item_type x ≡ None) ys → Step to k s → EndsSearch outer k b → n ≡ looked k (hit_each ys c) → (a ≡ b) × (m ≡ n)
-passes-one outer [] [] bytes at r to s l k a b c m n p none t i is q silent u j js =
-    ends-one outer bytes r s l k a b c m n (subst (λ (z : List ℕ). Step z l r) (sym p) t) i is (subst (λ (z : List ℕ). Step z k s) (sym q) u) j js
-passes-one outer [] (y ∷ ys) bytes at r to s l k a b c m n p none t i is (w, g, q) silent u j js =
-    absurd (ends-here outer bytes r w l a y (subst (λ (z : List ℕ). Step z l r) (sym p) t) i g silent.0)
-passes-one outer (x ∷ xs) [] bytes at r to s l k a b c m n (v, f, p) none t i is q silent u j js =
-    absurd (ends-here outer bytes s v k b x (subst (λ (z : List ℕ). Step z k s) (sym q) u) j f none.0)
-passes-one outer (x ∷ xs) (y ∷ ys) bytes at r to s l k a b c m n (v, f, p) none t i is (w, g, q) silent u j js =
-    passes-one outer xs ys v at r to s l k a b (hit c) m n p none.1 t i is
-    (subst (λ (z : List ℕ). Passes z ys to) (Front-same bytes y x w v g f).1 q) silent.1 u j js
-
-pub search-one : (outer : RouteLwEnCapType) (bytes : List ℕ) (a b : RouteLwEnCapType) (old m n : Counts) → Searches outer bytes a old m
-    → Searches outer bytes b old n → (a ≡ b) × (m ≡ n)
-search-one outer bytes a b old m n p q =
-    passes-one outer p.before q.before bytes p.rest p.left q.rest q.left p.last q.last a b old m n p.passes p.silent p.step p.ends p.looks
-    q.passes q.silent q.step q.ends q.looks
-
-searched : List Item → Counts
-searched [] = no_looks
-searched (x ∷ xs) = plus one_hit (searched xs)
-
-hit_each-raised : (xs : List Item) (c : Counts) → hit_each xs c ≡ raised (searched xs) c
-unfolding searched
-hit_each-raised [] c = sym (raised-none c)
-hit_each-raised (x ∷ xs) c = hit_each-raised xs (hit c) ∙ raised-inside (searched xs) c
-
-last_look : Option (Result Item DecodeError) → Counts
-last_look None = no_looks
-last_look (Some (Ok x)) = one_hit
-last_look (Some (Err e)) = one_miss
-
-looked-raised : (l : Option (Result Item DecodeError)) (c : Counts) → looked l c ≡ raised (last_look l) c
-unfolding last_look
-looked-raised None c = sym (raised-none c)
-looked-raised (Some (Ok x)) c = sym (raised-hit c)
-looked-raised (Some (Err e)) c = sym (raised-miss c)
-
-search-raised : (xs : List Item) (l : Option (Result Item DecodeError)) (c : Counts)
-    → looked l (hit_each xs c) ≡ raised (plus (searched xs) (last_look l)) c
-search-raised xs l c =
-    looked-raised l (hit_each xs c) ∙ ap (raised (last_look l)) (hit_each-raised xs c) ∙ raised-more (searched xs) (last_look l) c
-
-pub search-adds : (outer : RouteLwEnCapType) (bytes : List ℕ) (type : RouteLwEnCapType) (old new : Counts) → Searches outer bytes type old new
-    → Adds (Searches outer bytes type) old new
-search-adds outer bytes type old new s = record {
-  number = plus (searched s.before) (last_look s.last);
-  is = s.looks ∙ search-raised s.before s.last old;
-  alike = λ c. record {
-    before = s.before;
-    rest = s.rest;
-    last = s.last;
-    left = s.left;
-    passes = s.passes;
-    silent = s.silent;
-    step = s.step;
-    ends = s.ends;
-    looks = sym (search-raised s.before s.last c);
-  };
-}
 
 -- ---- attributes and next hops: one number, and read or not
 
@@ -170,7 +79,7 @@ mutual
   hops-looks-one c bytes r false old m n (hop_stands h i a type mid f t p) (no_hop_stands d left bad q) = absurd (HopFront-sound bytes h i a d f bad)
   hops-looks-one c bytes r s old m n (hop_stands h i a type mid f t p) (hop_stands k j b kind far g u q) =
       let e = HopFront-same bytes k h j i b a g f in
-      let sought = search-one c.2 i kind type (hit old) far mid (subst (λ (z : List ℕ). Searches c.2 z kind (hit old) far) e.1 u) t in
+      let sought = search-one item_type c.2 i kind type (hit old) far mid (subst (λ (z : List ℕ). Searches c.2 z kind (hit old) far) e.1 u) t in
       let inner = subst (λ (z : List ℕ). HopLooks c kind z b s far n) e.1 q in
       let behind = subst (λ (z : List ℕ). HopLooks c kind i z s far n) e.2 inner in
       let under = subst (λ (z : RouteLwEnCapType). HopLooks c z i a s far n) sought.0 behind in
@@ -222,7 +131,7 @@ mutual
   hops-looks-add c bytes false old new (no_hop_stands e left bad p) =
       record { number = one_miss; is = p ∙ sym (raised-miss old); alike = λ d. no_hop_stands e left bad (raised-miss d) }
   hops-looks-add c bytes r old new (hop_stands h inside rest type mid f t p) =
-      let s = search-adds c.2 inside type (hit old) mid t in
+      let s = search-adds item_type c.2 inside type (hit old) mid t in
       let a = hop-looks-add c type inside rest r mid new p in
       record {
         number = plus one_hit (plus s.number a.number);

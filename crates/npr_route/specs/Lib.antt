@@ -13,7 +13,6 @@ pub mod FlatAttributeLaws
 pub mod Path
 pub mod Governing
 pub mod GoverningLaws
-pub mod SearchLaws
 pub mod Header
 pub mod Message
 pub mod MessageLaws

@@ -1,10 +1,11 @@
 -- What the looks at route attributes and next hops are at most and at least, by their definition, and that it reads what the grammar reads.
-use Rattle.std.proofs.Common.{◌≡◌, ◌⊎◌, ℕ, ◌+◌, ◌*◌, ◌/◌, ◌≤◌, Bool, true, false, List, [], length, Option, Some, None, Result, Ok, Err}
+use Rattle.std.proofs.Common.{◌≡◌, ◌⊎◌, ℕ, ◌+◌, ◌*◌, ◌/◌, ◌≤◌, Bool, true, false, List, [], length}
 use Rattle.std.proofs.Common.{refl, sym, ap, subst, ◌∙◌, arith, inl, inr, true≢false}
 use Rattle.std.proofs.lemmas.Bool.{cases_lt}
 use Rattle.npr_base.specs.declared.refusal.DecodeError.{DecodeError}
 use Rattle.npr_base.specs.Counts.{Counts, AddsAtMost, SawEach, hit}
-use Rattle.npr_base.specs.Framing.{Item, Front, Step}
+use Rattle.npr_base.specs.FirstToldLaws.{governs-one, searches-governs}
+use Rattle.npr_base.specs.Framing.{Item, Front}
 use Rattle.npr_base.specs.FrontLaws.{Front-takes, Front-same, Front-shrinks, Front-sound}
 use Rattle.npr_base.specs.LooksLaws.{none-most, none-saw}
 use Rattle.npr_route.specs.Attribute.{HopHead, HopFront, typed, Meaning, flat, multi_path, Attributes, no_more, attribute, Hops, no_hops, hop}
@@ -16,8 +17,7 @@ use Rattle.npr_route.specs.AttributeLooks.{AttributeLooks, value_read, value_fau
 use Rattle.npr_route.specs.AttributeLooks.{passed_in_hop, HopsLooks, hops_end, no_hop_stands, hop_stands, HopsTake, AttributeTakes}
 use Rattle.npr_route.specs.FlatAttribute.{Context}
 use Rattle.npr_route.specs.FlatAttributeLaws as Flats
-use Rattle.npr_route.specs.Governing.{EndsSearch, Tells, Governs, Searches}
-use Rattle.npr_route.specs.GoverningLaws.{governs-one}
+use Rattle.npr_route.specs.Governing.{item_type, Governs}
 use Rattle.npr_route.specs.NextHopFrontLaws.{HopFront-same, HopFront-sound, HopFront-length}
 use Rattle.npr_route.specs.Ahead.{stopped, walk_room}
 use Rattle.npr_route.specs.AheadLaws.{room_front, room_opened, stopped_front, stopped_once, sought}
@@ -128,16 +128,6 @@ mutual
 
 -- ---- what is read, and what is wrong
 
-search_governs : (outer : RouteLwEnCapType) (rest left : List ℕ) (last : Option (Result Item DecodeError)) (type : RouteLwEnCapType) → Step rest last left
-    → EndsSearch outer last type → Tells outer rest type
-search_governs outer rest left None type step ends = inr (inl step.0, ends)
-search_governs outer rest left (Some (Ok x)) type step ends = inl (x, left, step, ends)
-search_governs outer rest left (Some (Err e)) type step ends = inr (inr (e, step.0, step.1), ends)
-
-pub searches-governs : (outer : RouteLwEnCapType) (bytes : List ℕ) (type : RouteLwEnCapType) (old new : Counts)
-    → Searches outer bytes type old new → Governs outer bytes type
-searches-governs outer bytes type old new s = (s.before, s.rest, s.passes, s.silent, search_governs outer s.rest s.left s.last type s.step s.ends)
-
 mutual
   attribute-reads : (c : Context) (x : Item) (old new : Counts) → AttributeLooks c x true old new → (m : Meaning) × Reads c x m
   attribute-reads c x old new (value_read m k r t) = (flat m, (k, r))
@@ -155,7 +145,7 @@ mutual
   hops-read c bytes old new (hops_end is p) = (no_hops, is)
   hops-read c bytes old new (hop_stands h inside rest type mid f t p) =
       let r = hop-reads c type inside rest mid new p in
-      (hop h r.0 r.1, (inside, rest, f, (type, searches-governs c.2 inside type (hit old) mid t, r.2), r.3))
+      (hop h r.0 r.1, (inside, rest, f, (type, searches-governs item_type c.2 inside type (hit old) mid t, r.2), r.3))
 
 -- what is wrong among the attributes, or behind them
 abbrev HopWrongs : Context → RouteLwEnCapType → List ℕ → List ℕ → DecodeError → Type 0
@@ -192,7 +182,7 @@ mutual
   hops-are-wrong c bytes old new (no_hop_stands e left bad p) = (e, no_hop_in_front left bad)
   hops-are-wrong c bytes old new (hop_stands h inside rest type mid f t p) =
       let r = hop-is-wrong c type inside rest mid new p in
-      (r.0, wrongs-open c bytes h inside rest type r.0 f (searches-governs c.2 inside type (hit old) mid t) r.1)
+      (r.0, wrongs-open c bytes h inside rest type r.0 f (searches-governs item_type c.2 inside type (hit old) mid t) r.1)
 
 -- ---- at least
 
@@ -254,7 +244,7 @@ mutual
   hops-saw c bytes (hop h ms hs) false old new (i, a, f, r, rs) (no_hop_stands e left bad p) = absurd (HopFront-sound bytes h i a e f bad)
   hops-saw c bytes (hop h ms hs) read old new (i, a, f, r, rs) (hop_stands k j b kind mid g t p) =
       let e = HopFront-same bytes h k i j a b f g in
-      let one = governs-one c.2 j r.0 kind (subst (λ (z : List ℕ). Governs c.2 z r.0) e.1 r.1) (searches-governs c.2 j kind (hit old) mid t) in
+      let one = governs-one item_type c.2 j r.0 kind (subst (λ (z : List ℕ). Governs c.2 z r.0) e.1 r.1) (searches-governs item_type c.2 j kind (hit old) mid t) in
       let inside = subst (λ (z : RouteLwEnCapType). AreAttributes (typed c z) j ms) one (subst (λ (z : List ℕ). AreAttributes (typed c r.0) z ms) e.1 r.2) in
       let rest = subst (λ (z : List ℕ). AreHops c z hs) e.2 rs in
       let s = sought c.2 kind j old (hit old) mid refl t in

@@ -1,16 +1,15 @@
 -- A route message is read under the type that its list is searched for.
 use Rattle.std.proofs.Common.{◌≡◌, ℕ, List, map, sym, ap, subst, ◌∙◌}
 use Rattle.npr_base.specs.Counts.{Counts}
+use Rattle.npr_base.specs.FirstToldLaws.{governs-one, searched}
 use Rattle.npr_base.specs.Lists.{ReadsList}
 use Rattle.npr_base.specs.Message.{IsUnder}
 use Rattle.npr_tunnel.specs.declared.encap_type.RouteLwEnCapType.{RouteLwEnCapType}
 use Rattle.npr_tunnel.specs.declared.encap_type.RouteLwEnCapType.TheVariants.{None as NoEncapsulation}
 use Rattle.npr_route.specs.FlatAttribute.{Context}
 use Rattle.npr_route.specs.AttributeView.{family}
-use Rattle.npr_route.specs.Governing.{Governs, Searches}
-use Rattle.npr_route.specs.GoverningLaws.{governs-one}
+use Rattle.npr_route.specs.Governing.{item_type, Governs, Searches}
 use Rattle.npr_route.specs.Message.{routes}
-use Rattle.npr_route.specs.SearchLaws.{searched}
 use Rattle.npr_route.specs.declared.header.RouteHeader.{RouteHeader}
 
 -- the context of a list: what the header says, and the type that governs
@@ -25,14 +24,14 @@ under_type : (h : RouteHeader) (bytes : List ℕ) (type : RouteLwEnCapType) → 
 under_type h bytes type governs = record {
   alone =
       λ d (other, tells, is).
-      is ∙ ap (λ (t : RouteLwEnCapType). (h.address_family, h.kind, t)) (governs-one NoEncapsulation bytes other type tells governs);
+      is ∙ ap (λ (t : RouteLwEnCapType). (h.address_family, h.kind, t)) (governs-one item_type NoEncapsulation bytes other type tells governs);
   reads = λ xs reads. (type, governs, reads);
   means =
       λ xs (other, tells, reads).
       subst (λ (t : RouteLwEnCapType). ReadsList (family.reading (h.address_family, h.kind, t)).Reads bytes (map family.meaning xs))
-      (governs-one NoEncapsulation bytes other type tells governs) reads;
+      (governs-one item_type NoEncapsulation bytes other type tells governs) reads;
   faulty = λ e wrong. (type, governs, wrong);
-  searched = searched NoEncapsulation bytes type;
+  searched = searched item_type NoEncapsulation bytes type;
   looks = λ old mid new searches takes. (type, mid, searches, takes);
 }
 

@@ -2,8 +2,9 @@ use Rattle.std.proofs.Common.{◌≡◌, map, refl, rules}
 use Rattle.std.proofs.lemmas.Result.{err_from_is_err_and}
 use Rattle.npr_base.specs.LooksLaws.{none-most}
 use Rattle.npr_link.specs.AfSpec as OfAfSpec
-use Rattle.npr_link.specs.AfSpecs.{as_list, as_bytes, form_of, unspec, unknown}
-use Rattle.npr_link.specs.AttributeSteps.{unspec_means, unknown_means}
+use Rattle.npr_link.specs.AfSpecs.{as_list, as_bridge, as_bytes, form_of, unspec, bridge, unknown}
+use Rattle.npr_link.specs.AttributeSteps.{unspec_means, bridge_means, unknown_means}
+use Rattle.npr_link_bridge.specs.AfSpecBridge as OfAfSpecBridge
 use Rattle.npr_link.specs.declared.attribute.LinkAttribute.{LinkAttribute}
 use Rattle.npr_link.proofs.attribute.put_af_spec.Goals as goal
 
@@ -19,6 +20,20 @@ returns-in_ok-parse_list-in-Unspec-clause-ok g c =
     let v = c.in_ok-parse_list-in-Unspec.field-0 in
     let xs = map OfAfSpec.family.meaning v.items in
     (LinkAttribute.AfSpecUnspec v, unspec xs, c.put.ensures, unspec_means v, rw f (xs, c.in_ok-parse_list-in-Unspec.ensures.ok, refl))
+
+pub returns-in_err-parse_list-in-Bridge-clause-refused : goal.returns-in_err-parse_list-in-Bridge-clause-refused
+returns-in_err-parse_list-in-Bridge-clause-refused g c =
+    let f : form_of c.args.family ≡ as_bridge = search rules in
+    let q = c.from_residual-in_err-parse_list-in-Bridge in
+    let p = err_from_is_err_and q.result q.ensures.1 in
+    rw (p.1, p.2, f) (λ other. c.in_err-parse_list-in-Bridge.ensures.refused other)
+
+pub returns-in_ok-parse_list-in-Bridge-clause-ok : goal.returns-in_ok-parse_list-in-Bridge-clause-ok
+returns-in_ok-parse_list-in-Bridge-clause-ok g c =
+    let f : form_of c.args.family ≡ as_bridge = search rules in
+    let v = c.in_ok-parse_list-in-Bridge.field-0 in
+    let xs = map OfAfSpecBridge.family.meaning v.items in
+    (LinkAttribute.AfSpecBridge v, bridge xs, c.put-in-Bridge.ensures, bridge_means v, rw f (xs, c.in_ok-parse_list-in-Bridge.ensures.ok, refl))
 
 pub returns-in_ok-read_bytes-in_default : goal.returns-in_ok-read_bytes-in_default
 returns-in_ok-read_bytes-in_default g c =

@@ -1,7 +1,7 @@
 use Rattle.std.proofs.Common.{◌≡◌, ◌∷◌, ◌++◌, [], sym, ◌∙◌, ap}
 use Rattle.npr_base.specs.Counts.{hit}
 use Rattle.npr_base.specs.FrontLaws.{Passes-more}
-use Rattle.npr_nexthop.proofs.Searching.{AllOf-more, hit_each-more}
+use Rattle.npr_base.proofs.Searching.{AllOf-more, hit_each-more}
 use Rattle.npr_nexthop.proofs.governing.governing_type.Goals as goal
 
 pub loop-item-preserved : goal.loop-item-preserved

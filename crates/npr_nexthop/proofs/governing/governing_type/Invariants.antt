@@ -1,7 +1,7 @@
 use Rattle.std.proofs.Common.{◌≡◌, List, length, None}
+use Rattle.npr_base.specs.FirstTold.{hit_each}
 use Rattle.npr_base.specs.Lists.{AllOf}
 use Rattle.npr_base.specs.Framing.{Item, Passes}
-use Rattle.npr_nexthop.specs.FirstTold.{hit_each}
 use Rattle.npr_nexthop.specs.Governing.{item_type}
 use Rattle.npr_nexthop.proofs.governing.governing_type.Given as goal
 

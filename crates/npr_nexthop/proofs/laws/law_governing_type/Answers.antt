@@ -1,6 +1,6 @@
+use Rattle.npr_base.specs.FirstToldLaws.{governs-one, first_governs}
 use Rattle.npr_tunnel.specs.declared.encap_type.RouteLwEnCapType.TheVariants.{None as NoEncapsulation}
 use Rattle.npr_nexthop.specs.Attribute.{attributes}
-use Rattle.npr_nexthop.specs.FirstToldLaws.{governs-one, first_governs}
 use Rattle.npr_nexthop.specs.Governing.{alike, item_type, meaning_type}
 use Rattle.npr_nexthop.specs.Message.{context_of}
 use Rattle.npr_nexthop.proofs.laws.law_governing_type.Goals as goal

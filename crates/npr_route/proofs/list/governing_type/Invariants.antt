@@ -1,7 +1,8 @@
 use Rattle.std.proofs.Common.{◌≡◌, List, length, None}
+use Rattle.npr_base.specs.FirstTold.{hit_each}
 use Rattle.npr_base.specs.Lists.{AllOf}
 use Rattle.npr_base.specs.Framing.{Item, Passes}
-use Rattle.npr_route.specs.Governing.{item_type, hit_each}
+use Rattle.npr_route.specs.Governing.{item_type}
 use Rattle.npr_route.proofs.list.governing_type.Given as goal
 
 -- the attributes so far tell none, and each had its look

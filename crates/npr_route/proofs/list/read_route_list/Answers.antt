@@ -1,12 +1,13 @@
 use Rattle.std.proofs.Common.{map}
 use Rattle.std.proofs.lemmas.Result.{IfErr-weaker}
+use Rattle.npr_base.specs.FirstToldLaws.{searched}
 use Rattle.npr_base.specs.LookBounds.{searched-read, searched-saw_ok}
 use Rattle.npr_base.specs.Lists.{list_members}
 use Rattle.npr_tunnel.specs.declared.encap_type.RouteLwEnCapType.TheVariants.{None as NoEncapsulation}
 use Rattle.npr_route.specs.AttributeView.{meaning_of}
 use Rattle.npr_route.specs.AttributeFamily.{attributes, writing}
+use Rattle.npr_route.specs.Governing.{item_type}
 use Rattle.npr_route.specs.RouteListLaws.{route-list-sound}
-use Rattle.npr_route.specs.SearchLaws.{searched}
 use Rattle.npr_route.proofs.list.read_route_list.Goals as goal
 
 pub returns-clause-none : goal.returns-clause-none
@@ -18,13 +19,13 @@ returns-clause-none c =
 pub returns-clause-bounded : goal.returns-clause-bounded
 returns-clause-bounded c =
     let looks = c.governing_type-encap_type.new.looks in
-    let s = searched NoEncapsulation c.args.bytes.now c.governing_type-encap_type.result c.args.looks.now looks c.governing_type-encap_type.ensures.looks in
+    let s = searched item_type NoEncapsulation c.args.bytes.now c.governing_type-encap_type.result c.args.looks.now looks c.governing_type-encap_type.ensures.looks in
     searched-read c.args.bytes.now c.args.looks.now looks c.parse_list.new.looks s c.parse_list.ensures.walked
 
 pub returns-clause-counted : goal.returns-clause-counted
 returns-clause-counted c =
     let looks = c.governing_type-encap_type.new.looks in
-    let s = searched NoEncapsulation c.args.bytes.now c.governing_type-encap_type.result c.args.looks.now looks c.governing_type-encap_type.ensures.looks in
+    let s = searched item_type NoEncapsulation c.args.bytes.now c.governing_type-encap_type.result c.args.looks.now looks c.governing_type-encap_type.ensures.looks in
     searched-saw_ok (λ v. map meaning_of v.items) (list_members writing.members) (attributes (c.args.under.0, c.args.under.1, c.governing_type-encap_type.result)).Reads c.args.bytes.now
     c.args.looks.now looks c.parse_list.new.looks s c.parse_list.result c.parse_list.ensures.ok c.parse_list.ensures.counted
 

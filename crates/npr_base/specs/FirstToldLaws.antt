@@ -10,7 +10,7 @@ use Rattle.npr_base.specs.Lists.{Each, AllOf, ReadsList}
 use Rattle.npr_base.specs.Looks.{Adds}
 use Rattle.npr_base.specs.LooksLaws.{plus, one_hit, one_miss, raised-none, raised-hit, raised-miss, raised-more, raised-inside}
 use Rattle.npr_base.specs.Walk.{Searched}
-use Rattle.npr_nexthop.specs.FirstTold.{NoneInFront, hit_each, or_else, first_told, Tells, Governs, EndsSearch, Searches}
+use Rattle.npr_base.specs.FirstTold.{NoneInFront, hit_each, or_else, first_told, Tells, Governs, EndsSearch, Searches}
 
 none_begins : {A : Type 0} (rest more : List ℕ) (x : Item) → NoneInFront rest → Front rest x more → A
 none_begins rest more x (inl is) f = absurd (omega (arith, ap length is, Front-shrinks rest x more f))
@@ -28,12 +28,12 @@ none_told o x p q = absurd cc
 -- ---- the looks of a search
 
 -- so many looks are counted, below the greatest u64
-record Hits (old new : Counts) (n : ℕ) : Type 0 where
-  kept : old.successful ≤ new.successful
-  most : new.successful ≤ old.successful + n
-  failed : new.failed ≡ old.failed
+pub record Hits (old new : Counts) (n : ℕ) : Type 0 where
+  pub kept : old.successful ≤ new.successful
+  pub most : new.successful ≤ old.successful + n
+  pub failed : new.failed ≡ old.failed
 
-hit_each-counts : (xs : List Item) (c : Counts) → Hits c (hit_each xs c) (length xs)
+pub hit_each-counts : (xs : List Item) (c : Counts) → Hits c (hit_each xs c) (length xs)
 hit_each-counts [] c = record { kept = omega arith; most = omega arith; failed = refl }
 hit_each-counts (x ∷ xs) c =
     let h = hit_each-counts xs (hit c) in
@@ -132,10 +132,11 @@ module _ {T : Type 0} (tells : Item → Option T) (default : T) where
 
   -- ---- the first that is told
 
-  first_step : (o : Option T) (x : Item) (more bytes : List ℕ) (next : T) → tells x ≡ o → Front bytes x more → Governs tells default more next
+  -- an attribute that tells something governs its list, and else what follows it does
+  pub first-step : (o : Option T) (x : Item) (more bytes : List ℕ) (next : T) → tells x ≡ o → Front bytes x more → Governs tells default more next
       → Governs tells default bytes (or_else o next)
-  first_step (Some t) x more bytes next is f g = ([], bytes, refl, tt, inl (x, more, f, is))
-  first_step None x more bytes next is f (before, rest, p, silent, t) = (x ∷ before, rest, (more, f, p), (is, silent), t)
+  first-step (Some t) x more bytes next is f g = ([], bytes, refl, tt, inl (x, more, f, is))
+  first-step None x more bytes next is f (before, rest, p, silent, t) = (x ∷ before, rest, (more, f, p), (is, silent), t)
 
   -- what attributes tell is what their meanings hold
   module _ {M : Type 0} (told : M → Option T) (reads : Item → M → Type 0) (alike : (x : Item) (m : M) → reads x m → tells x ≡ told m) where
@@ -145,7 +146,7 @@ module _ {T : Type 0} (tells : Item → Option T) (default : T) where
     first_items [] bytes (m ∷ ms) p h = absurd h
     first_items (x ∷ items) bytes [] p h = absurd h
     first_items (x ∷ items) bytes (m ∷ ms) (rest, f, p) h =
-        first_step (told m) x rest bytes (first_told told default ms) (alike x m h.0) f (first_items items rest ms p h.1)
+        first-step (told m) x rest bytes (first_told told default ms) (alike x m h.0) f (first_items items rest ms p h.1)
 
     pub first_governs : (bytes : List ℕ) (ms : List M) → ReadsList reads bytes ms → Governs tells default bytes (first_told told default ms)
     first_governs bytes ms (items, p, h) = first_items items bytes ms p h

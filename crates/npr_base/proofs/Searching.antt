@@ -1,9 +1,9 @@
--- A search for the type of a list, one attribute more.
+-- A search for what governs a list, one attribute more.
 use Rattle.std.proofs.Common.{◌≡◌, List, [], ◌∷◌, ◌++◌, refl}
 use Rattle.npr_base.specs.Counts.{Counts, hit}
 use Rattle.npr_base.specs.Framing.{Item}
 use Rattle.npr_base.specs.Lists.{AllOf}
-use Rattle.npr_route.specs.Governing.{hit_each}
+use Rattle.npr_base.specs.FirstTold.{hit_each}
 
 -- one more of them
 pub AllOf-more : {A : Type 0} (P : A → Type 0) (xs : List A) (x : A) → AllOf P xs → P x → AllOf P (xs ++ x ∷ [])
