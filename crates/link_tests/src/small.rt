@@ -1,10 +1,12 @@
 //! Next hop objects, name spaces, prefixes, settings, tables of neighbours and address labels: what Linux
 //! tells of them, and what `ip` asks.
 
-use npr_nexthop::NextHopMessage;
-use npr_small::{
-    AddressLabelMessage, NeighbourTableMessage, NetconfMessage, NsidMessage, PrefixMessage,
-};
+use netlink_packet_route::address_label::AddressLabelMessage;
+use netlink_packet_route::neighbour_table::NeighbourTableMessage;
+use netlink_packet_route::netconf::NetconfMessage;
+use netlink_packet_route::nexthop::NextHopMessage;
+use netlink_packet_route::nsid::NsidMessage;
+use netlink_packet_route::prefix::PrefixMessage;
 use npr_testing::messages;
 use std::test::Fail;
 

@@ -5,62 +5,90 @@ use Rattle.std.proofs.Common.{ap}
 use Rattle.npr_base.specs.Equality.{IsEqualityOf}
 use Rattle.npr_base.specs.MeaningLaws.{items_equality}
 use Rattle.npr_base.specs.StructLaws.{and_decides, decides_as}
-use Rattle.netlink_packet_route.specs.MessageKind.{MessageOf}
-use Rattle.netlink_packet_route.specs.RouteNetlinkMessage.{Meaning, message, set_link, link_prop, other, other_of}
+use Rattle.netlink_packet_route.specs.MessageKind.{MessageOf, kind_of_type}
+use Rattle.netlink_packet_route.specs.RouteNetlinkMessage.{Meaning, Under, message, other, other_of}
 use Rattle.netlink_packet_route.specs.contracts.message.OtherMessagePartialEq.TheImpl as OtherEq
 use Rattle.netlink_packet_route.specs.declared.kind.MessageKind.{MessageKind}
-use Rattle.netlink_packet_route.specs.declared.kind.MessageKind.TheVariants.{Address, Route, Rule, Neighbour, Link}
-use Rattle.netlink_packet_route.specs.declared.message.Action.{Action}
-use Rattle.netlink_packet_route.specs.declared.message.Action.TheVariants.{New, Del, Get}
+use Rattle.netlink_packet_route.specs.declared.kind.MessageKind.TheVariants as Kind
+use Rattle.netlink_packet_route.specs.declared.message_type.Action.{Action}
+use Rattle.netlink_packet_route.specs.declared.message_type.Action.TheVariants.{New, Del, Get}
+use Rattle.netlink_packet_route.specs.declared.message_type.MessageType.{MessageType}
+use Rattle.netlink_packet_route.specs.declared.message_type.MessageType.TheVariants.{Of, SetLink, NewPrefix, Unknown}
+use Rattle.netlink_packet_route.specs.declared.message_type.MessageType.TheVariants.{NewNeighbourTable, GetNeighbourTable, SetNeighbourTable}
+use Rattle.netlink_packet_route.specs.declared.message_type.Subject.{Subject}
+use Rattle.netlink_packet_route.specs.declared.message_type.Subject.TheVariants.{Link, Address, Route, Neighbour, Rule, AddressLabel, Netconf, Nsid}
+use Rattle.netlink_packet_route.specs.declared.message_type.Subject.TheVariants.{NextHop, LinkProp, NextHopBucket}
 
+-- the places of the variants
 unfoldable pub action_order : Action → ℕ
 action_order New = 0
 action_order Del = 1
 action_order Get = 2
 
-abbrev kind_order : MessageKind → ℕ
-kind_order Link = 0
-kind_order Address = 4
-kind_order Route = 7
-kind_order Neighbour = 10
-kind_order Rule = 13
+abbrev subject_order : Subject → ℕ
+subject_order Link = 0
+subject_order Address = 4
+subject_order Route = 7
+subject_order Neighbour = 10
+subject_order Rule = 13
+subject_order AddressLabel = 20
+subject_order Netconf = 23
+subject_order Nsid = 26
+subject_order NextHop = 29
+subject_order LinkProp = 32
+subject_order NextHopBucket = 35
+
+abbrev type_order : MessageType → ℕ
+type_order (Of subject a) = subject_order subject + action_order a
+type_order SetLink = 3
+type_order NewPrefix = 16
+type_order NewNeighbourTable = 17
+type_order GetNeighbourTable = 18
+type_order SetNeighbourTable = 19
+type_order Unknown = 0
 
 unfoldable pub order : Meaning → ℕ
-order (message kind a m) = kind_order kind + action_order a
-order (set_link m) = 3
-order (link_prop a m) = 16 + action_order a
-order (other type bytes) = 19
+order (message type m) = type_order type
+order (other type bytes) = 38
 
 -- a message of a kind is one
 abbrev as_kind : (kind : MessageKind) → MessageOf kind → Meaning → MessageOf kind
-as_kind Address m (message Address a n) = n
-as_kind Route m (message Route a n) = n
-as_kind Neighbour m (message Neighbour a n) = n
-as_kind Rule m (message Rule a n) = n
-as_kind Link m (message Link a n) = n
+as_kind Kind.Address m (message (Of Address a) n) = n
+as_kind Kind.Route m (message (Of Route a) n) = n
+as_kind Kind.Rule m (message (Of Rule a) n) = n
+as_kind Kind.Neighbour m (message (Of Neighbour a) n) = n
+as_kind Kind.Link m (message (Of Link a) n) = n
+as_kind Kind.Link m (message (Of LinkProp a) n) = n
+as_kind Kind.Link m (message SetLink n) = n
+as_kind Kind.NextHop m (message (Of NextHop a) n) = n
+as_kind Kind.NextHop m (message (Of NextHopBucket a) n) = n
+as_kind Kind.Nsid m (message (Of Nsid a) n) = n
+as_kind Kind.Netconf m (message (Of Netconf a) n) = n
+as_kind Kind.AddressLabel m (message (Of AddressLabel a) n) = n
+as_kind Kind.NeighbourTable m (message NewNeighbourTable n) = n
+as_kind Kind.NeighbourTable m (message GetNeighbourTable n) = n
+as_kind Kind.NeighbourTable m (message SetNeighbourTable n) = n
+as_kind Kind.Prefix m (message NewPrefix n) = n
 as_kind kind m x = m
 
-pub message_one : (kind : MessageKind) (a : Action) (m n : MessageOf kind) → message kind a m ≡ message kind a n → m ≡ n
-message_one Address a m n e = ap (as_kind Address m) e
-message_one Route a m n e = ap (as_kind Route m) e
-message_one Neighbour a m n e = ap (as_kind Neighbour m) e
-message_one Rule a m n e = ap (as_kind Rule m) e
-message_one Link a m n e = ap (as_kind Link m) e
-
--- and so is a link message of another type
-abbrev as_set : MessageOf Link → Meaning → MessageOf Link
-as_set m (set_link n) = n
-as_set m x = m
-
-pub set_one : (m n : MessageOf Link) → set_link m ≡ set_link n → m ≡ n
-set_one m n e = ap (as_set m) e
-
-abbrev as_prop : MessageOf Link → Meaning → MessageOf Link
-as_prop m (link_prop a n) = n
-as_prop m x = m
-
-pub prop_one : (a : Action) (m n : MessageOf Link) → link_prop a m ≡ link_prop a n → m ≡ n
-prop_one a m n e = ap (as_prop m) e
+pub message_one : (type : MessageType) (m n : Under (kind_of_type type)) → message type m ≡ message type n → m ≡ n
+message_one (Of Link a) m n e = ap (as_kind Kind.Link m) e
+message_one (Of Address a) m n e = ap (as_kind Kind.Address m) e
+message_one (Of Route a) m n e = ap (as_kind Kind.Route m) e
+message_one (Of Neighbour a) m n e = ap (as_kind Kind.Neighbour m) e
+message_one (Of Rule a) m n e = ap (as_kind Kind.Rule m) e
+message_one (Of AddressLabel a) m n e = ap (as_kind Kind.AddressLabel m) e
+message_one (Of Netconf a) m n e = ap (as_kind Kind.Netconf m) e
+message_one (Of Nsid a) m n e = ap (as_kind Kind.Nsid m) e
+message_one (Of NextHop a) m n e = ap (as_kind Kind.NextHop m) e
+message_one (Of LinkProp a) m n e = ap (as_kind Kind.Link m) e
+message_one (Of NextHopBucket a) m n e = ap (as_kind Kind.NextHop m) e
+message_one SetLink m n e = ap (as_kind Kind.Link m) e
+message_one NewPrefix m n e = ap (as_kind Kind.Prefix m) e
+message_one NewNeighbourTable m n e = ap (as_kind Kind.NeighbourTable m) e
+message_one GetNeighbourTable m n e = ap (as_kind Kind.NeighbourTable m) e
+message_one SetNeighbourTable m n e = ap (as_kind Kind.NeighbourTable m) e
+message_one Unknown m n e = absurd m
 
 abbrev pub other_by : ℕ × List ℕ → Meaning
 other_by p = other p.0 p.1

@@ -1,22 +1,15 @@
 -- Each list that stands in a value is read where the attribute is.
-use Rattle.std.specs.Prelude.{◌≡◌, ◌≢◌, ℕ, ◌≤◌, ◌⊎◌, List, length, drop, take}
-use Rattle.std.proofs.Common.{refl, sym, ap, subst, ◌∙◌, arith, inl, inr}
-use Rattle.std.proofs.lemmas.List.{drop_at, length-take-le, take-append-drop}
-use Rattle.npr_base.specs.Counts.{Counts}
+use Rattle.std.specs.Prelude.{◌≡◌, ◌≢◌, ℕ, ◌≤◌, List, length}
+use Rattle.std.proofs.Common.{refl, sym, ◌∙◌, arith}
 use Rattle.npr_base.specs.declared.address_family.AddressFamily.{AddressFamily}
-use Rattle.npr_base.specs.declared.address_family.AddressFamily.TheVariants.{Unspec, Inet, Inet6}
-use Rattle.npr_base.specs.declared.refusal.DecodeError.{DecodeError}
 use Rattle.npr_base.specs.Family.{Writing, Reading}
 use Rattle.npr_base.specs.Framing.{Item, number_of}
-use Rattle.npr_base.specs.Lists.{ReadsList, FirstFault}
-use Rattle.npr_base.specs.Message.{View, IsMessage, MessageFault}
+use Rattle.npr_base.specs.Lists.{ReadsList}
 use Rattle.npr_base.specs.Opening.{Opens, Holding, opens-in, opens-where}
 use Rattle.npr_base.specs.Table.{Row, ReadsAt, WrongAt}
 use Rattle.npr_base.specs.Tables.{EnumTable, attributes_of, value_at}
 use Rattle.npr_base.specs.EnumTable.{other_in, ReadsIn, WrongIn}
-use Rattle.npr_base.specs.EnumTableLaws.{all_rows, rows-read}
-use Rattle.npr_base.specs.EnumTableValues.{value_in}
-use Rattle.npr_link.specs.Netkit as OfNetkit
+use Rattle.npr_base.specs.EnumTableLaws.{all_rows}
 use Rattle.npr_link_devices.specs.AdInfo as OfAdInfo
 use Rattle.npr_link_devices.specs.Bond as OfBond
 use Rattle.npr_link_devices.specs.MacVlan as OfMacVlan
@@ -24,25 +17,10 @@ use Rattle.npr_link_devices.specs.MacVlanAddress as OfMacVlanAddress
 use Rattle.npr_link.specs.AfSpec as OfAfSpec
 use Rattle.npr_link.specs.AfSpecInet as OfAfSpecInet
 use Rattle.npr_link.specs.AfSpecInet6 as OfAfSpecInet6
-use Rattle.npr_link.specs.AfSpecs.{form_of, unspec}
-use Rattle.npr_link.specs.Attribute as OfLink
 use Rattle.npr_link_bridge.specs.Bridge as OfBridge
-use Rattle.npr_link.specs.Governing.{Searches}
-use Rattle.npr_link.specs.Header.{header}
-use Rattle.npr_link.specs.InfoList.{IsInfoList, InfoListFault, read-searched, fault-searched, searched-reads}
-use Rattle.npr_link.specs.Peer.{peers}
-use Rattle.npr_link.specs.PeerAttribute as OfPeer
-use Rattle.npr_link.specs.Prop as OfProp
-use Rattle.npr_link.specs.ProtocolDown as OfReason
 use Rattle.npr_link_bridge.specs.QuerierState as OfQuerier
-use Rattle.npr_link.specs.Veth as OfVeth
 use Rattle.npr_link.specs.Vlan as OfVlan
 use Rattle.npr_link.specs.VlanQos as OfVlanQos
-use Rattle.npr_link.specs.Xdp as OfXdp
-use Rattle.npr_link.specs.contracts.netkit.InfoNetkit.{enum as enum_of_netkit}
-use Rattle.npr_link.specs.contracts.veth.InfoVeth.{enum as enum_of_pair}
-use Rattle.npr_link_tunnels.specs.declared.form.InfoForm.{InfoForm}
-use Rattle.npr_link.specs.declared.port_kind.InfoPortForm.{InfoPortForm}
 use Rattle.npr_route.specs.Attribute.{Meaning, Reads, flat, multi_path, value_wrong}
 use Rattle.npr_route.specs.AttributeFamily as OfRoute
 use Rattle.npr_route.specs.FlatAttribute as Flat
@@ -57,17 +35,17 @@ use Rattle.npr_tunnel.specs.TunnelOptions as OfOption
 use Rattle.npr_tunnel.specs.VxlanOptions as OfVxlan
 use Rattle.npr_tunnel.specs.declared.encap_type.RouteLwEnCapType.{RouteLwEnCapType}
 use Rattle.npr_tunnel.specs.declared.encap_type.RouteLwEnCapType.TheVariants.{Ip, Ip6}
-use Rattle.netlink_packet_route.specs.declared.levels.Level.TheVariants.{Route, Link, Metric, Encap, Opt, Vxlan, Erspan}
-use Rattle.netlink_packet_route.specs.declared.levels.Level.TheVariants.{LinkInfo, LinkXdp, Prop, LinkProtocolDownReason, AfSpecUnspec, AfSpecInet}
+use Rattle.netlink_packet_route.specs.declared.levels.Level.TheVariants.{Route, Metric, Encap, Opt, Vxlan, Erspan}
+use Rattle.netlink_packet_route.specs.declared.levels.Level.TheVariants.{AfSpecUnspec, AfSpecInet}
 use Rattle.netlink_packet_route.specs.declared.levels.Level.TheVariants.{AfSpecInet6, InfoBridge, BridgeQuerierState, InfoVlan}
-use Rattle.netlink_packet_route.specs.declared.levels.Level.TheVariants.{VlanQosMapping, InfoVeth, Peer}
+use Rattle.netlink_packet_route.specs.declared.levels.Level.TheVariants.{VlanQosMapping}
 use Rattle.netlink_packet_route.specs.declared.levels.Level.TheVariants.{InfoBond, BondAdInfo, InfoMacVlan}
-use Rattle.netlink_packet_route.specs.declared.levels.Level.TheVariants.{MacVlanAddress, InfoNetkit}
-use Rattle.netlink_packet_route.specs.Levels.{IsPlainInside, IsInsideAt}
+use Rattle.netlink_packet_route.specs.declared.levels.Level.TheVariants.{MacVlanAddress}
+use Rattle.netlink_packet_route.specs.Levels.{IsPlainInside}
 use denote.Enum.Declared.{Record}
 
 -- a list from the first byte of a value
-none-long : (bytes : List ℕ) → 0 ≤ length bytes
+pub none-long : (bytes : List ℕ) → 0 ≤ length bytes
 none-long bytes = omega arith
 
 -- ---- in tables
@@ -130,84 +108,6 @@ unfolding OfMacVlan.attributes
 mac-vlan-addresses bytes =
     in-table OfMacVlan.table OfMacVlanAddress.attributes 5
     (record { down = λ x m p. (p.0, p.1); up = λ x ps long p. (value_at OfMacVlan.table 5 ps, p); fault = λ x e long p. p }) bytes
-
--- ---- in a link's attributes, whose table is shared by two variants
-
-module _ (family : AddressFamily) {P : Type 0} {v : Writing P} (g : Reading v) (number : ℕ) where
-  in-link : Holding (ReadsAt (other_in OfLink.later (OfLink.rows (form_of family)).0) (all_rows OfLink.later (OfLink.rows (form_of family)).0) number)
-      (ReadsIn OfLink.later (OfLink.rows (form_of family)).0 number) (WrongIn OfLink.later (OfLink.rows (form_of family)).0 number) g 0
-      → (bytes : List ℕ) → Opens (OfLink.attributes family) g number 0 bytes
-  in-link holds bytes =
-      let o = opens-in OfLink.later (OfLink.rows (form_of family)).0 (OfLink.table (form_of family)).apart g number 0 holds bytes (none-long bytes) in
-      record { long = o.long; down = o.down; up = o.up; fault = o.fault }
-
-pub link-programs : (family : AddressFamily) (bytes : List ℕ) → IsPlainInside (Link family) 43 bytes LinkXdp
-link-programs family bytes =
-    in-link family OfXdp.attributes 43
-    (record {
-      down = λ x m p. (p.0, p.1);
-      up = λ x ps long p. (value_in OfLink.later (OfLink.rows (form_of family)).0 43 ps, p);
-      fault = λ x e long p. p;
-    }) bytes
-
-pub link-properties : (family : AddressFamily) (bytes : List ℕ) → IsPlainInside (Link family) 52 bytes Prop
-link-properties family bytes =
-    in-link family OfProp.attributes 52
-    (record {
-      down = λ x m p. (p.0, p.1);
-      up = λ x ps long p. (value_in OfLink.later (OfLink.rows (form_of family)).0 52 ps, p);
-      fault = λ x e long p. p;
-    }) bytes
-
-pub link-reasons : (family : AddressFamily) (bytes : List ℕ) → IsPlainInside (Link family) 55 bytes LinkProtocolDownReason
-link-reasons family bytes =
-    in-link family OfReason.attributes 55
-    (record {
-      down = λ x m p. (p.0, p.1);
-      up = λ x ps long p. (value_in OfLink.later (OfLink.rows (form_of family)).0 55 ps, p);
-      fault = λ x e long p. p;
-    }) bytes
-
--- what address families say, where the header has none or that of IP
-link-families-unspec : (bytes : List ℕ) → IsPlainInside (Link Unspec) 26 bytes AfSpecUnspec
-link-families-unspec bytes =
-    in-link Unspec OfAfSpec.attributes 26
-    (record { down = λ x m p. (p.1.0, p.1.1); up = λ x ps long p. (inl (unspec ps), (ps, p, refl)); fault = λ x e long p. p }) bytes
-
-link-families-inet : (bytes : List ℕ) → IsPlainInside (Link Inet) 26 bytes AfSpecUnspec
-link-families-inet bytes =
-    in-link Inet OfAfSpec.attributes 26
-    (record { down = λ x m p. (p.1.0, p.1.1); up = λ x ps long p. (inl (unspec ps), (ps, p, refl)); fault = λ x e long p. p }) bytes
-
-link-families-inet6 : (bytes : List ℕ) → IsPlainInside (Link Inet6) 26 bytes AfSpecUnspec
-link-families-inet6 bytes =
-    in-link Inet6 OfAfSpec.attributes 26
-    (record { down = λ x m p. (p.1.0, p.1.1); up = λ x ps long p. (inl (unspec ps), (ps, p, refl)); fault = λ x e long p. p }) bytes
-
-pub link-families : (family : AddressFamily) (bytes : List ℕ) → (family ≡ Unspec) ⊎ ((family ≡ Inet) ⊎ (family ≡ Inet6))
-    → IsPlainInside (Link family) 26 bytes AfSpecUnspec
-link-families family bytes (inl e) = subst (λ (f : AddressFamily). IsPlainInside (Link f) 26 bytes AfSpecUnspec) (sym e) (link-families-unspec bytes)
-link-families family bytes (inr (inl e)) = subst (λ (f : AddressFamily). IsPlainInside (Link f) 26 bytes AfSpecUnspec) (sym e) (link-families-inet bytes)
-link-families family bytes (inr (inr e)) = subst (λ (f : AddressFamily). IsPlainInside (Link f) 26 bytes AfSpecUnspec) (sym e) (link-families-inet6 bytes)
-
--- what a driver says, under what is found
-pub link-info : (family : AddressFamily) (bytes : List ℕ) (link : InfoForm) (port : InfoPortForm) (old new : Counts) → Searches bytes (link, port) old new
-    → IsPlainInside (Link family) 18 bytes (LinkInfo link port)
-link-info family bytes link port old new found =
-    let rows = (OfLink.rows (form_of family)).0 in
-    record {
-      long = none-long bytes;
-      down = λ x m k b p.
-          let q = subst (λ (n : ℕ). ReadsAt (other_in OfLink.later rows) (all_rows OfLink.later rows) n x m) k (rows-read OfLink.later rows x m p) in
-          (q.0, searched-reads bytes q.0 (link, port) old new (subst (λ (c : List ℕ). IsInfoList c q.0) b q.1) found);
-      up = λ x ps k b p.
-          let m = value_in OfLink.later rows 18 ps in
-          let q = subst (λ (c : List ℕ). IsInfoList c ps) (sym b) (read-searched bytes ps (link, port) old new found p) in
-          (m, subst (λ (n : ℕ). ReadsIn OfLink.later rows n x m) (sym k) q);
-      fault = λ x e k b p.
-          let q = subst (λ (c : List ℕ). InfoListFault c e) (sym b) (fault-searched bytes e (link, port) old new found p) in
-          subst (λ (n : ℕ). WrongIn OfLink.later rows n x e) (sym k) q;
-    }
 
 -- ---- in a route's attributes
 
@@ -286,52 +186,3 @@ encap-options6 bytes =
       up = λ x ps k b p. let q = o.up x ps k b p in (OfEncap.ip6 q.0, (q.0, q.1, refl));
       fault = o.fault;
     }
-
--- ---- the other end of a pair
-
-peer-down : (bytes : List ℕ) (m : View peers) → IsMessage peers bytes m → ReadsList OfPeer.attributes.Reads (drop 16 bytes) m.attributes
-unfolding IsMessage
-peer-down bytes m p =
-    let same : drop 16 bytes ≡ p.rest = ap (drop 16) p.is ∙ drop_at p.front p.rest 16 p.size in
-    subst (λ (r : List ℕ). ReadsList OfPeer.attributes.Reads r m.attributes) (sym same) p.attributes
-
-peer-up : (bytes : List ℕ) (ps : List OfPeer.family.Meaning) → 16 ≤ length bytes → ReadsList OfPeer.attributes.Reads (drop 16 bytes) ps
-    → IsMessage peers bytes (record { header = header.decode (take 16 bytes); attributes = ps })
-unfolding IsMessage
-peer-up bytes ps long p = record {
-  front = take 16 bytes;
-  rest = drop 16 bytes;
-  is = sym (take-append-drop 16 bytes);
-  size = length-take-le 16 bytes long;
-  header = refl;
-  attributes = p;
-}
-
-peer-fault : (bytes : List ℕ) (e : DecodeError) → 16 ≤ length bytes → FirstFault OfPeer.attributes.Reads OfPeer.attributes.Faulty (drop 16 bytes) e
-    → MessageFault peers bytes e
-unfolding MessageFault
-peer-fault bytes e long p = inr (take 16 bytes, drop 16 bytes, sym (take-append-drop 16 bytes), length-take-le 16 bytes long, p)
-
-pub pair-peer : (bytes : List ℕ) → 16 ≤ length bytes → IsInsideAt 16 InfoVeth 1 bytes Peer
-unfolding OfVeth.attributes
-pair-peer bytes long =
-    opens-in enum_of_pair.parts OfVeth.table.rows OfVeth.table.apart OfPeer.attributes 1 16
-    (record {
-      down = λ x m p. (p.0.attributes, peer-down x.value p.0 p.1);
-      up = λ x ps long p.
-          let peer : View peers = record { header = header.decode (take 16 x.value); attributes = ps } in
-          (value_at OfVeth.table 1 peer, peer-up x.value ps long p);
-      fault = λ x e long p. peer-fault x.value e long p;
-    }) bytes long
-
-pub netkit-peer : (bytes : List ℕ) → 16 ≤ length bytes → IsInsideAt 16 InfoNetkit 1 bytes Peer
-unfolding OfNetkit.attributes
-netkit-peer bytes long =
-    opens-in enum_of_netkit.parts OfNetkit.table.rows OfNetkit.table.apart OfPeer.attributes 1 16
-    (record {
-      down = λ x m p. (p.0.attributes, peer-down x.value p.0 p.1);
-      up = λ x ps long p.
-          let peer : View peers = record { header = header.decode (take 16 x.value); attributes = ps } in
-          (value_at OfNetkit.table 1 peer, peer-up x.value ps long p);
-      fault = λ x e long p. peer-fault x.value e long p;
-    }) bytes long

@@ -5,7 +5,9 @@ pub use Rattle.npr_base.specs.AddressFamily
 pub use Rattle.npr_base.specs.AddressFamilyLaws
 pub use Rattle.npr_base.specs.Attributes
 pub use Rattle.npr_base.specs.AttributesLaws
+pub use Rattle.npr_base.specs.Beside
 pub use Rattle.npr_base.specs.Blocks
+pub use Rattle.npr_base.specs.ByNumber
 pub use Rattle.npr_base.specs.Codec
 pub use Rattle.npr_base.specs.Counts
 pub use Rattle.npr_base.specs.DroppedCodec
@@ -16,9 +18,12 @@ pub use Rattle.npr_base.specs.Tables
 pub use Rattle.npr_base.specs.Equality
 pub use Rattle.npr_base.specs.EqualityLaws
 pub use Rattle.npr_base.specs.Family
+pub use Rattle.npr_base.specs.LeftOut
 pub use Rattle.npr_base.specs.Lists
 pub use Rattle.npr_base.specs.FieldEquality
 pub use Rattle.npr_base.specs.Fields
+pub use Rattle.npr_base.specs.FirstTold
+pub use Rattle.npr_base.specs.Firsts
 pub use Rattle.npr_base.specs.FitLaws
 pub use Rattle.npr_base.specs.FlagCodec
 pub use Rattle.npr_base.specs.Found
@@ -40,8 +45,10 @@ pub mod FaultLaws
 pub mod LeftLaws
 pub mod Levels
 pub mod LevelLaws
+pub mod LinkLevelLaws
 pub mod MessageKind
 pub mod Messages
+pub mod NextHopLevelLaws
 pub mod NumberLaws
 pub mod Request
 pub mod RouteNetlinkMessage
@@ -136,6 +143,7 @@ pub use Rattle.npr_link.specs.AfSpecInet as LinkAfSpecInet
 pub use Rattle.npr_link.specs.AfSpecInet6 as LinkAfSpecInet6
 pub use Rattle.npr_link.specs.AfSpecs as LinkAfSpecs
 pub use Rattle.npr_link.specs.Attribute as LinkAttribute
+pub use Rattle.npr_link.specs.AttributeOpens as LinkAttributeOpens
 pub use Rattle.npr_link.specs.AttributeSteps as LinkAttributeSteps
 pub use Rattle.npr_link_bridge.specs.BooleanOptions as LinkBooleanOptions
 pub use Rattle.npr_link_bridge.specs.Bridge as LinkBridge
@@ -148,6 +156,7 @@ pub use Rattle.npr_link.specs.Flags as LinkFlags
 pub use Rattle.npr_link.specs.Governing as LinkGoverning
 pub use Rattle.npr_link.specs.GoverningLaws as LinkGoverningLaws
 pub use Rattle.npr_link.specs.Header as LinkHeader
+pub use Rattle.npr_link.specs.HeaderFamily as LinkHeaderFamily
 pub use Rattle.npr_link.specs.Inet6CacheInfo as LinkInet6CacheInfo
 pub use Rattle.npr_link.specs.Inet6Flags as LinkInet6Flags
 pub use Rattle.npr_link.specs.Info
@@ -174,9 +183,9 @@ pub use Rattle.npr_link.specs.PortData as LinkPortData
 pub use Rattle.npr_link.specs.PortKind as LinkPortKind
 pub use Rattle.npr_link_bridge.specs.PortState as LinkPortState
 pub use Rattle.npr_link.specs.Prop as LinkProp
+pub use Rattle.npr_link.specs.ProtoInfos as LinkProtoInfos
 pub use Rattle.npr_link.specs.ProtocolDown as LinkProtocolDown
 pub use Rattle.npr_link_bridge.specs.QuerierState as LinkQuerierState
-pub use Rattle.npr_link.specs.SharedRow as LinkSharedRow
 pub use Rattle.npr_link.specs.ShortLists as LinkShortLists
 pub use Rattle.npr_link.specs.State as LinkState
 pub use Rattle.npr_link_bridge.specs.StpState as LinkStpState
@@ -232,3 +241,36 @@ pub use Rattle.npr_route.specs.NextHopFrontLaws
 pub use Rattle.npr_route.specs.NextHopHeader
 pub use Rattle.npr_route.specs.Path as RoutePath
 pub use Rattle.npr_route.specs.RouteList
+-- next hop messages
+pub use Rattle.npr_nexthop.specs.Attribute as NextHopAttribute
+pub use Rattle.npr_nexthop.specs.Governing as NextHopGoverning
+pub use Rattle.npr_nexthop.specs.GovernedBody
+pub use Rattle.npr_nexthop.specs.Group as NextHopGroup
+pub use Rattle.npr_nexthop.specs.GroupStats as NextHopGroupStats
+pub use Rattle.npr_nexthop.specs.GroupStatsEntry as NextHopGroupStatsEntry
+pub use Rattle.npr_nexthop.specs.GroupType as NextHopGroupType
+pub use Rattle.npr_nexthop.specs.Header as NextHopMessageHeader
+pub use Rattle.npr_nexthop.specs.Message as NextHopMessage
+pub use Rattle.npr_nexthop.specs.OpFlags as NextHopOpFlags
+pub use Rattle.npr_nexthop.specs.ResBucket as NextHopResBucket
+pub use Rattle.npr_nexthop.specs.ResGroup as NextHopResGroup
+-- name spaces, settings, address labels, tables of neighbours, prefixes
+pub use Rattle.npr_small.specs.AddressLabelAttribute
+pub use Rattle.npr_small.specs.AddressLabelHeader
+pub use Rattle.npr_small.specs.AddressLabelMessage
+pub use Rattle.npr_small.specs.NeighbourTableAttribute
+pub use Rattle.npr_small.specs.NeighbourTableConfig
+pub use Rattle.npr_small.specs.NeighbourTableHeader
+pub use Rattle.npr_small.specs.NeighbourTableMessage
+pub use Rattle.npr_small.specs.NeighbourTableParameter
+pub use Rattle.npr_small.specs.NeighbourTableStats
+pub use Rattle.npr_small.specs.NetconfAttribute
+pub use Rattle.npr_small.specs.NetconfHeader
+pub use Rattle.npr_small.specs.NetconfMessage
+pub use Rattle.npr_small.specs.NsidAttribute
+pub use Rattle.npr_small.specs.NsidHeader
+pub use Rattle.npr_small.specs.NsidMessage
+pub use Rattle.npr_small.specs.PrefixAttribute
+pub use Rattle.npr_small.specs.PrefixCacheInfo
+pub use Rattle.npr_small.specs.PrefixHeader
+pub use Rattle.npr_small.specs.PrefixMessage

@@ -9,8 +9,13 @@ use Rattle.npr_link.specs.Message.{links}
 use Rattle.npr_link.specs.declared.attribute.LinkAttribute.{LinkAttribute}
 use Rattle.npr_link.specs.declared.extent_mask.LinkExtentMask.{LinkExtentMask}
 use Rattle.npr_neighbour.specs.Message.{neighbours}
+use Rattle.npr_nexthop.specs.Message.{next_hops}
 use Rattle.npr_route.specs.Message.{routes}
 use Rattle.npr_rule.specs.Message.{rules}
+use Rattle.npr_small.specs.AddressLabelMessage.{address_labels}
+use Rattle.npr_small.specs.NeighbourTableMessage.{neighbour_tables}
+use Rattle.npr_small.specs.NetconfMessage.{netconfs}
+use Rattle.npr_small.specs.NsidMessage.{nsids}
 
 abbrev pub addresses_of : AddressFamily → View addresses
 addresses_of family = record { header = record addresses.standard { family = family }; attributes = [] }
@@ -23,6 +28,21 @@ rules_of family = record { header = record rules.standard { family = family }; a
 
 abbrev pub neighbours_of : AddressFamily → View neighbours
 neighbours_of family = record { header = record neighbours.standard { family = family }; attributes = [] }
+
+abbrev pub next_hops_of : AddressFamily → View next_hops
+next_hops_of family = record { header = record next_hops.standard { family = family }; attributes = [] }
+
+abbrev pub netconfs_of : AddressFamily → View netconfs
+netconfs_of family = record { header = record netconfs.standard { family = family }; attributes = [] }
+
+abbrev pub address_labels_of : AddressFamily → View address_labels
+address_labels_of family = record { header = record address_labels.standard { family = family }; attributes = [] }
+
+abbrev pub neighbour_tables_of : AddressFamily → View neighbour_tables
+neighbour_tables_of family = record { header = record neighbour_tables.standard { family = family }; attributes = [] }
+
+abbrev pub nsids_of_all : View nsids
+nsids_of_all = record { header = nsids.standard; attributes = [] }
 
 abbrev pub links_of : LinkExtentMask → View links
 links_of mask = record { header = links.standard; attributes = link_family.meaning (LinkAttribute.ExtMask mask) ∷ [] }

@@ -1,5 +1,5 @@
--- The messages of rtnetlink by their types (linux/rtnetlink.h, RTM_*): those of links, addresses, routes, neighbours and rules, and any other.
-use Rattle.std.specs.Prelude.{◌≡◌, ℕ, ◌+◌, ◌<◌, ◌==◌, Bool, true, false, List, [], ◌∷◌, length, drop, Option, None, if◌then◌else◌}
+-- The messages of rtnetlink by their types (linux/rtnetlink.h, RTM_*): those of the kinds that the library reads, and any other.
+use Rattle.std.specs.Prelude.{◌≡◌, ℕ, ◌+◌, ◌<◌, ◌==◌, Bool, true, false, List, [], ◌∷◌, length, drop, Option, Some, None, if◌then◌else◌}
 use Rattle.std.proofs.Common.{refl, sym, ap, subst, ◌∙◌}
 use Rattle.std.proofs.lemmas.Bool.{eqb-true}
 use Rattle.npr_base.specs.declared.refusal.DecodeError.{DecodeError}
@@ -12,172 +12,242 @@ use Rattle.npr_base.specs.Rows.{form_in}
 use Rattle.npr_address.specs.Message.{addresses}
 use Rattle.npr_link.specs.Message.{links}
 use Rattle.npr_neighbour.specs.Message.{neighbours}
+use Rattle.npr_nexthop.specs.Message.{next_hops}
 use Rattle.npr_route.specs.Message.{routes}
 use Rattle.npr_rule.specs.Message.{rules}
+use Rattle.npr_small.specs.AddressLabelMessage.{address_labels}
+use Rattle.npr_small.specs.NeighbourTableMessage.{neighbour_tables}
+use Rattle.npr_small.specs.NetconfMessage.{netconfs}
+use Rattle.npr_small.specs.NsidMessage.{nsids}
+use Rattle.npr_small.specs.PrefixMessage.{prefixes}
 use Rattle.netlink_packet_core.specs.Protocol.{Protocol}
-use Rattle.netlink_packet_route.specs.MessageKind.{form_of, MessageOf}
+use Rattle.netlink_packet_route.specs.MessageKind.{form_of, kind_of, kind_of_type, MessageOf}
 use Rattle.netlink_packet_route.specs.declared.kind.MessageKind.{MessageKind}
-use Rattle.netlink_packet_route.specs.declared.kind.MessageKind.TheVariants.{Address, Route, Rule, Neighbour, Link}
+use Rattle.netlink_packet_route.specs.declared.kind.MessageKind.TheVariants as Kind
 use Rattle.netlink_packet_route.specs.declared.message.OtherMessage.{OtherMessage}
 use Rattle.netlink_packet_route.specs.declared.message.RouteNetlinkMessage.{RouteNetlinkMessage}
-use Rattle.netlink_packet_route.specs.declared.message.RouteNetlinkMessage.TheVariants.{NewLink, DelLink, GetLink}
-use Rattle.netlink_packet_route.specs.declared.message.RouteNetlinkMessage.TheVariants.{SetLink as SetLinkMessage, NewLinkProp, DelLinkProp, GetLinkProp}
-use Rattle.netlink_packet_route.specs.declared.message.RouteNetlinkMessage.TheVariants.{NewAddress, DelAddress, GetAddress, NewRoute, DelRoute, GetRoute}
-use Rattle.netlink_packet_route.specs.declared.message.RouteNetlinkMessage.TheVariants.{NewNeighbour, DelNeighbour, GetNeighbour}
-use Rattle.netlink_packet_route.specs.declared.message.RouteNetlinkMessage.TheVariants.{NewRule, DelRule, GetRule, Other}
-use Rattle.netlink_packet_route.specs.declared.message.Action.{Action}
-use Rattle.netlink_packet_route.specs.declared.message.Action.TheVariants.{New, Del, Get}
-use Rattle.netlink_packet_route.specs.declared.message.MessageType.{MessageType}
-use Rattle.netlink_packet_route.specs.declared.message.MessageType.TheVariants.{Of, SetLink, LinkProp, Unknown}
+use Rattle.netlink_packet_route.specs.declared.message.RouteNetlinkMessage.TheVariants as Message
+use Rattle.netlink_packet_route.specs.declared.message_type.Action.{Action}
+use Rattle.netlink_packet_route.specs.declared.message_type.Action.TheVariants.{New, Del, Get}
+use Rattle.netlink_packet_route.specs.declared.message_type.MessageType.{MessageType}
+use Rattle.netlink_packet_route.specs.declared.message_type.MessageType.TheVariants.{Of, SetLink, NewPrefix, Unknown}
+use Rattle.netlink_packet_route.specs.declared.message_type.MessageType.TheVariants.{NewNeighbourTable, GetNeighbourTable, SetNeighbourTable}
+use Rattle.netlink_packet_route.specs.declared.message_type.Subject.{Subject}
+use Rattle.netlink_packet_route.specs.declared.message_type.Subject.TheVariants.{Link, Address, Route, Neighbour, Rule, AddressLabel, Netconf, Nsid}
+use Rattle.netlink_packet_route.specs.declared.message_type.Subject.TheVariants.{NextHop, LinkProp, NextHopBucket}
 
--- what it is, without where it lies in memory: a message of a kind and what it does, one that sets a link, one on other
--- properties of a link and what it does, or another type and its bytes
+-- what stands under a type: a message of its kind
+abbrev pub Under : Option MessageKind → Type 0
+Under (Some kind) = MessageOf kind
+Under None = ⊥
+
+-- what it is, without where it lies in memory: a type and a message of its kind, or another type and its bytes
 pub data Meaning : Type 0 where
-  message : (kind : MessageKind) → Action → MessageOf kind → Meaning
-  set_link : MessageOf Link → Meaning
-  link_prop : Action → MessageOf Link → Meaning
+  message : (type : MessageType) → Under (kind_of_type type) → Meaning
   other : ℕ → List ℕ → Meaning
 
-abbrev pub address : Action → MessageOf Address → Meaning
-address a m = message Address a m
+abbrev pub link : Action → MessageOf Kind.Link → Meaning
+link a m = message (Of Link a) m
 
-abbrev pub route : Action → MessageOf Route → Meaning
-route a m = message Route a m
+abbrev pub address : Action → MessageOf Kind.Address → Meaning
+address a m = message (Of Address a) m
 
-abbrev pub neighbour : Action → MessageOf Neighbour → Meaning
-neighbour a m = message Neighbour a m
+abbrev pub route : Action → MessageOf Kind.Route → Meaning
+route a m = message (Of Route a) m
 
-abbrev pub rule : Action → MessageOf Rule → Meaning
-rule a m = message Rule a m
+abbrev pub neighbour : Action → MessageOf Kind.Neighbour → Meaning
+neighbour a m = message (Of Neighbour a) m
 
-abbrev pub link : Action → MessageOf Link → Meaning
-link a m = message Link a m
+abbrev pub rule : Action → MessageOf Kind.Rule → Meaning
+rule a m = message (Of Rule a) m
+
+abbrev pub address_label : Action → MessageOf Kind.AddressLabel → Meaning
+address_label a m = message (Of AddressLabel a) m
+
+abbrev pub netconf : Action → MessageOf Kind.Netconf → Meaning
+netconf a m = message (Of Netconf a) m
+
+abbrev pub nsid : Action → MessageOf Kind.Nsid → Meaning
+nsid a m = message (Of Nsid a) m
+
+abbrev pub next_hop : Action → MessageOf Kind.NextHop → Meaning
+next_hop a m = message (Of NextHop a) m
+
+abbrev pub link_prop : Action → MessageOf Kind.Link → Meaning
+link_prop a m = message (Of LinkProp a) m
+
+abbrev pub next_hop_bucket : Action → MessageOf Kind.NextHop → Meaning
+next_hop_bucket a m = message (Of NextHopBucket a) m
 
 -- another type, and its bytes
 abbrev pub other_of : OtherMessage → ℕ × List ℕ
 other_of m = (m.message_type, m.payload.items)
 
 abbrev pub meaning_of : RouteNetlinkMessage → Meaning
-meaning_of (NewLink m) = link New (view links m)
-meaning_of (DelLink m) = link Del (view links m)
-meaning_of (GetLink m) = link Get (view links m)
-meaning_of (SetLinkMessage m) = set_link (view links m)
-meaning_of (NewAddress m) = address New (view addresses m)
-meaning_of (DelAddress m) = address Del (view addresses m)
-meaning_of (GetAddress m) = address Get (view addresses m)
-meaning_of (NewRoute m) = route New (view routes m)
-meaning_of (DelRoute m) = route Del (view routes m)
-meaning_of (GetRoute m) = route Get (view routes m)
-meaning_of (NewNeighbour m) = neighbour New (view neighbours m)
-meaning_of (DelNeighbour m) = neighbour Del (view neighbours m)
-meaning_of (GetNeighbour m) = neighbour Get (view neighbours m)
-meaning_of (NewRule m) = rule New (view rules m)
-meaning_of (DelRule m) = rule Del (view rules m)
-meaning_of (GetRule m) = rule Get (view rules m)
-meaning_of (NewLinkProp m) = link_prop New (view links m)
-meaning_of (DelLinkProp m) = link_prop Del (view links m)
-meaning_of (GetLinkProp m) = link_prop Get (view links m)
-meaning_of (Other m) = other m.message_type m.payload.items
+meaning_of (Message.NewLink m) = message (Of Link New) (view links m)
+meaning_of (Message.DelLink m) = message (Of Link Del) (view links m)
+meaning_of (Message.GetLink m) = message (Of Link Get) (view links m)
+meaning_of (Message.SetLink m) = message SetLink (view links m)
+meaning_of (Message.NewAddress m) = message (Of Address New) (view addresses m)
+meaning_of (Message.DelAddress m) = message (Of Address Del) (view addresses m)
+meaning_of (Message.GetAddress m) = message (Of Address Get) (view addresses m)
+meaning_of (Message.NewRoute m) = message (Of Route New) (view routes m)
+meaning_of (Message.DelRoute m) = message (Of Route Del) (view routes m)
+meaning_of (Message.GetRoute m) = message (Of Route Get) (view routes m)
+meaning_of (Message.NewNeighbour m) = message (Of Neighbour New) (view neighbours m)
+meaning_of (Message.DelNeighbour m) = message (Of Neighbour Del) (view neighbours m)
+meaning_of (Message.GetNeighbour m) = message (Of Neighbour Get) (view neighbours m)
+meaning_of (Message.NewRule m) = message (Of Rule New) (view rules m)
+meaning_of (Message.DelRule m) = message (Of Rule Del) (view rules m)
+meaning_of (Message.GetRule m) = message (Of Rule Get) (view rules m)
+meaning_of (Message.NewPrefix m) = message NewPrefix (view prefixes m)
+meaning_of (Message.NewNeighbourTable m) = message NewNeighbourTable (view neighbour_tables m)
+meaning_of (Message.GetNeighbourTable m) = message GetNeighbourTable (view neighbour_tables m)
+meaning_of (Message.SetNeighbourTable m) = message SetNeighbourTable (view neighbour_tables m)
+meaning_of (Message.NewAddressLabel m) = message (Of AddressLabel New) (view address_labels m)
+meaning_of (Message.DelAddressLabel m) = message (Of AddressLabel Del) (view address_labels m)
+meaning_of (Message.GetAddressLabel m) = message (Of AddressLabel Get) (view address_labels m)
+meaning_of (Message.NewNetconf m) = message (Of Netconf New) (view netconfs m)
+meaning_of (Message.DelNetconf m) = message (Of Netconf Del) (view netconfs m)
+meaning_of (Message.GetNetconf m) = message (Of Netconf Get) (view netconfs m)
+meaning_of (Message.NewNsId m) = message (Of Nsid New) (view nsids m)
+meaning_of (Message.DelNsId m) = message (Of Nsid Del) (view nsids m)
+meaning_of (Message.GetNsId m) = message (Of Nsid Get) (view nsids m)
+meaning_of (Message.NewNextHop m) = message (Of NextHop New) (view next_hops m)
+meaning_of (Message.DelNextHop m) = message (Of NextHop Del) (view next_hops m)
+meaning_of (Message.GetNextHop m) = message (Of NextHop Get) (view next_hops m)
+meaning_of (Message.NewLinkProp m) = message (Of LinkProp New) (view links m)
+meaning_of (Message.DelLinkProp m) = message (Of LinkProp Del) (view links m)
+meaning_of (Message.GetLinkProp m) = message (Of LinkProp Get) (view links m)
+meaning_of (Message.NewNextHopBucket m) = message (Of NextHopBucket New) (view next_hops m)
+meaning_of (Message.DelNextHopBucket m) = message (Of NextHopBucket Del) (view next_hops m)
+meaning_of (Message.GetNextHopBucket m) = message (Of NextHopBucket Get) (view next_hops m)
+meaning_of (Message.Other m) = other m.message_type m.payload.items
 
 -- the types, by their numbers
 abbrev pub types : List (ℕ × MessageType)
 types =
-    (16, Of Link New) ∷ (17, Of Link Del) ∷ (18, Of Link Get) ∷ (19, SetLink)
-    ∷ (20, Of Address New) ∷ (21, Of Address Del) ∷ (22, Of Address Get) ∷ (24, Of Route New) ∷ (25, Of Route Del) ∷ (26, Of Route Get)
-    ∷ (28, Of Neighbour New) ∷ (29, Of Neighbour Del) ∷ (30, Of Neighbour Get) ∷ (32, Of Rule New) ∷ (33, Of Rule Del) ∷ (34, Of Rule Get)
-    ∷ (108, LinkProp New) ∷ (109, LinkProp Del) ∷ (110, LinkProp Get) ∷ []
+    (16, Of Link New) ∷ (17, Of Link Del) ∷ (18, Of Link Get) ∷ (19, SetLink) ∷ (20, Of Address New) ∷ (21, Of Address Del)
+    ∷ (22, Of Address Get) ∷ (24, Of Route New) ∷ (25, Of Route Del) ∷ (26, Of Route Get) ∷ (28, Of Neighbour New)
+    ∷ (29, Of Neighbour Del) ∷ (30, Of Neighbour Get) ∷ (32, Of Rule New) ∷ (33, Of Rule Del) ∷ (34, Of Rule Get)
+    ∷ (52, NewPrefix) ∷ (64, NewNeighbourTable) ∷ (66, GetNeighbourTable) ∷ (67, SetNeighbourTable) ∷ (72, Of AddressLabel New)
+    ∷ (73, Of AddressLabel Del) ∷ (74, Of AddressLabel Get) ∷ (80, Of Netconf New) ∷ (81, Of Netconf Del) ∷ (82, Of Netconf Get)
+    ∷ (88, Of Nsid New) ∷ (89, Of Nsid Del) ∷ (90, Of Nsid Get) ∷ (104, Of NextHop New) ∷ (105, Of NextHop Del)
+    ∷ (106, Of NextHop Get) ∷ (108, Of LinkProp New) ∷ (109, Of LinkProp Del) ∷ (110, Of LinkProp Get)
+    ∷ (116, Of NextHopBucket New) ∷ (117, Of NextHopBucket Del) ∷ (118, Of NextHopBucket Get) ∷ []
 
 abbrev pub type_of : ℕ → MessageType
 type_of number = form_in (λ d. Unknown) types number
 
--- the number of a type: those of a kind follow one another
-abbrev pub first_type : MessageKind → ℕ
+-- the number of a type: those on one subject follow one another
+abbrev pub first_type : Subject → ℕ
 first_type Link = 16
 first_type Address = 20
 first_type Route = 24
 first_type Neighbour = 28
 first_type Rule = 32
+first_type AddressLabel = 72
+first_type Netconf = 80
+first_type Nsid = 88
+first_type NextHop = 104
+first_type LinkProp = 108
+first_type NextHopBucket = 116
 
-abbrev pub type_number : MessageKind → Action → ℕ
-type_number kind New = first_type kind
-type_number kind Del = first_type kind + 1
-type_number kind Get = first_type kind + 2
-
-abbrev pub prop_number : Action → ℕ
-prop_number New = 108
-prop_number Del = 109
-prop_number Get = 110
+abbrev pub type_number : MessageType → ℕ
+type_number (Of subject New) = first_type subject
+type_number (Of subject Del) = first_type subject + 1
+type_number (Of subject Get) = first_type subject + 2
+type_number SetLink = 19
+type_number NewPrefix = 52
+type_number NewNeighbourTable = 64
+type_number GetNeighbourTable = 66
+type_number SetNeighbourTable = 67
+type_number Unknown = 0
 
 abbrev pub number : Meaning → ℕ
-number (message kind a m) = type_number kind a
-number (set_link m) = 19
-number (link_prop a m) = prop_number a
+number (message type m) = type_number type
 number (other type bytes) = type
 
+-- it is read, under the type of this number
+abbrev pub has_number : ℕ → Meaning → Bool
+has_number n (message type m) = type_number type == n
+has_number n (other type bytes) = false
+
+-- it is a message of this type
+abbrev pub is_of : MessageType → Meaning → Bool
+is_of type x = has_number (type_number type) x
+
+abbrev bytes_under : (k : Option MessageKind) → Under k → List ℕ
+bytes_under (Some kind) m = canonical_bytes (form_of kind).grammar m
+bytes_under None m = []
+
 abbrev pub encode : Meaning → List ℕ
-encode (message kind a m) = canonical_bytes (form_of kind).grammar m
-encode (set_link m) = canonical_bytes links m
-encode (link_prop a m) = canonical_bytes links m
+encode (message type m) = bytes_under (kind_of_type type) m
 encode (other type bytes) = bytes
 
+abbrev unfit_under : (k : Option MessageKind) → Under k → Option EmitError
+unfit_under (Some kind) m = message_unfit (form_of kind).grammar m
+unfit_under None m = None
+
 abbrev pub meaning_unfit : Meaning → Option EmitError
-meaning_unfit (message kind a m) = message_unfit (form_of kind).grammar m
-meaning_unfit (set_link m) = message_unfit links m
-meaning_unfit (link_prop a m) = message_unfit links m
+meaning_unfit (message type m) = unfit_under (kind_of_type type) m
 meaning_unfit (other type bytes) = None
 
--- the bytes are a message of a kind
-abbrev pub IsMessageOf : MessageKind → Action → List ℕ → Meaning → Type 0
-IsMessageOf kind a bytes x = (m : MessageOf kind) × IsMessage (form_of kind).grammar bytes m × (x ≡ message kind a m)
+-- the bytes are a message on this, which does this
+abbrev pub IsMessageOn : Subject → Action → List ℕ → Meaning → Type 0
+IsMessageOn subject a bytes x =
+    (m : MessageOf (kind_of subject)) × IsMessage (form_of (kind_of subject)).grammar bytes m × (x ≡ message (Of subject a) m)
 
--- the bytes are a link message under another type
-abbrev pub IsLinkMessage : (MessageOf Link → Meaning) → List ℕ → Meaning → Type 0
-IsLinkMessage form bytes x = (m : MessageOf Link) × IsMessage links bytes m × (x ≡ form m)
+abbrev ReadsBy : (k : Option MessageKind) → (Under k → Meaning) → ℕ → List ℕ → Meaning → Type 0
+ReadsBy (Some kind) of type bytes x = (m : MessageOf kind) × IsMessage (form_of kind).grammar bytes m × (x ≡ of m)
+ReadsBy None of type bytes x = x ≡ other type bytes
 
--- what bytes mean under what the type says
+-- what the bytes are under this type
 abbrev pub ReadsUnder : MessageType → ℕ → List ℕ → Meaning → Type 0
-ReadsUnder (Of kind a) type bytes x = IsMessageOf kind a bytes x
-ReadsUnder SetLink type bytes x = IsLinkMessage set_link bytes x
-ReadsUnder (LinkProp a) type bytes x = IsLinkMessage (link_prop a) bytes x
-ReadsUnder Unknown type bytes x = x ≡ other type bytes
+ReadsUnder t type bytes x = ReadsBy (kind_of_type t) (λ m. message t m) type bytes x
 
+abbrev FaultBy : Option MessageKind → List ℕ → DecodeError → Type 0
+FaultBy (Some kind) bytes e = MessageFault (form_of kind).grammar bytes e
+FaultBy None bytes e = ⊥
+
+-- why they are no message; bytes under another type are always one
 abbrev pub FaultUnder : MessageType → List ℕ → DecodeError → Type 0
-FaultUnder (Of kind a) bytes e = MessageFault (form_of kind).grammar bytes e
-FaultUnder SetLink bytes e = MessageFault links bytes e
-FaultUnder (LinkProp a) bytes e = MessageFault links bytes e
-FaultUnder Unknown bytes e = ⊥
+FaultUnder t bytes e = FaultBy (kind_of_type t) bytes e
 
--- a first whole attribute stands behind the header
+-- a first attribute stands behind the header
 abbrev pub HasFirst : MessageKind → List ℕ → Type 0
 HasFirst kind bytes = (x : Item) × (rest : List ℕ) × Front (drop (form_of kind).grammar.layout.size bytes) x rest
 
--- bytes whose reading may want memory: those of another type are kept
+abbrev GrowsBy : Option MessageKind → List ℕ → Type 0
+GrowsBy (Some kind) bytes = HasFirst kind bytes
+GrowsBy None bytes = 0 < length bytes
+
+-- bytes that may want memory: those of another type are kept
 abbrev pub GrowsUnder : MessageType → List ℕ → Type 0
-GrowsUnder (Of kind a) bytes = HasFirst kind bytes
-GrowsUnder SetLink bytes = HasFirst Link bytes
-GrowsUnder (LinkProp a) bytes = HasFirst Link bytes
-GrowsUnder Unknown bytes = 0 < length bytes
+GrowsUnder t bytes = GrowsBy (kind_of_type t) bytes
+
+abbrev CopyBy : (k : Option MessageKind) → Under k → Type 0
+CopyBy (Some kind) m = 0 < length m.attributes
+CopyBy None m = ⊥
 
 -- a message whose copy may want it
 abbrev pub CopyGrows : Meaning → Type 0
-CopyGrows (message kind a m) = 0 < length m.attributes
-CopyGrows (set_link m) = 0 < length m.attributes
-CopyGrows (link_prop a m) = 0 < length m.attributes
+CopyGrows (message type m) = CopyBy (kind_of_type type) m
 CopyGrows (other type bytes) = 0 < length bytes
+
+abbrev CoherentBy : (k : Option MessageKind) → Under k → Type 0
+CoherentBy (Some kind) m = IsCoherent (form_of kind).grammar m
+CoherentBy None m = ⊥
 
 -- what can be read; another type is none of these
 abbrev pub Coherent : Meaning → Type 0
-Coherent (message kind a m) = IsCoherent (form_of kind).grammar m
-Coherent (set_link m) = IsCoherent links m
-Coherent (link_prop a m) = IsCoherent links m
+Coherent (message type m) = CoherentBy (kind_of_type type) m
 Coherent (other type bytes) = (type_of type ≡ Unknown) × IsBytes bytes
 
--- the number of a type
+-- the number of a type is its own
 unfoldable pub HasNumber : MessageType → ℕ → Type 0
-HasNumber (Of kind a) type = type ≡ type_number kind a
-HasNumber SetLink type = type ≡ 19
-HasNumber (LinkProp a) type = type ≡ prop_number a
 HasNumber Unknown type = Unit {0}
+HasNumber t type = type ≡ type_number t
 
 in_row : (b : Bool) (t u : MessageType) (type n : ℕ) → (type == n) ≡ b → HasNumber t n → HasNumber u type → HasNumber (if b then t else u) type
 in_row true t u type n e h k = subst (HasNumber t) (sym (eqb-true type n e)) h
@@ -195,65 +265,104 @@ in_rows (row ∷ rows) all type = in_row (type == row.0) row.1 (form_in (λ d. U
 pub number-is : (type : ℕ) → HasNumber (type_of type) type
 unfolding HasNumber
 number-is = in_rows types (
-    refl also refl also refl also refl also refl also refl also refl also refl also refl also refl also refl also refl
-    also refl also refl also refl also refl also refl also refl also refl also tt)
+    refl also refl also refl also refl also refl also refl also refl also refl also refl also refl also refl also refl also refl
+    also refl also refl also refl also refl also refl also refl also refl also refl also refl also refl also refl also refl
+    also refl also refl also refl also refl also refl also refl also refl also refl also refl also refl also refl also refl
+    also refl also tt)
+
+number-back : (t : MessageType) (type : ℕ) → Under (kind_of_type t) → HasNumber t type → type_number t ≡ type
+unfolding HasNumber
+number-back Unknown type m has = absurd m
+number-back t type m has = sym has
+
+type-number : (t : MessageType) → Under (kind_of_type t) → type_of (type_number t) ≡ t
+type-number (Of Link New) m = refl
+type-number (Of Link Del) m = refl
+type-number (Of Link Get) m = refl
+type-number (Of Address New) m = refl
+type-number (Of Address Del) m = refl
+type-number (Of Address Get) m = refl
+type-number (Of Route New) m = refl
+type-number (Of Route Del) m = refl
+type-number (Of Route Get) m = refl
+type-number (Of Neighbour New) m = refl
+type-number (Of Neighbour Del) m = refl
+type-number (Of Neighbour Get) m = refl
+type-number (Of Rule New) m = refl
+type-number (Of Rule Del) m = refl
+type-number (Of Rule Get) m = refl
+type-number (Of AddressLabel New) m = refl
+type-number (Of AddressLabel Del) m = refl
+type-number (Of AddressLabel Get) m = refl
+type-number (Of Netconf New) m = refl
+type-number (Of Netconf Del) m = refl
+type-number (Of Netconf Get) m = refl
+type-number (Of Nsid New) m = refl
+type-number (Of Nsid Del) m = refl
+type-number (Of Nsid Get) m = refl
+type-number (Of NextHop New) m = refl
+type-number (Of NextHop Del) m = refl
+type-number (Of NextHop Get) m = refl
+type-number (Of LinkProp New) m = refl
+type-number (Of LinkProp Del) m = refl
+type-number (Of LinkProp Get) m = refl
+type-number (Of NextHopBucket New) m = refl
+type-number (Of NextHopBucket Del) m = refl
+type-number (Of NextHopBucket Get) m = refl
+type-number SetLink m = refl
+type-number NewPrefix m = refl
+type-number NewNeighbourTable m = refl
+type-number GetNeighbourTable m = refl
+type-number SetNeighbourTable m = refl
+type-number Unknown m = absurd m
+
+one_by : (k : Option MessageKind) (of : Under k → Meaning) (type : ℕ) (bytes : List ℕ) (x y : Meaning) → ReadsBy k of type bytes x
+    → ReadsBy k of type bytes y → x ≡ y
+one_by (Some kind) of type bytes x y (m, p, e) (n, q, f) = e ∙ ap of (message-one (form_of kind).grammar bytes m n p q) ∙ sym f
+one_by None of type bytes x y p q = p ∙ sym q
 
 pub one : (t : MessageType) (type : ℕ) (bytes : List ℕ) (x y : Meaning) → ReadsUnder t type bytes x → ReadsUnder t type bytes y → x ≡ y
-one (Of kind a) type bytes x y (m, p, e) (n, q, f) = e ∙ ap (message kind a) (message-one (form_of kind).grammar bytes m n p q) ∙ sym f
-one SetLink type bytes x y (m, p, e) (n, q, f) = e ∙ ap set_link (message-one links bytes m n p q) ∙ sym f
-one (LinkProp a) type bytes x y (m, p, e) (n, q, f) = e ∙ ap (link_prop a) (message-one links bytes m n p q) ∙ sym f
-one Unknown type bytes x y p q = p ∙ sym q
+one t type bytes x y p q = one_by (kind_of_type t) (λ m. message t m) type bytes x y p q
+
+sound_by : (k : Option MessageKind) (of : Under k → Meaning) (type : ℕ) (bytes : List ℕ) (x : Meaning) (e : DecodeError) → ReadsBy k of type bytes x
+    → FaultBy k bytes e → ⊥
+sound_by (Some kind) of type bytes x e (m, p, is) bad = message-sound (form_of kind).grammar bytes m e bad p
+sound_by None of type bytes x e p bad = bad
 
 pub sound : (t : MessageType) (type : ℕ) (bytes : List ℕ) (x : Meaning) (e : DecodeError) → ReadsUnder t type bytes x → FaultUnder t bytes e → ⊥
-sound (Of kind a) type bytes x e (m, p, _) bad = message-sound (form_of kind).grammar bytes m e bad p
-sound SetLink type bytes x e (m, p, _) bad = message-sound links bytes m e bad p
-sound (LinkProp a) type bytes x e (m, p, _) bad = message-sound links bytes m e bad p
-sound Unknown type bytes x e p bad = bad
+sound t type bytes x e p bad = sound_by (kind_of_type t) (λ m. message t m) type bytes x e p bad
 
 abbrev pub IsKnown : ℕ → Meaning → Type 0
 IsKnown type x = Coherent x × (number x ≡ type)
 
+abbrev NoneKnown : Option MessageKind → ℕ → Type 0
+NoneKnown (Some kind) type = Unit {0}
+NoneKnown None type = type_of type ≡ Unknown
+
+none_known : (t : MessageType) (type : ℕ) → type_of type ≡ t → NoneKnown (kind_of_type t) type
+none_known Unknown type is = is
+none_known t type is = tt
+
+known_by : (k : Option MessageKind) (of : Under k → Meaning) (type : ℕ) (bytes : List ℕ) (x : Meaning)
+    → ((m : Under k) → CoherentBy k m → IsKnown type (of m)) → NoneKnown k type → IsBytes bytes → ReadsBy k of type bytes x → IsKnown type x
+known_by (Some kind) of type bytes x each none is (m, p, e) =
+    subst (IsKnown type) (sym e) (each m (message-coherent (form_of kind).grammar bytes m is p))
+known_by None of type bytes x each none is p = subst (IsKnown type) (sym p) ((none, is), refl)
+
 pub known : (t : MessageType) (type : ℕ) (bytes : List ℕ) (x : Meaning) → type_of type ≡ t → HasNumber t type
     → IsBytes bytes → ReadsUnder t type bytes x → IsKnown type x
-unfolding HasNumber
-known (Of kind a) type bytes x t has is (m, p, e) =
-    subst (IsKnown type) (sym e) (message-coherent (form_of kind).grammar bytes m is p, sym has)
-known SetLink type bytes x t has is (m, p, e) =
-    subst (IsKnown type) (sym e) (message-coherent links bytes m is p, sym has)
-known (LinkProp a) type bytes x t has is (m, p, e) =
-    subst (IsKnown type) (sym e) (message-coherent links bytes m is p, sym has)
-known Unknown type bytes x t has is p = subst (IsKnown type) (sym p) ((t, is), refl)
+known t type bytes x t_is has is p =
+    known_by (kind_of_type t) (λ m. message t m) type bytes x (λ m c. (c, number-back t type m has)) (none_known t type t_is) is p
 
-type-number : (kind : MessageKind) (a : Action) → type_of (type_number kind a) ≡ Of kind a
-type-number Address New = refl
-type-number Address Del = refl
-type-number Address Get = refl
-type-number Route New = refl
-type-number Route Del = refl
-type-number Route Get = refl
-type-number Neighbour New = refl
-type-number Neighbour Del = refl
-type-number Neighbour Get = refl
-type-number Rule New = refl
-type-number Rule Del = refl
-type-number Rule Get = refl
-type-number Link New = refl
-type-number Link Del = refl
-type-number Link Get = refl
-
-prop-number : (a : Action) → type_of (prop_number a) ≡ LinkProp a
-prop-number New = refl
-prop-number Del = refl
-prop-number Get = refl
+back_by : (k : Option MessageKind) (of : Under k → Meaning) (type : ℕ) (m : Under k) → CoherentBy k m → unfit_under k m ≡ None
+    → ReadsBy k of type (bytes_under k m) (of m)
+back_by (Some kind) of type m c fits = (m, message-back (form_of kind).grammar m c fits, refl)
+back_by None of type m c fits = absurd m
 
 pub back : (x : Meaning) → Coherent x → meaning_unfit x ≡ None → ReadsUnder (type_of (number x)) (number x) (encode x) x
-back (message kind a m) c fits =
-    subst (λ (t : MessageType). ReadsUnder t (type_number kind a) (canonical_bytes (form_of kind).grammar m) (message kind a m)) (sym (type-number kind a))
-    (m, message-back (form_of kind).grammar m c fits, refl)
-back (set_link m) c fits = (m, message-back links m c fits, refl)
-back (link_prop a m) c fits =
-    subst (λ (t : MessageType). ReadsUnder t (prop_number a) (canonical_bytes links m) (link_prop a m)) (sym (prop-number a))
-    (m, message-back links m c fits, refl)
+back (message t m) c fits =
+    subst (λ (u : MessageType). ReadsUnder u (type_number t) (bytes_under (kind_of_type t) m) (message t m)) (sym (type-number t m))
+    (back_by (kind_of_type t) (λ n. message t n) (type_number t) m c fits)
 back (other type bytes) c fits = subst (λ (t : MessageType). ReadsUnder t type bytes (other type bytes)) (sym c.0) refl
 
 -- rtnetlink

@@ -9,16 +9,24 @@ use Rattle.npr_base.specs.declared.refusal.DecodeError.TheVariants.{HeaderTooSho
 use Rattle.npr_address.specs.Message.{addresses}
 use Rattle.npr_link.specs.Message.{links}
 use Rattle.npr_neighbour.specs.Message.{neighbours}
+use Rattle.npr_nexthop.specs.Attribute.{Context as NextHopContext}
+use Rattle.npr_nexthop.specs.Message.{next_hops}
 use Rattle.npr_route.specs.FlatAttribute.{Context}
 use Rattle.npr_route.specs.Message.{routes}
 use Rattle.npr_rule.specs.Message.{rules}
+use Rattle.npr_small.specs.AddressLabelMessage.{address_labels}
+use Rattle.npr_small.specs.NeighbourTableMessage.{neighbour_tables}
+use Rattle.npr_small.specs.NetconfMessage.{netconfs}
+use Rattle.npr_small.specs.NsidMessage.{nsids}
+use Rattle.npr_small.specs.PrefixMessage.{prefixes}
 use Rattle.netlink_packet_route.specs.CheckLaws.{IsListAt, ListFaultAt}
 use Rattle.netlink_packet_route.specs.Levels.{Begins, header_size}
 use Rattle.netlink_packet_route.specs.MessageKind.{MessageOf, form_of}
 use Rattle.netlink_packet_route.specs.declared.kind.MessageKind.{MessageKind}
 use Rattle.netlink_packet_route.specs.declared.kind.MessageKind.TheVariants as Kind
 use Rattle.netlink_packet_route.specs.declared.levels.Level.{Level}
-use Rattle.netlink_packet_route.specs.declared.levels.Level.TheVariants.{Address, Rule, Route, Neighbour, Link}
+use Rattle.netlink_packet_route.specs.declared.levels.Level.TheVariants.{Address, Rule, Route, Neighbour, Link, NextHop}
+use Rattle.netlink_packet_route.specs.declared.levels.Level.TheVariants.{Nsid, Netconf, AddressLabel, NeighbourTable, Prefix}
 
 module _ {H A : Type 0} (g : Grammar H A) (bytes : List ℕ) where
   whole-message : (h : H) (rest : List ℕ) (ms : List g.Meaning) → (leading g.layout).Reads bytes h → rest ≡ drop g.layout.size bytes
@@ -73,6 +81,25 @@ begun-message Kind.Neighbour bytes rest level (h, reads, is, at) list =
 begun-message Kind.Link bytes rest level (h, reads, is, at) list =
     let (ms, all) = list-under level (Link h.interface_family) rest at list in
     whole-message links bytes h rest ms reads is all
+begun-message Kind.NextHop bytes rest level (h, reads, is, (c, (type, governs, context), at)) list =
+    let same : level ≡ NextHop h.family type = at ∙ ap (λ (d : NextHopContext). NextHop d.0 d.1) context in
+    let (ms, all) = list-under level (NextHop h.family type) rest same list in
+    whole-message next_hops bytes h rest ms reads is (type, governs, all)
+begun-message Kind.Nsid bytes rest level (h, reads, is, at) list =
+    let (ms, all) = list-under level Nsid rest at list in
+    whole-message nsids bytes h rest ms reads is all
+begun-message Kind.Netconf bytes rest level (h, reads, is, at) list =
+    let (ms, all) = list-under level Netconf rest at list in
+    whole-message netconfs bytes h rest ms reads is all
+begun-message Kind.AddressLabel bytes rest level (h, reads, is, at) list =
+    let (ms, all) = list-under level AddressLabel rest at list in
+    whole-message address_labels bytes h rest ms reads is all
+begun-message Kind.NeighbourTable bytes rest level (h, reads, is, at) list =
+    let (ms, all) = list-under level NeighbourTable rest at list in
+    whole-message neighbour_tables bytes h rest ms reads is all
+begun-message Kind.Prefix bytes rest level (h, reads, is, at) list =
+    let (ms, all) = list-under level Prefix rest at list in
+    whole-message prefixes bytes h rest ms reads is all
 
 pub begun-fault : (kind : MessageKind) (bytes rest : List ℕ) (level : Level) (e : DecodeError) → Begins kind bytes level rest → ListFaultAt level rest e
     → MessageFault (form_of kind).grammar bytes e
@@ -86,6 +113,19 @@ begun-fault Kind.Neighbour bytes rest level e (h, reads, is, at) bad =
     fault-behind neighbours bytes h rest e reads is (fault-under level (Neighbour h.family) rest e at bad)
 begun-fault Kind.Link bytes rest level e (h, reads, is, at) bad =
     fault-behind links bytes h rest e reads is (fault-under level (Link h.interface_family) rest e at bad)
+begun-fault Kind.NextHop bytes rest level e (h, reads, is, (c, (type, governs, context), at)) bad =
+    let same : level ≡ NextHop h.family type = at ∙ ap (λ (d : NextHopContext). NextHop d.0 d.1) context in
+    fault-behind next_hops bytes h rest e reads is (type, governs, fault-under level (NextHop h.family type) rest e same bad)
+begun-fault Kind.Nsid bytes rest level e (h, reads, is, at) bad =
+    fault-behind nsids bytes h rest e reads is (fault-under level Nsid rest e at bad)
+begun-fault Kind.Netconf bytes rest level e (h, reads, is, at) bad =
+    fault-behind netconfs bytes h rest e reads is (fault-under level Netconf rest e at bad)
+begun-fault Kind.AddressLabel bytes rest level e (h, reads, is, at) bad =
+    fault-behind address_labels bytes h rest e reads is (fault-under level AddressLabel rest e at bad)
+begun-fault Kind.NeighbourTable bytes rest level e (h, reads, is, at) bad =
+    fault-behind neighbour_tables bytes h rest e reads is (fault-under level NeighbourTable rest e at bad)
+begun-fault Kind.Prefix bytes rest level e (h, reads, is, at) bad =
+    fault-behind prefixes bytes h rest e reads is (fault-under level Prefix rest e at bad)
 
 pub begun-short : (kind : MessageKind) (bytes : List ℕ) (e : DecodeError) → length bytes < header_size kind
     → e ≡ HeaderTooShort (length bytes) (header_size kind) → MessageFault (form_of kind).grammar bytes e
@@ -94,3 +134,9 @@ begun-short Kind.Rule bytes e short is = no-header rules bytes e short is
 begun-short Kind.Route bytes e short is = no-header routes bytes e short is
 begun-short Kind.Neighbour bytes e short is = no-header neighbours bytes e short is
 begun-short Kind.Link bytes e short is = no-header links bytes e short is
+begun-short Kind.NextHop bytes e short is = no-header next_hops bytes e short is
+begun-short Kind.Nsid bytes e short is = no-header nsids bytes e short is
+begun-short Kind.Netconf bytes e short is = no-header netconfs bytes e short is
+begun-short Kind.AddressLabel bytes e short is = no-header address_labels bytes e short is
+begun-short Kind.NeighbourTable bytes e short is = no-header neighbour_tables bytes e short is
+begun-short Kind.Prefix bytes e short is = no-header prefixes bytes e short is

@@ -38,6 +38,7 @@ use Rattle.npr_link.specs.AfSpecInet as OfAfSpecInet
 use Rattle.npr_link.specs.AfSpecInet6 as OfAfSpecInet6
 use Rattle.npr_link.specs.AfSpecs as OfAfSpecs
 use Rattle.npr_link.specs.Attribute as OfLink
+use Rattle.npr_link_bridge.specs.AfSpecBridge as OfAfBridge
 use Rattle.npr_link_bridge.specs.Bridge as OfBridge
 use Rattle.npr_link_bridge.specs.BridgePort as OfBridgePort
 use Rattle.npr_link.specs.Info as OfInfo
@@ -45,8 +46,12 @@ use Rattle.npr_link.specs.InfoData.{info_data}
 use Rattle.npr_link.specs.PortData.{port_data}
 use Rattle.npr_link.specs.PeerAttribute as OfPeer
 use Rattle.npr_link.specs.Prop as OfProp
+use Rattle.npr_link.specs.ProtoInfos as OfProto
 use Rattle.npr_link.specs.ProtocolDown as OfReason
+use Rattle.npr_link_bridge.specs.Mst as OfMst
+use Rattle.npr_link_bridge.specs.MstEntry as OfMstEntry
 use Rattle.npr_link_bridge.specs.QuerierState as OfQuerier
+use Rattle.npr_link_bridge.specs.VlanTunnel as OfVlanTunnel
 use Rattle.npr_link.specs.Veth as OfVeth
 use Rattle.npr_link.specs.Vlan as OfVlan
 use Rattle.npr_link.specs.VlanQos as OfVlanQos
@@ -59,10 +64,21 @@ use Rattle.npr_link.specs.declared.port_kind.InfoPortForm.{InfoPortForm}
 use Rattle.npr_link.specs.declared.port_kind.InfoPortForm.TheVariants as Port
 use Rattle.npr_neighbour.specs.Attribute as OfNeighbour
 use Rattle.npr_neighbour.specs.NeighbourAddress as OfNeighbourAddress
+use Rattle.npr_nexthop.specs.Attribute as OfNextHop
+use Rattle.npr_nexthop.specs.GroupStats as OfGroupStats
+use Rattle.npr_nexthop.specs.GroupStatsEntry as OfGroupStatsEntry
+use Rattle.npr_nexthop.specs.ResBucket as OfResBucket
+use Rattle.npr_nexthop.specs.ResGroup as OfResGroup
 use Rattle.npr_route.specs.FlatAttribute as Flat
 use Rattle.npr_route.specs.Metric as OfMetric
 use Rattle.npr_rule.specs.Attribute as OfRule
 use Rattle.npr_scalar.specs.RouteAddress as OfRouteAddress
+use Rattle.npr_small.specs.AddressLabelAttribute as OfAddressLabel
+use Rattle.npr_small.specs.NeighbourTableAttribute as OfNeighbourTable
+use Rattle.npr_small.specs.NeighbourTableParameter as OfNeighbourTableParameter
+use Rattle.npr_small.specs.NetconfAttribute as OfNetconf
+use Rattle.npr_small.specs.NsidAttribute as OfNsid
+use Rattle.npr_small.specs.PrefixAttribute as OfPrefix
 use Rattle.npr_srh.specs.Ioam6Tunnel as OfIoam6
 use Rattle.npr_srh.specs.RplTunnel as OfRpl
 use Rattle.npr_srh.specs.Seg6LocalTunnel as OfSeg6Local
@@ -85,8 +101,12 @@ use Rattle.netlink_packet_route.specs.declared.levels.Level.TheVariants.{VlanQos
 use Rattle.netlink_packet_route.specs.declared.levels.Level.TheVariants.{InfoBond, BondAdInfo, InfoBondPort, InfoMacVlan}
 use Rattle.netlink_packet_route.specs.declared.levels.Level.TheVariants.{MacVlanAddress, InfoIpVlan, InfoNetkit, InfoTun}
 use Rattle.netlink_packet_route.specs.declared.levels.Level.TheVariants.{InfoVxlan, InfoGeneve, InfoGre, InfoGre6, InfoIpTunnel}
+use Rattle.netlink_packet_route.specs.declared.levels.Level.TheVariants.{AfSpecBridge, BridgeVlanTunnelInfo, BridgeMst, BridgeMstEntry}
 use Rattle.netlink_packet_route.specs.declared.levels.Level.TheVariants.{InfoVti, InfoXfrm}
-use Rattle.netlink_packet_route.specs.Levels.{reading_at, holds_list, is_list, has_family, has_port_family, has_options}
+use Rattle.netlink_packet_route.specs.declared.levels.Level.TheVariants.{NextHop, NextHopResGroup, NextHopResBucket, NextHopGroupStats}
+use Rattle.netlink_packet_route.specs.declared.levels.Level.TheVariants.{NextHopGroupStatsEntry, Nsid, Netconf, AddressLabel, NeighbourTable}
+use Rattle.netlink_packet_route.specs.declared.levels.Level.TheVariants.{NeighbourTableParameter, Prefix}
+use Rattle.netlink_packet_route.specs.Levels.{reading_at, holds_list, is_list, is_proto_list, has_family, has_port_family, has_options}
 use denote.Enum.Declared.{Record}
 use denote.Struct.Field.{Field}
 
@@ -209,7 +229,27 @@ link_lists form k = k == 18 || (k == 26 && is_list form || (k == 43 || (k == 52 
 
 link-rows : (form : OfAfSpecs.Form) → variants_whole (link_lists form) OfLink.later (OfLink.rows form).0 ≡ true
 link-rows OfAfSpecs.as_list = refl
+link-rows OfAfSpecs.as_bridge = refl
 link-rows OfAfSpecs.as_bytes = refl
+
+proto-whole : (proto : OfProto.Form) → is_proto_list proto ≡ false → IsWhole (OfProto.shown_as proto)
+proto-whole OfProto.as_inet6 e = absurd cc
+proto-whole OfProto.as_bridge e = absurd cc
+proto-whole OfProto.as_whole e = tt
+
+-- what the protocol says is read where it stands, or is a list
+beside-whole : (b : Bool) (proto : OfProto.Form) (at : At) (later : At × Form) → (b && is_proto_list proto) ≡ false → IsWhole later.1
+    → IsWhole (if b then (at, OfProto.shown_as proto) else later).1
+beside-whole true proto at later own rest = proto-whole proto own
+beside-whole false proto at later own rest = rest
+
+or-first : (a b : Bool) → (a || b) ≡ false → a ≡ false
+or-first false b e = refl
+or-first true b e = e
+
+or-second : (a b : Bool) → (a || b) ≡ false → b ≡ false
+or-second false b e = e
+or-second true b e = absurd cc
 
 abbrev driver_lists : InfoForm → InfoPortForm → ℕ → Bool
 driver_lists link port k = k == 2 && has_family link || k == 5 && has_port_family port
@@ -323,6 +363,22 @@ ip-tunnel-whole form k =
     either-whole (k == 8) _ _ (flags-whole (OfTunnelFlags.kind_of form))
     (from-variants none k refl AtIpTunnel OfIpTunnel.flat OfIpTunnel.flat_rows.0 refl)
 
+abbrev next_hop_lists : ℕ → Bool
+next_hop_lists k = k == 8 || (k == 12 || (k == 13 || k == 15))
+
+next-hop-whole : (form : OfRouteAddress.Form) (family : Reading OfEncap.writing) (k : ℕ) → next_hop_lists k ≡ false
+    → IsWhole ((attributes_of (OfNextHop.table form family)).seeing.form_at k).1
+next-hop-whole OfRouteAddress.four family k lists = in-table (OfNextHop.table OfRouteAddress.four family) next_hop_lists refl k lists
+next-hop-whole OfRouteAddress.sixteen family k lists = in-table (OfNextHop.table OfRouteAddress.sixteen family) next_hop_lists refl k lists
+next-hop-whole OfRouteAddress.label family k lists = in-table (OfNextHop.table OfRouteAddress.label family) next_hop_lists refl k lists
+next-hop-whole OfRouteAddress.any family k lists = in-table (OfNextHop.table OfRouteAddress.any family) next_hop_lists refl k lists
+
+abbrev af_bridge_lists : ℕ → Bool
+af_bridge_lists k = k == 3 || k == 6
+
+abbrev sixth_list : ℕ → Bool
+sixth_list k = k == 6
+
 pub seen-whole : (level : Level) (k : ℕ) (value : List ℕ) → stands_apart level k value ≡ false → holds_hops level k ≡ false
     → holds_list level k value ≡ false → IsWhole ((reading_at level).reading.seeing.form_at k).1
 unfolding OfMetric.attributes OfOption.attributes OfVxlan.attributes OfErspan.attributes OfXdp.attributes OfProp.attributes
@@ -331,6 +387,8 @@ unfolding OfMetric.attributes OfOption.attributes OfVxlan.attributes OfErspan.at
     OfBond.attributes OfAdInfo.attributes OfBondPort.attributes OfMacVlan.attributes OfMacVlanAddress.attributes OfIpVlan.attributes
     OfNetkit.attributes OfTun.attributes
     OfLinkVxlan.attributes OfLinkGeneve.attributes OfGre.attributes OfGre6.attributes OfVti.attributes OfLinkXfrm.attributes
+    OfAfBridge.attributes OfVlanTunnel.attributes OfMst.attributes OfMstEntry.attributes
+    OfResGroup.attributes OfResBucket.attributes OfGroupStats.attributes OfGroupStatsEntry.attributes OfNeighbourTableParameter.attributes
 seen-whole Address k value apart hops lists = in-table OfAddress.table none refl k refl
 seen-whole Rule k value apart hops lists = in-table OfRule.table none refl k refl
 seen-whole (Route family kind encap_type) k value apart hops lists =
@@ -340,9 +398,12 @@ seen-whole (Route family kind encap_type) k value apart hops lists =
     (route-whole (OfRouteAddress.form_of family) (Flat.is_multicast kind) (OfEncap.encapsulation encap_type)))
 seen-whole (Neighbour family) k value apart hops lists = neighbour-whole (OfNeighbourAddress.form_of family) k
 seen-whole (Link family) k value apart hops lists =
+    let proto = OfProto.form_of family in
     let form = OfAfSpecs.form_of family in
-    from-variants (link_lists form) k lists
-    (family_in OfLink.later (OfLink.rows form).0) OfLink.later (OfLink.rows form).0 (link-rows form)
+    let own = k == 12 && is_proto_list proto in
+    beside-whole (k == 12) proto _ _ (or-first own (link_lists form k) lists)
+    (from-variants (link_lists form) k (or-second own (link_lists form k) lists)
+    (family_in OfLink.later (OfLink.rows form).0) OfLink.later (OfLink.rows form).0 (link-rows form))
 seen-whole Metric k value apart hops lists = in-table OfMetric.table none refl k refl
 seen-whole (Encap encap_type) k value apart hops lists = encap-whole encap_type k apart lists
 seen-whole Opt k value apart hops lists = in-table OfOption.table options_apart refl k (or-false (k == 1) (k == 2 || k == 3) apart lists)
@@ -355,6 +416,10 @@ seen-whole LinkProtocolDownReason k value apart hops lists = in-table OfReason.t
 seen-whole AfSpecUnspec k value apart hops lists = in-table OfAfSpec.table families_lists refl k lists
 seen-whole AfSpecInet k value apart hops lists = in-table OfAfSpecInet.table none refl k refl
 seen-whole AfSpecInet6 k value apart hops lists = in-table OfAfSpecInet6.table none refl k refl
+seen-whole AfSpecBridge k value apart hops lists = in-table OfAfBridge.table af_bridge_lists refl k lists
+seen-whole BridgeVlanTunnelInfo k value apart hops lists = in-table OfVlanTunnel.table none refl k refl
+seen-whole BridgeMst k value apart hops lists = in-table OfMst.table first_list refl k lists
+seen-whole BridgeMstEntry k value apart hops lists = in-table OfMstEntry.table none refl k refl
 seen-whole InfoBridge k value apart hops lists = in-table OfBridge.table bridge_list refl k lists
 seen-whole BridgeQuerierState k value apart hops lists = in-table OfQuerier.table none refl k refl
 seen-whole InfoBridgePort k value apart hops lists = in-table OfBridgePort.table none refl k refl
@@ -378,3 +443,15 @@ seen-whole InfoGre6 k value apart hops lists = in-table OfGre6.table none refl k
 seen-whole (InfoIpTunnel form) k value apart hops lists = ip-tunnel-whole form k
 seen-whole InfoVti k value apart hops lists = in-table OfVti.table none refl k refl
 seen-whole InfoXfrm k value apart hops lists = in-table OfLinkXfrm.table none refl k refl
+seen-whole (NextHop family encap_type) k value apart hops lists =
+    next-hop-whole (OfRouteAddress.form_of family) (OfEncap.encapsulation encap_type) k lists
+seen-whole NextHopResGroup k value apart hops lists = in-table OfResGroup.table none refl k refl
+seen-whole NextHopResBucket k value apart hops lists = in-table OfResBucket.table none refl k refl
+seen-whole NextHopGroupStats k value apart hops lists = in-table OfGroupStats.table first_list refl k lists
+seen-whole NextHopGroupStatsEntry k value apart hops lists = in-table OfGroupStatsEntry.table none refl k refl
+seen-whole Nsid k value apart hops lists = in-table OfNsid.table none refl k refl
+seen-whole Netconf k value apart hops lists = in-table OfNetconf.table none refl k refl
+seen-whole AddressLabel k value apart hops lists = in-table OfAddressLabel.table none refl k refl
+seen-whole NeighbourTable k value apart hops lists = in-table OfNeighbourTable.table sixth_list refl k lists
+seen-whole NeighbourTableParameter k value apart hops lists = in-table OfNeighbourTableParameter.table none refl k refl
+seen-whole Prefix k value apart hops lists = in-table OfPrefix.table none refl k refl

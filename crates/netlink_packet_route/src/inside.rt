@@ -1,5 +1,5 @@
 //! Which lists of attributes stand in values, by the numbers of `linux/rtnetlink.h`, `linux/lwtunnel.h`,
-//! `linux/if_link.h` and `linux/veth.h`.
+//! `linux/if_link.h`, `linux/veth.h`, `linux/nexthop.h` and `linux/neighbour.h`.
 
 ghost use Rattle.std.specs.Prelude.{◌≡◌, ℕ, List, false, IfSome, IsNone};
 ghost use Rattle.npr_base.specs.declared.address_family.AddressFamily.{AddressFamily};
@@ -9,7 +9,7 @@ ghost use Rattle.npr_scalar.specs.declared.route_type.RouteType.{RouteType};
 ghost use Rattle.npr_tunnel.specs.EncapType.{encap_types};
 ghost use Rattle.netlink_packet_route.specs.{
   Levels.{FromBytes, IsInside, IsOf, IsPlainInside, holds_list},
-  declared.levels.Level.TheVariants.{Route, Encap, Opt, Link, LinkInfo, AfSpecUnspec, InfoBridge, InfoVlan, InfoVeth, InfoBond, InfoMacVlan, InfoNetkit},
+  declared.levels.Level.TheVariants.{Route, Encap, Opt, Link, LinkInfo, AfSpecUnspec, AfSpecBridge, BridgeMst, InfoBridge, InfoVlan, InfoVeth, InfoBond, InfoMacVlan, InfoNetkit, NextHop, NextHopGroupStats, NeighbourTable},
 };
 
 use crate::levels::Level;
@@ -65,32 +65,57 @@ pub fn inside_options(number: u16) -> Option<Level>
     }
 }
 
-/// In an attribute of a link: what a driver says, under its kinds; what address families say, unless
-/// the header has another family; programs, properties, and why a link is held down.
+/// In an attribute of a link: what its protocol and address families say, by the header's family; what a
+/// driver says, under its kinds; programs, properties, and why a link is held down.
 pub fn inside_link(family: AddressFamily, number: u16, value: &[u8]) -> Option<Level>
     ensures opens { IfSome result (λ level. IsPlainInside (Link family) number value.now level) }
     ensures none { IsNone result → holds_list (Link family) number value.now ≡ false }
     ensures numbers { IfSome result FromBytes }
 {
     match number {
+        // IFLA_PROTINFO
+        12 => inside_proto_info(family),
         // IFLA_LINKINFO
         18 => {
             let (link, port) = governing_forms(value, &mut Looks::new());
             Some(Level::LinkInfo(link, port))
         }
         // IFLA_AF_SPEC
-        26 => match family {
-            AddressFamily::Unspec | AddressFamily::Inet | AddressFamily::Inet6 => Some(
-                Level::AfSpecUnspec,
-            ),
-            _ => None,
-        },
+        26 => inside_af_specs(family),
         // IFLA_XDP
         43 => Some(Level::LinkXdp),
         // IFLA_PROP_LIST
         52 => Some(Level::Prop),
         // IFLA_PROTO_DOWN_REASON
         55 => Some(Level::LinkProtocolDownReason),
+        _ => None,
+    }
+}
+
+/// In what the protocol of a link says.
+fn inside_proto_info(family: AddressFamily) -> Option<Level>
+    ensures opens { IfSome result (λ level. (value : List ℕ) → IsPlainInside (Link family) 12 value level) }
+    ensures none { IsNone result → (value : List ℕ) → holds_list (Link family) 12 value ≡ false }
+    ensures numbers { IfSome result FromBytes }
+{
+    match family {
+        AddressFamily::Inet6 => Some(Level::AfSpecInet6),
+        AddressFamily::Bridge => Some(Level::InfoBridgePort),
+        _ => None,
+    }
+}
+
+/// In what address families say.
+fn inside_af_specs(family: AddressFamily) -> Option<Level>
+    ensures opens { IfSome result (λ level. (value : List ℕ) → IsPlainInside (Link family) 26 value level) }
+    ensures none { IsNone result → (value : List ℕ) → holds_list (Link family) 26 value ≡ false }
+    ensures numbers { IfSome result FromBytes }
+{
+    match family {
+        AddressFamily::Unspec => Some(Level::AfSpecUnspec),
+        AddressFamily::Inet => Some(Level::AfSpecUnspec),
+        AddressFamily::Inet6 => Some(Level::AfSpecUnspec),
+        AddressFamily::Bridge => Some(Level::AfSpecBridge),
         _ => None,
     }
 }
@@ -173,6 +198,34 @@ pub fn inside_families(number: u16) -> Option<Level>
     }
 }
 
+/// In what a bridge says: tunnels of VLANs, or states of spanning trees.
+pub fn inside_af_bridge(number: u16) -> Option<Level>
+    ensures opens { IfSome result (λ level. (value : List ℕ) → IsPlainInside AfSpecBridge number value level) }
+    ensures none { IsNone result → (value : List ℕ) → holds_list AfSpecBridge number value ≡ false }
+    ensures numbers { IfSome result FromBytes }
+{
+    match number {
+        // IFLA_BRIDGE_VLAN_TUNNEL_INFO
+        3 => Some(Level::BridgeVlanTunnelInfo),
+        // IFLA_BRIDGE_MST
+        6 => Some(Level::BridgeMst),
+        _ => None,
+    }
+}
+
+/// In the states of spanning trees: that in one of them.
+pub fn inside_mst(number: u16) -> Option<Level>
+    ensures opens { IfSome result (λ level. (value : List ℕ) → IsPlainInside BridgeMst number value level) }
+    ensures none { IsNone result → (value : List ℕ) → holds_list BridgeMst number value ≡ false }
+    ensures numbers { IfSome result FromBytes }
+{
+    match number {
+        // IFLA_BRIDGE_MST_ENTRY
+        1 => Some(Level::BridgeMstEntry),
+        _ => None,
+    }
+}
+
 /// In the data of a bridge: who asks for members.
 pub fn inside_bridge(number: u16) -> Option<Level>
     ensures opens { IfSome result (λ level. (value : List ℕ) → IsPlainInside InfoBridge number value level) }
@@ -247,4 +300,49 @@ pub fn inside_netkit(number: u16, value: &[u8]) -> Option<(Level, &[u8])>
         return None;
     }
     Some((Level::Peer, &value[PEER_HEADER_LEN..]))
+}
+
+/// In an attribute of a next hop: an encapsulation, a resilient group, a bucket of one, or statistics.
+pub fn inside_next_hop(encap_type: RouteLwEnCapType, number: u16) -> Option<Level>
+    ensures opens { IfSome result (λ level. (family : AddressFamily) (value : List ℕ) → IsPlainInside (NextHop family encap_type) number value level) }
+    ensures none { IsNone result → (family : AddressFamily) (value : List ℕ) → holds_list (NextHop family encap_type) number value ≡ false }
+    ensures numbers { IfSome result (λ level. IsOf 65536 encap_types encap_type → FromBytes level) }
+{
+    match number {
+        // NHA_ENCAP
+        8 => Some(Level::Encap(encap_type)),
+        // NHA_RES_GROUP
+        12 => Some(Level::NextHopResGroup),
+        // NHA_RES_BUCKET
+        13 => Some(Level::NextHopResBucket),
+        // NHA_GROUP_STATS
+        15 => Some(Level::NextHopGroupStats),
+        _ => None,
+    }
+}
+
+/// In the statistics of a group: those of a member.
+pub fn inside_statistics(number: u16) -> Option<Level>
+    ensures opens { IfSome result (λ level. (value : List ℕ) → IsPlainInside NextHopGroupStats number value level) }
+    ensures none { IsNone result → (value : List ℕ) → holds_list NextHopGroupStats number value ≡ false }
+    ensures numbers { IfSome result FromBytes }
+{
+    match number {
+        // NHA_GROUP_STATS_ENTRY
+        1 => Some(Level::NextHopGroupStatsEntry),
+        _ => None,
+    }
+}
+
+/// In an attribute of a table of neighbours: its parameters.
+pub fn inside_neighbour_table(number: u16) -> Option<Level>
+    ensures opens { IfSome result (λ level. (value : List ℕ) → IsPlainInside NeighbourTable number value level) }
+    ensures none { IsNone result → (value : List ℕ) → holds_list NeighbourTable number value ≡ false }
+    ensures numbers { IfSome result FromBytes }
+{
+    match number {
+        // NDTA_PARMS
+        6 => Some(Level::NeighbourTableParameter),
+        _ => None,
+    }
 }

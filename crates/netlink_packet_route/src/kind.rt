@@ -16,16 +16,34 @@ pub enum MessageKind {
     Neighbour,
     /// Link messages.
     Link,
+    /// Next hop messages.
+    NextHop,
+    /// Messages of network name spaces.
+    Nsid,
+    /// Messages of settings.
+    Netconf,
+    /// Messages of address labels.
+    AddressLabel,
+    /// Messages of tables of neighbours.
+    NeighbourTable,
+    /// Prefix messages.
+    Prefix,
 }
 
 impl MessageKind {
     /// Each kind.
-    pub const ALL: [MessageKind; 5] = [
+    pub const ALL: [MessageKind; 11] = [
         MessageKind::Address,
         MessageKind::Route,
         MessageKind::Rule,
         MessageKind::Neighbour,
         MessageKind::Link,
+        MessageKind::NextHop,
+        MessageKind::Nsid,
+        MessageKind::Netconf,
+        MessageKind::AddressLabel,
+        MessageKind::NeighbourTable,
+        MessageKind::Prefix,
     ];
 
     /// The kind that the words of a command line, those after the program's name, consist of.
@@ -50,6 +68,12 @@ impl MessageKind {
             "rule" => Some(MessageKind::Rule),
             "neighbour" => Some(MessageKind::Neighbour),
             "link" => Some(MessageKind::Link),
+            "nexthop" => Some(MessageKind::NextHop),
+            "nsid" => Some(MessageKind::Nsid),
+            "netconf" => Some(MessageKind::Netconf),
+            "address-label" => Some(MessageKind::AddressLabel),
+            "neighbour-table" => Some(MessageKind::NeighbourTable),
+            "prefix" => Some(MessageKind::Prefix),
             _ => None,
         }
     }
@@ -64,6 +88,12 @@ impl MessageKind {
             MessageKind::Rule => "rule",
             MessageKind::Neighbour => "neighbour",
             MessageKind::Link => "link",
+            MessageKind::NextHop => "nexthop",
+            MessageKind::Nsid => "nsid",
+            MessageKind::Netconf => "netconf",
+            MessageKind::AddressLabel => "address-label",
+            MessageKind::NeighbourTable => "neighbour-table",
+            MessageKind::Prefix => "prefix",
         }
     }
 }

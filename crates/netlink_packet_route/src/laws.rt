@@ -7,82 +7,126 @@ ghost use Rattle.{
   npr_address.specs.Attribute.{attributes as address_attributes},
   npr_link.specs.Attribute.{attributes as link_attributes},
   npr_neighbour.specs.Attribute.{attributes as neighbour_attributes},
+  npr_nexthop.specs.Attribute.{Context as NextHopContext, attributes as next_hop_attributes},
   npr_route.specs.{FlatAttribute.{Context}, AttributeFamily.{attributes as route_attributes}},
   npr_rule.specs.Attribute.{attributes as rule_attributes},
+  npr_small.specs.{
+    AddressLabelAttribute.{attributes as address_label_attributes},
+    NeighbourTableAttribute.{attributes as neighbour_table_attributes},
+    NetconfAttribute.{attributes as netconf_attributes},
+    NsidAttribute.{attributes as nsid_attributes},
+    PrefixAttribute.{attributes as prefix_attributes},
+  },
   netlink_packet_core.specs.Message.{message_of},
   netlink_packet_route.specs.{MessageKind.{kind_name}, RouteNetlinkMessage.{meaning_of, other_of}},
 };
 
 use crate::kind::MessageKind;
-use crate::message::{OtherMessage, RouteNetlinkMessage};
+use crate::message::OtherMessage;
+use crate::message::RouteNetlinkMessage;
 use netlink_packet_core::NetlinkMessage;
-pub use netlink_packet_core::laws::{
-    law_conversation, law_datagram, law_default as law_envelope_default,
-    law_equality as law_envelope_equality, law_flags as law_envelope_flags, law_message,
-    law_message_equality, law_message_types, law_walk as law_envelope_walk, law_written,
-};
+pub use netlink_packet_core::laws::law_conversation;
+pub use netlink_packet_core::laws::law_datagram;
+pub use netlink_packet_core::laws::law_default as law_envelope_default;
+pub use netlink_packet_core::laws::law_equality as law_envelope_equality;
+pub use netlink_packet_core::laws::law_flags as law_envelope_flags;
+pub use netlink_packet_core::laws::law_message;
+pub use netlink_packet_core::laws::law_message_equality;
+pub use netlink_packet_core::laws::law_message_types;
+pub use netlink_packet_core::laws::law_walk as law_envelope_walk;
+pub use netlink_packet_core::laws::law_written;
 use npr_address::AddressAttribute;
-pub use npr_address::laws::{
-    law_address_flags, law_default as law_address_default, law_equality as law_address_equality,
-    law_numbers as law_address_numbers,
-};
-pub use npr_base::laws::{
-    law_canonical, law_constants as law_framing_constants, law_cut as law_cut_in_two,
-    law_default as law_family_default, law_equality as law_framing_equality, law_family_number,
-    law_looks, law_one_reading, law_read_back, law_walk,
-};
+pub use npr_address::laws::law_address_flags;
+pub use npr_address::laws::law_default as law_address_default;
+pub use npr_address::laws::law_equality as law_address_equality;
+pub use npr_address::laws::law_numbers as law_address_numbers;
+pub use npr_base::laws::law_canonical;
+pub use npr_base::laws::law_constants as law_framing_constants;
+pub use npr_base::laws::law_cut as law_cut_in_two;
+pub use npr_base::laws::law_default as law_family_default;
+pub use npr_base::laws::law_equality as law_framing_equality;
+pub use npr_base::laws::law_family_number;
+pub use npr_base::laws::law_looks;
+pub use npr_base::laws::law_one_reading;
+pub use npr_base::laws::law_read_back;
+pub use npr_base::laws::law_walk;
 use npr_link::LinkAttribute;
-pub use npr_link::laws::{
-    law_default as law_link_default, law_equality as law_link_value_equality,
-    law_equality_of_meanings as law_link_equality, law_flags as law_link_value_flags,
-    law_governing as law_link_governing, law_link_flags, law_netkit_policies,
-    law_numbers as law_link_numbers, law_search as law_link_search,
-};
-pub use npr_link_bridge::laws::{
-    law_default as law_bridge_default, law_equality as law_bridge_value_equality,
-    law_equality_of_meanings as law_bridge_equality, law_flags as law_bridge_flags,
-    law_numbers as law_bridge_numbers, law_router_types,
-};
-pub use npr_link_devices::laws::{
-    law_default as law_device_default, law_equality as law_device_value_equality,
-    law_equality_of_meanings as law_device_equality, law_flags as law_device_flags,
-    law_numbers as law_device_numbers, law_targets,
-};
-pub use npr_link_tunnels::laws::{
-    law_default as law_link_tunnel_default, law_equality as law_link_tunnel_value_equality,
-    law_equality_of_meanings as law_link_tunnel_equality, law_flags as law_link_tunnel_flags,
-    law_numbers as law_link_tunnel_numbers,
-};
+pub use npr_link::laws::law_default as law_link_default;
+pub use npr_link::laws::law_equality as law_link_value_equality;
+pub use npr_link::laws::law_equality_of_meanings as law_link_equality;
+pub use npr_link::laws::law_flags as law_link_value_flags;
+pub use npr_link::laws::law_governing as law_link_governing;
+pub use npr_link::laws::law_link_flags;
+pub use npr_link::laws::law_netkit_policies;
+pub use npr_link::laws::law_numbers as law_link_numbers;
+pub use npr_link::laws::law_search as law_link_search;
+pub use npr_link_bridge::laws::law_default as law_bridge_default;
+pub use npr_link_bridge::laws::law_equality as law_bridge_value_equality;
+pub use npr_link_bridge::laws::law_equality_of_meanings as law_bridge_equality;
+pub use npr_link_bridge::laws::law_flags as law_bridge_flags;
+pub use npr_link_bridge::laws::law_numbers as law_bridge_numbers;
+pub use npr_link_bridge::laws::law_router_types;
+pub use npr_link_devices::laws::law_default as law_device_default;
+pub use npr_link_devices::laws::law_equality as law_device_value_equality;
+pub use npr_link_devices::laws::law_equality_of_meanings as law_device_equality;
+pub use npr_link_devices::laws::law_flags as law_device_flags;
+pub use npr_link_devices::laws::law_numbers as law_device_numbers;
+pub use npr_link_devices::laws::law_targets;
+pub use npr_link_tunnels::laws::law_default as law_link_tunnel_default;
+pub use npr_link_tunnels::laws::law_equality as law_link_tunnel_value_equality;
+pub use npr_link_tunnels::laws::law_equality_of_meanings as law_link_tunnel_equality;
+pub use npr_link_tunnels::laws::law_flags as law_link_tunnel_flags;
+pub use npr_link_tunnels::laws::law_numbers as law_link_tunnel_numbers;
 use npr_neighbour::NeighbourAttribute;
-pub use npr_neighbour::laws::{
-    law_default as law_neighbour_default, law_equality as law_neighbour_equality,
-    law_neighbour_flags, law_neighbour_states, law_read_back as law_neighbour_read_back,
-};
+pub use npr_neighbour::laws::law_default as law_neighbour_default;
+pub use npr_neighbour::laws::law_equality as law_neighbour_equality;
+pub use npr_neighbour::laws::law_neighbour_flags;
+pub use npr_neighbour::laws::law_neighbour_states;
+pub use npr_neighbour::laws::law_read_back as law_neighbour_read_back;
+use npr_nexthop::NextHopAttribute;
+pub use npr_nexthop::laws::law_default as law_next_hop_default;
+pub use npr_nexthop::laws::law_equality as law_next_hop_value_equality;
+pub use npr_nexthop::laws::law_equality_of_meanings as law_next_hop_equality;
+pub use npr_nexthop::laws::law_governing_type as law_next_hop_governing_type;
 use npr_route::RouteAttribute;
-pub use npr_route::laws::{
-    law_constants as law_route_constants, law_default as law_route_default,
-    law_equality as law_route_equality, law_governing_type, law_looks as law_route_looks,
-    law_newer, law_next_hops,
-};
+pub use npr_route::laws::law_constants as law_route_constants;
+pub use npr_route::laws::law_default as law_route_default;
+pub use npr_route::laws::law_equality as law_route_equality;
+pub use npr_route::laws::law_governing_type;
+pub use npr_route::laws::law_looks as law_route_looks;
+pub use npr_route::laws::law_newer;
+pub use npr_route::laws::law_next_hops;
 use npr_rule::RuleAttribute;
-pub use npr_rule::laws::{
-    law_default as law_rule_default, law_equality as law_rule_equality,
-    law_numbers as law_rule_numbers, law_rule_flags,
-};
-pub use npr_scalar::laws::{
-    law_default as law_value_default, law_equality as law_value_equality, law_label_number,
-    law_labels_length, law_layouts as law_value_layouts, law_next_hop_flags,
-    law_numbers as law_value_numbers, law_read_back as law_value_read_back, law_realm_number,
-    law_route_flags,
-};
-pub use npr_srh::laws::{
-    law_default as law_routing_header_default, law_equality as law_routing_header_equality,
-    law_numbers as law_routing_header_numbers,
-};
-pub use npr_tunnel::laws::{
-    law_default as law_tunnel_default, law_encap_type_number, law_equality as law_tunnel_equality,
-    law_ip_flags, law_ip6_flags,
-};
+pub use npr_rule::laws::law_default as law_rule_default;
+pub use npr_rule::laws::law_equality as law_rule_equality;
+pub use npr_rule::laws::law_numbers as law_rule_numbers;
+pub use npr_rule::laws::law_rule_flags;
+pub use npr_scalar::laws::law_default as law_value_default;
+pub use npr_scalar::laws::law_equality as law_value_equality;
+pub use npr_scalar::laws::law_label_number;
+pub use npr_scalar::laws::law_labels_length;
+pub use npr_scalar::laws::law_layouts as law_value_layouts;
+pub use npr_scalar::laws::law_next_hop_flags;
+pub use npr_scalar::laws::law_numbers as law_value_numbers;
+pub use npr_scalar::laws::law_read_back as law_value_read_back;
+pub use npr_scalar::laws::law_realm_number;
+pub use npr_scalar::laws::law_route_flags;
+use npr_small::AddressLabelAttribute;
+use npr_small::NeighbourTableAttribute;
+use npr_small::NetconfAttribute;
+use npr_small::NsidAttribute;
+use npr_small::PrefixAttribute;
+pub use npr_small::laws::law_default as law_small_default;
+pub use npr_small::laws::law_equality as law_small_value_equality;
+pub use npr_small::laws::law_equality_of_meanings as law_small_equality;
+pub use npr_srh::laws::law_default as law_routing_header_default;
+pub use npr_srh::laws::law_equality as law_routing_header_equality;
+pub use npr_srh::laws::law_numbers as law_routing_header_numbers;
+pub use npr_tunnel::laws::law_default as law_tunnel_default;
+pub use npr_tunnel::laws::law_encap_type_number;
+pub use npr_tunnel::laws::law_equality as law_tunnel_equality;
+pub use npr_tunnel::laws::law_ip_flags;
+pub use npr_tunnel::laws::law_ip6_flags;
 
 /// A list whose beginning is a multiple of four bytes, and is cut into attributes by itself, is the
 /// list of that beginning and then the list of the rest, in the same context.
@@ -92,12 +136,24 @@ pub fn law_cut()
     ensures rule { CutsInTwo rule_attributes.Reads }
     ensures neighbour { (family : AddressFamily) → CutsInTwo (neighbour_attributes family).Reads }
     ensures link { (family : AddressFamily) → CutsInTwo (link_attributes family).Reads }
+    ensures next_hop { (context : NextHopContext) → CutsInTwo (next_hop_attributes context).Reads }
+    ensures nsid { CutsInTwo nsid_attributes.Reads }
+    ensures netconf { CutsInTwo netconf_attributes.Reads }
+    ensures address_label { CutsInTwo address_label_attributes.Reads }
+    ensures neighbour_table { CutsInTwo neighbour_table_attributes.Reads }
+    ensures prefix { CutsInTwo prefix_attributes.Reads }
 {
     law_cut_in_two::<AddressAttribute>();
     law_cut_in_two::<RouteAttribute>();
     law_cut_in_two::<RuleAttribute>();
     law_cut_in_two::<NeighbourAttribute>();
     law_cut_in_two::<LinkAttribute>();
+    law_cut_in_two::<NextHopAttribute>();
+    law_cut_in_two::<NsidAttribute>();
+    law_cut_in_two::<NetconfAttribute>();
+    law_cut_in_two::<AddressLabelAttribute>();
+    law_cut_in_two::<NeighbourTableAttribute>();
+    law_cut_in_two::<PrefixAttribute>();
 }
 
 /// Each kind of message is one of `MessageKind::ALL`, no two have one name, and `==` answers whether
@@ -119,5 +175,7 @@ pub fn law_rtnetlink_equality()
     law_rule_equality();
     law_neighbour_equality();
     law_link_equality();
+    law_small_equality();
+    law_next_hop_equality();
     law_message_equality::<RouteNetlinkMessage>();
 }

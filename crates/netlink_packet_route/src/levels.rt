@@ -14,8 +14,9 @@ ghost use Rattle.{
 };
 
 use crate::inside::{
-    inside_bond, inside_bridge, inside_encap, inside_families, inside_info, inside_link,
-    inside_mac_vlan, inside_netkit, inside_options, inside_pair, inside_route, inside_vlan,
+    inside_af_bridge, inside_bond, inside_bridge, inside_encap, inside_families, inside_info,
+    inside_link, inside_mac_vlan, inside_mst, inside_neighbour_table, inside_netkit,
+    inside_next_hop, inside_options, inside_pair, inside_route, inside_statistics, inside_vlan,
 };
 use crate::kind::MessageKind;
 use npr_address::{AddressAttribute, AddressHeader};
@@ -23,16 +24,26 @@ use npr_base::{
     AddressFamily, At, Attribute, DecodeError, Header, Looks, Message, NlaBuffer, Value,
 };
 use npr_link::{
-    AfSpecInet, AfSpecInet6, AfSpecUnspec, BondAdInfo, BridgeQuerierState, InfoBond, InfoBondPort,
-    InfoBridge, InfoBridgePort, InfoForm, InfoGeneve, InfoGre, InfoGre6, InfoIpTunnel, InfoIpVlan,
-    InfoMacVlan, InfoNetkit, InfoPortForm, InfoTun, InfoVeth, InfoVlan, InfoVrf, InfoVti,
-    InfoVxlan, InfoXfrm, LinkAttribute, LinkHeader, LinkInfo, LinkProtocolDownReason, LinkXdp,
-    MacVlanAddress, PeerAttribute, Prop, VlanQosMapping,
+    AfSpecBridge, AfSpecInet, AfSpecInet6, AfSpecUnspec, BondAdInfo, BridgeMst, BridgeMstEntry,
+    BridgeQuerierState, BridgeVlanTunnelInfo, InfoBond, InfoBondPort, InfoBridge, InfoBridgePort,
+    InfoForm, InfoGeneve, InfoGre, InfoGre6, InfoIpTunnel, InfoIpVlan, InfoMacVlan, InfoNetkit,
+    InfoPortForm, InfoTun, InfoVeth, InfoVlan, InfoVrf, InfoVti, InfoVxlan, InfoXfrm,
+    LinkAttribute, LinkHeader, LinkInfo, LinkProtocolDownReason, LinkXdp, MacVlanAddress,
+    PeerAttribute, Prop, VlanQosMapping,
 };
 use npr_neighbour::{NeighbourAttribute, NeighbourHeader};
+use npr_nexthop::{
+    NextHopAttribute, NextHopGroupStats, NextHopGroupStatsEntry, NextHopHeader, NextHopResBucket,
+    NextHopResGroup,
+};
 use npr_route::{RouteAttribute, RouteHeader, RouteMetric, governing_type};
 use npr_rule::{RuleAttribute, RuleHeader};
 use npr_scalar::RouteType;
+use npr_small::{
+    AddressLabelAttribute, AddressLabelHeader, NeighbourTableAttribute, NeighbourTableHeader,
+    NeighbourTableParameter, NetconfAttribute, NetconfHeader, NsidAttribute, NsidHeader,
+    PrefixAttribute, PrefixHeader,
+};
 use npr_tunnel::{
     RouteErspanOpt, RouteLwEnCapType, RouteLwTunnelEncap, RouteLwTunnelOpt, RouteVxlanOpt,
 };
@@ -76,6 +87,14 @@ pub enum Level {
     AfSpecInet,
     /// What IP version 6 says: `IFLA_INET6_*` of `linux/if_link.h`.
     AfSpecInet6,
+    /// What a bridge says: `IFLA_BRIDGE_*` of `linux/if_bridge.h`.
+    AfSpecBridge,
+    /// Tunnels of VLANs: `IFLA_BRIDGE_VLAN_TUNNEL_*` of `linux/if_bridge.h`.
+    BridgeVlanTunnelInfo,
+    /// States of a port in spanning trees: `IFLA_BRIDGE_MST_ENTRY` of `linux/if_bridge.h`.
+    BridgeMst,
+    /// That in one of them: `IFLA_BRIDGE_MST_ENTRY_*` of `linux/if_bridge.h`.
+    BridgeMstEntry,
     /// The data of a bridge: `IFLA_BR_*` of `linux/if_link.h`.
     InfoBridge,
     /// Who asks for members: `BRIDGE_QUERIER_*` of `linux/if_bridge.h`.
@@ -122,6 +141,29 @@ pub enum Level {
     InfoVti,
     /// The data of an IPsec interface: `IFLA_XFRM_*` of `linux/if_link.h`.
     InfoXfrm,
+    /// Of a next hop message: `NHA_*` of `linux/nexthop.h`, under the family of the header and the type
+    /// that governs the encapsulation.
+    NextHop(AddressFamily, RouteLwEnCapType),
+    /// A resilient group: `NHA_RES_GROUP_*` of `linux/nexthop.h`.
+    NextHopResGroup,
+    /// A bucket of such a group: `NHA_RES_BUCKET_*` of `linux/nexthop.h`.
+    NextHopResBucket,
+    /// Statistics of a group: `NHA_GROUP_STATS_*` of `linux/nexthop.h`.
+    NextHopGroupStats,
+    /// Those of a member: `NHA_GROUP_STATS_ENTRY_*` of `linux/nexthop.h`.
+    NextHopGroupStatsEntry,
+    /// Of a message of name spaces: `NETNSA_*` of `linux/net_namespace.h`.
+    Nsid,
+    /// Of a message of settings: `NETCONFA_*` of `linux/netconf.h`.
+    Netconf,
+    /// Of a message of address labels: `IFAL_*` of `linux/if_addrlabel.h`.
+    AddressLabel,
+    /// Of a message of tables of neighbours: `NDTA_*` of `linux/neighbour.h`.
+    NeighbourTable,
+    /// Parameters of a table of neighbours: `NDTPA_*` of `linux/neighbour.h`.
+    NeighbourTableParameter,
+    /// Of a prefix message: `PREFIX_*` of `linux/rtnetlink.h`.
+    Prefix,
 }
 
 /// What the attributes behind the header of a message rest on, and their bytes.
@@ -170,6 +212,30 @@ impl Level {
                 let (family, attributes) = behind::<LinkHeader>(bytes)?;
                 Ok((Level::Link(family), attributes))
             }
+            MessageKind::NextHop => {
+                let (context, attributes) = behind::<NextHopHeader>(bytes)?;
+                Ok((Level::NextHop(context.0, context.1), attributes))
+            }
+            MessageKind::Nsid => {
+                let (_, attributes) = behind::<NsidHeader>(bytes)?;
+                Ok((Level::Nsid, attributes))
+            }
+            MessageKind::Netconf => {
+                let (_, attributes) = behind::<NetconfHeader>(bytes)?;
+                Ok((Level::Netconf, attributes))
+            }
+            MessageKind::AddressLabel => {
+                let (_, attributes) = behind::<AddressLabelHeader>(bytes)?;
+                Ok((Level::AddressLabel, attributes))
+            }
+            MessageKind::NeighbourTable => {
+                let (_, attributes) = behind::<NeighbourTableHeader>(bytes)?;
+                Ok((Level::NeighbourTable, attributes))
+            }
+            MessageKind::Prefix => {
+                let (_, attributes) = behind::<PrefixHeader>(bytes)?;
+                Ok((Level::Prefix, attributes))
+            }
         }
     }
 
@@ -200,6 +266,10 @@ impl Level {
             Level::AfSpecUnspec => AfSpecUnspec::value((), item),
             Level::AfSpecInet => AfSpecInet::value((), item),
             Level::AfSpecInet6 => AfSpecInet6::value((), item),
+            Level::AfSpecBridge => AfSpecBridge::value((), item),
+            Level::BridgeVlanTunnelInfo => BridgeVlanTunnelInfo::value((), item),
+            Level::BridgeMst => BridgeMst::value((), item),
+            Level::BridgeMstEntry => BridgeMstEntry::value((), item),
             Level::InfoBridge => InfoBridge::value((), item),
             Level::BridgeQuerierState => BridgeQuerierState::value((), item),
             Level::InfoBridgePort => InfoBridgePort::value((), item),
@@ -223,6 +293,17 @@ impl Level {
             Level::InfoIpTunnel(form) => InfoIpTunnel::value(form, item),
             Level::InfoVti => InfoVti::value((), item),
             Level::InfoXfrm => InfoXfrm::value((), item),
+            Level::NextHop(family, encap) => NextHopAttribute::value((family, encap), item),
+            Level::NextHopResGroup => NextHopResGroup::value((), item),
+            Level::NextHopResBucket => NextHopResBucket::value((), item),
+            Level::NextHopGroupStats => NextHopGroupStats::value((), item),
+            Level::NextHopGroupStatsEntry => NextHopGroupStatsEntry::value((), item),
+            Level::Nsid => NsidAttribute::value((), item),
+            Level::Netconf => NetconfAttribute::value((), item),
+            Level::AddressLabel => AddressLabelAttribute::value((), item),
+            Level::NeighbourTable => NeighbourTableAttribute::value((), item),
+            Level::NeighbourTableParameter => NeighbourTableParameter::value((), item),
+            Level::Prefix => PrefixAttribute::value((), item),
         }
     }
 
@@ -241,10 +322,15 @@ impl Level {
             Level::Link(family) => inside_link(family, number, value)?,
             Level::LinkInfo(link, port) => inside_info(link, port, number)?,
             Level::AfSpecUnspec => inside_families(number)?,
+            Level::AfSpecBridge => inside_af_bridge(number)?,
+            Level::BridgeMst => inside_mst(number)?,
             Level::InfoBridge => inside_bridge(number)?,
             Level::InfoVlan => inside_vlan(number)?,
             Level::InfoBond => inside_bond(number)?,
             Level::InfoMacVlan => inside_mac_vlan(number)?,
+            Level::NextHop(_, encap_type) => inside_next_hop(encap_type, number)?,
+            Level::NextHopGroupStats => inside_statistics(number)?,
+            Level::NeighbourTable => inside_neighbour_table(number)?,
             Level::InfoVeth => return inside_pair(number, value),
             Level::InfoNetkit => return inside_netkit(number, value),
             _ => return None,

@@ -1,5 +1,5 @@
-//! Messages of Linux rtnetlink on links, addresses, routes, neighbours and rules: bytes to typed values
-//! and back.
+//! Messages of Linux rtnetlink on links, addresses, routes, rules, neighbours and their tables, next
+//! hops, name spaces, settings, address labels and prefixes: bytes to typed values and back.
 //!
 //! A message is read by `parse` and written by `emit`, once `check` accepts it. Names and paths are
 //! those of the Rust crate `netlink-packet-route`; what that crate takes from others stands in
@@ -10,8 +10,10 @@
 #![tactic(auto)]
 
 pub mod address;
+pub mod address_label;
 mod apart;
 mod checking;
+mod entry;
 pub mod envelope;
 pub mod family;
 pub mod framing;
@@ -21,18 +23,27 @@ pub mod laws;
 mod levels;
 pub mod link;
 mod message;
+mod message_type;
 pub mod neighbour;
+pub mod neighbour_table;
 pub mod net;
+pub mod netconf;
+pub mod nexthop;
+pub mod nsid;
 pub mod numbers;
+pub mod prefix;
 pub mod request;
 pub mod route;
 pub mod rule;
+mod type_tests;
 mod validity;
 
 pub use bitflags::Flags;
+pub use entry::Entry;
 pub use kind::MessageKind;
 pub use levels::Level;
-pub use message::{Action, Entry, MessageType, OtherMessage, RouteNetlinkMessage};
+pub use message::{OtherMessage, RouteNetlinkMessage};
+pub use message_type::{Action, MessageType, Subject};
 pub use npr_base::AddressFamily;
 pub use npr_scalar::IpProtocol;
 pub use validity::validate;

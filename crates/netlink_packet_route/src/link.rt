@@ -84,6 +84,8 @@ pub use npr_link::LinkMessage;
 pub use npr_link::LinkMessageBuffer;
 pub use npr_link::LinkMode;
 pub use npr_link::LinkPeer;
+pub use npr_link::LinkProtoInfoBridge;
+pub use npr_link::LinkProtoInfoInet6;
 pub use npr_link::LinkProtocolDownReason;
 pub use npr_link::LinkXdp;
 pub use npr_link::MacVlanAddress;

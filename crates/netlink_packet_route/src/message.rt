@@ -4,24 +4,26 @@ ghost use Rattle.std.specs.Prelude.{◌≡◌, ◌≢◌, ◌<◌, length, IfOk,
 ghost use Rattle.{
   npr_base.specs.{Message.{MessageFault, view}, declared.refusal.DecodeError.TheVariants.{OutOfMemory}},
   netlink_packet_route.specs.{
-    MessageKind.{kind_of_type, form_of},
-    RouteNetlinkMessage.{Meaning, meaning_of, other_of, address, route, neighbour, rule, link, link_prop, rtnetlink, type_of, encode, meaning_unfit, IsMessageOf, ReadsUnder, FaultUnder, HasFirst, GrowsUnder, CopyGrows},
+    MessageKind.{kind_of, form_of},
+    RouteNetlinkMessage.{Meaning, meaning_of, other_of, link_prop, next_hop_bucket, rtnetlink, type_of, encode, meaning_unfit, IsMessageOn, ReadsUnder, FaultUnder, HasFirst, GrowsUnder, CopyGrows},
   },
-  npr_address.specs.Message.{addresses},
   npr_link.specs.Message.{links},
-  npr_neighbour.specs.Message.{neighbours},
-  npr_route.specs.Message.{routes},
-  npr_rule.specs.Message.{rules},
+  npr_nexthop.specs.Message.{next_hops},
 };
 
-use crate::kind::MessageKind;
+use crate::entry::Entry;
+use crate::message_type::{Action, MessageType, Subject, types};
 use netlink_packet_core::{NetlinkHeader, NetlinkInner};
 use npr_address::AddressMessage;
 use npr_base::{DecodeError, EmitError, Emitable, Parseable, read_bytes, write_bytes};
 use npr_link::LinkMessage;
 use npr_neighbour::NeighbourMessage;
+use npr_nexthop::NextHopMessage;
 use npr_route::RouteMessage;
 use npr_rule::RuleMessage;
+use npr_small::{
+    AddressLabelMessage, NeighbourTableMessage, NetconfMessage, NsidMessage, PrefixMessage,
+};
 use std::alloc::{AllocError, Global};
 
 /// A message of a type that the library does not read, as it stands.
@@ -68,75 +70,52 @@ pub enum RouteNetlinkMessage {
     DelRule(RuleMessage),
     /// `RTM_GETRULE`, 34.
     GetRule(RuleMessage),
+    /// `RTM_NEWPREFIX`, 52.
+    NewPrefix(PrefixMessage),
+    /// `RTM_NEWNEIGHTBL`, 64.
+    NewNeighbourTable(NeighbourTableMessage),
+    /// `RTM_GETNEIGHTBL`, 66.
+    GetNeighbourTable(NeighbourTableMessage),
+    /// `RTM_SETNEIGHTBL`, 67.
+    SetNeighbourTable(NeighbourTableMessage),
+    /// `RTM_NEWADDRLABEL`, 72.
+    NewAddressLabel(AddressLabelMessage),
+    /// `RTM_DELADDRLABEL`, 73.
+    DelAddressLabel(AddressLabelMessage),
+    /// `RTM_GETADDRLABEL`, 74.
+    GetAddressLabel(AddressLabelMessage),
+    /// `RTM_NEWNETCONF`, 80.
+    NewNetconf(NetconfMessage),
+    /// `RTM_DELNETCONF`, 81.
+    DelNetconf(NetconfMessage),
+    /// `RTM_GETNETCONF`, 82.
+    GetNetconf(NetconfMessage),
+    /// `RTM_NEWNSID`, 88.
+    NewNsId(NsidMessage),
+    /// `RTM_DELNSID`, 89.
+    DelNsId(NsidMessage),
+    /// `RTM_GETNSID`, 90.
+    GetNsId(NsidMessage),
+    /// `RTM_NEWNEXTHOP`, 104.
+    NewNextHop(NextHopMessage),
+    /// `RTM_DELNEXTHOP`, 105.
+    DelNextHop(NextHopMessage),
+    /// `RTM_GETNEXTHOP`, 106.
+    GetNextHop(NextHopMessage),
     /// `RTM_NEWLINKPROP`, 108.
     NewLinkProp(LinkMessage),
     /// `RTM_DELLINKPROP`, 109.
     DelLinkProp(LinkMessage),
     /// `RTM_GETLINKPROP`, 110.
     GetLinkProp(LinkMessage),
+    /// `RTM_NEWNEXTHOPBUCKET`, 116.
+    NewNextHopBucket(NextHopMessage),
+    /// `RTM_DELNEXTHOPBUCKET`, 117.
+    DelNextHopBucket(NextHopMessage),
+    /// `RTM_GETNEXTHOPBUCKET`, 118.
+    GetNextHopBucket(NextHopMessage),
     /// Any other type.
     Other(OtherMessage),
-}
-
-/// What a message does.
-#[derive(Clone, Copy, Debug, PartialEq, Eq)]
-pub enum Action {
-    /// It says that something is there, or asks to make it.
-    New,
-    /// It says that something is gone, or asks to take it away.
-    Del,
-    /// It asks for something.
-    Get,
-}
-
-/// What a type says.
-#[derive(Clone, Copy, Debug, PartialEq, Eq)]
-pub enum MessageType {
-    /// A message of this kind, which does this.
-    Of(MessageKind, Action),
-    /// A link message which asks to change a link that is there.
-    SetLink,
-    /// A link message on other properties of a link, as its other names, which does this.
-    LinkProp(Action),
-    /// Any other.
-    Unknown,
-}
-
-/// The types: of each its number, the variant of its messages, and what it says.
-macro_rules! types {
-    ($body:ident ($($given:tt)*)) => {
-        $body!(($($given)*)
-            16 NewLink MessageType::Of(MessageKind::Link, Action::New);
-            17 DelLink MessageType::Of(MessageKind::Link, Action::Del);
-            18 GetLink MessageType::Of(MessageKind::Link, Action::Get);
-            19 SetLink MessageType::SetLink;
-            20 NewAddress MessageType::Of(MessageKind::Address, Action::New);
-            21 DelAddress MessageType::Of(MessageKind::Address, Action::Del);
-            22 GetAddress MessageType::Of(MessageKind::Address, Action::Get);
-            24 NewRoute MessageType::Of(MessageKind::Route, Action::New);
-            25 DelRoute MessageType::Of(MessageKind::Route, Action::Del);
-            26 GetRoute MessageType::Of(MessageKind::Route, Action::Get);
-            28 NewNeighbour MessageType::Of(MessageKind::Neighbour, Action::New);
-            29 DelNeighbour MessageType::Of(MessageKind::Neighbour, Action::Del);
-            30 GetNeighbour MessageType::Of(MessageKind::Neighbour, Action::Get);
-            32 NewRule MessageType::Of(MessageKind::Rule, Action::New);
-            33 DelRule MessageType::Of(MessageKind::Rule, Action::Del);
-            34 GetRule MessageType::Of(MessageKind::Rule, Action::Get);
-            108 NewLinkProp MessageType::LinkProp(Action::New);
-            109 DelLinkProp MessageType::LinkProp(Action::Del);
-            110 GetLinkProp MessageType::LinkProp(Action::Get);
-        )
-    };
-}
-
-/// What a number says.
-macro_rules! type_of {
-    (($of:expr) $($number:tt $variant:ident $says:expr;)*) => {
-        match $of {
-            $($number => $says,)*
-            _ => MessageType::Unknown,
-        }
-    };
 }
 
 /// The number of a message that is read, or else that of another one.
@@ -167,98 +146,6 @@ macro_rules! clone_of {
             RouteNetlinkMessage::Other(m) => RouteNetlinkMessage::Other(m.try_clone($alloc)?),
         }
     };
-}
-
-impl MessageType {
-    /// What this number says.
-    pub fn of(number: u16) -> MessageType
-        ensures { result ≡ type_of number }
-    {
-        types!(type_of(number))
-    }
-
-    /// The kind of its messages, if it is of one that is read.
-    pub fn kind(self) -> Option<MessageKind>
-        ensures { result ≡ kind_of_type self }
-    {
-        match self {
-            MessageType::Of(kind, _) => Some(kind),
-            MessageType::SetLink | MessageType::LinkProp(_) => Some(MessageKind::Link),
-            MessageType::Unknown => None,
-        }
-    }
-}
-
-/// A message on an entry of the kernel's tables: a link, an address, a route, a neighbour or a rule.
-pub trait Entry: Drop {
-    ghost use Rattle.netlink_packet_route.specs.declared.message.Action.{Action};
-
-    /// What the message of rtnetlink is that does this with it.
-    ghost as_meaning: { Action → Self → Meaning };
-
-    /// The message of rtnetlink that does this with the entry.
-    fn under(self, action: Action) -> RouteNetlinkMessage
-        ensures { meaning_of result ≡ as_meaning action self };
-}
-
-impl Entry for AddressMessage {
-    ghost as_meaning = { λ a m. address a (view addresses m) };
-
-    fn under(self, action: Action) -> RouteNetlinkMessage {
-        match action {
-            Action::New => RouteNetlinkMessage::NewAddress(self),
-            Action::Del => RouteNetlinkMessage::DelAddress(self),
-            Action::Get => RouteNetlinkMessage::GetAddress(self),
-        }
-    }
-}
-
-impl Entry for RouteMessage {
-    ghost as_meaning = { λ a m. route a (view routes m) };
-
-    fn under(self, action: Action) -> RouteNetlinkMessage {
-        match action {
-            Action::New => RouteNetlinkMessage::NewRoute(self),
-            Action::Del => RouteNetlinkMessage::DelRoute(self),
-            Action::Get => RouteNetlinkMessage::GetRoute(self),
-        }
-    }
-}
-
-impl Entry for NeighbourMessage {
-    ghost as_meaning = { λ a m. neighbour a (view neighbours m) };
-
-    fn under(self, action: Action) -> RouteNetlinkMessage {
-        match action {
-            Action::New => RouteNetlinkMessage::NewNeighbour(self),
-            Action::Del => RouteNetlinkMessage::DelNeighbour(self),
-            Action::Get => RouteNetlinkMessage::GetNeighbour(self),
-        }
-    }
-}
-
-impl Entry for RuleMessage {
-    ghost as_meaning = { λ a m. rule a (view rules m) };
-
-    fn under(self, action: Action) -> RouteNetlinkMessage {
-        match action {
-            Action::New => RouteNetlinkMessage::NewRule(self),
-            Action::Del => RouteNetlinkMessage::DelRule(self),
-            Action::Get => RouteNetlinkMessage::GetRule(self),
-        }
-    }
-}
-
-impl Entry for LinkMessage {
-    ghost as_meaning = { λ a m. link a (view links m) };
-
-    fn under(self, action: Action) -> RouteNetlinkMessage {
-        match action {
-            Action::New => RouteNetlinkMessage::NewLink(self),
-            Action::Del => RouteNetlinkMessage::DelLink(self),
-            Action::Get => RouteNetlinkMessage::GetLink(self),
-        }
-    }
 }
 
 impl OtherMessage {
@@ -334,13 +221,22 @@ fn read_under(
     ensures memory { IsErrOf result OutOfMemory → GrowsUnder (type_of message_type) payload.now }
 {
     match MessageType::of(message_type) {
-        MessageType::Of(kind, action) => read_kind(alloc, kind, action, payload),
+        MessageType::Of(subject, action) => read_on(alloc, subject, action, payload),
         MessageType::SetLink => Ok(RouteNetlinkMessage::SetLink(LinkMessage::parse(
             alloc, payload,
         )?)),
-        MessageType::LinkProp(action) => {
-            Ok(on_properties(LinkMessage::parse(alloc, payload)?, action))
-        }
+        MessageType::NewPrefix => Ok(RouteNetlinkMessage::NewPrefix(PrefixMessage::parse(
+            alloc, payload,
+        )?)),
+        MessageType::NewNeighbourTable => Ok(RouteNetlinkMessage::NewNeighbourTable(
+            NeighbourTableMessage::parse(alloc, payload)?,
+        )),
+        MessageType::GetNeighbourTable => Ok(RouteNetlinkMessage::GetNeighbourTable(
+            NeighbourTableMessage::parse(alloc, payload)?,
+        )),
+        MessageType::SetNeighbourTable => Ok(RouteNetlinkMessage::SetNeighbourTable(
+            NeighbourTableMessage::parse(alloc, payload)?,
+        )),
         MessageType::Unknown => Ok(RouteNetlinkMessage::Other(OtherMessage {
             message_type,
             payload: read_bytes(alloc, payload)?,
@@ -359,22 +255,39 @@ fn on_properties(message: LinkMessage, action: Action) -> RouteNetlinkMessage
     }
 }
 
-/// The message of a kind that the bytes are, which does this.
-fn read_kind(
+/// The message on a bucket of a group of next hops that does this.
+fn on_bucket(message: NextHopMessage, action: Action) -> RouteNetlinkMessage
+    ensures { meaning_of result ≡ next_hop_bucket action (view next_hops message) }
+{
+    match action {
+        Action::New => RouteNetlinkMessage::NewNextHopBucket(message),
+        Action::Del => RouteNetlinkMessage::DelNextHopBucket(message),
+        Action::Get => RouteNetlinkMessage::GetNextHopBucket(message),
+    }
+}
+
+/// The message on this that the bytes are, which does this.
+fn read_on(
     alloc: Global,
-    kind: MessageKind,
+    subject: Subject,
     action: Action,
     payload: &[u8],
 ) -> Result<RouteNetlinkMessage, DecodeError>
-    ensures ok { IfOk result (λ m. IsMessageOf kind action payload.now (meaning_of m)) }
-    ensures refused { IfErr result (λ e. e ≢ OutOfMemory → MessageFault (form_of kind).grammar payload.now e) }
-    ensures memory { IsErrOf result OutOfMemory → HasFirst kind payload.now }
+    ensures ok { IfOk result (λ m. IsMessageOn subject action payload.now (meaning_of m)) }
+    ensures refused { IfErr result (λ e. e ≢ OutOfMemory → MessageFault (form_of (kind_of subject)).grammar payload.now e) }
+    ensures memory { IsErrOf result OutOfMemory → HasFirst (kind_of subject) payload.now }
 {
-    match kind {
-        MessageKind::Address => Ok(AddressMessage::parse(alloc, payload)?.under(action)),
-        MessageKind::Route => Ok(RouteMessage::parse(alloc, payload)?.under(action)),
-        MessageKind::Neighbour => Ok(NeighbourMessage::parse(alloc, payload)?.under(action)),
-        MessageKind::Rule => Ok(RuleMessage::parse(alloc, payload)?.under(action)),
-        MessageKind::Link => Ok(LinkMessage::parse(alloc, payload)?.under(action)),
+    match subject {
+        Subject::Link => Ok(LinkMessage::parse(alloc, payload)?.under(action)),
+        Subject::Address => Ok(AddressMessage::parse(alloc, payload)?.under(action)),
+        Subject::Route => Ok(RouteMessage::parse(alloc, payload)?.under(action)),
+        Subject::Neighbour => Ok(NeighbourMessage::parse(alloc, payload)?.under(action)),
+        Subject::Rule => Ok(RuleMessage::parse(alloc, payload)?.under(action)),
+        Subject::AddressLabel => Ok(AddressLabelMessage::parse(alloc, payload)?.under(action)),
+        Subject::Netconf => Ok(NetconfMessage::parse(alloc, payload)?.under(action)),
+        Subject::Nsid => Ok(NsidMessage::parse(alloc, payload)?.under(action)),
+        Subject::NextHop => Ok(NextHopMessage::parse(alloc, payload)?.under(action)),
+        Subject::LinkProp => Ok(on_properties(LinkMessage::parse(alloc, payload)?, action)),
+        Subject::NextHopBucket => Ok(on_bucket(NextHopMessage::parse(alloc, payload)?, action)),
     }
 }

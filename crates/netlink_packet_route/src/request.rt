@@ -1,5 +1,5 @@
-//! Requests to the kernel on links, addresses, routes, neighbours and rules, with the flags that `ip` sets. A
-//! sequence number is one of the caller's choice, which the answer has again.
+//! Requests to the kernel, with the flags that `ip` sets. A sequence number is one of the caller's
+//! choice, which the answer has again.
 
 ghost use Rattle.std.specs.Prelude.{◌≡◌, IfOk};
 ghost use Rattle.{
@@ -7,20 +7,24 @@ ghost use Rattle.{
   npr_link.specs.Message.{links},
   netlink_packet_core.specs.{Message.{message_of}, Request.{IsRequest, dump_flags, get_flags, new_flags, replace_flags, delete_flags}},
   netlink_packet_route.specs.{
-    declared.message.Action.TheVariants.{New, Del, Get},
-    RouteNetlinkMessage.{meaning_of, rtnetlink, address, route, neighbour, rule, link},
-    Request.{addresses_of, routes_of, neighbours_of, rules_of, links_of},
+    declared.message_type.{Action.TheVariants.{New, Del, Get}, MessageType.TheVariants.{GetNeighbourTable}},
+    RouteNetlinkMessage.{meaning_of, rtnetlink, message, address, route, neighbour, rule, link, next_hop, nsid, netconf, address_label},
+    Request.{addresses_of, routes_of, neighbours_of, rules_of, links_of, next_hops_of, nsids_of_all, netconfs_of, address_labels_of, neighbour_tables_of},
   },
 };
 
-use crate::message::{Action, Entry, RouteNetlinkMessage};
+use crate::entry::Entry;
+use crate::message::RouteNetlinkMessage;
+use crate::message_type::Action;
 use netlink_packet_core::NetlinkMessage;
 use npr_address::AddressMessage;
 use npr_base::AddressFamily;
 use npr_link::{LinkAttribute, LinkExtentMask, LinkMessage};
 use npr_neighbour::NeighbourMessage;
+use npr_nexthop::NextHopMessage;
 use npr_route::RouteMessage;
 use npr_rule::RuleMessage;
+use npr_small::{AddressLabelMessage, NeighbourTableMessage, NetconfMessage, NsidMessage};
 use std::alloc::{AllocError, Global};
 
 /// Asks for all that the message names, as `ip route show table 100`.
@@ -83,6 +87,71 @@ pub fn dump_neighbours(
     let mut message = NeighbourMessage::new(alloc);
     message.header.family = family;
     dump(sequence_number, message)
+}
+
+/// Asks for the next hops of a family, or of each where it is `Unspec`, as `ip nexthop`. It takes no
+/// memory.
+pub fn dump_next_hops(
+    alloc: Global,
+    sequence_number: u32,
+    family: AddressFamily,
+) -> NetlinkMessage<RouteNetlinkMessage>
+    ensures { IsRequest rtnetlink dump_flags sequence_number (next_hop Get (next_hops_of family)) (message_of meaning_of result) }
+{
+    let mut message = NextHopMessage::new(alloc);
+    message.header.family = family;
+    dump(sequence_number, message)
+}
+
+/// Asks for the settings of all interfaces in a family, as `ip -4 netconf`. It takes no memory.
+pub fn dump_netconfs(
+    alloc: Global,
+    sequence_number: u32,
+    family: AddressFamily,
+) -> NetlinkMessage<RouteNetlinkMessage>
+    ensures { IsRequest rtnetlink dump_flags sequence_number (netconf Get (netconfs_of family)) (message_of meaning_of result) }
+{
+    let mut message = NetconfMessage::new(alloc);
+    message.header.family = family;
+    dump(sequence_number, message)
+}
+
+/// Asks for the address labels of a family, which only IP version 6 has, as `ip addrlabel`. It takes
+/// no memory.
+pub fn dump_address_labels(
+    alloc: Global,
+    sequence_number: u32,
+    family: AddressFamily,
+) -> NetlinkMessage<RouteNetlinkMessage>
+    ensures { IsRequest rtnetlink dump_flags sequence_number (address_label Get (address_labels_of family)) (message_of meaning_of result) }
+{
+    let mut message = AddressLabelMessage::new(alloc);
+    message.header.family = family;
+    dump(sequence_number, message)
+}
+
+/// Asks for the numbers of all network name spaces, as `ip netns list-id`. It takes no memory.
+pub fn dump_nsids(alloc: Global, sequence_number: u32) -> NetlinkMessage<RouteNetlinkMessage>
+    ensures { IsRequest rtnetlink dump_flags sequence_number (nsid Get nsids_of_all) (message_of meaning_of result) }
+{
+    dump(sequence_number, NsidMessage::new(alloc))
+}
+
+/// Asks for the tables of neighbours of a family, or of each where it is `Unspec`, as `ip ntable`. It
+/// takes no memory.
+pub fn dump_neighbour_tables(
+    alloc: Global,
+    sequence_number: u32,
+    family: AddressFamily,
+) -> NetlinkMessage<RouteNetlinkMessage>
+    ensures { IsRequest rtnetlink dump_flags sequence_number (message GetNeighbourTable (neighbour_tables_of family)) (message_of meaning_of result) }
+{
+    let mut message = NeighbourTableMessage::new(alloc);
+    message.header.family = family;
+    NetlinkMessage::dump_request(
+        sequence_number,
+        RouteNetlinkMessage::GetNeighbourTable(message),
+    )
 }
 
 /// Asks for all links, and what the mask names besides, as `ip link`, which sets `Vf` and, without

@@ -2,7 +2,7 @@ use Rattle.std.specs.Prelude.{◌≡◌, ℕ, List, ◌-◌, length, take, drop}
 use Rattle.std.proofs.Common.{sym, ap, subst, ◌∙◌, length-drop}
 use Rattle.std.proofs.Math.Seq.{take-length}
 use Rattle.netlink_packet_route.specs.declared.levels.Level.TheVariants.{InfoNetkit, Peer}
-use Rattle.netlink_packet_route.specs.LevelLaws.{netkit-peer}
+use Rattle.netlink_packet_route.specs.LinkLevelLaws.{netkit-peer}
 use Rattle.netlink_packet_route.specs.Levels.{IsInsideAt}
 use Rattle.netlink_packet_route.proofs.inside.inside_netkit.Goals as goal
 

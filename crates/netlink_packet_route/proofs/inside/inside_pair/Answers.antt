@@ -2,7 +2,7 @@ use Rattle.std.specs.Prelude.{◌≡◌, ℕ, List, ◌-◌, length, take, drop}
 use Rattle.std.proofs.Common.{sym, ap, subst, ◌∙◌, length-drop}
 use Rattle.std.proofs.Math.Seq.{take-length}
 use Rattle.netlink_packet_route.specs.declared.levels.Level.TheVariants.{InfoVeth, Peer}
-use Rattle.netlink_packet_route.specs.LevelLaws.{pair-peer}
+use Rattle.netlink_packet_route.specs.LinkLevelLaws.{pair-peer}
 use Rattle.netlink_packet_route.specs.Levels.{IsInsideAt}
 use Rattle.netlink_packet_route.proofs.inside.inside_pair.Goals as goal
 

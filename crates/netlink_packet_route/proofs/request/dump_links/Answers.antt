@@ -4,7 +4,7 @@ use Rattle.npr_link.specs.Message.{links}
 use Rattle.netlink_packet_core.specs.Message.{message_of}
 use Rattle.netlink_packet_core.specs.Request.{IsRequest, dump_flags}
 use Rattle.netlink_packet_route.specs.RouteNetlinkMessage.{meaning_of, rtnetlink, link}
-use Rattle.netlink_packet_route.specs.declared.message.Action.TheVariants.{Get}
+use Rattle.netlink_packet_route.specs.declared.message_type.Action.TheVariants.{Get}
 use Rattle.netlink_packet_route.proofs.request.dump_links.Goals as goal
 
 pub returns : goal.returns
