@@ -39,9 +39,9 @@
 
 /* The version of the library. */
 #define NPR_VERSION_MAJOR 0
-#define NPR_VERSION_MINOR 9
+#define NPR_VERSION_MINOR 10
 #define NPR_VERSION_PATCH 0
-#define NPR_VERSION "0.9.0"
+#define NPR_VERSION "0.10.0"
 
 /* The stack of a thread that is enough for every call and every input, in bytes: 1 MiB. The deepest
  * message takes some 773 KiB, and where a fault is looked for some 433 (measured). */
@@ -130,6 +130,12 @@ struct npr_answer npr_route_canonical(const uint8_t *bytes, size_t length, uint8
 struct npr_answer npr_rule_canonical(const uint8_t *bytes, size_t length, uint8_t *out, size_t room);
 struct npr_answer npr_neighbour_canonical(const uint8_t *bytes, size_t length, uint8_t *out, size_t room);
 struct npr_answer npr_link_canonical(const uint8_t *bytes, size_t length, uint8_t *out, size_t room);
+struct npr_answer npr_next_hop_canonical(const uint8_t *bytes, size_t length, uint8_t *out, size_t room);
+struct npr_answer npr_nsid_canonical(const uint8_t *bytes, size_t length, uint8_t *out, size_t room);
+struct npr_answer npr_netconf_canonical(const uint8_t *bytes, size_t length, uint8_t *out, size_t room);
+struct npr_answer npr_address_label_canonical(const uint8_t *bytes, size_t length, uint8_t *out, size_t room);
+struct npr_answer npr_neighbour_table_canonical(const uint8_t *bytes, size_t length, uint8_t *out, size_t room);
+struct npr_answer npr_prefix_canonical(const uint8_t *bytes, size_t length, uint8_t *out, size_t room);
 
 /* The family in which the number of an attribute is to be understood. */
 enum npr_family {
@@ -312,6 +318,12 @@ struct npr_fault npr_route_fault(const uint8_t *bytes, size_t length);
 struct npr_fault npr_rule_fault(const uint8_t *bytes, size_t length);
 struct npr_fault npr_neighbour_fault(const uint8_t *bytes, size_t length);
 struct npr_fault npr_link_fault(const uint8_t *bytes, size_t length);
+struct npr_fault npr_next_hop_fault(const uint8_t *bytes, size_t length);
+struct npr_fault npr_nsid_fault(const uint8_t *bytes, size_t length);
+struct npr_fault npr_netconf_fault(const uint8_t *bytes, size_t length);
+struct npr_fault npr_address_label_fault(const uint8_t *bytes, size_t length);
+struct npr_fault npr_neighbour_table_fault(const uint8_t *bytes, size_t length);
+struct npr_fault npr_prefix_fault(const uint8_t *bytes, size_t length);
 
 /* Room for every name and its zero. */
 #define NPR_NAME_ROOM 18
@@ -514,6 +526,12 @@ struct npr_list npr_route_begin(const uint8_t *bytes, size_t length);
 struct npr_list npr_rule_begin(const uint8_t *bytes, size_t length);
 struct npr_list npr_neighbour_begin(const uint8_t *bytes, size_t length);
 struct npr_list npr_link_begin(const uint8_t *bytes, size_t length);
+struct npr_list npr_next_hop_begin(const uint8_t *bytes, size_t length);
+struct npr_list npr_nsid_begin(const uint8_t *bytes, size_t length);
+struct npr_list npr_netconf_begin(const uint8_t *bytes, size_t length);
+struct npr_list npr_address_label_begin(const uint8_t *bytes, size_t length);
+struct npr_list npr_neighbour_table_begin(const uint8_t *bytes, size_t length);
+struct npr_list npr_prefix_begin(const uint8_t *bytes, size_t length);
 
 /* The value of the attribute that begins `at` bytes from the first, in a list of this family and context. `length` is where the
  * list ends. `npr_next` is for a whole list. */

@@ -22,6 +22,12 @@ static const struct kind KINDS[] = {
     {"rule", npr_rule_canonical, npr_rule_fault},
     {"neighbour", npr_neighbour_canonical, npr_neighbour_fault},
     {"link", npr_link_canonical, npr_link_fault},
+    {"nexthop", npr_next_hop_canonical, npr_next_hop_fault},
+    {"nsid", npr_nsid_canonical, npr_nsid_fault},
+    {"netconf", npr_netconf_canonical, npr_netconf_fault},
+    {"address-label", npr_address_label_canonical, npr_address_label_fault},
+    {"neighbour-table", npr_neighbour_table_canonical, npr_neighbour_table_fault},
+    {"prefix", npr_prefix_canonical, npr_prefix_fault},
 };
 
 #define KIND_COUNT (sizeof KINDS / sizeof *KINDS)

@@ -18,9 +18,8 @@
 #include <stdlib.h>
 #include <string.h>
 
-#define USAGE                                                                                                          \
-    "usage: nlroute address|route|rule|neighbour|link\n       nlroute compare address|route|rule|neighbour|link "      \
-    "FILE.."
+#define WORDS "address|route|rule|neighbour|link|nexthop|nsid|netconf|address-label|neighbour-table|prefix"
+#define USAGE "usage: nlroute " WORDS "\n       nlroute compare " WORDS " FILE.."
 
 enum ending { WELL = 0, REFUSED = 1, BAD_HEX = 2, UNFIT = 3, MEMORY = 4, FAILED = 5 };
 
@@ -38,6 +37,12 @@ static const struct kind KINDS[] = {
     {"rule", 12, npr_rule_canonical, npr_rule_fault},
     {"neighbour", 12, npr_neighbour_canonical, npr_neighbour_fault},
     {"link", 16, npr_link_canonical, npr_link_fault},
+    {"nexthop", 8, npr_next_hop_canonical, npr_next_hop_fault},
+    {"nsid", 4, npr_nsid_canonical, npr_nsid_fault},
+    {"netconf", 4, npr_netconf_canonical, npr_netconf_fault},
+    {"address-label", 12, npr_address_label_canonical, npr_address_label_fault},
+    {"neighbour-table", 4, npr_neighbour_table_canonical, npr_neighbour_table_fault},
+    {"prefix", 12, npr_prefix_canonical, npr_prefix_fault},
 };
 
 static const struct kind *kind_of(const char *name) {

@@ -62,6 +62,12 @@ ROWS = {
     "route": (range(24, 27), 12),
     "neighbour": (range(28, 31), 12),
     "rule": (range(32, 35), 12),
+    "prefix": ([52], 12),
+    "neighbour_table": ([64, 66, 67], 4),
+    "address_label": (range(72, 75), 12),
+    "netconf": (range(80, 83), 4),
+    "nsid": (range(88, 91), 4),
+    "next_hop": ([*range(104, 107), *range(116, 119)], 8),
 }
 # those that the library has
 KINDS = {

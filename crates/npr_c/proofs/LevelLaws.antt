@@ -13,7 +13,11 @@ use Rattle.netlink_packet_route.specs.declared.levels.Level.TheVariants.{VlanQos
 use Rattle.netlink_packet_route.specs.declared.levels.Level.TheVariants.{InfoBond, BondAdInfo, InfoBondPort, InfoMacVlan}
 use Rattle.netlink_packet_route.specs.declared.levels.Level.TheVariants.{MacVlanAddress, InfoIpVlan, InfoNetkit, InfoTun}
 use Rattle.netlink_packet_route.specs.declared.levels.Level.TheVariants.{InfoVxlan, InfoGeneve, InfoGre, InfoGre6, InfoIpTunnel}
+use Rattle.netlink_packet_route.specs.declared.levels.Level.TheVariants.{AfSpecBridge, BridgeVlanTunnelInfo, BridgeMst, BridgeMstEntry}
 use Rattle.netlink_packet_route.specs.declared.levels.Level.TheVariants.{InfoVti, InfoXfrm}
+use Rattle.netlink_packet_route.specs.declared.levels.Level.TheVariants.{NextHop, NextHopResGroup, NextHopResBucket, NextHopGroupStats}
+use Rattle.netlink_packet_route.specs.declared.levels.Level.TheVariants.{NextHopGroupStatsEntry, Nsid, Netconf, AddressLabel, NeighbourTable}
+use Rattle.netlink_packet_route.specs.declared.levels.Level.TheVariants.{NeighbourTableParameter, Prefix}
 use Rattle.netlink_packet_route.specs.declared.link.InfoForm.{InfoForm}
 use Rattle.netlink_packet_route.specs.declared.link.InfoForm.TheVariants as Data
 use Rattle.netlink_packet_route.specs.declared.link.InfoPortForm.{InfoPortForm}
@@ -39,6 +43,12 @@ next_byte a b c small little = omega arith
 
 above : (a b c : ℕ) → a < 256 → b < 256 → (a + 256 * b + 65536 * c) / 65536 ≡ c
 above a b c small little = omega arith
+
+far_byte : (a c : ℕ) → a < 256 → (a + 65536 * c) % 256 ≡ a
+far_byte a c small = omega arith
+
+far_above : (a c : ℕ) → a < 256 → (a + 65536 * c) / 65536 ≡ c
+far_above a c small = omega arith
 
 byte_below : (a : ℕ) → a < 256 → a % 256 ≡ a
 byte_below a small = omega arith
@@ -178,6 +188,10 @@ level_back VlanQosMapping from = refl
 level_back InfoVrf from = refl
 level_back InfoVeth from = refl
 level_back Peer from = refl
+level_back AfSpecBridge from = refl
+level_back BridgeVlanTunnelInfo from = refl
+level_back BridgeMst from = refl
+level_back BridgeMstEntry from = refl
 level_back InfoBond from = refl
 level_back BondAdInfo from = refl
 level_back InfoBondPort from = refl
@@ -193,6 +207,23 @@ level_back InfoGre6 from = refl
 level_back (InfoIpTunnel form) from = ap InfoIpTunnel (ap form_of (byte_below (form_number form) (form_below form)) ∙ form_back form)
 level_back InfoVti from = refl
 level_back InfoXfrm from = refl
+level_back (NextHop family encap_type) (f, e) =
+    let a = families.number family in
+    let c = encap_types.number encap_type in
+    let a_below = number_below families 256 family f in
+    let first = read_back families 256 family f ((a + 65536 * c) % 256) (far_byte a c a_below) in
+    let second = read_back encap_types 65536 encap_type e ((a + 65536 * c) / 65536) (far_above a c a_below) in
+    λ i. NextHop (first i) (second i)
+level_back NextHopResGroup from = refl
+level_back NextHopResBucket from = refl
+level_back NextHopGroupStats from = refl
+level_back NextHopGroupStatsEntry from = refl
+level_back Nsid from = refl
+level_back Prefix from = refl
+level_back Netconf from = refl
+level_back NeighbourTable from = refl
+level_back NeighbourTableParameter from = refl
+level_back AddressLabel from = refl
 
 -- ---- from numbers
 
@@ -234,6 +265,10 @@ from_numbers family context small =
     from_either (family == 31) InfoVrf _ tt (
     from_either (family == 32) InfoVeth _ tt (
     from_either (family == 33) Peer _ tt (
+    from_either (family == 34) AfSpecBridge _ tt (
+    from_either (family == 35) BridgeVlanTunnelInfo _ tt (
+    from_either (family == 36) BridgeMst _ tt (
+    from_either (family == 37) BridgeMstEntry _ tt (
     from_either (family == 38) InfoBond _ tt (
     from_either (family == 39) BondAdInfo _ tt (
     from_either (family == 40) InfoBondPort _ tt (
@@ -248,4 +283,15 @@ from_numbers family context small =
     from_either (family == 49) InfoGre6 _ tt (
     from_either (family == 50) (InfoIpTunnel _) _ tt (
     from_either (family == 51) InfoVti _ tt (
-    from_either (family == 52) InfoXfrm (Encap _) tt encap))))))))))))))))))))))))))))))))))))))
+    from_either (family == 52) InfoXfrm _ tt (
+    from_either (family == 53) (NextHop _ _) _ (low, high) (
+    from_either (family == 54) NextHopResGroup _ tt (
+    from_either (family == 55) NextHopResBucket _ tt (
+    from_either (family == 56) NextHopGroupStats _ tt (
+    from_either (family == 57) NextHopGroupStatsEntry _ tt (
+    from_either (family == 58) Nsid _ tt (
+    from_either (family == 59) Prefix _ tt (
+    from_either (family == 60) Netconf _ tt (
+    from_either (family == 61) NeighbourTable _ tt (
+    from_either (family == 62) NeighbourTableParameter _ tt (
+    from_either (family == 63) AddressLabel (Encap _) tt encap)))))))))))))))))))))))))))))))))))))))))))))))))))))

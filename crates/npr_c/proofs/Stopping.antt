@@ -12,6 +12,19 @@ use Rattle.netlink_packet_route.specs.LinkHeader.{header as link_header}
 use Rattle.netlink_packet_route.specs.Messages.{governs_by}
 use Rattle.netlink_packet_route.specs.NeighbourAttribute as OfNeighbour
 use Rattle.netlink_packet_route.specs.NeighbourHeader.{header as neighbour_header}
+use Rattle.netlink_packet_route.specs.AddressLabelAttribute as OfAddressLabel
+use Rattle.netlink_packet_route.specs.AddressLabelHeader.{header as address_label_header}
+use Rattle.netlink_packet_route.specs.NeighbourTableAttribute as OfNeighbourTable
+use Rattle.netlink_packet_route.specs.NeighbourTableHeader.{header as neighbour_table_header}
+use Rattle.netlink_packet_route.specs.NetconfAttribute as OfNetconf
+use Rattle.netlink_packet_route.specs.NetconfHeader.{header as netconf_header}
+use Rattle.netlink_packet_route.specs.NextHopAttribute as OfNextHop
+use Rattle.netlink_packet_route.specs.NextHopMessageHeader.{header as next_hop_header}
+use Rattle.netlink_packet_route.specs.NsidAttribute as OfNsid
+use Rattle.netlink_packet_route.specs.NsidHeader.{header as nsid_header}
+use Rattle.netlink_packet_route.specs.PrefixAttribute as OfPrefix
+use Rattle.netlink_packet_route.specs.PrefixHeader.{header as prefix_header}
+use Rattle.netlink_packet_route.specs.NextHopMessage.{IsContext as IsNextHopContext}
 use Rattle.netlink_packet_route.specs.RouteAttributeView as OfRoute
 use Rattle.netlink_packet_route.specs.RouteHeader.{header as route_header}
 use Rattle.netlink_packet_route.specs.RouteMessageLaws.{IsContext}
@@ -21,7 +34,8 @@ use Rattle.netlink_packet_route.specs.declared.framing.DecodeError.{DecodeError}
 use Rattle.netlink_packet_route.specs.declared.kind.MessageKind.{MessageKind}
 use Rattle.netlink_packet_route.specs.declared.kind.MessageKind.TheVariants as Kind
 use Rattle.netlink_packet_route.specs.declared.levels.Level.{Level}
-use Rattle.netlink_packet_route.specs.declared.levels.Level.TheVariants.{Address, Rule, Route, Neighbour, Link}
+use Rattle.netlink_packet_route.specs.declared.levels.Level.TheVariants.{Address, Rule, Route, Neighbour, Link, NextHop}
+use Rattle.netlink_packet_route.specs.declared.levels.Level.TheVariants.{Nsid, Netconf, AddressLabel, NeighbourTable, Prefix}
 use Rattle.npr_c.specs.Faults.{fault_of, located}
 use Rattle.npr_c.specs.Stops.{StopsBefore, StopsAt, StandsAt, StandsIn, IsPlaced}
 use Rattle.npr_c.specs.declared.faults.Fault.{Fault}
@@ -73,6 +87,24 @@ begun-stands Kind.Neighbour bytes behind rest level offset e (h, reads, is, at) 
 begun-stands Kind.Link bytes behind rest level offset e (h, reads, is, at) stops place =
     stands_there link_header (governs_by (λ h. h.interface_family)) OfLink.family bytes behind rest h h.interface_family offset e reads.0 reads.1 is refl
     (at_level level (Link h.interface_family) behind rest e at stops) place
+begun-stands Kind.NextHop bytes behind rest level offset e (h, reads, is, (c, context, at)) stops place =
+    stands_there next_hop_header IsNextHopContext OfNextHop.family bytes behind rest h c offset e reads.0 reads.1 is context
+    (at_level level (NextHop c.0 c.1) behind rest e at stops) place
+begun-stands Kind.Nsid bytes behind rest level offset e (h, reads, is, at) stops place =
+    stands_there nsid_header (governs_by (λ h. tt)) OfNsid.family bytes behind rest h tt offset e reads.0 reads.1 is refl
+    (at_level level Nsid behind rest e at stops) place
+begun-stands Kind.Netconf bytes behind rest level offset e (h, reads, is, at) stops place =
+    stands_there netconf_header (governs_by (λ h. tt)) OfNetconf.family bytes behind rest h tt offset e reads.0 reads.1 is refl
+    (at_level level Netconf behind rest e at stops) place
+begun-stands Kind.AddressLabel bytes behind rest level offset e (h, reads, is, at) stops place =
+    stands_there address_label_header (governs_by (λ h. tt)) OfAddressLabel.family bytes behind rest h tt offset e reads.0 reads.1 is refl
+    (at_level level AddressLabel behind rest e at stops) place
+begun-stands Kind.NeighbourTable bytes behind rest level offset e (h, reads, is, at) stops place =
+    stands_there neighbour_table_header (governs_by (λ h. tt)) OfNeighbourTable.family bytes behind rest h tt offset e reads.0 reads.1 is refl
+    (at_level level NeighbourTable behind rest e at stops) place
+begun-stands Kind.Prefix bytes behind rest level offset e (h, reads, is, at) stops place =
+    stands_there prefix_header (governs_by (λ h. tt)) OfPrefix.family bytes behind rest h tt offset e reads.0 reads.1 is refl
+    (at_level level Prefix behind rest e at stops) place
 
 -- ---- as it is told
 

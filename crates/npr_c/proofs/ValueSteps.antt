@@ -10,6 +10,7 @@ use Rattle.netlink_packet_route.specs.Values.{Seen}
 use Rattle.netlink_packet_route.specs.declared.framing.At.{At}
 use Rattle.netlink_packet_route.specs.declared.kind.MessageKind.{MessageKind}
 use Rattle.netlink_packet_route.specs.declared.kind.MessageKind.TheVariants.{Address, Link, Neighbour, Route, Rule}
+use Rattle.netlink_packet_route.specs.declared.kind.MessageKind.TheVariants.{NextHop, Nsid, Netconf, AddressLabel, NeighbourTable, Prefix}
 use Rattle.netlink_packet_route.specs.declared.levels.Level.{Level}
 use Rattle.npr_c.proofs.LevelLaws.{level_back}
 use Rattle.npr_c.proofs.Places.{found_in, rest_is, step_over}
@@ -91,6 +92,12 @@ behind_header Rule bytes level rest (h, reads, is, same) = is
 behind_header Route bytes level rest (h, reads, is, governs) = is
 behind_header Neighbour bytes level rest (h, reads, is, same) = is
 behind_header Link bytes level rest (h, reads, is, same) = is
+behind_header NextHop bytes level rest (h, reads, is, governs) = is
+behind_header Nsid bytes level rest (h, reads, is, same) = is
+behind_header Netconf bytes level rest (h, reads, is, same) = is
+behind_header AddressLabel bytes level rest (h, reads, is, same) = is
+behind_header NeighbourTable bytes level rest (h, reads, is, same) = is
+behind_header Prefix bytes level rest (h, reads, is, same) = is
 
 pub behind_short : (kind : MessageKind) (bytes : List ℕ) (level : Level) (rest : List ℕ) → Begins kind bytes level rest → length rest ≤ length bytes
 behind_short kind bytes level rest begins =

@@ -11,7 +11,11 @@ use Rattle.netlink_packet_route.specs.declared.levels.Level.TheVariants.{VlanQos
 use Rattle.netlink_packet_route.specs.declared.levels.Level.TheVariants.{InfoBond, BondAdInfo, InfoBondPort, InfoMacVlan}
 use Rattle.netlink_packet_route.specs.declared.levels.Level.TheVariants.{MacVlanAddress, InfoIpVlan, InfoNetkit, InfoTun}
 use Rattle.netlink_packet_route.specs.declared.levels.Level.TheVariants.{InfoVxlan, InfoGeneve, InfoGre, InfoGre6, InfoIpTunnel}
+use Rattle.netlink_packet_route.specs.declared.levels.Level.TheVariants.{AfSpecBridge, BridgeVlanTunnelInfo, BridgeMst, BridgeMstEntry}
 use Rattle.netlink_packet_route.specs.declared.levels.Level.TheVariants.{InfoVti, InfoXfrm}
+use Rattle.netlink_packet_route.specs.declared.levels.Level.TheVariants.{NextHop, NextHopResGroup, NextHopResBucket, NextHopGroupStats}
+use Rattle.netlink_packet_route.specs.declared.levels.Level.TheVariants.{NextHopGroupStatsEntry, Nsid, Netconf, AddressLabel, NeighbourTable}
+use Rattle.netlink_packet_route.specs.declared.levels.Level.TheVariants.{NeighbourTableParameter, Prefix}
 use Rattle.netlink_packet_route.specs.declared.link.InfoForm.{InfoForm}
 use Rattle.netlink_packet_route.specs.declared.link.InfoForm.TheVariants as Data
 use Rattle.netlink_packet_route.specs.declared.link.InfoPortForm.{InfoPortForm}
@@ -58,6 +62,10 @@ level_family VlanQosMapping = 30
 level_family InfoVrf = 31
 level_family InfoVeth = 32
 level_family Peer = 33
+level_family AfSpecBridge = 34
+level_family BridgeVlanTunnelInfo = 35
+level_family BridgeMst = 36
+level_family BridgeMstEntry = 37
 level_family InfoBond = 38
 level_family BondAdInfo = 39
 level_family InfoBondPort = 40
@@ -73,6 +81,17 @@ level_family InfoGre6 = 49
 level_family (InfoIpTunnel form) = 50
 level_family InfoVti = 51
 level_family InfoXfrm = 52
+level_family (NextHop family encap_type) = 53
+level_family NextHopResGroup = 54
+level_family NextHopResBucket = 55
+level_family NextHopGroupStats = 56
+level_family NextHopGroupStatsEntry = 57
+level_family Nsid = 58
+level_family Prefix = 59
+level_family Netconf = 60
+level_family NeighbourTable = 61
+level_family NeighbourTableParameter = 62
+level_family AddressLabel = 63
 
 -- what governs the data of a link, and of a port
 abbrev pub form_number : InfoForm → ℕ
@@ -141,6 +160,7 @@ port_form_of n = if n == 1 then Port.Bridge else if n == 2 then Port.Vrf else if
 -- or what governs the data of a link in the lowest byte, and of a port in the next
 abbrev pub level_context : Level → ℕ
 level_context (Route family kind encap_type) = families.number family + 256 * route_types.number kind + 65536 * encap_types.number encap_type
+level_context (NextHop family encap_type) = families.number family + 65536 * encap_types.number encap_type
 level_context (Neighbour family) = families.number family
 level_context (Link family) = families.number family
 level_context (Encap encap_type) = encap_types.number encap_type
@@ -175,6 +195,10 @@ level_of family context =
     else if family == 31 then InfoVrf
     else if family == 32 then InfoVeth
     else if family == 33 then Peer
+    else if family == 34 then AfSpecBridge
+    else if family == 35 then BridgeVlanTunnelInfo
+    else if family == 36 then BridgeMst
+    else if family == 37 then BridgeMstEntry
     else if family == 38 then InfoBond
     else if family == 39 then BondAdInfo
     else if family == 40 then InfoBondPort
@@ -190,4 +214,15 @@ level_of family context =
     else if family == 50 then InfoIpTunnel (form_of (context % 256))
     else if family == 51 then InfoVti
     else if family == 52 then InfoXfrm
+    else if family == 53 then NextHop (families.of (context % 256)) (encap_types.of (context / 65536))
+    else if family == 54 then NextHopResGroup
+    else if family == 55 then NextHopResBucket
+    else if family == 56 then NextHopGroupStats
+    else if family == 57 then NextHopGroupStatsEntry
+    else if family == 58 then Nsid
+    else if family == 59 then Prefix
+    else if family == 60 then Netconf
+    else if family == 61 then NeighbourTable
+    else if family == 62 then NeighbourTableParameter
+    else if family == 63 then AddressLabel
     else Encap (encap_types.of (context % 65536))

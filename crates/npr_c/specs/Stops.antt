@@ -7,6 +7,8 @@ use Rattle.netlink_packet_route.specs.Levels.{reading_at}
 use Rattle.netlink_packet_route.specs.Messages.{governs_by}
 use Rattle.netlink_packet_route.specs.Family.{Family}
 use Rattle.netlink_packet_route.specs.AddressAttribute as OfAddress
+use Rattle.netlink_packet_route.specs.AddressLabelAttribute as OfAddressLabel
+use Rattle.netlink_packet_route.specs.AddressLabelHeader.{header as address_label_header}
 use Rattle.netlink_packet_route.specs.AddressHeader.{header as address_header}
 use Rattle.netlink_packet_route.specs.RuleAttribute as OfRule
 use Rattle.netlink_packet_route.specs.RuleHeader.{header as rule_header}
@@ -14,6 +16,17 @@ use Rattle.netlink_packet_route.specs.LinkAttribute as OfLink
 use Rattle.netlink_packet_route.specs.LinkHeader.{header as link_header}
 use Rattle.netlink_packet_route.specs.NeighbourAttribute as OfNeighbour
 use Rattle.netlink_packet_route.specs.NeighbourHeader.{header as neighbour_header}
+use Rattle.netlink_packet_route.specs.NeighbourTableAttribute as OfNeighbourTable
+use Rattle.netlink_packet_route.specs.NeighbourTableHeader.{header as neighbour_table_header}
+use Rattle.netlink_packet_route.specs.NetconfAttribute as OfNetconf
+use Rattle.netlink_packet_route.specs.NetconfHeader.{header as netconf_header}
+use Rattle.netlink_packet_route.specs.NextHopAttribute as OfNextHop
+use Rattle.netlink_packet_route.specs.NextHopMessageHeader.{header as next_hop_header}
+use Rattle.netlink_packet_route.specs.NextHopMessage.{IsContext as IsNextHopContext}
+use Rattle.netlink_packet_route.specs.NsidAttribute as OfNsid
+use Rattle.netlink_packet_route.specs.NsidHeader.{header as nsid_header}
+use Rattle.netlink_packet_route.specs.PrefixAttribute as OfPrefix
+use Rattle.netlink_packet_route.specs.PrefixHeader.{header as prefix_header}
 use Rattle.netlink_packet_route.specs.RouteAttributeView as OfRoute
 use Rattle.netlink_packet_route.specs.RouteHeader.{header as route_header}
 use Rattle.netlink_packet_route.specs.RouteMessageLaws.{IsContext}
@@ -57,12 +70,36 @@ LinkStandsAt bytes offset e = StandsAt link_header (governs_by (λ h. h.interfac
 abbrev pub RouteStandsAt : List ℕ → ℕ → DecodeError → Type 0
 RouteStandsAt bytes offset e = StandsAt route_header IsContext OfRoute.family bytes offset e
 
+abbrev pub NextHopStandsAt : List ℕ → ℕ → DecodeError → Type 0
+NextHopStandsAt bytes offset e = StandsAt next_hop_header IsNextHopContext OfNextHop.family bytes offset e
+
+abbrev pub NsidStandsAt : List ℕ → ℕ → DecodeError → Type 0
+NsidStandsAt bytes offset e = StandsAt nsid_header (governs_by (λ h. tt)) OfNsid.family bytes offset e
+
+abbrev pub NetconfStandsAt : List ℕ → ℕ → DecodeError → Type 0
+NetconfStandsAt bytes offset e = StandsAt netconf_header (governs_by (λ h. tt)) OfNetconf.family bytes offset e
+
+abbrev pub AddressLabelStandsAt : List ℕ → ℕ → DecodeError → Type 0
+AddressLabelStandsAt bytes offset e = StandsAt address_label_header (governs_by (λ h. tt)) OfAddressLabel.family bytes offset e
+
+abbrev pub NeighbourTableStandsAt : List ℕ → ℕ → DecodeError → Type 0
+NeighbourTableStandsAt bytes offset e = StandsAt neighbour_table_header (governs_by (λ h. tt)) OfNeighbourTable.family bytes offset e
+
+abbrev pub PrefixStandsAt : List ℕ → ℕ → DecodeError → Type 0
+PrefixStandsAt bytes offset e = StandsAt prefix_header (governs_by (λ h. tt)) OfPrefix.family bytes offset e
+
 abbrev pub StandsIn : MessageKind → List ℕ → ℕ → DecodeError → Type 0
 StandsIn Kind.Address = AddressStandsAt
 StandsIn Kind.Route = RouteStandsAt
 StandsIn Kind.Rule = RuleStandsAt
 StandsIn Kind.Neighbour = NeighbourStandsAt
 StandsIn Kind.Link = LinkStandsAt
+StandsIn Kind.NextHop = NextHopStandsAt
+StandsIn Kind.Nsid = NsidStandsAt
+StandsIn Kind.Netconf = NetconfStandsAt
+StandsIn Kind.AddressLabel = AddressLabelStandsAt
+StandsIn Kind.NeighbourTable = NeighbourTableStandsAt
+StandsIn Kind.Prefix = PrefixStandsAt
 
 -- what an answer tells of a place: the fault that it tells stands there, or there are fewer bytes than a header
 abbrev pub IsPlaced : ℕ → (List ℕ → ℕ → DecodeError → Type 0) → List ℕ → Fault → Type 0

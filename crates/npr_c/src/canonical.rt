@@ -3,10 +3,16 @@
 ghost use Rattle.std.specs.Prelude.{◌≡◌, ◌≢◌, ◌≤◌, ◌*◌, ℕ, List, length, drop};
 ghost use Rattle.{
   netlink_packet_route.specs.{
+    AddressLabelMessage.{address_labels},
     AddressMessage.{addresses},
     Framing.{Item, Front},
     LinkMessage.{links},
     NeighbourMessage.{neighbours},
+    NeighbourTableMessage.{neighbour_tables},
+    NetconfMessage.{netconfs},
+    NextHopMessage.{next_hops},
+    NsidMessage.{nsids},
+    PrefixMessage.{prefixes},
     RouteMessage.{routes},
     RuleMessage.{rules},
     declared.framing.DecodeError.TheVariants.{OutOfMemory},
@@ -16,9 +22,15 @@ ghost use Rattle.{
 
 use crate::answer::Answer;
 use netlink_packet_route::address::AddressHeader;
+use netlink_packet_route::address_label::AddressLabelHeader;
 use netlink_packet_route::framing::{Emitable, Header, Message, Parseable};
 use netlink_packet_route::link::LinkHeader;
 use netlink_packet_route::neighbour::NeighbourHeader;
+use netlink_packet_route::neighbour_table::NeighbourTableHeader;
+use netlink_packet_route::netconf::NetconfHeader;
+use netlink_packet_route::nexthop::NextHopHeader;
+use netlink_packet_route::nsid::NsidHeader;
+use netlink_packet_route::prefix::PrefixHeader;
 use netlink_packet_route::route::RouteHeader;
 use netlink_packet_route::rule::RuleHeader;
 use std::alloc::Global;
@@ -112,4 +124,86 @@ pub extern "C" fn npr_link_canonical(alloc: Global, bytes: &[u8], out: &mut [u8]
     ensures room { 5 * length bytes.now ≤ 2 * length out.old → result.status ≢ 3 }
 {
     canonical::<LinkHeader>(alloc, bytes, out)
+}
+
+/// Writes the canonical bytes of the next hop message that the bytes are to the front of the
+/// buffer, and leaves the rest of it. The buffer is as it was where they aren't written.
+#[unsafe(no_mangle)]
+pub extern "C" fn npr_next_hop_canonical(alloc: Global, bytes: &[u8], out: &mut [u8]) -> Answer
+    ensures answer { Tells next_hops bytes.now out.old out.new result }
+    // Memory is refused behind a first whole attribute alone.
+    ensures memory { result ≡ refused_answer OutOfMemory → (x : Item) × (rest : List ℕ) × Front (drop 8 bytes.now) x rest }
+    // A buffer two and a half times as long as the bytes is never too short.
+    ensures room { 5 * length bytes.now ≤ 2 * length out.old → result.status ≢ 3 }
+{
+    canonical::<NextHopHeader>(alloc, bytes, out)
+}
+
+/// Writes the canonical bytes of the message of name spaces that the bytes are to the front of the
+/// buffer, and leaves the rest of it. The buffer is as it was where they aren't written.
+#[unsafe(no_mangle)]
+pub extern "C" fn npr_nsid_canonical(alloc: Global, bytes: &[u8], out: &mut [u8]) -> Answer
+    ensures answer { Tells nsids bytes.now out.old out.new result }
+    // Memory is refused behind a first whole attribute alone.
+    ensures memory { result ≡ refused_answer OutOfMemory → (x : Item) × (rest : List ℕ) × Front (drop 4 bytes.now) x rest }
+    // A buffer two and a half times as long as the bytes is never too short.
+    ensures room { 5 * length bytes.now ≤ 2 * length out.old → result.status ≢ 3 }
+{
+    canonical::<NsidHeader>(alloc, bytes, out)
+}
+
+/// Writes the canonical bytes of the message of settings that the bytes are to the front of the
+/// buffer, and leaves the rest of it. The buffer is as it was where they aren't written.
+#[unsafe(no_mangle)]
+pub extern "C" fn npr_netconf_canonical(alloc: Global, bytes: &[u8], out: &mut [u8]) -> Answer
+    ensures answer { Tells netconfs bytes.now out.old out.new result }
+    // Memory is refused behind a first whole attribute alone.
+    ensures memory { result ≡ refused_answer OutOfMemory → (x : Item) × (rest : List ℕ) × Front (drop 4 bytes.now) x rest }
+    // A buffer two and a half times as long as the bytes is never too short.
+    ensures room { 5 * length bytes.now ≤ 2 * length out.old → result.status ≢ 3 }
+{
+    canonical::<NetconfHeader>(alloc, bytes, out)
+}
+
+/// Writes the canonical bytes of the message of address labels that the bytes are to the front of the
+/// buffer, and leaves the rest of it. The buffer is as it was where they aren't written.
+#[unsafe(no_mangle)]
+pub extern "C" fn npr_address_label_canonical(alloc: Global, bytes: &[u8], out: &mut [u8]) -> Answer
+    ensures answer { Tells address_labels bytes.now out.old out.new result }
+    // Memory is refused behind a first whole attribute alone.
+    ensures memory { result ≡ refused_answer OutOfMemory → (x : Item) × (rest : List ℕ) × Front (drop 12 bytes.now) x rest }
+    // A buffer two and a half times as long as the bytes is never too short.
+    ensures room { 5 * length bytes.now ≤ 2 * length out.old → result.status ≢ 3 }
+{
+    canonical::<AddressLabelHeader>(alloc, bytes, out)
+}
+
+/// Writes the canonical bytes of the message of tables of neighbours that the bytes are to the front of the
+/// buffer, and leaves the rest of it. The buffer is as it was where they aren't written.
+#[unsafe(no_mangle)]
+pub extern "C" fn npr_neighbour_table_canonical(
+    alloc: Global,
+    bytes: &[u8],
+    out: &mut [u8],
+) -> Answer
+    ensures answer { Tells neighbour_tables bytes.now out.old out.new result }
+    // Memory is refused behind a first whole attribute alone.
+    ensures memory { result ≡ refused_answer OutOfMemory → (x : Item) × (rest : List ℕ) × Front (drop 4 bytes.now) x rest }
+    // A buffer two and a half times as long as the bytes is never too short.
+    ensures room { 5 * length bytes.now ≤ 2 * length out.old → result.status ≢ 3 }
+{
+    canonical::<NeighbourTableHeader>(alloc, bytes, out)
+}
+
+/// Writes the canonical bytes of the prefix message that the bytes are to the front of the
+/// buffer, and leaves the rest of it. The buffer is as it was where they aren't written.
+#[unsafe(no_mangle)]
+pub extern "C" fn npr_prefix_canonical(alloc: Global, bytes: &[u8], out: &mut [u8]) -> Answer
+    ensures answer { Tells prefixes bytes.now out.old out.new result }
+    // Memory is refused behind a first whole attribute alone.
+    ensures memory { result ≡ refused_answer OutOfMemory → (x : Item) × (rest : List ℕ) × Front (drop 12 bytes.now) x rest }
+    // A buffer two and a half times as long as the bytes is never too short.
+    ensures room { 5 * length bytes.now ≤ 2 * length out.old → result.status ≢ 3 }
+{
+    canonical::<PrefixHeader>(alloc, bytes, out)
 }

@@ -3,17 +3,24 @@
 ghost use Rattle.std.specs.Prelude.{◌≡◌};
 ghost use Rattle.{
   netlink_packet_route.specs.{
+    AddressLabelMessage.{address_labels},
     AddressMessage.{addresses},
     Levels.{header_size},
     LinkMessage.{links},
     MessageKind.{form_of},
     NeighbourMessage.{neighbours},
+    NeighbourTableMessage.{neighbour_tables},
+    NetconfMessage.{netconfs},
+    NextHopMessage.{next_hops},
+    NsidMessage.{nsids},
+    PrefixMessage.{prefixes},
     RouteMessage.{routes},
     RuleMessage.{rules},
   },
   npr_c.specs.{
     Faults.{IsJudged, fault_of, family_number, seg6_number},
-    Stops.{AddressStandsAt, IsPlaced, LinkStandsAt, NeighbourStandsAt, RouteStandsAt, RuleStandsAt, StandsIn},
+    Stops.{IsPlaced, StandsIn},
+    Stops.{AddressStandsAt, AddressLabelStandsAt, LinkStandsAt, NeighbourStandsAt, NeighbourTableStandsAt, NetconfStandsAt, NextHopStandsAt, NsidStandsAt, PrefixStandsAt, RouteStandsAt, RuleStandsAt},
   },
 };
 
@@ -269,4 +276,70 @@ pub extern "C" fn npr_link_fault(bytes: &[u8]) -> Fault
     ensures place { IsPlaced 16 LinkStandsAt bytes.now result }
 {
     judged(MessageKind::Link, bytes)
+}
+
+/// What is wrong with the bytes as a next hop message and where it stands, or that they are one. It
+/// takes no memory.
+#[unsafe(no_mangle)]
+pub extern "C" fn npr_next_hop_fault(bytes: &[u8]) -> Fault
+    ensures fault { IsJudged next_hops bytes.now result }
+    // Up to the place attributes read, and what stands there is wrong.
+    ensures place { IsPlaced 8 NextHopStandsAt bytes.now result }
+{
+    judged(MessageKind::NextHop, bytes)
+}
+
+/// What is wrong with the bytes as a message of name spaces and where it stands, or that they are one. It
+/// takes no memory.
+#[unsafe(no_mangle)]
+pub extern "C" fn npr_nsid_fault(bytes: &[u8]) -> Fault
+    ensures fault { IsJudged nsids bytes.now result }
+    // Up to the place attributes read, and what stands there is wrong.
+    ensures place { IsPlaced 4 NsidStandsAt bytes.now result }
+{
+    judged(MessageKind::Nsid, bytes)
+}
+
+/// What is wrong with the bytes as a message of settings and where it stands, or that they are one. It
+/// takes no memory.
+#[unsafe(no_mangle)]
+pub extern "C" fn npr_netconf_fault(bytes: &[u8]) -> Fault
+    ensures fault { IsJudged netconfs bytes.now result }
+    // Up to the place attributes read, and what stands there is wrong.
+    ensures place { IsPlaced 4 NetconfStandsAt bytes.now result }
+{
+    judged(MessageKind::Netconf, bytes)
+}
+
+/// What is wrong with the bytes as a message of address labels and where it stands, or that they are one. It
+/// takes no memory.
+#[unsafe(no_mangle)]
+pub extern "C" fn npr_address_label_fault(bytes: &[u8]) -> Fault
+    ensures fault { IsJudged address_labels bytes.now result }
+    // Up to the place attributes read, and what stands there is wrong.
+    ensures place { IsPlaced 12 AddressLabelStandsAt bytes.now result }
+{
+    judged(MessageKind::AddressLabel, bytes)
+}
+
+/// What is wrong with the bytes as a message of tables of neighbours and where it stands, or that they are one. It
+/// takes no memory.
+#[unsafe(no_mangle)]
+pub extern "C" fn npr_neighbour_table_fault(bytes: &[u8]) -> Fault
+    ensures fault { IsJudged neighbour_tables bytes.now result }
+    // Up to the place attributes read, and what stands there is wrong.
+    ensures place { IsPlaced 4 NeighbourTableStandsAt bytes.now result }
+{
+    judged(MessageKind::NeighbourTable, bytes)
+}
+
+/// What is wrong with the bytes as a prefix message and where it stands, or that they are one. It
+/// takes no memory.
+#[unsafe(no_mangle)]
+pub extern "C" fn npr_prefix_fault(bytes: &[u8]) -> Fault
+    ensures fault { IsJudged prefixes bytes.now result }
+    // Up to the place attributes read, and what stands there is wrong.
+    ensures place { IsPlaced 12 PrefixStandsAt bytes.now result }
+{
+    judged(MessageKind::Prefix, bytes)
 }

@@ -64,6 +64,10 @@ pub fn level_family(level: Level) -> u32
         Level::InfoVrf => 31,
         Level::InfoVeth => 32,
         Level::Peer => 33,
+        Level::AfSpecBridge => 34,
+        Level::BridgeVlanTunnelInfo => 35,
+        Level::BridgeMst => 36,
+        Level::BridgeMstEntry => 37,
         Level::InfoBond => 38,
         Level::BondAdInfo => 39,
         Level::InfoBondPort => 40,
@@ -79,6 +83,17 @@ pub fn level_family(level: Level) -> u32
         Level::InfoIpTunnel(_) => 50,
         Level::InfoVti => 51,
         Level::InfoXfrm => 52,
+        Level::NextHop(_, _) => 53,
+        Level::NextHopResGroup => 54,
+        Level::NextHopResBucket => 55,
+        Level::NextHopGroupStats => 56,
+        Level::NextHopGroupStatsEntry => 57,
+        Level::Nsid => 58,
+        Level::Prefix => 59,
+        Level::Netconf => 60,
+        Level::NeighbourTable => 61,
+        Level::NeighbourTableParameter => 62,
+        Level::AddressLabel => 63,
     }
 }
 
@@ -177,6 +192,10 @@ pub fn level_context(level: Level) -> u32
             let encap_number = u32::from(numbers::encap_type(encap_type));
             family_number + 256 * type_number + 65536 * encap_number
         }
+        Level::NextHop(family, encap_type) => {
+            let family_number = u32::from(numbers::address_family(family));
+            family_number + 65536 * u32::from(numbers::encap_type(encap_type))
+        }
         Level::Neighbour(family) | Level::Link(family) => {
             u32::from(numbers::address_family(family))
         }
@@ -227,6 +246,10 @@ pub fn level_of(family: u32, context: u32) -> Level
         31 => Level::InfoVrf,
         32 => Level::InfoVeth,
         33 => Level::Peer,
+        34 => Level::AfSpecBridge,
+        35 => Level::BridgeVlanTunnelInfo,
+        36 => Level::BridgeMst,
+        37 => Level::BridgeMstEntry,
         38 => Level::InfoBond,
         39 => Level::BondAdInfo,
         40 => Level::InfoBondPort,
@@ -242,6 +265,20 @@ pub fn level_of(family: u32, context: u32) -> Level
         50 => Level::InfoIpTunnel(form_of(context % 256)),
         51 => Level::InfoVti,
         52 => Level::InfoXfrm,
+        53 => Level::NextHop(
+            family_in(context),
+            RouteLwEnCapType::from((context / 65536) as u16),
+        ),
+        54 => Level::NextHopResGroup,
+        55 => Level::NextHopResBucket,
+        56 => Level::NextHopGroupStats,
+        57 => Level::NextHopGroupStatsEntry,
+        58 => Level::Nsid,
+        59 => Level::Prefix,
+        60 => Level::Netconf,
+        61 => Level::NeighbourTable,
+        62 => Level::NeighbourTableParameter,
+        63 => Level::AddressLabel,
         _ => Level::Encap(RouteLwEnCapType::from((context % 65536) as u16)),
     }
 }

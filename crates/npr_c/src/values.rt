@@ -3,7 +3,7 @@
 
 ghost use Rattle.std.specs.Prelude.{◌≡◌};
 ghost use Rattle.{
-  netlink_packet_route.specs.{Value.{shown}, declared.kind.MessageKind.TheVariants.{Address, Link, Neighbour, Route, Rule}},
+  netlink_packet_route.specs.{Value.{shown}, declared.kind.MessageKind.TheVariants.{Address, AddressLabel, Link, Neighbour, NeighbourTable, Netconf, NextHop, Nsid, Prefix, Route, Rule}},
   npr_c.specs.{
     Levels.{level_context, level_family, level_of},
     Numbers.{refusal_number},
@@ -226,6 +226,54 @@ pub extern "C" fn npr_link_begin(bytes: &[u8]) -> ListStep
     ensures { BeginsAt Link bytes.now result }
 {
     begin(MessageKind::Link, bytes)
+}
+
+/// The list of the attributes of a next hop message, behind its header. It takes no memory.
+#[unsafe(no_mangle)]
+pub extern "C" fn npr_next_hop_begin(bytes: &[u8]) -> ListStep
+    ensures { BeginsAt NextHop bytes.now result }
+{
+    begin(MessageKind::NextHop, bytes)
+}
+
+/// The list of the attributes of a message of name spaces, behind its header. It takes no memory.
+#[unsafe(no_mangle)]
+pub extern "C" fn npr_nsid_begin(bytes: &[u8]) -> ListStep
+    ensures { BeginsAt Nsid bytes.now result }
+{
+    begin(MessageKind::Nsid, bytes)
+}
+
+/// The list of the attributes of a message of settings, behind its header. It takes no memory.
+#[unsafe(no_mangle)]
+pub extern "C" fn npr_netconf_begin(bytes: &[u8]) -> ListStep
+    ensures { BeginsAt Netconf bytes.now result }
+{
+    begin(MessageKind::Netconf, bytes)
+}
+
+/// The list of the attributes of a message of address labels, behind its header. It takes no memory.
+#[unsafe(no_mangle)]
+pub extern "C" fn npr_address_label_begin(bytes: &[u8]) -> ListStep
+    ensures { BeginsAt AddressLabel bytes.now result }
+{
+    begin(MessageKind::AddressLabel, bytes)
+}
+
+/// The list of the attributes of a message of tables of neighbours, behind its header. It takes no memory.
+#[unsafe(no_mangle)]
+pub extern "C" fn npr_neighbour_table_begin(bytes: &[u8]) -> ListStep
+    ensures { BeginsAt NeighbourTable bytes.now result }
+{
+    begin(MessageKind::NeighbourTable, bytes)
+}
+
+/// The list of the attributes of a prefix message, behind its header. It takes no memory.
+#[unsafe(no_mangle)]
+pub extern "C" fn npr_prefix_begin(bytes: &[u8]) -> ListStep
+    ensures { BeginsAt Prefix bytes.now result }
+{
+    begin(MessageKind::Prefix, bytes)
 }
 
 /// The list of attributes in the value of the attribute that begins `at` bytes from the first of a
