@@ -12,7 +12,8 @@ use std::alloc::Global;
 
 /// A way of reading, which may keep something from one message to the next.
 trait Way {
-    /// Reads a message of this kind. Answers how many attributes it has.
+    /// Reads a message of this kind. Answers how many attributes it has; of a kind that is not measured,
+    /// none.
     fn read(&mut self, kind: MessageKind, bytes: &[u8]) -> u64;
 }
 
@@ -51,6 +52,7 @@ impl Way for Anew {
             MessageKind::Rule => parse::<RuleHeader>(self.alloc, bytes),
             MessageKind::Neighbour => parse::<NeighbourHeader>(self.alloc, bytes),
             MessageKind::Link => parse::<LinkHeader>(self.alloc, bytes),
+            _ => 0,
         }
     }
 }
@@ -85,6 +87,7 @@ impl Way for Into {
             MessageKind::Rule => parse_into(self.alloc, &mut self.rule, bytes),
             MessageKind::Neighbour => parse_into(self.alloc, &mut self.neighbour, bytes),
             MessageKind::Link => parse_into(self.alloc, &mut self.link, bytes),
+            _ => 0,
         }
     }
 }
@@ -117,6 +120,7 @@ impl Way for OneByOne {
             MessageKind::Rule => step_through::<RuleHeader>(self.alloc, bytes),
             MessageKind::Neighbour => step_through::<NeighbourHeader>(self.alloc, bytes),
             MessageKind::Link => step_through::<LinkHeader>(self.alloc, bytes),
+            _ => 0,
         }
     }
 }
@@ -157,6 +161,7 @@ impl Way for Seen {
             MessageKind::Rule => see::<RuleHeader>(bytes),
             MessageKind::Neighbour => see::<NeighbourHeader>(bytes),
             MessageKind::Link => see::<LinkHeader>(bytes),
+            _ => 0,
         }
     }
 }

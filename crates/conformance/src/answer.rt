@@ -3,9 +3,15 @@
 use crate::datagram::datagrams_answer;
 use crate::stop::Stop;
 use netlink_packet_route::address::AddressHeader;
+use netlink_packet_route::address_label::AddressLabelHeader;
 use netlink_packet_route::framing::{Header, Message, NLA_F_NET_BYTEORDER, Nla, Parseable, to_vec};
 use netlink_packet_route::link::LinkHeader;
 use netlink_packet_route::neighbour::NeighbourHeader;
+use netlink_packet_route::neighbour_table::NeighbourTableHeader;
+use netlink_packet_route::netconf::NetconfHeader;
+use netlink_packet_route::nexthop::NextHopHeader;
+use netlink_packet_route::nsid::NsidHeader;
+use netlink_packet_route::prefix::PrefixHeader;
 use netlink_packet_route::route::RouteHeader;
 use netlink_packet_route::rule::RuleHeader;
 use netlink_packet_route::{MessageKind, validate};
@@ -53,6 +59,12 @@ fn message_answer(kind: MessageKind, alloc: Global, bytes: &[u8]) -> Result<Stri
         MessageKind::Rule => answer::<RuleHeader>(alloc, bytes),
         MessageKind::Neighbour => answer::<NeighbourHeader>(alloc, bytes),
         MessageKind::Link => answer::<LinkHeader>(alloc, bytes),
+        MessageKind::NextHop => answer::<NextHopHeader>(alloc, bytes),
+        MessageKind::Nsid => answer::<NsidHeader>(alloc, bytes),
+        MessageKind::Netconf => answer::<NetconfHeader>(alloc, bytes),
+        MessageKind::AddressLabel => answer::<AddressLabelHeader>(alloc, bytes),
+        MessageKind::NeighbourTable => answer::<NeighbourTableHeader>(alloc, bytes),
+        MessageKind::Prefix => answer::<PrefixHeader>(alloc, bytes),
     };
     let is_alike = match (&answered, validate(kind, bytes)) {
         (Err(Stop::Memory), _) => true,

@@ -15,7 +15,7 @@ use std::process::ExitCode;
 use std::{env, fmt, io};
 
 const USAGE: &str =
-    "usage: conformance address|route|rule|neighbour|link|datagrams FILE.. [WORD FILE..]";
+    "usage: conformance KIND|datagrams FILE.. [WORD FILE..], where KIND is a kind of message, as address";
 
 fn main(rt: HostRuntime) -> ExitCode {
     let words = match arguments(&rt) {

@@ -4,11 +4,17 @@
 use crate::datagrams::answer_to_datagram;
 use netlink_packet_route::MessageKind;
 use netlink_packet_route::address::AddressHeader;
+use netlink_packet_route::address_label::AddressLabelHeader;
 use netlink_packet_route::framing::{
     DecodeError, Emitable, Header, Looks, Message, Parseable, WriteError, to_vec,
 };
 use netlink_packet_route::link::LinkHeader;
 use netlink_packet_route::neighbour::NeighbourHeader;
+use netlink_packet_route::neighbour_table::NeighbourTableHeader;
+use netlink_packet_route::netconf::NetconfHeader;
+use netlink_packet_route::nexthop::NextHopHeader;
+use netlink_packet_route::nsid::NsidHeader;
+use netlink_packet_route::prefix::PrefixHeader;
 use netlink_packet_route::route::RouteHeader;
 use netlink_packet_route::rule::RuleHeader;
 use std::alloc::{AllocError, Global};
@@ -24,12 +30,18 @@ pub enum Subject {
 
 impl Subject {
     /// Each of them.
-    pub const ALL: [Subject; 6] = [
+    pub const ALL: [Subject; 12] = [
         Subject::Message(MessageKind::Address),
         Subject::Message(MessageKind::Route),
         Subject::Message(MessageKind::Rule),
         Subject::Message(MessageKind::Neighbour),
         Subject::Message(MessageKind::Link),
+        Subject::Message(MessageKind::NextHop),
+        Subject::Message(MessageKind::Nsid),
+        Subject::Message(MessageKind::Netconf),
+        Subject::Message(MessageKind::AddressLabel),
+        Subject::Message(MessageKind::NeighbourTable),
+        Subject::Message(MessageKind::Prefix),
         Subject::Datagram,
     ];
 
@@ -66,7 +78,21 @@ pub fn answer_to(alloc: Global, subject: Subject, bytes: &[u8]) -> Result<Answer
         Subject::Message(MessageKind::Rule) => answer_by::<RuleHeader>(alloc, bytes),
         Subject::Message(MessageKind::Neighbour) => answer_by::<NeighbourHeader>(alloc, bytes),
         Subject::Message(MessageKind::Link) => answer_by::<LinkHeader>(alloc, bytes),
+        Subject::Message(kind) => answer_to_small(alloc, kind, bytes),
         Subject::Datagram => answer_to_datagram(alloc, bytes),
+    }
+}
+
+/// The same of next hops and of the small messages; of any other kind, that it is asked of nobody.
+fn answer_to_small(alloc: Global, kind: MessageKind, bytes: &[u8]) -> Result<Answer, AllocError> {
+    match kind {
+        MessageKind::NextHop => answer_by::<NextHopHeader>(alloc, bytes),
+        MessageKind::Nsid => answer_by::<NsidHeader>(alloc, bytes),
+        MessageKind::Netconf => answer_by::<NetconfHeader>(alloc, bytes),
+        MessageKind::AddressLabel => answer_by::<AddressLabelHeader>(alloc, bytes),
+        MessageKind::NeighbourTable => answer_by::<NeighbourTableHeader>(alloc, bytes),
+        MessageKind::Prefix => answer_by::<PrefixHeader>(alloc, bytes),
+        _ => Ok(Answer::Broken("not asked")),
     }
 }
 

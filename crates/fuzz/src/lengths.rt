@@ -137,3 +137,31 @@ pub const KINDS: [(&str, Lengths); 16] = [
 pub const TARGETS: Lengths = &[4, 4, 4, 4, 4, 4, 4, 4];
 
 pub const TARGETS6: Lengths = &[16, 16, 16, 16, 16, 16, 16, 16];
+
+/// Of next hops; lists are empty here.
+pub const NEXT_HOP: [u8; 18] = [
+    ANY, 4, 8, 2, 0, 4, OF_FAMILY, 2, ANY, 0, 4, 0, 0, 0, 4, 0, 4, 4,
+];
+
+/// Of a resilient group, of a bucket of one, and of the statistics of a member.
+pub const RESILIENT: [u8; 5] = [ANY, 2, 4, 4, 8];
+
+pub const BUCKET: [u8; 4] = [ANY, 2, 8, 4];
+
+pub const STATISTICS: [u8; 4] = [ANY, 4, 8, 4];
+
+/// Of name spaces, settings, address labels and prefixes.
+pub const NAME_SPACE: [u8; 6] = [ANY, 4, 4, 4, 4, 4];
+
+pub const SETTINGS: [u8; 10] = [ANY, 4, 4, 4, 4, 4, 4, 4, 4, 4];
+
+pub const LABEL: [u8; 3] = [ANY, 16, 4];
+
+pub const PREFIX: [u8; 3] = [ANY, 16, 8];
+
+/// Of tables of neighbours, where the list is empty, and of their parameters.
+pub const TABLE: [u8; 9] = [ANY, ANY, 4, 4, 4, 32, 0, 88, 8];
+
+pub const PARAMETER: [u8; 20] = [
+    ANY, 4, 4, 8, 8, 8, 8, 8, 4, 4, 4, 4, 8, 8, 4, 8, 4, 4, ANY, 8,
+];

@@ -12,6 +12,7 @@ mod lengths;
 mod links;
 mod making;
 mod random;
+mod small;
 mod tally;
 mod worked;
 

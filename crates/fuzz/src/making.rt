@@ -3,7 +3,8 @@
 
 use crate::asking::Subject;
 use crate::lengths::{
-    ADDRESS, ANSWERS, ANY, MEMBERS, NEIGHBOUR, NUMBERS, OF_FAMILY, OPTIONS, ROUTE, RULE,
+    ADDRESS, ANSWERS, ANY, LABEL, MEMBERS, NAME_SPACE, NEIGHBOUR, NUMBERS, OF_FAMILY, OPTIONS,
+    PREFIX, ROUTE, RULE, SETTINGS,
 };
 use crate::random::Random;
 use netlink_packet_route::MessageKind;
@@ -14,7 +15,7 @@ use std::mem;
 pub const NESTED: u16 = 0x8000;
 
 /// Types of messages, with the kind of those that have one.
-const TYPES: [(u16, Option<MessageKind>); 14] = [
+const TYPES: [(u16, Option<MessageKind>); 20] = [
     (20, Some(MessageKind::Address)),
     (22, Some(MessageKind::Address)),
     (24, Some(MessageKind::Route)),
@@ -25,10 +26,16 @@ const TYPES: [(u16, Option<MessageKind>); 14] = [
     (16, Some(MessageKind::Link)),
     (19, Some(MessageKind::Link)),
     (109, Some(MessageKind::Link)),
+    (52, Some(MessageKind::Prefix)),
+    (67, Some(MessageKind::NeighbourTable)),
+    (73, Some(MessageKind::AddressLabel)),
+    (80, Some(MessageKind::Netconf)),
+    (90, Some(MessageKind::Nsid)),
+    (106, Some(MessageKind::NextHop)),
     (1, None),
     (2, None),
     (3, None),
-    (104, None),
+    (36, None),
 ];
 
 /// A maker of messages.
@@ -97,12 +104,7 @@ impl Maker {
     /// A message with its envelope: mostly a part of an answer to the request of number 7.
     fn envelope(&mut self, out: &mut Vec<u8>) -> Result<(), AllocError> {
         let (message_type, kind) = self.random.one_of(&TYPES, (4, None));
-        let size = match kind {
-            Some(MessageKind::Address) => 24usize,
-            Some(MessageKind::Route | MessageKind::Rule | MessageKind::Neighbour) => 28,
-            Some(MessageKind::Link) => 32,
-            None => 16,
-        };
+        let size = 16usize.saturating_add(kind.map_or(0, header_size));
         match kind {
             Some(kind) => self.attributes(kind)?,
             None => self.reply()?,
@@ -145,6 +147,12 @@ impl Maker {
             MessageKind::Neighbour => self.leaves(&NEIGHBOUR),
             MessageKind::Route => self.route(),
             MessageKind::Link => self.link(),
+            MessageKind::NextHop => self.next_hop_object(),
+            MessageKind::Nsid => self.leaves(&NAME_SPACE),
+            MessageKind::Netconf => self.leaves(&SETTINGS),
+            MessageKind::AddressLabel => self.leaves(&LABEL),
+            MessageKind::NeighbourTable => self.neighbour_table(),
+            MessageKind::Prefix => self.leaves(&PREFIX),
         }
     }
 
@@ -152,14 +160,27 @@ impl Maker {
     fn header(&mut self, kind: MessageKind, out: &mut Vec<u8>) -> Result<(), AllocError> {
         let [a, b, c, d, e, f, g, _] = self.random.number().to_le_bytes();
         let route_type = self.random.one_of(&[1, 1, 1, 5], g);
-        out.extend_from_slice(&[self.family, a, b, c, d, e, f, route_type])?;
-        if kind != MessageKind::Address {
-            let [a, b, c, d, ..] = self.random.number().to_le_bytes();
-            out.extend_from_slice(&[a, b, c, d])?;
-        }
-        if kind == MessageKind::Link {
-            let [a, b, c, d, ..] = self.random.number().to_le_bytes();
-            out.extend_from_slice(&[a, b, c, d])?;
+        let [h, i, j, k, l, m, n, o] = self.random.number().to_le_bytes();
+        let bytes = [
+            self.family,
+            a,
+            b,
+            c,
+            d,
+            e,
+            f,
+            route_type,
+            h,
+            i,
+            j,
+            k,
+            l,
+            m,
+            n,
+            o,
+        ];
+        for byte in bytes.iter().take(header_size(kind)) {
+            out.push(*byte)?;
         }
         Ok(())
     }
@@ -324,6 +345,16 @@ impl Maker {
             }
         }
         Ok(())
+    }
+}
+
+/// The length of the header of messages of this kind, in bytes.
+fn header_size(kind: MessageKind) -> usize {
+    match kind {
+        MessageKind::Nsid | MessageKind::Netconf | MessageKind::NeighbourTable => 4,
+        MessageKind::Address | MessageKind::NextHop => 8,
+        MessageKind::Link => 16,
+        _ => 12,
     }
 }
 

@@ -91,6 +91,42 @@ const ROUTES: [&str; 31] = [
     "02000000fe0300050000000008001700b80b0000",
 ];
 
+/// Next hop messages: one by a gateway, a group, a resilient one, statistics, a bucket, an encapsulation before its type, and two types.
+const NEXT_HOPS: [&str; 7] = [
+    "02fd0000000000000800010001000000080005000f000000080006000a000009",
+    "0000000000000000080001000500000006000300000000001400020001000000020000000e0000002b01000008000e0000000080",
+    "0000000000000000080001000600000014000200010000000000000002000000000000001c000c800600010020000000080002007017000008000300307500000600030001000000",
+    "0000000000000000080010000000000020000f801c000180080001000100000008000200000000000800030000000000",
+    "0000000000000000080001000600000020000d800600010000000000080003000e0000000c000200d101000000000000",
+    "02fd000000000000100008000c00010000064000000c81000600070001000000",
+    "000000000000000006000700010000000600070002000000",
+];
+
+/// Messages of name spaces.
+const NAME_SPACES: [&str; 1] = ["00000000080003000500000008000100ffffffff"];
+
+/// Messages of settings.
+const SETTINGS: [&str; 2] = [
+    "02000000080001000f000000080002000000000008000300000000000800080000000000",
+    "1c00000008000100ffffffff0800070001000000",
+];
+
+/// Messages of address labels.
+const LABELS: [&str; 1] = [
+    "0a0020000f0000000c0000001400010020010db90000000000000000000000000800020062000000",
+];
+
+/// Messages of tables of neighbours: a change, and one with the configuration.
+const TABLES: [&str; 2] = [
+    "000000000e0001006172705f63616368650000001800060008000100040000000c000500e803000000000000",
+    "020000000e0001006172705f63616368650000000c00080030750000000000000800020080000000240005000400380101000000f01e0000405df9ff1362538507000000000000000000000000000000",
+];
+
+/// Prefix messages.
+const PREFIXES: [&str; 1] = [
+    "0a0000005b0000000340c0001400010020010db80077000000000000000000000c00020008070000100e0000",
+];
+
 /// Datagrams: two rules of a dump and its end, the second of them interrupted; a message of 17 bytes and
 /// an overrun; an error with the words of an extended answer behind a capped message, and an
 /// acknowledgement.
@@ -108,6 +144,12 @@ pub fn messages(subject: Subject) -> &'static [&'static str] {
         Subject::Message(MessageKind::Rule) => &RULES,
         Subject::Message(MessageKind::Neighbour) => &NEIGHBOURS,
         Subject::Message(MessageKind::Link) => &LINKS,
+        Subject::Message(MessageKind::NextHop) => &NEXT_HOPS,
+        Subject::Message(MessageKind::Nsid) => &NAME_SPACES,
+        Subject::Message(MessageKind::Netconf) => &SETTINGS,
+        Subject::Message(MessageKind::AddressLabel) => &LABELS,
+        Subject::Message(MessageKind::NeighbourTable) => &TABLES,
+        Subject::Message(MessageKind::Prefix) => &PREFIXES,
         Subject::Datagram => &DATAGRAMS,
     }
 }

@@ -31,9 +31,15 @@ use crate::output::write_text;
 use crate::report::whole;
 use netlink_packet_route::MessageKind;
 use netlink_packet_route::address::AddressHeader;
+use netlink_packet_route::address_label::AddressLabelHeader;
 use netlink_packet_route::framing::{Attribute, Emitable, Header, Message, Parseable, to_vec};
 use netlink_packet_route::link::LinkHeader;
 use netlink_packet_route::neighbour::NeighbourHeader;
+use netlink_packet_route::neighbour_table::NeighbourTableHeader;
+use netlink_packet_route::netconf::NetconfHeader;
+use netlink_packet_route::nexthop::NextHopHeader;
+use netlink_packet_route::nsid::NsidHeader;
+use netlink_packet_route::prefix::PrefixHeader;
 use netlink_packet_route::route::RouteHeader;
 use netlink_packet_route::rule::RuleHeader;
 use std::alloc::Global;
@@ -85,6 +91,20 @@ fn answer(alloc: Global, kind: MessageKind, bytes: &[u8]) -> Result<String, RunE
             answer_by::<NeighbourHeader>(alloc, MessageKind::Neighbour, bytes)
         }
         MessageKind::Link => answer_by::<LinkHeader>(alloc, MessageKind::Link, bytes),
+        MessageKind::NextHop => answer_by::<NextHopHeader>(alloc, MessageKind::NextHop, bytes),
+        MessageKind::Nsid => answer_by::<NsidHeader>(alloc, MessageKind::Nsid, bytes),
+        MessageKind::Netconf => answer_by::<NetconfHeader>(alloc, MessageKind::Netconf, bytes),
+        MessageKind::AddressLabel => answer_by::<AddressLabelHeader>(
+            alloc,
+            MessageKind::AddressLabel,
+            bytes,
+        ),
+        MessageKind::NeighbourTable => answer_by::<NeighbourTableHeader>(
+            alloc,
+            MessageKind::NeighbourTable,
+            bytes,
+        ),
+        MessageKind::Prefix => answer_by::<PrefixHeader>(alloc, MessageKind::Prefix, bytes),
     }
 }
 

@@ -9,8 +9,14 @@ mod trial;
 
 use netlink_packet_route::MessageKind;
 use netlink_packet_route::address::AddressMessage;
+use netlink_packet_route::address_label::AddressLabelMessage;
 use netlink_packet_route::link::LinkMessage;
 use netlink_packet_route::neighbour::NeighbourMessage;
+use netlink_packet_route::neighbour_table::NeighbourTableMessage;
+use netlink_packet_route::netconf::NetconfMessage;
+use netlink_packet_route::nexthop::NextHopMessage;
+use netlink_packet_route::nsid::NsidMessage;
+use netlink_packet_route::prefix::PrefixMessage;
 use netlink_packet_route::route::{RouteMessage, RouteNextHop};
 use netlink_packet_route::rule::RuleMessage;
 use rows::{Parsed, Row};
@@ -61,6 +67,20 @@ fn tried_message(alloc: Global, kind: MessageKind, row: Row) -> Endings {
         MessageKind::Rule => try_each::<RuleMessage>(alloc, row.text, row.canonical),
         MessageKind::Neighbour => try_each::<NeighbourMessage>(alloc, row.text, row.canonical),
         MessageKind::Link => try_each::<LinkMessage>(alloc, row.text, row.canonical),
+        MessageKind::NextHop => try_each::<NextHopMessage>(alloc, row.text, row.canonical),
+        MessageKind::Nsid => try_each::<NsidMessage>(alloc, row.text, row.canonical),
+        MessageKind::Netconf => try_each::<NetconfMessage>(alloc, row.text, row.canonical),
+        MessageKind::AddressLabel => try_each::<AddressLabelMessage>(
+            alloc,
+            row.text,
+            row.canonical,
+        ),
+        MessageKind::NeighbourTable => try_each::<NeighbourTableMessage>(
+            alloc,
+            row.text,
+            row.canonical,
+        ),
+        MessageKind::Prefix => try_each::<PrefixMessage>(alloc, row.text, row.canonical),
     }
 }
 

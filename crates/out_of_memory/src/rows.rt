@@ -34,6 +34,10 @@ const NEIGHBOUR: Parsed = Parsed::Message(MessageKind::Neighbour);
 
 const LINK: Parsed = Parsed::Message(MessageKind::Link);
 
+const OBJECT: Parsed = Parsed::Message(MessageKind::NextHop);
+
+const TABLE: Parsed = Parsed::Message(MessageKind::NeighbourTable);
+
 /// The address of the loopback interface.
 const LOOPBACK: &str =
     "020880fe01000000080001007f000001080002007f000001070003006c6f0000080008008000000014000600ffffffffffffffff9c0000009c000000";
@@ -98,6 +102,18 @@ const FAMILIES: &str =
 const NAMES: &str =
     "000000000000000000000000000000001c0034800a00350066697273740000000b0035007365636f6e640000";
 
+/// A next hop with labels of MPLS before their type.
+const LABELS: &str =
+    "02fd0000000000000800010009000000080006000a000009100008800c00010000064000000c81000600070001000000";
+
+/// A resilient group.
+const GROUP: &str =
+    "0000000000000000080001000600000014000200010000000000000002000000000000001c000c80060001002000000008000200701700000800030030750000";
+
+/// A change of a table of neighbours: its name, and a list of parameters.
+const PARAMETERS: &str =
+    "000000000e0001006172705f63616368650000001800060008000100040000000c000500e803000000000000";
+
 /// A next hop, its attributes two addresses.
 const NEXT_HOP: &str = "1800000002000000080005000a000001080001000a000002";
 
@@ -118,6 +134,9 @@ impl Row {
             "kept_data" => (LINK, KEPT, KEPT),
             "families" => (LINK, FAMILIES, FAMILIES),
             "other_names" => (LINK, NAMES, NAMES),
+            "labels" => (OBJECT, LABELS, LABELS),
+            "group" => (OBJECT, GROUP, GROUP),
+            "parameters" => (TABLE, PARAMETERS, PARAMETERS),
             "next_hop" => (Parsed::NextHop, NEXT_HOP, NEXT_HOP),
             "levels" => (Parsed::Levels, "", ""),
             _ => return None,

@@ -4,6 +4,12 @@ use Rattle.netlink_packet_route.specs.Messages.{view}
 use Rattle.netlink_packet_route.specs.AddressMessage.{addresses}
 use Rattle.netlink_packet_route.specs.LinkMessage.{links}
 use Rattle.netlink_packet_route.specs.NeighbourMessage.{neighbours}
+use Rattle.netlink_packet_route.specs.NextHopMessage.{next_hops}
+use Rattle.netlink_packet_route.specs.NsidMessage.{nsids}
+use Rattle.netlink_packet_route.specs.NetconfMessage.{netconfs}
+use Rattle.netlink_packet_route.specs.AddressLabelMessage.{address_labels}
+use Rattle.netlink_packet_route.specs.NeighbourTableMessage.{neighbour_tables}
+use Rattle.netlink_packet_route.specs.PrefixMessage.{prefixes}
 use Rattle.netlink_packet_route.specs.RouteMessage.{routes}
 use Rattle.netlink_packet_route.specs.RuleMessage.{rules}
 use Rattle.netlink_report.specs.Run.{IsReport, IsRefused, IsUnfit}
@@ -68,3 +74,75 @@ returns-in-Link-clause-refused c = rw c.in-Link.is c.answer_by-in-Link.ensures.r
 pub returns-in-Link-clause-unfit : goal.returns-in-Link-clause-unfit
 unfolding IsUnfit
 returns-in-Link-clause-unfit c = rw c.in-Link.is c.answer_by-in-Link.ensures.unfit
+
+pub returns-in-NextHop-clause-ok : goal.returns-in-NextHop-clause-ok
+unfolding IsReport
+returns-in-NextHop-clause-ok c = rw c.in-NextHop.is (IfOk-weaker c.answer_by-in-NextHop.result _ _ (λ text r. (view next_hops r.0, r.1, r.2, r.3)) c.answer_by-in-NextHop.ensures.ok)
+
+pub returns-in-NextHop-clause-refused : goal.returns-in-NextHop-clause-refused
+unfolding IsRefused
+returns-in-NextHop-clause-refused c = rw c.in-NextHop.is c.answer_by-in-NextHop.ensures.refused
+
+pub returns-in-NextHop-clause-unfit : goal.returns-in-NextHop-clause-unfit
+unfolding IsUnfit
+returns-in-NextHop-clause-unfit c = rw c.in-NextHop.is c.answer_by-in-NextHop.ensures.unfit
+
+pub returns-in-Nsid-clause-ok : goal.returns-in-Nsid-clause-ok
+unfolding IsReport
+returns-in-Nsid-clause-ok c = rw c.in-Nsid.is (IfOk-weaker c.answer_by-in-Nsid.result _ _ (λ text r. (view nsids r.0, r.1, r.2, r.3)) c.answer_by-in-Nsid.ensures.ok)
+
+pub returns-in-Nsid-clause-refused : goal.returns-in-Nsid-clause-refused
+unfolding IsRefused
+returns-in-Nsid-clause-refused c = rw c.in-Nsid.is c.answer_by-in-Nsid.ensures.refused
+
+pub returns-in-Nsid-clause-unfit : goal.returns-in-Nsid-clause-unfit
+unfolding IsUnfit
+returns-in-Nsid-clause-unfit c = rw c.in-Nsid.is c.answer_by-in-Nsid.ensures.unfit
+
+pub returns-in-Netconf-clause-ok : goal.returns-in-Netconf-clause-ok
+unfolding IsReport
+returns-in-Netconf-clause-ok c = rw c.in-Netconf.is (IfOk-weaker c.answer_by-in-Netconf.result _ _ (λ text r. (view netconfs r.0, r.1, r.2, r.3)) c.answer_by-in-Netconf.ensures.ok)
+
+pub returns-in-Netconf-clause-refused : goal.returns-in-Netconf-clause-refused
+unfolding IsRefused
+returns-in-Netconf-clause-refused c = rw c.in-Netconf.is c.answer_by-in-Netconf.ensures.refused
+
+pub returns-in-Netconf-clause-unfit : goal.returns-in-Netconf-clause-unfit
+unfolding IsUnfit
+returns-in-Netconf-clause-unfit c = rw c.in-Netconf.is c.answer_by-in-Netconf.ensures.unfit
+
+pub returns-in-AddressLabel-clause-ok : goal.returns-in-AddressLabel-clause-ok
+unfolding IsReport
+returns-in-AddressLabel-clause-ok c = rw c.in-AddressLabel.is (IfOk-weaker c.answer_by-in-AddressLabel.result _ _ (λ text r. (view address_labels r.0, r.1, r.2, r.3)) c.answer_by-in-AddressLabel.ensures.ok)
+
+pub returns-in-AddressLabel-clause-refused : goal.returns-in-AddressLabel-clause-refused
+unfolding IsRefused
+returns-in-AddressLabel-clause-refused c = rw c.in-AddressLabel.is c.answer_by-in-AddressLabel.ensures.refused
+
+pub returns-in-AddressLabel-clause-unfit : goal.returns-in-AddressLabel-clause-unfit
+unfolding IsUnfit
+returns-in-AddressLabel-clause-unfit c = rw c.in-AddressLabel.is c.answer_by-in-AddressLabel.ensures.unfit
+
+pub returns-in-NeighbourTable-clause-ok : goal.returns-in-NeighbourTable-clause-ok
+unfolding IsReport
+returns-in-NeighbourTable-clause-ok c = rw c.in-NeighbourTable.is (IfOk-weaker c.answer_by-in-NeighbourTable.result _ _ (λ text r. (view neighbour_tables r.0, r.1, r.2, r.3)) c.answer_by-in-NeighbourTable.ensures.ok)
+
+pub returns-in-NeighbourTable-clause-refused : goal.returns-in-NeighbourTable-clause-refused
+unfolding IsRefused
+returns-in-NeighbourTable-clause-refused c = rw c.in-NeighbourTable.is c.answer_by-in-NeighbourTable.ensures.refused
+
+pub returns-in-NeighbourTable-clause-unfit : goal.returns-in-NeighbourTable-clause-unfit
+unfolding IsUnfit
+returns-in-NeighbourTable-clause-unfit c = rw c.in-NeighbourTable.is c.answer_by-in-NeighbourTable.ensures.unfit
+
+pub returns-in-Prefix-clause-ok : goal.returns-in-Prefix-clause-ok
+unfolding IsReport
+returns-in-Prefix-clause-ok c = rw c.in-Prefix.is (IfOk-weaker c.answer_by-in-Prefix.result _ _ (λ text r. (view prefixes r.0, r.1, r.2, r.3)) c.answer_by-in-Prefix.ensures.ok)
+
+pub returns-in-Prefix-clause-refused : goal.returns-in-Prefix-clause-refused
+unfolding IsRefused
+returns-in-Prefix-clause-refused c = rw c.in-Prefix.is c.answer_by-in-Prefix.ensures.refused
+
+pub returns-in-Prefix-clause-unfit : goal.returns-in-Prefix-clause-unfit
+unfolding IsUnfit
+returns-in-Prefix-clause-unfit c = rw c.in-Prefix.is c.answer_by-in-Prefix.ensures.unfit
