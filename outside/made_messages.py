@@ -5,7 +5,10 @@ import itertools
 import struct
 
 # the types of new messages
-TYPES = {"link": 16, "address": 20, "route": 24, "neighbour": 28, "rule": 32}
+TYPES = {"link": 16, "address": 20, "route": 24, "neighbour": 28, "rule": 32, "prefix": 52, "neighbour-table": 64, "address-label": 72,
+         "netconf": 80, "nsid": 88, "nexthop": 104, "bucket": 116}
+# those of which no message says that one is gone
+STAYING = {"prefix", "neighbour-table"}
 INET, INET6, MPLS, BRIDGE = 2, 10, 28, 7
 # the number of an interface that no machine has, so that `ip` has no name for it
 INDEX = 70001
@@ -181,6 +184,42 @@ LINK_ROWS = {1: MACS, 2: MACS, 54: MACS, 5: INDEXES, 10: INDEXES, 6: NAMES, 20: 
              26: [listed((2, listed((1, four(*range(33))))), (10, listed((8, BYTES[0])))), listed((2, listed((1, four(*range(35))))))]}
 
 
+# what is in a list that is marked as one
+NESTED = 0x8000
+# numbers that `ip` reads of next hops: members with weights, of which it reads one byte, and timers of groups
+GROUPS_OF = [b"".join(four(of) + two(weight, 0) for of, weight in it)
+             for it in ([(1, 0)], [(1, 2), (14, 255)], [(2 ** 32 - 1, 1), (2, 0), (3, 9)], [(1, 256), (2, 299), (3, 65535)])]
+RESILIENT = {1: two(4), 2: four(6000), 3: four(30000), 4: number(8)[0]}
+RESILIENT_ROWS = {1: number(2), 2: TIMES, 3: TIMES, 4: TIMERS}
+BUCKET_ROWS = {1: number(2), 2: TIMERS, 3: number(4)}
+GROUP_STATS = [listed((1, four(1)), (2, number(4)[3])), listed((1, four(2)), (2, number(8)[4]), (3, number(8)[3]))]
+NEXT_HOP_ROWS = {2: GROUPS_OF, 3: [two(it) for it in (0, 1, 2, 65535)], 4: [b""], 5: INDEXES, 9: [b""], 10: INDEXES, 11: [b""], 14: bits(4),
+                 15 + NESTED: [b"", listed((1 + NESTED, GROUP_STATS[0])), listed(*((1 + NESTED, it) for it in GROUP_STATS))],
+                 16: number(4), 17: number(4)}
+# one encapsulation of each type that routes have not in DIFFERENCES
+NEXT_HOP_ENCAPS = [(1, {1: LABELS[3]}), (2, {1: number(8)[3], 2: V4[1], 3: V4[2], 4: BYTES[9], 5: BYTES[64]}), (4, {1: number(8)[3], 2: V6[1]}),
+                   (5, {1: four(1) + srh(SEGMENTS[1])}), (7, {1: four(3)})]
+NSID_ROWS = {1: number(4), 2: number(4), 3: number(4), 4: number(4), 5: number(4)}
+NETCONF_ROWS = {kind: number(4) for kind in range(2, 10)}
+# -1 and -2 stand for all interfaces, and for those that come
+SETTING_INDEXES = [*INDEXES, *(four(2 ** 32 - it) for it in (1, 2, 3))]
+LABEL_ROWS = {1: V6, 2: number(4)}
+PREFIX_ROWS = {1: V6, 2: [four(*it) for it in ((0, 0), (1800, 3600), (2 ** 32 - 1, 2 ** 32 - 1), (2 ** 31, 1))]}
+TABLE_NAMES = [b"arp_cache\0", b"ndisc_cache\0", b"q"]
+TABLE_ROWS = {2: number(4), 3: number(4), 4: number(4), 8: number(8),
+              5: [bytes(32), two(4, 312) + four(*range(1, 8)), b"\xff" * 32, two(16, 0) + four(*(2 ** it for it in range(25, 32)))],
+              7: [bytes(88), struct.pack("<11Q", *range(11)), b"\xff" * 88]}
+PARAMETER_ROWS = {1: INDEXES, **{kind: number(4) for kind in (2, 8, 9, 10, 11, 14, 16, 17)},
+                  **{kind: number(8) for kind in (3, 4, 5, 6, 7, 12, 13, 15, 19)}}
+
+
+# what a bridge says of a port or of itself
+BRIDGE_SAYS = {0: [two(it) for it in range(4)], 1: [two(it) for it in range(3)], 2: [two(1 << it, it) for it in range(16)],
+               3: [listed((1, four(1000 + it)), (2, two(10 + it)), (3, two(8 << it))) for it in (0, 1)],
+               6 | NESTED: [listed(*((1, listed((1, two(tree)), (2, bytes([state])))) for tree, state in it))
+                            for it in ([(0, 3)], [(10, 0), (11, 1), (12, 2), (13, 4), (14, 5)])]}
+
+
 def rows(table):
     """Each value of each row, and the second value of all rows together."""
     yield from ([(kind, value)] for kind, values in table.items() for value in values)
@@ -285,9 +324,67 @@ def links():
     yield from ((link_header(change=it, family=of), [name]) for it in (0, 1, 2 ** 32 - 1) for of in (0, BRIDGE, INET6))
     yield from ((header, [(3, it)]) for it in LINK_NAMES)
     yield from ((header, [name, *it]) for it in link_lists())
+    for family, kind, table in ((BRIDGE, 26, BRIDGE_SAYS), (BRIDGE, 12 | NESTED, PORT_ROWS), (INET6, 12, INET6_ROWS)):
+        yield from ((link_header(family=family), [name, (kind, listed(*it))]) for it in rows(table))
     for index, flags in ((DOWN, 0), (UP, 1)):
         yield link_header(flags, index), [(3, b"below\0")]
         yield link_header(2), [name, (5, four(index)), (10, four(index))]
+
+
+def next_hop_objects():
+    of = (1, four(1))
+    for family, ips in ((INET, V4), (INET6, V6), (0, [])):
+        header = bytes([family, 253, 0, 0]) + four(0)
+        flags = [it for it in bits(4) if not it[1] & 2]
+        for at, values in ((1, BYTES[:2] + BYTES[199:]), (2, BYTES[:20] + BYTES[180:]), (4, flags)):
+            yield from ((it, [of]) for it in put(header, at, values))
+        yield from ((header, [of, (6, it)]) for it in ips)
+        yield from ((header, [of, *it]) for it in rows(NEXT_HOP_ROWS))
+        yield from ((header, [of, (3, two(1)), (12 + NESTED, listed(*{**RESILIENT, **dict(it)}.items()))]) for it in rows(RESILIENT_ROWS))
+        yield from ((header, [of, (8 + NESTED, listed(*members.items())), (7, two(kind)), (5, INDEXES[1])]) for kind, members in NEXT_HOP_ENCAPS)
+        yield from ((header, [(1, it)]) for it in number(4))
+
+
+def buckets():
+    header, of = bytes(8), (1, four(6))
+    yield header, [of]
+    yield from ((it, [of]) for it in put(header, 4, [it for it in bits(4) if not it[1] & 2]))
+    yield from ((header, [of, (13 + NESTED, listed(*it))]) for it in rows(BUCKET_ROWS))
+
+
+def nsids():
+    yield from ((bytes(4), [*([(1, four(12))] if it[0][0] != 1 else []), *it]) for it in rows(NSID_ROWS))
+    yield bytes([INET, 0, 0, 0]), [(1, four(12))]
+
+
+def netconfs():
+    for family in (INET, INET6, MPLS, BRIDGE):
+        header = bytes([family, 0, 0, 0])
+        yield from ((header, [(1, it)]) for it in SETTING_INDEXES)
+        yield from ((header, [(1, INDEXES[1]), *it]) for it in rows(NETCONF_ROWS))
+
+
+def address_labels():
+    header, prefix = bytes([INET6, 0, 32, 0]) + four(0, 0), (1, V6[1])
+    for at, values in ((2, number(1)), (3, bits(1)), (4, INDEXES), (8, number(4))):
+        yield from ((it, [prefix, (2, four(98))]) for it in put(header, at, values))
+    yield from ((header, [*([prefix] if it[0][0] != 1 else []), *it]) for it in rows(LABEL_ROWS))
+
+
+def prefixes():
+    header, prefix = bytes([INET6, 0, 0, 0]) + four(INDEX) + bytes([3, 64, 0, 0]), (1, V6[1])
+    for at, values in ((4, INDEXES), (9, number(1)), (10, [*bits(1), BYTES[0xC0], BYTES[0x81]])):
+        yield from ((it, [prefix]) for it in put(header, at, values))
+    yield from ((header, [*([prefix] if it[0][0] != 1 else []), *it]) for it in rows(PREFIX_ROWS))
+
+
+def neighbour_tables():
+    name = (1, TABLE_NAMES[0])
+    for family in (INET, INET6, MPLS):
+        header = bytes([family, 0, 0, 0])
+        yield from ((header, [(1, it)]) for it in TABLE_NAMES)
+        yield from ((header, [name, *it]) for it in rows(TABLE_ROWS))
+        yield from ((header, [name, (6, listed(*it))]) for it in rows(PARAMETER_ROWS))
 
 
 def message(kind, header, attributes, is_gone=0):
@@ -299,8 +396,10 @@ def messages():
     """Each message with its kind; of each kind one more says that something is gone. The first is a link, whose name the next has."""
     yield message("link", link_header(index=NAMED), [(3, b"named\0")])
     yield message("address", bytes([INET, 24, 0x80, 0]) + four(NAMED), [(2, V4[1])])
-    for kind, made in (("address", addresses()), ("rule", rules()), ("neighbour", neighbours()), ("route", routes()), ("link", links())):
+    for kind, made in (("address", addresses()), ("rule", rules()), ("neighbour", neighbours()), ("route", routes()), ("link", links()),
+                       ("nexthop", next_hop_objects()), ("bucket", buckets()), ("nsid", nsids()), ("netconf", netconfs()),
+                       ("address-label", address_labels()), ("prefix", prefixes()), ("neighbour-table", neighbour_tables())):
         for at, it in enumerate(made):
             yield message(kind, *it)
-            if at == 0:
+            if at == 0 and kind not in STAYING:
                 yield message(kind, *it, is_gone=1)

@@ -5,11 +5,17 @@ LINK = "00000100040000004310010000000000"
 
 # the end of a dump, and what nlshow is tried with
 DONE = bytes.fromhex("1400000003000200000000000000000000000000")
-SHOW_USAGE = b"usage: nlshow [--json | --count] [--numeric] [--hex] [--as address|route|rule|neighbour|link] [--links FILE] [--keep FILE] [FILE..]\n"
+SHOW_USAGE = b"usage: nlshow [--json | --count] [--numeric] [--hex] [--as KIND] [--links FILE] [--keep FILE] [FILE..]\n"
 # a link, and a route by it
 LINK_MESSAGE = bytes.fromhex("28000000100000000000000000000000" "00000100020000000000000000000000" "0700030064300000")
 ROUTE_BY_LINK = bytes.fromhex("24000000180000000000000000000000" "02000000fe03000100000000" "0800040002000000")
-COUNTS = b"bytes 40\naddresses 0\nroutes 0\nrules 0\nneighbours 0\nlinks 0\nothers 0\ncontrols 2\nrefused 0\n"
+COUNTS = (b"bytes 40\naddresses 0\nroutes 0\nrules 0\nneighbours 0\nlinks 0\nnexthops 0\nnsids 0\nnetconfs 0\naddress-labels 0\nneighbour-tables 0\n"
+          b"prefixes 0\nothers 0\ncontrols 2\nrefused 0\n")
+# a bucket of a group of next hops, and a request for tables of neighbours
+BUCKET = bytes.fromhex("40000000740000000000000000000000" "0000000000000000" "0800010006000000"
+                       "20000d80" "0600010000000000" "080003000e000000" "0c000200d101000000000000")
+TABLES = bytes.fromhex("14000000420001030000000000000000" "02000000")
+COUNTS_OF_SMALL = COUNTS.replace(b"bytes 40", b"bytes 84").replace(b"nexthops 0", b"nexthops 1").replace(b"tables 0", b"tables 1").replace(b"controls 2", b"controls 0")
 LABELS = f"0x{ROUTE} 10001600 0c000100 00064600:000c81ff 0600150001000000 # two labels\n\n".encode()
 LONG_MESSAGE = bytes.fromhex("04000400") + bytes(1 << 18) + DONE
 LONG_LINE = b"0" * (1 << 18) + b"\n"
@@ -39,6 +45,16 @@ SHOWN = [
      b"-: message 1 at byte 0, 7 bytes: MessageTooShort: 7 bytes, where a message begins with 16\n"),
     ("a count, which has no names", ["--count", "--links", "-", "/dev/null"], LINK_MESSAGE, 0, COUNTS.replace(b"bytes 40", b"bytes 0").replace(b"controls 2", b"controls 0"), b""),
     ("a text with blanks and a comment", ["--hex", "--as", "route"], LABELS, 0, b"default encap mpls 100[tc 3]/200[ttl 255] proto boot\n", b""),
+    ("a bucket of next hops", [], BUCKET, 0, b"id 6 index 0 idle_time 4.65 nhid 14\n", b""),
+    ("a request for tables of neighbours", ["--json"], TABLES, 0, b'{"family":"inet","message":"neighbour-table","request":true}\n', b""),
+    ("messages of each small kind, counted", ["--count"], BUCKET + TABLES, 0, COUNTS_OF_SMALL, b""),
+    *((f"a message of kind {kind} alone", ["--hex", "--as", kind], f"{text}\n".encode(), 0, f"{line}\n".encode(), b"") for kind, text, line in (
+        ("nexthop", "0200000000000000080001001600000004000400", "id 22 scope global blackhole proto unspec"),
+        ("nsid", "00000000080001000c000000", "nsid 12"),
+        ("netconf", "02000000080001000f0000000800020001000000", "inet 15 forwarding on"),
+        ("address-label", "0a0020000000000000000000" "1400010020010db9000000000000000000000000" "0800020062000000", "prefix 2001:db9::/32 label 98"),
+        ("neighbour-table", "020000000e0001006172705f63616368650000000800020080000000", "inet arp_cache\n    thresh1 128"),
+        ("prefix", "0a0000005b0000000340c000" "1400010020010db8007700000000000000000000", "prefix 2001:db8:77::/64 dev 91 onlink autoconf"))),
     ("a message that is too long", ["--keep", "/dev/full"], LONG_MESSAGE, 5, b"", b"/dev/full: write failed\n"),
     ("the message behind it", [], LONG_MESSAGE, 1, b"done\n",
      b"-: message 1 at byte 0, 262148 bytes: TooLong: 262148 bytes, where 262144 have room\n" + NO_DATAGRAM),
@@ -71,6 +87,12 @@ REFUSED = [
     ("link", "11000000", "HeaderTooShort: 4 bytes, where a header of 16 is wanted"),
     ("link", LINK + "06000400dc050000", "ValueLength: a value of 2 bytes at IFLA_MTU (4)"),
     ("link", LINK + "1c00120009000100766c616e000000000c0002000800010064000000", "ValueLength: a value of 4 bytes at IFLA_VLAN_ID (1)"),
+    ("nexthop", "0200000000000000" "060006000a000000", "ValueLength: a value of 2 bytes at NHA_GATEWAY (6)"),
+    ("netconf", "1c000000" "08000100ffffffff" "0500070001000000", "ValueLength: a value of 1 bytes at NETCONFA_INPUT (7)"),
+    ("prefix", "0a0000005b0000000340c000" "0b00020008070000100e0000", "HeaderTooShort: 7 bytes, where a header of 8 is wanted"),
+    ("neighbour-table", "00000000" "10000600" "0800010004000000" "0c000500", "AttributeLength: an attribute of length 12 with 4 bytes left"),
+    ("neighbour-table", "00000000" "06000100ff000000", "NotUtf8: no UTF-8 at NDTA_NAME (1)"),
+    ("nsid", "00", "HeaderTooShort: 1 bytes, where a header of 4 is wanted"),
     ("route", ROUTE + "0a00120002010a0000010000", "ViaFamily: a gateway of address family 258"),
     ("route", ROUTE + encapsulation(5, "0800010000000000"), "Seg6Header: a SEG6 routing header: Short"),
     ("route", ROUTE + encapsulation(5, "10000100000000000002040000000000"), "Seg6Header: a SEG6 routing header: Length"),

@@ -1,6 +1,7 @@
 //! What is shown of what address families say of a link.
 
 use crate::attribute_fields::push_other;
+use crate::bridge_vlan_fields::push_protocol_says;
 use crate::field::{Fields, Word, Wording};
 use crate::link_names::{ADDRESS_MODES, INET6_FLAGS};
 use crate::link_number_fields::{push_numbers, push_settings};
@@ -45,6 +46,13 @@ pub fn push_af_spec(fields: &mut Fields, families: &[AfSpecUnspec]) {
         }
     }
     fields.object(SETTINGS, inside);
+}
+
+/// The same of version 6 alone, as the protocol of the link.
+pub fn push_protocol(fields: &mut Fields, members: &[AfSpecInet6]) {
+    let mut inside = Fields::new(fields.manner);
+    push_inet6(fields, &mut inside, members);
+    push_protocol_says(fields, inside);
 }
 
 fn push_inet(fields: &mut Fields, members: &[AfSpecInet]) {

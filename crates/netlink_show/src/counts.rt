@@ -20,6 +20,18 @@ pub struct Counts {
     pub neighbours: u64,
     /// Of links.
     pub links: u64,
+    /// Of next hops, and of their buckets.
+    pub next_hops: u64,
+    /// Of the numbers of network namespaces.
+    pub nsids: u64,
+    /// Of settings of interfaces.
+    pub netconfs: u64,
+    /// Of labels of addresses.
+    pub address_labels: u64,
+    /// Of tables of neighbours.
+    pub neighbour_tables: u64,
+    /// Of prefixes that routers told.
+    pub prefixes: u64,
     /// Of types that the library has no message for.
     pub others: u64,
     /// Ends, errors and the like.
@@ -45,6 +57,12 @@ impl Counts {
             Some(MessageKind::Rule) => &mut self.rules,
             Some(MessageKind::Neighbour) => &mut self.neighbours,
             Some(MessageKind::Link) => &mut self.links,
+            Some(MessageKind::NextHop) => &mut self.next_hops,
+            Some(MessageKind::Nsid) => &mut self.nsids,
+            Some(MessageKind::Netconf) => &mut self.netconfs,
+            Some(MessageKind::AddressLabel) => &mut self.address_labels,
+            Some(MessageKind::NeighbourTable) => &mut self.neighbour_tables,
+            Some(MessageKind::Prefix) => &mut self.prefixes,
             None => &mut self.others,
         };
         *count = count.saturating_add(1);
@@ -62,6 +80,12 @@ impl Counts {
             ("rules", self.rules),
             ("neighbours", self.neighbours),
             ("links", self.links),
+            ("nexthops", self.next_hops),
+            ("nsids", self.nsids),
+            ("netconfs", self.netconfs),
+            ("address-labels", self.address_labels),
+            ("neighbour-tables", self.neighbour_tables),
+            ("prefixes", self.prefixes),
             ("others", self.others),
             ("controls", self.controls),
             ("refused", self.refused),

@@ -112,6 +112,19 @@ impl Fields<'_> {
         self.written(word, nearest_u64_to_f64(count) / 100.0, text)
     }
 
+    /// Hundredths of a second, as seconds without zeros at the end.
+    pub fn span(&mut self, word: Word, count: u64) {
+        let (seconds, rest) = (count / 100, count % 100);
+        if rest == 0 {
+            return self.number(word, seconds);
+        }
+        let text = match rest % 10 {
+            0 => format!(in self.manner.alloc; "{seconds}.{}", rest / 10),
+            _ => format!(in self.manner.alloc; "{seconds}.{rest:02}"),
+        };
+        self.written(word, nearest_u64_to_f64(count) / 100.0, text)
+    }
+
     /// A truth value, which a line tells by `on` and `off`.
     pub fn switch(&mut self, word: Word, is_on: bool) {
         self.push(word, is_on, &(if is_on { "on" } else { "off" }));

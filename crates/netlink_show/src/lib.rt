@@ -5,6 +5,7 @@
 #![tactic(auto)]
 
 mod address_fields;
+mod address_label_fields;
 mod af_spec_fields;
 mod attribute_fields;
 mod attribute_names;
@@ -12,6 +13,7 @@ mod bond_fields;
 mod bond_port_fields;
 mod bridge_fields;
 mod bridge_port_fields;
+mod bridge_vlan_fields;
 mod counts;
 mod encap_fields;
 mod field;
@@ -39,8 +41,14 @@ mod message_fields;
 mod metric_fields;
 mod names;
 mod neighbour_fields;
+mod neighbour_table_fields;
+mod netconf_fields;
 mod netkit_fields;
 mod next_hop_fields;
+mod next_hop_group_fields;
+mod next_hop_object_fields;
+mod nsid_fields;
+mod prefix_fields;
 mod route_attribute;
 mod route_fields;
 mod rule_fields;

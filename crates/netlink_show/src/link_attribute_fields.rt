@@ -1,7 +1,8 @@
 //! What is shown of an attribute of a link.
 
-use crate::af_spec_fields::push_af_spec;
+use crate::af_spec_fields::{push_af_spec, push_protocol};
 use crate::attribute_fields::{push_group, push_other, push_written};
+use crate::bridge_vlan_fields::{push_af_bridge, push_port};
 use crate::field::{Fields, NumberWords, Word, Wording};
 use crate::link_device_fields::{push_properties, push_reasons, push_xdp};
 use crate::link_info_fields::push_link_info;
@@ -192,7 +193,11 @@ fn push_named(fields: &mut Fields, message: &LinkMessage, attribute: &LinkAttrib
 fn push_holder(fields: &mut Fields, attribute: &LinkAttribute) {
     match attribute {
         LinkAttribute::LinkInfo(list) => push_link_info(fields, list.as_slice()),
+        LinkAttribute::ProtoInfoInet6(list) => push_protocol(fields, list.as_slice()),
+        LinkAttribute::ProtoInfoBridge(list) => push_port(fields, list.as_slice()),
+        LinkAttribute::ProtoInfoUnknown(nla) => push_other(fields, nla),
         LinkAttribute::AfSpecUnspec(list) => push_af_spec(fields, list.as_slice()),
+        LinkAttribute::AfSpecBridge(list) => push_af_bridge(fields, list.as_slice()),
         LinkAttribute::AfSpecUnknown(bytes) => fields.bytes(SETTINGS, bytes.as_slice()),
         LinkAttribute::Xdp(list) => push_xdp(fields, list.as_slice()),
         LinkAttribute::PropList(list) => push_properties(fields, list.as_slice()),

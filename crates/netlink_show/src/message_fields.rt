@@ -1,17 +1,25 @@
 //! What is shown of a message by its envelope.
 
 use crate::address_fields::push_address;
+use crate::address_label_fields::push_address_label;
 use crate::field::{Fields, Word, Wording};
 use crate::link_fields::push_link;
 use crate::manner::Manner;
 use crate::neighbour_fields::push_neighbour;
+use crate::neighbour_table_fields::push_neighbour_table;
+use crate::netconf_fields::push_netconf;
+use crate::next_hop_object_fields::{push_next_hop, push_next_hop_bucket};
+use crate::nsid_fields::push_nsid;
+use crate::prefix_fields::push_prefix;
 use crate::route_fields::push_route;
 use crate::rule_fields::push_rule;
 use netlink_packet_core::{
     DoneMessage, ErrorMessage, NetlinkHeader, NetlinkInner, NetlinkMessage, NetlinkPayload,
     done_attributes, error_attributes, error_text, refused_message,
 };
-use netlink_packet_route::{Action, MessageType, OtherMessage, RouteNetlinkMessage};
+use netlink_packet_route::{
+    Action, MessageType, OtherMessage, RouteNetlinkMessage, RouteNetlinkMessage as Inner, Subject,
+};
 use std::alloc::AllocError;
 
 /// What a message is.
@@ -25,6 +33,9 @@ const REQUEST: Word = &Wording(1, "request", "Request");
 const SET: Word = &Wording(1, "set", "Set");
 
 const PROPERTIES: Word = &Wording(1, "properties", "Properties");
+
+/// A message on a bucket of a group of next hops.
+const BUCKET: Word = &Wording(1, "is_bucket", "Bucket");
 
 const CODE: Word = &Wording(1, "code", "");
 
@@ -89,26 +100,34 @@ fn push_overrun(fields: &mut Fields, bytes: &[u8]) {
 
 fn push_inner(fields: &mut Fields, message: &RouteNetlinkMessage) {
     match message {
-        RouteNetlinkMessage::NewLink(link)
-        | RouteNetlinkMessage::DelLink(link)
-        | RouteNetlinkMessage::GetLink(link)
-        | RouteNetlinkMessage::SetLink(link)
-        | RouteNetlinkMessage::NewLinkProp(link)
-        | RouteNetlinkMessage::DelLinkProp(link)
-        | RouteNetlinkMessage::GetLinkProp(link) => push_link(fields, link),
-        RouteNetlinkMessage::NewAddress(address)
-        | RouteNetlinkMessage::DelAddress(address)
-        | RouteNetlinkMessage::GetAddress(address) => push_address(fields, address),
-        RouteNetlinkMessage::NewRoute(route)
-        | RouteNetlinkMessage::DelRoute(route)
-        | RouteNetlinkMessage::GetRoute(route) => push_route(fields, route),
-        RouteNetlinkMessage::NewRule(rule)
-        | RouteNetlinkMessage::DelRule(rule)
-        | RouteNetlinkMessage::GetRule(rule) => push_rule(fields, rule),
-        RouteNetlinkMessage::NewNeighbour(neighbour)
-        | RouteNetlinkMessage::DelNeighbour(neighbour)
-        | RouteNetlinkMessage::GetNeighbour(neighbour) => push_neighbour(fields, neighbour),
-        RouteNetlinkMessage::Other(other) => push_other(fields, other),
+        Inner::NewLink(it) | Inner::DelLink(it) | Inner::GetLink(it) | Inner::SetLink(it) =>
+            push_link(fields, it),
+        Inner::NewLinkProp(it) | Inner::DelLinkProp(it) | Inner::GetLinkProp(it) => push_link(
+            fields, it,
+        ),
+        Inner::NewAddress(it) | Inner::DelAddress(it) | Inner::GetAddress(it) => push_address(
+            fields, it,
+        ),
+        Inner::NewRoute(it) | Inner::DelRoute(it) | Inner::GetRoute(it) => push_route(fields, it),
+        Inner::NewRule(it) | Inner::DelRule(it) | Inner::GetRule(it) => push_rule(fields, it),
+        Inner::NewNeighbour(it) | Inner::DelNeighbour(it) | Inner::GetNeighbour(it) =>
+            push_neighbour(fields, it),
+        Inner::NewNextHop(it) | Inner::DelNextHop(it) | Inner::GetNextHop(it) => push_next_hop(
+            fields, it,
+        ),
+        Inner::NewNextHopBucket(it) | Inner::DelNextHopBucket(it) | Inner::GetNextHopBucket(it) =>
+            push_next_hop_bucket(fields, it),
+        Inner::NewNsId(it) | Inner::DelNsId(it) | Inner::GetNsId(it) => push_nsid(fields, it),
+        Inner::NewNetconf(it) | Inner::DelNetconf(it) | Inner::GetNetconf(it) => push_netconf(
+            fields, it,
+        ),
+        Inner::NewAddressLabel(it) | Inner::DelAddressLabel(it) | Inner::GetAddressLabel(it) =>
+            push_address_label(fields, it),
+        Inner::NewNeighbourTable(it)
+        | Inner::GetNeighbourTable(it)
+        | Inner::SetNeighbourTable(it) => push_neighbour_table(fields, it),
+        Inner::NewPrefix(it) => push_prefix(fields, it),
+        Inner::Other(other) => push_other(fields, other),
     }
     push_type(fields, type_of(message));
 }
@@ -121,13 +140,26 @@ fn push_type(fields: &mut Fields, message_type: MessageType) {
     fields.text(KIND, &kind.name());
     fields.hide();
     match message_type {
-        MessageType::Of(_, action) => push_action(fields, action),
-        MessageType::SetLink => fields.truth(SET, true),
-        MessageType::LinkProp(action) => {
+        MessageType::Of(subject, action) => {
             push_action(fields, action);
-            fields.truth(PROPERTIES, true);
+            push_subject(fields, subject, action);
         }
-        MessageType::Unknown => {}
+        MessageType::SetLink | MessageType::SetNeighbourTable => fields.truth(SET, true),
+        MessageType::GetNeighbourTable => fields.truth(REQUEST, true),
+        MessageType::NewPrefix | MessageType::NewNeighbourTable | MessageType::Unknown => {}
+    }
+}
+
+/// What a message is on, where its kind does not tell it. What stands in a message on a bucket tells
+/// it in a line, but for a request.
+fn push_subject(fields: &mut Fields, subject: Subject, action: Action) {
+    match subject {
+        Subject::LinkProp => fields.truth(PROPERTIES, true),
+        Subject::NextHopBucket => {
+            fields.truth(BUCKET, true);
+            fields.hide_if(action != Action::Get);
+        }
+        _ => {}
     }
 }
 

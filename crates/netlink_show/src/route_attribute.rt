@@ -162,7 +162,7 @@ pub fn push_attribute(fields: &mut Fields, attribute: &RouteAttribute) {
         RouteAttribute::NewDestination(labels) => push_labels(fields, labels.as_slice()),
         RouteAttribute::NewDestinationAddress(to) => fields.text(NEW_DESTINATION, &Address(to)),
         RouteAttribute::Preference(value) => push_preference(fields, *value),
-        RouteAttribute::EncapType(kind) => push_encap_type(fields, *kind),
+        RouteAttribute::EncapType(kind) => push_encap_type(fields, ENCAP, *kind),
         RouteAttribute::Encap(members) => push_encap_info(fields, members.as_slice()),
         RouteAttribute::Expires(seconds) => fields.lifetime(EXPIRES, *seconds),
         RouteAttribute::MulticastExpires(ticks) => fields.number(TICKS, *ticks),
@@ -202,10 +202,11 @@ fn push_preference(fields: &mut Fields, preference: RoutePreference) {
     }
 }
 
-fn push_encap_type(fields: &mut Fields, kind: RouteLwEnCapType) {
+/// The type of an encapsulation.
+pub fn push_encap_type(fields: &mut Fields, word: Word, kind: RouteLwEnCapType) {
     match kind {
-        RouteLwEnCapType::Other(number) => fields.text(ENCAP, &number),
-        _ => fields.text(ENCAP, &kind),
+        RouteLwEnCapType::Other(number) => fields.text(word, &number),
+        _ => fields.text(word, &kind),
     }
 }
 

@@ -6,7 +6,7 @@ use std::fmt;
 
 /// The line for a command line that says nothing that can be done.
 pub const USAGE: &str =
-    "usage: nlshow [--json | --count] [--numeric] [--hex] [--as address|route|rule|neighbour|link] [--links FILE] [--keep FILE] [FILE..]";
+    "usage: nlshow [--json | --count] [--numeric] [--hex] [--as KIND] [--links FILE] [--keep FILE] [FILE..]";
 
 /// What `--help` says.
 pub const HELP: &str =
@@ -16,7 +16,8 @@ pub const HELP: &str =
   --count     how many messages there are, of each kind
   --numeric   numbers in place of names
   --hex       the input is hexadecimal text, a message a line
-  --as KIND   messages of this kind without an envelope: address, route, rule, neighbour or link
+  --as KIND   messages of this kind without an envelope: address, route, rule, neighbour, link,
+              nexthop, nsid, netconf, address-label, neighbour-table or prefix
   --links FILE
               the names of interfaces are those of the links in FILE, a dump that is not shown;
               a link that is shown tells its name to what stands behind it

@@ -7,9 +7,15 @@ use crate::refusal::Refusal;
 use byte_window::Stop;
 use netlink_packet_core::{NetlinkBuffer, NetlinkHeader, NetlinkMessage, NetlinkPayload};
 use netlink_packet_route::address::AddressMessage;
+use netlink_packet_route::address_label::AddressLabelMessage;
 use netlink_packet_route::framing::{DecodeError, Parseable};
 use netlink_packet_route::link::LinkMessage;
 use netlink_packet_route::neighbour::NeighbourMessage;
+use netlink_packet_route::neighbour_table::NeighbourTableMessage;
+use netlink_packet_route::netconf::NetconfMessage;
+use netlink_packet_route::nexthop::NextHopMessage;
+use netlink_packet_route::nsid::NsidMessage;
+use netlink_packet_route::prefix::PrefixMessage;
 use netlink_packet_route::route::RouteMessage;
 use netlink_packet_route::rule::RuleMessage;
 use netlink_packet_route::{
@@ -265,6 +271,14 @@ fn read_lone(alloc: Global, kind: MessageKind, bytes: &[u8]) -> Result<Read, Dec
         MessageKind::Rule => RuleMessage::parse(alloc, bytes)?.under(Action::New),
         MessageKind::Neighbour => NeighbourMessage::parse(alloc, bytes)?.under(Action::New),
         MessageKind::Link => LinkMessage::parse(alloc, bytes)?.under(Action::New),
+        MessageKind::NextHop => NextHopMessage::parse(alloc, bytes)?.under(Action::New),
+        MessageKind::Nsid => NsidMessage::parse(alloc, bytes)?.under(Action::New),
+        MessageKind::Netconf => NetconfMessage::parse(alloc, bytes)?.under(Action::New),
+        MessageKind::AddressLabel => AddressLabelMessage::parse(alloc, bytes)?.under(Action::New),
+        MessageKind::NeighbourTable => {
+            RouteNetlinkMessage::NewNeighbourTable(NeighbourTableMessage::parse(alloc, bytes)?)
+        }
+        MessageKind::Prefix => RouteNetlinkMessage::NewPrefix(PrefixMessage::parse(alloc, bytes)?),
     };
     Ok(Read::Whole(NetlinkMessage {
         header: NetlinkHeader::default(),

@@ -19,6 +19,8 @@ mod shown;
 #[cfg(test)]
 mod shown_links;
 #[cfg(test)]
+mod shown_small;
+#[cfg(test)]
 mod texts;
 #[cfg(test)]
 mod tunnel_displays;

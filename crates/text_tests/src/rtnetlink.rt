@@ -2,13 +2,14 @@
 
 use netlink_packet_route::envelope::{
     DoneMessage, ErrorMessage, NLMSG_DONE, NLMSG_ERROR, NLMSG_NOOP, NLMSG_OVERRUN, NetlinkBuffer,
-    NetlinkHeader, NetlinkIterator, NetlinkMessage, NetlinkPayload,
+    NetlinkHeader, NetlinkInner, NetlinkIterator, NetlinkMessage, NetlinkPayload,
 };
 use netlink_packet_route::family::read_bytes;
 use netlink_packet_route::framing::{Emitable, Parseable, to_vec};
 use netlink_packet_route::link::LinkExtentMask;
 use netlink_packet_route::request::{
-    dump_addresses, dump_links, dump_neighbours, dump_routes, dump_rules,
+    dump_address_labels, dump_addresses, dump_links, dump_neighbour_tables, dump_neighbours,
+    dump_netconfs, dump_next_hops, dump_nsids, dump_routes, dump_rules,
 };
 use netlink_packet_route::{AddressFamily, RouteNetlinkMessage};
 use npr_testing::{bytes_of, holds, same, shows, writes};
@@ -107,6 +108,88 @@ fn links_are_read_by_type(rt: HostRuntime) -> Result<(), Fail> {
         same(link_word_of(&message.try_clone(rt.alloc())?), wanted)?;
     }
     Ok(())
+}
+
+/// A message of each other type, a header of zeros alone, and its copy, are no bytes of a type that is not
+/// read.
+#[test]
+fn small_messages_are_read_by_type(rt: HostRuntime) -> Result<(), Fail> {
+    let four = [64, 66, 67, 80, 81, 82, 88, 89, 90];
+    let twelve = [52, 72, 73, 74];
+    for message_type in four {
+        is_read(&rt, message_type, "00000000")?;
+    }
+    for message_type in [104, 105, 106, 116, 117, 118] {
+        is_read(&rt, message_type, "00000000 00000000")?;
+    }
+    for message_type in twelve {
+        is_read(&rt, message_type, "00000000 00000000 00000000")?;
+    }
+    Ok(())
+}
+
+/// What stands behind a header of this type is a message that is read, and so is its copy.
+fn is_read(rt: &impl AllocGlobal, message_type: u16, text: &str) -> Result<(), Fail> {
+    let header = NetlinkHeader {
+        message_type,
+        ..NetlinkHeader::default()
+    };
+    let bytes = bytes_of(rt, &[text])?;
+    let payload = NetlinkPayload::<RouteNetlinkMessage>::parse(
+        rt.alloc(),
+        header,
+        bytes.as_slice(),
+    )?;
+    let copy = payload.try_clone(rt.alloc())?;
+    holds(copy == payload)?;
+    same(copy.message_type(), message_type)?;
+    match copy {
+        NetlinkPayload::InnerMessage(RouteNetlinkMessage::Other(_)) => holds(false),
+        _ => holds(true),
+    }
+}
+
+/// The message that so many zeros are under this type.
+fn of_zeros(
+    rt: &impl AllocGlobal,
+    message_type: u16,
+    count: usize,
+) -> Result<RouteNetlinkMessage, Fail> {
+    let header = NetlinkHeader {
+        message_type,
+        ..NetlinkHeader::default()
+    };
+    let zeros = [0u8; 16];
+    let message = RouteNetlinkMessage::deserialize(rt.alloc(), &header, &zeros[..count.min(16)])?;
+    Ok(message)
+}
+
+/// Each call that asks for a type, at a message of it, and one at a message of another.
+#[test]
+fn types_are_told(rt: HostRuntime) -> Result<(), Fail> {
+    holds(of_zeros(&rt, 16, 16)?.is_new_link())?;
+    holds(of_zeros(&rt, 17, 16)?.is_del_link())?;
+    holds(of_zeros(&rt, 18, 16)?.is_get_link())?;
+    holds(of_zeros(&rt, 19, 16)?.is_set_link())?;
+    holds(of_zeros(&rt, 20, 8)?.is_new_address())?;
+    holds(of_zeros(&rt, 21, 8)?.is_del_address())?;
+    holds(of_zeros(&rt, 22, 8)?.is_get_address())?;
+    holds(of_zeros(&rt, 24, 12)?.is_new_route())?;
+    holds(of_zeros(&rt, 25, 12)?.is_del_route())?;
+    holds(of_zeros(&rt, 26, 12)?.is_get_route())?;
+    holds(of_zeros(&rt, 28, 12)?.is_new_neighbour())?;
+    holds(of_zeros(&rt, 29, 12)?.is_del_neighbour())?;
+    holds(of_zeros(&rt, 30, 12)?.is_get_neighbour())?;
+    holds(of_zeros(&rt, 32, 12)?.is_new_rule())?;
+    holds(of_zeros(&rt, 33, 12)?.is_del_rule())?;
+    holds(of_zeros(&rt, 34, 12)?.is_get_rule())?;
+    holds(of_zeros(&rt, 64, 4)?.is_new_neighbour_table())?;
+    holds(of_zeros(&rt, 66, 4)?.is_get_neighbour_table())?;
+    holds(of_zeros(&rt, 67, 4)?.is_set_neighbour_table())?;
+    holds(of_zeros(&rt, 88, 4)?.is_new_nsid())?;
+    holds(of_zeros(&rt, 89, 4)?.is_del_nsid())?;
+    holds(of_zeros(&rt, 90, 4)?.is_get_nsid())?;
+    holds(!of_zeros(&rt, 17, 16)?.is_new_link())
 }
 
 /// Nothing, lost data without bytes and with three, an acknowledgement, and a refusal with the header
@@ -213,4 +296,41 @@ fn dumps_are_asked_for(rt: HostRuntime) -> Result<(), Fail> {
     let header = "28000000 1200 0103 07000000 00000000";
     let zeros = "00000000 00000000 00000000 00000000";
     writes(&rt, links, &[header, zeros, "08001d00 01000000"])
+}
+
+/// What `ip nexthop show`, `ip netns list-id` and `ip ntable show` ask, and the same of settings and address
+/// labels, whose requests are a header of zeros but for the family too.
+#[test]
+fn dumps_of_small_messages_are_asked_for(rt: HostRuntime) -> Result<(), Fail> {
+    let alloc = rt.alloc();
+    let next_hops = dump_next_hops(alloc, 7, AddressFamily::Unspec);
+    writes(
+        &rt,
+        next_hops,
+        &["18000000 6a00 0103 07000000 00000000 0000000000000000"],
+    )?;
+    let name_spaces = dump_nsids(alloc, 7);
+    writes(
+        &rt,
+        name_spaces,
+        &["14000000 5a00 0103 07000000 00000000 00000000"],
+    )?;
+    let tables = dump_neighbour_tables(alloc, 7, AddressFamily::Unspec);
+    writes(
+        &rt,
+        tables,
+        &["14000000 4200 0103 07000000 00000000 00000000"],
+    )?;
+    let settings = dump_netconfs(alloc, 7, AddressFamily::Inet6);
+    writes(
+        &rt,
+        settings,
+        &["14000000 5200 0103 07000000 00000000 0a000000"],
+    )?;
+    let labels = dump_address_labels(alloc, 7, AddressFamily::Inet6);
+    writes(
+        &rt,
+        labels,
+        &["1c000000 4a00 0103 07000000 00000000 0a0000000000000000000000"],
+    )
 }

@@ -20,6 +20,12 @@ routes 1
 rules 0
 neighbours 0
 links 0
+nexthops 0
+nsids 0
+netconfs 0
+address-labels 0
+neighbour-tables 0
+prefixes 0
 others 0
 controls 0
 refused 0
