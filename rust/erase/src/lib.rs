@@ -23,7 +23,7 @@ use std::fs;
 use std::path::{Path, PathBuf};
 
 /// The libraries, each before those that stand on it.
-pub const LIBRARIES: [&str; 15] = [
+pub const LIBRARIES: [&str; 17] = [
     "npr_base",
     "netlink_packet_core",
     "npr_scalar",
@@ -38,13 +38,13 @@ pub const LIBRARIES: [&str; 15] = [
     "npr_link_tunnels",
     "npr_link",
     "npr_route",
+    "npr_small",
+    "npr_nexthop",
     "netlink_packet_route",
 ];
 
-/// The crates of their tests, likewise, with the libraries that no message's type leads to yet.
-pub const TESTS: [&str; 8] = [
-    "npr_small",
-    "npr_nexthop",
+/// The crates of their tests, likewise.
+pub const TESTS: [&str; 6] = [
     "npr_testing",
     "template",
     "message_tests",

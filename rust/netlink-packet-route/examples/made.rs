@@ -128,13 +128,14 @@ fn lines(kind: &Kind, seed: u64, count: usize) -> String {
     let mut random = Random(seed);
     let generated = format!("generated_{}", kind.word);
     let files: &[&str] = match kind.word {
-        "datagrams" | "neighbour" | "link" => &[kind.word],
-        _ => &[kind.word, &generated],
+        "address" | "route" | "rule" => &[kind.word, &generated],
+        _ => &[kind.word],
     };
     let stored = files.iter().flat_map(|file| lines_of(file));
     let all: Vec<Vec<u8>> = stored.map(|(bytes, _)| bytes).collect();
     let header = match kind.word {
-        "address" => 8,
+        "nsid" | "netconf" | "neighbour-table" => 4,
+        "address" | "nexthop" => 8,
         "link" => 16,
         _ => 12,
     };

@@ -4,7 +4,10 @@
 use crate::framing::{self, Attribute, EmitError, Header, Looks, Message, NlaBuffer, marked_kind};
 use crate::memory::Global;
 use crate::route::RouteProtocol;
-use crate::{AddressFamily, RouteNetlinkMessage, address, envelope, link, neighbour, route, rule};
+use crate::{
+    AddressFamily, RouteNetlinkMessage, address, address_label, envelope, link, neighbour,
+    neighbour_table, netconf, nexthop, nsid, prefix, route, rule,
+};
 use netlink_packet_core as core;
 
 fn length(checked: Result<usize, EmitError>) -> usize {
@@ -110,6 +113,7 @@ emitable! {
     [H: Header] Message<H, H::Attribute>;
     [] address::AddressHeader;
     [] address::CacheInfo;
+    [] address_label::AddressLabelHeader;
     [] link::BridgeBooleanOptions;
     [] link::BridgeId;
     [] link::Inet6CacheInfo;
@@ -119,6 +123,15 @@ emitable! {
     [] neighbour::NeighbourAddress;
     [] neighbour::NeighbourCacheInfo;
     [] neighbour::NeighbourHeader;
+    [] neighbour_table::NeighbourTableConfig;
+    [] neighbour_table::NeighbourTableHeader;
+    [] neighbour_table::NeighbourTableStats;
+    [] netconf::NetconfHeader;
+    [] nexthop::NextHopGroupEntry;
+    [] nexthop::NextHopHeader;
+    [] nsid::NsidHeader;
+    [] prefix::CacheInfo;
+    [] prefix::PrefixHeader;
     [] route::MplsLabel;
     [] route::RouteAddress;
     [] route::RouteCacheInfo;
@@ -228,11 +241,13 @@ under_context! {
     link::LinkAttribute, AddressFamily;
     link::LinkInfo, (link::InfoForm, link::InfoPortForm);
     neighbour::NeighbourAttribute, AddressFamily;
+    nexthop::NextHopAttribute, (AddressFamily, route::RouteLwEnCapType);
     route::RouteAttribute, HopContext;
     route::RouteLwTunnelEncap, route::RouteLwEnCapType;
 }
 alone! {
     address::AddressAttribute;
+    address_label::AddressLabelAttribute;
     link::AfSpecBridge;
     link::AfSpecInet;
     link::AfSpecInet6;
@@ -265,6 +280,15 @@ alone! {
     link::PeerAttribute;
     link::Prop;
     link::VlanQosMapping;
+    neighbour_table::NeighbourTableAttribute;
+    neighbour_table::NeighbourTableParameter;
+    netconf::NetconfAttribute;
+    nexthop::NextHopGroupStats;
+    nexthop::NextHopGroupStatsEntry;
+    nexthop::NextHopResBucket;
+    nexthop::NextHopResGroup;
+    nsid::NsidAttribute;
+    prefix::PrefixAttribute;
     route::RouteErspanOpt;
     route::RouteIoam6Tunnel;
     route::RouteIp6Tunnel;

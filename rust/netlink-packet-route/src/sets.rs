@@ -251,6 +251,7 @@ sets! {
     neighbour::NeighbourExtFlags u32;
     neighbour::NeighbourFlags u8;
     neighbour::NeighbourState u16;
+    nexthop::NextHopOpFlags u32;
     route::RouteFlags u32;
     route::RouteIp6TunnelFlags u16;
     route::RouteIpTunnelFlags u16;

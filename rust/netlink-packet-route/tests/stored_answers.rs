@@ -44,6 +44,13 @@ fn links() {
 }
 
 #[test]
+fn next_hops_and_small_messages() {
+    for word in ["nexthop", "nsid", "netconf", "address-label", "neighbour-table", "prefix"] {
+        assert!(compare(word, &[word]) > 0);
+    }
+}
+
+#[test]
 fn datagrams_with_envelopes() {
     assert!(compare("datagrams", &["datagrams"]) > 0);
 }

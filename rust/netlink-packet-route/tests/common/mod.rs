@@ -2,6 +2,7 @@
 
 use netlink_packet_route::RouteNetlinkMessage;
 use netlink_packet_route::address::AddressHeader;
+use netlink_packet_route::address_label::AddressLabelHeader;
 use netlink_packet_route::envelope::{
     EnvelopeError, NetlinkBuffer, NetlinkIterator, NetlinkMessage, NetlinkPayload,
 };
@@ -11,6 +12,11 @@ use netlink_packet_route::framing::{
 use netlink_packet_route::link::LinkHeader;
 use netlink_packet_route::memory::Global;
 use netlink_packet_route::neighbour::NeighbourHeader;
+use netlink_packet_route::neighbour_table::NeighbourTableHeader;
+use netlink_packet_route::netconf::NetconfHeader;
+use netlink_packet_route::nexthop::NextHopHeader;
+use netlink_packet_route::nsid::NsidHeader;
+use netlink_packet_route::prefix::PrefixHeader;
 use netlink_packet_route::route::RouteHeader;
 use netlink_packet_route::rule::RuleHeader;
 use std::fmt::Debug;
@@ -31,7 +37,7 @@ impl Kind {
     }
 }
 
-pub const KINDS: [Kind; 6] = [
+pub const KINDS: [Kind; 12] = [
     Kind {
         word: "address",
         answer: message::<AddressHeader>,
@@ -51,6 +57,30 @@ pub const KINDS: [Kind; 6] = [
     Kind {
         word: "link",
         answer: message::<LinkHeader>,
+    },
+    Kind {
+        word: "nexthop",
+        answer: message::<NextHopHeader>,
+    },
+    Kind {
+        word: "nsid",
+        answer: message::<NsidHeader>,
+    },
+    Kind {
+        word: "netconf",
+        answer: message::<NetconfHeader>,
+    },
+    Kind {
+        word: "address-label",
+        answer: message::<AddressLabelHeader>,
+    },
+    Kind {
+        word: "neighbour-table",
+        answer: message::<NeighbourTableHeader>,
+    },
+    Kind {
+        word: "prefix",
+        answer: message::<PrefixHeader>,
     },
     Kind {
         word: "datagrams",
