@@ -34,8 +34,7 @@
 #include <unistd.h>
 
 #define USAGE                                                                                                          \
-    "usage: dump [-4|-6] [-w FILE] address|route|rule|neighbour|link|nexthop|nsid|netconf|address-label|neighbour-table\n" \
-    "       dump -r FILE\n       dump monitor"
+    "usage: dump [-4|-6] [-w FILE] address|route|rule|neighbour|link\n       dump -r FILE\n       dump monitor"
 
 enum ending { WELL = 0, REFUSED = 1, UNKNOWN_WORD = 2, INTERRUPTED = 3, FAILED = 5 };
 
@@ -54,11 +53,6 @@ static const struct kind KINDS[] = {
     {"rule", RTM_NEWRULE, RTM_DELRULE, RTM_GETRULE, 12, npr_rule_fault, npr_rule_begin},
     {"neighbour", RTM_NEWNEIGH, RTM_DELNEIGH, RTM_GETNEIGH, 12, npr_neighbour_fault, npr_neighbour_begin},
     {"link", RTM_NEWLINK, RTM_DELLINK, RTM_GETLINK, 16, npr_link_fault, npr_link_begin},
-    {"nexthop", RTM_NEWNEXTHOP, RTM_DELNEXTHOP, RTM_GETNEXTHOP, 8, npr_next_hop_fault, npr_next_hop_begin},
-    {"nsid", RTM_NEWNSID, RTM_DELNSID, RTM_GETNSID, 4, npr_nsid_fault, npr_nsid_begin},
-    {"netconf", RTM_NEWNETCONF, RTM_DELNETCONF, RTM_GETNETCONF, 4, npr_netconf_fault, npr_netconf_begin},
-    {"address-label", RTM_NEWADDRLABEL, RTM_DELADDRLABEL, RTM_GETADDRLABEL, 12, npr_address_label_fault, npr_address_label_begin},
-    {"neighbour-table", RTM_NEWNEIGHTBL, 0, RTM_GETNEIGHTBL, 4, npr_neighbour_table_fault, npr_neighbour_table_begin},
 };
 
 #define KIND_COUNT (sizeof KINDS / sizeof *KINDS)

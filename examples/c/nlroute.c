@@ -18,8 +18,8 @@
 #include <stdlib.h>
 #include <string.h>
 
-#define WORDS "address|route|rule|neighbour|link|nexthop|nsid|netconf|address-label|neighbour-table|prefix"
-#define USAGE "usage: nlroute " WORDS "\n       nlroute compare " WORDS " FILE.."
+#define KIND_NAMES "address|route|rule|neighbour|link|nexthop|nsid|netconf|address-label|neighbour-table|prefix"
+#define USAGE "usage: nlroute " KIND_NAMES "\n       nlroute compare " KIND_NAMES " FILE.."
 
 enum ending { WELL = 0, REFUSED = 1, BAD_HEX = 2, UNFIT = 3, MEMORY = 4, FAILED = 5 };
 

@@ -31,6 +31,17 @@ fn reads_what_bridges_say(rt: HostRuntime) -> Result<(), Fail> {
     messages::<LinkMessage>(&rt, BRIDGE, lines)
 }
 
+/// What Linux says of a bridge to `bridge vlan`.
+#[test]
+fn reads_a_bridge_of_a_dump(rt: HostRuntime) -> Result<(), Fail> {
+    let line = "
+        08000300 62723000 08000a00 15000000 08000400 78050000 05001000 02000000 0a000100 26d5943a 2c860000 \
+            0c001a00 08000200 06000100 => \
+            [IfName(\"br0\"), Controller(21), Mtu(1400), OperState(Down), Address([38, 213, 148, 58, 44, 134]), \
+            AfSpecBridge([VlanInfo(BridgeVlanInfo { flags: BridgeVlanInfoFlags(6), vid: 1 })])]";
+    messages::<LinkMessage>(&rt, "07000100 15000000 03100000 00000000", line)
+}
+
 /// What `bridge link set dev if4` asks, by `state 2` and `hwmode vepa`: a port is written with NESTED. A
 /// port's state in one byte, as daemons once sent it, is no list.
 #[test]

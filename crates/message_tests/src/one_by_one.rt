@@ -73,7 +73,10 @@ fn a_type_has_a_kind() -> Result<(), Fail> {
     same(MessageType::of(30).kind(), Some(MessageKind::Neighbour))?;
     same(MessageType::of(19).kind(), Some(MessageKind::Link))?;
     same(MessageType::of(110).kind(), Some(MessageKind::Link))?;
-    same(MessageType::of(67).kind(), Some(MessageKind::NeighbourTable))?;
+    same(
+        MessageType::of(67).kind(),
+        Some(MessageKind::NeighbourTable),
+    )?;
     same(MessageType::of(118).kind(), Some(MessageKind::NextHop))?;
     same(MessageType::of(36).kind(), None)
 }

@@ -6,7 +6,7 @@ use crate::rules::Eraser;
 pub const IMPORT: &str = " use crate::testing::*;";
 
 /// Modules of `text_tests` that are tests of programs, which no crate of Rust has.
-pub const OF_PROGRAMS: [&str; 3] = ["report", "shown", "shown_links"];
+pub const OF_PROGRAMS: [&str; 4] = ["report", "shown", "shown_links", "shown_small"];
 
 impl Eraser<'_> {
     /// A test asks for no runtime in Rust: it is the first thing inside.

@@ -149,6 +149,12 @@ const CHANGED_IN_TESTS: &[(&str, &str, &str, &str)] = &[
         "",
     ),
     (
+        "mod of a program's tests",
+        "",
+        "# [ cfg ( test ) ] mod shown_small ;",
+        "",
+    ),
+    (
         "call in a test that takes memory",
         ".",
         "extend_from_slice",
