@@ -51,8 +51,8 @@ none-long bytes = omega arith
 -- ---- in tables
 
 module _ {N : Record} (t : EnumTable N) {P : Type 0} {v : Writing P} (g : Reading v) (number : ℕ) where
-  pub in-table : Holding (ReadsAt (other_in N.parts t.rows) (all_rows N.parts t.rows) number) (ReadsIn N.parts t.rows number) (WrongIn N.parts t.rows number) g 0
-      → (bytes : List ℕ) → Opens (attributes_of t) g number 0 bytes
+  pub in-table : Holding (ReadsAt (other_in N.parts t.rows) (all_rows N.parts t.rows) number) (ReadsIn N.parts t.rows number) (WrongIn N.parts t.rows number)
+      g 0 → (bytes : List ℕ) → Opens (attributes_of t) g number 0 bytes
   in-table holds bytes = opens-in N.parts t.rows t.apart g number 0 holds bytes (none-long bytes)
 
 pub vlan-out : (bytes : List ℕ) → IsPlainInside InfoVlan 3 bytes VlanQosMapping

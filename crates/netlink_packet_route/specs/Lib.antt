@@ -54,6 +54,7 @@ pub mod Request
 pub mod RouteNetlinkMessage
 pub mod ValidityLaws
 pub mod WholeLaws
+pub mod WholeTables
 pub use Rattle.npr_base.specs.MoreFields
 pub use Rattle.npr_base.specs.Name
 pub use Rattle.npr_base.specs.Numbering

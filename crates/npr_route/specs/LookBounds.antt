@@ -244,7 +244,8 @@ mutual
   hops-saw c bytes (hop h ms hs) false old new (i, a, f, r, rs) (no_hop_stands e left bad p) = absurd (HopFront-sound bytes h i a e f bad)
   hops-saw c bytes (hop h ms hs) read old new (i, a, f, r, rs) (hop_stands k j b kind mid g t p) =
       let e = HopFront-same bytes h k i j a b f g in
-      let one = governs-one item_type c.2 j r.0 kind (subst (λ (z : List ℕ). Governs c.2 z r.0) e.1 r.1) (searches-governs item_type c.2 j kind (hit old) mid t) in
+      let governs = subst (λ (z : List ℕ). Governs c.2 z r.0) e.1 r.1 in
+      let one = governs-one item_type c.2 j r.0 kind governs (searches-governs item_type c.2 j kind (hit old) mid t) in
       let inside = subst (λ (z : RouteLwEnCapType). AreAttributes (typed c z) j ms) one (subst (λ (z : List ℕ). AreAttributes (typed c r.0) z ms) e.1 r.2) in
       let rest = subst (λ (z : List ℕ). AreHops c z hs) e.2 rs in
       let s = sought c.2 kind j old (hit old) mid refl t in
