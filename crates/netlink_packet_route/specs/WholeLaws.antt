@@ -103,7 +103,8 @@ use Rattle.netlink_packet_route.specs.declared.levels.Level.TheVariants.{NextHop
 use Rattle.netlink_packet_route.specs.declared.levels.Level.TheVariants.{NextHopGroupStatsEntry, Nsid, Netconf, AddressLabel, NeighbourTable}
 use Rattle.netlink_packet_route.specs.declared.levels.Level.TheVariants.{NeighbourTableParameter, Prefix}
 use Rattle.netlink_packet_route.specs.Levels.{reading_at, holds_list, is_list, is_proto_list, has_family, has_port_family, has_options}
-use Rattle.netlink_packet_route.specs.WholeTables.{is_whole, rows_whole, variants_whole, from-rows, from-variants, in-table, but-whole, or-false, and-true, none}
+use Rattle.netlink_packet_route.specs.WholeTables.{is_whole, rows_whole, variants_whole, none}
+use Rattle.netlink_packet_route.specs.WholeTables.{from-rows, from-variants, in-table, but-whole, or-false, and-true}
 
 -- the routing headers and the trace of encapsulations
 abbrev pub apart_in : RouteLwEnCapType → ℕ → Bool
