@@ -38,6 +38,7 @@ pub mod Message
 pub mod MessageLaws
 pub mod Numbering
 pub mod Opening
+pub mod RowReading
 pub mod Rows
 pub mod RowLaws
 pub mod AddressFamily

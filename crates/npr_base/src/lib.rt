@@ -17,6 +17,7 @@ mod message;
 mod numbers;
 mod place;
 mod refusal;
+mod rowed;
 mod rows;
 mod text;
 mod traits;
@@ -43,6 +44,7 @@ pub use looks::Looks;
 pub use message::{Header, Message};
 pub use place::{Place, put_ip, put_read};
 pub use refusal::{At, AttrFamily, DecodeError, EmitError, Seg6Fault};
+pub use rowed::{BigEndian, Rowed, Scalar, put_as, put_big, put_exactly};
 pub use text::{write_hex, write_joined, write_six_hex_digits};
 pub use traits::{
     Emitable, Nla, Parseable, ParseableParametrized, check_attribute_len, write_attribute,

@@ -1,6 +1,6 @@
 -- The attributes of a link message (linux/if_link.h, IFLA_*), by their table under the header's family.
 use Rattle.npr_base.specs.declared.refusal.AttrFamily.TheVariants.{Link as AtAttribute}
-use Rattle.std.specs.Prelude.{◌≡◌, ℕ, ◌==◌, ◌⊎◌, true, false, List, drop, map, if◌then◌else◌}
+use Rattle.std.specs.Prelude.{◌≡◌, ℕ, ◌==◌, ◌||◌, ◌⊎◌, Bool, true, false, List, drop, map, if◌then◌else◌}
 use Rattle.std.proofs.Common.{inl, inr, ap, ◌∙◌}
 use Rattle.npr_base.specs.Beside.{beside, has, numbers-in, Sides, side_writing}
 use Rattle.npr_base.specs.declared.address_family.AddressFamily.{AddressFamily}
@@ -222,20 +222,25 @@ attributes family =
 abbrev pub family : Family LinkAttribute AddressFamily
 family = family_of meaning attributes
 
--- ---- of the rows that stand for themselves: what an attribute means by them, why it means nothing, and the looks that it takes
+-- ---- of the rows that stand for themselves: what an attribute of a number means by them, why it means nothing, and the looks
+-- that it takes
 
-abbrev pub FlatReads : Item → Meaning → Type 0
-FlatReads x (inr (inr (inr m))) = ReadsIn flat flat_rows.0 (number_of x.kind) x m
-FlatReads x m = ⊥
+abbrev pub FlatReads : ℕ → Item → Meaning → Type 0
+FlatReads number x (inr (inr (inr m))) = ReadsIn flat flat_rows.0 number x m
+FlatReads number x m = ⊥
 
-unfoldable pub IsFlat : Item → LinkAttribute → Type 0
-IsFlat x a = FlatReads x (meaning a)
+unfoldable pub IsFlat : ℕ → Item → LinkAttribute → Type 0
+IsFlat number x a = FlatReads number x (meaning a)
 
-unfoldable pub FlatFault : Item → DecodeError → Type 0
-FlatFault x e = WrongIn flat flat_rows.0 (number_of x.kind) x e
+unfoldable pub FlatFault : ℕ → Item → DecodeError → Type 0
+FlatFault number x e = WrongIn flat flat_rows.0 number x e
 
 unfoldable pub FlatLooks : Item → Counts → Counts → Type 0
 FlatLooks x old new = (looks_in flat flat_rows.0).Takes x old new
+
+-- the numbers of those with attributes inside
+abbrev pub is_list : ℕ → Bool
+is_list number = number == 43 || (number == 52 || number == 55)
 
 -- ---- and of the others: what the protocol and address families say is meant
 

@@ -12,11 +12,12 @@ use Rattle.npr_base.specs.declared.refusal.DecodeError.{DecodeError}
 use Rattle.npr_base.specs.EnumTable.{VariantRows, looks_in, has_number}
 use Rattle.npr_base.specs.Framing.{Item, number_of}
 use Rattle.npr_base.specs.Looks.{Looking, Inside, nothing, looked_through, TakesInside}
+use Rattle.npr_base.specs.RowReading.{looks-none}
 use Rattle.npr_base.specs.TableLaws.{looking_inside}
 use Rattle.npr_link.specs.AfSpec as OfAfSpec
 use Rattle.npr_link.specs.AfSpecInet6 as OfAfSpecInet6
 use Rattle.npr_link.specs.AfSpecs.{AfSpecs, Form, as_list, as_bridge, as_bytes, form_of, af_specs, unspec, bridge, unknown}
-use Rattle.npr_link.specs.Attribute.{Meaning, meaning, attributes, flat, flat_rows, rows, FlatReads, IsFlat, FlatFault, FlatLooks}
+use Rattle.npr_link.specs.Attribute.{Meaning, meaning, attributes, flat, flat_rows, rows, is_list, FlatReads, IsFlat, FlatFault, FlatLooks}
 use Rattle.npr_link.specs.Attribute.{MeansProtoInfos, MeansAfSpecs, MeansInfo}
 use Rattle.npr_link.specs.Info as OfInfo
 use Rattle.npr_link.specs.InfoList.{info_list, InfoLooks}
@@ -117,20 +118,20 @@ info_wrong family x at e is wrong = let n = is_18 (number_of x.kind) is in rw (n
 abbrev pub IsFlatNumber : ℕ → Type 0
 IsFlatNumber n = (n ≢ 12) × (n ≢ 26) × (n ≢ 18)
 
-flat_in : (family : AddressFamily) (x : Item) (m : Meaning) → IsFlatNumber (number_of x.kind) → FlatReads x m → (attributes family).Reads x m
+flat_in : (family : AddressFamily) (x : Item) (m : Meaning) → IsFlatNumber (number_of x.kind) → FlatReads (number_of x.kind) x m → (attributes family).Reads x m
 flat_in family x (inl p) f reads = absurd reads
 flat_in family x (inr (inl v)) f reads = absurd reads
 flat_in family x (inr (inr (inl v))) f reads = absurd reads
 flat_in family x (inr (inr (inr m))) f reads =
     rw (ne_eqb (number_of x.kind) 12 f.0, ne_eqb (number_of x.kind) 26 f.1, ne_eqb (number_of x.kind) 18 f.2) reads
 
-pub flat_reads : (family : AddressFamily) (x : Item) (a : LinkAttribute) → IsFlatNumber (number_of x.kind) → IsFlat x a
+pub flat_reads : (family : AddressFamily) (x : Item) (a : LinkAttribute) → IsFlatNumber (number_of x.kind) → IsFlat (number_of x.kind) x a
     → (attributes family).Reads x (meaning a)
 unfolding IsFlat
 flat_reads family x a f reads = flat_in family x (meaning a) f reads
 
 pub flat_wrong : (family : AddressFamily) (x : Item) (e : DecodeError) → (number_of x.kind ≢ 12) → (number_of x.kind ≢ 26) → (number_of x.kind ≢ 18)
-    → FlatFault x e → (attributes family).Faulty x e
+    → FlatFault (number_of x.kind) x e → (attributes family).Faulty x e
 unfolding FlatFault
 flat_wrong family x e o p q wrong = rw (ne_eqb (number_of x.kind) 12 o, ne_eqb (number_of x.kind) 26 p, ne_eqb (number_of x.kind) 18 q) wrong
 
@@ -186,3 +187,10 @@ unfolding FlatLooks
 flat_looks family x old new o p q t =
     rw (ne_eqb (number_of x.kind) 12 o) (past 26 (af_specs (form_of family)).members.looks _ x old new (ne_eqb (number_of x.kind) 26 p)
     (past 18 info_list.members.looks (looks_in flat flat_rows.0) x old new (ne_eqb (number_of x.kind) 18 q) t))
+
+-- none is taken where no list stands
+pub no_looks : (x : Item) (c : Counts) → (number_of x.kind ≢ 43) → (number_of x.kind ≢ 52) → (number_of x.kind ≢ 55) → FlatLooks x c c
+unfolding FlatLooks
+no_looks x c o p q =
+    looks-none is_list flat flat_rows.0 refl x c
+    (rw (ne_eqb (number_of x.kind) 43 o, ne_eqb (number_of x.kind) 52 p, ne_eqb (number_of x.kind) 55 q))

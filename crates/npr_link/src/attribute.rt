@@ -1,29 +1,19 @@
 //! An attribute of a link message: `IFLA_*` of `linux/if_link.h`.
 
-ghost use Rattle.std.specs.Prelude.{◌≡◌, ◌≢◌, List, length, IfOk, IfErr};
+ghost use Rattle.std.specs.Prelude.{◌≢◌, IfOk, IfErr};
 ghost use Rattle.{
-  npr_base.specs.{
-    declared.refusal.DecodeError.TheVariants.{OutOfMemory},
-    Counts.{AddsAtMost},
-    Looks.{Answered, TakesInside},
-    Refusal.{no_place},
-  },
-  npr_link.specs.{
-    AfSpecs.{AfSpecs, af_specs, form_of},
-    Attribute.{family, shape, shape-by, IsFlat, FlatFault, FlatLooks, MeansProtoInfos, MeansAfSpecs, MeansInfo},
-    Info.{Meaning as InfoMeaning},
-    InfoList.{info_list, InfoLooks},
-    ProtoInfos.{ProtoInfos, proto_infos, shown_as, form_of as proto_form_of},
-  },
+  npr_base.specs.{declared.refusal.DecodeError.TheVariants.{OutOfMemory}, Framing.{number_of}},
+  npr_link.specs.Attribute.{family, shape, shape-by, IsFlat, FlatFault},
 };
 
 use crate::af_spec::AfSpecUnspec;
 use crate::af_spec_inet6::AfSpecInet6;
 use crate::extent_mask::LinkExtentMask;
+use crate::header_family::{af_spec_form, proto_info_form, put_af_spec, put_proto_info};
 use crate::info::LinkInfo;
-use crate::info_list::read_info;
 use crate::link_event::LinkEvent;
 use crate::link_mode::LinkMode;
+use crate::lists::{put_flat, put_info};
 use crate::map::Map;
 use crate::prop::Prop;
 use crate::protocol_down::LinkProtocolDownReason;
@@ -32,8 +22,7 @@ use crate::xdp::LinkXdp;
 use bitflags::Flags;
 use npr_base::{
     AddressFamily, At, Attribute, DecodeError, DefaultNla, EmitError, Form, Looks, NLA_F_NESTED,
-    Nla, NlaBuffer, Place, check_list, clone_list, parse_list, put_read, read_bytes, write_bytes,
-    write_list,
+    Nla, NlaBuffer, Place, Rowed, check_list, clone_list, write_bytes, write_list,
 };
 use npr_link_bridge::{AfSpecBridge, InfoBridgePort};
 use npr_link_numbers::{Stats, Stats64};
@@ -296,142 +285,29 @@ impl Nla for LinkAttribute {
     }
 }
 
-/// How what the protocol says is read without memory.
-fn proto_info_form(family: AddressFamily) -> Form
-    ensures { result ≡ shown_as (proto_form_of family) }
-{
-    match family {
-        AddressFamily::Inet6 | AddressFamily::Bridge => Form::Inside,
-        _ => Form::Raw,
-    }
+impl Rowed for LinkAttribute {
+    ghost reads = { IsFlat };
+
+    ghost wrong = { FlatFault };
 }
 
-/// How what address families say is read without memory.
-fn af_spec_form(family: AddressFamily) -> Form
-    ensures { result ≡ (af_specs (form_of family)).showing.form }
-{
-    match family {
-        AddressFamily::Unspec
-        | AddressFamily::Inet
-        | AddressFamily::Bridge
-        | AddressFamily::Inet6 => Form::Inside,
-        _ => Form::Raw,
-    }
-}
-
-/// Puts what the protocol says: a list where the header's family is IP version 6 or that of bridges.
+/// Puts an attribute that stands for itself and has no others inside. Asks that its number is not that of
+/// a list.
 ///
 /// # Errors
-/// `OutOfMemory` where memory is refused, and else the first fault in reading order.
-#[tactic(auto, using(crate::specs::AttributeSteps::inet6_means, crate::specs::AttributeSteps::port_means, crate::specs::AttributeSteps::whole_means))]
-fn put_proto_info<P: Place<LinkAttribute>>(
-    place: &mut P,
-    alloc: Global,
-    family: AddressFamily,
-    item: &NlaBuffer<'_>,
-    looks: &mut Looks,
-) -> Result<(), DecodeError>
-    requires { P.ready place.old }
-    ensures ok { IfOk result (λ _. (a : LinkAttribute) × (x : ProtoInfos) × P.puts place.old a place.new × MeansProtoInfos a x
-        × (proto_infos (proto_form_of family)).Reads item.now x) }
-    ensures refused { IfErr result (λ e. e ≢ OutOfMemory → (proto_infos (proto_form_of family)).Faulty item.now e) }
-    ensures exact { Answered result → (proto_infos (proto_form_of family)).looks.Takes item.now looks.old looks.new }
-    ensures bounded { AddsAtMost looks.old looks.new (length (item.now).value) }
-{
-    match family {
-        AddressFamily::Inet6 => {
-            place.put(LinkAttribute::ProtoInfoInet6(parse_list(alloc, (), item.value(), looks)?));
-            Ok(())
-        }
-        AddressFamily::Bridge => {
-            place.put(LinkAttribute::ProtoInfoBridge(parse_list(alloc, (), item.value(), looks)?));
-            Ok(())
-        }
-        _ => {
-            place.put(LinkAttribute::ProtoInfoUnknown(DefaultNla::read(alloc, item)?));
-            Ok(())
-        }
-    }
-}
-
-/// Puts what address families say: a list where the header has no family, or that of IP or of bridges.
-///
-/// # Errors
-/// `OutOfMemory` where memory is refused, and else the first fault in reading order.
-#[tactic(auto, using(crate::specs::AttributeSteps::unspec_means, crate::specs::AttributeSteps::bridge_means, crate::specs::AttributeSteps::unknown_means))]
-fn put_af_spec<P: Place<LinkAttribute>>(
-    place: &mut P,
-    alloc: Global,
-    family: AddressFamily,
-    value: &[u8],
-    looks: &mut Looks,
-) -> Result<(), DecodeError>
-    requires { P.ready place.old }
-    ensures ok { IfOk result (λ _. (a : LinkAttribute) × (x : AfSpecs) × P.puts place.old a place.new × MeansAfSpecs a x
-        × (af_specs (form_of family)).Reads value.now x) }
-    ensures refused { IfErr result (λ e. e ≢ OutOfMemory → (af_specs (form_of family)).Wrong no_place value.now e) }
-    ensures exact { Answered result → TakesInside (af_specs (form_of family)).members.looks value.now looks.old looks.new }
-    ensures bounded { AddsAtMost looks.old looks.new (length value.now) }
-{
-    match family {
-        AddressFamily::Unspec | AddressFamily::Inet | AddressFamily::Inet6 => {
-            place.put(LinkAttribute::AfSpecUnspec(parse_list(alloc, (), value, looks)?));
-            Ok(())
-        }
-        AddressFamily::Bridge => {
-            place.put(LinkAttribute::AfSpecBridge(parse_list(alloc, (), value, looks)?));
-            Ok(())
-        }
-        _ => {
-            place.put(LinkAttribute::AfSpecUnknown(read_bytes(alloc, value)?));
-            Ok(())
-        }
-    }
-}
-
-/// Puts what a driver says, under the kinds that stand in it.
-///
-/// # Errors
-/// `OutOfMemory` where memory is refused, and else the first fault in reading order.
-#[tactic(auto, using(crate::specs::AttributeSteps::info_means))]
-fn put_info<P: Place<LinkAttribute>>(
-    place: &mut P,
-    alloc: Global,
-    value: &[u8],
-    looks: &mut Looks,
-) -> Result<(), DecodeError>
-    requires { P.ready place.old }
-    ensures ok { IfOk result (λ _. (a : LinkAttribute) × (x : List InfoMeaning) × P.puts place.old a place.new × MeansInfo a x
-        × info_list.Reads value.now x) }
-    ensures refused { IfErr result (λ e. e ≢ OutOfMemory → info_list.Wrong no_place value.now e) }
-    ensures exact { Answered result → InfoLooks value.now looks.old looks.new }
-    ensures bounded { AddsAtMost looks.old looks.new (length value.now) }
-{
-    put_read(
-        place,
-        read_info(alloc, value, looks),
-        LinkAttribute::LinkInfo,
-    )
-}
-
-/// Puts an attribute that stands for itself.
-///
-/// # Errors
-/// `OutOfMemory` where memory is refused, and else the first fault in reading order.
-#[tactic(auto, unfolding(crate::specs::Attribute::IsFlat, crate::specs::Attribute::FlatFault, crate::specs::Attribute::FlatLooks))]
-fn put_flat<P: Place<LinkAttribute>>(
+/// `OutOfMemory` where memory is refused, and else what is wrong with the value.
+#[tactic(auto, unfolding(crate::specs::Attribute::IsFlat, crate::specs::Attribute::FlatFault))]
+pub(crate) fn put_plain<P: Place<LinkAttribute>>(
     place: &mut P,
     alloc: Global,
     item: &NlaBuffer<'_>,
-    looks: &mut Looks,
 ) -> Result<(), DecodeError>
-    requires { P.ready place.old }
-    ensures ok { IfOk result (λ _. (a : LinkAttribute) × P.puts place.old a place.new × IsFlat item.now a) }
-    ensures refused { IfErr result (λ e. e ≢ OutOfMemory → FlatFault item.now e) }
-    ensures exact { Answered result → FlatLooks item.now looks.old looks.new }
-    ensures bounded { AddsAtMost looks.old looks.new (length (item.now).value) }
+    requires ready { P.ready place.old }
+    requires plain { (number_of (item.now).kind ≢ 43) × (number_of (item.now).kind ≢ 52) × (number_of (item.now).kind ≢ 55) }
+    ensures ok { IfOk result (λ _. (a : LinkAttribute) × P.puts place.old a place.new × IsFlat (number_of (item.now).kind) item.now a) }
+    ensures refused { IfErr result (λ e. e ≢ OutOfMemory → FlatFault (number_of (item.now).kind) item.now e) }
 {
-    rows!(put_rows(place, alloc, item, looks))
+    rows!(flat_rows(place, alloc, item))
 }
 
 impl Attribute for LinkAttribute {

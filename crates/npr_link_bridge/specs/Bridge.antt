@@ -1,5 +1,10 @@
 -- The data of a bridge (linux/if_link.h, IFLA_BR_*), by the table.
+use Rattle.std.specs.Prelude.{◌≢◌, ◌==◌}
+use Rattle.std.proofs.lemmas.Bool.{ne_eqb}
 use Rattle.npr_base.specs.declared.refusal.AttrFamily.TheVariants.{InfoBridge as AtBridge}
+use Rattle.npr_base.specs.Counts.{Counts}
+use Rattle.npr_base.specs.Framing.{Item, number_of}
+use Rattle.npr_base.specs.RowReading.{looks-none}
 use Rattle.npr_base.specs.Tables.{EnumTable, table_of, marked_row, row, others, ◌or◌, boolean, byte, dropped, exactly, le16, le32, le64, leading, list_of}
 use Rattle.npr_base.specs.Tables.{listed, nothing, octets}
 use Rattle.npr_base.specs.Tables.{value, refl, Reading, Family, writing_of, attributes_of, family_of_table}
@@ -73,3 +78,8 @@ attributes = attributes_of table
 
 abbrev pub family : Family InfoBridge (Unit {0})
 family = family_of_table table (λ c. attributes)
+
+-- no attribute but those of number 47 has others inside
+pub no_looks : (x : Item) (c : Counts) → (number_of x.kind ≢ 47) → attributes.looks.Takes x c c
+unfolding attributes
+no_looks x c other = looks-none (λ k. k == 47) enum.parts table.rows refl x c (ne_eqb (number_of x.kind) 47 other)

@@ -1,5 +1,9 @@
 -- The data of a port of a bridge (linux/if_link.h, IFLA_BRPORT_*), by the table.
+use Rattle.std.specs.Prelude.{false}
 use Rattle.npr_base.specs.declared.refusal.AttrFamily.TheVariants.{InfoBridgePort as AtBridgePort}
+use Rattle.npr_base.specs.Counts.{Counts}
+use Rattle.npr_base.specs.Framing.{Item}
+use Rattle.npr_base.specs.RowReading.{looks-none}
 use Rattle.npr_base.specs.Tables.{EnumTable, table_of, row, others, ◌or◌, boolean, dropped, exactly, le16, le32, le64, leading, nothing, value, refl}
 use Rattle.npr_base.specs.Tables.{Reading, Family, writing_of}
 use Rattle.npr_base.specs.Tables.{attributes_of, family_of_table}
@@ -65,3 +69,8 @@ attributes = attributes_of table
 
 abbrev pub family : Family InfoBridgePort (Unit {0})
 family = family_of_table table (λ c. attributes)
+
+-- no attribute has others inside
+pub no_looks : (x : Item) (c : Counts) → attributes.looks.Takes x c c
+unfolding attributes
+no_looks x c = looks-none (λ k. false) enum.parts table.rows refl x c refl

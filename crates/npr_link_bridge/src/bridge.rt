@@ -1,6 +1,7 @@
 //! The data of a bridge: `IFLA_BR_*` of `linux/if_link.h`.
 
-ghost use Rattle.{npr_base.specs.Tables.{shape_by, shape-by}, npr_link_bridge.specs.Bridge.{table, family}};
+ghost use Rattle.std.specs.Prelude.{◌≢◌, IfOk, IfErr};
+ghost use Rattle.{npr_base.specs.{declared.refusal.DecodeError.TheVariants.{OutOfMemory}, Framing.{number_of}, RowReading.{reads_at, wrong_at}, Tables.{shape_by, shape-by}}, npr_link_bridge.specs.Bridge.{table, attributes, family}};
 
 use crate::boolean_options::BridgeBooleanOptions;
 use crate::bridge_id::BridgeId;
@@ -10,7 +11,7 @@ use crate::stp_state::BridgeStpState;
 use crate::vlan_protocol::{VlanProtocol, vlan_protocol_number};
 use npr_base::{
     At, AttrFamily, Attribute, DecodeError, DefaultNla, EmitError, Form, Looks, NLA_F_NESTED, Nla,
-    NlaBuffer, Place, put_read, read_octets, write_bytes,
+    NlaBuffer, Place, Rowed, parse_list, put_read, read_octets, write_bytes,
 };
 use std::alloc::{AllocError, Global};
 
@@ -119,6 +120,9 @@ pub enum InfoBridge {
     Other(DefaultNla),
 }
 
+/// The number of who asks for groups, `IFLA_BR_MCAST_QUERIER_STATE`.
+const IFLA_BR_MCAST_QUERIER_STATE: u16 = 47;
+
 /// The rows of the table.
 macro_rules! rows {
     ($body:ident ($($given:tt)*)) => {
@@ -195,6 +199,30 @@ impl Nla for InfoBridge {
     }
 }
 
+impl Rowed for InfoBridge {
+    ghost reads = { reads_at table };
+
+    ghost wrong = { wrong_at table };
+}
+
+/// Puts an attribute without others inside. Asks that its number is not that of a list.
+///
+/// # Errors
+/// `OutOfMemory` where memory is refused, and else what is wrong with the value.
+#[tactic(auto, unfolding(crate::specs::Bridge::attributes))]
+fn put_flat<P: Place<InfoBridge>>(
+    place: &mut P,
+    alloc: Global,
+    item: &NlaBuffer<'_>,
+) -> Result<(), DecodeError>
+    requires ready { P.ready place.old }
+    requires flat { number_of (item.now).kind ≢ 47 }
+    ensures ok { IfOk result (λ _. (a : InfoBridge) × P.puts place.old a place.new × attributes.Reads item.now (family.meaning a)) }
+    ensures refused { IfErr result (λ e. e ≢ OutOfMemory → attributes.Faulty item.now e) }
+{
+    rows!(flat_rows(place, alloc, item; 20 => put_read(place, read_octets::<6>(item.value(), AttrFamily::InfoBridge.at(20)), InfoBridge::GroupAddr),))
+}
+
 impl Attribute for InfoBridge {
     type Context = ();
 
@@ -202,7 +230,7 @@ impl Attribute for InfoBridge {
 
     ghost shape_is = { shape-by table };
 
-    #[tactic(auto, unfolding(crate::specs::Bridge::attributes))]
+    #[tactic(auto, using(crate::specs::Bridge::no_looks), unfolding(crate::specs::Bridge::attributes))]
     fn read_into<P: Place<Self>>(
         place: &mut P,
         alloc: Global,
@@ -210,7 +238,14 @@ impl Attribute for InfoBridge {
         item: &NlaBuffer<'_>,
         looks: &mut Looks,
     ) -> Result<(), DecodeError> {
-        rows!(put_rows(place, alloc, item, looks; 20 => put_read(place, read_octets::<6>(item.value(), AttrFamily::InfoBridge.at(20)), InfoBridge::GroupAddr),))
+        match item.kind() {
+            IFLA_BR_MCAST_QUERIER_STATE => put_read(
+                place,
+                parse_list(alloc, (), item.value(), looks),
+                InfoBridge::MulticastQuerierState,
+            ),
+            _ => put_flat(place, alloc, item),
+        }
     }
 
     #[tactic(auto, unfolding(crate::specs::Bridge::attributes))]

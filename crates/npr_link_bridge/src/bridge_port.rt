@@ -1,12 +1,13 @@
 //! The data of a port of a bridge: `IFLA_BRPORT_*` of `linux/if_link.h`.
 
-ghost use Rattle.{npr_base.specs.Tables.{shape_by, shape-by}, npr_link_bridge.specs.BridgePort.{table, family}};
+ghost use Rattle.std.specs.Prelude.{◌≢◌, IfOk, IfErr};
+ghost use Rattle.{npr_base.specs.{declared.refusal.DecodeError.TheVariants.{OutOfMemory}, RowReading.{reads_at, wrong_at}, Tables.{shape_by, shape-by}}, npr_link_bridge.specs.BridgePort.{table, attributes, family}};
 
 use crate::bridge_id::BridgeId;
 use crate::multicast_router::BridgeMulticastRouterType;
 use crate::port_state::BridgePortState;
 use npr_base::{
-    At, Attribute, DecodeError, DefaultNla, EmitError, Form, Looks, Nla, NlaBuffer, Place,
+    At, Attribute, DecodeError, DefaultNla, EmitError, Form, Looks, Nla, NlaBuffer, Place, Rowed,
 };
 use std::alloc::{AllocError, Global};
 
@@ -177,6 +178,29 @@ impl Nla for InfoBridgePort {
     }
 }
 
+impl Rowed for InfoBridgePort {
+    ghost reads = { reads_at table };
+
+    ghost wrong = { wrong_at table };
+}
+
+/// Puts an attribute; none has others inside.
+///
+/// # Errors
+/// `OutOfMemory` where memory is refused, and else what is wrong with the value.
+#[tactic(auto, unfolding(crate::specs::BridgePort::attributes))]
+fn put_flat<P: Place<InfoBridgePort>>(
+    place: &mut P,
+    alloc: Global,
+    item: &NlaBuffer<'_>,
+) -> Result<(), DecodeError>
+    requires { P.ready place.old }
+    ensures ok { IfOk result (λ _. (a : InfoBridgePort) × P.puts place.old a place.new × attributes.Reads item.now (family.meaning a)) }
+    ensures refused { IfErr result (λ e. e ≢ OutOfMemory → attributes.Faulty item.now e) }
+{
+    rows!(flat_rows(place, alloc, item))
+}
+
 impl Attribute for InfoBridgePort {
     type Context = ();
 
@@ -184,7 +208,7 @@ impl Attribute for InfoBridgePort {
 
     ghost shape_is = { shape-by table };
 
-    #[tactic(auto, unfolding(crate::specs::BridgePort::attributes))]
+    #[tactic(auto, using(crate::specs::BridgePort::no_looks))]
     fn read_into<P: Place<Self>>(
         place: &mut P,
         alloc: Global,
@@ -192,7 +216,7 @@ impl Attribute for InfoBridgePort {
         item: &NlaBuffer<'_>,
         looks: &mut Looks,
     ) -> Result<(), DecodeError> {
-        rows!(put_rows(place, alloc, item, looks))
+        put_flat(place, alloc, item)
     }
 
     #[tactic(auto, unfolding(crate::specs::BridgePort::attributes))]

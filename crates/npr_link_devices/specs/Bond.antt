@@ -1,5 +1,10 @@
 -- The data of a bond (linux/if_link.h, IFLA_BOND_*), by the table.
+use Rattle.std.specs.Prelude.{◌≢◌, ℕ, ◌==◌, ◌||◌, Bool}
+use Rattle.std.proofs.lemmas.Bool.{ne_eqb}
 use Rattle.npr_base.specs.declared.refusal.AttrFamily.TheVariants.{InfoBond as AtBond}
+use Rattle.npr_base.specs.Counts.{Counts}
+use Rattle.npr_base.specs.Framing.{Item, number_of}
+use Rattle.npr_base.specs.RowReading.{looks-none}
 use Rattle.npr_base.specs.Tables.{EnumTable, table_of, row, others, ◌or◌, boolean, byte, exactly, le16, le32, list_of, listed, marked_row, octets, value}
 use Rattle.npr_base.specs.Tables.{refl, Reading, Family, writing_of, attributes_of, family_of_table}
 use Rattle.npr_link_devices.specs.AdInfo as OfAdInfo
@@ -61,3 +66,13 @@ attributes = attributes_of table
 
 abbrev pub family : Family InfoBond (Unit {0})
 family = family_of_table table (λ c. attributes)
+
+-- the numbers of those with attributes inside
+abbrev pub is_list : ℕ → Bool
+is_list number = number == 8 || (number == 23 || number == 31)
+
+pub no_looks : (x : Item) (c : Counts) → (number_of x.kind ≢ 8) → (number_of x.kind ≢ 23) → (number_of x.kind ≢ 31) → attributes.looks.Takes x c c
+unfolding attributes
+no_looks x c o p q =
+    looks-none is_list enum.parts table.rows refl x c
+    (rw (ne_eqb (number_of x.kind) 8 o, ne_eqb (number_of x.kind) 23 p, ne_eqb (number_of x.kind) 31 q))

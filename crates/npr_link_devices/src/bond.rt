@@ -1,7 +1,7 @@
 //! The data of a bond: `IFLA_BOND_*` of `linux/if_link.h`.
 
 ghost use Rattle.std.specs.Prelude.{◌≡◌, ◌≢◌, ◌⊎◌, IfSome, IfNone, IfOk, IfErr};
-ghost use Rattle.{npr_base.specs.{Framing.{number_of}, Tables.{shape_by, shape-by}}, npr_link_devices.specs.Bond.{table, family, attributes}};
+ghost use Rattle.{npr_base.specs.{declared.refusal.DecodeError.TheVariants.{OutOfMemory}, Framing.{number_of}, RowReading.{reads_at, wrong_at}, Tables.{shape_by, shape-by}}, npr_link_devices.specs.Bond.{table, family, attributes}};
 
 use crate::ad_info::BondAdInfo;
 use crate::addresses::{check_addresses, check_addresses_value, read_addresses, write_addresses};
@@ -15,12 +15,15 @@ use crate::primary_reselect::BondPrimaryReselect;
 use crate::xmit_hash_policy::BondXmitHashPolicy;
 use npr_base::{
     At, AttrFamily, Attribute, DecodeError, DefaultNla, EmitError, Form, Ipv4Addr, Ipv6Addr, Looks,
-    NLA_F_NESTED, Nla, NlaBuffer, Place, put_read, read_octets, write_bytes,
+    NLA_F_NESTED, Nla, NlaBuffer, Place, Rowed, parse_list, put_read, read_octets, write_bytes,
 };
 use std::alloc::{AllocError, Global};
 
 /// Targets of IP version 4 (`linux/if_link.h`).
 const IFLA_BOND_ARP_IP_TARGET: u16 = 8;
+
+/// What 802.3ad says (`linux/if_link.h`).
+const IFLA_BOND_AD_INFO: u16 = 23;
 
 /// Targets of IP version 6 (`linux/if_link.h`).
 const IFLA_BOND_NS_IP6_TARGET: u16 = 31;
@@ -163,6 +166,30 @@ impl Nla for InfoBond {
     }
 }
 
+impl Rowed for InfoBond {
+    ghost reads = { reads_at table };
+
+    ghost wrong = { wrong_at table };
+}
+
+/// Puts an attribute without others inside. Asks that its number is not that of a list.
+///
+/// # Errors
+/// `OutOfMemory` where memory is refused, and else what is wrong with the value.
+#[tactic(auto, unfolding(crate::specs::Bond::attributes))]
+fn put_flat<P: Place<InfoBond>>(
+    place: &mut P,
+    alloc: Global,
+    item: &NlaBuffer<'_>,
+) -> Result<(), DecodeError>
+    requires ready { P.ready place.old }
+    requires flat { (number_of (item.now).kind ≢ 8) × (number_of (item.now).kind ≢ 23) × (number_of (item.now).kind ≢ 31) }
+    ensures ok { IfOk result (λ _. (a : InfoBond) × P.puts place.old a place.new × attributes.Reads item.now (family.meaning a)) }
+    ensures refused { IfErr result (λ e. e ≢ OutOfMemory → attributes.Faulty item.now e) }
+{
+    rows!(flat_rows(place, alloc, item; 26 => put_read(place, read_octets::<6>(item.value(), AttrFamily::InfoBond.at(26)), InfoBond::AdActorSystem),))
+}
+
 impl Attribute for InfoBond {
     type Context = ();
 
@@ -170,7 +197,7 @@ impl Attribute for InfoBond {
 
     ghost shape_is = { shape-by table };
 
-    #[tactic(auto, unfolding(crate::specs::Bond::attributes))]
+    #[tactic(auto, using(crate::specs::Bond::no_looks), unfolding(crate::specs::Bond::attributes))]
     fn read_into<P: Place<Self>>(
         place: &mut P,
         alloc: Global,
@@ -178,7 +205,25 @@ impl Attribute for InfoBond {
         item: &NlaBuffer<'_>,
         looks: &mut Looks,
     ) -> Result<(), DecodeError> {
-        rows!(put_rows(place, alloc, item, looks; 8 => put_read(place, read_addresses::<Ipv4Addr>(alloc, item.value(), AttrFamily::InfoBond.at(8), looks), InfoBond::ArpIpTarget), 26 => put_read(place, read_octets::<6>(item.value(), AttrFamily::InfoBond.at(26)), InfoBond::AdActorSystem), 31 => put_read(place, read_addresses::<Ipv6Addr>(alloc, item.value(), AttrFamily::InfoBond.at(31), looks), InfoBond::NsIp6Target),))
+        let value = item.value();
+        match item.kind() {
+            IFLA_BOND_ARP_IP_TARGET => put_read(
+                place,
+                read_addresses::<Ipv4Addr>(alloc, value, AttrFamily::InfoBond.at(8), looks),
+                InfoBond::ArpIpTarget,
+            ),
+            IFLA_BOND_AD_INFO => put_read(
+                place,
+                parse_list(alloc, (), value, looks),
+                InfoBond::AdInfo,
+            ),
+            IFLA_BOND_NS_IP6_TARGET => put_read(
+                place,
+                read_addresses::<Ipv6Addr>(alloc, value, AttrFamily::InfoBond.at(31), looks),
+                InfoBond::NsIp6Target,
+            ),
+            _ => put_flat(place, alloc, item),
+        }
     }
 
     #[tactic(auto, unfolding(crate::specs::Bond::attributes))]

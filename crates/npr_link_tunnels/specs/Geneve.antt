@@ -1,5 +1,9 @@
 -- The data of a tunnel of Geneve (linux/if_link.h, IFLA_GENEVE_*), by the table.
+use Rattle.std.specs.Prelude.{false}
 use Rattle.npr_base.specs.declared.refusal.AttrFamily.TheVariants.{InfoGeneve as AtGeneve}
+use Rattle.npr_base.specs.Counts.{Counts}
+use Rattle.npr_base.specs.Framing.{Item}
+use Rattle.npr_base.specs.RowReading.{looks-none}
 use Rattle.npr_base.specs.Tables.{EnumTable, table_of, row, others, ◌or◌, be16, be32, boolean, byte, dropped, exactly, le32, nothing, octets16, octets4}
 use Rattle.npr_base.specs.Tables.{value, refl, Reading, Family, writing_of, attributes_of, family_of_table}
 use Rattle.npr_link_tunnels.specs.GeneveDf.{geneve_df}
@@ -37,3 +41,8 @@ attributes = attributes_of table
 
 abbrev pub family : Family InfoGeneve (Unit {0})
 family = family_of_table table (λ c. attributes)
+
+-- no attribute has others inside
+pub no_looks : (x : Item) (c : Counts) → attributes.looks.Takes x c c
+unfolding attributes
+no_looks x c = looks-none (λ k. false) enum.parts table.rows refl x c refl

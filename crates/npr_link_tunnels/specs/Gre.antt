@@ -1,5 +1,9 @@
 -- The data of a tunnel of GRE over IP version 4 (linux/if_tunnel.h, IFLA_GRE_*), by the table.
+use Rattle.std.specs.Prelude.{false}
 use Rattle.npr_base.specs.declared.refusal.AttrFamily.TheVariants.{InfoGre as AtGre}
+use Rattle.npr_base.specs.Counts.{Counts}
+use Rattle.npr_base.specs.Framing.{Item}
+use Rattle.npr_base.specs.RowReading.{looks-none}
 use Rattle.npr_base.specs.Tables.{EnumTable, table_of, row, others, ◌or◌, be16, be32, boolean, byte, dropped, exactly, le16, le32, nothing, octets4}
 use Rattle.npr_base.specs.Tables.{value, refl, Reading, Family, writing_of, attributes_of, family_of_table}
 use Rattle.npr_link_tunnels.specs.GreEncapFlags.{gre_encap_flags}
@@ -41,3 +45,8 @@ attributes = attributes_of table
 
 abbrev pub family : Family InfoGre (Unit {0})
 family = family_of_table table (λ c. attributes)
+
+-- no attribute has others inside
+pub no_looks : (x : Item) (c : Counts) → attributes.looks.Takes x c c
+unfolding attributes
+no_looks x c = looks-none (λ k. false) enum.parts table.rows refl x c refl

@@ -138,17 +138,17 @@ attributes form = let kind = kind_of form in retold (reading kind) (told kind) (
 abbrev pub family : Family InfoIpTunnel InfoForm
 family = family_of meaning attributes
 
--- ---- of the rows that stand for themselves: what an attribute means by them, and why it means nothing
+-- ---- of the rows that stand for themselves: what an attribute of a number means by them, and why it means nothing
 
-abbrev pub FlatReads : Item → Meaning → Type 0
-FlatReads x (inl flags) = ⊥
-FlatReads x (inr m) = ReadsIn flat flat_rows.0 (number_of x.kind) x m
+abbrev pub FlatReads : ℕ → Item → Meaning → Type 0
+FlatReads number x (inl flags) = ⊥
+FlatReads number x (inr m) = ReadsIn flat flat_rows.0 number x m
 
-unfoldable pub IsFlat : Item → InfoIpTunnel → Type 0
-IsFlat x a = FlatReads x (meaning a)
+unfoldable pub IsFlat : ℕ → Item → InfoIpTunnel → Type 0
+IsFlat number x a = FlatReads number x (meaning a)
 
-unfoldable pub FlatFault : Item → DecodeError → Type 0
-FlatFault x e = WrongIn flat flat_rows.0 (number_of x.kind) x e
+unfoldable pub FlatFault : ℕ → Item → DecodeError → Type 0
+FlatFault number x e = WrongIn flat flat_rows.0 number x e
 
 -- ---- and of the flags
 

@@ -36,21 +36,25 @@ pub flags_wrong : (form : InfoForm) (x : Item) (e : DecodeError) → number_of x
 unfolding attributes
 flags_wrong form x e is wrong = wrong_in_reading (kind_of form) x e is wrong
 
-flat_in_reading : (kind : Option Kind) (x : Item) (m : Meaning) → (number_of x.kind == 8) ≡ false → FlatReads x m → (reading kind).Reads x m
+flat_in_reading : (kind : Option Kind) (x : Item) (m : Meaning) → (number_of x.kind == 8) ≡ false
+    → FlatReads (number_of x.kind) x m → (reading kind).Reads x m
 flat_in_reading kind x (inl flags) p reads = absurd reads
 flat_in_reading (Some kind) x (inr m) p reads = rw p reads
 flat_in_reading None x (inr m) p reads = reads
 
-pub flat_read : (form : InfoForm) (x : Item) (a : InfoIpTunnel) → (number_of x.kind ≡ 8 → ⊥) → IsFlat x a → (attributes form).Reads x (meaning a)
+pub flat_read : (form : InfoForm) (x : Item) (a : InfoIpTunnel) → (number_of x.kind ≡ 8 → ⊥) → IsFlat (number_of x.kind) x a
+    → (attributes form).Reads x (meaning a)
 unfolding attributes IsFlat
 flat_read form x a p reads = flat_in_reading (kind_of form) x (meaning a) (ne_eqb (number_of x.kind) 8 p) reads
 
-fault_in_reading : (kind : Option Kind) (x : Item) (e : DecodeError) → (number_of x.kind == 8) ≡ false → FlatFault x e → (reading kind).Faulty x e
+fault_in_reading : (kind : Option Kind) (x : Item) (e : DecodeError) → (number_of x.kind == 8) ≡ false
+    → FlatFault (number_of x.kind) x e → (reading kind).Faulty x e
 unfolding FlatFault
 fault_in_reading (Some kind) x e p wrong = rw p wrong
 fault_in_reading None x e p wrong = wrong
 
-pub flat_wrong : (form : InfoForm) (x : Item) (e : DecodeError) → (number_of x.kind ≡ 8 → ⊥) → FlatFault x e → (attributes form).Faulty x e
+pub flat_wrong : (form : InfoForm) (x : Item) (e : DecodeError) → (number_of x.kind ≡ 8 → ⊥)
+    → FlatFault (number_of x.kind) x e → (attributes form).Faulty x e
 unfolding attributes
 flat_wrong form x e p wrong = fault_in_reading (kind_of form) x e (ne_eqb (number_of x.kind) 8 p) wrong
 

@@ -1,5 +1,9 @@
 -- The data of a tunnel of VXLAN (linux/if_link.h, IFLA_VXLAN_*), by the table.
+use Rattle.std.specs.Prelude.{false}
 use Rattle.npr_base.specs.declared.refusal.AttrFamily.TheVariants.{InfoVxlan as AtVxlan}
+use Rattle.npr_base.specs.Counts.{Counts}
+use Rattle.npr_base.specs.Framing.{Item}
+use Rattle.npr_base.specs.RowReading.{looks-none}
 use Rattle.npr_base.specs.Tables.{EnumTable, table_of, row, others, ◌or◌, be16, be32, be64, boolean, byte, exactly, flag, le32, octets16, octets4}
 use Rattle.npr_base.specs.Tables.{value, refl, Reading, Family, writing_of, attributes_of, family_of_table}
 use Rattle.npr_link_tunnels.specs.Ports.{ports}
@@ -52,3 +56,8 @@ attributes = attributes_of table
 
 abbrev pub family : Family InfoVxlan (Unit {0})
 family = family_of_table table (λ c. attributes)
+
+-- no attribute has others inside
+pub no_looks : (x : Item) (c : Counts) → attributes.looks.Takes x c c
+unfolding attributes
+no_looks x c = looks-none (λ k. false) enum.parts table.rows refl x c refl

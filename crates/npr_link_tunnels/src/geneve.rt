@@ -1,12 +1,13 @@
 //! The data of a tunnel of Geneve: `IFLA_GENEVE_*` of `linux/if_link.h`.
 
-ghost use Rattle.{npr_base.specs.Tables.{shape_by, shape-by}, npr_link_tunnels.specs.Geneve.{table, family}};
+ghost use Rattle.std.specs.Prelude.{◌≢◌, IfOk, IfErr};
+ghost use Rattle.{npr_base.specs.{declared.refusal.DecodeError.TheVariants.{OutOfMemory}, RowReading.{reads_at, wrong_at}, Tables.{shape_by, shape-by}}, npr_link_tunnels.specs.Geneve.{table, attributes, family}};
 
 use crate::geneve_df::GeneveDf;
 use crate::ports::{read_ports, write_ports};
 use npr_base::{
     At, AttrFamily, Attribute, DecodeError, DefaultNla, EmitError, Form, Ipv4Addr, Ipv6Addr, Looks,
-    Nla, NlaBuffer, Place, put_read,
+    Nla, NlaBuffer, Place, Rowed, put_read,
 };
 use std::alloc::{AllocError, Global};
 
@@ -98,6 +99,33 @@ impl Nla for InfoGeneve {
     }
 }
 
+impl Rowed for InfoGeneve {
+    ghost reads = { reads_at table };
+
+    ghost wrong = { wrong_at table };
+}
+
+/// Puts an attribute; none has others inside.
+///
+/// # Errors
+/// `OutOfMemory` where memory is refused, and else what is wrong with the value.
+#[tactic(auto, unfolding(crate::specs::Geneve::attributes))]
+fn put_flat<P: Place<InfoGeneve>>(
+    place: &mut P,
+    alloc: Global,
+    item: &NlaBuffer<'_>,
+) -> Result<(), DecodeError>
+    requires { P.ready place.old }
+    ensures ok { IfOk result (λ _. (a : InfoGeneve) × P.puts place.old a place.new × attributes.Reads item.now (family.meaning a)) }
+    ensures refused { IfErr result (λ e. e ≢ OutOfMemory → attributes.Faulty item.now e) }
+{
+    rows!(flat_rows(place, alloc, item; 15 => put_read(
+        place,
+        read_ports(item.value(), AttrFamily::InfoGeneve.at(15)),
+        InfoGeneve::PortRange,
+    ),))
+}
+
 impl Attribute for InfoGeneve {
     type Context = ();
 
@@ -105,7 +133,7 @@ impl Attribute for InfoGeneve {
 
     ghost shape_is = { shape-by table };
 
-    #[tactic(auto, unfolding(crate::specs::Geneve::attributes))]
+    #[tactic(auto, using(crate::specs::Geneve::no_looks))]
     fn read_into<P: Place<Self>>(
         place: &mut P,
         alloc: Global,
@@ -113,13 +141,7 @@ impl Attribute for InfoGeneve {
         item: &NlaBuffer<'_>,
         looks: &mut Looks,
     ) -> Result<(), DecodeError> {
-        rows!(put_rows(place, alloc, item, looks;
-            15 => put_read(
-                place,
-                read_ports(item.value(), AttrFamily::InfoGeneve.at(15)),
-                InfoGeneve::PortRange,
-            ),
-        ))
+        put_flat(place, alloc, item)
     }
 
     #[tactic(auto, unfolding(crate::specs::Geneve::attributes))]

@@ -1,6 +1,7 @@
 //! The data of a tunnel of GRE over IP version 6: `IFLA_GRE_*` of `linux/if_tunnel.h`.
 
-ghost use Rattle.{npr_base.specs.Tables.{shape_by, shape-by}, npr_link_tunnels.specs.Gre6.{table, family}};
+ghost use Rattle.std.specs.Prelude.{◌≢◌, IfOk, IfErr};
+ghost use Rattle.{npr_base.specs.{declared.refusal.DecodeError.TheVariants.{OutOfMemory}, RowReading.{reads_at, wrong_at}, Tables.{shape_by, shape-by}}, npr_link_tunnels.specs.Gre6.{table, attributes, family}};
 
 use crate::gre_encap_flags::GreEncapFlags;
 use crate::gre_encap_type::GreEncapType;
@@ -8,7 +9,8 @@ use crate::gre_io_flags::GreIOFlags;
 use crate::ip6_tunnel_flags::Ip6TunnelFlags;
 use bitflags::Flags;
 use npr_base::{
-    At, Attribute, DecodeError, DefaultNla, EmitError, Form, Ipv6Addr, Looks, Nla, NlaBuffer, Place,
+    At, Attribute, DecodeError, DefaultNla, EmitError, Form, Ipv6Addr, Looks, Nla, NlaBuffer,
+    Place, Rowed,
 };
 use std::alloc::{AllocError, Global};
 
@@ -110,6 +112,29 @@ impl Nla for InfoGre6 {
     }
 }
 
+impl Rowed for InfoGre6 {
+    ghost reads = { reads_at table };
+
+    ghost wrong = { wrong_at table };
+}
+
+/// Puts an attribute; none has others inside.
+///
+/// # Errors
+/// `OutOfMemory` where memory is refused, and else what is wrong with the value.
+#[tactic(auto, unfolding(crate::specs::Gre6::attributes))]
+fn put_flat<P: Place<InfoGre6>>(
+    place: &mut P,
+    alloc: Global,
+    item: &NlaBuffer<'_>,
+) -> Result<(), DecodeError>
+    requires { P.ready place.old }
+    ensures ok { IfOk result (λ _. (a : InfoGre6) × P.puts place.old a place.new × attributes.Reads item.now (family.meaning a)) }
+    ensures refused { IfErr result (λ e. e ≢ OutOfMemory → attributes.Faulty item.now e) }
+{
+    rows!(flat_rows(place, alloc, item))
+}
+
 impl Attribute for InfoGre6 {
     type Context = ();
 
@@ -117,7 +142,7 @@ impl Attribute for InfoGre6 {
 
     ghost shape_is = { shape-by table };
 
-    #[tactic(auto, unfolding(crate::specs::Gre6::attributes))]
+    #[tactic(auto, using(crate::specs::Gre6::no_looks))]
     fn read_into<P: Place<Self>>(
         place: &mut P,
         alloc: Global,
@@ -125,7 +150,7 @@ impl Attribute for InfoGre6 {
         item: &NlaBuffer<'_>,
         looks: &mut Looks,
     ) -> Result<(), DecodeError> {
-        rows!(put_rows(place, alloc, item, looks))
+        put_flat(place, alloc, item)
     }
 
     #[tactic(auto, unfolding(crate::specs::Gre6::attributes))]

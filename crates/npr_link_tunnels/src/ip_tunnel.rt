@@ -2,7 +2,7 @@
 
 ghost use Rattle.std.specs.Prelude.{◌≡◌, ◌≢◌, IfOk, IfErr};
 ghost use Rattle.{
-  npr_base.specs.declared.refusal.DecodeError.TheVariants.{OutOfMemory},
+  npr_base.specs.{declared.refusal.DecodeError.TheVariants.{OutOfMemory}, Framing.{number_of}},
   npr_link_tunnels.specs.{
     TunnelFlags.{kind_of, flags_form},
     IpTunnel.{family, shape, shape-by, HasFlags, FlagsFault, IsFlat, FlatFault},
@@ -16,7 +16,7 @@ use crate::tunnel_encap_type::TunnelEncapType;
 use bitflags::Flags;
 use npr_base::{
     At, AttrFamily, Attribute, DecodeError, DefaultNla, EmitError, Form, IpAddr, Ipv4Addr,
-    Ipv6Addr, Looks, Nla, NlaBuffer, Place, read_u16, read_u32, write_array,
+    Ipv6Addr, Looks, Nla, NlaBuffer, Place, Rowed, read_u16, read_u32, write_array,
 };
 use npr_scalar::{IpProtocol, check_protocol, protocol_byte};
 use std::alloc::{AllocError, Global};
@@ -184,6 +184,12 @@ fn put_flags<P: Place<InfoIpTunnel>>(
     }
 }
 
+impl Rowed for InfoIpTunnel {
+    ghost reads = { IsFlat };
+
+    ghost wrong = { FlatFault };
+}
+
 /// Puts an attribute that stands for itself. No attribute has others inside.
 ///
 /// # Errors
@@ -195,10 +201,10 @@ fn put_flat<P: Place<InfoIpTunnel>>(
     item: &NlaBuffer<'_>,
 ) -> Result<(), DecodeError>
     requires { P.ready place.old }
-    ensures ok { IfOk result (λ _. (a : InfoIpTunnel) × P.puts place.old a place.new × IsFlat item.now a) }
-    ensures refused { IfErr result (λ e. e ≢ OutOfMemory → FlatFault item.now e) }
+    ensures ok { IfOk result (λ _. (a : InfoIpTunnel) × P.puts place.old a place.new × IsFlat (number_of (item.now).kind) item.now a) }
+    ensures refused { IfErr result (λ e. e ≢ OutOfMemory → FlatFault (number_of (item.now).kind) item.now e) }
 {
-    rows!(put_rows(place, alloc, item, ()))
+    rows!(flat_rows(place, alloc, item))
 }
 
 impl Attribute for InfoIpTunnel {

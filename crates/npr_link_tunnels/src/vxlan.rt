@@ -1,11 +1,12 @@
 //! The data of a tunnel of VXLAN: `IFLA_VXLAN_*` of `linux/if_link.h`.
 
-ghost use Rattle.{npr_base.specs.Tables.{shape_by, shape-by}, npr_link_tunnels.specs.Vxlan.{table, family}};
+ghost use Rattle.std.specs.Prelude.{◌≢◌, IfOk, IfErr};
+ghost use Rattle.{npr_base.specs.{declared.refusal.DecodeError.TheVariants.{OutOfMemory}, RowReading.{reads_at, wrong_at}, Tables.{shape_by, shape-by}}, npr_link_tunnels.specs.Vxlan.{table, attributes, family}};
 
 use crate::ports::{read_ports, write_ports};
 use npr_base::{
     At, AttrFamily, Attribute, DecodeError, DefaultNla, EmitError, Form, Ipv4Addr, Ipv6Addr, Looks,
-    Nla, NlaBuffer, Place, put_read,
+    Nla, NlaBuffer, Place, Rowed, put_read,
 };
 use std::alloc::{AllocError, Global};
 
@@ -145,6 +146,33 @@ impl Nla for InfoVxlan {
     }
 }
 
+impl Rowed for InfoVxlan {
+    ghost reads = { reads_at table };
+
+    ghost wrong = { wrong_at table };
+}
+
+/// Puts an attribute; none has others inside.
+///
+/// # Errors
+/// `OutOfMemory` where memory is refused, and else what is wrong with the value.
+#[tactic(auto, unfolding(crate::specs::Vxlan::attributes))]
+fn put_flat<P: Place<InfoVxlan>>(
+    place: &mut P,
+    alloc: Global,
+    item: &NlaBuffer<'_>,
+) -> Result<(), DecodeError>
+    requires { P.ready place.old }
+    ensures ok { IfOk result (λ _. (a : InfoVxlan) × P.puts place.old a place.new × attributes.Reads item.now (family.meaning a)) }
+    ensures refused { IfErr result (λ e. e ≢ OutOfMemory → attributes.Faulty item.now e) }
+{
+    rows!(flat_rows(place, alloc, item; 10 => put_read(
+        place,
+        read_ports(item.value(), AttrFamily::InfoVxlan.at(10)),
+        InfoVxlan::PortRange,
+    ),))
+}
+
 impl Attribute for InfoVxlan {
     type Context = ();
 
@@ -152,7 +180,7 @@ impl Attribute for InfoVxlan {
 
     ghost shape_is = { shape-by table };
 
-    #[tactic(auto, unfolding(crate::specs::Vxlan::attributes))]
+    #[tactic(auto, using(crate::specs::Vxlan::no_looks))]
     fn read_into<P: Place<Self>>(
         place: &mut P,
         alloc: Global,
@@ -160,13 +188,7 @@ impl Attribute for InfoVxlan {
         item: &NlaBuffer<'_>,
         looks: &mut Looks,
     ) -> Result<(), DecodeError> {
-        rows!(put_rows(place, alloc, item, looks;
-            10 => put_read(
-                place,
-                read_ports(item.value(), AttrFamily::InfoVxlan.at(10)),
-                InfoVxlan::PortRange,
-            ),
-        ))
+        put_flat(place, alloc, item)
     }
 
     #[tactic(auto, unfolding(crate::specs::Vxlan::attributes))]

@@ -6,7 +6,7 @@ use Rattle.npr_link.specs.AttributeSteps.{inet6_means, port_means, whole_means}
 use Rattle.npr_link.specs.ProtoInfos.{as_inet6, as_bridge, as_whole, form_of, inet6, bridge, unknown}
 use Rattle.npr_link_bridge.specs.BridgePort as OfBridgePort
 use Rattle.npr_link.specs.declared.attribute.LinkAttribute.{LinkAttribute}
-use Rattle.npr_link.proofs.attribute.put_proto_info.Goals as goal
+use Rattle.npr_link.proofs.header_family.put_proto_info.Goals as goal
 
 pub returns-in_err-parse_list-in-Inet6-clause-refused : goal.returns-in_err-parse_list-in-Inet6-clause-refused
 returns-in_err-parse_list-in-Inet6-clause-refused g c =

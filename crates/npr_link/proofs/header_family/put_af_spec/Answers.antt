@@ -6,7 +6,7 @@ use Rattle.npr_link.specs.AfSpecs.{as_list, as_bridge, as_bytes, form_of, unspec
 use Rattle.npr_link.specs.AttributeSteps.{unspec_means, bridge_means, unknown_means}
 use Rattle.npr_link_bridge.specs.AfSpecBridge as OfAfSpecBridge
 use Rattle.npr_link.specs.declared.attribute.LinkAttribute.{LinkAttribute}
-use Rattle.npr_link.proofs.attribute.put_af_spec.Goals as goal
+use Rattle.npr_link.proofs.header_family.put_af_spec.Goals as goal
 
 pub returns-in_err-parse_list-in-Unspec-clause-refused : goal.returns-in_err-parse_list-in-Unspec-clause-refused
 returns-in_err-parse_list-in-Unspec-clause-refused g c =

@@ -6,7 +6,7 @@ use Rattle.npr_link.specs.Info as OfInfo
 use Rattle.npr_link.specs.InfoList.{info_list}
 use Rattle.npr_link.specs.declared.attribute.LinkAttribute.{LinkAttribute}
 use Rattle.npr_link.proofs.OkAs.{ok_as}
-use Rattle.npr_link.proofs.attribute.put_info.Goals as goal
+use Rattle.npr_link.proofs.lists.put_info.Goals as goal
 
 pub returns-clause-ok : goal.returns-clause-ok
 returns-clause-ok g c =
