@@ -2,19 +2,8 @@
 
 use crate::datagram::datagrams_answer;
 use crate::stop::Stop;
-use netlink_packet_route::address::AddressHeader;
-use netlink_packet_route::address_label::AddressLabelHeader;
-use netlink_packet_route::framing::{Header, Message, NLA_F_NET_BYTEORDER, Nla, Parseable, to_vec};
-use netlink_packet_route::link::LinkHeader;
-use netlink_packet_route::neighbour::NeighbourHeader;
-use netlink_packet_route::neighbour_table::NeighbourTableHeader;
-use netlink_packet_route::netconf::NetconfHeader;
-use netlink_packet_route::nexthop::NextHopHeader;
-use netlink_packet_route::nsid::NsidHeader;
-use netlink_packet_route::prefix::PrefixHeader;
-use netlink_packet_route::route::RouteHeader;
-use netlink_packet_route::rule::RuleHeader;
-use netlink_packet_route::{MessageKind, validate};
+use netlink_packet_route::framing::NlasIterator;
+use netlink_packet_route::{Level, MessageKind, canonical, validate};
 use std::alloc::{AllocError, Global};
 
 /// What the lines of a file are.
@@ -53,19 +42,7 @@ impl Asked {
 
 /// What is answered to a message of a kind, where `validate` says the same of it.
 fn message_answer(kind: MessageKind, alloc: Global, bytes: &[u8]) -> Result<String, Stop> {
-    let answered = match kind {
-        MessageKind::Address => answer::<AddressHeader>(alloc, bytes),
-        MessageKind::Route => answer::<RouteHeader>(alloc, bytes),
-        MessageKind::Rule => answer::<RuleHeader>(alloc, bytes),
-        MessageKind::Neighbour => answer::<NeighbourHeader>(alloc, bytes),
-        MessageKind::Link => answer::<LinkHeader>(alloc, bytes),
-        MessageKind::NextHop => answer::<NextHopHeader>(alloc, bytes),
-        MessageKind::Nsid => answer::<NsidHeader>(alloc, bytes),
-        MessageKind::Netconf => answer::<NetconfHeader>(alloc, bytes),
-        MessageKind::AddressLabel => answer::<AddressLabelHeader>(alloc, bytes),
-        MessageKind::NeighbourTable => answer::<NeighbourTableHeader>(alloc, bytes),
-        MessageKind::Prefix => answer::<PrefixHeader>(alloc, bytes),
-    };
+    let answered = canonical_answer(kind, alloc, bytes);
     let is_alike = match (&answered, validate(kind, bytes)) {
         (Err(Stop::Memory), _) => true,
         (Err(Stop::Refused(name)), Err(fault)) => *name == fault.name(),
@@ -78,27 +55,37 @@ fn message_answer(kind: MessageKind, alloc: Global, bytes: &[u8]) -> Result<Stri
     Ok(format!(in alloc; "validated otherwise")?)
 }
 
-/// `canonical` with the canonical bytes of a message with such a header in hexadecimal.
-fn answer<H: Header>(alloc: Global, bytes: &[u8]) -> Result<String, Stop> {
-    let message = Message::<H, H::Attribute>::parse(alloc, bytes)?;
-    if !is_seen(&message, bytes) {
+/// `canonical` with the canonical bytes of a message of this kind in hexadecimal.
+fn canonical_answer(kind: MessageKind, alloc: Global, bytes: &[u8]) -> Result<String, Stop> {
+    let written = canonical(alloc, kind, bytes)?;
+    if !is_seen(kind, bytes, written.as_slice()) {
         return Ok(format!(in alloc; "seen otherwise")?);
     }
-    let written = to_vec(alloc, &message)?;
     let digits = hex::encode(alloc, written)?;
     Ok(format!(in alloc; "canonical {digits}")?)
 }
 
-/// Whether the values that are seen of the bytes stand at the numbers of the message's attributes.
-fn is_seen<H: Header>(message: &Message<H, H::Attribute>, bytes: &[u8]) -> bool {
-    let Ok((_, mut values)) = Message::<H, H::Attribute>::values(bytes) else {
+/// Whether the values that are seen of the bytes stand at the numbers of the attributes of the
+/// canonical bytes.
+fn is_seen(kind: MessageKind, bytes: &[u8], canonical: &[u8]) -> bool {
+    let (Ok((level, attributes)), Ok((_, wanted))) = (
+        Level::begin(kind, bytes),
+        Level::begin(kind, canonical),
+    ) else {
         return false;
     };
-    for attribute in message.attributes.iter() {
-        match values.next() {
-            Some(Ok((at, _))) if at.kind == attribute.kind() % NLA_F_NET_BYTEORDER => {}
+    let mut wanted = NlasIterator::new(wanted);
+    for attribute in NlasIterator::new(attributes) {
+        let Ok(attribute) = attribute else {
+            return false;
+        };
+        let Ok((at, _)) = level.value(&attribute) else {
+            return false;
+        };
+        match wanted.next() {
+            Some(Ok(written)) if at.kind == written.kind() => {}
             _ => return false,
         }
     }
-    values.next().is_none()
+    wanted.next().is_none()
 }

@@ -1,5 +1,6 @@
 //! Why bytes are not written again.
 
+use netlink_packet_route::CanonicalError;
 use netlink_packet_route::envelope::EnvelopeError;
 use netlink_packet_route::framing::{DecodeError, WriteError};
 use std::alloc::AllocError;
@@ -26,6 +27,15 @@ impl From<DecodeError> for Stop {
         match fault {
             DecodeError::OutOfMemory => Stop::Memory,
             _ => Stop::Refused(fault.name()),
+        }
+    }
+}
+
+impl From<CanonicalError> for Stop {
+    fn from(fault: CanonicalError) -> Stop {
+        match fault {
+            CanonicalError::Refused(fault) => Stop::from(fault),
+            CanonicalError::Unfit(cause) => Stop::Unfit(cause.name()),
         }
     }
 }

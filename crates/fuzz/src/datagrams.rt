@@ -1,17 +1,16 @@
-//! What is asked of the messages of a datagram: that each that is read is written as one message that
-//! gives it back, that a walk ends, and that a conversation answers what the walk finds.
+//! What is asked of the messages of a datagram: that what is written of each that is read is written of
+//! these bytes again, that each by itself is a datagram, that a walk ends, and that a conversation
+//! answers what the walk finds.
 
-use crate::asking::{Answer, compared, written};
-use netlink_packet_route::RouteNetlinkMessage;
+use crate::asking::{Answer, answer_to_message};
+use crate::making::pad;
+use netlink_packet_route::MessageType;
 use netlink_packet_route::envelope::{
-    Answer as Heard, Conversation, End, EnvelopeError, NetlinkBuffer, NetlinkIterator,
-    NetlinkMessage,
+    Answer as Heard, Conversation, DoneMessage, End, EnvelopeError, ErrorMessage, NLMSG_DONE,
+    NLMSG_ERROR, NetlinkBuffer, NetlinkIterator,
 };
-use netlink_packet_route::framing::{DecodeError, Emitable, Parseable};
+use netlink_packet_route::framing::{DecodeError, Emitable, WriteError, to_vec};
 use std::alloc::{AllocError, Global};
-
-/// A message of rtnetlink with its envelope.
-type Whole = NetlinkMessage<RouteNetlinkMessage>;
 
 /// The last of the answers to the messages of a datagram, in the order of `Answer`.
 ///
@@ -38,38 +37,54 @@ pub fn answer_to_datagram(alloc: Global, bytes: &[u8]) -> Result<Answer, AllocEr
     Ok(last)
 }
 
-/// The answer to one message: what is written of it, with the length of its payload, is one message
-/// of a datagram, and gives it back.
+/// The answer to one message.
 fn answer_to_envelope(alloc: Global, envelope: &NetlinkBuffer<'_>) -> Result<Answer, AllocError> {
-    let read = match Whole::parse(alloc, envelope) {
-        Ok(mut message) => {
-            if message.check().is_ok() {
-                message.finalize();
-            }
-            Ok(message)
-        }
-        Err(fault) => Err(fault),
-    };
-    let (answer, message, out) = written(alloc, read, envelope.length() as usize)?;
-    if message.is_none() || answer != Answer::Canonical {
-        return Ok(answer);
-    }
-    let Some(again) = only_message(alloc, out.as_slice()) else {
+    if !is_datagram(alloc, envelope)? {
         return Ok(Answer::Broken("no message of a datagram"));
-    };
-    compared(alloc, answer, message, again, out.as_slice())
+    }
+    let payload = envelope.payload();
+    match envelope.message_type() {
+        NLMSG_ERROR => answer_to_reply(alloc, ErrorMessage::parse(alloc, payload), payload),
+        // without bytes it is the code 0
+        NLMSG_DONE if payload.is_empty() => {
+            answer_to_reply(alloc, DoneMessage::parse(alloc, payload), &[0; 4])
+        }
+        NLMSG_DONE => answer_to_reply(alloc, DoneMessage::parse(alloc, payload), payload),
+        number => match MessageType::of(number).kind() {
+            Some(kind) => answer_to_message(alloc, kind, payload),
+            None => Ok(Answer::Canonical),
+        },
+    }
 }
 
-/// The message that is all of a datagram.
-fn only_message(alloc: Global, bytes: &[u8]) -> Option<Result<Whole, DecodeError>> {
-    let mut walk = NetlinkIterator::new(bytes);
-    let Some(Ok(envelope)) = walk.next() else {
-        return None;
+/// The answer to an error or an end, which is written as these bytes.
+fn answer_to_reply<M: Emitable + Drop>(
+    alloc: Global,
+    read: Result<M, DecodeError>,
+    bytes: &[u8],
+) -> Result<Answer, AllocError> {
+    let message = match read {
+        Ok(message) => message,
+        Err(DecodeError::OutOfMemory) => return Err(AllocError),
+        Err(fault) => return Ok(Answer::Refused(fault.name())),
     };
-    if walk.next().is_some() {
-        return None;
+    match to_vec(alloc, &message) {
+        Ok(out) if out.as_slice() == bytes => Ok(Answer::Canonical),
+        Ok(_) => Ok(Answer::Broken("written otherwise")),
+        Err(WriteError::OutOfMemory) => Err(AllocError),
+        Err(WriteError::Unfit(cause)) => Ok(Answer::Unfit(cause.name())),
     }
-    Some(Whole::parse(alloc, &envelope))
+}
+
+/// Whether a message, written by itself, is all of a datagram.
+fn is_datagram(alloc: Global, envelope: &NetlinkBuffer<'_>) -> Result<bool, AllocError> {
+    let mut bytes = Vec::new(alloc);
+    bytes.extend_from_slice(&envelope.header().to_bytes())?;
+    bytes.extend_from_slice(envelope.payload())?;
+    pad(&mut bytes)?;
+    let mut walk = NetlinkIterator::new(bytes.as_slice());
+    let is_found = matches!(walk.next(), Some(Ok(found)) if found == *envelope);
+    Ok(is_found && walk.next().is_none())
 }
 
 /// Whether a conversation of number 7 answers each message that the walk finds, up to its end, and

@@ -13,12 +13,13 @@ mod links;
 mod making;
 mod random;
 mod small;
+mod subject;
 mod tally;
 mod worked;
 
-use asking::Subject;
 use std::process::ExitCode;
 use std::{env, io};
+use subject::Subject;
 use tally::Tally;
 
 const USAGE: &str = "usage: fuzz SEED COUNT";

@@ -1,12 +1,12 @@
 //! Messages and datagrams that are made at random: attributes of known numbers, mostly with a length
 //! that fits, lists inside lists, and bytes that are changed behind.
 
-use crate::asking::Subject;
 use crate::lengths::{
     ADDRESS, ANSWERS, ANY, LABEL, MEMBERS, NAME_SPACE, NEIGHBOUR, NUMBERS, OF_FAMILY, OPTIONS,
     PREFIX, ROUTE, RULE, SETTINGS,
 };
 use crate::random::Random;
+use crate::subject::Subject;
 use netlink_packet_route::MessageKind;
 use std::alloc::{AllocError, Global};
 use std::mem;

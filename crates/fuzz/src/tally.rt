@@ -1,7 +1,8 @@
 //! How many messages got which answer.
 
-use crate::asking::{Answer, Subject, answer_to};
+use crate::asking::{Answer, answer_to};
 use crate::making::Maker;
+use crate::subject::Subject;
 use crate::worked::messages;
 use std::alloc::{AllocError, Global};
 use std::collections::BTreeMap;

@@ -1,6 +1,6 @@
 //! Messages and datagrams of which each byte is changed to each value.
 
-use crate::asking::Subject;
+use crate::subject::Subject;
 use netlink_packet_route::MessageKind;
 
 /// Address messages: that of the loopback interface, and one with a name of no bytes.

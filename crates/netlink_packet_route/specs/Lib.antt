@@ -39,6 +39,7 @@ pub use Rattle.npr_base.specs.Looks
 pub use Rattle.npr_base.specs.LookBounds
 pub use Rattle.npr_base.specs.MessageLaws
 pub use Rattle.npr_base.specs.Opening
+pub mod Canonical
 pub mod CheckLaws
 pub mod DriverLevelLaws
 pub mod FaultLaws

@@ -21,6 +21,8 @@ ghost use Rattle.{
   netlink_packet_route.specs.{MessageKind.{kind_name}, RouteNetlinkMessage.{meaning_of, other_of}},
 };
 
+use crate::canonical_bytes::CanonicalError;
+use crate::canonical_bytes::WriteCanonicalError;
 use crate::kind::MessageKind;
 use crate::message::OtherMessage;
 use crate::message::RouteNetlinkMessage;
@@ -163,6 +165,14 @@ pub fn law_message_kinds()
     ensures names { (kind other : MessageKind) → kind_name kind ≡ kind_name other → kind ≡ other }
     ensures equality { IsEquality ⟦<MessageKind as PartialEq>⟧.eq }
 {}
+
+/// `==` answers whether two reasons why there are no canonical bytes are equal.
+pub fn law_canonical_equality()
+    ensures error { IsEquality ⟦<CanonicalError as PartialEq>⟧.eq }
+    ensures write_error { IsEquality ⟦<WriteCanonicalError as PartialEq>⟧.eq }
+{
+    law_framing_equality();
+}
 
 /// `==` answers whether two messages mean the same.
 pub fn law_rtnetlink_equality()

@@ -12,6 +12,7 @@
 pub mod address;
 pub mod address_label;
 mod apart;
+mod canonical_bytes;
 mod checking;
 mod entry;
 pub mod envelope;
@@ -39,6 +40,7 @@ mod type_tests;
 mod validity;
 
 pub use bitflags::Flags;
+pub use canonical_bytes::{CanonicalError, WriteCanonicalError, canonical, write_canonical};
 pub use entry::Entry;
 pub use kind::MessageKind;
 pub use levels::Level;

@@ -1,3 +1,4 @@
 pub mod HexText
 pub mod KnownBytes
 pub mod ReportLines
+pub mod Reporting

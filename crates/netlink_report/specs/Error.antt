@@ -1,9 +1,9 @@
 -- The status and the line on standard error of a run that prints no report.
 use Rattle.std.specs.Prelude.{ℕ, List, codes, ◌++◌}
+use Rattle.netlink_packet_route.specs.declared.CanonicalError.{CanonicalError}
+use Rattle.netlink_packet_route.specs.declared.CanonicalError.TheVariants as Canonical
 use Rattle.netlink_packet_route.specs.declared.framing.DecodeError.{DecodeError}
 use Rattle.netlink_packet_route.specs.declared.framing.DecodeError.TheVariants.{OutOfMemory}
-use Rattle.netlink_packet_route.specs.declared.framing.WriteError.{WriteError}
-use Rattle.netlink_packet_route.specs.declared.framing.WriteError.TheVariants as Unwritten
 use Rattle.netlink_packet_route.specs.Refusal.{decode_name, emit_name}
 use Rattle.netlink_report.specs.declared.error.RunError.{RunError}
 use Rattle.netlink_report.specs.declared.error.RunError.TheVariants.{BadHex, Refused, Unfit, Memory, Read, Write}
@@ -29,10 +29,10 @@ abbrev pub refusal_of : DecodeError → RunError
 refusal_of OutOfMemory = Memory
 refusal_of e = Refused e
 
--- how a run ends where a message is not written
-abbrev pub unwritten : WriteError → RunError
-unwritten Unwritten.OutOfMemory = Memory
-unwritten (Unwritten.Unfit cause) = Unfit cause
+-- how a run ends where there are no canonical bytes
+abbrev pub ended_by : CanonicalError → RunError
+ended_by (Canonical.Refused e) = refusal_of e
+ended_by (Canonical.Unfit cause) = Unfit cause
 
 -- how a run can end by the message alone, or for want of memory, which is no refusal
 abbrev pub IsOfMessage : RunError → Type 0

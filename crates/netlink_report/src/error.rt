@@ -3,10 +3,11 @@
 ghost use Rattle.std.specs.Prelude.{◌≡◌, ◌++◌};
 ghost use Rattle.{
   netlink_packet_route.specs.Equality.{IsEquality},
-  netlink_report.specs.{declared.error.RunError.TheVariants.{Memory}, Error.{line_of, refusal_of, status_of, unwritten}},
+  netlink_report.specs.{declared.error.RunError.TheVariants.{Memory}, Error.{ended_by, line_of, refusal_of, status_of}},
 };
 
-use netlink_packet_route::framing::{DecodeError, EmitError, WriteError};
+use netlink_packet_route::CanonicalError;
+use netlink_packet_route::framing::{DecodeError, EmitError};
 use netlink_packet_route::laws::law_framing_equality;
 use std::alloc::{AllocError, AllocFailed};
 
@@ -67,13 +68,13 @@ impl From<DecodeError> for RunError {
     }
 }
 
-impl From<WriteError> for RunError {
-    ghost from_gives = { λ fault e. e ≡ unwritten fault };
+impl From<CanonicalError> for RunError {
+    ghost from_gives = { λ fault e. e ≡ ended_by fault };
 
-    fn from(fault: WriteError) -> RunError {
+    fn from(fault: CanonicalError) -> RunError {
         match fault {
-            WriteError::OutOfMemory => RunError::Memory,
-            WriteError::Unfit(cause) => RunError::Unfit(cause),
+            CanonicalError::Refused(fault) => RunError::from(fault),
+            CanonicalError::Unfit(cause) => RunError::Unfit(cause),
         }
     }
 }

@@ -1,56 +1,62 @@
 //! The report on a message that was read.
 
-ghost use Rattle.std.specs.Prelude.{◌≡◌, ◌++◌, None, length, map, string_bytes, IfErr, IfOk, OnOk};
+ghost use Rattle.std.specs.Prelude.{◌≡◌, ◌++◌, ℕ, List, length, string_bytes, IfErr, IfOk, OnOk};
 ghost use Rattle.{
-  netlink_packet_route.specs.{Lists.{first_unfit}, Family.{unfit_by, written_by}},
+  netlink_packet_route.specs.Framing.{Item, Cut},
   netlink_report.specs.{Report.{closing_text, heading_text, line_text, lines_text, report}, declared.error.RunError.TheVariants.{Memory}},
 };
 
 use crate::error::RunError;
-use netlink_packet_route::framing::{Attribute, marked_kind};
+use netlink_packet_route::framing::NlasIterator;
 use std::alloc::Global;
 
-/// The report on a message of `bytes` bytes, given its attributes, which can be written, and its
-/// canonical bytes.
-pub fn whole<A: Attribute>(
+/// The report on a message of `bytes` bytes, given its canonical bytes, and those of them that are the
+/// attributes.
+pub fn whole(
     alloc: Global,
     name: &str,
     bytes: usize,
-    attributes: &[A],
+    attributes: &[u8],
     canonical: &[u8],
 ) -> Result<String, RunError>
-    requires { first_unfit (unfit_by A.family.writing) (map A.family.meaning attributes.now) ≡ None }
-    ensures ok { IfOk result (λ text. string_bytes text ≡ report name.now bytes (map (written_by A.family.writing) (map A.family.meaning attributes.now)) canonical.now) }
+    ensures ok { IfOk result (λ text. (items : List Item) → Cut attributes.now items → string_bytes text ≡ report name.now bytes items canonical.now) }
     ensures errors { IfErr result (λ e. e ≡ Memory) }
 {
     let mut out = String::new(alloc);
-    heading(&mut out, name, bytes, attributes.len())?;
+    heading(&mut out, name, bytes, count(attributes))?;
     lines(&mut out, attributes)?;
     closing(alloc, &mut out, canonical)?;
     Ok(out)
 }
 
-/// Appends the lines of attributes that can be written.
-fn lines<A: Attribute>(out: &mut String, attributes: &[A]) -> Result<(), RunError>
-    requires { first_unfit (unfit_by A.family.writing) (map A.family.meaning attributes.now) ≡ None }
-    ensures ok { OnOk result (string_bytes out.new ≡ string_bytes out.old ++ lines_text (map (written_by A.family.writing) (map A.family.meaning attributes.now))) }
-    ensures errors { IfErr result (λ e. e ≡ Memory) }
+/// How many attributes the bytes are.
+fn count(attributes: &[u8]) -> usize
+    ensures { (items : List Item) → Cut attributes.now items → result ≡ length items }
 {
-    for attribute in attributes {
-        attribute_line(out, attribute)?;
+    let mut found = 0;
+    let mut walk = NlasIterator::new(attributes);
+    while let Some(next) = walk.next() {
+        match next {
+            Ok(_) => found += 1,
+            Err(_) => return found,
+        }
     }
-    Ok(())
+    found
 }
 
-/// Appends the line of an attribute that can be written.
-fn attribute_line<A: Attribute>(out: &mut String, attribute: &A) -> Result<(), RunError>
-    requires { unfit_by A.family.writing (A.family.meaning attribute.now) ≡ None }
-    ensures ok { OnOk result (string_bytes out.new ≡ string_bytes out.old
-        ++ line_text (written_by A.family.writing (A.family.meaning attribute.now)).kind (length (written_by A.family.writing (A.family.meaning attribute.now)).value)) }
+/// Appends the lines of the attributes that the bytes are.
+fn lines(out: &mut String, attributes: &[u8]) -> Result<(), RunError>
+    ensures ok { OnOk result ((items : List Item) → Cut attributes.now items → string_bytes out.new ≡ string_bytes out.old ++ lines_text items) }
     ensures errors { IfErr result (λ e. e ≡ Memory) }
 {
-    let kind = marked_kind(attribute.kind(), attribute.is_nested());
-    line(out, kind, attribute.value_len())
+    let mut walk = NlasIterator::new(attributes);
+    while let Some(next) = walk.next() {
+        match next {
+            Ok(item) => line(out, item.raw_kind(), item.value().len())?,
+            Err(_) => return Ok(()),
+        }
+    }
+    Ok(())
 }
 
 /// Appends the first line: the message's name, how many bytes it has and how many attributes.

@@ -2,6 +2,7 @@
 use Rattle.std.proofs.Common.{◌≡◌, ℕ, ◌+◌, ◌-◌, ◌<◌, ◌≤◌, List, ◌++◌, length, take, drop, false, refl, sym, ap, subst, ◌∙◌, inl, inr}
 use Rattle.std.proofs.Common.{arith, length-drop}
 use Rattle.std.proofs.lemmas.List.{drop-drop, drop-take, take-append-drop, take_all}
+use Rattle.netlink_packet_route.proofs.CanonicalAttributes.{begun-behind}
 use Rattle.netlink_packet_route.specs.Framing.{Item, Front, number_of}
 use Rattle.netlink_packet_route.specs.FrontLaws.{Front-same}
 use Rattle.netlink_packet_route.specs.Levels.{reading_at, header_size, Begins, FromBytes, IsInside, OfNextHop, holds_list}
@@ -9,8 +10,6 @@ use Rattle.netlink_packet_route.specs.Value.{Shown}
 use Rattle.netlink_packet_route.specs.Values.{Seen}
 use Rattle.netlink_packet_route.specs.declared.framing.At.{At}
 use Rattle.netlink_packet_route.specs.declared.kind.MessageKind.{MessageKind}
-use Rattle.netlink_packet_route.specs.declared.kind.MessageKind.TheVariants.{Address, Link, Neighbour, Route, Rule}
-use Rattle.netlink_packet_route.specs.declared.kind.MessageKind.TheVariants.{NextHop, Nsid, Netconf, AddressLabel, NeighbourTable, Prefix}
 use Rattle.netlink_packet_route.specs.declared.levels.Level.{Level}
 use Rattle.npr_c.proofs.LevelLaws.{level_back}
 use Rattle.npr_c.proofs.Places.{found_in, rest_is, step_over}
@@ -86,28 +85,15 @@ list_found bytes level at end Of order within from of = record {
 
 -- ---- of a message
 
-behind_header : (kind : MessageKind) (bytes : List ℕ) (level : Level) (rest : List ℕ) → Begins kind bytes level rest → rest ≡ drop (header_size kind) bytes
-behind_header Address bytes level rest (h, reads, is, same) = is
-behind_header Rule bytes level rest (h, reads, is, same) = is
-behind_header Route bytes level rest (h, reads, is, governs) = is
-behind_header Neighbour bytes level rest (h, reads, is, same) = is
-behind_header Link bytes level rest (h, reads, is, same) = is
-behind_header NextHop bytes level rest (h, reads, is, governs) = is
-behind_header Nsid bytes level rest (h, reads, is, same) = is
-behind_header Netconf bytes level rest (h, reads, is, same) = is
-behind_header AddressLabel bytes level rest (h, reads, is, same) = is
-behind_header NeighbourTable bytes level rest (h, reads, is, same) = is
-behind_header Prefix bytes level rest (h, reads, is, same) = is
-
 pub behind_short : (kind : MessageKind) (bytes : List ℕ) (level : Level) (rest : List ℕ) → Begins kind bytes level rest → length rest ≤ length bytes
 behind_short kind bytes level rest begins =
-    omega (arith, ap length (behind_header kind bytes level rest begins), length-drop (header_size kind) bytes)
+    omega (arith, ap length (begun-behind kind bytes level rest begins), length-drop (header_size kind) bytes)
 
 pub begin_found : (kind : MessageKind) (bytes : List ℕ) (level : Level) (rest : List ℕ) → Begins kind bytes level rest → FromBytes level
     → BeginsAt kind bytes (list_over level (length bytes - length rest) (length bytes))
 begin_found kind bytes level rest begins from =
     let n : ℕ = header_size kind in
-    let is : rest ≡ drop n bytes = behind_header kind bytes level rest begins in
+    let is : rest ≡ drop n bytes = begun-behind kind bytes level rest begins in
     let split : bytes ≡ take n bytes ++ rest = sym (take-append-drop n bytes) ∙ ap (λ (w : List ℕ). take n bytes ++ w) (sym is) in
     let all : take (length bytes) bytes ≡ bytes = take_all (length bytes) bytes (omega arith) in
     let there : drop (length bytes - length rest) (take (length bytes) bytes) ≡ rest =

@@ -7,6 +7,7 @@ ghost use Rattle.{
     AddressMessage.{addresses},
     Framing.{Item, Front},
     LinkMessage.{links},
+    MessageKind.{form_of},
     NeighbourMessage.{neighbours},
     NeighbourTableMessage.{neighbour_tables},
     NetconfMessage.{netconfs},
@@ -14,50 +15,30 @@ ghost use Rattle.{
     NsidMessage.{nsids},
     PrefixMessage.{prefixes},
     RouteMessage.{routes},
+    RouteNetlinkMessage.{HasFirst},
     RuleMessage.{rules},
     declared.framing.DecodeError.TheVariants.{OutOfMemory},
   },
-  npr_c.specs.Answers.{Spells, Tells, refused_answer},
+  npr_c.specs.Answers.{Tells, refused_answer},
 };
 
 use crate::answer::Answer;
-use netlink_packet_route::address::AddressHeader;
-use netlink_packet_route::address_label::AddressLabelHeader;
-use netlink_packet_route::framing::{Emitable, Header, Message, Parseable};
-use netlink_packet_route::link::LinkHeader;
-use netlink_packet_route::neighbour::NeighbourHeader;
-use netlink_packet_route::neighbour_table::NeighbourTableHeader;
-use netlink_packet_route::netconf::NetconfHeader;
-use netlink_packet_route::nexthop::NextHopHeader;
-use netlink_packet_route::nsid::NsidHeader;
-use netlink_packet_route::prefix::PrefixHeader;
-use netlink_packet_route::route::RouteHeader;
-use netlink_packet_route::rule::RuleHeader;
+use netlink_packet_route::{CanonicalError, MessageKind, WriteCanonicalError, write_canonical};
 use std::alloc::Global;
 
-/// Writes the message to the front of the buffer, where it can be written and has room there.
-fn spell<M: Emitable>(message: &M, out: &mut [u8]) -> Answer
-    ensures { Spells (M.unfit message.now) (M.bytes message.now) out.old out.new result }
-{
-    match message.check() {
-        Ok(length) if length <= out.len() => {
-            message.emit(out);
-            Answer::written(length)
-        }
-        Ok(length) => Answer::short(length),
-        Err(cause) => Answer::unfit(cause),
-    }
-}
-
-/// Writes the canonical bytes of the message that the bytes are to the front of the buffer.
-fn canonical<H: Header>(alloc: Global, bytes: &[u8], out: &mut [u8]) -> Answer
-    ensures answer { Tells H.grammar bytes.now out.old out.new result }
-    ensures memory { result ≡ refused_answer OutOfMemory → (x : Item) × (rest : List ℕ) × Front (drop H.grammar.layout.size bytes.now) x rest }
+/// Writes the canonical bytes of the message of this kind that the bytes are to the front of the buffer.
+fn canonical(alloc: Global, kind: MessageKind, bytes: &[u8], out: &mut [u8]) -> Answer
+    ensures answer { Tells (form_of kind).grammar bytes.now out.old out.new result }
+    ensures memory { result ≡ refused_answer OutOfMemory → HasFirst kind bytes.now }
     ensures room { 5 * length bytes.now ≤ 2 * length out.old → result.status ≢ 3 }
 {
-    match Message::<H, H::Attribute>::parse(alloc, bytes) {
-        Ok(message) => spell(&message, out),
-        Err(fault) => Answer::refused(fault),
+    match write_canonical(alloc, kind, bytes, out) {
+        Ok(length) => Answer::written(length),
+        Err(WriteCanonicalError::Canonical(CanonicalError::Refused(fault))) => {
+            Answer::refused(fault)
+        }
+        Err(WriteCanonicalError::Canonical(CanonicalError::Unfit(cause))) => Answer::unfit(cause),
+        Err(WriteCanonicalError::BufferTooShort { got: _, want }) => Answer::short(want),
     }
 }
 
@@ -71,7 +52,7 @@ pub extern "C" fn npr_address_canonical(alloc: Global, bytes: &[u8], out: &mut [
     // A buffer two and a half times as long as the bytes is never too short.
     ensures room { 5 * length bytes.now ≤ 2 * length out.old → result.status ≢ 3 }
 {
-    canonical::<AddressHeader>(alloc, bytes, out)
+    canonical(alloc, MessageKind::Address, bytes, out)
 }
 
 /// Writes the canonical bytes of the route message that the bytes are to the front of the buffer,
@@ -84,7 +65,7 @@ pub extern "C" fn npr_route_canonical(alloc: Global, bytes: &[u8], out: &mut [u8
     // A buffer two and a half times as long as the bytes is never too short.
     ensures room { 5 * length bytes.now ≤ 2 * length out.old → result.status ≢ 3 }
 {
-    canonical::<RouteHeader>(alloc, bytes, out)
+    canonical(alloc, MessageKind::Route, bytes, out)
 }
 
 /// Writes the canonical bytes of the rule message that the bytes are to the front of the buffer,
@@ -97,7 +78,7 @@ pub extern "C" fn npr_rule_canonical(alloc: Global, bytes: &[u8], out: &mut [u8]
     // A buffer two and a half times as long as the bytes is never too short.
     ensures room { 5 * length bytes.now ≤ 2 * length out.old → result.status ≢ 3 }
 {
-    canonical::<RuleHeader>(alloc, bytes, out)
+    canonical(alloc, MessageKind::Rule, bytes, out)
 }
 
 /// Writes the canonical bytes of the neighbour message that the bytes are to the front of the
@@ -110,7 +91,7 @@ pub extern "C" fn npr_neighbour_canonical(alloc: Global, bytes: &[u8], out: &mut
     // A buffer two and a half times as long as the bytes is never too short.
     ensures room { 5 * length bytes.now ≤ 2 * length out.old → result.status ≢ 3 }
 {
-    canonical::<NeighbourHeader>(alloc, bytes, out)
+    canonical(alloc, MessageKind::Neighbour, bytes, out)
 }
 
 /// Writes the canonical bytes of the link message that the bytes are to the front of the buffer,
@@ -123,7 +104,7 @@ pub extern "C" fn npr_link_canonical(alloc: Global, bytes: &[u8], out: &mut [u8]
     // A buffer two and a half times as long as the bytes is never too short.
     ensures room { 5 * length bytes.now ≤ 2 * length out.old → result.status ≢ 3 }
 {
-    canonical::<LinkHeader>(alloc, bytes, out)
+    canonical(alloc, MessageKind::Link, bytes, out)
 }
 
 /// Writes the canonical bytes of the next hop message that the bytes are to the front of the
@@ -136,7 +117,7 @@ pub extern "C" fn npr_next_hop_canonical(alloc: Global, bytes: &[u8], out: &mut 
     // A buffer two and a half times as long as the bytes is never too short.
     ensures room { 5 * length bytes.now ≤ 2 * length out.old → result.status ≢ 3 }
 {
-    canonical::<NextHopHeader>(alloc, bytes, out)
+    canonical(alloc, MessageKind::NextHop, bytes, out)
 }
 
 /// Writes the canonical bytes of the message of name spaces that the bytes are to the front of the
@@ -149,7 +130,7 @@ pub extern "C" fn npr_nsid_canonical(alloc: Global, bytes: &[u8], out: &mut [u8]
     // A buffer two and a half times as long as the bytes is never too short.
     ensures room { 5 * length bytes.now ≤ 2 * length out.old → result.status ≢ 3 }
 {
-    canonical::<NsidHeader>(alloc, bytes, out)
+    canonical(alloc, MessageKind::Nsid, bytes, out)
 }
 
 /// Writes the canonical bytes of the message of settings that the bytes are to the front of the
@@ -162,7 +143,7 @@ pub extern "C" fn npr_netconf_canonical(alloc: Global, bytes: &[u8], out: &mut [
     // A buffer two and a half times as long as the bytes is never too short.
     ensures room { 5 * length bytes.now ≤ 2 * length out.old → result.status ≢ 3 }
 {
-    canonical::<NetconfHeader>(alloc, bytes, out)
+    canonical(alloc, MessageKind::Netconf, bytes, out)
 }
 
 /// Writes the canonical bytes of the message of address labels that the bytes are to the front of the
@@ -175,7 +156,7 @@ pub extern "C" fn npr_address_label_canonical(alloc: Global, bytes: &[u8], out: 
     // A buffer two and a half times as long as the bytes is never too short.
     ensures room { 5 * length bytes.now ≤ 2 * length out.old → result.status ≢ 3 }
 {
-    canonical::<AddressLabelHeader>(alloc, bytes, out)
+    canonical(alloc, MessageKind::AddressLabel, bytes, out)
 }
 
 /// Writes the canonical bytes of the message of tables of neighbours that the bytes are to the front of the
@@ -192,7 +173,7 @@ pub extern "C" fn npr_neighbour_table_canonical(
     // A buffer two and a half times as long as the bytes is never too short.
     ensures room { 5 * length bytes.now ≤ 2 * length out.old → result.status ≢ 3 }
 {
-    canonical::<NeighbourTableHeader>(alloc, bytes, out)
+    canonical(alloc, MessageKind::NeighbourTable, bytes, out)
 }
 
 /// Writes the canonical bytes of the prefix message that the bytes are to the front of the
@@ -205,5 +186,5 @@ pub extern "C" fn npr_prefix_canonical(alloc: Global, bytes: &[u8], out: &mut [u
     // A buffer two and a half times as long as the bytes is never too short.
     ensures room { 5 * length bytes.now ≤ 2 * length out.old → result.status ≢ 3 }
 {
-    canonical::<PrefixHeader>(alloc, bytes, out)
+    canonical(alloc, MessageKind::Prefix, bytes, out)
 }

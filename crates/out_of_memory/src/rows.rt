@@ -2,41 +2,42 @@
 
 use netlink_packet_route::MessageKind;
 
-/// What is parsed.
+/// What is called on the bytes.
 #[derive(Clone, Copy)]
-pub enum Parsed {
-    /// A message of this kind.
+pub enum Called {
+    /// The calls of a message of this kind.
     Message(MessageKind),
-    /// A next hop by itself.
+    /// Those of a next hop by itself.
     NextHop,
-    /// A route message with next hops inside next hops, as many as a length of two bytes lets stand.
+    /// Those of the type of a route with next hops inside next hops, as many as a length of two bytes
+    /// lets stand.
     Levels,
 }
 
 /// A message as hexadecimal text, and its canonical bytes.
 #[derive(Clone, Copy)]
 pub struct Row {
-    /// What is parsed.
-    pub parsed: Parsed,
+    /// What is called on its bytes.
+    pub called: Called,
     /// Its bytes.
     pub text: &'static str,
     /// The bytes that are written of it.
     pub canonical: &'static str,
 }
 
-const ADDRESS: Parsed = Parsed::Message(MessageKind::Address);
+const ADDRESS: Called = Called::Message(MessageKind::Address);
 
-const ROUTE: Parsed = Parsed::Message(MessageKind::Route);
+const ROUTE: Called = Called::Message(MessageKind::Route);
 
-const RULE: Parsed = Parsed::Message(MessageKind::Rule);
+const RULE: Called = Called::Message(MessageKind::Rule);
 
-const NEIGHBOUR: Parsed = Parsed::Message(MessageKind::Neighbour);
+const NEIGHBOUR: Called = Called::Message(MessageKind::Neighbour);
 
-const LINK: Parsed = Parsed::Message(MessageKind::Link);
+const LINK: Called = Called::Message(MessageKind::Link);
 
-const OBJECT: Parsed = Parsed::Message(MessageKind::NextHop);
+const OBJECT: Called = Called::Message(MessageKind::NextHop);
 
-const TABLE: Parsed = Parsed::Message(MessageKind::NeighbourTable);
+const TABLE: Called = Called::Message(MessageKind::NeighbourTable);
 
 /// The address of the loopback interface.
 const LOOPBACK: &str =
@@ -120,7 +121,7 @@ const NEXT_HOP: &str = "1800000002000000080005000a000001080001000a000002";
 impl Row {
     /// The row of this name.
     pub fn of(name: &str) -> Option<Row> {
-        let (parsed, text, canonical) = match name {
+        let (called, text, canonical) = match name {
             "loopback" => (ADDRESS, LOOPBACK, LOOPBACK),
             "by_next_hop" => (ROUTE, BY_NEXT_HOP, BY_NEXT_HOP),
             "version_6" => (ROUTE, VERSION_6, VERSION_6),
@@ -137,12 +138,12 @@ impl Row {
             "labels" => (OBJECT, LABELS, LABELS),
             "group" => (OBJECT, GROUP, GROUP),
             "parameters" => (TABLE, PARAMETERS, PARAMETERS),
-            "next_hop" => (Parsed::NextHop, NEXT_HOP, NEXT_HOP),
-            "levels" => (Parsed::Levels, "", ""),
+            "next_hop" => (Called::NextHop, NEXT_HOP, NEXT_HOP),
+            "levels" => (Called::Levels, "", ""),
             _ => return None,
         };
         Some(Row {
-            parsed,
+            called,
             text,
             canonical,
         })

@@ -1,11 +1,14 @@
-//! Parsing one message, cloning it, and reading its attributes one after the other.
+//! Writing one message again, and of a route parsing it, cloning it, and reading its attributes one after
+//! the other.
 
 use hex::decode_to_slice;
-use netlink_packet_route::AddressFamily;
 use netlink_packet_route::framing::{
     DecodeError, Emitable, Header, Message, Parseable, ParseableParametrized,
 };
 use netlink_packet_route::route::{RouteLwEnCapType, RouteMessage, RouteNextHop, RouteType};
+use netlink_packet_route::{
+    AddressFamily, CanonicalError, MessageKind, WriteCanonicalError, canonical, write_canonical,
+};
 use std::alloc::{AllocError, Global};
 
 /// How a call ended.
@@ -41,19 +44,53 @@ impl Ending {
     }
 }
 
-/// How each call ended.
+/// How each call ended that was tried.
 #[derive(Clone, Copy)]
 pub struct Endings {
+    /// Writing the message again.
+    pub canonical: Option<Ending>,
+    /// Writing it again to a buffer.
+    pub written: Option<Ending>,
     /// Parsing.
-    pub parsed: Ending,
+    pub parsed: Option<Ending>,
     /// Cloning what was parsed.
-    pub cloned: Ending,
+    pub cloned: Option<Ending>,
     /// Reading the attributes one after the other, without a list.
-    pub walked: Ending,
+    pub walked: Option<Ending>,
+}
+
+impl Endings {
+    /// None was tried.
+    const NONE: Endings = Endings {
+        canonical: None,
+        written: None,
+        parsed: None,
+        cloned: None,
+        walked: None,
+    };
+
+    /// The row is no message as text.
+    fn no_text() -> Endings {
+        Endings {
+            canonical: Some(Ending::Wrong),
+            ..Endings::NONE
+        }
+    }
+
+    /// Each by the name of the call.
+    pub fn by_name(self) -> [(&'static str, Option<Ending>); 5] {
+        [
+            ("canonical", self.canonical),
+            ("write", self.written),
+            ("parse", self.parsed),
+            ("clone", self.cloned),
+            ("walk", self.walked),
+        ]
+    }
 }
 
 /// A value that is parsed from bytes, and cloned.
-pub trait Sample: Emitable + PartialEq + Drop + Sized {
+trait Sample: Emitable + PartialEq + Drop + Sized {
     /// The value of the bytes.
     ///
     /// # Errors
@@ -65,9 +102,6 @@ pub trait Sample: Emitable + PartialEq + Drop + Sized {
     /// # Errors
     /// `AllocError` where memory is refused.
     fn copy(&self, alloc: Global) -> Result<Self, AllocError>;
-
-    /// How reading its attributes one after the other ends, if it can be read so.
-    fn walk(alloc: Global, bytes: &[u8]) -> Ending;
 }
 
 impl<H: Header + PartialEq> Sample for Message<H, H::Attribute>
@@ -80,18 +114,6 @@ where
 
     fn copy(&self, alloc: Global) -> Result<Self, AllocError> {
         self.try_clone(alloc)
-    }
-
-    fn walk(alloc: Global, bytes: &[u8]) -> Ending {
-        let Ok(attributes) = Message::<H, H::Attribute>::attributes(alloc, bytes) else {
-            return Ending::Wrong;
-        };
-        for attribute in attributes {
-            if let Err(fault) = attribute {
-                return Ending::of(fault);
-            }
-        }
-        Ending::Done
     }
 }
 
@@ -108,28 +130,45 @@ impl Sample for RouteNextHop {
     fn copy(&self, alloc: Global) -> Result<Self, AllocError> {
         self.try_clone(alloc)
     }
-
-    fn walk(_alloc: Global, _bytes: &[u8]) -> Ending {
-        Ending::NotCalled
-    }
 }
 
 /// The most bytes of a message that stands as text.
 const ROOM: usize = 128;
 
-/// How each call ended on the bytes of a text.
-pub fn try_each<S: Sample>(alloc: Global, text: &str, canonical: &str) -> Endings {
+/// How each call ended on a message of this kind: of a route those on its type too.
+pub fn try_message(alloc: Global, kind: MessageKind, text: &str, canonical: &str) -> Endings {
     let mut bytes = [0u8; ROOM];
     let mut wanted = [0u8; ROOM];
     let (Some(bytes), Some(wanted)) = (decoded(text, &mut bytes), decoded(canonical, &mut wanted))
     else {
-        return Endings {
-            parsed: Ending::Wrong,
-            cloned: Ending::NotCalled,
-            walked: Ending::NotCalled,
-        };
+        return Endings::no_text();
     };
-    ended::<S>(alloc, bytes, wanted, &mut [0u8; ROOM])
+    let room = &mut [0u8; ROOM];
+    let of_type = match kind {
+        MessageKind::Route => on_route(alloc, bytes, wanted, room),
+        _ => Endings::NONE,
+    };
+    Endings {
+        canonical: Some(again(alloc, kind, bytes, wanted)),
+        written: Some(again_to_buffer(alloc, kind, bytes, wanted, room)),
+        ..of_type
+    }
+}
+
+/// How each call ended on a next hop by itself.
+pub fn try_next_hop(alloc: Global, text: &str, canonical: &str) -> Endings {
+    let mut bytes = [0u8; ROOM];
+    let mut wanted = [0u8; ROOM];
+    let (Some(bytes), Some(wanted)) = (decoded(text, &mut bytes), decoded(canonical, &mut wanted))
+    else {
+        return Endings::no_text();
+    };
+    let (parsed, cloned) = parse_and_clone::<RouteNextHop>(alloc, bytes, wanted, &mut [0u8; ROOM]);
+    Endings {
+        parsed: Some(parsed),
+        cloned: Some(cloned),
+        ..Endings::NONE
+    }
 }
 
 /// The bytes of hexadecimal text, at the beginning of the room.
@@ -146,11 +185,11 @@ const LEVELS: u16 = 5_461;
 /// The bytes of a message that holds them: a header, and twelve bytes for each.
 const LEVELS_ROOM: usize = 65_544;
 
-/// The same of a route of next hops inside next hops.
+/// How each call on its type ended on a route of next hops inside next hops.
 pub fn try_levels(alloc: Global) -> Endings {
     let mut bytes = [0u8; LEVELS_ROOM];
     write_levels(&mut bytes);
-    ended::<RouteMessage>(alloc, &bytes, &bytes, &mut [0u8; LEVELS_ROOM])
+    on_route(alloc, &bytes, &bytes, &mut [0u8; LEVELS_ROOM])
 }
 
 fn write_levels(bytes: &mut [u8]) {
@@ -168,14 +207,52 @@ fn write_levels(bytes: &mut [u8]) {
     }
 }
 
-/// How each call ended on the bytes.
-fn ended<S: Sample>(alloc: Global, bytes: &[u8], canonical: &[u8], room: &mut [u8]) -> Endings {
-    let (parsed, cloned) = parse_and_clone::<S>(alloc, bytes, canonical, room);
+/// How each call on the type of a route ended.
+fn on_route(alloc: Global, bytes: &[u8], wanted: &[u8], room: &mut [u8]) -> Endings {
+    let (parsed, cloned) = parse_and_clone::<RouteMessage>(alloc, bytes, wanted, room);
     Endings {
-        parsed,
-        cloned,
-        walked: S::walk(alloc, bytes),
+        parsed: Some(parsed),
+        cloned: Some(cloned),
+        walked: Some(walk(alloc, bytes)),
+        ..Endings::NONE
     }
+}
+
+/// How writing a message again ended.
+fn again(alloc: Global, kind: MessageKind, bytes: &[u8], wanted: &[u8]) -> Ending {
+    match canonical(alloc, kind, bytes) {
+        Ok(out) if out.as_slice() == wanted => Ending::Done,
+        Err(CanonicalError::Refused(fault)) => Ending::of(fault),
+        _ => Ending::Wrong,
+    }
+}
+
+/// How writing it again to a buffer ended, which takes no memory for what is written.
+fn again_to_buffer(
+    alloc: Global,
+    kind: MessageKind,
+    bytes: &[u8],
+    wanted: &[u8],
+    room: &mut [u8],
+) -> Ending {
+    match write_canonical(alloc, kind, bytes, room) {
+        Ok(count) if room.get(..count) == Some(wanted) => Ending::Done,
+        Err(WriteCanonicalError::Canonical(CanonicalError::Refused(fault))) => Ending::of(fault),
+        _ => Ending::Wrong,
+    }
+}
+
+/// How reading the attributes of a route one after the other ended.
+fn walk(alloc: Global, bytes: &[u8]) -> Ending {
+    let Ok(attributes) = RouteMessage::attributes(alloc, bytes) else {
+        return Ending::Wrong;
+    };
+    for attribute in attributes {
+        if let Err(fault) = attribute {
+            return Ending::of(fault);
+        }
+    }
+    Ending::Done
 }
 
 /// How parsing the bytes and then cloning what was read ended.

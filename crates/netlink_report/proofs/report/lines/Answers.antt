@@ -1,23 +1,33 @@
-use Rattle.std.proofs.Common.{◌++◌, List, ℕ, ap, sym, ◌∙◌, append_assoc, length, map, take, string_bytes}
-use Rattle.netlink_packet_route.specs.Family.{written_by, unfit_by}
+use Rattle.std.proofs.Common.{◌≡◌, ℕ, List, [], ◌∷◌, ◌++◌, length, refl, sym, ap, ◌∙◌, append_assoc, string_bytes}
+use Rattle.netlink_packet_route.specs.Framing.{Item, Front}
+use Rattle.netlink_packet_route.specs.FrontLaws.{Passes-more}
 use Rattle.netlink_report.specs.Report.{line_text, lines_text}
-use Rattle.netlink_report.proofs.ReportLines.{lines-next, fits-next}
+use Rattle.netlink_report.proofs.ReportLines.{lines_text-append, unstopped, walked}
 use Rattle.netlink_report.proofs.report.lines.Goals as goal
 
-pub loop-attribute-preserved : goal.loop-attribute-preserved
-loop-attribute-preserved g c =
-    let family = g.A.Attribute.family in
-    let x = c.attribute-item.result in
-    let i = c.loop-attribute.attribute-index in
-    let all = c.args.attributes.now in
-    let past = c.loop-attribute.invariant in
-    let item = written_by family.writing (family.meaning x) in
-    let line = line_text item.kind (length item.value) in
-    let before = lines_text (map (written_by family.writing) (map family.meaning (take i all))) in
-    record {
-      fit = (fits-next family.meaning (unfit_by family.writing) all i x c.loop-attribute-test.true c.attribute-item.is past.fit).1;
-      text =
-          c.in_ok-attribute_line.ensures.ok ∙ ap (λ (t : List ℕ). t ++ line) past.text
-          ∙ append_assoc (string_bytes c.args.out.now) before line
-          ∙ ap (λ (t : List ℕ). string_bytes c.args.out.now ++ t) (sym (lines-next family.meaning (written_by family.writing) all i x c.loop-attribute-test.true c.attribute-item.is));
-    }
+pub loop-next-preserved : goal.loop-next-preserved
+loop-next-preserved c =
+    let (passed, p, text) = c.loop-next.invariant in
+    let x : Item = c.in-Ok.item in
+    let front : Front c.loop-next.walk x c.next.new.self = rw c.in-Ok.is at c.in-Some.ensures.steps in
+    let start = string_bytes c.args.out.now in
+    let line = line_text c.raw_kind.result (length c.value.result.now) in
+    let same : line ≡ line_text x.kind (length x.value) = rw (c.raw_kind.ensures, c.value.ensures) refl in (
+      passed ++ x ∷ [],
+      Passes-more passed x c.args.attributes.now c.loop-next.walk c.next.new.self p front,
+      c.in_ok-line-in-Ok.ensures.ok ∙ ap (λ (t : List ℕ). t ++ line) text ∙ append_assoc start (lines_text passed) line
+          ∙ ap (λ (t : List ℕ). start ++ (lines_text passed ++ t)) same
+          ∙ ap (λ (t : List ℕ). start ++ t) (sym (lines_text-append passed x)),
+    )
+
+pub returns-in-Err-clause-ok : goal.returns-in-Err-clause-ok
+returns-in-Err-clause-ok c = λ items cut.
+    let (passed, p, text) = c.loop-next.invariant in
+    let step = rw c.in-Err.is at c.in-Some.ensures.steps in
+    absurd (unstopped c.args.attributes.now c.loop-next.walk c.next.new.self passed items c.in-Err.field-0 p step cut)
+
+pub returns-clause-ok : goal.returns-clause-ok
+returns-clause-ok c = λ items cut.
+    let (passed, p, text) = c.loop-next.invariant in
+    let same = walked c.args.attributes.now c.loop-next.walk c.next.new.self passed items p c.in_default.ensures.steps cut in
+    text ∙ ap (λ (xs : List Item). string_bytes c.args.out.now ++ lines_text xs) same
