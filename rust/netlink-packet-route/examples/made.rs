@@ -6,6 +6,7 @@
 mod common;
 
 use common::{KINDS, Kind, hex, lines_of};
+use netlink_packet_route as library;
 use std::fmt::Write;
 
 /// Numbers without an order (SplitMix64).

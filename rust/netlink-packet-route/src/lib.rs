@@ -15,6 +15,8 @@ compile_error!("the text is proved for 64 bits, with the lowest byte first");
 include!(concat!(env!("OUT_DIR"), "/modules.rs"));
 #[cfg(feature = "core")]
 mod core_traits;
+#[cfg(test)]
+mod fuzzed;
 pub mod memory;
 mod plain;
 #[cfg(test)]

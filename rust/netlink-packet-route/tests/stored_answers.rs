@@ -3,6 +3,7 @@
 
 mod common;
 use common::{KINDS, lines_of};
+use netlink_packet_route as library;
 
 /// Compares the files of a kind, and answers how many lines they have.
 fn compare(word: &str, files: &[&str]) -> usize {
