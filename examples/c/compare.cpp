@@ -23,9 +23,21 @@ struct Kind {
     npr_fault (*fault)(const std::uint8_t *, std::size_t);
 };
 
-#define KIND(name)                                                                                                     \
-    { #name, npr_##name##_canonical, npr_##name##_fault }
-static const Kind KINDS[] = {KIND(address), KIND(route), KIND(rule), KIND(neighbour), KIND(link)};
+#define KIND(word, name)                                                                                               \
+    { word, npr_##name##_canonical, npr_##name##_fault }
+static const Kind KINDS[] = {
+    KIND("address", address),
+    KIND("route", route),
+    KIND("rule", rule),
+    KIND("neighbour", neighbour),
+    KIND("link", link),
+    KIND("nexthop", next_hop),
+    KIND("nsid", nsid),
+    KIND("netconf", netconf),
+    KIND("address-label", address_label),
+    KIND("neighbour-table", neighbour_table),
+    KIND("prefix", prefix),
+};
 
 static constexpr std::string_view DIGITS = "0123456789abcdef";
 

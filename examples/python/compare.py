@@ -3,7 +3,7 @@
 
     compare.py WORD FILE.. [WORD FILE..]
 
-A word is a kind of messages, or `datagrams`. The last line is `N lines, M differ`. The status is 1 where one does, and 2 where
+A word is a kind of messages as the programs name it, or `datagrams`. The last line is `N lines, M differ`. The status is 1 where one does, and 2 where
 a word is wrong or a file cannot be read.
 """
 
@@ -64,11 +64,16 @@ def compare(word, path):
     return lines, differ
 
 
+def kind_of(word):
+    """What `npr` names a kind that the programs name so."""
+    return "next_hop" if word == "nexthop" else word.replace("-", "_")
+
+
 def main(words):
     word, sums = None, [(0, 0)]
     for it in words:
-        if it in npr.KINDS or it == "datagrams":
-            word = it
+        if kind_of(it) in npr.KINDS or it == "datagrams":
+            word = kind_of(it)
             continue
         if word is None:
             print(f"`{it}` is no kind of messages", file=sys.stderr)

@@ -10,10 +10,27 @@ Bytes that are no message raise a `Fault`, which has its place.
 
 import ctypes
 import ipaddress
+import pathlib
 from ctypes import c_char_p as data, c_size_t as size, c_uint8 as u8, c_uint16 as u16, c_uint32 as u32, c_uint64 as u64
 from typing import NamedTuple
 
-LIBRARY = ctypes.CDLL("libnetlink_packet_route.so.0")
+
+
+def loaded(name):
+    """The shared library: where the loader looks, or else where Cargo builds it in a checkout."""
+    built = pathlib.Path(__file__).resolve().parents[2] / "rust/c/target/release" / name
+    for place in (name, built):
+        try:
+            return ctypes.CDLL(str(place))
+        except OSError:
+            pass
+    raise ImportError(
+        f"{name} stands neither where the loader looks (LD_LIBRARY_PATH) nor as {built}: a release has it in its folder lib, and in a "
+        "checkout `cargo build --release --manifest-path rust/c/Cargo.toml` makes it"
+    )
+
+
+LIBRARY = loaded("libnetlink_packet_route.so.0")
 FOUND, FAULT = 0, 1
 REFUSED, UNFIT, OUT_OF_MEMORY, NAME_ROOM = 1, 2, 1, 18
 

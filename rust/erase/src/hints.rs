@@ -19,7 +19,7 @@ impl Eraser<'_> {
     /// The first word in front of `fn`.
     fn first_of(&self, at: usize) -> usize {
         let mut first = at;
-        while ["const", "final", "pub"].contains(&self.source.before(first)) {
+        while ["const", "final", "pub", "extern", "\"C\""].contains(&self.source.before(first)) {
             first -= 1;
         }
         if first > 3 && self.source.is(first - 4, "pub ( crate )") {

@@ -40,6 +40,10 @@ pub const KINDS: &[(&str, &[&str])] = &[
     ("field of a set", &[""]),
     ("non_exhaustive", &[""]),
     ("inline", &[""]),
+    // in the library for C
+    ("no_mangle", &["#"]),
+    ("extern C", &["extern"]),
+    ("pub(crate) of a module", &[""]),
     // in the crates of tests
     ("runtime of a test", &["rt"]),
     ("let of the runtime", &[""]),

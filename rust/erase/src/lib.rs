@@ -7,6 +7,7 @@
 
 pub mod audit;
 mod edit;
+mod exported;
 mod fault;
 mod hints;
 mod kind;
@@ -43,14 +44,18 @@ pub const LIBRARIES: [&str; 17] = [
     "netlink_packet_route",
 ];
 
-/// The crates of their tests, likewise.
-pub const TESTS: [&str; 6] = [
+/// The library for C, which stands on all of them.
+pub const FOR_C: [&str; 1] = ["npr_c"];
+
+/// The crates of their tests, likewise, and the program whose messages they ask about.
+pub const TESTS: [&str; 7] = [
     "npr_testing",
     "template",
     "message_tests",
     "value_tests",
     "text_tests",
     "link_tests",
+    own_tests::MAKER,
 ];
 
 /// Erases the libraries of a folder into another, with a file `modules.rs` that names them, and
@@ -62,6 +67,17 @@ pub fn erase_all(crates: &Path, out: &Path) -> Result<Tally, Fault> {
 /// The same of the crates of tests, with a file `tests.rs`.
 pub fn erase_tests(crates: &Path, out: &Path) -> Result<Tally, Fault> {
     erase_some(crates, out, &TESTS, "tests.rs")
+}
+
+/// The same of the library for C, with a file `c.rs`, and a file `exported.rs` with its calls as C takes them.
+pub fn erase_for_c(crates: &Path, out: &Path) -> Result<Tally, Fault> {
+    let tally = erase_some(crates, out, &FOR_C, "c.rs")?;
+    let mut calls = String::new();
+    for library in &FOR_C {
+        calls += &exported::calls(crates, library)?;
+    }
+    write(&out.join("exported.rs"), &calls)?;
+    Ok(tally)
 }
 
 fn erase_some(crates: &Path, out: &Path, some: &[&str], list: &str) -> Result<Tally, Fault> {
@@ -77,26 +93,34 @@ fn erase_some(crates: &Path, out: &Path, some: &[&str], list: &str) -> Result<Ta
     Ok(tally)
 }
 
-/// The files of a library in order, but that of its laws, which are functions that do nothing, and
-/// tests of programs.
+/// The folder of a library's text, and how its files end: tests stand beside the crates, as Rust.
+pub fn folder(crates: &Path, library: &str) -> (PathBuf, &'static str) {
+    let tests = crates.join("../tests").join(library).join("src");
+    match tests.is_dir() {
+        true => (tests, "rs"),
+        false => (crates.join(library).join("src"), "rt"),
+    }
+}
+
+/// The files of a library in order, but that of its laws, which are functions that do nothing, tests of
+/// programs, and what of the maker makes no messages.
 pub fn sources(crates: &Path, library: &str) -> Result<Vec<PathBuf>, Fault> {
-    let folder = crates.join(library).join("src");
+    let (folder, wanted) = folder(crates, library);
     let entries = fs::read_dir(&folder).map_err(|e| unread(&folder, e))?;
     let mut found = Vec::new();
     for entry in entries {
         let path = entry.map_err(|e| unread(&folder, e))?.path();
-        if path.extension().is_none_or(|end| end != "rt") {
+        if path.extension().is_none_or(|end| end != wanted) {
             return Err(Fault::new(&path.to_string_lossy(), 0, "no file of Rattle"));
         }
         found.push(path);
     }
     let stem = |path: &PathBuf| path.file_stem().unwrap_or_default().to_owned();
-    let is_test = TESTS.contains(&library);
-    found.retain(|path| match is_test {
-        true => own_tests::OF_PROGRAMS
-            .iter()
-            .all(|name| stem(path) != *name),
-        false => stem(path) != "laws",
+    let is_of = |path: &PathBuf, names: &[&str]| names.iter().any(|name| stem(path) == *name);
+    found.retain(|path| match library {
+        own_tests::MAKER => is_of(path, &own_tests::OF_MAKER),
+        _ if TESTS.contains(&library) => !is_of(path, &own_tests::OF_PROGRAMS),
+        _ => !is_of(path, &["laws"]),
     });
     found.sort();
     Ok(found)
@@ -118,6 +142,10 @@ fn erase_library(crates: &Path, out: &Path, library: &str) -> Result<Tally, Faul
     let (mut tally, mut root, mut uses) = (Tally::new(), None, String::new());
     let folder = out.join(library);
     fs::create_dir_all(&folder).map_err(|e| unread(&folder, e))?;
+    if library == own_tests::MAKER {
+        let modules = own_tests::OF_MAKER.map(|name| format!("pub mod {name};\n"));
+        root = Some((folder.join("mod.rs"), modules.concat()));
+    }
     for path in sources(crates, library)? {
         let (shown, target, text) = (
             path.to_string_lossy(),

@@ -1,5 +1,5 @@
-//! `erase CRATES OUT` erases the libraries of a folder, and `erase --tests CRATES OUT` their tests. It
-//! audits what was written, and counts.
+//! `erase CRATES OUT` erases the libraries of a folder, and `erase --tests CRATES OUT` their tests,
+//! `erase --for-c CRATES OUT` the library for C. It audits what was written, and counts.
 
 use std::path::Path;
 use std::process::ExitCode;
@@ -9,9 +9,10 @@ fn main() -> ExitCode {
     let words: Vec<&str> = words.iter().map(String::as_str).collect();
     let erased = match words[..] {
         ["--tests", crates, out] => erase::erase_tests(Path::new(crates), Path::new(out)),
+        ["--for-c", crates, out] => erase::erase_for_c(Path::new(crates), Path::new(out)),
         [crates, out] => erase::erase_all(Path::new(crates), Path::new(out)),
         _ => {
-            eprintln!("usage: erase [--tests] CRATES OUT");
+            eprintln!("usage: erase [--tests | --for-c] CRATES OUT");
             return ExitCode::from(2);
         }
     };

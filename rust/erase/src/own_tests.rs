@@ -8,6 +8,12 @@ pub const IMPORT: &str = " use crate::testing::*;";
 /// Modules of `text_tests` that are tests of programs, which no crate of Rust has.
 pub const OF_PROGRAMS: [&str; 4] = ["report", "shown", "shown_links", "shown_small"];
 
+/// The program that makes messages, and its modules that do.
+pub const MAKER: &str = "fuzz";
+pub const OF_MAKER: [&str; 7] = [
+    "lengths", "links", "making", "random", "small", "subject", "worked",
+];
+
 impl Eraser<'_> {
     /// A test asks for no runtime in Rust: it is the first thing inside.
     pub(crate) fn runtime(&mut self, at: usize) -> Result<(), Fault> {

@@ -6,7 +6,7 @@ use crate::own_tests;
 use crate::source::Source;
 use crate::token::Sort;
 use crate::upstream;
-use crate::{LIBRARIES, TESTS};
+use crate::{FOR_C, LIBRARIES, TESTS};
 
 /// What no word of Rust may be: where one is left, a rule is missing.
 const REFUSED: &[&str] = &[
@@ -20,6 +20,8 @@ pub struct Eraser<'a> {
     library: &'a str,
     /// Whether the library is one of tests.
     pub(crate) is_test: bool,
+    /// Whether it is the one for C.
+    pub(crate) is_for_c: bool,
     pub(crate) edits: Edits,
     macros: Vec<&'a str>,
     imports: bool,
@@ -43,6 +45,7 @@ pub fn erase<'a>(path: &'a str, library: &'a str, text: &'a str) -> Result<Erase
         source,
         library,
         is_test: TESTS.contains(&library),
+        is_for_c: FOR_C.contains(&library),
         edits: Edits::default(),
         macros: Vec::new(),
         imports: false,
@@ -73,6 +76,10 @@ impl<'a> Eraser<'a> {
             "pub" => self.declaration(at),
             "final" if self.source.is(at, "final fn") => self.cut(at, 1, "final"),
             "fn" => self.function(at),
+            "extern" if self.is_for_c && self.source.word(at + 1) == "\"C\"" => {
+                self.cut(at, 2, "extern C")
+            }
+            "mod" if self.is_for_c => self.module(at),
             "Flag" if self.source.is(at, "Flag { name :") => self.flag(at),
             "Formatter" if self.source.is(at, "Formatter < _ >") => self.formatter(at),
             "Drop" => self.bound(at),
@@ -120,6 +127,8 @@ impl<'a> Eraser<'a> {
             "macro_export" => self.export(at, behind),
             "derive" => self.derive(at, open + 2, behind),
             "default" | "error" | "inline" => Ok(behind),
+            "unsafe" if self.is_for_c => self.cut(at, behind - at, "no_mangle"),
+            "repr" if self.is_for_c => Ok(behind),
             "cfg" if self.is_test && self.is_of_program(at) => {
                 self.cut_item(at, 10, "mod of a program's tests")
             }
@@ -128,6 +137,13 @@ impl<'a> Eraser<'a> {
                 .source
                 .fault(at, format!("the attribute `{other}` is not known"))),
         }
+    }
+
+    /// A module of the library for C is named by what C calls.
+    fn module(&mut self, at: usize) -> Result<usize, Fault> {
+        self.edits
+            .insert_before(&self.source, at, "pub(crate) of a module", "pub(crate) ")?;
+        Ok(at + 1)
     }
 
     /// A macro is named by a path here, and nobody else's.
@@ -283,9 +299,10 @@ impl<'a> Eraser<'a> {
         match self.source.before(at) {
             ":" | "+" => self.replace(at, 1, "bound Drop -> Sized", "Sized"),
             before if is_variant(before) => Ok(at + 1),
-            _ => Err(self
-                .source
-                .fault(at, "`Drop` is known as a bound, a variant and in `derive` alone")),
+            _ => Err(self.source.fault(
+                at,
+                "`Drop` is known as a bound, a variant and in `derive` alone",
+            )),
         }
     }
 

@@ -9,9 +9,11 @@ use crate::source::Source;
 pub const CLOSED: &[&str] = &[
     "Action",
     "Answer",
+    "CanonicalError",
     "End",
     "EnvelopeError",
     "MessageType",
+    "WriteCanonicalError",
     "WriteError",
 ];
 

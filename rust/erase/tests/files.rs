@@ -186,3 +186,17 @@ fn the_audit_sees_what_is_cut_put_in_and_moved() {
         told("", "ensures { a }")
     );
 }
+
+#[test]
+fn calls_of_c_are_calls_of_rust() {
+    let was = "mod steps;\n#[unsafe(no_mangle)]\npub extern \"C\" fn npr_f(bytes: &[u8]) -> u32 {\n    0\n}\n";
+    let is = "pub(crate) mod steps;\n// #[unsafe(no_mangle)]\n#[inline] pub fn npr_f(bytes: &[u8]) -> u32 {\n    0\n}\n";
+    let erased = erase("file.rt", "npr_c", was).expect("a file that is known");
+    let audited = audit_text("file.rt", "npr_c", was, &erased.text);
+    assert_eq!(audited, Ok(erased.tally));
+    assert_eq!(erased.text, is);
+    assert_eq!(
+        refusal("#[unsafe(no_mangle)]\nfn f() {}\n"),
+        "file.rt:1: the attribute `unsafe` is not known"
+    );
+}

@@ -3,7 +3,10 @@
 //! a word is wrong or a file cannot be read.
 
 use netlink_packet_route::framing::{DecodeError, Header, Message, WriteError};
-use netlink_packet_route::{address, link, neighbour, route, rule};
+use netlink_packet_route::{
+    address, address_label, link, neighbour, neighbour_table, netconf, nexthop, nsid, prefix, route,
+    rule,
+};
 use std::process::ExitCode;
 
 /// What is answered to bytes.
@@ -16,6 +19,15 @@ const KINDS: &[(&str, Answer)] = &[
     ("rule", answer::<rule::RuleHeader>),
     ("neighbour", answer::<neighbour::NeighbourHeader>),
     ("link", answer::<link::LinkHeader>),
+    ("nexthop", answer::<nexthop::NextHopHeader>),
+    ("nsid", answer::<nsid::NsidHeader>),
+    ("netconf", answer::<netconf::NetconfHeader>),
+    ("address-label", answer::<address_label::AddressLabelHeader>),
+    (
+        "neighbour-table",
+        answer::<neighbour_table::NeighbourTableHeader>,
+    ),
+    ("prefix", answer::<prefix::PrefixHeader>),
 ];
 
 fn answer<H: Header>(bytes: &[u8]) -> Result<String, String> {

@@ -56,6 +56,8 @@ const TAKEN: &[(&str, &str, &str)] = &[
     ("macro_export", "", "# [ macro_export ]"),
     ("writer parameter", "", "< W : fmt : : Write >"),
     ("writer parameter", "<", "W : fmt : : Write ,"),
+    ("no_mangle", "", "# [ unsafe ( no_mangle ) ]"),
+    ("extern C", "", "extern \"C\""),
     (
         "Flag { .. } -> Flag::new(..)",
         "stringify ! ( $ name ) ,",
@@ -215,6 +217,8 @@ const IN_FRONT: &[(&str, &str, &str)] = &[
     ("inline", "# [ inline ]", "pub const fn _"),
     ("inline", "# [ inline ]", "pub ( crate ) fn _"),
     ("inline", "# [ inline ]", "pub ( crate ) const fn _"),
+    ("inline", "# [ inline ]", "pub extern \"C\" fn _"),
+    ("pub(crate) of a module", "pub ( crate )", "mod _ ;"),
     (
         "derived Debug in tests",
         "# [ cfg_attr ( test , derive ( Debug ) ) ]",
