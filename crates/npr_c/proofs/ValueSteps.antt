@@ -87,13 +87,13 @@ list_found bytes level at end Of order within from of = record {
 
 pub behind_short : (kind : MessageKind) (bytes : List ℕ) (level : Level) (rest : List ℕ) → Begins kind bytes level rest → length rest ≤ length bytes
 behind_short kind bytes level rest begins =
-    omega (arith, ap length (begun-behind kind bytes level rest begins), length-drop (header_size kind) bytes)
+    omega (arith, ap length (begun-behind kind bytes rest level begins), length-drop (header_size kind) bytes)
 
 pub begin_found : (kind : MessageKind) (bytes : List ℕ) (level : Level) (rest : List ℕ) → Begins kind bytes level rest → FromBytes level
     → BeginsAt kind bytes (list_over level (length bytes - length rest) (length bytes))
 begin_found kind bytes level rest begins from =
     let n : ℕ = header_size kind in
-    let is : rest ≡ drop n bytes = begun-behind kind bytes level rest begins in
+    let is : rest ≡ drop n bytes = begun-behind kind bytes rest level begins in
     let split : bytes ≡ take n bytes ++ rest = sym (take-append-drop n bytes) ∙ ap (λ (w : List ℕ). take n bytes ++ w) (sym is) in
     let all : take (length bytes) bytes ≡ bytes = take_all (length bytes) bytes (omega arith) in
     let there : drop (length bytes - length rest) (take (length bytes) bytes) ≡ rest =
