@@ -55,14 +55,19 @@ pub ended-memory : (f : CanonicalError) → ended_by f ≡ Memory → f ≡ Cano
 ended-memory (Canonical.Refused f) is = ap Canonical.Refused (memory-is f is)
 ended-memory (Canonical.Unfit cause) is = absurd (let no : Unfit cause ≡ Memory = is in cc)
 
+-- a message has a header
+pub message-some : (kind : MessageKind) (bytes canonical : List ℕ) → IsCanonical (form_of kind).grammar bytes canonical → 0 < length bytes
+unfolding IsCanonical
+message-some kind bytes canonical (m, p, fits, is) =
+    omega (arith, has_header (form_of kind).grammar bytes m p, header-size kind, header-some kind)
+
 -- nothing takes no memory
 pub memory-some : (kind : MessageKind) (bytes : List ℕ) → TakesMemory (form_of kind).grammar bytes → 0 < length bytes
-unfolding TakesMemory IsCanonical
+unfolding TakesMemory
 memory-some kind bytes (inl (x, rest, front)) =
     let n = (form_of kind).grammar.layout.size in
     omega (arith, Front-shrinks (drop n bytes) x rest front, length-drop n bytes)
-memory-some kind bytes (inr (canonical, (m, p, fits, is))) =
-    omega (arith, has_header (form_of kind).grammar bytes m p, header-size kind, header-some kind)
+memory-some kind bytes (inr (canonical, is)) = message-some kind bytes canonical is
 
 -- a text over the attributes in canonical bytes is the report
 pub reported : (kind : MessageKind) (bytes canonical rest name text : List ℕ) (level : Level) → IsBytes bytes

@@ -1,7 +1,7 @@
 use Rattle.std.proofs.Common.{arith}
 use Rattle.std.proofs.lemmas.Result.{IfOk-weaker, err_from_is_err_and}
 use Rattle.netlink_packet_route.proofs.CanonicalAttributes.{canonical-header}
-use Rattle.netlink_report.proofs.Reporting.{ended-memory, ended-refused, ended-unfit, memory-some, reported}
+use Rattle.netlink_report.proofs.Reporting.{ended-memory, ended-refused, ended-unfit, memory-some, message-some, reported}
 use Rattle.netlink_report.proofs.running.answer.Goals as goal
 
 pub returns-in_err-canonical-clause-refused : goal.returns-in_err-canonical-clause-refused
@@ -26,6 +26,10 @@ returns-in_err-attributes-clause-refused c = λ e is.
     let canonical = c.in_ok-canonical in
     let whole = canonical-header c.args.kind c.args.bytes.now canonical.canonical.items (λ i. omega (arith, c.type_inv.bytes i)) canonical.ensures.ok in
     absurd (omega (arith, whole, (rw c.as_slice.ensures.value at c.in_err-attributes.ensures.short.0)))
+
+-- a message has a header
+pub returns-clause-memory : goal.returns-clause-memory
+returns-clause-memory c = λ is. message-some c.args.kind c.args.bytes.now c.in_ok-canonical.canonical.items c.in_ok-canonical.ensures.ok
 
 pub returns-clause-ok : goal.returns-clause-ok
 returns-clause-ok c =
