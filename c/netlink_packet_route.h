@@ -1,14 +1,19 @@
-/* Address, route, rule, neighbour and link messages of Linux rtnetlink for C: the canonical bytes of
- * given bytes, whether bytes are a message and what is wrong with them, the names of that, the values
- * of attributes, what is said of messages in the answer to a request, and steps over the messages of a
- * datagram, over attributes and over next hops.
+/* Messages of Linux rtnetlink for C, of eleven kinds: links, addresses, routes, rules, neighbours and their
+ * tables, next hops, name spaces, settings, address labels and prefixes. The calls give the canonical bytes
+ * of given bytes, whether bytes are a message and what is wrong with them, the names of that, the values of
+ * attributes, what is said of messages in the answer to a request, and steps over the messages of a datagram,
+ * over attributes and over next hops; and they write requests. The header is C99, and C++.
  *
- * A message of a kind is what stands behind `struct nlmsghdr`: a header of 8 bytes
- * (`struct ifaddrmsg`), 12 (`struct rtmsg`, `struct fib_rule_hdr`, `struct ndmsg`) or 16
+ * A message of a kind is what stands behind `struct nlmsghdr`: a header of 4 bytes (`struct rtgenmsg`,
+ * `struct netconfmsg` or `struct ndtmsg`, to a multiple of 4), 8 (`struct ifaddrmsg`, `struct nhmsg`), 12
+ * (`struct rtmsg`, `struct fib_rule_hdr`, `struct ndmsg`, `struct ifaddrlblmsg`, `struct prefixmsg`) or 16
  * (`struct ifinfomsg`), and attributes to the end. In a datagram of a socket it is found by
- * `npr_message_at`, and its type says its kind: of links RTM_NEWLINK, RTM_DELLINK, RTM_GETLINK,
- * RTM_SETLINK, and RTM_NEWLINKPROP and its like. Two inputs that have canonical bytes mean the same
- * exactly if these are equal.
+ * `npr_message_at`, and `npr_kind_of` gives the kind of its type. Two inputs that have canonical bytes mean
+ * the same exactly if these are equal.
+ *
+ * A kind is a number that three calls take (`npr_canonical`, `npr_fault_of`, `npr_begin`). The calls
+ * with a kind in their name (`npr_route_fault` and its like) are inline here, and no symbols of the library
+ * any more: what was compiled with an earlier header is to be compiled again, and its text stays.
  *
  * The calls are proved for all bytes: none reads or writes outside what it is given, none keeps
  * anything of it, and none ends the process, but for one whose thread has too little stack (below).
@@ -20,11 +25,11 @@
  *   have none.
  * - The bytes that are read and the buffer that is written do not overlap, and no other thread
  *   writes the former, or uses the latter, while a call runs.
- * - `malloc`, `realloc` and `free` are of one allocator, and align as the C standard asks. Only the
- *   calls for canonical bytes use them, and these are not called from a signal handler, nor in the
- *   forked child of a process with threads. All other calls may be, and take no memory.
- * - Next hops may hold next hops, 5,461 deep in one attribute. Of stack the calls for canonical bytes
- *   use some 145 bytes for each level, and the calls for faults some 80. A thread with NPR_STACK bytes
+ * - `malloc`, `realloc` and `free` are of one allocator, and align as the C standard asks. Only
+ *   `npr_canonical` uses them, which is not called from a signal handler, nor in the forked child of a
+ *   process with threads. All other calls may be, and take no memory.
+ * - Next hops may hold next hops, 5,461 deep in one attribute. Of stack `npr_canonical` uses some 145
+ *   bytes for each level, and `npr_fault_of` some 80. A thread with NPR_STACK bytes
  *   of stack is enough for every input; a signal handler may have a smaller one. Where a message is
  *   deeper than the stack, the process ends by a signal, as where any C function has no stack left.
  *
@@ -39,9 +44,9 @@
 
 /* The version of the library. */
 #define NPR_VERSION_MAJOR 0
-#define NPR_VERSION_MINOR 10
+#define NPR_VERSION_MINOR 11
 #define NPR_VERSION_PATCH 0
-#define NPR_VERSION "0.10.0"
+#define NPR_VERSION "0.11.0"
 
 /* The stack of a thread that is enough for every call and every input, in bytes: 1 MiB. The deepest
  * message takes some 773 KiB, and where a fault is looked for some 433 (measured). */
@@ -51,19 +56,43 @@
 extern "C" {
 #endif
 
-/* How a call for canonical bytes ends. */
+/* The version of the library that is linked: 65,536 for each of the first number, 256 for each of the second,
+ * and the third. */
+uint32_t npr_version(void);
+
+/* The kinds of messages, by the numbers that the calls take. */
+enum npr_kind {
+    NPR_KIND_ADDRESS = 1,
+    NPR_KIND_ROUTE = 2,
+    NPR_KIND_RULE = 3,
+    NPR_KIND_NEIGHBOUR = 4,
+    NPR_KIND_LINK = 5,
+    NPR_KIND_NEXT_HOP = 6,
+    NPR_KIND_NSID = 7,
+    NPR_KIND_NETCONF = 8,
+    NPR_KIND_ADDRESS_LABEL = 9,
+    NPR_KIND_NEIGHBOUR_TABLE = 10,
+    NPR_KIND_PREFIX = 11
+};
+
+/* The kind of messages of this type, RTM_* of linux/rtnetlink.h, or 0 where it is none that is read. */
+uint32_t npr_kind_of(uint16_t message_type);
+
+/* How a call that writes ends. At all but NPR_WRITTEN the buffer is as it was. */
 enum npr_status {
-    /* The canonical bytes stand at the front of the buffer, and the rest of it is as it was. */
+    /* The bytes stand in the buffer, and the rest of it is as it was. */
     NPR_WRITTEN = 0,
-    /* The bytes are no message, or memory was refused. */
+    /* The bytes are no message, or memory was refused; there is no such kind; or no attribute and no message can
+     * end there. */
     NPR_REFUSED = 1,
-    /* The bytes are a message that has no canonical bytes. */
+    /* The bytes are a message that has no canonical bytes, or what is to be written has a length that can't be
+     * said. */
     NPR_UNFIT = 2,
-    /* The bytes are a message whose canonical bytes have no room in the buffer. */
+    /* What is to be written has no room in the buffer. */
     NPR_SHORT = 3
 };
 
-/* Why bytes are refused: the first fault in reading order. */
+/* Why bytes, or a call, are refused: of bytes the first fault in reading order. */
 enum npr_refusal {
     /* Memory was refused, which says nothing of the bytes: to a call for canonical bytes, and never
      * where no whole attribute follows the header. */
@@ -95,10 +124,13 @@ enum npr_refusal {
     /* Fewer than 16 bytes where a message of a datagram begins. */
     NPR_MESSAGE_TOO_SHORT = 14,
     /* The length of a message of a datagram is below 16, or above the bytes that are left. */
-    NPR_MESSAGE_LENGTH = 15
+    NPR_MESSAGE_LENGTH = 15,
+    /* The number of a kind that is that of none. */
+    NPR_UNKNOWN_KIND = 16
 };
 
-/* Why a message has no canonical bytes: the first cause in its order. */
+/* Why a message has no canonical bytes, or a part of a request is not written: of a message the first cause in its
+ * order. */
 enum npr_cause {
     /* An attribute's value would take more than 65,531 bytes. */
     NPR_TOO_LONG = 1,
@@ -108,34 +140,25 @@ enum npr_cause {
     NPR_TOO_MANY_SEGMENTS = 3,
     /* A protocol over IP that no byte holds. */
     NPR_IP_PROTOCOL = 4,
-    /* A length that no size_t holds. */
+    /* A length that no size_t holds, or one of a message that 32 bits don't. */
     NPR_TOTAL = 5
 };
 
-/* What a call for canonical bytes answers. */
+/* What a call that writes answers. */
 struct npr_answer {
     /* One of `enum npr_status`. */
     uint32_t status;
     /* At NPR_REFUSED one of `enum npr_refusal`, at NPR_UNFIT one of `enum npr_cause`, and else 0. */
     uint32_t number;
-    /* How many canonical bytes there are at NPR_WRITTEN and NPR_SHORT, and else 0. */
+    /* At NPR_WRITTEN and NPR_SHORT how many canonical bytes there are, or the place behind what is written into a
+     * request; else 0. */
     size_t length;
 };
 
-/* Writes the canonical bytes of the message that `bytes` are to the front of `out`. At any other
+/* Writes the canonical bytes of the message of a kind that `bytes` are to the front of `out`. At any other
  * answer than NPR_WRITTEN, `out` is as it was. A buffer with 5 bytes for each 2 of the input is
  * never too short; one of length 0 asks how many bytes are wanted. */
-struct npr_answer npr_address_canonical(const uint8_t *bytes, size_t length, uint8_t *out, size_t room);
-struct npr_answer npr_route_canonical(const uint8_t *bytes, size_t length, uint8_t *out, size_t room);
-struct npr_answer npr_rule_canonical(const uint8_t *bytes, size_t length, uint8_t *out, size_t room);
-struct npr_answer npr_neighbour_canonical(const uint8_t *bytes, size_t length, uint8_t *out, size_t room);
-struct npr_answer npr_link_canonical(const uint8_t *bytes, size_t length, uint8_t *out, size_t room);
-struct npr_answer npr_next_hop_canonical(const uint8_t *bytes, size_t length, uint8_t *out, size_t room);
-struct npr_answer npr_nsid_canonical(const uint8_t *bytes, size_t length, uint8_t *out, size_t room);
-struct npr_answer npr_netconf_canonical(const uint8_t *bytes, size_t length, uint8_t *out, size_t room);
-struct npr_answer npr_address_label_canonical(const uint8_t *bytes, size_t length, uint8_t *out, size_t room);
-struct npr_answer npr_neighbour_table_canonical(const uint8_t *bytes, size_t length, uint8_t *out, size_t room);
-struct npr_answer npr_prefix_canonical(const uint8_t *bytes, size_t length, uint8_t *out, size_t room);
+struct npr_answer npr_canonical(uint32_t kind, const uint8_t *bytes, size_t length, uint8_t *out, size_t room);
 
 /* The family in which the number of an attribute is to be understood. */
 enum npr_family {
@@ -308,22 +331,12 @@ struct npr_fault {
     size_t offset;
 };
 
-/* Whether the bytes are a message, and else the first fault in reading order. Nothing is written, and
+/* Whether the bytes are a message of a kind, and else the first fault in reading order. Nothing is written, and
  * no memory is taken: the number is never NPR_OUT_OF_MEMORY. A message of which all members are 0 here
  * may still have no canonical bytes (NPR_UNFIT). In such a message each value has a length that its
  * attribute takes, at all depths, and each name is UTF-8: so a walk over its values (`npr_next`,
- * `npr_enter`) ends at NPR_END. */
-struct npr_fault npr_address_fault(const uint8_t *bytes, size_t length);
-struct npr_fault npr_route_fault(const uint8_t *bytes, size_t length);
-struct npr_fault npr_rule_fault(const uint8_t *bytes, size_t length);
-struct npr_fault npr_neighbour_fault(const uint8_t *bytes, size_t length);
-struct npr_fault npr_link_fault(const uint8_t *bytes, size_t length);
-struct npr_fault npr_next_hop_fault(const uint8_t *bytes, size_t length);
-struct npr_fault npr_nsid_fault(const uint8_t *bytes, size_t length);
-struct npr_fault npr_netconf_fault(const uint8_t *bytes, size_t length);
-struct npr_fault npr_address_label_fault(const uint8_t *bytes, size_t length);
-struct npr_fault npr_neighbour_table_fault(const uint8_t *bytes, size_t length);
-struct npr_fault npr_prefix_fault(const uint8_t *bytes, size_t length);
+ * `npr_enter`) ends at NPR_END. At NPR_UNKNOWN_KIND all other members are 0. */
+struct npr_fault npr_fault_of(uint32_t kind, const uint8_t *bytes, size_t length);
 
 /* Room for every name and its zero. */
 #define NPR_NAME_ROOM 18
@@ -369,6 +382,8 @@ static inline const char *npr_refusal_text(uint32_t number) {
         return "MessageTooShort";
     case NPR_MESSAGE_LENGTH:
         return "MessageLength";
+    case NPR_UNKNOWN_KIND:
+        return "UnknownKind";
     default:
         return "";
     }
@@ -507,9 +522,10 @@ struct npr_value {
 /* A list of attributes, as the calls below answer it and take it. All members but `status` and `number` are 0 unless the status
  * is NPR_FOUND. */
 struct npr_list {
-    /* NPR_FOUND; NPR_FAULT where the bytes are fewer than a header; NPR_END where the value holds no list of attributes. */
+    /* NPR_FOUND; NPR_FAULT where the bytes are fewer than a header, or there is no such kind; NPR_END where the value holds no
+     * list of attributes. */
     uint32_t status;
-    /* At NPR_FAULT NPR_HEADER_TOO_SHORT, and else 0. */
+    /* At NPR_FAULT NPR_HEADER_TOO_SHORT or NPR_UNKNOWN_KIND, and else 0. */
     uint32_t number;
     /* One of `enum npr_family`: that of the attributes. */
     uint32_t family;
@@ -520,18 +536,35 @@ struct npr_list {
     size_t end;
 };
 
-/* The attributes of a message, behind its header. No memory is taken, here and below. */
-struct npr_list npr_address_begin(const uint8_t *bytes, size_t length);
-struct npr_list npr_route_begin(const uint8_t *bytes, size_t length);
-struct npr_list npr_rule_begin(const uint8_t *bytes, size_t length);
-struct npr_list npr_neighbour_begin(const uint8_t *bytes, size_t length);
-struct npr_list npr_link_begin(const uint8_t *bytes, size_t length);
-struct npr_list npr_next_hop_begin(const uint8_t *bytes, size_t length);
-struct npr_list npr_nsid_begin(const uint8_t *bytes, size_t length);
-struct npr_list npr_netconf_begin(const uint8_t *bytes, size_t length);
-struct npr_list npr_address_label_begin(const uint8_t *bytes, size_t length);
-struct npr_list npr_neighbour_table_begin(const uint8_t *bytes, size_t length);
-struct npr_list npr_prefix_begin(const uint8_t *bytes, size_t length);
+/* The attributes of a message of a kind, behind its header. No memory is taken, here and below. */
+struct npr_list npr_begin(uint32_t kind, const uint8_t *bytes, size_t length);
+
+/* The three calls of a kind by its name: `npr_route_fault(bytes, length)` is `npr_fault_of(NPR_KIND_ROUTE, bytes, length)`. */
+#define NPR_CALLS(name, kind)                                                                                          \
+    static inline struct npr_answer npr_##name##_canonical(const uint8_t *bytes, size_t length, uint8_t *out,          \
+                                                           size_t room) {                                              \
+        return npr_canonical(kind, bytes, length, out, room);                                                          \
+    }                                                                                                                  \
+    static inline struct npr_fault npr_##name##_fault(const uint8_t *bytes, size_t length) {                           \
+        return npr_fault_of(kind, bytes, length);                                                                      \
+    }                                                                                                                  \
+    static inline struct npr_list npr_##name##_begin(const uint8_t *bytes, size_t length) {                            \
+        return npr_begin(kind, bytes, length);                                                                         \
+    }
+
+NPR_CALLS(address, NPR_KIND_ADDRESS)
+NPR_CALLS(route, NPR_KIND_ROUTE)
+NPR_CALLS(rule, NPR_KIND_RULE)
+NPR_CALLS(neighbour, NPR_KIND_NEIGHBOUR)
+NPR_CALLS(link, NPR_KIND_LINK)
+NPR_CALLS(next_hop, NPR_KIND_NEXT_HOP)
+NPR_CALLS(nsid, NPR_KIND_NSID)
+NPR_CALLS(netconf, NPR_KIND_NETCONF)
+NPR_CALLS(address_label, NPR_KIND_ADDRESS_LABEL)
+NPR_CALLS(neighbour_table, NPR_KIND_NEIGHBOUR_TABLE)
+NPR_CALLS(prefix, NPR_KIND_PREFIX)
+
+#undef NPR_CALLS
 
 /* The value of the attribute that begins `at` bytes from the first, in a list of this family and context. `length` is where the
  * list ends. `npr_next` is for a whole list. */
@@ -546,7 +579,7 @@ struct npr_list npr_hop_inside(const uint8_t *bytes, size_t length, size_t at, u
 
 /* A walk over the values of a list, kept by the caller:
  *
- *     struct npr_reader reader = npr_read(bytes, npr_route_begin(bytes, length));
+ *     struct npr_reader reader = npr_read(bytes, npr_begin(NPR_KIND_ROUTE, bytes, length));
  *     for (struct npr_value value; npr_next(&reader, &value);)
  *         if (value.kind == RTA_OIF)
  *             index = (uint32_t)value.integer;
@@ -719,6 +752,173 @@ static inline struct npr_heard npr_hear(struct npr_conversation *talk, const uin
     if (heard.next != 0)
         talk->at = heard.next;
     return heard;
+}
+
+/* Requests. These calls write into a buffer of the caller's at a place, and answer the place behind what they wrote: NPR_SHORT and
+ * that place where it is past the room, NPR_UNFIT and NPR_TOTAL where no size_t holds it. None keeps anything, and none takes
+ * memory. `struct npr_writer` below keeps the place. */
+
+/* Writes an attribute: its length and its kind, with the flags that it is given, in 4 bytes, the value, and zeros to a multiple of
+ * 4. NPR_UNFIT and NPR_TOO_LONG where the value has more than 65,531 bytes. What was put is read back by `npr_step_at`. */
+struct npr_answer npr_put_at(uint8_t *out, size_t room, size_t at, uint16_t kind, const uint8_t *value, size_t length);
+
+/* Writes a header of a fixed size, as `struct nlmsghdr`, `struct rtmsg` or `struct rtnexthop`, and zeros to a multiple of 4. */
+struct npr_answer npr_copy_at(uint8_t *out, size_t room, size_t at, const uint8_t *bytes, size_t length);
+
+/* Ends an attribute that holds others, or a next hop, which begins at `start`, at `end`: writes the bytes between them into the
+ * first 2 bytes of its header. All else stays, and the answer is `end`. NPR_UNFIT and NPR_TOO_LONG where they are more than 65,535.
+ * NPR_REFUSED and NPR_ATTRIBUTE_LENGTH where none can end there: fewer than 4 bytes or no multiple of 4 behind its beginning, or
+ * past the room. */
+struct npr_answer npr_end_at(uint8_t *out, size_t room, size_t start, size_t end);
+
+/* Ends a message, which begins at `start`, at `end`: writes the bytes between them into the first 4 bytes of `struct nlmsghdr`. All
+ * else stays, and the answer is `end`. NPR_UNFIT and NPR_TOTAL where 32 bits don't hold them. NPR_REFUSED and NPR_MESSAGE_LENGTH
+ * where none can end there: fewer than 16 bytes behind its beginning, or past the room. */
+struct npr_answer npr_end_message_at(uint8_t *out, size_t room, size_t start, size_t end);
+
+/* A request, written into a buffer of the caller's:
+ *
+ *     struct npr_writer writer = npr_write(out, sizeof out);
+ *     size_t message = npr_begin_message(&writer, RTM_NEWROUTE, NLM_F_REQUEST | NLM_F_CREATE, sequence_number);
+ *     npr_put_header(&writer, &header, sizeof header);
+ *     npr_put(&writer, RTA_DST, address, 4);
+ *     size_t encapsulation = npr_begin_nested(&writer, RTA_ENCAP);
+ *     npr_put_be32(&writer, MPLS_IPTUNNEL_DST, label);
+ *     npr_end_nested(&writer, encapsulation);
+ *     npr_end_message(&writer, message);
+ *     if (writer.status == NPR_WRITTEN)
+ *         send(socket, out, writer.at, 0);
+ *
+ * The first answer that is not NPR_WRITTEN stays: nothing is written behind it. */
+struct npr_writer {
+    uint8_t *out;
+    size_t room;
+    /* How many bytes are written, which is the place of the next ones. */
+    size_t at;
+    /* One of `enum npr_status`: NPR_WRITTEN, or the first other answer. */
+    uint32_t status;
+    /* At NPR_REFUSED one of `enum npr_refusal`, at NPR_UNFIT one of `enum npr_cause`, and else 0. */
+    uint32_t number;
+};
+
+/* The writer of a buffer. */
+static inline struct npr_writer npr_write(uint8_t *out, size_t room) {
+    struct npr_writer writer = {out, room, 0, NPR_WRITTEN, 0};
+    return writer;
+}
+
+/* Takes notice of an answer. */
+static inline void npr_wrote(struct npr_writer *writer, struct npr_answer answer) {
+    writer->status = answer.status;
+    writer->number = answer.number;
+    if (answer.status == NPR_WRITTEN)
+        writer->at = answer.length;
+}
+
+/* Bytes of which there may be none: then any place will do, also a null pointer. */
+static inline const uint8_t *npr_some(const void *bytes, size_t length) {
+    return (const uint8_t *)(length == 0 ? "" : bytes);
+}
+
+/* An attribute of this kind, which may have the two flags of a kind, with this value. */
+static inline void npr_put(struct npr_writer *writer, uint16_t kind, const void *value, size_t length) {
+    if (writer->status == NPR_WRITTEN)
+        npr_wrote(writer, npr_put_at(writer->out, writer->room, writer->at, kind, npr_some(value, length), length));
+}
+
+/* A header of a fixed size. */
+static inline void npr_put_header(struct npr_writer *writer, const void *header, size_t length) {
+    if (writer->status == NPR_WRITTEN)
+        npr_wrote(writer, npr_copy_at(writer->out, writer->room, writer->at, npr_some(header, length), length));
+}
+
+/* A number in the order of the machine, which is that of nearly all attributes. */
+static inline void npr_put_u8(struct npr_writer *writer, uint16_t kind, uint8_t number) {
+    npr_put(writer, kind, &number, sizeof number);
+}
+
+static inline void npr_put_u16(struct npr_writer *writer, uint16_t kind, uint16_t number) {
+    npr_put(writer, kind, &number, sizeof number);
+}
+
+static inline void npr_put_u32(struct npr_writer *writer, uint16_t kind, uint32_t number) {
+    npr_put(writer, kind, &number, sizeof number);
+}
+
+static inline void npr_put_u64(struct npr_writer *writer, uint16_t kind, uint64_t number) {
+    npr_put(writer, kind, &number, sizeof number);
+}
+
+/* A number in the order of the network, the highest byte first. */
+static inline void npr_put_be16(struct npr_writer *writer, uint16_t kind, uint16_t number) {
+    uint8_t bytes[2] = {(uint8_t)(number >> 8), (uint8_t)number};
+    npr_put(writer, kind, bytes, sizeof bytes);
+}
+
+static inline void npr_put_be32(struct npr_writer *writer, uint16_t kind, uint32_t number) {
+    uint8_t bytes[4] = {(uint8_t)(number >> 24), (uint8_t)(number >> 16), (uint8_t)(number >> 8), (uint8_t)number};
+    npr_put(writer, kind, bytes, sizeof bytes);
+}
+
+/* A name with its zero. */
+static inline void npr_put_name(struct npr_writer *writer, uint16_t kind, const char *name) {
+    size_t length = 0;
+    while (name[length] != 0)
+        length++;
+    npr_put(writer, kind, name, length + 1);
+}
+
+/* Begins an attribute that holds what is put next, as RTA_MULTIPATH holds next hops. Answers its place for the end. */
+static inline size_t npr_begin_list(struct npr_writer *writer, uint16_t kind) {
+    size_t start = writer->at;
+    npr_put(writer, kind, "", 0);
+    return start;
+}
+
+/* The same of one that holds attributes: NLA_F_NESTED is set in its kind. */
+static inline size_t npr_begin_nested(struct npr_writer *writer, uint16_t kind) {
+    return npr_begin_list(writer, (uint16_t)(kind | 0x8000));
+}
+
+/* Ends an attribute that one of these two began. */
+static inline void npr_end_nested(struct npr_writer *writer, size_t start) {
+    if (writer->status == NPR_WRITTEN)
+        npr_wrote(writer, npr_end_at(writer->out, writer->room, start, writer->at));
+}
+
+/* Begins a next hop (`struct rtnexthop`) in an RTA_MULTIPATH, with RTNH_F_*, its weight less one, and its interface. Its attributes
+ * are put next. Answers its place for the end. */
+static inline size_t npr_begin_next_hop(struct npr_writer *writer, uint8_t flags, uint8_t hops, uint32_t interface_index) {
+    struct {
+        uint16_t length;
+        uint8_t flags, hops;
+        uint32_t interface_index;
+    } header = {0, flags, hops, interface_index};
+    size_t start = writer->at;
+    npr_put_header(writer, &header, sizeof header);
+    return start;
+}
+
+/* Ends a next hop. */
+static inline void npr_end_next_hop(struct npr_writer *writer, size_t start) { npr_end_nested(writer, start); }
+
+/* Begins a message (`struct nlmsghdr`) of this type, with NLM_F_*, and the number of the request. Its header and its attributes are
+ * put next. Answers its place for the end. */
+static inline size_t npr_begin_message(struct npr_writer *writer, uint16_t message_type, uint16_t flags, uint32_t sequence_number) {
+    struct {
+        uint32_t length;
+        uint16_t message_type, flags;
+        uint32_t sequence_number, port_number;
+    } header = {0, message_type, flags, sequence_number, 0};
+    size_t start = writer->at;
+    npr_put_header(writer, &header, sizeof header);
+    return start;
+}
+
+/* Ends a message. Another one may begin behind it. */
+static inline void npr_end_message(struct npr_writer *writer, size_t start) {
+    if (writer->status == NPR_WRITTEN)
+        npr_wrote(writer, npr_end_message_at(writer->out, writer->room, start, writer->at));
 }
 
 #ifdef __cplusplus

@@ -31,98 +31,98 @@ static const uint8_t DATAGRAM[] = {25, 0, 0, 0, 20, 0, 18, 0, 7, 0, 0, 0, 8, 1, 
 
 /* What a call for a fault is given, and what it must tell. */
 struct told {
-    struct npr_fault (*fault)(const uint8_t *, size_t);
+    uint32_t kind;
     uint8_t bytes[48];
     size_t length;
     struct npr_fault wanted;
 };
 
 static const struct told TOLD[] = {
-    {npr_address_fault, {2, 8, 128}, 3, {NPR_HEADER_TOO_SHORT, 0, 0, 0, 3, 8, 0}},
-    {npr_address_fault, {2, 8, 128, 254, 1, 0, 0, 0}, 8, {0, 0, 0, 0, 0, 0, 0}},
-    {npr_address_fault, {2, 8, 128, 254, 1, 0, 0, 0, 5, 0, 1}, 11, {NPR_ATTRIBUTE_TOO_SHORT, 0, 0, 0, 3, 0, 8}},
-    {npr_address_fault, {2, 8, 128, 254, 1, 0, 0, 0, 10, 0, 1, 0, 7}, 13, {NPR_ATTRIBUTE_LENGTH, 0, 0, 0, 10, 5, 8}},
-    {npr_address_fault,
+    {NPR_KIND_ADDRESS, {2, 8, 128}, 3, {NPR_HEADER_TOO_SHORT, 0, 0, 0, 3, 8, 0}},
+    {NPR_KIND_ADDRESS, {2, 8, 128, 254, 1, 0, 0, 0}, 8, {0, 0, 0, 0, 0, 0, 0}},
+    {NPR_KIND_ADDRESS, {2, 8, 128, 254, 1, 0, 0, 0, 5, 0, 1}, 11, {NPR_ATTRIBUTE_TOO_SHORT, 0, 0, 0, 3, 0, 8}},
+    {NPR_KIND_ADDRESS, {2, 8, 128, 254, 1, 0, 0, 0, 10, 0, 1, 0, 7}, 13, {NPR_ATTRIBUTE_LENGTH, 0, 0, 0, 10, 5, 8}},
+    {NPR_KIND_ADDRESS,
      {2, 8, 128, 254, 1, 0, 0, 0, 6, 0, 3, 0, 255, 0},
      14,
      {NPR_NOT_UTF8, NPR_FAMILY_ADDRESS, 3, 0, 0, 0, 8}},
-    {npr_rule_fault,
+    {NPR_KIND_RULE,
      {2, 0, 0, 0, 254, 0, 0, 1, 0, 0, 0, 0, 4, 0, 2, 0},
      16,
      {NPR_VALUE_LENGTH, NPR_FAMILY_RULE, 2, 0, 0, 0, 12}},
-    {npr_route_fault,
+    {NPR_KIND_ROUTE,
      {2, 0, 0, 0, 254, 3, 0, 5, 0, 0, 0, 0, 8, 0, 23, 0, 184, 11, 0, 0},
      20,
      {NPR_VALUE_LENGTH, NPR_FAMILY_ROUTE, 23, 0, 4, 0, 12}},
-    {npr_route_fault,
+    {NPR_KIND_ROUTE,
      {2, 0, 0, 0, 254, 3, 0, 1, 0, 0, 0, 0, 7, 0, 9, 0, 8, 0, 0},
      19,
      {NPR_NEXT_HOP_TOO_SHORT, 0, 0, 0, 3, 0, 12}},
-    {npr_route_fault,
+    {NPR_KIND_ROUTE,
      {2, 0, 0, 0, 254, 3, 0, 1, 0, 0, 0, 0, 12, 0, 9, 0, 7, 0, 0, 0, 1, 0, 0, 0},
      24,
      {NPR_NEXT_HOP_LENGTH, 0, 0, 0, 7, 8, 12}},
-    {npr_route_fault,
+    {NPR_KIND_ROUTE,
      {2, 0, 0, 0, 254, 3, 0, 1, 0, 0, 0, 0, 6, 0, 18, 0, 0, 1},
      18,
      {NPR_VIA_FAMILY, 0, 0, 256, 0, 0, 12}},
     /* LWTUNNEL_ENCAP_SEG6 with a mode and no header behind it */
-    {npr_route_fault,
+    {NPR_KIND_ROUTE,
      {2, 0, 0, 0, 254, 3, 0, 1, 0, 0, 0, 0, 12, 0, 22, 0, 8, 0, 1, 0, 0, 0, 0, 0, 6, 0, 21, 0, 5, 0},
      30,
      {NPR_SEG6_HEADER, 0, 0, NPR_SEG6_SHORT, 0, 0, 12}},
     /* LWTUNNEL_ENCAP_IP with an option of Geneve: a type before a class, and a child 9 */
-    {npr_route_fault,
+    {NPR_KIND_ROUTE,
      {2,   0,  0, 0, 254, 3, 0, 1, 0, 0, 0, 0, 20, 0, 22, 128, 16, 0, 8,
       128, 12, 0, 1, 128, 5, 0, 2, 0, 7, 0, 0, 0,  6, 0,  21,  0,  2, 0},
      38,
      {NPR_GENEVE_ORDER, NPR_FAMILY_GENEVE, 2, 0, 0, 0, 12}},
-    {npr_route_fault,
+    {NPR_KIND_ROUTE,
      {2,   0,  0, 0, 254, 3, 0, 1, 0, 0, 0, 0, 20, 0, 22, 128, 16, 0, 8,
       128, 12, 0, 1, 128, 5, 0, 9, 0, 7, 0, 0, 0,  6, 0,  21,  0,  2, 0},
      38,
      {NPR_GENEVE_CHILD, NPR_FAMILY_GENEVE, 9, 0, 0, 0, 12}},
     /* a local address, a label with its padding, and three bytes that are no attribute */
-    {npr_address_fault,
+    {NPR_KIND_ADDRESS,
      {2, 8, 128, 254, 1, 0, 0, 0, 8, 0, 1, 0, 127, 0, 0, 1, 7, 0, 3, 0, 'l', 'o', 0, 0, 5, 0, 255},
      27,
      {NPR_ATTRIBUTE_TOO_SHORT, 0, 0, 0, 3, 0, 24}},
     /* the type of an encapsulation, an interface, and a next hop whose interface has two bytes */
-    {npr_route_fault,
+    {NPR_KIND_ROUTE,
      {2, 0, 0, 0, 254, 3,  0, 1, 0, 0,  0, 0, 6, 0, 21, 0, 5, 0, 0, 0, 8, 0, 4,
       0, 2, 0, 0, 0,   18, 0, 9, 0, 14, 0, 0, 0, 1, 0,  0, 0, 6, 0, 4, 0, 1, 2},
      46,
      {NPR_VALUE_LENGTH, NPR_FAMILY_ROUTE, 4, 0, 2, 0, 28}},
     /* an encapsulation that the type behind it makes wrong, behind an interface */
-    {npr_route_fault,
+    {NPR_KIND_ROUTE,
      {2, 0,  0, 0,  254, 3, 0, 1, 0, 0, 0, 0, 8, 0, 4, 0,  2, 0, 0,
       0, 12, 0, 22, 0,   8, 0, 1, 0, 0, 0, 0, 0, 6, 0, 21, 0, 5, 0},
      38,
      {NPR_SEG6_HEADER, 0, 0, NPR_SEG6_SHORT, 0, 0, 20}},
     /* a neighbour of version 4 on interface 3, reachable: its address, and then a port of one byte */
-    {npr_neighbour_fault,
+    {NPR_KIND_NEIGHBOUR,
      {2, 0, 0, 0, 3, 0, 0, 0, 2, 0, 0, 1, 8, 0, 1, 0, 192, 0, 2, 3, 5, 0, 6, 0, 7},
      25,
      {NPR_VALUE_LENGTH, NPR_FAMILY_NEIGHBOUR, 6, 0, 1, 0, 20}},
-    {npr_neighbour_fault, {2, 0, 0, 0, 3, 0, 0, 0, 2, 0, 0, 1, 8, 0, 1, 0, 192, 0, 2, 3}, 20, {0, 0, 0, 0, 0, 0, 0}},
+    {NPR_KIND_NEIGHBOUR, {2, 0, 0, 0, 3, 0, 0, 0, 2, 0, 0, 1, 8, 0, 1, 0, 192, 0, 2, 3}, 20, {0, 0, 0, 0, 0, 0, 0}},
     /* a link: four bytes of a header, a largest packet of two bytes, a name */
-    {npr_link_fault, {17, 0, 0, 0}, 4, {NPR_HEADER_TOO_SHORT, 0, 0, 0, 4, 16, 0}},
-    {npr_link_fault,
+    {NPR_KIND_LINK, {17, 0, 0, 0}, 4, {NPR_HEADER_TOO_SHORT, 0, 0, 0, 4, 16, 0}},
+    {NPR_KIND_LINK,
      {0, 0, 1, 0, 4, 0, 0, 0, 67, 16, 1, 0, 0, 0, 0, 0, 6, 0, 4, 0, 220, 5},
      22,
      {NPR_VALUE_LENGTH, NPR_FAMILY_LINK, 4, 0, 2, 0, 16}},
-    {npr_link_fault,
+    {NPR_KIND_LINK,
      {0, 0, 4, 3, 1, 0, 0, 0, 73, 0, 1, 0, 0, 0, 0, 0, 7, 0, 3, 0, 'l', 'o', 0},
      23,
      {0, 0, 0, 0, 0, 0, 0}},
     /* a name, and data of a vlan whose number has four bytes */
-    {npr_link_fault,
+    {NPR_KIND_LINK,
      {0,  0, 1,  0, 4, 0, 0, 0, 0,   0,   0,   0,   0,  0, 0, 0, 7, 0, 3, 0, 'l', 'o', 0, 0,
       24, 0, 18, 0, 8, 0, 1, 0, 'v', 'l', 'a', 'n', 12, 0, 2, 0, 8, 0, 1, 0, 100, 0,   0, 0},
      48,
      {NPR_VALUE_LENGTH, NPR_FAMILY_INFO_VLAN, 1, 0, 4, 0, 24}},
     /* a structure that takes 32 bytes, in 4 */
-    {npr_link_fault,
+    {NPR_KIND_LINK,
      {0, 0, 1, 0, 4, 0, 0, 0, 0, 0, 0, 0, 0, 0, 0, 0, 8, 0, 14, 0, 0, 0, 0, 0},
      24,
      {NPR_HEADER_TOO_SHORT, 0, 0, 0, 4, 32, 16}},
@@ -180,19 +180,19 @@ static int same_value(struct npr_value value, uint32_t family, uint16_t kind, ui
 
 static int values(void) {
     struct npr_value value;
-    struct npr_reader inside, reader = npr_read(ADDRESS, npr_address_begin(ADDRESS, sizeof ADDRESS));
+    struct npr_reader inside, reader = npr_read(ADDRESS, npr_begin(NPR_KIND_ADDRESS, ADDRESS, sizeof ADDRESS));
     WANT(npr_next(&reader, &value) && same_value(value, NPR_FAMILY_ADDRESS, 1, NPR_FORM_ADDRESS, 0, 4));
     WANT(npr_bytes(&reader, &value) == ADDRESS + 12 && !npr_enter(&reader, &value, &inside));
     WANT(npr_next(&reader, &value) && same_value(value, NPR_FAMILY_ADDRESS, 3, NPR_FORM_NAME, 0, 2));
     WANT(memcmp(npr_text(&reader, &value), "lo", 2) == 0);
     WANT(!npr_next(&reader, &value) && value.number == NPR_ATTRIBUTE_TOO_SHORT);
-    WANT(npr_address_begin(ADDRESS, 7).number == NPR_HEADER_TOO_SHORT);
+    WANT(npr_begin(NPR_KIND_ADDRESS, ADDRESS, 7).number == NPR_HEADER_TOO_SHORT);
     return 0;
 }
 
 static int values_inside(void) {
     struct npr_value value;
-    struct npr_reader reader = npr_read(ROUTE, npr_route_begin(ROUTE, sizeof ROUTE));
+    struct npr_reader reader = npr_read(ROUTE, npr_begin(NPR_KIND_ROUTE, ROUTE, sizeof ROUTE));
     WANT(npr_next(&reader, &value) && same_value(value, NPR_FAMILY_ROUTE, 9, NPR_FORM_INSIDE, 0, 24));
     struct npr_next_hop hop = npr_first_hop(&reader, &value);
     struct npr_reader inside = npr_enter_hop(&reader, &hop);
@@ -234,7 +234,54 @@ static int messages(void) {
 
 static int faults(void) {
     for (size_t i = 0; i < LENGTH(TOLD); i++)
-        WANT(same_fault(TOLD[i].fault(TOLD[i].bytes, TOLD[i].length), TOLD[i].wanted));
+        WANT(same_fault(npr_fault_of(TOLD[i].kind, TOLD[i].bytes, TOLD[i].length), TOLD[i].wanted));
+    return 0;
+}
+
+/* The kinds of types of linux/rtnetlink.h, first and last of each, and of types that are none. */
+static const struct {
+    uint16_t type;
+    uint32_t kind;
+} TYPES[] = {
+    {16, NPR_KIND_LINK}, {19, NPR_KIND_LINK},
+    {20, NPR_KIND_ADDRESS}, {22, NPR_KIND_ADDRESS},
+    {24, NPR_KIND_ROUTE}, {26, NPR_KIND_ROUTE},
+    {28, NPR_KIND_NEIGHBOUR}, {30, NPR_KIND_NEIGHBOUR},
+    {32, NPR_KIND_RULE}, {34, NPR_KIND_RULE},
+    {52, NPR_KIND_PREFIX},
+    {64, NPR_KIND_NEIGHBOUR_TABLE}, {66, NPR_KIND_NEIGHBOUR_TABLE}, {67, NPR_KIND_NEIGHBOUR_TABLE},
+    {72, NPR_KIND_ADDRESS_LABEL}, {74, NPR_KIND_ADDRESS_LABEL},
+    {80, NPR_KIND_NETCONF}, {82, NPR_KIND_NETCONF},
+    {88, NPR_KIND_NSID}, {90, NPR_KIND_NSID},
+    {104, NPR_KIND_NEXT_HOP}, {106, NPR_KIND_NEXT_HOP},
+    {108, NPR_KIND_LINK}, {110, NPR_KIND_LINK},
+    {116, NPR_KIND_NEXT_HOP}, {118, NPR_KIND_NEXT_HOP},
+    {0, 0}, {3, 0}, {23, 0}, {36, 0}, {65, 0}, {68, 0}, {119, 0}, {65535, 0},
+};
+
+static int kinds(void) {
+    uint8_t out[8] = {1, 2, 3, 4, 5, 6, 7, 8};
+    for (size_t i = 0; i < LENGTH(TYPES); i++)
+        WANT(npr_kind_of(TYPES[i].type) == TYPES[i].kind);
+    for (uint32_t kind = 1; kind <= NPR_KIND_PREFIX; kind++)
+        WANT(npr_fault_of(kind, ADDRESS, 3).number == NPR_HEADER_TOO_SHORT);
+    for (uint32_t kind = 0; kind < 300; kind += kind == 0 ? 12 : 1) {
+        struct npr_answer answer = npr_canonical(kind, ADDRESS, 24, out, sizeof out);
+        WANT(answer.status == NPR_REFUSED && answer.number == NPR_UNKNOWN_KIND && answer.length == 0 && out[0] == 1 && out[7] == 8);
+        struct npr_fault wanted = {NPR_UNKNOWN_KIND, 0, 0, 0, 0, 0, 0};
+        WANT(same_fault(npr_fault_of(kind, ADDRESS, 24), wanted));
+        struct npr_list list = npr_begin(kind, ADDRESS, 24);
+        WANT(list.status == NPR_FAULT && list.number == NPR_UNKNOWN_KIND && list.at == 0 && list.end == 0);
+    }
+    return 0;
+}
+
+/* The calls with a kind in their name are those of its number. */
+static int names_of_kinds(void) {
+    uint8_t out[64];
+    WANT(npr_address_canonical(ADDRESS, 24, out, sizeof out).length == npr_canonical(NPR_KIND_ADDRESS, ADDRESS, 24, out, sizeof out).length);
+    WANT(same_fault(npr_route_fault(ROUTE, 15), npr_fault_of(NPR_KIND_ROUTE, ROUTE, 15)));
+    WANT(npr_link_begin(ROUTE, sizeof ROUTE).at == 16 && npr_nsid_begin(ROUTE, sizeof ROUTE).at == 4);
     return 0;
 }
 
@@ -254,7 +301,11 @@ static int version(void) {
     char text[32];
     snprintf(text, sizeof text, "%d.%d.%d", NPR_VERSION_MAJOR, NPR_VERSION_MINOR, NPR_VERSION_PATCH);
     WANT(strcmp(text, NPR_VERSION) == 0);
+    WANT(npr_version() == NPR_VERSION_MAJOR * 65536 + NPR_VERSION_MINOR * 256 + NPR_VERSION_PATCH);
     return 0;
 }
 
-int main(void) { return steps() || finds() || next_hops() || values() || values_inside() || conversations() || messages() || faults() || names() || version(); }
+int main(void) {
+    return steps() || finds() || next_hops() || values() || values_inside() || conversations() || messages() || faults() || kinds() ||
+           names_of_kinds() || names() || version();
+}

@@ -19,24 +19,21 @@ using Bytes = std::vector<std::uint8_t>;
 
 struct Kind {
     std::string_view name;
-    npr_answer (*canonical)(const std::uint8_t *, std::size_t, std::uint8_t *, std::size_t);
-    npr_fault (*fault)(const std::uint8_t *, std::size_t);
+    npr_kind number;
 };
 
-#define KIND(word, name)                                                                                               \
-    { word, npr_##name##_canonical, npr_##name##_fault }
 static const Kind KINDS[] = {
-    KIND("address", address),
-    KIND("route", route),
-    KIND("rule", rule),
-    KIND("neighbour", neighbour),
-    KIND("link", link),
-    KIND("nexthop", next_hop),
-    KIND("nsid", nsid),
-    KIND("netconf", netconf),
-    KIND("address-label", address_label),
-    KIND("neighbour-table", neighbour_table),
-    KIND("prefix", prefix),
+    {"address", NPR_KIND_ADDRESS},
+    {"route", NPR_KIND_ROUTE},
+    {"rule", NPR_KIND_RULE},
+    {"neighbour", NPR_KIND_NEIGHBOUR},
+    {"link", NPR_KIND_LINK},
+    {"nexthop", NPR_KIND_NEXT_HOP},
+    {"nsid", NPR_KIND_NSID},
+    {"netconf", NPR_KIND_NETCONF},
+    {"address-label", NPR_KIND_ADDRESS_LABEL},
+    {"neighbour-table", NPR_KIND_NEIGHBOUR_TABLE},
+    {"prefix", NPR_KIND_PREFIX},
 };
 
 static constexpr std::string_view DIGITS = "0123456789abcdef";
@@ -63,8 +60,8 @@ static std::string answer_to(const Kind &kind, const Bytes &bytes) {
     static const std::uint8_t none = 0;
     const std::uint8_t *place = bytes.empty() ? &none : bytes.data();
     Bytes out(bytes.size() / 2 * 5 + 5);
-    const npr_answer answer = kind.canonical(place, bytes.size(), out.data(), out.size());
-    const npr_fault fault = kind.fault(place, bytes.size());
+    const npr_answer answer = npr_canonical(kind.number, place, bytes.size(), out.data(), out.size());
+    const npr_fault fault = npr_fault_of(kind.number, place, bytes.size());
     if (fault.number != (answer.status == NPR_REFUSED ? answer.number : 0))
         return "two answers";
     if (answer.status == NPR_REFUSED)

@@ -38,21 +38,21 @@
 
 enum ending { WELL = 0, REFUSED = 1, UNKNOWN_WORD = 2, INTERRUPTED = 3, FAILED = 5 };
 
-/* A kind of message: its name, the types of its messages, the bytes of its header, and its calls. */
+/* A kind of message: its number and its name, the types of a message that something is gone and of a request, and the bytes of its
+ * header. */
 struct kind {
+    uint32_t number;
     const char *name;
-    uint16_t created, deleted, asked;
+    uint16_t deleted, asked;
     size_t header;
-    struct npr_fault (*fault)(const uint8_t *, size_t);
-    struct npr_list (*begin)(const uint8_t *, size_t);
 };
 
 static const struct kind KINDS[] = {
-    {"address", RTM_NEWADDR, RTM_DELADDR, RTM_GETADDR, 8, npr_address_fault, npr_address_begin},
-    {"route", RTM_NEWROUTE, RTM_DELROUTE, RTM_GETROUTE, 12, npr_route_fault, npr_route_begin},
-    {"rule", RTM_NEWRULE, RTM_DELRULE, RTM_GETRULE, 12, npr_rule_fault, npr_rule_begin},
-    {"neighbour", RTM_NEWNEIGH, RTM_DELNEIGH, RTM_GETNEIGH, 12, npr_neighbour_fault, npr_neighbour_begin},
-    {"link", RTM_NEWLINK, RTM_DELLINK, RTM_GETLINK, 16, npr_link_fault, npr_link_begin},
+    {NPR_KIND_ADDRESS, "address", RTM_DELADDR, RTM_GETADDR, sizeof(struct ifaddrmsg)},
+    {NPR_KIND_ROUTE, "route", RTM_DELROUTE, RTM_GETROUTE, sizeof(struct rtmsg)},
+    {NPR_KIND_RULE, "rule", RTM_DELRULE, RTM_GETRULE, sizeof(struct fib_rule_hdr)},
+    {NPR_KIND_NEIGHBOUR, "neighbour", RTM_DELNEIGH, RTM_GETNEIGH, sizeof(struct ndmsg)},
+    {NPR_KIND_LINK, "link", RTM_DELLINK, RTM_GETLINK, sizeof(struct ifinfomsg)},
 };
 
 #define KIND_COUNT (sizeof KINDS / sizeof *KINDS)
@@ -184,27 +184,34 @@ static void print_route(const uint8_t *header, struct npr_reader reader) {
 
 /* Prints a message that is one: its header, and a reader of its attributes. */
 static void print_message(const struct kind *kind, const uint8_t *header, struct npr_reader reader) {
-    if (kind->asked == RTM_GETADDR) {
+    switch (kind->number) {
+    case NPR_KIND_ADDRESS:
         print_prefix("is", reader, IFA_ADDRESS, header[1]);
         print("local", reader, IFA_LOCAL);
         printf(" dev %u", (unsigned)number_at(header, 4));
-    } else if (kind->asked == RTM_GETROUTE) {
+        break;
+    case NPR_KIND_ROUTE:
         print_route(header, reader);
-    } else if (kind->asked == RTM_GETNEIGH) {
+        break;
+    case NPR_KIND_RULE:
+        print_rule(header, reader);
+        break;
+    case NPR_KIND_NEIGHBOUR:
         print("is", reader, NDA_DST);
         print("at", reader, NDA_LLADDR);
         printf(" dev %d", (int)number_at(header, 4));
-    } else if (kind->asked == RTM_GETLINK) {
+        break;
+    case NPR_KIND_LINK:
         print_link(header, reader);
-    } else {
-        print_rule(header, reader);
+        break;
     }
 }
 
 /* The kind of the messages of a type, or none. */
 static const struct kind *kind_of(uint16_t type) {
+    uint32_t number = npr_kind_of(type);
     for (size_t i = 0; i < KIND_COUNT; i++)
-        if (type == KINDS[i].created || type == KINDS[i].deleted)
+        if (KINDS[i].number == number)
             return &KINDS[i];
     return NULL;
 }
@@ -217,9 +224,9 @@ static bool print_line(uint16_t type, const uint8_t *bytes, size_t length) {
         return true;
     }
     printf("%s%s", type == kind->deleted ? "deleted " : "", kind->name);
-    struct npr_fault fault = kind->fault(bytes, length);
+    struct npr_fault fault = npr_fault_of(kind->number, bytes, length);
     if (fault.number == 0)
-        print_message(kind, bytes, npr_read(bytes, kind->begin(bytes, length)));
+        print_message(kind, bytes, npr_read(bytes, npr_begin(kind->number, bytes, length)));
     else
         printf(" refused: %s, family %u, attribute %u, length %zu, at %zu", npr_refusal_text(fault.number),
                (unsigned)fault.family, fault.kind, fault.length, fault.offset);
@@ -279,21 +286,18 @@ static int read_file(const char *path) {
     return status;
 }
 
-/* Asks for a table: a request to dump, behind an envelope of 16 bytes, with a header of zeros but for the family.
- * Behind that of links stands what is wanted of them besides: virtual functions, and no statistics. */
+/* Asks for a table: a request to dump, with a header of zeros but for the family. Behind that of links stands what is wanted of
+ * them besides: virtual functions, and no statistics. */
 static int request(int socket, const struct kind *kind, uint8_t family, uint32_t sequence) {
-    struct {
-        struct nlmsghdr envelope;
-        uint8_t header[16];
-        struct nlattr front;
-        uint32_t mask;
-    } message = {{NLMSG_HDRLEN + (uint32_t)kind->header, kind->asked, NLM_F_REQUEST | NLM_F_DUMP, sequence, 0},
-                 {family},
-                 {NLA_HDRLEN + sizeof message.mask, IFLA_EXT_MASK},
-                 RTEXT_FILTER_VF | RTEXT_FILTER_SKIP_STATS};
-    if (kind->asked == RTM_GETLINK)
-        message.envelope.nlmsg_len = sizeof message;
-    return send(socket, &message, message.envelope.nlmsg_len, 0) < 0 ? -1 : 0;
+    uint8_t out[64];
+    const uint8_t header[sizeof(struct ifinfomsg)] = {family};
+    struct npr_writer writer = npr_write(out, sizeof out);
+    size_t message = npr_begin_message(&writer, kind->asked, NLM_F_REQUEST | NLM_F_DUMP, sequence);
+    npr_put_header(&writer, header, kind->header);
+    if (kind->number == NPR_KIND_LINK)
+        npr_put_u32(&writer, IFLA_EXT_MASK, RTEXT_FILTER_VF | RTEXT_FILTER_SKIP_STATS);
+    npr_end_message(&writer, message);
+    return writer.status != NPR_WRITTEN || send(socket, out, writer.at, 0) < 0 ? -1 : 0;
 }
 
 /* Reads the answer to its end, and writes its datagrams to the file, if there is one. */

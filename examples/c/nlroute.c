@@ -4,7 +4,7 @@
  *   nlroute KIND
  *   nlroute compare KIND FILE.. [KIND FILE..]
  *
- * A KIND is address, route, rule, neighbour or link.
+ * A KIND is address, route, rule, neighbour, link, nexthop, nsid, netconf, address-label, neighbour-table or prefix.
  *
  * It ends with 0 and the report; or with one line on standard error and 1 (refused), 2 (bad
  * hexadecimal text, or the usage), 3 (unfit), 4 (out of memory) or 5 (reading or writing failed). A
@@ -23,26 +23,25 @@
 
 enum ending { WELL = 0, REFUSED = 1, BAD_HEX = 2, UNFIT = 3, MEMORY = 4, FAILED = 5 };
 
-/* A kind of message: its name, the bytes of its header, and its calls. */
+/* A kind of message: its name, its number, and the bytes of its header. */
 struct kind {
     const char *name;
+    uint32_t number;
     size_t header;
-    struct npr_answer (*canonical)(const uint8_t *, size_t, uint8_t *, size_t);
-    struct npr_fault (*fault)(const uint8_t *, size_t);
 };
 
 static const struct kind KINDS[] = {
-    {"address", 8, npr_address_canonical, npr_address_fault},
-    {"route", 12, npr_route_canonical, npr_route_fault},
-    {"rule", 12, npr_rule_canonical, npr_rule_fault},
-    {"neighbour", 12, npr_neighbour_canonical, npr_neighbour_fault},
-    {"link", 16, npr_link_canonical, npr_link_fault},
-    {"nexthop", 8, npr_next_hop_canonical, npr_next_hop_fault},
-    {"nsid", 4, npr_nsid_canonical, npr_nsid_fault},
-    {"netconf", 4, npr_netconf_canonical, npr_netconf_fault},
-    {"address-label", 12, npr_address_label_canonical, npr_address_label_fault},
-    {"neighbour-table", 4, npr_neighbour_table_canonical, npr_neighbour_table_fault},
-    {"prefix", 12, npr_prefix_canonical, npr_prefix_fault},
+    {"address", NPR_KIND_ADDRESS, 8},
+    {"route", NPR_KIND_ROUTE, 12},
+    {"rule", NPR_KIND_RULE, 12},
+    {"neighbour", NPR_KIND_NEIGHBOUR, 12},
+    {"link", NPR_KIND_LINK, 16},
+    {"nexthop", NPR_KIND_NEXT_HOP, 8},
+    {"nsid", NPR_KIND_NSID, 4},
+    {"netconf", NPR_KIND_NETCONF, 4},
+    {"address-label", NPR_KIND_ADDRESS_LABEL, 12},
+    {"neighbour-table", NPR_KIND_NEIGHBOUR_TABLE, 4},
+    {"prefix", NPR_KIND_PREFIX, 12},
 };
 
 static const struct kind *kind_of(const char *name) {
@@ -100,7 +99,7 @@ static bool ask(const struct kind *kind, struct bytes bytes, struct bytes *out, 
     *out = room_for(bytes.length * 2 + (bytes.length + 1) / 2);
     if (out->at == NULL)
         return false;
-    *answer = kind->canonical(bytes.at, bytes.length, out->at, out->length);
+    *answer = npr_canonical(kind->number, bytes.at, bytes.length, out->at, out->length);
     return answer->status != NPR_REFUSED || answer->number != NPR_OUT_OF_MEMORY;
 }
 
@@ -227,7 +226,7 @@ static bool is_told(const char *text, struct npr_answer answer, const uint8_t *c
 
 /* Whether a fault is told exactly where the bytes are refused, and the same one. */
 static bool is_judged(const struct kind *kind, struct bytes bytes, struct npr_answer answer) {
-    return kind->fault(bytes.at, bytes.length).number == (answer.status == NPR_REFUSED ? answer.number : 0);
+    return npr_fault_of(kind->number, bytes.at, bytes.length).number == (answer.status == NPR_REFUSED ? answer.number : 0);
 }
 
 /* Compares a line, which is hexadecimal text, a tab and an answer. */

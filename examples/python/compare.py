@@ -12,6 +12,11 @@ import sys
 
 import npr
 
+# the first type of linux/rtnetlink.h of each kind
+TYPES = {}
+for number in range(0, 120):
+    TYPES.setdefault(npr.KINDS[npr.kind_of(number)], number)
+
 
 def answer_to(word, given):
     """What is answered to these bytes."""
@@ -24,13 +29,14 @@ def answer_to(word, given):
 
 
 def answer_to_message(kind, given):
-    """The canonical bytes of a message of this kind, put together from its attributes."""
-    message = npr.Message(npr.KINDS[kind].types[0], 0, 0, 0, given)
+    """The canonical bytes of a message of this kind, written again from its attributes."""
+    message = npr.Message(TYPES[kind], 0, 0, 0, given)
     written = npr.canonical(message)
-    parts = [written[: npr.KINDS[kind].header]]
-    for attribute in npr.attributes(message._replace(payload=written)):
-        parts.append(padded(struct.pack("=HH", 4 + len(attribute.value), attribute.kind) + attribute.value))
-    return f"canonical {b''.join(parts).hex()}"
+    writer = npr.Writer()
+    writer.header(written[: npr.HEADERS[kind]])
+    for attribute in npr.attributes(message._replace(payload=memoryview(written))):
+        writer.put(attribute.kind, attribute.value)
+    return f"canonical {writer.written().hex()}"
 
 
 def answer_to_datagrams(given):
@@ -72,7 +78,7 @@ def kind_of(word):
 def main(words):
     word, sums = None, [(0, 0)]
     for it in words:
-        if kind_of(it) in npr.KINDS or it == "datagrams":
+        if kind_of(it) in npr.HEADERS or it == "datagrams":
             word = kind_of(it)
             continue
         if word is None:

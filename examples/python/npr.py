@@ -5,15 +5,22 @@
             for it in npr.values(message):
                 print(it.family, it.number, it.value)
 
-Bytes that are no message raise a `Fault`, which has its place.
+    writer = npr.Writer()
+    with writer.message(RTM_NEWROUTE, NLM_F_REQUEST | NLM_F_CREATE, sequence_number):
+        writer.header(struct.pack("=8BI", AF_INET, 24, 0, 0, RT_TABLE_MAIN, RTPROT_STATIC, 0, RTN_UNICAST, 0))
+        writer.put(RTA_DST, address.packed)
+    socket.send(writer.written())
+
+Bytes are those of any buffer: `bytes`, `bytearray` or `memoryview`. Those that are no message raise a `Fault`, which has its place.
 """
 
+import contextlib
 import ctypes
 import ipaddress
 import pathlib
-from ctypes import c_char_p as data, c_size_t as size, c_uint8 as u8, c_uint16 as u16, c_uint32 as u32, c_uint64 as u64
+import struct
+from ctypes import c_char_p as data, c_void_p as room, c_size_t as size, c_uint8 as u8, c_uint16 as u16, c_uint32 as u32, c_uint64 as u64
 from typing import NamedTuple
-
 
 
 def loaded(name):
@@ -30,9 +37,10 @@ def loaded(name):
     )
 
 
-LIBRARY = loaded("libnetlink_packet_route.so.0")
+LIBRARY = loaded("libnetlink_packet_route.so.0.11")
 FOUND, FAULT = 0, 1
-REFUSED, UNFIT, OUT_OF_MEMORY, NAME_ROOM = 1, 2, 1, 18
+REFUSED, UNFIT, SHORT, NAME_ROOM = 1, 2, 3, 18
+NLA_F_NESTED = 0x8000
 
 
 def structure(**members):
@@ -53,6 +61,10 @@ LIST = structure(status=u32, number=u32, family=u32, context=u32, at=size, end=s
 HOP = structure(status=u32, number=u32, interface_index=u32, flags=u8, hops=u8, attributes=size, end=size, next=size)
 ENVELOPE = structure(status=u32, number=u32, type=u16, flags=u16, sequence_number=u32, port_number=u32, payload=size, length=size, next=size)
 
+kind_of = function("npr_kind_of", u32, u16)
+canonical_of = function("npr_canonical", ANSWER, u32, data, size, data, size)
+fault_of = function("npr_fault_of", TOLD, u32, data, size)
+begin = function("npr_begin", LIST, u32, data, size)
 message_at = function("npr_message_at", ENVELOPE, data, size, size)
 step_at = function("npr_step_at", STEP, data, size, size)
 value_at = function("npr_value_at", VALUE, data, size, size, u32, u32)
@@ -61,41 +73,26 @@ hop_at = function("npr_next_hop_at", HOP, data, size, size)
 hop_inside = function("npr_hop_inside", LIST, data, size, size, u32, u32)
 refusal_name = function("npr_refusal_name", size, u32, data, size)
 cause_name = function("npr_cause_name", size, u32, data, size)
+put_at = function("npr_put_at", ANSWER, room, size, size, u16, data, size)
+copy_at = function("npr_copy_at", ANSWER, room, size, size, data, size)
+end_at = function("npr_end_at", ANSWER, room, size, size, size)
+end_message_at = function("npr_end_message_at", ANSWER, room, size, size, size)
 
-
-class Kind(NamedTuple):
-    """A kind of messages: its types in linux/rtnetlink.h, the length of its header, and its calls."""
-
-    types: list
-    header: int
-    canonical: object
-    fault: object
-    begin: object
-
-
-ROWS = {
-    "link": ([*range(16, 20), *range(108, 111)], 16),
-    "address": (range(20, 23), 8),
-    "route": (range(24, 27), 12),
-    "neighbour": (range(28, 31), 12),
-    "rule": (range(32, 35), 12),
-    "prefix": ([52], 12),
-    "neighbour_table": ([64, 66, 67], 4),
-    "address_label": (range(72, 75), 12),
-    "netconf": (range(80, 83), 4),
-    "nsid": (range(88, 91), 4),
-    "next_hop": ([*range(104, 107), *range(116, 119)], 8),
+# the names of the kinds, the first of which has the number 1, and the bytes of their headers
+HEADERS = {
+    "address": 8,
+    "route": 12,
+    "rule": 12,
+    "neighbour": 12,
+    "link": 16,
+    "next_hop": 8,
+    "nsid": 4,
+    "netconf": 4,
+    "address_label": 12,
+    "neighbour_table": 4,
+    "prefix": 12,
 }
-# those that the library has
-KINDS = {
-    name: Kind(
-        *row,
-        function(f"npr_{name}_canonical", ANSWER, data, size, data, size),
-        function(f"npr_{name}_fault", TOLD, data, size),
-        function(f"npr_{name}_begin", LIST, data, size),
-    )
-    for name, row in ROWS.items() if hasattr(LIBRARY, f"npr_{name}_fault")
-}
+KINDS = [None, *HEADERS]
 
 
 class Fault(ValueError):
@@ -107,7 +104,7 @@ class Fault(ValueError):
 
 
 class Unfit(ValueError):
-    """A message that has no canonical bytes, for the cause of this name."""
+    """A message that has no canonical bytes, or a part of a request that can't be written, for the cause of this name."""
 
 
 class Message(NamedTuple):
@@ -121,7 +118,7 @@ class Message(NamedTuple):
 
     @property
     def kind(self):
-        return next((name for name, kind in KINDS.items() if self.type in kind.types), None)
+        return KINDS[kind_of(self.type)]
 
 
 class Attribute(NamedTuple):
@@ -169,7 +166,7 @@ FORMS = {
 
 def messages(datagram):
     """The messages of a datagram, or of a dump's datagrams one behind the other."""
-    at = 0
+    at, datagram = 0, bytes(datagram)
     while (found := message_at(datagram, len(datagram), at)).status == FOUND:
         payload = datagram[found.payload : found.payload + found.length]
         yield Message(found.type, found.flags, found.sequence_number, found.port_number, payload)
@@ -180,7 +177,8 @@ def messages(datagram):
 
 def attributes(of):
     """The attributes of a message that is one, or of an attribute whose value is a list of them."""
-    inside, at = (of.payload, checked(of).header) if isinstance(of, Message) else (of.value, 0)
+    inside, at = (of.payload, HEADERS[KINDS[checked(of)]]) if isinstance(of, Message) else (of.value, 0)
+    inside = bytes(inside)
     while (step := step_at(inside, len(inside), at)).status == FOUND:
         yield Attribute(step.kind, inside[step.value : step.value + step.length])
         at = step.next
@@ -190,7 +188,8 @@ def attributes(of):
 
 def values(message):
     """The values of a message that is one, with those of the lists that stand in them."""
-    return read(message.payload, checked(message).begin(message.payload, len(message.payload)))
+    given = bytes(message.payload)
+    return read(given, begin(checked(message), given, len(given)))
 
 
 def read(given, of):
@@ -227,9 +226,9 @@ def next_hops(given, of, at, end):
 
 def canonical(message):
     """The canonical bytes of a message, without its envelope."""
-    given = message.payload
+    given = bytes(message.payload)
     out = ctypes.create_string_buffer(len(given) // 2 * 5 + 5)
-    answer = checked(message).canonical(given, len(given), out, len(out))
+    answer = canonical_of(checked(message), given, len(given), out, len(out))
     if answer.status == REFUSED:
         raise MemoryError
     if answer.status == UNFIT:
@@ -238,13 +237,11 @@ def canonical(message):
 
 
 def checked(message):
-    """The kind of a message that is one."""
-    if message.kind is None:
+    """The number of the kind of a message that is one."""
+    kind, given = kind_of(message.type), bytes(message.payload)
+    if kind == 0:
         raise ValueError(f"the library has no kind for messages of type {message.type}")
-    kind = KINDS[message.kind]
-    told = kind.fault(message.payload, len(message.payload))
-    if told.number == OUT_OF_MEMORY:
-        raise MemoryError
+    told = fault_of(kind, given, len(given))
     if told.number:
         raise Fault(told.number, told.offset)
     return kind
@@ -254,3 +251,74 @@ def name_of(call, number):
     out = ctypes.create_string_buffer(NAME_ROOM)
     call(number, out, NAME_ROOM)
     return out.value.decode()
+
+
+class Writer:
+    """Requests, one behind the other, in a buffer that grows. What stands inside others is put between their ends, by `with`."""
+
+    def __init__(self):
+        self.out, self.at = bytearray(256), 0
+
+    def written(self):
+        """What is written so far."""
+        return bytes(self.out[: self.at])
+
+    def write(self, call, *given):
+        """Has a call write, in a larger buffer where this one is too short, and goes on behind what it wrote."""
+        while (answer := call(room_of(self.out), len(self.out), *given)).status == SHORT:
+            self.out += bytes(answer.length)
+        if answer.status == UNFIT:
+            raise Unfit(name_of(cause_name, answer.number))
+        if answer.status == REFUSED:
+            raise Fault(answer.number, self.at)
+        self.at = answer.length
+
+    def put(self, kind, value=b""):
+        """An attribute of this kind, which may have the two flags of a kind."""
+        value = bytes(value)
+        self.write(put_at, self.at, kind, value, len(value))
+
+    def put_number(self, kind, number, count, order="little"):
+        """An attribute that is a number of so many bytes, in the order of the machine or of the network ("big")."""
+        self.put(kind, number.to_bytes(count, order, signed=number < 0))
+
+    def put_name(self, kind, name):
+        """An attribute that is a name, with its zero."""
+        self.put(kind, name.encode() + b"\0")
+
+    def header(self, given):
+        """A header of a fixed size, as `struct rtmsg`."""
+        given = bytes(given)
+        self.write(copy_at, self.at, given, len(given))
+
+    @contextlib.contextmanager
+    def ended(self, call, start):
+        yield self
+        self.write(call, start, self.at)
+
+    def message(self, type, flags, sequence_number):
+        """A message (`struct nlmsghdr`), around its header and its attributes."""
+        start = self.at
+        self.header(struct.pack("=IHHII", 0, type, flags, sequence_number, 0))
+        return self.ended(end_message_at, start)
+
+    def list(self, kind):
+        """An attribute around what it holds, as RTA_MULTIPATH holds next hops."""
+        start = self.at
+        self.put(kind)
+        return self.ended(end_at, start)
+
+    def nested(self, kind):
+        """The same around attributes, with NLA_F_NESTED in its kind."""
+        return self.list(kind | NLA_F_NESTED)
+
+    def next_hop(self, interface_index, flags=0, hops=0):
+        """A next hop (`struct rtnexthop`), around its attributes."""
+        start = self.at
+        self.header(struct.pack("=HBBI", 0, flags, hops, interface_index))
+        return self.ended(end_at, start)
+
+
+def room_of(out):
+    """The place of a buffer."""
+    return ctypes.addressof((u8 * len(out)).from_buffer(out))

@@ -7,7 +7,13 @@ use std::fs;
 use std::path::{Path, PathBuf};
 
 const SHARED: &str = "libnetlink_packet_route.so";
-const SONAME: &str = "libnetlink_packet_route.so.0";
+/// While the first number of a version is 0, a second one may take calls away.
+const SONAME: &str = concat!(
+    "libnetlink_packet_route.so.",
+    env!("CARGO_PKG_VERSION_MAJOR"),
+    ".",
+    env!("CARGO_PKG_VERSION_MINOR")
+);
 
 fn main() -> Result<(), Box<dyn Error>> {
     let folder = |name| PathBuf::from(var_os(name).expect("cargo sets it"));

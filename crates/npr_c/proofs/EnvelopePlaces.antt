@@ -22,7 +22,7 @@ step_over datagram at header count rest = record {
   next = length datagram - length rest;
 }
 
-found : (datagram : List ℕ) (at : ℕ) (x : Message) (rest : List ℕ) → at < length datagram → EnvelopeFront (drop at datagram) x rest
+pub found : (datagram : List ℕ) (at : ℕ) (x : Message) (rest : List ℕ) → at < length datagram → EnvelopeFront (drop at datagram) x rest
     → EnvelopeAt datagram at (step_over datagram at x.header (length x.payload) rest)
 found datagram at x rest within f =
     let n : ℕ = length x.payload in

@@ -8,3 +8,6 @@ mod LevelLaws
 mod ValuePlaces
 mod ValueSteps
 mod Hearing
+mod WrittenHops
+mod WrittenMessages
+mod WrittenPlaces

@@ -17,7 +17,7 @@ abbrev pub step_over : List ℕ → ℕ → ℕ → List ℕ → List ℕ → St
 step_over bytes at kind value rest =
     record { status = 0; number = 0; value = at + 4; length = length value; next = length bytes - length rest; kind = kind }
 
-found : (bytes : List ℕ) (at : ℕ) (x : Item) (rest : List ℕ) → at < length bytes → Front (drop at bytes) x rest
+pub found : (bytes : List ℕ) (at : ℕ) (x : Item) (rest : List ℕ) → at < length bytes → Front (drop at bytes) x rest
     → FoundAt bytes at (step_over bytes at x.kind x.value rest)
 found bytes at x rest within f =
     let n : ℕ = length x.value in

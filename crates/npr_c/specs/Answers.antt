@@ -14,9 +14,13 @@ use Rattle.npr_c.specs.declared.answer.Answer.{Answer}
 abbrev pub written_answer : ℕ → Answer
 written_answer n = record { status = 0; number = 0; length = n }
 
+-- the call is refused by this number
+abbrev pub refused_by : ℕ → Answer
+refused_by number = record { status = 1; number = number; length = 0 }
+
 -- the bytes are refused
 abbrev pub refused_answer : DecodeError → Answer
-refused_answer e = record { status = 1; number = refusal_number e; length = 0 }
+refused_answer e = refused_by (refusal_number e)
 
 -- the message can't be written
 abbrev pub unfit_answer : EmitError → Answer

@@ -22,6 +22,7 @@ use Rattle.netlink_packet_route.specs.declared.framing.DecodeError.TheVariants.{
 use Rattle.netlink_packet_route.specs.declared.framing.DecodeError.TheVariants.{NextHopTooShort, NextHopLength, ValueLength, NotUtf8, Seg6Header}
 use Rattle.netlink_packet_route.specs.declared.framing.DecodeError.TheVariants.{GeneveOrder, GeneveChild, ViaFamily, Unsupported}
 use Rattle.netlink_packet_route.specs.Messages.{Grammar, View, IsMessage, MessageFault}
+use Rattle.npr_c.specs.Kinds.{unknown_kind}
 use Rattle.npr_c.specs.Numbers.{refusal_number}
 use Rattle.npr_c.specs.declared.faults.Fault.{Fault}
 
@@ -100,6 +101,10 @@ seg6_number Segments = 4
 -- the bytes are a message
 abbrev pub no_fault : Fault
 no_fault = record { number = 0; family = 0; kind = 0; detail = 0; length = 0; limit = 0; offset = 0 }
+
+-- there is no such kind
+abbrev pub unknown_fault : Fault
+unknown_fault = record no_fault { number = unknown_kind }
 
 -- a refusal that tells one length, or two
 abbrev pub fault_by_length : DecodeError → ℕ → ℕ → Fault

@@ -2,10 +2,12 @@ pub mod Answers
 pub mod Envelopes
 pub mod Faults
 pub mod Hearing
+pub mod Kinds
 pub mod Levels
 pub mod Names
 pub mod NextHops
 pub mod Numbers
+pub mod Requests
 pub mod Steps
 pub mod Stops
 pub mod StopsLaws

@@ -8,7 +8,7 @@ refusal_names =
     [] ∷ codes "OutOfMemory" ∷ codes "HeaderTooShort" ∷ codes "AttributeTooShort" ∷ codes "AttributeLength"
     ∷ codes "NextHopTooShort" ∷ codes "NextHopLength" ∷ codes "ValueLength" ∷ codes "NotUtf8" ∷ codes "Seg6Header"
     ∷ codes "GeneveOrder" ∷ codes "GeneveChild" ∷ codes "ViaFamily" ∷ codes "Unsupported"
-    ∷ codes "MessageTooShort" ∷ codes "MessageLength" ∷ []
+    ∷ codes "MessageTooShort" ∷ codes "MessageLength" ∷ codes "UnknownKind" ∷ []
 
 abbrev pub cause_names : List (List ℕ)
 cause_names =

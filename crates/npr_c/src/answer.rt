@@ -1,27 +1,28 @@
-//! What a call for canonical bytes answers, and the numbers of refusals and causes.
+//! What a call that writes answers, and the numbers of refusals and causes.
 
 ghost use Rattle.std.specs.Prelude.{◌≡◌};
-ghost use Rattle.npr_c.specs.{Answers.{refused_answer, short_answer, unfit_answer, written_answer}, Numbers.{cause_number, refusal_number}};
+ghost use Rattle.npr_c.specs.{Answers.{refused_answer, refused_by, short_answer, unfit_answer, written_answer}, Numbers.{cause_number, refusal_number}};
 
 use netlink_packet_route::framing::{DecodeError, EmitError};
 
-/// What a call for canonical bytes answers.
+/// What a call that writes answers.
 ///
 /// Layout: two numbers of 4 bytes and one of the machine's word, in this order.
 #[repr(C)]
 #[derive(Clone, Copy)]
 pub struct Answer {
-    /// 0 where the bytes are written, 1 where they are refused, 2 where the message can't be
+    /// 0 where the bytes are written, 1 where the call is refused, 2 where the bytes can't be
     /// written, 3 where the buffer is too short.
     pub status: u32,
     /// The number of the refusal at status 1, of the cause at status 2, and else 0.
     pub number: u32,
-    /// How many canonical bytes there are at status 0 and 3, and else 0.
+    /// At status 0 and 3 how many canonical bytes there are, or the place behind what is written into a
+    /// request, and else 0.
     pub length: usize,
 }
 
 impl Answer {
-    /// So many canonical bytes are written.
+    /// Up to so many bytes are written.
     pub fn written(length: usize) -> Answer
         ensures { result ≡ written_answer length }
     {
@@ -32,18 +33,25 @@ impl Answer {
         }
     }
 
-    /// The bytes are refused.
-    pub fn refused(fault: DecodeError) -> Answer
-        ensures { result ≡ refused_answer fault }
+    /// The call is refused by this number.
+    pub fn refused_by(number: u32) -> Answer
+        ensures { result ≡ refused_by number }
     {
         Answer {
             status: 1,
-            number: refusal_number(fault),
+            number,
             length: 0,
         }
     }
 
-    /// The message can't be written.
+    /// The bytes are refused.
+    pub fn refused(fault: DecodeError) -> Answer
+        ensures { result ≡ refused_answer fault }
+    {
+        Answer::refused_by(refusal_number(fault))
+    }
+
+    /// The bytes can't be written.
     pub fn unfit(cause: EmitError) -> Answer
         ensures { result ≡ unfit_answer cause }
     {
@@ -54,7 +62,7 @@ impl Answer {
         }
     }
 
-    /// So many canonical bytes have no room.
+    /// So many bytes have no room.
     pub fn short(length: usize) -> Answer
         ensures { result ≡ short_answer length }
     {

@@ -1,30 +1,17 @@
 //! Whether bytes are a message, and what is wrong with them.
 
-ghost use Rattle.std.specs.Prelude.{◌≡◌};
+ghost use Rattle.std.specs.Prelude.{◌≡◌, MatchOption, IfSome};
 ghost use Rattle.{
-  netlink_packet_route.specs.{
-    AddressLabelMessage.{address_labels},
-    AddressMessage.{addresses},
-    Levels.{header_size},
-    LinkMessage.{links},
-    MessageKind.{form_of},
-    NeighbourMessage.{neighbours},
-    NeighbourTableMessage.{neighbour_tables},
-    NetconfMessage.{netconfs},
-    NextHopMessage.{next_hops},
-    NsidMessage.{nsids},
-    PrefixMessage.{prefixes},
-    RouteMessage.{routes},
-    RuleMessage.{rules},
-  },
+  netlink_packet_route.specs.MessageKind.{form_of},
   npr_c.specs.{
-    Faults.{IsJudged, fault_of, family_number, seg6_number},
-    Stops.{IsPlaced, StandsIn},
-    Stops.{AddressStandsAt, AddressLabelStandsAt, LinkStandsAt, NeighbourStandsAt, NeighbourTableStandsAt, NetconfStandsAt, NextHopStandsAt, NsidStandsAt, PrefixStandsAt, RouteStandsAt, RuleStandsAt},
+    Faults.{IsJudged, fault_of, family_number, seg6_number, unknown_fault},
+    Kinds.{kind_at},
+    Stops.{IsPlaced},
   },
 };
 
 use crate::answer::refusal_number;
+use crate::kinds::{UNKNOWN_KIND, kind_at};
 use crate::placing::check_through;
 use netlink_packet_route::MessageKind;
 use netlink_packet_route::framing::{At, AttrFamily, DecodeError, Seg6Fault};
@@ -215,7 +202,7 @@ impl Fault {
 /// What is wrong with the bytes as a message of this kind.
 fn judged(kind: MessageKind, bytes: &[u8]) -> Fault
     ensures fault { IsJudged (form_of kind).grammar bytes.now result }
-    ensures place { IsPlaced (header_size kind) (StandsIn kind) bytes.now result }
+    ensures place { IsPlaced kind bytes.now result }
 {
     match check_through(kind, bytes) {
         Ok(()) => NO_FAULT,
@@ -223,123 +210,22 @@ fn judged(kind: MessageKind, bytes: &[u8]) -> Fault
     }
 }
 
-/// What is wrong with the bytes as an address message and where it stands, or that they are one. It
-/// takes no memory.
+/// What is wrong with the bytes as a message of the kind of this number and where it stands, or that they
+/// are one. It takes no memory.
+///
+/// # Errors
+/// `UnknownKind` at a number of no kind.
 #[unsafe(no_mangle)]
-pub extern "C" fn npr_address_fault(bytes: &[u8]) -> Fault
-    ensures fault { IsJudged addresses bytes.now result }
+pub extern "C" fn npr_fault_of(kind: u32, bytes: &[u8]) -> Fault
+    ensures fault { MatchOption (kind_at kind) (result ≡ unknown_fault) (λ known. IsJudged (form_of known).grammar bytes.now result) }
     // Up to the place attributes read, and what stands there is wrong.
-    ensures place { IsPlaced 8 AddressStandsAt bytes.now result }
+    ensures place { IfSome (kind_at kind) (λ known. IsPlaced known bytes.now result) }
 {
-    judged(MessageKind::Address, bytes)
-}
-
-/// What is wrong with the bytes as a route message and where it stands, or that they are one. It
-/// takes no memory.
-#[unsafe(no_mangle)]
-pub extern "C" fn npr_route_fault(bytes: &[u8]) -> Fault
-    ensures fault { IsJudged routes bytes.now result }
-    // Up to the place attributes read, and what stands there is wrong.
-    ensures place { IsPlaced 12 RouteStandsAt bytes.now result }
-{
-    judged(MessageKind::Route, bytes)
-}
-
-/// What is wrong with the bytes as a rule message and where it stands, or that they are one. It
-/// takes no memory.
-#[unsafe(no_mangle)]
-pub extern "C" fn npr_rule_fault(bytes: &[u8]) -> Fault
-    ensures fault { IsJudged rules bytes.now result }
-    // Up to the place attributes read, and what stands there is wrong.
-    ensures place { IsPlaced 12 RuleStandsAt bytes.now result }
-{
-    judged(MessageKind::Rule, bytes)
-}
-
-/// What is wrong with the bytes as a neighbour message and where it stands, or that they are one. It
-/// takes no memory.
-#[unsafe(no_mangle)]
-pub extern "C" fn npr_neighbour_fault(bytes: &[u8]) -> Fault
-    ensures fault { IsJudged neighbours bytes.now result }
-    // Up to the place attributes read, and what stands there is wrong.
-    ensures place { IsPlaced 12 NeighbourStandsAt bytes.now result }
-{
-    judged(MessageKind::Neighbour, bytes)
-}
-
-/// What is wrong with the bytes as a link message and where it stands, or that they are one. It
-/// takes no memory.
-#[unsafe(no_mangle)]
-pub extern "C" fn npr_link_fault(bytes: &[u8]) -> Fault
-    ensures fault { IsJudged links bytes.now result }
-    // Up to the place attributes read, and what stands there is wrong.
-    ensures place { IsPlaced 16 LinkStandsAt bytes.now result }
-{
-    judged(MessageKind::Link, bytes)
-}
-
-/// What is wrong with the bytes as a next hop message and where it stands, or that they are one. It
-/// takes no memory.
-#[unsafe(no_mangle)]
-pub extern "C" fn npr_next_hop_fault(bytes: &[u8]) -> Fault
-    ensures fault { IsJudged next_hops bytes.now result }
-    // Up to the place attributes read, and what stands there is wrong.
-    ensures place { IsPlaced 8 NextHopStandsAt bytes.now result }
-{
-    judged(MessageKind::NextHop, bytes)
-}
-
-/// What is wrong with the bytes as a message of name spaces and where it stands, or that they are one. It
-/// takes no memory.
-#[unsafe(no_mangle)]
-pub extern "C" fn npr_nsid_fault(bytes: &[u8]) -> Fault
-    ensures fault { IsJudged nsids bytes.now result }
-    // Up to the place attributes read, and what stands there is wrong.
-    ensures place { IsPlaced 4 NsidStandsAt bytes.now result }
-{
-    judged(MessageKind::Nsid, bytes)
-}
-
-/// What is wrong with the bytes as a message of settings and where it stands, or that they are one. It
-/// takes no memory.
-#[unsafe(no_mangle)]
-pub extern "C" fn npr_netconf_fault(bytes: &[u8]) -> Fault
-    ensures fault { IsJudged netconfs bytes.now result }
-    // Up to the place attributes read, and what stands there is wrong.
-    ensures place { IsPlaced 4 NetconfStandsAt bytes.now result }
-{
-    judged(MessageKind::Netconf, bytes)
-}
-
-/// What is wrong with the bytes as a message of address labels and where it stands, or that they are one. It
-/// takes no memory.
-#[unsafe(no_mangle)]
-pub extern "C" fn npr_address_label_fault(bytes: &[u8]) -> Fault
-    ensures fault { IsJudged address_labels bytes.now result }
-    // Up to the place attributes read, and what stands there is wrong.
-    ensures place { IsPlaced 12 AddressLabelStandsAt bytes.now result }
-{
-    judged(MessageKind::AddressLabel, bytes)
-}
-
-/// What is wrong with the bytes as a message of tables of neighbours and where it stands, or that they are one. It
-/// takes no memory.
-#[unsafe(no_mangle)]
-pub extern "C" fn npr_neighbour_table_fault(bytes: &[u8]) -> Fault
-    ensures fault { IsJudged neighbour_tables bytes.now result }
-    // Up to the place attributes read, and what stands there is wrong.
-    ensures place { IsPlaced 4 NeighbourTableStandsAt bytes.now result }
-{
-    judged(MessageKind::NeighbourTable, bytes)
-}
-
-/// What is wrong with the bytes as a prefix message and where it stands, or that they are one. It
-/// takes no memory.
-#[unsafe(no_mangle)]
-pub extern "C" fn npr_prefix_fault(bytes: &[u8]) -> Fault
-    ensures fault { IsJudged prefixes bytes.now result }
-    // Up to the place attributes read, and what stands there is wrong.
-    ensures place { IsPlaced 12 PrefixStandsAt bytes.now result }
-{
-    judged(MessageKind::Prefix, bytes)
+    match kind_at(kind) {
+        Some(known) => judged(known, bytes),
+        None => Fault {
+            number: UNKNOWN_KIND,
+            ..NO_FAULT
+        },
+    }
 }

@@ -1,10 +1,10 @@
 //! The names of refusals and causes, by their numbers.
 
-ghost use Rattle.std.specs.Prelude.{◌≡◌, ◌≤◌, ◌<◌, length};
+ghost use Rattle.std.specs.Prelude.{◌≡◌, ◌≤◌, ◌<◌, length, codes};
 ghost use Rattle.{
   netlink_packet_route.specs.{Refusal.{decode_name, emit_name}, declared.framing.{DecodeError.{DecodeError}, EmitError.{EmitError}}},
   netlink_packet_core.specs.declared.refusal.EnvelopeError.{EnvelopeError},
-  npr_c.specs.{Envelopes.{envelope_name, envelope_number}, Names.{Puts, cause_name, refusal_name}, Numbers.{cause_number, refusal_number}},
+  npr_c.specs.{Envelopes.{envelope_name, envelope_number}, Kinds.{unknown_kind}, Names.{Puts, cause_name, refusal_name}, Numbers.{cause_number, refusal_number}},
 };
 
 /// The name of the refusal that has this number, or an empty text.
@@ -27,6 +27,7 @@ fn refusal_name(number: u32) -> &'static str
         13 => "Unsupported",
         14 => "MessageTooShort",
         15 => "MessageLength",
+        16 => "UnknownKind",
         _ => "",
     }
 }
@@ -71,6 +72,7 @@ pub extern "C" fn npr_refusal_name(number: u32, out: &mut [u8]) -> usize
     // Each refusal has its variant's name at its number.
     ensures name { (e : DecodeError) → refusal_name (refusal_number e) ≡ decode_name e }
     ensures message_name { (e : EnvelopeError) → refusal_name (envelope_number e) ≡ envelope_name e }
+    ensures kind_name { refusal_name unknown_kind ≡ codes "UnknownKind" }
 {
     put(refusal_name(number), out)
 }

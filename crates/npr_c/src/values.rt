@@ -1,18 +1,20 @@
 //! Values of attributes, one by one where they stand, and the lists that they hold. No call takes
 //! memory.
 
-ghost use Rattle.std.specs.Prelude.{◌≡◌};
+ghost use Rattle.std.specs.Prelude.{◌≡◌, MatchOption};
 ghost use Rattle.{
-  netlink_packet_route.specs.{Value.{shown}, declared.kind.MessageKind.TheVariants.{Address, AddressLabel, Link, Neighbour, NeighbourTable, Netconf, NextHop, Nsid, Prefix, Route, Rule}},
+  netlink_packet_route.specs.Value.{shown},
   npr_c.specs.{
+    Kinds.{kind_at, unknown_kind},
     Levels.{level_context, level_family, level_of},
     Numbers.{refusal_number},
-    Values.{BeginsAt, HopInside, InsideAt, ValuesAt, form_number, integer_of, length_of, no_value},
+    Values.{BeginsAt, HopInside, InsideAt, ValuesAt, form_number, integer_of, length_of, no_list, no_value},
   },
 };
 
 use crate::answer::refusal_number;
 use crate::faults::family_number;
+use crate::kinds::{UNKNOWN_KIND, kind_at};
 use crate::levels::{level_context, level_family, level_of};
 use netlink_packet_route::framing::{DecodeError, NLA_HEADER_SIZE, NlasIterator, Value};
 use netlink_packet_route::net::IpAddr;
@@ -188,92 +190,23 @@ fn begin(kind: MessageKind, bytes: &[u8]) -> ListStep
     }
 }
 
-/// The list of the attributes of an address message, behind its header. It takes no memory.
+/// The list of the attributes of a message of the kind of this number, behind its header. It takes no
+/// memory.
+///
+/// # Errors
+/// `UnknownKind` at a number of no kind.
 #[unsafe(no_mangle)]
-pub extern "C" fn npr_address_begin(bytes: &[u8]) -> ListStep
-    ensures { BeginsAt Address bytes.now result }
+pub extern "C" fn npr_begin(kind: u32, bytes: &[u8]) -> ListStep
+    ensures { MatchOption (kind_at kind) (result ≡ no_list 1 unknown_kind) (λ known. BeginsAt known bytes.now result) }
 {
-    begin(MessageKind::Address, bytes)
-}
-
-/// The list of the attributes of a route message, behind its header. It takes no memory.
-#[unsafe(no_mangle)]
-pub extern "C" fn npr_route_begin(bytes: &[u8]) -> ListStep
-    ensures { BeginsAt Route bytes.now result }
-{
-    begin(MessageKind::Route, bytes)
-}
-
-/// The list of the attributes of a rule message, behind its header. It takes no memory.
-#[unsafe(no_mangle)]
-pub extern "C" fn npr_rule_begin(bytes: &[u8]) -> ListStep
-    ensures { BeginsAt Rule bytes.now result }
-{
-    begin(MessageKind::Rule, bytes)
-}
-
-/// The list of the attributes of a neighbour message, behind its header. It takes no memory.
-#[unsafe(no_mangle)]
-pub extern "C" fn npr_neighbour_begin(bytes: &[u8]) -> ListStep
-    ensures { BeginsAt Neighbour bytes.now result }
-{
-    begin(MessageKind::Neighbour, bytes)
-}
-
-/// The list of the attributes of a link message, behind its header. It takes no memory.
-#[unsafe(no_mangle)]
-pub extern "C" fn npr_link_begin(bytes: &[u8]) -> ListStep
-    ensures { BeginsAt Link bytes.now result }
-{
-    begin(MessageKind::Link, bytes)
-}
-
-/// The list of the attributes of a next hop message, behind its header. It takes no memory.
-#[unsafe(no_mangle)]
-pub extern "C" fn npr_next_hop_begin(bytes: &[u8]) -> ListStep
-    ensures { BeginsAt NextHop bytes.now result }
-{
-    begin(MessageKind::NextHop, bytes)
-}
-
-/// The list of the attributes of a message of name spaces, behind its header. It takes no memory.
-#[unsafe(no_mangle)]
-pub extern "C" fn npr_nsid_begin(bytes: &[u8]) -> ListStep
-    ensures { BeginsAt Nsid bytes.now result }
-{
-    begin(MessageKind::Nsid, bytes)
-}
-
-/// The list of the attributes of a message of settings, behind its header. It takes no memory.
-#[unsafe(no_mangle)]
-pub extern "C" fn npr_netconf_begin(bytes: &[u8]) -> ListStep
-    ensures { BeginsAt Netconf bytes.now result }
-{
-    begin(MessageKind::Netconf, bytes)
-}
-
-/// The list of the attributes of a message of address labels, behind its header. It takes no memory.
-#[unsafe(no_mangle)]
-pub extern "C" fn npr_address_label_begin(bytes: &[u8]) -> ListStep
-    ensures { BeginsAt AddressLabel bytes.now result }
-{
-    begin(MessageKind::AddressLabel, bytes)
-}
-
-/// The list of the attributes of a message of tables of neighbours, behind its header. It takes no memory.
-#[unsafe(no_mangle)]
-pub extern "C" fn npr_neighbour_table_begin(bytes: &[u8]) -> ListStep
-    ensures { BeginsAt NeighbourTable bytes.now result }
-{
-    begin(MessageKind::NeighbourTable, bytes)
-}
-
-/// The list of the attributes of a prefix message, behind its header. It takes no memory.
-#[unsafe(no_mangle)]
-pub extern "C" fn npr_prefix_begin(bytes: &[u8]) -> ListStep
-    ensures { BeginsAt Prefix bytes.now result }
-{
-    begin(MessageKind::Prefix, bytes)
+    match kind_at(kind) {
+        Some(known) => begin(known, bytes),
+        None => ListStep {
+            status: 1,
+            number: UNKNOWN_KIND,
+            ..NO_LIST
+        },
+    }
 }
 
 /// The list of attributes in the value of the attribute that begins `at` bytes from the first of a

@@ -1,6 +1,4 @@
 use Rattle.std.proofs.Common.{inl, inr, refl}
-use Rattle.netlink_packet_route.specs.Levels.{header_size}
-use Rattle.npr_c.specs.Stops.{StandsIn}
 use Rattle.npr_c.proofs.Stopping.{placed, located_there}
 use Rattle.npr_c.proofs.faults.judged.Goals as goal
 
@@ -15,5 +13,4 @@ returns-in-Err-clause-fault c =
 pub returns-in-Err-clause-place : goal.returns-in-Err-clause-place
 returns-in-Err-clause-place c =
     let place = c.in-Err.place in
-    placed (header_size c.args.kind) (StandsIn c.args.kind) c.args.bytes.now c.standing.result c.of.result place.refusal place.offset c.of.ensures
-    c.standing.ensures c.in-Err.ensures.place
+    placed c.args.kind c.args.bytes.now c.standing.result c.of.result place.refusal place.offset c.of.ensures c.standing.ensures c.in-Err.ensures.place

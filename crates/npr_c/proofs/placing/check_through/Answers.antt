@@ -1,6 +1,5 @@
 use Rattle.std.proofs.Common.{◌≡◌, ℕ, ◌+◌, ◌-◌, length, refl, arith, inl, inr}
 use Rattle.netlink_packet_route.specs.ValidityLaws.{begun-message, begun-fault, begun-short}
-use Rattle.npr_c.proofs.Stopping.{begun-stands}
 use Rattle.npr_c.proofs.ValueSteps.{behind_short}
 use Rattle.npr_c.proofs.placing.check_through.Goals as goal
 
@@ -33,9 +32,8 @@ pub returns-in-Err-check_each-clause-place : goal.returns-in-Err-check_each-clau
 returns-in-Err-check_each-clause-place c =
     let begun = c.in-Ok.list in
     let bytes = c.args.bytes.now in
-    let e = c.in-Err-check_each.refusal in
     let (rest, stops, left) = c.in-Err-check_each.ensures.stopped in
     let short = behind_short c.args.kind bytes begun.0 begun.1.now c.in-Ok.ensures.ok in
     let offset : ℕ = length bytes - c.check_each.new.left in
     let place : length bytes ≡ offset + length rest = omega (arith, left, c.in-Err-check_each.ensures.within, short) in
-    inr (begun-stands c.args.kind bytes begun.1.now rest begun.0 offset e c.in-Ok.ensures.ok stops place)
+    inr (record { level = begun.0; behind = begun.1.now; begins = c.in-Ok.ensures.ok; rest = rest; place = place; stops = stops })
