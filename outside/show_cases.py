@@ -1,11 +1,13 @@
 """What nlshow is run with by `outside/run`, and how it answers."""
 
+import struct
+
 ROUTE = "02000000fe03000100000000"
 LINK = "00000100040000004310010000000000"
 
 # the end of a dump, and what nlshow is tried with
 DONE = bytes.fromhex("1400000003000200000000000000000000000000")
-SHOW_USAGE = b"usage: nlshow [--json | --count] [--numeric] [--hex] [--as KIND] [--links FILE] [--keep FILE] [FILE..]\n"
+SHOW_USAGE = b"usage: nlshow [--json | --count] [--numeric] [--hex] [--as KIND] [--links FILE] [--keep FILE] [--] [FILE..]\n"
 # a link, and a route by it
 LINK_MESSAGE = bytes.fromhex("28000000100000000000000000000000" "00000100020000000000000000000000" "0700030064300000")
 ROUTE_BY_LINK = bytes.fromhex("24000000180000000000000000000000" "02000000fe03000100000000" "0800040002000000")
@@ -25,13 +27,38 @@ OF_TEXT = b"-: this looks like hexadecimal text, which `--hex` reads\n"
 NO_DATAGRAM = b"-: this looks like no datagram; `--as` reads a message without an envelope\n"
 DATAGRAM = b"-: this looks like a datagram, which is read without `--as`\n"
 OF_LINES = b"-: this looks like a message over several lines, of which `tr -d '\\n'` makes one\n"
+
+
+def captures():
+    """Captures of a datagram that nlmon saw, behind one of another family, in each form and order of bytes."""
+    of_others, of_routes = (struct.pack(">HHH8xH", 4, 824, 0, family) for family in (16, 0))
+    for order, name in ("<", "little"), (">", "big"):
+        packet = lambda data: struct.pack(f"{order}IIII", 0, 0, len(data), len(data)) + data
+        head = struct.pack(f"{order}IHHiIII", 0xA1B2C3D4, 2, 4, 0, 0, 1 << 18, 253)
+        yield f"pcap, {name} endian", head + packet(of_routes + DONE)
+        yield f"pcap, {name} endian, with others", head + packet(of_others + DONE) + packet(of_routes + DONE)
+        head = struct.pack(f"{order}IIIHHqI", 0x0A0D0D0A, 28, 0x1A2B3C4D, 1, 0, -1, 28) + struct.pack(f"{order}IIHHII", 1, 20, 253, 0, 0, 20)
+        data = of_routes + DONE
+        yield f"pcapng, {name} endian", head + struct.pack(f"{order}7I", 6, 68, 0, 0, 0, 36, 36) + data + struct.pack(f"{order}I", 68)
+        yield f"pcapng, {name} endian, without times", head + struct.pack(f"{order}3I", 3, 52, 36) + data + struct.pack(f"{order}I", 52)
+
+
+CAPTURES = list(captures())
 SHOWN = [
     ("a wrong option", ["--jsn", "--hex"], b"", 2, b"", b"nlshow: `--jsn` is no option\n" + SHOW_USAGE),
     ("an option without its word", ["--json", "--keep"], b"", 2, b"", b"nlshow: `--keep` wants a word behind it\n" + SHOW_USAGE),
+    ("an option joined to a word that is none", ["--as=links"], b"", 2, b"", b"nlshow: `links` is no kind of message\n" + SHOW_USAGE),
+    ("an option joined to its word", ["--hex", "--as=route"], LABELS, 0, b"default encap mpls 100[tc 3]/200[ttl 255] proto boot\n", b""),
+    ("a file with the name of an option", ["--", "--json"], b"", 5, b"", b"--json: no such file or directory\n"),
+    ("the file behind one that is not there", ["/no/file", "-"], DONE, 5, b"done\n", b"/no/file: no such file or directory\n"),
+    *((f"what ip {kind} save wrote", [], magic.to_bytes(4, "little") + DONE, 0, b"done\n", b"")
+      for kind, magic in (("route", 0x45311224), ("address", 0x47361222), ("rule", 0x71706986))),
+    *((f"a capture, {title}", [], capture, 0, b"done\n", b"") for title, capture in CAPTURES),
+    ("a capture that is cut", [], CAPTURES[0][1][:-1], 1, b"", b"-: packet 1 at byte 24, 51 bytes: BadBlock: no block of a capture of nlmon\n"),
     ("objects and a count", ["--json", "--count"], b"", 2, b"", b"nlshow: `--json` and `--count` do not go together\n" + SHOW_USAGE),
     ("a kind of no message", ["--as", "links"], b"", 2, b"", b"nlshow: `links` is no kind of message\n" + SHOW_USAGE),
     ("a word that is no text", [b"\xff"], b"", 4, b"", b"nlshow: out of memory\n"),
-    ("a file that is not there", ["/no/file"], b"", 5, b"", b"/no/file: cannot be opened\n"),
+    ("a file that is not there", ["/no/file"], b"", 5, b"", b"/no/file: no such file or directory\n"),
     ("a file that need not be made", ["--keep", "/no/file"], DONE, 0, b"done\n", b""),
     ("a file that cannot be made", ["--keep", "/no/file", "--hex"], b"0\n", 5, b"", b"-: line 1 at byte 0, 1 bytes: " + BAD_HEX + b"/no/file: cannot be opened\n"),
     ("no input", [], b"", 0, b"", b""),
@@ -40,7 +67,7 @@ SHOWN = [
     ("a count", ["--count"], 2 * DONE, 0, COUNTS, b""),
     ("a name of an interface that its link tells", [], LINK_MESSAGE + ROUTE_BY_LINK, 0, b"2: d0: <>\n    link/ether\ndefault dev d0 proto boot\n", b""),
     ("names that a file tells", ["--links", "-", "/dev/null"], LINK_MESSAGE, 0, b"", b""),
-    ("a file of names that is not there", ["--links", "/no/file"], DONE, 5, b"", b"/no/file: cannot be opened\n"),
+    ("a file of names that is not there", ["--links", "/no/file"], DONE, 5, b"", b"/no/file: no such file or directory\n"),
     ("a file of names that is no dump", ["--links", "-", "/dev/null"], DONE[:7], 1, b"",
      b"-: message 1 at byte 0, 7 bytes: MessageTooShort: 7 bytes, where a message begins with 16\n"),
     ("a count, which has no names", ["--count", "--links", "-", "/dev/null"], LINK_MESSAGE, 0, COUNTS.replace(b"bytes 40", b"bytes 0").replace(b"controls 2", b"controls 0"), b""),

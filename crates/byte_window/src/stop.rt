@@ -1,7 +1,7 @@
 //! Why a run ends before its input does.
 
 ghost use Rattle.std.specs.{Prelude.{◌≡◌, option_map}, IoError.{error_kind}};
-ghost use Rattle.byte_window.specs.{declared.stop.Stop.TheVariants.{Memory}, Stop.{line_of, status_of, unwritten}};
+ghost use Rattle.byte_window.specs.{declared.stop.Stop.TheVariants.{Memory}, Stop.{line_of, status_of, unopened, unwritten}};
 
 use std::alloc::{AllocError, AllocFailed};
 use std::io;
@@ -12,6 +12,10 @@ use std::io::ErrorKind;
 pub enum Stop {
     /// Memory was refused.
     Memory,
+    /// There is no file of this name.
+    Missing,
+    /// A file may not be opened.
+    Forbidden,
     /// A file could not be opened, or made.
     Open,
     /// Input could not be read.
@@ -30,7 +34,7 @@ impl Stop {
         match self {
             Stop::Closed => 0,
             Stop::Memory => 4,
-            Stop::Open | Stop::Read | Stop::Write => 5,
+            Stop::Missing | Stop::Forbidden | Stop::Open | Stop::Read | Stop::Write => 5,
         }
     }
 
@@ -40,10 +44,23 @@ impl Stop {
     {
         match self {
             Stop::Memory => Some("out of memory"),
+            Stop::Missing => Some("no such file or directory"),
+            Stop::Forbidden => Some("permission denied"),
             Stop::Open => Some("cannot be opened"),
             Stop::Read => Some("read failed"),
             Stop::Write => Some("write failed"),
             Stop::Closed => None,
+        }
+    }
+
+    /// Why a file could not be opened, or made.
+    pub fn of_open(fault: &io::Error) -> Stop
+        ensures { result ≡ unopened (error_kind fault.now) }
+    {
+        match fault.kind() {
+            ErrorKind::NotFound => Stop::Missing,
+            ErrorKind::PermissionDenied => Stop::Forbidden,
+            _ => Stop::Open,
         }
     }
 

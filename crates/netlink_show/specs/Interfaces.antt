@@ -1,21 +1,24 @@
 -- The interfaces that were told of, and what messages tell of them.
-use Rattle.std.specs.Prelude.{◌≡◌, ◌≢◌, ℕ, ◌==◌, Bool, false, not, List, Option, None, Some, bit_and, option_map, string_bytes}
+use Rattle.std.specs.Prelude.{◌≡◌, ◌≢◌, ◌<◌, ◌⊎◌, ℕ, ◌==◌, Bool, false, not, List, [], Option, None, Some, All, length}
+use Rattle.std.specs.Prelude.{bit_and, option_map, string_bytes}
 use Rattle.std.specs.Bool.{MatchBool}
 use Rattle.std.specs.BTreeMap.{get, IsUnchanged}
 use Rattle.std.specs.Ordering.{nat_cmp}
-use Rattle.netlink_packet_core.specs.declared.NetlinkMessage.{NetlinkMessage}
-use Rattle.netlink_packet_core.specs.declared.NetlinkPayload.{NetlinkPayload}
-use Rattle.netlink_packet_core.specs.declared.NetlinkPayload.TheVariants.{InnerMessage}
-use Rattle.netlink_packet_route.specs.Found.{IsFirst}
-use Rattle.netlink_packet_route.specs.LinkFlags.{link_flag_bits}
+use Rattle.netlink_packet_route.specs.Codec.{leading}
+use Rattle.netlink_packet_route.specs.Framing.{Item, Front, Passes, Fault, number_of}
+use Rattle.netlink_packet_route.specs.Levels.{Begins, reading_at}
+use Rattle.netlink_packet_route.specs.LinkHeader.{header_buffer}
 use Rattle.netlink_packet_route.specs.Text.{is_set}
-use Rattle.netlink_packet_route.specs.declared.AddressFamily.{AddressFamily}
-use Rattle.netlink_packet_route.specs.declared.AddressFamily.TheVariants.{Unspec}
-use Rattle.netlink_packet_route.specs.declared.RouteNetlinkMessage.{RouteNetlinkMessage}
-use Rattle.netlink_packet_route.specs.declared.RouteNetlinkMessage.TheVariants.{NewLink, DelLink}
-use Rattle.netlink_packet_route.specs.declared.link.LinkAttribute.{LinkAttribute}
-use Rattle.netlink_packet_route.specs.declared.link.LinkAttribute.TheVariants.{IfName}
-use Rattle.netlink_packet_route.specs.declared.link.LinkHeader.{LinkHeader}
+use Rattle.netlink_packet_route.specs.Value.{Shown, is_name}
+use Rattle.netlink_packet_route.specs.Values.{Seen, Unseen}
+use Rattle.netlink_packet_route.specs.declared.framing.DecodeError.{DecodeError}
+use Rattle.netlink_packet_route.specs.declared.kind.MessageKind.TheVariants as Kind
+use Rattle.netlink_packet_route.specs.declared.levels.Level.{Level}
+use Rattle.netlink_packet_route.specs.declared.link.LinkMessageBuffer.{LinkMessageBuffer}
+use Rattle.netlink_packet_route.specs.declared.message_type.Action.TheVariants.{New, Del}
+use Rattle.netlink_packet_route.specs.declared.message_type.MessageType.{MessageType}
+use Rattle.netlink_packet_route.specs.declared.message_type.MessageType.TheVariants.{Of}
+use Rattle.netlink_packet_route.specs.declared.message_type.Subject.TheVariants.{Link}
 use Rattle.netlink_show.specs.declared.interfaces.Interface.{Interface}
 use Rattle.netlink_show.specs.declared.interfaces.Interfaces.{Interfaces}
 
@@ -47,38 +50,77 @@ pub record Forgets (old : Interfaces) (index : ℕ) (new : Interfaces) : Type 0 
   pub forgotten : told new index ≡ None
   pub others : KeepsOthers old index new
 
--- the name, where the attribute is one (IFLA_IFNAME)
-abbrev pub name_in : LinkAttribute → Option (List ℕ)
-name_in (IfName name) = Some (string_bytes name)
-name_in attribute = None
+-- the number of the attribute with the name of a link (linux/if_link.h, IFLA_IFNAME)
+abbrev pub ifname : ℕ
+ifname = 3
+
+-- attributes of other numbers stand in front of the rest
+pub record Nameless (bytes rest : List ℕ) : Type 0 where
+  pub passed : List Item
+  pub passes : Passes bytes passed rest
+  pub others : All (λ x. number_of x.kind ≢ ifname) passed
+
+-- the first of that number
+pub record IsNaming (bytes : List ℕ) (x : Item) : Type 0 where
+  pub rest : List ℕ
+  pub before : Nameless bytes rest
+  pub more : List ℕ
+  pub front : Front rest x more
+  pub number : number_of x.kind ≡ ifname
+
+-- a value that is no name
+abbrev pub IsNoName : Shown → Type 0
+IsNoName (is_name text) = ⊥
+IsNoName s = Unit {0}
+
+-- the name that it tells where it stands, or that it tells none
+abbrev pub Names : Level → Item → Option (List ℕ) → Type 0
+Names level x (Some name) = Seen (reading_at level).reading x (is_name name)
+Names level x None =
+    ((e : DecodeError) × Unseen (reading_at level).reading x e) ⊎ ((s : Shown) × Seen (reading_at level).reading x s × IsNoName s)
+
+-- no attribute stands in front: the end, or a fault
+abbrev pub Ends : List ℕ → Type 0
+Ends rest = (rest ≡ []) ⊎ ((e : DecodeError) × (0 < length rest) × Fault rest e)
+
+-- the name that attributes tell of their link, by the first IFLA_IFNAME; where there is none, they tell none
+abbrev pub TellsName : Level → List ℕ → Option (List ℕ) → Type 0
+TellsName level bytes name =
+    ((x : Item) × IsNaming bytes x × Names level x name) ⊎ ((rest : List ℕ) × Nameless bytes rest × Ends rest × (name ≡ None))
 
 -- whether a link is up (IFF_UP)
-abbrev pub is_up : LinkHeader → Bool
-is_up header = is_set (link_flag_bits.number header.flags) 1
+abbrev pub is_up : LinkMessageBuffer → Bool
+is_up header = is_set header.flags 1
 
 -- of a link that is there and has the name, or none: nothing without a number or a name
-abbrev pub LearnsUnder : Interfaces → LinkHeader → Option (List ℕ) → Interfaces → Type 0
+abbrev pub LearnsUnder : Interfaces → LinkMessageBuffer → Option (List ℕ) → Interfaces → Type 0
 LearnsUnder old header None new = LearnsNothing old new
 LearnsUnder old header (Some name) new =
-    MatchBool (header.index == 0) (LearnsNothing old new) (LearnsName old header.index name (is_up header) new)
+    MatchBool (header.link_index == 0) (LearnsNothing old new) (LearnsName old header.link_index name (is_up header) new)
 
--- of a link that is there, by the first name among its attributes
-pub record LearnsNew (old : Interfaces) (header : LinkHeader) (attributes : List LinkAttribute) (new : Interfaces) : Type 0 where
-  pub name : Option (List ℕ)
-  pub first : IsFirst name_in attributes name
-  pub learned : LearnsUnder old header name new
+-- the header in front of the bytes tells this, or there are too few for one, which tells nothing
+abbrev pub ByHeader : List ℕ → Interfaces → Interfaces → (LinkMessageBuffer → Type 0) → Type 0
+ByHeader bytes old new tells =
+    ((length bytes < header_buffer.size) × LearnsNothing old new)
+    ⊎ ((header : LinkMessageBuffer) × (leading header_buffer).Reads bytes header × tells header)
 
--- of a link that is gone: under a family it has left that alone, as a port its bridge
-abbrev pub LearnsGone : Interfaces → ℕ → AddressFamily → Interfaces → Type 0
-LearnsGone old index Unspec new = Forgets old index new
-LearnsGone old index family new = LearnsNothing old new
+-- of a link that is there, by the name that the attributes behind the header tell
+abbrev pub LearnsNew : Interfaces → List ℕ → Interfaces → Type 0
+LearnsNew old bytes new =
+    ByHeader bytes old new (λ header. (level : Level) × (rest : List ℕ) × Begins Kind.Link bytes level rest
+    × (name : Option (List ℕ)) × TellsName level rest name × LearnsUnder old header name new)
 
--- of what stands in an answer: links that are there or gone tell something, and nothing else does
-abbrev pub LearnsOf : Interfaces → NetlinkPayload RouteNetlinkMessage → Interfaces → Type 0
-LearnsOf old (InnerMessage (NewLink link)) new = LearnsNew old link.header link.attributes.items new
-LearnsOf old (InnerMessage (DelLink link)) new = LearnsGone old link.header.index link.header.interface_family new
-LearnsOf old payload new = LearnsNothing old new
+-- of a link that is gone: under a family (AF_UNSPEC is 0) it has left that alone, as a port its bridge
+abbrev pub LearnsGone : Interfaces → List ℕ → Interfaces → Type 0
+LearnsGone old bytes new =
+    ByHeader bytes old new (λ header. MatchBool (header.interface_family == 0) (Forgets old header.link_index new) (LearnsNothing old new))
+
+-- of what stands behind an envelope whose type says this: links that are there or gone tell something, and nothing else does
+abbrev pub LearnsOf : Interfaces → MessageType → List ℕ → Interfaces → Type 0
+LearnsOf old (Of Link New) bytes new = LearnsNew old bytes new
+LearnsOf old (Of Link Del) bytes new = LearnsGone old bytes new
+LearnsOf old says bytes new = LearnsNothing old new
 
 -- of a message: a request (NLM_F_REQUEST) tells nothing
-abbrev pub Learns : Interfaces → NetlinkMessage RouteNetlinkMessage → Interfaces → Type 0
-Learns old message new = MatchBool (bit_and message.header.flags 1 == 0) (LearnsOf old message.payload new) (LearnsNothing old new)
+abbrev pub Learns : Interfaces → MessageType → ℕ → List ℕ → Interfaces → Type 0
+Learns old says flags bytes new = MatchBool (bit_and flags 1 == 0) (LearnsOf old says bytes new) (LearnsNothing old new)

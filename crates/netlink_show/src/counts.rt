@@ -1,8 +1,8 @@
 //! How many messages there were.
 
-use crate::message_fields::type_of;
-use netlink_packet_core::NetlinkPayload;
-use netlink_packet_route::{MessageKind, RouteNetlinkMessage};
+use crate::message::Shown;
+use netlink_packet_core::{NLMSG_DONE, NLMSG_ERROR, NLMSG_NOOP, NLMSG_OVERRUN};
+use netlink_packet_route::MessageKind;
 use std::alloc::AllocError;
 
 /// How many messages there were, of each kind. No count goes past the greatest number.
@@ -41,16 +41,18 @@ pub struct Counts {
 }
 
 impl Counts {
-    /// Counts a message that was read. Bytes and refusals are for the caller to count.
-    pub fn add(&mut self, payload: &NetlinkPayload<RouteNetlinkMessage>) {
-        match payload {
-            NetlinkPayload::InnerMessage(message) => self.add_kind(type_of(message).kind()),
-            _ => self.controls = self.controls.saturating_add(1),
+    /// Counts a message that can be shown. Bytes and refusals are for the caller to count.
+    pub fn add(&mut self, message: Shown<'_>) {
+        match (message.kind, message.message_type) {
+            (None, NLMSG_NOOP | NLMSG_ERROR | NLMSG_DONE | NLMSG_OVERRUN) => {
+                self.controls = self.controls.saturating_add(1)
+            }
+            (kind, _) => self.add_kind(kind),
         }
     }
 
     /// Counts a message of rtnetlink of this kind, or of none that the library reads.
-    pub fn add_kind(&mut self, kind: Option<MessageKind>) {
+    fn add_kind(&mut self, kind: Option<MessageKind>) {
         let count = match kind {
             Some(MessageKind::Address) => &mut self.addresses,
             Some(MessageKind::Route) => &mut self.routes,

@@ -19,9 +19,6 @@ pub struct Wording(pub u8, pub &'static str, pub &'static str);
 /// A word of `ip`. A reference to one costs the prover a fifth of what the words themselves do.
 pub type Word = &'static Wording;
 
-/// Attributes, each by its number with its word.
-pub type NumberWords = &'static [(u16, Word)];
-
 /// Bits, each with its word.
 pub type Flags = &'static [(u32, Word)];
 
@@ -149,13 +146,6 @@ impl<'a> Fields<'a> {
             Ok((text, object)) => self.add(word, text, object),
             Err(AllocError) => self.is_cut = true,
         }
-    }
-
-    /// The same, and the object is the only one of a list.
-    pub fn object_alone(&mut self, word: Word, inside: Fields) {
-        let mut objects = Fields::new(self.manner);
-        objects.object(ITEM, inside);
-        self.list(word, objects, " ");
     }
 
     /// Pieces whose values are a list in JSON, with this between their texts.

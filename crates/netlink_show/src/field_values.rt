@@ -1,8 +1,9 @@
 //! How the values of pieces are shown.
 
-use crate::field::{Fields, Flags, ITEM, NumberWords, Word};
+use crate::field::{Fields, Flags, ITEM, Word};
 use crate::manner::{Bits, Hexadecimal};
 use crate::names::Names;
+use netlink_packet_route::AddressFamily;
 use serde_json::Value;
 use std::alloc::AllocError;
 use std::fmt;
@@ -42,39 +43,6 @@ impl Fields<'_> {
     /// A number.
     pub fn number<N: Into<Value> + fmt::Display + Copy>(&mut self, word: Word, number: N) {
         self.push(word, number, &number);
-    }
-
-    /// The number that an attribute of this number is.
-    pub fn number_of<N: Into<Value> + fmt::Display + Copy>(
-        &mut self,
-        words: NumberWords,
-        kind: u16,
-        number: N,
-    ) {
-        if let Some((_, word)) = words.iter().find(|row| row.0 == kind) {
-            self.number(*word, number);
-        }
-    }
-
-    /// The truth value that an attribute of this number is.
-    pub fn switch_of(&mut self, words: NumberWords, kind: u16, is_on: bool) {
-        if let Some((_, word)) = words.iter().find(|row| row.0 == kind) {
-            self.switch(*word, is_on);
-        }
-    }
-
-    /// The time that an attribute of this number is, in hundredths of a second.
-    pub fn hundredths_of(&mut self, words: NumberWords, kind: u16, count: u64) {
-        if let Some((_, word)) = words.iter().find(|row| row.0 == kind) {
-            self.hundredths(*word, count);
-        }
-    }
-
-    /// The text that an attribute of this number is.
-    pub fn text_of<D: fmt::Display>(&mut self, words: NumberWords, kind: u16, shown: &D) {
-        if let Some((_, word)) = words.iter().find(|row| row.0 == kind) {
-            self.text(*word, shown);
-        }
     }
 
     /// An interface by its name, or by its number where nobody has told a name.
@@ -141,11 +109,9 @@ impl Fields<'_> {
         self.hide_if(!is_so);
     }
 
-    /// The same of the attribute of this number.
-    pub fn word_of(&mut self, words: NumberWords, kind: u16, is_so: bool) {
-        if let Some((_, word)) = words.iter().find(|row| row.0 == kind) {
-            self.word_if(*word, is_so);
-        }
+    /// An address family by its name.
+    pub fn family(&mut self, word: Word, family: u8) {
+        self.text(word, &AddressFamily::from(family));
     }
 
     /// Bits, which are a hexadecimal text in JSON too.

@@ -5,16 +5,24 @@ ghost use Rattle.std.specs.{
   BTreeMap.{IsUnchanged, Updates},
   Ordering.{nat_cmp},
 };
-ghost use Rattle.{
-  netlink_packet_route.specs.Found.{IsFirst},
-  netlink_show.specs.Interfaces.{told, is_known_down, is_up, name_in, Learns, LearnsNew, LearnsName, LearnsGone},
-};
+ghost use Rattle.netlink_show.specs.Interfaces.{told, is_known_down, is_up, Learns, LearnsGone, LearnsName, LearnsNew, Names, TellsName};
 
-use netlink_packet_core::{NLM_F_REQUEST, NetlinkMessage, NetlinkPayload};
-use netlink_packet_route::link::{LinkAttribute, LinkFlags, LinkHeader, LinkMessage};
-use netlink_packet_route::{AddressFamily, Flags, RouteNetlinkMessage};
+use crate::message::Shown;
+use netlink_packet_core::NLM_F_REQUEST;
+use netlink_packet_route::framing::{NlaBuffer, NlasIterator, Value};
+use netlink_packet_route::link::LinkMessageBuffer;
+use netlink_packet_route::{Action, Level, MessageKind, MessageType, Subject};
 use std::alloc::{AllocError, Global};
 use std::collections::BTreeMap;
+
+/// The name of a link (`IFLA_IFNAME` of `linux/if_link.h`).
+const IFLA_IFNAME: u16 = 3;
+
+/// The flag of a link that is up (`IFF_UP` of `linux/if.h`).
+const IFF_UP: u32 = 0x1;
+
+/// The family of a message on a link itself (`AF_UNSPEC` of `linux/socket.h`).
+const AF_UNSPEC: u8 = 0;
 
 /// An interface.
 #[derive(Drop)]
@@ -82,17 +90,17 @@ impl Interfaces {
     ///
     /// # Errors
     /// `AllocError` where memory is refused; what was told before stands then.
-    pub fn note(&mut self, message: &NetlinkMessage<RouteNetlinkMessage>) -> Result<(), AllocError>
-        ensures ok { OnOk result (Learns self.old message.now self.new) }
+    pub fn note(&mut self, alloc: Global, message: Shown<'_>) -> Result<(), AllocError>
+        ensures ok { OnOk result (Learns self.old message.entry.says message.entry.flags message.entry.payload.now self.new) }
         ensures refused { OnErr result (IsUnchanged self.old.known self.new.known) }
     {
-        if message.header.flags & NLM_F_REQUEST != 0 {
+        if message.flags & NLM_F_REQUEST != 0 {
             return Ok(());
         }
-        match &message.payload {
-            NetlinkPayload::InnerMessage(RouteNetlinkMessage::NewLink(link)) => self.note_new(link),
-            NetlinkPayload::InnerMessage(RouteNetlinkMessage::DelLink(link)) => {
-                self.note_gone(&link.header);
+        match message.says {
+            MessageType::Of(Subject::Link, Action::New) => self.note_new(alloc, message.payload),
+            MessageType::Of(Subject::Link, Action::Del) => {
+                self.note_gone(message.payload);
                 Ok(())
             }
             _ => Ok(()),
@@ -100,53 +108,71 @@ impl Interfaces {
     }
 
     /// A link that is there. Nothing is learned of one without a name, or without a number.
-    fn note_new(&mut self, message: &LinkMessage) -> Result<(), AllocError>
-        ensures ok { OnOk result (LearnsNew self.old message.now.header message.now.attributes.items self.new) }
+    fn note_new(&mut self, alloc: Global, bytes: &[u8]) -> Result<(), AllocError>
+        ensures ok { OnOk result (LearnsNew self.old bytes.now self.new) }
         ensures refused { OnErr result (IsUnchanged self.old.known self.new.known) }
     {
-        let header = &message.header;
-        match first_name(message.attributes.as_slice()) {
-            Some(name) if header.index != 0 => self.note_name(header, name),
+        let Ok(header) = LinkMessageBuffer::parse(bytes) else {
+            return Ok(());
+        };
+        let Ok((level, attributes)) = Level::begin(MessageKind::Link, bytes) else {
+            return Ok(());
+        };
+        match first_name(level, attributes) {
+            Some(name) if header.link_index != 0 => self.note_name(alloc, &header, name),
             _ => Ok(()),
         }
     }
 
     /// The name of a link that is there, and whether it is up.
-    fn note_name(&mut self, header: &LinkHeader, name: &String) -> Result<(), AllocError>
-        ensures ok { OnOk result (LearnsName self.old header.now.index (string_bytes name.now) (is_up header.now) self.new) }
+    fn note_name(
+        &mut self,
+        alloc: Global,
+        header: &LinkMessageBuffer,
+        name: &str,
+    ) -> Result<(), AllocError>
+        ensures ok { OnOk result (LearnsName self.old header.now.link_index name.now (is_up header.now) self.new) }
         ensures refused { OnErr result (IsUnchanged self.old.known self.new.known) }
     {
         let interface = Interface {
-            name: name.clone()?,
-            is_up: header.flags.contains(LinkFlags::Up),
+            name: String::from_str(alloc, name)?,
+            is_up: header.flags & IFF_UP == IFF_UP,
         };
-        self.learn(header.index, interface)?;
-        Ok(())
+        self.learn(header.link_index, interface)
     }
 
     /// A link that is gone. Under a family it has left that alone, as a port its bridge.
-    fn note_gone(&mut self, header: &LinkHeader)
-        ensures { LearnsGone self.old header.now.index header.now.interface_family self.new }
+    fn note_gone(&mut self, bytes: &[u8])
+        ensures { LearnsGone self.old bytes.now self.new }
     {
-        if let AddressFamily::Unspec = header.interface_family {
-            self.forget(header.index);
+        match LinkMessageBuffer::parse(bytes) {
+            Ok(header) if header.interface_family == AF_UNSPEC => self.forget(header.link_index),
+            _ => {}
         }
     }
 }
 
-/// The first name that its attributes give to a link.
-pub fn first_name(attributes: &[LinkAttribute]) -> Option<&String>
-    ensures { IsFirst name_in attributes.now (option_map (λ name. string_bytes name.now) result) }
+/// The name that the attributes of a link message tell.
+fn first_name(level: Level, attributes: &[u8]) -> Option<&str>
+    ensures { TellsName level attributes.now (option_map (λ name. name.now) result) }
 {
-    attributes.iter().find_map(name_of)
+    let mut walk = NlasIterator::new(attributes);
+    'attributes: loop {
+        let Some(Ok(item)) = walk.next() else {
+            return None;
+        };
+        if item.kind() == IFLA_IFNAME {
+            return name_of(level, &item);
+        }
+    }
 }
 
-/// The name that an attribute gives to its link.
-fn name_of(attribute: &LinkAttribute) -> Option<&String>
-    ensures { option_map (λ name. string_bytes name.now) result ≡ name_in attribute.now }
+/// The name that the value of this attribute is.
+fn name_of<'a>(level: Level, item: &NlaBuffer<'a>) -> Option<&'a str>
+    ensures { Names level item.now (option_map (λ name. name.now) result) }
 {
-    match attribute {
-        LinkAttribute::IfName(name) => Some(name),
+    match level.value(item) {
+        Ok((_, Value::Name(name))) => Some(name),
         _ => None,
     }
 }

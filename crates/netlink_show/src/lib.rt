@@ -1,66 +1,60 @@
 //! What stands in a message of rtnetlink, in lines and as JSON, as `ip` shows it.
 //!
-//! `append_lines` and `append_object` show a message, with the names of `Interfaces` that link messages
-//! told, `Counts` says how many there were of each kind, and `attribute_name` has the names of attributes.
+//! `append_lines` and `append_object` show a message where it stands, with the names of `Interfaces`
+//! that link messages told, `Counts` says how many there were of each kind, and `attribute_name` has the
+//! names of attributes.
 #![tactic(auto)]
 
-mod address_fields;
-mod address_label_fields;
-mod af_spec_fields;
-mod attribute_fields;
+mod address;
+mod address_label;
+mod attribute;
 mod attribute_names;
-mod bond_fields;
-mod bond_port_fields;
-mod bridge_fields;
-mod bridge_port_fields;
-mod bridge_vlan_fields;
+mod bond;
+mod bridge;
+mod bridge_vlan;
 mod counts;
-mod encap_fields;
+mod device;
 mod field;
 mod field_values;
-mod geneve_fields;
-mod gre_fields;
 mod interfaces;
-mod ip_tunnel_fields;
-mod kind_fields;
-mod link_attribute_fields;
+mod link;
+mod link_attribute;
 mod link_attribute_names;
-mod link_device_fields;
-mod link_fields;
-mod link_info_fields;
 mod link_kind_attribute_names;
 mod link_kind_names;
 mod link_names;
-mod link_number_fields;
-mod link_peer_fields;
+mod link_number;
 mod link_setting_names;
-mod link_tunnel_fields;
-mod mac_vlan_fields;
+mod list;
 mod manner;
-mod message_fields;
-mod metric_fields;
+mod message;
+mod metric;
 mod names;
-mod neighbour_fields;
-mod neighbour_table_fields;
-mod netconf_fields;
-mod netkit_fields;
-mod next_hop_fields;
-mod next_hop_group_fields;
-mod next_hop_object_fields;
-mod nsid_fields;
-mod prefix_fields;
-mod route_attribute;
-mod route_fields;
-mod rule_fields;
+mod neighbour;
+mod neighbour_table;
+mod netconf;
+mod next_hop;
+mod nsid;
+mod part;
+mod peer;
+mod prefix;
+mod route;
+mod route_value;
+mod row;
+mod rule;
+mod segment_encap;
 mod shown;
 mod small_attribute_names;
-mod tun_fields;
-mod tunnel_fields;
-mod vlan_fields;
-mod vxlan_fields;
+mod tables;
+mod tunnel;
+mod tunnel_encap;
+mod tunnel_value;
+mod value;
+mod walk;
 
 pub use attribute_names::attribute_name;
 pub use counts::Counts;
 pub use interfaces::{Interface, Interfaces};
 pub use manner::Manner;
+pub use message::Shown;
 pub use shown::{append_lines, append_object};

@@ -3,7 +3,7 @@
 use crate::interfaces::Interfaces;
 use crate::names::Names;
 use netlink_packet_route::net::{IpAddr, Ipv4Addr, Ipv6Addr};
-use netlink_packet_route::route::{MplsLabel, RouteAddress};
+use netlink_packet_route::route::MplsLabel;
 use std::alloc::Global;
 use std::fmt;
 
@@ -90,35 +90,6 @@ impl fmt::Display for Inet<'_> {
     }
 }
 
-/// An address, and of a family without a text its bytes.
-#[derive(Clone, Copy)]
-pub struct Address<'a>(pub &'a RouteAddress);
-
-impl fmt::Display for Address<'_> {
-    fn fmt<W: fmt::Write>(&self, f: &mut fmt::Formatter<W>) -> fmt::Result {
-        match self.0 {
-            RouteAddress::Inet(ip) => write!(f, "{ip}"),
-            RouteAddress::Inet6(ip) => write!(f, "{}", Inet6(ip)),
-            RouteAddress::Mpls(label) => write!(f, "{}", Label(*label, true)),
-            RouteAddress::Other(bytes) => write!(f, "{}", Hexadecimal(bytes.as_slice(), "")),
-        }
-    }
-}
-
-/// An address with the length of its prefix, where that is not the address's own.
-#[derive(Clone, Copy)]
-pub struct Prefix<'a>(pub &'a RouteAddress, pub u8);
-
-impl fmt::Display for Prefix<'_> {
-    fn fmt<W: fmt::Write>(&self, f: &mut fmt::Formatter<W>) -> fmt::Result {
-        let Prefix(address, length) = *self;
-        if length == whole_length(address) {
-            return write!(f, "{}", Address(address));
-        }
-        write!(f, "{}/{length}", Address(address))
-    }
-}
-
 /// A prefix of this length without an address.
 #[derive(Clone, Copy)]
 pub struct Nowhere(pub u8);
@@ -129,16 +100,6 @@ impl fmt::Display for Nowhere {
             0 => write!(f, "default"),
             length => write!(f, "0/{length}"),
         }
-    }
-}
-
-/// The length of the prefix that is the address alone.
-fn whole_length(address: &RouteAddress) -> u8 {
-    match address {
-        RouteAddress::Inet(_) => 32,
-        RouteAddress::Inet6(_) => 128,
-        RouteAddress::Mpls(_) => 20,
-        RouteAddress::Other(_) => 0,
     }
 }
 

@@ -1,20 +1,18 @@
 //! Messages as lines and as objects.
 
 use crate::manner::Manner;
-use crate::message_fields::message_fields;
-use netlink_packet_core::NetlinkMessage;
-use netlink_packet_route::RouteNetlinkMessage;
+use crate::message::{Shown, message_fields};
 use serde_json::Value;
 use std::alloc::AllocError;
 
 /// Appends what `ip` says of a message, which is a line, and of a route by several paths another for
-/// each, with their ends.
+/// each, with their ends. Of a message that `Shown::check` refuses there may be less.
 ///
 /// # Errors
 /// `AllocError` where memory is refused; some of the text may stand then.
 pub fn append_lines(
     manner: Manner,
-    message: &NetlinkMessage<RouteNetlinkMessage>,
+    message: Shown<'_>,
     text: &mut String,
 ) -> Result<(), AllocError> {
     let line = message_fields(manner, message).line("", " ")?;
@@ -22,13 +20,14 @@ pub fn append_lines(
     text.push('\n')
 }
 
-/// Appends the object of a message as JSON, with the keys of `ip -j -d`, and the end of a line.
+/// Appends the object of a message as JSON, with the keys of `ip -j -d`, and the end of a line. Of a
+/// message that `Shown::check` refuses there may be less.
 ///
 /// # Errors
 /// `AllocError` where memory is refused; some of the text may stand then.
 pub fn append_object(
     manner: Manner,
-    message: &NetlinkMessage<RouteNetlinkMessage>,
+    message: Shown<'_>,
     text: &mut String,
 ) -> Result<(), AllocError> {
     let members = message_fields(manner, message).into_members()?;

@@ -6,13 +6,14 @@ use std::fmt;
 
 /// The line for a command line that says nothing that can be done.
 pub const USAGE: &str =
-    "usage: nlshow [--json | --count] [--numeric] [--hex] [--as KIND] [--links FILE] [--keep FILE] [FILE..]";
+    "usage: nlshow [--json | --count] [--numeric] [--hex] [--as KIND] [--links FILE] [--keep FILE] [--] [FILE..]";
 
 /// What `--help` says.
 pub const HELP: &str =
-    "nlshow shows messages of rtnetlink as ip does: datagrams with their envelopes, from files or standard input.
+    "nlshow shows messages of rtnetlink as ip does: datagrams with their envelopes, from files or standard input,
+also as `ip route save` and its like keep them, and captures of nlmon (pcap, pcapng).
 
-  --json      an object for each message, with the keys of ip -j -d
+  -j, --json  an object for each message, with the keys of ip -j -d
   --count     how many messages there are, of each kind
   --numeric   numbers in place of names
   --hex       the input is hexadecimal text, a message a line
@@ -24,7 +25,10 @@ pub const HELP: &str =
   --keep FILE writes the messages that are refused to FILE, which is made anew at the first
   -h, --help  this text
   --version   the version
-  FILE        a file that is read; - is standard input
+  --          what follows are files
+  FILE        a file that is read; - is standard input; where one fails the next is read
+
+A word behind an option may be joined to it by =, as in --as=route.
 
 Status 1: a message was refused; 2: a wrong word; 4: no memory; 5: a file failed.";
 
@@ -121,21 +125,25 @@ pub fn command_of<'a>(alloc: Global, words: &'a [String]) -> Result<Command<'a>,
         keep: None,
         files: Vec::new(alloc),
     };
-    // The option whose word comes next.
+    // The option whose word comes next, and whether all that comes are files.
     let mut waiting = None;
+    let mut is_over = false;
     for word in words {
         let word = word.as_str();
         match (waiting, word) {
             (Some(option), _) if take_word(&mut request, option, word) => waiting = None,
             (Some(_), _) => return Ok(Command::Wrong(WrongWord::Kind(word))),
+            (None, _) if is_over => request.files.push(word)?,
+            (None, "--") => is_over = true,
             (None, "--help" | "-h") => return Ok(Command::Help),
             (None, "--version") => return Ok(Command::Version),
             (None, "--as" | "--links" | "--keep") => waiting = Some(word),
-            (None, "--json") if take_form(&mut request.options, Form::Json) => {}
+            (None, "--json" | "-j") if take_form(&mut request.options, Form::Json) => {}
             (None, "--count") if take_form(&mut request.options, Form::Count) => {}
-            (None, "--json" | "--count") => return Ok(Command::Wrong(WrongWord::Forms)),
+            (None, "--json" | "-j" | "--count") => return Ok(Command::Wrong(WrongWord::Forms)),
             (None, _) if set_option(&mut request.options, word) => {}
-            (None, _) if is_option(word) => return Ok(Command::Wrong(WrongWord::Option(word))),
+            (None, _) if take_joined(&mut request, word) => {}
+            (None, _) if is_option(word) => return Ok(Command::Wrong(wrong_option(word))),
             (None, _) => request.files.push(word)?,
         }
     }
@@ -163,6 +171,22 @@ fn take_word<'a>(request: &mut Request<'a>, option: &str, word: &'a str) -> bool
         }
     }
     true
+}
+
+/// Takes an option with its word behind `=`, and answers whether this is one whose word can stand there.
+fn take_joined<'a>(request: &mut Request<'a>, word: &'a str) -> bool {
+    match word.split_once('=') {
+        Some((option @ ("--as" | "--links" | "--keep"), word)) => take_word(request, option, word),
+        _ => false,
+    }
+}
+
+/// What is wrong with an option.
+fn wrong_option(word: &str) -> WrongWord<'_> {
+    match word.split_once('=') {
+        Some(("--as", kind)) => WrongWord::Kind(kind),
+        _ => WrongWord::Option(word),
+    }
 }
 
 /// Whether a word is an option and no file; `-` is standard input.

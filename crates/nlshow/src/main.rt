@@ -1,6 +1,7 @@
 //! Shows messages of rtnetlink as `ip` does.
 #![tactic(auto)]
 
+mod capture;
 mod command_line;
 mod guess;
 mod hex_line;
@@ -18,7 +19,7 @@ use std::process::ExitCode;
 use std::{env, fs, io};
 
 /// The version, which is the repository's.
-const VERSION: &str = "nlshow 0.10.0";
+const VERSION: &str = "nlshow 0.11.0";
 
 fn main(rt: HostRuntime) -> ExitCode {
     // Also where a word is no UTF-8.
@@ -83,19 +84,28 @@ fn show(rt: &HostRuntime, request: &Request<'_>) -> ExitCode {
     if let Err(stop) = learn_names(rt, &mut session, request) {
         return ended(rt, &session, stop);
     }
+    let mut failed = None;
     for name in files {
         // What was not there before may be made by now.
         if is_emptied(rt, name, keep) {
             return wrong(rt, WrongWord::Kept(name));
         }
-        if let Err(stop) = show_input(rt, &mut session, name) {
-            return ended(rt, &session, stop);
+        match show_input(rt, &mut session, name) {
+            Ok(()) => {}
+            Err(stop) if is_of_input(stop) => failed = Some(stopped(rt, name, stop)),
+            Err(stop) => return ended(rt, &session, stop),
         }
     }
-    match session.finish() {
-        Err(stop) => ended(rt, &session, stop),
-        Ok(()) => ended(rt, &session, Stop::Closed),
+    match (session.finish(), failed) {
+        (Err(stop), _) => ended(rt, &session, stop),
+        (Ok(()), Some(status)) => status,
+        (Ok(()), None) => ended(rt, &session, Stop::Closed),
     }
+}
+
+/// Whether a run goes on with the next file where one ends so.
+fn is_of_input(stop: Stop) -> bool {
+    matches!(stop, Stop::Missing | Stop::Forbidden | Stop::Read)
 }
 
 /// Learns the names of interfaces from the file that tells them, if there is one.
@@ -131,6 +141,6 @@ fn show_input<'a>(
     if name == "-" {
         return read_input(session, rt.stdin());
     }
-    let file = fs::open(rt, name).map_err(|_| Stop::Open)?;
+    let file = fs::open(rt, name).map_err(|fault| Stop::of_open(&fault))?;
     read_input(session, file)
 }

@@ -1,5 +1,6 @@
 //! Finding messages in an input, a window of it at a time.
 
+use crate::capture::{is_capture, read_capture};
 use crate::hex_line::bytes_of_line;
 use crate::refusal::Refusal;
 use crate::session::{Position, Session};
@@ -49,12 +50,36 @@ pub fn read_input<R: Read + Drop>(session: &mut Session, reader: R) -> Result<()
     match (session.options.is_hex, session.options.kind) {
         (true, _) => read_lines(session, &mut window),
         (false, Some(kind)) => read_lone(session, &mut window, kind),
-        (false, None) => read_datagrams(session, &mut window),
+        (false, None) => read_file(session, &mut window),
     }
 }
 
+/// What `ip route save`, `ip address save` and `ip rule save` write in front of datagrams, little endian
+/// (`ip/iproute.c`, `ip/ipaddress.c` and `ip/iprule.c` of iproute2).
+const SAVED: [[u8; 4]; 3] = [
+    [0x24, 0x12, 0x31, 0x45],
+    [0x22, 0x12, 0x36, 0x47],
+    [0x86, 0x69, 0x70, 0x71],
+];
+
+/// Reads datagrams, those that `ip` has saved, or a capture, by the first four bytes.
+fn read_file<R: Read + Drop>(session: &mut Session, window: &mut Window<R>) -> Result<(), Stop> {
+    let mut is_more = true;
+    for _ in 0..4u8 {
+        if window.held().len() < 4 && is_more {
+            is_more = fill(session, window)?;
+        }
+    }
+    match window.held().first_chunk::<4>() {
+        Some(front) if is_capture(front) => return read_capture(session, window, is_more),
+        Some(front) if SAVED.contains(front) => window.pass(4),
+        _ => {}
+    }
+    read_datagrams(session, window, is_more)
+}
+
 /// Reads once more, and answers whether anything came.
-fn fill<R: Read + Drop>(session: &mut Session, window: &mut Window<R>) -> Result<bool, Stop> {
+pub fn fill<R: Read + Drop>(session: &mut Session, window: &mut Window<R>) -> Result<bool, Stop> {
     let before = window.held().len();
     let is_more = window.fill()?;
     let more = window.held().len().saturating_sub(before);
@@ -62,16 +87,18 @@ fn fill<R: Read + Drop>(session: &mut Session, window: &mut Window<R>) -> Result
     Ok(is_more)
 }
 
-/// Datagrams, one behind the other.
+/// Datagrams, one behind the other, of which the window holds the first bytes.
 fn read_datagrams<R: Read + Drop>(
     session: &mut Session,
     window: &mut Window<R>,
+    is_begun: bool,
 ) -> Result<(), Stop> {
     let mut number = 0u64;
-    for _ in 0..u64::MAX {
-        let is_more = fill(session, window)?;
-        if number == 0 {
-            session.look(window.held());
+    let mut is_more = is_begun;
+    session.look(window.held());
+    for turn in 0..u64::MAX {
+        if turn != 0 {
+            is_more = fill(session, window)?;
         }
         let front = take_messages(session, window, &mut number, !is_more)?;
         match front {
@@ -321,8 +348,8 @@ fn take_line(session: &mut Session, number: u64, offset: u64, line: &[u8]) -> Re
     Ok(())
 }
 
-/// Takes the bytes of a line: a message without an envelope, or messages.
-fn take_bytes(session: &mut Session, place: Position, bytes: &[u8]) -> Result<(), Stop> {
+/// Takes the bytes of a line or a packet: a message without an envelope, or messages.
+pub fn take_bytes(session: &mut Session, place: Position, bytes: &[u8]) -> Result<(), Stop> {
     let whole = Position {
         length: bytes.len() as u64,
         ..place

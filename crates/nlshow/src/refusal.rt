@@ -17,6 +17,8 @@ pub enum Refusal {
     TooLong { length: u64, most: u64 },
     /// A line that is no hexadecimal text.
     BadHex,
+    /// What is no block of a capture.
+    BadBlock,
 }
 
 impl Refusal {
@@ -28,6 +30,7 @@ impl Refusal {
             Refusal::MessageLength { .. } => "MessageLength",
             Refusal::TooLong { .. } => "TooLong",
             Refusal::BadHex => "BadHex",
+            Refusal::BadBlock => "BadBlock",
         }
     }
 }
@@ -63,6 +66,7 @@ impl fmt::Display for Refusal {
                 write!(f, "{length} bytes, where {most} have room")
             }
             Refusal::BadHex => f.write_str("no pairs of hexadecimal digits"),
+            Refusal::BadBlock => f.write_str("no block of a capture of nlmon"),
         }
     }
 }

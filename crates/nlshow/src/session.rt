@@ -5,23 +5,10 @@ use crate::guess::hint_of;
 use crate::kept::Kept;
 use crate::refusal::Refusal;
 use byte_window::Stop;
-use netlink_packet_core::{NetlinkBuffer, NetlinkHeader, NetlinkMessage, NetlinkPayload};
-use netlink_packet_route::address::AddressMessage;
-use netlink_packet_route::address_label::AddressLabelMessage;
-use netlink_packet_route::framing::{DecodeError, Parseable};
-use netlink_packet_route::link::LinkMessage;
-use netlink_packet_route::neighbour::NeighbourMessage;
-use netlink_packet_route::neighbour_table::NeighbourTableMessage;
-use netlink_packet_route::netconf::NetconfMessage;
-use netlink_packet_route::nexthop::NextHopMessage;
-use netlink_packet_route::nsid::NsidMessage;
-use netlink_packet_route::prefix::PrefixMessage;
-use netlink_packet_route::route::RouteMessage;
-use netlink_packet_route::rule::RuleMessage;
-use netlink_packet_route::{
-    Action, Entry, MessageKind, MessageType, RouteNetlinkMessage, validate,
-};
-use netlink_show::{Counts, Interfaces, Manner, append_lines, append_object};
+use netlink_packet_core::NetlinkBuffer;
+use netlink_packet_route::MessageKind;
+use netlink_packet_route::framing::DecodeError;
+use netlink_show::{Counts, Interfaces, Manner, Shown, append_lines, append_object};
 use std::alloc::Global;
 use std::io::{IsTerminal, Write};
 use std::rt::{Stderr, Stdout};
@@ -114,44 +101,42 @@ impl<'r, 'a> Session<'r, 'a> {
 
     /// A message in its envelope.
     pub fn message(&mut self, place: Position, bytes: &[u8]) -> Result<(), Stop> {
-        let read = read_message(self.alloc, self.options.form, bytes);
-        self.take(place, bytes, read)
-    }
-
-    /// A message of this kind without an envelope.
-    pub fn lone(&mut self, kind: MessageKind, place: Position, bytes: &[u8]) -> Result<(), Stop> {
-        let read = read_lone(self.alloc, kind, bytes);
-        self.take(place, bytes, read.map_err(Refusal::Payload))
-    }
-
-    /// Takes what was read of these bytes.
-    fn take(
-        &mut self,
-        place: Position,
-        bytes: &[u8],
-        read: Result<Read, Refusal>,
-    ) -> Result<(), Stop> {
-        match read {
-            Ok(Read::Whole(message)) => self.tell(&message),
-            Ok(Read::Through(kind)) => {
-                self.counts.add_kind(Some(kind));
-                Ok(())
-            }
-            Err(Refusal::Payload(DecodeError::OutOfMemory)) => Err(Stop::Memory),
-            Err(refusal) => {
-                self.refuse(place, refusal);
+        match NetlinkBuffer::new_checked(bytes) {
+            Ok(envelope) => self.take(place, bytes, Shown::of(&envelope)),
+            Err(_) => {
+                let left = bytes.len() as u64;
+                self.refuse(place, Refusal::MessageTooShort { left });
                 self.keep(bytes)
             }
         }
     }
 
-    /// Tells of a message that was read.
-    fn tell(&mut self, message: &NetlinkMessage<RouteNetlinkMessage>) -> Result<(), Stop> {
-        self.interfaces.note(message)?;
+    /// A message of this kind without an envelope.
+    pub fn lone(&mut self, kind: MessageKind, place: Position, bytes: &[u8]) -> Result<(), Stop> {
+        self.take(place, bytes, Shown::lone(kind, bytes))
+    }
+
+    /// Takes the message that these bytes are, or refuses them.
+    fn take(&mut self, place: Position, bytes: &[u8], message: Shown<'_>) -> Result<(), Stop> {
+        match message.check() {
+            Ok(()) => self.tell(message),
+            Err(DecodeError::OutOfMemory) => Err(Stop::Memory),
+            Err(fault) => {
+                self.refuse(place, Refusal::Payload(fault));
+                self.keep(bytes)
+            }
+        }
+    }
+
+    /// Tells of a message that can be shown.
+    fn tell(&mut self, message: Shown<'_>) -> Result<(), Stop> {
+        if !matches!(self.options.form, Form::Count) {
+            self.interfaces.note(self.alloc, message)?;
+        }
         if self.is_learning {
             return Ok(());
         }
-        self.counts.add(&message.payload);
+        self.counts.add(message);
         let manner = Manner {
             alloc: self.alloc,
             numeric: self.options.numeric,
@@ -236,52 +221,4 @@ impl<'r, 'a> Session<'r, 'a> {
         }
         self.flush()
     }
-}
-
-/// What was read of a message.
-#[derive(Drop)]
-enum Read {
-    /// All of it.
-    Whole(NetlinkMessage<RouteNetlinkMessage>),
-    /// All of it, of which nothing was kept but its kind.
-    Through(MessageKind),
-}
-
-/// The message that these bytes are, an envelope and what stands in it. Where messages are counted,
-/// what the library reads is looked through, and takes no memory.
-fn read_message(alloc: Global, form: Form, bytes: &[u8]) -> Result<Read, Refusal> {
-    let Ok(envelope) = NetlinkBuffer::new_checked(bytes) else {
-        let left = bytes.len() as u64;
-        return Err(Refusal::MessageTooShort { left });
-    };
-    let read = match (form, MessageType::of(envelope.message_type()).kind()) {
-        (Form::Count, Some(kind)) => {
-            validate(kind, envelope.payload()).map(|()| Read::Through(kind))
-        }
-        _ => NetlinkMessage::parse(alloc, &envelope).map(Read::Whole),
-    };
-    read.map_err(Refusal::Payload)
-}
-
-/// The message of this kind that these bytes are, as one that says that it is there.
-fn read_lone(alloc: Global, kind: MessageKind, bytes: &[u8]) -> Result<Read, DecodeError> {
-    let message = match kind {
-        MessageKind::Address => AddressMessage::parse(alloc, bytes)?.under(Action::New),
-        MessageKind::Route => RouteMessage::parse(alloc, bytes)?.under(Action::New),
-        MessageKind::Rule => RuleMessage::parse(alloc, bytes)?.under(Action::New),
-        MessageKind::Neighbour => NeighbourMessage::parse(alloc, bytes)?.under(Action::New),
-        MessageKind::Link => LinkMessage::parse(alloc, bytes)?.under(Action::New),
-        MessageKind::NextHop => NextHopMessage::parse(alloc, bytes)?.under(Action::New),
-        MessageKind::Nsid => NsidMessage::parse(alloc, bytes)?.under(Action::New),
-        MessageKind::Netconf => NetconfMessage::parse(alloc, bytes)?.under(Action::New),
-        MessageKind::AddressLabel => AddressLabelMessage::parse(alloc, bytes)?.under(Action::New),
-        MessageKind::NeighbourTable => {
-            RouteNetlinkMessage::NewNeighbourTable(NeighbourTableMessage::parse(alloc, bytes)?)
-        }
-        MessageKind::Prefix => RouteNetlinkMessage::NewPrefix(PrefixMessage::parse(alloc, bytes)?),
-    };
-    Ok(Read::Whole(NetlinkMessage {
-        header: NetlinkHeader::default(),
-        payload: NetlinkPayload::InnerMessage(message),
-    }))
 }

@@ -1,10 +1,8 @@
 //! What is shown of a message: its line, its object and its count.
 
-use netlink_packet_core::{NetlinkHeader, NetlinkMessage, NetlinkPayload};
-use netlink_packet_route::RouteNetlinkMessage;
-use netlink_packet_route::framing::{AttrFamily, Parseable};
-use netlink_packet_route::route::RouteMessage;
-use netlink_show::{Counts, Interfaces, Manner, append_lines, append_object, attribute_name};
+use netlink_packet_route::MessageKind;
+use netlink_packet_route::framing::AttrFamily;
+use netlink_show::{Counts, Interfaces, Manner, Shown, append_lines, append_object, attribute_name};
 use npr_testing::{INET, bytes_of, same};
 use std::alloc::Global;
 use std::test::Fail;
@@ -31,18 +29,8 @@ controls 0
 refused 0
 ";
 
-/// The route with these labels, in its envelope.
-fn route_of_labels(rt: &impl AllocGlobal) -> Result<NetlinkMessage<RouteNetlinkMessage>, Fail> {
-    let bytes = bytes_of(rt, &[INET, LABELS])?;
-    let route = RouteMessage::parse(rt.alloc(), bytes.as_slice())?;
-    Ok(NetlinkMessage {
-        header: NetlinkHeader::default(),
-        payload: NetlinkPayload::InnerMessage(RouteNetlinkMessage::NewRoute(route)),
-    })
-}
-
-/// The message as a line, as an object and as counts.
-fn shown(alloc: Global, message: &NetlinkMessage<RouteNetlinkMessage>) -> Result<String, Fail> {
+/// A message as a line, as an object and as counts.
+fn shown(alloc: Global, message: Shown<'_>) -> Result<String, Fail> {
     let interfaces = Interfaces::new(alloc);
     let manner = Manner {
         alloc,
@@ -50,7 +38,7 @@ fn shown(alloc: Global, message: &NetlinkMessage<RouteNetlinkMessage>) -> Result
         interfaces: &interfaces,
     };
     let mut counts = Counts::default();
-    counts.add(&message.payload);
+    counts.add(message);
     let mut text = String::new(alloc);
     append_lines(manner, message, &mut text)?;
     append_object(manner, message, &mut text)?;
@@ -60,8 +48,10 @@ fn shown(alloc: Global, message: &NetlinkMessage<RouteNetlinkMessage>) -> Result
 
 #[test]
 fn nothing_of_a_label_is_lost(rt: HostRuntime) -> Result<(), Fail> {
-    let message = route_of_labels(&rt)?;
-    let text = shown(rt.alloc(), &message)?;
+    let bytes = bytes_of(&rt, &[INET, LABELS])?;
+    let message = Shown::lone(MessageKind::Route, bytes.as_slice());
+    message.check()?;
+    let text = shown(rt.alloc(), message)?;
     same(text.as_str(), SHOWN)
 }
 

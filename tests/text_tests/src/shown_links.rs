@@ -2,12 +2,9 @@
 //! the same bytes, where one blank stands for several, and none at an end; the objects are those of
 //! `ip -j -d link`, in the order of their keys.
 
-use netlink_packet_core::{NLM_F_REQUEST, NetlinkHeader, NetlinkMessage, NetlinkPayload};
-use netlink_packet_route::framing::Parseable;
-use netlink_packet_route::link::LinkMessage;
-use netlink_packet_route::neighbour::NeighbourMessage;
-use netlink_packet_route::{Action, Entry, RouteNetlinkMessage};
-use netlink_show::{Interfaces, Manner, append_lines, append_object};
+use netlink_packet_core::NLM_F_REQUEST;
+use netlink_packet_route::{Action, MessageType, Subject};
+use netlink_show::{Interfaces, Manner, Shown, append_lines, append_object};
 use npr_testing::{bytes_of, same};
 use std::alloc::Global;
 use std::test::Fail;
@@ -65,29 +62,16 @@ const OBJECT: &str =
     "{\"change\":\"0\",\"family\":\"unspec\",\"flags\":[\"BROADCAST\",\"NOARP\"],\"ifindex\":29,\"ifname\":\"v101\",\"link\":\"d0\",\"link_type\":\"ether\",\"linkinfo\":{\"info_data\":{\"id\":100,\"protocol\":\"802.1Q\"},\"info_kind\":\"vlan\"},\"message\":\"link\"}
 ";
 
-/// A message without an envelope in one that says nothing.
-fn enveloped(message: RouteNetlinkMessage) -> NetlinkMessage<RouteNetlinkMessage> {
-    NetlinkMessage {
-        header: NetlinkHeader::default(),
-        payload: NetlinkPayload::InnerMessage(message),
+/// A message on this, which does this, without an envelope.
+fn lone(subject: Subject, action: Action, payload: &[u8]) -> Shown<'_> {
+    let says = MessageType::Of(subject, action);
+    Shown {
+        kind: says.kind(),
+        says,
+        message_type: 0,
+        flags: 0,
+        payload,
     }
-}
-
-/// What this does with the link of these digits.
-fn link(
-    rt: &impl AllocGlobal,
-    action: Action,
-    digits: &str,
-) -> Result<NetlinkMessage<RouteNetlinkMessage>, Fail> {
-    let bytes = bytes_of(rt, &[digits])?;
-    let link = LinkMessage::parse(rt.alloc(), bytes.as_slice())?;
-    Ok(enveloped(link.under(action)))
-}
-
-fn neighbour(rt: &impl AllocGlobal) -> Result<NetlinkMessage<RouteNetlinkMessage>, Fail> {
-    let bytes = bytes_of(rt, &[NEIGHBOUR])?;
-    let neighbour = NeighbourMessage::parse(rt.alloc(), bytes.as_slice())?;
-    Ok(enveloped(neighbour.under(Action::New)))
 }
 
 fn manner(alloc: Global, interfaces: &Interfaces) -> Manner<'_> {
@@ -103,16 +87,18 @@ fn a_link_tells_its_name_until_it_is_gone(rt: HostRuntime) -> Result<(), Fail> {
     let alloc = rt.alloc();
     let mut interfaces = Interfaces::new(alloc);
     let mut text = String::new(alloc);
-    for message in [
-        link(&rt, Action::New, DUMMY)?,
-        link(&rt, Action::New, VLAN)?,
-        link(&rt, Action::New, PORT)?,
-        neighbour(&rt)?,
-        link(&rt, Action::Del, DUMMY)?,
-        neighbour(&rt)?,
+    for (subject, action, digits) in [
+        (Subject::Link, Action::New, DUMMY),
+        (Subject::Link, Action::New, VLAN),
+        (Subject::Link, Action::New, PORT),
+        (Subject::Neighbour, Action::New, NEIGHBOUR),
+        (Subject::Link, Action::Del, DUMMY),
+        (Subject::Neighbour, Action::New, NEIGHBOUR),
     ] {
-        interfaces.note(&message)?;
-        append_lines(manner(alloc, &interfaces), &message, &mut text)?;
+        let bytes = bytes_of(&rt, &[digits])?;
+        let message = lone(subject, action, bytes.as_slice());
+        interfaces.note(alloc, message)?;
+        append_lines(manner(alloc, &interfaces), message, &mut text)?;
     }
     same(text.as_str(), LINES)
 }
@@ -121,21 +107,24 @@ fn a_link_tells_its_name_until_it_is_gone(rt: HostRuntime) -> Result<(), Fail> {
 fn an_object_has_the_name_of_the_link_under_it(rt: HostRuntime) -> Result<(), Fail> {
     let alloc = rt.alloc();
     let mut interfaces = Interfaces::new(alloc);
-    interfaces.note(&link(&rt, Action::New, DUMMY)?)?;
+    let dummy = bytes_of(&rt, &[DUMMY])?;
+    interfaces.note(alloc, lone(Subject::Link, Action::New, dummy.as_slice()))?;
+    let tag = bytes_of(&rt, &[TAG])?;
+    let message = lone(Subject::Link, Action::New, tag.as_slice());
     let mut text = String::new(alloc);
-    let message = link(&rt, Action::New, TAG)?;
-    append_object(manner(alloc, &interfaces), &message, &mut text)?;
+    append_object(manner(alloc, &interfaces), message, &mut text)?;
     same(text.as_str(), OBJECT)
 }
 
 #[test]
 fn a_request_tells_no_name(rt: HostRuntime) -> Result<(), Fail> {
     let mut interfaces = Interfaces::new(rt.alloc());
-    let mut message = link(&rt, Action::New, DUMMY)?;
-    message.header.flags = NLM_F_REQUEST;
-    interfaces.note(&message)?;
+    let bytes = bytes_of(&rt, &[DUMMY])?;
+    let mut message = lone(Subject::Link, Action::New, bytes.as_slice());
+    message.flags = NLM_F_REQUEST;
+    interfaces.note(rt.alloc(), message)?;
     same(interfaces.name_of(15), None)?;
-    message.header.flags = 0;
-    interfaces.note(&message)?;
+    message.flags = 0;
+    interfaces.note(rt.alloc(), message)?;
     same(interfaces.name_of(15), Some("d0"))
 }

@@ -3,10 +3,8 @@
 //! where one blank stands for several, and none at an end; before the interface of a prefix `ip` has
 //! none. The object is that of `ip -j nexthop`, in the order of its keys, with ours beside.
 
-use netlink_packet_core::{NetlinkBuffer, NetlinkIterator, NetlinkMessage};
-use netlink_packet_route::RouteNetlinkMessage;
-use netlink_packet_route::framing::Parseable;
-use netlink_show::{Interfaces, Manner, append_lines, append_object};
+use netlink_packet_core::{NetlinkBuffer, NetlinkIterator};
+use netlink_show::{Interfaces, Manner, Shown, append_lines, append_object};
 use npr_testing::{bytes_of, same};
 use std::alloc::Global;
 use std::test::Fail;
@@ -102,16 +100,17 @@ fn append(
     found: &NetlinkBuffer<'_>,
     text: &mut String,
 ) -> Result<(), Fail> {
-    let message = NetlinkMessage::<RouteNetlinkMessage>::parse(alloc, found)?;
-    interfaces.note(&message)?;
+    let message = Shown::of(found);
+    message.check()?;
+    interfaces.note(alloc, message)?;
     let manner = Manner {
         alloc,
         numeric: false,
         interfaces,
     };
     match form {
-        Form::Line => append_lines(manner, &message, text)?,
-        Form::Object => append_object(manner, &message, text)?,
+        Form::Line => append_lines(manner, message, text)?,
+        Form::Object => append_object(manner, message, text)?,
     }
     Ok(())
 }
