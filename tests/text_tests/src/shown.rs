@@ -2,7 +2,9 @@
 
 use netlink_packet_route::MessageKind;
 use netlink_packet_route::framing::AttrFamily;
-use netlink_show::{Counts, Interfaces, Manner, Shown, append_lines, append_object, attribute_name};
+use netlink_show::{
+    Counts, Interfaces, Manner, Shown, append_lines, append_object, attribute_name,
+};
 use npr_testing::{INET, bytes_of, same};
 use std::alloc::Global;
 use std::test::Fail;
