@@ -12,7 +12,7 @@ use Rattle.std.specs.Prelude.{map}
 abbrev pub Normalizes : {M : Type 0} → (M → M) → List (Row M) → List (Row M) → Type 0
 Normalizes normalized [] [] = Unit {0}
 Normalizes normalized (r ∷ rs) (s ∷ ss) =
-    (r.at.kind ≡ s.at.kind) × ((bytes : List ℕ) (v : r.V) → r.codec.Reads bytes v → RowReads s bytes (normalized (r.variant v))) × Normalizes normalized rs ss
+    (r.at.number ≡ s.at.number) × ((bytes : List ℕ) (v : r.V) → r.codec.Reads bytes v → RowReads s bytes (normalized (r.variant v))) × Normalizes normalized rs ss
 Normalizes normalized [] (s ∷ ss) = ⊥
 Normalizes normalized (r ∷ rs) [] = ⊥
 
@@ -21,7 +21,7 @@ pub rows-normalized : {M : Type 0} (normalized : M → M) (other : Item → M) �
 rows-normalized normalized other same [] [] h k x m p = ap normalized p ∙ same x
 rows-normalized normalized other same [] (s ∷ ss) h k x m p = absurd h
 rows-normalized normalized other same (r ∷ rs) [] h k x m p = absurd h
-rows-normalized normalized other same (r ∷ rs) (s ∷ ss) h k x m p = one_of (k == r.at.kind)
+rows-normalized normalized other same (r ∷ rs) (s ∷ ss) h k x m p = one_of (k == r.at.number)
     (λ e a. rw (← h.0, e) (subst (λ n. RowReads s x.value (normalized n)) (sym a.2) (h.1 x.value a.0 a.1)))
     (λ e a. rw (← h.0, e) (rows-normalized normalized other same rs ss h.2 k x m a)) p
 

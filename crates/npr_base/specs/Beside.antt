@@ -166,14 +166,14 @@ pub numbers-in : (Fss : List (List Field)) (rows : VariantRows Fss) → numbered
 numbers-in [] rows h x m reads = ap (λ (y : Item). number_of y.kind) reads
 numbers-in (Fs ∷ []) rows h x m reads = ap (λ (y : Item). number_of y.kind) reads
 numbers-in (Fs ∷ Gs ∷ Fss) rows h x (inl v) reads =
-    let alone = not (has_number (Gs ∷ Fss) rows.1 rows.0.at.kind) && numbered (Gs ∷ Fss) rows.1 in
-    let own = eqb-true (number_of rows.0.at.kind) rows.0.at.kind (first_so (number_of rows.0.at.kind == rows.0.at.kind) alone h) in
-    one_of (number_of x.kind == rows.0.at.kind)
-    (λ is r. marked-number rows.0.nested rows.0.at.kind ∙ own ∙ sym (eqb-true (number_of x.kind) rows.0.at.kind is)) (λ is none. absurd none) reads
+    let alone = not (has_number (Gs ∷ Fss) rows.1 rows.0.at.number) && numbered (Gs ∷ Fss) rows.1 in
+    let own = eqb-true (number_of rows.0.at.number) rows.0.at.number (first_so (number_of rows.0.at.number == rows.0.at.number) alone h) in
+    one_of (number_of x.kind == rows.0.at.number)
+    (λ is r. marked-number rows.0.nested rows.0.at.number ∙ own ∙ sym (eqb-true (number_of x.kind) rows.0.at.number is)) (λ is none. absurd none) reads
 numbers-in (Fs ∷ Gs ∷ Fss) rows h x (inr m) reads =
-    let taken = not (has_number (Gs ∷ Fss) rows.1 rows.0.at.kind) in
-    let behind = second_so (number_of rows.0.at.kind == rows.0.at.kind) (taken && numbered (Gs ∷ Fss) rows.1) h in
-    one_of (number_of x.kind == rows.0.at.kind) (λ is none. absurd none)
+    let taken = not (has_number (Gs ∷ Fss) rows.1 rows.0.at.number) in
+    let behind = second_so (number_of rows.0.at.number == rows.0.at.number) (taken && numbered (Gs ∷ Fss) rows.1) h in
+    one_of (number_of x.kind == rows.0.at.number) (λ is none. absurd none)
     (λ is r. numbers-in (Gs ∷ Fss) rows.1 (second_so taken (numbered (Gs ∷ Fss) rows.1) behind) x m r) reads
 
 -- ---- attributes inside values

@@ -17,9 +17,9 @@ use Rattle.std.specs.declared.string.String.{String}
 use Rattle.std.specs.declared.vec.Vec.{Vec}
 use Rattle.std.proofs.Common.{inl, inr}
 use Rattle.npr_base.specs.declared.refusal.At.{At}
-use Rattle.npr_base.specs.declared.refusal.AttrFamily.{AttrFamily}
+use Rattle.npr_base.specs.declared.refusal.AttributeSet.{AttributeSet}
 use Rattle.npr_base.specs.declared.refusal.DecodeError.{DecodeError}
-use Rattle.npr_base.specs.declared.refusal.AttrFamily.TheVariants.{Value as OfValue}
+use Rattle.npr_base.specs.declared.refusal.AttributeSet.TheVariants.{Value as OfValue}
 use Rattle.npr_base.specs.declared.value.Form.{Form}
 use Rattle.npr_base.specs.declared.value.Form.TheVariants.{Raw}
 use Rattle.npr_base.specs.Codec.{Codec}
@@ -62,17 +62,17 @@ abbrev pub Variant : Type 0 → List Field → Type 0 → Type 0
 Variant D Fs V = (Values Fs → V) × (Values Fs → D)
 
 -- a row beside the variant that it names
-abbrev pub row : {D : Type 0} {Fs : List Field} {V : Type 0} → AttrFamily → ℕ → Codec V → Variant D Fs V → VariantRow Fs × (Values Fs → D)
+abbrev pub row : {D : Type 0} {Fs : List Field} {V : Type 0} → AttributeSet → ℕ → Codec V → Variant D Fs V → VariantRow Fs × (Values Fs → D)
 row {D} {Fs} {V} family number codec variant =
     (record { at = at_number family number; nested = false; V = V; codec = codec; holds = variant.0 }, variant.1)
 
 -- and one that is written with NESTED
-abbrev pub marked_row : {D : Type 0} {Fs : List Field} {V : Type 0} → AttrFamily → ℕ → Codec V → Variant D Fs V → VariantRow Fs × (Values Fs → D)
+abbrev pub marked_row : {D : Type 0} {Fs : List Field} {V : Type 0} → AttributeSet → ℕ → Codec V → Variant D Fs V → VariantRow Fs × (Values Fs → D)
 marked_row family number codec variant = let r = row family number codec variant in (record r.0 { nested = true }, r.1)
 
 -- the kind that is written
 abbrev pub kind_at : {Fs : List Field} → VariantRow Fs → ℕ
-kind_at r = marked r.nested r.at.kind
+kind_at r = marked r.nested r.at.number
 
 abbrev pub others : {D : Type 0} {Fs : List Field} → Variant D Fs Item → LastVariant Fs × (Values Fs → D)
 others variant = (record { item = variant.0 }, variant.1)
@@ -153,32 +153,32 @@ slot_in (Fs ∷ Gs ∷ Fss) rows (inr m) = slot_in (Gs ∷ Fss) rows.1 m
 abbrev pub ReadsIn : (Fss : List (List Field)) (rows : VariantRows Fss) → ℕ → Item → MeaningIn Fss rows → Type 0
 ReadsIn [] rows k x m = m ≡ x
 ReadsIn (Fs ∷ []) rows k x m = m ≡ x
-ReadsIn (Fs ∷ Gs ∷ Fss) rows k x (inl v) = MatchBool (k == rows.0.at.kind) (rows.0.codec.Reads x.value v) ⊥
-ReadsIn (Fs ∷ Gs ∷ Fss) rows k x (inr m) = MatchBool (k == rows.0.at.kind) ⊥ (ReadsIn (Gs ∷ Fss) rows.1 k x m)
+ReadsIn (Fs ∷ Gs ∷ Fss) rows k x (inl v) = MatchBool (k == rows.0.at.number) (rows.0.codec.Reads x.value v) ⊥
+ReadsIn (Fs ∷ Gs ∷ Fss) rows k x (inr m) = MatchBool (k == rows.0.at.number) ⊥ (ReadsIn (Gs ∷ Fss) rows.1 k x m)
 
 -- and why it means nothing
 abbrev pub WrongIn : (Fss : List (List Field)) → VariantRows Fss → ℕ → Item → DecodeError → Type 0
 WrongIn [] rows k x e = ⊥
 WrongIn (Fs ∷ []) rows k x e = ⊥
-WrongIn (Fs ∷ Gs ∷ Fss) rows k x e = MatchBool (k == rows.0.at.kind) (rows.0.codec.Wrong rows.0.at x.value e) (WrongIn (Gs ∷ Fss) rows.1 k x e)
+WrongIn (Fs ∷ Gs ∷ Fss) rows k x e = MatchBool (k == rows.0.at.number) (rows.0.codec.Wrong rows.0.at x.value e) (WrongIn (Gs ∷ Fss) rows.1 k x e)
 
 -- the looks that reading its value takes
 abbrev pub looks_in : (Fss : List (List Field)) → VariantRows Fss → Looking Item
 looks_in [] rows = no_looking
 looks_in (Fs ∷ []) rows = no_looking
-looks_in (Fs ∷ Gs ∷ Fss) rows = looking_inside rows.0.at.kind rows.0.codec.members.looks (looks_in (Gs ∷ Fss) rows.1)
+looks_in (Fs ∷ Gs ∷ Fss) rows = looking_inside rows.0.at.number rows.0.codec.members.looks (looks_in (Gs ∷ Fss) rows.1)
 
 -- by a number: where it stands, and how its value is read without memory. A number without a row stands in the family of the
 -- first row, and its bytes are left as they are
-abbrev pub family_in : (Fss : List (List Field)) → VariantRows Fss → AttrFamily
+abbrev pub family_in : (Fss : List (List Field)) → VariantRows Fss → AttributeSet
 family_in [] rows = OfValue
 family_in (Fs ∷ []) rows = OfValue
-family_in (Fs ∷ Gs ∷ Fss) rows = rows.0.at.family
+family_in (Fs ∷ Gs ∷ Fss) rows = rows.0.at.set
 
-abbrev pub form_in : AttrFamily → (Fss : List (List Field)) → VariantRows Fss → ℕ → At × Form
+abbrev pub form_in : AttributeSet → (Fss : List (List Field)) → VariantRows Fss → ℕ → At × Form
 form_in family [] rows k = (at_number family k, Raw)
 form_in family (Fs ∷ []) rows k = (at_number family k, Raw)
-form_in family (Fs ∷ Gs ∷ Fss) rows k = if k == rows.0.at.kind then (rows.0.at, rows.0.codec.showing.form) else form_in family (Gs ∷ Fss) rows.1 k
+form_in family (Fs ∷ Gs ∷ Fss) rows k = if k == rows.0.at.number then (rows.0.at, rows.0.codec.showing.form) else form_in family (Gs ∷ Fss) rows.1 k
 
 -- what is written of a value of the enum
 abbrev pub shape_in : (Fss : List (List Field)) (rows : VariantRows Fss) → Choice Fss → Shape
@@ -205,13 +205,13 @@ by_row (Fs ∷ Gs ∷ Fss) rows made (inr m) = by_row (Gs ∷ Fss) rows.1 made.1
 abbrev pub has_number : (Fss : List (List Field)) → VariantRows Fss → ℕ → Bool
 has_number [] rows k = false
 has_number (Fs ∷ []) rows k = false
-has_number (Fs ∷ Gs ∷ Fss) rows k = if k == rows.0.at.kind then true else has_number (Gs ∷ Fss) rows.1 k
+has_number (Fs ∷ Gs ∷ Fss) rows k = if k == rows.0.at.number then true else has_number (Gs ∷ Fss) rows.1 k
 
 abbrev pub numbered : (Fss : List (List Field)) → VariantRows Fss → Bool
 numbered [] rows = true
 numbered (Fs ∷ []) rows = true
 numbered (Fs ∷ Gs ∷ Fss) rows =
-    number_of rows.0.at.kind == rows.0.at.kind && (not (has_number (Gs ∷ Fss) rows.1 rows.0.at.kind) && numbered (Gs ∷ Fss) rows.1)
+    number_of rows.0.at.number == rows.0.at.number && (not (has_number (Gs ∷ Fss) rows.1 rows.0.at.number) && numbered (Gs ∷ Fss) rows.1)
 
 -- ---- the same as a table of rows
 

@@ -9,7 +9,7 @@ use Rattle.std.proofs.lemmas.Bool.{eqb-true, eqb-false, ne_eqb, not-true}
 use Rattle.std.proofs.Common.{◌≡◌, ℕ, ◌+◌, ◌*◌, ◌<◌, ◌≤◌, ◌^◌, length, Bool, true, false, List, [], ◌∷◌, inl, inr, refl, sym, ap, subst, None, ◌∙◌}
 use Rattle.std.proofs.Common.{true≢false, arith}
 use Rattle.npr_base.specs.declared.refusal.At.{At}
-use Rattle.npr_base.specs.declared.refusal.AttrFamily.{AttrFamily}
+use Rattle.npr_base.specs.declared.refusal.AttributeSet.{AttributeSet}
 use Rattle.npr_base.specs.declared.refusal.DecodeError.{DecodeError}
 use Rattle.npr_base.specs.declared.value.Form.{Form}
 use Rattle.npr_base.specs.FitLaws.{unfit_of-none}
@@ -46,29 +46,29 @@ row_numbers : {M : Type 0} (Fss : List (List Field)) (rows : VariantRows Fss) (p
 row_numbers [] rows part k = refl
 row_numbers (Fs ∷ []) rows part k = refl
 row_numbers (Fs ∷ Gs ∷ Fss) rows part k =
-    ap (λ (b : Bool). if k == rows.0.at.kind then true else b) (row_numbers (Gs ∷ Fss) rows.1 (λ m. part (inr m)) k)
+    ap (λ (b : Bool). if k == rows.0.at.number then true else b) (row_numbers (Gs ∷ Fss) rows.1 (λ m. part (inr m)) k)
 
 -- of a row, and of those behind it
 module _ (Fs Gs : List Field) (Fss : List (List Field)) (rows : VariantRows (Fs ∷ Gs ∷ Fss)) (h : numbered (Fs ∷ Gs ∷ Fss) rows ≡ true) where
   abbrev own : Bool
-  own = number_of rows.0.at.kind == rows.0.at.kind
+  own = number_of rows.0.at.number == rows.0.at.number
 
   abbrev taken : Bool
-  taken = has_number (Gs ∷ Fss) rows.1 rows.0.at.kind
+  taken = has_number (Gs ∷ Fss) rows.1 rows.0.at.number
 
   abbrev later : Bool
   later = numbered (Gs ∷ Fss) rows.1
 
-  number_own : (number_of rows.0.at.kind == rows.0.at.kind) ≡ true
+  number_own : (number_of rows.0.at.number == rows.0.at.number) ≡ true
   number_own = first_so own (not taken && later) h
 
-  row_own : (number_of (kind_at rows.0) == rows.0.at.kind) ≡ true
-  row_own = rw (marked-number rows.0.nested rows.0.at.kind) number_own
+  row_own : (number_of (kind_at rows.0) == rows.0.at.number) ≡ true
+  row_own = rw (marked-number rows.0.nested rows.0.at.number) number_own
 
   row_short : kind_at rows.0 < 2 ^ 16
-  row_short = marked-small rows.0.nested rows.0.at.kind (omega (arith, eqb-true (number_of rows.0.at.kind) rows.0.at.kind number_own))
+  row_short = marked-small rows.0.nested rows.0.at.number (omega (arith, eqb-true (number_of rows.0.at.number) rows.0.at.number number_own))
 
-  row_alone : has_number (Gs ∷ Fss) rows.1 rows.0.at.kind ≡ false
+  row_alone : has_number (Gs ∷ Fss) rows.1 rows.0.at.number ≡ false
   row_alone = not-true taken (first_so (not taken) later (second_so own (not taken && later) h))
 
   rows_behind : numbered (Gs ∷ Fss) rows.1 ≡ true
@@ -86,29 +86,29 @@ module _ {M : Type 0} (other : Item → M) where
       → (k : ℕ) (x : Item) (m : MeaningIn Fss rows) → ReadsIn Fss rows k x m → ReadsAt other (rows_in Fss rows part) k x (part m)
   reads-in [] rows part same k x m reads = ap part reads ∙ same x
   reads-in (Fs ∷ []) rows part same k x m reads = ap part reads ∙ same x
-  reads-in (Fs ∷ Gs ∷ Fss) rows part same k x (inl v) reads = matches (k == rows.0.at.kind) (λ r. (v, r, refl)) (λ none. absurd none) reads
+  reads-in (Fs ∷ Gs ∷ Fss) rows part same k x (inl v) reads = matches (k == rows.0.at.number) (λ r. (v, r, refl)) (λ none. absurd none) reads
   reads-in (Fs ∷ Gs ∷ Fss) rows part same k x (inr m) reads =
-      matches (k == rows.0.at.kind) (λ none. absurd none) (reads-in (Gs ∷ Fss) rows.1 (λ n. part (inr n)) same k x m) reads
+      matches (k == rows.0.at.number) (λ none. absurd none) (reads-in (Gs ∷ Fss) rows.1 (λ n. part (inr n)) same k x m) reads
 
 pub wrong-in : {M : Type 0} (Fss : List (List Field)) (rows : VariantRows Fss) (part : MeaningIn Fss rows → M) (k : ℕ) (x : Item) (e : DecodeError)
     → WrongIn Fss rows k x e → WrongAt (rows_in Fss rows part) k x e
 wrong-in [] rows part k x e wrong = wrong
 wrong-in (Fs ∷ []) rows part k x e wrong = wrong
-wrong-in (Fs ∷ Gs ∷ Fss) rows part k x e wrong = matches (k == rows.0.at.kind) (λ w. w) (wrong-in (Gs ∷ Fss) rows.1 (λ n. part (inr n)) k x e) wrong
+wrong-in (Fs ∷ Gs ∷ Fss) rows part k x e wrong = matches (k == rows.0.at.number) (λ w. w) (wrong-in (Gs ∷ Fss) rows.1 (λ n. part (inr n)) k x e) wrong
 
 pub looks-in : {M : Type 0} (Fss : List (List Field)) (rows : VariantRows Fss) (part : MeaningIn Fss rows → M)
     → looks_in Fss rows ≡ looks_of (rows_in Fss rows part)
 looks-in [] rows part = refl
 looks-in (Fs ∷ []) rows part = refl
 looks-in (Fs ∷ Gs ∷ Fss) rows part =
-    ap (looking_inside rows.0.at.kind rows.0.codec.members.looks) (looks-in (Gs ∷ Fss) rows.1 (λ n. part (inr n)))
+    ap (looking_inside rows.0.at.number rows.0.codec.members.looks) (looks-in (Gs ∷ Fss) rows.1 (λ n. part (inr n)))
 
-pub form-in : {M : Type 0} (family : AttrFamily) (Fss : List (List Field)) (rows : VariantRows Fss) (part : MeaningIn Fss rows → M) (k : ℕ)
+pub form-in : {M : Type 0} (family : AttributeSet) (Fss : List (List Field)) (rows : VariantRows Fss) (part : MeaningIn Fss rows → M) (k : ℕ)
     → form_in family Fss rows k ≡ form_from family (rows_in Fss rows part) k
 form-in family [] rows part k = refl
 form-in family (Fs ∷ []) rows part k = refl
 form-in family (Fs ∷ Gs ∷ Fss) rows part k =
-    ap (λ f. if k == rows.0.at.kind then (rows.0.at, rows.0.codec.showing.form) else f) (form-in family (Gs ∷ Fss) rows.1 (λ n. part (inr n)) k)
+    ap (λ f. if k == rows.0.at.number then (rows.0.at, rows.0.codec.showing.form) else f) (form-in family (Gs ∷ Fss) rows.1 (λ n. part (inr n)) k)
 
 -- what is written of a meaning is read as it
 module _ {M : Type 0} (all : List (Row M)) where
@@ -118,11 +118,11 @@ module _ {M : Type 0} (all : List (Row M)) where
   apart this [] rows h none free m is = free (number_of m.kind) is.alone
   apart this (Fs ∷ []) rows h none free m is = free (number_of m.kind) is.alone
   apart this (Fs ∷ Gs ∷ Fss) rows h none free (inl v) is =
-      let here = eqb-true (number_of (kind_at rows.0)) rows.0.at.kind (row_own Fs Gs Fss rows h) in
-      let away = (if_not (this == rows.0.at.kind) (has_number (Gs ∷ Fss) rows.1 this) none).0 in
-      ne_eqb (number_of (kind_at rows.0)) this (λ q. eqb-false this rows.0.at.kind away (sym q ∙ here))
+      let here = eqb-true (number_of (kind_at rows.0)) rows.0.at.number (row_own Fs Gs Fss rows h) in
+      let away = (if_not (this == rows.0.at.number) (has_number (Gs ∷ Fss) rows.1 this) none).0 in
+      ne_eqb (number_of (kind_at rows.0)) this (λ q. eqb-false this rows.0.at.number away (sym q ∙ here))
   apart this (Fs ∷ Gs ∷ Fss) rows h none free (inr m) is =
-      apart this (Gs ∷ Fss) rows.1 (rows_behind Fs Gs Fss rows h) (if_not (this == rows.0.at.kind) (has_number (Gs ∷ Fss) rows.1 this) none).1 free m is
+      apart this (Gs ∷ Fss) rows.1 (rows_behind Fs Gs Fss rows h) (if_not (this == rows.0.at.number) (has_number (Gs ∷ Fss) rows.1 this) none).1 free m is
 
   pub back-in : (Fss : List (List Field)) (rows : VariantRows Fss) → numbered Fss rows ≡ true
       → ((k : ℕ) → has_row all k ≡ false → has_number Fss rows k ≡ false) → (m : MeaningIn Fss rows) → IsSlot all (slot_in Fss rows m)
@@ -131,9 +131,9 @@ module _ {M : Type 0} (all : List (Row M)) where
   back-in (Fs ∷ []) rows h within m is fits = refl
   back-in (Fs ∷ Gs ∷ Fss) rows h within (inl v) is fits = rw (row_own Fs Gs Fss rows h) (rows.0.codec.reads_back (kind_at rows.0) v is fits)
   back-in (Fs ∷ Gs ∷ Fss) rows h within (inr m) is fits =
-      let free = λ (k : ℕ). λ (e : has_row all k ≡ false). if_not (k == rows.0.at.kind) (has_number (Gs ∷ Fss) rows.1 k) (within k e) in
+      let free = λ (k : ℕ). λ (e : has_row all k ≡ false). if_not (k == rows.0.at.number) (has_number (Gs ∷ Fss) rows.1 k) (within k e) in
       let behind = rows_behind Fs Gs Fss rows h in
-      let away = apart rows.0.at.kind (Gs ∷ Fss) rows.1 behind (row_alone Fs Gs Fss rows h) (λ k e. (free k e).0) m is in
+      let away = apart rows.0.at.number (Gs ∷ Fss) rows.1 behind (row_alone Fs Gs Fss rows h) (λ k e. (free k e).0) m is in
       rw away (back-in (Gs ∷ Fss) rows.1 behind (λ k e. (free k e).1) m is fits)
 
   pub kinds-in : (Fss : List (List Field)) (rows : VariantRows Fss) → numbered Fss rows ≡ true → (m : MeaningIn Fss rows) → IsSlot all (slot_in Fss rows m)
@@ -158,7 +158,7 @@ module _ {M : Type 0} (all : List (Row M)) (slot_of : M → Slot) where
         λ holds. subst (IsSlot all) (sym (same (inl v))) holds,
         λ b. ap (λ (at : Slot). slot_sees at b) (same (inl v)),
       ) in
-      let alone = row_numbers (Gs ∷ Fss) rows.1 (λ m. part (inr m)) rows.0.at.kind ∙ row_alone Fs Gs Fss rows h in
+      let alone = row_numbers (Gs ∷ Fss) rows.1 (λ m. part (inr m)) rows.0.at.number ∙ row_alone Fs Gs Fss rows h in
       (own, alone, aligned-in (Gs ∷ Fss) rows.1 (λ m. part (inr m)) (λ m. same (inr m)) (rows_behind Fs Gs Fss rows h))
 
 abbrev EitherOf : {A B : Type 0} → (A → Type 0) → (B → Type 0) → A ⊎ B → Type 0
@@ -166,8 +166,8 @@ EitherOf P Q (inl v) = P v
 EitherOf P Q (inr m) = Q m
 
 either_is : (Fs Gs : List Field) (Fss : List (List Field)) (rows : VariantRows (Fs ∷ Gs ∷ Fss)) (k : ℕ) (x : Item) (m : MeaningIn (Fs ∷ Gs ∷ Fss) rows)
-    → EitherOf (λ v. MatchBool (k == rows.0.at.kind) (rows.0.codec.Reads x.value v) ⊥)
-    (λ n. MatchBool (k == rows.0.at.kind) ⊥ (ReadsIn (Gs ∷ Fss) rows.1 k x n)) m → ReadsIn (Fs ∷ Gs ∷ Fss) rows k x m
+    → EitherOf (λ v. MatchBool (k == rows.0.at.number) (rows.0.codec.Reads x.value v) ⊥)
+    (λ n. MatchBool (k == rows.0.at.number) ⊥ (ReadsIn (Gs ∷ Fss) rows.1 k x n)) m → ReadsIn (Fs ∷ Gs ∷ Fss) rows k x m
 either_is Fs Gs Fss rows k x (inl v) p = p
 either_is Fs Gs Fss rows k x (inr m) p = p
 
@@ -179,21 +179,21 @@ reads_or : {A B : Type 0} {P : A → Type 0} {Q : B → Type 0} (b : Bool) (f g 
 reads_or true f g x s here rest w p = let v = here w p in (inl v.0, v.1)
 reads_or false f g x s here rest w p = let m = rest w p in (inr m.0, m.1)
 
-pub whole-in : (family : AttrFamily) (Fss : List (List Field)) (rows : VariantRows Fss) (k : ℕ) (x : Item) (s : Shown)
+pub whole-in : (family : AttributeSet) (Fss : List (List Field)) (rows : VariantRows Fss) (k : ℕ) (x : Item) (s : Shown)
     → IsWhole (form_in family Fss rows k).1 → Shows (form_in family Fss rows k).1 x.value s → (m : MeaningIn Fss rows) × ReadsIn Fss rows k x m
 whole-in family [] rows k x s w p = (x, refl)
 whole-in family (Fs ∷ []) rows k x s w p = (x, refl)
 whole-in family (Fs ∷ Gs ∷ Fss) rows k x s w p =
-    let m = reads_or (k == rows.0.at.kind) (rows.0.at, rows.0.codec.showing.form) (form_in family (Gs ∷ Fss) rows.1 k) x s
+    let m = reads_or (k == rows.0.at.number) (rows.0.at, rows.0.codec.showing.form) (form_in family (Gs ∷ Fss) rows.1 k) x s
     (λ whole shows. rows.0.codec.showing.whole x.value s whole shows) (λ whole shows. whole-in family (Gs ∷ Fss) rows.1 k x s whole shows) w p in
     (m.0, either_is Fs Gs Fss rows k x m.0 m.1)
 
-pub wrong-shown : (family : AttrFamily) (Fss : List (List Field)) (rows : VariantRows Fss) (k : ℕ) (x : Item) (e : DecodeError)
+pub wrong-shown : (family : AttributeSet) (Fss : List (List Field)) (rows : VariantRows Fss) (k : ℕ) (x : Item) (e : DecodeError)
     → Misshown (form_in family Fss rows k).1 (form_in family Fss rows k).0 x.value e → WrongIn Fss rows k x e
 wrong-shown family [] rows k x e p = p
 wrong-shown family (Fs ∷ []) rows k x e p = p
 wrong-shown family (Fs ∷ Gs ∷ Fss) rows k x e p =
-    wrong_or (k == rows.0.at.kind) (rows.0.at, rows.0.codec.showing.form) (form_in family (Gs ∷ Fss) rows.1 k) x e
+    wrong_or (k == rows.0.at.number) (rows.0.at, rows.0.codec.showing.form) (form_in family (Gs ∷ Fss) rows.1 k) x e
     (λ wrong. rows.0.codec.showing.wrong rows.0.at x.value e wrong) (λ wrong. wrong-shown family (Gs ∷ Fss) rows.1 k x e wrong) p
 
 pub slot-other : (Fss : List (List Field)) (rows : VariantRows Fss) (x : Item) → slot_in Fss rows (other_in Fss rows x) ≡ slot_other x

@@ -39,6 +39,7 @@ pub mod MessageLaws
 pub mod Numbering
 pub mod Opening
 pub mod RowReading
+pub mod Nesting
 pub mod Rows
 pub mod RowLaws
 pub mod AddressFamily

@@ -1,16 +1,17 @@
--- A list of attributes of another family as a value.
+-- A list of attributes of another set as a value, and what names the set.
 use Rattle.std.specs.Prelude.{List, length}
 use Rattle.npr_base.specs.Lists.{AllOf, ReadsList, FirstFault, encodings, first_unfit, list_unfit, list_members, overlong}
 use Rattle.npr_base.specs.FitLaws.{none_both}
 use Rattle.npr_base.specs.ListLaws.{ReadsList-one, FirstFault-excludes, ReadsList-known, encodings-read, list-grows}
 use Rattle.npr_base.specs.Codec.{Codec}
-use Rattle.npr_base.specs.Showing.{shows_inside}
+use Rattle.npr_base.specs.declared.refusal.AttributeSet.{AttributeSet}
+use Rattle.npr_base.specs.Showing.{shows_list}
 use Rattle.npr_base.specs.LookBounds.{list_looking, list-bounded, list-saw}
 use Rattle.npr_base.specs.Looks.{looked_through}
 use Rattle.npr_base.specs.Family.{Writing, Reading, fits-small, written_by, unfit_by}
 
-abbrev pub list_of : {M : Type 0} {w : Writing M} → Reading w → Codec (List M)
-list_of {M} {w} f = record {
+abbrev pub list_of : {M : Type 0} {w : Writing M} → AttributeSet → Reading w → Codec (List M)
+list_of {M} {w} set f = record {
   Reads = ReadsList f.Reads;
   Wrong = λ at bytes e. FirstFault f.Reads f.Faulty bytes e;
   encode = encodings (written_by w);
@@ -29,5 +30,5 @@ list_of {M} {w} f = record {
       let fits = none_both (first_unfit (unfit_by w) xs) (overlong (length (encodings (written_by w) xs))) h in
       encodings-read f.Coherent (unfit_by w) (written_by w) f.Reads (fits-small f) f.reads_back xs all fits.0;
   grows = λ bytes xs is p. list-grows (written_by w) f.Reads f.grows bytes xs is p;
-  showing = shows_inside;
+  showing = shows_list set 0;
 }

@@ -1,8 +1,8 @@
 -- The names of refusals, as a program prints them.
 use Rattle.std.specs.Prelude.{ℕ, List, codes}
 use Rattle.npr_base.specs.declared.refusal.At.{At}
-use Rattle.npr_base.specs.declared.refusal.AttrFamily.{AttrFamily}
-use Rattle.npr_base.specs.declared.refusal.AttrFamily.TheVariants.{Value}
+use Rattle.npr_base.specs.declared.refusal.AttributeSet.{AttributeSet}
+use Rattle.npr_base.specs.declared.refusal.AttributeSet.TheVariants.{Value}
 use Rattle.npr_base.specs.declared.refusal.DecodeError.{DecodeError}
 use Rattle.npr_base.specs.declared.refusal.DecodeError.TheVariants.{OutOfMemory, HeaderTooShort, AttributeTooShort, AttributeLength, NextHopTooShort}
 use Rattle.npr_base.specs.declared.refusal.DecodeError.TheVariants.{NextHopLength, ValueLength, NotUtf8, Seg6Header, GeneveOrder, GeneveChild, ViaFamily}
@@ -33,8 +33,8 @@ emit_name (IpProtocol number) = codes "IpProtocol"
 emit_name Total = codes "Total"
 
 -- where a value stands: at a number of a family
-abbrev pub at_number : AttrFamily → ℕ → At
-at_number family number = record { family = family; kind = number }
+abbrev pub at_number : AttributeSet → ℕ → At
+at_number set number = record { set = set; number = number }
 
 -- where one is read by itself
 abbrev pub no_place : At

@@ -28,7 +28,7 @@ abbrev pub quiet_but : (ℕ → Bool) → (Fss : List (List Field)) → VariantR
 quiet_but lists [] rows = true
 quiet_but lists (Fs ∷ []) rows = true
 quiet_but lists (Fs ∷ Gs ∷ Fss) rows =
-    (if lists rows.0.at.kind then true else is_quiet rows.0.codec.members.looks) && quiet_but lists (Gs ∷ Fss) rows.1
+    (if lists rows.0.at.number then true else is_quiet rows.0.codec.members.looks) && quiet_but lists (Gs ∷ Fss) rows.1
 
 both_so : (a b : Bool) → (a && b) ≡ true → (a ≡ true) × (b ≡ true)
 both_so true b e = (refl, e)
@@ -55,6 +55,6 @@ pub looks-none : (lists : ℕ → Bool) (Fss : List (List Field)) (rows : Varian
 looks-none lists [] rows q x c other = refl
 looks-none lists (Fs ∷ []) rows q x c other = refl
 looks-none lists (Fs ∷ Gs ∷ Fss) rows q x c other =
-    let p = both_so (if lists rows.0.at.kind then true else is_quiet rows.0.codec.members.looks) (quiet_but lists (Gs ∷ Fss) rows.1) q in
-    quiet_row lists rows.0.at.kind rows.0.codec.members.looks (looks_in (Gs ∷ Fss) rows.1) x c p.0 other
+    let p = both_so (if lists rows.0.at.number then true else is_quiet rows.0.codec.members.looks) (quiet_but lists (Gs ∷ Fss) rows.1) q in
+    quiet_row lists rows.0.at.number rows.0.codec.members.looks (looks_in (Gs ∷ Fss) rows.1) x c p.0 other
     (looks-none lists (Gs ∷ Fss) rows.1 p.1 x c other)

@@ -2,9 +2,10 @@
 use Rattle.std.specs.Prelude.{◌≡◌, ℕ, List}
 use Rattle.std.proofs.Common.{refl, sym, ap, ◌∙◌}
 use Rattle.npr_base.specs.declared.refusal.At.{At}
+use Rattle.npr_base.specs.declared.refusal.AttributeSet.{AttributeSet}
 use Rattle.npr_base.specs.declared.refusal.DecodeError.{DecodeError}
 use Rattle.npr_base.specs.declared.value.Form.{Form}
-use Rattle.npr_base.specs.declared.value.Form.TheVariants.{Raw, Inside, Dropped}
+use Rattle.npr_base.specs.declared.value.Form.TheVariants.{Raw, List as Listed, Inside, Dropped}
 use Rattle.npr_base.specs.Framing.{Item, number_of}
 use Rattle.npr_base.specs.Value.{Shown, are_bytes, is_inside, is_nothing, Shows, Misshown, IsWhole}
 
@@ -35,6 +36,16 @@ pub record Seeing {M : Type 0} (Reads : Item → M → Type 0) (Faulty : Item �
 abbrev pub shows_inside : {V : Type 0} {Reads : List ℕ → V → Type 0} {Wrong : At → List ℕ → DecodeError → Type 0} → Showing Reads Wrong
 shows_inside = record {
   form = Inside;
+  sees = λ b x. is_inside b;
+  shows = λ b s x p q. p;
+  whole = λ b s w p. absurd w;
+  wrong = λ at b e p. absurd p;
+}
+
+-- a list of attributes of this set, behind so many bytes
+abbrev pub shows_list : {V : Type 0} {Reads : List ℕ → V → Type 0} {Wrong : At → List ℕ → DecodeError → Type 0} → AttributeSet → ℕ → Showing Reads Wrong
+shows_list set front = record {
+  form = Listed set front;
   sees = λ b x. is_inside b;
   shows = λ b s x p q. p;
   whole = λ b s w p. absurd w;

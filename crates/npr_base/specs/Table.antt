@@ -3,10 +3,10 @@ use Rattle.std.specs.Prelude.{◌≡◌, ℕ, ◌<◌, ◌^◌, ◌==◌, Bool, 
 use Rattle.std.specs.Bool.{MatchBool}
 use Rattle.std.proofs.Common.{refl}
 use Rattle.npr_base.specs.declared.refusal.At.{At}
-use Rattle.npr_base.specs.declared.refusal.AttrFamily.{AttrFamily}
+use Rattle.npr_base.specs.declared.refusal.AttributeSet.{AttributeSet}
 use Rattle.npr_base.specs.declared.refusal.DecodeError.{DecodeError}
 use Rattle.npr_base.specs.declared.refusal.EmitError.{EmitError}
-use Rattle.npr_base.specs.declared.refusal.AttrFamily.TheVariants.{Value as OfValue}
+use Rattle.npr_base.specs.declared.refusal.AttributeSet.TheVariants.{Value as OfValue}
 use Rattle.npr_base.specs.declared.value.Form.{Form}
 use Rattle.npr_base.specs.declared.value.Form.TheVariants.{Raw}
 use Rattle.npr_base.specs.Framing.{Item, Proper, marked, number_of}
@@ -22,7 +22,7 @@ pub record Row (M : Type 0) : Type 1 where
   pub codec : Codec V
   pub variant : V → M
 
-abbrev pub row : {M V : Type 0} → AttrFamily → ℕ → Codec V → (V → M) → Row M
+abbrev pub row : {M V : Type 0} → AttributeSet → ℕ → Codec V → (V → M) → Row M
 row {M} {V} family number codec variant = record { at = at_number family number; V = V; codec = codec; variant = variant }
 
 -- what bytes mean by a row, and why they mean nothing
@@ -35,26 +35,26 @@ RowWrong r bytes e = r.codec.Wrong r.at bytes e
 -- what an attribute of the number k means: the variant of its row, or else itself
 abbrev pub ReadsAt : {M : Type 0} → (Item → M) → List (Row M) → ℕ → Item → M → Type 0
 ReadsAt other [] k x m = m ≡ other x
-ReadsAt other (r ∷ rows) k x m = MatchBool (k == r.at.kind) (RowReads r x.value m) (ReadsAt other rows k x m)
+ReadsAt other (r ∷ rows) k x m = MatchBool (k == r.at.number) (RowReads r x.value m) (ReadsAt other rows k x m)
 
 abbrev pub WrongAt : {M : Type 0} → List (Row M) → ℕ → Item → DecodeError → Type 0
 WrongAt [] k x e = ⊥
-WrongAt (r ∷ rows) k x e = MatchBool (k == r.at.kind) (RowWrong r x.value e) (WrongAt rows k x e)
+WrongAt (r ∷ rows) k x e = MatchBool (k == r.at.number) (RowWrong r x.value e) (WrongAt rows k x e)
 
 -- by a number: where it stands, and how its value is read without memory. A number without a row stands in the family of the
 -- first row, and its bytes are left as they are
-abbrev pub form_from : {M : Type 0} → AttrFamily → List (Row M) → ℕ → At × Form
+abbrev pub form_from : {M : Type 0} → AttributeSet → List (Row M) → ℕ → At × Form
 form_from family [] k = (at_number family k, Raw)
-form_from family (r ∷ rows) k = if k == r.at.kind then (r.at, r.codec.showing.form) else form_from family rows k
+form_from family (r ∷ rows) k = if k == r.at.number then (r.at, r.codec.showing.form) else form_from family rows k
 
-abbrev pub first_family : {M : Type 0} → List (Row M) → AttrFamily
+abbrev pub first_family : {M : Type 0} → List (Row M) → AttributeSet
 first_family [] = OfValue
-first_family (r ∷ rows) = r.at.family
+first_family (r ∷ rows) = r.at.set
 
 -- the number has a row
 abbrev pub has_row : {M : Type 0} → List (Row M) → ℕ → Bool
 has_row [] k = false
-has_row (r ∷ rows) k = if k == r.at.kind then true else has_row rows k
+has_row (r ∷ rows) k = if k == r.at.number then true else has_row rows k
 
 -- an attribute that is kept as it stands, since its number has no row
 pub record IsOther {M : Type 0} (rows : List (Row M)) (x : Item) : Type 0 where
@@ -151,7 +151,7 @@ IsWritten slot_of Coherent r v =
 -- and each row has a number of its own
 abbrev pub Aligned : {M : Type 0} → (M → Slot) → (M → Type 0) → List (Row M) → Type 0
 Aligned slot_of Coherent [] = Unit {0}
-Aligned slot_of Coherent (r ∷ rows) = ((v : r.V) → IsWritten slot_of Coherent r v) × (has_row rows r.at.kind ≡ false) × Aligned slot_of Coherent rows
+Aligned slot_of Coherent (r ∷ rows) = ((v : r.V) → IsWritten slot_of Coherent r v) × (has_row rows r.at.number ≡ false) × Aligned slot_of Coherent rows
 
 -- a table: its rows, what an attribute of another number means, the place of each meaning, and which are coherent
 pub record Table (M : Type 0) : Type 1 where

@@ -11,7 +11,8 @@ use Rattle.npr_base.specs.declared.refusal.DecodeError.{DecodeError}
 use Rattle.npr_base.specs.declared.refusal.DecodeError.TheVariants.{ValueLength, HeaderTooShort, NotUtf8}
 use Rattle.npr_base.specs.declared.value.Form.{Form}
 use Rattle.npr_base.specs.declared.value.Form.TheVariants.{Byte, Boolean, Signed32, Little16, Little32, Little64, Big16, Big32, Big64}
-use Rattle.npr_base.specs.declared.value.Form.TheVariants.{Uint, Flag, Octets4, Octets16, Ip, Name, Raw, Exactly, Leading, Inside, Dropped}
+use Rattle.npr_base.specs.declared.value.Form.TheVariants.{Uint, Flag, Octets4, Octets16, Ip, Name, Raw, Exactly, Leading}
+use Rattle.npr_base.specs.declared.value.Form.TheVariants.{List as Listed, Inside, Dropped}
 use Rattle.npr_base.specs.declared.value.Value.{Value}
 use Rattle.npr_base.specs.declared.value.Value.TheVariants as Of
 use Rattle.npr_base.specs.Ip.{IsIp}
@@ -70,6 +71,7 @@ Shows Name b s = (text : List ℕ) × IsName b text × (s ≡ is_name text)
 Shows Raw b s = s ≡ are_bytes b
 Shows (Exactly size) b s = Sized size is_structure b s
 Shows (Leading size) b s = (size ≤ length b) × (s ≡ is_structure (take size b))
+Shows (Listed set front) b s = s ≡ is_inside b
 Shows Inside b s = s ≡ is_inside b
 Shows Dropped b s = s ≡ is_nothing
 
@@ -97,10 +99,12 @@ Misshown Name at b e = IsNoName b × (e ≡ NotUtf8 at)
 Misshown Raw at b e = ⊥
 Misshown (Exactly size) at b e = Missized size at b e
 Misshown (Leading size) at b e = (length b < size) × (e ≡ HeaderTooShort (length b) size)
+Misshown (Listed set front) at b e = ⊥
 Misshown Inside at b e = ⊥
 Misshown Dropped at b e = ⊥
 
 -- the value is read
 abbrev pub IsWhole : Form → Type 0
+IsWhole (Listed set front) = ⊥
 IsWhole Inside = ⊥
 IsWhole form = Unit {0}

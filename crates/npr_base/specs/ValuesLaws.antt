@@ -4,7 +4,7 @@ use Rattle.std.proofs.Common.{List, [], ◌∷◌, ◌++◌, length, refl, sym, 
 use Rattle.npr_base.specs.declared.refusal.At.{At}
 use Rattle.npr_base.specs.declared.refusal.DecodeError.{DecodeError}
 use Rattle.npr_base.specs.declared.value.Form.{Form}
-use Rattle.npr_base.specs.declared.value.Form.TheVariants.{Inside}
+use Rattle.npr_base.specs.declared.value.Form.TheVariants.{List as Listed, Inside}
 use Rattle.npr_base.specs.declared.value.Value.{Value}
 use Rattle.npr_base.specs.Family.{Writing, Reading}
 use Rattle.npr_base.specs.Framing.{Item, number_of}
@@ -16,6 +16,7 @@ use Rattle.npr_base.specs.Values.{Unseen, ValueStep, ValueSteps, SeenAs, IsRead}
 
 -- what is read is whole
 pub read-whole : (form : Form) (b : List ℕ) (s : Shown) → Shows form b s → IsRead s → IsWhole form
+read-whole (Listed set front) b s p r = subst IsRead p r
 read-whole Inside b s p r = subst IsRead p r
 read-whole form b s p r = tt
 

@@ -5,7 +5,7 @@
 macro_rules! form_rows {
     (($number:expr $(; $($more:tt)*)?) $family:ident of $at:ident { $($row:tt $variant:ident $(($($codec:tt)+))? $(as $kind:expr)?;)* }) => {
         (
-            $crate::AttrFamily::$at.at($number),
+            $crate::AttributeSet::$at.at($number),
             match $number {
                 $($($more)*)?
                 $($row => $crate::form_row!($($($codec)+)?),)*
@@ -69,8 +69,8 @@ macro_rules! form_row {
     (raw) => {
         $crate::Form::Raw
     };
-    (list) => {
-        $crate::Form::Inside
+    (list $set:ident) => {
+        $crate::Form::List($crate::AttributeSet::$set, 0)
     };
     ($of:ident value) => {
         $crate::Form::Inside

@@ -21,8 +21,8 @@ use crate::framing::{
 };
 use crate::message::Header;
 use crate::{
-    AddressFamily, At, AttrFamily, DecodeError, DefaultNla, EmitError, IpAddr, Ipv4Addr, Ipv6Addr,
-    Looks, NlaBuffer, NlasIterator, Seg6Fault, WriteError,
+    AddressFamily, At, AttributeSet, DecodeError, DefaultNla, EmitError, IpAddr, Ipv4Addr,
+    Ipv6Addr, Looks, NlaBuffer, NlasIterator, Seg6Fault, WriteError,
 };
 
 /// The steps of a walk: those that find attributes from the first byte to the last are the cut of
@@ -67,7 +67,7 @@ pub fn law_equality()
     ensures ipv4 { IsEquality ⟦<Ipv4Addr as PartialEq>⟧.eq }
     ensures ipv6 { IsEquality ⟦<Ipv6Addr as PartialEq>⟧.eq }
     ensures ip { IsEquality ⟦<IpAddr as PartialEq>⟧.eq }
-    ensures attr_family { IsEquality ⟦<AttrFamily as PartialEq>⟧.eq }
+    ensures attr_family { IsEquality ⟦<AttributeSet as PartialEq>⟧.eq }
     ensures at { IsEquality ⟦<At as PartialEq>⟧.eq }
     ensures seg6_fault { IsEquality ⟦<Seg6Fault as PartialEq>⟧.eq }
     ensures decode_error { IsEquality ⟦<DecodeError as PartialEq>⟧.eq }

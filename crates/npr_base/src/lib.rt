@@ -43,7 +43,7 @@ pub use list::{
 pub use looks::Looks;
 pub use message::{Header, Message};
 pub use place::{Place, put_ip, put_read};
-pub use refusal::{At, AttrFamily, DecodeError, EmitError, Seg6Fault};
+pub use refusal::{At, AttributeSet, DecodeError, EmitError, Seg6Fault};
 pub use rowed::{BigEndian, Rowed, Scalar, put_as, put_big, put_exactly};
 pub use text::{write_hex, write_joined, write_six_hex_digits};
 pub use traits::{

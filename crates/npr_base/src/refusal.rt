@@ -6,162 +6,165 @@ ghost use Rattle.npr_base.specs.{declared.refusal.DecodeError.TheVariants.{OutOf
 use std::alloc::{AllocError, AllocFailed};
 use thiserror::Error;
 
-/// The family of attributes in which a number is to be understood.
+/// A set of attributes, in which a number is to be understood. Each has the number that C sees.
 #[derive(Clone, Copy, Debug, PartialEq, Eq)]
-pub enum AttrFamily {
-    /// No family: a value that is read by itself.
-    Value,
+pub enum AttributeSet {
+    /// No set: a value that is read by itself.
+    Value = 0,
     /// `IFA_*` of `linux/if_addr.h`.
-    Address,
+    Address = 1,
     /// `FRA_*` of `linux/fib_rules.h`.
-    Rule,
+    Rule = 2,
     /// `RTA_*` of `linux/rtnetlink.h`.
-    Route,
-    /// `NDA_*` of `linux/neighbour.h`.
-    Neighbour,
+    Route = 3,
     /// `RTAX_*` of `linux/rtnetlink.h`.
-    Metric,
+    Metric = 4,
     /// `MPLS_IPTUNNEL_*` of `linux/mpls_iptunnel.h`.
-    Mpls,
+    Mpls = 5,
     /// `LWTUNNEL_IP_*` of `linux/lwtunnel.h`.
-    Ip,
+    Ip = 6,
     /// `LWTUNNEL_IP6_*` of `linux/lwtunnel.h`.
-    Ip6,
+    Ip6 = 7,
     /// `LWT_XFRM_*` of `linux/lwtunnel.h`.
-    Xfrm,
+    Xfrm = 8,
     /// `LWTUNNEL_IP_OPTS_*` of `linux/lwtunnel.h`.
-    Opt,
+    Opt = 9,
     /// `LWTUNNEL_IP_OPT_GENEVE_*` of `linux/lwtunnel.h`.
-    Geneve,
+    Geneve = 10,
     /// `LWTUNNEL_IP_OPT_VXLAN_*` of `linux/lwtunnel.h`.
-    Vxlan,
+    Vxlan = 11,
     /// `LWTUNNEL_IP_OPT_ERSPAN_*` of `linux/lwtunnel.h`.
-    Erspan,
+    Erspan = 12,
     /// `SEG6_IPTUNNEL_*` of `linux/seg6_iptunnel.h`.
-    Seg6,
+    Seg6 = 13,
     /// `SEG6_LOCAL_*` of `linux/seg6_local.h`.
-    Seg6Local,
+    Seg6Local = 14,
     /// `RPL_IPTUNNEL_*` of `linux/rpl_iptunnel.h`.
-    Rpl,
+    Rpl = 15,
     /// `IOAM6_IPTUNNEL_*` of `linux/ioam6_iptunnel.h`.
-    Ioam6,
+    Ioam6 = 16,
+    /// `NDA_*` of `linux/neighbour.h`.
+    Neighbour = 17,
     /// `IFLA_*` of `linux/if_link.h`.
-    Link,
+    Link = 18,
     /// `IFLA_INFO_*` of `linux/if_link.h`.
-    LinkInfo,
+    LinkInfo = 19,
     /// `IFLA_XDP_*` of `linux/if_link.h`.
-    LinkXdp,
+    LinkXdp = 20,
     /// `IFLA_ALT_IFNAME` of `linux/if_link.h`, the one property.
-    Prop,
+    Prop = 21,
     /// `IFLA_PROTO_DOWN_REASON_*` of `linux/if_link.h`.
-    LinkProtocolDownReason,
+    LinkProtocolDownReason = 22,
     /// Address families in `IFLA_AF_SPEC`: `AF_*` of `linux/socket.h`.
-    AfSpecUnspec,
+    AfSpecUnspec = 23,
     /// `IFLA_INET_*` of `linux/if_link.h`.
-    AfSpecInet,
+    AfSpecInet = 24,
     /// `IFLA_INET6_*` of `linux/if_link.h`.
-    AfSpecInet6,
+    AfSpecInet6 = 25,
     /// `IFLA_BR_*` of `linux/if_link.h`.
-    InfoBridge,
+    InfoBridge = 26,
     /// `BRIDGE_QUERIER_*` of `linux/if_bridge.h`.
-    BridgeQuerierState,
+    BridgeQuerierState = 27,
     /// `IFLA_BRPORT_*` of `linux/if_link.h`.
-    InfoBridgePort,
+    InfoBridgePort = 28,
     /// `IFLA_VLAN_*` of `linux/if_link.h`.
-    InfoVlan,
+    InfoVlan = 29,
     /// `IFLA_VLAN_QOS_*` of `linux/if_link.h`.
-    VlanQosMapping,
+    VlanQosMapping = 30,
     /// `IFLA_VRF_*` of `linux/if_link.h`.
-    InfoVrf,
+    InfoVrf = 31,
     /// `VETH_INFO_*` of `linux/veth.h`.
-    InfoVeth,
+    InfoVeth = 32,
     /// `IFLA_*` of `linux/if_link.h`, in the peer of a link.
-    Peer,
+    Peer = 33,
     /// `IFLA_BRIDGE_*` of `linux/if_bridge.h`.
-    AfSpecBridge,
+    AfSpecBridge = 34,
     /// `IFLA_BRIDGE_VLAN_TUNNEL_*` of `linux/if_bridge.h`.
-    BridgeVlanTunnelInfo,
+    BridgeVlanTunnelInfo = 35,
     /// `IFLA_BRIDGE_MST_ENTRY` of `linux/if_bridge.h`, the one state in a list of states.
-    BridgeMst,
+    BridgeMst = 36,
     /// `IFLA_BRIDGE_MST_ENTRY_*` of `linux/if_bridge.h`.
-    BridgeMstEntry,
+    BridgeMstEntry = 37,
     /// `IFLA_BOND_*` of `linux/if_link.h`.
-    InfoBond,
+    InfoBond = 38,
     /// `IFLA_BOND_AD_INFO_*` of `linux/if_link.h`.
-    BondAdInfo,
+    BondAdInfo = 39,
     /// `IFLA_BOND_SLAVE_*` of `linux/if_link.h`.
-    InfoBondPort,
+    InfoBondPort = 40,
     /// `IFLA_MACVLAN_*` of `linux/if_link.h`.
-    InfoMacVlan,
+    InfoMacVlan = 41,
     /// `IFLA_MACVLAN_MACADDR` of `linux/if_link.h`, in a list of addresses.
-    MacVlanAddress,
+    MacVlanAddress = 42,
     /// `IFLA_IPVLAN_*` of `linux/if_link.h`.
-    InfoIpVlan,
+    InfoIpVlan = 43,
     /// `IFLA_NETKIT_*` of `linux/if_link.h`.
-    InfoNetkit,
+    InfoNetkit = 44,
     /// `IFLA_TUN_*` of `linux/if_link.h`.
-    InfoTun,
+    InfoTun = 45,
     /// `IFLA_VXLAN_*` of `linux/if_link.h`.
-    InfoVxlan,
+    InfoVxlan = 46,
     /// `IFLA_GENEVE_*` of `linux/if_link.h`.
-    InfoGeneve,
+    InfoGeneve = 47,
     /// `IFLA_GRE_*` of `linux/if_tunnel.h`, over version 4.
-    InfoGre,
+    InfoGre = 48,
     /// `IFLA_GRE_*` of `linux/if_tunnel.h`, over version 6.
-    InfoGre6,
+    InfoGre6 = 49,
     /// `IFLA_IPTUN_*` of `linux/if_tunnel.h`.
-    InfoIpTunnel,
+    InfoIpTunnel = 50,
     /// `IFLA_VTI_*` of `linux/if_tunnel.h`.
-    InfoVti,
+    InfoVti = 51,
     /// `IFLA_XFRM_*` of `linux/if_link.h`.
-    InfoXfrm,
+    InfoXfrm = 52,
     /// `NHA_*` of `linux/nexthop.h`.
-    NextHop,
+    NextHop = 53,
     /// `NHA_RES_GROUP_*` of `linux/nexthop.h`.
-    NextHopResGroup,
+    NextHopResGroup = 54,
     /// `NHA_RES_BUCKET_*` of `linux/nexthop.h`.
-    NextHopResBucket,
+    NextHopResBucket = 55,
     /// `NHA_GROUP_STATS_ENTRY` of `linux/nexthop.h`, the one entry in a list of entries.
-    NextHopGroupStats,
+    NextHopGroupStats = 56,
     /// `NHA_GROUP_STATS_ENTRY_*` of `linux/nexthop.h`.
-    NextHopGroupStatsEntry,
+    NextHopGroupStatsEntry = 57,
     /// `NETNSA_*` of `linux/net_namespace.h`.
-    Nsid,
+    Nsid = 58,
     /// `PREFIX_*` of `linux/rtnetlink.h`.
-    Prefix,
+    Prefix = 59,
     /// `NETCONFA_*` of `linux/netconf.h`.
-    Netconf,
+    Netconf = 60,
     /// `NDTA_*` of `linux/neighbour.h`.
-    NeighbourTable,
+    NeighbourTable = 61,
     /// `NDTPA_*` of `linux/neighbour.h`.
-    NeighbourTableParameter,
+    NeighbourTableParameter = 62,
     /// `IFAL_*` of `linux/if_addrlabel.h`.
-    AddressLabel,
+    AddressLabel = 63,
+    /// What an encapsulation holds, by its type: the set is that of the type (`Mpls` .. `Ioam6`), which
+    /// refusals name, or none.
+    Encap = 64,
 }
 
-/// The place of a value: the family of its attribute, and the attribute's number.
+/// The place of a value: the set of its attribute, and the attribute's number.
 #[derive(Clone, Copy, Debug, PartialEq, Eq)]
 pub struct At {
-    /// The family.
-    pub family: AttrFamily,
-    /// The number, without the two flags of a kind.
-    pub kind: u16,
+    /// The set.
+    pub set: AttributeSet,
+    /// The number, without the two flags of the attribute's type.
+    pub number: u16,
 }
 
-impl AttrFamily {
-    /// The place of the attribute of this number in the family.
-    pub const fn at(self, kind: u16) -> At
-        ensures { result ≡ record { family = self; kind = kind } }
+impl AttributeSet {
+    /// The place of the attribute of this number in the set.
+    pub const fn at(self, number: u16) -> At
+        ensures { result ≡ record { set = self; number = number } }
     {
-        At { family: self, kind }
+        At { set: self, number }
     }
 }
 
 impl At {
-    /// The place of a value that is read by itself: no family, and the number 0.
+    /// The place of a value that is read by itself: no set, and the number 0.
     pub const NO_PLACE: At = At {
-        family: AttrFamily::Value,
-        kind: 0,
+        set: AttributeSet::Value,
+        number: 0,
     };
 }
 

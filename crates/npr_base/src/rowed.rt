@@ -1,9 +1,8 @@
 //! Attributes that are read by the rows of a family's table, each by one call.
 
-ghost use Rattle.std.specs.Prelude.{◌≡◌, ◌≢◌, ℕ, IfOk, IfErr};
+ghost use Rattle.std.specs.Prelude.{◌≡◌, ℕ, IfOk, IfErr};
 ghost use Rattle.npr_base.specs.{
   declared.refusal.DecodeError.{DecodeError},
-  declared.refusal.DecodeError.TheVariants.{OutOfMemory},
   Codec.{exactly},
   Framing.{Item, number_of},
   Layout.{Layout, boolean, byte, signed32, le16, le32, le64, be16, be32, be64, octets4, octets16},
@@ -13,7 +12,7 @@ ghost use Rattle.npr_base.specs.{
 use crate::framing::NlaBuffer;
 use crate::ip::{Ipv4Addr, Ipv6Addr};
 use crate::place::Place;
-use crate::refusal::{At, AttrFamily, DecodeError};
+use crate::refusal::{At, AttributeSet, DecodeError};
 use crate::values::{
     read_bool, read_i32, read_ipv4, read_ipv6, read_u8, read_u16, read_u16_be, read_u32,
     read_u32_be, read_u64, read_u64_be,
@@ -165,7 +164,7 @@ impl BigEndian for u64 {
 pub fn put_exactly<A: Rowed, T: Scalar, P: Place<A>, V: FnOnce(T) -> A>(
     place: &mut P,
     item: &NlaBuffer<'_>,
-    family: AttrFamily,
+    family: AttributeSet,
     number: u16,
     variant: V,
 ) -> Result<(), DecodeError>
@@ -175,7 +174,7 @@ pub fn put_exactly<A: Rowed, T: Scalar, P: Place<A>, V: FnOnce(T) -> A>(
     requires row { (x : _) (a : _) → (exactly T.layout).Reads (item.now).value x → V.post variant x a → A.reads number item.now a }
     requires wrong { (e : DecodeError) → (exactly T.layout).Wrong (at_number family number) (item.now).value e → A.wrong number item.now e }
     ensures ok { IfOk result (λ _. (a : A) × P.puts place.old a place.new × A.reads (number_of (item.now).kind) item.now a) }
-    ensures refused { IfErr result (λ e. e ≢ OutOfMemory → A.wrong (number_of (item.now).kind) item.now e) }
+    ensures refused { IfErr result (λ e. A.wrong (number_of (item.now).kind) item.now e) }
 {
     place.put(variant(T::read_scalar(item.value(), family.at(number))?));
     Ok(())
@@ -189,7 +188,7 @@ pub fn put_exactly<A: Rowed, T: Scalar, P: Place<A>, V: FnOnce(T) -> A>(
 pub fn put_big<A: Rowed, T: BigEndian, P: Place<A>, V: FnOnce(T) -> A>(
     place: &mut P,
     item: &NlaBuffer<'_>,
-    family: AttrFamily,
+    family: AttributeSet,
     number: u16,
     variant: V,
 ) -> Result<(), DecodeError>
@@ -199,7 +198,7 @@ pub fn put_big<A: Rowed, T: BigEndian, P: Place<A>, V: FnOnce(T) -> A>(
     requires row { (x : _) (a : _) → (exactly T.big).Reads (item.now).value x → V.post variant x a → A.reads number item.now a }
     requires wrong { (e : DecodeError) → (exactly T.big).Wrong (at_number family number) (item.now).value e → A.wrong number item.now e }
     ensures ok { IfOk result (λ _. (a : A) × P.puts place.old a place.new × A.reads (number_of (item.now).kind) item.now a) }
-    ensures refused { IfErr result (λ e. e ≢ OutOfMemory → A.wrong (number_of (item.now).kind) item.now e) }
+    ensures refused { IfErr result (λ e. A.wrong (number_of (item.now).kind) item.now e) }
 {
     place.put(variant(T::read_big(item.value(), family.at(number))?));
     Ok(())
@@ -213,7 +212,7 @@ pub fn put_big<A: Rowed, T: BigEndian, P: Place<A>, V: FnOnce(T) -> A>(
 pub fn put_as<A: Rowed, N: Scalar, T: From<N> + Drop, P: Place<A>, V: FnOnce(T) -> A>(
     place: &mut P,
     item: &NlaBuffer<'_>,
-    family: AttrFamily,
+    family: AttributeSet,
     number: u16,
     variant: V,
 ) -> Result<(), DecodeError>
@@ -223,7 +222,7 @@ pub fn put_as<A: Rowed, N: Scalar, T: From<N> + Drop, P: Place<A>, V: FnOnce(T) 
     requires row { (n : _) (x : _) (a : _) → (exactly N.layout).Reads (item.now).value n → T.from_gives n x → V.post variant x a → A.reads number item.now a }
     requires wrong { (e : DecodeError) → (exactly N.layout).Wrong (at_number family number) (item.now).value e → A.wrong number item.now e }
     ensures ok { IfOk result (λ _. (a : A) × P.puts place.old a place.new × A.reads (number_of (item.now).kind) item.now a) }
-    ensures refused { IfErr result (λ e. e ≢ OutOfMemory → A.wrong (number_of (item.now).kind) item.now e) }
+    ensures refused { IfErr result (λ e. A.wrong (number_of (item.now).kind) item.now e) }
 {
     place.put(variant(T::from(N::read_scalar(item.value(), family.at(number))?)));
     Ok(())
@@ -252,52 +251,52 @@ macro_rules! flat_row {
         $place.put($family::$variant);
         Ok(())
     }};
-    ([$place:expr, $alloc:expr, $item:expr, $at:ident, $number:tt, $family:ident::$variant:ident] list) => {
+    ([$place:expr, $alloc:expr, $item:expr, $at:ident, $number:tt, $family:ident::$variant:ident] list $set:ident) => {
         unreachable!()
     };
     ([$place:expr, $alloc:expr, $item:expr, $at:ident, $number:tt, $family:ident::$variant:ident] byte) => {
-        $crate::put_exactly($place, $item, $crate::AttrFamily::$at, $number, $family::$variant)
+        $crate::put_exactly($place, $item, $crate::AttributeSet::$at, $number, $family::$variant)
     };
     ([$place:expr, $alloc:expr, $item:expr, $at:ident, $number:tt, $family:ident::$variant:ident] boolean) => {
-        $crate::put_exactly($place, $item, $crate::AttrFamily::$at, $number, $family::$variant)
+        $crate::put_exactly($place, $item, $crate::AttributeSet::$at, $number, $family::$variant)
     };
     ([$place:expr, $alloc:expr, $item:expr, $at:ident, $number:tt, $family:ident::$variant:ident] signed32) => {
-        $crate::put_exactly($place, $item, $crate::AttrFamily::$at, $number, $family::$variant)
+        $crate::put_exactly($place, $item, $crate::AttributeSet::$at, $number, $family::$variant)
     };
     ([$place:expr, $alloc:expr, $item:expr, $at:ident, $number:tt, $family:ident::$variant:ident] le16) => {
-        $crate::put_exactly($place, $item, $crate::AttrFamily::$at, $number, $family::$variant)
+        $crate::put_exactly($place, $item, $crate::AttributeSet::$at, $number, $family::$variant)
     };
     ([$place:expr, $alloc:expr, $item:expr, $at:ident, $number:tt, $family:ident::$variant:ident] le32) => {
-        $crate::put_exactly($place, $item, $crate::AttrFamily::$at, $number, $family::$variant)
+        $crate::put_exactly($place, $item, $crate::AttributeSet::$at, $number, $family::$variant)
     };
     ([$place:expr, $alloc:expr, $item:expr, $at:ident, $number:tt, $family:ident::$variant:ident] le64) => {
-        $crate::put_exactly($place, $item, $crate::AttrFamily::$at, $number, $family::$variant)
+        $crate::put_exactly($place, $item, $crate::AttributeSet::$at, $number, $family::$variant)
     };
     ([$place:expr, $alloc:expr, $item:expr, $at:ident, $number:tt, $family:ident::$variant:ident] octets4) => {
-        $crate::put_exactly($place, $item, $crate::AttrFamily::$at, $number, $family::$variant)
+        $crate::put_exactly($place, $item, $crate::AttributeSet::$at, $number, $family::$variant)
     };
     ([$place:expr, $alloc:expr, $item:expr, $at:ident, $number:tt, $family:ident::$variant:ident] octets16) => {
-        $crate::put_exactly($place, $item, $crate::AttrFamily::$at, $number, $family::$variant)
+        $crate::put_exactly($place, $item, $crate::AttributeSet::$at, $number, $family::$variant)
     };
     ([$place:expr, $alloc:expr, $item:expr, $at:ident, $number:tt, $family:ident::$variant:ident] be16) => {
-        $crate::put_big($place, $item, $crate::AttrFamily::$at, $number, $family::$variant)
+        $crate::put_big($place, $item, $crate::AttributeSet::$at, $number, $family::$variant)
     };
     ([$place:expr, $alloc:expr, $item:expr, $at:ident, $number:tt, $family:ident::$variant:ident] be32) => {
-        $crate::put_big($place, $item, $crate::AttrFamily::$at, $number, $family::$variant)
+        $crate::put_big($place, $item, $crate::AttributeSet::$at, $number, $family::$variant)
     };
     ([$place:expr, $alloc:expr, $item:expr, $at:ident, $number:tt, $family:ident::$variant:ident] be64) => {
-        $crate::put_big($place, $item, $crate::AttrFamily::$at, $number, $family::$variant)
+        $crate::put_big($place, $item, $crate::AttributeSet::$at, $number, $family::$variant)
     };
     ([$place:expr, $alloc:expr, $item:expr, $at:ident, $number:tt, $family:ident::$variant:ident] $of:ident as byte) => {
-        $crate::put_as::<_, u8, _, _, _>($place, $item, $crate::AttrFamily::$at, $number, $family::$variant)
+        $crate::put_as::<_, u8, _, _, _>($place, $item, $crate::AttributeSet::$at, $number, $family::$variant)
     };
     ([$place:expr, $alloc:expr, $item:expr, $at:ident, $number:tt, $family:ident::$variant:ident] $of:ident as le16) => {
-        $crate::put_as::<_, u16, _, _, _>($place, $item, $crate::AttrFamily::$at, $number, $family::$variant)
+        $crate::put_as::<_, u16, _, _, _>($place, $item, $crate::AttributeSet::$at, $number, $family::$variant)
     };
     ([$place:expr, $alloc:expr, $item:expr, $at:ident, $number:tt, $family:ident::$variant:ident] $of:ident as le32) => {
-        $crate::put_as::<_, u32, _, _, _>($place, $item, $crate::AttrFamily::$at, $number, $family::$variant)
+        $crate::put_as::<_, u32, _, _, _>($place, $item, $crate::AttributeSet::$at, $number, $family::$variant)
     };
     ([$place:expr, $alloc:expr, $item:expr, $at:ident, $number:tt, $family:ident::$variant:ident] $($codec:tt)+) => {
-        $crate::put_row!([$place, $family::$variant, $alloc, $item.value(), $crate::AttrFamily::$at.at($number), ()] $($codec)+)
+        $crate::put_row!([$place, $family::$variant, $alloc, $item.value(), $crate::AttributeSet::$at.at($number), ()] $($codec)+)
     };
 }

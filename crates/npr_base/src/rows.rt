@@ -9,7 +9,7 @@
 //! | `byte`, `boolean`, `signed32`, `le16`, `le32`, `le64`, `be16`, `be32`, `be64` | a number, the lowest byte first or last |
 //! | `uint`; `flag` | a number of 4 or 8 bytes, the lowest first; true without bytes or as one above 0 |
 //! | `octets4`, `octets16`, `ip` | an address of version 4, of version 6, of both |
-//! | `name`, `raw`, `list` | a name; bytes as they stand; attributes of another family |
+//! | `name`, `raw`, `list S` | a name; bytes as they stand; attributes of the set `S` |
 //! | `T as le32`, `T as byte by f` | an enumeration over such a number, which `f` gives where not each value has one |
 //! | `T flags le32` | a set of flags over such a number |
 //! | `T exactly 8` | a structure of so many bytes |
@@ -42,7 +42,7 @@ macro_rules! clone_row {
     ([$family:ident::$variant:ident, $x:ident, $alloc:expr] name) => {
         String::from_str($alloc, $x.as_str()).map($family::$variant)
     };
-    ([$family:ident::$variant:ident, $x:ident, $alloc:expr] list) => {
+    ([$family:ident::$variant:ident, $x:ident, $alloc:expr] list $set:ident) => {
         $crate::clone_list($alloc, $x.as_slice()).map($family::$variant)
     };
     ([$family:ident::$variant:ident, $x:ident, $alloc:expr] $of:ident value $($raw:ident)?) => {
@@ -104,7 +104,7 @@ macro_rules! len_row {
     ([$x:ident] name) => {
         $x.len() + 1
     };
-    ([$x:ident] list) => {
+    ([$x:ident] list $set:ident) => {
         $crate::check_list($x.as_slice())?
     };
     ([$x:ident] $of:ident exactly $len:literal) => {
@@ -186,7 +186,7 @@ macro_rules! write_row {
     ([$x:ident, $out:expr] name) => {
         $crate::write_name($x.as_str(), $out)
     };
-    ([$x:ident, $out:expr] list) => {
+    ([$x:ident, $out:expr] list $set:ident) => {
         $crate::write_list($x.as_slice(), $out)
     };
     ([$x:ident, $out:expr] $of:ident exactly $len:literal) => {
@@ -263,7 +263,7 @@ macro_rules! put_rows {
         let value = $item.value();
         match $item.kind() {
             $($($more)*)?
-            $($number => $crate::put_row!([$place, $family::$variant, $alloc, value, $crate::AttrFamily::$at.at($number), $looks] $($($codec)+)?),)*
+            $($number => $crate::put_row!([$place, $family::$variant, $alloc, value, $crate::AttributeSet::$at.at($number), $looks] $($($codec)+)?),)*
             _ => {
                 $place.put($family::Other($crate::DefaultNla::read($alloc, $item)?));
                 Ok(())
@@ -290,7 +290,7 @@ macro_rules! put_row {
         $place.put($family::$variant($crate::read_bytes($alloc, $value)?));
         Ok(())
     }};
-    ([$place:expr, $family:ident::$variant:ident, $alloc:expr, $value:expr, $at:expr, $looks:expr] list) => {
+    ([$place:expr, $family:ident::$variant:ident, $alloc:expr, $value:expr, $at:expr, $looks:expr] list $set:ident) => {
         $crate::put_read($place, $crate::parse_list($alloc, (), $value, $looks), $family::$variant)
     };
     ([$place:expr, $family:ident::$variant:ident, $alloc:expr, $value:expr, $at:expr, $looks:expr] $of:ident value $($raw:ident)?) => {{

@@ -4,7 +4,7 @@ ghost use Rattle.std.specs.Prelude.{◌≡◌, length, IfOk, IfErr};
 ghost use Rattle.npr_base.specs.{Name.{name}, Value.{Shows, Misshown, Missized, shown}};
 
 use crate::ip::IpAddr;
-use crate::refusal::{At, DecodeError};
+use crate::refusal::{At, AttributeSet, DecodeError};
 use crate::values::{
     leading_octets, read_bool, read_i32, read_ip, read_ipv4, read_ipv6, read_u8, read_u16,
     read_u16_be, read_u32, read_u32_be, read_u64, read_u64_be, without_zero,
@@ -51,7 +51,9 @@ pub enum Form {
     Exactly(usize),
     /// A structure of so many bytes, behind which more may stand.
     Leading(usize),
-    /// A list of attributes, or what else has a reader of its own. It is not read here.
+    /// A list of attributes of this set, behind so many bytes. It is not read here.
+    List(AttributeSet, usize),
+    /// What else has a reader of its own. It is not read here.
     Inside,
     /// Nothing: the bytes are dropped.
     Dropped,
@@ -149,6 +151,7 @@ pub fn read_form<'a>(form: Form, bytes: &'a [u8], at: At) -> Result<Value<'a>, D
         Form::Raw => Value::Bytes(bytes),
         Form::Exactly(size) => Value::Structure(whole_octets(bytes, size, at)?),
         Form::Leading(size) => Value::Structure(leading_octets(bytes, size)?),
+        Form::List(_, _) => Value::Inside(bytes),
         Form::Inside => Value::Inside(bytes),
         Form::Dropped => Value::Nothing,
     })

@@ -1,5 +1,5 @@
 -- What an address family says of a link (linux/socket.h, AF_*), by the table.
-use Rattle.npr_base.specs.declared.refusal.AttrFamily.TheVariants.{AfSpecUnspec as AtAfSpec}
+use Rattle.npr_base.specs.declared.refusal.AttributeSet.TheVariants.{AfSpecUnspec as AtAfSpec, AfSpecInet as AtAfSpecInet, AfSpecInet6 as AtAfSpecInet6}
 use Rattle.npr_base.specs.Tables.{EnumTable, table_of, row, others, ◌or◌, list_of, listed, value, refl, Reading, Family, writing_of, attributes_of}
 use Rattle.npr_base.specs.Tables.{family_of_table}
 use Rattle.npr_link.specs.AfSpecInet as OfAfSpecInet
@@ -11,8 +11,8 @@ use Rattle.npr_link.specs.declared.af_spec.AfSpecUnspec.{AfSpecUnspec}
 abbrev pub table : EnumTable enum
 table =
     table_of enum (
-    row AtAfSpec 2 (list_of OfAfSpecInet.attributes) (listed OfAfSpecInet.family.meaning AfSpecUnspec.Inet)  -- AF_INET
-    or row AtAfSpec 10 (list_of OfAfSpecInet6.attributes) (listed OfAfSpecInet6.family.meaning AfSpecUnspec.Inet6)  -- AF_INET6
+    row AtAfSpec 2 (list_of AtAfSpecInet OfAfSpecInet.attributes) (listed OfAfSpecInet.family.meaning AfSpecUnspec.Inet)  -- AF_INET
+    or row AtAfSpec 10 (list_of AtAfSpecInet6 OfAfSpecInet6.attributes) (listed OfAfSpecInet6.family.meaning AfSpecUnspec.Inet6)  -- AF_INET6
     or others (value AfSpecUnspec.Other)) refl refl
 
 -- the family

@@ -1,5 +1,5 @@
 -- What IP version 6 says of a link (linux/if_link.h, IFLA_INET6_*), by the table.
-use Rattle.npr_base.specs.declared.refusal.AttrFamily.TheVariants.{AfSpecInet6 as AtAfSpecInet6}
+use Rattle.npr_base.specs.declared.refusal.AttributeSet.TheVariants.{AfSpecInet6 as AtAfSpecInet6}
 use Rattle.npr_base.specs.Tables.{EnumTable, table_of, row, others, ◌or◌, exactly, le32, leading, octets16, seen, value, refl, Reading, Family, writing_of}
 use Rattle.npr_base.specs.Tables.{attributes_of, family_of_table}
 use Rattle.npr_link.specs.AddressMode.{address_mode}

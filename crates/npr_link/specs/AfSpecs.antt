@@ -3,6 +3,7 @@
 use Rattle.std.specs.Prelude.{ℕ, List}
 use Rattle.std.proofs.Common.{refl}
 use Rattle.npr_base.specs.Codec.{Codec}
+use Rattle.npr_base.specs.declared.refusal.AttributeSet.TheVariants as At
 use Rattle.npr_base.specs.declared.address_family.AddressFamily.{AddressFamily}
 use Rattle.npr_base.specs.declared.address_family.AddressFamily.TheVariants.{Unspec, Inet, Bridge, Inet6}
 use Rattle.npr_link.specs.AfSpec as OfAfSpec
@@ -29,14 +30,14 @@ form_of family = as_bytes
 
 -- how it is written, whatever the family
 abbrev pub held : AfSpecs → Held
-held (unspec xs) = listed OfAfSpec.attributes xs
-held (bridge xs) = listed OfBridge.attributes xs
+held (unspec xs) = listed At.AfSpecUnspec OfAfSpec.attributes xs
+held (bridge xs) = listed At.AfSpecBridge OfBridge.attributes xs
 held (unknown bytes) = kept bytes
 
 -- and read
 abbrev pub case : Form → Case held
-case as_list = list_case held OfAfSpec.attributes unspec (λ xs. refl)
-case as_bridge = list_case held OfBridge.attributes bridge (λ xs. refl)
+case as_list = list_case held At.AfSpecUnspec OfAfSpec.attributes unspec (λ xs. refl)
+case as_bridge = list_case held At.AfSpecBridge OfBridge.attributes bridge (λ xs. refl)
 case as_bytes = bytes_case held unknown (λ bytes. refl)
 
 abbrev pub af_specs : Form → Codec AfSpecs

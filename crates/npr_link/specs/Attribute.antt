@@ -1,5 +1,5 @@
 -- The attributes of a link message (linux/if_link.h, IFLA_*), by their table under the header's family.
-use Rattle.npr_base.specs.declared.refusal.AttrFamily.TheVariants.{Link as AtAttribute}
+use Rattle.npr_base.specs.declared.refusal.AttributeSet.TheVariants.{Link as AtAttribute, LinkXdp as AtXdp, Prop as AtProp, LinkProtocolDownReason as AtReason}
 use Rattle.std.specs.Prelude.{◌≡◌, ℕ, ◌==◌, ◌||◌, ◌⊎◌, Bool, true, false, List, drop, map, if◌then◌else◌}
 use Rattle.std.proofs.Common.{inl, inr, ap, ◌∙◌}
 use Rattle.npr_base.specs.Beside.{beside, has, numbers-in, Sides, side_writing}
@@ -82,7 +82,7 @@ flat_rows =
     or row AtAttribute 39 (exactly byte) (value LinkAttribute.ProtoDown)  -- IFLA_PROTO_DOWN
     or row AtAttribute 40 (exactly le32) (value LinkAttribute.GsoMaxSegs)  -- IFLA_GSO_MAX_SEGS
     or row AtAttribute 41 (exactly le32) (value LinkAttribute.GsoMaxSize)  -- IFLA_GSO_MAX_SIZE
-    or row AtAttribute 43 (list_of OfXdp.attributes) (listed OfXdp.family.meaning LinkAttribute.Xdp)  -- IFLA_XDP
+    or row AtAttribute 43 (list_of AtXdp OfXdp.attributes) (listed OfXdp.family.meaning LinkAttribute.Xdp)  -- IFLA_XDP
     or row AtAttribute 44 (exactly link_event) (value LinkAttribute.Event)  -- IFLA_EVENT
     or row AtAttribute 45 (exactly signed32) (value LinkAttribute.NewNetnsId)  -- IFLA_NEW_NETNSID
     or row AtAttribute 46 (exactly signed32) (value LinkAttribute.IfNetnsId)  -- IFLA_IF_NETNSID
@@ -91,10 +91,10 @@ flat_rows =
     or row AtAttribute 49 (exactly signed32) (value LinkAttribute.NewIfIndex)  -- IFLA_NEW_IFINDEX
     or row AtAttribute 50 (exactly le32) (value LinkAttribute.MinMtu)  -- IFLA_MIN_MTU
     or row AtAttribute 51 (exactly le32) (value LinkAttribute.MaxMtu)  -- IFLA_MAX_MTU
-    or marked_row AtAttribute 52 (list_of OfProp.attributes) (listed OfProp.family.meaning LinkAttribute.PropList)  -- IFLA_PROP_LIST
+    or marked_row AtAttribute 52 (list_of AtProp OfProp.attributes) (listed OfProp.family.meaning LinkAttribute.PropList)  -- IFLA_PROP_LIST
     or row AtAttribute 53 name (text LinkAttribute.AltIfName)  -- IFLA_ALT_IFNAME
     or row AtAttribute 54 raw (items LinkAttribute.PermAddress)  -- IFLA_PERM_ADDRESS
-    or marked_row AtAttribute 55 (list_of OfReason.attributes) (listed OfReason.family.meaning LinkAttribute.ProtoDownReason)  -- IFLA_PROTO_DOWN_REASON
+    or marked_row AtAttribute 55 (list_of AtReason OfReason.attributes) (listed OfReason.family.meaning LinkAttribute.ProtoDownReason)  -- IFLA_PROTO_DOWN_REASON
     or row AtAttribute 56 name (text LinkAttribute.ParentDevName)  -- IFLA_PARENT_DEV_NAME
     or row AtAttribute 57 name (text LinkAttribute.ParentDevBusName)  -- IFLA_PARENT_DEV_BUS_NAME
     or row AtAttribute 58 (exactly le32) (value LinkAttribute.GroMaxSize)  -- IFLA_GRO_MAX_SIZE

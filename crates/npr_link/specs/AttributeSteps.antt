@@ -157,8 +157,8 @@ quiet : (Fss : List (List Field)) (rs : VariantRows Fss) (x : Item) (old new : C
 quiet [] rs x old new h is = is
 quiet (Fs ∷ []) rs x old new h is = is
 quiet (Fs ∷ Gs ∷ Fss) rs x old new h is =
-    let n = not_first (number_of x.kind == rs.0.at.kind) (has_number (Gs ∷ Fss) rs.1 (number_of x.kind)) h in
-    past rs.0.at.kind rs.0.codec.members.looks (looks_in (Gs ∷ Fss) rs.1) x old new n.0 (quiet (Gs ∷ Fss) rs.1 x old new n.1 is)
+    let n = not_first (number_of x.kind == rs.0.at.number) (has_number (Gs ∷ Fss) rs.1 (number_of x.kind)) h in
+    past rs.0.at.number rs.0.codec.members.looks (looks_in (Gs ∷ Fss) rs.1) x old new n.0 (quiet (Gs ∷ Fss) rs.1 x old new n.1 is)
 
 alone_26 : (n : ℕ) → n ≡ 26 → has_number flat flat_rows.0 n ≡ false
 alone_26 n e = ap (has_number flat flat_rows.0) e

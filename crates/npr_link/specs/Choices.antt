@@ -1,13 +1,14 @@
 -- A value that is one of several variants, which a context chooses: each is read by a codec of its own, and written whatever the
 -- context is.
 --     Held                 what a value is written as, why it can't be, how much stands in it, and what it is seen as
---     as_list, as_bytes    attributes of a family, and bytes as they stand
+--     as_list, as_bytes    attributes of a set, and bytes as they stand
 --     Case                 a variant, with the codec that reads it: list_case, bytes_case
 --     chosen               the codec of a case
 use Rattle.std.specs.Prelude.{◌≡◌, ℕ, ◌+◌, ◌*◌, ◌≤◌, ◌<◌, List, length, Option, None}
 use Rattle.std.proofs.Common.{refl, sym, ap, subst, ◌∙◌}
 use Rattle.npr_base.specs.Codec.{Codec, raw}
 use Rattle.npr_base.specs.Counts.{SawEach}
+use Rattle.npr_base.specs.declared.refusal.AttributeSet.{AttributeSet}
 use Rattle.npr_base.specs.declared.refusal.EmitError.{EmitError}
 use Rattle.npr_base.specs.Family.{Writing, Reading}
 use Rattle.npr_base.specs.Framing.{Item, IsBytes, Front, framed}
@@ -24,11 +25,11 @@ pub record Held : Type 0 where
   -- what it is seen as in these bytes
   pub seen : List ℕ → Shown
 
-abbrev pub as_list : {M : Type 0} {w : Writing M} → Reading w → List M → Held
-as_list f xs = record {
-  encoded = (list_of f).encode xs;
-  unfit = (list_of f).unfit 0 xs;
-  count = (list_of f).members.count xs;
+abbrev pub as_list : {M : Type 0} {w : Writing M} → AttributeSet → Reading w → List M → Held
+as_list set f xs = record {
+  encoded = (list_of set f).encode xs;
+  unfit = (list_of set f).unfit 0 xs;
+  count = (list_of set f).members.count xs;
   size = length xs;
   seen = λ b. is_inside b;
 }
@@ -48,10 +49,11 @@ pub record Case {W : Type 0} (held : W → Held) : Type 1 where
   pub memory : List ℕ → Type 0
 
 module _ {W : Type 0} (held : W → Held) where
-  abbrev pub list_case : {M : Type 0} {w : Writing M} (f : Reading w) (made : List M → W) → ((xs : List M) → held (made xs) ≡ as_list f xs) → Case held
-  list_case {M} f made is = record {
+  abbrev pub list_case : {M : Type 0} {w : Writing M} (set : AttributeSet) (f : Reading w) (made : List M → W) → ((xs : List M) → held (made xs) ≡ as_list set f xs)
+      → Case held
+  list_case {M} set f made is = record {
     V = List M;
-    codec = list_of f;
+    codec = list_of set f;
     made = made;
     encoded = λ xs. ap (λ (h : Held). h.encoded) (is xs);
     unfit = λ kind xs. ap (λ (h : Held). h.unfit) (is xs);

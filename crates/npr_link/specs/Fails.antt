@@ -56,5 +56,5 @@ pub rows-once : (Fss : List (List Field)) (rows : VariantRows Fss) → RowsOnce 
 rows-once [] rows once x old new t = omega (arith, ap (λ (c : Counts). c.failed) t)
 rows-once (Fs ∷ []) rows once x old new t = omega (arith, ap (λ (c : Counts). c.failed) t)
 rows-once (Fs ∷ Gs ∷ Fss) rows once x old new t =
-    inside-once rows.0.at.kind rows.0.codec.members.looks (looks_in (Gs ∷ Fss) rows.1) (RowsOnce (Gs ∷ Fss) rows.1) once
+    inside-once rows.0.at.number rows.0.codec.members.looks (looks_in (Gs ∷ Fss) rows.1) (RowsOnce (Gs ∷ Fss) rows.1) once
     (rows-once (Gs ∷ Fss) rows.1) x old new t

@@ -2,6 +2,7 @@
 use Rattle.std.specs.Prelude.{ℕ, List, map}
 use Rattle.std.proofs.Common.{refl}
 use Rattle.npr_base.specs.Codec.{Codec}
+use Rattle.npr_base.specs.declared.refusal.AttributeSet.TheVariants as At
 use Rattle.npr_link.specs.Netkit as OfNetkit
 use Rattle.npr_link.specs.Veth as OfVeth
 use Rattle.npr_link.specs.Vlan as OfVlan
@@ -73,53 +74,53 @@ info_data_of (Has.Other bytes) = other bytes.items
 
 -- how they are written, whatever governs
 abbrev pub held : Data → Held
-held (bridge xs) = as_list OfBridge.attributes xs
-held (tun xs) = as_list OfTun.attributes xs
-held (vlan xs) = as_list OfVlan.attributes xs
-held (veth xs) = as_list OfVeth.attributes xs
-held (vxlan xs) = as_list OfVxlan.attributes xs
-held (bond xs) = as_list OfBond.attributes xs
-held (ip_vlan xs) = as_list OfIpVlan.attributes xs
-held (ip_vtap xs) = as_list OfIpVlan.attributes xs
-held (mac_vlan xs) = as_list OfMacVlan.attributes xs
-held (mac_vtap xs) = as_list OfMacVlan.attributes xs
-held (gre_tap xs) = as_list OfGre.attributes xs
-held (gre_tap6 xs) = as_list OfGre6.attributes xs
-held (ip_tunnel xs) = as_list (OfIpTunnel.attributes InfoForm.IpIp) xs
-held (gre_tun xs) = as_list OfGre.attributes xs
-held (gre_tun6 xs) = as_list OfGre6.attributes xs
-held (vti xs) = as_list OfVti.attributes xs
-held (vrf xs) = as_list OfVrf.attributes xs
-held (xfrm xs) = as_list OfXfrm.attributes xs
-held (geneve xs) = as_list OfGeneve.attributes xs
-held (netkit xs) = as_list OfNetkit.attributes xs
+held (bridge xs) = as_list At.InfoBridge OfBridge.attributes xs
+held (tun xs) = as_list At.InfoTun OfTun.attributes xs
+held (vlan xs) = as_list At.InfoVlan OfVlan.attributes xs
+held (veth xs) = as_list At.InfoVeth OfVeth.attributes xs
+held (vxlan xs) = as_list At.InfoVxlan OfVxlan.attributes xs
+held (bond xs) = as_list At.InfoBond OfBond.attributes xs
+held (ip_vlan xs) = as_list At.InfoIpVlan OfIpVlan.attributes xs
+held (ip_vtap xs) = as_list At.InfoIpVlan OfIpVlan.attributes xs
+held (mac_vlan xs) = as_list At.InfoMacVlan OfMacVlan.attributes xs
+held (mac_vtap xs) = as_list At.InfoMacVlan OfMacVlan.attributes xs
+held (gre_tap xs) = as_list At.InfoGre OfGre.attributes xs
+held (gre_tap6 xs) = as_list At.InfoGre6 OfGre6.attributes xs
+held (ip_tunnel xs) = as_list At.InfoIpTunnel (OfIpTunnel.attributes InfoForm.IpIp) xs
+held (gre_tun xs) = as_list At.InfoGre OfGre.attributes xs
+held (gre_tun6 xs) = as_list At.InfoGre6 OfGre6.attributes xs
+held (vti xs) = as_list At.InfoVti OfVti.attributes xs
+held (vrf xs) = as_list At.InfoVrf OfVrf.attributes xs
+held (xfrm xs) = as_list At.InfoXfrm OfXfrm.attributes xs
+held (geneve xs) = as_list At.InfoGeneve OfGeneve.attributes xs
+held (netkit xs) = as_list At.InfoNetkit OfNetkit.attributes xs
 held (other bytes) = as_bytes bytes
 
 -- and read
 abbrev pub case : InfoForm → Case held
-case InfoForm.Bridge = list_case held OfBridge.attributes bridge (λ xs. refl)
-case InfoForm.Tun = list_case held OfTun.attributes tun (λ xs. refl)
-case InfoForm.Vlan = list_case held OfVlan.attributes vlan (λ xs. refl)
-case InfoForm.Veth = list_case held OfVeth.attributes veth (λ xs. refl)
-case InfoForm.Vxlan = list_case held OfVxlan.attributes vxlan (λ xs. refl)
-case InfoForm.Bond = list_case held OfBond.attributes bond (λ xs. refl)
-case InfoForm.IpVlan = list_case held OfIpVlan.attributes ip_vlan (λ xs. refl)
-case InfoForm.IpVtap = list_case held OfIpVlan.attributes ip_vtap (λ xs. refl)
-case InfoForm.MacVlan = list_case held OfMacVlan.attributes mac_vlan (λ xs. refl)
-case InfoForm.MacVtap = list_case held OfMacVlan.attributes mac_vtap (λ xs. refl)
-case InfoForm.GreTap = list_case held OfGre.attributes gre_tap (λ xs. refl)
-case InfoForm.GreTap6 = list_case held OfGre6.attributes gre_tap6 (λ xs. refl)
-case InfoForm.IpIp = list_case held (OfIpTunnel.attributes InfoForm.IpIp) ip_tunnel (λ xs. refl)
-case InfoForm.Ip6Tnl = list_case held (OfIpTunnel.attributes InfoForm.Ip6Tnl) ip_tunnel (λ xs. refl)
-case InfoForm.SitTun = list_case held (OfIpTunnel.attributes InfoForm.SitTun) ip_tunnel (λ xs. refl)
-case InfoForm.GreTun = list_case held OfGre.attributes gre_tun (λ xs. refl)
-case InfoForm.GreTun6 = list_case held OfGre6.attributes gre_tun6 (λ xs. refl)
-case InfoForm.Vti = list_case held OfVti.attributes vti (λ xs. refl)
-case InfoForm.Vti6 = list_case held OfVti.attributes vti (λ xs. refl)
-case InfoForm.Vrf = list_case held OfVrf.attributes vrf (λ xs. refl)
-case InfoForm.Xfrm = list_case held OfXfrm.attributes xfrm (λ xs. refl)
-case InfoForm.Geneve = list_case held OfGeneve.attributes geneve (λ xs. refl)
-case InfoForm.Netkit = list_case held OfNetkit.attributes netkit (λ xs. refl)
+case InfoForm.Bridge = list_case held At.InfoBridge OfBridge.attributes bridge (λ xs. refl)
+case InfoForm.Tun = list_case held At.InfoTun OfTun.attributes tun (λ xs. refl)
+case InfoForm.Vlan = list_case held At.InfoVlan OfVlan.attributes vlan (λ xs. refl)
+case InfoForm.Veth = list_case held At.InfoVeth OfVeth.attributes veth (λ xs. refl)
+case InfoForm.Vxlan = list_case held At.InfoVxlan OfVxlan.attributes vxlan (λ xs. refl)
+case InfoForm.Bond = list_case held At.InfoBond OfBond.attributes bond (λ xs. refl)
+case InfoForm.IpVlan = list_case held At.InfoIpVlan OfIpVlan.attributes ip_vlan (λ xs. refl)
+case InfoForm.IpVtap = list_case held At.InfoIpVlan OfIpVlan.attributes ip_vtap (λ xs. refl)
+case InfoForm.MacVlan = list_case held At.InfoMacVlan OfMacVlan.attributes mac_vlan (λ xs. refl)
+case InfoForm.MacVtap = list_case held At.InfoMacVlan OfMacVlan.attributes mac_vtap (λ xs. refl)
+case InfoForm.GreTap = list_case held At.InfoGre OfGre.attributes gre_tap (λ xs. refl)
+case InfoForm.GreTap6 = list_case held At.InfoGre6 OfGre6.attributes gre_tap6 (λ xs. refl)
+case InfoForm.IpIp = list_case held At.InfoIpTunnel (OfIpTunnel.attributes InfoForm.IpIp) ip_tunnel (λ xs. refl)
+case InfoForm.Ip6Tnl = list_case held At.InfoIpTunnel (OfIpTunnel.attributes InfoForm.Ip6Tnl) ip_tunnel (λ xs. refl)
+case InfoForm.SitTun = list_case held At.InfoIpTunnel (OfIpTunnel.attributes InfoForm.SitTun) ip_tunnel (λ xs. refl)
+case InfoForm.GreTun = list_case held At.InfoGre OfGre.attributes gre_tun (λ xs. refl)
+case InfoForm.GreTun6 = list_case held At.InfoGre6 OfGre6.attributes gre_tun6 (λ xs. refl)
+case InfoForm.Vti = list_case held At.InfoVti OfVti.attributes vti (λ xs. refl)
+case InfoForm.Vti6 = list_case held At.InfoVti OfVti.attributes vti (λ xs. refl)
+case InfoForm.Vrf = list_case held At.InfoVrf OfVrf.attributes vrf (λ xs. refl)
+case InfoForm.Xfrm = list_case held At.InfoXfrm OfXfrm.attributes xfrm (λ xs. refl)
+case InfoForm.Geneve = list_case held At.InfoGeneve OfGeneve.attributes geneve (λ xs. refl)
+case InfoForm.Netkit = list_case held At.InfoNetkit OfNetkit.attributes netkit (λ xs. refl)
 case InfoForm.Kept = bytes_case held other (λ bytes. refl)
 
 abbrev pub info_data : InfoForm → Codec Data

@@ -19,7 +19,8 @@ use Rattle.npr_base.specs.LookBounds.{list_looking, list-bounded, list-saw, list
 use Rattle.npr_base.specs.Looks.{Looking, Adds, ListLooks, looked_through}
 use Rattle.npr_base.specs.LooksLaws.{plus, raised-none, raised-more, none-most, same_counts}
 use Rattle.npr_base.specs.NameLaws.{IsUnterminated, name-one}
-use Rattle.npr_base.specs.Showing.{shows_inside}
+use Rattle.npr_base.specs.Showing.{shows_list}
+use Rattle.npr_base.specs.declared.refusal.AttributeSet.TheVariants.{LinkInfo as AtInfo}
 use Rattle.npr_base.specs.TableLaws.{both, one_of}
 use Rattle.npr_link.specs.Fails.{list-once}
 use Rattle.npr_link.specs.Governing.{Forms, told_by, told, port_told, Governs, none_governs, start, Searching, Searches}
@@ -249,5 +250,5 @@ info_list = record {
   reads_holds = info-governed;
   reads_back = λ kind ms all h. info-back ms all h;
   grows = λ bytes ms is p. list-grows (written_by writing) (attributes p.0).Reads (attributes p.0).grows bytes ms is p.2;
-  showing = shows_inside;
+  showing = shows_list AtInfo 0;
 }

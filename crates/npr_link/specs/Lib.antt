@@ -4,7 +4,6 @@ pub mod AfSpecInet
 pub mod AfSpecInet6
 pub mod AfSpecs
 pub mod Attribute
-pub mod AttributeOpens
 pub mod AttributeSteps
 pub mod Choices
 pub mod ExtentMask
@@ -22,6 +21,7 @@ pub mod InfoKind
 pub mod InfoList
 pub mod InfoLooks
 pub mod InfoOnce
+pub mod KindNames
 pub mod Kinds
 pub mod LayerType
 pub mod LinkEvent

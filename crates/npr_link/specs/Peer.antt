@@ -5,13 +5,14 @@ use Rattle.npr_base.specs.Codec.{Codec}
 use Rattle.npr_base.specs.Counts.{Counts, AddsAtMost}
 use Rattle.npr_base.specs.Framing.{IsBytes, framed}
 use Rattle.npr_base.specs.LookBounds.{list-bounded}
+use Rattle.npr_base.specs.declared.refusal.AttributeSet.TheVariants.{Peer as AtPeer}
 use Rattle.npr_base.specs.declared.refusal.EmitError.{EmitError}
 use Rattle.npr_base.specs.Family.{written_by, unfit_by}
 use Rattle.npr_base.specs.Lists.{encodings, first_unfit, list_members, option_or, overlong}
 use Rattle.npr_base.specs.Looks.{Looking, looked_through}
 use Rattle.npr_base.specs.LooksLaws.{none-most}
 use Rattle.npr_base.specs.Message.{Grammar, View, grammar_by, IsMessage, MessageFault, MessageLooks, IsCoherent, canonical_bytes, message_unfit}
-use Rattle.npr_base.specs.Showing.{shows_inside}
+use Rattle.npr_base.specs.Showing.{shows_list}
 use Rattle.npr_base.proofs.Messages.{message-one, message-sound, message-coherent, message-back, message-grows, message-saw}
 use Rattle.npr_base.proofs.Messages.{message-looks-one, message-looks-add}
 use Rattle.npr_link.specs.Header.{header, default_header}
@@ -72,5 +73,5 @@ peer = record {
   reads_holds = λ bytes p is reads. message-coherent peers bytes p is reads;
   reads_back = λ kind p holds fits. peer-back p holds fits;
   grows = peer-grows;
-  showing = shows_inside;
+  showing = shows_list AtPeer 16;
 }

@@ -2,6 +2,7 @@
 use Rattle.std.specs.Prelude.{ℕ, List, map}
 use Rattle.std.proofs.Common.{refl}
 use Rattle.npr_base.specs.Codec.{Codec}
+use Rattle.npr_base.specs.declared.refusal.AttributeSet.TheVariants as At
 use Rattle.npr_link.specs.Vrf as OfVrf
 use Rattle.npr_link_bridge.specs.BridgePort as OfBridgePort
 use Rattle.npr_link_devices.specs.BondPort as OfBondPort
@@ -26,16 +27,16 @@ port_data_of (Has.Other bytes) = other bytes.items
 
 -- how they are written, whatever governs
 abbrev pub held : Data → Held
-held (bridge xs) = as_list OfBridgePort.attributes xs
-held (vrf xs) = as_list OfVrf.attributes xs
-held (bond xs) = as_list OfBondPort.attributes xs
+held (bridge xs) = as_list At.InfoBridgePort OfBridgePort.attributes xs
+held (vrf xs) = as_list At.InfoVrf OfVrf.attributes xs
+held (bond xs) = as_list At.InfoBondPort OfBondPort.attributes xs
 held (other bytes) = as_bytes bytes
 
 -- and read
 abbrev pub case : InfoPortForm → Case held
-case InfoPortForm.Bridge = list_case held OfBridgePort.attributes bridge (λ xs. refl)
-case InfoPortForm.Vrf = list_case held OfVrf.attributes vrf (λ xs. refl)
-case InfoPortForm.Bond = list_case held OfBondPort.attributes bond (λ xs. refl)
+case InfoPortForm.Bridge = list_case held At.InfoBridgePort OfBridgePort.attributes bridge (λ xs. refl)
+case InfoPortForm.Vrf = list_case held At.InfoVrf OfVrf.attributes vrf (λ xs. refl)
+case InfoPortForm.Bond = list_case held At.InfoBondPort OfBondPort.attributes bond (λ xs. refl)
 case InfoPortForm.Kept = bytes_case held other (λ bytes. refl)
 
 abbrev pub port_data : InfoPortForm → Codec Data

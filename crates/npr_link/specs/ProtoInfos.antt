@@ -12,9 +12,9 @@ use Rattle.npr_base.specs.Table.{Slot, slot_plain, slot_other, writing_by}
 use Rattle.npr_base.specs.declared.address_family.AddressFamily.{AddressFamily}
 use Rattle.npr_base.specs.declared.address_family.AddressFamily.TheVariants.{Inet6, Bridge}
 use Rattle.npr_base.specs.declared.refusal.At.{At}
-use Rattle.npr_base.specs.declared.refusal.AttrFamily.TheVariants.{Link as AtAttribute}
+use Rattle.npr_base.specs.declared.refusal.AttributeSet.TheVariants.{Link as AtAttribute, AfSpecInet6 as AtAfSpecInet6, InfoBridgePort as AtBridgePort}
 use Rattle.npr_base.specs.declared.value.Form.{Form as ValueForm}
-use Rattle.npr_base.specs.declared.value.Form.TheVariants.{Inside, Raw}
+use Rattle.npr_base.specs.declared.value.Form.TheVariants.{List as Listed, Raw}
 use Rattle.npr_link.specs.AfSpecInet6 as OfAfSpecInet6
 use Rattle.npr_link_bridge.specs.BridgePort as OfBridgePort
 
@@ -36,8 +36,8 @@ form_of family = as_whole
 
 -- how it is written, whatever the family: for a bridge with NESTED
 abbrev pub slot_of : ProtoInfos → Slot
-slot_of (inet6 xs) = slot_plain 12 (list_of OfAfSpecInet6.attributes) xs
-slot_of (bridge xs) = slot_plain (marked true 12) (list_of OfBridgePort.attributes) xs
+slot_of (inet6 xs) = slot_plain 12 (list_of AtAfSpecInet6 OfAfSpecInet6.attributes) xs
+slot_of (bridge xs) = slot_plain (marked true 12) (list_of AtBridgePort OfBridgePort.attributes) xs
 slot_of (unknown x) = slot_other x
 
 abbrev pub writing : Writing ProtoInfos
@@ -55,14 +55,14 @@ marked-small = omega arith
 
 -- and read
 abbrev pub proto_infos : Form → Reading writing
-proto_infos as_inet6 = valued slot_of place 12 plain-small (list_of OfAfSpecInet6.attributes) inet6 (λ xs. refl)
-proto_infos as_bridge = valued slot_of place (marked true 12) marked-small (list_of OfBridgePort.attributes) bridge (λ xs. refl)
+proto_infos as_inet6 = valued slot_of place 12 plain-small (list_of AtAfSpecInet6 OfAfSpecInet6.attributes) inet6 (λ xs. refl)
+proto_infos as_bridge = valued slot_of place (marked true 12) marked-small (list_of AtBridgePort OfBridgePort.attributes) bridge (λ xs. refl)
 proto_infos as_whole = whole slot_of place unknown (λ x. refl)
 
 -- without memory
 abbrev pub shown_as : Form → ValueForm
-shown_as as_inet6 = Inside
-shown_as as_bridge = Inside
+shown_as as_inet6 = Listed AtAfSpecInet6 0
+shown_as as_bridge = Listed AtBridgePort 0
 shown_as as_whole = Raw
 
 pub shown-place : (form : Form) (number : ℕ) → (proto_infos form).seeing.form_at number ≡ (place, shown_as form)
@@ -74,8 +74,8 @@ shown-place as_whole number = refl
 pub kept-number : (form : Form) (x : Item) (p : ProtoInfos) → has 12 x ≡ true → (proto_infos form).Reads x p → has 12 (written_by writing p) ≡ true
 kept-number as_inet6 x p is reads =
     ap (λ (n : ℕ). n == 12)
-    (valued-number slot_of place 12 plain-small (list_of OfAfSpecInet6.attributes) inet6 (λ xs. refl) p x reads)
+    (valued-number slot_of place 12 plain-small (list_of AtAfSpecInet6 OfAfSpecInet6.attributes) inet6 (λ xs. refl) p x reads)
 kept-number as_bridge x p is reads =
     ap (λ (n : ℕ). n == 12)
-    (valued-number slot_of place (marked true 12) marked-small (list_of OfBridgePort.attributes) bridge (λ xs. refl) p x reads)
+    (valued-number slot_of place (marked true 12) marked-small (list_of AtBridgePort OfBridgePort.attributes) bridge (λ xs. refl) p x reads)
 kept-number as_whole x p is reads = ap (λ (y : Item). has 12 y) (whole-written slot_of place unknown (λ y. refl) p x reads) ∙ is

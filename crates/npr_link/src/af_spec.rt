@@ -25,8 +25,8 @@ pub enum AfSpecUnspec {
 macro_rules! rows {
     ($body:ident ($($given:tt)*)) => {
         npr_base::$body!(($($given)*) AfSpecUnspec of AfSpecUnspec {
-            2 Inet(list);
-            10 Inet6(list);
+            2 Inet(list AfSpecInet);
+            10 Inet6(list AfSpecInet6);
         })
     };
 }

@@ -21,8 +21,8 @@ use crate::state::State;
 use crate::xdp::LinkXdp;
 use bitflags::Flags;
 use npr_base::{
-    AddressFamily, At, Attribute, DecodeError, DefaultNla, EmitError, Form, Looks, NLA_F_NESTED,
-    Nla, NlaBuffer, Place, Rowed, check_list, clone_list, write_bytes, write_list,
+    AddressFamily, At, Attribute, AttributeSet, DecodeError, DefaultNla, EmitError, Form, Looks,
+    NLA_F_NESTED, Nla, NlaBuffer, Place, Rowed, check_list, clone_list, write_bytes, write_list,
 };
 use npr_link_bridge::{AfSpecBridge, InfoBridgePort};
 use npr_link_numbers::{Stats, Stats64};
@@ -212,7 +212,7 @@ macro_rules! rows {
             39 ProtoDown(byte);
             40 GsoMaxSegs(le32);
             41 GsoMaxSize(le32);
-            43 Xdp(list);
+            43 Xdp(list LinkXdp);
             44 Event(LinkEvent as le32);
             45 NewNetnsId(signed32);
             46 IfNetnsId(signed32);
@@ -221,10 +221,10 @@ macro_rules! rows {
             49 NewIfIndex(signed32);
             50 MinMtu(le32);
             51 MaxMtu(le32);
-            52 PropList(list) as NLA_F_NESTED + 52;
+            52 PropList(list Prop) as NLA_F_NESTED + 52;
             53 AltIfName(name);
             54 PermAddress(raw);
-            55 ProtoDownReason(list) as NLA_F_NESTED + 55;
+            55 ProtoDownReason(list LinkProtocolDownReason) as NLA_F_NESTED + 55;
             56 ParentDevName(name);
             57 ParentDevBusName(name);
             58 GroMaxSize(le32);
@@ -337,7 +337,7 @@ impl Attribute for LinkAttribute {
         rows!(form_rows(number;
             IFLA_PROTINFO => proto_info_form(family),
             IFLA_AF_SPEC => af_spec_form(family),
-            IFLA_LINKINFO => Form::Inside,
+            IFLA_LINKINFO => Form::List(AttributeSet::LinkInfo, 0),
         ))
     }
 

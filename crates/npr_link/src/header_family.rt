@@ -18,7 +18,8 @@ ghost use Rattle.{
 
 use crate::attribute::LinkAttribute;
 use npr_base::{
-    AddressFamily, DecodeError, DefaultNla, Form, Looks, NlaBuffer, Place, parse_list, read_bytes,
+    AddressFamily, AttributeSet, DecodeError, DefaultNla, Form, Looks, NlaBuffer, Place,
+    parse_list, read_bytes,
 };
 use std::alloc::Global;
 
@@ -27,7 +28,8 @@ pub(crate) fn proto_info_form(family: AddressFamily) -> Form
     ensures { result ≡ shown_as (proto_form_of family) }
 {
     match family {
-        AddressFamily::Inet6 | AddressFamily::Bridge => Form::Inside,
+        AddressFamily::Inet6 => Form::List(AttributeSet::AfSpecInet6, 0),
+        AddressFamily::Bridge => Form::List(AttributeSet::InfoBridgePort, 0),
         _ => Form::Raw,
     }
 }
@@ -37,10 +39,10 @@ pub(crate) fn af_spec_form(family: AddressFamily) -> Form
     ensures { result ≡ (af_specs (form_of family)).showing.form }
 {
     match family {
-        AddressFamily::Unspec
-        | AddressFamily::Inet
-        | AddressFamily::Bridge
-        | AddressFamily::Inet6 => Form::Inside,
+        AddressFamily::Unspec | AddressFamily::Inet | AddressFamily::Inet6 => {
+            Form::List(AttributeSet::AfSpecUnspec, 0)
+        }
+        AddressFamily::Bridge => Form::List(AttributeSet::AfSpecBridge, 0),
         _ => Form::Raw,
     }
 }

@@ -8,7 +8,7 @@ use crate::info_kind::InfoKind;
 use crate::port_data::InfoPortData;
 use crate::port_kind::{InfoPortForm, InfoPortKind};
 use npr_base::{
-    At, AttrFamily, Attribute, DecodeError, DefaultNla, EmitError, Form, Looks, Nla, NlaBuffer,
+    At, Attribute, AttributeSet, DecodeError, DefaultNla, EmitError, Form, Looks, Nla, NlaBuffer,
     Place, put_read, read_bytes, write_bytes,
 };
 use npr_link_tunnels::InfoForm;
@@ -105,7 +105,7 @@ impl Attribute for LinkInfo {
         match item.kind() {
             IFLA_INFO_KIND => put_read(
                 place,
-                InfoKind::read(alloc, value, AttrFamily::LinkInfo.at(IFLA_INFO_KIND)),
+                InfoKind::read(alloc, value, AttributeSet::LinkInfo.at(IFLA_INFO_KIND)),
                 LinkInfo::Kind,
             ),
             IFLA_INFO_DATA => put_read(
@@ -119,7 +119,11 @@ impl Attribute for LinkInfo {
             }
             IFLA_INFO_SLAVE_KIND => put_read(
                 place,
-                InfoPortKind::read(alloc, value, AttrFamily::LinkInfo.at(IFLA_INFO_SLAVE_KIND)),
+                InfoPortKind::read(
+                    alloc,
+                    value,
+                    AttributeSet::LinkInfo.at(IFLA_INFO_SLAVE_KIND),
+                ),
                 LinkInfo::PortKind,
             ),
             IFLA_INFO_SLAVE_DATA => put_read(
@@ -138,7 +142,7 @@ impl Attribute for LinkInfo {
             IFLA_INFO_SLAVE_DATA => InfoPortData::form(forms.1),
             _ => Form::Raw,
         };
-        (AttrFamily::LinkInfo.at(number), form)
+        (AttributeSet::LinkInfo.at(number), form)
     }
 
     fn try_clone(&self, alloc: Global) -> Result<Self, AllocError> {

@@ -18,7 +18,7 @@ use crate::veth::InfoVeth;
 use crate::vlan::InfoVlan;
 use crate::vrf::InfoVrf;
 use crate::{data_checked, data_cloned, data_written};
-use npr_base::{DecodeError, EmitError, Form, Looks, parse_list, read_bytes};
+use npr_base::{AttributeSet, DecodeError, EmitError, Form, Looks, parse_list, read_bytes};
 use npr_link_bridge::InfoBridge;
 use npr_link_devices::{InfoBond, InfoIpVlan, InfoIpVtap, InfoMacVlan, InfoMacVtap, InfoTun};
 use npr_link_tunnels::{
@@ -166,10 +166,26 @@ impl InfoData {
     pub(crate) fn form(form: InfoForm) -> Form
         ensures { result ≡ (info_data form).showing.form }
     {
-        match form {
-            InfoForm::Kept => Form::Raw,
-            _ => Form::Inside,
-        }
+        let set = match form {
+            InfoForm::Bridge => AttributeSet::InfoBridge,
+            InfoForm::Tun => AttributeSet::InfoTun,
+            InfoForm::Vlan => AttributeSet::InfoVlan,
+            InfoForm::Veth => AttributeSet::InfoVeth,
+            InfoForm::Vxlan => AttributeSet::InfoVxlan,
+            InfoForm::Bond => AttributeSet::InfoBond,
+            InfoForm::IpVlan | InfoForm::IpVtap => AttributeSet::InfoIpVlan,
+            InfoForm::MacVlan | InfoForm::MacVtap => AttributeSet::InfoMacVlan,
+            InfoForm::GreTap | InfoForm::GreTun => AttributeSet::InfoGre,
+            InfoForm::GreTap6 | InfoForm::GreTun6 => AttributeSet::InfoGre6,
+            InfoForm::IpIp | InfoForm::Ip6Tnl | InfoForm::SitTun => AttributeSet::InfoIpTunnel,
+            InfoForm::Vti | InfoForm::Vti6 => AttributeSet::InfoVti,
+            InfoForm::Vrf => AttributeSet::InfoVrf,
+            InfoForm::Xfrm => AttributeSet::InfoXfrm,
+            InfoForm::Geneve => AttributeSet::InfoGeneve,
+            InfoForm::Netkit => AttributeSet::InfoNetkit,
+            InfoForm::Kept => return Form::Raw,
+        };
+        Form::List(set, 0)
     }
 
     /// An equal value.

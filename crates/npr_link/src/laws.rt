@@ -1,7 +1,7 @@
 //! The laws of link messages, over their definitions alone. Each function does nothing, and its
 //! contract is the law.
 
-ghost use Rattle.std.specs.Prelude.{◌≡◌, ◌≢◌, ◌≤◌, ◌+◌, ◌^◌, ◌⊎◌, ℕ, pos, List, ◌∷◌, [], true, length};
+ghost use Rattle.std.specs.Prelude.{◌≡◌, ◌≢◌, ◌≤◌, ◌+◌, ◌^◌, ◌⊎◌, ℕ, pos, List, ◌∷◌, [], true, length, map};
 ghost use Rattle.{
   npr_base.specs.{
     Counts.{Counts},
@@ -28,8 +28,10 @@ ghost use Rattle.{
     Inet6Flags.{inet6_flag_bits},
     Info.{Meaning, attributes, family as info_family},
     InfoData.{info_data_of},
-    InfoKind.{info_kind_of},
+    InfoKind.{info_kind_names, info_kind_of},
     InfoList.{governing, info_list},
+    KindNames.{info_kinds, port_kinds},
+    Kinds.{known},
     LayerType.{layer_types},
     LinkEvent.{link_events},
     LinkMode.{link_modes},
@@ -41,7 +43,7 @@ ghost use Rattle.{
     Peer.{peer_of},
     PeerAttribute.{family as peer_family},
     PortData.{port_data_of},
-    PortKind.{port_kind_of},
+    PortKind.{port_kind_names, port_kind_of},
     Prop.{family as prop_family},
     ProtocolDown.{family as reason_family},
     State.{states},
@@ -52,6 +54,7 @@ ghost use Rattle.{
     Vrf.{family as vrf_family},
     Xdp.{family as xdp_family},
     XdpAttached.{attachments},
+    declared.{info_kind.InfoKind.{InfoKind as LinkKind}, port_kind.InfoPortKind.{InfoPortKind as PortKindNamed}},
   },
 };
 
@@ -105,6 +108,14 @@ pub fn law_numbers()
     ensures link_modes { (d : ℕ) → link_modes.number (link_modes.of d) ≡ d }
     ensures states { (d : ℕ) → states.number (states.of d) ≡ d }
     ensures attachments { (d : ℕ) → attachments.number (attachments.of d) ≡ d }
+{}
+
+/// Each kind of link, and of port, has the name that stands beside it.
+pub fn law_kinds()
+    ensures links { map (λ (p : List ℕ × LinkKind). info_kind_of p.1) info_kinds ≡ map (λ (p : List ℕ × LinkKind). known p.0) info_kinds }
+    ensures link_names { map (λ (p : List ℕ × LinkKind). p.0) info_kinds ≡ info_kind_names }
+    ensures ports { map (λ (p : List ℕ × PortKindNamed). port_kind_of p.1) port_kinds ≡ map (λ (p : List ℕ × PortKindNamed). known p.0) port_kinds }
+    ensures port_names { map (λ (p : List ℕ × PortKindNamed). p.0) port_kinds ≡ port_kind_names }
 {}
 
 /// What governs the data in a list is one, whatever its bytes are; and where they are a list, it is what

@@ -3,13 +3,14 @@
 ghost use Rattle.std.specs.Prelude.{refl};
 ghost use Rattle.{npr_base.specs.Family.{shaped}, npr_link.specs.Netkit.{family}};
 
+use crate::header::IFINFOMSG_SIZE;
 use crate::netkit_mode::NetkitMode;
 use crate::netkit_policy::NetkitPolicy;
 use crate::netkit_scrub::NetkitScrub;
 use crate::peer::LinkPeer;
 use npr_base::{
-    At, Attribute, DecodeError, DefaultNla, EmitError, Emitable, Form, Looks, Nla, NlaBuffer,
-    Place, put_read,
+    At, Attribute, AttributeSet, DecodeError, DefaultNla, EmitError, Emitable, Form, Looks, Nla,
+    NlaBuffer, Place, put_read,
 };
 use std::alloc::{AllocError, Global};
 
@@ -106,7 +107,7 @@ impl Attribute for InfoNetkit {
 
     #[tactic(auto, unfolding(crate::specs::Netkit::attributes))]
     fn form(_context: (), number: u16) -> (At, Form) {
-        rows!(form_rows(number; IFLA_NETKIT_PEER_INFO => Form::Inside,))
+        rows!(form_rows(number; IFLA_NETKIT_PEER_INFO => Form::List(AttributeSet::Peer, IFINFOMSG_SIZE),))
     }
 
     fn try_clone(&self, alloc: Global) -> Result<Self, AllocError> {

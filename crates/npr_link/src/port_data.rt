@@ -16,7 +16,7 @@ ghost use Rattle.{
 use crate::port_kind::InfoPortForm;
 use crate::vrf::InfoVrf;
 use crate::{data_checked, data_cloned, data_written};
-use npr_base::{DecodeError, EmitError, Form, Looks, parse_list, read_bytes};
+use npr_base::{AttributeSet, DecodeError, EmitError, Form, Looks, parse_list, read_bytes};
 use npr_link_bridge::InfoBridgePort;
 use npr_link_devices::InfoBondPort;
 use std::alloc::{AllocError, Global};
@@ -81,8 +81,10 @@ impl InfoPortData {
         ensures { result ≡ (port_data form).showing.form }
     {
         match form {
+            InfoPortForm::Bridge => Form::List(AttributeSet::InfoBridgePort, 0),
+            InfoPortForm::Vrf => Form::List(AttributeSet::InfoVrf, 0),
+            InfoPortForm::Bond => Form::List(AttributeSet::InfoBondPort, 0),
             InfoPortForm::Kept => Form::Raw,
-            _ => Form::Inside,
         }
     }
 

@@ -28,14 +28,14 @@ pub enum InfoPortKind {
 /// What governs the data of a port: the kinds whose data have a family.
 #[derive(Clone, Copy, Debug, PartialEq, Eq)]
 pub enum InfoPortForm {
-    /// The data of `bridge`.
-    Bridge,
-    /// The data of `vrf`.
-    Vrf,
-    /// The data of `bond`.
-    Bond,
     /// Data that are kept as they stand.
-    Kept,
+    Kept = 0,
+    /// The data of `bridge`.
+    Bridge = 1,
+    /// The data of `vrf`.
+    Vrf = 2,
+    /// The data of `bond`.
+    Bond = 3,
 }
 
 /// Their names.

@@ -3,9 +3,10 @@
 ghost use Rattle.std.specs.Prelude.{refl};
 ghost use Rattle.{npr_base.specs.Family.{shaped}, npr_link.specs.Veth.{family}};
 
+use crate::header::IFINFOMSG_SIZE;
 use crate::peer::LinkPeer;
 use npr_base::{
-    At, AttrFamily, Attribute, DecodeError, DefaultNla, EmitError, Emitable, Form, Looks, Nla,
+    At, Attribute, AttributeSet, DecodeError, DefaultNla, EmitError, Emitable, Form, Looks, Nla,
     NlaBuffer, Place, put_read,
 };
 use std::alloc::{AllocError, Global};
@@ -79,10 +80,10 @@ impl Attribute for InfoVeth {
     #[tactic(auto, unfolding(crate::specs::Veth::attributes))]
     fn form(_context: (), number: u16) -> (At, Form) {
         let form = match number {
-            VETH_INFO_PEER => Form::Inside,
+            VETH_INFO_PEER => Form::List(AttributeSet::Peer, IFINFOMSG_SIZE),
             _ => Form::Raw,
         };
-        (AttrFamily::InfoVeth.at(number), form)
+        (AttributeSet::InfoVeth.at(number), form)
     }
 
     fn try_clone(&self, alloc: Global) -> Result<Self, AllocError> {

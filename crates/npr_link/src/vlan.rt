@@ -8,7 +8,7 @@ use crate::vlan_flags::VlanFlags;
 use crate::vlan_qos::VlanQosMapping;
 use bitflags::Flags;
 use npr_base::{
-    At, AttrFamily, Attribute, DecodeError, DefaultNla, EmitError, Form, Looks, Nla, NlaBuffer,
+    At, Attribute, AttributeSet, DecodeError, DefaultNla, EmitError, Form, Looks, Nla, NlaBuffer,
     Place, put_read,
 };
 use npr_link_bridge::{VlanProtocol, vlan_protocol_number};
@@ -36,8 +36,8 @@ macro_rules! rows {
     ($body:ident ($($given:tt)*)) => {
         npr_base::$body!(($($given)*) InfoVlan of InfoVlan {
             1 Id(le16);
-            3 EgressQos(list);
-            4 IngressQos(list);
+            3 EgressQos(list VlanQosMapping);
+            4 IngressQos(list VlanQosMapping);
             5 Protocol(VlanProtocol as be16 by vlan_protocol_number);
         })
     };
@@ -78,7 +78,7 @@ impl Attribute for InfoVlan {
         item: &NlaBuffer<'_>,
         looks: &mut Looks,
     ) -> Result<(), DecodeError> {
-        rows!(put_rows(place, alloc, item, looks; 2 => put_read(place, read_two_flags(item.value(), AttrFamily::InfoVlan.at(2)), InfoVlan::Flags),))
+        rows!(put_rows(place, alloc, item, looks; 2 => put_read(place, read_two_flags(item.value(), AttributeSet::InfoVlan.at(2)), InfoVlan::Flags),))
     }
 
     #[tactic(auto, unfolding(crate::specs::Vlan::attributes))]

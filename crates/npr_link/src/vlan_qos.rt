@@ -5,7 +5,7 @@ ghost use Rattle.{npr_base.specs.Family.{shaped}, npr_link.specs.VlanQos.{family
 
 use crate::values::{read_two_numbers, write_two_numbers};
 use npr_base::{
-    At, AttrFamily, Attribute, DecodeError, DefaultNla, EmitError, Form, Looks, Nla, NlaBuffer,
+    At, Attribute, AttributeSet, DecodeError, DefaultNla, EmitError, Form, Looks, Nla, NlaBuffer,
     Place,
 };
 use std::alloc::{AllocError, Global};
@@ -64,7 +64,7 @@ impl Attribute for VlanQosMapping {
     ) -> Result<(), DecodeError> {
         rows!(put_rows(place, alloc, item, looks;
             1 => {
-                let (from, to) = read_two_numbers(item.value(), AttrFamily::VlanQosMapping.at(1))?;
+                let (from, to) = read_two_numbers(item.value(), AttributeSet::VlanQosMapping.at(1))?;
                 place.put(VlanQosMapping::Mapping(from, to));
                 Ok(())
             }

@@ -1,5 +1,5 @@
 -- What a bridge says of a port or of itself (linux/if_bridge.h, IFLA_BRIDGE_*), by the table.
-use Rattle.npr_base.specs.declared.refusal.AttrFamily.TheVariants.{AfSpecBridge as AtAfSpecBridge}
+use Rattle.npr_base.specs.declared.refusal.AttributeSet.TheVariants.{AfSpecBridge as AtAfSpecBridge, BridgeVlanTunnelInfo as AtTunnel, BridgeMst as AtMst}
 use Rattle.npr_base.specs.Tables.{EnumTable, table_of, row, marked_row, others, ◌or◌, exactly, list_of, value, listed, refl, Reading, Family, writing_of}
 use Rattle.npr_base.specs.Tables.{attributes_of, family_of_table}
 use Rattle.npr_link_bridge.specs.BridgeFlag.{bridge_flag}
@@ -17,8 +17,8 @@ table =
     row AtAfSpecBridge 0 (exactly bridge_flag) (value AfSpecBridge.Flags)  -- IFLA_BRIDGE_FLAGS
     or row AtAfSpecBridge 1 (exactly bridge_mode) (value AfSpecBridge.Mode)  -- IFLA_BRIDGE_MODE
     or row AtAfSpecBridge 2 (exactly vlan_info) (value AfSpecBridge.VlanInfo)  -- IFLA_BRIDGE_VLAN_INFO
-    or row AtAfSpecBridge 3 (list_of OfTunnel.attributes) (listed OfTunnel.family.meaning AfSpecBridge.VlanTunnelInfo)  -- IFLA_BRIDGE_VLAN_TUNNEL_INFO
-    or marked_row AtAfSpecBridge 6 (list_of OfMst.attributes) (listed OfMst.family.meaning AfSpecBridge.Mst)  -- IFLA_BRIDGE_MST
+    or row AtAfSpecBridge 3 (list_of AtTunnel OfTunnel.attributes) (listed OfTunnel.family.meaning AfSpecBridge.VlanTunnelInfo)  -- IFLA_BRIDGE_VLAN_TUNNEL_INFO
+    or marked_row AtAfSpecBridge 6 (list_of AtMst OfMst.attributes) (listed OfMst.family.meaning AfSpecBridge.Mst)  -- IFLA_BRIDGE_MST
     or others (value AfSpecBridge.Other)) refl refl
 
 -- the family

@@ -1,7 +1,7 @@
 -- The data of a bridge (linux/if_link.h, IFLA_BR_*), by the table.
 use Rattle.std.specs.Prelude.{◌≢◌, ◌==◌}
 use Rattle.std.proofs.lemmas.Bool.{ne_eqb}
-use Rattle.npr_base.specs.declared.refusal.AttrFamily.TheVariants.{InfoBridge as AtBridge}
+use Rattle.npr_base.specs.declared.refusal.AttributeSet.TheVariants.{InfoBridge as AtBridge, BridgeQuerierState as AtQuerier}
 use Rattle.npr_base.specs.Counts.{Counts}
 use Rattle.npr_base.specs.Framing.{Item, number_of}
 use Rattle.npr_base.specs.RowReading.{looks-none}
@@ -66,7 +66,7 @@ table =
     or row AtBridge 44 (exactly byte) (value InfoBridge.MulticastMldVersion)  -- IFLA_BR_MCAST_MLD_VERSION
     or row AtBridge 45 (exactly boolean) (value InfoBridge.VlanStatsPerPort)  -- IFLA_BR_VLAN_STATS_PER_PORT
     or row AtBridge 46 (exactly boolean_options) (value InfoBridge.MultiBoolOpt)  -- IFLA_BR_MULTI_BOOLOPT
-    or marked_row AtBridge 47 (list_of OfQuerier.attributes) (listed OfQuerier.family.meaning InfoBridge.MulticastQuerierState)  -- IFLA_BR_MCAST_QUERIER_STATE
+    or marked_row AtBridge 47 (list_of AtQuerier OfQuerier.attributes) (listed OfQuerier.family.meaning InfoBridge.MulticastQuerierState)  -- IFLA_BR_MCAST_QUERIER_STATE
     or row AtBridge 48 (exactly le32) (value InfoBridge.FdbNLearned)  -- IFLA_BR_FDB_N_LEARNED
     or row AtBridge 49 (exactly le32) (value InfoBridge.FdbMaxLearned)  -- IFLA_BR_FDB_MAX_LEARNED
     or row AtBridge 50 (exactly le32) (value InfoBridge.StpMode)  -- IFLA_BR_STP_MODE

@@ -1,5 +1,5 @@
 -- States of a port in spanning trees (linux/if_bridge.h, IFLA_BRIDGE_MST_*), by the table.
-use Rattle.npr_base.specs.declared.refusal.AttrFamily.TheVariants.{BridgeMst as AtBridgeMst}
+use Rattle.npr_base.specs.declared.refusal.AttributeSet.TheVariants.{BridgeMst as AtBridgeMst, BridgeMstEntry as AtEntry}
 use Rattle.npr_base.specs.Tables.{EnumTable, table_of, row, others, ◌or◌, list_of, value, listed, refl, Reading, Family, writing_of}
 use Rattle.npr_base.specs.Tables.{attributes_of, family_of_table}
 use Rattle.npr_link_bridge.specs.MstEntry as OfEntry
@@ -10,7 +10,7 @@ use Rattle.npr_link_bridge.specs.declared.mst.BridgeMst.{BridgeMst}
 abbrev pub table : EnumTable enum
 table =
     table_of enum (
-    row AtBridgeMst 1 (list_of OfEntry.attributes) (listed OfEntry.family.meaning BridgeMst.Entry)  -- IFLA_BRIDGE_MST_ENTRY
+    row AtBridgeMst 1 (list_of AtEntry OfEntry.attributes) (listed OfEntry.family.meaning BridgeMst.Entry)  -- IFLA_BRIDGE_MST_ENTRY
     or others (value BridgeMst.Other)) refl refl
 
 -- the family

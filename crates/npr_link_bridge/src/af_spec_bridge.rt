@@ -38,8 +38,8 @@ macro_rules! rows {
             0 Flags(BridgeFlag as le16);
             1 Mode(BridgeMode as le16);
             2 VlanInfo(BridgeVlanInfo exactly 4);
-            3 VlanTunnelInfo(list);
-            6 Mst(list) as NLA_F_NESTED + 6;
+            3 VlanTunnelInfo(list BridgeVlanTunnelInfo);
+            6 Mst(list BridgeMst) as NLA_F_NESTED + 6;
         })
     };
 }

@@ -10,8 +10,8 @@ use crate::querier_state::BridgeQuerierState;
 use crate::stp_state::BridgeStpState;
 use crate::vlan_protocol::{VlanProtocol, vlan_protocol_number};
 use npr_base::{
-    At, AttrFamily, Attribute, DecodeError, DefaultNla, EmitError, Form, Looks, NLA_F_NESTED, Nla,
-    NlaBuffer, Place, Rowed, parse_list, put_read, read_octets, write_bytes,
+    At, Attribute, AttributeSet, DecodeError, DefaultNla, EmitError, Form, Looks, NLA_F_NESTED,
+    Nla, NlaBuffer, Place, Rowed, parse_list, put_read, read_octets, write_bytes,
 };
 use std::alloc::{AllocError, Global};
 
@@ -171,7 +171,7 @@ macro_rules! rows {
             44 MulticastMldVersion(byte);
             45 VlanStatsPerPort(boolean);
             46 MultiBoolOpt(BridgeBooleanOptions exactly 8);
-            47 MulticastQuerierState(list) as NLA_F_NESTED + 47;
+            47 MulticastQuerierState(list BridgeQuerierState) as NLA_F_NESTED + 47;
             48 FdbNLearned(le32);
             49 FdbMaxLearned(le32);
             50 StpMode(le32);
@@ -220,7 +220,7 @@ fn put_flat<P: Place<InfoBridge>>(
     ensures ok { IfOk result (λ _. (a : InfoBridge) × P.puts place.old a place.new × attributes.Reads item.now (family.meaning a)) }
     ensures refused { IfErr result (λ e. e ≢ OutOfMemory → attributes.Faulty item.now e) }
 {
-    rows!(flat_rows(place, alloc, item; 20 => put_read(place, read_octets::<6>(item.value(), AttrFamily::InfoBridge.at(20)), InfoBridge::GroupAddr),))
+    rows!(flat_rows(place, alloc, item; 20 => put_read(place, read_octets::<6>(item.value(), AttributeSet::InfoBridge.at(20)), InfoBridge::GroupAddr),))
 }
 
 impl Attribute for InfoBridge {

@@ -22,7 +22,7 @@ pub enum BridgeMst {
 macro_rules! rows {
     ($body:ident ($($given:tt)*)) => {
         npr_base::$body!(($($given)*) BridgeMst of BridgeMst {
-            1 Entry(list);
+            1 Entry(list BridgeMstEntry);
         })
     };
 }

@@ -1,7 +1,7 @@
 -- The data of a bond (linux/if_link.h, IFLA_BOND_*), by the table.
 use Rattle.std.specs.Prelude.{◌≢◌, ℕ, ◌==◌, ◌||◌, Bool}
 use Rattle.std.proofs.lemmas.Bool.{ne_eqb}
-use Rattle.npr_base.specs.declared.refusal.AttrFamily.TheVariants.{InfoBond as AtBond}
+use Rattle.npr_base.specs.declared.refusal.AttributeSet.TheVariants.{InfoBond as AtBond, BondAdInfo as AtAdInfo}
 use Rattle.npr_base.specs.Counts.{Counts}
 use Rattle.npr_base.specs.Framing.{Item, number_of}
 use Rattle.npr_base.specs.RowReading.{looks-none}
@@ -46,7 +46,7 @@ table =
     or row AtBond 20 (exactly le32) (value InfoBond.PacketsPerPort)  -- IFLA_BOND_PACKETS_PER_SLAVE
     or row AtBond 21 (exactly lacp_rate) (value InfoBond.AdLacpRate)  -- IFLA_BOND_AD_LACP_RATE
     or row AtBond 22 (exactly byte) (value InfoBond.AdSelect)  -- IFLA_BOND_AD_SELECT
-    or row AtBond 23 (list_of OfAdInfo.attributes) (listed OfAdInfo.family.meaning InfoBond.AdInfo)  -- IFLA_BOND_AD_INFO
+    or row AtBond 23 (list_of AtAdInfo OfAdInfo.attributes) (listed OfAdInfo.family.meaning InfoBond.AdInfo)  -- IFLA_BOND_AD_INFO
     or row AtBond 24 (exactly le16) (value InfoBond.AdActorSysPrio)  -- IFLA_BOND_AD_ACTOR_SYS_PRIO
     or row AtBond 25 (exactly le16) (value InfoBond.AdUserPortKey)  -- IFLA_BOND_AD_USER_PORT_KEY
     or row AtBond 26 (exactly (octets 6)) (value InfoBond.AdActorSystem)  -- IFLA_BOND_AD_ACTOR_SYSTEM

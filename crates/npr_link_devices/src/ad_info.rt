@@ -4,7 +4,7 @@ ghost use Rattle.std.specs.Prelude.{refl};
 ghost use Rattle.{npr_base.specs.Family.{shaped}, npr_link_devices.specs.AdInfo.{family}};
 
 use npr_base::{
-    At, AttrFamily, Attribute, DecodeError, DefaultNla, EmitError, Form, Looks, Nla, NlaBuffer,
+    At, Attribute, AttributeSet, DecodeError, DefaultNla, EmitError, Form, Looks, Nla, NlaBuffer,
     Place, put_read, read_octets, write_bytes,
 };
 use std::alloc::{AllocError, Global};
@@ -73,7 +73,7 @@ impl Attribute for BondAdInfo {
         item: &NlaBuffer<'_>,
         looks: &mut Looks,
     ) -> Result<(), DecodeError> {
-        rows!(put_rows(place, alloc, item, looks; 5 => put_read(place, read_octets::<6>(item.value(), AttrFamily::BondAdInfo.at(5)), BondAdInfo::PartnerMac),))
+        rows!(put_rows(place, alloc, item, looks; 5 => put_read(place, read_octets::<6>(item.value(), AttributeSet::BondAdInfo.at(5)), BondAdInfo::PartnerMac),))
     }
 
     #[tactic(auto, unfolding(crate::specs::AdInfo::attributes))]

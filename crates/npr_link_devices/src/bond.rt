@@ -14,8 +14,9 @@ use crate::lacp_rate::BondLacpRate;
 use crate::primary_reselect::BondPrimaryReselect;
 use crate::xmit_hash_policy::BondXmitHashPolicy;
 use npr_base::{
-    At, AttrFamily, Attribute, DecodeError, DefaultNla, EmitError, Form, Ipv4Addr, Ipv6Addr, Looks,
-    NLA_F_NESTED, Nla, NlaBuffer, Place, Rowed, parse_list, put_read, read_octets, write_bytes,
+    At, Attribute, AttributeSet, DecodeError, DefaultNla, EmitError, Form, Ipv4Addr, Ipv6Addr,
+    Looks, NLA_F_NESTED, Nla, NlaBuffer, Place, Rowed, parse_list, put_read, read_octets,
+    write_bytes,
 };
 use std::alloc::{AllocError, Global};
 
@@ -130,7 +131,7 @@ macro_rules! rows {
             20 PacketsPerPort(le32);
             21 AdLacpRate(BondLacpRate as byte);
             22 AdSelect(byte);
-            23 AdInfo(list);
+            23 AdInfo(list BondAdInfo);
             24 AdActorSysPrio(le16);
             25 AdUserPortKey(le16);
             27 TlbDynamicLb(boolean);
@@ -187,7 +188,7 @@ fn put_flat<P: Place<InfoBond>>(
     ensures ok { IfOk result (λ _. (a : InfoBond) × P.puts place.old a place.new × attributes.Reads item.now (family.meaning a)) }
     ensures refused { IfErr result (λ e. e ≢ OutOfMemory → attributes.Faulty item.now e) }
 {
-    rows!(flat_rows(place, alloc, item; 26 => put_read(place, read_octets::<6>(item.value(), AttrFamily::InfoBond.at(26)), InfoBond::AdActorSystem),))
+    rows!(flat_rows(place, alloc, item; 26 => put_read(place, read_octets::<6>(item.value(), AttributeSet::InfoBond.at(26)), InfoBond::AdActorSystem),))
 }
 
 impl Attribute for InfoBond {
@@ -209,7 +210,7 @@ impl Attribute for InfoBond {
         match item.kind() {
             IFLA_BOND_ARP_IP_TARGET => put_read(
                 place,
-                read_addresses::<Ipv4Addr>(alloc, value, AttrFamily::InfoBond.at(8), looks),
+                read_addresses::<Ipv4Addr>(alloc, value, AttributeSet::InfoBond.at(8), looks),
                 InfoBond::ArpIpTarget,
             ),
             IFLA_BOND_AD_INFO => put_read(
@@ -219,7 +220,7 @@ impl Attribute for InfoBond {
             ),
             IFLA_BOND_NS_IP6_TARGET => put_read(
                 place,
-                read_addresses::<Ipv6Addr>(alloc, value, AttrFamily::InfoBond.at(31), looks),
+                read_addresses::<Ipv6Addr>(alloc, value, AttributeSet::InfoBond.at(31), looks),
                 InfoBond::NsIp6Target,
             ),
             _ => put_flat(place, alloc, item),
@@ -250,7 +251,7 @@ impl InfoBond {
         ensures refused { IfSome result (λ r. IfErr r (λ e. attributes.Faulty item.now e)) }
     {
         let number = item.kind();
-        let at = AttrFamily::InfoBond.at(number);
+        let at = AttributeSet::InfoBond.at(number);
         match number {
             IFLA_BOND_ARP_IP_TARGET => Some(check_addresses_value::<Ipv4Addr>(item.value(), at)),
             IFLA_BOND_NS_IP6_TARGET => Some(check_addresses_value::<Ipv6Addr>(item.value(), at)),

@@ -9,7 +9,7 @@ use crate::mac_vlan_flags::MacVlanFlags;
 use crate::mac_vlan_mode::MacVlanMode;
 use bitflags::Flags;
 use npr_base::{
-    At, AttrFamily, Attribute, DecodeError, DefaultNla, EmitError, Form, Looks, Nla, NlaBuffer,
+    At, Attribute, AttributeSet, DecodeError, DefaultNla, EmitError, Form, Looks, Nla, NlaBuffer,
     Place, put_read, read_octets, write_bytes,
 };
 use std::alloc::{AllocError, Global};
@@ -46,7 +46,7 @@ macro_rules! rows {
             1 Mode(MacVlanMode as le32);
             2 Flags(MacVlanFlags flags le16);
             3 MacAddrMode(MacVlanMacAddressMode as le32);
-            5 MacAddrData(list);
+            5 MacAddrData(list MacVlanAddress);
             6 MacAddrCount(le32);
             7 BcQueueLen(le32);
             8 BcQueueLenUsed(le32);
@@ -90,7 +90,7 @@ impl Attribute for InfoMacVlan {
         item: &NlaBuffer<'_>,
         looks: &mut Looks,
     ) -> Result<(), DecodeError> {
-        rows!(put_rows(place, alloc, item, looks; 4 => put_read(place, read_octets::<6>(item.value(), AttrFamily::InfoMacVlan.at(4)), InfoMacVlan::MacAddr),))
+        rows!(put_rows(place, alloc, item, looks; 4 => put_read(place, read_octets::<6>(item.value(), AttributeSet::InfoMacVlan.at(4)), InfoMacVlan::MacAddr),))
     }
 
     #[tactic(auto, unfolding(crate::specs::MacVlan::attributes))]

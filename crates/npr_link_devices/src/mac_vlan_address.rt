@@ -4,7 +4,7 @@ ghost use Rattle.std.specs.Prelude.{refl};
 ghost use Rattle.{npr_base.specs.Family.{shaped}, npr_link_devices.specs.MacVlanAddress.{family}};
 
 use npr_base::{
-    At, AttrFamily, Attribute, DecodeError, DefaultNla, EmitError, Form, Looks, Nla, NlaBuffer,
+    At, Attribute, AttributeSet, DecodeError, DefaultNla, EmitError, Form, Looks, Nla, NlaBuffer,
     Place, put_read, read_octets, write_bytes,
 };
 use std::alloc::{AllocError, Global};
@@ -61,7 +61,7 @@ impl Attribute for MacVlanAddress {
         item: &NlaBuffer<'_>,
         looks: &mut Looks,
     ) -> Result<(), DecodeError> {
-        rows!(put_rows(place, alloc, item, looks; 4 => put_read(place, read_octets::<6>(item.value(), AttrFamily::MacVlanAddress.at(4)), MacVlanAddress::MacAddr),))
+        rows!(put_rows(place, alloc, item, looks; 4 => put_read(place, read_octets::<6>(item.value(), AttributeSet::MacVlanAddress.at(4)), MacVlanAddress::MacAddr),))
     }
 
     #[tactic(auto, unfolding(crate::specs::MacVlanAddress::attributes))]

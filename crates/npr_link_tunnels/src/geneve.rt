@@ -6,7 +6,7 @@ ghost use Rattle.{npr_base.specs.{declared.refusal.DecodeError.TheVariants.{OutO
 use crate::geneve_df::GeneveDf;
 use crate::ports::{read_ports, write_ports};
 use npr_base::{
-    At, AttrFamily, Attribute, DecodeError, DefaultNla, EmitError, Form, Ipv4Addr, Ipv6Addr, Looks,
+    At, AttributeSet, Attribute, DecodeError, DefaultNla, EmitError, Form, Ipv4Addr, Ipv6Addr, Looks,
     Nla, NlaBuffer, Place, Rowed, put_read,
 };
 use std::alloc::{AllocError, Global};
@@ -121,7 +121,7 @@ fn put_flat<P: Place<InfoGeneve>>(
 {
     rows!(flat_rows(place, alloc, item; 15 => put_read(
         place,
-        read_ports(item.value(), AttrFamily::InfoGeneve.at(15)),
+        read_ports(item.value(), AttributeSet::InfoGeneve.at(15)),
         InfoGeneve::PortRange,
     ),))
 }

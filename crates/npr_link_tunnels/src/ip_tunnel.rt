@@ -15,7 +15,7 @@ use crate::tunnel_encap_flags::TunnelEncapFlags;
 use crate::tunnel_encap_type::TunnelEncapType;
 use bitflags::Flags;
 use npr_base::{
-    At, AttrFamily, Attribute, DecodeError, DefaultNla, EmitError, Form, IpAddr, Ipv4Addr,
+    At, AttributeSet, Attribute, DecodeError, DefaultNla, EmitError, Form, IpAddr, Ipv4Addr,
     Ipv6Addr, Looks, Nla, NlaBuffer, Place, Rowed, read_u16, read_u32, write_array,
 };
 use npr_scalar::{IpProtocol, check_protocol, protocol_byte};
@@ -162,7 +162,7 @@ fn put_flags<P: Place<InfoIpTunnel>>(
     ensures ok { IfOk result (λ _. (a : InfoIpTunnel) × P.puts place.old a place.new × HasFlags (kind_of form) item.now a) }
     ensures refused { IfErr result (λ e. e ≢ OutOfMemory → FlagsFault (kind_of form) item.now e) }
 {
-    let at = AttrFamily::InfoIpTunnel.at(IFLA_IPTUN_FLAGS);
+    let at = AttributeSet::InfoIpTunnel.at(IFLA_IPTUN_FLAGS);
     match form {
         InfoForm::IpIp => {
             place.put(InfoIpTunnel::Ipv4Flags(read_u16(item.value(), at)?));

@@ -5,7 +5,7 @@ ghost use Rattle.{npr_base.specs.{declared.refusal.DecodeError.TheVariants.{OutO
 
 use crate::ports::{read_ports, write_ports};
 use npr_base::{
-    At, AttrFamily, Attribute, DecodeError, DefaultNla, EmitError, Form, Ipv4Addr, Ipv6Addr, Looks,
+    At, AttributeSet, Attribute, DecodeError, DefaultNla, EmitError, Form, Ipv4Addr, Ipv6Addr, Looks,
     Nla, NlaBuffer, Place, Rowed, put_read,
 };
 use std::alloc::{AllocError, Global};
@@ -168,7 +168,7 @@ fn put_flat<P: Place<InfoVxlan>>(
 {
     rows!(flat_rows(place, alloc, item; 10 => put_read(
         place,
-        read_ports(item.value(), AttrFamily::InfoVxlan.at(10)),
+        read_ports(item.value(), AttributeSet::InfoVxlan.at(10)),
         InfoVxlan::PortRange,
     ),))
 }

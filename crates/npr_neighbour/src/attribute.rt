@@ -7,7 +7,7 @@ use crate::cache_info::NeighbourCacheInfo;
 use crate::flags::NeighbourExtFlags;
 use bitflags::Flags;
 use npr_base::{
-    AddressFamily, At, AttrFamily, Attribute, DecodeError, DefaultNla, EmitError, Form, Looks, Nla,
+    AddressFamily, At, AttributeSet, Attribute, DecodeError, DefaultNla, EmitError, Form, Looks, Nla,
     NlaBuffer, Place, put_read,
 };
 use npr_scalar::RouteProtocol;
@@ -110,7 +110,7 @@ impl Attribute for NeighbourAttribute {
         rows!(put_rows(place, alloc, item, looks;
             NDA_DST => put_read(
                 place,
-                NeighbourAddress::read(alloc, family, item.value(), AttrFamily::Neighbour.at(NDA_DST)),
+                NeighbourAddress::read(alloc, family, item.value(), AttributeSet::Neighbour.at(NDA_DST)),
                 NeighbourAttribute::Destination,
             ),
         ))

@@ -2,7 +2,7 @@
 -- encapsulation that governs them.
 use Rattle.std.proofs.Common.{◌≡◌, inl, inr}
 use Rattle.npr_base.specs.declared.address_family.AddressFamily.{AddressFamily}
-use Rattle.npr_base.specs.declared.refusal.AttrFamily.TheVariants.{NextHop as AtNextHop}
+use Rattle.npr_base.specs.declared.refusal.AttributeSet.TheVariants.{NextHop as AtNextHop, Encap as AtEncap, NextHopResGroup as AtGroup, NextHopResBucket as AtBucket, NextHopGroupStats as AtStats}
 use Rattle.npr_base.specs.EnumTableLaws.{rewritten}
 use Rattle.npr_base.specs.Family.{Writing}
 use Rattle.npr_base.specs.Tables.{EnumTable, table_of, marked_row, row, others, ◌or◌, dropped, exactly, items, le32, list_of, listed, nothing, seen, value}
@@ -30,7 +30,7 @@ abbrev pub table : Form → Reading OfEncap.writing → EnumTable enum
 table form encapsulations =
     table_of enum (
     row AtNextHop 6 (address_in form) (seen address_of NextHopAttribute.Gateway)  -- NHA_GATEWAY
-    or marked_row AtNextHop 8 (list_of encapsulations) (listed OfEncap.meaning_of NextHopAttribute.Encap)  -- NHA_ENCAP
+    or marked_row AtNextHop 8 (list_of AtEncap encapsulations) (listed OfEncap.meaning_of NextHopAttribute.Encap)  -- NHA_ENCAP
     or row AtNextHop 7 (exactly encap_type) (value NextHopAttribute.EncapType)  -- NHA_ENCAP_TYPE
     or row AtNextHop 1 (exactly le32) (value NextHopAttribute.Id)  -- NHA_ID
     or row AtNextHop 2 group_entries (items NextHopAttribute.Group)  -- NHA_GROUP
@@ -40,10 +40,10 @@ table form encapsulations =
     or row AtNextHop 9 dropped (nothing NextHopAttribute.Groups)  -- NHA_GROUPS
     or row AtNextHop 10 (exactly le32) (value NextHopAttribute.Controller)  -- NHA_MASTER
     or row AtNextHop 11 dropped (nothing NextHopAttribute.Fdb)  -- NHA_FDB
-    or marked_row AtNextHop 12 (list_of OfGroup.attributes) (listed OfGroup.family.meaning NextHopAttribute.ResGroup)  -- NHA_RES_GROUP
-    or marked_row AtNextHop 13 (list_of OfBucket.attributes) (listed OfBucket.family.meaning NextHopAttribute.ResBucket)  -- NHA_RES_BUCKET
+    or marked_row AtNextHop 12 (list_of AtGroup OfGroup.attributes) (listed OfGroup.family.meaning NextHopAttribute.ResGroup)  -- NHA_RES_GROUP
+    or marked_row AtNextHop 13 (list_of AtBucket OfBucket.attributes) (listed OfBucket.family.meaning NextHopAttribute.ResBucket)  -- NHA_RES_BUCKET
     or row AtNextHop 14 (exactly op_flags) (value NextHopAttribute.OpFlags)  -- NHA_OP_FLAGS
-    or marked_row AtNextHop 15 (list_of OfStats.attributes) (listed OfStats.family.meaning NextHopAttribute.GroupStats)  -- NHA_GROUP_STATS
+    or marked_row AtNextHop 15 (list_of AtStats OfStats.attributes) (listed OfStats.family.meaning NextHopAttribute.GroupStats)  -- NHA_GROUP_STATS
     or row AtNextHop 16 (exactly le32) (value NextHopAttribute.HwStatsEnable)  -- NHA_HW_STATS_ENABLE
     or row AtNextHop 17 (exactly le32) (value NextHopAttribute.HwStatsUsed)  -- NHA_HW_STATS_USED
     or others (value NextHopAttribute.Other)) refl refl

@@ -10,7 +10,7 @@ use crate::res_bucket::NextHopResBucket;
 use crate::res_group::NextHopResGroup;
 use bitflags::Flags;
 use npr_base::{
-    AddressFamily, At, AttrFamily, Attribute, DecodeError, DefaultNla, EmitError, Form, Looks,
+    AddressFamily, At, Attribute, AttributeSet, DecodeError, DefaultNla, EmitError, Form, Looks,
     NLA_F_NESTED, Nla, NlaBuffer, Place, check_list, clone_list, parse_list, put_read, write_list,
 };
 use npr_scalar::RouteAddress;
@@ -88,10 +88,10 @@ macro_rules! rows {
             9 Groups;
             10 Controller(le32);
             11 Fdb;
-            12 ResGroup(list) as NLA_F_NESTED + 12;
-            13 ResBucket(list) as NLA_F_NESTED + 13;
+            12 ResGroup(list NextHopResGroup) as NLA_F_NESTED + 12;
+            13 ResBucket(list NextHopResBucket) as NLA_F_NESTED + 13;
             14 OpFlags(NextHopOpFlags flags le32);
-            15 GroupStats(list) as NLA_F_NESTED + 15;
+            15 GroupStats(list NextHopGroupStats) as NLA_F_NESTED + 15;
             16 HwStatsEnable(le32);
             17 HwStatsUsed(le32);
         })
@@ -148,7 +148,7 @@ impl Attribute for NextHopAttribute {
         rows!(put_rows(place, alloc, item, looks;
             NHA_GATEWAY => put_read(
                 place,
-                RouteAddress::read(alloc, family, item.value(), AttrFamily::NextHop.at(NHA_GATEWAY)),
+                RouteAddress::read(alloc, family, item.value(), AttributeSet::NextHop.at(NHA_GATEWAY)),
                 NextHopAttribute::Gateway,
             ),
             NHA_ENCAP => put_read(
@@ -163,7 +163,7 @@ impl Attribute for NextHopAttribute {
     fn form(context: Context, number: u16) -> (At, Form) {
         rows!(form_rows(number;
             NHA_GATEWAY => RouteAddress::form(context.0),
-            NHA_ENCAP => Form::Inside,
+            NHA_ENCAP => Form::List(AttributeSet::Encap, 0),
             NHA_GROUP => Form::Raw,
         ))
     }

@@ -23,7 +23,7 @@ pub enum NextHopGroupStats {
 macro_rules! rows {
     ($body:ident ($($given:tt)*)) => {
         npr_base::$body!(($($given)*) NextHopGroupStats of NextHopGroupStats {
-            1 Entry(list) as NLA_F_NESTED + 1;
+            1 Entry(list NextHopGroupStatsEntry) as NLA_F_NESTED + 1;
         })
     };
 }

@@ -60,7 +60,7 @@ variant_number (flat m) = 2 * slot_kind (Flat.slot_of m)
 
 variant_numbers : List ℕ
 variant_numbers =
-    (2 * 9) ∷ (2 * 19 + 1) ∷ (2 * 23 + 1) ∷ map (λ (r : Row Flat.Meaning). 2 * r.at.kind) (Flat.rows any false (OfEncap.encapsulation NoEncapsulation))
+    (2 * 9) ∷ (2 * 19 + 1) ∷ (2 * 23 + 1) ∷ map (λ (r : Row Flat.Meaning). 2 * r.at.number) (Flat.rows any false (OfEncap.encapsulation NoEncapsulation))
 
 -- the place of a variant in the enum: so many have a lower number
 order : Meaning → ℕ

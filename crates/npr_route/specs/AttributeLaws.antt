@@ -114,14 +114,14 @@ governed-sound c bytes ms e p bad = attributes-sound (typed c p.0) bytes ms e p.
 -- the variants of each row have its number
 abbrev Numbered : {M : Type 0} → (M → ℕ) → List (Row M) → Type 0
 Numbered number [] = Unit {0}
-Numbered number (r ∷ rs) = ((v : r.V) → number (r.variant v) ≡ r.at.kind) × Numbered number rs
+Numbered number (r ∷ rs) = ((v : r.V) → number (r.variant v) ≡ r.at.number) × Numbered number rs
 
 numbered-reads : {M : Type 0} (number : M → ℕ) (kept : Item → M) → ((x : Item) → number (kept x) ≡ number_of x.kind)
     → (rs : List (Row M)) → Numbered number rs → (k : ℕ) (x : Item) (m : M) → number_of x.kind ≡ k → ReadsAt kept rs k x m
     → number m ≡ k
 numbered-reads number kept same [] all k x m is p = ap number p ∙ same x ∙ is
-numbered-reads number kept same (r ∷ rs) all k x m is p = one_of (k == r.at.kind)
-    (λ e a. ap number a.2 ∙ all.0 a.0 ∙ sym (eqb-true k r.at.kind e))
+numbered-reads number kept same (r ∷ rs) all k x m is p = one_of (k == r.at.number)
+    (λ e a. ap number a.2 ∙ all.0 a.0 ∙ sym (eqb-true k r.at.number e))
     (λ e a. numbered-reads number kept same rs all.1 k x m is a) p
 
 -- the number under which an attribute is written

@@ -3,7 +3,7 @@ use Rattle.std.specs.Prelude.{◌≡◌, ◌≢◌, ℕ, ◌==◌, Bool, true, f
 use Rattle.std.proofs.Common.{refl, sym, subst}
 use Rattle.std.proofs.lemmas.Bool.{eqb-false, ne_eqb}
 use Rattle.npr_base.specs.declared.refusal.At.{At}
-use Rattle.npr_base.specs.declared.refusal.AttrFamily.TheVariants.{Route as OfRoute}
+use Rattle.npr_base.specs.declared.refusal.AttributeSet.TheVariants.{Route as OfRoute}
 use Rattle.npr_base.specs.declared.refusal.DecodeError.{DecodeError}
 use Rattle.npr_base.specs.declared.value.Form.{Form}
 use Rattle.npr_base.specs.declared.value.Form.TheVariants.{Inside}

@@ -1,6 +1,6 @@
 -- The attributes of a route message but next hops (linux/rtnetlink.h, RTA_*), by their table under the header.
 use Rattle.std.specs.Prelude.{◌≡◌, ◌≢◌, ℕ, ◌<◌, ◌^◌, Bool, true, false, List, [], ◌∷◌, map, if◌then◌else◌}
-use Rattle.npr_base.specs.declared.refusal.AttrFamily.TheVariants.{Route as OfRoute}
+use Rattle.npr_base.specs.declared.refusal.AttributeSet.TheVariants.{Route as OfRoute, Metric as AtMetric, Encap as AtEncap}
 use Rattle.npr_base.specs.declared.address_family.AddressFamily.{AddressFamily}
 use Rattle.npr_base.specs.Framing.{Item}
 use Rattle.npr_base.specs.Layout.{Layout, byte, le32, le64, be16, be32}
@@ -75,7 +75,7 @@ Context = AddressFamily × RouteType × RouteLwEnCapType
 
 -- number 8: metrics
 abbrev pub metrics_row : Row Meaning
-metrics_row = row OfRoute 8 (list_of metric_attributes) metrics
+metrics_row = row OfRoute 8 (list_of AtMetric metric_attributes) metrics
 
 -- number 19: labels for family mpls, else an address
 abbrev pub NewDestinationValue : Form → Type 0
@@ -117,7 +117,7 @@ expires_row multicast = row OfRoute 23 (exactly (expires_layout multicast)) (exp
 
 -- number 22: members of the family of the type that governs
 abbrev pub encap_row : Reading OfEncap.writing → Row Meaning
-encap_row family = row OfRoute 22 (list_of family) encap
+encap_row family = row OfRoute 22 (list_of AtEncap family) encap
 
 -- the members beside which it is written with NESTED
 abbrev pub marks : OfEncap.Meaning → Bool
@@ -173,7 +173,7 @@ slot_of (oif a) = slot_plain 4 (exactly le32) a
 slot_of (gateway a) = slot_plain 5 (address_in any) a
 slot_of (priority a) = slot_plain 6 (exactly le32) a
 slot_of (pref_source a) = slot_plain 7 (address_in any) a
-slot_of (metrics a) = slot_plain 8 (list_of metric_attributes) a
+slot_of (metrics a) = slot_plain 8 (list_of AtMetric metric_attributes) a
 slot_of (realm a) = slot_plain 11 (exactly route_realm) a
 slot_of (cache_info a) = slot_plain 12 (leading route_cache_info) a
 slot_of (table a) = slot_plain 15 (exactly le32) a
@@ -184,7 +184,7 @@ slot_of (new_destination a) = slot_plain 19 mpls_labels a
 slot_of (new_destination_address a) = slot_plain 19 (address_in any) a
 slot_of (preference a) = slot_plain 20 (exactly route_preference) a
 slot_of (encap_type a) = slot_plain 21 (exactly encap_type_layout) a
-slot_of (encap a) = slot_marked (any_marks a) 22 (list_of (OfEncap.encapsulation NoEncapsulation)) a
+slot_of (encap a) = slot_marked (any_marks a) 22 (list_of AtEncap (OfEncap.encapsulation NoEncapsulation)) a
 slot_of (expires a) = slot_plain 23 (exactly le32) a
 slot_of (multicast_expires a) = slot_plain 23 (exactly le64) a
 slot_of (uid a) = slot_plain 25 (exactly le32) a
@@ -204,7 +204,7 @@ Coherent form multicast family (gateway a) = (address_in form).Holds a
 Coherent form multicast family (pref_source a) = (address_in form).Holds a
 Coherent form multicast family (new_destination a) = (form ≡ label) × mpls_labels.Holds a
 Coherent form multicast family (new_destination_address a) = (form ≢ label) × (address_in form).Holds a
-Coherent form multicast family (encap xs) = (list_of family).Holds xs
+Coherent form multicast family (encap xs) = (list_of AtEncap family).Holds xs
 Coherent form multicast family (expires n) = (multicast ≡ false) × (n < 2 ^ 32)
 Coherent form multicast family (multicast_expires n) = (multicast ≡ true) × (n < 2 ^ 64)
 Coherent form multicast family m = IsSlot (rows form multicast family) (slot_of m)

@@ -5,6 +5,7 @@ use Rattle.npr_base.specs.Framing.{marked, number_of}
 use Rattle.npr_base.specs.Layout.{le32, le64}
 use Rattle.npr_base.specs.Codec.{exactly}
 use Rattle.npr_base.specs.ListCodec.{list_of}
+use Rattle.npr_base.specs.declared.refusal.AttributeSet.TheVariants.{Encap as AtEncap}
 use Rattle.npr_base.specs.Family.{Writing, Reading}
 use Rattle.npr_base.specs.Table.{slot_kind, slot_value, slot_unfit, slot-reads, item_of, writing_by, table_with, Aligned, IsWritten, ReadsAt}
 use Rattle.npr_base.specs.TableLaws.{table_family, other-back}
@@ -62,7 +63,7 @@ back label multicast family (new_destination_address a) c fits = absurd (c.0 ref
 back four multicast family (new_destination_address a) c fits = (a, (address_in four).reads_back 19 a c.1 fits, refl)
 back sixteen multicast family (new_destination_address a) c fits = (a, (address_in sixteen).reads_back 19 a c.1 fits, refl)
 back any multicast family (new_destination_address a) c fits = (a, (address_in any).reads_back 19 a c.1 fits, refl)
-back form multicast family (encap a) c fits = rw (encap-number (any_marks a)) (a, (list_of family).reads_back 22 a c fits, refl)
+back form multicast family (encap a) c fits = rw (encap-number (any_marks a)) (a, (list_of AtEncap family).reads_back 22 a c fits, refl)
 back form false family (expires n) c fits = (n, (exactly le32).reads_back 23 n c.1 fits, refl)
 back form true family (expires n) c fits = absurd (let e = c.0 in cc)
 back form true family (multicast_expires n) c fits = (n, (exactly le64).reads_back 23 n c.1 fits, refl)

@@ -35,7 +35,7 @@ use crate::attribute::{
 };
 use crate::route_rows;
 use npr_base::{
-    AddressFamily, At, AttrFamily, DecodeError, DefaultNla, Form, Ipv6Addr, Looks, NlaBuffer,
+    AddressFamily, At, AttributeSet, DecodeError, DefaultNla, Form, Ipv6Addr, Looks, NlaBuffer,
     Parseable, borrow_octets, form_row, parse_list, read_ipv4, read_u32, read_u64, read_value,
 };
 use npr_scalar::{
@@ -46,7 +46,7 @@ use npr_tunnel::RouteLwEnCapType;
 use std::alloc::Global;
 use std::mem;
 
-const FAMILY: AttrFamily = AttrFamily::Route;
+const FAMILY: AttributeSet = AttributeSet::Route;
 
 /// Puts a value into a place that holds a blank, which has nothing to free.
 fn put(place: &mut RouteAttribute, value: RouteAttribute)
@@ -69,7 +69,7 @@ fn put_address<V: FnOnce(RouteAddress) -> RouteAttribute>(
     requires blank { place.old ≡ RouteAttribute.Uid 0 }
     requires variant { V.IsAlwaysCallable variant }
     ensures ok { IfOk result (λ _. (address : RouteAddress) × (route_address family).Reads (item.now).value (address_of address) × V.post variant address place.new) }
-    ensures refused { IfErr result (λ e. e ≢ OutOfMemory → (route_address family).Wrong (at_number AttrFamily.Route (number_of (item.now).kind)) (item.now).value e) }
+    ensures refused { IfErr result (λ e. e ≢ OutOfMemory → (route_address family).Wrong (at_number AttributeSet.Route (number_of (item.now).kind)) (item.now).value e) }
 {
     let value = item.value();
     let at = FAMILY.at(item.kind());
@@ -132,7 +132,7 @@ fn put_encapsulation(
 fn put_via(place: &mut RouteAttribute, alloc: Global, value: &[u8]) -> Result<(), DecodeError>
     requires { place.old ≡ RouteAttribute.Uid 0 }
     ensures ok { IfOk result (λ _. (via : RouteVia) × (place.new ≡ RouteAttribute.Via via) × via_value.Reads value.now (via_of via)) }
-    ensures refused { IfErr result (λ e. e ≢ OutOfMemory → via_value.Wrong (at_number AttrFamily.Route 18) value.now e) }
+    ensures refused { IfErr result (λ e. e ≢ OutOfMemory → via_value.Wrong (at_number AttributeSet.Route 18) value.now e) }
 {
     let via = RouteVia::read(alloc, value, FAMILY.at(RTA_VIA))?;
     put(place, RouteAttribute::Via(via));
@@ -287,11 +287,11 @@ pub(crate) fn form_at(context: Context, number: u16) -> (At, Form)
 {
     let address = RouteAddress::form(context.0);
     let form = route_rows!(route_forms(number, address;
-        RTA_METRICS => Form::Inside,
+        RTA_METRICS => Form::List(AttributeSet::Metric, 0),
         RTA_MULTIPATH => Form::Inside,
         RTA_VIA => Form::Inside,
         RTA_NEWDST => new_destination_form(context.0),
-        RTA_ENCAP => Form::Inside,
+        RTA_ENCAP => Form::List(AttributeSet::Encap, 0),
         RTA_EXPIRES => expires_form(context.1),
     ));
     (FAMILY.at(number), form)

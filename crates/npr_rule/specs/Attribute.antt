@@ -1,6 +1,6 @@
 -- The attributes of a rule message (linux/fib_rules.h, FRA_*), by their table.
 use Rattle.std.specs.Prelude.{ℕ, Option}
-use Rattle.npr_base.specs.declared.refusal.AttrFamily.TheVariants.{Rule}
+use Rattle.npr_base.specs.declared.refusal.AttributeSet.TheVariants.{Rule}
 use Rattle.npr_base.specs.Tables.{EnumTable, table_of, row, others, ◌or◌, value, text, exactly, ip, name, le32, be64, boolean, refl, Reading, Family}
 use Rattle.npr_base.specs.Tables.{ValueAt, value_at, found_at, writing_of, attributes_of, family_of_table}
 use Rattle.npr_scalar.specs.Realm.{route_realm}

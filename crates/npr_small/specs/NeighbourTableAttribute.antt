@@ -1,5 +1,5 @@
 -- The attributes of a message of tables of neighbours (linux/neighbour.h, NDTA_*), by their table.
-use Rattle.npr_base.specs.declared.refusal.AttrFamily.TheVariants.{NeighbourTable as AtNeighbourTableAttribute}
+use Rattle.npr_base.specs.declared.refusal.AttributeSet.TheVariants.{NeighbourTable as AtNeighbourTableAttribute, NeighbourTableParameter as AtParameter}
 use Rattle.npr_base.specs.Tables.{EnumTable, table_of, row, others, ◌or◌, value, text, listed, exactly, leading, list_of, name, le32, le64, refl, Reading}
 use Rattle.npr_base.specs.Tables.{Family, writing_of, attributes_of, family_of_table}
 use Rattle.npr_small.specs.NeighbourTableConfig.{table_config}
@@ -17,7 +17,7 @@ table =
     or row AtNeighbourTableAttribute 3 (exactly le32) (value NeighbourTableAttribute.Threshold2)  -- NDTA_THRESH2
     or row AtNeighbourTableAttribute 4 (exactly le32) (value NeighbourTableAttribute.Threshold3)  -- NDTA_THRESH3
     or row AtNeighbourTableAttribute 5 (leading table_config) (value NeighbourTableAttribute.Config)  -- NDTA_CONFIG
-    or row AtNeighbourTableAttribute 6 (list_of OfParameter.attributes) (listed OfParameter.family.meaning NeighbourTableAttribute.Parms)  -- NDTA_PARMS
+    or row AtNeighbourTableAttribute 6 (list_of AtParameter OfParameter.attributes) (listed OfParameter.family.meaning NeighbourTableAttribute.Parms)  -- NDTA_PARMS
     or row AtNeighbourTableAttribute 7 (leading table_stats) (value NeighbourTableAttribute.Stats)  -- NDTA_STATS
     or row AtNeighbourTableAttribute 8 (exactly le64) (value NeighbourTableAttribute.GcInterval)  -- NDTA_GC_INTERVAL
     or others (value NeighbourTableAttribute.Other)) refl refl

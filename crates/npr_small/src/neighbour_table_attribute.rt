@@ -43,7 +43,7 @@ macro_rules! rows {
             3 Threshold2(le32);
             4 Threshold3(le32);
             5 Config(NeighbourTableConfig leading 32);
-            6 Parms(list);
+            6 Parms(list NeighbourTableParameter);
             7 Stats(NeighbourTableStats leading 88);
             8 GcInterval(le64);
         })

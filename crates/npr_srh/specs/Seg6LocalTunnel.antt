@@ -3,7 +3,7 @@ use Rattle.std.specs.Prelude.{ℕ, List, ◌+◌, ◌++◌, Option, Some, codes,
 use Rattle.std.specs.Net.Addr.{segments_of}
 use Rattle.std.specs.Net.Text.{ipv4_text, ipv6_text}
 use Rattle.npr_base.specs.declared.refusal.At.{At}
-use Rattle.npr_base.specs.declared.refusal.AttrFamily.TheVariants.{Seg6Local}
+use Rattle.npr_base.specs.declared.refusal.AttributeSet.TheVariants.{Seg6Local}
 use Rattle.npr_base.specs.Refusal.{at_number}
 use Rattle.npr_base.specs.Text.{nla_text}
 use Rattle.npr_base.specs.Tables.{EnumTable, table_of, row, others, ◌or◌, ◌also◌, value, seen, nothing, exactly, dropped, le32, octets4, octets16, refl}

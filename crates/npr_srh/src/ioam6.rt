@@ -12,7 +12,7 @@ ghost use Rattle.{
 };
 
 use npr_base::{
-    At, AttrFamily, Attribute, DecodeError, DefaultNla, EmitError, Form, Ipv6Addr, Looks, Nla,
+    At, AttributeSet, Attribute, DecodeError, DefaultNla, EmitError, Form, Ipv6Addr, Looks, Nla,
     NlaBuffer, Parseable, Place, put_read, write_array, write_six_hex_digits,
 };
 use std::alloc::{AllocError, Global};
@@ -142,7 +142,7 @@ impl<'a> Parseable<&'a NlaBuffer<'a>> for Ioam6TraceHdr {
         ensures memory { IfErr result (λ e. e ≢ OutOfMemory) }
     {
         Ioam6TraceHdr::read(input.value()).ok_or(DecodeError::Unsupported {
-            at: AttrFamily::Ioam6.at(IOAM6_IPTUNNEL_TRACE),
+            at: AttributeSet::Ioam6.at(IOAM6_IPTUNNEL_TRACE),
         })
     }
 }

@@ -14,7 +14,7 @@ ghost use Rattle.{
 
 use crate::segments::{check_header, read_parts, write_header};
 use npr_base::{
-    At, AttrFamily, Attribute, DecodeError, DefaultNla, EmitError, Form, Ipv6Addr, Looks, Nla,
+    At, AttributeSet, Attribute, DecodeError, DefaultNla, EmitError, Form, Ipv6Addr, Looks, Nla,
     NlaBuffer, Parseable, Place, put_read, write_array, write_v6_list,
 };
 use std::alloc::{AllocError, Global};
@@ -145,7 +145,7 @@ impl<'a> Parseable<&'a NlaBuffer<'a>> for RplSrh {
     /// `OutOfMemory` where memory is refused, and else `Unsupported`.
     fn parse(alloc: Global, input: &'a NlaBuffer<'a>) -> Result<Self, DecodeError> {
         RplSrh::read(alloc, input.value()).unwrap_or(Err(DecodeError::Unsupported {
-            at: AttrFamily::Rpl.at(RPL_IPTUNNEL_SRH),
+            at: AttributeSet::Rpl.at(RPL_IPTUNNEL_SRH),
         }))
     }
 }

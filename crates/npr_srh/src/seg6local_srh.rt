@@ -8,7 +8,7 @@ ghost use Rattle.{
 
 use crate::segments::{check_header, read_parts};
 use npr_base::{
-    AttrFamily, DecodeError, EmitError, Ipv6Addr, Nla, NlaBuffer, Parseable, write_array,
+    AttributeSet, DecodeError, EmitError, Ipv6Addr, Nla, NlaBuffer, Parseable, write_array,
     write_v6_list,
 };
 use std::alloc::{AllocError, Global};
@@ -135,7 +135,7 @@ impl<'a> Parseable<&'a NlaBuffer<'a>> for Seg6LocalSrh {
     /// `OutOfMemory` where memory is refused, and else `Unsupported`.
     fn parse(alloc: Global, input: &'a NlaBuffer<'a>) -> Result<Self, DecodeError> {
         Seg6LocalSrh::read(alloc, input.value()).unwrap_or(Err(DecodeError::Unsupported {
-            at: AttrFamily::Seg6Local.at(SEG6_LOCAL_SRH),
+            at: AttributeSet::Seg6Local.at(SEG6_LOCAL_SRH),
         }))
     }
 }

@@ -1,7 +1,7 @@
 -- The children of which options of Geneve are made, as a family of attributes, with the laws of both directions.
 use Rattle.std.proofs.Common.{◌≡◌, ◌+◌, ◌*◌, ◌^◌, ◌<◌, ◌≤◌, true, false, List, length, refl, ap, arith, true≢false}
 use Rattle.std.specs.Prelude.{None}
-use Rattle.npr_base.specs.declared.refusal.AttrFamily.TheVariants.{Geneve as OfGeneve}
+use Rattle.npr_base.specs.declared.refusal.AttributeSet.TheVariants.{Geneve as OfGeneve}
 use Rattle.npr_base.specs.declared.refusal.DecodeError.{DecodeError}
 use Rattle.npr_base.specs.declared.value.Form.TheVariants.{Inside}
 use Rattle.npr_base.specs.Codec.{Codec, exactly, raw}
@@ -85,4 +85,4 @@ child_reading = record {
 
 -- a list of them
 abbrev pub children_list : Codec (List Child)
-children_list = list_of child_reading
+children_list = list_of OfGeneve child_reading

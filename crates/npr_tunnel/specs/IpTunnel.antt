@@ -3,8 +3,8 @@
 use Rattle.std.specs.Prelude.{ℕ, Bool, List, [], ◌∷◌, ◌++◌, Option, Some, codes, decimal, is_some}
 use Rattle.std.specs.Net.Addr.{segments_of}
 use Rattle.std.specs.Net.Text.{ipv4_text, ipv6_text}
-use Rattle.npr_base.specs.declared.refusal.AttrFamily.{AttrFamily}
-use Rattle.npr_base.specs.declared.refusal.AttrFamily.TheVariants.{Ip, Ip6}
+use Rattle.npr_base.specs.declared.refusal.AttributeSet.{AttributeSet}
+use Rattle.npr_base.specs.declared.refusal.AttributeSet.TheVariants.{Ip, Ip6, Opt as AtOption}
 use Rattle.npr_base.specs.EnumTable.{VariantRows, Variant, Names}
 use Rattle.npr_base.specs.Framing.{Item}
 use Rattle.npr_base.specs.Layout.{Layout}
@@ -20,7 +20,7 @@ use Rattle.npr_tunnel.specs.declared.ip6.RouteIp6Tunnel.{RouteIp6Tunnel}
 use denote.Struct.Field.{Field}
 
 -- the table, in the order of the variants, where an address has this layout, over the variants and what their fields hold
-abbrev pub rows_over : {T : Type 0} {U N A B F O D : List Field} → AttrFamily → (address : Layout (List ℕ)) → Variant T U (Unit {0}) → (id : Variant T N ℕ)
+abbrev pub rows_over : {T : Type 0} {U N A B F O D : List Field} → AttributeSet → (address : Layout (List ℕ)) → Variant T U (Unit {0}) → (id : Variant T N ℕ)
     → (destination source : Variant T A (List ℕ)) → (limit class : Variant T B ℕ) → (flags : Variant T F ℕ)
     → (options : Variant T O (List OfOption.family.Meaning)) → (other : Variant T D Item)
     → VariantRows (U ∷ N ∷ A ∷ A ∷ B ∷ B ∷ F ∷ O ∷ D ∷ []) × Names T (U ∷ N ∷ A ∷ A ∷ B ∷ B ∷ F ∷ O ∷ D ∷ [])
@@ -32,7 +32,7 @@ rows_over family address unspecified id destination source limit class flags opt
     or row family 4 (exactly byte) limit  -- LWTUNNEL_IP_TTL, LWTUNNEL_IP6_HOPLIMIT
     or row family 5 (exactly byte) class  -- LWTUNNEL_IP_TOS, LWTUNNEL_IP6_TC
     or row family 6 (exactly be16) flags  -- LWTUNNEL_IP_FLAGS
-    or marked_row family 8 (list_of OfOption.attributes) options  -- LWTUNNEL_IP_OPTS
+    or marked_row family 8 (list_of AtOption OfOption.attributes) options  -- LWTUNNEL_IP_OPTS
     or others other
 
 abbrev pub table : EnumTable enum

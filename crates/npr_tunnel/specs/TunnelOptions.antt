@@ -1,6 +1,6 @@
 -- The options of a tunnel over IP (linux/lwtunnel.h, LWTUNNEL_IP_OPTS_*), by their table. Each is written with NESTED.
 use Rattle.std.specs.Prelude.{ℕ, List, Option, Some, codes}
-use Rattle.npr_base.specs.declared.refusal.AttrFamily.TheVariants.{Opt}
+use Rattle.npr_base.specs.declared.refusal.AttributeSet.TheVariants.{Opt, Vxlan as AtVxlan, Erspan as AtErspan}
 use Rattle.npr_base.specs.Text.{joined_by, nla_text}
 use Rattle.npr_base.specs.Tables.{EnumTable, table_of, marked_row, others, ◌or◌, ◌also◌, value, listed, list_of, refl, Reading, Family, writing_of}
 use Rattle.npr_base.specs.Tables.{attributes_of, family_of_table, made_of}
@@ -16,8 +16,8 @@ abbrev pub table : EnumTable enum
 table =
     table_of enum (
     marked_row Opt 1 geneve_options (listed option_of RouteLwTunnelOpt.Geneve)  -- LWTUNNEL_IP_OPTS_GENEVE
-    or marked_row Opt 2 (list_of OfVxlan.attributes) (listed OfVxlan.family.meaning RouteLwTunnelOpt.Vxlan)  -- LWTUNNEL_IP_OPTS_VXLAN
-    or marked_row Opt 3 (list_of OfErspan.attributes) (listed OfErspan.family.meaning RouteLwTunnelOpt.Erspan)  -- LWTUNNEL_IP_OPTS_ERSPAN
+    or marked_row Opt 2 (list_of AtVxlan OfVxlan.attributes) (listed OfVxlan.family.meaning RouteLwTunnelOpt.Vxlan)  -- LWTUNNEL_IP_OPTS_VXLAN
+    or marked_row Opt 3 (list_of AtErspan OfErspan.attributes) (listed OfErspan.family.meaning RouteLwTunnelOpt.Erspan)  -- LWTUNNEL_IP_OPTS_ERSPAN
     or others (value RouteLwTunnelOpt.Other)) refl refl
 
 -- the family

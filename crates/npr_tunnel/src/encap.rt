@@ -12,7 +12,7 @@ use crate::ip6::RouteIp6Tunnel;
 use crate::mpls::RouteMplsIpTunnel;
 use crate::xfrm::RouteXfrmTunnel;
 use npr_base::{
-    At, AttrFamily, Attribute, DecodeError, DefaultNla, EmitError, Form, Looks, Nla, NlaBuffer,
+    At, Attribute, AttributeSet, DecodeError, DefaultNla, EmitError, Form, Looks, Nla, NlaBuffer,
     Place, put_read,
 };
 use npr_srh::{RouteIoam6Tunnel, RouteRplIpTunnel, RouteSeg6IpTunnel, RouteSeg6LocalTunnel};
@@ -103,7 +103,7 @@ macro_rules! form_of_member {
     (($encap_type:expr, $number:expr) { $($variant:ident($family:ident);)* }) => {
         match $encap_type {
             $(RouteLwEnCapType::$variant => $family::form((), $number),)*
-            _ => (AttrFamily::Value.at($number), Form::Raw),
+            _ => (AttributeSet::Value.at($number), Form::Raw),
         }
     };
 }

@@ -21,8 +21,9 @@ ghost use Rattle.{
 };
 
 use npr_base::{
-    AttrFamily, DecodeError, EmitError, Emitable, Looks, Nla, NlaBuffer, NlasIterator, read_bytes,
-    read_u8, read_u16_be, total_len, write_array, write_attribute, write_bytes, write_hex,
+    AttributeSet, DecodeError, EmitError, Emitable, Looks, Nla, NlaBuffer, NlasIterator,
+    read_bytes, read_u8, read_u16_be, total_len, write_array, write_attribute, write_bytes,
+    write_hex,
 };
 use std::alloc::{AllocError, Global};
 use std::fmt;
@@ -67,7 +68,7 @@ impl RouteGeneveOpt {
 }
 
 /// The family of these attributes.
-const FAMILY: AttrFamily = AttrFamily::Geneve;
+const FAMILY: AttributeSet = AttributeSet::Geneve;
 
 /// The class, which opens an option (`linux/lwtunnel.h`).
 const LWTUNNEL_IP_OPT_GENEVE_CLASS: u16 = 1;
@@ -85,7 +86,7 @@ fn read_class(
     value: &[u8],
 ) -> Result<(Option<RouteGeneveOpt>, RouteGeneveOpt), DecodeError>
     ensures ok { IfOk result (λ p. (n : ℕ) × (exactly be16).Reads value.now n × Changes (seen current) (class_child n) (seen p.0) (option_of p.1)) }
-    ensures refused { IfErr result (λ e. (exactly be16).Wrong (at_number AttrFamily.Geneve 1) value.now e) }
+    ensures refused { IfErr result (λ e. (exactly be16).Wrong (at_number AttributeSet.Geneve 1) value.now e) }
 {
     let class = read_u16_be(value, FAMILY.at(LWTUNNEL_IP_OPT_GENEVE_CLASS))?;
     let opened = RouteGeneveOpt {
@@ -98,7 +99,7 @@ fn read_class(
 /// A type changes the option that is open.
 fn read_type(option: RouteGeneveOpt, value: &[u8]) -> Result<RouteGeneveOpt, DecodeError>
     ensures ok { IfOk result (λ o. (n : ℕ) × (exactly byte).Reads value.now n × Changes (Some (option_of option)) (type_child n) None (option_of o)) }
-    ensures refused { IfErr result (λ e. (exactly byte).Wrong (at_number AttrFamily.Geneve 2) value.now e) }
+    ensures refused { IfErr result (λ e. (exactly byte).Wrong (at_number AttributeSet.Geneve 2) value.now e) }
 {
     let typ = read_u8(value, FAMILY.at(LWTUNNEL_IP_OPT_GENEVE_TYPE))?;
     Ok(RouteGeneveOpt { typ, ..option })

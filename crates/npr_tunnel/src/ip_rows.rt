@@ -13,7 +13,7 @@ macro_rules! ip_rows {
             4 $hops(byte);
             5 $service(byte);
             6 Flags($flags flags be16);
-            8 Opts(list) as npr_base::NLA_F_NESTED + 8;
+            8 Opts(list Opt) as npr_base::NLA_F_NESTED + 8;
         })
     };
 }

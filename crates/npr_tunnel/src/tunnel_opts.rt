@@ -35,8 +35,8 @@ pub enum RouteLwTunnelOpt {
 macro_rules! rows {
     ($body:ident ($($given:tt)*)) => {
         npr_base::$body!(($($given)*) RouteLwTunnelOpt of Opt {
-            2 Vxlan(list) as NLA_F_NESTED + 2;
-            3 Erspan(list) as NLA_F_NESTED + 3;
+            2 Vxlan(list Vxlan) as NLA_F_NESTED + 2;
+            3 Erspan(list Erspan) as NLA_F_NESTED + 3;
         })
     };
 }

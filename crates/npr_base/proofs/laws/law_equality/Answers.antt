@@ -4,8 +4,8 @@ use Rattle.npr_base.specs.AddressFamilyLaws.{family_equality}
 use Rattle.npr_base.specs.Equality.{IsEquality}
 use Rattle.npr_base.specs.EqualityLaws.{bare_equality, enum_equality, one_equality}
 use Rattle.npr_base.specs.StructLaws.{◌beside◌, struct_equality}
-use Rattle.npr_base.specs.contracts.refusal.AttrFamily.{the_type as families}
-use Rattle.npr_base.specs.contracts.refusal.AttrFamilyPartialEq.TheImpl as FamilyEq
+use Rattle.npr_base.specs.contracts.refusal.AttributeSet.{the_type as families}
+use Rattle.npr_base.specs.contracts.refusal.AttributeSetPartialEq.TheImpl as FamilyEq
 use Rattle.npr_base.specs.contracts.refusal.At.{struct as at_struct}
 use Rattle.npr_base.specs.contracts.refusal.AtPartialEq.TheImpl as AtEq
 use Rattle.npr_base.specs.contracts.refusal.Seg6FaultPartialEq.TheImpl as FaultEq

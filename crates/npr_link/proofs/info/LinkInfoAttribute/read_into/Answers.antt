@@ -5,7 +5,7 @@ use Rattle.npr_base.specs.EnumTable.{WrongIn}
 use Rattle.npr_base.specs.Framing.{Item, number_of}
 use Rattle.npr_base.specs.Refusal.{at_number, no_place}
 use Rattle.npr_base.specs.declared.refusal.At.{At}
-use Rattle.npr_base.specs.declared.refusal.AttrFamily.TheVariants.{LinkInfo}
+use Rattle.npr_base.specs.declared.refusal.AttributeSet.TheVariants.{LinkInfo}
 use Rattle.npr_base.specs.declared.refusal.DecodeError.{DecodeError}
 use Rattle.npr_base.specs.declared.refusal.DecodeError.TheVariants.{OutOfMemory}
 use Rattle.npr_link.specs.Governing.{Forms}
