@@ -1,6 +1,6 @@
 -- The attributes in canonical bytes.
 use Rattle.std.specs.Prelude.{None}
-use Rattle.std.proofs.Common.{◌≡◌, ℕ, ◌≤◌, List, length, drop, map, refl, arith}
+use Rattle.std.proofs.Common.{◌≡◌, ℕ, ◌≤◌, List, length, drop, map, arith}
 use Rattle.npr_base.specs.Family.{written_by}
 use Rattle.npr_base.specs.Framing.{IsBytes, Cut}
 use Rattle.npr_base.specs.FirstTold.{first_told}
@@ -32,11 +32,10 @@ use Rattle.npr_small.specs.PrefixMessage.{prefixes}
 use Rattle.npr_tunnel.specs.declared.encap_type.RouteLwEnCapType.TheVariants.{None as NoEncapsulation}
 use Rattle.netlink_packet_route.proofs.CanonicalLaws.{cut-behind, header-there}
 use Rattle.netlink_packet_route.specs.Canonical.{IsCanonical}
-use Rattle.netlink_packet_route.specs.Levels.{Begins, header_size}
-use Rattle.netlink_packet_route.specs.MessageKind.{MessageOf, form_of}
+use Rattle.netlink_packet_route.specs.MessageKind.{Begins, MessageOf, form_of, header_size}
 use Rattle.netlink_packet_route.specs.declared.kind.MessageKind.{MessageKind}
 use Rattle.netlink_packet_route.specs.declared.kind.MessageKind.TheVariants as Kind
-use Rattle.netlink_packet_route.specs.declared.levels.Level.{Level}
+use Rattle.netlink_packet_route.specs.declared.nests.Nest.{Nest}
 
 -- behind the header, canonical bytes are cut into the attributes as they are written
 pub attributes-cut : (kind : MessageKind) (bytes : List ℕ) (m : MessageOf kind) → IsBytes bytes → IsMessage (form_of kind).grammar bytes m
@@ -61,33 +60,10 @@ attributes-cut Kind.NeighbourTable bytes m are is fits = cut-behind neighbour_ta
 attributes-cut Kind.Prefix bytes m are is fits = cut-behind prefixes OfPrefix.attributes bytes m are is fits (λ c. c)
 
 -- where a header ends
-pub begun-behind : (kind : MessageKind) (bytes rest : List ℕ) (level : Level) → Begins kind bytes level rest → rest ≡ drop (header_size kind) bytes
-begun-behind Kind.Address bytes rest level (h, reads, is, at) = is
-begun-behind Kind.Rule bytes rest level (h, reads, is, at) = is
-begun-behind Kind.Route bytes rest level (h, reads, is, at) = is
-begun-behind Kind.Neighbour bytes rest level (h, reads, is, at) = is
-begun-behind Kind.Link bytes rest level (h, reads, is, at) = is
-begun-behind Kind.NextHop bytes rest level (h, reads, is, at) = is
-begun-behind Kind.Nsid bytes rest level (h, reads, is, at) = is
-begun-behind Kind.Netconf bytes rest level (h, reads, is, at) = is
-begun-behind Kind.AddressLabel bytes rest level (h, reads, is, at) = is
-begun-behind Kind.NeighbourTable bytes rest level (h, reads, is, at) = is
-begun-behind Kind.Prefix bytes rest level (h, reads, is, at) = is
+pub begun-behind : (kind : MessageKind) (bytes rest : List ℕ) (nest : Nest) → Begins kind bytes nest rest → rest ≡ drop (header_size kind) bytes
+begun-behind kind bytes rest nest begins = begins.is
 
 -- how long it is
-pub header-size : (kind : MessageKind) → (form_of kind).grammar.layout.size ≡ header_size kind
-header-size Kind.Address = refl
-header-size Kind.Rule = refl
-header-size Kind.Route = refl
-header-size Kind.Neighbour = refl
-header-size Kind.Link = refl
-header-size Kind.NextHop = refl
-header-size Kind.Nsid = refl
-header-size Kind.Netconf = refl
-header-size Kind.AddressLabel = refl
-header-size Kind.NeighbourTable = refl
-header-size Kind.Prefix = refl
-
 pub header-some : (kind : MessageKind) → 4 ≤ header_size kind
 header-some Kind.Address = omega arith
 header-some Kind.Rule = omega arith
@@ -105,4 +81,4 @@ header-some Kind.Prefix = omega arith
 pub canonical-header : (kind : MessageKind) (bytes canonical : List ℕ) → IsBytes bytes → IsCanonical (form_of kind).grammar bytes canonical
     → header_size kind ≤ length canonical
 canonical-header kind bytes canonical are is =
-    omega (arith, header-size kind, header-there (form_of kind).grammar bytes canonical are is)
+    omega (arith, header-there (form_of kind).grammar bytes canonical are is)

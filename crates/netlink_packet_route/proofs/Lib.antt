@@ -2,4 +2,9 @@
 pub use Rattle.npr_base.proofs.Messages
 pub mod CanonicalAttributes
 pub mod CanonicalLaws
+mod EncapNests
 mod EqualityLaws
+mod LinkNests
+pub mod NestLaws
+mod NestRows
+mod ValueReading

@@ -41,21 +41,15 @@ pub use Rattle.npr_base.specs.MessageLaws
 pub use Rattle.npr_base.specs.Opening
 pub mod Canonical
 pub mod CheckLaws
-pub mod DriverLevelLaws
 pub mod FaultLaws
 pub mod LeftLaws
-pub mod Levels
-pub mod LevelLaws
-pub mod LinkLevelLaws
+pub mod Nests
 pub mod MessageKind
 pub mod Messages
-pub mod NextHopLevelLaws
 pub mod NumberLaws
 pub mod Request
 pub mod RouteNetlinkMessage
 pub mod ValidityLaws
-pub mod WholeLaws
-pub mod WholeTables
 pub use Rattle.npr_base.specs.MoreFields
 pub use Rattle.npr_base.specs.Name
 pub use Rattle.npr_base.specs.Numbering
@@ -145,7 +139,7 @@ pub use Rattle.npr_link.specs.AfSpecInet as LinkAfSpecInet
 pub use Rattle.npr_link.specs.AfSpecInet6 as LinkAfSpecInet6
 pub use Rattle.npr_link.specs.AfSpecs as LinkAfSpecs
 pub use Rattle.npr_link.specs.Attribute as LinkAttribute
-pub use Rattle.npr_link.specs.AttributeOpens as LinkAttributeOpens
+pub use Rattle.npr_link.specs.KindNames as LinkKindNames
 pub use Rattle.npr_link.specs.AttributeSteps as LinkAttributeSteps
 pub use Rattle.npr_link_bridge.specs.BooleanOptions as LinkBooleanOptions
 pub use Rattle.npr_link_bridge.specs.Bridge as LinkBridge

@@ -1,17 +1,47 @@
 -- The kinds of messages: their names, and what each is made of.
-use Rattle.std.specs.Prelude.{ℕ, List, Option, Some, None, codes}
-use Rattle.npr_base.specs.Message.{Grammar, View}
-use Rattle.npr_address.specs.Message.{addresses}
-use Rattle.npr_link.specs.Message.{links}
-use Rattle.npr_neighbour.specs.Message.{neighbours}
-use Rattle.npr_nexthop.specs.Message.{next_hops}
+use Rattle.std.specs.Prelude.{◌≡◌, ℕ, List, drop, Option, Some, None, codes}
+use Rattle.std.proofs.Common.{refl, sym, subst, ◌∙◌}
+use Rattle.npr_base.specs.Codec.{leading}
+use Rattle.npr_base.specs.Family.{Family}
+use Rattle.npr_base.specs.Layout.{Layout}
+use Rattle.npr_base.specs.Lists.{ReadsList}
+use Rattle.npr_base.specs.Message.{Grammar, View, grammar_by, governs_by}
+use Rattle.npr_base.specs.Nesting.{any_reading, IsListOf, IsFaultOf}
+use Rattle.npr_base.specs.declared.address_family.AddressFamily.{AddressFamily}
+use Rattle.npr_base.specs.declared.refusal.AttributeSet.{AttributeSet}
+use Rattle.npr_base.specs.declared.refusal.AttributeSet.TheVariants as At
+use Rattle.npr_base.specs.declared.refusal.DecodeError.{DecodeError}
+use Rattle.npr_address.specs.Attribute as OfAddress
+use Rattle.npr_address.specs.Header as OfAddressHeader
+use Rattle.npr_link.specs.Attribute as OfLink
+use Rattle.npr_link.specs.Header as OfLinkHeader
+use Rattle.npr_neighbour.specs.Attribute as OfNeighbour
+use Rattle.npr_neighbour.specs.Header as OfNeighbourHeader
+use Rattle.npr_nexthop.specs.Attribute as OfNextHop
+use Rattle.npr_nexthop.specs.Attribute.{Context as NextHopContext}
+use Rattle.npr_nexthop.specs.Message.{next_hops, IsContext as IsNextHopContext, under_context as under_next_hop}
+use Rattle.npr_nexthop.specs.declared.attribute.NextHopAttribute.{NextHopAttribute}
+use Rattle.npr_nexthop.specs.declared.header.NextHopHeader.{NextHopHeader}
+use Rattle.npr_route.specs.FlatAttribute.{Context as RouteContext}
+use Rattle.npr_route.specs.AttributeView as OfRouteList
 use Rattle.npr_route.specs.Message.{routes}
-use Rattle.npr_rule.specs.Message.{rules}
-use Rattle.npr_small.specs.AddressLabelMessage.{address_labels}
-use Rattle.npr_small.specs.NeighbourTableMessage.{neighbour_tables}
-use Rattle.npr_small.specs.NetconfMessage.{netconfs}
-use Rattle.npr_small.specs.NsidMessage.{nsids}
-use Rattle.npr_small.specs.PrefixMessage.{prefixes}
+use Rattle.npr_route.specs.MessageLaws.{IsContext as IsRouteContext, under_context as under_route}
+use Rattle.npr_route.specs.declared.attribute.RouteAttribute.{RouteAttribute}
+use Rattle.npr_route.specs.declared.header.RouteHeader.{RouteHeader}
+use Rattle.npr_rule.specs.Attribute as OfRule
+use Rattle.npr_rule.specs.Header as OfRuleHeader
+use Rattle.npr_small.specs.AddressLabelAttribute as OfAddressLabel
+use Rattle.npr_small.specs.AddressLabelHeader as OfAddressLabelHeader
+use Rattle.npr_small.specs.NeighbourTableAttribute as OfNeighbourTable
+use Rattle.npr_small.specs.NeighbourTableHeader as OfNeighbourTableHeader
+use Rattle.npr_small.specs.NetconfAttribute as OfNetconf
+use Rattle.npr_small.specs.NetconfHeader as OfNetconfHeader
+use Rattle.npr_small.specs.NsidAttribute as OfNsid
+use Rattle.npr_small.specs.NsidHeader as OfNsidHeader
+use Rattle.npr_small.specs.PrefixAttribute as OfPrefix
+use Rattle.npr_small.specs.PrefixHeader as OfPrefixHeader
+use Rattle.netlink_packet_route.specs.Nests.{no_context, reading_by, reading_of}
+use Rattle.netlink_packet_route.specs.declared.nests.Nest.{Nest}
 use Rattle.netlink_packet_route.specs.declared.kind.MessageKind.{MessageKind}
 use Rattle.netlink_packet_route.specs.declared.kind.MessageKind.TheVariants.{Address, Route, Rule, Neighbour, Link}
 use Rattle.netlink_packet_route.specs.declared.kind.MessageKind.TheVariants.{NextHop, Nsid, Netconf, AddressLabel, NeighbourTable, Prefix}
@@ -33,27 +63,117 @@ kind_name AddressLabel = codes "address-label"
 kind_name NeighbourTable = codes "neighbour-table"
 kind_name Prefix = codes "prefix"
 
--- what a kind of message is made of: its header and its attributes, and how they are read and written
+-- what a kind of message is made of: its header, its attributes, and how they are read and written; what governs the attributes, and
+-- what names their list, which means what the message does
 pub record Form : Type 1 where
   pub Header : Type 0
   pub Attribute : Type 0
+  pub Context : Type 0
   pub grammar : Grammar Header Attribute
+  pub family : Family Attribute Context
+  pub governs : Header → List ℕ → Context → Type 0
+  pub one : (h : Header) (bytes : List ℕ) (c d : Context) → governs h bytes c → governs h bytes d → d ≡ c
+  pub nest : Context → Nest
+  pub named : (c : Context) → reading_of (nest c) ≡ any_reading (family.reading c)
+  pub reads : (h : Header) (bytes : List ℕ) (c : Context) → governs h bytes c → IsListOf (any_reading (family.reading c)) bytes
+      → (ms : List grammar.Meaning) × grammar.body.Reads h bytes ms
+  pub faulty : (h : Header) (bytes : List ℕ) (c : Context) (e : DecodeError) → governs h bytes c → IsFaultOf (any_reading (family.reading c)) bytes e
+      → grammar.body.Faulty h bytes e
 
-abbrev pub form_by : {H A : Type 0} → Grammar H A → Form
-form_by {H} {A} g = record { Header = H; Attribute = A; grammar = g }
+-- where the header tells the context
+abbrev pub form_by : {H A C : Type 0} (f : Family A C) (layout : Layout H) (standard : H) (context_of : H → C) (nest : C → Nest)
+    → ((c : C) → reading_of (nest c) ≡ any_reading (f.reading c)) → Form
+form_by {H} {A} {C} f layout standard context_of nest named = record {
+  Header = H;
+  Attribute = A;
+  Context = C;
+  grammar = grammar_by f layout standard context_of;
+  family = f;
+  governs = governs_by context_of;
+  one = λ h bytes c d p q. q ∙ sym p;
+  nest = nest;
+  named = named;
+  reads = λ h bytes c is list. subst (λ (d : C). IsListOf (any_reading (f.reading d)) bytes) is list;
+  faulty = λ h bytes c e is bad. subst (λ (d : C). IsFaultOf (any_reading (f.reading d)) bytes e) is bad;
+}
+
+-- and where nothing does
+abbrev pub alone : {H A : Type 0} (f : Family A (Unit {0})) (layout : Layout H) (standard : H) (set : AttributeSet)
+    → reading_by set no_context ≡ any_reading (f.reading tt) → Form
+alone f layout standard set named = form_by f layout standard (λ h. tt) (λ c. record { set = set; context = no_context }) (λ c. named)
+
+abbrev pub of_family : AttributeSet → AddressFamily → Nest
+of_family set family = record { set = set; context = record no_context { family = family } }
+
+abbrev pub of_route : RouteContext → Nest
+of_route c = record { set = At.Route; context = record no_context { family = c.0; route_type = c.1; encap_type = c.2 } }
+
+abbrev pub of_next_hop : NextHopContext → Nest
+of_next_hop c = record { set = At.NextHop; context = record no_context { family = c.0; encap_type = c.1 } }
 
 abbrev pub form_of : MessageKind → Form
-form_of Address = form_by addresses
-form_of Route = form_by routes
-form_of Rule = form_by rules
-form_of Neighbour = form_by neighbours
-form_of Link = form_by links
-form_of NextHop = form_by next_hops
-form_of Nsid = form_by nsids
-form_of Netconf = form_by netconfs
-form_of AddressLabel = form_by address_labels
-form_of NeighbourTable = form_by neighbour_tables
-form_of Prefix = form_by prefixes
+form_of Address = alone OfAddress.family OfAddressHeader.header OfAddressHeader.default_header At.Address refl
+form_of Rule = alone OfRule.family OfRuleHeader.header OfRuleHeader.default_header At.Rule refl
+form_of Neighbour =
+    form_by OfNeighbour.family OfNeighbourHeader.header OfNeighbourHeader.default_header (λ h. h.family) (of_family At.Neighbour) (λ c. refl)
+form_of Link = form_by OfLink.family OfLinkHeader.header OfLinkHeader.default_header (λ h. h.interface_family) (of_family At.Link) (λ c. refl)
+form_of Nsid = alone OfNsid.family OfNsidHeader.header OfNsidHeader.default_header At.Nsid refl
+form_of Netconf = alone OfNetconf.family OfNetconfHeader.header OfNetconfHeader.default_header At.Netconf refl
+form_of AddressLabel = alone OfAddressLabel.family OfAddressLabelHeader.header OfAddressLabelHeader.default_header At.AddressLabel refl
+form_of NeighbourTable =
+    alone OfNeighbourTable.family OfNeighbourTableHeader.header OfNeighbourTableHeader.default_header At.NeighbourTable refl
+form_of Prefix = alone OfPrefix.family OfPrefixHeader.header OfPrefixHeader.default_header At.Prefix refl
+form_of Route = record {
+  Header = RouteHeader;
+  Attribute = RouteAttribute;
+  Context = RouteContext;
+  grammar = routes;
+  family = OfRouteList.family;
+  governs = IsRouteContext;
+  one = λ h bytes c d p q. (under_route h bytes c p).alone d q;
+  nest = of_route;
+  named = λ c. refl;
+  reads = λ h bytes c (type, governs, is) (ms, list).
+      (ms, (type, governs, subst (λ (d : RouteContext). ReadsList (OfRouteList.family.reading d).Reads bytes ms) is list));
+  faulty = λ h bytes c e (type, governs, is) bad.
+      (type, governs, subst (λ (d : RouteContext). IsFaultOf (any_reading (OfRouteList.family.reading d)) bytes e) is bad);
+}
+form_of NextHop = record {
+  Header = NextHopHeader;
+  Attribute = NextHopAttribute;
+  Context = NextHopContext;
+  grammar = next_hops;
+  family = OfNextHop.family;
+  governs = IsNextHopContext;
+  one = λ h bytes c d p q. (under_next_hop h bytes c p).alone d q;
+  nest = of_next_hop;
+  named = λ c. refl;
+  reads = λ h bytes c (type, governs, is) (ms, list).
+      (ms, (type, governs, subst (λ (d : NextHopContext). ReadsList (OfNextHop.family.reading d).Reads bytes ms) is list));
+  faulty = λ h bytes c e (type, governs, is) bad.
+      (type, governs, subst (λ (d : NextHopContext). IsFaultOf (any_reading (OfNextHop.family.reading d)) bytes e) is bad);
+}
+
+-- in bytes
+abbrev pub header_size : MessageKind → ℕ
+header_size kind = (form_of kind).grammar.layout.size
+
+-- a header stands in front, and what governs the attributes behind it names their list
+pub record BeginsBy (form : Form) (bytes : List ℕ) (nest : Nest) (rest : List ℕ) : Type 0 where
+  pub header : form.Header
+  pub reads : (leading form.grammar.layout).Reads bytes header
+  pub is : rest ≡ drop form.grammar.layout.size bytes
+  pub context : form.Context
+  pub governs : form.governs header rest context
+  pub names : nest ≡ form.nest context
+
+pub begun : (form : Form) (bytes : List ℕ) (h : form.Header) (rest : List ℕ) (c : form.Context) → (leading form.grammar.layout).Reads bytes h
+    → rest ≡ drop form.grammar.layout.size bytes → form.governs h rest c → BeginsBy form bytes (form.nest c) rest
+begun form bytes h rest c reads is governs =
+    record { header = h; reads = reads; is = is; context = c; governs = governs; names = refl }
+
+abbrev pub Begins : MessageKind → List ℕ → Nest → List ℕ → Type 0
+Begins kind = BeginsBy (form_of kind)
 
 -- a message of a kind, without where it lies in memory
 abbrev pub MessageOf : MessageKind → Type 0

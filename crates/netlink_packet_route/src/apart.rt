@@ -3,15 +3,10 @@
 ghost use Rattle.std.specs.Prelude.{◌≡◌, ◌≢◌, false, IfSome, IfNone, IfOk, IfErr};
 ghost use Rattle.npr_base.specs.Framing.{number_of};
 ghost use Rattle.npr_route.specs.{Attribute.{Meaning as RouteMeaning}, AttributeFamily.{attributes as route_attributes}, FlatAttribute.{Context}};
-ghost use Rattle.netlink_packet_route.specs.{
-  Levels.{reading_at},
-  WholeLaws.{stands_apart},
-  declared.levels.Level.TheVariants.{InfoVeth, InfoNetkit},
-};
+ghost use Rattle.netlink_packet_route.specs.{CheckLaws.{IsAttributeAt}, Nests.{reading_of, stands_apart}};
 
-use crate::inside::PEER_HEADER_LEN;
-use crate::levels::Level;
-use npr_base::{AttrFamily, DecodeError, NlaBuffer};
+use crate::nests::Nest;
+use npr_base::{AttributeSet, DecodeError, NlaBuffer};
 use npr_link::InfoBond;
 use npr_scalar::RouteVia;
 use npr_tunnel::{RouteLwTunnelEncap, RouteLwTunnelOpt};
@@ -19,28 +14,20 @@ use npr_tunnel::{RouteLwTunnelEncap, RouteLwTunnelOpt};
 /// `RTA_VIA` of `linux/rtnetlink.h`.
 const RTA_VIA: u16 = 18;
 
-/// `VETH_INFO_PEER` of `linux/veth.h`.
-const VETH_INFO_PEER: u16 = 1;
-
-/// `IFLA_NETKIT_PEER_INFO` of `linux/if_link.h`.
-const IFLA_NETKIT_PEER_INFO: u16 = 1;
-
 /// Whether a value with a check of its own is well formed, or `None` for any other. It takes no memory.
 ///
 /// # Errors
 /// The value's first fault.
-pub fn check_apart(level: Level, item: &NlaBuffer<'_>) -> Option<Result<(), DecodeError>>
-    ensures other { IfNone result (stands_apart level (number_of (item.now).kind) (item.now).value ≡ false) }
-    ensures ok { IfSome result (λ r. IfOk r (λ _. (m : (reading_at level).Meaning) × (reading_at level).reading.Reads item.now m)) }
-    ensures refused { IfSome result (λ r. IfErr r (λ e. (reading_at level).reading.Faulty item.now e)) }
+pub fn check_apart(nest: Nest, item: &NlaBuffer<'_>) -> Option<Result<(), DecodeError>>
+    ensures other { IfNone result (stands_apart nest.set nest.context (number_of (item.now).kind) ≡ false) }
+    ensures ok { IfSome result (λ r. IfOk r (λ _. IsAttributeAt nest item.now)) }
+    ensures refused { IfSome result (λ r. IfErr r (λ e. (reading_of nest).reading.Faulty item.now e)) }
 {
-    match level {
-        Level::Route(_, _, _) => check_gateway(item),
-        Level::Encap(encap_type) => RouteLwTunnelEncap::check_apart(encap_type, item),
-        Level::Opt => RouteLwTunnelOpt::check_apart(item),
-        Level::InfoBond => InfoBond::check_apart(item),
-        Level::InfoVeth => check_cut_pair(item),
-        Level::InfoNetkit => check_cut_netkit(item),
+    match nest.set {
+        AttributeSet::Route => check_gateway(item),
+        AttributeSet::Encap => RouteLwTunnelEncap::check_apart(nest.context.encap_type, item),
+        AttributeSet::Opt => RouteLwTunnelOpt::check_apart(item),
+        AttributeSet::InfoBond => InfoBond::check_apart(item),
         _ => None,
     }
 }
@@ -54,37 +41,5 @@ fn check_gateway(item: &NlaBuffer<'_>) -> Option<Result<(), DecodeError>>
     if item.kind() != RTA_VIA {
         return None;
     }
-    Some(RouteVia::check_value(item.value(), AttrFamily::Route.at(RTA_VIA)))
-}
-
-/// That the other end of a pair is cut off within its header.
-fn check_cut_pair(item: &NlaBuffer<'_>) -> Option<Result<(), DecodeError>>
-    ensures other { IfNone result (stands_apart InfoVeth (number_of (item.now).kind) (item.now).value ≡ false) }
-    ensures ok { IfSome result (λ r. IfOk r (λ _. (m : (reading_at InfoVeth).Meaning) × (reading_at InfoVeth).reading.Reads item.now m)) }
-    ensures refused { IfSome result (λ r. IfErr r (λ e. (reading_at InfoVeth).reading.Faulty item.now e)) }
-{
-    let got = item.value().len();
-    if item.kind() != VETH_INFO_PEER || got >= PEER_HEADER_LEN {
-        return None;
-    }
-    Some(Err(DecodeError::HeaderTooShort {
-        got,
-        want: PEER_HEADER_LEN,
-    }))
-}
-
-/// The same of a pair that runs programs.
-fn check_cut_netkit(item: &NlaBuffer<'_>) -> Option<Result<(), DecodeError>>
-    ensures other { IfNone result (stands_apart InfoNetkit (number_of (item.now).kind) (item.now).value ≡ false) }
-    ensures ok { IfSome result (λ r. IfOk r (λ _. (m : (reading_at InfoNetkit).Meaning) × (reading_at InfoNetkit).reading.Reads item.now m)) }
-    ensures refused { IfSome result (λ r. IfErr r (λ e. (reading_at InfoNetkit).reading.Faulty item.now e)) }
-{
-    let got = item.value().len();
-    if item.kind() != IFLA_NETKIT_PEER_INFO || got >= PEER_HEADER_LEN {
-        return None;
-    }
-    Some(Err(DecodeError::HeaderTooShort {
-        got,
-        want: PEER_HEADER_LEN,
-    }))
+    Some(RouteVia::check_value(item.value(), AttributeSet::Route.at(RTA_VIA)))
 }

@@ -1,21 +1,20 @@
 //! Whether lists of attributes are well formed, and the lists and next hops in their values. Nothing
 //! takes memory but on the stack: next hops stand inside next hops.
 
-ghost use Rattle.std.specs.Prelude.{◌≡◌, ◌<◌, [], List, false, length, IfOk, IfErr, IfSome, IfNone, IsTrue};
+ghost use Rattle.std.specs.Prelude.{◌≡◌, ◌<◌, [], true, false, length, IfOk, IfErr, IfSome, IfNone, IsTrue};
 ghost use Rattle.{
-  npr_base.specs.{Framing.{number_of}, Lists.{ReadsList, FirstFault}, Value.{IsWhole}},
+  npr_base.specs.{Framing.{number_of}, Value.{Misshown, Shown, Shows}},
   npr_route.specs.Attribute.{HopFault, HopFront, HopHead},
   netlink_packet_route.specs.{
-    CheckLaws.{AreHopsAt, HopsWrongAt},
+    CheckLaws.{AreHopsAt, HopsWrongAt, IsAttributeAt, IsListAt, ListFaultAt},
     LeftLaws.{AreLeft, HopLeads, LeftLeads, LeftWrong, Pending},
-    Levels.{reading_at},
-    WholeLaws.{holds_hops},
+    Nests.{holds_hops, reading_of, stands_apart},
   },
 };
 
 use crate::apart::check_apart;
-use crate::levels::Level;
-use npr_base::{DecodeError, NlaBuffer, NlasIterator};
+use crate::nests::Nest;
+use npr_base::{At, AttributeSet, DecodeError, Form, NlaBuffer, NlasIterator, read_form};
 use npr_route::{NEXT_HOP_HEADER_SIZE, RTNH_ALIGNTO, RouteNextHopBuffer};
 use std::marker::Model;
 
@@ -23,24 +22,34 @@ use std::marker::Model;
 const RTA_MULTIPATH: u16 = 9;
 
 /// Whether a value of this number holds next hops.
-fn holds_hops(level: Level, number: u16) -> bool
-    ensures { result ≡ holds_hops level number }
+fn holds_hops(set: AttributeSet, number: u16) -> bool
+    ensures { result ≡ holds_hops set number }
 {
-    match level {
-        Level::Route(_, _, _) => number == RTA_MULTIPATH,
+    match set {
+        AttributeSet::Route => number == RTA_MULTIPATH,
         _ => false,
     }
 }
 
-/// Whether a value is read that has no reader of its own.
-fn check_value(level: Level, item: &NlaBuffer<'_>) -> Result<(), DecodeError>
-    ensures ok { IfOk result (λ _. IsWhole ((reading_at level).reading.seeing.form_at (number_of (item.now).kind)).1
-        → (m : (reading_at level).Meaning) × (reading_at level).reading.Reads item.now m) }
-    ensures refused { IfErr result (λ e. (reading_at level).reading.Faulty item.now e) }
+/// Whether a value is read in this form.
+fn check_form(form: Form, value: &[u8], at: At) -> Result<(), DecodeError>
+    ensures ok { IfOk result (λ _. (s : Shown) × Shows form value.now s) }
+    ensures refused { IfErr result (λ e. Misshown form at value.now e) }
 {
-    match level.value(item) {
+    match read_form(form, value, at) {
         Ok(_) => Ok(()),
         Err(refusal) => Err(refusal),
+    }
+}
+
+/// Whether a value that has a reader of its own, and holds no next hops, is well formed.
+fn check_reader(nest: Nest, item: &NlaBuffer<'_>) -> Result<(), DecodeError>
+    ensures ok { stands_apart nest.set nest.context (number_of (item.now).kind) ≡ true → IfOk result (λ _. IsAttributeAt nest item.now) }
+    ensures refused { stands_apart nest.set nest.context (number_of (item.now).kind) ≡ true → IfErr result (λ e. (reading_of nest).reading.Faulty item.now e) }
+{
+    match check_apart(nest, item) {
+        Some(answer) => answer,
+        None => Ok(()),
     }
 }
 
@@ -57,10 +66,10 @@ fn first_hop(hops: &[u8]) -> Result<(&[u8], &[u8]), DecodeError>
     Ok((&hops[NEXT_HOP_HEADER_SIZE..length], &hops[whole..]))
 }
 
-/// What is left of a list at a level.
+/// What is left of a list.
 #[derive(Drop)]
 struct Left<'a> {
-    level: Level,
+    nest: Nest,
     /// Next hops of the attribute in hand.
     hops: &'a [u8],
     /// The attributes behind it.
@@ -70,27 +79,27 @@ struct Left<'a> {
 impl<'a> Model for Left<'a> {
     ghost Value = { Pending };
 
-    ghost view = { λ l. record { level = l.level; hops = l.hops.now; rest = l.rest } };
+    ghost view = { λ l. record { nest = l.nest; hops = l.hops.now; rest = l.rest } };
 }
 
 impl<'a> Left<'a> {
     /// A list.
-    fn list(level: Level, bytes: &'a [u8]) -> Self
-        ensures { result ≡ record { level = level; hops = []; rest = bytes.now } }
+    fn list(nest: Nest, bytes: &'a [u8]) -> Self
+        ensures { result ≡ record { nest = nest; hops = []; rest = bytes.now } }
     {
         Left {
-            level,
+            nest,
             hops: &[],
             rest: NlasIterator::new(bytes),
         }
     }
 
     /// Next hops.
-    fn next_hops(level: Level, bytes: &'a [u8]) -> Self
-        ensures { result ≡ record { level = level; hops = bytes.now; rest = [] } }
+    fn next_hops(nest: Nest, bytes: &'a [u8]) -> Self
+        ensures { result ≡ record { nest = nest; hops = bytes.now; rest = [] } }
     {
         Left {
-            level,
+            nest,
             hops: bytes,
             rest: NlasIterator::new(&[]),
         }
@@ -108,10 +117,10 @@ impl<'a> Left<'a> {
                 return Ok(());
             };
             let item = next?;
-            if holds_hops(self.level, item.kind()) {
+            if holds_hops(self.nest.set, item.kind()) {
                 self.hops = item.value();
             } else {
-                self.level.check_attribute(&item)?;
+                self.nest.check_attribute(&item)?;
             }
         }
         Ok(())
@@ -126,7 +135,7 @@ impl<'a> Left<'a> {
     {
         let (attributes, behind) = first_hop(self.hops)?;
         self.hops = behind;
-        let mut inner = Left::list(self.level.of_next_hop(attributes), attributes);
+        let mut inner = Left::list(self.nest.of_next_hop(attributes), attributes);
         inner.reach_hops()?;
         Ok(inner)
     }
@@ -174,14 +183,14 @@ impl<'a> Left<'a> {
         }
     }
 
-    /// Puts whether all is well formed. Next hops inside next hops call it again: a level takes the
+    /// Puts whether all is well formed. Next hops inside next hops call it again: a nest takes the
     /// stack of what is left of the next one, and no more.
     #[cycle(checking)]
     fn check(&mut self, answer: &mut Result<(), DecodeError>)
         ensures ok { IfOk answer.new (λ _. AreLeft self.old) }
         ensures refused { IfErr answer.new (λ e. LeftWrong self.old e) }
     {
-        let mut inner = Left::list(self.level, &[]);
+        let mut inner = Left::list(self.nest, &[]);
         while self.goes_on(&mut inner, answer) {
             inner.check(answer);
             if answer.is_err() {
@@ -191,16 +200,16 @@ impl<'a> Left<'a> {
     }
 }
 
-impl Level {
-    /// Whether the bytes are a list of attributes at this level, and what stands in their values too.
+impl Nest {
+    /// Whether the bytes are a list of attributes of this name, and what stands in their values too.
     /// It takes no memory but on the stack, for next hops inside next hops.
     ///
     /// # Errors
     /// The first fault in reading order.
     #[cycle(checking)]
     pub fn check(self, bytes: &[u8]) -> Result<(), DecodeError>
-        ensures ok { IfOk result (λ _. (ms : List (reading_at self).Meaning) × ReadsList (reading_at self).reading.Reads bytes.now ms) }
-        ensures refused { IfErr result (λ e. FirstFault (reading_at self).reading.Reads (reading_at self).reading.Faulty bytes.now e) }
+        ensures ok { IfOk result (λ _. IsListAt self bytes.now) }
+        ensures refused { IfErr result (λ e. ListFaultAt self bytes.now e) }
     {
         let mut walk = NlasIterator::new(bytes);
         while let Some(next) = walk.next() {
@@ -210,29 +219,39 @@ impl Level {
         Ok(())
     }
 
-    /// Whether the value of an attribute at this level is well formed, and what stands in it too. It
+    /// Whether the value of an attribute of the list is well formed, and what stands in it too. It
     /// takes no memory but on the stack, for next hops inside next hops.
     ///
     /// # Errors
     /// The value's first fault in reading order.
     #[cycle(checking)]
     pub fn check_attribute(self, item: &NlaBuffer<'_>) -> Result<(), DecodeError>
-        ensures ok { IfOk result (λ _. (m : (reading_at self).Meaning) × (reading_at self).reading.Reads item.now m) }
-        ensures refused { IfErr result (λ e. (reading_at self).reading.Faulty item.now e) }
+        ensures ok { IfOk result (λ _. IsAttributeAt self item.now) }
+        ensures refused { IfErr result (λ e. (reading_of self).reading.Faulty item.now e) }
     {
-        if let Some(answer) = check_apart(self, item) {
-            return answer;
-        }
-        if holds_hops(self, item.kind()) {
-            return self.check_hops(item.value());
-        }
-        match self.inside(item.kind(), item.value()) {
-            Some((level, inside)) => level.check(inside),
-            None => check_value(self, item),
+        let (at, form) = self.form(item.kind());
+        let value = item.value();
+        match form {
+            Form::List(set, front) => {
+                if value.len() < front {
+                    return Err(DecodeError::HeaderTooShort {
+                        got: value.len(),
+                        want: front,
+                    });
+                }
+                self.context.inner(set, value).check(&value[front..])
+            }
+            Form::Inside => {
+                if holds_hops(self.set, item.kind()) {
+                    return self.check_hops(value);
+                }
+                check_reader(self, item)
+            }
+            _ => check_form(form, value, at),
         }
     }
 
-    /// Whether the bytes are next hops, one after the other, in a list at this level.
+    /// Whether the bytes are next hops, one after the other, in this list.
     #[cycle(checking)]
     fn check_hops(self, bytes: &[u8]) -> Result<(), DecodeError>
         ensures ok { IfOk result (λ _. AreHopsAt self bytes.now) }

@@ -1,9 +1,9 @@
 //! The laws of messages, over their definitions alone. Each function does nothing, and
 //! its contract is the law.
 
-ghost use Rattle.std.specs.{Prelude.{◌≡◌}, List.{Contains}};
+ghost use Rattle.std.specs.{Prelude.{◌≡◌, ℕ, List as Bytes}, List.{Contains}};
 ghost use Rattle.{
-  npr_base.specs.{Equality.{IsEquality, IsEqualityOf}, Walk.{CutsInTwo}, declared.address_family.AddressFamily.{AddressFamily}},
+  npr_base.specs.{Equality.{IsEquality, IsEqualityOf}, Opening.{Opens}, Walk.{CutsInTwo}, declared.address_family.AddressFamily.{AddressFamily}},
   npr_address.specs.Attribute.{attributes as address_attributes},
   npr_link.specs.Attribute.{attributes as link_attributes},
   npr_neighbour.specs.Attribute.{attributes as neighbour_attributes},
@@ -18,7 +18,12 @@ ghost use Rattle.{
     PrefixAttribute.{attributes as prefix_attributes},
   },
   netlink_packet_core.specs.Message.{message_of},
-  netlink_packet_route.specs.{MessageKind.{kind_name}, RouteNetlinkMessage.{meaning_of, other_of}},
+  netlink_packet_route.specs.{
+    MessageKind.{kind_name},
+    Nests.{IsInside, reading_of},
+    RouteNetlinkMessage.{meaning_of, other_of},
+    declared.nests.Nest.{Nest as Named},
+  },
 };
 
 use crate::canonical_bytes::CanonicalError;
@@ -58,6 +63,7 @@ pub use npr_link::laws::law_equality as law_link_value_equality;
 pub use npr_link::laws::law_equality_of_meanings as law_link_equality;
 pub use npr_link::laws::law_flags as law_link_value_flags;
 pub use npr_link::laws::law_governing as law_link_governing;
+pub use npr_link::laws::law_kinds as law_link_kinds;
 pub use npr_link::laws::law_link_flags;
 pub use npr_link::laws::law_netkit_policies;
 pub use npr_link::laws::law_numbers as law_link_numbers;
@@ -189,3 +195,9 @@ pub fn law_rtnetlink_equality()
     law_next_hop_equality();
     law_message_equality::<RouteNetlinkMessage>();
 }
+
+/// A list that stands in a value is read exactly where the attribute is, and its first fault is that of the
+/// attribute: whatever names it, and at every depth.
+pub fn law_inside()
+    ensures { (outer inner : Named) (number : ℕ) (value inside : Bytes ℕ) (is : IsInside outer number value inner inside) → Opens (reading_of outer).reading (reading_of inner).reading number is.front value }
+{}

@@ -7,7 +7,7 @@ ghost use Rattle.{
 };
 
 use crate::kind::MessageKind;
-use crate::levels::Level;
+use crate::nests::Nest;
 use npr_base::DecodeError;
 
 /// Whether the bytes are a message of this kind. It takes no memory but on the stack, for next hops
@@ -19,6 +19,6 @@ pub fn validate(kind: MessageKind, bytes: &[u8]) -> Result<(), DecodeError>
     ensures ok { IfOk result (λ _. (m : MessageOf kind) × IsMessage (form_of kind).grammar bytes.now m) }
     ensures refused { IfErr result (λ e. MessageFault (form_of kind).grammar bytes.now e) }
 {
-    let (level, attributes) = Level::begin(kind, bytes)?;
-    level.check(attributes)
+    let (nest, attributes) = Nest::begin(kind, bytes)?;
+    nest.check(attributes)
 }

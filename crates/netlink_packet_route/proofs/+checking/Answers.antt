@@ -1,36 +1,40 @@
-use Rattle.std.proofs.Common.{◌≡◌, ℕ, ◌<◌, [], length, true, false, refl, sym, subst, ◌∙◌, arith}
+use Rattle.std.proofs.Common.{◌≡◌, ℕ, ◌<◌, ◌≤◌, List, [], length, drop, true, false, ap, refl, sym, subst, ◌∙◌, arith}
 use Rattle.std.specs.Prelude.{Option, Some, None, IfNone, Result, Ok, Err, IfOk, is_err}
 use Rattle.std.proofs.lemmas.Bool.Decides.{nat_tests}
 use Rattle.std.proofs.lemmas.List.{nil_from_length}
 use Rattle.std.proofs.lemmas.Result.{err_from_is_err_and, IfOk-weaker, IfErr-weaker}
 use Rattle.npr_base.specs.Framing.{Front, Fault, number_of}
-use Rattle.netlink_packet_route.specs.CheckLaws.{list-stops, list-wrong, list-more, hops-read, hops-faulty, inside-read}
-use Rattle.netlink_packet_route.specs.LeftLaws.{Pending, AreLeft, LeftWrong, LeftLeads, HopLeads, left-all, left-on, left-through, hop-reached}
+use Rattle.npr_base.specs.declared.refusal.At.{At}
+use Rattle.npr_base.specs.declared.refusal.DecodeError.TheVariants.{HeaderTooShort}
+use Rattle.npr_base.specs.declared.value.Form.{Form}
+use Rattle.npr_base.specs.declared.value.Form.TheVariants.{List as Listed, Inside}
+use Rattle.netlink_packet_route.proofs.ValueReading.{behind, form-whole, list-cut, list-faulty, list-read, reader-apart, told-read, told-wrong}
+use Rattle.netlink_packet_route.specs.CheckLaws.{IsListAt, ListFaultAt, list-stops, list-wrong, list-more, hops-read, hops-faulty}
+use Rattle.netlink_packet_route.specs.LeftLaws.{Pending, AreLeft, LeftWrong, LeftLeads, HopLeads, left-all, left-on, left-through, hop-on, hop-reached}
 use Rattle.netlink_packet_route.specs.LeftLaws.{hops-wrong-alone, left-ends, left-stops, left-wrong, left-more, left-taken, hop-stops, hop-leads}
-use Rattle.netlink_packet_route.specs.Levels.{IsInside, holds_list}
-use Rattle.netlink_packet_route.specs.WholeLaws.{holds_hops, stands_apart, seen-whole}
+use Rattle.netlink_packet_route.specs.Nests.{Inner, holds_hops, reading_of}
 use Rattle.netlink_packet_route.proofs.+checking.Goals as goal
 
 -- ---- lists
 
-pub levels::Level::check-returns-in_err-item-clause-refused : goal.levels::Level::check-returns-in_err-item-clause-refused
-levels::Level::check-returns-in_err-item-clause-refused t c =
+pub nests::Nest::check-returns-in_err-item-clause-refused : goal.nests::Nest::check-returns-in_err-item-clause-refused
+nests::Nest::check-returns-in_err-item-clause-refused t c =
     let p = err_from_is_err_and c.from_residual.result c.from_residual.ensures.1 in
     let e = c.in_err-item.field-0.0 in
     let walk = c.loop-next.walk in
     let step : (0 < length walk) × Fault walk e × (c.next.new.self ≡ []) = rw c.in_err-item.was at c.in-Some.ensures.steps in
     rw (p.1, p.2) (c.loop-next.invariant.faulty e (list-stops c.args.self walk e step.0 step.1))
 
-pub levels::Level::check-loop-next-preserved : goal.levels::Level::check-loop-next-preserved
-levels::Level::check-loop-next-preserved t c =
+pub nests::Nest::check-loop-next-preserved : goal.nests::Nest::check-loop-next-preserved
+nests::Nest::check-loop-next-preserved t c =
     let item = c.in_ok-item.item in
     let walk = c.loop-next.walk in
     let rest = c.next.new.self in
     let front : Front walk item rest = rw c.in_ok-item.was at c.in-Some.ensures.steps in
     list-more c.args.self c.args.bytes.now walk rest item c.loop-next.invariant front c.in_ok-check_attribute.ensures.ok
 
-pub levels::Level::check-returns-in_err-check_attribute-clause-refused : goal.levels::Level::check-returns-in_err-check_attribute-clause-refused
-levels::Level::check-returns-in_err-check_attribute-clause-refused t c =
+pub nests::Nest::check-returns-in_err-check_attribute-clause-refused : goal.nests::Nest::check-returns-in_err-check_attribute-clause-refused
+nests::Nest::check-returns-in_err-check_attribute-clause-refused t c =
     let p = err_from_is_err_and c.from_residual-in_err-check_attribute.result c.from_residual-in_err-check_attribute.ensures.1 in
     let e = c.in_err-check_attribute.field-0.0 in
     let item = c.in_ok-item.item in
@@ -41,46 +45,100 @@ levels::Level::check-returns-in_err-check_attribute-clause-refused t c =
 
 -- ---- attributes
 
-unless_some : {X : Type 0} (o : Option X) {P : Type 0} → ((x : X) → o ≡ Some x → ⊥) → IfNone o P → P
-unless_some None not_some p = p
-unless_some (Some x) not_some p = absurd (not_some x refl)
-
-pub levels::Level::check_attribute-returns-then-holds_hops-clause-ok : goal.levels::Level::check_attribute-returns-then-holds_hops-clause-ok
-levels::Level::check_attribute-returns-then-holds_hops-clause-ok t c =
+pub nests::Nest::check_attribute-returns-then-value-front-clause-refused : goal.nests::Nest::check_attribute-returns-then-value-front-clause-refused
+nests::Nest::check_attribute-returns-then-value-front-clause-refused t c =
     let self = c.args.self in
     let item = c.args.item.now in
-    let nine = subst (λ (k : ℕ). holds_hops self k ≡ true) c.kind.ensures (sym c.holds_hops.ensures ∙ c.if-holds_hops.true) in
-    IfOk-weaker c.check_hops.result _ _ (λ u are. hops-read self item nine are) (rw c.value.ensures at c.check_hops.ensures.ok)
+    let set = c.in-List.set in
+    let front = c.in-List.front in
+    let form = subst (λ (k : ℕ). ((reading_of self).reading.seeing.form_at k).1 ≡ Listed set front) c.kind.ensures
+    (sym (ap (λ (f : At × Form). f.1) c.form-form.ensures) ∙ c.in-List.is) in
+    let same = c.value-value.ensures in
+    let short : length item.value < front = subst (λ (v : List ℕ). length v < front) same c.if-value-front.true in
+    subst (λ (v : List ℕ). (reading_of self).reading.Faulty item (HeaderTooShort (length v) front)) (sym same) (list-cut self item set front form short)
 
-pub levels::Level::check_attribute-returns-then-holds_hops-clause-refused : goal.levels::Level::check_attribute-returns-then-holds_hops-clause-refused
-levels::Level::check_attribute-returns-then-holds_hops-clause-refused t c =
+pub nests::Nest::check_attribute-returns-else-value-front-clause-ok : goal.nests::Nest::check_attribute-returns-else-value-front-clause-ok
+nests::Nest::check_attribute-returns-else-value-front-clause-ok t c =
     let self = c.args.self in
     let item = c.args.item.now in
-    let nine = subst (λ (k : ℕ). holds_hops self k ≡ true) c.kind.ensures (sym c.holds_hops.ensures ∙ c.if-holds_hops.true) in
-    IfErr-weaker c.check_hops.result _ _ (λ e bad. hops-faulty self item e nine bad) (rw c.value.ensures at c.check_hops.ensures.refused)
+    let set = c.in-List.set in
+    let front = c.in-List.front in
+    let form = subst (λ (k : ℕ). ((reading_of self).reading.seeing.form_at k).1 ≡ Listed set front) c.kind.ensures
+    (sym (ap (λ (f : At × Form). f.1) c.form-form.ensures) ∙ c.in-List.is) in
+    let same = c.value-value.ensures in
+    let long = subst (λ (v : List ℕ). front ≤ length v) same (omega (arith, c.if-value-front.false)) in
+    let named = subst (λ (v : List ℕ). Inner self.context set v c.inner.result) same c.inner.ensures in
+    let rest = behind front c.value-value.result.now ∙ ap (drop front) same in
+    IfOk-weaker c.check.result _ _
+    (λ u list. list-read self item set front form c.inner.result named long (subst (λ (b : List ℕ). IsListAt c.inner.result b) rest list))
+    c.check.ensures.ok
 
-pub levels::Level::check_attribute-returns-in-Some-inside-clause-ok : goal.levels::Level::check_attribute-returns-in-Some-inside-clause-ok
-levels::Level::check_attribute-returns-in-Some-inside-clause-ok t c =
+pub nests::Nest::check_attribute-returns-else-value-front-clause-refused : goal.nests::Nest::check_attribute-returns-else-value-front-clause-refused
+nests::Nest::check_attribute-returns-else-value-front-clause-refused t c =
     let self = c.args.self in
     let item = c.args.item.now in
-    let found = c.in-Some-inside in
-    let stands : IsInside self (number_of item.kind) item.value found.level found.inside.now =
-    rw (c.kind-2.ensures, c.value-2.ensures) at found.ensures.opens in
-    IfOk-weaker c.check.result _ _ (λ u list. inside-read self found.level item found.inside.now stands list) c.check.ensures.ok
+    let set = c.in-List.set in
+    let front = c.in-List.front in
+    let form = subst (λ (k : ℕ). ((reading_of self).reading.seeing.form_at k).1 ≡ Listed set front) c.kind.ensures
+    (sym (ap (λ (f : At × Form). f.1) c.form-form.ensures) ∙ c.in-List.is) in
+    let same = c.value-value.ensures in
+    let long = subst (λ (v : List ℕ). front ≤ length v) same (omega (arith, c.if-value-front.false)) in
+    let named = subst (λ (v : List ℕ). Inner self.context set v c.inner.result) same c.inner.ensures in
+    let rest = behind front c.value-value.result.now ∙ ap (drop front) same in
+    IfErr-weaker c.check.result _ _
+    (λ e bad. list-faulty self item set front form c.inner.result e named long (subst (λ (b : List ℕ). ListFaultAt c.inner.result b e) rest bad))
+    c.check.ensures.refused
 
-pub levels::Level::check_attribute-returns-in-None-clause-ok : goal.levels::Level::check_attribute-returns-in-None-clause-ok
-levels::Level::check_attribute-returns-in-None-clause-ok t c =
+pub nests::Nest::check_attribute-returns-then-holds_hops-clause-ok : goal.nests::Nest::check_attribute-returns-then-holds_hops-clause-ok
+nests::Nest::check_attribute-returns-then-holds_hops-clause-ok t c =
     let self = c.args.self in
     let item = c.args.item.now in
-    let apart : stands_apart self (number_of item.kind) item.value ≡ false =
-    unless_some c.check_apart.result (λ x e. c.in_default.not-Some x e) c.check_apart.ensures.other in
-    let hops : holds_hops self (number_of item.kind) ≡ false =
-    subst (λ (k : ℕ). holds_hops self k ≡ false) c.kind.ensures (sym c.holds_hops.ensures ∙ c.if-holds_hops.false) in
-    let lists : holds_list self (number_of item.kind) item.value ≡ false = rw (c.kind-2.ensures, c.value-2.ensures) at (c.in-None.ensures.none refl) in
-    IfOk-weaker c.check_value.result _ _ (λ u read. read (seen-whole self (number_of item.kind) item.value apart hops lists)) c.check_value.ensures.ok
+    let nine = subst (λ (k : ℕ). holds_hops self.set k ≡ true) c.kind-in-Inside.ensures (sym c.holds_hops.ensures ∙ c.if-holds_hops.true) in
+    IfOk-weaker c.check_hops.result _ _ (λ u are. hops-read self.set self.context item nine are) (rw c.value-value.ensures at c.check_hops.ensures.ok)
 
-pub levels::Level::check_hops-returns-clause-refused : goal.levels::Level::check_hops-returns-clause-refused
-levels::Level::check_hops-returns-clause-refused t c =
+pub nests::Nest::check_attribute-returns-then-holds_hops-clause-refused : goal.nests::Nest::check_attribute-returns-then-holds_hops-clause-refused
+nests::Nest::check_attribute-returns-then-holds_hops-clause-refused t c =
+    let self = c.args.self in
+    let item = c.args.item.now in
+    let nine = subst (λ (k : ℕ). holds_hops self.set k ≡ true) c.kind-in-Inside.ensures (sym c.holds_hops.ensures ∙ c.if-holds_hops.true) in
+    IfErr-weaker c.check_hops.result _ _ (λ e bad. hops-faulty self.set self.context item e nine bad)
+    (rw c.value-value.ensures at c.check_hops.ensures.refused)
+
+pub nests::Nest::check_attribute-returns-else-holds_hops-clause-ok : goal.nests::Nest::check_attribute-returns-else-holds_hops-clause-ok
+nests::Nest::check_attribute-returns-else-holds_hops-clause-ok t c =
+    let self = c.args.self in
+    let item = c.args.item.now in
+    let form = subst (λ (k : ℕ). ((reading_of self).reading.seeing.form_at k).1 ≡ Inside) c.kind.ensures
+    (sym (ap (λ (f : At × Form). f.1) c.form-form.ensures) ∙ c.in-Inside.is) in
+    let other = subst (λ (k : ℕ). holds_hops self.set k ≡ false) c.kind-in-Inside.ensures (sym c.holds_hops.ensures ∙ c.if-holds_hops.false) in
+    c.check_reader.ensures.ok (reader-apart self item form other)
+
+pub nests::Nest::check_attribute-returns-else-holds_hops-clause-refused : goal.nests::Nest::check_attribute-returns-else-holds_hops-clause-refused
+nests::Nest::check_attribute-returns-else-holds_hops-clause-refused t c =
+    let self = c.args.self in
+    let item = c.args.item.now in
+    let form = subst (λ (k : ℕ). ((reading_of self).reading.seeing.form_at k).1 ≡ Inside) c.kind.ensures
+    (sym (ap (λ (f : At × Form). f.1) c.form-form.ensures) ∙ c.in-Inside.is) in
+    let other = subst (λ (k : ℕ). holds_hops self.set k ≡ false) c.kind-in-Inside.ensures (sym c.holds_hops.ensures ∙ c.if-holds_hops.false) in
+    c.check_reader.ensures.refused (reader-apart self item form other)
+
+pub nests::Nest::check_attribute-returns-in_default : goal.nests::Nest::check_attribute-returns-in_default
+nests::Nest::check_attribute-returns-in_default t c =
+    let self = c.args.self in
+    let item = c.args.item.now in
+    let p = c.form-form.result in
+    let whole = form-whole p.1 c.in_default.not-List c.in_default.not-Inside in
+    let k = c.kind.result in
+    let v = c.value-value.result.now in
+    record {
+      ok = IfOk-weaker c.check_form.result _ _
+          (λ u shown. told-read self item p k v c.form-form.ensures c.kind.ensures c.value-value.ensures whole shown) c.check_form.ensures.ok;
+      refused = IfErr-weaker c.check_form.result _ _
+          (λ e bad. told-wrong self item p k v c.form-form.ensures c.kind.ensures c.value-value.ensures e bad) c.check_form.ensures.refused;
+    }
+
+pub nests::Nest::check_hops-returns-clause-refused : goal.nests::Nest::check_hops-returns-clause-refused
+nests::Nest::check_hops-returns-clause-refused t c =
     let self = c.args.self in
     let bytes = c.args.bytes.now in
     IfErr-weaker c.check.new.answer _ _ (λ e bad. hops-wrong-alone self bytes e bad) (rw c.next_hops-left.ensures at c.check.ensures.refused)
@@ -89,13 +147,13 @@ levels::Level::check_hops-returns-clause-refused t c =
 
 pub checking::Left::reach_hops-loop-self-init : goal.checking::Left::reach_hops-loop-self-init
 checking::Left::reach_hops-loop-self-init t c =
-    let here : Pending = record { level = c.self.inside.level; hops = c.self.inside.hops.now; rest = c.self.inside.rest } in
+    let here : Pending = record { nest = c.self.inside.nest; hops = c.self.inside.hops.now; rest = c.self.inside.rest } in
     subst (λ (q : Pending). LeftLeads q here) c.self.view_is (left-all here)
 
 pub checking::Left::reach_hops-returns-in_default-clause-end : goal.checking::Left::reach_hops-returns-in_default-clause-end
 checking::Left::reach_hops-returns-in_default-clause-end t c =
     let here = c.loop-self.self-inside in
-    λ none. left-ends here.level here.hops.now c.next.new.self none c.in_default.ensures.steps.1
+    λ none. left-ends here.nest here.hops.now c.next.new.self none c.in_default.ensures.steps.1
 
 pub checking::Left::reach_hops-returns-in_err-item-clause-refused : goal.checking::Left::reach_hops-returns-in_err-item-clause-refused
 checking::Left::reach_hops-returns-in_err-item-clause-refused t c =
@@ -104,7 +162,7 @@ checking::Left::reach_hops-returns-in_err-item-clause-refused t c =
     let here = c.loop-self.self-inside in
     let none : here.hops.now ≡ [] = nil_from_length here.hops.now (grind (arith, nat_tests)) in
     let step : (0 < length here.rest) × Fault here.rest e × (c.next.new.self ≡ []) = rw c.in_err-item.was at c.in-Some.ensures.steps in
-    rw (p.1, p.2) (c.loop-self.invariant.wrong e (left-stops here.level here.hops.now here.rest none e step.0 step.1))
+    rw (p.1, p.2) (c.loop-self.invariant.wrong e (left-stops here.nest here.hops.now here.rest none e step.0 step.1))
 
 pub checking::Left::reach_hops-loop-self-preserved-then-holds_hops : goal.checking::Left::reach_hops-loop-self-preserved-then-holds_hops
 checking::Left::reach_hops-loop-self-preserved-then-holds_hops t c =
@@ -113,10 +171,10 @@ checking::Left::reach_hops-loop-self-preserved-then-holds_hops t c =
     let here = c.loop-self.self-inside in
     let none : here.hops.now ≡ [] = nil_from_length here.hops.now (grind (arith, nat_tests)) in
     let front : Front here.rest item rest = rw c.in_ok-item.was at c.in-Some.ensures.steps in
-    let all : Pending = record { level = here.level; hops = here.hops.now; rest = here.rest } in
-    let nine = subst (λ (k : ℕ). holds_hops here.level k ≡ true) c.kind.ensures (sym c.holds_hops.ensures ∙ c.if-holds_hops.true) in
-    let taken = left-taken here.level here.hops.now here.rest none item rest front nine in
-    let more : Pending = record { level = here.level; hops = item.value; rest = rest } in
+    let all : Pending = record { nest = here.nest; hops = here.hops.now; rest = here.rest } in
+    let nine = subst (λ (k : ℕ). holds_hops here.nest.set k ≡ true) c.kind.ensures (sym c.holds_hops.ensures ∙ c.if-holds_hops.true) in
+    let taken = left-taken here.nest here.hops.now here.rest none item rest front nine in
+    let more : Pending = record { nest = here.nest; hops = item.value; rest = rest } in
     rw c.value-self-inside.ensures (left-through c.args.self.now all more c.loop-self.invariant taken)
 
 pub checking::Left::reach_hops-loop-self-preserved : goal.checking::Left::reach_hops-loop-self-preserved
@@ -126,10 +184,10 @@ checking::Left::reach_hops-loop-self-preserved t c =
     let here = c.loop-self.self-inside in
     let none : here.hops.now ≡ [] = nil_from_length here.hops.now (grind (arith, nat_tests)) in
     let front : Front here.rest item rest = rw c.in_ok-item.was at c.in-Some.ensures.steps in
-    let all : Pending = record { level = here.level; hops = here.hops.now; rest = here.rest } in
-    let more : Pending = record { level = here.level; hops = here.hops.now; rest = rest } in
+    let all : Pending = record { nest = here.nest; hops = here.hops.now; rest = here.rest } in
+    let more : Pending = record { nest = here.nest; hops = here.hops.now; rest = rest } in
     left-through c.args.self.now all more c.loop-self.invariant
-    (left-more here.level here.hops.now here.rest none item rest front c.in_ok-check_attribute.ensures.ok)
+    (left-more here.nest here.hops.now here.rest none item rest front c.in_ok-check_attribute.ensures.ok)
 
 pub checking::Left::reach_hops-returns-in_err-check_attribute-clause-refused :
     goal.checking::Left::reach_hops-returns-in_err-check_attribute-clause-refused
@@ -142,7 +200,7 @@ checking::Left::reach_hops-returns-in_err-check_attribute-clause-refused t c =
     let none : here.hops.now ≡ [] = nil_from_length here.hops.now (grind (arith, nat_tests)) in
     let front : Front here.rest item rest = rw c.in_ok-item.was at c.in-Some.ensures.steps in
     let bad = c.in_err-check_attribute.ensures.refused in
-    rw (p.1, p.2) (c.loop-self.invariant.wrong e (left-wrong here.level here.hops.now here.rest none item rest front e bad))
+    rw (p.1, p.2) (c.loop-self.invariant.wrong e (left-wrong here.nest here.hops.now here.rest none item rest front e bad))
 
 pub checking::Left::enter_hop-returns-in_err-attributes-clause-refused : goal.checking::Left::enter_hop-returns-in_err-attributes-clause-refused
 checking::Left::enter_hop-returns-in_err-attributes-clause-refused t c =
@@ -150,7 +208,7 @@ checking::Left::enter_hop-returns-in_err-attributes-clause-refused t c =
     let e = c.in_err-attributes.field-0.0 in
     let here = c.self.inside in
     let bad = c.in_err-attributes.ensures.refused in
-    rw (p.1, p.2) (subst (λ (q : Pending). 0 < length q.hops → LeftWrong q e) c.self.view_is (λ left. hop-stops here.level here.hops.now here.rest e left bad))
+    rw (p.1, p.2) (subst (λ (q : Pending). 0 < length q.hops → LeftWrong q e) c.self.view_is (λ left. hop-stops here.nest here.hops.now here.rest e left bad))
 
 pub checking::Left::enter_hop-returns-in_err-reach_hops-clause-refused : goal.checking::Left::enter_hop-returns-in_err-reach_hops-clause-refused
 checking::Left::enter_hop-returns-in_err-reach_hops-clause-refused t c =
@@ -159,7 +217,7 @@ checking::Left::enter_hop-returns-in_err-reach_hops-clause-refused t c =
     let here = c.self.inside in
     let found = c.in_ok-attributes in
     let (h, front) = found.ensures.ok in
-    let step = hop-leads here.level here.hops.now here.rest h found.attributes.now found.behind.now c.of_next_hop.result front c.of_next_hop.ensures.level in
+    let step = hop-leads here.nest here.hops.now here.rest h found.attributes.now found.behind.now c.of_next_hop.result front c.of_next_hop.ensures.nest in
     let bad = subst (λ (q : Pending). LeftWrong q e) c.list-inner.ensures c.in_err-reach_hops.ensures.refused in
     rw (p.1, p.2) (subst (λ (q : Pending). 0 < length q.hops → LeftWrong q e) c.self.view_is (λ left. step.wrong e bad))
 
@@ -168,10 +226,10 @@ checking::Left::enter_hop-returns-clause-hop t c =
     let here = c.self.inside in
     let found = c.in_ok-attributes in
     let (h, front) = found.ensures.ok in
-    let all : Pending = record { level = here.level; hops = here.hops.now; rest = here.rest } in
-    let behind : Pending = record { level = here.level; hops = found.behind.now; rest = here.rest } in
-    let first : Pending = record { level = c.of_next_hop.result; hops = []; rest = found.attributes.now } in
-    let step = hop-leads here.level here.hops.now here.rest h found.attributes.now found.behind.now c.of_next_hop.result front c.of_next_hop.ensures.level in
+    let all : Pending = record { nest = here.nest; hops = here.hops.now; rest = here.rest } in
+    let behind : Pending = record { nest = here.nest; hops = found.behind.now; rest = here.rest } in
+    let first : Pending = record { nest = c.of_next_hop.result; hops = []; rest = found.attributes.now } in
+    let step = hop-leads here.nest here.hops.now here.rest h found.attributes.now found.behind.now c.of_next_hop.result front c.of_next_hop.ensures.nest in
     let reached = c.reach_hops.new.self in
     let past : LeftLeads first reached = subst (λ (q : Pending). LeftLeads q reached) c.list-inner.ensures c.in_ok-reach_hops.ensures.ok in
     subst (λ (q : Pending). HopLeads q behind reached) c.self.view_is (hop-reached all behind first reached step past)
@@ -183,6 +241,10 @@ checking::Left::next_nest-returns-in_err-inner-clause-refused t c =
     let some : 0 < length c.self.inside.hops.now = grind (arith, nat_tests) in
     let left = subst (λ (q : Pending). 0 < length q.hops) c.self.view_is some in
     rw (p.1, p.2) (c.loop-self.invariant.leads.wrong e (c.in_err-inner.ensures.refused left))
+
+pub checking::Left::next_nest-returns-then-not-is_empty-clause-hop : goal.checking::Left::next_nest-returns-then-not-is_empty-clause-hop
+checking::Left::next_nest-returns-then-not-is_empty-clause-hop t c =
+    hop-on c.args.self.now c.loop-self.self c.enter_hop.new.self c.in_ok-inner.inner c.loop-self.invariant.leads c.in_ok-inner.ensures.hop
 
 pub checking::Left::next_nest-loop-self-preserved : goal.checking::Left::next_nest-loop-self-preserved
 checking::Left::next_nest-loop-self-preserved t c =

@@ -5,17 +5,17 @@ use Rattle.netlink_packet_route.proofs.+checking.Given as goal
 
 -- ---- lists and attributes
 
-abbrev pub decreases-levels::Level::check : goal.decreases-levels::Level::check
-decreases-levels::Level::check l = 8 * length l.bytes.now + 7
+abbrev pub decreases-nests::Nest::check : goal.decreases-nests::Nest::check
+decreases-nests::Nest::check l = 8 * length l.bytes.now + 7
 
-abbrev pub decreases-levels::Level::check_attribute : goal.decreases-levels::Level::check_attribute
-decreases-levels::Level::check_attribute l = 8 * length l.item.now.value + 8
+abbrev pub decreases-nests::Nest::check_attribute : goal.decreases-nests::Nest::check_attribute
+decreases-nests::Nest::check_attribute l = 8 * length l.item.now.value + 8
 
-abbrev pub decreases-levels::Level::check_hops : goal.decreases-levels::Level::check_hops
-decreases-levels::Level::check_hops l = 8 * length l.bytes.now + 6
+abbrev pub decreases-nests::Nest::check_hops : goal.decreases-nests::Nest::check_hops
+decreases-nests::Nest::check_hops l = 8 * length l.bytes.now + 6
 
-abbrev pub invariant-levels::Level::check-loop-next : goal.invariant-levels::Level::check-loop-next
-invariant-levels::Level::check-loop-next l = Leads (IsListAt l.self) (ListFaultAt l.self) l.bytes l.walk
+abbrev pub invariant-nests::Nest::check-loop-next : goal.invariant-nests::Nest::check-loop-next
+invariant-nests::Nest::check-loop-next l = Leads (IsListAt l.self) (ListFaultAt l.self) l.bytes l.walk
 
 -- ---- next hops
 
@@ -51,7 +51,7 @@ decreases-checking::Left::next_nest-loop-self l = size_of l.self
 
 abbrev pub invariant-checking::Left::reach_hops-loop-self : goal.invariant-checking::Left::reach_hops-loop-self
 invariant-checking::Left::reach_hops-loop-self l =
-    LeftLeads l.fn.self (record { level = l.self-inside.level; hops = l.self-inside.hops.now; rest = l.self-inside.rest })
+    LeftLeads l.fn.self (record { nest = l.self-inside.nest; hops = l.self-inside.hops.now; rest = l.self-inside.rest })
 
 abbrev pub decreases-checking::Left::reach_hops-loop-self : goal.decreases-checking::Left::reach_hops-loop-self
 decreases-checking::Left::reach_hops-loop-self l = length l.self-inside.rest

@@ -1,0 +1,127 @@
+//! What the numbers of attributes rest on, outside of their list.
+
+ghost use Rattle.std.specs.Prelude.{◌≡◌};
+ghost use Rattle.netlink_packet_route.specs.Nests.{Inner, context_for, encap_set, listed};
+
+use crate::nests::Nest;
+use npr_base::{AddressFamily, AttributeSet, Looks};
+use npr_link::{InfoForm, InfoPortForm, governing_forms};
+use npr_scalar::RouteType;
+use npr_tunnel::RouteLwEnCapType;
+
+/// What the numbers of attributes rest on, outside of their list. Each set rests on some of it, and most
+/// on nothing.
+#[derive(Debug, Clone, Copy, PartialEq, Eq)]
+pub struct Context {
+    /// The family of the message's header.
+    pub family: AddressFamily,
+    /// The type of the route.
+    pub route_type: RouteType,
+    /// The type that governs an encapsulation.
+    pub encap_type: RouteLwEnCapType,
+    /// What governs the data of a link.
+    pub link: InfoForm,
+    /// What governs the data of a port.
+    pub port: InfoPortForm,
+}
+
+impl Context {
+    /// That of a set which rests on nothing.
+    pub const NONE: Context = Context {
+        family: AddressFamily::Unspec,
+        route_type: RouteType::Unspec,
+        encap_type: RouteLwEnCapType::None,
+        link: InfoForm::Kept,
+        port: InfoPortForm::Kept,
+    };
+
+    /// What the attributes of this set rest on, and no more.
+    pub fn for_set(self, set: AttributeSet) -> Context
+        ensures { result ≡ context_for set self }
+    {
+        match set {
+            AttributeSet::Route => Context {
+                link: InfoForm::Kept,
+                port: InfoPortForm::Kept,
+                ..self
+            },
+            AttributeSet::NextHop => Context {
+                family: self.family,
+                encap_type: self.encap_type,
+                ..Context::NONE
+            },
+            AttributeSet::Neighbour | AttributeSet::Link => Context {
+                family: self.family,
+                ..Context::NONE
+            },
+            AttributeSet::Encap => Context {
+                encap_type: self.encap_type,
+                ..Context::NONE
+            },
+            AttributeSet::LinkInfo => Context {
+                link: self.link,
+                port: self.port,
+                ..Context::NONE
+            },
+            AttributeSet::InfoIpTunnel => Context {
+                link: self.link,
+                ..Context::NONE
+            },
+            _ => Context::NONE,
+        }
+    }
+
+    /// What names a list of this set in a value: what a driver says is under the kinds that it tells.
+    pub(crate) fn inner(self, set: AttributeSet, value: &[u8]) -> Nest
+        ensures { Inner self set value.now result }
+    {
+        match set {
+            AttributeSet::LinkInfo => {
+                let (link, port) = governing_forms(value, &mut Looks::new());
+                let context = Context {
+                    link,
+                    port,
+                    ..Context::NONE
+                };
+                Nest { set, context }
+            }
+            _ => Nest::new(set, self),
+        }
+    }
+}
+
+/// What a set without a list of its own stands for in a value: what an encapsulation of its type holds.
+pub(crate) fn listed(set: AttributeSet) -> AttributeSet
+    ensures { result ≡ listed set }
+{
+    match set {
+        AttributeSet::Value
+        | AttributeSet::Mpls
+        | AttributeSet::Ip
+        | AttributeSet::Ip6
+        | AttributeSet::Xfrm
+        | AttributeSet::Geneve
+        | AttributeSet::Seg6
+        | AttributeSet::Seg6Local
+        | AttributeSet::Rpl
+        | AttributeSet::Ioam6 => AttributeSet::Encap,
+        _ => set,
+    }
+}
+
+/// The set of the members of an encapsulation of this type.
+pub(crate) fn encap_set(encap_type: RouteLwEnCapType) -> AttributeSet
+    ensures { result ≡ encap_set encap_type }
+{
+    match encap_type {
+        RouteLwEnCapType::Mpls => AttributeSet::Mpls,
+        RouteLwEnCapType::Ip => AttributeSet::Ip,
+        RouteLwEnCapType::Ip6 => AttributeSet::Ip6,
+        RouteLwEnCapType::Xfrm => AttributeSet::Xfrm,
+        RouteLwEnCapType::Seg6 => AttributeSet::Seg6,
+        RouteLwEnCapType::Seg6Local => AttributeSet::Seg6Local,
+        RouteLwEnCapType::Rpl => AttributeSet::Rpl,
+        RouteLwEnCapType::Ioam6 => AttributeSet::Ioam6,
+        _ => AttributeSet::Value,
+    }
+}

@@ -1,0 +1,319 @@
+//! Lists of attributes of any set, gone through value by value, and into the lists that stand in
+//! values. Nothing takes memory.
+
+ghost use Rattle.std.specs.Prelude.{◌≡◌, ◌<◌, ℕ, false, length, drop, IfOk, IfErr, IfSome, IsNone};
+ghost use Rattle.{
+  npr_base.specs.{
+    Codec.{leading},
+    Framing.{number_of},
+    Value.{shown},
+    Values.{Seen, Unseen},
+    declared.refusal.DecodeError.TheVariants.{HeaderTooShort},
+  },
+  netlink_packet_route.specs.{
+    MessageKind.{Begins, header_size},
+    Nests.{FromBytes, IsInside, OfNextHop, holds_list, listed, nest_in, reading_of, told_set},
+  },
+};
+
+use crate::context::{Context, encap_set, listed};
+use crate::kind::MessageKind;
+use npr_address::{AddressAttribute, AddressHeader};
+use npr_base::{
+    At, Attribute, AttributeSet, DecodeError, Form, Header, Looks, Message, NlaBuffer, Value,
+    read_form,
+};
+use npr_link::{
+    AfSpecBridge, AfSpecInet, AfSpecInet6, AfSpecUnspec, BondAdInfo, BridgeMst, BridgeMstEntry,
+    BridgeQuerierState, BridgeVlanTunnelInfo, InfoBond, InfoBondPort, InfoBridge, InfoBridgePort,
+    InfoGeneve, InfoGre, InfoGre6, InfoIpTunnel, InfoIpVlan, InfoMacVlan, InfoNetkit, InfoTun,
+    InfoVeth, InfoVlan, InfoVrf, InfoVti, InfoVxlan, InfoXfrm, LinkAttribute, LinkHeader, LinkInfo,
+    LinkProtocolDownReason, LinkXdp, MacVlanAddress, PeerAttribute, Prop, VlanQosMapping,
+};
+use npr_neighbour::{NeighbourAttribute, NeighbourHeader};
+use npr_nexthop::{
+    NextHopAttribute, NextHopGroupStats, NextHopGroupStatsEntry, NextHopHeader, NextHopResBucket,
+    NextHopResGroup,
+};
+use npr_route::{RouteAttribute, RouteHeader, RouteMetric, governing_type};
+use npr_rule::{RuleAttribute, RuleHeader};
+use npr_small::{
+    AddressLabelAttribute, AddressLabelHeader, NeighbourTableAttribute, NeighbourTableHeader,
+    NeighbourTableParameter, NetconfAttribute, NetconfHeader, NsidAttribute, NsidHeader,
+    PrefixAttribute, PrefixHeader,
+};
+use npr_tunnel::{
+    RouteErspanOpt, RouteLwEnCapType, RouteLwTunnelEncap, RouteLwTunnelOpt, RouteVxlanOpt,
+};
+
+/// What names a list of attributes: their set, and what their numbers rest on there.
+#[derive(Debug, Clone, Copy, PartialEq, Eq)]
+pub struct Nest {
+    /// The set.
+    pub set: AttributeSet,
+    /// The context.
+    pub context: Context,
+}
+
+/// What the attributes behind the header of a message rest on, and their bytes.
+///
+/// # Errors
+/// `HeaderTooShort` where there is no whole header.
+fn behind<H: Header>(
+    bytes: &[u8],
+) -> Result<(<H::Attribute as Attribute>::Context, &[u8]), DecodeError>
+    ensures ok { IfOk result (λ s. (h : H) × (leading H.grammar.layout).Reads bytes.now h × (s.1.now ≡ drop H.grammar.layout.size bytes.now)
+        × H.governs h s.1.now s.0) }
+    ensures short { IfErr result (λ e. (length bytes.now < H.grammar.layout.size) × (e ≡ HeaderTooShort (length bytes.now) H.grammar.layout.size)) }
+{
+    let (_, values) = Message::<H, H::Attribute>::values(bytes)?;
+    Ok((values.context(), values.rest()))
+}
+
+impl Nest {
+    /// What names a list of this set under a context, of which it has what the set rests on. A set without
+    /// a list of its own, as that of a type of encapsulation, stands for what the encapsulation holds.
+    pub fn new(set: AttributeSet, context: Context) -> Nest
+        ensures { result ≡ nest_in (listed set) context }
+    {
+        let set = listed(set);
+        Nest {
+            set,
+            context: context.for_set(set),
+        }
+    }
+
+    /// The set that refusals name: of an encapsulation that of its type, or `Value` where it has none.
+    pub fn told_set(self) -> AttributeSet
+        ensures { result ≡ told_set self.set self.context }
+    {
+        match self.set {
+            AttributeSet::Encap => encap_set(self.context.encap_type),
+            _ => self.set,
+        }
+    }
+
+    /// The list behind the header of a message of this kind: what names it, and its bytes.
+    ///
+    /// # Errors
+    /// `HeaderTooShort` where there is no whole header.
+    pub fn begin(kind: MessageKind, bytes: &[u8]) -> Result<(Nest, &[u8]), DecodeError>
+        ensures ok { IfOk result (λ s. Begins kind bytes.now s.0 s.1.now) }
+        ensures numbers { IfOk result (λ s. FromBytes s.0) }
+        ensures short { IfErr result (λ e. (length bytes.now < header_size kind) × (e ≡ HeaderTooShort (length bytes.now) (header_size kind))) }
+    {
+        match kind {
+            MessageKind::Address => {
+                let (_, attributes) = behind::<AddressHeader>(bytes)?;
+                let set = AttributeSet::Address;
+                let context = Context::NONE;
+                Ok((Nest { set, context }, attributes))
+            }
+            MessageKind::Rule => {
+                let (_, attributes) = behind::<RuleHeader>(bytes)?;
+                let set = AttributeSet::Rule;
+                let context = Context::NONE;
+                Ok((Nest { set, context }, attributes))
+            }
+            MessageKind::Route => {
+                let (told, attributes) = behind::<RouteHeader>(bytes)?;
+                let context = Context {
+                    family: told.0,
+                    route_type: told.1,
+                    encap_type: told.2,
+                    ..Context::NONE
+                };
+                let set = AttributeSet::Route;
+                Ok((Nest { set, context }, attributes))
+            }
+            MessageKind::Neighbour => {
+                let (family, attributes) = behind::<NeighbourHeader>(bytes)?;
+                let context = Context {
+                    family,
+                    ..Context::NONE
+                };
+                let set = AttributeSet::Neighbour;
+                Ok((Nest { set, context }, attributes))
+            }
+            MessageKind::Link => {
+                let (family, attributes) = behind::<LinkHeader>(bytes)?;
+                let context = Context {
+                    family,
+                    ..Context::NONE
+                };
+                let set = AttributeSet::Link;
+                Ok((Nest { set, context }, attributes))
+            }
+            MessageKind::NextHop => {
+                let (told, attributes) = behind::<NextHopHeader>(bytes)?;
+                let context = Context {
+                    family: told.0,
+                    encap_type: told.1,
+                    ..Context::NONE
+                };
+                let set = AttributeSet::NextHop;
+                Ok((Nest { set, context }, attributes))
+            }
+            MessageKind::Nsid => {
+                let (_, attributes) = behind::<NsidHeader>(bytes)?;
+                let set = AttributeSet::Nsid;
+                let context = Context::NONE;
+                Ok((Nest { set, context }, attributes))
+            }
+            MessageKind::Netconf => {
+                let (_, attributes) = behind::<NetconfHeader>(bytes)?;
+                let set = AttributeSet::Netconf;
+                let context = Context::NONE;
+                Ok((Nest { set, context }, attributes))
+            }
+            MessageKind::AddressLabel => {
+                let (_, attributes) = behind::<AddressLabelHeader>(bytes)?;
+                let set = AttributeSet::AddressLabel;
+                let context = Context::NONE;
+                Ok((Nest { set, context }, attributes))
+            }
+            MessageKind::NeighbourTable => {
+                let (_, attributes) = behind::<NeighbourTableHeader>(bytes)?;
+                let set = AttributeSet::NeighbourTable;
+                let context = Context::NONE;
+                Ok((Nest { set, context }, attributes))
+            }
+            MessageKind::Prefix => {
+                let (_, attributes) = behind::<PrefixHeader>(bytes)?;
+                let set = AttributeSet::Prefix;
+                let context = Context::NONE;
+                Ok((Nest { set, context }, attributes))
+            }
+        }
+    }
+
+    /// By a number: the place that refusals tell, and how the value is read without memory. A set without
+    /// a list of its own, as that of a type of encapsulation, has bytes alone.
+    pub fn form(self, number: u16) -> (At, Form)
+        ensures { result ≡ (reading_of self).reading.seeing.form_at number }
+    {
+        let context = self.context;
+        match self.set {
+            AttributeSet::Address => AddressAttribute::form((), number),
+            AttributeSet::Rule => RuleAttribute::form((), number),
+            AttributeSet::Route => RouteAttribute::form(
+                (context.family, context.route_type, context.encap_type),
+                number,
+            ),
+            AttributeSet::Neighbour => NeighbourAttribute::form(context.family, number),
+            AttributeSet::Link => LinkAttribute::form(context.family, number),
+            AttributeSet::Metric => RouteMetric::form((), number),
+            AttributeSet::Encap => RouteLwTunnelEncap::form(context.encap_type, number),
+            AttributeSet::Opt => RouteLwTunnelOpt::form((), number),
+            AttributeSet::Vxlan => RouteVxlanOpt::form((), number),
+            AttributeSet::Erspan => RouteErspanOpt::form((), number),
+            AttributeSet::LinkInfo => LinkInfo::form((context.link, context.port), number),
+            AttributeSet::LinkXdp => LinkXdp::form((), number),
+            AttributeSet::Prop => Prop::form((), number),
+            AttributeSet::LinkProtocolDownReason => LinkProtocolDownReason::form((), number),
+            AttributeSet::AfSpecUnspec => AfSpecUnspec::form((), number),
+            AttributeSet::AfSpecInet => AfSpecInet::form((), number),
+            AttributeSet::AfSpecInet6 => AfSpecInet6::form((), number),
+            AttributeSet::AfSpecBridge => AfSpecBridge::form((), number),
+            AttributeSet::BridgeVlanTunnelInfo => BridgeVlanTunnelInfo::form((), number),
+            AttributeSet::BridgeMst => BridgeMst::form((), number),
+            AttributeSet::BridgeMstEntry => BridgeMstEntry::form((), number),
+            AttributeSet::InfoBridge => InfoBridge::form((), number),
+            AttributeSet::BridgeQuerierState => BridgeQuerierState::form((), number),
+            AttributeSet::InfoBridgePort => InfoBridgePort::form((), number),
+            AttributeSet::InfoVlan => InfoVlan::form((), number),
+            AttributeSet::VlanQosMapping => VlanQosMapping::form((), number),
+            AttributeSet::InfoVrf => InfoVrf::form((), number),
+            AttributeSet::InfoVeth => InfoVeth::form((), number),
+            AttributeSet::Peer => PeerAttribute::form((), number),
+            AttributeSet::InfoBond => InfoBond::form((), number),
+            AttributeSet::BondAdInfo => BondAdInfo::form((), number),
+            AttributeSet::InfoBondPort => InfoBondPort::form((), number),
+            AttributeSet::InfoMacVlan => InfoMacVlan::form((), number),
+            AttributeSet::MacVlanAddress => MacVlanAddress::form((), number),
+            AttributeSet::InfoIpVlan => InfoIpVlan::form((), number),
+            AttributeSet::InfoNetkit => InfoNetkit::form((), number),
+            AttributeSet::InfoTun => InfoTun::form((), number),
+            AttributeSet::InfoVxlan => InfoVxlan::form((), number),
+            AttributeSet::InfoGeneve => InfoGeneve::form((), number),
+            AttributeSet::InfoGre => InfoGre::form((), number),
+            AttributeSet::InfoGre6 => InfoGre6::form((), number),
+            AttributeSet::InfoIpTunnel => InfoIpTunnel::form(context.link, number),
+            AttributeSet::InfoVti => InfoVti::form((), number),
+            AttributeSet::InfoXfrm => InfoXfrm::form((), number),
+            AttributeSet::NextHop => NextHopAttribute::form(
+                (context.family, context.encap_type),
+                number,
+            ),
+            AttributeSet::NextHopResGroup => NextHopResGroup::form((), number),
+            AttributeSet::NextHopResBucket => NextHopResBucket::form((), number),
+            AttributeSet::NextHopGroupStats => NextHopGroupStats::form((), number),
+            AttributeSet::NextHopGroupStatsEntry => NextHopGroupStatsEntry::form((), number),
+            AttributeSet::Nsid => NsidAttribute::form((), number),
+            AttributeSet::Netconf => NetconfAttribute::form((), number),
+            AttributeSet::AddressLabel => AddressLabelAttribute::form((), number),
+            AttributeSet::NeighbourTable => NeighbourTableAttribute::form((), number),
+            AttributeSet::NeighbourTableParameter => NeighbourTableParameter::form((), number),
+            AttributeSet::Prefix => PrefixAttribute::form((), number),
+            _ => RouteLwTunnelEncap::form(RouteLwEnCapType::None, number),
+        }
+    }
+
+    /// The place of an attribute of the list, and its value where it stands. It takes no memory.
+    ///
+    /// # Errors
+    /// What is wrong with the value.
+    pub fn value<'a>(self, item: &NlaBuffer<'a>) -> Result<(At, Value<'a>), DecodeError>
+        ensures place { IfOk result (λ v. v.0 ≡ ((reading_of self).reading.seeing.form_at (number_of (item.now).kind)).0) }
+        ensures ok { IfOk result (λ v. Seen (reading_of self).reading item.now (shown v.1)) }
+        ensures refused { IfErr result (λ e. Unseen (reading_of self).reading item.now e) }
+    {
+        let (at, form) = self.form(item.kind());
+        match read_form(form, item.value(), at) {
+            Ok(value) => Ok((at, value)),
+            Err(refusal) => Err(refusal),
+        }
+    }
+
+    /// The list in a value of this number: what names it, and its bytes; none where the value holds no
+    /// list of attributes. Next hops, Geneve options and structures have readers of their own.
+    pub fn inside(self, number: u16, value: &[u8]) -> Option<(Nest, &[u8])>
+        ensures inside { IfSome result (λ s. IsInside self number value.now s.0 s.1.now) }
+        ensures none { IsNone result → holds_list self number value.now ≡ false }
+        ensures numbers { IfSome result (λ s. FromBytes self → FromBytes s.0) }
+    {
+        let (_, form) = self.form(number);
+        match form {
+            Form::List(set, front) => {
+                if value.len() < front {
+                    return None;
+                }
+                Some((self.context.inner(set, value), &value[front..]))
+            }
+            _ => None,
+        }
+    }
+
+    /// What names the attributes of a next hop in this list: its encapsulation is governed by the first
+    /// `RTA_ENCAP_TYPE` among them, or else from outside.
+    pub fn of_next_hop(self, attributes: &[u8]) -> Nest
+        ensures nest { OfNextHop self attributes.now result }
+        ensures numbers { FromBytes self → FromBytes result }
+    {
+        match self.set {
+            AttributeSet::Route => {
+                let outer = self.context.encap_type;
+                let encap_type = governing_type(attributes, outer, &mut Looks::new());
+                let context = Context {
+                    encap_type,
+                    ..self.context
+                };
+                Nest {
+                    set: AttributeSet::Route,
+                    context,
+                }
+            }
+            _ => self,
+        }
+    }
+}
