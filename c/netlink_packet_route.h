@@ -44,9 +44,9 @@
 
 /* The version of the library. */
 #define NPR_VERSION_MAJOR 0
-#define NPR_VERSION_MINOR 11
+#define NPR_VERSION_MINOR 12
 #define NPR_VERSION_PATCH 0
-#define NPR_VERSION "0.11.0"
+#define NPR_VERSION "0.12.0"
 
 /* The stack of a thread that is enough for every call and every input, in bytes: 1 MiB. The deepest
  * message takes some 773 KiB, and where a fault is looked for some 433 (measured). */

@@ -4,7 +4,7 @@ mod Places
 mod Searches
 mod Stopping
 mod Located
-mod LevelLaws
+mod NestLaws
 mod ValuePlaces
 mod ValueSteps
 mod Hearing

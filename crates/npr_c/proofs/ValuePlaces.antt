@@ -8,7 +8,7 @@ use Rattle.npr_base.specs.declared.ip.IpAddr.{IpAddr}
 use Rattle.npr_base.specs.declared.ip.IpAddr.TheVariants.{V4, V6}
 use Rattle.npr_base.specs.declared.value.Form.{Form}
 use Rattle.npr_base.specs.declared.value.Form.TheVariants.{Byte, Boolean, Signed32, Little16, Little32, Little64, Big16, Big32, Big64}
-use Rattle.npr_base.specs.declared.value.Form.TheVariants.{Uint, Flag, Octets4, Octets16, Ip, Name, Raw, Exactly, Leading, Inside, Dropped}
+use Rattle.npr_base.specs.declared.value.Form.TheVariants.{Uint, Flag, Octets4, Octets16, Ip, Name, Raw, Exactly, Leading, List as Listed, Inside, Dropped}
 use Rattle.npr_c.specs.Values.{Stands}
 
 -- a front of what stands in front of bytes stands there
@@ -59,5 +59,6 @@ module _ (bytes : List ℕ) (place count : ℕ) where
   stands_there (Exactly size) s p = shown_as s (is_structure value) p.1 (whole value refl)
   stands_there (Leading size) s p =
       shown_as s (is_structure (take size value)) p.1 (front (take size value) (drop size value) (sym (take-append-drop size value)))
+  stands_there (Listed set front) s p = shown_as s (is_inside value) p (whole value refl)
   stands_there Inside s p = shown_as s (is_inside value) p (whole value refl)
   stands_there Dropped s p = shown_as s is_nothing p refl

@@ -11,15 +11,6 @@ use Rattle.netlink_packet_route.specs.declared.kind.MessageKind.TheVariants.{Nex
 abbrev pub unknown_kind : ℕ
 unknown_kind = 16
 
-abbrev pub kinds : List (ℕ × Option MessageKind)
-kinds =
-    (1, Some Address) ∷ (2, Some Route) ∷ (3, Some Rule) ∷ (4, Some Neighbour) ∷ (5, Some Link) ∷ (6, Some NextHop) ∷ (7, Some Nsid)
-    ∷ (8, Some Netconf) ∷ (9, Some AddressLabel) ∷ (10, Some NeighbourTable) ∷ (11, Some Prefix) ∷ []
-
--- the kind of a number, if it is that of one
-abbrev pub kind_at : ℕ → Option MessageKind
-kind_at number = form_in (λ d. None) kinds number
-
 abbrev pub kind_number : MessageKind → ℕ
 kind_number Address = 1
 kind_number Route = 2
@@ -32,6 +23,18 @@ kind_number Netconf = 8
 kind_number AddressLabel = 9
 kind_number NeighbourTable = 10
 kind_number Prefix = 11
+
+abbrev pub numbered : MessageKind → ℕ × Option MessageKind
+numbered kind = (kind_number kind, Some kind)
+
+abbrev pub kinds : List (ℕ × Option MessageKind)
+kinds =
+    numbered Address ∷ numbered Route ∷ numbered Rule ∷ numbered Neighbour ∷ numbered Link ∷ numbered NextHop ∷ numbered Nsid
+    ∷ numbered Netconf ∷ numbered AddressLabel ∷ numbered NeighbourTable ∷ numbered Prefix ∷ []
+
+-- the kind of a number, if it is that of one
+abbrev pub kind_at : ℕ → Option MessageKind
+kind_at number = form_in (λ d. None) kinds number
 
 -- 0 where there is none
 abbrev pub number_of_kind : Option MessageKind → ℕ

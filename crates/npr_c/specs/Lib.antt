@@ -1,10 +1,11 @@
 pub mod Answers
+pub mod Bare
 pub mod Envelopes
 pub mod Faults
 pub mod Hearing
 pub mod Kinds
-pub mod Levels
 pub mod Names
+pub mod Nests
 pub mod NextHops
 pub mod Numbers
 pub mod Requests

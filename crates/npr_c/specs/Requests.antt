@@ -10,11 +10,14 @@ use Rattle.std.specs.Prelude.{◌≡◌, ◌⊎◌, ◌<◌, ◌≤◌, ℕ, ◌
 use Rattle.std.specs.Int.{w16, w32, to_le_bytes, from_le_bytes}
 use Rattle.netlink_packet_core.specs.Header.{header}
 use Rattle.netlink_packet_core.specs.declared.header.NetlinkHeader.{NetlinkHeader}
+use Rattle.netlink_packet_core.specs.declared.refusal.EnvelopeError.TheVariants.{MessageLength}
 use Rattle.netlink_packet_route.specs.Framing.{Item, encoding, pad}
 use Rattle.netlink_packet_route.specs.NextHopHeader.{next_hop_buffer}
+use Rattle.netlink_packet_route.specs.declared.framing.DecodeError.TheVariants.{AttributeLength}
 use Rattle.netlink_packet_route.specs.declared.framing.EmitError.TheVariants.{TooLong, Total}
 use Rattle.netlink_packet_route.specs.declared.route.RouteNextHopBuffer.{RouteNextHopBuffer}
-use Rattle.npr_c.specs.Answers.{refused_by, short_answer, unfit_answer, written_answer}
+use Rattle.npr_c.specs.Answers.{refused_answer, refused_by, short_answer, unfit_answer, written_answer}
+use Rattle.npr_c.specs.Envelopes.{envelope_number}
 use Rattle.npr_c.specs.declared.answer.Answer.{Answer}
 use Rattle.npr_c.specs.declared.envelopes.Envelope.{Envelope}
 use Rattle.npr_c.specs.declared.next_hops.NextHop.{NextHop}
@@ -58,13 +61,13 @@ CopiesAt old new at bytes answer = PlacesAt old new at (bytes ++ replicate (pad 
 abbrev pub AttributeEnds : ℕ → ℕ → ℕ → Type 0
 AttributeEnds room start end = (start + 4 ≤ end) × (end ≤ room) × ((end - start) % 4 ≡ 0)
 
--- its length is written in front of its header, where 16 bits hold it; at other places none ends (AttributeLength, 4)
+-- its length is written in front of its header, where 16 bits hold it; at other places none ends
 abbrev pub EndsAttributeAt : List ℕ → List ℕ → ℕ → ℕ → Answer → Type 0
 EndsAttributeAt old new start end answer =
     let size : ℕ = end - start in
     (AttributeEnds (length old) start end × (size ≤ 65535) × (answer ≡ written_answer end) × WritesAt old new start (to_le_bytes w16 size))
     ⊎ (AttributeEnds (length old) start end × (65535 < size) × (answer ≡ unfit_answer (TooLong 0 size)) × (new ≡ old))
-    ⊎ ((AttributeEnds (length old) start end → ⊥) × (answer ≡ refused_by 4) × (new ≡ old))
+    ⊎ ((AttributeEnds (length old) start end → ⊥) × (answer ≡ refused_answer (AttributeLength 0 0)) × (new ≡ old))
 
 -- the step over it, by the kind that stands there
 abbrev pub ended_step : List ℕ → ℕ → ℕ → Step
@@ -98,13 +101,13 @@ ended_hop bytes start end = record {
 abbrev pub MessageEnds : ℕ → ℕ → ℕ → Type 0
 MessageEnds room start end = (start + 16 ≤ end) × (end ≤ room)
 
--- its length is written in front of its header, where 32 bits hold it; at other places none ends (MessageLength, 15)
+-- its length is written in front of its header, where 32 bits hold it; at other places none ends
 abbrev pub EndsMessageAt : List ℕ → List ℕ → ℕ → ℕ → Answer → Type 0
 EndsMessageAt old new start end answer =
     let size : ℕ = end - start in
     (MessageEnds (length old) start end × (size < 2 ^ 32) × (answer ≡ written_answer end) × WritesAt old new start (to_le_bytes w32 size))
     ⊎ (MessageEnds (length old) start end × (2 ^ 32 ≤ size) × (answer ≡ unfit_answer Total) × (new ≡ old))
-    ⊎ ((MessageEnds (length old) start end → ⊥) × (answer ≡ refused_by 15) × (new ≡ old))
+    ⊎ ((MessageEnds (length old) start end → ⊥) × (answer ≡ refused_by (envelope_number (MessageLength 0 0 0))) × (new ≡ old))
 
 -- the header that stands at the place
 abbrev pub header_there : List ℕ → ℕ → NetlinkHeader

@@ -4,17 +4,19 @@ ghost use Rattle.std.specs.Prelude.{◌≡◌, MatchOption, IfSome};
 ghost use Rattle.{
   netlink_packet_route.specs.MessageKind.{form_of},
   npr_c.specs.{
-    Faults.{IsJudged, fault_of, family_number, seg6_number, unknown_fault},
+    Faults.{IsJudged, fault_of, seg6_number, unknown_fault},
     Kinds.{kind_at},
+    Nests.{set_number},
     Stops.{IsPlaced},
   },
 };
 
 use crate::answer::refusal_number;
 use crate::kinds::{UNKNOWN_KIND, kind_at};
+use crate::nests::set_number;
 use crate::placing::check_through;
 use netlink_packet_route::MessageKind;
-use netlink_packet_route::framing::{At, AttrFamily, DecodeError, Seg6Fault};
+use netlink_packet_route::framing::{At, AttributeSet, DecodeError, Seg6Fault};
 
 /// A refusal with all that it tells, or that there is none.
 ///
@@ -24,7 +26,7 @@ use netlink_packet_route::framing::{At, AttrFamily, DecodeError, Seg6Fault};
 pub struct Fault {
     /// The number of the refusal, or 0 where the bytes are a message.
     pub number: u32,
-    /// The number of the attribute's family where the refusal tells an attribute, and else 0.
+    /// The number of the attribute's set where the refusal tells an attribute, and else 0.
     pub family: u32,
     /// The attribute's number there, without the two flags, and else 0.
     pub kind: u16,
@@ -50,78 +52,6 @@ const NO_FAULT: Fault = Fault {
     limit: 0,
     offset: 0,
 };
-
-/// The number of a family of attributes.
-pub fn family_number(family: AttrFamily) -> u32
-    ensures { result ≡ family_number family }
-{
-    match family {
-        AttrFamily::Value => 0,
-        AttrFamily::Address => 1,
-        AttrFamily::Rule => 2,
-        AttrFamily::Route => 3,
-        AttrFamily::Metric => 4,
-        AttrFamily::Mpls => 5,
-        AttrFamily::Ip => 6,
-        AttrFamily::Ip6 => 7,
-        AttrFamily::Xfrm => 8,
-        AttrFamily::Opt => 9,
-        AttrFamily::Geneve => 10,
-        AttrFamily::Vxlan => 11,
-        AttrFamily::Erspan => 12,
-        AttrFamily::Seg6 => 13,
-        AttrFamily::Seg6Local => 14,
-        AttrFamily::Rpl => 15,
-        AttrFamily::Ioam6 => 16,
-        AttrFamily::Neighbour => 17,
-        AttrFamily::Link => 18,
-        AttrFamily::LinkInfo => 19,
-        AttrFamily::LinkXdp => 20,
-        AttrFamily::Prop => 21,
-        AttrFamily::LinkProtocolDownReason => 22,
-        AttrFamily::AfSpecUnspec => 23,
-        AttrFamily::AfSpecInet => 24,
-        AttrFamily::AfSpecInet6 => 25,
-        AttrFamily::InfoBridge => 26,
-        AttrFamily::BridgeQuerierState => 27,
-        AttrFamily::InfoBridgePort => 28,
-        AttrFamily::InfoVlan => 29,
-        AttrFamily::VlanQosMapping => 30,
-        AttrFamily::InfoVrf => 31,
-        AttrFamily::InfoVeth => 32,
-        AttrFamily::Peer => 33,
-        AttrFamily::AfSpecBridge => 34,
-        AttrFamily::BridgeVlanTunnelInfo => 35,
-        AttrFamily::BridgeMst => 36,
-        AttrFamily::BridgeMstEntry => 37,
-        AttrFamily::InfoBond => 38,
-        AttrFamily::BondAdInfo => 39,
-        AttrFamily::InfoBondPort => 40,
-        AttrFamily::InfoMacVlan => 41,
-        AttrFamily::MacVlanAddress => 42,
-        AttrFamily::InfoIpVlan => 43,
-        AttrFamily::InfoNetkit => 44,
-        AttrFamily::InfoTun => 45,
-        AttrFamily::InfoVxlan => 46,
-        AttrFamily::InfoGeneve => 47,
-        AttrFamily::InfoGre => 48,
-        AttrFamily::InfoGre6 => 49,
-        AttrFamily::InfoIpTunnel => 50,
-        AttrFamily::InfoVti => 51,
-        AttrFamily::InfoXfrm => 52,
-        AttrFamily::NextHop => 53,
-        AttrFamily::NextHopResGroup => 54,
-        AttrFamily::NextHopResBucket => 55,
-        AttrFamily::NextHopGroupStats => 56,
-        AttrFamily::NextHopGroupStatsEntry => 57,
-        AttrFamily::Nsid => 58,
-        AttrFamily::Prefix => 59,
-        AttrFamily::Netconf => 60,
-        AttrFamily::NeighbourTable => 61,
-        AttrFamily::NeighbourTableParameter => 62,
-        AttrFamily::AddressLabel => 63,
-    }
-}
 
 /// The number of what is wrong with a SEG6 routing header.
 fn seg6_number(fault: Seg6Fault) -> u16
@@ -157,7 +87,7 @@ impl Fault {
             DecodeError::ValueLength { at, got } => fault.at(at).with_lengths(got, 0),
             DecodeError::NotUtf8 { at } | DecodeError::Unsupported { at } => fault.at(at),
             DecodeError::GeneveOrder { kind } | DecodeError::GeneveChild { kind } => {
-                fault.at(AttrFamily::Geneve.at(kind))
+                fault.at(AttributeSet::Geneve.at(kind))
             }
             DecodeError::ViaFamily(family) => fault.with_detail(family),
             DecodeError::Seg6Header { fault: seg6 } => fault.with_detail(seg6_number(seg6)),
@@ -187,13 +117,13 @@ impl Fault {
         Fault { offset, ..self }
     }
 
-    /// With the family and the number of an attribute.
+    /// With the set and the number of an attribute.
     fn at(self, at: At) -> Fault
-        ensures { result ≡ record self { family = family_number at.family; kind = at.kind } }
+        ensures { result ≡ record self { family = set_number at.set; kind = at.number } }
     {
         Fault {
-            family: family_number(at.family),
-            kind: at.kind,
+            family: set_number(at.set),
+            kind: at.number,
             ..self
         }
     }

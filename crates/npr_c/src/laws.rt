@@ -1,13 +1,13 @@
-//! What faults and levels tell, over their definitions alone. Each function does nothing, and its
+//! What faults and numbers tell, over their definitions alone. Each function does nothing, and its
 //! contract is the law.
 
 ghost use Rattle.std.specs.Prelude.{◌≡◌, ℕ, List};
 ghost use Rattle.{
   netlink_packet_route.specs.{
-    Levels.{FromBytes},
-    declared.{framing.DecodeError.{DecodeError}, kind.MessageKind.{MessageKind}, levels.Level.{Level}},
+    Nests.{FromBytes},
+    declared.{framing.DecodeError.{DecodeError}, kind.MessageKind.{MessageKind}, nests.Nest.{Nest}},
   },
-  npr_c.specs.{Faults.{located}, Levels.{level_context, level_family, level_of}, Stops.{StandsIn}},
+  npr_c.specs.{Faults.{located}, Nests.{nest_context, nest_of, nest_set}, Stops.{StandsIn}},
 };
 
 /// The first fault of a message stands at one place.
@@ -20,7 +20,7 @@ pub fn law_located()
     ensures { (d e : DecodeError) (j k : ℕ) → located d j ≡ located e k → d ≡ e }
 {}
 
-/// A level comes back from the two numbers that tell it, if its own are of bytes.
-pub fn law_levels()
-    ensures { (level : Level) → FromBytes level → level_of (level_family level) (level_context level) ≡ level }
+/// What names a list comes back from its two numbers, if they are of bytes.
+pub fn law_nests()
+    ensures { (nest : Nest) → FromBytes nest → nest_of (nest_set nest) (nest_context nest) ≡ nest }
 {}

@@ -4,31 +4,30 @@ ghost use Rattle.std.specs.Prelude.{◌≡◌, ◌≤◌, ◌<◌, ◌⊎◌, �
 ghost use Rattle.{
   netlink_packet_route.specs.{
     CheckLaws.{IsListAt},
-    Levels.{header_size},
-    MessageKind.{MessageOf, form_of},
+    MessageKind.{MessageOf, form_of, header_size},
     Messages.{IsMessage, MessageFault},
   },
   npr_c.specs.Stops.{StandsIn, StopsAt},
 };
 
 use netlink_packet_route::framing::{DecodeError, NlasIterator};
-use netlink_packet_route::{Level, MessageKind};
+use netlink_packet_route::{MessageKind, Nest};
 
 /// Checks attributes one after the other, up to the first that is wrong, and puts how many bytes are
 /// left where it begins.
 ///
 /// # Errors
 /// What is wrong there.
-fn check_each(level: Level, attributes: &[u8], left: &mut usize) -> Result<(), DecodeError>
-    ensures ok { IfOk result (λ _. IsListAt level attributes.now) }
-    ensures stopped { IfErr result (λ e. (rest : List ℕ) × StopsAt level attributes.now rest e × (left.new ≡ length rest)) }
+fn check_each(nest: Nest, attributes: &[u8], left: &mut usize) -> Result<(), DecodeError>
+    ensures ok { IfOk result (λ _. IsListAt nest attributes.now) }
+    ensures stopped { IfErr result (λ e. (rest : List ℕ) × StopsAt nest attributes.now rest e × (left.new ≡ length rest)) }
     ensures within { IfErr result (λ _. left.new ≤ length attributes.now) }
 {
     *left = attributes.len();
     let mut walk = NlasIterator::new(attributes);
     while let Some(next) = walk.next() {
         let item = next?;
-        level.check_attribute(&item)?;
+        nest.check_attribute(&item)?;
         *left = walk.rest().len();
     }
     Ok(())
@@ -51,12 +50,12 @@ pub fn check_through(kind: MessageKind, bytes: &[u8]) -> Result<(), Located>
     ensures refused { IfErr result (λ place. MessageFault (form_of kind).grammar bytes.now place.refusal) }
     ensures place { IfErr result (λ place. ((length bytes.now < header_size kind) × (place.offset ≡ 0)) ⊎ StandsIn kind bytes.now place.offset place.refusal) }
 {
-    let (level, attributes) = match Level::begin(kind, bytes) {
+    let (nest, attributes) = match Nest::begin(kind, bytes) {
         Ok(list) => list,
         Err(refusal) => return Err(Located { refusal, offset: 0 }),
     };
     let mut left = 0;
-    match check_each(level, attributes, &mut left) {
+    match check_each(nest, attributes, &mut left) {
         Ok(()) => Ok(()),
         Err(refusal) => Err(Located {
             refusal,

@@ -6,19 +6,18 @@ ghost use Rattle.{
   netlink_packet_route.specs.Value.{shown},
   npr_c.specs.{
     Kinds.{kind_at, unknown_kind},
-    Levels.{level_context, level_family, level_of},
+    Nests.{nest_context, nest_of, nest_set, set_number},
     Numbers.{refusal_number},
     Values.{BeginsAt, HopInside, InsideAt, ValuesAt, form_number, integer_of, length_of, no_list, no_value},
   },
 };
 
 use crate::answer::refusal_number;
-use crate::faults::family_number;
 use crate::kinds::{UNKNOWN_KIND, kind_at};
-use crate::levels::{level_context, level_family, level_of};
+use crate::nests::{nest_context, nest_of, nest_set, set_number};
 use netlink_packet_route::framing::{DecodeError, NLA_HEADER_SIZE, NlasIterator, Value};
 use netlink_packet_route::net::IpAddr;
-use netlink_packet_route::{Level, MessageKind};
+use netlink_packet_route::{MessageKind, Nest};
 
 /// What a step over values answers.
 ///
@@ -129,11 +128,11 @@ fn refused(fault: DecodeError) -> ValueStep
     }
 }
 
-/// The value of the attribute that begins `at` bytes from the first of a list at this level, or why
+/// The value of the attribute that begins `at` bytes from the first of a list of this name, or why
 /// there is none. At the length of the bytes, and past it, is their end. It takes no memory.
 #[unsafe(no_mangle)]
 pub extern "C" fn npr_value_at(bytes: &[u8], at: usize, family: u32, context: u32) -> ValueStep
-    ensures { ValuesAt bytes.now at (level_of family context) result }
+    ensures { ValuesAt bytes.now at (nest_of family context) result }
 {
     if at >= bytes.len() {
         return END_OF_VALUES;
@@ -144,12 +143,12 @@ pub extern "C" fn npr_value_at(bytes: &[u8], at: usize, family: u32, context: u3
         Some(Err(fault)) => return refused(fault),
         Some(Ok(item)) => item,
     };
-    match level_of(family, context).value(&item) {
+    match nest_of(family, context).value(&item) {
         Err(fault) => refused(fault),
         Ok((place, value)) => {
             let (form, integer, length) = told(&value);
             ValueStep {
-                family: family_number(place.family),
+                family: set_number(place.set),
                 kind: item.kind(),
                 form,
                 integer,
@@ -162,15 +161,15 @@ pub extern "C" fn npr_value_at(bytes: &[u8], at: usize, family: u32, context: u3
     }
 }
 
-/// The list at a level that stands between two places.
-fn list_at(level: Level, at: usize, end: usize) -> ListStep
-    ensures { result ≡ record { status = 0; number = 0; family = level_family level; context = level_context level; at = at; end = end } }
+/// A list that stands between two places.
+fn list_at(nest: Nest, at: usize, end: usize) -> ListStep
+    ensures { result ≡ record { status = 0; number = 0; family = nest_set nest; context = nest_context nest; at = at; end = end } }
 {
     ListStep {
         status: 0,
         number: 0,
-        family: level_family(level),
-        context: level_context(level),
+        family: nest_set(nest),
+        context: nest_context(nest),
         at,
         end,
     }
@@ -180,8 +179,8 @@ fn list_at(level: Level, at: usize, end: usize) -> ListStep
 fn begin(kind: MessageKind, bytes: &[u8]) -> ListStep
     ensures { BeginsAt kind bytes.now result }
 {
-    match Level::begin(kind, bytes) {
-        Ok((level, attributes)) => list_at(level, bytes.len() - attributes.len(), bytes.len()),
+    match Nest::begin(kind, bytes) {
+        Ok((nest, attributes)) => list_at(nest, bytes.len() - attributes.len(), bytes.len()),
         Err(fault) => ListStep {
             status: 1,
             number: refusal_number(fault),
@@ -210,10 +209,10 @@ pub extern "C" fn npr_begin(kind: u32, bytes: &[u8]) -> ListStep
 }
 
 /// The list of attributes in the value of the attribute that begins `at` bytes from the first of a
-/// list at this level, or that there is none. It takes no memory.
+/// list of this name, or that there is none. It takes no memory.
 #[unsafe(no_mangle)]
 pub extern "C" fn npr_inside_at(bytes: &[u8], at: usize, family: u32, context: u32) -> ListStep
-    ensures { InsideAt bytes.now at (level_of family context) result }
+    ensures { InsideAt bytes.now at (nest_of family context) result }
 {
     if at >= bytes.len() {
         return NO_LIST;
@@ -222,24 +221,24 @@ pub extern "C" fn npr_inside_at(bytes: &[u8], at: usize, family: u32, context: u
     let Some(Ok(item)) = walk.next() else {
         return NO_LIST;
     };
-    match level_of(family, context).inside(item.kind(), item.value()) {
+    match nest_of(family, context).inside(item.kind(), item.value()) {
         None => NO_LIST,
-        Some((level, attributes)) => {
+        Some((nest, attributes)) => {
             let end = at + NLA_HEADER_SIZE + item.value().len();
-            list_at(level, end - attributes.len(), end)
+            list_at(nest, end - attributes.len(), end)
         }
     }
 }
 
-/// The list of the attributes of a next hop in a list at this level, which begins `at` bytes from the
+/// The list of the attributes of a next hop in a list of this name, which begins `at` bytes from the
 /// first, and ends with the bytes. It takes no memory.
 #[unsafe(no_mangle)]
 pub extern "C" fn npr_hop_inside(bytes: &[u8], at: usize, family: u32, context: u32) -> ListStep
-    ensures { HopInside bytes.now at (level_of family context) result }
+    ensures { HopInside bytes.now at (nest_of family context) result }
 {
     if at > bytes.len() {
         return NO_LIST;
     }
-    let level = level_of(family, context).of_next_hop(&bytes[at..]);
-    list_at(level, at, bytes.len())
+    let nest = nest_of(family, context).of_next_hop(&bytes[at..]);
+    list_at(nest, at, bytes.len())
 }

@@ -13,7 +13,7 @@ returns-in_err-item-clause-stopped c =
     let walk = c.loop-next.walk in
     let past = c.loop-next.invariant in
     let step : (0 < length walk) × Fault walk e × (c.next.new.self ≡ []) = rw c.in_err-item.was at c.in-Some.ensures.steps in
-    rw (p.1, p.2) (walk, past.stops walk e (stops-here c.args.level walk e step.0 step.1), past.left)
+    rw (p.1, p.2) (walk, past.stops walk e (stops-here c.args.nest walk e step.0 step.1), past.left)
 
 pub returns-in_err-check_attribute-clause-stopped : goal.returns-in_err-check_attribute-clause-stopped
 returns-in_err-check_attribute-clause-stopped c =
@@ -24,21 +24,21 @@ returns-in_err-check_attribute-clause-stopped c =
     let rest = c.next.new.self in
     let past = c.loop-next.invariant in
     let front : Front walk item rest = rw c.in_ok-item.was at c.in-Some.ensures.steps in
-    rw (p.1, p.2) (walk, past.stops walk e (stops-in c.args.level walk item rest front e c.in_err-check_attribute.ensures.refused), past.left)
+    rw (p.1, p.2) (walk, past.stops walk e (stops-in c.args.nest walk item rest front e c.in_err-check_attribute.ensures.refused), past.left)
 
 pub loop-next-preserved : goal.loop-next-preserved
 loop-next-preserved c =
-    let level = c.args.level in
+    let nest = c.args.nest in
     let item = c.in_ok-item.item in
     let walk = c.loop-next.walk in
     let rest = c.next.new.self in
     let past = c.loop-next.invariant in
     let front : Front walk item rest = rw c.in_ok-item.was at c.in-Some.ensures.steps in
     let reads = c.in_ok-check_attribute.ensures.ok in
-    let more = list-more level walk walk rest item (leads-all (IsListAt level) (ListFaultAt level) walk) front reads in
+    let more = list-more nest walk walk rest item (leads-all (IsListAt nest) (ListFaultAt nest) walk) front reads in
     record {
       list = λ p. past.list (more.is p);
-      stops = λ r e stops. past.stops r e (stops-later level walk item rest front r e reads stops);
+      stops = λ r e stops. past.stops r e (stops-later nest walk item rest front r e reads stops);
       within = omega (arith, past.within, Front-shrinks walk item rest front);
       left = ap length c.rest.ensures;
     }

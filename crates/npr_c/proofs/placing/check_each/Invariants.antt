@@ -7,8 +7,8 @@ use Rattle.npr_c.proofs.placing.check_each.Given as goal
 -- what is left decides what all is, and where it stops
 abbrev pub invariant-loop-next : goal.invariant-loop-next
 invariant-loop-next l = record {
-  list : IsListAt l.level l.walk → IsListAt l.level l.attributes;
-  stops : (rest : List ℕ) (e : DecodeError) → StopsAt l.level l.walk rest e → StopsAt l.level l.attributes rest e;
+  list : IsListAt l.nest l.walk → IsListAt l.nest l.attributes;
+  stops : (rest : List ℕ) (e : DecodeError) → StopsAt l.nest l.walk rest e → StopsAt l.nest l.attributes rest e;
   within : length l.walk ≤ length l.attributes;
   left : l.left ≡ length l.walk;
 }
