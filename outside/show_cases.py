@@ -7,7 +7,7 @@ LINK = "00000100040000004310010000000000"
 
 # the end of a dump, and what nlshow is tried with
 DONE = bytes.fromhex("1400000003000200000000000000000000000000")
-SHOW_USAGE = b"usage: nlshow [--json | --count] [--numeric] [--hex] [--as KIND] [--links FILE] [--keep FILE] [--] [FILE..]\n"
+SHOW_USAGE = b"usage: nlshow [--json | --count] [--numeric] [--hex] [--as KIND] [--links FILE] [--keep FILE] [KIND..] [--] [FILE..]\n"
 # a link, and a route by it
 LINK_MESSAGE = bytes.fromhex("28000000100000000000000000000000" "00000100020000000000000000000000" "0700030064300000")
 ROUTE_BY_LINK = bytes.fromhex("24000000180000000000000000000000" "02000000fe03000100000000" "0800040002000000")
@@ -50,6 +50,10 @@ SHOWN = [
     ("an option joined to a word that is none", ["--as=links"], b"", 2, b"", b"nlshow: `links` is no kind of message\n" + SHOW_USAGE),
     ("an option joined to its word", ["--hex", "--as=route"], LABELS, 0, b"default encap mpls 100[tc 3]/200[ttl 255] proto boot\n", b""),
     ("a file with the name of an option", ["--", "--json"], b"", 5, b"", b"--json: no such file or directory\n"),
+    ("messages of a kind", ["link", "-"], ROUTE_BY_LINK + LINK_MESSAGE + DONE, 0, b"2: d0: <>\n    link/ether\n", b""),
+    ("messages of two kinds, counted", ["route", "link", "--count"], ROUTE_BY_LINK + LINK_MESSAGE + DONE, 0,
+     COUNTS.replace(b"bytes 40", b"bytes 96").replace(b"routes 0", b"routes 1").replace(b"links 0", b"links 1").replace(b"controls 2", b"controls 0"), b""),
+    ("a file with the name of a kind", ["--", "route"], b"", 5, b"", b"route: no such file or directory\n"),
     ("the file behind one that is not there", ["/no/file", "-"], DONE, 5, b"done\n", b"/no/file: no such file or directory\n"),
     *((f"what ip {kind} save wrote", [], magic.to_bytes(4, "little") + DONE, 0, b"done\n", b"")
       for kind, magic in (("route", 0x45311224), ("address", 0x47361222), ("rule", 0x71706986))),

@@ -37,7 +37,7 @@ def loaded(name):
     )
 
 
-LIBRARY = loaded("libnetlink_packet_route.so.0.11")
+LIBRARY = loaded("libnetlink_packet_route.so.0.12")
 FOUND, FAULT = 0, 1
 REFUSED, UNFIT, SHORT, NAME_ROOM = 1, 2, 3, 18
 NLA_F_NESTED = 0x8000

@@ -3,7 +3,7 @@
 use crate::datagram::datagrams_answer;
 use crate::stop::Stop;
 use netlink_packet_route::framing::NlasIterator;
-use netlink_packet_route::{Level, MessageKind, canonical, validate};
+use netlink_packet_route::{MessageKind, Nest, canonical, validate};
 use std::alloc::{AllocError, Global};
 
 /// What the lines of a file are.
@@ -68,9 +68,9 @@ fn canonical_answer(kind: MessageKind, alloc: Global, bytes: &[u8]) -> Result<St
 /// Whether the values that are seen of the bytes stand at the numbers of the attributes of the
 /// canonical bytes.
 fn is_seen(kind: MessageKind, bytes: &[u8], canonical: &[u8]) -> bool {
-    let (Ok((level, attributes)), Ok((_, wanted))) = (
-        Level::begin(kind, bytes),
-        Level::begin(kind, canonical),
+    let (Ok((nest, attributes)), Ok((_, wanted))) = (
+        Nest::begin(kind, bytes),
+        Nest::begin(kind, canonical),
     ) else {
         return false;
     };
@@ -79,11 +79,11 @@ fn is_seen(kind: MessageKind, bytes: &[u8], canonical: &[u8]) -> bool {
         let Ok(attribute) = attribute else {
             return false;
         };
-        let Ok((at, _)) = level.value(&attribute) else {
+        let Ok((at, _)) = nest.value(&attribute) else {
             return false;
         };
         match wanted.next() {
-            Some(Ok(written)) if at.kind == written.kind() => {}
+            Some(Ok(written)) if at.number == written.kind() => {}
             _ => return false,
         }
     }

@@ -5,7 +5,7 @@ use Rattle.std.specs.Prelude.{◌==◌}
 use Rattle.std.proofs.Common.{◌≡◌, ℕ, List, [], ◌∷◌, Bool, true, false, Some, None, inl, inr, refl, sym, ap, subst, ◌∙◌}
 use Rattle.netlink_packet_route.specs.AddressAttribute.{family, attributes, table}
 use Rattle.netlink_packet_route.specs.Framing.{Item, number_of}
-use Rattle.netlink_packet_route.specs.PlaceLaws.{place-kind}
+use Rattle.netlink_packet_route.specs.PlaceLaws.{place-number}
 use Rattle.netlink_packet_route.specs.Value.{Shown, is_address, shown}
 use Rattle.netlink_packet_route.specs.Values.{SeenAs}
 use Rattle.netlink_packet_route.specs.declared.framing.At.{At}
@@ -19,12 +19,12 @@ same_address : (a b : IpAddr) → is_address a ≡ is_address b → a ≡ b
 same_address a b e = cc
 
 -- a value of the number 1, by what it is
-seen-one : (at : At) (v : Value) (a : _) → (at.kind == 1) ≡ true → shown v ≡ is_address a → seen_address (at, v) ≡ Some a
+seen-one : (at : At) (v : Value) (a : _) → (at.number == 1) ≡ true → shown v ≡ is_address a → seen_address (at, v) ≡ Some a
 seen-one at (Of.Address b) a one is = rw one (ap (λ (c : IpAddr). Some c) (same_address b a is))
 seen-one at v a one is = absurd (cc)
 
 -- and one of another number
-seen-other : (at : At) (v : Value) → (at.kind == 1) ≡ false → seen_address (at, v) ≡ None
+seen-other : (at : At) (v : Value) → (at.number == 1) ≡ false → seen_address (at, v) ≡ None
 seen-other at (Of.Address b) other = rw other refl
 seen-other at v other = refl
 
@@ -33,8 +33,8 @@ one-or true f g p = f refl p
 one-or false f g p = g refl p
 
 -- the place of a value has the number of its attribute
-numbered : (x : Item) (at : At) → at ≡ (attributes.seeing.form_at (number_of x.kind)).0 → at.kind ≡ number_of x.kind
-numbered x at is = ap (λ (a : At). a.kind) is ∙ place-kind table (number_of x.kind)
+numbered : (x : Item) (at : At) → at ≡ (attributes.seeing.form_at (number_of x.kind)).0 → at.number ≡ number_of x.kind
+numbered x at is = ap (λ (a : At). a.number) is ∙ place-number table (number_of x.kind)
 
 seen-means : (x : Item) (m : family.Meaning) (v : At × Value) → attributes.Reads x m → v.0 ≡ (attributes.seeing.form_at (number_of x.kind)).0
     → shown v.1 ≡ attributes.seeing.sees x m → seen_address v ≡ address_of m

@@ -11,5 +11,5 @@ abbrev pub address_of : family.Meaning → Option IpAddr
 address_of m = value_of 1 m
 
 abbrev pub seen_address : At × Value → Option IpAddr
-seen_address (at, Address a) = if at.kind == 1 then Some a else None
+seen_address (at, Address a) = if at.number == 1 then Some a else None
 seen_address v = None

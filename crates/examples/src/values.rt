@@ -39,7 +39,7 @@ fn address(at: At, value: &Value<'_>) -> Option<IpAddr>
     ensures { result ≡ seen_address (at, value.now) }
 {
     match value {
-        Value::Address(address) if at.kind == IFA_ADDRESS => Some(*address),
+        Value::Address(address) if at.number == IFA_ADDRESS => Some(*address),
         _ => None,
     }
 }

@@ -1,18 +1,17 @@
 -- What the answer to a kind and bytes is, by the call for their canonical bytes.
 use Rattle.std.specs.Prelude.{◌≢◌}
 use Rattle.std.proofs.Common.{◌≡◌, ℕ, ◌<◌, List, length, map, drop, ap, sym, subst, ◌∙◌, arith, inl, inr, length-drop}
-use Rattle.netlink_packet_route.proofs.CanonicalAttributes.{attributes-cut, begun-behind, header-size, header-some}
+use Rattle.netlink_packet_route.proofs.CanonicalAttributes.{attributes-cut, begun-behind, header-some}
 use Rattle.netlink_packet_route.proofs.Messages.{has_header}
 use Rattle.netlink_packet_route.specs.Canonical.{CanonicalFault, IsCanonical, TakesMemory}
 use Rattle.netlink_packet_route.specs.Family.{written_by}
 use Rattle.netlink_packet_route.specs.Framing.{Item, IsBytes, Cut}
 use Rattle.netlink_packet_route.specs.FrontLaws.{Front-shrinks}
-use Rattle.netlink_packet_route.specs.Levels.{Begins, header_size}
-use Rattle.netlink_packet_route.specs.MessageKind.{form_of, kind_name}
+use Rattle.netlink_packet_route.specs.MessageKind.{Begins, form_of, header_size, kind_name}
 use Rattle.netlink_packet_route.specs.Messages.{canonical_bytes}
 use Rattle.netlink_packet_route.specs.declared.CanonicalError.{CanonicalError}
 use Rattle.netlink_packet_route.specs.declared.CanonicalError.TheVariants as Canonical
-use Rattle.netlink_packet_route.specs.declared.Level.{Level}
+use Rattle.netlink_packet_route.specs.declared.Nest.{Nest}
 use Rattle.netlink_packet_route.specs.declared.MessageKind.{MessageKind}
 use Rattle.netlink_packet_route.specs.declared.framing.DecodeError.{DecodeError}
 use Rattle.netlink_packet_route.specs.declared.framing.DecodeError.TheVariants.{OutOfMemory}
@@ -59,7 +58,7 @@ ended-memory (Canonical.Unfit cause) is = absurd (let no : Unfit cause ≡ Memor
 pub message-some : (kind : MessageKind) (bytes canonical : List ℕ) → IsCanonical (form_of kind).grammar bytes canonical → 0 < length bytes
 unfolding IsCanonical
 message-some kind bytes canonical (m, p, fits, is) =
-    omega (arith, has_header (form_of kind).grammar bytes m p, header-size kind, header-some kind)
+    omega (arith, has_header (form_of kind).grammar bytes m p, header-some kind)
 
 -- nothing takes no memory
 pub memory-some : (kind : MessageKind) (bytes : List ℕ) → TakesMemory (form_of kind).grammar bytes → 0 < length bytes
@@ -70,14 +69,14 @@ memory-some kind bytes (inl (x, rest, front)) =
 memory-some kind bytes (inr (canonical, is)) = message-some kind bytes canonical is
 
 -- a text over the attributes in canonical bytes is the report
-pub reported : (kind : MessageKind) (bytes canonical rest name text : List ℕ) (level : Level) → IsBytes bytes
-    → IsCanonical (form_of kind).grammar bytes canonical → Begins kind canonical level rest → name ≡ kind_name kind
+pub reported : (kind : MessageKind) (bytes canonical rest name text : List ℕ) (nest : Nest) → IsBytes bytes
+    → IsCanonical (form_of kind).grammar bytes canonical → Begins kind canonical nest rest → name ≡ kind_name kind
     → ((items : List Item) → Cut rest items → text ≡ report name (length bytes) items canonical) → IsReport kind bytes text
 unfolding IsReport IsCanonical
-reported kind bytes canonical rest name text level are (m, p, fits, is) begins named says =
+reported kind bytes canonical rest name text nest are (m, p, fits, is) begins named says =
     let g = (form_of kind).grammar in
     let items : List Item = map (written_by g.writing) m.attributes in
-    let there : rest ≡ drop (header_size kind) (canonical_bytes g m) = begun-behind kind canonical rest level begins ∙ ap (drop (header_size kind)) is in
+    let there : rest ≡ drop (header_size kind) (canonical_bytes g m) = begun-behind kind canonical rest nest begins ∙ ap (drop (header_size kind)) is in
     let cut : Cut rest items = subst (λ (r : List ℕ). Cut r items) (sym there) (attributes-cut kind bytes m are p fits) in (
       m,
       p,

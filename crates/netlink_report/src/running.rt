@@ -22,7 +22,7 @@ use crate::hex_text::bytes_of;
 use crate::input::read_all;
 use crate::output::write_text;
 use crate::report::whole;
-use netlink_packet_route::{Level, MessageKind, canonical};
+use netlink_packet_route::{MessageKind, Nest, canonical};
 use std::alloc::Global;
 use std::io::{Read, Write};
 
@@ -65,7 +65,7 @@ fn answer(alloc: Global, kind: MessageKind, bytes: &[u8]) -> Result<String, RunE
     ensures errors { IfErr result IsOfMessage }
 {
     let canonical = canonical(alloc, kind, bytes)?;
-    let (_, attributes) = Level::begin(kind, canonical.as_slice())?;
+    let (_, attributes) = Nest::begin(kind, canonical.as_slice())?;
     whole(
         alloc,
         kind.name(),

@@ -5,10 +5,10 @@ use Rattle.std.proofs.lemmas.List.Elements.{All-push}
 use Rattle.netlink_packet_route.specs.Codec.{leading}
 use Rattle.netlink_packet_route.specs.Framing.{Item, Front, number_of}
 use Rattle.netlink_packet_route.specs.FrontLaws.{Passes-more}
-use Rattle.netlink_packet_route.specs.Levels.{Begins}
+use Rattle.netlink_packet_route.specs.MessageKind.{Begins}
 use Rattle.netlink_packet_route.specs.LinkHeader.{header_buffer}
 use Rattle.netlink_packet_route.specs.declared.kind.MessageKind.TheVariants as Kind
-use Rattle.netlink_packet_route.specs.declared.levels.Level.{Level}
+use Rattle.netlink_packet_route.specs.declared.nests.Nest.{Nest}
 use Rattle.netlink_packet_route.specs.declared.link.LinkMessageBuffer.{LinkMessageBuffer}
 use Rattle.netlink_show.specs.Interfaces.{LearnsName, LearnsNew, Nameless, TellsName, ifname, is_up}
 use Rattle.netlink_show.specs.declared.interfaces.Interfaces.{Interfaces}
@@ -26,20 +26,20 @@ one-more bytes rest more x before front other = record {
 }
 
 -- a link that is there and has a number and a name is learned
-pub learns : (old new : Interfaces) (bytes rest name : List ℕ) (level : Level) (header : LinkMessageBuffer) → (leading header_buffer).Reads bytes header
-    → Begins Kind.Link bytes level rest → TellsName level rest (Some name) → header.link_index ≢ 0
+pub learns : (old new : Interfaces) (bytes rest name : List ℕ) (nest : Nest) (header : LinkMessageBuffer) → (leading header_buffer).Reads bytes header
+    → Begins Kind.Link bytes nest rest → TellsName nest rest (Some name) → header.link_index ≢ 0
     → LearnsName old header.link_index name (is_up header) new → LearnsNew old bytes new
-learns old new bytes rest name level header reads begins tells some learned =
-    inr (header, reads, (level, rest, begins, Some name, tells, (rw (ne_eqb header.link_index 0 some) learned)))
+learns old new bytes rest name nest header reads begins tells some learned =
+    inr (header, reads, (nest, rest, begins, Some name, tells, (rw (ne_eqb header.link_index 0 some) learned)))
 
 -- one without a number teaches nothing
-pub learns-no-number : (old : Interfaces) (bytes rest name : List ℕ) (level : Level) (header : LinkMessageBuffer)
-    → (leading header_buffer).Reads bytes header → Begins Kind.Link bytes level rest → TellsName level rest (Some name) → header.link_index ≡ 0
+pub learns-no-number : (old : Interfaces) (bytes rest name : List ℕ) (nest : Nest) (header : LinkMessageBuffer)
+    → (leading header_buffer).Reads bytes header → Begins Kind.Link bytes nest rest → TellsName nest rest (Some name) → header.link_index ≡ 0
     → LearnsNew old bytes old
-learns-no-number old bytes rest name level header reads begins tells none =
-    inr (header, reads, (level, rest, begins, Some name, tells, (rw none refl)))
+learns-no-number old bytes rest name nest header reads begins tells none =
+    inr (header, reads, (nest, rest, begins, Some name, tells, (rw none refl)))
 
 -- nor does one without a name
-pub learns-no-name : (old : Interfaces) (bytes rest : List ℕ) (level : Level) (header : LinkMessageBuffer) → (leading header_buffer).Reads bytes header
-    → Begins Kind.Link bytes level rest → TellsName level rest None → LearnsNew old bytes old
-learns-no-name old bytes rest level header reads begins tells = inr (header, reads, (level, rest, begins, None, tells, refl))
+pub learns-no-name : (old : Interfaces) (bytes rest : List ℕ) (nest : Nest) (header : LinkMessageBuffer) → (leading header_buffer).Reads bytes header
+    → Begins Kind.Link bytes nest rest → TellsName nest rest None → LearnsNew old bytes old
+learns-no-name old bytes rest nest header reads begins tells = inr (header, reads, (nest, rest, begins, None, tells, refl))

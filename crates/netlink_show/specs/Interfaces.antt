@@ -6,14 +6,15 @@ use Rattle.std.specs.BTreeMap.{get, IsUnchanged}
 use Rattle.std.specs.Ordering.{nat_cmp}
 use Rattle.netlink_packet_route.specs.Codec.{leading}
 use Rattle.netlink_packet_route.specs.Framing.{Item, Front, Passes, Fault, number_of}
-use Rattle.netlink_packet_route.specs.Levels.{Begins, reading_at}
+use Rattle.netlink_packet_route.specs.MessageKind.{Begins}
+use Rattle.netlink_packet_route.specs.Nests.{reading_of}
 use Rattle.netlink_packet_route.specs.LinkHeader.{header_buffer}
 use Rattle.netlink_packet_route.specs.Text.{is_set}
 use Rattle.netlink_packet_route.specs.Value.{Shown, is_name}
 use Rattle.netlink_packet_route.specs.Values.{Seen, Unseen}
 use Rattle.netlink_packet_route.specs.declared.framing.DecodeError.{DecodeError}
 use Rattle.netlink_packet_route.specs.declared.kind.MessageKind.TheVariants as Kind
-use Rattle.netlink_packet_route.specs.declared.levels.Level.{Level}
+use Rattle.netlink_packet_route.specs.declared.nests.Nest.{Nest}
 use Rattle.netlink_packet_route.specs.declared.link.LinkMessageBuffer.{LinkMessageBuffer}
 use Rattle.netlink_packet_route.specs.declared.message_type.Action.TheVariants.{New, Del}
 use Rattle.netlink_packet_route.specs.declared.message_type.MessageType.{MessageType}
@@ -74,19 +75,19 @@ IsNoName (is_name text) = ⊥
 IsNoName s = Unit {0}
 
 -- the name that it tells where it stands, or that it tells none
-abbrev pub Names : Level → Item → Option (List ℕ) → Type 0
-Names level x (Some name) = Seen (reading_at level).reading x (is_name name)
-Names level x None =
-    ((e : DecodeError) × Unseen (reading_at level).reading x e) ⊎ ((s : Shown) × Seen (reading_at level).reading x s × IsNoName s)
+abbrev pub Names : Nest → Item → Option (List ℕ) → Type 0
+Names nest x (Some name) = Seen (reading_of nest).reading x (is_name name)
+Names nest x None =
+    ((e : DecodeError) × Unseen (reading_of nest).reading x e) ⊎ ((s : Shown) × Seen (reading_of nest).reading x s × IsNoName s)
 
 -- no attribute stands in front: the end, or a fault
 abbrev pub Ends : List ℕ → Type 0
 Ends rest = (rest ≡ []) ⊎ ((e : DecodeError) × (0 < length rest) × Fault rest e)
 
 -- the name that attributes tell of their link, by the first IFLA_IFNAME; where there is none, they tell none
-abbrev pub TellsName : Level → List ℕ → Option (List ℕ) → Type 0
-TellsName level bytes name =
-    ((x : Item) × IsNaming bytes x × Names level x name) ⊎ ((rest : List ℕ) × Nameless bytes rest × Ends rest × (name ≡ None))
+abbrev pub TellsName : Nest → List ℕ → Option (List ℕ) → Type 0
+TellsName nest bytes name =
+    ((x : Item) × IsNaming bytes x × Names nest x name) ⊎ ((rest : List ℕ) × Nameless bytes rest × Ends rest × (name ≡ None))
 
 -- whether a link is up (IFF_UP)
 abbrev pub is_up : LinkMessageBuffer → Bool
@@ -107,8 +108,8 @@ ByHeader bytes old new tells =
 -- of a link that is there, by the name that the attributes behind the header tell
 abbrev pub LearnsNew : Interfaces → List ℕ → Interfaces → Type 0
 LearnsNew old bytes new =
-    ByHeader bytes old new (λ header. (level : Level) × (rest : List ℕ) × Begins Kind.Link bytes level rest
-    × (name : Option (List ℕ)) × TellsName level rest name × LearnsUnder old header name new)
+    ByHeader bytes old new (λ header. (nest : Nest) × (rest : List ℕ) × Begins Kind.Link bytes nest rest
+    × (name : Option (List ℕ)) × TellsName nest rest name × LearnsUnder old header name new)
 
 -- of a link that is gone: under a family (AF_UNSPEC is 0) it has left that alone, as a port its bridge
 abbrev pub LearnsGone : Interfaces → List ℕ → Interfaces → Type 0

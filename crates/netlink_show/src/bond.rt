@@ -11,8 +11,7 @@ use crate::row::How::{Hardware, Interface, Known, Named, Number, Object, OneOf, 
 use crate::row::Line::IfAny;
 use crate::row::Rows;
 use crate::value::push_angled;
-use netlink_packet_route::Level;
-use netlink_packet_route::framing::NlasIterator;
+use netlink_packet_route::framing::{AttributeSet, NlasIterator};
 use netlink_packet_route::net::{Ipv4Addr, Ipv6Addr};
 
 /// Of a bond.
@@ -93,9 +92,9 @@ const PARTNER_STATE: Word = &Wording(
 /// Lists of addresses, a choice that is `null`, and states with the names of their bits besides.
 pub fn push_own(fields: &mut Fields, list: List<'_>, word: Word, seen: &Seen<'_>) {
     let number = small(&seen.value);
-    match (list.level, seen.number) {
-        (Level::InfoBondPort, 7) => push_agreement(fields, (word, ACTOR_STATE), number),
-        (Level::InfoBondPort, _) => push_agreement(fields, (word, PARTNER_STATE), number),
+    match (list.nest.told_set(), seen.number) {
+        (AttributeSet::InfoBondPort, 7) => push_agreement(fields, (word, ACTOR_STATE), number),
+        (AttributeSet::InfoBondPort, _) => push_agreement(fields, (word, PARTNER_STATE), number),
         (_, 9) => push_validation(fields, word, number),
         _ => push_targets(fields, word, seen.bytes),
     }

@@ -9,8 +9,9 @@ use crate::row::How::{
 };
 use crate::row::Rows;
 use crate::walk::{push_all_rows, push_rows};
+use netlink_packet_route::Flags;
+use netlink_packet_route::framing::AttributeSet;
 use netlink_packet_route::link::{BridgeBooleanOptions, BridgeId};
-use netlink_packet_route::{Flags, Level};
 use std::fmt;
 
 /// Of a bridge.
@@ -163,12 +164,12 @@ const BITS: field::Flags = &[
 /// Ids, options of which some are meant, numbers with a text of their own, and lists in two objects.
 pub fn push_own(fields: &mut Fields, list: List<'_>, word: Word, seen: &Seen<'_>) {
     let number = small(&seen.value);
-    match (list.level, seen.number) {
-        (Level::InfoBridgePort, 1) => push_state(fields, word, number),
-        (Level::InfoBridgePort, 31) => push_groups(fields, word, number),
-        (Level::InfoBridge, 8) => push_tag(fields, word, number),
-        (Level::InfoBridge, 46) => push_options(fields, seen.bytes),
-        (Level::InfoBridge, 47) => push_querier(fields, list, seen),
+    match (list.nest.told_set(), seen.number) {
+        (AttributeSet::InfoBridgePort, 1) => push_state(fields, word, number),
+        (AttributeSet::InfoBridgePort, 31) => push_groups(fields, word, number),
+        (AttributeSet::InfoBridge, 8) => push_tag(fields, word, number),
+        (AttributeSet::InfoBridge, 46) => push_options(fields, seen.bytes),
+        (AttributeSet::InfoBridge, 47) => push_querier(fields, list, seen),
         _ => push_id(fields, word, seen.bytes),
     }
 }

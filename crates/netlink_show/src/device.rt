@@ -15,7 +15,7 @@ use crate::row::How::{
 };
 use crate::row::Line::{IfAny, IfBits, IfIs, Not};
 use crate::row::{ANY, Parts, Rows};
-use netlink_packet_route::Level;
+use netlink_packet_route::framing::AttributeSet;
 
 /// Of a VLAN.
 pub const VLAN: Rows = crate::rows![
@@ -102,12 +102,12 @@ const MAPPING: Parts = crate::parts![
 /// Structures, and numbers with a text of their own.
 pub fn push_own(fields: &mut Fields, list: List<'_>, word: Word, seen: &Seen<'_>) {
     let number = small(&seen.value);
-    match (list.level, seen.number) {
-        (Level::InfoVlan, 2) => push_parts(fields, list, seen.bytes, FLAGS),
-        (Level::InfoVlan, _) => push_tag(fields, word, number),
-        (Level::VlanQosMapping, _) => push_parts(fields, list, seen.bytes, MAPPING),
-        (Level::InfoTun, _) => push_tun_type(fields, word, number),
-        (Level::InfoIpVlan, _) => push_ip_vlan_flags(fields, word, number),
+    match (list.nest.told_set(), seen.number) {
+        (AttributeSet::InfoVlan, 2) => push_parts(fields, list, seen.bytes, FLAGS),
+        (AttributeSet::InfoVlan, _) => push_tag(fields, word, number),
+        (AttributeSet::VlanQosMapping, _) => push_parts(fields, list, seen.bytes, MAPPING),
+        (AttributeSet::InfoTun, _) => push_tun_type(fields, word, number),
+        (AttributeSet::InfoIpVlan, _) => push_ip_vlan_flags(fields, word, number),
         _ => push_count(fields, word, number),
     }
 }

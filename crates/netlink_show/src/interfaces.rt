@@ -11,7 +11,7 @@ use crate::message::Shown;
 use netlink_packet_core::NLM_F_REQUEST;
 use netlink_packet_route::framing::{NlaBuffer, NlasIterator, Value};
 use netlink_packet_route::link::LinkMessageBuffer;
-use netlink_packet_route::{Action, Level, MessageKind, MessageType, Subject};
+use netlink_packet_route::{Action, MessageKind, MessageType, Nest, Subject};
 use std::alloc::{AllocError, Global};
 use std::collections::BTreeMap;
 
@@ -115,10 +115,10 @@ impl Interfaces {
         let Ok(header) = LinkMessageBuffer::parse(bytes) else {
             return Ok(());
         };
-        let Ok((level, attributes)) = Level::begin(MessageKind::Link, bytes) else {
+        let Ok((nest, attributes)) = Nest::begin(MessageKind::Link, bytes) else {
             return Ok(());
         };
-        match first_name(level, attributes) {
+        match first_name(nest, attributes) {
             Some(name) if header.link_index != 0 => self.note_name(alloc, &header, name),
             _ => Ok(()),
         }
@@ -153,8 +153,8 @@ impl Interfaces {
 }
 
 /// The name that the attributes of a link message tell.
-fn first_name(level: Level, attributes: &[u8]) -> Option<&str>
-    ensures { TellsName level attributes.now (option_map (λ name. name.now) result) }
+fn first_name(nest: Nest, attributes: &[u8]) -> Option<&str>
+    ensures { TellsName nest attributes.now (option_map (λ name. name.now) result) }
 {
     let mut walk = NlasIterator::new(attributes);
     'attributes: loop {
@@ -162,16 +162,16 @@ fn first_name(level: Level, attributes: &[u8]) -> Option<&str>
             return None;
         };
         if item.kind() == IFLA_IFNAME {
-            return name_of(level, &item);
+            return name_of(nest, &item);
         }
     }
 }
 
 /// The name that the value of this attribute is.
-fn name_of<'a>(level: Level, item: &NlaBuffer<'a>) -> Option<&'a str>
-    ensures { Names level item.now (option_map (λ name. name.now) result) }
+fn name_of<'a>(nest: Nest, item: &NlaBuffer<'a>) -> Option<&'a str>
+    ensures { Names nest item.now (option_map (λ name. name.now) result) }
 {
-    match level.value(item) {
+    match nest.value(item) {
         Ok((_, Value::Name(name))) => Some(name),
         _ => None,
     }

@@ -16,8 +16,7 @@ use crate::row::How::{
 use crate::row::Line::{IfAny, Never};
 use crate::row::{Parts, Rows, Size};
 use crate::value::push_number;
-use netlink_packet_route::Level;
-use netlink_packet_route::framing::{NlasIterator, Value};
+use netlink_packet_route::framing::{AttributeSet, NlasIterator, Value};
 
 /// Of a link.
 pub const LINK: Rows = crate::rows![
@@ -180,11 +179,11 @@ pub fn push_own(fields: &mut Fields, list: List<'_>, word: Word, seen: &Seen<'_>
 /// The same of what a driver says, of who holds a link down, of programs, and of version 6.
 pub fn push_inner(fields: &mut Fields, list: List<'_>, word: Word, seen: &Seen<'_>) {
     let number = small(&seen.value);
-    match (list.level, seen.number) {
-        (Level::LinkInfo(_, _), _) => push_port_kind(fields, word, &seen.value),
-        (Level::LinkProtocolDownReason, _) => push_bit_numbers(fields, word, number),
-        (Level::LinkXdp, 2) => push_mode(fields, word, number),
-        (Level::LinkXdp, _) => push_program(fields, word, number),
+    match (list.nest.told_set(), seen.number) {
+        (AttributeSet::LinkInfo, _) => push_port_kind(fields, word, &seen.value),
+        (AttributeSet::LinkProtocolDownReason, _) => push_bit_numbers(fields, word, number),
+        (AttributeSet::LinkXdp, 2) => push_mode(fields, word, number),
+        (AttributeSet::LinkXdp, _) => push_program(fields, word, number),
         (_, 3) => {
             let mut inside = Fields::new(fields.manner);
             push_numbers(&mut inside, Size::U64, &[], seen.bytes);
@@ -319,7 +318,9 @@ pub fn push_address_modes(fields: &mut Fields, list: List<'_>) {
     };
     for inner in [list.first_inside(IFLA_PROTINFO), of_settings] {
         match inner {
-            Some(inner) if matches!(inner.level, Level::AfSpecInet6) => push_modes(fields, inner),
+            Some(inner) if matches!(inner.nest.set, AttributeSet::AfSpecInet6) => push_modes(
+                fields, inner,
+            ),
             _ => {}
         }
     }

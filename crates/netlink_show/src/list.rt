@@ -4,7 +4,7 @@ ghost use Rattle.std.specs.Prelude.{◌≡◌, ◌+◌, IfSome};
 
 use netlink_packet_route::framing::{NlaBuffer, NlasIterator, Value};
 use netlink_packet_route::net::IpAddr;
-use netlink_packet_route::{Level, MessageKind};
+use netlink_packet_route::{MessageKind, Nest};
 
 /// What the header of a message says, on which values rest.
 #[derive(Clone, Copy, Default)]
@@ -22,7 +22,7 @@ pub struct Head {
 #[derive(Clone, Copy)]
 pub struct List<'a> {
     /// Where.
-    pub level: Level,
+    pub nest: Nest,
     /// The bytes.
     pub bytes: &'a [u8],
     /// The header.
@@ -47,9 +47,9 @@ pub struct Seen<'a> {
 impl<'a> List<'a> {
     /// The list behind the header of a message.
     pub fn of_message(kind: MessageKind, message: &'a [u8], head: Head) -> Option<List<'a>> {
-        let (level, bytes) = Level::begin(kind, message).ok()?;
+        let (nest, bytes) = Nest::begin(kind, message).ok()?;
         Some(List {
-            level,
+            nest,
             bytes,
             head,
             depth: message.len(),
@@ -70,7 +70,7 @@ impl<'a> List<'a> {
 
     /// An attribute, where its value can be read.
     pub fn seen(self, item: &NlaBuffer<'a>) -> Option<Seen<'a>> {
-        match self.level.value(item) {
+        match self.nest.value(item) {
             Ok((_, value)) => Some(Seen {
                 number: item.kind(),
                 kind: item.raw_kind(),
@@ -126,9 +126,9 @@ impl<'a> List<'a> {
         ensures { IfSome result (λ inner. inner.depth + 1 ≡ self.entry.depth) }
     {
         let depth = self.depth.checked_sub(1)?;
-        let (level, bytes) = self.level.inside(seen.number, seen.bytes)?;
+        let (nest, bytes) = self.nest.inside(seen.number, seen.bytes)?;
         Some(List {
-            level,
+            nest,
             bytes,
             head: self.head,
             depth,
@@ -137,11 +137,11 @@ impl<'a> List<'a> {
 
     /// The list in this attribute, where its value can be read.
     pub fn inside_of<'b>(self, item: &NlaBuffer<'b>) -> Option<List<'b>> {
-        match self.level.value(item) {
+        match self.nest.value(item) {
             Ok(_) => {
-                let (level, bytes) = self.level.inside(item.kind(), item.value())?;
+                let (nest, bytes) = self.nest.inside(item.kind(), item.value())?;
                 Some(List {
-                    level,
+                    nest,
                     bytes,
                     head: self.head,
                     depth: self.depth,

@@ -15,7 +15,7 @@ use netlink_packet_route::net::IpAddr;
 use netlink_packet_route::route::{
     RouteCacheInfo, RouteLwEnCapType, RouteRealm, RouteVia, read_labels,
 };
-use netlink_packet_route::{AddressFamily, Level};
+use netlink_packet_route::{AddressFamily, Nest};
 use std::fmt;
 
 /// How much a route forwarded (`struct rta_mfc_stats`).
@@ -68,7 +68,7 @@ pub fn push_own(fields: &mut Fields, list: List<'_>, word: Word, seen: &Seen<'_>
         16 => push_mark(fields, word, number),
         17 => push_structure(fields, list, word, seen.bytes, FORWARDED),
         18 => push_via(fields, word, seen.bytes),
-        19 => push_new(fields, list.level, word, &seen.value),
+        19 => push_new(fields, list.nest, word, &seen.value),
         20 => push_preference(fields, word, number),
         21 => push_type(fields, word, number),
         23 => push_expires(fields, word, &seen.value),
@@ -121,11 +121,9 @@ fn push_mark(fields: &mut Fields, word: Word, mark: u32) {
 }
 
 /// Another destination: labels, or an address of the family.
-fn push_new(fields: &mut Fields, level: Level, word: Word, value: &Value<'_>) {
-    match level {
-        Level::Route(netlink_packet_route::AddressFamily::Mpls, _, _) => {
-            push_labels(fields, word, bytes_of(value))
-        }
+fn push_new(fields: &mut Fields, nest: Nest, word: Word, value: &Value<'_>) {
+    match nest.context.family {
+        AddressFamily::Mpls => push_labels(fields, word, bytes_of(value)),
         _ => push_text(fields, word, value),
     }
 }

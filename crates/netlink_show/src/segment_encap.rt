@@ -8,11 +8,9 @@ use crate::names::{SEG6_MODES, TABLES};
 use crate::part::push_parts;
 use crate::row::How::{Interface, Mark, Named, Number, Own, Text};
 use crate::row::{Parts, Rows};
-use netlink_packet_route::Level;
+use netlink_packet_route::framing::AttributeSet;
 use netlink_packet_route::net::Ipv6Addr;
-use netlink_packet_route::route::{
-    Ioam6Mode, RouteLwEnCapType, Seg6LocalAction, Seg6MessageBuffer,
-};
+use netlink_packet_route::route::{Ioam6Mode, Seg6LocalAction, Seg6MessageBuffer};
 
 /// Of a list of segments that packets are sent along (`SEG6_IPTUNNEL_*`).
 pub const SEG6: Rows = crate::rows![
@@ -92,13 +90,11 @@ const OVERFLOW: Word = &Wording(11, "overflow", "overflow");
 
 /// Routing headers, and numbers by the names that the library has.
 pub fn push_own(fields: &mut Fields, list: List<'_>, word: Word, seen: &Seen<'_>) {
-    match (list.level, seen.number) {
-        (Level::Encap(RouteLwEnCapType::Seg6), _) => push_seg6(fields, word, seen.bytes),
-        (Level::Encap(RouteLwEnCapType::Seg6Local), 1) => {
-            push_action(fields, word, small(&seen.value))
-        }
-        (Level::Encap(RouteLwEnCapType::Seg6Local), _) => push_local(fields, list, word, seen),
-        (Level::Encap(RouteLwEnCapType::Rpl), _) => push_rpl(fields, list, seen),
+    match (list.nest.told_set(), seen.number) {
+        (AttributeSet::Seg6, _) => push_seg6(fields, word, seen.bytes),
+        (AttributeSet::Seg6Local, 1) => { push_action(fields, word, small(&seen.value)) }
+        (AttributeSet::Seg6Local, _) => push_local(fields, list, word, seen),
+        (AttributeSet::Rpl, _) => push_rpl(fields, list, seen),
         (_, 1) => push_mode(fields, word, small(&seen.value)),
         _ => push_trace(fields, word, seen),
     }

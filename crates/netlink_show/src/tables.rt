@@ -34,165 +34,175 @@ use crate::{
     address, bond, bridge, device, link_attribute, metric, neighbour, neighbour_table, netconf,
     next_hop, prefix, route_value, rule, segment_encap, tunnel_encap, tunnel_value,
 };
-use netlink_packet_route::Level;
+use netlink_packet_route::Nest;
+use netlink_packet_route::framing::AttributeSet;
 use netlink_packet_route::link::InfoForm;
-use netlink_packet_route::route::RouteLwEnCapType;
 
 /// The rows of a list.
-pub fn rows_of(level: Level) -> Rows {
-    match level {
-        Level::Link(_) => LINK,
-        Level::LinkInfo(_, _) => LINK_INFO,
-        Level::LinkXdp => XDP,
-        Level::Prop => PROPERTIES,
-        Level::LinkProtocolDownReason => REASONS,
-        Level::AfSpecUnspec => AF_SPEC,
-        Level::AfSpecInet => AF_SPEC_INET,
-        Level::AfSpecInet6 => AF_SPEC_INET6,
-        Level::AfSpecBridge => AF_SPEC_BRIDGE,
-        Level::BridgeVlanTunnelInfo => VLAN_TUNNEL,
-        Level::BridgeMst => TREES,
-        Level::BridgeMstEntry => TREE,
-        Level::InfoBridge => BRIDGE,
-        Level::InfoBridgePort => BRIDGE_PORT,
-        Level::InfoVlan => VLAN,
-        Level::VlanQosMapping => VLAN_QOS,
-        Level::InfoVrf => VRF,
-        Level::InfoVeth => VETH,
-        Level::Peer => PEER,
-        Level::InfoBond => BOND,
-        Level::BondAdInfo => BOND_AD_INFO,
-        Level::InfoBondPort => BOND_PORT,
-        Level::InfoMacVlan => MAC_VLAN,
-        Level::MacVlanAddress => MAC_VLAN_SOURCES,
-        Level::InfoIpVlan => IP_VLAN,
-        Level::InfoNetkit => NETKIT,
-        Level::InfoTun => TUN,
-        Level::InfoVxlan => VXLAN,
-        Level::InfoGeneve => GENEVE,
-        Level::InfoGre => GRE,
-        Level::InfoGre6 => GRE6,
-        Level::InfoIpTunnel(InfoForm::Ip6Tnl) => IP6_TUNNEL,
-        Level::InfoIpTunnel(_) => IP_TUNNEL,
-        Level::InfoVti => VTI,
-        Level::InfoXfrm => XFRM,
-        Level::Route(_, _, _) => ROUTE,
-        Level::Rule => RULE,
-        Level::Address => ADDRESS,
-        Level::Neighbour(_) => NEIGHBOUR,
-        Level::NeighbourTable => NEIGHBOUR_TABLE,
-        Level::Nsid => NSID,
-        Level::Netconf => NETCONF,
-        Level::AddressLabel => ADDRESS_LABEL,
-        Level::Prefix => PREFIX,
-        Level::NextHop(_, _) => NEXT_HOP,
-        Level::NextHopResGroup => RESILIENT,
-        Level::NextHopResBucket => BUCKET,
-        Level::Metric => METRICS,
-        Level::Encap(encap_type) => rows_of_encap(encap_type),
-        Level::Opt => OPTIONS,
-        Level::Vxlan => VXLAN_OPTIONS,
-        Level::Erspan => ERSPAN_OPTIONS,
-        // These stand in the objects of what holds them, by rows beside its own.
-        Level::BridgeQuerierState
-        | Level::NeighbourTableParameter
-        | Level::NextHopGroupStats
-        | Level::NextHopGroupStatsEntry => &[],
+pub fn rows_of(nest: Nest) -> Rows {
+    match nest.told_set() {
+        AttributeSet::Link => LINK,
+        AttributeSet::LinkInfo => LINK_INFO,
+        AttributeSet::LinkXdp => XDP,
+        AttributeSet::Prop => PROPERTIES,
+        AttributeSet::LinkProtocolDownReason => REASONS,
+        AttributeSet::AfSpecUnspec => AF_SPEC,
+        AttributeSet::AfSpecInet => AF_SPEC_INET,
+        AttributeSet::AfSpecInet6 => AF_SPEC_INET6,
+        AttributeSet::AfSpecBridge => AF_SPEC_BRIDGE,
+        AttributeSet::BridgeVlanTunnelInfo => VLAN_TUNNEL,
+        AttributeSet::BridgeMst => TREES,
+        AttributeSet::BridgeMstEntry => TREE,
+        AttributeSet::InfoBridge => BRIDGE,
+        AttributeSet::InfoBridgePort => BRIDGE_PORT,
+        AttributeSet::InfoVlan => VLAN,
+        AttributeSet::VlanQosMapping => VLAN_QOS,
+        AttributeSet::InfoVrf => VRF,
+        AttributeSet::InfoVeth => VETH,
+        AttributeSet::Peer => PEER,
+        AttributeSet::InfoBond => BOND,
+        AttributeSet::BondAdInfo => BOND_AD_INFO,
+        AttributeSet::InfoBondPort => BOND_PORT,
+        AttributeSet::InfoMacVlan => MAC_VLAN,
+        AttributeSet::MacVlanAddress => MAC_VLAN_SOURCES,
+        AttributeSet::InfoIpVlan => IP_VLAN,
+        AttributeSet::InfoNetkit => NETKIT,
+        AttributeSet::InfoTun => TUN,
+        AttributeSet::InfoVxlan => VXLAN,
+        AttributeSet::InfoGeneve => GENEVE,
+        AttributeSet::InfoGre => GRE,
+        AttributeSet::InfoGre6 => GRE6,
+        AttributeSet::InfoIpTunnel if is_over_6(nest) => IP6_TUNNEL,
+        AttributeSet::InfoIpTunnel => IP_TUNNEL,
+        AttributeSet::InfoVti => VTI,
+        AttributeSet::InfoXfrm => XFRM,
+        AttributeSet::Route => ROUTE,
+        AttributeSet::Rule => RULE,
+        AttributeSet::Address => ADDRESS,
+        AttributeSet::Neighbour => NEIGHBOUR,
+        AttributeSet::NeighbourTable => NEIGHBOUR_TABLE,
+        AttributeSet::Nsid => NSID,
+        AttributeSet::Netconf => NETCONF,
+        AttributeSet::AddressLabel => ADDRESS_LABEL,
+        AttributeSet::Prefix => PREFIX,
+        AttributeSet::NextHop => NEXT_HOP,
+        AttributeSet::NextHopResGroup => RESILIENT,
+        AttributeSet::NextHopResBucket => BUCKET,
+        AttributeSet::Metric => METRICS,
+        AttributeSet::Mpls => MPLS,
+        AttributeSet::Ip => IP,
+        AttributeSet::Ip6 => IP6,
+        AttributeSet::Xfrm => XFRM_ENCAP,
+        AttributeSet::Seg6 => SEG6,
+        AttributeSet::Seg6Local => SEG6_LOCAL,
+        AttributeSet::Rpl => RPL,
+        AttributeSet::Ioam6 => IOAM6,
+        AttributeSet::Opt => OPTIONS,
+        AttributeSet::Vxlan => VXLAN_OPTIONS,
+        AttributeSet::Erspan => ERSPAN_OPTIONS,
+        // Some stand in the objects of what holds them, by rows beside its own; the others have none.
+        AttributeSet::BridgeQuerierState
+        | AttributeSet::NeighbourTableParameter
+        | AttributeSet::NextHopGroupStats
+        | AttributeSet::NextHopGroupStatsEntry
+        | AttributeSet::Geneve
+        | AttributeSet::Encap
+        | AttributeSet::Value => &[],
     }
 }
 
-/// The rows of an encapsulation.
-fn rows_of_encap(encap_type: RouteLwEnCapType) -> Rows {
-    match encap_type {
-        RouteLwEnCapType::Mpls => MPLS,
-        RouteLwEnCapType::Ip => IP,
-        RouteLwEnCapType::Ip6 => IP6,
-        RouteLwEnCapType::Xfrm => XFRM_ENCAP,
-        RouteLwEnCapType::Seg6 => SEG6,
-        RouteLwEnCapType::Seg6Local => SEG6_LOCAL,
-        RouteLwEnCapType::Rpl => RPL,
-        RouteLwEnCapType::Ioam6 => IOAM6,
-        _ => &[],
-    }
+/// Whether the data of a tunnel are those of one over version 6.
+pub fn is_over_6(nest: Nest) -> bool {
+    matches!(nest.context.link, InfoForm::Ip6Tnl)
 }
 
 /// What is shown of a value in a way of its own.
 pub fn push_own(fields: &mut Fields, list: List<'_>, word: Word, seen: &Seen<'_>) {
-    match list.level {
-        Level::Link(_) => link_attribute::push_own(fields, list, word, seen),
-        Level::LinkInfo(_, _)
-        | Level::LinkXdp
-        | Level::LinkProtocolDownReason
-        | Level::AfSpecInet6 => link_attribute::push_inner(fields, list, word, seen),
-        Level::InfoBridge | Level::InfoBridgePort => bridge::push_own(fields, list, word, seen),
-        Level::InfoBond | Level::InfoBondPort => bond::push_own(fields, list, word, seen),
-        Level::InfoVlan
-        | Level::VlanQosMapping
-        | Level::InfoMacVlan
-        | Level::InfoIpVlan
-        | Level::InfoTun => device::push_own(fields, list, word, seen),
-        Level::InfoVxlan | Level::InfoGeneve | Level::InfoGre6 | Level::InfoIpTunnel(_) =>
-            tunnel_value::push_own(fields, list, word, seen),
+    match list.nest.told_set() {
+        AttributeSet::Link => link_attribute::push_own(fields, list, word, seen),
+        AttributeSet::LinkInfo
+        | AttributeSet::LinkXdp
+        | AttributeSet::LinkProtocolDownReason
+        | AttributeSet::AfSpecInet6 => link_attribute::push_inner(fields, list, word, seen),
+        AttributeSet::InfoBridge | AttributeSet::InfoBridgePort => bridge::push_own(
+            fields, list, word, seen,
+        ),
+        AttributeSet::InfoBond | AttributeSet::InfoBondPort => bond::push_own(
+            fields, list, word, seen,
+        ),
+        AttributeSet::InfoVlan
+        | AttributeSet::VlanQosMapping
+        | AttributeSet::InfoMacVlan
+        | AttributeSet::InfoIpVlan
+        | AttributeSet::InfoTun => device::push_own(fields, list, word, seen),
+        AttributeSet::InfoVxlan
+        | AttributeSet::InfoGeneve
+        | AttributeSet::InfoGre6
+        | AttributeSet::InfoIpTunnel => tunnel_value::push_own(fields, list, word, seen),
         _ => push_own_of_message(fields, list, word, seen),
     }
 }
 
 /// The same but for links.
 fn push_own_of_message(fields: &mut Fields, list: List<'_>, word: Word, seen: &Seen<'_>) {
-    match list.level {
-        Level::Route(_, _, _) => route_value::push_own(fields, list, word, seen),
-        Level::Metric => metric::push_own(fields, list, word, seen),
-        Level::Encap(RouteLwEnCapType::Mpls) => push_labels(fields, word, seen.bytes),
-        Level::Encap(RouteLwEnCapType::Ip | RouteLwEnCapType::Ip6) => {
-            tunnel_encap::push_own(fields, word, seen)
+    match list.nest.told_set() {
+        AttributeSet::Route => route_value::push_own(fields, list, word, seen),
+        AttributeSet::Metric => metric::push_own(fields, list, word, seen),
+        AttributeSet::Mpls => push_labels(fields, word, seen.bytes),
+        AttributeSet::Ip | AttributeSet::Ip6 => { tunnel_encap::push_own(fields, word, seen) }
+        AttributeSet::Seg6 | AttributeSet::Seg6Local | AttributeSet::Rpl | AttributeSet::Ioam6 => {
+            segment_encap::push_own(fields, list, word, seen)
         }
-        Level::Encap(_) => segment_encap::push_own(fields, list, word, seen),
-        Level::Opt => push_geneve(fields, word, seen.bytes),
-        Level::Rule => rule::push_own(fields, list, word, seen),
-        Level::Address => address::push_own(fields, list, word, seen),
-        Level::Neighbour(_) => neighbour::push_own(fields, word, seen),
-        Level::NeighbourTable => neighbour_table::push_own(fields, list, seen),
-        Level::NextHop(_, _) => next_hop::push_own(fields, list, word, seen),
-        Level::Netconf => netconf::push_own(fields, word, seen),
-        Level::Prefix => prefix::push_own(fields, list, seen),
+        AttributeSet::Opt => push_geneve(fields, word, seen.bytes),
+        AttributeSet::Rule => rule::push_own(fields, list, word, seen),
+        AttributeSet::Address => address::push_own(fields, list, word, seen),
+        AttributeSet::Neighbour => neighbour::push_own(fields, word, seen),
+        AttributeSet::NeighbourTable => neighbour_table::push_own(fields, list, seen),
+        AttributeSet::NextHop => next_hop::push_own(fields, list, word, seen),
+        AttributeSet::Netconf => netconf::push_own(fields, word, seen),
+        AttributeSet::Prefix => prefix::push_own(fields, list, seen),
         _ => {}
     }
 }
 
 /// What several attributes of a list tell together.
 pub fn push_beside(fields: &mut Fields, list: List<'_>) {
-    match list.level {
-        Level::InfoGre | Level::InfoGre6 => push_encap(fields, list, [14, 15, 16, 17]),
-        Level::InfoIpTunnel(_) => push_encap(fields, list, [15, 16, 17, 18]),
-        Level::LinkXdp => push_attached(fields, list),
-        Level::AfSpecBridge => push_bridge_lists(fields, list),
-        Level::Link(_) => push_address_modes(fields, list),
-        Level::NextHop(_, _) => next_hop::push_beside(fields, list),
-        Level::Metric => push_locks(fields, list),
-        Level::Erspan => push_erspan(fields, list),
+    match list.nest.told_set() {
+        AttributeSet::InfoGre | AttributeSet::InfoGre6 => push_encap(
+            fields,
+            list,
+            [14, 15, 16, 17],
+        ),
+        AttributeSet::InfoIpTunnel => push_encap(fields, list, [15, 16, 17, 18]),
+        AttributeSet::LinkXdp => push_attached(fields, list),
+        AttributeSet::AfSpecBridge => push_bridge_lists(fields, list),
+        AttributeSet::Link => push_address_modes(fields, list),
+        AttributeSet::NextHop => next_hop::push_beside(fields, list),
+        AttributeSet::Metric => push_locks(fields, list),
+        AttributeSet::Erspan => push_erspan(fields, list),
         _ => {}
     }
 }
 
 /// Whether a line has nothing of an attribute in such a list that nobody knows and that is empty.
-pub fn hides_padding(level: Level) -> bool {
-    match level {
-        Level::Address
-        | Level::Rule
-        | Level::Route(_, _, _)
-        | Level::Neighbour(_)
-        | Level::Metric
-        | Level::Encap(_)
-        | Level::Opt
-        | Level::Vxlan
-        | Level::Erspan
-        | Level::NextHop(_, _)
-        | Level::NextHopGroupStats
-        | Level::NextHopGroupStatsEntry
-        | Level::Nsid
-        | Level::Netconf
-        | Level::AddressLabel
-        | Level::Prefix => false,
+pub fn hides_padding(nest: Nest) -> bool {
+    match nest.set {
+        AttributeSet::Address
+        | AttributeSet::Rule
+        | AttributeSet::Route
+        | AttributeSet::Neighbour
+        | AttributeSet::Metric
+        | AttributeSet::Encap
+        | AttributeSet::Opt
+        | AttributeSet::Vxlan
+        | AttributeSet::Erspan
+        | AttributeSet::NextHop
+        | AttributeSet::NextHopGroupStats
+        | AttributeSet::NextHopGroupStatsEntry
+        | AttributeSet::Nsid
+        | AttributeSet::Netconf
+        | AttributeSet::AddressLabel
+        | AttributeSet::Prefix => false,
         _ => true,
     }
 }

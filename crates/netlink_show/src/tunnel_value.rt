@@ -5,9 +5,8 @@ use crate::link_kind_names::ENCAPS;
 use crate::list::{List, Seen, small};
 use crate::manner::Inet;
 use crate::part::{PORTS, push_structure};
-use netlink_packet_route::Level;
-use netlink_packet_route::framing::Value;
-use netlink_packet_route::link::InfoForm;
+use crate::tables::is_over_6;
+use netlink_packet_route::framing::{AttributeSet, Value};
 use netlink_packet_route::net::IpAddr;
 
 const ENCAP: Word = &Wording(33, "encap", "encap");
@@ -29,15 +28,17 @@ const ENCAP_FLAGS: Word = &Wording(6, "flags", "encap-flags ");
 /// Addresses that may be a group's, ranges of ports, and what flags of a tunnel over version 6 replace.
 pub fn push_own(fields: &mut Fields, list: List<'_>, word: Word, seen: &Seen<'_>) {
     let number = small(&seen.value);
-    match (list.level, seen.number) {
-        (Level::InfoVxlan, 10) => push_structure(fields, list, word, seen.bytes, PORTS),
-        (Level::InfoVxlan, _) => push_remote(fields, word, &seen.value),
-        (Level::InfoGeneve, 15) => push_structure(fields, list, word, seen.bytes, PORTS),
-        (Level::InfoGeneve, _) => push_remote6(fields, word, &seen.value),
-        (Level::InfoGre6, 12) => push_flow(fields, number, list.number(13)),
-        (Level::InfoGre6, _) => push_mark6(fields, word, number, list.number(13)),
-        (Level::InfoIpTunnel(InfoForm::Ip6Tnl), 7) => push_flow(fields, number, list.number(8)),
-        (Level::InfoIpTunnel(InfoForm::Ip6Tnl), _) => {
+    match (list.nest.told_set(), seen.number) {
+        (AttributeSet::InfoVxlan, 10) => push_structure(fields, list, word, seen.bytes, PORTS),
+        (AttributeSet::InfoVxlan, _) => push_remote(fields, word, &seen.value),
+        (AttributeSet::InfoGeneve, 15) => push_structure(fields, list, word, seen.bytes, PORTS),
+        (AttributeSet::InfoGeneve, _) => push_remote6(fields, word, &seen.value),
+        (AttributeSet::InfoGre6, 12) => push_flow(fields, number, list.number(13)),
+        (AttributeSet::InfoGre6, _) => push_mark6(fields, word, number, list.number(13)),
+        (AttributeSet::InfoIpTunnel, 7) if is_over_6(list.nest) => {
+            push_flow(fields, number, list.number(8))
+        }
+        (AttributeSet::InfoIpTunnel, _) if is_over_6(list.nest) => {
             push_mark6(fields, word, number, list.number(8))
         }
         _ => push_flow(fields, number, u32::MAX),

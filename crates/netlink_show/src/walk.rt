@@ -9,9 +9,9 @@ use crate::route::push_hop;
 use crate::row::{How, Row, Rows};
 use crate::tables::{hides_padding, push_beside, rows_of};
 use crate::value::{is_hidden, push_plain, push_row};
-use netlink_packet_route::framing::{NlaBuffer, NlasIterator};
+use netlink_packet_route::framing::{AttributeSet, NlaBuffer, NlasIterator};
 use netlink_packet_route::route::{NEXT_HOP_HEADER_SIZE, RTNH_ALIGNTO, RouteNextHopBuffer};
-use netlink_packet_route::{Level, MessageKind};
+use netlink_packet_route::{MessageKind, Nest};
 
 /// A next hop of a route, in a line of its own.
 const NEXT_HOP: Word = &Wording(0, "nexthops", "\n\tnexthop");
@@ -54,7 +54,7 @@ fn push_each(objects: &mut Fields, list: List<'_>) {
 /// What is shown of an attribute: one without a row stands as it is.
 #[cycle(list)]
 fn push_item<'a>(fields: &mut Fields, list: List<'a>, item: &NlaBuffer<'a>) {
-    let Some(row) = row_of(rows_of(list.level), item.kind()) else {
+    let Some(row) = row_of(rows_of(list.nest), item.kind()) else {
         return push_nameless(fields, list, item);
     };
     let Some(seen) = list.seen(item) else {
@@ -77,7 +77,7 @@ fn push_nested<'a>(fields: &mut Fields, list: List<'a>, row: &'static Row, seen:
     let head = push_front(&mut inside, list, row.how, seen);
     match (list.inside(seen), row.how) {
         (Some(inner), How::Flat) => return push_list(fields, inner),
-        (Some(inner), How::Alone(_, _)) if is_of_6(inner.level) => {
+        (Some(inner), How::Alone(_, _)) if is_of_6(inner.nest) => {
             let mut of_6 = Fields::new(fields.manner);
             push_list(&mut of_6, inner);
             inside.object(OF_INET6, of_6)
@@ -105,7 +105,7 @@ fn push_hops(objects: &mut Fields, list: List<'_>, bytes: &[u8]) {
         let mut inside = Fields::new(objects.manner);
         push_hop(&mut inside, &hop);
         let inner = List {
-            level: list.level.of_next_hop(attributes),
+            nest: list.nest.of_next_hop(attributes),
             bytes: attributes,
             head: Head::default(),
             depth,
@@ -130,17 +130,17 @@ fn first_hop(bytes: &[u8]) -> Option<(RouteNextHopBuffer, &[u8], &[u8])> {
 
 /// What stands in front of a list in its object. Answers what the header says on which values rest.
 fn push_front(inside: &mut Fields, list: List<'_>, how: How, seen: &Seen<'_>) -> Head {
-    match (how, list.level) {
+    match (how, list.nest.set) {
         (How::Peer, _) => return push_peer_header(inside, seen.bytes),
-        (How::Object, Level::NextHop(_, _)) => push_encap_type(inside, list, seen.number),
+        (How::Object, AttributeSet::NextHop) => push_encap_type(inside, list, seen.number),
         _ => {}
     }
     list.head
 }
 
 /// Whether version 6 says a list.
-fn is_of_6(level: Level) -> bool {
-    matches!(level, Level::AfSpecInet6)
+fn is_of_6(nest: Nest) -> bool {
+    matches!(nest.set, AttributeSet::AfSpecInet6)
 }
 
 /// Whether lists are shown so.
@@ -241,5 +241,5 @@ fn push_seen<'a>(fields: &mut Fields, list: List<'a>, row: &'static Row, item: &
 /// An attribute that nobody knows. Padding has no words where such a list may have some.
 pub fn push_nameless(fields: &mut Fields, list: List<'_>, item: &NlaBuffer<'_>) {
     push_raw(fields, item.raw_kind(), item.value());
-    fields.hide_if(hides_padding(list.level) && item.value().is_empty());
+    fields.hide_if(hides_padding(list.nest) && item.value().is_empty());
 }

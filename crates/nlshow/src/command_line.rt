@@ -6,7 +6,7 @@ use std::fmt;
 
 /// The line for a command line that says nothing that can be done.
 pub const USAGE: &str =
-    "usage: nlshow [--json | --count] [--numeric] [--hex] [--as KIND] [--links FILE] [--keep FILE] [--] [FILE..]";
+    "usage: nlshow [--json | --count] [--numeric] [--hex] [--as KIND] [--links FILE] [--keep FILE] [KIND..] [--] [FILE..]";
 
 /// What `--help` says.
 pub const HELP: &str =
@@ -25,6 +25,7 @@ also as `ip route save` and its like keep them, and captures of nlmon (pcap, pca
   --keep FILE writes the messages that are refused to FILE, which is made anew at the first
   -h, --help  this text
   --version   the version
+  KIND        only messages of this kind, as in `nlshow route link FILE`; ./route is a file
   --          what follows are files
   FILE        a file that is read; - is standard input; where one fails the next is read
 
@@ -54,6 +55,23 @@ pub struct Options {
     pub is_hex: bool,
     /// The kind of messages without an envelope.
     pub kind: Option<MessageKind>,
+    /// The kinds that are told of, a bit each; of none all.
+    only: u32,
+}
+
+impl Options {
+    /// Whether messages of this kind are told of.
+    pub fn tells_of(&self, kind: Option<MessageKind>) -> bool {
+        match kind {
+            Some(kind) => self.only == 0 || self.only & bit_of(kind) != 0,
+            None => self.only == 0,
+        }
+    }
+}
+
+/// The bit of a kind.
+fn bit_of(kind: MessageKind) -> u32 {
+    1u32.checked_shl(kind as u32).unwrap_or(0)
 }
 
 /// Lines of datagrams.
@@ -62,6 +80,7 @@ pub const PLAIN: Options = Options {
     numeric: false,
     is_hex: false,
     kind: None,
+    only: 0,
 };
 
 /// What is to be shown.
@@ -144,6 +163,7 @@ pub fn command_of<'a>(alloc: Global, words: &'a [String]) -> Result<Command<'a>,
             (None, _) if set_option(&mut request.options, word) => {}
             (None, _) if take_joined(&mut request, word) => {}
             (None, _) if is_option(word) => return Ok(Command::Wrong(wrong_option(word))),
+            (None, _) if request.files.is_empty() && take_kind(&mut request.options, word) => {}
             (None, _) => request.files.push(word)?,
         }
     }
@@ -158,6 +178,17 @@ fn take_form(options: &mut Options, form: Form) -> bool {
     let is_alone = options.form == Form::Lines || options.form == form;
     options.form = form;
     is_alone
+}
+
+/// Takes a kind that is told of, and answers whether the word is one.
+fn take_kind(options: &mut Options, word: &str) -> bool {
+    match MessageKind::named(word) {
+        Some(kind) => {
+            options.only |= bit_of(kind);
+            true
+        }
+        None => false,
+    }
 }
 
 /// Takes the word behind an option, and answers whether it can stand there.

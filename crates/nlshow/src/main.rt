@@ -19,7 +19,7 @@ use std::process::ExitCode;
 use std::{env, fs, io};
 
 /// The version, which is the repository's.
-const VERSION: &str = "nlshow 0.11.0";
+const VERSION: &str = "nlshow 0.12.0";
 
 fn main(rt: HostRuntime) -> ExitCode {
     // Also where a word is no UTF-8.

@@ -1,6 +1,6 @@
 //! Why a message is not shown, in words.
 
-use netlink_packet_route::framing::{At, AttrFamily, DecodeError};
+use netlink_packet_route::framing::{At, AttributeSet, DecodeError};
 use netlink_show::attribute_name;
 use std::fmt;
 
@@ -42,9 +42,9 @@ struct Named(At);
 impl fmt::Display for Named {
     fn fmt<W: fmt::Write>(&self, f: &mut fmt::Formatter<W>) -> fmt::Result {
         let Named(at) = *self;
-        match attribute_name(at.family, at.kind) {
-            Some(name) => write!(f, "{name} ({})", at.kind),
-            None => write!(f, "{:?} {}", at.family, at.kind),
+        match attribute_name(at.set, at.number) {
+            Some(name) => write!(f, "{name} ({})", at.number),
+            None => write!(f, "{:?} {}", at.set, at.number),
         }
     }
 }
@@ -82,11 +82,11 @@ fn write_fault<W: fmt::Write>(f: &mut fmt::Formatter<W>, fault: DecodeError) -> 
             write!(f, "no UTF-8 at {named}")
         }
         DecodeError::GeneveOrder { kind } => {
-            let named = Named(AttrFamily::Geneve.at(kind));
+            let named = Named(AttributeSet::Geneve.at(kind));
             write!(f, "{named} before a class")
         }
         DecodeError::GeneveChild { kind } => {
-            let named = Named(AttrFamily::Geneve.at(kind));
+            let named = Named(AttributeSet::Geneve.at(kind));
             write!(f, "{named} is unknown")
         }
         _ => write!(f, "{fault}"),

@@ -133,7 +133,7 @@ impl<'r, 'a> Session<'r, 'a> {
         if !matches!(self.options.form, Form::Count) {
             self.interfaces.note(self.alloc, message)?;
         }
-        if self.is_learning {
+        if self.is_learning || !self.options.tells_of(message.kind) {
             return Ok(());
         }
         self.counts.add(message);

@@ -2,7 +2,7 @@
 use Rattle.std.specs.Prelude.{◌≢◌, ℕ, List, Option, Some, None}
 use Rattle.std.proofs.Common.{◌≡◌, refl}
 use Rattle.netlink_packet_route.specs.Fields.{le_four, ◌fills◌, ◌then◌, last, structure}
-use Rattle.netlink_packet_route.specs.declared.framing.AttrFamily.TheVariants.{Value}
+use Rattle.netlink_packet_route.specs.declared.framing.AttributeSet.TheVariants.{Value}
 use Rattle.netlink_packet_route.specs.declared.net.IpAddr.{IpAddr}
 use Rattle.netlink_packet_route.specs.Layout.{Layout}
 use Rattle.netlink_packet_route.specs.Found.{IsFirst}

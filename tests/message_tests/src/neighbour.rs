@@ -2,7 +2,7 @@
 
 use bitflags::Flags;
 use netlink_packet_route::framing::{
-    At, AttrFamily, DecodeError, EmitError, Emitable, Header, NlaBuffer, ParseableParametrized,
+    At, AttributeSet, DecodeError, EmitError, Emitable, Header, NlaBuffer, ParseableParametrized,
 };
 use netlink_packet_route::neighbour::{
     NeighbourAddress, NeighbourAttribute, NeighbourCacheInfo, NeighbourExtFlags, NeighbourFlags,
@@ -92,11 +92,11 @@ fn reads_dumped_messages(rt: HostRuntime) -> Result<(), Fail> {
 #[test]
 fn reads_under_a_family(rt: HostRuntime) -> Result<(), Fail> {
     let line = "14000100 fc000000000000000000000000000001 => \
-        a value of 16 bytes at At { family: Neighbour, kind: 1 }";
+        a value of 16 bytes at At { set: Neighbour, number: 1 }";
     members::<NeighbourAttribute>(&rt, AddressFamily::Inet, line)?;
     let lines = "
         14000100 fc000000000000000000000000000001 => Destination(Inet6(fc00::1))
-        08000100 c0000203 => a value of 4 bytes at At { family: Neighbour, kind: 1 }";
+        08000100 c0000203 => a value of 4 bytes at At { set: Neighbour, number: 1 }";
     members::<NeighbourAttribute>(&rt, AddressFamily::Inet6, lines)
 }
 
@@ -121,8 +121,8 @@ fn an_address_of_version_6(rt: HostRuntime) -> Result<(), Fail> {
 #[test]
 fn an_address_of_no_place(rt: HostRuntime) -> Result<(), Fail> {
     let at = At {
-        family: AttrFamily::Value,
-        kind: 0,
+        set: AttributeSet::Value,
+        number: 0,
     };
     let found = NeighbourAddress::parse(rt.alloc(), AddressFamily::Inet6, &[192, 0, 2, 3]);
     same(found.err(), Some(DecodeError::ValueLength { at, got: 4 }))
@@ -150,19 +150,19 @@ fn reads_values(rt: HostRuntime) -> Result<(), Fail> {
             14000300 01000000 02000000 03000000 04000000 => \
             [CacheInfo(NeighbourCacheInfo { confirmed: 1, used: 2, updated: 3, refcnt: 4 })]
         04000200 04000e00 => [LinkLocalAddress([]), Other(DefaultNla { kind: 14, value: [] })]
-        04000100 => a value of 0 bytes at At { family: Neighbour, kind: 1 }
-        04000400 => a value of 0 bytes at At { family: Neighbour, kind: 4 }
-        04000500 => a value of 0 bytes at At { family: Neighbour, kind: 5 }
-        04000600 => a value of 0 bytes at At { family: Neighbour, kind: 6 }
-        04000700 => a value of 0 bytes at At { family: Neighbour, kind: 7 }
-        04000800 => a value of 0 bytes at At { family: Neighbour, kind: 8 }
-        04000900 => a value of 0 bytes at At { family: Neighbour, kind: 9 }
-        04000a00 => a value of 0 bytes at At { family: Neighbour, kind: 10 }
-        04000b00 => a value of 0 bytes at At { family: Neighbour, kind: 11 }
-        04000c00 => a value of 0 bytes at At { family: Neighbour, kind: 12 }
-        04000d00 => a value of 0 bytes at At { family: Neighbour, kind: 13 }
-        04000f00 => a value of 0 bytes at At { family: Neighbour, kind: 15 }
-        07000600 12b50000 => a value of 3 bytes at At { family: Neighbour, kind: 6 }
+        04000100 => a value of 0 bytes at At { set: Neighbour, number: 1 }
+        04000400 => a value of 0 bytes at At { set: Neighbour, number: 4 }
+        04000500 => a value of 0 bytes at At { set: Neighbour, number: 5 }
+        04000600 => a value of 0 bytes at At { set: Neighbour, number: 6 }
+        04000700 => a value of 0 bytes at At { set: Neighbour, number: 7 }
+        04000800 => a value of 0 bytes at At { set: Neighbour, number: 8 }
+        04000900 => a value of 0 bytes at At { set: Neighbour, number: 9 }
+        04000a00 => a value of 0 bytes at At { set: Neighbour, number: 10 }
+        04000b00 => a value of 0 bytes at At { set: Neighbour, number: 11 }
+        04000c00 => a value of 0 bytes at At { set: Neighbour, number: 12 }
+        04000d00 => a value of 0 bytes at At { set: Neighbour, number: 13 }
+        04000f00 => a value of 0 bytes at At { set: Neighbour, number: 15 }
+        07000600 12b50000 => a value of 3 bytes at At { set: Neighbour, number: 6 }
         10000300 01000000 02000000 03000000 => 12 bytes, where a header of 16 is wanted";
     messages::<NeighbourMessage>(&rt, HEADER, lines)
 }

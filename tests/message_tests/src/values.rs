@@ -2,10 +2,11 @@
 
 use netlink_packet_route::address::AddressMessage;
 use netlink_packet_route::framing::{
-    At, AttrFamily, DecodeError, NlaBuffer, NlasIterator, Value, Values,
+    At, AttributeSet, DecodeError, NlaBuffer, NlasIterator, Value, Values,
 };
-use netlink_packet_route::route::{RouteLwTunnelEncap, RouteMessage, RouteMetric};
-use netlink_packet_route::{Level, MessageKind, validate};
+use netlink_packet_route::link::InfoForm;
+use netlink_packet_route::route::{RouteLwTunnelEncap, RouteMessage, RouteMetric, RouteType};
+use netlink_packet_route::{MessageKind, Nest, validate};
 use npr_testing::{INET, bytes_of, holds, same, shows};
 use std::test::Fail;
 
@@ -23,13 +24,13 @@ fn values_stand_one_after_the_other(rt: HostRuntime) -> Result<(), Fail> {
     let bytes = bytes_of(&rt, &LOOPBACK)?;
     let (header, mut values) = AddressMessage::values(bytes.as_slice())?;
     same(header.prefix_len, 8)?;
-    let address = "Some(Ok((At { family: Address, kind: 1 }, Address(127.0.0.1))))";
+    let address = "Some(Ok((At { set: Address, number: 1 }, Address(127.0.0.1))))";
     shows(&rt, &values.next(), address)?;
-    let label = "Some(Ok((At { family: Address, kind: 3 }, Name(\"lo\"))))";
+    let label = "Some(Ok((At { set: Address, number: 3 }, Name(\"lo\"))))";
     shows(&rt, &values.next(), label)?;
-    let flags = "Some(Ok((At { family: Address, kind: 8 }, U32(128))))";
+    let flags = "Some(Ok((At { set: Address, number: 8 }, U32(128))))";
     shows(&rt, &values.next(), flags)?;
-    let times = "Some(Ok((At { family: Address, kind: 6 }, Structure([255, 255, 255, 255, \
+    let times = "Some(Ok((At { set: Address, number: 6 }, Structure([255, 255, 255, 255, \
         255, 255, 255, 255, 156, 0, 0, 0, 156, 0, 0, 0]))))";
     shows(&rt, &values.next(), times)?;
     holds(values.next().is_none())?;
@@ -49,13 +50,13 @@ fn a_list_is_entered_in_its_context(rt: HostRuntime) -> Result<(), Fail> {
     let bytes = bytes_of(&rt, &ROUTE)?;
     let (_, mut values) = RouteMessage::values(bytes.as_slice())?;
     let mut metrics = Values::<RouteMetric>::new((), inside(&values.next())?);
-    let mtu = "Some(Ok((At { family: Metric, kind: 2 }, U32(1400))))";
+    let mtu = "Some(Ok((At { set: Metric, number: 2 }, U32(1400))))";
     shows(&rt, &metrics.next(), mtu)?;
     let (_, _, encap_type) = values.context();
     let mut members = Values::<RouteLwTunnelEncap>::new(encap_type, inside(&values.next())?);
-    let labels = "Some(Ok((At { family: Mpls, kind: 1 }, Bytes([0, 6, 65, 255]))))";
+    let labels = "Some(Ok((At { set: Mpls, number: 1 }, Bytes([0, 6, 65, 255]))))";
     shows(&rt, &members.next(), labels)?;
-    let governing = "Some(Ok((At { family: Route, kind: 21 }, U16(1))))";
+    let governing = "Some(Ok((At { set: Route, number: 21 }, U16(1))))";
     shows(&rt, &values.next(), governing)
 }
 
@@ -71,7 +72,7 @@ fn inside<'a>(seen: &Option<Result<(At, Value<'a>), DecodeError>>) -> Result<&'a
 fn a_value_that_is_wrong_is_the_last(rt: HostRuntime) -> Result<(), Fail> {
     let bytes = bytes_of(&rt, &[INET, "07000f00 fe000000", "08000f00 fe000000"])?;
     let (_, mut values) = RouteMessage::values(bytes.as_slice())?;
-    let fault = "Some(Err(ValueLength { at: At { family: Route, kind: 15 }, got: 3 }))";
+    let fault = "Some(Err(ValueLength { at: At { set: Route, number: 15 }, got: 3 }))";
     shows(&rt, &values.next(), fault)?;
     holds(values.next().is_none())
 }
@@ -93,20 +94,21 @@ fn first(bytes: &[u8]) -> Result<NlaBuffer<'_>, Fail> {
 }
 
 #[test]
-fn a_level_leads_into_the_lists_of_values(rt: HostRuntime) -> Result<(), Fail> {
+fn a_nest_leads_into_the_lists_of_values(rt: HostRuntime) -> Result<(), Fail> {
     let bytes = bytes_of(&rt, &VLAN)?;
-    let (level, attributes) = Level::begin(MessageKind::Link, bytes.as_slice())?;
+    let (nest, attributes) = Nest::begin(MessageKind::Link, bytes.as_slice())?;
     let told = first(attributes)?;
-    let Some((driver, list)) = level.inside(told.kind(), told.value()) else {
+    let Some((driver, list)) = nest.inside(told.kind(), told.value()) else {
         return Err(Fail::new("no list"));
     };
-    shows(&rt, &driver, "LinkInfo(Vlan, Kept)")?;
+    same(driver.set, AttributeSet::LinkInfo)?;
+    same(driver.context.link, InfoForm::Vlan)?;
     let data = first(list)?;
     let Some((vlan, members)) = driver.inside(data.kind(), data.value()) else {
         return Err(Fail::new("no data"));
     };
     let member = first(members)?;
-    let number = "Ok((At { family: InfoVlan, kind: 1 }, U16(5)))";
+    let number = "Ok((At { set: InfoVlan, number: 1 }, U16(5)))";
     shows(&rt, &vlan.value(&member), number)?;
     holds(vlan.inside(member.kind(), member.value()).is_none())?;
     same(vlan.check(members), Ok(()))?;
@@ -119,12 +121,13 @@ fn a_fault_at_any_depth_is_told_without_memory(rt: HostRuntime) -> Result<(), Fa
     same(validate(MessageKind::Link, bytes.as_slice()), Ok(()))?;
     // a next hop with a gateway of three bytes
     let bytes = bytes_of(&rt, &[INET, "14000900 10000000 02000000 07000500 c0000200"])?;
-    let (level, attributes) = Level::begin(MessageKind::Route, bytes.as_slice())?;
+    let (nest, attributes) = Nest::begin(MessageKind::Route, bytes.as_slice())?;
     let Some(inside) = attributes.get(12..) else {
         return Err(Fail::new("no next hop"));
     };
-    shows(&rt, level.of_next_hop(inside), "Route(Inet, Unicast, None)")?;
-    let at = AttrFamily::Route.at(5);
+    same(nest.of_next_hop(inside), nest)?;
+    same(nest.context.route_type, RouteType::Unicast)?;
+    let at = AttributeSet::Route.at(5);
     let fault = Err(DecodeError::ValueLength { at, got: 3 });
     same(validate(MessageKind::Route, bytes.as_slice()), fault)
 }

@@ -1,7 +1,7 @@
 //! What is shown of a message: its line, its object and its count.
 
 use netlink_packet_route::MessageKind;
-use netlink_packet_route::framing::AttrFamily;
+use netlink_packet_route::framing::AttributeSet;
 use netlink_show::{
     Counts, Interfaces, Manner, Shown, append_lines, append_object, attribute_name,
 };
@@ -59,7 +59,7 @@ fn nothing_of_a_label_is_lost(rt: HostRuntime) -> Result<(), Fail> {
 
 #[test]
 fn an_attribute_has_its_name() -> Result<(), Fail> {
-    let name = attribute_name(AttrFamily::Rule, 24);
+    let name = attribute_name(AttributeSet::Rule, 24);
     same(name, Some("FRA_DPORT_RANGE"))?;
-    same(attribute_name(AttrFamily::Rule, 25), None)
+    same(attribute_name(AttributeSet::Rule, 25), None)
 }

@@ -1,6 +1,6 @@
 //! The texts of refusals.
 
-use netlink_packet_route::framing::{At, AttrFamily, DecodeError, EmitError, WriteError};
+use netlink_packet_route::framing::{At, AttributeSet, DecodeError, EmitError, WriteError};
 use npr_testing::says;
 use std::test::Fail;
 
@@ -8,14 +8,14 @@ use std::test::Fail;
 #[test]
 fn of_reading(rt: HostRuntime) -> Result<(), Fail> {
     let at = At {
-        family: AttrFamily::Route,
-        kind: 2,
+        set: AttributeSet::Route,
+        number: 2,
     };
     says(&rt, DecodeError::OutOfMemory, "out of memory")?;
     let fault = DecodeError::NotUtf8 { at };
-    says(&rt, fault, "no UTF-8 at At { family: Route, kind: 2 }")?;
+    says(&rt, fault, "no UTF-8 at At { set: Route, number: 2 }")?;
     let fault = DecodeError::Unsupported { at };
-    let text = "an unsupported header at At { family: Route, kind: 2 }";
+    let text = "an unsupported header at At { set: Route, number: 2 }";
     says(&rt, fault, text)
 }
 

@@ -1,7 +1,7 @@
 //! Addresses and gateways of routes, each by its family.
 
 use netlink_packet_route::AddressFamily;
-use netlink_packet_route::framing::{At, AttrFamily, DecodeError, Looks, Parseable};
+use netlink_packet_route::framing::{At, AttributeSet, DecodeError, Looks, Parseable};
 use netlink_packet_route::net::{IpAddr, Ipv4Addr, Ipv6Addr};
 use netlink_packet_route::route::{
     RouteAddress, RouteAttribute, RouteMessage, RouteNextHop, RoutePath, RouteType, RouteVia,
@@ -13,8 +13,8 @@ use std::test::Fail;
 
 /// The destination of a route.
 const PLACE: At = At {
-    family: AttrFamily::Route,
-    kind: 1,
+    set: AttributeSet::Route,
+    number: 1,
 };
 
 const FOUR: [u8; 4] = [0x0a, 0x00, 0x00, 0x01];
@@ -55,14 +55,14 @@ fn addresses(rt: &impl AllocGlobal, family: AddressFamily, lines: &str) -> Resul
 fn addresses_of_ip(rt: HostRuntime) -> Result<(), Fail> {
     let lines = "
         0a000001 => Inet(10.0.0.1)
-        20010d => a value of 3 bytes at At { family: Route, kind: 1 }
-        20010db8000000000000000000000001 => a value of 16 bytes at At { family: Route, kind: 1 }";
+        20010d => a value of 3 bytes at At { set: Route, number: 1 }
+        20010db8000000000000000000000001 => a value of 16 bytes at At { set: Route, number: 1 }";
     addresses(&rt, AddressFamily::Inet, lines)?;
     let lines = "
         20010db8000000000000000000000001 => \
             Inet6(2001:db8::1)
-        20010db8 => a value of 4 bytes at At { family: Route, kind: 1 }
-        20010db80000000000000000000000 => a value of 15 bytes at At { family: Route, kind: 1 }";
+        20010db8 => a value of 4 bytes at At { set: Route, number: 1 }
+        20010db80000000000000000000000 => a value of 15 bytes at At { set: Route, number: 1 }";
     addresses(&rt, AddressFamily::Inet6, lines)
 }
 
@@ -71,8 +71,8 @@ fn addresses_of_ip(rt: HostRuntime) -> Result<(), Fail> {
 fn addresses_of_other_families(rt: HostRuntime) -> Result<(), Fail> {
     let lines = "
         000641ff => Mpls(MplsLabel { label: 100, traffic_class: 0, bottom_of_stack: true, ttl: 255 })
-        20010d => a value of 3 bytes at At { family: Route, kind: 1 }
-        20010db8 00000000 => a value of 8 bytes at At { family: Route, kind: 1 }";
+        20010d => a value of 3 bytes at At { set: Route, number: 1 }
+        20010db8 00000000 => a value of 8 bytes at At { set: Route, number: 1 }";
     addresses(&rt, AddressFamily::Mpls, lines)?;
     addresses(
         &rt,
@@ -138,8 +138,8 @@ fn gateways(rt: HostRuntime) -> Result<(), Fail> {
         c800 => Other((Other(200), []))
         02 => 1 bytes, where a header of 2 is wanted
         0201 0a000001 => a gateway of address family 258
-        0200 0a0000 => a value of 3 bytes at At { family: Route, kind: 1 }
-        0a00 0a000001 => a value of 4 bytes at At { family: Route, kind: 1 }";
+        0200 0a0000 => a value of 3 bytes at At { set: Route, number: 1 }
+        0a00 0a000001 => a value of 4 bytes at At { set: Route, number: 1 }";
     for line in lines.lines() {
         if let Some((digits, text)) = line.split_once("=>") {
             is_gateway(&rt, digits, text.trim())?;

@@ -193,7 +193,7 @@ fn counted<H: Header + PartialEq + Debug>(
 /// The values that are seen of the bytes stand at the numbers of the message's attributes.
 fn seen<H: Header>(bytes: &[u8], message: &Message<H, H::Attribute>) {
     let (_, values) = Message::<H, H::Attribute>::values(bytes).expect("a header");
-    let seen = values.map(|found| found.expect("a value").0.kind);
+    let seen = values.map(|found| found.expect("a value").0.number);
     let numbers = message
         .attributes
         .iter()
