@@ -6,8 +6,8 @@ ghost use Rattle.{npr_base.specs.{declared.refusal.DecodeError.TheVariants.{OutO
 use crate::geneve_df::GeneveDf;
 use crate::ports::{read_ports, write_ports};
 use npr_base::{
-    At, AttributeSet, Attribute, DecodeError, DefaultNla, EmitError, Form, Ipv4Addr, Ipv6Addr, Looks,
-    Nla, NlaBuffer, Place, Rowed, put_read,
+    At, Attribute, AttributeSet, DecodeError, DefaultNla, EmitError, Form, Ipv4Addr, Ipv6Addr,
+    Looks, Nla, NlaBuffer, Place, Rowed, put_read,
 };
 use std::alloc::{AllocError, Global};
 

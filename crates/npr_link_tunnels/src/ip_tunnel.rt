@@ -15,7 +15,7 @@ use crate::tunnel_encap_flags::TunnelEncapFlags;
 use crate::tunnel_encap_type::TunnelEncapType;
 use bitflags::Flags;
 use npr_base::{
-    At, AttributeSet, Attribute, DecodeError, DefaultNla, EmitError, Form, IpAddr, Ipv4Addr,
+    At, Attribute, AttributeSet, DecodeError, DefaultNla, EmitError, Form, IpAddr, Ipv4Addr,
     Ipv6Addr, Looks, Nla, NlaBuffer, Place, Rowed, read_u16, read_u32, write_array,
 };
 use npr_scalar::{IpProtocol, check_protocol, protocol_byte};

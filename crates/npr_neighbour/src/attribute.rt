@@ -7,8 +7,8 @@ use crate::cache_info::NeighbourCacheInfo;
 use crate::flags::NeighbourExtFlags;
 use bitflags::Flags;
 use npr_base::{
-    AddressFamily, At, AttributeSet, Attribute, DecodeError, DefaultNla, EmitError, Form, Looks, Nla,
-    NlaBuffer, Place, put_read,
+    AddressFamily, At, Attribute, AttributeSet, DecodeError, DefaultNla, EmitError, Form, Looks,
+    Nla, NlaBuffer, Place, put_read,
 };
 use npr_scalar::RouteProtocol;
 use std::alloc::{AllocError, Global};

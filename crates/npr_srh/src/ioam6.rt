@@ -12,7 +12,7 @@ ghost use Rattle.{
 };
 
 use npr_base::{
-    At, AttributeSet, Attribute, DecodeError, DefaultNla, EmitError, Form, Ipv6Addr, Looks, Nla,
+    At, Attribute, AttributeSet, DecodeError, DefaultNla, EmitError, Form, Ipv6Addr, Looks, Nla,
     NlaBuffer, Parseable, Place, put_read, write_array, write_six_hex_digits,
 };
 use std::alloc::{AllocError, Global};

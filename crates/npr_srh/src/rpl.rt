@@ -14,7 +14,7 @@ ghost use Rattle.{
 
 use crate::segments::{check_header, read_parts, write_header};
 use npr_base::{
-    At, AttributeSet, Attribute, DecodeError, DefaultNla, EmitError, Form, Ipv6Addr, Looks, Nla,
+    At, Attribute, AttributeSet, DecodeError, DefaultNla, EmitError, Form, Ipv6Addr, Looks, Nla,
     NlaBuffer, Parseable, Place, put_read, write_array, write_v6_list,
 };
 use std::alloc::{AllocError, Global};
