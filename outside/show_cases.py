@@ -153,7 +153,7 @@ SPARED = [
     ("a file that is read and kept into", ["--keep", "f", "-", "f"]),
     ("a file that tells names and is kept into", ["--keep", "f", "--links", "f"]),
     ("the same by another path", ["--keep", "./f", "-", "f"]),
-    ("the same by a link", ["--keep", "f", "link"]),
+    ("the same by a link", ["--keep", "f", "./link"]),
     ("standard input that is kept into", ["--keep", "f", "-"], True),
 ]
 
