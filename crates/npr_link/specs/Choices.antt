@@ -49,8 +49,8 @@ pub record Case {W : Type 0} (held : W → Held) : Type 1 where
   pub memory : List ℕ → Type 0
 
 module _ {W : Type 0} (held : W → Held) where
-  abbrev pub list_case : {M : Type 0} {w : Writing M} (set : AttributeSet) (f : Reading w) (made : List M → W) → ((xs : List M) → held (made xs) ≡ as_list set f xs)
-      → Case held
+  abbrev pub list_case : {M : Type 0} {w : Writing M} (set : AttributeSet) (f : Reading w) (made : List M → W)
+      → ((xs : List M) → held (made xs) ≡ as_list set f xs) → Case held
   list_case {M} set f made is = record {
     V = List M;
     codec = list_of set f;
