@@ -122,6 +122,7 @@ pub use npr_link_devices::MacVtapMacAddressMode;
 pub use npr_link_devices::MacVtapMode;
 pub use npr_link_devices::MiiStatus;
 pub use npr_link_devices::TunType;
+pub use npr_link_numbers::Grown;
 pub use npr_link_numbers::Icmp6Stats;
 pub use npr_link_numbers::Inet6DevConf;
 pub use npr_link_numbers::Inet6Stats;

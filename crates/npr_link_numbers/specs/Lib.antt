@@ -1,2 +1,4 @@
+pub mod Coherent
+pub mod Grown
 pub mod Names
 pub mod Numbers

@@ -1,83 +1,103 @@
--- The numbers of links by the kernel's names, each list in the order in which kernels write them.
---     place_of             the place of a name in a list
---     named                the number of a name, and 0 where there are fewer
-use Rattle.std.specs.Prelude.{ℕ, ℤ, pos, ◌+◌, ◌&&◌, Bool, true, false, List, [], ◌∷◌, Option, Some, None, codes, nat_eq, slice_get, if◌then◌else◌}
+-- The fields of structures that grew, by the names that the kernel's numbers have, in the order in which kernels write them.
+use Rattle.std.specs.Prelude.{ℕ, ℤ, [], ◌∷◌}
+use Rattle.npr_link_numbers.specs.Grown.{Names}
+use Rattle.npr_link_numbers.specs.declared.stats.Stats.{Stats}
+use Rattle.npr_link_numbers.specs.declared.stats64.Stats64.{Stats64}
+use Rattle.npr_link_numbers.specs.declared.inet_devconf.InetDevConf.{InetDevConf}
+use Rattle.npr_link_numbers.specs.declared.inet6_devconf.Inet6DevConf.{Inet6DevConf}
+use Rattle.npr_link_numbers.specs.declared.inet6_stats.Inet6Stats.{Inet6Stats}
+use Rattle.npr_link_numbers.specs.declared.icmp6_stats.Icmp6Stats.{Icmp6Stats}
 
-abbrev pub same_text : List ℕ → List ℕ → Bool
-same_text [] [] = true
-same_text [] (y ∷ ys) = false
-same_text (x ∷ xs) [] = false
-same_text (x ∷ xs) (y ∷ ys) = nat_eq x y && same_text xs ys
+-- struct rtnl_link_stats of linux/if_link.h
+unfoldable pub stats : Names Stats ℕ
+stats = record {
+  fields =
+      Stats.rx_packets ∷ Stats.tx_packets ∷ Stats.rx_bytes ∷ Stats.tx_bytes ∷ Stats.rx_errors ∷ Stats.tx_errors ∷ Stats.rx_dropped ∷
+      Stats.tx_dropped ∷ Stats.multicast ∷ Stats.collisions ∷ Stats.rx_length_errors ∷ Stats.rx_over_errors ∷ Stats.rx_crc_errors ∷
+      Stats.rx_frame_errors ∷ Stats.rx_fifo_errors ∷ Stats.rx_missed_errors ∷ Stats.tx_aborted_errors ∷ Stats.tx_carrier_errors ∷
+      Stats.tx_fifo_errors ∷ Stats.tx_heartbeat_errors ∷ Stats.tx_window_errors ∷ Stats.rx_compressed ∷ Stats.tx_compressed ∷
+      Stats.rx_nohandler ∷ [];
+  missing = Stats.missing;
+  more = λ x. x.more.items;
+}
 
--- how many stand before it
-abbrev pub place_of : List (List ℕ) → List ℕ → ℕ
-place_of [] name = 0
-place_of (x ∷ names) name = if same_text x name then 0 else 1 + place_of names name
-
-abbrev pub or_zero : {A : Type 0} → A → Option A → A
-or_zero zero None = zero
-or_zero zero (Some x) = x
-
-abbrev pub named : {A : Type 0} → A → List (List ℕ) → List ℕ → List A → A
-named zero names name numbers = or_zero zero (slice_get numbers (place_of names name))
-
--- struct rtnl_link_stats64 of linux/if_link.h; struct rtnl_link_stats has all but the last
-abbrev pub link_counters : List (List ℕ)
-link_counters =
-    codes "rx_packets" ∷ codes "tx_packets" ∷ codes "rx_bytes" ∷ codes "tx_bytes" ∷ codes "rx_errors" ∷
-    codes "tx_errors" ∷ codes "rx_dropped" ∷ codes "tx_dropped" ∷ codes "multicast" ∷ codes "collisions" ∷
-    codes "rx_length_errors" ∷ codes "rx_over_errors" ∷ codes "rx_crc_errors" ∷ codes "rx_frame_errors" ∷
-    codes "rx_fifo_errors" ∷ codes "rx_missed_errors" ∷ codes "tx_aborted_errors" ∷ codes "tx_carrier_errors" ∷
-    codes "tx_fifo_errors" ∷ codes "tx_heartbeat_errors" ∷ codes "tx_window_errors" ∷ codes "rx_compressed" ∷
-    codes "tx_compressed" ∷ codes "rx_nohandler" ∷ codes "rx_otherhost_dropped" ∷ []
-
-abbrev pub counter : List ℕ → List ℕ → ℕ
-counter name numbers = named 0 link_counters name numbers
+-- struct rtnl_link_stats64 of linux/if_link.h
+unfoldable pub stats64 : Names Stats64 ℕ
+stats64 = record {
+  fields =
+      Stats64.rx_packets ∷ Stats64.tx_packets ∷ Stats64.rx_bytes ∷ Stats64.tx_bytes ∷ Stats64.rx_errors ∷ Stats64.tx_errors ∷
+      Stats64.rx_dropped ∷ Stats64.tx_dropped ∷ Stats64.multicast ∷ Stats64.collisions ∷ Stats64.rx_length_errors ∷ Stats64.rx_over_errors ∷
+      Stats64.rx_crc_errors ∷ Stats64.rx_frame_errors ∷ Stats64.rx_fifo_errors ∷ Stats64.rx_missed_errors ∷ Stats64.tx_aborted_errors ∷
+      Stats64.tx_carrier_errors ∷ Stats64.tx_fifo_errors ∷ Stats64.tx_heartbeat_errors ∷ Stats64.tx_window_errors ∷ Stats64.rx_compressed ∷
+      Stats64.tx_compressed ∷ Stats64.rx_nohandler ∷ Stats64.rx_otherhost_dropped ∷ [];
+  missing = Stats64.missing;
+  more = λ x. x.more.items;
+}
 
 -- IPV4_DEVCONF_* of linux/ip.h, from 1 on
-abbrev pub inet_settings : List (List ℕ)
-inet_settings =
-    codes "forwarding" ∷ codes "mc_forwarding" ∷ codes "proxy_arp" ∷ codes "accept_redirects" ∷
-    codes "secure_redirects" ∷ codes "send_redirects" ∷ codes "shared_media" ∷ codes "rp_filter" ∷
-    codes "accept_source_route" ∷ codes "bootp_relay" ∷ codes "log_martians" ∷ codes "tag" ∷ codes "arpfilter" ∷
-    codes "medium_id" ∷ codes "noxfrm" ∷ codes "nopolicy" ∷ codes "force_igmp_version" ∷ codes "arp_announce" ∷
-    codes "arp_ignore" ∷ codes "promote_secondaries" ∷ codes "arp_accept" ∷ codes "arp_notify" ∷
-    codes "accept_local" ∷ codes "src_vmark" ∷ codes "proxy_arp_pvlan" ∷ codes "route_localnet" ∷
-    codes "igmpv2_unsolicited_report_interval" ∷ codes "igmpv3_unsolicited_report_interval" ∷
-    codes "ignore_routes_with_linkdown" ∷ codes "drop_unicast_in_l2_multicast" ∷ codes "drop_gratuitous_arp" ∷
-    codes "bc_forwarding" ∷ codes "arp_evict_nocarrier" ∷ []
-
-abbrev pub inet_setting : List ℕ → List ℤ → ℤ
-inet_setting name numbers = named (pos 0) inet_settings name numbers
+unfoldable pub inet_devconf : Names InetDevConf ℤ
+inet_devconf = record {
+  fields =
+      InetDevConf.forwarding ∷ InetDevConf.mc_forwarding ∷ InetDevConf.proxy_arp ∷ InetDevConf.accept_redirects ∷
+      InetDevConf.secure_redirects ∷ InetDevConf.send_redirects ∷ InetDevConf.shared_media ∷ InetDevConf.rp_filter ∷
+      InetDevConf.accept_source_route ∷ InetDevConf.bootp_relay ∷ InetDevConf.log_martians ∷ InetDevConf.tag ∷ InetDevConf.arpfilter ∷
+      InetDevConf.medium_id ∷ InetDevConf.noxfrm ∷ InetDevConf.nopolicy ∷ InetDevConf.force_igmp_version ∷ InetDevConf.arp_announce ∷
+      InetDevConf.arp_ignore ∷ InetDevConf.promote_secondaries ∷ InetDevConf.arp_accept ∷ InetDevConf.arp_notify ∷
+      InetDevConf.accept_local ∷ InetDevConf.src_vmark ∷ InetDevConf.proxy_arp_pvlan ∷ InetDevConf.route_localnet ∷
+      InetDevConf.igmpv2_unsolicited_report_interval ∷ InetDevConf.igmpv3_unsolicited_report_interval ∷
+      InetDevConf.ignore_routes_with_linkdown ∷ InetDevConf.drop_unicast_in_l2_multicast ∷ InetDevConf.drop_gratuitous_arp ∷
+      InetDevConf.bc_forwarding ∷ InetDevConf.arp_evict_nocarrier ∷ [];
+  missing = InetDevConf.missing;
+  more = λ x. x.more.items;
+}
 
 -- DEVCONF_* of linux/ipv6.h
-abbrev pub inet6_settings : List (List ℕ)
-inet6_settings =
-    codes "forwarding" ∷ codes "hoplimit" ∷ codes "mtu6" ∷ codes "accept_ra" ∷ codes "accept_redirects" ∷
-    codes "autoconf" ∷ codes "dad_transmits" ∷ codes "rtr_solicits" ∷ codes "rtr_solicit_interval" ∷
-    codes "rtr_solicit_delay" ∷ codes "use_tempaddr" ∷ codes "temp_valid_lft" ∷ codes "temp_prefered_lft" ∷
-    codes "regen_max_retry" ∷ codes "max_desync_factor" ∷ codes "max_addresses" ∷ codes "force_mld_version" ∷
-    codes "accept_ra_defrtr" ∷ codes "accept_ra_pinfo" ∷ codes "accept_ra_rtr_pref" ∷ codes "rtr_probe_interval" ∷
-    codes "accept_ra_rt_info_max_plen" ∷ codes "proxy_ndp" ∷ codes "optimistic_dad" ∷ codes "accept_source_route" ∷
-    codes "mc_forwarding" ∷ codes "disable_ipv6" ∷ codes "accept_dad" ∷ codes "force_tllao" ∷ codes "ndisc_notify" ∷
-    codes "mldv1_unsolicited_report_interval" ∷ codes "mldv2_unsolicited_report_interval" ∷
-    codes "suppress_frag_ndisc" ∷ codes "accept_ra_from_local" ∷ codes "use_optimistic" ∷ codes "accept_ra_mtu" ∷
-    codes "stable_secret" ∷ codes "use_oif_addrs_only" ∷ codes "accept_ra_min_hop_limit" ∷
-    codes "ignore_routes_with_linkdown" ∷ codes "drop_unicast_in_l2_multicast" ∷ codes "drop_unsolicited_na" ∷
-    codes "keep_addr_on_down" ∷ codes "rtr_solicit_max_interval" ∷ codes "seg6_enabled" ∷ codes "seg6_require_hmac" ∷
-    codes "enhanced_dad" ∷ codes "addr_gen_mode" ∷ codes "disable_policy" ∷ codes "accept_ra_rt_info_min_plen" ∷
-    codes "ndisc_tclass" ∷ codes "rpl_seg_enabled" ∷ codes "ra_defrtr_metric" ∷ codes "ioam6_enabled" ∷
-    codes "ioam6_id" ∷ codes "ioam6_id_wide" ∷ codes "ndisc_evict_nocarrier" ∷ codes "accept_untracked_na" ∷
-    codes "accept_ra_min_lft" ∷ codes "force_forwarding" ∷ []
+unfoldable pub inet6_devconf : Names Inet6DevConf ℤ
+inet6_devconf = record {
+  fields =
+      Inet6DevConf.forwarding ∷ Inet6DevConf.hoplimit ∷ Inet6DevConf.mtu6 ∷ Inet6DevConf.accept_ra ∷ Inet6DevConf.accept_redirects ∷
+      Inet6DevConf.autoconf ∷ Inet6DevConf.dad_transmits ∷ Inet6DevConf.rtr_solicits ∷ Inet6DevConf.rtr_solicit_interval ∷
+      Inet6DevConf.rtr_solicit_delay ∷ Inet6DevConf.use_tempaddr ∷ Inet6DevConf.temp_valid_lft ∷ Inet6DevConf.temp_prefered_lft ∷
+      Inet6DevConf.regen_max_retry ∷ Inet6DevConf.max_desync_factor ∷ Inet6DevConf.max_addresses ∷ Inet6DevConf.force_mld_version ∷
+      Inet6DevConf.accept_ra_defrtr ∷ Inet6DevConf.accept_ra_pinfo ∷ Inet6DevConf.accept_ra_rtr_pref ∷ Inet6DevConf.rtr_probe_interval ∷
+      Inet6DevConf.accept_ra_rt_info_max_plen ∷ Inet6DevConf.proxy_ndp ∷ Inet6DevConf.optimistic_dad ∷ Inet6DevConf.accept_source_route ∷
+      Inet6DevConf.mc_forwarding ∷ Inet6DevConf.disable_ipv6 ∷ Inet6DevConf.accept_dad ∷ Inet6DevConf.force_tllao ∷
+      Inet6DevConf.ndisc_notify ∷ Inet6DevConf.mldv1_unsolicited_report_interval ∷ Inet6DevConf.mldv2_unsolicited_report_interval ∷
+      Inet6DevConf.suppress_frag_ndisc ∷ Inet6DevConf.accept_ra_from_local ∷ Inet6DevConf.use_optimistic ∷ Inet6DevConf.accept_ra_mtu ∷
+      Inet6DevConf.stable_secret ∷ Inet6DevConf.use_oif_addrs_only ∷ Inet6DevConf.accept_ra_min_hop_limit ∷
+      Inet6DevConf.ignore_routes_with_linkdown ∷ Inet6DevConf.drop_unicast_in_l2_multicast ∷ Inet6DevConf.drop_unsolicited_na ∷
+      Inet6DevConf.keep_addr_on_down ∷ Inet6DevConf.rtr_solicit_max_interval ∷ Inet6DevConf.seg6_enabled ∷ Inet6DevConf.seg6_require_hmac ∷
+      Inet6DevConf.enhanced_dad ∷ Inet6DevConf.addr_gen_mode ∷ Inet6DevConf.disable_policy ∷ Inet6DevConf.accept_ra_rt_info_min_plen ∷
+      Inet6DevConf.ndisc_tclass ∷ Inet6DevConf.rpl_seg_enabled ∷ Inet6DevConf.ra_defrtr_metric ∷ Inet6DevConf.ioam6_enabled ∷
+      Inet6DevConf.ioam6_id ∷ Inet6DevConf.ioam6_id_wide ∷ Inet6DevConf.ndisc_evict_nocarrier ∷ Inet6DevConf.accept_untracked_na ∷
+      Inet6DevConf.accept_ra_min_lft ∷ Inet6DevConf.force_forwarding ∷ [];
+  missing = Inet6DevConf.missing;
+  more = λ x. x.more.items;
+}
 
-abbrev pub inet6_setting : List ℕ → List ℤ → ℤ
-inet6_setting name numbers = named (pos 0) inet6_settings name numbers
+-- IPSTATS_MIB_* of linux/snmp.h
+unfoldable pub inet6_stats : Names Inet6Stats ℤ
+inet6_stats = record {
+  fields =
+      Inet6Stats.num ∷ Inet6Stats.in_pkts ∷ Inet6Stats.in_octets ∷ Inet6Stats.in_delivers ∷ Inet6Stats.out_forw_datagrams ∷
+      Inet6Stats.out_requests ∷ Inet6Stats.out_octets ∷ Inet6Stats.in_hdr_errors ∷ Inet6Stats.in_too_big_errors ∷ Inet6Stats.in_no_routes ∷
+      Inet6Stats.in_addr_errors ∷ Inet6Stats.in_unknown_protos ∷ Inet6Stats.in_truncated_pkts ∷ Inet6Stats.in_discards ∷
+      Inet6Stats.out_discards ∷ Inet6Stats.out_no_routes ∷ Inet6Stats.reasm_timeout ∷ Inet6Stats.reasm_reqds ∷ Inet6Stats.reasm_oks ∷
+      Inet6Stats.reasm_fails ∷ Inet6Stats.frag_oks ∷ Inet6Stats.frag_fails ∷ Inet6Stats.frag_creates ∷ Inet6Stats.in_mcast_pkts ∷
+      Inet6Stats.out_mcast_pkts ∷ Inet6Stats.in_bcast_pkts ∷ Inet6Stats.out_bcast_pkts ∷ Inet6Stats.in_mcast_octets ∷
+      Inet6Stats.out_mcast_octets ∷ Inet6Stats.in_bcast_octets ∷ Inet6Stats.out_bcast_octets ∷ Inet6Stats.in_csum_errors ∷
+      Inet6Stats.in_no_ect_pkts ∷ Inet6Stats.in_ect1_pkts ∷ Inet6Stats.in_ect0_pkts ∷ Inet6Stats.in_ce_pkts ∷ Inet6Stats.reasm_overlaps ∷
+      Inet6Stats.out_pkts ∷ [];
+  missing = Inet6Stats.missing;
+  more = λ x. x.more.items;
+}
 
 -- ICMP6_MIB_* of linux/snmp.h
-abbrev pub icmp6_counters : List (List ℕ)
-icmp6_counters =
-    codes "num" ∷ codes "in_msgs" ∷ codes "in_errors" ∷ codes "out_msgs" ∷ codes "out_errors" ∷ codes "csum_errors" ∷
-    codes "rate_limit_host" ∷ []
-
-abbrev pub icmp6_counter : List ℕ → List ℤ → ℤ
-icmp6_counter name numbers = named (pos 0) icmp6_counters name numbers
+unfoldable pub icmp6_stats : Names Icmp6Stats ℤ
+icmp6_stats = record {
+  fields =
+      Icmp6Stats.num ∷ Icmp6Stats.in_msgs ∷ Icmp6Stats.in_errors ∷ Icmp6Stats.out_msgs ∷ Icmp6Stats.out_errors ∷ Icmp6Stats.csum_errors ∷
+      Icmp6Stats.rate_limit_host ∷ [];
+  missing = Icmp6Stats.missing;
+  more = λ x. x.more.items;
+}

@@ -1,288 +1,206 @@
 //! Settings of a link: `DEVCONF_*` of `linux/ipv6.h`.
 
-ghost use Rattle.std.specs.Prelude.{◌≡◌, ◌≤◌, ◌<◌, [], codes, length, slice_get, IfOk, OnErr};
-ghost use Rattle.{npr_base.specs.Framing.{Writes}, npr_link_numbers.specs.{Numbers.{signed_words32}, Names.{inet6_setting}}};
+ghost use Rattle.std.specs.Prelude.{◌≡◌};
+ghost use Rattle.npr_link_numbers.specs.{Grown.{parts}, Names.{inet6_devconf}};
 
-use crate::numbers::{copy_numbers, number_or_zero, read_numbers, write_numbers};
+use crate::grown::Grown;
+use crate::numbers::{copy_numbers, grown_len, read_grown, write_grown};
 use std::alloc::{AllocError, Global};
 
-/// What IP version 6 is set to on a link: `DEVCONF_*` of `linux/ipv6.h`.
-///
-/// The settings of any kernel are kept: it has as many as it has, and one that it has not is 0.
+/// What IP version 6 is set to on a link, 4 bytes each: `DEVCONF_*` of `linux/ipv6.h`.
 #[derive(Debug, Drop, PartialEq, Eq)]
 pub struct Inet6DevConf {
-    /// The settings, in the kernel's order.
-    pub numbers: Vec<i32>,
+    /// `DEVCONF_FORWARDING`.
+    pub forwarding: i32,
+    /// `DEVCONF_HOPLIMIT`.
+    pub hoplimit: i32,
+    /// `DEVCONF_MTU6`.
+    pub mtu6: i32,
+    /// `DEVCONF_ACCEPT_RA`.
+    pub accept_ra: i32,
+    /// `DEVCONF_ACCEPT_REDIRECTS`.
+    pub accept_redirects: i32,
+    /// `DEVCONF_AUTOCONF`.
+    pub autoconf: i32,
+    /// `DEVCONF_DAD_TRANSMITS`.
+    pub dad_transmits: i32,
+    /// `DEVCONF_RTR_SOLICITS`.
+    pub rtr_solicits: i32,
+    /// `DEVCONF_RTR_SOLICIT_INTERVAL`.
+    pub rtr_solicit_interval: i32,
+    /// `DEVCONF_RTR_SOLICIT_DELAY`.
+    pub rtr_solicit_delay: i32,
+    /// `DEVCONF_USE_TEMPADDR`.
+    pub use_tempaddr: i32,
+    /// `DEVCONF_TEMP_VALID_LFT`.
+    pub temp_valid_lft: i32,
+    /// `DEVCONF_TEMP_PREFERED_LFT`.
+    pub temp_prefered_lft: i32,
+    /// `DEVCONF_REGEN_MAX_RETRY`.
+    pub regen_max_retry: i32,
+    /// `DEVCONF_MAX_DESYNC_FACTOR`.
+    pub max_desync_factor: i32,
+    /// `DEVCONF_MAX_ADDRESSES`.
+    pub max_addresses: i32,
+    /// `DEVCONF_FORCE_MLD_VERSION`.
+    pub force_mld_version: i32,
+    /// `DEVCONF_ACCEPT_RA_DEFRTR`.
+    pub accept_ra_defrtr: i32,
+    /// `DEVCONF_ACCEPT_RA_PINFO`.
+    pub accept_ra_pinfo: i32,
+    /// `DEVCONF_ACCEPT_RA_RTR_PREF`.
+    pub accept_ra_rtr_pref: i32,
+    /// `DEVCONF_RTR_PROBE_INTERVAL`.
+    pub rtr_probe_interval: i32,
+    /// `DEVCONF_ACCEPT_RA_RT_INFO_MAX_PLEN`.
+    pub accept_ra_rt_info_max_plen: i32,
+    /// `DEVCONF_PROXY_NDP`.
+    pub proxy_ndp: i32,
+    /// `DEVCONF_OPTIMISTIC_DAD`.
+    pub optimistic_dad: i32,
+    /// `DEVCONF_ACCEPT_SOURCE_ROUTE`.
+    pub accept_source_route: i32,
+    /// `DEVCONF_MC_FORWARDING`.
+    pub mc_forwarding: i32,
+    /// `DEVCONF_DISABLE_IPV6`.
+    pub disable_ipv6: i32,
+    /// `DEVCONF_ACCEPT_DAD`.
+    pub accept_dad: i32,
+    /// `DEVCONF_FORCE_TLLAO`.
+    pub force_tllao: i32,
+    /// `DEVCONF_NDISC_NOTIFY`.
+    pub ndisc_notify: i32,
+    /// `DEVCONF_MLDV1_UNSOLICITED_REPORT_INTERVAL`.
+    pub mldv1_unsolicited_report_interval: i32,
+    /// `DEVCONF_MLDV2_UNSOLICITED_REPORT_INTERVAL`.
+    pub mldv2_unsolicited_report_interval: i32,
+    /// `DEVCONF_SUPPRESS_FRAG_NDISC`.
+    pub suppress_frag_ndisc: i32,
+    /// `DEVCONF_ACCEPT_RA_FROM_LOCAL`.
+    pub accept_ra_from_local: i32,
+    /// `DEVCONF_USE_OPTIMISTIC`.
+    pub use_optimistic: i32,
+    /// `DEVCONF_ACCEPT_RA_MTU`.
+    pub accept_ra_mtu: i32,
+    /// `DEVCONF_STABLE_SECRET`.
+    pub stable_secret: i32,
+    /// `DEVCONF_USE_OIF_ADDRS_ONLY`.
+    pub use_oif_addrs_only: i32,
+    /// `DEVCONF_ACCEPT_RA_MIN_HOP_LIMIT`.
+    pub accept_ra_min_hop_limit: i32,
+    /// `DEVCONF_IGNORE_ROUTES_WITH_LINKDOWN`.
+    pub ignore_routes_with_linkdown: i32,
+    /// `DEVCONF_DROP_UNICAST_IN_L2_MULTICAST`.
+    pub drop_unicast_in_l2_multicast: i32,
+    /// `DEVCONF_DROP_UNSOLICITED_NA`.
+    pub drop_unsolicited_na: i32,
+    /// `DEVCONF_KEEP_ADDR_ON_DOWN`.
+    pub keep_addr_on_down: i32,
+    /// `DEVCONF_RTR_SOLICIT_MAX_INTERVAL`.
+    pub rtr_solicit_max_interval: i32,
+    /// `DEVCONF_SEG6_ENABLED`.
+    pub seg6_enabled: i32,
+    /// `DEVCONF_SEG6_REQUIRE_HMAC`.
+    pub seg6_require_hmac: i32,
+    /// `DEVCONF_ENHANCED_DAD`.
+    pub enhanced_dad: i32,
+    /// `DEVCONF_ADDR_GEN_MODE`.
+    pub addr_gen_mode: i32,
+    /// `DEVCONF_DISABLE_POLICY`.
+    pub disable_policy: i32,
+    /// `DEVCONF_ACCEPT_RA_RT_INFO_MIN_PLEN`.
+    pub accept_ra_rt_info_min_plen: i32,
+    /// `DEVCONF_NDISC_TCLASS`.
+    pub ndisc_tclass: i32,
+    /// `DEVCONF_RPL_SEG_ENABLED`.
+    pub rpl_seg_enabled: i32,
+    /// `DEVCONF_RA_DEFRTR_METRIC`.
+    pub ra_defrtr_metric: i32,
+    /// `DEVCONF_IOAM6_ENABLED`.
+    pub ioam6_enabled: i32,
+    /// `DEVCONF_IOAM6_ID`.
+    pub ioam6_id: i32,
+    /// `DEVCONF_IOAM6_ID_WIDE`.
+    pub ioam6_id_wide: i32,
+    /// `DEVCONF_NDISC_EVICT_NOCARRIER`.
+    pub ndisc_evict_nocarrier: i32,
+    /// `DEVCONF_ACCEPT_UNTRACKED_NA`.
+    pub accept_untracked_na: i32,
+    /// `DEVCONF_ACCEPT_RA_MIN_LFT`.
+    pub accept_ra_min_lft: i32,
+    /// `DEVCONF_FORCE_FORWARDING`.
+    pub force_forwarding: i32,
+    /// How many of the last settings the kernel does not have: these are 0, and are not written.
+    pub missing: usize,
+    /// The settings behind these, which a newer kernel has.
+    pub more: Vec<i32>,
+}
+
+/// The fields in the order in which kernels write them.
+macro_rules! fields {
+    ($body:ident ($($given:tt)*)) => {
+        crate::$body!(($($given)*) Inet6DevConf {
+            forwarding, hoplimit, mtu6, accept_ra, accept_redirects, autoconf, dad_transmits,
+            rtr_solicits, rtr_solicit_interval, rtr_solicit_delay, use_tempaddr, temp_valid_lft,
+            temp_prefered_lft, regen_max_retry, max_desync_factor, max_addresses, force_mld_version,
+            accept_ra_defrtr, accept_ra_pinfo, accept_ra_rtr_pref, rtr_probe_interval,
+            accept_ra_rt_info_max_plen, proxy_ndp, optimistic_dad, accept_source_route,
+            mc_forwarding, disable_ipv6, accept_dad, force_tllao, ndisc_notify,
+            mldv1_unsolicited_report_interval, mldv2_unsolicited_report_interval,
+            suppress_frag_ndisc, accept_ra_from_local, use_optimistic, accept_ra_mtu, stable_secret,
+            use_oif_addrs_only, accept_ra_min_hop_limit, ignore_routes_with_linkdown,
+            drop_unicast_in_l2_multicast, drop_unsolicited_na, keep_addr_on_down,
+            rtr_solicit_max_interval, seg6_enabled, seg6_require_hmac, enhanced_dad, addr_gen_mode,
+            disable_policy, accept_ra_rt_info_min_plen, ndisc_tclass, rpl_seg_enabled,
+            ra_defrtr_metric, ioam6_enabled, ioam6_id, ioam6_id_wide, ndisc_evict_nocarrier,
+            accept_untracked_na, accept_ra_min_lft, force_forwarding,
+        })
+    };
 }
 
 impl Inet6DevConf {
-    /// None. It takes no memory.
-    pub fn new(alloc: Global) -> Self
-        ensures { result.numbers.items ≡ [] }
+    /// The fields.
+    #[tactic(auto, unfolding(crate::specs::Names::inet6_devconf))]
+    fn fields(&self) -> [i32; 60]
+        ensures { result ≡ (parts inet6_devconf self.now).fields }
     {
-        Inet6DevConf {
-            numbers: Vec::new(alloc),
-        }
+        fields!(listed(self))
     }
 
-    /// The settings of the bytes, 4 bytes each, little endian; what is left at the end and too short
-    /// for one is dropped.
-    ///
-    /// # Errors
-    /// `AllocError` where memory is refused; fewer than 4 bytes take none.
-    pub fn read(alloc: Global, bytes: &[u8]) -> Result<Self, AllocError>
-        ensures ok { IfOk result (λ x. signed_words32.Reads bytes.now x.numbers.items) }
-        ensures memory { OnErr result (4 ≤ length bytes.now) }
+    /// The structure of these fields.
+    fn of(fields: [i32; 60], missing: usize, more: Vec<i32>) -> Self
+        ensures { parts inet6_devconf result ≡ record { fields = fields; missing = missing; more = more.items } }
     {
-        Ok(Inet6DevConf {
-            numbers: read_numbers(alloc, bytes)?,
-        })
+        fields!(filled(fields, missing, more))
+    }
+}
+
+#[tactic(auto, unfolding(crate::specs::Names::inet6_devconf))]
+impl Grown for Inet6DevConf {
+    type Number = i32;
+
+    ghost names = { inet6_devconf };
+
+    fn new(alloc: Global) -> Self {
+        Self::of([0; 60], 0, Vec::new(alloc))
     }
 
-    /// An equal value.
-    ///
-    /// # Errors
-    /// `AllocError` where memory is refused; where there are no settings none is taken.
-    pub fn try_clone(&self, alloc: Global) -> Result<Self, AllocError>
-        ensures ok { IfOk result (λ x. x.numbers.items ≡ self.now.numbers.items) }
-        ensures memory { OnErr result (0 < length self.now.numbers.items) }
-    {
-        Ok(Inet6DevConf {
-            numbers: copy_numbers(alloc, self.numbers.as_slice())?,
-        })
+    fn of_numbers(alloc: Global, bytes: &[u8]) -> Result<Self, AllocError> {
+        let mut fields = [0; 60];
+        let (missing, more) = read_grown(alloc, bytes, &mut fields)?;
+        Ok(Self::of(fields, missing, more))
     }
 
-    /// The length of the bytes: 4 for each.
-    #[tactic(auto, using(crate::specs::Numbers::signed_words32_length))]
-    pub fn len(&self) -> usize
-        ensures { result ≡ length (signed_words32.encode self.now.numbers.items) }
-    {
-        self.numbers.as_slice().len() * 4
+    fn try_clone(&self, alloc: Global) -> Result<Self, AllocError> {
+        let more = copy_numbers(alloc, self.more.as_slice())?;
+        Ok(Self::of(self.fields(), self.missing, more))
     }
 
-    /// Writes the bytes at the front of the slice, leaves the rest, and answers their length.
-    pub fn write(&self, out: &mut [u8]) -> usize
-        requires { length (signed_words32.encode self.now.numbers.items) ≤ length out.old }
-        ensures len { result ≡ length (signed_words32.encode self.now.numbers.items) }
-        ensures after { Writes out.old out.new (signed_words32.encode self.now.numbers.items) }
-    {
-        write_numbers(self.numbers.as_slice(), out)
+    fn len(&self) -> usize {
+        grown_len(60, self.missing, self.more.as_slice())
     }
 
-    /// The number at this place, if there are so many.
-    pub fn number(&self, at: usize) -> Option<i32>
-        ensures { result ≡ slice_get self.now.numbers.items at }
-    {
-        self.numbers.as_slice().get(at).copied()
-    }
-
-    /// `DEVCONF_FORWARDING`.
-    pub fn forwarding(&self) -> i32
-        ensures { result ≡ inet6_setting (codes "forwarding") self.now.numbers.items }
-    {
-        number_or_zero(self.numbers.as_slice(), 0)
-    }
-
-    /// `DEVCONF_HOPLIMIT`.
-    pub fn hoplimit(&self) -> i32
-        ensures { result ≡ inet6_setting (codes "hoplimit") self.now.numbers.items }
-    {
-        number_or_zero(self.numbers.as_slice(), 1)
-    }
-
-    /// `DEVCONF_MTU6`.
-    pub fn mtu6(&self) -> i32
-        ensures { result ≡ inet6_setting (codes "mtu6") self.now.numbers.items }
-    {
-        number_or_zero(self.numbers.as_slice(), 2)
-    }
-
-    /// `DEVCONF_ACCEPT_RA`.
-    pub fn accept_ra(&self) -> i32
-        ensures { result ≡ inet6_setting (codes "accept_ra") self.now.numbers.items }
-    {
-        number_or_zero(self.numbers.as_slice(), 3)
-    }
-
-    /// `DEVCONF_ACCEPT_REDIRECTS`.
-    pub fn accept_redirects(&self) -> i32
-        ensures { result ≡ inet6_setting (codes "accept_redirects") self.now.numbers.items }
-    {
-        number_or_zero(self.numbers.as_slice(), 4)
-    }
-
-    /// `DEVCONF_AUTOCONF`.
-    pub fn autoconf(&self) -> i32
-        ensures { result ≡ inet6_setting (codes "autoconf") self.now.numbers.items }
-    {
-        number_or_zero(self.numbers.as_slice(), 5)
-    }
-
-    /// `DEVCONF_DAD_TRANSMITS`.
-    pub fn dad_transmits(&self) -> i32
-        ensures { result ≡ inet6_setting (codes "dad_transmits") self.now.numbers.items }
-    {
-        number_or_zero(self.numbers.as_slice(), 6)
-    }
-
-    /// `DEVCONF_RTR_SOLICITS`.
-    pub fn rtr_solicits(&self) -> i32
-        ensures { result ≡ inet6_setting (codes "rtr_solicits") self.now.numbers.items }
-    {
-        number_or_zero(self.numbers.as_slice(), 7)
-    }
-
-    /// `DEVCONF_RTR_SOLICIT_INTERVAL`.
-    pub fn rtr_solicit_interval(&self) -> i32
-        ensures { result ≡ inet6_setting (codes "rtr_solicit_interval") self.now.numbers.items }
-    {
-        number_or_zero(self.numbers.as_slice(), 8)
-    }
-
-    /// `DEVCONF_RTR_SOLICIT_DELAY`.
-    pub fn rtr_solicit_delay(&self) -> i32
-        ensures { result ≡ inet6_setting (codes "rtr_solicit_delay") self.now.numbers.items }
-    {
-        number_or_zero(self.numbers.as_slice(), 9)
-    }
-
-    /// `DEVCONF_USE_TEMPADDR`.
-    pub fn use_tempaddr(&self) -> i32
-        ensures { result ≡ inet6_setting (codes "use_tempaddr") self.now.numbers.items }
-    {
-        number_or_zero(self.numbers.as_slice(), 10)
-    }
-
-    /// `DEVCONF_TEMP_VALID_LFT`.
-    pub fn temp_valid_lft(&self) -> i32
-        ensures { result ≡ inet6_setting (codes "temp_valid_lft") self.now.numbers.items }
-    {
-        number_or_zero(self.numbers.as_slice(), 11)
-    }
-
-    /// `DEVCONF_TEMP_PREFERED_LFT`.
-    pub fn temp_prefered_lft(&self) -> i32
-        ensures { result ≡ inet6_setting (codes "temp_prefered_lft") self.now.numbers.items }
-    {
-        number_or_zero(self.numbers.as_slice(), 12)
-    }
-
-    /// `DEVCONF_REGEN_MAX_RETRY`.
-    pub fn regen_max_retry(&self) -> i32
-        ensures { result ≡ inet6_setting (codes "regen_max_retry") self.now.numbers.items }
-    {
-        number_or_zero(self.numbers.as_slice(), 13)
-    }
-
-    /// `DEVCONF_MAX_DESYNC_FACTOR`.
-    pub fn max_desync_factor(&self) -> i32
-        ensures { result ≡ inet6_setting (codes "max_desync_factor") self.now.numbers.items }
-    {
-        number_or_zero(self.numbers.as_slice(), 14)
-    }
-
-    /// `DEVCONF_MAX_ADDRESSES`.
-    pub fn max_addresses(&self) -> i32
-        ensures { result ≡ inet6_setting (codes "max_addresses") self.now.numbers.items }
-    {
-        number_or_zero(self.numbers.as_slice(), 15)
-    }
-
-    /// `DEVCONF_FORCE_MLD_VERSION`.
-    pub fn force_mld_version(&self) -> i32
-        ensures { result ≡ inet6_setting (codes "force_mld_version") self.now.numbers.items }
-    {
-        number_or_zero(self.numbers.as_slice(), 16)
-    }
-
-    /// `DEVCONF_ACCEPT_RA_DEFRTR`.
-    pub fn accept_ra_defrtr(&self) -> i32
-        ensures { result ≡ inet6_setting (codes "accept_ra_defrtr") self.now.numbers.items }
-    {
-        number_or_zero(self.numbers.as_slice(), 17)
-    }
-
-    /// `DEVCONF_ACCEPT_RA_PINFO`.
-    pub fn accept_ra_pinfo(&self) -> i32
-        ensures { result ≡ inet6_setting (codes "accept_ra_pinfo") self.now.numbers.items }
-    {
-        number_or_zero(self.numbers.as_slice(), 18)
-    }
-
-    /// `DEVCONF_ACCEPT_RA_RTR_PREF`.
-    pub fn accept_ra_rtr_pref(&self) -> i32
-        ensures { result ≡ inet6_setting (codes "accept_ra_rtr_pref") self.now.numbers.items }
-    {
-        number_or_zero(self.numbers.as_slice(), 19)
-    }
-
-    /// `DEVCONF_RTR_PROBE_INTERVAL`.
-    pub fn rtr_probe_interval(&self) -> i32
-        ensures { result ≡ inet6_setting (codes "rtr_probe_interval") self.now.numbers.items }
-    {
-        number_or_zero(self.numbers.as_slice(), 20)
-    }
-
-    /// `DEVCONF_ACCEPT_RA_RT_INFO_MAX_PLEN`.
-    pub fn accept_ra_rt_info_max_plen(&self) -> i32
-        ensures { result ≡ inet6_setting (codes "accept_ra_rt_info_max_plen") self.now.numbers.items }
-    {
-        number_or_zero(self.numbers.as_slice(), 21)
-    }
-
-    /// `DEVCONF_PROXY_NDP`.
-    pub fn proxy_ndp(&self) -> i32
-        ensures { result ≡ inet6_setting (codes "proxy_ndp") self.now.numbers.items }
-    {
-        number_or_zero(self.numbers.as_slice(), 22)
-    }
-
-    /// `DEVCONF_OPTIMISTIC_DAD`.
-    pub fn optimistic_dad(&self) -> i32
-        ensures { result ≡ inet6_setting (codes "optimistic_dad") self.now.numbers.items }
-    {
-        number_or_zero(self.numbers.as_slice(), 23)
-    }
-
-    /// `DEVCONF_ACCEPT_SOURCE_ROUTE`.
-    pub fn accept_source_route(&self) -> i32
-        ensures { result ≡ inet6_setting (codes "accept_source_route") self.now.numbers.items }
-    {
-        number_or_zero(self.numbers.as_slice(), 24)
-    }
-
-    /// `DEVCONF_MC_FORWARDING`.
-    pub fn mc_forwarding(&self) -> i32
-        ensures { result ≡ inet6_setting (codes "mc_forwarding") self.now.numbers.items }
-    {
-        number_or_zero(self.numbers.as_slice(), 25)
-    }
-
-    /// `DEVCONF_DISABLE_IPV6`.
-    pub fn disable_ipv6(&self) -> i32
-        ensures { result ≡ inet6_setting (codes "disable_ipv6") self.now.numbers.items }
-    {
-        number_or_zero(self.numbers.as_slice(), 26)
-    }
-
-    /// `DEVCONF_ACCEPT_DAD`.
-    pub fn accept_dad(&self) -> i32
-        ensures { result ≡ inet6_setting (codes "accept_dad") self.now.numbers.items }
-    {
-        number_or_zero(self.numbers.as_slice(), 27)
-    }
-
-    /// `DEVCONF_FORCE_TLLAO`.
-    pub fn force_tllao(&self) -> i32
-        ensures { result ≡ inet6_setting (codes "force_tllao") self.now.numbers.items }
-    {
-        number_or_zero(self.numbers.as_slice(), 28)
-    }
-
-    /// `DEVCONF_NDISC_NOTIFY`.
-    pub fn ndisc_notify(&self) -> i32
-        ensures { result ≡ inet6_setting (codes "ndisc_notify") self.now.numbers.items }
-    {
-        number_or_zero(self.numbers.as_slice(), 29)
+    fn write(&self, out: &mut [u8]) -> usize {
+        write_grown(&self.fields(), self.missing, self.more.as_slice(), out)
     }
 }

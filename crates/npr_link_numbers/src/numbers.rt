@@ -1,162 +1,82 @@
-//! Numbers of one width, one behind the other, as kernels write statistics and settings: each kernel
-//! as many as it has.
+//! Numbers of one width, one behind the other.
 
-ghost use Rattle.std.specs.Prelude.{◌≡◌, ◌≤◌, ◌<◌, pos, length, slice_get, IfOk, OnErr};
-ghost use Rattle.npr_base.specs.{Blocks.{IsBlock, AreBlocks, block_bytes}, Framing.{Writes}, Layout.{Layout, le32, le64, signed32}};
-ghost use Rattle.{std.proofs.Common.{refl, lit<}, npr_link_numbers.specs.{Names.{or_zero}, Numbers.{signed64}}};
+ghost use Rattle.std.specs.Prelude.{◌≡◌, ◌≤◌, ◌<◌, ◌+◌, ◌*◌, ◌-◌, ◌^◌, List, drop, length, slice_get, IfOk, OnErr};
+ghost use Rattle.npr_base.specs.{Blocks.{AreBlocks, block_bytes}, Framing.{Writes}};
+ghost use Rattle.npr_link_numbers.specs.Grown.{filled, grown_of, number_or, numbers_in, numbers_of};
 
-use npr_base::write_array;
+use crate::number::Number;
 use std::alloc::{AllocError, Global};
 
-/// A number of a fixed width, the lowest byte first.
-pub(crate) trait Number: Copy {
-    /// How it is read and written.
-    ghost layout: { Layout Self };
-
-    /// It has a byte at least.
-    ghost positive: { 0 < layout.size };
-
-    /// Each is written in so many bytes.
-    ghost long: { (x : Self) → length (layout.encode x) ≡ layout.size };
-
-    /// No more than none.
-    ghost zero: { Self };
-
-    /// The number that stands for one that is not there.
-    fn zero() -> Self
-        ensures { result ≡ zero };
-
-    /// The width, in bytes.
-    fn size() -> usize
-        ensures { result ≡ layout.size };
-
-    /// The number in the first bytes, which are there.
-    fn in_front(bytes: &[u8]) -> Self
-        requires { layout.size ≤ length bytes.now }
-        ensures { IsBlock layout bytes.now result };
-
-    /// Writes it at the front of the slice, leaves the rest, and answers its length.
-    fn write(self, out: &mut [u8]) -> usize
-        requires { layout.size ≤ length out.old }
-        ensures len { result ≡ layout.size }
-        ensures after { Writes out.old out.new (layout.encode self) };
+/// Reads the numbers of the bytes into the fields, 0 for each that there is none for, and answers how many
+/// fields that are, and the numbers behind the fields.
+///
+/// # Errors
+/// `AllocError` where memory is refused; without numbers behind the fields none is taken.
+pub fn read_grown<T: Number>(
+    alloc: Global,
+    bytes: &[u8],
+    fields: &mut [T],
+) -> Result<(usize, Vec<T>), AllocError>
+    ensures ok { IfOk result (λ rest. record { fields = fields.new; missing = rest.0; more = rest.1.items } ≡ grown_of T.width.none (length fields.old) (numbers_in T.width bytes.now)) }
+    ensures memory { OnErr result ((length fields.old + 1) * T.width.layout.size ≤ length bytes.now) }
+{
+    read_front(bytes, fields);
+    let more = numbers_behind(alloc, bytes, fields.len())?;
+    Ok((missing_of::<T>(bytes, fields.len()), more))
 }
 
-impl Number for u32 {
-    ghost layout = { le32 };
-
-    ghost positive = { lit< tt };
-
-    ghost long = { λ x. refl };
-
-    ghost zero = { 0 };
-
-    fn zero() -> u32 {
-        0
-    }
-
-    fn size() -> usize {
-        4
-    }
-
-    fn in_front(bytes: &[u8]) -> u32 {
-        u32::from_le_bytes([bytes[0], bytes[1], bytes[2], bytes[3]])
-    }
-
-    fn write(self, out: &mut [u8]) -> usize {
-        write_array(self.to_le_bytes(), out)
+/// Reads the first numbers of the bytes into the slice, and 0 for each that there is not.
+fn read_front<T: Number>(bytes: &[u8], fields: &mut [T])
+    ensures { fields.new ≡ filled T.width.none (length fields.old) 0 (numbers_in T.width bytes.now) }
+{
+    for at in 0..fields.len() {
+        fields[at] = number_at(bytes, at);
     }
 }
 
-impl Number for i32 {
-    ghost layout = { signed32 };
-
-    ghost positive = { lit< tt };
-
-    ghost long = { λ x. refl };
-
-    ghost zero = { pos 0 };
-
-    fn zero() -> i32 {
-        0
-    }
-
-    fn size() -> usize {
-        4
-    }
-
-    fn in_front(bytes: &[u8]) -> i32 {
-        i32::from_le_bytes([bytes[0], bytes[1], bytes[2], bytes[3]])
-    }
-
-    fn write(self, out: &mut [u8]) -> usize {
-        write_array(self.to_le_bytes(), out)
+/// The number at this place of the bytes, and 0 where they end before it.
+fn number_at<T: Number>(bytes: &[u8], at: usize) -> T
+    ensures { result ≡ number_or T.width.none (slice_get (numbers_in T.width bytes.now) at) }
+{
+    if at < bytes.len() / T::size() {
+        T::in_front(&bytes[at * T::size()..])
+    } else {
+        T::zero()
     }
 }
 
-impl Number for u64 {
-    ghost layout = { le64 };
-
-    ghost positive = { lit< tt };
-
-    ghost long = { λ x. refl };
-
-    ghost zero = { 0 };
-
-    fn zero() -> u64 {
-        0
-    }
-
-    fn size() -> usize {
-        8
-    }
-
-    fn in_front(bytes: &[u8]) -> u64 {
-        u64::from_le_bytes([
-            bytes[0], bytes[1], bytes[2], bytes[3], bytes[4], bytes[5], bytes[6], bytes[7],
-        ])
-    }
-
-    fn write(self, out: &mut [u8]) -> usize {
-        write_array(self.to_le_bytes(), out)
-    }
+/// How many of so many numbers the bytes do not have.
+fn missing_of<T: Number>(bytes: &[u8], fields: usize) -> usize
+    ensures { result ≡ fields - length (numbers_in T.width bytes.now) }
+{
+    fields.saturating_sub(bytes.len() / T::size())
 }
 
-impl Number for i64 {
-    ghost layout = { signed64 };
-
-    ghost positive = { lit< tt };
-
-    ghost long = { λ x. refl };
-
-    ghost zero = { pos 0 };
-
-    fn zero() -> i64 {
-        0
+/// The numbers behind so many.
+///
+/// # Errors
+/// `AllocError` where memory is refused; where there are none none is taken.
+fn numbers_behind<T: Number>(
+    alloc: Global,
+    bytes: &[u8],
+    fields: usize,
+) -> Result<Vec<T>, AllocError>
+    ensures ok { IfOk result (λ numbers. numbers.items ≡ drop fields (numbers_in T.width bytes.now)) }
+    ensures memory { OnErr result ((fields + 1) * T.width.layout.size ≤ length bytes.now) }
+{
+    if bytes.len() / T::size() <= fields {
+        return Ok(Vec::new(alloc));
     }
-
-    fn size() -> usize {
-        8
-    }
-
-    fn in_front(bytes: &[u8]) -> i64 {
-        i64::from_le_bytes([
-            bytes[0], bytes[1], bytes[2], bytes[3], bytes[4], bytes[5], bytes[6], bytes[7],
-        ])
-    }
-
-    fn write(self, out: &mut [u8]) -> usize {
-        write_array(self.to_le_bytes(), out)
-    }
+    read_numbers(alloc, &bytes[fields * T::size()..])
 }
 
 /// The numbers of the bytes, in order; what is left at the end and too short for one is dropped.
 ///
 /// # Errors
 /// `AllocError` where memory is refused; bytes that are too short for one take none.
-pub(crate) fn read_numbers<T: Number>(alloc: Global, bytes: &[u8]) -> Result<Vec<T>, AllocError>
-    ensures ok { IfOk result (λ numbers. AreBlocks T.layout bytes.now numbers.items) }
-    ensures memory { OnErr result (T.layout.size ≤ length bytes.now) }
+fn read_numbers<T: Number>(alloc: Global, bytes: &[u8]) -> Result<Vec<T>, AllocError>
+    ensures ok { IfOk result (λ numbers. AreBlocks T.width.layout bytes.now numbers.items) }
+    ensures memory { OnErr result (T.width.layout.size ≤ length bytes.now) }
 {
     let mut numbers = Vec::new(alloc);
     let mut rest = bytes;
@@ -171,7 +91,7 @@ pub(crate) fn read_numbers<T: Number>(alloc: Global, bytes: &[u8]) -> Result<Vec
 ///
 /// # Errors
 /// `AllocError` where memory is refused; without numbers none is taken.
-pub(crate) fn copy_numbers<T: Number>(alloc: Global, numbers: &[T]) -> Result<Vec<T>, AllocError>
+pub fn copy_numbers<T: Number>(alloc: Global, numbers: &[T]) -> Result<Vec<T>, AllocError>
     ensures ok { IfOk result (λ copy. copy.items ≡ numbers.now) }
     ensures memory { OnErr result (0 < length numbers.now) }
 {
@@ -181,18 +101,30 @@ pub(crate) fn copy_numbers<T: Number>(alloc: Global, numbers: &[T]) -> Result<Ve
     Vec::from_slice(alloc, numbers)
 }
 
-/// The number at this place, and 0 where there are fewer.
-pub(crate) fn number_or_zero<T: Number>(numbers: &[T], at: usize) -> T
-    ensures { result ≡ or_zero T.zero (slice_get numbers.now at) }
+/// The length of so many fields but the last that are missing, and of the numbers behind them, in bytes.
+pub fn grown_len<T: Number>(fields: usize, missing: usize, more: &[T]) -> usize
+    requires { (fields + length more.now) * T.width.layout.size < 2 ^ 64 }
+    ensures { (xs : List T) → length xs ≡ fields → result ≡ length (block_bytes T.width.layout (numbers_of fields (record { fields = xs; missing = missing; more = more.now }))) }
 {
-    numbers.get(at).copied().unwrap_or(T::zero())
+    (fields.saturating_sub(missing) + more.len()) * T::size()
+}
+
+/// Writes the fields but the last that are missing, and the numbers behind them, at the front of the
+/// slice, leaves the rest, and answers their length.
+pub fn write_grown<T: Number>(fields: &[T], missing: usize, more: &[T], out: &mut [u8]) -> usize
+    requires { length (block_bytes T.width.layout (numbers_of (length fields.now) (record { fields = fields.now; missing = missing; more = more.now }))) ≤ length out.old }
+    ensures len { result ≡ length (block_bytes T.width.layout (numbers_of (length fields.now) (record { fields = fields.now; missing = missing; more = more.now }))) }
+    ensures after { Writes out.old out.new (block_bytes T.width.layout (numbers_of (length fields.now) (record { fields = fields.now; missing = missing; more = more.now }))) }
+{
+    let at = write_numbers(&fields[..fields.len().saturating_sub(missing)], out);
+    at + write_numbers(more, &mut out[at..])
 }
 
 /// Writes the numbers at the front of the slice, leaves the rest, and answers their length.
-pub(crate) fn write_numbers<T: Number>(numbers: &[T], out: &mut [u8]) -> usize
-    requires { length (block_bytes T.layout numbers.now) ≤ length out.old }
-    ensures len { result ≡ length (block_bytes T.layout numbers.now) }
-    ensures after { Writes out.old out.new (block_bytes T.layout numbers.now) }
+fn write_numbers<T: Number>(numbers: &[T], out: &mut [u8]) -> usize
+    requires { length (block_bytes T.width.layout numbers.now) ≤ length out.old }
+    ensures len { result ≡ length (block_bytes T.width.layout numbers.now) }
+    ensures after { Writes out.old out.new (block_bytes T.width.layout numbers.now) }
 {
     let mut at = 0usize;
     for number in numbers {

@@ -1,246 +1,125 @@
 //! Counters of a link: `struct rtnl_link_stats` of `linux/if_link.h`, of 32 bits.
 
-ghost use Rattle.std.specs.Prelude.{◌≡◌, ◌≤◌, ◌<◌, [], codes, length, slice_get, IfOk, OnErr};
-ghost use Rattle.{npr_base.specs.Framing.{Writes}, npr_link_numbers.specs.{Numbers.{words32}, Names.{counter}}};
+ghost use Rattle.std.specs.Prelude.{◌≡◌};
+ghost use Rattle.npr_link_numbers.specs.{Grown.{parts}, Names.{stats}};
 
-use crate::numbers::{copy_numbers, number_or_zero, read_numbers, write_numbers};
+use crate::grown::Grown;
+use crate::numbers::{copy_numbers, grown_len, read_grown, write_grown};
 use std::alloc::{AllocError, Global};
 
 /// Counters of a link, of 32 bits each: `struct rtnl_link_stats` of `linux/if_link.h`.
-///
-/// The counters of any kernel are kept: it has as many as it has, and one that it has not is 0.
 #[derive(Debug, Drop, PartialEq, Eq)]
 pub struct Stats {
-    /// The counters, in the kernel's order.
-    pub numbers: Vec<u32>,
+    /// Packets received.
+    pub rx_packets: u32,
+    /// Packets sent.
+    pub tx_packets: u32,
+    /// Bytes received.
+    pub rx_bytes: u32,
+    /// Bytes sent.
+    pub tx_bytes: u32,
+    /// Bad packets received.
+    pub rx_errors: u32,
+    /// Packets that could not be sent.
+    pub tx_errors: u32,
+    /// Packets received and not looked at, as for want of memory.
+    pub rx_dropped: u32,
+    /// Packets dropped on the way out, as for want of memory.
+    pub tx_dropped: u32,
+    /// Multicast packets received.
+    pub multicast: u32,
+    /// Collisions while packets were sent.
+    pub collisions: u32,
+    /// Received with a wrong length.
+    pub rx_length_errors: u32,
+    /// Received when the receiver overflowed.
+    pub rx_over_errors: u32,
+    /// Received with a wrong checksum.
+    pub rx_crc_errors: u32,
+    /// Received with a wrong alignment.
+    pub rx_frame_errors: u32,
+    /// Errors of the receiver's queue.
+    pub rx_fifo_errors: u32,
+    /// Missed for want of room.
+    pub rx_missed_errors: u32,
+    /// Sending given up.
+    pub tx_aborted_errors: u32,
+    /// Not sent, since the carrier was lost.
+    pub tx_carrier_errors: u32,
+    /// Errors of the sender's queue.
+    pub tx_fifo_errors: u32,
+    /// Errors of the heartbeat.
+    pub tx_heartbeat_errors: u32,
+    /// Late collisions.
+    pub tx_window_errors: u32,
+    /// Compressed packets received.
+    pub rx_compressed: u32,
+    /// Compressed packets sent.
+    pub tx_compressed: u32,
+    /// Packets received on a port that is not active.
+    pub rx_nohandler: u32,
+    /// How many of the last counters the kernel does not have: these are 0, and are not written.
+    pub missing: usize,
+    /// The counters behind these, which a newer kernel has.
+    pub more: Vec<u32>,
+}
+
+/// The fields in the order in which kernels write them.
+macro_rules! fields {
+    ($body:ident ($($given:tt)*)) => {
+        crate::$body!(($($given)*) Stats {
+            rx_packets, tx_packets, rx_bytes, tx_bytes, rx_errors, tx_errors, rx_dropped,
+            tx_dropped, multicast, collisions, rx_length_errors, rx_over_errors, rx_crc_errors,
+            rx_frame_errors, rx_fifo_errors, rx_missed_errors, tx_aborted_errors, tx_carrier_errors,
+            tx_fifo_errors, tx_heartbeat_errors, tx_window_errors, rx_compressed, tx_compressed,
+            rx_nohandler,
+        })
+    };
 }
 
 impl Stats {
-    /// None. It takes no memory.
-    pub fn new(alloc: Global) -> Self
-        ensures { result.numbers.items ≡ [] }
+    /// The fields.
+    #[tactic(auto, unfolding(crate::specs::Names::stats))]
+    fn fields(&self) -> [u32; 24]
+        ensures { result ≡ (parts stats self.now).fields }
     {
-        Stats {
-            numbers: Vec::new(alloc),
-        }
+        fields!(listed(self))
     }
 
-    /// The counters of the bytes, 4 bytes each, little endian; what is left at the end and too short
-    /// for one is dropped.
-    ///
-    /// # Errors
-    /// `AllocError` where memory is refused; fewer than 4 bytes take none.
-    pub fn read(alloc: Global, bytes: &[u8]) -> Result<Self, AllocError>
-        ensures ok { IfOk result (λ x. words32.Reads bytes.now x.numbers.items) }
-        ensures memory { OnErr result (4 ≤ length bytes.now) }
+    /// The structure of these fields.
+    fn of(fields: [u32; 24], missing: usize, more: Vec<u32>) -> Self
+        ensures { parts stats result ≡ record { fields = fields; missing = missing; more = more.items } }
     {
-        Ok(Stats {
-            numbers: read_numbers(alloc, bytes)?,
-        })
+        fields!(filled(fields, missing, more))
+    }
+}
+
+#[tactic(auto, unfolding(crate::specs::Names::stats))]
+impl Grown for Stats {
+    type Number = u32;
+
+    ghost names = { stats };
+
+    fn new(alloc: Global) -> Self {
+        Self::of([0; 24], 0, Vec::new(alloc))
     }
 
-    /// An equal value.
-    ///
-    /// # Errors
-    /// `AllocError` where memory is refused; where there are no counters none is taken.
-    pub fn try_clone(&self, alloc: Global) -> Result<Self, AllocError>
-        ensures ok { IfOk result (λ x. x.numbers.items ≡ self.now.numbers.items) }
-        ensures memory { OnErr result (0 < length self.now.numbers.items) }
-    {
-        Ok(Stats {
-            numbers: copy_numbers(alloc, self.numbers.as_slice())?,
-        })
+    fn of_numbers(alloc: Global, bytes: &[u8]) -> Result<Self, AllocError> {
+        let mut fields = [0; 24];
+        let (missing, more) = read_grown(alloc, bytes, &mut fields)?;
+        Ok(Self::of(fields, missing, more))
     }
 
-    /// The length of the bytes: 4 for each.
-    #[tactic(auto, using(crate::specs::Numbers::words32_length))]
-    pub fn len(&self) -> usize
-        ensures { result ≡ length (words32.encode self.now.numbers.items) }
-    {
-        self.numbers.as_slice().len() * 4
+    fn try_clone(&self, alloc: Global) -> Result<Self, AllocError> {
+        let more = copy_numbers(alloc, self.more.as_slice())?;
+        Ok(Self::of(self.fields(), self.missing, more))
     }
 
-    /// Writes the bytes at the front of the slice, leaves the rest, and answers their length.
-    pub fn write(&self, out: &mut [u8]) -> usize
-        requires { length (words32.encode self.now.numbers.items) ≤ length out.old }
-        ensures len { result ≡ length (words32.encode self.now.numbers.items) }
-        ensures after { Writes out.old out.new (words32.encode self.now.numbers.items) }
-    {
-        write_numbers(self.numbers.as_slice(), out)
+    fn len(&self) -> usize {
+        grown_len(24, self.missing, self.more.as_slice())
     }
 
-    /// The number at this place, if there are so many.
-    pub fn number(&self, at: usize) -> Option<u32>
-        ensures { result ≡ slice_get self.now.numbers.items at }
-    {
-        self.numbers.as_slice().get(at).copied()
-    }
-
-    /// `rx_packets`.
-    pub fn rx_packets(&self) -> u32
-        ensures { result ≡ counter (codes "rx_packets") self.now.numbers.items }
-    {
-        number_or_zero(self.numbers.as_slice(), 0)
-    }
-
-    /// `tx_packets`.
-    pub fn tx_packets(&self) -> u32
-        ensures { result ≡ counter (codes "tx_packets") self.now.numbers.items }
-    {
-        number_or_zero(self.numbers.as_slice(), 1)
-    }
-
-    /// `rx_bytes`.
-    pub fn rx_bytes(&self) -> u32
-        ensures { result ≡ counter (codes "rx_bytes") self.now.numbers.items }
-    {
-        number_or_zero(self.numbers.as_slice(), 2)
-    }
-
-    /// `tx_bytes`.
-    pub fn tx_bytes(&self) -> u32
-        ensures { result ≡ counter (codes "tx_bytes") self.now.numbers.items }
-    {
-        number_or_zero(self.numbers.as_slice(), 3)
-    }
-
-    /// `rx_errors`.
-    pub fn rx_errors(&self) -> u32
-        ensures { result ≡ counter (codes "rx_errors") self.now.numbers.items }
-    {
-        number_or_zero(self.numbers.as_slice(), 4)
-    }
-
-    /// `tx_errors`.
-    pub fn tx_errors(&self) -> u32
-        ensures { result ≡ counter (codes "tx_errors") self.now.numbers.items }
-    {
-        number_or_zero(self.numbers.as_slice(), 5)
-    }
-
-    /// `rx_dropped`.
-    pub fn rx_dropped(&self) -> u32
-        ensures { result ≡ counter (codes "rx_dropped") self.now.numbers.items }
-    {
-        number_or_zero(self.numbers.as_slice(), 6)
-    }
-
-    /// `tx_dropped`.
-    pub fn tx_dropped(&self) -> u32
-        ensures { result ≡ counter (codes "tx_dropped") self.now.numbers.items }
-    {
-        number_or_zero(self.numbers.as_slice(), 7)
-    }
-
-    /// `multicast`.
-    pub fn multicast(&self) -> u32
-        ensures { result ≡ counter (codes "multicast") self.now.numbers.items }
-    {
-        number_or_zero(self.numbers.as_slice(), 8)
-    }
-
-    /// `collisions`.
-    pub fn collisions(&self) -> u32
-        ensures { result ≡ counter (codes "collisions") self.now.numbers.items }
-    {
-        number_or_zero(self.numbers.as_slice(), 9)
-    }
-
-    /// `rx_length_errors`.
-    pub fn rx_length_errors(&self) -> u32
-        ensures { result ≡ counter (codes "rx_length_errors") self.now.numbers.items }
-    {
-        number_or_zero(self.numbers.as_slice(), 10)
-    }
-
-    /// `rx_over_errors`.
-    pub fn rx_over_errors(&self) -> u32
-        ensures { result ≡ counter (codes "rx_over_errors") self.now.numbers.items }
-    {
-        number_or_zero(self.numbers.as_slice(), 11)
-    }
-
-    /// `rx_crc_errors`.
-    pub fn rx_crc_errors(&self) -> u32
-        ensures { result ≡ counter (codes "rx_crc_errors") self.now.numbers.items }
-    {
-        number_or_zero(self.numbers.as_slice(), 12)
-    }
-
-    /// `rx_frame_errors`.
-    pub fn rx_frame_errors(&self) -> u32
-        ensures { result ≡ counter (codes "rx_frame_errors") self.now.numbers.items }
-    {
-        number_or_zero(self.numbers.as_slice(), 13)
-    }
-
-    /// `rx_fifo_errors`.
-    pub fn rx_fifo_errors(&self) -> u32
-        ensures { result ≡ counter (codes "rx_fifo_errors") self.now.numbers.items }
-    {
-        number_or_zero(self.numbers.as_slice(), 14)
-    }
-
-    /// `rx_missed_errors`.
-    pub fn rx_missed_errors(&self) -> u32
-        ensures { result ≡ counter (codes "rx_missed_errors") self.now.numbers.items }
-    {
-        number_or_zero(self.numbers.as_slice(), 15)
-    }
-
-    /// `tx_aborted_errors`.
-    pub fn tx_aborted_errors(&self) -> u32
-        ensures { result ≡ counter (codes "tx_aborted_errors") self.now.numbers.items }
-    {
-        number_or_zero(self.numbers.as_slice(), 16)
-    }
-
-    /// `tx_carrier_errors`.
-    pub fn tx_carrier_errors(&self) -> u32
-        ensures { result ≡ counter (codes "tx_carrier_errors") self.now.numbers.items }
-    {
-        number_or_zero(self.numbers.as_slice(), 17)
-    }
-
-    /// `tx_fifo_errors`.
-    pub fn tx_fifo_errors(&self) -> u32
-        ensures { result ≡ counter (codes "tx_fifo_errors") self.now.numbers.items }
-    {
-        number_or_zero(self.numbers.as_slice(), 18)
-    }
-
-    /// `tx_heartbeat_errors`.
-    pub fn tx_heartbeat_errors(&self) -> u32
-        ensures { result ≡ counter (codes "tx_heartbeat_errors") self.now.numbers.items }
-    {
-        number_or_zero(self.numbers.as_slice(), 19)
-    }
-
-    /// `tx_window_errors`.
-    pub fn tx_window_errors(&self) -> u32
-        ensures { result ≡ counter (codes "tx_window_errors") self.now.numbers.items }
-    {
-        number_or_zero(self.numbers.as_slice(), 20)
-    }
-
-    /// `rx_compressed`.
-    pub fn rx_compressed(&self) -> u32
-        ensures { result ≡ counter (codes "rx_compressed") self.now.numbers.items }
-    {
-        number_or_zero(self.numbers.as_slice(), 21)
-    }
-
-    /// `tx_compressed`.
-    pub fn tx_compressed(&self) -> u32
-        ensures { result ≡ counter (codes "tx_compressed") self.now.numbers.items }
-    {
-        number_or_zero(self.numbers.as_slice(), 22)
-    }
-
-    /// `rx_nohandler`.
-    pub fn rx_nohandler(&self) -> u32
-        ensures { result ≡ counter (codes "rx_nohandler") self.now.numbers.items }
-    {
-        number_or_zero(self.numbers.as_slice(), 23)
+    fn write(&self, out: &mut [u8]) -> usize {
+        write_grown(&self.fields(), self.missing, self.more.as_slice(), out)
     }
 }

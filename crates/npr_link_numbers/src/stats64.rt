@@ -1,253 +1,127 @@
 //! Counters of a link: `struct rtnl_link_stats64` of `linux/if_link.h`, of 64 bits.
 
-ghost use Rattle.std.specs.Prelude.{◌≡◌, ◌≤◌, ◌<◌, [], codes, length, slice_get, IfOk, OnErr};
-ghost use Rattle.{npr_base.specs.Framing.{Writes}, npr_link_numbers.specs.{Numbers.{words64}, Names.{counter}}};
+ghost use Rattle.std.specs.Prelude.{◌≡◌};
+ghost use Rattle.npr_link_numbers.specs.{Grown.{parts}, Names.{stats64}};
 
-use crate::numbers::{copy_numbers, number_or_zero, read_numbers, write_numbers};
+use crate::grown::Grown;
+use crate::numbers::{copy_numbers, grown_len, read_grown, write_grown};
 use std::alloc::{AllocError, Global};
 
 /// Counters of a link, of 64 bits each: `struct rtnl_link_stats64` of `linux/if_link.h`.
-///
-/// The counters of any kernel are kept: it has as many as it has, and one that it has not is 0.
 #[derive(Debug, Drop, PartialEq, Eq)]
 pub struct Stats64 {
-    /// The counters, in the kernel's order.
-    pub numbers: Vec<u64>,
+    /// Packets received.
+    pub rx_packets: u64,
+    /// Packets sent.
+    pub tx_packets: u64,
+    /// Bytes received.
+    pub rx_bytes: u64,
+    /// Bytes sent.
+    pub tx_bytes: u64,
+    /// Bad packets received.
+    pub rx_errors: u64,
+    /// Packets that could not be sent.
+    pub tx_errors: u64,
+    /// Packets received and not looked at, as for want of memory.
+    pub rx_dropped: u64,
+    /// Packets dropped on the way out, as for want of memory.
+    pub tx_dropped: u64,
+    /// Multicast packets received.
+    pub multicast: u64,
+    /// Collisions while packets were sent.
+    pub collisions: u64,
+    /// Received with a wrong length.
+    pub rx_length_errors: u64,
+    /// Received when the receiver overflowed.
+    pub rx_over_errors: u64,
+    /// Received with a wrong checksum.
+    pub rx_crc_errors: u64,
+    /// Received with a wrong alignment.
+    pub rx_frame_errors: u64,
+    /// Errors of the receiver's queue.
+    pub rx_fifo_errors: u64,
+    /// Missed for want of room.
+    pub rx_missed_errors: u64,
+    /// Sending given up.
+    pub tx_aborted_errors: u64,
+    /// Not sent, since the carrier was lost.
+    pub tx_carrier_errors: u64,
+    /// Errors of the sender's queue.
+    pub tx_fifo_errors: u64,
+    /// Errors of the heartbeat.
+    pub tx_heartbeat_errors: u64,
+    /// Late collisions.
+    pub tx_window_errors: u64,
+    /// Compressed packets received.
+    pub rx_compressed: u64,
+    /// Compressed packets sent.
+    pub tx_compressed: u64,
+    /// Packets received on a port that is not active.
+    pub rx_nohandler: u64,
+    /// Packets received for another host.
+    pub rx_otherhost_dropped: u64,
+    /// How many of the last counters the kernel does not have: these are 0, and are not written.
+    pub missing: usize,
+    /// The counters behind these, which a newer kernel has.
+    pub more: Vec<u64>,
+}
+
+/// The fields in the order in which kernels write them.
+macro_rules! fields {
+    ($body:ident ($($given:tt)*)) => {
+        crate::$body!(($($given)*) Stats64 {
+            rx_packets, tx_packets, rx_bytes, tx_bytes, rx_errors, tx_errors, rx_dropped,
+            tx_dropped, multicast, collisions, rx_length_errors, rx_over_errors, rx_crc_errors,
+            rx_frame_errors, rx_fifo_errors, rx_missed_errors, tx_aborted_errors, tx_carrier_errors,
+            tx_fifo_errors, tx_heartbeat_errors, tx_window_errors, rx_compressed, tx_compressed,
+            rx_nohandler, rx_otherhost_dropped,
+        })
+    };
 }
 
 impl Stats64 {
-    /// None. It takes no memory.
-    pub fn new(alloc: Global) -> Self
-        ensures { result.numbers.items ≡ [] }
+    /// The fields.
+    #[tactic(auto, unfolding(crate::specs::Names::stats64))]
+    fn fields(&self) -> [u64; 25]
+        ensures { result ≡ (parts stats64 self.now).fields }
     {
-        Stats64 {
-            numbers: Vec::new(alloc),
-        }
+        fields!(listed(self))
     }
 
-    /// The counters of the bytes, 8 bytes each, little endian; what is left at the end and too short
-    /// for one is dropped.
-    ///
-    /// # Errors
-    /// `AllocError` where memory is refused; fewer than 8 bytes take none.
-    pub fn read(alloc: Global, bytes: &[u8]) -> Result<Self, AllocError>
-        ensures ok { IfOk result (λ x. words64.Reads bytes.now x.numbers.items) }
-        ensures memory { OnErr result (8 ≤ length bytes.now) }
+    /// The structure of these fields.
+    fn of(fields: [u64; 25], missing: usize, more: Vec<u64>) -> Self
+        ensures { parts stats64 result ≡ record { fields = fields; missing = missing; more = more.items } }
     {
-        Ok(Stats64 {
-            numbers: read_numbers(alloc, bytes)?,
-        })
+        fields!(filled(fields, missing, more))
+    }
+}
+
+#[tactic(auto, unfolding(crate::specs::Names::stats64))]
+impl Grown for Stats64 {
+    type Number = u64;
+
+    ghost names = { stats64 };
+
+    fn new(alloc: Global) -> Self {
+        Self::of([0; 25], 0, Vec::new(alloc))
     }
 
-    /// An equal value.
-    ///
-    /// # Errors
-    /// `AllocError` where memory is refused; where there are no counters none is taken.
-    pub fn try_clone(&self, alloc: Global) -> Result<Self, AllocError>
-        ensures ok { IfOk result (λ x. x.numbers.items ≡ self.now.numbers.items) }
-        ensures memory { OnErr result (0 < length self.now.numbers.items) }
-    {
-        Ok(Stats64 {
-            numbers: copy_numbers(alloc, self.numbers.as_slice())?,
-        })
+    fn of_numbers(alloc: Global, bytes: &[u8]) -> Result<Self, AllocError> {
+        let mut fields = [0; 25];
+        let (missing, more) = read_grown(alloc, bytes, &mut fields)?;
+        Ok(Self::of(fields, missing, more))
     }
 
-    /// The length of the bytes: 8 for each.
-    #[tactic(auto, using(crate::specs::Numbers::words64_length))]
-    pub fn len(&self) -> usize
-        ensures { result ≡ length (words64.encode self.now.numbers.items) }
-    {
-        self.numbers.as_slice().len() * 8
+    fn try_clone(&self, alloc: Global) -> Result<Self, AllocError> {
+        let more = copy_numbers(alloc, self.more.as_slice())?;
+        Ok(Self::of(self.fields(), self.missing, more))
     }
 
-    /// Writes the bytes at the front of the slice, leaves the rest, and answers their length.
-    pub fn write(&self, out: &mut [u8]) -> usize
-        requires { length (words64.encode self.now.numbers.items) ≤ length out.old }
-        ensures len { result ≡ length (words64.encode self.now.numbers.items) }
-        ensures after { Writes out.old out.new (words64.encode self.now.numbers.items) }
-    {
-        write_numbers(self.numbers.as_slice(), out)
+    fn len(&self) -> usize {
+        grown_len(25, self.missing, self.more.as_slice())
     }
 
-    /// The number at this place, if there are so many.
-    pub fn number(&self, at: usize) -> Option<u64>
-        ensures { result ≡ slice_get self.now.numbers.items at }
-    {
-        self.numbers.as_slice().get(at).copied()
-    }
-
-    /// `rx_packets`.
-    pub fn rx_packets(&self) -> u64
-        ensures { result ≡ counter (codes "rx_packets") self.now.numbers.items }
-    {
-        number_or_zero(self.numbers.as_slice(), 0)
-    }
-
-    /// `tx_packets`.
-    pub fn tx_packets(&self) -> u64
-        ensures { result ≡ counter (codes "tx_packets") self.now.numbers.items }
-    {
-        number_or_zero(self.numbers.as_slice(), 1)
-    }
-
-    /// `rx_bytes`.
-    pub fn rx_bytes(&self) -> u64
-        ensures { result ≡ counter (codes "rx_bytes") self.now.numbers.items }
-    {
-        number_or_zero(self.numbers.as_slice(), 2)
-    }
-
-    /// `tx_bytes`.
-    pub fn tx_bytes(&self) -> u64
-        ensures { result ≡ counter (codes "tx_bytes") self.now.numbers.items }
-    {
-        number_or_zero(self.numbers.as_slice(), 3)
-    }
-
-    /// `rx_errors`.
-    pub fn rx_errors(&self) -> u64
-        ensures { result ≡ counter (codes "rx_errors") self.now.numbers.items }
-    {
-        number_or_zero(self.numbers.as_slice(), 4)
-    }
-
-    /// `tx_errors`.
-    pub fn tx_errors(&self) -> u64
-        ensures { result ≡ counter (codes "tx_errors") self.now.numbers.items }
-    {
-        number_or_zero(self.numbers.as_slice(), 5)
-    }
-
-    /// `rx_dropped`.
-    pub fn rx_dropped(&self) -> u64
-        ensures { result ≡ counter (codes "rx_dropped") self.now.numbers.items }
-    {
-        number_or_zero(self.numbers.as_slice(), 6)
-    }
-
-    /// `tx_dropped`.
-    pub fn tx_dropped(&self) -> u64
-        ensures { result ≡ counter (codes "tx_dropped") self.now.numbers.items }
-    {
-        number_or_zero(self.numbers.as_slice(), 7)
-    }
-
-    /// `multicast`.
-    pub fn multicast(&self) -> u64
-        ensures { result ≡ counter (codes "multicast") self.now.numbers.items }
-    {
-        number_or_zero(self.numbers.as_slice(), 8)
-    }
-
-    /// `collisions`.
-    pub fn collisions(&self) -> u64
-        ensures { result ≡ counter (codes "collisions") self.now.numbers.items }
-    {
-        number_or_zero(self.numbers.as_slice(), 9)
-    }
-
-    /// `rx_length_errors`.
-    pub fn rx_length_errors(&self) -> u64
-        ensures { result ≡ counter (codes "rx_length_errors") self.now.numbers.items }
-    {
-        number_or_zero(self.numbers.as_slice(), 10)
-    }
-
-    /// `rx_over_errors`.
-    pub fn rx_over_errors(&self) -> u64
-        ensures { result ≡ counter (codes "rx_over_errors") self.now.numbers.items }
-    {
-        number_or_zero(self.numbers.as_slice(), 11)
-    }
-
-    /// `rx_crc_errors`.
-    pub fn rx_crc_errors(&self) -> u64
-        ensures { result ≡ counter (codes "rx_crc_errors") self.now.numbers.items }
-    {
-        number_or_zero(self.numbers.as_slice(), 12)
-    }
-
-    /// `rx_frame_errors`.
-    pub fn rx_frame_errors(&self) -> u64
-        ensures { result ≡ counter (codes "rx_frame_errors") self.now.numbers.items }
-    {
-        number_or_zero(self.numbers.as_slice(), 13)
-    }
-
-    /// `rx_fifo_errors`.
-    pub fn rx_fifo_errors(&self) -> u64
-        ensures { result ≡ counter (codes "rx_fifo_errors") self.now.numbers.items }
-    {
-        number_or_zero(self.numbers.as_slice(), 14)
-    }
-
-    /// `rx_missed_errors`.
-    pub fn rx_missed_errors(&self) -> u64
-        ensures { result ≡ counter (codes "rx_missed_errors") self.now.numbers.items }
-    {
-        number_or_zero(self.numbers.as_slice(), 15)
-    }
-
-    /// `tx_aborted_errors`.
-    pub fn tx_aborted_errors(&self) -> u64
-        ensures { result ≡ counter (codes "tx_aborted_errors") self.now.numbers.items }
-    {
-        number_or_zero(self.numbers.as_slice(), 16)
-    }
-
-    /// `tx_carrier_errors`.
-    pub fn tx_carrier_errors(&self) -> u64
-        ensures { result ≡ counter (codes "tx_carrier_errors") self.now.numbers.items }
-    {
-        number_or_zero(self.numbers.as_slice(), 17)
-    }
-
-    /// `tx_fifo_errors`.
-    pub fn tx_fifo_errors(&self) -> u64
-        ensures { result ≡ counter (codes "tx_fifo_errors") self.now.numbers.items }
-    {
-        number_or_zero(self.numbers.as_slice(), 18)
-    }
-
-    /// `tx_heartbeat_errors`.
-    pub fn tx_heartbeat_errors(&self) -> u64
-        ensures { result ≡ counter (codes "tx_heartbeat_errors") self.now.numbers.items }
-    {
-        number_or_zero(self.numbers.as_slice(), 19)
-    }
-
-    /// `tx_window_errors`.
-    pub fn tx_window_errors(&self) -> u64
-        ensures { result ≡ counter (codes "tx_window_errors") self.now.numbers.items }
-    {
-        number_or_zero(self.numbers.as_slice(), 20)
-    }
-
-    /// `rx_compressed`.
-    pub fn rx_compressed(&self) -> u64
-        ensures { result ≡ counter (codes "rx_compressed") self.now.numbers.items }
-    {
-        number_or_zero(self.numbers.as_slice(), 21)
-    }
-
-    /// `tx_compressed`.
-    pub fn tx_compressed(&self) -> u64
-        ensures { result ≡ counter (codes "tx_compressed") self.now.numbers.items }
-    {
-        number_or_zero(self.numbers.as_slice(), 22)
-    }
-
-    /// `rx_nohandler`.
-    pub fn rx_nohandler(&self) -> u64
-        ensures { result ≡ counter (codes "rx_nohandler") self.now.numbers.items }
-    {
-        number_or_zero(self.numbers.as_slice(), 23)
-    }
-
-    /// `rx_otherhost_dropped`.
-    pub fn rx_otherhost_dropped(&self) -> u64
-        ensures { result ≡ counter (codes "rx_otherhost_dropped") self.now.numbers.items }
-    {
-        number_or_zero(self.numbers.as_slice(), 24)
+    fn write(&self, out: &mut [u8]) -> usize {
+        write_grown(&self.fields(), self.missing, self.more.as_slice(), out)
     }
 }

@@ -4,7 +4,8 @@ use bitflags::Flags;
 use netlink_packet_route::AddressFamily;
 use netlink_packet_route::framing::{EmitError, Emitable, Header, Looks, Parseable};
 use netlink_packet_route::link::{
-    LinkAttribute, LinkFlags, LinkHeader, LinkLayerType, LinkMessage, LinkMessageBuffer, Stats64,
+    Grown, LinkAttribute, LinkFlags, LinkHeader, LinkLayerType, LinkMessage, LinkMessageBuffer,
+    Stats, Stats64,
 };
 use npr_testing::{bytes_of, check_of, holds, messages, same, says, shows, writes};
 use std::test::Fail;
@@ -56,8 +57,8 @@ fn refuses_short_headers(rt: HostRuntime) -> Result<(), Fail> {
     messages::<LinkMessage>(&rt, "", lines)
 }
 
-/// Numbers, names and statistics. A name may come without its zero; flags of a number are dropped;
-/// statistics are those of any kernel; the last four bytes of a map are padding.
+/// Numbers and names. A name may come without its zero; flags of a number are dropped; the last four
+/// bytes of a map are padding.
 #[test]
 fn reads_attributes(rt: HostRuntime) -> Result<(), Fail> {
     let lines = "
@@ -69,9 +70,6 @@ fn reads_attributes(rt: HostRuntime) -> Result<(), Fail> {
             [Other(DefaultNla { kind: 32830, value: [] }), Other(DefaultNla { kind: 32833, value: [] })]
         05001000 06000000 05001000 09000000 05001100 01000000 => \
             [OperState(Up), OperState(Other(9)), Mode(Dormant)]
-        12000700 01020304 05060708 090a0b0c aabb0000 -> 10000700 01020304 05060708 090a0b0c => \
-            [Stats(Stats { numbers: [67305985, 134678021, 202050057] })]
-        14001700 07000000 00000000 09000000 00000000 => [Stats64(Stats64 { numbers: [7, 9] })]
         24000e00 00000000 00000000 00000000 00000000 00000000 00000000 0b000102 ffffffff -> \
             24000e00 00000000 00000000 00000000 00000000 00000000 00000000 0b000102 00000000 => \
             [Map(Map { memory_start: 0, memory_end: 0, base_address: 0, irq: 11, dma: 1, port: 2 })]
@@ -120,8 +118,14 @@ fn reads_address_families(rt: HostRuntime) -> Result<(), Fail> {
     let lines = "
         10001a00 0c000a00 05000800 01000000 => [AfSpecUnspec([Inet6([AddrGenMode(None)])])]
         0c001a00 08000200 06000a00 => an attribute of length 6 with 4 bytes left
-        18001a00 14000200 10000100 01000000 00000000 02000000 => \
-            [AfSpecUnspec([Inet([DevConf(InetDevConf { numbers: [1, 0, 2] })])])]
+        44001a00 40000a00 3c000600 07000000 00000000 02000000 00000000 00000000 00000000 05000000 00000000 \
+            00000000 00000000 00000000 00000000 00000000 00000000 => \
+            [AfSpecUnspec([Inet6([Icmp6Stats(Icmp6Stats { num: 7, in_msgs: 2, in_errors: 0, out_msgs: 5, \
+            out_errors: 0, csum_errors: 0, rate_limit_host: 0, missing: 0, more: [] })])])]
+        18001a00 14000a00 0e000600 07000000 00000000 aabb0000 -> \
+            14001a00 10000a00 0c000600 07000000 00000000 => \
+            [AfSpecUnspec([Inet6([Icmp6Stats(Icmp6Stats { num: 7, in_msgs: 0, in_errors: 0, out_msgs: 0, \
+            out_errors: 0, csum_errors: 0, rate_limit_host: 0, missing: 6, more: [] })])])]
         1c001a00 18000a00 13000500 00000000 00000000 00000000 00000000 => \
             15 bytes, where a header of 16 is wanted";
     messages::<LinkMessage>(&rt, FOURTH, lines)?;
@@ -141,15 +145,58 @@ fn counts_no_looks_at_a_header(rt: HostRuntime) -> Result<(), Fail> {
     same(looks, Looks::new())
 }
 
-/// Numbers by their names, and by their places.
+/// The counters of which `ip -s link` says that 18 packets of 1298 bytes came and 10 of 956 went; the
+/// kernel has no more than these.
 #[test]
-fn reads_statistics(rt: HostRuntime) -> Result<(), Fail> {
-    let bytes = bytes_of(&rt, &["07000000 00000000 09000000 00000000"])?;
+fn reads_few_statistics(rt: HostRuntime) -> Result<(), Fail> {
+    let front = "12000000 00000000 0a000000 00000000 12050000 00000000 bc030000 00000000";
+    let bytes = bytes_of(&rt, &[front, "ffffff"])?;
     let stats = Stats64::read(rt.alloc(), bytes.as_slice())?;
-    same(stats.rx_packets(), 7)?;
-    same(stats.tx_packets(), 9)?;
-    same(stats.rx_bytes(), 0)?;
-    same(stats.number(2), None)
+    same(stats.rx_packets, 18)?;
+    same(stats.tx_packets, 10)?;
+    same(stats.rx_bytes, 1298)?;
+    same(stats.tx_bytes, 956)?;
+    same(stats.rx_errors, 0)?;
+    same(stats.missing, 21)?;
+    same(stats.len(), 32)?;
+    writes(&rt, LinkAttribute::Stats64(stats), &["24001700", front])
+}
+
+/// Two counters of a newer kernel stand behind those that have a name.
+#[test]
+fn reads_more_statistics(rt: HostRuntime) -> Result<(), Fail> {
+    let last = "00000000 00000000 00000000 01000000 02000000 03000000";
+    let bytes = bytes_of(&rt, &[ZEROS, ZEROS, ZEROS, ZEROS, ZEROS, last])?;
+    let stats = Stats::read(rt.alloc(), bytes.as_slice())?;
+    same(stats.rx_nohandler, 1)?;
+    same(stats.missing, 0)?;
+    same(stats.more.as_slice(), [2u32, 3].as_slice())?;
+    let copy = stats.try_clone(rt.alloc())?;
+    same(copy, stats)
+}
+
+/// What is built is written whole.
+#[test]
+fn writes_statistics(rt: HostRuntime) -> Result<(), Fail> {
+    let mut stats = Stats64::new(rt.alloc());
+    stats.rx_bytes = 7;
+    let wanted = [
+        "cc001700",
+        ZEROS,
+        "07000000 00000000",
+        ZEROS,
+        ZEROS,
+        ZEROS,
+        ZEROS,
+        ZEROS,
+        ZEROS,
+        ZEROS,
+        ZEROS,
+        ZEROS,
+        ZEROS,
+        ZEROS,
+    ];
+    writes(&rt, LinkAttribute::Stats64(stats), &wanted)
 }
 
 /// A name of 65,531 letters is too long with its zero, and a number is written over what stood there.

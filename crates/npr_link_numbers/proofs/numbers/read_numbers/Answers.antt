@@ -5,6 +5,6 @@ use Rattle.npr_link_numbers.proofs.numbers.read_numbers.Goals as goal
 
 pub returns-clause-ok : goal.returns-clause-ok
 returns-clause-ok g c =
-    let L = g.T.Number.layout in
+    let L = g.T.Number.width.layout in
     let short : length c.loop-rest.rest.now < L.size = omega (arith, c.loop-rest-test.false, c.size.ensures) in
     subst (AreBlocks L c.args.bytes.now) (append-nil c.loop-rest.numbers.items) (c.loop-rest.invariant.read [] short)

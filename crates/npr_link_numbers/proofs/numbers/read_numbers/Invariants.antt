@@ -4,7 +4,7 @@ use Rattle.npr_link_numbers.proofs.numbers.read_numbers.Given as goal
 
 abbrev pub invariant-loop-rest : goal.invariant-loop-rest
 invariant-loop-rest g l = record {
-  read : (xs : List _) → AreBlocks g.T.Number.layout l.rest xs → AreBlocks g.T.Number.layout l.bytes (l.numbers.items ++ xs);
+  read : (xs : List _) → AreBlocks g.T.Number.width.layout l.rest xs → AreBlocks g.T.Number.width.layout l.bytes (l.numbers.items ++ xs);
   left : length l.rest ≤ length l.bytes;
 }
 

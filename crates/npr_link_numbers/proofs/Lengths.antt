@@ -1,0 +1,9 @@
+-- How long numbers are that are written one behind the other.
+use Rattle.std.proofs.Common.{◌≡◌, ◌*◌, List, [], ◌∷◌, length, arith, suc-mul, length-append}
+use Rattle.npr_base.specs.Blocks.{block_bytes}
+use Rattle.npr_link_numbers.specs.Grown.{Width}
+
+pub blocks-length : {A : Type 0} (width : Width A) (xs : List A) → length (block_bytes width.layout xs) ≡ length xs * width.layout.size
+blocks-length width [] = omega arith
+blocks-length width (x ∷ xs) =
+    omega (arith, suc-mul (length xs) width.layout.size, blocks-length width xs, width.long x, length-append (width.layout.encode x) (block_bytes width.layout xs))

@@ -1,0 +1,5 @@
+mod Arrays
+mod Coherent
+pub mod EqualityLaws
+mod Lengths
+mod Places

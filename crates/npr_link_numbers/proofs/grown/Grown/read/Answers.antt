@@ -1,0 +1,11 @@
+use Rattle.std.proofs.Common.{sym, subst}
+use Rattle.std.proofs.lemmas.Result.{IfOk-weaker}
+use Rattle.npr_link_numbers.specs.Grown.{Grown, grown, numbers-read}
+use Rattle.npr_link_numbers.proofs.grown.Grown.read.Goals as goal
+
+pub returns-clause-ok : goal.returns-clause-ok
+returns-clause-ok g c =
+    let names = g.Self.Grown.names in
+    IfOk-weaker c.of_numbers.result _ _
+    (λ x e. subst ((grown g.Self.Number.Number.width names).Reads c.args.bytes.now) (sym e) (numbers-read g.Self.Number.Number.width names c.args.bytes.now))
+    c.of_numbers.ensures.ok
