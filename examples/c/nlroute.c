@@ -68,15 +68,28 @@ static int digit_of(uint8_t c) {
     return c >= 'A' && c <= 'F' ? c - 'A' + 10 : -1;
 }
 
-static bool is_blank(uint8_t c) { return c == ' ' || c == '\t' || c == '\n' || c == '\r'; }
+/* The place behind a blank, a colon, `0x` or a comment at this place, or the place itself. */
+static size_t passed(const struct bytes *text, size_t at) {
+    if (memchr(" \t\n\r:", text->at[at], 5) != NULL)
+        return at + 1;
+    if (text->at[at] == '0' && at + 1 < text->length && (text->at[at + 1] == 'x' || text->at[at + 1] == 'X'))
+        return at + 2;
+    if (text->at[at] == '#')
+        while (at < text->length && text->at[at] != '\n')
+            at++;
+    return at;
+}
 
-/* Makes the bytes of hexadecimal text in its place. With `blanks`, blanks may stand before, between
- * and after pairs. Answers whether it is such a text. */
-static bool decode(struct bytes *text, bool blanks) {
+/* Makes the bytes of hexadecimal text in its place. With `loose`, blanks, colons, `0x` and comments may
+ * stand before, between and after pairs. Answers whether it is such a text. */
+static bool decode(struct bytes *text, bool loose) {
     size_t count = 0;
     for (size_t i = 0; i < text->length; i++) {
-        if (blanks && is_blank(text->at[i]))
+        size_t next = loose ? passed(text, i) : i;
+        if (next != i) {
+            i = next - 1;
             continue;
+        }
         int high = digit_of(text->at[i++]);
         int low = i < text->length ? digit_of(text->at[i]) : -1;
         if (high < 0 || low < 0)
@@ -144,6 +157,16 @@ static int tell(enum ending ending, const char *line, const char *name) {
     return ending;
 }
 
+/* Says that bytes begin with an envelope of rtnetlink, if they do. */
+static void hint(struct bytes bytes) {
+    if (bytes.length < 16)
+        return;
+    const uint8_t *b = bytes.at;
+    uint32_t length = b[0] | (uint32_t)b[1] << 8 | (uint32_t)b[2] << 16 | (uint32_t)b[3] << 24;
+    if (length >= 16 && length <= bytes.length && npr_kind_of((uint16_t)(b[4] | b[5] << 8)) != 0)
+        fputs("these bytes begin with an envelope (struct nlmsghdr), which `nlshow --hex` reads\n", stderr);
+}
+
 static int answer_to(const struct kind *kind, struct bytes bytes) {
     struct bytes out = {NULL, 0};
     struct npr_answer answer;
@@ -151,9 +174,10 @@ static int answer_to(const struct kind *kind, struct bytes bytes) {
     int status;
     if (!ask(kind, bytes, &out, &answer))
         status = tell(MEMORY, "out of memory", "");
-    else if (answer.status == NPR_REFUSED)
+    else if (answer.status == NPR_REFUSED) {
         status = tell(REFUSED, "refused: ", name_of(answer, name));
-    else if (answer.status == NPR_UNFIT)
+        hint(bytes);
+    } else if (answer.status == NPR_UNFIT)
         status = tell(UNFIT, "unfit: ", name_of(answer, name));
     else
         status = tell(report(kind, bytes.length, (struct bytes){out.at, answer.length}), "write failed", "");

@@ -1,4 +1,4 @@
-pub mod HexText
 pub mod KnownBytes
+pub mod Places
 pub mod ReportLines
 pub mod Reporting

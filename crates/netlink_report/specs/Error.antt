@@ -41,3 +41,8 @@ IsOfMessage BadHex = ⊥
 IsOfMessage Read = ⊥
 IsOfMessage Write = ⊥
 IsOfMessage e = Unit {0}
+
+-- how a run can end by the text alone, or for want of memory
+abbrev pub IsOfText : RunError → Type 0
+IsOfText BadHex = Unit {0}
+IsOfText e = IsOfMessage e

@@ -1,5 +1,6 @@
+pub mod CommandLine
 pub mod Counted
 pub mod Error
-pub mod HexText
 pub mod Report
 pub mod Run
+pub mod Where

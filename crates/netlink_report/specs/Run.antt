@@ -1,6 +1,7 @@
 -- What a run has read, answered and written.
-use Rattle.std.specs.Prelude.{◌≡◌, ◌≢◌, ℕ, ◌<◌, ◌≤◌, List, length, map, take, Option, Some, None, IfSome}
+use Rattle.std.specs.Prelude.{◌≡◌, ◌≢◌, ℕ, ◌<◌, ◌≤◌, List, length, map, take, Option, Some, None, Result, Ok, Err, IfSome}
 use Rattle.std.specs.Io.KnownBytes.{Appends}
+use Rattle.hex_text.specs.HexText.{IsHexText}
 use Rattle.netlink_packet_route.specs.Family.{written_by}
 use Rattle.netlink_packet_route.specs.MessageKind.{form_of, kind_name}
 use Rattle.netlink_packet_route.specs.Messages.{View, IsMessage, MessageFault, message_unfit, canonical_bytes}
@@ -8,8 +9,9 @@ use Rattle.netlink_packet_route.specs.declared.MessageKind.{MessageKind}
 use Rattle.netlink_packet_route.specs.declared.framing.DecodeError.{DecodeError}
 use Rattle.netlink_packet_route.specs.declared.framing.DecodeError.TheVariants.{OutOfMemory}
 use Rattle.netlink_packet_route.specs.declared.framing.EmitError.{EmitError}
-use Rattle.netlink_report.specs.HexText.{IsHexText}
 use Rattle.netlink_report.specs.Report.{report}
+use Rattle.netlink_report.specs.declared.ended.Ended.{Ended}
+use Rattle.netlink_report.specs.declared.error.RunError.{RunError}
 
 -- the bytes are a message of this kind that can be written, and the text is the report on it
 unfoldable pub IsReport : MessageKind → List ℕ → List ℕ → Type 0
@@ -44,3 +46,8 @@ ReportsPart kind remaining before after = OfText remaining (λ bytes.
 -- there is something left to read
 abbrev pub SomethingLeft : Option (List ℕ) → Type 0
 SomethingLeft remaining = IfSome remaining (λ left. 0 < length left)
+
+-- the run ends with this error
+abbrev pub Ends : {A : Type 0} → Result A Ended → RunError → Type 0
+Ends (Ok a) error = ⊥
+Ends (Err ended) error = ended.error ≡ error

@@ -11,6 +11,8 @@ mod displays;
 #[cfg(test)]
 mod envelopes;
 #[cfg(test)]
+mod hexadecimal;
+#[cfg(test)]
 mod report;
 #[cfg(test)]
 mod rtnetlink;

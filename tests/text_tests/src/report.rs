@@ -2,7 +2,7 @@
 
 use netlink_packet_route::MessageKind;
 use netlink_packet_route::framing::{DecodeError, EmitError};
-use netlink_report::{Counted, RunError, Which, bytes_of, finish, read_all, run, write_text};
+use netlink_report::{Command, Counted, RunError, Which, finish, read_all, run, write_text};
 use npr_testing::{holds, same, shows};
 use std::alloc::Global;
 use std::io;
@@ -53,20 +53,32 @@ fn one_known_word_is_wanted(rt: HostRuntime) -> Result<(), Fail> {
     Ok(())
 }
 
-/// The texts, between bars, are printed so as bytes.
-fn are_bytes(rt: &impl AllocGlobal, texts: &str, wanted: &str) -> Result<(), Fail> {
-    for text in texts.split('|') {
-        shows(rt, bytes_of(rt.alloc(), text.as_bytes()), wanted)?;
+/// Each line is words, and what they ask for.
+#[test]
+fn words_ask_for_a_report(rt: HostRuntime) -> Result<(), Fail> {
+    let lines = "
+        --help => Some(Help)
+        -h => Some(Help)
+        --version => Some(Version)
+        link => Some(Report(Link, false))
+        --where link => Some(Report(Link, true))
+        link --where => Some(Report(Link, true))
+        --where => None
+        --where links => None
+        --where link link => None
+        --where --where => None
+        --help link => None
+        => None";
+    for line in lines.lines() {
+        if let Some((words, command)) = line.split_once("=>") {
+            let mut owned = Vec::new(rt.alloc());
+            for word in words.split_whitespace() {
+                owned.push(String::from_str(rt.alloc(), word)?)?;
+            }
+            shows(&rt, Command::of(owned.as_slice()), command.trim())?;
+        }
     }
     Ok(())
-}
-
-#[test]
-fn hexadecimal_text(rt: HostRuntime) -> Result<(), Fail> {
-    let texts = "0aFf10| 0A\tfF\r\n10\n|0aff 10   ";
-    are_bytes(&rt, texts, "Ok([10, 255, 16])")?;
-    are_bytes(&rt, "| \n", "Ok([])")?;
-    are_bytes(&rt, "0 2|0|0aF|0g|0a,10|0a\x0b10", "Err(BadHex)")
 }
 
 /// Gives its byte again and again, `left` times, and fails at the call `failing`, from 1 on.
@@ -201,7 +213,7 @@ fn reports(
 ) -> Result<(), Fail> {
     let mut reader = Counted::new(text);
     let mut writer = Counted::new(Vec::new(rt.alloc()));
-    run(rt.alloc(), kind, &mut reader, &mut writer)?;
+    holds(run(rt.alloc(), kind, &mut reader, &mut writer).is_ok())?;
     same(writer.into_inner().as_slice(), report)
 }
 
@@ -246,6 +258,7 @@ fn run_to(rt: &impl AllocGlobal, step: usize, failing: usize) -> (Result<(), Run
     let mut reader = Counted::new(LOOPBACK);
     let mut writer = Sink::new(rt.alloc(), step, failing);
     let ended = run(rt.alloc(), MessageKind::Address, &mut reader, &mut writer);
+    let ended = ended.map_err(|ended| ended.error);
     (ended, writer.into_inner().taken)
 }
 
@@ -272,7 +285,7 @@ fn ends(rt: &impl AllocGlobal, kind: MessageKind, text: &str, wanted: &str) -> R
     let mut writer = Counted::new(Vec::new(rt.alloc()));
     let ended = run(rt.alloc(), kind, &mut reader, &mut writer);
     holds(ended.is_ok() || writer.into_inner().is_empty())?;
-    shows(rt, ended, wanted)
+    shows(rt, ended.map_err(|ended| ended.error), wanted)
 }
 
 #[test]
@@ -288,6 +301,49 @@ fn writes_nothing_after_a_fault(rt: HostRuntime) -> Result<(), Fail> {
     ends(&rt, kind, "", short)?;
     let text = "02000000fe03000100000000 0a00120002010a0000010000";
     ends(&rt, kind, text, "Err(Refused(ViaFamily(258)))")
+}
+
+/// A run over this text ends at a place that is told so, and with this hint or none.
+fn stands(
+    rt: &impl AllocGlobal,
+    kind: MessageKind,
+    text: &str,
+    place: &str,
+    hint: bool,
+) -> Result<(), Fail> {
+    let mut reader = Counted::new(text.as_bytes());
+    let mut writer = Counted::new(Vec::new(rt.alloc()));
+    match run(rt.alloc(), kind, &mut reader, &mut writer) {
+        Ok(()) => Err(Fail::new("a report is printed")),
+        Err(ended) => {
+            let line = format!(in rt.alloc(); "{}", ended.place)?;
+            same(line.as_str(), place)?;
+            same(ended.hint().is_some(), hint)
+        }
+    }
+}
+
+#[test]
+fn tells_where_a_fault_stands(rt: HostRuntime) -> Result<(), Fail> {
+    let kind = MessageKind::Route;
+    stands(&rt, kind, "02 0x00\n0g", "at line 2, column 2", false)?;
+    let place = "0 bytes, where a header of 12 is wanted, at byte 0";
+    stands(&rt, kind, "", place, false)?;
+    let text = "02000000fe03000100000000 04006300 06000f0001020000";
+    let place = "a value of 2 bytes at RTA_TABLE (15), where 4 are wanted, at byte 16";
+    stands(&rt, kind, text, place, false)?;
+    // A route in its envelope, and one whose envelope states another length or type.
+    let route = "02000000fe03000100000000";
+    for (front, hint) in [
+        ("1c000000180000000000000000000000", true),
+        ("1d000000180000000000000000000000", false),
+        ("1c000000030000000000000000000000", false),
+    ] {
+        let text = format!(in rt.alloc(); "{front}{route}")?;
+        let place = "an attribute of length 0 with 16 bytes left, at byte 12";
+        stands(&rt, kind, text.as_str(), place, hint)?;
+    }
+    Ok(())
 }
 
 /// A name of 65,531 letters, which has no room for its zero, behind this front.
@@ -328,6 +384,7 @@ fn run_from(
     });
     let mut writer = Counted::new(Vec::new(rt.alloc()));
     let ended = run(rt.alloc(), MessageKind::Address, &mut reader, &mut writer);
+    let ended = ended.map_err(|ended| ended.error);
     (ended, writer.into_inner().len())
 }
 

@@ -37,6 +37,7 @@ fn shown(alloc: Global, message: Shown<'_>) -> Result<String, Fail> {
     let manner = Manner {
         alloc,
         numeric: false,
+        tells_family: false,
         interfaces: &interfaces,
     };
     let mut counts = Counts::default();

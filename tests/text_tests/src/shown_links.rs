@@ -78,6 +78,7 @@ fn manner(alloc: Global, interfaces: &Interfaces) -> Manner<'_> {
     Manner {
         alloc,
         numeric: false,
+        tells_family: false,
         interfaces,
     }
 }

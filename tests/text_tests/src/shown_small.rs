@@ -106,6 +106,7 @@ fn append(
     let manner = Manner {
         alloc,
         numeric: false,
+        tells_family: false,
         interfaces,
     };
     match form {
