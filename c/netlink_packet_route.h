@@ -42,11 +42,11 @@
 #include <stddef.h>
 #include <stdint.h>
 
-/* The version of the library. */
+/* The version of the library. While the first two numbers stay, structures, calls and numbers stay as they are, and others are added. */
 #define NPR_VERSION_MAJOR 0
-#define NPR_VERSION_MINOR 12
+#define NPR_VERSION_MINOR 13
 #define NPR_VERSION_PATCH 0
-#define NPR_VERSION "0.12.0"
+#define NPR_VERSION "0.13.0"
 
 /* The stack of a thread that is enough for every call and every input, in bytes: 1 MiB. The deepest
  * message takes some 773 KiB, and where a fault is looked for some 433 (measured). */
@@ -348,6 +348,21 @@ size_t npr_refusal_name(uint32_t number, char *out, size_t room);
 
 /* The same for the name of a cause, as "TooLong". */
 size_t npr_cause_name(uint32_t number, char *out, size_t room);
+
+/* Room for the name of every attribute and its zero. */
+#define NPR_ATTRIBUTE_ROOM 48
+
+/* The same for the name of the attribute of a number (without the two flags of a kind) in a family, as "IFLA_MTU". A number that the
+ * kernel's headers don't name has an empty one. */
+size_t npr_attribute_name(uint32_t family, uint16_t number, char *out, size_t room);
+
+/* Room for every text of a fault and its zero. */
+#define NPR_TEXT_ROOM 256
+
+/* The same for what is wrong with the bytes as a message of a kind, in words: the attribute by name and number, the lengths that are
+ * there and that are wanted, and the place, as "a value of 2 bytes at IFLA_MTU (4), where 4 are wanted, at byte 16". Where the bytes are
+ * a message the text is empty. */
+size_t npr_fault_text(uint32_t kind, const uint8_t *bytes, size_t length, char *out, size_t room);
 
 /* The name of a refusal, as `npr_refusal_name` writes it, as a text that stays. */
 static inline const char *npr_refusal_text(uint32_t number) {

@@ -2,6 +2,8 @@
  * and the first answer that is not. `make check` compiles it as C and as C++. */
 
 #include "netlink_packet_route.h"
+#include <linux/if_link.h>
+#include <linux/rtnetlink.h>
 #include <stdio.h>
 #include <string.h>
 
@@ -297,6 +299,36 @@ static int names(void) {
     return 0;
 }
 
+/* Attributes have the kernel's names (linux/if_link.h, linux/rtnetlink.h), and what is not there has none. */
+static int attribute_names(void) {
+    char name[NPR_ATTRIBUTE_ROOM] = "as it was";
+    WANT(npr_attribute_name(NPR_FAMILY_LINK, IFLA_MTU, name, 8) == 8 && strcmp(name, "as it was") == 0);
+    WANT(npr_attribute_name(NPR_FAMILY_LINK, IFLA_MTU, name, 9) == 8 && strcmp(name, "IFLA_MTU") == 0);
+    WANT(npr_attribute_name(NPR_FAMILY_INFO_BOND_PORT, IFLA_BOND_SLAVE_AD_PARTNER_OPER_PORT_STATE, name, sizeof name) == 42);
+    WANT(strcmp(name, "IFLA_BOND_SLAVE_AD_PARTNER_OPER_PORT_STATE") == 0);
+    WANT(npr_attribute_name(NPR_FAMILY_METRIC, RTAX_MTU, name, sizeof name) == 8 && strcmp(name, "RTAX_MTU") == 0);
+    WANT(npr_attribute_name(NPR_FAMILY_ROUTE, 999, name, sizeof name) == 0 && name[0] == 0);
+    WANT(npr_attribute_name(999, 1, name, sizeof name) == 0 && name[0] == 0);
+    return 0;
+}
+
+/* A table of two bytes in a route, and in what a driver says of a VLAN a number of four: each by its name, its lengths and its place. */
+static int fault_texts(void) {
+    static const uint8_t route[] = {2, 0, 0, 0, 254, 3, 0, 1, 0, 0, 0, 0, 6, 0, RTA_TABLE, 0, 1, 2, 0, 0};
+    static const uint8_t link[] = {0, 0, 0, 0, 0, 0, 0, 0, 0, 0, 0, 0, 0, 0, 0, 0, 28, 0, IFLA_LINKINFO, 0,
+                                   9, 0, IFLA_INFO_KIND, 0, 'v', 'l', 'a', 'n', 0, 0, 0, 0, 12, 0, IFLA_INFO_DATA, 0,
+                                   8, 0, IFLA_VLAN_ID, 0, 100, 0, 0, 0};
+    char text[NPR_TEXT_ROOM];
+    WANT(npr_fault_text(NPR_KIND_ROUTE, route, sizeof route, text, sizeof text) == strlen(text));
+    WANT(strcmp(text, "a value of 2 bytes at RTA_TABLE (15), where 4 are wanted, at byte 12") == 0);
+    npr_fault_text(NPR_KIND_LINK, link, sizeof link, text, sizeof text);
+    WANT(strcmp(text, "a value of 4 bytes at IFLA_VLAN_ID (1), where 2 are wanted, in IFLA_LINKINFO (18) at byte 16") == 0);
+    WANT(npr_fault_text(NPR_KIND_ROUTE, route, 12, text, sizeof text) == 0 && text[0] == 0);
+    npr_fault_text(0, route, 12, text, sizeof text);
+    WANT(strcmp(text, "no such kind of messages") == 0);
+    return 0;
+}
+
 static int version(void) {
     char text[32];
     snprintf(text, sizeof text, "%d.%d.%d", NPR_VERSION_MAJOR, NPR_VERSION_MINOR, NPR_VERSION_PATCH);
@@ -307,5 +339,6 @@ static int version(void) {
 
 int main(void) {
     return steps() || finds() || next_hops() || values() || values_inside() || conversations() || messages() || faults() || kinds() ||
-           names_of_kinds() || names() || version();
+           names_of_kinds() || names() || attribute_names() || fault_texts() ||
+           version();
 }

@@ -1,7 +1,7 @@
-/* Asks the kernel for a table of addresses, routes, rules, neighbours or links, and prints each message of the answer
- * in a line.
+/* Asks the kernel for a table, and prints each message of the answer in a line: its kind, the bytes of its header, and its values
+ * behind the names of their attributes.
  *
- *   dump [-4|-6] [-w FILE] address|route|rule|neighbour|link
+ *   dump [-4|-6] [-w FILE] address|route|rule|neighbour|link|next_hop|nsid|netconf|address_label|neighbour_table
  *   dump -r FILE
  *   dump monitor
  *
@@ -19,11 +19,7 @@
 #include <arpa/inet.h>
 #include <errno.h>
 #include <inttypes.h>
-#include <linux/fib_rules.h>
-#include <linux/if.h>
-#include <linux/if_addr.h>
 #include <linux/if_link.h>
-#include <linux/neighbour.h>
 #include <linux/netlink.h>
 #include <linux/rtnetlink.h>
 #include <stdbool.h>
@@ -34,178 +30,99 @@
 #include <unistd.h>
 
 #define USAGE                                                                                                          \
-    "usage: dump [-4|-6] [-w FILE] address|route|rule|neighbour|link\n       dump -r FILE\n       dump monitor"
+    "usage: dump [-4|-6] [-w FILE] KIND\n       dump -r FILE\n       dump monitor\nKIND: address, route, rule, neighbour, link, "      \
+    "next_hop, nsid, netconf, address_label or neighbour_table"
 
 enum ending { WELL = 0, REFUSED = 1, UNKNOWN_WORD = 2, INTERRUPTED = 3, FAILED = 5 };
 
-/* A kind of message: its number and its name, the types of a message that something is gone and of a request, and the bytes of its
- * header. */
+/* A kind of message: its name, the type of a request for all, or 0, and the bytes of its header. */
 struct kind {
     uint32_t number;
     const char *name;
-    uint16_t deleted, asked;
+    uint16_t asked;
     size_t header;
 };
 
 static const struct kind KINDS[] = {
-    {NPR_KIND_ADDRESS, "address", RTM_DELADDR, RTM_GETADDR, sizeof(struct ifaddrmsg)},
-    {NPR_KIND_ROUTE, "route", RTM_DELROUTE, RTM_GETROUTE, sizeof(struct rtmsg)},
-    {NPR_KIND_RULE, "rule", RTM_DELRULE, RTM_GETRULE, sizeof(struct fib_rule_hdr)},
-    {NPR_KIND_NEIGHBOUR, "neighbour", RTM_DELNEIGH, RTM_GETNEIGH, sizeof(struct ndmsg)},
-    {NPR_KIND_LINK, "link", RTM_DELLINK, RTM_GETLINK, sizeof(struct ifinfomsg)},
+    {NPR_KIND_ADDRESS, "address", RTM_GETADDR, 8},
+    {NPR_KIND_ROUTE, "route", RTM_GETROUTE, 12},
+    {NPR_KIND_RULE, "rule", RTM_GETRULE, 12},
+    {NPR_KIND_NEIGHBOUR, "neighbour", RTM_GETNEIGH, 12},
+    {NPR_KIND_LINK, "link", RTM_GETLINK, 16},
+    {NPR_KIND_NEXT_HOP, "next_hop", RTM_GETNEXTHOP, 8},
+    {NPR_KIND_NSID, "nsid", RTM_GETNSID, 4},
+    {NPR_KIND_NETCONF, "netconf", RTM_GETNETCONF, 4},
+    {NPR_KIND_ADDRESS_LABEL, "address_label", RTM_GETADDRLABEL, 12},
+    {NPR_KIND_NEIGHBOUR_TABLE, "neighbour_table", RTM_GETNEIGHTBL, 4},
+    {NPR_KIND_PREFIX, "prefix", 0, 12},
 };
 
 #define KIND_COUNT (sizeof KINDS / sizeof *KINDS)
 
 /* Printing */
 
-/* A name up to its zero, with `?` for what is no plain character. */
+/* A name, with `?` for what is no plain character. */
 static void print_text(const char *text, size_t length) {
-    for (size_t i = 0; i < length && text[i] != 0; i++)
+    for (size_t i = 0; i < length; i++)
         putchar(text[i] > ' ' && text[i] < 0x7f ? text[i] : '?');
 }
 
-/* A value, as its form says; bytes, as those of an address on the link, are joined by `:`. */
-static void print_value(const struct npr_reader *reader, const struct npr_value *value) {
+/* Bytes, as those of an address on the link. */
+static void print_bytes(const uint8_t *bytes, size_t length) {
+    for (size_t i = 0; i < length; i++)
+        printf("%s%02x", i == 0 ? "" : ":", bytes[i]);
+}
+
+/* A value, as its form says. */
+static void print_plain(const struct npr_reader *reader, const struct npr_value *value) {
     char text[INET6_ADDRSTRLEN];
     const uint8_t *bytes = npr_bytes(reader, value);
     if (value->form == NPR_FORM_ADDRESS)
         fputs(inet_ntop(value->length == 4 ? AF_INET : AF_INET6, bytes, text, sizeof text), stdout);
     else if (value->form == NPR_FORM_NAME)
         print_text(npr_text(reader, value), value->length);
+    else if (value->form == NPR_FORM_I32)
+        printf("%" PRId32, npr_signed(value));
     else if (value->form <= NPR_FORM_BOOL)
         printf("%" PRIu64, value->integer);
     else
-        for (size_t i = 0; i < value->length; i++)
-            printf("%s%02x", i == 0 ? "" : ":", bytes[i]);
+        print_bytes(bytes, value->length);
 }
 
-/* Prints the first value of a number behind a word. Answers whether there is one. */
-static bool print(const char *word, struct npr_reader reader, uint16_t number) {
-    for (struct npr_value value; npr_next(&reader, &value);)
-        if (value.kind == number) {
-            printf(" %s ", word);
-            print_value(&reader, &value);
-            return true;
-        }
-    return false;
-}
+static void print_values(struct npr_reader reader);
 
-static bool print_prefix(const char *word, struct npr_reader reader, uint16_t number, unsigned bits) {
-    bool is_there = print(word, reader, number);
-    if (is_there)
-        printf("/%u", bits);
-    return is_there;
-}
-
-static void print_path(struct npr_reader reader) {
-    print("via", reader, RTA_GATEWAY);
-    print("dev", reader, RTA_OIF);
-}
-
-static void print_next_hops(struct npr_reader reader) {
-    for (struct npr_value value; npr_next(&reader, &value);) {
-        if (value.kind != RTA_MULTIPATH)
-            continue;
-        struct npr_next_hop hop = npr_first_hop(&reader, &value);
-        for (; hop.status == NPR_FOUND; hop = npr_hop_behind(&reader, &value, hop)) {
-            printf(" nexthop dev %u", (unsigned)hop.interface_index);
-            print("via", npr_enter_hop(&reader, &hop), RTA_GATEWAY);
-        }
-        return;
+/* The next hops of a route, each with its interface. */
+static void print_next_hops(const struct npr_reader *reader, const struct npr_value *value) {
+    struct npr_next_hop hop = npr_first_hop(reader, value);
+    for (; hop.status == NPR_FOUND; hop = npr_hop_behind(reader, value, hop)) {
+        printf("{ %u", (unsigned)hop.interface_index);
+        print_values(npr_enter_hop(reader, &hop));
+        fputs(" } ", stdout);
     }
 }
 
-/* The kind of a link, from what its driver says. */
-static void print_driver(struct npr_reader reader) {
+/* The values of a list, each behind the name of its attribute, with those of the lists in them. */
+static void print_values(struct npr_reader reader) {
+    char name[NPR_ATTRIBUTE_ROOM];
     struct npr_reader inside;
-    for (struct npr_value value; npr_next(&reader, &value);)
-        if (value.kind == IFLA_LINKINFO && npr_enter(&reader, &value, &inside))
-            print("kind", inside, IFLA_INFO_KIND);
-}
-
-/* Flags of a link in the order of `ip`. */
-static const struct {
-    uint32_t flag;
-    const char *name;
-} FLAGS[] = {
-    {IFF_LOOPBACK, "LOOPBACK"},   {IFF_BROADCAST, "BROADCAST"},   {IFF_POINTOPOINT, "POINTOPOINT"},
-    {IFF_MULTICAST, "MULTICAST"}, {IFF_NOARP, "NOARP"},           {IFF_ALLMULTI, "ALLMULTI"},
-    {IFF_PROMISC, "PROMISC"},     {IFF_MASTER, "MASTER"},         {IFF_SLAVE, "SLAVE"},
-    {IFF_DEBUG, "DEBUG"},         {IFF_DYNAMIC, "DYNAMIC"},       {IFF_AUTOMEDIA, "AUTOMEDIA"},
-    {IFF_PORTSEL, "PORTSEL"},     {IFF_NOTRAILERS, "NOTRAILERS"}, {IFF_UP, "UP"},
-    {IFF_RUNNING, "RUNNING"},     {IFF_LOWER_UP, "LOWER_UP"},     {IFF_DORMANT, "DORMANT"},
-    {IFF_ECHO, "ECHO"},
-};
-
-static void print_flags(uint32_t flags) {
-    const char *between = " flags ";
-    for (size_t i = 0; i < sizeof FLAGS / sizeof *FLAGS; i++)
-        if (flags & FLAGS[i].flag) {
-            printf("%s%s", between, FLAGS[i].name);
-            between = ",";
+    for (struct npr_value value; npr_next(&reader, &value);) {
+        if (npr_attribute_name(value.family, value.kind, name, sizeof name) == 0)
+            snprintf(name, sizeof name, "%u", value.kind);
+        printf(" %s ", name);
+        if (npr_enter(&reader, &value, &inside)) {
+            putchar('{');
+            print_values(inside);
+            fputs(" }", stdout);
+        } else if (value.family == NPR_FAMILY_ROUTE && value.kind == RTA_MULTIPATH) {
+            print_next_hops(&reader, &value);
+        } else {
+            print_plain(&reader, &value);
         }
-}
-
-/* A number of the header. */
-static uint32_t number_at(const uint8_t *header, size_t at) {
-    uint32_t number;
-    memcpy(&number, header + at, sizeof number);
-    return number;
-}
-
-static void print_link(const uint8_t *header, struct npr_reader reader) {
-    print("is", reader, IFLA_IFNAME);
-    printf(" dev %u", (unsigned)number_at(header, 4));
-    print_flags(number_at(header, 8));
-    print("mtu", reader, IFLA_MTU);
-    print("master", reader, IFLA_MASTER);
-    print("qdisc", reader, IFLA_QDISC);
-    print_driver(reader);
-    print("at", reader, IFLA_ADDRESS);
-}
-
-static void print_rule(const uint8_t *header, struct npr_reader reader) {
-    print("priority", reader, FRA_PRIORITY);
-    print_prefix("from", reader, FRA_SRC, header[2]);
-    print_prefix("to", reader, FRA_DST, header[1]);
-    if (!print("table", reader, FRA_TABLE))
-        printf(" table %u", header[4]);
-}
-
-static void print_route(const uint8_t *header, struct npr_reader reader) {
-    if (!print_prefix("to", reader, RTA_DST, header[1]))
-        printf(" default");
-    print_path(reader);
-    print_next_hops(reader);
-    if (!print("table", reader, RTA_TABLE))
-        printf(" table %u", header[4]);
-}
-
-/* Prints a message that is one: its header, and a reader of its attributes. */
-static void print_message(const struct kind *kind, const uint8_t *header, struct npr_reader reader) {
-    switch (kind->number) {
-    case NPR_KIND_ADDRESS:
-        print_prefix("is", reader, IFA_ADDRESS, header[1]);
-        print("local", reader, IFA_LOCAL);
-        printf(" dev %u", (unsigned)number_at(header, 4));
-        break;
-    case NPR_KIND_ROUTE:
-        print_route(header, reader);
-        break;
-    case NPR_KIND_RULE:
-        print_rule(header, reader);
-        break;
-    case NPR_KIND_NEIGHBOUR:
-        print("is", reader, NDA_DST);
-        print("at", reader, NDA_LLADDR);
-        printf(" dev %d", (int)number_at(header, 4));
-        break;
-    case NPR_KIND_LINK:
-        print_link(header, reader);
-        break;
     }
 }
+
+/* Whether a type says that something is gone: of the types of a kind the second one. */
+static bool is_deleted(uint16_t type) { return type % 4 == RTM_DELLINK % 4; }
 
 /* The kind of the messages of a type, or none. */
 static const struct kind *kind_of(uint16_t type) {
@@ -223,13 +140,17 @@ static bool print_line(uint16_t type, const uint8_t *bytes, size_t length) {
         printf("type %u, %zu bytes\n", type, length);
         return true;
     }
-    printf("%s%s", type == kind->deleted ? "deleted " : "", kind->name);
+    char text[NPR_TEXT_ROOM];
     struct npr_fault fault = npr_fault_of(kind->number, bytes, length);
-    if (fault.number == 0)
-        print_message(kind, bytes, npr_read(bytes, npr_begin(kind->number, bytes, length)));
-    else
-        printf(" refused: %s, family %u, attribute %u, length %zu, at %zu", npr_refusal_text(fault.number),
-               (unsigned)fault.family, fault.kind, fault.length, fault.offset);
+    printf("%s%s", is_deleted(type) ? "deleted " : "", kind->name);
+    if (fault.number == 0) {
+        putchar(' ');
+        print_bytes(bytes, kind->header);
+        print_values(npr_read(bytes, npr_begin(kind->number, bytes, length)));
+    } else {
+        npr_fault_text(kind->number, bytes, length, text, sizeof text);
+        printf(" refused: %s: %s", npr_refusal_text(fault.number), text);
+    }
     putchar('\n');
     return fault.number == 0;
 }
@@ -290,7 +211,7 @@ static int read_file(const char *path) {
  * them besides: virtual functions, and no statistics. */
 static int request(int socket, const struct kind *kind, uint8_t family, uint32_t sequence) {
     uint8_t out[64];
-    const uint8_t header[sizeof(struct ifinfomsg)] = {family};
+    const uint8_t header[16] = {family};
     struct npr_writer writer = npr_write(out, sizeof out);
     size_t message = npr_begin_message(&writer, kind->asked, NLM_F_REQUEST | NLM_F_DUMP, sequence);
     npr_put_header(&writer, header, kind->header);
@@ -342,7 +263,7 @@ static int run(const char *word, bool has_options, uint8_t family, const char *p
     if (!has_options && strcmp(word, "monitor") == 0)
         return monitor() == 0 ? WELL : FAILED;
     for (size_t i = 0; i < KIND_COUNT; i++)
-        if (strcmp(KINDS[i].name, word) == 0)
+        if (strcmp(KINDS[i].name, word) == 0 && KINDS[i].asked != 0)
             return dump(&KINDS[i], family, path);
     return UNKNOWN_WORD;
 }

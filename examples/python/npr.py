@@ -3,7 +3,7 @@
     for message in npr.messages(datagram):
         if message.kind == "route":
             for it in npr.values(message):
-                print(it.family, it.number, it.value)
+                print(it.name, it.value)
 
     writer = npr.Writer()
     with writer.message(RTM_NEWROUTE, NLM_F_REQUEST | NLM_F_CREATE, sequence_number):
@@ -37,9 +37,9 @@ def loaded(name):
     )
 
 
-LIBRARY = loaded("libnetlink_packet_route.so.0.12")
+LIBRARY = loaded("libnetlink_packet_route.so.0.13")
 FOUND, FAULT = 0, 1
-REFUSED, UNFIT, SHORT, NAME_ROOM = 1, 2, 3, 18
+REFUSED, UNFIT, SHORT, TEXT_ROOM = 1, 2, 3, 256
 NLA_F_NESTED = 0x8000
 
 
@@ -73,6 +73,8 @@ hop_at = function("npr_next_hop_at", HOP, data, size, size)
 hop_inside = function("npr_hop_inside", LIST, data, size, size, u32, u32)
 refusal_name = function("npr_refusal_name", size, u32, data, size)
 cause_name = function("npr_cause_name", size, u32, data, size)
+name_of_attribute = function("npr_attribute_name", size, u32, u16, data, size)
+fault_text = function("npr_fault_text", size, u32, data, size, data, size)
 put_at = function("npr_put_at", ANSWER, room, size, size, u16, data, size)
 copy_at = function("npr_copy_at", ANSWER, room, size, size, data, size)
 end_at = function("npr_end_at", ANSWER, room, size, size, size)
@@ -96,11 +98,11 @@ KINDS = [None, *HEADERS]
 
 
 class Fault(ValueError):
-    """Bytes that are refused: the name of the refusal, and at which of the given bytes."""
+    """Bytes that are refused: the name of the refusal, at which of the given bytes, and for a message what is wrong in words."""
 
-    def __init__(self, number, offset):
-        self.name, self.offset = name_of(refusal_name, number), offset
-        super().__init__(f"{self.name} at byte {offset}")
+    def __init__(self, number, offset, text=None):
+        self.name, self.offset, self.text = name_of(refusal_name, number), offset, text
+        super().__init__(f"{self.name}: {text or f'at byte {offset}'}")
 
 
 class Unfit(ValueError):
@@ -134,11 +136,15 @@ class Attribute(NamedTuple):
 
 class Value(NamedTuple):
     """A value of an attribute: the number of its family (`enum npr_family`), in which its own number is to be understood, and an
-    int, a bool, an address, a str, bytes, None, a list of values, or a list of next hops."""
+    int, a bool, an address, a str, bytes, None, a list of values, or a list of next hops. Its name is the kernel's."""
 
     family: int
     number: int
     value: object
+
+    @property
+    def name(self):
+        return attribute_name(self.family, self.number)
 
 
 class NextHop(NamedTuple):
@@ -243,14 +249,20 @@ def checked(message):
         raise ValueError(f"the library has no kind for messages of type {message.type}")
     told = fault_of(kind, given, len(given))
     if told.number:
-        raise Fault(told.number, told.offset)
+        raise Fault(told.number, told.offset, name_of(fault_text, kind, given, len(given)))
     return kind
 
 
-def name_of(call, number):
-    out = ctypes.create_string_buffer(NAME_ROOM)
-    call(number, out, NAME_ROOM)
+def name_of(call, *of):
+    """The text that a call gives."""
+    out = ctypes.create_string_buffer(TEXT_ROOM)
+    call(*of, out, TEXT_ROOM)
     return out.value.decode()
+
+
+def attribute_name(family, number):
+    """The kernel's name of an attribute, "IFLA_MTU", or an empty text."""
+    return name_of(name_of_attribute, family, number)
 
 
 class Writer:

@@ -3,7 +3,7 @@
 ghost use Rattle.std.specs.Prelude.{◌≡◌, ◌≢◌, false, IfSome, IfNone, IfOk, IfErr};
 ghost use Rattle.npr_base.specs.Framing.{number_of};
 ghost use Rattle.npr_route.specs.{Attribute.{Meaning as RouteMeaning}, AttributeFamily.{attributes as route_attributes}, FlatAttribute.{Context}};
-ghost use Rattle.netlink_packet_route.specs.{CheckLaws.{IsAttributeAt}, Nests.{reading_of, stands_apart}};
+ghost use Rattle.netlink_packet_route.specs.{NestLists.{IsAttributeAt}, Nests.{reading_of, stands_apart}};
 
 use crate::nests::Nest;
 use npr_base::{AttributeSet, DecodeError, NlaBuffer};

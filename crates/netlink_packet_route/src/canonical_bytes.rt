@@ -74,6 +74,25 @@ impl From<CanonicalError> for WriteCanonicalError {
     }
 }
 
+/// A call of the function of this name for the header of a message of this kind.
+macro_rules! by_kind {
+    ($kind:expr, $function:ident $arguments:tt) => {
+        match $kind {
+            MessageKind::Address => $function::<AddressHeader> $arguments,
+            MessageKind::Route => $function::<RouteHeader> $arguments,
+            MessageKind::Rule => $function::<RuleHeader> $arguments,
+            MessageKind::Neighbour => $function::<NeighbourHeader> $arguments,
+            MessageKind::Link => $function::<LinkHeader> $arguments,
+            MessageKind::NextHop => $function::<NextHopHeader> $arguments,
+            MessageKind::Nsid => $function::<NsidHeader> $arguments,
+            MessageKind::Netconf => $function::<NetconfHeader> $arguments,
+            MessageKind::AddressLabel => $function::<AddressLabelHeader> $arguments,
+            MessageKind::NeighbourTable => $function::<NeighbourTableHeader> $arguments,
+            MessageKind::Prefix => $function::<PrefixHeader> $arguments,
+        }
+    };
+}
+
 /// Writes the canonical bytes of the message of this kind that the bytes are to the front of `out`, and
 /// answers how many they are. The rest of `out` is left, and all of it where they aren't written. A buffer
 /// of five halves of the input is never too short.
@@ -98,19 +117,7 @@ pub fn write_canonical(
     ensures memory { result ≡ Err (Canonical (Refused OutOfMemory)) → HasFirst kind bytes.now }
     ensures room { 5 * length bytes.now ≤ 2 * length out.old → (got want : ℕ) → result ≢ Err (BufferTooShort got want) }
 {
-    match kind {
-        MessageKind::Address => write_by::<AddressHeader>(alloc, bytes, out),
-        MessageKind::Route => write_by::<RouteHeader>(alloc, bytes, out),
-        MessageKind::Rule => write_by::<RuleHeader>(alloc, bytes, out),
-        MessageKind::Neighbour => write_by::<NeighbourHeader>(alloc, bytes, out),
-        MessageKind::Link => write_by::<LinkHeader>(alloc, bytes, out),
-        MessageKind::NextHop => write_by::<NextHopHeader>(alloc, bytes, out),
-        MessageKind::Nsid => write_by::<NsidHeader>(alloc, bytes, out),
-        MessageKind::Netconf => write_by::<NetconfHeader>(alloc, bytes, out),
-        MessageKind::AddressLabel => write_by::<AddressLabelHeader>(alloc, bytes, out),
-        MessageKind::NeighbourTable => write_by::<NeighbourTableHeader>(alloc, bytes, out),
-        MessageKind::Prefix => write_by::<PrefixHeader>(alloc, bytes, out),
-    }
+    by_kind!(kind, write_by(alloc, bytes, out))
 }
 
 /// The canonical bytes of the message of this kind that the bytes are.
@@ -131,19 +138,7 @@ pub fn canonical(alloc: Global, kind: MessageKind, bytes: &[u8]) -> Result<Vec<u
     // Memory is taken behind a first whole attribute, and for canonical bytes that there are.
     ensures memory { result ≡ Err (Refused OutOfMemory) → TakesMemory (form_of kind).grammar bytes.now }
 {
-    match kind {
-        MessageKind::Address => canonical_by::<AddressHeader>(alloc, bytes),
-        MessageKind::Route => canonical_by::<RouteHeader>(alloc, bytes),
-        MessageKind::Rule => canonical_by::<RuleHeader>(alloc, bytes),
-        MessageKind::Neighbour => canonical_by::<NeighbourHeader>(alloc, bytes),
-        MessageKind::Link => canonical_by::<LinkHeader>(alloc, bytes),
-        MessageKind::NextHop => canonical_by::<NextHopHeader>(alloc, bytes),
-        MessageKind::Nsid => canonical_by::<NsidHeader>(alloc, bytes),
-        MessageKind::Netconf => canonical_by::<NetconfHeader>(alloc, bytes),
-        MessageKind::AddressLabel => canonical_by::<AddressLabelHeader>(alloc, bytes),
-        MessageKind::NeighbourTable => canonical_by::<NeighbourTableHeader>(alloc, bytes),
-        MessageKind::Prefix => canonical_by::<PrefixHeader>(alloc, bytes),
-    }
+    by_kind!(kind, canonical_by(alloc, bytes))
 }
 
 /// `write_canonical` of a message with such a header.

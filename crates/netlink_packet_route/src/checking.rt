@@ -6,8 +6,8 @@ ghost use Rattle.{
   npr_base.specs.{Framing.{number_of}, Value.{Misshown, Shown, Shows}},
   npr_route.specs.Attribute.{HopFault, HopFront, HopHead},
   netlink_packet_route.specs.{
-    CheckLaws.{AreHopsAt, HopsWrongAt, IsAttributeAt, IsListAt, ListFaultAt},
-    LeftLaws.{AreLeft, HopLeads, LeftLeads, LeftWrong, Pending},
+    NestLists.{AreHopsAt, HopsWrongAt, IsAttributeAt, IsListAt, ListFaultAt},
+    Pending.{AreLeft, HopLeads, LeftLeads, LeftWrong, Pending},
     Nests.{holds_hops, reading_of, stands_apart},
   },
 };

@@ -7,3 +7,4 @@ pub use npr_base::{
     Value, Values, WriteError, check_attribute_len, check_list, clone_list, emit_list, fill_list,
     marked_kind, parse_list, to_vec, write_attribute, write_list,
 };
+pub use npr_names::{Named, attribute_name};

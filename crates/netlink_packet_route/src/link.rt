@@ -33,6 +33,7 @@ pub use npr_link::GeneveDf;
 pub use npr_link::GreEncapFlags;
 pub use npr_link::GreEncapType;
 pub use npr_link::GreIOFlags;
+pub use npr_link::Grown;
 pub use npr_link::Icmp6Stats;
 pub use npr_link::In6AddrGenMode;
 pub use npr_link::Inet6CacheInfo;

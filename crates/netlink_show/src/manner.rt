@@ -14,6 +14,8 @@ pub struct Manner<'a> {
     pub alloc: Global,
     /// Numbers stand in place of their names.
     pub numeric: bool,
+    /// The lines of rules tell their families, which `ip` shows one at a time.
+    pub tells_family: bool,
     /// The names of interfaces.
     pub interfaces: &'a Interfaces,
 }

@@ -18,7 +18,7 @@ use netlink_packet_core::{
     error_attributes, error_text, refused_message,
 };
 use netlink_packet_route::framing::DecodeError;
-use netlink_packet_route::{Action, MessageKind, MessageType, Subject, validate};
+use netlink_packet_route::{Action, Located, MessageKind, MessageType, Subject, locate};
 use std::alloc::AllocError;
 
 /// What a message is.
@@ -91,15 +91,18 @@ impl<'a> Shown<'a> {
     /// Whether it can be shown. It takes no memory.
     ///
     /// # Errors
-    /// The first fault of a message that the library reads; `HeaderTooShort` of an error or an end
-    /// without a whole code.
-    pub fn check(&self) -> Result<(), DecodeError> {
+    /// The first fault of a message that the library reads, with its place in the payload;
+    /// `HeaderTooShort` of an error or an end without a whole code.
+    pub fn check(&self) -> Result<(), Located> {
         match self.kind {
-            Some(kind) => validate(kind, self.payload),
+            Some(kind) => locate(kind, self.payload),
             None => match (self.message_type, self.payload.len()) {
-                (NLMSG_ERROR, got @ 0..4) | (NLMSG_DONE, got @ 1..4) => {
-                    Err(DecodeError::HeaderTooShort { got, want: 4 })
-                }
+                (NLMSG_ERROR, got @ 0..4) | (NLMSG_DONE, got @ 1..4) => Err(Located {
+                    refusal: DecodeError::HeaderTooShort { got, want: 4 },
+                    offset: 0,
+                    holder: None,
+                    wanted: None,
+                }),
                 _ => Ok(()),
             },
         }

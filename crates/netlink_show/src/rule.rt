@@ -152,7 +152,7 @@ fn push_header(fields: &mut Fields, header: &RuleMessageBuffer) {
         fields.text(SERVICE, &format_args!("0x{:02x}", header.tos));
     }
     fields.family(FAMILY, header.family);
-    fields.hide();
+    fields.hide_if(!fields.manner.tells_family);
 }
 
 fn push_action(fields: &mut Fields, action: u8) {

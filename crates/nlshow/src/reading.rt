@@ -1,10 +1,10 @@
 //! Finding messages in an input, a window of it at a time.
 
 use crate::capture::{is_capture, read_capture};
-use crate::hex_line::bytes_of_line;
 use crate::refusal::Refusal;
 use crate::session::{Position, Session};
 use byte_window::{Stop, Window};
+use hex_text::{HexError, bytes_of};
 use netlink_packet_core::{NETLINK_HEADER_LEN, NLMSG_ALIGNTO, NetlinkHeader};
 use netlink_packet_route::MessageKind;
 use std::io::Read;
@@ -336,10 +336,11 @@ fn take_line(session: &mut Session, number: u64, offset: u64, line: &[u8]) -> Re
         length: line.len() as u64,
     };
     let before = session.counts.refused;
-    match bytes_of_line(session.alloc, line)? {
-        None => session.refuse(place, Refusal::BadHex),
-        Some(bytes) if bytes.is_empty() => {}
-        Some(bytes) => take_bytes(session, place, bytes.as_slice())?,
+    match bytes_of(session.alloc, line) {
+        Err(HexError::OutOfMemory) => return Err(Stop::Memory),
+        Err(HexError::Bad(_)) => session.refuse(place, Refusal::BadHex),
+        Ok(bytes) if bytes.is_empty() => {}
+        Ok(bytes) => take_bytes(session, place, bytes.as_slice())?,
     }
     if session.counts.refused != before {
         session.keep_as_it_stands(line)?;

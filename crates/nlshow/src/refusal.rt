@@ -1,14 +1,13 @@
 //! Why a message is not shown, in words.
 
-use netlink_packet_route::framing::{At, AttributeSet, DecodeError};
-use netlink_show::attribute_name;
+use netlink_packet_route::Located;
 use std::fmt;
 
 /// Why a message is not shown.
 #[derive(Clone, Copy)]
 pub enum Refusal {
-    /// What stands in its envelope is no message.
-    Payload(DecodeError),
+    /// What stands in its envelope is no message. The place is counted from the first byte of all.
+    Payload(Located),
     /// So many bytes are left, and an envelope begins with 16.
     MessageTooShort { left: u64 },
     /// Its length is below 16, or above the bytes that are left.
@@ -25,7 +24,7 @@ impl Refusal {
     /// Its name.
     pub fn name(&self) -> &'static str {
         match self {
-            Refusal::Payload(fault) => fault.name(),
+            Refusal::Payload(place) => place.refusal.name(),
             Refusal::MessageTooShort { .. } => "MessageTooShort",
             Refusal::MessageLength { .. } => "MessageLength",
             Refusal::TooLong { .. } => "TooLong",
@@ -35,27 +34,13 @@ impl Refusal {
     }
 }
 
-/// An attribute by its name and number.
-#[derive(Clone, Copy)]
-struct Named(At);
-
-impl fmt::Display for Named {
-    fn fmt<W: fmt::Write>(&self, f: &mut fmt::Formatter<W>) -> fmt::Result {
-        let Named(at) = *self;
-        match attribute_name(at.set, at.number) {
-            Some(name) => write!(f, "{name} ({})", at.number),
-            None => write!(f, "{:?} {}", at.set, at.number),
-        }
-    }
-}
-
-/// The name and the lengths.
+/// The name, and what is wrong and where.
 impl fmt::Display for Refusal {
     fn fmt<W: fmt::Write>(&self, f: &mut fmt::Formatter<W>) -> fmt::Result {
         let name = self.name();
         write!(f, "{name}: ")?;
         match *self {
-            Refusal::Payload(fault) => write_fault(f, fault),
+            Refusal::Payload(place) => write!(f, "{place}"),
             Refusal::MessageTooShort { left } => {
                 write!(f, "{left} bytes, where a message begins with 16")
             }
@@ -68,27 +53,5 @@ impl fmt::Display for Refusal {
             Refusal::BadHex => f.write_str("no pairs of hexadecimal digits"),
             Refusal::BadBlock => f.write_str("no block of a capture of nlmon"),
         }
-    }
-}
-
-fn write_fault<W: fmt::Write>(f: &mut fmt::Formatter<W>, fault: DecodeError) -> fmt::Result {
-    match fault {
-        DecodeError::ValueLength { at, got } => {
-            let named = Named(at);
-            write!(f, "a value of {got} bytes at {named}")
-        }
-        DecodeError::NotUtf8 { at } => {
-            let named = Named(at);
-            write!(f, "no UTF-8 at {named}")
-        }
-        DecodeError::GeneveOrder { kind } => {
-            let named = Named(AttributeSet::Geneve.at(kind));
-            write!(f, "{named} before a class")
-        }
-        DecodeError::GeneveChild { kind } => {
-            let named = Named(AttributeSet::Geneve.at(kind));
-            write!(f, "{named} is unknown")
-        }
-        _ => write!(f, "{fault}"),
     }
 }

@@ -6,8 +6,7 @@ use crate::kept::Kept;
 use crate::refusal::Refusal;
 use byte_window::Stop;
 use netlink_packet_core::NetlinkBuffer;
-use netlink_packet_route::MessageKind;
-use netlink_packet_route::framing::DecodeError;
+use netlink_packet_route::{Located, MessageKind};
 use netlink_show::{Counts, Interfaces, Manner, Shown, append_lines, append_object};
 use std::alloc::Global;
 use std::io::{IsTerminal, Write};
@@ -51,6 +50,9 @@ pub struct Session<'r, 'a> {
     interfaces: Interfaces,
     /// Whether messages tell of interfaces alone, and are not shown.
     is_learning: bool,
+    /// The family of the last rule, and whether there were rules of several.
+    rule_family: Option<u8>,
+    tells_family: bool,
     text: String,
     /// What is told of the input at its first refusal.
     hint: Option<&'static str>,
@@ -70,6 +72,8 @@ impl<'r, 'a> Session<'r, 'a> {
             is_watched: rt.stderr().is_terminal(),
             interfaces: Interfaces::new(rt.alloc()),
             is_learning: false,
+            rule_family: None,
+            tells_family: false,
             text: String::new(rt.alloc()),
             hint: None,
         }
@@ -120,9 +124,10 @@ impl<'r, 'a> Session<'r, 'a> {
     fn take(&mut self, place: Position, bytes: &[u8], message: Shown<'_>) -> Result<(), Stop> {
         match message.check() {
             Ok(()) => self.tell(message),
-            Err(DecodeError::OutOfMemory) => Err(Stop::Memory),
             Err(fault) => {
-                self.refuse(place, Refusal::Payload(fault));
+                let front = bytes.len().saturating_sub(message.payload.len());
+                let offset = fault.offset.saturating_add(front);
+                self.refuse(place, Refusal::Payload(Located { offset, ..fault }));
                 self.keep(bytes)
             }
         }
@@ -137,9 +142,11 @@ impl<'r, 'a> Session<'r, 'a> {
             return Ok(());
         }
         self.counts.add(message);
+        self.note_family(message);
         let manner = Manner {
             alloc: self.alloc,
             numeric: self.options.numeric,
+            tells_family: self.tells_family,
             interfaces: &self.interfaces,
         };
         match self.options.form {
@@ -151,6 +158,16 @@ impl<'r, 'a> Session<'r, 'a> {
             return Ok(());
         }
         self.flush()
+    }
+
+    /// Takes notice of the family of a rule: where there was another, rules tell theirs from now on.
+    fn note_family(&mut self, message: Shown<'_>) {
+        if !matches!(message.kind, Some(MessageKind::Rule)) {
+            return;
+        }
+        let family = message.payload.first().copied();
+        self.tells_family |= self.rule_family.is_some() && self.rule_family != family;
+        self.rule_family = family;
     }
 
     /// Says that a message is refused.

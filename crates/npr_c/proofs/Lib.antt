@@ -11,3 +11,4 @@ mod Hearing
 mod WrittenHops
 mod WrittenMessages
 mod WrittenPlaces
+pub mod StopsLaws

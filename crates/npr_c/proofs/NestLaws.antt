@@ -7,7 +7,7 @@ use Rattle.npr_link_tunnels.specs.contracts.form.InfoForm.{enum as links}
 use Rattle.netlink_packet_route.specs.AddressFamily.{families}
 use Rattle.netlink_packet_route.specs.EncapType.{encap_types}
 use Rattle.netlink_packet_route.specs.Nests.{FromBytes, IsOf, encap_set, listed, nest_in, no_context, told_set}
-use Rattle.netlink_packet_route.specs.NumberLaws.{listed-bytes}
+use Rattle.netlink_packet_route.proofs.NumberLaws.{listed-bytes}
 use Rattle.netlink_packet_route.specs.RouteType.{route_types}
 use Rattle.netlink_packet_route.specs.declared.framing.AttributeSet.{AttributeSet}
 use Rattle.netlink_packet_route.specs.declared.framing.AttributeSet.TheVariants as At

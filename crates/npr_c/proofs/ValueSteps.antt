@@ -89,10 +89,6 @@ list_found bytes nest at end Of order within from of = record {
 
 -- ---- of a message
 
-pub behind_short : (kind : MessageKind) (bytes : List ℕ) (nest : Nest) (rest : List ℕ) → Begins kind bytes nest rest → length rest ≤ length bytes
-behind_short kind bytes nest rest begins =
-    omega (arith, ap length (begun-behind kind bytes rest nest begins), length-drop (header_size kind) bytes)
-
 pub begin_found : (kind : MessageKind) (bytes : List ℕ) (nest : Nest) (rest : List ℕ) → Begins kind bytes nest rest → FromBytes nest
     → BeginsAt kind bytes (list_over nest (length bytes - length rest) (length bytes))
 begin_found kind bytes nest rest begins from =

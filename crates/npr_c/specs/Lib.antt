@@ -11,5 +11,4 @@ pub mod Numbers
 pub mod Requests
 pub mod Steps
 pub mod Stops
-pub mod StopsLaws
 pub mod Values

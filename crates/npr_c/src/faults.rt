@@ -14,9 +14,8 @@ ghost use Rattle.{
 use crate::answer::refusal_number;
 use crate::kinds::{UNKNOWN_KIND, kind_at};
 use crate::nests::set_number;
-use crate::placing::check_through;
-use netlink_packet_route::MessageKind;
 use netlink_packet_route::framing::{At, AttributeSet, DecodeError, Seg6Fault};
+use netlink_packet_route::{MessageKind, locate};
 
 /// A refusal with all that it tells, or that there is none.
 ///
@@ -134,7 +133,7 @@ fn judged(kind: MessageKind, bytes: &[u8]) -> Fault
     ensures fault { IsJudged (form_of kind).grammar bytes.now result }
     ensures place { IsPlaced kind bytes.now result }
 {
-    match check_through(kind, bytes) {
+    match locate(kind, bytes) {
         Ok(()) => NO_FAULT,
         Err(place) => Fault::of(place.refusal).standing(place.offset),
     }

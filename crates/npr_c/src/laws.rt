@@ -5,9 +5,10 @@ ghost use Rattle.std.specs.Prelude.{◌≡◌, ℕ, List};
 ghost use Rattle.{
   netlink_packet_route.specs.{
     Nests.{FromBytes},
+    Stops.{StandsIn},
     declared.{framing.DecodeError.{DecodeError}, kind.MessageKind.{MessageKind}, nests.Nest.{Nest}},
   },
-  npr_c.specs.{Faults.{located}, Nests.{nest_context, nest_of, nest_set}, Stops.{StandsIn}},
+  npr_c.specs.{Faults.{located}, Nests.{nest_context, nest_of, nest_set}},
 };
 
 /// The first fault of a message stands at one place.

@@ -1,11 +1,15 @@
-//! The names of refusals and causes, by their numbers.
+//! The names of refusals, causes and attributes, by their numbers.
 
-ghost use Rattle.std.specs.Prelude.{◌≡◌, ◌≤◌, ◌<◌, length, codes};
+ghost use Rattle.std.specs.Prelude.{◌≡◌, ◌≤◌, length, codes};
 ghost use Rattle.{
   netlink_packet_route.specs.{Refusal.{decode_name, emit_name}, declared.framing.{DecodeError.{DecodeError}, EmitError.{EmitError}}},
   netlink_packet_core.specs.declared.refusal.EnvelopeError.{EnvelopeError},
-  npr_c.specs.{Envelopes.{envelope_name, envelope_number}, Kinds.{unknown_kind}, Names.{Puts, cause_name, refusal_name}, Numbers.{cause_number, refusal_number}},
+  npr_c.specs.{Envelopes.{envelope_name, envelope_number}, Kinds.{unknown_kind}, Names.{Puts, attribute_name, cause_name, refusal_name}, Numbers.{cause_number, refusal_number}},
 };
+
+use crate::nests::set_of;
+use crate::texts::put;
+use netlink_packet_route::framing::attribute_name;
 
 /// The name of the refusal that has this number, or an empty text.
 fn refusal_name(number: u32) -> &'static str
@@ -46,20 +50,6 @@ fn cause_name(number: u32) -> &'static str
     }
 }
 
-/// Writes the name and a zero to the front of the buffer, where both have room there, and leaves
-/// the rest. Answers the length of the name.
-fn put(name: &str, out: &mut [u8]) -> usize
-    ensures length { result ≡ length name.now }
-    ensures text { Puts out.old out.new name.now }
-{
-    let length = name.len();
-    if length < out.len() {
-        out[..length].copy_from_slice(name.as_bytes());
-        out[length] = 0;
-    }
-    length
-}
-
 /// Writes the name of the refusal that has this number, and a zero, to the front of the buffer,
 /// and leaves the rest of it. Answers the length of the name in bytes, without the zero. A number
 /// that no refusal has gives an empty text. The buffer is as it was where there is no room.
@@ -74,7 +64,7 @@ pub extern "C" fn npr_refusal_name(number: u32, out: &mut [u8]) -> usize
     ensures message_name { (e : EnvelopeError) → refusal_name (envelope_number e) ≡ envelope_name e }
     ensures kind_name { refusal_name unknown_kind ≡ codes "UnknownKind" }
 {
-    put(refusal_name(number), out)
+    put(refusal_name(number).as_bytes(), out)
 }
 
 /// Writes the name of the cause that has this number, and a zero, to the front of the buffer, and
@@ -89,5 +79,22 @@ pub extern "C" fn npr_cause_name(number: u32, out: &mut [u8]) -> usize
     // Each cause has its variant's name at its number.
     ensures name { (e : EmitError) → cause_name (cause_number e) ≡ emit_name e }
 {
-    put(cause_name(number), out)
+    put(cause_name(number).as_bytes(), out)
+}
+
+/// Writes the name of the attribute of this number in the set of a number, `IFLA_MTU`, and a zero, to the
+/// front of the buffer, and leaves the rest of it. Answers the length of the name in bytes, without the
+/// zero. A number that the kernel's headers don't name gives an empty text. The buffer is as it was where
+/// there is no room.
+#[unsafe(no_mangle)]
+pub extern "C" fn npr_attribute_name(family: u32, number: u16, out: &mut [u8]) -> usize
+    ensures length { result ≡ length (attribute_name family number) }
+    ensures text { Puts out.old out.new (attribute_name family number) }
+    // A name takes 47 bytes at most.
+    ensures longest { result ≤ 47 }
+{
+    match attribute_name(set_of(family), number) {
+        Some(name) => put(name.as_bytes(), out),
+        None => put(b"", out),
+    }
 }

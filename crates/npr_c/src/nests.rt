@@ -29,7 +29,7 @@ pub fn set_number(set: AttributeSet) -> u32
 }
 
 /// The set of a number, or `Value` where none has it.
-fn set_of(number: u32) -> AttributeSet
+pub fn set_of(number: u32) -> AttributeSet
     ensures { result ≡ set_of number }
 {
     match number {

@@ -7,7 +7,14 @@
     unused_imports,
     unused_variables,
     unused_labels,
-    dead_code
+    dead_code,
+    unknown_lints,
+    clippy::manual_is_multiple_of,
+    clippy::manual_map,
+    clippy::match_like_matches_macro,
+    clippy::type_complexity,
+    clippy::while_let_on_iterator,
+    clippy::wrong_self_convention
 )]
 
 #[cfg(not(all(target_pointer_width = "64", target_endian = "little")))]

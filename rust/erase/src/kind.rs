@@ -19,6 +19,7 @@ pub const KINDS: &[(&str, &[&str])] = &[
     ("writer parameter", &["<", "W"]),
     // what stands in its place
     ("derived Drop -> Clone", &["Drop"]),
+    ("derived Drop -> Clone, Default", &["Drop"]),
     ("call of a set", &["bits", "contains", "from_bits_retain"]),
     ("bound Drop -> Sized", &["Drop"]),
     ("Formatter<W> -> Formatter<'_>", &["W"]),

@@ -24,8 +24,9 @@ use std::fs;
 use std::path::{Path, PathBuf};
 
 /// The libraries, each before those that stand on it.
-pub const LIBRARIES: [&str; 17] = [
+pub const LIBRARIES: [&str; 18] = [
     "npr_base",
+    "npr_names",
     "netlink_packet_core",
     "npr_scalar",
     "npr_srh",

@@ -6,7 +6,13 @@ use crate::rules::Eraser;
 pub const IMPORT: &str = " use crate::testing::*;";
 
 /// Modules of `text_tests` that are tests of programs, which no crate of Rust has.
-pub const OF_PROGRAMS: [&str; 4] = ["report", "shown", "shown_links", "shown_small"];
+pub const OF_PROGRAMS: [&str; 5] = [
+    "hexadecimal",
+    "report",
+    "shown",
+    "shown_links",
+    "shown_small",
+];
 
 /// The program that makes messages, and its modules that do.
 pub const MAKER: &str = "fuzz";

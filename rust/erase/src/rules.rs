@@ -5,7 +5,7 @@ use crate::fault::Fault;
 use crate::own_tests;
 use crate::source::Source;
 use crate::token::Sort;
-use crate::upstream;
+use crate::upstream::{self, GROWN};
 use crate::{FOR_C, LIBRARIES, TESTS};
 
 /// What no word of Rust may be: where one is left, a rule is missing.
@@ -172,6 +172,10 @@ impl<'a> Eraser<'a> {
         let Some(drop) = drop else {
             return Ok(behind);
         };
+        if clone.is_none() && GROWN.contains(&self.source.word(behind + 2)) {
+            self.replace(drop, 1, "derived Drop -> Clone, Default", "Clone, Default")?;
+            return Ok(behind);
+        }
         if clone.is_none() {
             self.replace(drop, 1, "derived Drop -> Clone", "Clone")?;
             return Ok(behind);

@@ -32,6 +32,16 @@ pub const OPEN: &[&str] = &[
     "Seg6LocalSrh",
 ];
 
+/// Structures of numbers that may have one more, whose zeros are their default.
+pub const GROWN: &[&str] = &[
+    "Icmp6Stats",
+    "Inet6DevConf",
+    "Inet6Stats",
+    "InetDevConf",
+    "Stats",
+    "Stats64",
+];
+
 /// The addresses that the standard library has.
 const ADDRESSES: [&str; 3] = ["Ipv4Addr", "Ipv6Addr", "IpAddr"];
 pub const USE_OF_ADDRESSES: &str = "pub use std::net::{IpAddr, Ipv4Addr, Ipv6Addr};";
@@ -79,7 +89,7 @@ impl Eraser<'_> {
         let name = self.source.word(at + 2);
         let may_grow = match self.source.word(at + 1) {
             "enum" => !CLOSED.contains(&name),
-            "struct" => OPEN.contains(&name),
+            "struct" => OPEN.contains(&name) || GROWN.contains(&name),
             _ => false,
         };
         if may_grow {

@@ -73,8 +73,15 @@ fn ask(subject: Subject) -> usize {
 #[test]
 fn messages_of_a_seed() {
     let counts = std::thread::scope(|scope| {
-        let asked = Subject::ALL.map(|subject| scope.spawn(move || ask(subject)));
-        asked.map(|asked| asked.join().expect("no promise that is broken"))
+        let kinds = library::MessageKind::ALL.map(Subject::Message);
+        let subjects = kinds.into_iter().chain([Subject::Datagram]);
+        let asked: Vec<_> = subjects
+            .map(|subject| scope.spawn(move || ask(subject)))
+            .collect();
+        let told = asked
+            .into_iter()
+            .map(|asked| asked.join().expect("no promise that is broken"));
+        told.collect::<Vec<_>>()
     });
     println!(
         "{} messages of a seed, none broken",

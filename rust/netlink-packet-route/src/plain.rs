@@ -4,7 +4,7 @@
 
 use crate::address::AddressHeader;
 use crate::envelope::{
-    EnvelopeError, NetlinkBuffer, NetlinkInner, NetlinkIterator, NetlinkMessage,
+    EnvelopeError, NETLINK_HEADER_LEN, NetlinkBuffer, NetlinkInner, NetlinkIterator, NetlinkMessage,
 };
 use crate::framing::{DecodeError, Header, Message, Parseable, WriteError, to_vec};
 use crate::link::LinkHeader;
@@ -12,10 +12,11 @@ use crate::memory::Global;
 use crate::neighbour::{NeighbourHeader, NeighbourState};
 use crate::route::{RouteGeneveOpt, RouteHeader, RouteNextHop, RplSrh, Seg6Header, Seg6LocalSrh};
 use crate::rule::RuleHeader;
+use crate::{Located, MessageType, RouteNetlinkMessage, locate};
 use std::fmt;
 use thiserror::Error;
 
-/// Why there is no message at a place of a datagram.
+/// Why there is no message at a place of a datagram. Places are in bytes from the first of the datagram.
 #[derive(Clone, Copy, Debug, PartialEq, Eq, Error)]
 #[non_exhaustive]
 pub enum Fault {
@@ -23,8 +24,15 @@ pub enum Fault {
     #[error(transparent)]
     Envelope(#[from] EnvelopeError),
     /// What stands in it.
-    #[error(transparent)]
-    Message(#[from] DecodeError),
+    #[error("{refusal}, in the message of type {message_type} at byte {offset}")]
+    Message {
+        /// Where the message begins, with its envelope.
+        offset: usize,
+        /// Its type: `RTM_*` of `linux/rtnetlink.h`.
+        message_type: u16,
+        /// What is wrong, and where in the datagram.
+        refusal: Located,
+    },
 }
 
 impl<H: Header> Message<H, H::Attribute> {
@@ -74,11 +82,42 @@ impl<I: NetlinkInner> NetlinkMessage<I> {
     pub fn to_bytes(&self) -> Result<Vec<u8>, WriteError> {
         to_vec(Global, self)
     }
+}
 
-    /// The messages of a datagram, one by one. One that can't be read is told, and the next follows;
-    /// the fault of an envelope is the last item.
+impl NetlinkMessage<RouteNetlinkMessage> {
+    /// The messages of a datagram, one by one. One that can't be read is told with its type and its place, and
+    /// the next follows; the fault of an envelope is the last item.
     pub fn all(datagram: &[u8]) -> impl Iterator<Item = Result<Self, Fault>> {
-        NetlinkIterator::new(datagram).map(|found| Ok(Self::try_from(&found?)?))
+        let mut walk = NetlinkIterator::new(datagram);
+        std::iter::from_fn(move || {
+            let offset = walk.offset();
+            let found = match walk.next()? {
+                Ok(found) => found,
+                Err(fault) => return Some(Err(fault.into())),
+            };
+            let message_type = found.header().message_type;
+            Some(Self::try_from(&found).map_err(|refusal| Fault::Message {
+                offset,
+                message_type,
+                refusal: located(offset + NETLINK_HEADER_LEN, &found, refusal),
+            }))
+        })
+    }
+}
+
+/// A refusal of what stands in this envelope, whose payload begins so many bytes from the first of a datagram.
+fn located(payload: usize, envelope: &NetlinkBuffer<'_>, refusal: DecodeError) -> Located {
+    let kind = MessageType::of(envelope.header().message_type).kind();
+    let found = kind.and_then(|kind| locate(kind, envelope.payload()).err());
+    let place = found.unwrap_or(Located {
+        refusal,
+        offset: 0,
+        holder: None,
+        wanted: None,
+    });
+    Located {
+        offset: payload + place.offset,
+        ..place
     }
 }
 

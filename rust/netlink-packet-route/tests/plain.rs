@@ -1,11 +1,11 @@
 //! The layer that is written by hand.
 
 use netlink_packet_route::envelope::{EnvelopeError, NetlinkMessage, NetlinkPayload};
-use netlink_packet_route::framing::DecodeError;
+use netlink_packet_route::framing::{AttributeSet, DecodeError};
 use netlink_packet_route::neighbour::NeighbourState;
 use netlink_packet_route::request::dump;
 use netlink_packet_route::route::{RouteAddress, RouteAttribute, RouteMessage, RouteNextHop};
-use netlink_packet_route::{AddressFamily, Fault, RouteNetlinkMessage};
+use netlink_packet_route::{AddressFamily, Fault, MessageKind, RouteNetlinkMessage, locate};
 use std::net::Ipv4Addr;
 
 /// A route to 192.0.2.0/24.
@@ -44,7 +44,6 @@ fn a_datagram_is_walked() {
     datagram.extend(request.to_bytes().expect("a request"));
     datagram.push(0);
     let found: Vec<_> = NetlinkMessage::<RouteNetlinkMessage>::all(&datagram).collect();
-    let short = DecodeError::HeaderTooShort { got: 1, want: 12 };
     let end = EnvelopeError::MessageTooShort {
         offset: 92,
         left: 1,
@@ -55,8 +54,35 @@ fn a_datagram_is_walked() {
         let wanted = NetlinkPayload::InnerMessage(RouteNetlinkMessage::GetRoute(route()));
         assert_eq!(message.payload, wanted);
     }
-    assert_eq!(found[1], Err(Fault::Message(short)));
+    let short = found[1].as_ref().expect_err("a header of one byte");
+    assert_eq!(
+        short.to_string(),
+        "1 bytes, where a header of 12 is wanted, at byte 52, in the message of type 26 at byte 36"
+    );
     assert_eq!(found[3], Err(Fault::Envelope(end)));
+}
+
+/// A route with a table of two bytes, and one whose next hop has a gateway of three.
+#[test]
+fn a_refusal_tells_what_and_where() {
+    let mut table = vec![36, 0, 0, 0, 24, 0, 0, 0, 0, 0, 0, 0, 0, 0, 0, 0];
+    table.extend([2, 0, 0, 0, 254, 3, 0, 1, 0, 0, 0, 0, 6, 0, 15, 0]);
+    table.extend([1, 2, 0, 0]);
+    let mut hop = vec![48, 0, 0, 0, 24, 0, 0, 0, 0, 0, 0, 0, 0, 0, 0, 0];
+    hop.extend([2, 0, 0, 0, 254, 3, 0, 1, 0, 0, 0, 0, 20, 0, 9, 0]);
+    hop.extend([16, 0, 0, 0, 2, 0, 0, 0, 7, 0, 5, 0, 192, 0, 2, 0]);
+    let datagram = [table, hop].concat();
+    let found = NetlinkMessage::all(&datagram).map(|it| it.expect_err("a refusal").to_string());
+    let texts: Vec<_> = found.collect();
+    let wanted = [
+        "a value of 2 bytes at RTA_TABLE (15), where 4 are wanted, at byte 28, in the message of type 24 at byte 0",
+        "a value of 3 bytes at RTA_GATEWAY (5), where 4 are wanted, in RTA_MULTIPATH (9) at byte 64, in the message of type 24 at byte 36",
+    ];
+    assert_eq!(texts, wanted);
+    let refused = locate(MessageKind::Route, &datagram[16..36]);
+    let place = refused.expect_err("a refusal");
+    assert_eq!((place.offset, place.wanted), (12, Some((4, 4))));
+    assert_eq!(place.holder, Some(AttributeSet::Route.at(15)));
 }
 
 #[test]

@@ -1,4 +1,5 @@
-//! `dump link|address|route|rule|neighbour` prints what the kernel has in that table, over `netlink-proto`.
+//! `dump KIND` prints what the kernel has in that table, over `netlink-proto`. A kind is link, address, route, rule,
+//! neighbour, next_hop, nsid, netconf, address_label or neighbour_table.
 
 use futures::StreamExt;
 use netlink_packet_core::{
@@ -16,6 +17,11 @@ fn request(table: &str) -> Option<RouteNetlinkMessage> {
         "route" => Some(RouteNetlinkMessage::GetRoute(Default::default())),
         "rule" => Some(RouteNetlinkMessage::GetRule(Default::default())),
         "neighbour" => Some(RouteNetlinkMessage::GetNeighbour(Default::default())),
+        "next_hop" => Some(RouteNetlinkMessage::GetNextHop(Default::default())),
+        "nsid" => Some(RouteNetlinkMessage::GetNsId(Default::default())),
+        "netconf" => Some(RouteNetlinkMessage::GetNetconf(Default::default())),
+        "address_label" => Some(RouteNetlinkMessage::GetAddressLabel(Default::default())),
+        "neighbour_table" => Some(RouteNetlinkMessage::GetNeighbourTable(Default::default())),
         _ => None,
     }
 }
@@ -23,7 +29,7 @@ fn request(table: &str) -> Option<RouteNetlinkMessage> {
 #[tokio::main(flavor = "current_thread")]
 async fn main() -> Result<(), Box<dyn Error>> {
     let table = std::env::args().nth(1).unwrap_or_default();
-    let request = request(&table).ok_or("usage: dump link|address|route|rule|neighbour")?;
+    let request = request(&table).ok_or("usage: dump KIND")?;
     let mut header = NetlinkHeader::default();
     header.flags = NLM_F_REQUEST | NLM_F_DUMP;
 

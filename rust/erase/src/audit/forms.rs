@@ -68,6 +68,12 @@ const TAKEN: &[(&str, &str, &str)] = &[
 
 /// Changed: kind, words before, words, words in their place.
 const CHANGED: &[(&str, &str, &str, &str)] = &[
+    (
+        "derived Drop -> Clone, Default",
+        ",",
+        "Drop",
+        "Clone , Default",
+    ),
     ("derived Drop -> Clone", "derive (", "Drop", "Clone"),
     ("derived Drop -> Clone", ",", "Drop", "Clone"),
     ("call of a set", ".", "bits", "bits_in"),
@@ -136,6 +142,12 @@ const CHANGED_IN_TESTS: &[(&str, &str, &str, &str)] = &[
         "mod of a program's tests",
         "",
         "# [ cfg ( test ) ] mod report ;",
+        "",
+    ),
+    (
+        "mod of a program's tests",
+        "",
+        "# [ cfg ( test ) ] mod hexadecimal ;",
         "",
     ),
     (

@@ -1,4 +1,4 @@
-use Rattle.npr_c.specs.StopsLaws.{stands-one}
+use Rattle.npr_c.proofs.StopsLaws.{stands-one}
 use Rattle.npr_c.proofs.laws.law_places.Goals as goal
 
 pub returns : goal.returns

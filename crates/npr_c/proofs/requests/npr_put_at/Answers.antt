@@ -2,7 +2,7 @@
 use Rattle.std.proofs.Common.{◌≡◌, ◌≤◌, ◌+◌, arith, ap, length}
 use Rattle.std.proofs.lemmas.Grind.{common_steps}
 use Rattle.npr_base.specs.Framing.{Item, encoding, framed}
-use Rattle.npr_base.specs.ListLaws.{length-encoding}
+use Rattle.npr_base.specs.lemmas.List.{length-encoding}
 use Rattle.npr_c.proofs.WrittenPlaces.{put_found, put_inside}
 use Rattle.npr_c.proofs.requests.npr_put_at.Goals as goal
 

@@ -1,4 +1,5 @@
-use Rattle.npr_c.proofs.ValueSteps.{begin_found, behind_short}
+use Rattle.netlink_packet_route.proofs.Stopping.{behind_short}
+use Rattle.npr_c.proofs.ValueSteps.{begin_found}
 use Rattle.npr_c.proofs.values.begin.Goals as goal
 
 pub returns-in-Ok : goal.returns-in-Ok

@@ -1,8 +1,8 @@
 use Rattle.std.proofs.Common.{◌≡◌, ◌≤◌, ℕ, List, length}
-use Rattle.netlink_packet_route.specs.declared.framing.DecodeError.{DecodeError}
-use Rattle.netlink_packet_route.specs.CheckLaws.{IsListAt}
-use Rattle.npr_c.specs.Stops.{StopsAt}
-use Rattle.npr_c.proofs.placing.check_each.Given as goal
+use Rattle.npr_base.specs.declared.refusal.DecodeError.{DecodeError}
+use Rattle.netlink_packet_route.specs.NestLists.{IsListAt}
+use Rattle.netlink_packet_route.specs.Stops.{StopsAt}
+use Rattle.netlink_packet_route.proofs.locating.check_each.Given as goal
 
 -- what is left decides what all is, and where it stops
 abbrev pub invariant-loop-next : goal.invariant-loop-next

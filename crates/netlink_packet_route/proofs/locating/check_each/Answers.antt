@@ -1,10 +1,11 @@
 use Rattle.std.proofs.Common.{◌≡◌, ◌<◌, [], length, ap, arith}
 use Rattle.std.proofs.lemmas.Result.{err_from_is_err_and}
-use Rattle.netlink_packet_route.specs.Framing.{Front, Fault}
-use Rattle.netlink_packet_route.specs.FrontLaws.{Front-shrinks}
-use Rattle.netlink_packet_route.specs.CheckLaws.{IsListAt, ListFaultAt, leads-all, list-more}
-use Rattle.npr_c.proofs.Stopping.{stops-here, stops-in, stops-later}
-use Rattle.npr_c.proofs.placing.check_each.Goals as goal
+use Rattle.npr_base.specs.Framing.{Front, Fault}
+use Rattle.npr_base.specs.lemmas.Front.{Front-shrinks}
+use Rattle.netlink_packet_route.specs.NestLists.{IsListAt, ListFaultAt}
+use Rattle.netlink_packet_route.proofs.CheckLaws.{leads-all, list-more}
+use Rattle.netlink_packet_route.proofs.Stopping.{stops-here, stops-in, stops-later}
+use Rattle.netlink_packet_route.proofs.locating.check_each.Goals as goal
 
 pub returns-in_err-item-clause-stopped : goal.returns-in_err-item-clause-stopped
 returns-in_err-item-clause-stopped c =

@@ -1,8 +1,8 @@
 use Rattle.std.proofs.Common.{◌≡◌, ℕ, ◌+◌, ◌-◌, length, refl, arith, inl, inr}
 use Rattle.netlink_packet_route.specs.MessageKind.{form_of}
-use Rattle.netlink_packet_route.specs.ValidityLaws.{begun-message, begun-fault, begun-short}
-use Rattle.npr_c.proofs.ValueSteps.{behind_short}
-use Rattle.npr_c.proofs.placing.check_through.Goals as goal
+use Rattle.netlink_packet_route.proofs.ValidityLaws.{begun-message, begun-fault, begun-short}
+use Rattle.netlink_packet_route.proofs.Stopping.{behind_short}
+use Rattle.netlink_packet_route.proofs.locating.check_through.Goals as goal
 
 pub returns-in-Err-clause-refused : goal.returns-in-Err-clause-refused
 returns-in-Err-clause-refused c =

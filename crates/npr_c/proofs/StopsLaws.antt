@@ -8,7 +8,7 @@ use Rattle.netlink_packet_route.specs.Nests.{reading_of}
 use Rattle.netlink_packet_route.specs.declared.framing.DecodeError.{DecodeError}
 use Rattle.netlink_packet_route.specs.declared.kind.MessageKind.{MessageKind}
 use Rattle.netlink_packet_route.specs.declared.nests.Nest.{Nest}
-use Rattle.npr_c.specs.Stops.{StopsBefore, StopsAt, StandsIn}
+use Rattle.netlink_packet_route.specs.Stops.{StopsBefore, StopsAt, StandsIn}
 
 module _ {M : Type 0} (R : Item → M → Type 0) (F : Item → DecodeError → Type 0) (sound : (x : Item) (m : M) (e : DecodeError) → R x m → F x e → ⊥) where
   -- where an attribute stands that reads, nothing is wrong

@@ -1,0 +1,38 @@
+-- The names of attributes, by their sets and numbers. The lists stand in `src`: here is which set has which.
+use Rattle.std.specs.Prelude.{ℕ, List, [], ◌∷◌, Option, map, slice_get, unwrap_or}
+use Rattle.npr_base.specs.contracts.refusal.AttributeSet.{the_type as the_sets}
+use Rattle.npr_base.specs.declared.refusal.AttributeSet.{AttributeSet}
+use Rattle.npr_names.specs.declared.route.TheConstants as routes
+use Rattle.npr_names.specs.declared.link.TheConstants as links
+use Rattle.npr_names.specs.declared.link_kind.TheConstants as kinds
+use Rattle.npr_names.specs.declared.small.TheConstants as smalls
+use denote.Enum.Declared.{tag_of}
+
+-- the texts of a list in `src`
+abbrev texts : List (record { now : List ℕ }) → List (List ℕ)
+texts names = map (λ name. name.now) names
+
+-- those of each set, in the order of the sets
+abbrev pub lists : List (List (List ℕ))
+lists =
+    [] ∷ texts routes.ADDRESS.now ∷ texts routes.RULE.now ∷ texts routes.ROUTE.now ∷ texts routes.METRIC.now ∷ texts routes.MPLS.now
+    ∷ texts routes.IP.now ∷ texts routes.IP6.now ∷ texts routes.XFRM.now ∷ texts routes.OPT.now ∷ texts routes.GENEVE.now
+    ∷ texts routes.VXLAN.now ∷ texts routes.ERSPAN.now ∷ texts routes.SEG6.now ∷ texts routes.SEG6_LOCAL.now ∷ texts routes.RPL.now
+    ∷ texts routes.IOAM6.now ∷ texts routes.NEIGHBOUR.now ∷ texts links.LINK.now ∷ texts links.INFO.now ∷ texts links.XDP.now
+    ∷ texts links.LINK.now ∷ texts links.PROTOCOL_DOWN.now ∷ texts links.AF_SPEC.now ∷ texts links.AF_SPEC_INET.now
+    ∷ texts links.AF_SPEC_INET6.now ∷ texts links.BRIDGE.now ∷ texts links.QUERIER.now ∷ texts links.BRIDGE_PORT.now ∷ texts links.VLAN.now
+    ∷ texts links.VLAN_QOS.now ∷ texts links.VRF.now ∷ texts links.VETH.now ∷ texts links.LINK.now ∷ texts kinds.AF_SPEC_BRIDGE.now
+    ∷ texts kinds.VLAN_TUNNEL.now ∷ texts kinds.MST.now ∷ texts kinds.MST_ENTRY.now ∷ texts kinds.BOND.now ∷ texts kinds.BOND_AD_INFO.now
+    ∷ texts kinds.BOND_PORT.now ∷ texts kinds.MAC_VLAN.now ∷ texts kinds.MAC_VLAN.now ∷ texts kinds.IP_VLAN.now ∷ texts kinds.NETKIT.now
+    ∷ texts kinds.TUN.now ∷ texts kinds.VXLAN.now ∷ texts kinds.GENEVE.now ∷ texts kinds.GRE.now ∷ texts kinds.GRE.now
+    ∷ texts kinds.IP_TUNNEL.now ∷ texts kinds.VTI.now ∷ texts kinds.XFRM.now ∷ texts smalls.NEXT_HOP.now
+    ∷ texts smalls.NEXT_HOP_RES_GROUP.now ∷ texts smalls.NEXT_HOP_RES_BUCKET.now ∷ texts smalls.NEXT_HOP_GROUP_STATS.now
+    ∷ texts smalls.NEXT_HOP_GROUP_STATS_ENTRY.now ∷ texts smalls.NSID.now ∷ texts smalls.PREFIX.now ∷ texts smalls.NETCONF.now
+    ∷ texts smalls.NEIGHBOUR_TABLE.now ∷ texts smalls.NEIGHBOUR_TABLE_PARAMETER.now ∷ texts smalls.ADDRESS_LABEL.now ∷ [] ∷ []
+
+unfoldable pub names_of : AttributeSet → List (List ℕ)
+names_of set = unwrap_or (slice_get lists (tag_of the_sets set)) []
+
+-- the name of a number in a set: that at this place of its list, and none past its end
+abbrev pub name_at : AttributeSet → ℕ → Option (List ℕ)
+name_at set number = slice_get (names_of set) number

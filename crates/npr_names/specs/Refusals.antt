@@ -1,0 +1,43 @@
+-- What is told of refusals: the attribute by its name, and lengths.
+use Rattle.std.specs.Prelude.{◌≡◌, ◌⊎◌, ℕ, List, ◌++◌, length, Option, Some, None, codes, decimal}
+use Rattle.npr_base.specs.Framing.{Item, Front, number_of}
+use Rattle.npr_base.specs.declared.refusal.At.{At}
+use Rattle.npr_base.specs.declared.refusal.AttributeSet.TheVariants.{Geneve}
+use Rattle.npr_base.specs.declared.refusal.DecodeError.{DecodeError}
+use Rattle.npr_base.specs.declared.refusal.DecodeError.TheVariants.{ValueLength, NotUtf8, Unsupported, GeneveOrder, GeneveChild}
+use Rattle.npr_base.specs.declared.refusal.Seg6Fault.{Seg6Fault}
+use Rattle.npr_base.specs.declared.refusal.Seg6Fault.TheVariants.{Short, Length, Hmac, Segments}
+use Rattle.npr_base.specs.declared.value.Form.{Form}
+use Rattle.npr_base.specs.Value.{Shown, Shows}
+use Rattle.npr_names.specs.Names.{name_at}
+
+abbrev pub text_by_name : Option (List ℕ) → ℕ → List ℕ
+text_by_name (Some name) number = name ++ codes " (" ++ decimal number ++ codes ")"
+text_by_name None number = codes "attribute " ++ decimal number
+
+-- an attribute as a text: IFLA_MTU (4)
+abbrev pub named_text : At → List ℕ
+named_text at = text_by_name (name_at at.set at.number) at.number
+
+abbrev pub seg6_text : Seg6Fault → List ℕ
+seg6_text Short = codes "without its fixed part"
+seg6_text Length = codes "of another length than it states"
+seg6_text Hmac = codes "without room for its HMAC"
+seg6_text Segments = codes "of segments that are not whole"
+
+-- each value that is read so has one of two lengths
+abbrev pub HasEither : Form → ℕ → ℕ → Type 0
+HasEither form least most = (value : List ℕ) (s : Shown) → Shows form value s → (length value ≡ least) ⊎ (length value ≡ most)
+
+-- an attribute of this number stands in front
+abbrev pub Fronts : List ℕ → ℕ → Type 0
+Fronts bytes number = (item : Item) × (rest : List ℕ) × Front bytes item rest × (number_of item.kind ≡ number)
+
+-- the attribute that a refusal tells
+abbrev pub told_of : DecodeError → Option At
+told_of (ValueLength at got) = Some at
+told_of (NotUtf8 at) = Some at
+told_of (Unsupported at) = Some at
+told_of (GeneveOrder kind) = Some (record { set = Geneve; number = kind })
+told_of (GeneveChild kind) = Some (record { set = Geneve; number = kind })
+told_of _ = None

@@ -1,0 +1,12 @@
+//! The names of attributes, by their sets and numbers, and refusals in words.
+#![tactic(auto)]
+
+mod link;
+mod link_kind;
+mod names;
+mod refusal;
+mod route;
+mod small;
+
+pub use names::attribute_name;
+pub use refusal::{Located, Named, front_number, lengths_of, told_of};
