@@ -17,6 +17,7 @@ mod subject;
 mod tally;
 mod worked;
 
+use netlink_packet_route::MessageKind;
 use std::process::ExitCode;
 use std::{env, io};
 use subject::Subject;
@@ -56,21 +57,49 @@ fn numbers(rt: &HostRuntime) -> io::Result<Option<(u64, u64)>> {
     Ok(Some((seed, count)))
 }
 
+/// How many messages were asked about, and how many answers were broken.
+#[derive(Clone, Copy)]
+struct Totals {
+    changed: u64,
+    made: u64,
+    broken: u64,
+}
+
 /// Asks about messages of each kind and about datagrams, prints the counts, and answers how many were broken.
 fn all(rt: &HostRuntime, seed: u64, count: u64) -> io::Result<u64> {
-    let mut changed = 0u64;
-    let mut made = 0u64;
-    let mut broken = 0u64;
-    for subject in Subject::ALL {
-        let mut tally = Tally::new(rt.alloc());
-        tally.ask_changed(rt, subject)?;
-        changed = changed.saturating_add(tally.asked);
-        tally.ask_made(rt, subject, seed, count)?;
-        made = made.saturating_add(count);
-        eprintln!(rt; "{}: {} asked", subject.name(), tally.asked)?;
-        tally.print(rt)?;
-        broken = broken.saturating_add(tally.broken);
+    let mut totals = Totals {
+        changed: 0,
+        made: 0,
+        broken: 0,
+    };
+    for kind in MessageKind::ALL {
+        ask(rt, Subject::Message(kind), seed, count, &mut totals)?;
     }
+    ask(rt, Subject::Datagram, seed, count, &mut totals)?;
+    let Totals {
+        changed,
+        made,
+        broken,
+    } = totals;
     println!(rt; "{changed} changed messages, {made} made messages, {broken} broken")?;
     Ok(broken)
+}
+
+/// Asks about such messages, prints the counts, and adds them.
+fn ask(
+    rt: &HostRuntime,
+    subject: Subject,
+    seed: u64,
+    count: u64,
+    totals: &mut Totals,
+) -> io::Result<()> {
+    let mut tally = Tally::new(rt.alloc());
+    tally.ask_changed(rt, subject)?;
+    totals.changed = totals.changed.saturating_add(tally.asked);
+    tally.ask_made(rt, subject, seed, count)?;
+    totals.made = totals.made.saturating_add(count);
+    eprintln!(rt; "{}: {} asked", subject.name(), tally.asked)?;
+    tally.print(rt)?;
+    totals.broken = totals.broken.saturating_add(tally.broken);
+    Ok(())
 }

@@ -7,35 +7,16 @@ use crate::lengths::{
 };
 use crate::random::Random;
 use crate::subject::Subject;
-use netlink_packet_route::MessageKind;
+use netlink_packet_route::{MessageKind, MessageType};
 use std::alloc::{AllocError, Global};
 use std::mem;
 
 /// The flag of a kind whose value is a list.
 pub const NESTED: u16 = 0x8000;
 
-/// Types of messages, with the kind of those that have one.
-const TYPES: [(u16, Option<MessageKind>); 20] = [
-    (20, Some(MessageKind::Address)),
-    (22, Some(MessageKind::Address)),
-    (24, Some(MessageKind::Route)),
-    (26, Some(MessageKind::Route)),
-    (28, Some(MessageKind::Neighbour)),
-    (29, Some(MessageKind::Neighbour)),
-    (32, Some(MessageKind::Rule)),
-    (16, Some(MessageKind::Link)),
-    (19, Some(MessageKind::Link)),
-    (109, Some(MessageKind::Link)),
-    (52, Some(MessageKind::Prefix)),
-    (67, Some(MessageKind::NeighbourTable)),
-    (73, Some(MessageKind::AddressLabel)),
-    (80, Some(MessageKind::Netconf)),
-    (90, Some(MessageKind::Nsid)),
-    (106, Some(MessageKind::NextHop)),
-    (1, None),
-    (2, None),
-    (3, None),
-    (36, None),
+/// Types of messages: of each kind, and others.
+const TYPES: [u16; 20] = [
+    20, 22, 24, 26, 28, 29, 32, 16, 19, 109, 52, 67, 73, 80, 90, 106, 1, 2, 3, 36,
 ];
 
 /// A maker of messages.
@@ -103,7 +84,8 @@ impl Maker {
 
     /// A message with its envelope: mostly a part of an answer to the request of number 7.
     fn envelope(&mut self, out: &mut Vec<u8>) -> Result<(), AllocError> {
-        let (message_type, kind) = self.random.one_of(&TYPES, (4, None));
+        let message_type = self.random.one_of(&TYPES, 4u16);
+        let kind = MessageType::of(message_type).kind();
         let size = 16usize.saturating_add(kind.map_or(0, header_size));
         match kind {
             Some(kind) => self.attributes(kind)?,

@@ -12,22 +12,6 @@ pub enum Subject {
 }
 
 impl Subject {
-    /// Each of them.
-    pub const ALL: [Subject; 12] = [
-        Subject::Message(MessageKind::Address),
-        Subject::Message(MessageKind::Route),
-        Subject::Message(MessageKind::Rule),
-        Subject::Message(MessageKind::Neighbour),
-        Subject::Message(MessageKind::Link),
-        Subject::Message(MessageKind::NextHop),
-        Subject::Message(MessageKind::Nsid),
-        Subject::Message(MessageKind::Netconf),
-        Subject::Message(MessageKind::AddressLabel),
-        Subject::Message(MessageKind::NeighbourTable),
-        Subject::Message(MessageKind::Prefix),
-        Subject::Datagram,
-    ];
-
     /// Its name.
     pub fn name(self) -> &'static str {
         match self {

@@ -9,13 +9,13 @@ use Rattle.std.proofs.Common.{refl, sym, ap, subst, arith, true≢false}
 use Rattle.npr_base.specs.Equality.{IsEqualityOf}
 use Rattle.npr_base.specs.EnumTable.{◌also◌}
 use Rattle.npr_base.specs.Tables.{table_decides}
-use Rattle.npr_base.specs.MeaningLaws.{enum_meaning, one_meaning, text_equality, items_equality}
-use Rattle.npr_base.specs.StructLaws.{and_decides, decides_as}
+use Rattle.npr_base.proofs.MeaningLaws.{enum_meaning, one_meaning, text_equality, items_equality}
+use Rattle.npr_base.proofs.StructLaws.{and_decides, decides_as}
 use Rattle.npr_base.specs.ViewEquality.{item_equality}
 use Rattle.netlink_packet_core.specs.Extended as OfAttribute
 use Rattle.netlink_packet_core.specs.Message.{View, message_of}
 use Rattle.netlink_packet_core.specs.Payload.{Payload, noop, error, done, overrun, inner, payload_of, error_of, done_of, code_of}
-use Rattle.netlink_packet_core.specs.WalkLaws.{header_equality}
+use Rattle.netlink_packet_core.specs.lemmas.Walk.{header_equality}
 use Rattle.netlink_packet_core.specs.contracts.extended.ErrorAttributePartialEq.TheImpl as AttributeEq
 use Rattle.netlink_packet_core.specs.contracts.payload.ErrorMessagePartialEq.TheImpl as ErrorEq
 use Rattle.netlink_packet_core.specs.contracts.payload.DoneMessagePartialEq.TheImpl as DoneEq

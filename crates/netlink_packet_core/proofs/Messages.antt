@@ -2,7 +2,7 @@
 use Rattle.std.proofs.Common.{◌≡◌, ℕ, ◌+◌, ◌%◌, ◌<◌, ◌^◌, List, [], ◌++◌, length, None, replicate, refl, sym, subst, ◌∙◌, arith, append_assoc, length-append}
 use Rattle.std.proofs.lemmas.List.{append-nil, length-replicate}
 use Rattle.npr_base.specs.Framing.{pad}
-use Rattle.npr_base.specs.FitLaws.{none_both}
+use Rattle.npr_base.specs.lemmas.Fit.{none_both}
 use Rattle.npr_base.specs.declared.refusal.DecodeError.{DecodeError}
 use Rattle.netlink_packet_core.specs.Header.{header}
 use Rattle.netlink_packet_core.specs.Envelope.{Envelope, EnvelopeFront}

@@ -6,7 +6,7 @@ use Rattle.std.proofs.Common.{◌≡◌, ℕ, ◌<◌, ◌^◌, ◌==◌, Bool, 
 use Rattle.std.proofs.lemmas.Bool.{eqb-true, eqb-false, ne_eqb}
 use Rattle.npr_base.specs.Framing.{IsBytes}
 use Rattle.npr_base.specs.Layout.{signed32}
-use Rattle.npr_base.specs.ListLaws.{IsBytes-take, IsBytes-drop}
+use Rattle.npr_base.specs.lemmas.List.{IsBytes-take, IsBytes-drop}
 use Rattle.npr_base.specs.declared.refusal.DecodeError.{DecodeError}
 use Rattle.npr_base.specs.declared.refusal.DecodeError.TheVariants.{OutOfMemory}
 use Rattle.netlink_packet_core.specs.Protocol.{Protocol}

@@ -4,7 +4,7 @@ use Rattle.std.proofs.Common.{◌≡◌}
 use Rattle.npr_base.specs.declared.refusal.AttributeSet.TheVariants.{Value}
 use Rattle.npr_base.specs.declared.refusal.DecodeError.{DecodeError}
 use Rattle.npr_base.specs.Framing.{Item, Front, Passes, Fault, number_of, pad}
-use Rattle.npr_base.specs.NameLaws.{IsUnterminated}
+use Rattle.npr_base.specs.NameText.{IsUnterminated}
 use Rattle.npr_base.specs.Tables.{EnumTable, table_of, row, others, ◌or◌, value, text, items, exactly, raw, name, le32, refl, Reading, Family, writing_of}
 use Rattle.npr_base.specs.Tables.{attributes_of, family_of_table}
 use Rattle.netlink_packet_core.specs.Header.{header}

@@ -1,10 +1,10 @@
 pub mod Header
 pub mod Envelope
 pub mod Walk
-pub mod WalkLaws
 pub mod Protocol
 pub mod Payload
 pub mod Message
 pub mod Extended
 pub mod Conversation
 pub mod Request
+pub mod lemmas

@@ -1,7 +1,7 @@
 //! One message, borrowed.
 
 ghost use Rattle.std.specs.{Prelude.{◌≡◌, ◌+◌, length}, Cmp.{decided, partial_equiv_from_equiv}};
-ghost use Rattle.netlink_packet_core.specs.{Envelope.{Envelope, EnvelopeBegins}, Walk.{same_envelope}, WalkLaws.{envelope_equality}};
+ghost use Rattle.netlink_packet_core.specs.{Envelope.{Envelope, EnvelopeBegins}, Walk.{same_envelope}, lemmas.Walk.{envelope_equality}};
 
 use crate::constants::NETLINK_HEADER_LEN;
 use crate::header::NetlinkHeader;

@@ -4,9 +4,9 @@ use Rattle.std.proofs.Common.{◌≡◌, ℕ, ◌≤◌, List, [], ◌∷◌, le
 use Rattle.std.proofs.lemmas.List.{drop_at}
 use Rattle.npr_base.proofs.Messages.{message-one, message-sound, message-coherent, attributes_fit}
 use Rattle.npr_base.specs.Family.{Writing, Reading, fits-small, unfit_by, written_by}
-use Rattle.npr_base.specs.FitLaws.{none_both}
+use Rattle.npr_base.specs.lemmas.Fit.{none_both}
 use Rattle.npr_base.specs.Framing.{IsBytes, Writes, Cut}
-use Rattle.npr_base.specs.ListLaws.{encoding-front}
+use Rattle.npr_base.specs.lemmas.List.{encoding-front}
 use Rattle.npr_base.specs.Lists.{AllOf, encodings, first_unfit}
 use Rattle.npr_base.specs.Message.{Grammar, View, IsMessage, IsCoherent, canonical_bytes, message_unfit}
 use Rattle.npr_base.specs.declared.emit.WriteError.{WriteError}

@@ -8,7 +8,7 @@ use Rattle.npr_base.specs.Family.{Writing, Reading}
 use Rattle.npr_base.specs.Framing.{Item, number_of}
 use Rattle.npr_base.specs.ListCodec.{list_of}
 use Rattle.npr_base.specs.Nesting.{Opened, Nests, ListRow}
-use Rattle.npr_base.specs.Nesting.{plain-list, opened-by, table-nests}
+use Rattle.npr_base.proofs.NestLaws.{plain-list, opened-by, table-nests}
 use Rattle.npr_base.specs.declared.refusal.At.{At}
 use Rattle.npr_base.specs.declared.refusal.AttributeSet.TheVariants.{Opt}
 use Rattle.npr_base.specs.declared.value.Form.{Form}

@@ -3,8 +3,8 @@ use Rattle.std.specs.Prelude.{◌≡◌, ℕ, ◌+◌, List}
 use Rattle.std.specs.Cmp.{unsigned_Decides}
 use Rattle.std.proofs.Common.{ap}
 use Rattle.npr_base.specs.Equality.{IsEqualityOf}
-use Rattle.npr_base.specs.MeaningLaws.{items_equality}
-use Rattle.npr_base.specs.StructLaws.{and_decides, decides_as}
+use Rattle.npr_base.proofs.MeaningLaws.{items_equality}
+use Rattle.npr_base.proofs.StructLaws.{and_decides, decides_as}
 use Rattle.netlink_packet_route.specs.MessageKind.{MessageOf, kind_of_type}
 use Rattle.netlink_packet_route.specs.RouteNetlinkMessage.{Meaning, Under, message, other, other_of}
 use Rattle.netlink_packet_route.specs.contracts.message.OtherMessagePartialEq.TheImpl as OtherEq

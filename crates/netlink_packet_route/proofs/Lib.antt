@@ -8,3 +8,9 @@ mod LinkNests
 pub mod NestLaws
 mod NestRows
 mod ValueReading
+pub mod FaultLaws
+pub mod NumberLaws
+pub mod ValidityLaws
+pub mod CheckLaws
+pub mod LeftLaws
+pub mod Stopping

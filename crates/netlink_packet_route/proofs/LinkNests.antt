@@ -2,12 +2,12 @@
 use Rattle.std.specs.Prelude.{◌≡◌, List, Option, Some, None}
 use Rattle.std.proofs.Common.{refl, ap, ◌∙◌}
 use Rattle.npr_base.specs.EnumTable.{family_in}
-use Rattle.npr_base.specs.EnumTableLaws.{attributes_in}
+use Rattle.npr_base.specs.EnumFamily.{attributes_in}
 use Rattle.npr_base.specs.Family.{Writing, Reading}
 use Rattle.npr_base.specs.Framing.{Item, number_of}
 use Rattle.npr_base.specs.ListCodec.{list_of}
 use Rattle.npr_base.specs.Nesting.{Lists, Nests, ListRow, RowAnd, NestRows}
-use Rattle.npr_base.specs.Nesting.{plain-list, in-rows, table-nests, beside-nests, left-nests, retold-nests}
+use Rattle.npr_base.proofs.NestLaws.{plain-list, in-rows, table-nests, beside-nests, left-nests, retold-nests}
 use Rattle.npr_base.specs.declared.refusal.At.{At}
 use Rattle.npr_base.specs.declared.refusal.AttributeSet.{AttributeSet}
 use Rattle.npr_base.specs.declared.refusal.AttributeSet.TheVariants.{Link}

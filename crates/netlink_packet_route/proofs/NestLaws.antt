@@ -2,7 +2,7 @@
 -- those: of every set, under every context.
 use Rattle.std.proofs.Common.{refl}
 use Rattle.npr_base.specs.Nesting.{Nests}
-use Rattle.npr_base.specs.Nesting.{table-nests}
+use Rattle.npr_base.proofs.NestLaws.{table-nests}
 use Rattle.npr_base.specs.declared.refusal.AttributeSet.{AttributeSet}
 use Rattle.npr_base.specs.declared.refusal.AttributeSet.TheVariants.{Address, Rule, Route, Neighbour, Link, Metric, Encap, Opt, Vxlan, Erspan}
 use Rattle.npr_base.specs.declared.refusal.AttributeSet.TheVariants.{LinkInfo, LinkXdp, Prop, LinkProtocolDownReason, AfSpecUnspec, AfSpecInet}

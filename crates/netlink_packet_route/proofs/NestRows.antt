@@ -9,7 +9,7 @@ use Rattle.npr_base.specs.ListCodec.{list_of}
 use Rattle.npr_base.specs.Lists.{ReadsList}
 use Rattle.npr_base.specs.Message.{IsMessage, MessageFault}
 use Rattle.npr_base.specs.Nesting.{IsListOf, IsFaultOf, Opened, Nests, ListRow, NestRows, NestList}
-use Rattle.npr_base.specs.Nesting.{plain-list, opened-by, in-list}
+use Rattle.npr_base.proofs.NestLaws.{plain-list, opened-by, in-list}
 use Rattle.npr_base.specs.Refusal.{at_number}
 use Rattle.npr_base.specs.declared.refusal.At.{At}
 use Rattle.npr_base.specs.declared.refusal.AttributeSet.{AttributeSet}
@@ -36,7 +36,7 @@ use Rattle.npr_nexthop.specs.contracts.attribute.NextHopAttribute.{enum as enum_
 use Rattle.npr_route.specs.Attribute.{Meaning as RouteMeaning, Reads, Wrong, flat, multi_path, value_wrong}
 use Rattle.npr_route.specs.FlatAttribute as Flat
 use Rattle.npr_route.specs.FlatAttribute.{Context as RouteContext}
-use Rattle.npr_route.specs.FlatAttributeLaws as FlatLaws
+use Rattle.npr_route.specs.FlatFamily as FlatLaws
 use Rattle.npr_scalar.specs.RouteAddress as OfAddresses
 use Rattle.netlink_packet_route.specs.Nests.{Inner, has_reader, nest_in, reading_of}
 use Rattle.netlink_packet_route.specs.declared.context.Context.{Context}
@@ -105,16 +105,23 @@ module _ (outer : AttributeSet) (c : Context) where
 
 -- ---- of a route, and of next hops
 
+-- a list of this set, as rows of another hold it
+abbrev HeldList : AttributeSet → Context → AttributeSet → Type 0
+HeldList outer c set = ListRow reading_of (Inner c) (Own outer c) (list_of set (reading_of (nest_in set c)).reading) set 0
+
+route-lists : (c : Context) → HeldList Route c Metric × (Own Route c 18 × (HeldList Route c Encap × Unit {0}))
+route-lists c = (listed-row Route c Metric (λ bytes n p. p), (refl, (listed-row Route c Encap (λ bytes n p. p), tt)))
+
 route-rows : (c : Context) (form : OfAddresses.Form) (multicast : Bool)
     → NestList reading_of (Inner c) (Own Route c) (Flat.rows form multicast (OfEncap.encapsulation c.encap_type))
-route-rows c OfAddresses.four true = (listed-row Route c Metric (λ bytes n p. p), (refl, (listed-row Route c Encap (λ bytes n p. p), tt)))
-route-rows c OfAddresses.four false = (listed-row Route c Metric (λ bytes n p. p), (refl, (listed-row Route c Encap (λ bytes n p. p), tt)))
-route-rows c OfAddresses.sixteen true = (listed-row Route c Metric (λ bytes n p. p), (refl, (listed-row Route c Encap (λ bytes n p. p), tt)))
-route-rows c OfAddresses.sixteen false = (listed-row Route c Metric (λ bytes n p. p), (refl, (listed-row Route c Encap (λ bytes n p. p), tt)))
-route-rows c OfAddresses.label true = (listed-row Route c Metric (λ bytes n p. p), (refl, (listed-row Route c Encap (λ bytes n p. p), tt)))
-route-rows c OfAddresses.label false = (listed-row Route c Metric (λ bytes n p. p), (refl, (listed-row Route c Encap (λ bytes n p. p), tt)))
-route-rows c OfAddresses.any true = (listed-row Route c Metric (λ bytes n p. p), (refl, (listed-row Route c Encap (λ bytes n p. p), tt)))
-route-rows c OfAddresses.any false = (listed-row Route c Metric (λ bytes n p. p), (refl, (listed-row Route c Encap (λ bytes n p. p), tt)))
+route-rows c OfAddresses.four true = route-lists c
+route-rows c OfAddresses.four false = route-lists c
+route-rows c OfAddresses.sixteen true = route-lists c
+route-rows c OfAddresses.sixteen false = route-lists c
+route-rows c OfAddresses.label true = route-lists c
+route-rows c OfAddresses.label false = route-lists c
+route-rows c OfAddresses.any true = route-lists c
+route-rows c OfAddresses.any false = route-lists c
 
 own-hops : (k : ℕ) → (k == 9) ≡ true → ((k == 18) || (k == 9)) ≡ true
 own-hops k nine = or_right (k == 18) (k == 9) nine
@@ -151,36 +158,22 @@ module _ (c : Context) where
   route-nests = λ x.
       route-or x (number_of x.kind == 9) ((FlatLaws.attributes route_context).seeing.form_at (number_of x.kind)) refl (flat-nests x)
 
+  hop-lists : HeldList NextHop c Encap
+      × (HeldList NextHop c NextHopResGroup × (HeldList NextHop c NextHopResBucket × (HeldList NextHop c NextHopGroupStats × Unit {0})))
+  hop-lists = (
+    listed-row NextHop c Encap (λ bytes n p. p),
+    (
+      listed-row NextHop c NextHopResGroup (λ bytes n p. p),
+      (listed-row NextHop c NextHopResBucket (λ bytes n p. p), (listed-row NextHop c NextHopGroupStats (λ bytes n p. p), tt)),
+    ),
+  )
+
   pub next-hop-rows : (form : OfAddresses.Form)
       → NestRows reading_of (Inner c) (Own NextHop c) enum_of_next_hop.parts (OfNextHopMessage.table form (OfEncap.encapsulation c.encap_type)).rows
-  next-hop-rows OfAddresses.four = (
-    listed-row NextHop c Encap (λ bytes n p. p),
-    (
-      listed-row NextHop c NextHopResGroup (λ bytes n p. p),
-      (listed-row NextHop c NextHopResBucket (λ bytes n p. p), (listed-row NextHop c NextHopGroupStats (λ bytes n p. p), tt)),
-    ),
-  )
-  next-hop-rows OfAddresses.sixteen = (
-    listed-row NextHop c Encap (λ bytes n p. p),
-    (
-      listed-row NextHop c NextHopResGroup (λ bytes n p. p),
-      (listed-row NextHop c NextHopResBucket (λ bytes n p. p), (listed-row NextHop c NextHopGroupStats (λ bytes n p. p), tt)),
-    ),
-  )
-  next-hop-rows OfAddresses.label = (
-    listed-row NextHop c Encap (λ bytes n p. p),
-    (
-      listed-row NextHop c NextHopResGroup (λ bytes n p. p),
-      (listed-row NextHop c NextHopResBucket (λ bytes n p. p), (listed-row NextHop c NextHopGroupStats (λ bytes n p. p), tt)),
-    ),
-  )
-  next-hop-rows OfAddresses.any = (
-    listed-row NextHop c Encap (λ bytes n p. p),
-    (
-      listed-row NextHop c NextHopResGroup (λ bytes n p. p),
-      (listed-row NextHop c NextHopResBucket (λ bytes n p. p), (listed-row NextHop c NextHopGroupStats (λ bytes n p. p), tt)),
-    ),
-  )
+  next-hop-rows OfAddresses.four = hop-lists
+  next-hop-rows OfAddresses.sixteen = hop-lists
+  next-hop-rows OfAddresses.label = hop-lists
+  next-hop-rows OfAddresses.any = hop-lists
 
   pub neighbour-rows : (form : OfNeighbourAddress.Form) → NestRows reading_of (Inner c) (Own Neighbour c) enum_of_neighbour.parts (OfNeighbour.table form).rows
   neighbour-rows OfNeighbourAddress.four = tt

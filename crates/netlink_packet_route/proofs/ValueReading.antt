@@ -4,7 +4,7 @@ use Rattle.std.specs.Prelude.{◌≡◌, ◌-◌, ◌<◌, ◌≤◌, ◌||◌, 
 use Rattle.std.proofs.Common.{refl, sym, ap, subst, ◌∙◌, length-drop}
 use Rattle.std.proofs.Math.Seq.{take-length}
 use Rattle.npr_base.specs.Framing.{Item, number_of}
-use Rattle.npr_base.specs.Nesting.{cut-here, opens-here, owned-here}
+use Rattle.npr_base.proofs.NestLaws.{cut-here, opens-here, owned-here}
 use Rattle.npr_base.specs.Opening.{Opens}
 use Rattle.npr_base.specs.Value.{IsWhole, Misshown, Shown, Shows}
 use Rattle.npr_base.specs.declared.refusal.At.{At}
@@ -15,7 +15,7 @@ use Rattle.npr_base.specs.declared.value.Form.{Form}
 use Rattle.npr_base.specs.declared.value.Form.TheVariants.{List as Listed, Inside}
 use Rattle.netlink_packet_route.proofs.NestLaws.{nests}
 use Rattle.netlink_packet_route.proofs.NestRows.{Own}
-use Rattle.netlink_packet_route.specs.CheckLaws.{IsAttributeAt, IsListAt, ListFaultAt}
+use Rattle.netlink_packet_route.specs.NestLists.{IsAttributeAt, IsListAt, ListFaultAt}
 use Rattle.netlink_packet_route.specs.Nests.{Inner, has_reader, holds_hops, reading_of, stands_apart}
 use Rattle.netlink_packet_route.specs.declared.nests.Nest.{Nest}
 

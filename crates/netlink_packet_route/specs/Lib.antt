@@ -2,9 +2,9 @@
 pub use Rattle.bitflags.specs.Sets as FlagSets
 -- the base layer
 pub use Rattle.npr_base.specs.AddressFamily
-pub use Rattle.npr_base.specs.AddressFamilyLaws
+pub use Rattle.npr_base.proofs.AddressFamilyLaws
 pub use Rattle.npr_base.specs.Attributes
-pub use Rattle.npr_base.specs.AttributesLaws
+pub use Rattle.npr_base.proofs.AttributesLaws
 pub use Rattle.npr_base.specs.Beside
 pub use Rattle.npr_base.specs.Blocks
 pub use Rattle.npr_base.specs.ByNumber
@@ -12,60 +12,63 @@ pub use Rattle.npr_base.specs.Codec
 pub use Rattle.npr_base.specs.Counts
 pub use Rattle.npr_base.specs.DroppedCodec
 pub use Rattle.npr_base.specs.EnumTable
-pub use Rattle.npr_base.specs.EnumTableLaws
+pub use Rattle.npr_base.specs.EnumFamily
+pub use Rattle.npr_base.specs.lemmas.EnumTable as EnumTableLaws
 pub use Rattle.npr_base.specs.EnumTableValues
 pub use Rattle.npr_base.specs.Tables
 pub use Rattle.npr_base.specs.Equality
-pub use Rattle.npr_base.specs.EqualityLaws
+pub use Rattle.npr_base.proofs.EqualityLaws
 pub use Rattle.npr_base.specs.Family
 pub use Rattle.npr_base.specs.LeftOut
 pub use Rattle.npr_base.specs.Lists
-pub use Rattle.npr_base.specs.FieldEquality
+pub use Rattle.npr_base.proofs.FieldEquality
 pub use Rattle.npr_base.specs.Fields
 pub use Rattle.npr_base.specs.FirstTold
-pub use Rattle.npr_base.specs.Firsts
-pub use Rattle.npr_base.specs.FitLaws
+pub use Rattle.npr_base.proofs.Firsts
+pub use Rattle.npr_base.specs.lemmas.Fit as FitLaws
 pub use Rattle.npr_base.specs.FlagCodec
 pub use Rattle.npr_base.specs.Found
 pub use Rattle.npr_base.specs.Framing
-pub use Rattle.npr_base.specs.FrontLaws
+pub use Rattle.npr_base.specs.lemmas.Front as FrontLaws
 pub use Rattle.npr_base.specs.Ip
 pub use Rattle.npr_base.specs.IpCodec
 pub use Rattle.npr_base.specs.ViewEquality
 pub use Rattle.npr_base.specs.Layout
 pub use Rattle.npr_base.specs.ListCodec
-pub use Rattle.npr_base.specs.ListLaws
+pub use Rattle.npr_base.specs.lemmas.List as ListLaws
+pub use Rattle.npr_base.specs.Looking
 pub use Rattle.npr_base.specs.Looks
-pub use Rattle.npr_base.specs.LookBounds
-pub use Rattle.npr_base.specs.MessageLaws
+pub use Rattle.npr_base.specs.lemmas.LookBounds
+pub use Rattle.npr_base.specs.lemmas.Message as MessageLaws
 pub use Rattle.npr_base.specs.Opening
 pub mod Canonical
-pub mod CheckLaws
-pub mod FaultLaws
-pub mod LeftLaws
+pub mod NestLists
 pub mod Nests
 pub mod MessageKind
 pub mod Messages
-pub mod NumberLaws
+pub mod Pending
 pub mod Request
 pub mod RouteNetlinkMessage
-pub mod ValidityLaws
+pub mod Stops
 pub use Rattle.npr_base.specs.MoreFields
 pub use Rattle.npr_base.specs.Name
 pub use Rattle.npr_base.specs.Numbering
-pub use Rattle.npr_base.specs.PlaceLaws
+pub use Rattle.npr_base.proofs.PlaceLaws
 pub use Rattle.npr_base.specs.Refusal
+pub use Rattle.npr_names.specs.Names as AttributeNames
+pub use Rattle.npr_names.specs.Refusals as LocatedRefusals
 pub use Rattle.npr_base.specs.Rows
 pub use Rattle.npr_base.specs.Showing
-pub use Rattle.npr_base.specs.StructLaws
+pub use Rattle.npr_base.proofs.StructLaws
 pub use Rattle.npr_base.specs.Table
-pub use Rattle.npr_base.specs.TableLaws
+pub use Rattle.npr_base.specs.TableFamily
+pub use Rattle.npr_base.specs.lemmas.Table as TableLaws
 pub use Rattle.npr_base.specs.Text
 pub use Rattle.npr_base.specs.UintCodec
 pub use Rattle.npr_base.specs.V6List
 pub use Rattle.npr_base.specs.Value
 pub use Rattle.npr_base.specs.Values
-pub use Rattle.npr_base.specs.ValuesLaws
+pub use Rattle.npr_base.proofs.ValuesLaws
 pub use Rattle.npr_base.specs.VariantCodec
 pub use Rattle.npr_base.specs.Walk
 pub use Rattle.npr_base.specs.Widths
@@ -82,7 +85,7 @@ pub use Rattle.netlink_packet_core.specs.Walk as EnvelopeWalk
 -- values
 pub use Rattle.npr_scalar.specs.IpProtocol
 pub use Rattle.npr_scalar.specs.Mpls
-pub use Rattle.npr_scalar.specs.MplsLaws
+pub use Rattle.npr_scalar.specs.MplsCodec as MplsLaws
 pub use Rattle.npr_scalar.specs.Realm as RouteRealm
 pub use Rattle.npr_scalar.specs.RouteAddress
 pub use Rattle.npr_scalar.specs.RouteCacheInfo
@@ -147,10 +150,10 @@ pub use Rattle.npr_link_bridge.specs.BridgeId as LinkBridgeId
 pub use Rattle.npr_link_bridge.specs.BridgePort as LinkBridgePort
 pub use Rattle.npr_link.specs.Choices as LinkChoices
 pub use Rattle.npr_link.specs.ExtentMask as LinkExtentMask
-pub use Rattle.npr_link.specs.Fails as LinkFails
+pub use Rattle.npr_link.specs.lemmas.Fails as LinkFails
 pub use Rattle.npr_link.specs.Flags as LinkFlags
 pub use Rattle.npr_link.specs.Governing as LinkGoverning
-pub use Rattle.npr_link.specs.GoverningLaws as LinkGoverningLaws
+pub use Rattle.npr_link.specs.lemmas.Governing as LinkGoverningLaws
 pub use Rattle.npr_link.specs.Header as LinkHeader
 pub use Rattle.npr_link.specs.HeaderFamily as LinkHeaderFamily
 pub use Rattle.npr_link.specs.Inet6CacheInfo as LinkInet6CacheInfo
@@ -159,8 +162,8 @@ pub use Rattle.npr_link.specs.Info
 pub use Rattle.npr_link.specs.InfoData
 pub use Rattle.npr_link.specs.InfoKind
 pub use Rattle.npr_link.specs.InfoList
-pub use Rattle.npr_link.specs.InfoLooks
-pub use Rattle.npr_link.specs.InfoOnce
+pub use Rattle.npr_link.specs.lemmas.InfoLooks
+pub use Rattle.npr_link.specs.lemmas.InfoOnce
 pub use Rattle.npr_link.specs.Kinds as LinkKinds
 pub use Rattle.npr_link.specs.LayerType as LinkLayerType
 pub use Rattle.npr_link.specs.LinkEvent
@@ -182,7 +185,7 @@ pub use Rattle.npr_link.specs.Prop as LinkProp
 pub use Rattle.npr_link.specs.ProtoInfos as LinkProtoInfos
 pub use Rattle.npr_link.specs.ProtocolDown as LinkProtocolDown
 pub use Rattle.npr_link_bridge.specs.QuerierState as LinkQuerierState
-pub use Rattle.npr_link.specs.ShortLists as LinkShortLists
+pub use Rattle.npr_link.specs.lemmas.ShortLists as LinkShortLists
 pub use Rattle.npr_link.specs.State as LinkState
 pub use Rattle.npr_link_bridge.specs.StpState as LinkStpState
 pub use Rattle.npr_link.specs.Veth as LinkVeth
@@ -193,6 +196,8 @@ pub use Rattle.npr_link.specs.VlanQos as LinkVlanQos
 pub use Rattle.npr_link.specs.Vrf as LinkVrf
 pub use Rattle.npr_link.specs.Xdp as LinkXdp
 pub use Rattle.npr_link.specs.XdpAttached as LinkXdpAttached
+pub use Rattle.npr_link_numbers.specs.Coherent as LinkCoherent
+pub use Rattle.npr_link_numbers.specs.Grown as LinkGrown
 pub use Rattle.npr_link_numbers.specs.Names as LinkNumberNames
 pub use Rattle.npr_link_numbers.specs.Numbers as LinkNumbers
 pub use Rattle.npr_link_bridge.specs.AfSpecBridge
@@ -203,7 +208,7 @@ pub use Rattle.npr_link_bridge.specs.MstEntry as LinkMstEntry
 pub use Rattle.npr_link_bridge.specs.VlanInfo as LinkVlanInfo
 pub use Rattle.npr_link_bridge.specs.VlanInfoFlags as LinkVlanInfoFlags
 pub use Rattle.npr_link_bridge.specs.VlanTunnel as LinkVlanTunnel
-pub use Rattle.npr_link_bridge.specs.EqualityLaws as LinkBridgeEqualityLaws
+pub use Rattle.npr_link_bridge.proofs.EqualityLaws as LinkBridgeEqualityLaws
 -- neighbour messages
 pub use Rattle.npr_neighbour.specs.Attribute as NeighbourAttribute
 pub use Rattle.npr_neighbour.specs.CacheInfo as NeighbourCacheInfo
@@ -227,13 +232,13 @@ pub use Rattle.npr_route.specs.AttributeFamily as RouteAttributeFamily
 pub use Rattle.npr_route.specs.AttributeLooks as RouteAttributeLooks
 pub use Rattle.npr_route.specs.AttributeView as RouteAttributeView
 pub use Rattle.npr_route.specs.FlatAttribute as FlatRouteAttribute
-pub use Rattle.npr_route.specs.FlatAttributeLaws as FlatRouteAttributeLaws
+pub use Rattle.npr_route.specs.FlatFamily as FlatRouteFamily
 pub use Rattle.npr_route.specs.Governing
 pub use Rattle.npr_route.specs.Header as RouteHeader
 pub use Rattle.npr_route.specs.Message as RouteMessage
-pub use Rattle.npr_route.specs.MessageLaws as RouteMessageLaws
+pub use Rattle.npr_route.specs.lemmas.Message as RouteMessageLaws
 pub use Rattle.npr_route.specs.Metric as RouteMetric
-pub use Rattle.npr_route.specs.NextHopFrontLaws
+pub use Rattle.npr_route.specs.lemmas.NextHopFront as NextHopFrontLaws
 pub use Rattle.npr_route.specs.NextHopHeader
 pub use Rattle.npr_route.specs.Path as RoutePath
 pub use Rattle.npr_route.specs.RouteList

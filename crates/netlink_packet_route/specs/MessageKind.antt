@@ -1,10 +1,11 @@
 -- The kinds of messages: their names, and what each is made of.
 use Rattle.std.specs.Prelude.{◌≡◌, ℕ, List, drop, Option, Some, None, codes}
-use Rattle.std.proofs.Common.{refl, sym, subst, ◌∙◌}
+use Rattle.std.proofs.Common.{◌≤◌, refl, sym, subst, ◌∙◌, lit≤}
 use Rattle.npr_base.specs.Codec.{leading}
-use Rattle.npr_base.specs.Family.{Family}
+use Rattle.npr_base.specs.Family.{Family, Reading}
+use Rattle.npr_base.specs.FirstTold.{first_told}
 use Rattle.npr_base.specs.Layout.{Layout}
-use Rattle.npr_base.specs.Lists.{ReadsList}
+use Rattle.npr_base.specs.Lists.{AllOf, ReadsList}
 use Rattle.npr_base.specs.Message.{Grammar, View, grammar_by, governs_by}
 use Rattle.npr_base.specs.Nesting.{any_reading, IsListOf, IsFaultOf}
 use Rattle.npr_base.specs.declared.address_family.AddressFamily.{AddressFamily}
@@ -19,13 +20,16 @@ use Rattle.npr_neighbour.specs.Attribute as OfNeighbour
 use Rattle.npr_neighbour.specs.Header as OfNeighbourHeader
 use Rattle.npr_nexthop.specs.Attribute as OfNextHop
 use Rattle.npr_nexthop.specs.Attribute.{Context as NextHopContext}
-use Rattle.npr_nexthop.specs.Message.{next_hops, IsContext as IsNextHopContext, under_context as under_next_hop}
+use Rattle.npr_nexthop.specs.Governing.{meaning_type}
+use Rattle.npr_nexthop.specs.Message.{context_of as next_hop_context, next_hops, IsContext as IsNextHopContext, under_context as under_next_hop}
 use Rattle.npr_nexthop.specs.declared.attribute.NextHopAttribute.{NextHopAttribute}
 use Rattle.npr_nexthop.specs.declared.header.NextHopHeader.{NextHopHeader}
 use Rattle.npr_route.specs.FlatAttribute.{Context as RouteContext}
+use Rattle.npr_route.specs.Attribute.{attributes_of, first_type}
+use Rattle.npr_route.specs.AttributeFamily as OfRoute
 use Rattle.npr_route.specs.AttributeView as OfRouteList
-use Rattle.npr_route.specs.Message.{routes}
-use Rattle.npr_route.specs.MessageLaws.{IsContext as IsRouteContext, under_context as under_route}
+use Rattle.npr_route.specs.Message.{routes, IsContext as IsRouteContext}
+use Rattle.npr_route.specs.lemmas.Message.{under_context as under_route}
 use Rattle.npr_route.specs.declared.attribute.RouteAttribute.{RouteAttribute}
 use Rattle.npr_route.specs.declared.header.RouteHeader.{RouteHeader}
 use Rattle.npr_rule.specs.Attribute as OfRule
@@ -40,11 +44,12 @@ use Rattle.npr_small.specs.NsidAttribute as OfNsid
 use Rattle.npr_small.specs.NsidHeader as OfNsidHeader
 use Rattle.npr_small.specs.PrefixAttribute as OfPrefix
 use Rattle.npr_small.specs.PrefixHeader as OfPrefixHeader
+use Rattle.npr_tunnel.specs.declared.encap_type.RouteLwEnCapType.TheVariants.{None as NoEncapsulation}
 use Rattle.netlink_packet_route.specs.Nests.{no_context, reading_by, reading_of}
 use Rattle.netlink_packet_route.specs.declared.nests.Nest.{Nest}
 use Rattle.netlink_packet_route.specs.declared.kind.MessageKind.{MessageKind}
-use Rattle.netlink_packet_route.specs.declared.kind.MessageKind.TheVariants.{Address, Route, Rule, Neighbour, Link}
-use Rattle.netlink_packet_route.specs.declared.kind.MessageKind.TheVariants.{NextHop, Nsid, Netconf, AddressLabel, NeighbourTable, Prefix}
+use Rattle.netlink_packet_route.specs.declared.kind.MessageKind.TheVariants.{Address, Route, Rule, Neighbour, Link, NextHop, Nsid, Netconf, AddressLabel}
+use Rattle.netlink_packet_route.specs.declared.kind.MessageKind.TheVariants.{NeighbourTable, Prefix}
 use Rattle.netlink_packet_route.specs.declared.message_type.MessageType.{MessageType}
 use Rattle.netlink_packet_route.specs.declared.message_type.MessageType.TheVariants as Types
 use Rattle.netlink_packet_route.specs.declared.message_type.Subject.{Subject}
@@ -64,7 +69,7 @@ kind_name NeighbourTable = codes "neighbour-table"
 kind_name Prefix = codes "prefix"
 
 -- what a kind of message is made of: its header, its attributes, and how they are read and written; what governs the attributes, and
--- what names their list, which means what the message does
+-- what names their list, which means what the message does; and how those of a message are read that its own words govern
 pub record Form : Type 1 where
   pub Header : Type 0
   pub Attribute : Type 0
@@ -79,11 +84,14 @@ pub record Form : Type 1 where
       → (ms : List grammar.Meaning) × grammar.body.Reads h bytes ms
   pub faulty : (h : Header) (bytes : List ℕ) (c : Context) (e : DecodeError) → governs h bytes c → IsFaultOf (any_reading (family.reading c)) bytes e
       → grammar.body.Faulty h bytes e
+  pub own : View grammar → Reading grammar.writing
+  pub coherent : (m : View grammar) → grammar.body.Coherent m.header m.attributes → AllOf (own m).Coherent m.attributes
+  pub some : 4 ≤ grammar.layout.size
 
 -- where the header tells the context
 abbrev pub form_by : {H A C : Type 0} (f : Family A C) (layout : Layout H) (standard : H) (context_of : H → C) (nest : C → Nest)
-    → ((c : C) → reading_of (nest c) ≡ any_reading (f.reading c)) → Form
-form_by {H} {A} {C} f layout standard context_of nest named = record {
+    → ((c : C) → reading_of (nest c) ≡ any_reading (f.reading c)) → 4 ≤ layout.size → Form
+form_by {H} {A} {C} f layout standard context_of nest named some = record {
   Header = H;
   Attribute = A;
   Context = C;
@@ -95,12 +103,15 @@ form_by {H} {A} {C} f layout standard context_of nest named = record {
   named = named;
   reads = λ h bytes c is list. subst (λ (d : C). IsListOf (any_reading (f.reading d)) bytes) is list;
   faulty = λ h bytes c e is bad. subst (λ (d : C). IsFaultOf (any_reading (f.reading d)) bytes e) is bad;
+  own = λ m. f.reading (context_of m.header);
+  coherent = λ m all. all;
+  some = some;
 }
 
 -- and where nothing does
 abbrev pub alone : {H A : Type 0} (f : Family A (Unit {0})) (layout : Layout H) (standard : H) (set : AttributeSet)
-    → reading_by set no_context ≡ any_reading (f.reading tt) → Form
-alone f layout standard set named = form_by f layout standard (λ h. tt) (λ c. record { set = set; context = no_context }) (λ c. named)
+    → reading_by set no_context ≡ any_reading (f.reading tt) → 4 ≤ layout.size → Form
+alone f layout standard set named some = form_by f layout standard (λ h. tt) (λ c. record { set = set; context = no_context }) (λ c. named) some
 
 abbrev pub of_family : AttributeSet → AddressFamily → Nest
 of_family set family = record { set = set; context = record no_context { family = family } }
@@ -112,17 +123,17 @@ abbrev pub of_next_hop : NextHopContext → Nest
 of_next_hop c = record { set = At.NextHop; context = record no_context { family = c.0; encap_type = c.1 } }
 
 abbrev pub form_of : MessageKind → Form
-form_of Address = alone OfAddress.family OfAddressHeader.header OfAddressHeader.default_header At.Address refl
-form_of Rule = alone OfRule.family OfRuleHeader.header OfRuleHeader.default_header At.Rule refl
+form_of Address = alone OfAddress.family OfAddressHeader.header OfAddressHeader.default_header At.Address refl (lit≤ tt)
+form_of Rule = alone OfRule.family OfRuleHeader.header OfRuleHeader.default_header At.Rule refl (lit≤ tt)
 form_of Neighbour =
-    form_by OfNeighbour.family OfNeighbourHeader.header OfNeighbourHeader.default_header (λ h. h.family) (of_family At.Neighbour) (λ c. refl)
-form_of Link = form_by OfLink.family OfLinkHeader.header OfLinkHeader.default_header (λ h. h.interface_family) (of_family At.Link) (λ c. refl)
-form_of Nsid = alone OfNsid.family OfNsidHeader.header OfNsidHeader.default_header At.Nsid refl
-form_of Netconf = alone OfNetconf.family OfNetconfHeader.header OfNetconfHeader.default_header At.Netconf refl
-form_of AddressLabel = alone OfAddressLabel.family OfAddressLabelHeader.header OfAddressLabelHeader.default_header At.AddressLabel refl
+    form_by OfNeighbour.family OfNeighbourHeader.header OfNeighbourHeader.default_header (λ h. h.family) (of_family At.Neighbour) (λ c. refl) (lit≤ tt)
+form_of Link = form_by OfLink.family OfLinkHeader.header OfLinkHeader.default_header (λ h. h.interface_family) (of_family At.Link) (λ c. refl) (lit≤ tt)
+form_of Nsid = alone OfNsid.family OfNsidHeader.header OfNsidHeader.default_header At.Nsid refl (lit≤ tt)
+form_of Netconf = alone OfNetconf.family OfNetconfHeader.header OfNetconfHeader.default_header At.Netconf refl (lit≤ tt)
+form_of AddressLabel = alone OfAddressLabel.family OfAddressLabelHeader.header OfAddressLabelHeader.default_header At.AddressLabel refl (lit≤ tt)
 form_of NeighbourTable =
-    alone OfNeighbourTable.family OfNeighbourTableHeader.header OfNeighbourTableHeader.default_header At.NeighbourTable refl
-form_of Prefix = alone OfPrefix.family OfPrefixHeader.header OfPrefixHeader.default_header At.Prefix refl
+    alone OfNeighbourTable.family OfNeighbourTableHeader.header OfNeighbourTableHeader.default_header At.NeighbourTable refl (lit≤ tt)
+form_of Prefix = alone OfPrefix.family OfPrefixHeader.header OfPrefixHeader.default_header At.Prefix refl (lit≤ tt)
 form_of Route = record {
   Header = RouteHeader;
   Attribute = RouteAttribute;
@@ -137,6 +148,11 @@ form_of Route = record {
       (ms, (type, governs, subst (λ (d : RouteContext). ReadsList (OfRouteList.family.reading d).Reads bytes ms) is list));
   faulty = λ h bytes c e (type, governs, is) bad.
       (type, governs, subst (λ (d : RouteContext). IsFaultOf (any_reading (OfRouteList.family.reading d)) bytes e) is bad);
+  own = λ m.
+      let h = m.header in
+      OfRoute.attributes (h.address_family, h.kind, first_type NoEncapsulation (attributes_of m.attributes));
+  coherent = λ m all. all;
+  some = lit≤ tt;
 }
 form_of NextHop = record {
   Header = NextHopHeader;
@@ -152,6 +168,9 @@ form_of NextHop = record {
       (ms, (type, governs, subst (λ (d : NextHopContext). ReadsList (OfNextHop.family.reading d).Reads bytes ms) is list));
   faulty = λ h bytes c e (type, governs, is) bad.
       (type, governs, subst (λ (d : NextHopContext). IsFaultOf (any_reading (OfNextHop.family.reading d)) bytes e) is bad);
+  own = λ m. OfNextHop.attributes (next_hop_context m.header (first_told meaning_type NoEncapsulation m.attributes));
+  coherent = λ m all. all;
+  some = lit≤ tt;
 }
 
 -- in bytes

@@ -2,12 +2,12 @@
 use Rattle.std.proofs.Common.{rules, refl}
 use Rattle.npr_base.specs.Equality.{IsEquality, IsEqualityOf}
 use Rattle.npr_base.specs.ViewEquality.{item_equality}
-use Rattle.npr_base.specs.IpLaws.{ip_equality, ipv4_equality}
+use Rattle.npr_base.proofs.IpLaws.{ip_equality, ipv4_equality}
 use Rattle.npr_base.specs.Tables.{table_decides}
-use Rattle.npr_base.specs.MeaningLaws.{text_equality}
-use Rattle.npr_base.specs.EqualityLaws.{one_equality}
-use Rattle.npr_base.specs.StructLaws.{◌beside◌, struct_equality}
-use Rattle.npr_base.specs.AddressFamilyLaws.{family_equality}
+use Rattle.npr_base.proofs.MeaningLaws.{text_equality}
+use Rattle.npr_base.proofs.EqualityLaws.{one_equality}
+use Rattle.npr_base.proofs.StructLaws.{◌beside◌, struct_equality}
+use Rattle.npr_base.proofs.AddressFamilyLaws.{family_equality}
 use Rattle.std.specs.Cmp.{unsigned_Decides, signed_Decides}
 use Rattle.npr_address.specs.contracts.header.AddressHeader.{struct}
 use Rattle.npr_address.specs.contracts.addr_protocol.AddressProtocolPartialEq.TheImpl as ProtocolEq

@@ -4,7 +4,7 @@ use Rattle.std.proofs.Common.{refl}
 use Rattle.npr_base.specs.Layout.{Layout, byte, formed}
 use Rattle.npr_base.specs.Numbering.{Numbering}
 use Rattle.npr_base.specs.Rows.{Named, numbered, text_in}
-use Rattle.npr_base.specs.RowLaws.{enumeration}
+use Rattle.npr_base.specs.Enumeration.{enumeration}
 use Rattle.npr_address.specs.declared.addr_protocol.AddressProtocol.{AddressProtocol}
 use Rattle.npr_address.specs.declared.addr_protocol.AddressProtocol.TheVariants.{Loopback, RouterAnnouncement, LinkLocal, Other}
 use Rattle.npr_address.specs.contracts.addr_protocol.AddressProtocol.{enum}

@@ -3,7 +3,7 @@ use Rattle.std.specs.Prelude.{ℕ, List, [], ◌∷◌, codes, decimal}
 use Rattle.std.proofs.Common.{refl}
 use Rattle.npr_base.specs.Numbering.{Numbering}
 use Rattle.npr_base.specs.Rows.{Named, numbered, text_in}
-use Rattle.npr_base.specs.RowLaws.{enumeration}
+use Rattle.npr_base.specs.Enumeration.{enumeration}
 use Rattle.npr_address.specs.declared.addr_scope.AddressScope.{AddressScope}
 use Rattle.npr_address.specs.declared.addr_scope.AddressScope.TheVariants.{Universe, Site, Link, Host, Nowhere, Other}
 use Rattle.npr_address.specs.contracts.addr_scope.AddressScope.{enum}

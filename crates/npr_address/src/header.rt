@@ -2,7 +2,7 @@
 
 ghost use Rattle.std.{specs.Prelude.{◌≡◌, ◌<◌, IfOk, IfErr, refl}, proofs.Common.{rules}};
 ghost use Rattle.{
-  npr_base.specs.{Codec.{leading}, Message.{governs_by, none_searched}, MessageLaws.{of_family, under_by}, Refusal.{no_place}},
+  npr_base.specs.{Codec.{leading}, Message.{governs_by, none_searched}, lemmas.Message.{of_family, under_by}, Refusal.{no_place}},
   npr_address.specs.{Attribute.{family}, Header.{buffer_of, default_header, header, header_buffer}, Message.{addresses}},
 };
 

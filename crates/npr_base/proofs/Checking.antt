@@ -3,7 +3,7 @@ use Rattle.std.proofs.Common.{◌≡◌, ℕ, ◌+◌, ◌<◌, Option, Some, No
 use Rattle.npr_base.specs.Framing.{Item, encoding}
 use Rattle.std.proofs.lemmas.List.{drop_more}
 use Rattle.npr_base.specs.declared.refusal.EmitError.{EmitError}
-use Rattle.npr_base.specs.FitLaws.{none_both}
+use Rattle.npr_base.specs.lemmas.Fit.{none_both}
 use Rattle.npr_base.specs.Lists.{encodings, first_unfit, option_or, checked, overlong, list_unfit}
 
 -- past a member that can be written

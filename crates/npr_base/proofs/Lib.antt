@@ -10,3 +10,17 @@ pub mod Messages
 pub mod WalkLaws
 pub mod Texts
 pub mod NormalizedLaws
+pub mod AddressFamilyLaws
+pub mod AttributesLaws
+pub mod EqualityLaws
+pub mod FirstToldLaws
+pub mod IpLaws
+pub mod PlaceLaws
+pub mod StructLaws
+pub mod V6ListLaws
+pub mod ValuesLaws
+pub mod FieldEquality
+pub mod Firsts
+pub mod MeaningLaws
+pub mod Unless
+pub mod NestLaws

@@ -3,7 +3,7 @@ use Rattle.std.proofs.Common.{◌≡◌, ℕ, ◌+◌, ◌-◌, ◌*◌, ◌/◌
 use Rattle.npr_base.specs.Counts.{Counts, AddsAtMost, hit}
 use Rattle.npr_base.specs.Lists.{Each, ReadsTo}
 use Rattle.npr_base.specs.Framing.{Item, Front}
-use Rattle.npr_base.specs.FrontLaws.{Front-takes, Passes-more}
+use Rattle.npr_base.specs.lemmas.Front.{Front-takes, Passes-more}
 use Rattle.npr_base.specs.Walk.{Walked}
 use Rattle.std.proofs.lemmas.List.{length_push}
 

@@ -9,14 +9,14 @@ use Rattle.npr_base.specs.declared.refusal.DecodeError.TheVariants.{OutOfMemory}
 use Rattle.npr_base.specs.Counts.{Counts, AddsAtMostTwice, SawEach, no_looks}
 use Rattle.npr_base.specs.Framing.{IsBytes}
 use Rattle.npr_base.specs.Lists.{ReadsList, first_unfit, list_unfit, overlong, encodings, list_members}
-use Rattle.npr_base.specs.FitLaws.{none_both}
-use Rattle.npr_base.specs.ListLaws.{IsBytes-left, IsBytes-right}
+use Rattle.npr_base.specs.lemmas.Fit.{none_both}
+use Rattle.npr_base.specs.lemmas.List.{IsBytes-left, IsBytes-right}
 use Rattle.npr_base.specs.Looks.{Adds}
-use Rattle.npr_base.specs.LooksLaws.{raised-none}
+use Rattle.npr_base.specs.lemmas.Looks.{raised-none}
 use Rattle.npr_base.specs.Message.{Message, Grammar, IsUnder, Stored, View, IsMessage, MessageFault, MessageLooks, IsCoherent, canonical_bytes, message_unfit, view}
 use Rattle.npr_base.specs.Equality.{IsEquality, IsEqualityOf}
-use Rattle.npr_base.specs.MeaningLaws.{items_meaning}
-use Rattle.npr_base.specs.StructLaws.{and_decides, decides_as}
+use Rattle.npr_base.proofs.MeaningLaws.{items_meaning}
+use Rattle.npr_base.proofs.StructLaws.{and_decides, decides_as}
 use Rattle.npr_base.specs.Family.{Family, written_by, unfit_by}
 
 same_message : {H M : Type 0} (m : Message H M) (h : H) (xs : List M) → m.header ≡ h → m.attributes ≡ xs → m ≡ record { header = h; attributes = xs }

@@ -1,4 +1,4 @@
 -- How a program takes a final zero off.
-use Rattle.npr_base.specs.NameLaws.{unterminated-nil, unterminated-zero, unterminated-other}
+use Rattle.npr_base.specs.lemmas.Name.{unterminated-nil, unterminated-zero, unterminated-other}
 
 pub ruleset unterminated = (unterminated-nil, unterminated-zero, unterminated-other)

@@ -1,12 +1,11 @@
 -- What one table of rows has read is read by another, once it is brought up to it.
-use Rattle.std.specs.Prelude.{◌==◌}
+use Rattle.std.specs.Prelude.{◌==◌, map}
 use Rattle.std.proofs.Common.{◌≡◌, ℕ, List, [], ◌∷◌, ◌++◌, Option, refl, sym, ap, subst, ◌∙◌}
 use Rattle.npr_base.specs.declared.refusal.EmitError.{EmitError}
 use Rattle.npr_base.specs.Framing.{Item, encoding}
 use Rattle.npr_base.specs.Lists.{AllOf, Each, ReadsList, option_or, first_unfit, encodings}
 use Rattle.npr_base.specs.Table.{Row, RowReads, ReadsAt, has_row}
-use Rattle.npr_base.specs.TableLaws.{one_of}
-use Rattle.std.specs.Prelude.{map}
+use Rattle.npr_base.specs.lemmas.Bool.{one_of}
 
 -- row by row the same number, and each value that was read is read again as what it is brought up to
 abbrev pub Normalizes : {M : Type 0} → (M → M) → List (Row M) → List (Row M) → Type 0

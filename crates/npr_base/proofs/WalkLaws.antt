@@ -6,8 +6,8 @@ use Rattle.std.proofs.Common.{Result, Ok, Err, refl, sym, ap, subst, ◌∙◌, 
 use Rattle.std.proofs.Common.{length-append}
 use Rattle.npr_base.specs.Framing.{Item, Front, Passes, Cut, Stops, Step, padded}
 use Rattle.npr_base.specs.Lists.{ReadsList}
-use Rattle.npr_base.specs.FrontLaws.{Front-same, Front-shrinks}
-use Rattle.npr_base.specs.LookBounds.{Passes-length}
+use Rattle.npr_base.specs.lemmas.Front.{Front-same, Front-shrinks}
+use Rattle.npr_base.specs.lemmas.LookBounds.{Passes-length}
 use Rattle.npr_base.specs.Walk.{Steps, found, Finds}
 use Rattle.npr_base.specs.declared.refusal.DecodeError.{DecodeError}
 

@@ -5,7 +5,7 @@ use Rattle.std.proofs.lemmas.List.{take-append-drop, take_at, drop_at, take_all,
 use Rattle.std.proofs.Math.Seq.{drop-append-add}
 use borrow.Rule.Slice.PartMut.{put_mid}
 use Rattle.npr_base.specs.Framing.{Writes, encoding, framed, pad}
-use Rattle.npr_base.specs.ListLaws.{length-encoding}
+use Rattle.npr_base.specs.lemmas.List.{length-encoding}
 use Rattle.npr_base.proofs.Joined.{whole-next, whole-below}
 
 -- bytes more, written behind those that stand

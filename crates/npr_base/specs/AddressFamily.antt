@@ -3,7 +3,7 @@ use Rattle.std.specs.Prelude.{ℕ, List, [], ◌∷◌, ◌++◌, codes, decimal
 use Rattle.std.proofs.Common.{refl}
 use Rattle.npr_base.specs.Numbering.{Numbering}
 use Rattle.npr_base.specs.Rows.{Named, numbered, number_in, text_in}
-use Rattle.npr_base.specs.RowLaws.{by_rows}
+use Rattle.npr_base.specs.Enumeration.{by_rows}
 use Rattle.npr_base.specs.declared.address_family.AddressFamily.{AddressFamily}
 use Rattle.npr_base.specs.declared.address_family.AddressFamily.TheVariants.{Unspec, Unix, Inet, Ax25, Ipx, Appletalk}
 use Rattle.npr_base.specs.declared.address_family.AddressFamily.TheVariants.{Netrom, Bridge, Atmpvc, X25, Inet6, Rose}

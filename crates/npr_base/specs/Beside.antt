@@ -2,7 +2,6 @@
 --     Sides           that what is read of the number is written with it, and what is read of another is not
 --     beside          the family of both
 --     numbers-in      what a table of an enum reads is written with its number
---     opens-own, opens-others      attributes inside values of each side
 use Rattle.std.specs.Prelude.{◌≡◌, ℕ, ◌+◌, ◌*◌, ◌≤◌, ◌<◌, ◌^◌, ◌==◌, ◌&&◌, ◌⊎◌, Bool, true, false, not, List, [], ◌∷◌, length, None, if◌then◌else◌}
 use Rattle.std.specs.Bool.{MatchBool}
 use Rattle.std.specs.Cmp.{first_so, second_so}
@@ -13,9 +12,10 @@ use Rattle.npr_base.specs.EnumTable.{VariantRows, MeaningIn, slot_in, ReadsIn, n
 use Rattle.npr_base.specs.Family.{Writing, Reading, Shape, written_by, unfit_by}
 use Rattle.npr_base.specs.Framing.{Item, Proper, framed, marked, number_of}
 use Rattle.npr_base.specs.Looks.{Looking}
-use Rattle.npr_base.specs.Opening.{Opens}
 use Rattle.npr_base.specs.Table.{item_of}
-use Rattle.npr_base.specs.TableLaws.{adds-at, both, one_of, shown_or, wrong_or}
+use Rattle.npr_base.specs.lemmas.Table.{shown_or, wrong_or}
+use Rattle.npr_base.specs.lemmas.Bool.{both, one_of}
+use Rattle.npr_base.specs.lemmas.Looks.{adds-at}
 use Rattle.npr_base.specs.Value.{Shown, Shows, Misshown, IsWhole}
 use Rattle.npr_base.specs.declared.refusal.At.{At}
 use Rattle.npr_base.specs.declared.refusal.DecodeError.{DecodeError}
@@ -175,37 +175,3 @@ numbers-in (Fs ∷ Gs ∷ Fss) rows h x (inr m) reads =
     let behind = second_so (number_of rows.0.at.number == rows.0.at.number) (taken && numbered (Gs ∷ Fss) rows.1) h in
     one_of (number_of x.kind == rows.0.at.number) (λ is none. absurd none)
     (λ is r. numbers-in (Gs ∷ Fss) rows.1 (second_so taken (numbered (Gs ∷ Fss) rows.1) behind) x m r) reads
-
--- ---- attributes inside values
-
-module _ {A M P : Type 0} {v : Writing A} {w : Writing M} {u : Writing P} (number : ℕ) (f : Reading v) (g : Reading w) (sides : Sides number f g)
-    (h : Reading u) where
-  abbrev both_sides : Reading (side_writing v w)
-  both_sides = beside number f g sides
-
-  has_same : (x : Item) (k : ℕ) (b : Bool) → number_of x.kind ≡ k → (k == number) ≡ b → has number x ≡ b
-  has_same x k b is e = ap (λ (n : ℕ). n == number) is ∙ e
-
-  own-down : (x : Item) (m : A ⊎ M) → has number x ≡ true → SideReads number f g x m → (a : A) × f.Reads x a
-  own-down x (inl a) is p = (a, one_of (has number x) (λ e r. r) (λ e r. absurd r) p)
-  own-down x (inr m) is p = absurd (rw is at p)
-
-  others-down : (x : Item) (m : A ⊎ M) → has number x ≡ false → SideReads number f g x m → (n : M) × g.Reads x n
-  others-down x (inl a) is p = absurd (rw is at p)
-  others-down x (inr m) is p = (m, one_of (has number x) (λ e r. absurd r) (λ e r. r) p)
-
-  pub opens-own : (front : ℕ) (bytes : List ℕ) → (number == number) ≡ true → Opens f h number front bytes → Opens both_sides h number front bytes
-  opens-own front bytes own o = record {
-    long = o.long;
-    down = λ x m k b p. let a = own-down x m (has_same x number true k own) p in o.down x a.0 k b a.1;
-    up = λ x ps k b p. let a = o.up x ps k b p in (inl a.0, rw (has_same x number true k own) a.1);
-    fault = λ x e k b p. rw (has_same x number true k own) (o.fault x e k b p);
-  }
-
-  pub opens-others : (k front : ℕ) (bytes : List ℕ) → (k == number) ≡ false → Opens g h k front bytes → Opens both_sides h k front bytes
-  opens-others k front bytes other o = record {
-    long = o.long;
-    down = λ x m e b p. let n = others-down x m (has_same x k false e other) p in o.down x n.0 e b n.1;
-    up = λ x ps e b p. let n = o.up x ps e b p in (inr n.0, rw (has_same x k false e other) n.1);
-    fault = λ x r e b p. rw (has_same x k false e other) (o.fault x r e b p);
-  }

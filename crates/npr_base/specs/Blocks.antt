@@ -10,8 +10,8 @@ use Rattle.std.proofs.lemmas.Bool.{cases_lt}
 use Rattle.std.proofs.lemmas.List.{take_at, drop_at, take-append-drop}
 use Rattle.npr_base.specs.Framing.{IsBytes, framed}
 use Rattle.npr_base.specs.Lists.{AllOf, joined}
-use Rattle.npr_base.specs.ListLaws.{IsBytes-take, IsBytes-right}
-use Rattle.npr_base.specs.CodecLaws.{framed-grows}
+use Rattle.npr_base.specs.lemmas.List.{IsBytes-take, IsBytes-right}
+use Rattle.npr_base.specs.lemmas.Codec.{framed-grows}
 use Rattle.npr_base.specs.Layout.{Layout}
 use Rattle.npr_base.specs.Codec.{Codec, no_members}
 use Rattle.npr_base.specs.declared.value.Form.TheVariants.{Raw}

@@ -4,13 +4,14 @@
 use Rattle.std.specs.Prelude.{◌≡◌, ℕ, ◌+◌, ◌*◌, ◌≤◌, ◌<◌, ◌^◌, length, None}
 use Rattle.std.proofs.Common.{refl, sym, ap, subst, ◌∙◌, arith}
 use Rattle.npr_base.specs.Codec.{Codec}
-use Rattle.npr_base.specs.CodecLaws.{framed-grows}
+use Rattle.npr_base.specs.lemmas.Codec.{framed-grows}
 use Rattle.npr_base.specs.Counts.{Counts, SawEach}
 use Rattle.npr_base.specs.Family.{Reading, written_by, unfit_by}
-use Rattle.npr_base.specs.FitLaws.{unfit_of-none}
+use Rattle.npr_base.specs.lemmas.Fit.{unfit_of-none}
 use Rattle.npr_base.specs.Framing.{Item, Proper, framed, number_of}
 use Rattle.npr_base.specs.Looks.{Looking, Inside, nothing, looked_through, TakesInside}
-use Rattle.npr_base.specs.LooksLaws.{no_looking, none-most, none-saw}
+use Rattle.npr_base.specs.lemmas.Looks.{none-most, none-saw}
+use Rattle.npr_base.specs.Looking.{no_looking}
 use Rattle.npr_base.specs.Table.{Slot, slot_plain, slot_other, slot_unfit, slot_members, slot_sees, item_of, plain_item, writing_by, seen_by}
 use Rattle.npr_base.specs.Value.{Shown, Shows}
 use Rattle.npr_base.specs.declared.refusal.At.{At}

@@ -9,10 +9,10 @@ use Rattle.npr_base.specs.Framing.{IsBytes, framed}
 use Rattle.npr_base.specs.Layout.{Layout}
 use Rattle.npr_base.specs.Showing.{Showing, shows_bytes}
 use Rattle.npr_base.specs.Looks.{Inside, nothing, TakesInside}
-use Rattle.npr_base.specs.LooksLaws.{none-most, none-saw}
-use Rattle.npr_base.specs.CodecLaws.{exactly-one, exactly-sound, exactly-holds, exactly-back, exactly-grows, exactly-showing}
-use Rattle.npr_base.specs.CodecLaws.{leading-one, leading-sound, leading-holds, leading-back, leading-grows, leading-showing}
-use Rattle.npr_base.specs.CodecLaws.{raw-grows}
+use Rattle.npr_base.specs.lemmas.Looks.{none-most, none-saw}
+use Rattle.npr_base.specs.lemmas.Codec.{exactly-one, exactly-sound, exactly-holds, exactly-back, exactly-grows, exactly-showing}
+use Rattle.npr_base.specs.lemmas.Codec.{leading-one, leading-sound, leading-holds, leading-back, leading-grows, leading-showing}
+use Rattle.npr_base.specs.lemmas.Codec.{raw-grows}
 use Rattle.std.proofs.Common.{refl, sym, ◌∙◌, subst}
 
 -- the attributes inside values that are read so: how many, at all depths, and the looks that reading takes at their headers,

@@ -25,11 +25,10 @@ use Rattle.npr_base.specs.declared.value.Form.TheVariants.{Raw}
 use Rattle.npr_base.specs.Codec.{Codec}
 use Rattle.npr_base.specs.Framing.{Item, marked, number_of}
 use Rattle.npr_base.specs.Looks.{Looking}
-use Rattle.npr_base.specs.LooksLaws.{no_looking}
+use Rattle.npr_base.specs.Looking.{no_looking, looking_inside}
 use Rattle.npr_base.specs.Refusal.{at_number}
-use Rattle.npr_base.specs.Family.{Shape}
-use Rattle.npr_base.specs.Table.{Row, Slot, slot_plain, slot_other, shape_at}
-use Rattle.npr_base.specs.TableLaws.{looking_inside}
+use Rattle.npr_base.specs.Family.{Shape, Writing}
+use Rattle.npr_base.specs.Table.{Row, Slot, IsSlot, slot_plain, slot_other, shape_at, writing_by}
 use denote.Struct.Field.{Field}
 use denote.Struct.Values.{Values}
 use denote.Enum.Declared.{Record, Choice}
@@ -237,3 +236,14 @@ pub record EnumTable (N : Record) : Type 1 where
 
 abbrev pub table_of : (N : Record) (rows : VariantRows N.parts × Names N.D N.parts) → numbered N.parts rows.0 ≡ true → IsNamed N rows.1 → EnumTable N
 table_of N rows apart named = record { rows = rows.0; names = rows.1; apart = apart; named = named }
+
+-- how meanings are written
+abbrev pub writing_in : (Fss : List (List Field)) (rows : VariantRows Fss) → Writing (MeaningIn Fss rows)
+writing_in Fss rows = writing_by (slot_in Fss rows)
+
+-- the rows, and which meanings have bytes that are read as them
+abbrev pub all_rows : (Fss : List (List Field)) (rows : VariantRows Fss) → List (Row (MeaningIn Fss rows))
+all_rows Fss rows = rows_in Fss rows (λ m. m)
+
+abbrev pub CoherentIn : (Fss : List (List Field)) (rows : VariantRows Fss) → MeaningIn Fss rows → Type 0
+CoherentIn Fss rows m = IsSlot (all_rows Fss rows) (slot_in Fss rows m)

@@ -4,10 +4,12 @@ use Rattle.npr_base.specs.declared.refusal.DecodeError.{DecodeError}
 use Rattle.npr_base.specs.declared.refusal.EmitError.{EmitError}
 use Rattle.npr_base.specs.Framing.{Item, Small, Proper, framed, written}
 use Rattle.npr_base.specs.Lists.{unfit_of}
-use Rattle.npr_base.specs.FitLaws.{unfit_of-short}
+use Rattle.npr_base.specs.lemmas.Fit.{unfit_of-short}
 use Rattle.npr_base.specs.Counts.{Counts, AddsAtMost, SawEach}
-use Rattle.npr_base.specs.Looks.{Looking}
+use Rattle.npr_base.specs.Looks.{Looking, ListLooks}
 use Rattle.npr_base.specs.Showing.{Seeing}
+use Rattle.std.proofs.Common.{◌≡◌, ℕ, ◌*◌, ◌+◌, ◌≤◌, List, length}
+use Rattle.npr_base.specs.lemmas.Looks.{list-one, list-adds}
 
 -- what is written of a value as an attribute: its kind and value, whether NESTED is set in the kind besides, and why what is
 -- inside can't be written, if so
@@ -76,3 +78,11 @@ shaped f a = f.writing.shape (f.meaning a)
 -- what can be read and fits is an attribute that a text can hold
 pub fits-small : {M : Type 0} {w : Writing M} (r : Reading w) (m : M) → r.Coherent m → unfit_by w m ≡ None → Small (written_by w m)
 fits-small {M} {w} r m c h = record { kind = r.kinds m c; value = unfit_of-short (w.shape m).unfit (w.shape m).item h }
+
+-- a list of attributes of a family
+abbrev pub list_looking : {M : Type 0} {w : Writing M} → Reading w → Looking (List ℕ)
+list_looking f = record {
+  Takes = ListLooks f.Reads f.Faulty f.looks.Takes;
+  one = λ bytes old new other p q. list-one f.Reads f.Faulty f.looks.Takes f.no_fault f.looks.one bytes old new other p q;
+  adds = λ bytes old new p. list-adds f.Reads f.Faulty f.looks.Takes f.looks.adds bytes old new p;
+}

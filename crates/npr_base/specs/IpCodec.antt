@@ -8,7 +8,7 @@ use Rattle.npr_base.specs.declared.ip.IpAddr.{IpAddr}
 use Rattle.npr_base.specs.declared.ip.IpAddr.TheVariants.{V4, V6}
 use Rattle.npr_base.specs.declared.value.Form.TheVariants.{Ip as IpForm}
 use Rattle.npr_base.specs.Framing.{IsBytes, framed}
-use Rattle.npr_base.specs.CodecLaws.{framed-grows}
+use Rattle.npr_base.specs.lemmas.Codec.{framed-grows}
 use Rattle.npr_base.specs.Ip.{IsIp, octets_of}
 use Rattle.npr_base.specs.Showing.{Showing}
 use Rattle.npr_base.specs.Value.{is_address}

@@ -9,7 +9,7 @@ use Rattle.npr_base.specs.declared.value.Form.TheVariants.{Byte, Boolean, Signed
 use Rattle.npr_base.specs.declared.value.Form.TheVariants.{Octets4, Octets16, Exactly}
 use Rattle.npr_base.specs.Framing.{IsBytes}
 use Rattle.npr_base.specs.Numbering.{Numbering, IsFormed, of_IsFormed}
-use Rattle.npr_base.specs.LayoutLaws.{le16-holds, le32-holds, le64-holds, be16-holds, be32-holds, be64-holds, signed32-back, signed32-holds}
+use Rattle.npr_base.specs.lemmas.Layout.{le16-holds, le32-holds, le64-holds, be16-holds, be32-holds, be64-holds, signed32-back, signed32-holds}
 use Rattle.npr_base.specs.Value.{Shown, is_number, is_signed, is_truth, is_address, is_structure, Shows, Misshown, Sized, Missized}
 use Rattle.std.proofs.Common.{arith, refl, sym, ap, subst, ◌∙◌}
 use Rattle.std.proofs.lemmas.Nat.{from_le_bytes-to_le_bytes_2, from_le_bytes-to_le_bytes_4, from_le_bytes-to_le_bytes_8}

@@ -1,14 +1,14 @@
 -- A list of attributes of another set as a value, and what names the set.
 use Rattle.std.specs.Prelude.{List, length}
 use Rattle.npr_base.specs.Lists.{AllOf, ReadsList, FirstFault, encodings, first_unfit, list_unfit, list_members, overlong}
-use Rattle.npr_base.specs.FitLaws.{none_both}
-use Rattle.npr_base.specs.ListLaws.{ReadsList-one, FirstFault-excludes, ReadsList-known, encodings-read, list-grows}
+use Rattle.npr_base.specs.lemmas.Fit.{none_both}
+use Rattle.npr_base.specs.lemmas.List.{ReadsList-one, FirstFault-excludes, ReadsList-known, encodings-read, list-grows}
 use Rattle.npr_base.specs.Codec.{Codec}
 use Rattle.npr_base.specs.declared.refusal.AttributeSet.{AttributeSet}
 use Rattle.npr_base.specs.Showing.{shows_list}
-use Rattle.npr_base.specs.LookBounds.{list_looking, list-bounded, list-saw}
+use Rattle.npr_base.specs.lemmas.LookBounds.{list-bounded, list-saw}
+use Rattle.npr_base.specs.Family.{list_looking, Writing, Reading, fits-small, written_by, unfit_by}
 use Rattle.npr_base.specs.Looks.{looked_through}
-use Rattle.npr_base.specs.Family.{Writing, Reading, fits-small, written_by, unfit_by}
 
 abbrev pub list_of : {M : Type 0} {w : Writing M} → AttributeSet → Reading w → Codec (List M)
 list_of {M} {w} set f = record {

@@ -5,13 +5,13 @@ use Rattle.npr_base.specs.declared.refusal.DecodeError.TheVariants.{HeaderTooSho
 use Rattle.npr_base.specs.declared.refusal.EmitError.{EmitError}
 use Rattle.npr_base.specs.Framing.{IsBytes}
 use Rattle.npr_base.specs.Lists.{AllOf, ReadsList, FirstFault, encodings, first_unfit, list_members, option_or, overlong}
-use Rattle.npr_base.specs.ListLaws.{ReadsList-one, FirstFault-excludes, ReadsList-known, encodings-read, ReadsList-grows}
+use Rattle.npr_base.specs.lemmas.List.{ReadsList-one, FirstFault-excludes, ReadsList-known, encodings-read, ReadsList-grows}
 use Rattle.npr_base.specs.Layout.{Layout}
 use Rattle.npr_base.specs.Looks.{Looking}
-use Rattle.npr_base.specs.LookBounds.{list_looking, list-saw, family-bounded}
+use Rattle.npr_base.specs.lemmas.LookBounds.{list-saw, family-bounded}
+use Rattle.npr_base.specs.Family.{list_looking, Writing, Reading, Family, fits-small, written_by, unfit_by}
 use Rattle.npr_base.specs.Counts.{Counts, AddsAtMostTwice, SawEach}
 use Rattle.npr_base.specs.Walk.{Searched}
-use Rattle.npr_base.specs.Family.{Writing, Reading, Family, fits-small, written_by, unfit_by}
 use Rattle.npr_base.specs.declared.message.Message.{Message as MessageInMemory}
 use Rattle.std.proofs.Common.{arith}
 

@@ -10,7 +10,7 @@ use Rattle.std.proofs.lemmas.List.{get_or-append-add}
 use Rattle.npr_base.specs.Fields.{Field, byte-behind, le32-behind, first-back}
 use Rattle.npr_base.specs.Framing.{IsBytes}
 use Rattle.npr_base.specs.Layout.{le32_at, le32_at-holds}
-use Rattle.npr_base.specs.LayoutLaws.{signed32-back}
+use Rattle.npr_base.specs.lemmas.Layout.{signed32-back}
 
 abbrev pub signed_four : Field ℤ
 signed_four = record {

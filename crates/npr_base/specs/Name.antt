@@ -7,7 +7,7 @@ use Rattle.npr_base.specs.Codec.{Codec, no_members}
 use Rattle.npr_base.specs.Showing.{Showing}
 use Rattle.npr_base.specs.Value.{is_name}
 use Rattle.npr_base.specs.declared.value.Form.TheVariants.{Name as NameForm}
-use Rattle.npr_base.specs.NameLaws.{name-one, name-grows}
+use Rattle.npr_base.specs.lemmas.Name.{name-one, name-grows}
 pub use Rattle.npr_base.specs.NameText.{IsName, IsNoName}
 
 abbrev pub name_showing : Showing IsName (λ at bytes e. IsNoName bytes × (e ≡ NotUtf8 at))

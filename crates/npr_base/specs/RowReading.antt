@@ -9,7 +9,7 @@ use Rattle.npr_base.specs.Counts.{Counts}
 use Rattle.npr_base.specs.EnumTable.{EnumTable, VariantRows, ReadsIn, WrongIn, meaning_in, looks_in}
 use Rattle.npr_base.specs.Framing.{Item, number_of}
 use Rattle.npr_base.specs.Looks.{Looking, Inside, nothing, looked_through}
-use Rattle.npr_base.specs.TableLaws.{looking_inside}
+use Rattle.npr_base.specs.Looking.{looking_inside}
 use Rattle.npr_base.specs.declared.refusal.DecodeError.{DecodeError}
 use denote.Enum.Declared.{Record}
 use denote.Struct.Field.{Field}

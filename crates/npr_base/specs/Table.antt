@@ -1,7 +1,7 @@
 -- Tables of numbers: how the attributes of a family are read and written by rows.
 use Rattle.std.specs.Prelude.{◌≡◌, ℕ, ◌<◌, ◌^◌, ◌==◌, Bool, true, false, List, [], ◌∷◌, Option, None, if◌then◌else◌}
 use Rattle.std.specs.Bool.{MatchBool}
-use Rattle.std.proofs.Common.{refl}
+use Rattle.std.proofs.Common.{refl, ◌≡◌, ℕ, ◌<◌, ◌^◌, Bool, true, false, List, ◌∷◌}
 use Rattle.npr_base.specs.declared.refusal.At.{At}
 use Rattle.npr_base.specs.declared.refusal.AttributeSet.{AttributeSet}
 use Rattle.npr_base.specs.declared.refusal.DecodeError.{DecodeError}
@@ -14,6 +14,8 @@ use Rattle.npr_base.specs.Family.{Shape, Writing, written_by}
 use Rattle.npr_base.specs.Codec.{Codec, raw}
 use Rattle.npr_base.specs.Refusal.{at_number}
 use Rattle.npr_base.specs.Value.{Shown, are_bytes}
+use Rattle.npr_base.specs.Looks.{Looking}
+use Rattle.npr_base.specs.Looking.{no_looking, looking_inside}
 
 -- a row of a table: where it stands, how its values are read and written, and what they mean
 pub record Row (M : Type 0) : Type 1 where
@@ -180,3 +182,8 @@ table_with rows other slot_of Coherent aligned other_is other_coherent kinds bac
   kinds = kinds;
   back = back;
 }
+
+-- those of a table are those inside the values of its rows
+abbrev pub looks_of : {M : Type 0} → List (Row M) → Looking Item
+looks_of [] = no_looking
+looks_of (r ∷ rows) = looking_inside r.at.number r.codec.members.looks (looks_of rows)

@@ -11,7 +11,9 @@
 use Rattle.std.specs.Prelude.{◌≡◌, ℕ, Bool, false, Option}
 use Rattle.std.specs.Bool.{Decides}
 use Rattle.npr_base.specs.EnumTable.{MeaningIn, meaning_in, other_in, slot_in, shape_in, ReadsIn, EachRow, by_row}
-use Rattle.npr_base.specs.EnumTableLaws.{all_rows, writing_in, attributes_in, rows-read, shape-in, FieldsDecide, choices-decide}
+use Rattle.npr_base.specs.EnumTable.{all_rows, writing_in}
+use Rattle.npr_base.specs.EnumFamily.{attributes_in}
+use Rattle.npr_base.specs.lemmas.EnumTable.{rows-read, shape-in, FieldsDecide, choices-decide}
 use Rattle.npr_base.specs.EnumTableValues.{ValueIn, value_in, found_in}
 use Rattle.npr_base.specs.Framing.{Item, number_of}
 use Rattle.npr_base.specs.Family.{Writing}

@@ -9,7 +9,7 @@ ghost use Rattle.npr_base.specs.{
   Ip.{octets_of},
   IpCodec.{ip},
   Name.{name},
-  NameLaws.{IsUnterminated},
+  NameText.{IsUnterminated},
   Refusal.{no_place},
 };
 

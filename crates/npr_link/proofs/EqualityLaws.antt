@@ -7,12 +7,12 @@ use Rattle.std.specs.String.{string_bytes}
 use Rattle.std.proofs.Common.{◌≡◌, ◌+◌, refl, ap, inl, inr}
 use Rattle.npr_base.specs.Equality.{IsEqualityOf}
 use Rattle.npr_base.specs.EnumTable.{◌also◌}
-use Rattle.npr_base.specs.FieldEquality.{one, list, number, truth, bytes, kept}
+use Rattle.npr_base.proofs.FieldEquality.{one, list, number, truth, bytes, kept}
 use Rattle.npr_base.specs.Framing.{Item}
 use Rattle.npr_base.specs.Message.{View}
-use Rattle.npr_base.specs.IpLaws.{ipv6_equality}
-use Rattle.npr_base.specs.MeaningLaws.{enum_meaning, one_meaning, items_equality, items_meaning, text_equality}
-use Rattle.npr_base.specs.StructLaws.{◌beside◌, and_decides, decides_as}
+use Rattle.npr_base.proofs.IpLaws.{ipv6_equality}
+use Rattle.npr_base.proofs.MeaningLaws.{enum_meaning, one_meaning, items_equality, items_meaning, text_equality}
+use Rattle.npr_base.proofs.StructLaws.{◌beside◌, and_decides, decides_as}
 use Rattle.npr_base.specs.Tables.{table_decides}
 use Rattle.npr_link.specs.AfSpecInet as OfAfSpecInet
 use Rattle.npr_link.specs.contracts.af_spec_inet.AfSpecInetPartialEq.TheImpl as InetEq
@@ -78,24 +78,14 @@ use Rattle.npr_link.specs.Peer.{peer_of, peers}
 use Rattle.npr_link.specs.Governing.{none_governs}
 use Rattle.npr_link.specs.AfSpecs.{as_list, unspec, bridge, unknown}
 use Rattle.npr_link.specs.ProtoInfos as OfProto
-use Rattle.npr_base.specs.EnumTableLaws.{choices-decide}
-use Rattle.npr_base.specs.Firsts.{head_of, first-decides}
+use Rattle.npr_base.specs.lemmas.EnumTable.{choices-decide}
+use Rattle.npr_base.proofs.Firsts.{head_of, first-decides}
 use Rattle.npr_link_bridge.specs.AfSpecBridge as OfAfSpecBridge
 use Rattle.npr_link.proofs.ValueEquality.{address_mode_equality, attachment_equality, cache_info_equality, extent_mask_equality, inet6_flags_equality}
 use Rattle.npr_link.proofs.ValueEquality.{link_event_equality, link_mode_equality, map_equality, state_equality, vlan_flags_equality, header_equality}
-use Rattle.npr_link_bridge.specs.EqualityLaws.{vlan_protocol_equality, bridge_equality, bridge_port_equality, af_spec_bridge_equality}
-use Rattle.npr_link_numbers.specs.declared.inet_devconf.InetDevConf.{InetDevConf}
-use Rattle.npr_link_numbers.specs.contracts.inet_devconf.InetDevConfPartialEq.TheImpl as InetDevConfEq
-use Rattle.npr_link_numbers.specs.declared.inet6_devconf.Inet6DevConf.{Inet6DevConf}
-use Rattle.npr_link_numbers.specs.contracts.inet6_devconf.Inet6DevConfPartialEq.TheImpl as Inet6DevConfEq
-use Rattle.npr_link_numbers.specs.declared.inet6_stats.Inet6Stats.{Inet6Stats}
-use Rattle.npr_link_numbers.specs.contracts.inet6_stats.Inet6StatsPartialEq.TheImpl as Inet6StatsEq
-use Rattle.npr_link_numbers.specs.declared.inet6_icmp.Icmp6Stats.{Icmp6Stats}
-use Rattle.npr_link_numbers.specs.contracts.inet6_icmp.Icmp6StatsPartialEq.TheImpl as Icmp6StatsEq
-use Rattle.npr_link_numbers.specs.declared.stats.Stats.{Stats}
-use Rattle.npr_link_numbers.specs.contracts.stats.StatsPartialEq.TheImpl as StatsEq
-use Rattle.npr_link_numbers.specs.declared.stats64.Stats64.{Stats64}
-use Rattle.npr_link_numbers.specs.contracts.stats64.Stats64PartialEq.TheImpl as Stats64Eq
+use Rattle.npr_link_bridge.proofs.EqualityLaws.{vlan_protocol_equality, bridge_equality, bridge_port_equality, af_spec_bridge_equality}
+use Rattle.npr_link_numbers.proofs.EqualityLaws.{stats_equality, stats64_equality, inet_devconf_equality}
+use Rattle.npr_link_numbers.proofs.EqualityLaws.{inet6_devconf_equality, inet6_stats_equality, icmp6_stats_equality}
 use denote.Enum.Declared.{Choice}
 use denote.Struct.Values.{Values}
 
@@ -104,37 +94,17 @@ use denote.Struct.Values.{Values}
 two_numbers : (x y : ℕ × (ℕ × Unit {0})) → Decides ((x.0 == y.0) && (x.1.0 == y.1.0)) (◌≡◌ {A = ℕ × ℕ} (x.0, x.1.0) (y.0, y.1.0))
 two_numbers x y = (unsigned_Decides beside unsigned_Decides) (x.0, x.1.0) (y.0, y.1.0)
 
--- ---- numbers of any kernel
-
-inet_conf_equality : IsEqualityOf (λ (x : InetDevConf). x.numbers.items) InetDevConfEq.ghosts.eq
-inet_conf_equality a b = items_equality signed_Decides a.numbers b.numbers
-
-inet6_conf_equality : IsEqualityOf (λ (x : Inet6DevConf). x.numbers.items) Inet6DevConfEq.ghosts.eq
-inet6_conf_equality a b = items_equality signed_Decides a.numbers b.numbers
-
-inet6_stats_equality : IsEqualityOf (λ (x : Inet6Stats). x.numbers.items) Inet6StatsEq.ghosts.eq
-inet6_stats_equality a b = items_equality signed_Decides a.numbers b.numbers
-
-icmp6_stats_equality : IsEqualityOf (λ (x : Icmp6Stats). x.numbers.items) Icmp6StatsEq.ghosts.eq
-icmp6_stats_equality a b = items_equality signed_Decides a.numbers b.numbers
-
-stats_equality : IsEqualityOf (λ (x : Stats). x.numbers.items) StatsEq.ghosts.eq
-stats_equality a b = items_equality unsigned_Decides a.numbers b.numbers
-
-stats64_equality : IsEqualityOf (λ (x : Stats64). x.numbers.items) Stats64Eq.ghosts.eq
-stats64_equality a b = items_equality unsigned_Decides a.numbers b.numbers
-
 -- ---- families
 
 pub inet_equality : IsEqualityOf OfAfSpecInet.family.meaning InetEq.ghosts.eq
 inet_equality =
     table_decides OfAfSpecInet.table _
-    (one inet_conf_equality also kept also tt)
+    (one inet_devconf_equality also kept also tt)
 
 pub inet6_equality : IsEqualityOf OfAfSpecInet6.family.meaning Inet6Eq.ghosts.eq
 inet6_equality =
     table_decides OfAfSpecInet6.table _
-    (one inet6_flags_equality also one inet6_conf_equality also one inet6_stats_equality also one cache_info_equality also
+    (one inet6_flags_equality also one inet6_devconf_equality also one inet6_stats_equality also one cache_info_equality also
     one icmp6_stats_equality also one ipv6_equality also one address_mode_equality also number also kept also tt)
 
 pub af_spec_equality : IsEqualityOf OfAfSpec.family.meaning AfSpecEq.ghosts.eq

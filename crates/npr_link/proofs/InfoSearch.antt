@@ -8,7 +8,8 @@ use Rattle.npr_base.specs.declared.refusal.DecodeError.{DecodeError}
 use Rattle.npr_base.specs.declared.refusal.DecodeError.TheVariants.{OutOfMemory}
 use Rattle.npr_base.specs.Framing.{Item, number_of}
 use Rattle.npr_base.specs.Lists.{ReadsList, FirstFault}
-use Rattle.npr_base.specs.NameLaws.{IsUnterminated, name-one}
+use Rattle.npr_base.specs.NameText.{IsUnterminated}
+use Rattle.npr_base.specs.lemmas.Name.{name-one}
 use Rattle.npr_link.specs.Governing.{Forms, told_by, Searches}
 use Rattle.npr_link.specs.Info.{attributes, family}
 use Rattle.npr_link.specs.InfoList.{IsInfoList, InfoListFault, read-searched, fault-searched}

@@ -1,4 +1,5 @@
 mod Absent
+mod Cloned
 mod EqualityLaws
 mod HeaderFamilies
 mod InfoSearch

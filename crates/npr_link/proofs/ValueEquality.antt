@@ -1,10 +1,10 @@
 -- What `==` answers of the values of links that hold no vector and no text: whether they are equal.
 use Rattle.std.specs.Cmp.{signed_Decides, unsigned_Decides}
 use Rattle.std.proofs.Common.{refl, rules}
-use Rattle.npr_base.specs.AddressFamilyLaws.{family_equality}
+use Rattle.npr_base.proofs.AddressFamilyLaws.{family_equality}
 use Rattle.npr_base.specs.Equality.{IsEquality}
-use Rattle.npr_base.specs.EqualityLaws.{enum_equality, one_equality}
-use Rattle.npr_base.specs.StructLaws.{◌beside◌, struct_equality}
+use Rattle.npr_base.proofs.EqualityLaws.{enum_equality, one_equality}
+use Rattle.npr_base.proofs.StructLaws.{◌beside◌, struct_equality}
 use Rattle.npr_link.specs.contracts.address_mode.In6AddrGenMode.{enum as address_mode_enum}
 use Rattle.npr_link.specs.contracts.address_mode.In6AddrGenModePartialEq.TheImpl as AddressModeEq
 use Rattle.npr_link.specs.contracts.layer_type.LinkLayerType.{enum as layer_type_enum}

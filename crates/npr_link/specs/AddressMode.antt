@@ -4,7 +4,7 @@ use Rattle.std.proofs.Common.{refl}
 use Rattle.npr_base.specs.Layout.{Layout, byte, formed}
 use Rattle.npr_base.specs.Numbering.{Numbering}
 use Rattle.npr_base.specs.Rows.{Named, numbered, text_in}
-use Rattle.npr_base.specs.RowLaws.{enumeration}
+use Rattle.npr_base.specs.Enumeration.{enumeration}
 use Rattle.npr_base.specs.Text.{other_text}
 use Rattle.npr_link.specs.declared.address_mode.In6AddrGenMode.{In6AddrGenMode}
 use Rattle.npr_link.specs.declared.address_mode.In6AddrGenMode.TheVariants.{Eui64, None, StablePrivacy, Random, Other}

@@ -1,5 +1,5 @@
 -- The attributes of a link message (linux/if_link.h, IFLA_*), by their table under the header's family.
-use Rattle.npr_base.specs.declared.refusal.AttributeSet.TheVariants.{Link as AtAttribute, LinkXdp as AtXdp, Prop as AtProp, LinkProtocolDownReason as AtReason}
+use Rattle.npr_base.specs.declared.refusal.AttributeSet.TheVariants.{Link as AtLink, LinkXdp as AtXdp, Prop as AtProp, LinkProtocolDownReason as AtReason}
 use Rattle.std.specs.Prelude.{◌≡◌, ℕ, ◌==◌, ◌||◌, ◌⊎◌, Bool, true, false, List, drop, map, if◌then◌else◌}
 use Rattle.std.proofs.Common.{inl, inr, ap, ◌∙◌}
 use Rattle.npr_base.specs.Beside.{beside, has, numbers-in, Sides, side_writing}
@@ -7,7 +7,9 @@ use Rattle.npr_base.specs.declared.address_family.AddressFamily.{AddressFamily}
 use Rattle.npr_base.specs.Counts.{Counts}
 use Rattle.npr_base.specs.declared.refusal.DecodeError.{DecodeError}
 use Rattle.npr_base.specs.EnumTable.{VariantRows, Names, IsNamed, MeaningIn, meaning_in, shape_in, numbered, ReadsIn, WrongIn, looks_in}
-use Rattle.npr_base.specs.EnumTableLaws.{writing_in, attributes_in, rewritten, shape-in}
+use Rattle.npr_base.specs.EnumTable.{writing_in}
+use Rattle.npr_base.specs.EnumFamily.{attributes_in, rewritten}
+use Rattle.npr_base.specs.lemmas.EnumTable.{shape-in}
 use Rattle.npr_base.specs.Family.{Writing, Shape, family_of, written_as, written_by}
 use Rattle.npr_base.specs.Framing.{Item, number_of}
 use Rattle.npr_base.specs.LeftOut.{retold}
@@ -25,6 +27,8 @@ use Rattle.npr_link.specs.InfoList.{info_list}
 use Rattle.npr_link.specs.LinkEvent.{link_event}
 use Rattle.npr_link.specs.LinkMode.{link_mode}
 use Rattle.npr_link.specs.Map.{device_map}
+use Rattle.npr_link_numbers.specs.Grown.{grown, parts}
+use Rattle.npr_link_numbers.specs.Names.{stats, stats64}
 use Rattle.npr_link_numbers.specs.Numbers.{words32, words64}
 use Rattle.npr_link.specs.Prop as OfProp
 use Rattle.npr_link.specs.ProtoInfos.{ProtoInfos, inet6 as proto_inet6, bridge as proto_bridge, unknown as proto_unknown}
@@ -51,69 +55,69 @@ flat = drop 7 enum.parts
 -- their rows, in the order of the variants
 abbrev pub flat_rows : VariantRows flat × Names LinkAttribute flat
 flat_rows =
-    row AtAttribute 1 raw (items LinkAttribute.Address)  -- IFLA_ADDRESS
-    or row AtAttribute 2 raw (items LinkAttribute.Broadcast)  -- IFLA_BROADCAST
-    or row AtAttribute 3 name (text LinkAttribute.IfName)  -- IFLA_IFNAME
-    or row AtAttribute 4 (exactly le32) (value LinkAttribute.Mtu)  -- IFLA_MTU
-    or row AtAttribute 5 (exactly le32) (value LinkAttribute.Link)  -- IFLA_LINK
-    or row AtAttribute 6 name (text LinkAttribute.Qdisc)  -- IFLA_QDISC
-    or row AtAttribute 7 words32 (seen (λ x. x.numbers.items) LinkAttribute.Stats)  -- IFLA_STATS
-    or row AtAttribute 10 (exactly le32) (value LinkAttribute.Controller)  -- IFLA_MASTER
-    or row AtAttribute 13 (exactly le32) (value LinkAttribute.TxQueueLen)  -- IFLA_TXQLEN
-    or row AtAttribute 14 (leading device_map) (value LinkAttribute.Map)  -- IFLA_MAP
-    or row AtAttribute 16 (exactly state) (value LinkAttribute.OperState)  -- IFLA_OPERSTATE
-    or row AtAttribute 17 (exactly link_mode) (value LinkAttribute.Mode)  -- IFLA_LINKMODE
-    or row AtAttribute 19 (exactly le32) (value LinkAttribute.NetNsPid)  -- IFLA_NET_NS_PID
-    or row AtAttribute 20 name (text LinkAttribute.IfAlias)  -- IFLA_IFALIAS
-    or row AtAttribute 21 (exactly le32) (value LinkAttribute.NumVf)  -- IFLA_NUM_VF
-    or row AtAttribute 23 words64 (seen (λ x. x.numbers.items) LinkAttribute.Stats64)  -- IFLA_STATS64
-    or row AtAttribute 27 (exactly le32) (value LinkAttribute.Group)  -- IFLA_GROUP
-    or row AtAttribute 28 (exactly signed32) (value LinkAttribute.NetNsFd)  -- IFLA_NET_NS_FD
-    or row AtAttribute 29 (exactly extent_mask) (value LinkAttribute.ExtMask)  -- IFLA_EXT_MASK
-    or row AtAttribute 30 (exactly le32) (value LinkAttribute.Promiscuity)  -- IFLA_PROMISCUITY
-    or row AtAttribute 31 (exactly le32) (value LinkAttribute.NumTxQueues)  -- IFLA_NUM_TX_QUEUES
-    or row AtAttribute 32 (exactly le32) (value LinkAttribute.NumRxQueues)  -- IFLA_NUM_RX_QUEUES
-    or row AtAttribute 33 (exactly byte) (value LinkAttribute.Carrier)  -- IFLA_CARRIER
-    or row AtAttribute 34 raw (items LinkAttribute.PhysPortId)  -- IFLA_PHYS_PORT_ID
-    or row AtAttribute 35 (exactly le32) (value LinkAttribute.CarrierChanges)  -- IFLA_CARRIER_CHANGES
-    or row AtAttribute 36 raw (items LinkAttribute.PhysSwitchId)  -- IFLA_PHYS_SWITCH_ID
-    or row AtAttribute 37 (exactly signed32) (value LinkAttribute.LinkNetNsId)  -- IFLA_LINK_NETNSID
-    or row AtAttribute 38 name (text LinkAttribute.PhysPortName)  -- IFLA_PHYS_PORT_NAME
-    or row AtAttribute 39 (exactly byte) (value LinkAttribute.ProtoDown)  -- IFLA_PROTO_DOWN
-    or row AtAttribute 40 (exactly le32) (value LinkAttribute.GsoMaxSegs)  -- IFLA_GSO_MAX_SEGS
-    or row AtAttribute 41 (exactly le32) (value LinkAttribute.GsoMaxSize)  -- IFLA_GSO_MAX_SIZE
-    or row AtAttribute 43 (list_of AtXdp OfXdp.attributes) (listed OfXdp.family.meaning LinkAttribute.Xdp)  -- IFLA_XDP
-    or row AtAttribute 44 (exactly link_event) (value LinkAttribute.Event)  -- IFLA_EVENT
-    or row AtAttribute 45 (exactly signed32) (value LinkAttribute.NewNetnsId)  -- IFLA_NEW_NETNSID
-    or row AtAttribute 46 (exactly signed32) (value LinkAttribute.IfNetnsId)  -- IFLA_IF_NETNSID
-    or row AtAttribute 47 (exactly le32) (value LinkAttribute.CarrierUpCount)  -- IFLA_CARRIER_UP_COUNT
-    or row AtAttribute 48 (exactly le32) (value LinkAttribute.CarrierDownCount)  -- IFLA_CARRIER_DOWN_COUNT
-    or row AtAttribute 49 (exactly signed32) (value LinkAttribute.NewIfIndex)  -- IFLA_NEW_IFINDEX
-    or row AtAttribute 50 (exactly le32) (value LinkAttribute.MinMtu)  -- IFLA_MIN_MTU
-    or row AtAttribute 51 (exactly le32) (value LinkAttribute.MaxMtu)  -- IFLA_MAX_MTU
-    or marked_row AtAttribute 52 (list_of AtProp OfProp.attributes) (listed OfProp.family.meaning LinkAttribute.PropList)  -- IFLA_PROP_LIST
-    or row AtAttribute 53 name (text LinkAttribute.AltIfName)  -- IFLA_ALT_IFNAME
-    or row AtAttribute 54 raw (items LinkAttribute.PermAddress)  -- IFLA_PERM_ADDRESS
-    or marked_row AtAttribute 55 (list_of AtReason OfReason.attributes) (listed OfReason.family.meaning LinkAttribute.ProtoDownReason)  -- IFLA_PROTO_DOWN_REASON
-    or row AtAttribute 56 name (text LinkAttribute.ParentDevName)  -- IFLA_PARENT_DEV_NAME
-    or row AtAttribute 57 name (text LinkAttribute.ParentDevBusName)  -- IFLA_PARENT_DEV_BUS_NAME
-    or row AtAttribute 58 (exactly le32) (value LinkAttribute.GroMaxSize)  -- IFLA_GRO_MAX_SIZE
-    or row AtAttribute 59 (exactly le32) (value LinkAttribute.TsoMaxSize)  -- IFLA_TSO_MAX_SIZE
-    or row AtAttribute 60 (exactly le32) (value LinkAttribute.TsoMaxSegs)  -- IFLA_TSO_MAX_SEGS
-    or row AtAttribute 61 (exactly le32) (value LinkAttribute.AllMulti)  -- IFLA_ALLMULTI
-    or row AtAttribute 63 (exactly le32) (value LinkAttribute.GsoIpv4MaxSize)  -- IFLA_GSO_IPV4_MAX_SIZE
-    or row AtAttribute 64 (exactly le32) (value LinkAttribute.GroIpv4MaxSize)  -- IFLA_GRO_IPV4_MAX_SIZE
-    or row AtAttribute 66 uint (value LinkAttribute.MaxPacingOffloadHorizon)  -- IFLA_MAX_PACING_OFFLOAD_HORIZON
-    or row AtAttribute 67 (exactly boolean) (value LinkAttribute.NetnsImmutable)  -- IFLA_NETNS_IMMUTABLE
-    or row AtAttribute 68 (exactly le16) (value LinkAttribute.Headroom)  -- IFLA_HEADROOM
-    or row AtAttribute 69 (exactly le16) (value LinkAttribute.Tailroom)  -- IFLA_TAILROOM
+    row AtLink 1 raw (items LinkAttribute.Address)  -- IFLA_ADDRESS
+    or row AtLink 2 raw (items LinkAttribute.Broadcast)  -- IFLA_BROADCAST
+    or row AtLink 3 name (text LinkAttribute.IfName)  -- IFLA_IFNAME
+    or row AtLink 4 (exactly le32) (value LinkAttribute.Mtu)  -- IFLA_MTU
+    or row AtLink 5 (exactly le32) (value LinkAttribute.Link)  -- IFLA_LINK
+    or row AtLink 6 name (text LinkAttribute.Qdisc)  -- IFLA_QDISC
+    or row AtLink 7 (grown words32 stats) (seen (parts stats) LinkAttribute.Stats)  -- IFLA_STATS
+    or row AtLink 10 (exactly le32) (value LinkAttribute.Controller)  -- IFLA_MASTER
+    or row AtLink 13 (exactly le32) (value LinkAttribute.TxQueueLen)  -- IFLA_TXQLEN
+    or row AtLink 14 (leading device_map) (value LinkAttribute.Map)  -- IFLA_MAP
+    or row AtLink 16 (exactly state) (value LinkAttribute.OperState)  -- IFLA_OPERSTATE
+    or row AtLink 17 (exactly link_mode) (value LinkAttribute.Mode)  -- IFLA_LINKMODE
+    or row AtLink 19 (exactly le32) (value LinkAttribute.NetNsPid)  -- IFLA_NET_NS_PID
+    or row AtLink 20 name (text LinkAttribute.IfAlias)  -- IFLA_IFALIAS
+    or row AtLink 21 (exactly le32) (value LinkAttribute.NumVf)  -- IFLA_NUM_VF
+    or row AtLink 23 (grown words64 stats64) (seen (parts stats64) LinkAttribute.Stats64)  -- IFLA_STATS64
+    or row AtLink 27 (exactly le32) (value LinkAttribute.Group)  -- IFLA_GROUP
+    or row AtLink 28 (exactly signed32) (value LinkAttribute.NetNsFd)  -- IFLA_NET_NS_FD
+    or row AtLink 29 (exactly extent_mask) (value LinkAttribute.ExtMask)  -- IFLA_EXT_MASK
+    or row AtLink 30 (exactly le32) (value LinkAttribute.Promiscuity)  -- IFLA_PROMISCUITY
+    or row AtLink 31 (exactly le32) (value LinkAttribute.NumTxQueues)  -- IFLA_NUM_TX_QUEUES
+    or row AtLink 32 (exactly le32) (value LinkAttribute.NumRxQueues)  -- IFLA_NUM_RX_QUEUES
+    or row AtLink 33 (exactly byte) (value LinkAttribute.Carrier)  -- IFLA_CARRIER
+    or row AtLink 34 raw (items LinkAttribute.PhysPortId)  -- IFLA_PHYS_PORT_ID
+    or row AtLink 35 (exactly le32) (value LinkAttribute.CarrierChanges)  -- IFLA_CARRIER_CHANGES
+    or row AtLink 36 raw (items LinkAttribute.PhysSwitchId)  -- IFLA_PHYS_SWITCH_ID
+    or row AtLink 37 (exactly signed32) (value LinkAttribute.LinkNetNsId)  -- IFLA_LINK_NETNSID
+    or row AtLink 38 name (text LinkAttribute.PhysPortName)  -- IFLA_PHYS_PORT_NAME
+    or row AtLink 39 (exactly byte) (value LinkAttribute.ProtoDown)  -- IFLA_PROTO_DOWN
+    or row AtLink 40 (exactly le32) (value LinkAttribute.GsoMaxSegs)  -- IFLA_GSO_MAX_SEGS
+    or row AtLink 41 (exactly le32) (value LinkAttribute.GsoMaxSize)  -- IFLA_GSO_MAX_SIZE
+    or row AtLink 43 (list_of AtXdp OfXdp.attributes) (listed OfXdp.family.meaning LinkAttribute.Xdp)  -- IFLA_XDP
+    or row AtLink 44 (exactly link_event) (value LinkAttribute.Event)  -- IFLA_EVENT
+    or row AtLink 45 (exactly signed32) (value LinkAttribute.NewNetnsId)  -- IFLA_NEW_NETNSID
+    or row AtLink 46 (exactly signed32) (value LinkAttribute.IfNetnsId)  -- IFLA_IF_NETNSID
+    or row AtLink 47 (exactly le32) (value LinkAttribute.CarrierUpCount)  -- IFLA_CARRIER_UP_COUNT
+    or row AtLink 48 (exactly le32) (value LinkAttribute.CarrierDownCount)  -- IFLA_CARRIER_DOWN_COUNT
+    or row AtLink 49 (exactly signed32) (value LinkAttribute.NewIfIndex)  -- IFLA_NEW_IFINDEX
+    or row AtLink 50 (exactly le32) (value LinkAttribute.MinMtu)  -- IFLA_MIN_MTU
+    or row AtLink 51 (exactly le32) (value LinkAttribute.MaxMtu)  -- IFLA_MAX_MTU
+    or marked_row AtLink 52 (list_of AtProp OfProp.attributes) (listed OfProp.family.meaning LinkAttribute.PropList)  -- IFLA_PROP_LIST
+    or row AtLink 53 name (text LinkAttribute.AltIfName)  -- IFLA_ALT_IFNAME
+    or row AtLink 54 raw (items LinkAttribute.PermAddress)  -- IFLA_PERM_ADDRESS
+    or marked_row AtLink 55 (list_of AtReason OfReason.attributes) (listed OfReason.family.meaning LinkAttribute.ProtoDownReason)  -- IFLA_PROTO_DOWN_REASON
+    or row AtLink 56 name (text LinkAttribute.ParentDevName)  -- IFLA_PARENT_DEV_NAME
+    or row AtLink 57 name (text LinkAttribute.ParentDevBusName)  -- IFLA_PARENT_DEV_BUS_NAME
+    or row AtLink 58 (exactly le32) (value LinkAttribute.GroMaxSize)  -- IFLA_GRO_MAX_SIZE
+    or row AtLink 59 (exactly le32) (value LinkAttribute.TsoMaxSize)  -- IFLA_TSO_MAX_SIZE
+    or row AtLink 60 (exactly le32) (value LinkAttribute.TsoMaxSegs)  -- IFLA_TSO_MAX_SEGS
+    or row AtLink 61 (exactly le32) (value LinkAttribute.AllMulti)  -- IFLA_ALLMULTI
+    or row AtLink 63 (exactly le32) (value LinkAttribute.GsoIpv4MaxSize)  -- IFLA_GSO_IPV4_MAX_SIZE
+    or row AtLink 64 (exactly le32) (value LinkAttribute.GroIpv4MaxSize)  -- IFLA_GRO_IPV4_MAX_SIZE
+    or row AtLink 66 uint (value LinkAttribute.MaxPacingOffloadHorizon)  -- IFLA_MAX_PACING_OFFLOAD_HORIZON
+    or row AtLink 67 (exactly boolean) (value LinkAttribute.NetnsImmutable)  -- IFLA_NETNS_IMMUTABLE
+    or row AtLink 68 (exactly le16) (value LinkAttribute.Headroom)  -- IFLA_HEADROOM
+    or row AtLink 69 (exactly le16) (value LinkAttribute.Tailroom)  -- IFLA_TAILROOM
     or others (value LinkAttribute.Other)
 
 -- all rows but that of what the protocol says; two more variants share the first of them
 abbrev pub rows : Form → VariantRows later × Names LinkAttribute later
 rows form =
-    row AtAttribute 26 (af_specs form) (λ f. unknown f.0.items, λ f. LinkAttribute.AfSpecUnknown f.0)  -- IFLA_AF_SPEC
-    or row AtAttribute 18 info_list (listed OfInfo.family.meaning LinkAttribute.LinkInfo)  -- IFLA_LINKINFO
+    row AtLink 26 (af_specs form) (λ f. unknown f.0.items, λ f. LinkAttribute.AfSpecUnknown f.0)  -- IFLA_AF_SPEC
+    or row AtLink 18 info_list (listed OfInfo.family.meaning LinkAttribute.LinkInfo)  -- IFLA_LINKINFO
     or flat_rows
 
 -- the numbers are apart, and the names at their places
@@ -205,7 +209,7 @@ reading proto form = beside 12 (proto_infos proto) (rest form) (sides proto form
 
 -- how a value is read without memory, by its number
 abbrev pub told : ProtoForm → Form → ℕ → At × ValueForm
-told proto form number = if number == 12 then (at_number AtAttribute 12, shown_as proto) else (rest form).seeing.form_at number
+told proto form number = if number == 12 then (at_number AtLink 12, shown_as proto) else (rest form).seeing.form_at number
 
 pub told-same : (proto : ProtoForm) (form : Form) (number : ℕ) → told proto form number ≡ (reading proto form).seeing.form_at number
 told-same as_inet6 form number = refl

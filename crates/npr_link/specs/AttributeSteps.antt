@@ -13,12 +13,12 @@ use Rattle.npr_base.specs.EnumTable.{VariantRows, looks_in, has_number}
 use Rattle.npr_base.specs.Framing.{Item, number_of}
 use Rattle.npr_base.specs.Looks.{Looking, Inside, nothing, looked_through, TakesInside}
 use Rattle.npr_base.specs.RowReading.{looks-none}
-use Rattle.npr_base.specs.TableLaws.{looking_inside}
+use Rattle.npr_base.specs.Looking.{looking_inside}
 use Rattle.npr_link.specs.AfSpec as OfAfSpec
 use Rattle.npr_link.specs.AfSpecInet6 as OfAfSpecInet6
 use Rattle.npr_link.specs.AfSpecs.{AfSpecs, Form, as_list, as_bridge, as_bytes, form_of, af_specs, unspec, bridge, unknown}
-use Rattle.npr_link.specs.Attribute.{Meaning, meaning, attributes, flat, flat_rows, rows, is_list, FlatReads, IsFlat, FlatFault, FlatLooks}
-use Rattle.npr_link.specs.Attribute.{MeansProtoInfos, MeansAfSpecs, MeansInfo}
+use Rattle.npr_link.specs.Attribute.{Meaning, meaning, attributes, flat, flat_rows, rows, is_list, FlatReads, IsFlat, FlatFault, FlatLooks, MeansProtoInfos}
+use Rattle.npr_link.specs.Attribute.{MeansAfSpecs, MeansInfo}
 use Rattle.npr_link.specs.Info as OfInfo
 use Rattle.npr_link.specs.InfoList.{info_list, InfoLooks}
 use Rattle.npr_link.specs.ProtoInfos as OfProto

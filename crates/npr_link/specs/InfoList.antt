@@ -3,35 +3,35 @@
 --     info_list            how such a list is read and written
 use Rattle.std.specs.Bool.{MatchBool}
 use Rattle.std.specs.Prelude.{◌==◌, nat_lt}
-use Rattle.std.proofs.Common.{◌≡◌, ℕ, ◌+◌, ◌≤◌, ◌<◌, Bool, true, false, List, length, Option, Some, None, refl, sym, ap, subst, ◌∙◌, arith}
-use Rattle.std.proofs.Common.{inl, inr}
+use Rattle.std.proofs.Common.{◌≡◌, ℕ, ◌+◌, ◌≤◌, ◌<◌, Bool, true, false, List, length, Option, Some, None, refl, sym, ap, subst, ◌∙◌, arith, inl, inr}
 use Rattle.npr_base.specs.Codec.{Codec}
 use Rattle.npr_base.specs.Counts.{Counts, AddsAtMost, SawEach, raised, no_looks}
 use Rattle.npr_base.specs.declared.refusal.DecodeError.{DecodeError}
-use Rattle.npr_base.specs.Family.{fits-small, written_by, unfit_by}
+use Rattle.npr_base.specs.Family.{fits-small, written_by, unfit_by, list_looking}
 use Rattle.npr_base.specs.FirstTold.{first_told}
-use Rattle.npr_base.specs.FirstToldLaws.{first_governs}
-use Rattle.npr_base.specs.FitLaws.{none_both}
+use Rattle.npr_base.proofs.FirstToldLaws.{first_governs}
+use Rattle.npr_base.specs.lemmas.Fit.{none_both}
 use Rattle.npr_base.specs.Framing.{Item, IsBytes, number_of}
 use Rattle.npr_base.specs.Lists.{AllOf, ReadsList, FirstFault, encodings, first_unfit, list_unfit, list_members, overlong}
-use Rattle.npr_base.specs.ListLaws.{ReadsList-one, FirstFault-excludes, ReadsList-known, encodings-read, list-grows}
-use Rattle.npr_base.specs.LookBounds.{list_looking, list-bounded, list-saw, list-walked, searched-read, searched-saw, Passes-length}
+use Rattle.npr_base.specs.lemmas.List.{ReadsList-one, FirstFault-excludes, ReadsList-known, encodings-read, list-grows}
+use Rattle.npr_base.specs.lemmas.LookBounds.{list-bounded, list-saw, list-walked, searched-read, searched-saw, Passes-length}
 use Rattle.npr_base.specs.Looks.{Looking, Adds, ListLooks, looked_through}
-use Rattle.npr_base.specs.LooksLaws.{plus, raised-none, raised-more, none-most, same_counts}
-use Rattle.npr_base.specs.NameLaws.{IsUnterminated, name-one}
+use Rattle.npr_base.specs.lemmas.Looks.{plus, raised-none, raised-more, none-most, same_counts}
+use Rattle.npr_base.specs.NameText.{IsUnterminated}
+use Rattle.npr_base.specs.lemmas.Name.{name-one}
 use Rattle.npr_base.specs.Showing.{shows_list}
 use Rattle.npr_base.specs.declared.refusal.AttributeSet.TheVariants.{LinkInfo as AtInfo}
-use Rattle.npr_base.specs.TableLaws.{both, one_of}
-use Rattle.npr_link.specs.Fails.{list-once}
+use Rattle.npr_base.specs.lemmas.Bool.{both, one_of}
+use Rattle.npr_link.specs.lemmas.Fails.{list-once}
 use Rattle.npr_link.specs.Governing.{Forms, told_by, told, port_told, Governs, none_governs, start, Searching, Searches}
-use Rattle.npr_link.specs.GoverningLaws.{governs-one, other_tells, search-governs, below, not_below}
+use Rattle.npr_link.specs.lemmas.Governing.{governs-one, other_tells, search-governs, below, not_below}
 use Rattle.npr_link.specs.Info.{Meaning, writing, attributes}
 use Rattle.npr_link.specs.InfoKind as OfKind
-use Rattle.npr_link.specs.InfoLooks.{search-one, looks-one, search-adds, search-searched}
-use Rattle.npr_link.specs.InfoOnce.{info_once}
+use Rattle.npr_link.specs.lemmas.InfoLooks.{search-one, looks-one, search-adds, search-searched}
+use Rattle.npr_link.specs.lemmas.InfoOnce.{info_once}
 use Rattle.npr_link.specs.Kinds.{Kind, IsKind, kind_name, unterminated, is-unterminated}
 use Rattle.npr_link.specs.PortKind as OfPortKind
-use Rattle.npr_link.specs.ShortLists.{short-reads, short-fault, short-plain}
+use Rattle.npr_link.specs.lemmas.ShortLists.{short-reads, short-fault, short-plain}
 use Rattle.npr_link_tunnels.specs.declared.form.InfoForm.{InfoForm}
 use Rattle.npr_link_tunnels.specs.declared.form.InfoForm.TheVariants.{Kept}
 use Rattle.npr_link.specs.declared.port_kind.InfoPortForm.{InfoPortForm}

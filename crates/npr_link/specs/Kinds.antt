@@ -6,7 +6,7 @@ use Rattle.std.proofs.Common.{◌≡◌, refl, sym, ap, subst, ◌∙◌, inl, i
 use Rattle.std.proofs.lemmas.Bool.{eqb-true, eqb-false}
 use Rattle.npr_base.specs.Codec.{Codec, no_members}
 use Rattle.npr_base.specs.Name.{IsName, name}
-use Rattle.npr_base.specs.NameLaws.{IsUnterminated}
+use Rattle.npr_base.specs.NameText.{IsUnterminated}
 use Rattle.npr_base.specs.Numbering.{Numbering, IsFormed, of_IsFormed}
 use Rattle.npr_base.specs.Showing.{Showing}
 use Rattle.npr_base.specs.Value.{is_name}

@@ -4,7 +4,7 @@ use Rattle.std.proofs.Common.{refl}
 use Rattle.npr_base.specs.Layout.{Layout, le16, formed}
 use Rattle.npr_base.specs.Numbering.{Numbering}
 use Rattle.npr_base.specs.Rows.{Named, numbered, at_variant}
-use Rattle.npr_base.specs.RowLaws.{enumeration}
+use Rattle.npr_base.specs.Enumeration.{enumeration}
 use Rattle.npr_link.specs.declared.layer_type.LinkLayerType.{LinkLayerType}
 use Rattle.npr_link.specs.declared.layer_type.LinkLayerType.TheVariants.{Netrom, Ether, Eether, Ax25, Pronet, Chaos, Ieee802, Arcnet, Appletlk, Dlci}
 use Rattle.npr_link.specs.declared.layer_type.LinkLayerType.TheVariants.{Atm, Metricom, Ieee1394, Eui64, Infiniband, Slip, Cslip, Slip6, Cslip6, Rsrvd}

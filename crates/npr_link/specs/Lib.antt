@@ -7,10 +7,8 @@ pub mod Attribute
 pub mod AttributeSteps
 pub mod Choices
 pub mod ExtentMask
-pub mod Fails
 pub mod Flags
 pub mod Governing
-pub mod GoverningLaws
 pub mod Header
 pub mod HeaderFamily
 pub mod Inet6CacheInfo
@@ -19,8 +17,6 @@ pub mod Info
 pub mod InfoData
 pub mod InfoKind
 pub mod InfoList
-pub mod InfoLooks
-pub mod InfoOnce
 pub mod KindNames
 pub mod Kinds
 pub mod LayerType
@@ -40,7 +36,6 @@ pub mod PortKind
 pub mod Prop
 pub mod ProtoInfos
 pub mod ProtocolDown
-pub mod ShortLists
 pub mod State
 pub mod Veth
 pub mod Vlan
@@ -49,3 +44,4 @@ pub mod VlanQos
 pub mod Vrf
 pub mod Xdp
 pub mod XdpAttached
+pub mod lemmas

@@ -4,7 +4,7 @@ use Rattle.std.proofs.Common.{refl}
 use Rattle.npr_base.specs.Layout.{Layout, byte, formed}
 use Rattle.npr_base.specs.Numbering.{Numbering}
 use Rattle.npr_base.specs.Rows.{Named, numbered, text_in}
-use Rattle.npr_base.specs.RowLaws.{enumeration}
+use Rattle.npr_base.specs.Enumeration.{enumeration}
 use Rattle.npr_link.specs.declared.link_mode.LinkMode.{LinkMode}
 use Rattle.npr_link.specs.declared.link_mode.LinkMode.TheVariants.{Default, Dormant, Testing, Other}
 use Rattle.npr_link.specs.contracts.link_mode.LinkMode.{enum}

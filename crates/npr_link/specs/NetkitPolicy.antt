@@ -3,7 +3,7 @@ use Rattle.std.specs.Prelude.{ℕ, List, [], ◌∷◌}
 use Rattle.std.proofs.Common.{refl}
 use Rattle.npr_base.specs.Layout.{Layout, le32, formed}
 use Rattle.npr_base.specs.Numbering.{Numbering}
-use Rattle.npr_base.specs.RowLaws.{enumeration}
+use Rattle.npr_base.specs.Enumeration.{enumeration}
 use Rattle.npr_link.specs.declared.netkit_policy.NetkitPolicy.{NetkitPolicy}
 use Rattle.npr_link.specs.declared.netkit_policy.NetkitPolicy.TheVariants.{Pass, Drop, Redirect, Other}
 use Rattle.npr_link.specs.contracts.netkit_policy.NetkitPolicy.{enum}

@@ -3,7 +3,7 @@ use Rattle.std.specs.Prelude.{ℕ, List, [], ◌∷◌}
 use Rattle.std.proofs.Common.{refl}
 use Rattle.npr_base.specs.Layout.{Layout, le32, formed}
 use Rattle.npr_base.specs.Numbering.{Numbering}
-use Rattle.npr_base.specs.RowLaws.{enumeration}
+use Rattle.npr_base.specs.Enumeration.{enumeration}
 use Rattle.npr_link.specs.declared.netkit_scrub.NetkitScrub.{NetkitScrub}
 use Rattle.npr_link.specs.declared.netkit_scrub.NetkitScrub.TheVariants.{None, Default, Other}
 use Rattle.npr_link.specs.contracts.netkit_scrub.NetkitScrub.{enum}

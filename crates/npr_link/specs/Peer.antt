@@ -4,13 +4,13 @@ use Rattle.std.proofs.Common.{ℕ, ◌≡◌, ◌+◌, ◌*◌, ◌≤◌, List,
 use Rattle.npr_base.specs.Codec.{Codec}
 use Rattle.npr_base.specs.Counts.{Counts, AddsAtMost}
 use Rattle.npr_base.specs.Framing.{IsBytes, framed}
-use Rattle.npr_base.specs.LookBounds.{list-bounded}
+use Rattle.npr_base.specs.lemmas.LookBounds.{list-bounded}
 use Rattle.npr_base.specs.declared.refusal.AttributeSet.TheVariants.{Peer as AtPeer}
 use Rattle.npr_base.specs.declared.refusal.EmitError.{EmitError}
 use Rattle.npr_base.specs.Family.{written_by, unfit_by}
 use Rattle.npr_base.specs.Lists.{encodings, first_unfit, list_members, option_or, overlong}
 use Rattle.npr_base.specs.Looks.{Looking, looked_through}
-use Rattle.npr_base.specs.LooksLaws.{none-most}
+use Rattle.npr_base.specs.lemmas.Looks.{none-most}
 use Rattle.npr_base.specs.Message.{Grammar, View, grammar_by, IsMessage, MessageFault, MessageLooks, IsCoherent, canonical_bytes, message_unfit}
 use Rattle.npr_base.specs.Showing.{shows_list}
 use Rattle.npr_base.proofs.Messages.{message-one, message-sound, message-coherent, message-back, message-grows, message-saw}

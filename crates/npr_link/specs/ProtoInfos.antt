@@ -12,7 +12,7 @@ use Rattle.npr_base.specs.Table.{Slot, slot_plain, slot_other, writing_by}
 use Rattle.npr_base.specs.declared.address_family.AddressFamily.{AddressFamily}
 use Rattle.npr_base.specs.declared.address_family.AddressFamily.TheVariants.{Inet6, Bridge}
 use Rattle.npr_base.specs.declared.refusal.At.{At}
-use Rattle.npr_base.specs.declared.refusal.AttributeSet.TheVariants.{Link as AtAttribute, AfSpecInet6 as AtAfSpecInet6, InfoBridgePort as AtBridgePort}
+use Rattle.npr_base.specs.declared.refusal.AttributeSet.TheVariants.{Link as AtLink, AfSpecInet6 as AtAfSpecInet6, InfoBridgePort as AtBridgePort}
 use Rattle.npr_base.specs.declared.value.Form.{Form as ValueForm}
 use Rattle.npr_base.specs.declared.value.Form.TheVariants.{List as Listed, Raw}
 use Rattle.npr_link.specs.AfSpecInet6 as OfAfSpecInet6
@@ -44,7 +44,7 @@ abbrev pub writing : Writing ProtoInfos
 writing = writing_by slot_of
 
 abbrev pub place : At
-place = at_number AtAttribute 12
+place = at_number AtLink 12
 
 -- both kinds are numbers of 16 bits
 pub plain-small : 12 < 2 ^ 16

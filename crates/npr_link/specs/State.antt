@@ -3,7 +3,7 @@ use Rattle.std.specs.Prelude.{ℕ, List, [], ◌∷◌}
 use Rattle.std.proofs.Common.{refl}
 use Rattle.npr_base.specs.Layout.{Layout, byte, formed}
 use Rattle.npr_base.specs.Numbering.{Numbering}
-use Rattle.npr_base.specs.RowLaws.{enumeration}
+use Rattle.npr_base.specs.Enumeration.{enumeration}
 use Rattle.npr_link.specs.declared.state.State.{State}
 use Rattle.npr_link.specs.declared.state.State.TheVariants.{Unknown, NotPresent, Down, LowerLayerDown, Testing, Dormant, Up, Other}
 use Rattle.npr_link.specs.contracts.state.State.{enum}

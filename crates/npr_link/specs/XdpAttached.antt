@@ -3,7 +3,7 @@ use Rattle.std.specs.Prelude.{ℕ, List, [], ◌∷◌}
 use Rattle.std.proofs.Common.{refl}
 use Rattle.npr_base.specs.Layout.{Layout, byte, formed}
 use Rattle.npr_base.specs.Numbering.{Numbering}
-use Rattle.npr_base.specs.RowLaws.{enumeration}
+use Rattle.npr_base.specs.Enumeration.{enumeration}
 use Rattle.npr_link.specs.declared.xdp_attached.XdpAttached.{XdpAttached}
 use Rattle.npr_link.specs.declared.xdp_attached.XdpAttached.TheVariants.{None, Driver, SocketBuffer, Hardware, Multiple, Other}
 use Rattle.npr_link.specs.contracts.xdp_attached.XdpAttached.{enum}

@@ -16,6 +16,7 @@ use Rattle.npr_link_bridge.specs.StpState.{stp_state}
 use Rattle.npr_link_bridge.specs.VlanProtocol.{vlan_protocol}
 use Rattle.npr_link_bridge.specs.contracts.bridge.InfoBridge.{enum}
 use Rattle.npr_link_bridge.specs.declared.bridge.InfoBridge.{InfoBridge}
+use Rattle.npr_link_bridge.specs.declared.bridge.InfoBridge.TheVariants.{MulticastQuerierState}
 
 -- the table, in the order of the variants
 abbrev pub table : EnumTable enum
@@ -66,7 +67,7 @@ table =
     or row AtBridge 44 (exactly byte) (value InfoBridge.MulticastMldVersion)  -- IFLA_BR_MCAST_MLD_VERSION
     or row AtBridge 45 (exactly boolean) (value InfoBridge.VlanStatsPerPort)  -- IFLA_BR_VLAN_STATS_PER_PORT
     or row AtBridge 46 (exactly boolean_options) (value InfoBridge.MultiBoolOpt)  -- IFLA_BR_MULTI_BOOLOPT
-    or marked_row AtBridge 47 (list_of AtQuerier OfQuerier.attributes) (listed OfQuerier.family.meaning InfoBridge.MulticastQuerierState)  -- IFLA_BR_MCAST_QUERIER_STATE
+    or marked_row AtBridge 47 (list_of AtQuerier OfQuerier.attributes) (listed OfQuerier.family.meaning MulticastQuerierState)  -- IFLA_BR_MCAST_QUERIER_STATE
     or row AtBridge 48 (exactly le32) (value InfoBridge.FdbNLearned)  -- IFLA_BR_FDB_N_LEARNED
     or row AtBridge 49 (exactly le32) (value InfoBridge.FdbMaxLearned)  -- IFLA_BR_FDB_MAX_LEARNED
     or row AtBridge 50 (exactly le32) (value InfoBridge.StpMode)  -- IFLA_BR_STP_MODE

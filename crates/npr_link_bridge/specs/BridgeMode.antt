@@ -3,7 +3,7 @@ use Rattle.std.specs.Prelude.{ℕ, List, [], ◌∷◌}
 use Rattle.std.proofs.Common.{refl}
 use Rattle.npr_base.specs.Layout.{Layout, le16, formed}
 use Rattle.npr_base.specs.Numbering.{Numbering}
-use Rattle.npr_base.specs.RowLaws.{enumeration}
+use Rattle.npr_base.specs.Enumeration.{enumeration}
 use Rattle.npr_link_bridge.specs.declared.bridge_mode.BridgeMode.{BridgeMode}
 use Rattle.npr_link_bridge.specs.declared.bridge_mode.BridgeMode.TheVariants.{Veb, Vepa, Other}
 use Rattle.npr_link_bridge.specs.contracts.bridge_mode.BridgeMode.{enum}

@@ -5,7 +5,6 @@ pub mod BridgeFlag
 pub mod BridgeId
 pub mod BridgeMode
 pub mod BridgePort
-pub mod EqualityLaws
 pub mod Mst
 pub mod MstEntry
 pub mod MulticastRouter

@@ -3,7 +3,7 @@ use Rattle.std.specs.Prelude.{ℕ, List, [], ◌∷◌}
 use Rattle.std.proofs.Common.{refl}
 use Rattle.npr_base.specs.Layout.{Layout, byte, formed}
 use Rattle.npr_base.specs.Numbering.{Numbering}
-use Rattle.npr_base.specs.RowLaws.{enumeration}
+use Rattle.npr_base.specs.Enumeration.{enumeration}
 use Rattle.npr_link_bridge.specs.declared.multicast_router.BridgeMulticastRouterType.{BridgeMulticastRouterType}
 use Rattle.npr_link_bridge.specs.declared.multicast_router.BridgeMulticastRouterType.TheVariants.{Disabled, TempQuery, Permanent, Temp, Other}
 use Rattle.npr_link_bridge.specs.contracts.multicast_router.BridgeMulticastRouterType.{enum}

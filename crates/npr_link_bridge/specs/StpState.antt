@@ -3,7 +3,7 @@ use Rattle.std.specs.Prelude.{ℕ, List, [], ◌∷◌}
 use Rattle.std.proofs.Common.{refl}
 use Rattle.npr_base.specs.Layout.{Layout, le32, formed}
 use Rattle.npr_base.specs.Numbering.{Numbering}
-use Rattle.npr_base.specs.RowLaws.{enumeration}
+use Rattle.npr_base.specs.Enumeration.{enumeration}
 use Rattle.npr_link_bridge.specs.declared.stp_state.BridgeStpState.{BridgeStpState}
 use Rattle.npr_link_bridge.specs.declared.stp_state.BridgeStpState.TheVariants.{Disabled, KernelStp, UserStp, Other}
 use Rattle.npr_link_bridge.specs.contracts.stp_state.BridgeStpState.{enum}

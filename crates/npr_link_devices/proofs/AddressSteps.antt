@@ -6,8 +6,8 @@ use Rattle.npr_base.specs.declared.refusal.DecodeError.{DecodeError}
 use Rattle.npr_base.specs.declared.refusal.DecodeError.TheVariants.{ValueLength}
 use Rattle.npr_base.specs.Counts.{Counts, hit, miss}
 use Rattle.npr_base.specs.Framing.{Item, Front, Fault, encoding, framed}
-use Rattle.npr_base.specs.FrontLaws.{Front-takes}
-use Rattle.npr_base.specs.ListLaws.{length-encoding}
+use Rattle.npr_base.specs.lemmas.Front.{Front-takes}
+use Rattle.npr_base.specs.lemmas.List.{length-encoding}
 use Rattle.npr_base.specs.Lists.{ReadsTo, encodings}
 use Rattle.npr_base.specs.Looks.{list_ends, none_stands, faulty_stands, passed}
 use Rattle.npr_base.specs.Refusal.{no_place}

@@ -9,8 +9,8 @@ use Rattle.std.proofs.Common.{◌≡◌}
 use Rattle.npr_base.specs.Equality.{IsEquality, IsEqualityOf}
 use Rattle.npr_base.specs.EnumTable.{◌also◌}
 use Rattle.npr_base.specs.Framing.{Item}
-use Rattle.npr_base.specs.IpLaws.{ipv4_equality, ipv6_equality}
-use Rattle.npr_base.specs.MeaningLaws.{items_equality, items_meaning}
+use Rattle.npr_base.proofs.IpLaws.{ipv4_equality, ipv6_equality}
+use Rattle.npr_base.proofs.MeaningLaws.{items_equality, items_meaning}
 use Rattle.npr_base.specs.Tables.{table_decides}
 use Rattle.npr_base.specs.ViewEquality.{bytes_equality, item_equality, same_item}
 use Rattle.npr_link_devices.specs.IpVlan as OfIpVlan

@@ -2,7 +2,7 @@
 use Rattle.std.specs.Cmp.{unsigned_Decides}
 use Rattle.std.proofs.Common.{refl, rules}
 use Rattle.npr_base.specs.Equality.{IsEquality}
-use Rattle.npr_base.specs.EqualityLaws.{enum_equality, one_equality}
+use Rattle.npr_base.proofs.EqualityLaws.{enum_equality, one_equality}
 use Rattle.npr_link_devices.specs.contracts.bond_mode.BondMode.{enum as bond_mode_enum}
 use Rattle.npr_link_devices.specs.contracts.bond_mode.BondModePartialEq.TheImpl as BondModeEq
 use Rattle.npr_link_devices.specs.contracts.arp_validate.BondArpValidate.{enum as arp_validation_enum}

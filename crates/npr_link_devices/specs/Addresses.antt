@@ -10,11 +10,12 @@ use Rattle.npr_base.specs.declared.refusal.DecodeError.{DecodeError}
 use Rattle.npr_base.specs.Codec.{Codec}
 use Rattle.npr_base.specs.Counts.{Counts}
 use Rattle.npr_base.specs.Layout.{octets}
-use Rattle.npr_base.specs.ListLaws.{ReadsList-one, FirstFault-excludes, ReadsList-known}
+use Rattle.npr_base.specs.lemmas.List.{ReadsList-one, FirstFault-excludes, ReadsList-known}
 use Rattle.npr_base.specs.Lists.{AllOf, ReadsList, FirstFault, is_short, list_members, overlong}
-use Rattle.npr_base.specs.LookBounds.{list_looking, list-bounded, list-saw}
+use Rattle.npr_base.specs.lemmas.LookBounds.{list-bounded, list-saw}
+use Rattle.npr_base.specs.Family.{list_looking}
 use Rattle.npr_base.specs.Looks.{ListLooks, looked_through}
-use Rattle.npr_base.specs.LooksLaws.{no_looking}
+use Rattle.npr_base.specs.Looking.{no_looking}
 use Rattle.npr_base.specs.Refusal.{no_place}
 use Rattle.npr_base.specs.Showing.{shows_inside}
 use Rattle.npr_link_devices.specs.Targets.{IsTarget, IsNoTarget, address_bytes, target_reading, targets-read, targets-grow}

@@ -3,7 +3,7 @@ use Rattle.std.specs.Prelude.{ℕ, List, [], ◌∷◌}
 use Rattle.std.proofs.Common.{refl}
 use Rattle.npr_base.specs.Layout.{Layout, byte, formed}
 use Rattle.npr_base.specs.Numbering.{Numbering}
-use Rattle.npr_base.specs.RowLaws.{enumeration}
+use Rattle.npr_base.specs.Enumeration.{enumeration}
 use Rattle.npr_link_devices.specs.declared.all_port_active.BondAllPortActive.{BondAllPortActive}
 use Rattle.npr_link_devices.specs.declared.all_port_active.BondAllPortActive.TheVariants.{Dropped, Delivered, Other}
 use Rattle.npr_link_devices.specs.contracts.all_port_active.BondAllPortActive.{enum}

@@ -4,7 +4,7 @@ use Rattle.std.proofs.Common.{refl}
 use Rattle.npr_base.specs.Layout.{Layout, le32, formed}
 use Rattle.npr_base.specs.Numbering.{Numbering}
 use Rattle.npr_base.specs.Rows.{Named, numbered, text_in}
-use Rattle.npr_base.specs.RowLaws.{enumeration}
+use Rattle.npr_base.specs.Enumeration.{enumeration}
 use Rattle.npr_link_devices.specs.declared.arp_all_targets.BondArpAllTargets.{BondArpAllTargets}
 use Rattle.npr_link_devices.specs.declared.arp_all_targets.BondArpAllTargets.TheVariants.{Any, All, Other}
 use Rattle.npr_link_devices.specs.contracts.arp_all_targets.BondArpAllTargets.{enum}

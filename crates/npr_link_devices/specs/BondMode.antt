@@ -4,7 +4,7 @@ use Rattle.std.proofs.Common.{refl}
 use Rattle.npr_base.specs.Layout.{Layout, byte, formed}
 use Rattle.npr_base.specs.Numbering.{Numbering}
 use Rattle.npr_base.specs.Rows.{Named, numbered, text_in}
-use Rattle.npr_base.specs.RowLaws.{enumeration}
+use Rattle.npr_base.specs.Enumeration.{enumeration}
 use Rattle.npr_link_devices.specs.declared.bond_mode.BondMode.{BondMode}
 use Rattle.npr_link_devices.specs.declared.bond_mode.BondMode.TheVariants.{BalanceRr, ActiveBackup, BalanceXor, Broadcast, Ieee8023Ad, BalanceTlb}
 use Rattle.npr_link_devices.specs.declared.bond_mode.BondMode.TheVariants.{BalanceAlb, Other}

@@ -3,7 +3,7 @@ use Rattle.std.specs.Prelude.{ℕ, List, [], ◌∷◌}
 use Rattle.std.proofs.Common.{refl}
 use Rattle.npr_base.specs.Layout.{Layout, le16, formed}
 use Rattle.npr_base.specs.Numbering.{Numbering}
-use Rattle.npr_base.specs.RowLaws.{enumeration}
+use Rattle.npr_base.specs.Enumeration.{enumeration}
 use Rattle.npr_link_devices.specs.declared.ip_vlan_mode.IpVlanMode.{IpVlanMode}
 use Rattle.npr_link_devices.specs.declared.ip_vlan_mode.IpVlanMode.TheVariants.{L2, L3, L3S, Other}
 use Rattle.npr_link_devices.specs.contracts.ip_vlan_mode.IpVlanMode.{enum}

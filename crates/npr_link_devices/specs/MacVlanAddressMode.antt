@@ -3,7 +3,7 @@ use Rattle.std.specs.Prelude.{ℕ, List, [], ◌∷◌}
 use Rattle.std.proofs.Common.{refl}
 use Rattle.npr_base.specs.Layout.{Layout, le32, formed}
 use Rattle.npr_base.specs.Numbering.{Numbering}
-use Rattle.npr_base.specs.RowLaws.{enumeration}
+use Rattle.npr_base.specs.Enumeration.{enumeration}
 use Rattle.npr_link_devices.specs.declared.mac_vlan_address_mode.MacVlanMacAddressMode.{MacVlanMacAddressMode}
 use Rattle.npr_link_devices.specs.declared.mac_vlan_address_mode.MacVlanMacAddressMode.TheVariants.{Add, Del, Flush, Set, Other}
 use Rattle.npr_link_devices.specs.contracts.mac_vlan_address_mode.MacVlanMacAddressMode.{enum}

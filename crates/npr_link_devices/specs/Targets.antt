@@ -14,13 +14,14 @@ use Rattle.npr_base.specs.declared.refusal.At.{At}
 use Rattle.npr_base.specs.declared.refusal.DecodeError.{DecodeError}
 use Rattle.npr_base.specs.declared.value.Form.TheVariants.{Inside}
 use Rattle.npr_base.specs.Codec.{exactly}
-use Rattle.npr_base.specs.CodecLaws.{exactly-one, exactly-sound, exactly-holds, exactly-back, exactly-grows}
+use Rattle.npr_base.specs.lemmas.Codec.{exactly-one, exactly-sound, exactly-holds, exactly-back, exactly-grows}
 use Rattle.npr_base.specs.Family.{Writing, Reading, written_by}
 use Rattle.npr_base.specs.Framing.{Item, Small, IsBytes, encoding, framed}
 use Rattle.npr_base.specs.Layout.{octets}
-use Rattle.npr_base.specs.ListLaws.{encoding-front, length-encoding, list-grows}
+use Rattle.npr_base.specs.lemmas.List.{encoding-front, length-encoding, list-grows}
 use Rattle.npr_base.specs.Lists.{AllOf, ReadsList, encodings, is_short}
-use Rattle.npr_base.specs.LooksLaws.{no_looking, none-most, none-saw}
+use Rattle.npr_base.specs.lemmas.Looks.{none-most, none-saw}
+use Rattle.npr_base.specs.Looking.{no_looking}
 use Rattle.npr_base.specs.Refusal.{no_place}
 use Rattle.npr_base.specs.Value.{is_inside}
 

@@ -3,7 +3,7 @@ use Rattle.std.specs.Prelude.{ℕ, List, [], ◌∷◌}
 use Rattle.std.proofs.Common.{refl}
 use Rattle.npr_base.specs.Layout.{Layout, byte, formed}
 use Rattle.npr_base.specs.Numbering.{Numbering}
-use Rattle.npr_base.specs.RowLaws.{enumeration}
+use Rattle.npr_base.specs.Enumeration.{enumeration}
 use Rattle.npr_link_devices.specs.declared.tun_type.TunType.{TunType}
 use Rattle.npr_link_devices.specs.declared.tun_type.TunType.TheVariants.{Tun, Tap, Other}
 use Rattle.npr_link_devices.specs.contracts.tun_type.TunType.{enum}

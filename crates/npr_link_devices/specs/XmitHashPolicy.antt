@@ -4,7 +4,7 @@ use Rattle.std.proofs.Common.{refl}
 use Rattle.npr_base.specs.Layout.{Layout, byte, formed}
 use Rattle.npr_base.specs.Numbering.{Numbering}
 use Rattle.npr_base.specs.Rows.{Named, numbered, text_in}
-use Rattle.npr_base.specs.RowLaws.{enumeration}
+use Rattle.npr_base.specs.Enumeration.{enumeration}
 use Rattle.npr_link_devices.specs.declared.xmit_hash_policy.BondXmitHashPolicy.{BondXmitHashPolicy}
 use Rattle.npr_link_devices.specs.declared.xmit_hash_policy.BondXmitHashPolicy.TheVariants.{Layer2, Layer34, Layer23, Encap23, Encap34, VlanSrcMac, Other}
 use Rattle.npr_link_devices.specs.contracts.xmit_hash_policy.BondXmitHashPolicy.{enum}

@@ -6,13 +6,13 @@ use Rattle.std.proofs.Common.{◌≡◌, refl, ap, inl, inr}
 use Rattle.npr_base.specs.Equality.{IsEqualityOf}
 use Rattle.npr_base.specs.EnumTable.{◌also◌}
 use Rattle.npr_base.specs.Framing.{Item}
-use Rattle.npr_base.specs.IpLaws.{ip_equality, ipv4_equality, ipv6_equality}
-use Rattle.npr_base.specs.StructLaws.{◌beside◌, decides_as}
+use Rattle.npr_base.proofs.IpLaws.{ip_equality, ipv4_equality, ipv6_equality}
+use Rattle.npr_base.proofs.StructLaws.{◌beside◌, decides_as}
 use Rattle.npr_base.specs.Tables.{table_decides}
 use Rattle.npr_base.specs.ViewEquality.{item_equality, same_item}
-use Rattle.npr_base.specs.EnumTableLaws.{choices-decide}
-use Rattle.npr_scalar.specs.EqualityLaws.{ip_protocol_equality}
-use Rattle.npr_base.specs.Firsts.{head_of, first-decides}
+use Rattle.npr_base.specs.lemmas.EnumTable.{choices-decide}
+use Rattle.npr_scalar.proofs.EqualityLaws.{ip_protocol_equality}
+use Rattle.npr_base.proofs.Firsts.{head_of, first-decides}
 use Rattle.npr_link_tunnels.specs.TunnelFlags.{Flags, ipv4_flags, sit_flags, ipv6_flags, ipip}
 use Rattle.npr_link_tunnels.specs.contracts.ip_tunnel.InfoIpTunnel.{enum}
 use denote.Enum.Declared.{Choice}

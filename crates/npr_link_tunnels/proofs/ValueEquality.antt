@@ -2,7 +2,7 @@
 use Rattle.std.specs.Cmp.{unsigned_Decides}
 use Rattle.std.proofs.Common.{refl, rules}
 use Rattle.npr_base.specs.Equality.{IsEquality}
-use Rattle.npr_base.specs.EqualityLaws.{bare_equality, enum_equality, one_equality}
+use Rattle.npr_base.proofs.EqualityLaws.{bare_equality, enum_equality, one_equality}
 use Rattle.npr_link_tunnels.specs.contracts.form.InfoForm.{the_type as forms}
 use Rattle.npr_link_tunnels.specs.contracts.form.InfoFormPartialEq.TheImpl as FormEq
 use Rattle.npr_link_tunnels.specs.contracts.geneve_df.GeneveDf.{enum as geneve_df_enum}

@@ -3,7 +3,7 @@ use Rattle.std.specs.Prelude.{ℕ, List, [], ◌∷◌}
 use Rattle.std.proofs.Common.{refl}
 use Rattle.npr_base.specs.Layout.{Layout, byte, formed}
 use Rattle.npr_base.specs.Numbering.{Numbering}
-use Rattle.npr_base.specs.RowLaws.{enumeration}
+use Rattle.npr_base.specs.Enumeration.{enumeration}
 use Rattle.npr_link_tunnels.specs.declared.geneve_df.GeneveDf.{GeneveDf}
 use Rattle.npr_link_tunnels.specs.declared.geneve_df.GeneveDf.TheVariants.{Unset, Set, Inherit, Other}
 use Rattle.npr_link_tunnels.specs.contracts.geneve_df.GeneveDf.{enum}

@@ -4,7 +4,7 @@ use Rattle.std.proofs.Common.{refl}
 use Rattle.npr_base.specs.Layout.{Layout, le16, formed}
 use Rattle.npr_base.specs.Numbering.{Numbering}
 use Rattle.npr_base.specs.Rows.{Named, numbered, text_in}
-use Rattle.npr_base.specs.RowLaws.{enumeration}
+use Rattle.npr_base.specs.Enumeration.{enumeration}
 use Rattle.npr_link_tunnels.specs.declared.gre_encap_type.GreEncapType.{GreEncapType}
 use Rattle.npr_link_tunnels.specs.declared.gre_encap_type.GreEncapType.TheVariants.{None, Fou, Gue, Other}
 use Rattle.npr_link_tunnels.specs.contracts.gre_encap_type.GreEncapType.{enum}

@@ -3,7 +3,9 @@ use Rattle.std.specs.Prelude.{◌≡◌, ℕ, ◌==◌, Bool, true, false, List,
 use Rattle.std.proofs.Common.{inl, inr, refl, sym, ap}
 use Rattle.std.proofs.lemmas.Bool.{eqb-true}
 use Rattle.npr_base.specs.EnumTable.{VariantRows, Names, IsNamed, MeaningIn, meaning_in, other_in, shape_in, numbered, ReadsIn, WrongIn, form_in}
-use Rattle.npr_base.specs.EnumTableLaws.{writing_in, attributes_in, rewritten, shape-in}
+use Rattle.npr_base.specs.EnumTable.{writing_in}
+use Rattle.npr_base.specs.EnumFamily.{attributes_in, rewritten}
+use Rattle.npr_base.specs.lemmas.EnumTable.{shape-in}
 use Rattle.npr_base.specs.Family.{Writing, Shape, family_of}
 use Rattle.npr_base.specs.Framing.{Item, number_of}
 use Rattle.npr_base.specs.Refusal.{at_number}

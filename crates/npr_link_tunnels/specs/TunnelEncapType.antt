@@ -4,7 +4,7 @@ use Rattle.std.proofs.Common.{refl}
 use Rattle.npr_base.specs.Layout.{Layout, le16, formed}
 use Rattle.npr_base.specs.Numbering.{Numbering}
 use Rattle.npr_base.specs.Rows.{Named, numbered, text_in}
-use Rattle.npr_base.specs.RowLaws.{enumeration}
+use Rattle.npr_base.specs.Enumeration.{enumeration}
 use Rattle.npr_link_tunnels.specs.declared.tunnel_encap_type.TunnelEncapType.{TunnelEncapType}
 use Rattle.npr_link_tunnels.specs.declared.tunnel_encap_type.TunnelEncapType.TheVariants.{None, Fou, Gue, Mpls, Other}
 use Rattle.npr_link_tunnels.specs.contracts.tunnel_encap_type.TunnelEncapType.{enum}

@@ -2,16 +2,16 @@
 use Rattle.std.specs.Prelude.{ℕ}
 use Rattle.std.specs.Cmp.{unsigned_Decides}
 use Rattle.std.proofs.Common.{refl, rules}
-use Rattle.npr_base.specs.AddressFamilyLaws.{family_equality}
+use Rattle.npr_base.proofs.AddressFamilyLaws.{family_equality}
 use Rattle.npr_base.specs.Equality.{IsEquality, IsEqualityOf}
-use Rattle.npr_base.specs.IpLaws.{ipv4_equality, ipv6_equality}
+use Rattle.npr_base.proofs.IpLaws.{ipv4_equality, ipv6_equality}
 use Rattle.npr_base.specs.EnumTable.{◌also◌}
 use Rattle.npr_base.specs.Tables.{table_decides}
-use Rattle.npr_base.specs.MeaningLaws.{enum_meaning, one_meaning, items_equality}
-use Rattle.npr_base.specs.EqualityLaws.{one_equality}
-use Rattle.npr_base.specs.StructLaws.{◌beside◌, struct_equality}
+use Rattle.npr_base.proofs.MeaningLaws.{enum_meaning, one_meaning, items_equality}
+use Rattle.npr_base.proofs.EqualityLaws.{one_equality}
+use Rattle.npr_base.proofs.StructLaws.{◌beside◌, struct_equality}
 use Rattle.npr_base.specs.ViewEquality.{item_equality}
-use Rattle.npr_scalar.specs.EqualityLaws.{route_protocol_equality, route_type_equality}
+use Rattle.npr_scalar.proofs.EqualityLaws.{route_protocol_equality, route_type_equality}
 use Rattle.npr_neighbour.specs.contracts.header.NeighbourHeader.{struct}
 use Rattle.npr_neighbour.specs.Attribute.{family, table}
 use Rattle.npr_neighbour.specs.NeighbourAddress as A

@@ -2,7 +2,7 @@
 use Rattle.std.proofs.Common.{◌≡◌, inl, inr, refl}
 use Rattle.npr_base.specs.declared.address_family.AddressFamily.{AddressFamily}
 use Rattle.npr_base.specs.declared.refusal.AttributeSet.TheVariants.{Neighbour}
-use Rattle.npr_base.specs.EnumTableLaws.{rewritten}
+use Rattle.npr_base.specs.EnumFamily.{rewritten}
 use Rattle.npr_base.specs.Family.{Writing}
 use Rattle.npr_base.specs.Tables.{EnumTable, table_of, row, others, ◌or◌, value, items, seen, exactly, leading, raw, le16, le32, be16, Reading}
 use Rattle.npr_base.specs.Tables.{Family, Meanings, writing_of, attributes_of, family_of_table}

@@ -1,16 +1,16 @@
 -- What `==` answers of what is said of next hops: whether two values are equal, or mean the same.
 use Rattle.std.specs.Cmp.{unsigned_Decides}
 use Rattle.std.proofs.Common.{refl, rules}
-use Rattle.npr_base.specs.AddressFamilyLaws.{family_equality}
+use Rattle.npr_base.proofs.AddressFamilyLaws.{family_equality}
 use Rattle.npr_base.specs.EnumTable.{◌also◌}
 use Rattle.npr_base.specs.Equality.{IsEquality, IsEqualityOf}
-use Rattle.npr_base.specs.EqualityLaws.{enum_equality, one_equality}
-use Rattle.npr_base.specs.FieldEquality.{one, list, number, kept, nothing}
-use Rattle.npr_base.specs.MeaningLaws.{items_equality}
-use Rattle.npr_base.specs.StructLaws.{◌beside◌, struct_equality}
+use Rattle.npr_base.proofs.EqualityLaws.{enum_equality, one_equality}
+use Rattle.npr_base.proofs.FieldEquality.{one, list, number, kept, nothing}
+use Rattle.npr_base.proofs.MeaningLaws.{items_equality}
+use Rattle.npr_base.proofs.StructLaws.{◌beside◌, struct_equality}
 use Rattle.npr_base.specs.Tables.{table_decides}
-use Rattle.npr_scalar.specs.EqualityLaws.{address_equality, route_flags_equality, route_protocol_equality, route_scope_equality}
-use Rattle.npr_tunnel.specs.EqualityLaws.{encap_equality, encap_type_equality}
+use Rattle.npr_scalar.proofs.EqualityLaws.{address_equality, route_flags_equality, route_protocol_equality, route_scope_equality}
+use Rattle.npr_tunnel.proofs.EqualityLaws.{encap_equality, encap_type_equality}
 use Rattle.npr_nexthop.specs.Attribute as OfAttribute
 use Rattle.npr_nexthop.specs.GroupStats as OfStats
 use Rattle.npr_nexthop.specs.GroupStatsEntry as OfEntry

@@ -6,16 +6,16 @@
 use Rattle.std.proofs.Common.{◌≡◌, ℕ, List, Option, None, map, sym, ap, subst, ◌∙◌, arith}
 use Rattle.npr_base.specs.Counts.{Counts, raised}
 use Rattle.npr_base.specs.declared.refusal.DecodeError.{DecodeError}
-use Rattle.npr_base.specs.Family.{Writing, Reading, Family, fits-small, written_by, unfit_by}
+use Rattle.npr_base.specs.Family.{Writing, Reading, Family, fits-small, written_by, unfit_by, list_looking}
 use Rattle.npr_base.specs.FirstTold.{first_told, Governs, Searches}
-use Rattle.npr_base.specs.FirstToldLaws.{governs-one, first_governs, governs_first, searches-governs, searched, search-one, search-adds}
+use Rattle.npr_base.proofs.FirstToldLaws.{governs-one, first_governs, governs_first, searches-governs, searched, search-one, search-adds}
 use Rattle.npr_base.specs.Framing.{Item, IsBytes}
 use Rattle.npr_base.specs.Layout.{Layout}
 use Rattle.npr_base.specs.Lists.{AllOf, ReadsList, FirstFault, encodings, first_unfit, list_members}
-use Rattle.npr_base.specs.ListLaws.{ReadsList-one, FirstFault-excludes, ReadsList-known, encodings-read, ReadsList-grows}
+use Rattle.npr_base.specs.lemmas.List.{ReadsList-one, FirstFault-excludes, ReadsList-known, encodings-read, ReadsList-grows}
 use Rattle.npr_base.specs.Looks.{Adds, Looking}
-use Rattle.npr_base.specs.LooksLaws.{plus, raised-more}
-use Rattle.npr_base.specs.LookBounds.{list_looking, list-walked, list-saw, searched-read, searched-saw}
+use Rattle.npr_base.specs.lemmas.Looks.{plus, raised-more}
+use Rattle.npr_base.specs.lemmas.LookBounds.{list-walked, list-saw, searched-read, searched-saw}
 use Rattle.npr_base.specs.Message.{Body, grammar_of, IsUnder}
 
 module _ {T H M C : Type 0} {w : Writing M} (tells : Item → Option T) (default : T) (told : M → Option T) (reading : C → Reading w)

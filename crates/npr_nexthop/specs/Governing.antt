@@ -9,9 +9,9 @@ use Rattle.npr_base.specs.FirstTold as Told
 use Rattle.npr_base.specs.Framing.{Item, number_of}
 use Rattle.npr_base.specs.Table.{Row, ReadsAt}
 use Rattle.npr_base.specs.EnumTable.{other_in}
-use Rattle.npr_base.specs.EnumTableLaws.{all_rows}
+use Rattle.npr_base.specs.EnumTable.{all_rows}
 use Rattle.npr_base.specs.Tables.{table-read}
-use Rattle.npr_base.specs.Unless.{Unless, unless-reads}
+use Rattle.npr_base.proofs.Unless.{Unless, unless-reads}
 use Rattle.npr_scalar.specs.RouteAddress.{Form, form_of}
 use Rattle.npr_tunnel.specs.EncapType.{encap_type}
 use Rattle.npr_tunnel.specs.Encapsulation as OfEncap

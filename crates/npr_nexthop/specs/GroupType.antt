@@ -3,7 +3,7 @@ use Rattle.std.specs.Prelude.{ℕ, List, [], ◌∷◌}
 use Rattle.std.proofs.Common.{refl}
 use Rattle.npr_base.specs.Layout.{Layout, le16, formed}
 use Rattle.npr_base.specs.Numbering.{Numbering}
-use Rattle.npr_base.specs.RowLaws.{enumeration}
+use Rattle.npr_base.specs.Enumeration.{enumeration}
 use Rattle.npr_nexthop.specs.declared.group_type.NextHopGroupType.{NextHopGroupType}
 use Rattle.npr_nexthop.specs.declared.group_type.NextHopGroupType.TheVariants.{Mpath, Resilient, Other}
 use Rattle.npr_nexthop.specs.contracts.group_type.NextHopGroupType.{enum}

@@ -2,7 +2,7 @@
 
 ghost use Rattle.std.{specs.Prelude.{◌≡◌, IfOk, IfErr, refl}, proofs.Common.{rules}};
 ghost use Rattle.{
-  npr_base.specs.{Codec.{leading}, MessageLaws.{of_family}, Refusal.{no_place}},
+  npr_base.specs.{Codec.{leading}, lemmas.Message.{of_family}, Refusal.{no_place}},
   npr_nexthop.specs.{
     Attribute.{family},
     Header.{buffer_of, default_header, header, header_buffer},

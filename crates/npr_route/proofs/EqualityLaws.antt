@@ -7,21 +7,21 @@ use Rattle.std.specs.List.{count_by}
 use Rattle.std.specs.declared.alloc.Global.{Global}
 use Rattle.std.specs.declared.vec.Vec.{Vec}
 use Rattle.std.proofs.Common.{refl, sym, ap, ◌∙◌}
-use Rattle.npr_base.specs.AddressFamilyLaws.{family_equality}
+use Rattle.npr_base.proofs.AddressFamilyLaws.{family_equality}
 use Rattle.npr_base.specs.Equality.{IsEquality, IsEqualityOf}
 use Rattle.npr_base.specs.ViewEquality.{item_equality}
 use Rattle.npr_base.specs.EnumTable.{◌also◌}
 use Rattle.npr_base.specs.Table.{Row, slot_kind}
 use Rattle.npr_base.specs.Tables.{table_decides}
-use Rattle.npr_base.specs.MeaningLaws.{enum_meaning_at, one_meaning, one_meaning_by, text_equality, items_equality, items_meaning}
-use Rattle.npr_base.specs.EqualityLaws.{one_equality}
-use Rattle.npr_base.specs.StructLaws.{◌beside◌, struct_equality, and_decides, decides_as}
-use Rattle.npr_scalar.specs.EqualityLaws.{address_equality, cache_info_equality, label_equality, mfc_stats_equality, realm_equality, route_flags_equality, via_equality, route_protocol_equality, route_scope_equality, route_type_equality, route_preference_equality, ttl_propagation_equality}
+use Rattle.npr_base.proofs.MeaningLaws.{enum_meaning_at, one_meaning, one_meaning_by, text_equality, items_equality, items_meaning}
+use Rattle.npr_base.proofs.EqualityLaws.{one_equality}
+use Rattle.npr_base.proofs.StructLaws.{◌beside◌, struct_equality, and_decides, decides_as}
+use Rattle.npr_scalar.proofs.EqualityLaws.{address_equality, cache_info_equality, label_equality, mfc_stats_equality, realm_equality, route_flags_equality, via_equality, route_protocol_equality, route_scope_equality, route_type_equality, route_preference_equality, ttl_propagation_equality}
 use Rattle.npr_scalar.specs.RouteAddress.{address_of, any}
 use Rattle.npr_scalar.specs.RouteVia.{via_of}
 use Rattle.npr_tunnel.specs.Encapsulation as OfEncap
 use Rattle.npr_tunnel.specs.declared.encap_type.RouteLwEnCapType.TheVariants.{None as NoEncapsulation}
-use Rattle.npr_tunnel.specs.EqualityLaws.{encap_type_equality, encap_equality}
+use Rattle.npr_tunnel.proofs.EqualityLaws.{encap_type_equality, encap_equality}
 use Rattle.npr_route.specs.contracts.header.RouteHeader.{struct}
 use Rattle.npr_route.specs.Attribute.{Meaning, flat, multi_path, Attributes, no_more, attribute, Hops, no_hops, hop, Hop, attributes_of}
 use Rattle.npr_route.specs.AttributeView.{hops_of, attribute_step, hop_step, meaning_of, hop_of}

@@ -4,7 +4,7 @@ use Rattle.std.proofs.lemmas.List.{take-append-drop, drop-drop, drop_min}
 use Rattle.std.specs.Int.{w16, w32, to_le_bytes}
 use Rattle.npr_base.specs.Framing.{IsBytes, pad}
 use Rattle.npr_base.specs.Layout.{le32_at}
-use Rattle.npr_base.specs.ListLaws.{IsBytes-left}
+use Rattle.npr_base.specs.lemmas.List.{IsBytes-left}
 use Rattle.npr_route.specs.Attribute.{HopFront, hop_text}
 use Rattle.npr_route.specs.NextHopHeader.{next_hop_buffer, head_in, IsChecked}
 use Rattle.npr_route.specs.declared.next_hop_buffer.RouteNextHopBuffer.{RouteNextHopBuffer}

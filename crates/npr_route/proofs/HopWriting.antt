@@ -3,9 +3,9 @@ use Rattle.std.proofs.Common.{◌≡◌, ◌+◌, ◌≤◌, length, map, None, 
 use Rattle.std.specs.declared.vec.Vec.{Vec}
 use Rattle.std.specs.declared.alloc.Global.{Global}
 use Rattle.npr_base.specs.Lists.{first_unfit, encodings, joined}
-use Rattle.npr_base.specs.FitLaws.{none_both}
+use Rattle.npr_base.specs.lemmas.Fit.{none_both}
 use Rattle.npr_route.specs.Attribute.{Meaning, shape_of, hop_bytes, hop_text, hop_overlong}
-use Rattle.npr_route.specs.AttributeLaws.{hop-short, fits-inside}
+use Rattle.npr_route.specs.lemmas.Attribute.{hop-short, fits-inside}
 use Rattle.npr_route.specs.AttributeView.{meaning_of, hop_of, hops_of, attribute_item, attribute_unfit, next_hop_bytes, next_hop_unfit}
 use Rattle.npr_route.specs.declared.attribute.RouteAttribute.TheVariants.{MultiPath}
 use Rattle.npr_route.specs.declared.next_hops.RouteNextHop.{RouteNextHop}

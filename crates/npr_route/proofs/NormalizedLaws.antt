@@ -18,7 +18,7 @@ use Rattle.npr_route.specs.Attribute.{writes, attributes_bytes, hops_bytes, mean
 use Rattle.npr_route.specs.FlatAttribute as Flat
 use Rattle.npr_route.specs.FlatAttribute.{Context, rows, other, is_multicast, any_marks, marks, new_destination_variant}
 use Rattle.npr_route.specs.FlatAttribute.{NewDestinationValue, expires_variant}
-use Rattle.npr_route.specs.FlatAttributeLaws as Flats
+use Rattle.npr_route.specs.FlatFamily as Flats
 use Rattle.npr_route.specs.AttributeFamily.{writing}
 use Rattle.npr_route.specs.Header.{header}
 use Rattle.npr_route.proofs.Normalizing.{attributes_of-normalized}
@@ -40,19 +40,19 @@ members-marks (x ∷ xs) = rw (member-marks x, members-marks xs) refl
 
 -- ---- an attribute without next hops
 
-encap-item : (xs : List OfEncap.Meaning) → written_by Flats.writing (Flat.encap (map OfEncap.normalized xs)) ≡ written_by Flats.writing (Flat.encap xs)
+encap-item : (xs : List OfEncap.Meaning) → written_by Flat.writing (Flat.encap (map OfEncap.normalized xs)) ≡ written_by Flat.writing (Flat.encap xs)
 encap-item xs =
     ap (λ (b : Bool). record { kind = marked b 22; value = encodings (written_by OfEncap.writing) (map OfEncap.normalized xs) }) (members-marks xs)
     ∙ ap (λ (w : List ℕ). record { kind = marked (any_marks xs) 22; value = w }) (encodings-normalized OfEncap.normalized (written_by OfEncap.writing) OfEncapLaws.member-writes xs)
 
-pub flat-writes : (m : Flat.Meaning) → written_by Flats.writing (Flat.normalized m) ≡ written_by Flats.writing m
+pub flat-writes : (m : Flat.Meaning) → written_by Flat.writing (Flat.normalized m) ≡ written_by Flat.writing m
 flat-writes (Flat.encap xs) = encap-item xs
 flat-writes m = refl
 
 list-unfit : (u : Option EmitError) (w : List ℕ) → Option EmitError
 list-unfit u w = option_or (option_or u (overlong (length w))) (too_long 22 (length w))
 
-pub flat-unfit : (m : Flat.Meaning) → unfit_by Flats.writing (Flat.normalized m) ≡ unfit_by Flats.writing m
+pub flat-unfit : (m : Flat.Meaning) → unfit_by Flat.writing (Flat.normalized m) ≡ unfit_by Flat.writing m
 unfolding list-unfit
 flat-unfit (Flat.encap xs) =
     ap (λ (o : Option EmitError). list-unfit o (encodings (written_by OfEncap.writing) (map OfEncap.normalized xs))) (unfit-normalized OfEncap.normalized (unfit_by OfEncap.writing) OfEncapLaws.member-unfit xs)

@@ -3,10 +3,10 @@ use Rattle.std.proofs.Common.{◌≡◌, ℕ, ◌+◌, ◌-◌, List, [], ◌∷
 use Rattle.std.proofs.lemmas.List.{append-nil, take_at, length_push}
 use Rattle.npr_base.specs.declared.refusal.DecodeError.{DecodeError}
 use Rattle.npr_route.specs.Attribute.{HopHead, HopFront, hop_text, Hop, AreHops, GovernedWrong, HopsWrong, no_hop_in_front, first_hop_wrong, later_hop_wrong, IsHop, HopWrong}
-use Rattle.npr_route.specs.AttributeLaws.{governed-sound}
+use Rattle.npr_route.specs.lemmas.Attribute.{governed-sound}
 use Rattle.npr_route.specs.AttributeView.{hops_of}
 use Rattle.npr_route.specs.FlatAttribute.{Context}
-use Rattle.npr_route.specs.NextHopFrontLaws.{HopFront-same, HopFront-sound, HopFront-length}
+use Rattle.npr_route.specs.lemmas.NextHopFront.{HopFront-same, HopFront-sound, HopFront-length}
 use Rattle.npr_route.specs.NextHopHeader.{IsChecked}
 use Rattle.npr_route.specs.declared.next_hop_buffer.RouteNextHopBuffer.{RouteNextHopBuffer}
 

@@ -5,15 +5,15 @@ use Rattle.npr_base.specs.declared.refusal.DecodeError.{DecodeError}
 use Rattle.npr_base.specs.Counts.{Counts, AddsAtMost, hit, miss}
 use Rattle.npr_base.specs.Framing.{Item, Passes}
 use Rattle.npr_base.specs.Lists.{Each}
-use Rattle.npr_base.specs.FrontLaws.{Front-takes}
+use Rattle.npr_base.specs.lemmas.Front.{Front-takes}
 use Rattle.npr_base.proofs.Lists.{ReadsTo-none}
-use Rattle.npr_base.specs.LookBounds.{Passes-length}
+use Rattle.npr_base.specs.lemmas.LookBounds.{Passes-length}
 use Rattle.npr_route.specs.Attribute.{HopFront, Meaning, Hop, Reads, AreGoverned, AreHops, hops_wrong, AttributesWrong, governed_wrong}
 use Rattle.npr_route.specs.Attribute.{first_wrong, later_wrong, HopsWrong, first_hop_wrong, later_hop_wrong, attributes_of}
 use Rattle.npr_route.specs.AttributeView.{hops_of, meaning_of, hop_of}
 use Rattle.npr_route.specs.FlatAttribute.{Context}
-use Rattle.npr_route.specs.GoverningLaws.{all_read}
-use Rattle.npr_route.specs.NextHopFrontLaws.{HopFront-length}
+use Rattle.npr_route.specs.lemmas.Governing.{all_read}
+use Rattle.npr_route.specs.lemmas.NextHopFront.{HopFront-length}
 use Rattle.npr_route.specs.NextHopHeader.{head_in}
 use Rattle.npr_route.specs.Reader.{HopsTo, context_inside, IsAt, IsOpen, Waits, Chain, Tied, Opens, level_weight, weight_of}
 use Rattle.npr_route.specs.Reader.{level_account, account_of, account, unread, Account, Added, Ended}
@@ -24,7 +24,7 @@ use Rattle.npr_route.specs.declared.attribute.RouteAttribute.{RouteAttribute}
 use Rattle.npr_route.specs.declared.next_hops.RouteNextHop.{RouteNextHop, RouteNextHop-F, roll-RouteNextHop}
 use Rattle.npr_route.specs.declared.reader.Level.{Level}
 use Rattle.npr_route.specs.declared.reader.Reader.{Reader}
-use Rattle.npr_route.specs.AheadLaws.{room_opened, stopped_once}
+use Rattle.npr_route.specs.lemmas.Ahead.{room_opened, stopped_once}
 use Rattle.npr_route.proofs.Views.{view_hop_made}
 
 -- ---- lists and the trees of meanings

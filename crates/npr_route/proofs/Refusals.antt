@@ -5,7 +5,7 @@ use Rattle.npr_base.specs.declared.refusal.DecodeError.{DecodeError}
 use Rattle.npr_base.specs.declared.refusal.DecodeError.TheVariants.{OutOfMemory}
 use Rattle.npr_route.specs.Attribute.{Hops, AreHops, HopsWrong}
 use Rattle.npr_route.specs.FlatAttribute.{Context}
-use Rattle.npr_route.specs.AttributeLaws.{hops-sound}
+use Rattle.npr_route.specs.lemmas.Attribute.{hops-sound}
 
 -- bytes in which something is wrong are no next hops
 pub no_hops_read : {V : Type 0} (c : Context) (bytes : List ℕ) (r : Result V DecodeError) → IfErr r (λ e. e ≢ OutOfMemory → HopsWrong c bytes e) → IfErr r (λ e. e ≢ OutOfMemory → (hs : Hops) → AreHops c bytes hs → ⊥)

@@ -7,11 +7,11 @@ use Rattle.npr_base.specs.declared.refusal.DecodeError.TheVariants.{OutOfMemory}
 use Rattle.npr_base.specs.Counts.{Counts}
 use Rattle.npr_base.specs.Framing.{Item, number_of}
 use Rattle.npr_base.specs.Looks.{Answered}
-use Rattle.npr_base.specs.LookBounds.{list_looking}
+use Rattle.npr_base.specs.Family.{list_looking}
 use Rattle.npr_route.specs.Attribute.{Meaning, flat, multi_path, Reads}
 use Rattle.npr_route.specs.AttributeLooks.{AttributeLooks, value_read, hops_inside, hops_end}
 use Rattle.npr_route.specs.FlatAttribute.{Context}
-use Rattle.npr_route.specs.FlatAttributeLaws as Flats
+use Rattle.npr_route.specs.FlatFamily as Flats
 use Rattle.npr_route.specs.Metric.{attributes as metrics}
 use Rattle.npr_tunnel.specs.Encapsulation.{encapsulation}
 

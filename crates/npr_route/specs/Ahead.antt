@@ -1,7 +1,7 @@
 -- The attributes ahead in bytes, up to their end or a fault, and the looks of a search through them.
 use Rattle.std.specs.Prelude.{ℕ, zero, suc, ◌+◌, ◌-◌, ◌*◌, ◌/◌, ◌<◌, ◌≤◌, ◌^◌, Bool, true, false, List, length, min, nat_lt, if◌then◌else◌}
 use Rattle.npr_base.specs.Counts.{Counts}
-use Rattle.npr_base.specs.FrontLaws.{length_at, rest_at}
+use Rattle.npr_base.specs.lemmas.Front.{length_at, rest_at}
 
 -- an attribute stands in front of the bytes
 abbrev pub stands : List ℕ → Bool

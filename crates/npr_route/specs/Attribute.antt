@@ -13,7 +13,7 @@ use Rattle.npr_base.specs.FirstTold.{or_else}
 use Rattle.npr_base.specs.Framing.{Item, number_of, encoding, Front, Fault, pad}
 use Rattle.npr_route.specs.FlatAttribute as Flat
 use Rattle.npr_route.specs.FlatAttribute.{Context}
-use Rattle.npr_route.specs.FlatAttributeLaws as Flats
+use Rattle.npr_route.specs.FlatFamily as Flats
 use Rattle.npr_route.specs.Governing.{Governs}
 use Rattle.npr_srh.specs.Seg6Mode.{ModeTable, modes}
 use Rattle.npr_tunnel.specs.declared.encap_type.RouteLwEnCapType.{RouteLwEnCapType}
@@ -159,7 +159,7 @@ hop_overlong len = if nat_lt len 65536 then None else if nat_lt len (2 ^ 64) the
 -- inside, and then its own length
 abbrev mutual
   pub shape_of : Meaning → Shape
-  shape_of (flat m) = Flats.writing.shape m
+  shape_of (flat m) = Flat.writing.shape m
   shape_of (multi_path hs) =
       record { item = record { kind = 9; value = hops_bytes hs }; nested = false; unfit = option_or (hops_unfit hs) (overlong (length (hops_bytes hs))) }
 
@@ -195,7 +195,7 @@ hop_unfit h = option_or (attributes_unfit h.attributes) (hop_overlong (8 + lengt
 -- what can be read, the attributes of a next hop under the first type among them
 abbrev mutual
   pub CoherentBy : ModeTable → Context → Meaning → Type 0
-  CoherentBy by c (flat m) = (Flats.attributes_by by c).Coherent m × (number_of (written_by Flats.writing m).kind ≢ 9)
+  CoherentBy by c (flat m) = (Flats.attributes_by by c).Coherent m × (number_of (written_by Flat.writing m).kind ≢ 9)
   CoherentBy by c (multi_path hs) = HopsCoherentBy by c hs
 
   pub AttributesCoherentBy : ModeTable → Context → Attributes → Type 0
@@ -235,7 +235,7 @@ normalized_hop h = record { head = h.head; attributes = attributes_normalized h.
 -- how many attributes and next hops stand inside, at all depths
 abbrev mutual
   pub members : Meaning → ℕ
-  members (flat m) = Flats.writing.members m
+  members (flat m) = Flat.writing.members m
   members (multi_path hs) = hops_members hs
 
   pub attributes_members : Attributes → ℕ

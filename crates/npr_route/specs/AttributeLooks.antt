@@ -7,7 +7,7 @@ use Rattle.npr_base.specs.Framing.{Item, Front, Fault, number_of}
 use Rattle.npr_route.specs.Attribute.{HopHead, HopFront, HopFault, typed}
 use Rattle.npr_route.specs.FlatAttribute as Flat
 use Rattle.npr_route.specs.FlatAttribute.{Context}
-use Rattle.npr_route.specs.FlatAttributeLaws as Flats
+use Rattle.npr_route.specs.FlatFamily as Flats
 use Rattle.npr_route.specs.Governing.{Searches}
 use Rattle.npr_tunnel.specs.declared.encap_type.RouteLwEnCapType.{RouteLwEnCapType}
 

@@ -13,7 +13,7 @@ use Rattle.npr_base.specs.Showing.{Seeing}
 use Rattle.npr_base.specs.Value.{Shown, is_inside, Shows, Misshown, IsWhole}
 use Rattle.npr_route.specs.Attribute.{Meaning, flat, multi_path, Reads, Wrong, value_wrong}
 use Rattle.npr_route.specs.FlatAttribute.{Context}
-use Rattle.npr_route.specs.FlatAttributeLaws as Flats
+use Rattle.npr_route.specs.FlatFamily as Flats
 
 -- number 9 holds next hops, and another what the table says
 abbrev form_or : Bool → At × Form → At × Form

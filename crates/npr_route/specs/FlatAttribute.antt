@@ -4,13 +4,14 @@ use Rattle.npr_base.specs.declared.refusal.AttributeSet.TheVariants.{Route as Of
 use Rattle.npr_base.specs.declared.address_family.AddressFamily.{AddressFamily}
 use Rattle.npr_base.specs.Framing.{Item}
 use Rattle.npr_base.specs.Layout.{Layout, byte, le32, le64, be16, be32}
-use Rattle.npr_base.specs.Codec.{Codec, exactly, leading, raw, no_members}
+use Rattle.npr_base.specs.Codec.{Codec, exactly, leading, no_members}
 use Rattle.npr_base.specs.ListCodec.{list_of}
-use Rattle.npr_base.specs.Family.{Reading}
+use Rattle.npr_base.specs.Family.{Reading, Writing}
 use Rattle.npr_base.specs.Table.{Row, row, Slot, slot_plain, slot_marked, slot_other, IsSlot}
-use Rattle.npr_scalar.specs.MplsLaws.{mpls_labels}
+use Rattle.npr_base.specs.Table.{writing_by}
+use Rattle.npr_scalar.specs.MplsCodec.{mpls_labels}
 use Rattle.npr_scalar.specs.Realm.{route_realm}
-use Rattle.npr_scalar.specs.RouteAddress.{Address as AddressMeaning, route_address_bytes, address_in, Form, four, sixteen, label, any}
+use Rattle.npr_scalar.specs.RouteAddress.{Address as AddressMeaning, address_in, Form, four, sixteen, label, any}
 use Rattle.npr_scalar.specs.RouteCacheInfo.{route_cache_info}
 use Rattle.npr_scalar.specs.RouteMfcStats.{route_mfc_stats}
 use Rattle.npr_scalar.specs.RoutePreference.{route_preference}
@@ -213,3 +214,7 @@ Coherent form multicast family m = IsSlot (rows form multicast family) (slot_of 
 abbrev pub normalized : Meaning → Meaning
 normalized (encap xs) = encap (map OfEncap.normalized xs)
 normalized m = m
+
+-- how each is written, whatever the context
+abbrev pub writing : Writing Meaning
+writing = writing_by slot_of

@@ -8,10 +8,17 @@ use Rattle.npr_route.specs.AttributeFamily.{writing}
 use Rattle.npr_route.specs.AttributeView.{family}
 use Rattle.npr_route.specs.Header.{header, default_header}
 use Rattle.npr_route.specs.RouteList.{Under, IsRouteList, IsRouteListBy, RouteListFault, IsCoherentList, IsCoherentListBy}
-use Rattle.npr_route.specs.RouteListLaws.{route-list-one, route-list-sound, route-list-coherent, route-list-back, route-list-grows}
-use Rattle.npr_route.specs.RouteListLaws.{route-list-deep, route_list_looking, route-list-bounded, route-list-saw}
+use Rattle.npr_route.specs.lemmas.RouteList.{route-list-one, route-list-sound, route-list-coherent, route-list-back, route-list-grows, route-list-deep}
+use Rattle.npr_route.specs.lemmas.RouteList.{route-list-bounded, route-list-saw}
+use Rattle.npr_route.specs.RouteListLooking.{route_list_looking}
 use Rattle.npr_route.specs.declared.header.RouteHeader.{RouteHeader}
 use Rattle.npr_route.specs.declared.attribute.RouteAttribute.{RouteAttribute}
+use Rattle.std.proofs.Common.{◌≡◌, ℕ, List, map}
+use Rattle.npr_base.specs.Counts.{Counts}
+use Rattle.npr_tunnel.specs.declared.encap_type.RouteLwEnCapType.{RouteLwEnCapType}
+use Rattle.npr_tunnel.specs.declared.encap_type.RouteLwEnCapType.TheVariants.{None as NoEncapsulation}
+use Rattle.npr_route.specs.FlatAttribute.{Context}
+use Rattle.npr_route.specs.Governing.{Governs, Searches}
 
 -- what the header says of its list
 abbrev pub under : RouteHeader → Under
@@ -48,3 +55,10 @@ IsRouteMessageBy by bytes m = IsMessageOf header (λ h. IsRouteListBy by (under 
 
 unfoldable pub IsCoherentRouteBy : ModeTable → View routes → Type 0
 IsCoherentRouteBy by m = IsCoherentOf header (λ h. IsCoherentListBy by (under h)) m
+
+-- the context of a list: what the header says, and the type that governs
+abbrev pub IsContext : RouteHeader → List ℕ → Context → Type 0
+IsContext h bytes context = (type : RouteLwEnCapType) × Governs NoEncapsulation bytes type × (context ≡ (h.address_family, h.kind, type))
+
+abbrev pub SearchesIt : RouteHeader → List ℕ → Context → Counts → Counts → Type 0
+SearchesIt h bytes context = Searches NoEncapsulation bytes context.2

@@ -3,7 +3,7 @@ use Rattle.std.specs.Prelude.{ℕ, List}
 use Rattle.npr_base.specs.declared.address_family.AddressFamily.{AddressFamily}
 use Rattle.npr_base.specs.declared.refusal.DecodeError.{DecodeError}
 use Rattle.npr_base.specs.Counts.{Counts}
-use Rattle.npr_base.specs.LookBounds.{list_looking}
+use Rattle.npr_base.specs.Family.{list_looking}
 use Rattle.npr_base.specs.Lists.{AllOf, ReadsList, FirstFault}
 use Rattle.npr_scalar.specs.declared.route_type.RouteType.{RouteType}
 use Rattle.npr_tunnel.specs.declared.encap_type.RouteLwEnCapType.{RouteLwEnCapType}

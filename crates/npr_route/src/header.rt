@@ -2,12 +2,13 @@
 
 ghost use Rattle.std.{specs.Prelude.{◌≡◌, ◌<◌, IfOk, IfErr, refl}, proofs.Common.{rules}};
 ghost use Rattle.{
-  npr_base.specs.{Codec.{leading}, MessageLaws.{of_family}, Refusal.{no_place}},
+  npr_base.specs.{Codec.{leading}, lemmas.Message.{of_family}, Refusal.{no_place}},
   npr_route.specs.{
     AttributeView.{family},
     Header.{buffer_of, default_header, header, header_buffer},
     Message.{routes},
-    MessageLaws.{IsContext, SearchesIt, under_context},
+    lemmas.Message.{under_context},
+    Message.{IsContext, SearchesIt},
   },
 };
 

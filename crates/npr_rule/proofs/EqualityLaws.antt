@@ -1,15 +1,15 @@
 -- What `==` answers of attributes and messages: whether they mean the same.
 use Rattle.std.specs.Cmp.{booleans_Decides, unsigned_Decides}
 use Rattle.std.proofs.Common.{rules, refl}
-use Rattle.npr_base.specs.AddressFamilyLaws.{family_equality}
+use Rattle.npr_base.proofs.AddressFamilyLaws.{family_equality}
 use Rattle.npr_base.specs.Equality.{IsEquality, IsEqualityOf}
 use Rattle.npr_base.specs.ViewEquality.{item_equality}
-use Rattle.npr_base.specs.IpLaws.{ip_equality}
+use Rattle.npr_base.proofs.IpLaws.{ip_equality}
 use Rattle.npr_base.specs.Tables.{table_decides}
-use Rattle.npr_base.specs.MeaningLaws.{text_equality}
-use Rattle.npr_base.specs.EqualityLaws.{one_equality}
-use Rattle.npr_base.specs.StructLaws.{◌beside◌, struct_equality}
-use Rattle.npr_scalar.specs.EqualityLaws.{realm_equality, ip_protocol_equality, route_protocol_equality}
+use Rattle.npr_base.proofs.MeaningLaws.{text_equality}
+use Rattle.npr_base.proofs.EqualityLaws.{one_equality}
+use Rattle.npr_base.proofs.StructLaws.{◌beside◌, struct_equality}
+use Rattle.npr_scalar.proofs.EqualityLaws.{realm_equality, ip_protocol_equality, route_protocol_equality}
 use Rattle.npr_rule.specs.contracts.header.RuleHeader.{struct}
 use Rattle.npr_rule.specs.Attribute.{family, table}
 use Rattle.npr_rule.specs.contracts.action.RuleActionPartialEq.TheImpl as ActionEq

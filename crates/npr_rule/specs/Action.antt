@@ -2,7 +2,7 @@
 use Rattle.std.specs.Prelude.{ℕ, List, [], ◌∷◌}
 use Rattle.std.proofs.Common.{refl}
 use Rattle.npr_base.specs.Numbering.{Numbering}
-use Rattle.npr_base.specs.RowLaws.{enumeration}
+use Rattle.npr_base.specs.Enumeration.{enumeration}
 use Rattle.npr_rule.specs.declared.action.RuleAction.{RuleAction}
 use Rattle.npr_rule.specs.declared.action.RuleAction.TheVariants.{Unspec, ToTable, Goto, Nop, Blackhole, Unreachable, Prohibit, Other}
 use Rattle.npr_rule.specs.contracts.action.RuleAction.{enum}

@@ -4,7 +4,7 @@ use Rattle.std.proofs.Common.{refl, ap}
 use Rattle.npr_base.specs.Layout.{Layout, byte, formed}
 use Rattle.npr_base.specs.Numbering.{Numbering}
 use Rattle.npr_base.specs.Rows.{number_by}
-use Rattle.npr_base.specs.RowLaws.{by_signed_rows}
+use Rattle.npr_base.specs.Enumeration.{by_signed_rows}
 use Rattle.npr_scalar.specs.declared.ip_protocol.IpProtocol.{IpProtocol}
 use Rattle.npr_scalar.specs.declared.ip_protocol.IpProtocol.TheVariants.{Hopopts, Icmp, Igmp, Ipip, Tcp, Egp, Pup, Udp, Idp, Tp, Dccp, Ipv6, Rsvp, Gre, Esp}
 use Rattle.npr_scalar.specs.declared.ip_protocol.IpProtocol.TheVariants.{Ah, Mtp, Beetph, Encap, Pim, Comp, L2tp, Sctp, Udplite, Mpls, Ethernet, Raw, Mptcp}

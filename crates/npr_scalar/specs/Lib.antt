@@ -1,7 +1,6 @@
 pub mod IpProtocol
 pub mod IpProtocolByte
 pub mod Mpls
-pub mod MplsLaws
 pub mod Realm
 pub mod RouteProtocol
 pub mod RouteScope
@@ -14,4 +13,5 @@ pub mod RouteFlags
 pub mod RouteAddress
 pub mod RouteVia
 pub mod ViaBuffer
-pub mod EqualityLaws
+pub mod lemmas
+pub mod MplsCodec

@@ -9,7 +9,7 @@ use Rattle.npr_base.specs.Layout.{octets4, octets16}
 use Rattle.npr_base.specs.Codec.{Codec, exactly, raw}
 use Rattle.npr_base.specs.Value.{Shown, is_address, is_structure, are_bytes}
 use Rattle.npr_base.specs.VariantCodec.{variant, written_alike}
-use Rattle.npr_scalar.specs.MplsLaws.{mpls_label}
+use Rattle.npr_scalar.specs.MplsCodec.{mpls_label}
 use Rattle.npr_scalar.specs.declared.mpls.MplsLabel.{MplsLabel}
 use Rattle.npr_scalar.specs.declared.address.RouteAddress.{RouteAddress}
 use Rattle.npr_scalar.specs.declared.address.RouteAddress.TheVariants.{Inet as AddressInet, Inet6 as AddressInet6, Mpls as AddressMpls, Other as AddressOther}

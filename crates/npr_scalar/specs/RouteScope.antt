@@ -4,7 +4,7 @@ use Rattle.std.proofs.Common.{refl}
 use Rattle.npr_base.specs.Layout.{Layout, byte, formed}
 use Rattle.npr_base.specs.Numbering.{Numbering}
 use Rattle.npr_base.specs.Rows.{Named, numbered, text_in}
-use Rattle.npr_base.specs.RowLaws.{enumeration}
+use Rattle.npr_base.specs.Enumeration.{enumeration}
 use Rattle.npr_base.specs.Text.{other_text}
 use Rattle.npr_scalar.specs.declared.route_scope.RouteScope.{RouteScope}
 use Rattle.npr_scalar.specs.declared.route_scope.RouteScope.TheVariants.{Universe, Site, Link, Host, NoWhere, Other}

@@ -3,7 +3,7 @@ use Rattle.std.specs.Prelude.{ℕ, List, [], ◌∷◌}
 use Rattle.std.proofs.Common.{refl}
 use Rattle.npr_base.specs.Layout.{Layout, byte, formed}
 use Rattle.npr_base.specs.Numbering.{Numbering}
-use Rattle.npr_base.specs.RowLaws.{enumeration}
+use Rattle.npr_base.specs.Enumeration.{enumeration}
 use Rattle.npr_scalar.specs.declared.route_type.RouteType.{RouteType}
 use Rattle.npr_scalar.specs.declared.route_type.RouteType.TheVariants.{Unspec, Unicast, Local, Broadcast, Anycast, Multicast, BlackHole}
 use Rattle.npr_scalar.specs.declared.route_type.RouteType.TheVariants.{Unreachable, Prohibit, Throw, Nat, ExternalResolve, Other}

@@ -11,8 +11,8 @@ use Rattle.npr_base.specs.declared.address_family.AddressFamily.TheVariants.{Ine
 use Rattle.npr_base.specs.AddressFamily.{families}
 use Rattle.npr_base.specs.Numbering.{IsFormed, of_IsFormed}
 use Rattle.npr_base.specs.Framing.{IsBytes, framed}
-use Rattle.npr_base.specs.CodecLaws.{framed-grows}
-use Rattle.npr_base.specs.ListLaws.{IsBytes-drop}
+use Rattle.npr_base.specs.lemmas.Codec.{framed-grows}
+use Rattle.npr_base.specs.lemmas.List.{IsBytes-drop}
 use Rattle.npr_base.specs.Layout.{le16_at}
 use Rattle.npr_base.specs.Codec.{Codec, no_members}
 use Rattle.npr_base.specs.Showing.{shows_inside}

@@ -6,7 +6,7 @@ ghost use Rattle.{
   npr_scalar.specs.{
     IpProtocol.{ip_protocol, ip_protocols},
     Mpls.{label_of, label_number, IsInRange},
-    MplsLaws.{mpls_labels},
+    MplsCodec.{mpls_labels},
     Realm.{realms},
     RouteAddress.{Address, address_of, route_address},
     RouteCacheInfo.{route_cache_info},

@@ -3,7 +3,7 @@
 ghost use Rattle.std.specs.Prelude.{◌≡◌, ◌≤◌, length, IfOk, IfErr, IsErr};
 ghost use Rattle.{
   npr_base.specs.{Codec.{exactly}, Framing.{Writes}, Refusal.{no_place}, declared.refusal.DecodeError.TheVariants.{OutOfMemory}},
-  npr_scalar.specs.{Mpls.{label_of, label_number}, MplsLaws.{mpls_label, mpls_labels}},
+  npr_scalar.specs.{Mpls.{label_of, label_number}, MplsCodec.{mpls_label, mpls_labels}},
 };
 
 use npr_base::{At, DecodeError, EmitError, Emitable, read_octets, write_array};

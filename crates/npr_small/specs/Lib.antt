@@ -1,7 +1,6 @@
 pub mod AddressLabelAttribute
 pub mod AddressLabelHeader
 pub mod AddressLabelMessage
-pub mod EqualityLaws
 pub mod NeighbourTableAttribute
 pub mod NeighbourTableConfig
 pub mod NeighbourTableHeader

@@ -4,7 +4,7 @@ use Rattle.std.specs.Prelude.{◌==◌}
 use Rattle.std.proofs.Common.{◌≡◌, ℕ, ◌<◌, ◌^◌, List, inl, inr, length, refl, sym, ap, subst, ◌∙◌}
 use Rattle.npr_base.specs.Lists.{unfit_of, option_or, too_long}
 use Rattle.npr_base.specs.Framing.{Item, number_of}
-use Rattle.npr_base.specs.EnumTableLaws.{matches}
+use Rattle.npr_base.specs.lemmas.EnumTable.{matches}
 use Rattle.npr_base.specs.Numbering.{of_IsFormed}
 use Rattle.npr_base.specs.Family.{written_by, unfit_by}
 use Rattle.npr_srh.specs.Segments.{too_many}

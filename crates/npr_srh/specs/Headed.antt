@@ -13,12 +13,12 @@ use Rattle.npr_base.specs.declared.refusal.DecodeError.TheVariants.{Unsupported}
 use Rattle.npr_base.specs.declared.refusal.EmitError.{EmitError}
 use Rattle.npr_base.specs.Framing.{IsBytes, framed}
 use Rattle.npr_base.specs.Lists.{AllOf, option_or, too_long}
-use Rattle.npr_base.specs.CodecLaws.{framed-grows}
+use Rattle.npr_base.specs.lemmas.Codec.{framed-grows}
 use Rattle.npr_base.specs.Fields.{Field, one_byte, standing, ◌and◌, ◌before◌, fields}
 use Rattle.npr_base.specs.Layout.{Layout, formed}
 use Rattle.npr_base.specs.Numbering.{Numbering}
-use Rattle.npr_base.specs.ListLaws.{IsBytes-left, IsBytes-right}
-use Rattle.npr_base.specs.V6ListLaws.{same_parts, length-concat, v6_list-one, v6_list-bytes}
+use Rattle.npr_base.specs.lemmas.List.{IsBytes-left, IsBytes-right}
+use Rattle.npr_base.proofs.V6ListLaws.{same_parts, length-concat, v6_list-one, v6_list-bytes}
 use Rattle.npr_base.specs.Codec.{Codec, no_members}
 use Rattle.npr_base.specs.Showing.{shows_inside}
 use Rattle.npr_srh.specs.Keeping.{IsUnread}

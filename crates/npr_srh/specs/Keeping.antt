@@ -7,12 +7,12 @@ use Rattle.npr_base.specs.declared.refusal.DecodeError.{DecodeError}
 use Rattle.npr_base.specs.declared.value.Form.{Form}
 use Rattle.npr_base.specs.declared.value.Form.TheVariants.{Inside}
 use Rattle.npr_base.specs.Codec.{Codec}
-use Rattle.npr_base.specs.CodecLaws.{framed-grows}
+use Rattle.npr_base.specs.lemmas.Codec.{framed-grows}
 use Rattle.npr_base.specs.Counts.{Counts, SawEach}
 use Rattle.npr_base.specs.EnumTable.{EnumTable, other_in}
-use Rattle.npr_base.specs.EnumTableLaws.{slot-other}
+use Rattle.npr_base.specs.lemmas.EnumTable.{slot-other}
 use Rattle.npr_base.specs.Framing.{Item, Proper, framed, number_of}
-use Rattle.npr_base.specs.LooksLaws.{none-saw}
+use Rattle.npr_base.specs.lemmas.Looks.{none-saw}
 use Rattle.npr_base.specs.Family.{Reading, Writing, written_by, unfit_by}
 use Rattle.npr_base.specs.Showing.{Seeing}
 use Rattle.npr_base.specs.Value.{Shown, is_inside, Shows, Misshown, IsWhole}

@@ -13,4 +13,3 @@ pub mod Rpl
 pub mod RplTunnel
 pub mod Trace
 pub mod Ioam6Tunnel
-pub mod EqualityLaws

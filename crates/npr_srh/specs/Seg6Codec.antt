@@ -11,11 +11,11 @@ use Rattle.npr_base.specs.declared.refusal.Seg6Fault.{Seg6Fault}
 use Rattle.npr_base.specs.declared.refusal.Seg6Fault.TheVariants.{Short, Length, Hmac, Segments}
 use Rattle.npr_base.specs.Framing.{IsBytes, framed}
 use Rattle.npr_base.specs.Lists.{AllOf, too_long}
-use Rattle.npr_base.specs.FitLaws.{none_both}
-use Rattle.npr_base.specs.CodecLaws.{framed-grows}
-use Rattle.npr_base.specs.LayoutLaws.{be32-holds}
-use Rattle.npr_base.specs.ListLaws.{IsBytes-left, IsBytes-right, IsBytes-take}
-use Rattle.npr_base.specs.V6ListLaws.{same_parts, AllOf-reverse, length-concat, v6_list-one, v6_list-bytes}
+use Rattle.npr_base.specs.lemmas.Fit.{none_both}
+use Rattle.npr_base.specs.lemmas.Codec.{framed-grows}
+use Rattle.npr_base.specs.lemmas.Layout.{be32-holds}
+use Rattle.npr_base.specs.lemmas.List.{IsBytes-left, IsBytes-right, IsBytes-take}
+use Rattle.npr_base.proofs.V6ListLaws.{same_parts, AllOf-reverse, length-concat, v6_list-one, v6_list-bytes}
 use Rattle.npr_base.specs.Numbering.{of_IsFormed}
 use Rattle.npr_base.specs.Numbering.{IsFormed}
 use Rattle.npr_base.specs.Codec.{Codec, no_members}

@@ -4,7 +4,7 @@ use Rattle.std.proofs.Common.{refl}
 use Rattle.npr_base.specs.Layout.{Layout, le32, formed}
 use Rattle.npr_base.specs.Numbering.{Numbering}
 use Rattle.npr_base.specs.Rows.{Named, numbered, number_in, text_in}
-use Rattle.npr_base.specs.RowLaws.{by_rows}
+use Rattle.npr_base.specs.Enumeration.{by_rows}
 use Rattle.npr_base.specs.Text.{other_text}
 use Rattle.npr_srh.specs.declared.seg6local_action.Seg6LocalAction.{Seg6LocalAction}
 use Rattle.npr_srh.specs.declared.seg6local_action.Seg6LocalAction.TheVariants.{End, EndX, EndT, EndDx2, EndDx6, EndDx4, EndDt6, EndDt4, EndB6, EndB6Encap}

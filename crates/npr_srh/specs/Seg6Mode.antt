@@ -3,7 +3,7 @@ use Rattle.std.specs.Prelude.{◌≡◌, ℕ, true, List, [], ◌∷◌}
 use Rattle.std.proofs.Common.{refl}
 use Rattle.npr_base.specs.Numbering.{Numbering}
 use Rattle.npr_base.specs.Rows.{agrees, number_in}
-use Rattle.npr_base.specs.RowLaws.{by_rows}
+use Rattle.npr_base.specs.Enumeration.{by_rows}
 use Rattle.npr_srh.specs.declared.seg6_mode.Seg6Mode.{Seg6Mode}
 use Rattle.npr_srh.specs.declared.seg6_mode.Seg6Mode.TheVariants.{Inline, Encap, L2Encap, EncapRed, L2EncapRed, Other}
 use Rattle.npr_srh.specs.contracts.seg6_mode.Seg6Mode.{enum}

@@ -5,7 +5,7 @@ use Rattle.npr_base.specs.declared.refusal.DecodeError.TheVariants.{Unsupported}
 use Rattle.npr_base.specs.Bits.{Bits, bits, flag, ◌above◌, over_spare, under_spare, packed}
 use Rattle.npr_base.specs.Fields.{one_byte, be_two, be_four, ◌fills◌, ◌then◌, spread, last, structure}
 use Rattle.npr_base.specs.Layout.{Layout}
-use Rattle.npr_base.specs.CodecLaws.{exactly-one, exactly-holds, exactly-back, exactly-grows}
+use Rattle.npr_base.specs.lemmas.Codec.{exactly-one, exactly-holds, exactly-back, exactly-grows}
 use Rattle.npr_base.specs.Codec.{Codec, no_members}
 use Rattle.npr_base.specs.Showing.{shows_inside}
 use Rattle.npr_base.specs.Text.{padded_hex_text}

@@ -1,16 +1,19 @@
 -- Options of Geneve that were read so far.
-use Rattle.std.proofs.Common.{◌≡◌, ℕ, ◌+◌, ◌-◌, ◌<◌, ◌≤◌, Bool, true, false, List, [], ◌∷◌, ◌++◌, Option, Some, None, length, refl, sym, ap, inl, inr, true≢false, append_assoc, arith}
+use Rattle.std.proofs.Common.{◌≡◌, ℕ, ◌+◌, ◌-◌, ◌<◌, ◌≤◌, Bool, true, false, List, [], ◌∷◌, ◌++◌, Option, Some, None, length, refl, sym, ap, inl, inr}
+use Rattle.std.proofs.Common.{true≢false, append_assoc, arith}
 use Rattle.std.proofs.lemmas.List.{length_push}
 use Rattle.npr_base.specs.declared.refusal.DecodeError.{DecodeError}
 use Rattle.npr_base.specs.Counts.{Counts, hit, miss}
 use Rattle.npr_base.specs.Lists.{ReadsTo}
 use Rattle.npr_base.specs.Framing.{Item, Front, Fault}
-use Rattle.npr_base.specs.FrontLaws.{Front-shrinks, Front-sound, Front-takes}
+use Rattle.npr_base.specs.lemmas.Front.{Front-shrinks, Front-sound, Front-takes}
 use Rattle.npr_base.specs.Looks.{list_ends, none_stands, faulty_stands, passed}
 use Rattle.npr_base.proofs.Lists.{ReadsTo-more}
 use Rattle.npr_base.proofs.Looking.{SoFar, SoFar-more, AddsAtMost-none}
-use Rattle.npr_tunnel.specs.Geneve.{Geneve, Child, class_child, type_child, data_child, ReadsChild, WrongChild, class_length, type_length, order, child, options_behind, AreGroups, AreOptions, is_open}
-use Rattle.npr_tunnel.specs.GeneveLooks.{OptionsLooks, front-outside}
+use Rattle.npr_tunnel.specs.Geneve.{Geneve, Child, class_child, type_child, data_child, ReadsChild, WrongChild, class_length, type_length, order, child}
+use Rattle.npr_tunnel.specs.Geneve.{options_behind, AreGroups, AreOptions, is_open}
+use Rattle.npr_tunnel.specs.lemmas.GeneveLooks.{front-outside}
+use Rattle.npr_tunnel.specs.GeneveLooks.{OptionsLooks}
 use Rattle.npr_tunnel.specs.GeneveSteps.{listed, is_some, Changes}
 
 -- ---- one child more

@@ -3,3 +3,4 @@ pub mod Options
 pub mod Texts
 pub mod EncapsulationNormalizedLaws
 mod Checked
+pub mod EqualityLaws

@@ -3,7 +3,7 @@ use Rattle.std.proofs.Common.{◌≡◌, ℕ, ◌+◌, ◌<◌, None, List, [], 
 use Rattle.std.proofs.lemmas.List.{drop_more, map-append}
 use Rattle.npr_base.specs.Framing.{encoding}
 use Rattle.npr_base.specs.Lists.{encodings, first_unfit, option_or}
-use Rattle.npr_base.specs.FitLaws.{none_both}
+use Rattle.npr_base.specs.lemmas.Fit.{none_both}
 use Rattle.npr_base.proofs.Joined.{whole-next, joined-append}
 use Rattle.npr_tunnel.specs.Geneve.{Geneve, Child, children_of, child_item, child_unfit, option_bytes, option_unfit}
 

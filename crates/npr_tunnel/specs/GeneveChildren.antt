@@ -8,7 +8,8 @@ use Rattle.npr_base.specs.Codec.{Codec, exactly, raw}
 use Rattle.npr_base.specs.Framing.{Item, Proper, IsBytes, framed}
 use Rattle.npr_base.specs.Layout.{byte, be16}
 use Rattle.npr_base.specs.ListCodec.{list_of}
-use Rattle.npr_base.specs.LooksLaws.{no_looking, none-most, none-saw}
+use Rattle.npr_base.specs.lemmas.Looks.{none-most, none-saw}
+use Rattle.npr_base.specs.Looking.{no_looking}
 use Rattle.npr_base.specs.Refusal.{at_number}
 use Rattle.npr_base.specs.Value.{is_inside}
 use Rattle.npr_base.specs.Family.{Writing, Reading}

@@ -6,12 +6,12 @@ pub mod VxlanOptions
 pub mod ErspanOptions
 pub mod Geneve
 pub mod GeneveChildren
-pub mod GeneveLooks
-pub mod GeneveLaws
 pub mod GeneveSteps
 pub mod TunnelOptions
 pub mod IpTunnel
 pub mod Wrapped
 pub mod Encapsulation
-pub mod EqualityLaws
 pub mod Apart
+pub mod lemmas
+pub mod GeneveOptions
+pub mod GeneveLooks

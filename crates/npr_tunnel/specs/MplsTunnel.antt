@@ -2,7 +2,7 @@
 use Rattle.npr_base.specs.declared.refusal.AttributeSet.TheVariants.{Mpls}
 use Rattle.npr_base.specs.Tables.{EnumTable, table_of, row, others, ◌or◌, value, items, exactly, byte, refl, Reading, Family, writing_of, attributes_of}
 use Rattle.npr_base.specs.Tables.{family_of_table}
-use Rattle.npr_scalar.specs.MplsLaws.{mpls_labels}
+use Rattle.npr_scalar.specs.MplsCodec.{mpls_labels}
 use Rattle.npr_tunnel.specs.declared.mpls.RouteMplsIpTunnel.{RouteMplsIpTunnel}
 use Rattle.npr_tunnel.specs.contracts.mpls.RouteMplsIpTunnel.{enum}
 

@@ -6,7 +6,7 @@ use Rattle.npr_base.specs.Tables.{EnumTable, table_of, marked_row, others, ◌or
 use Rattle.npr_base.specs.Tables.{attributes_of, family_of_table, made_of}
 use Rattle.npr_tunnel.specs.ErspanOptions as OfErspan
 use Rattle.npr_tunnel.specs.Geneve.{option_of, geneve_text}
-use Rattle.npr_tunnel.specs.GeneveLaws.{geneve_options}
+use Rattle.npr_tunnel.specs.GeneveOptions.{geneve_options}
 use Rattle.npr_tunnel.specs.VxlanOptions as OfVxlan
 use Rattle.npr_tunnel.specs.contracts.tunnel_opts.RouteLwTunnelOpt.{enum}
 use Rattle.npr_tunnel.specs.declared.tunnel_opts.RouteLwTunnelOpt.{RouteLwTunnelOpt}

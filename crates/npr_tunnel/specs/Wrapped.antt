@@ -6,7 +6,8 @@ use Rattle.npr_base.specs.declared.value.Form.TheVariants.{Raw}
 use Rattle.npr_base.specs.Codec.{raw}
 use Rattle.npr_base.specs.Framing.{Item, Proper, framed}
 use Rattle.npr_base.specs.Counts.{SawEach}
-use Rattle.npr_base.specs.LooksLaws.{no_looking, none-most, none-saw}
+use Rattle.npr_base.specs.lemmas.Looks.{none-most, none-saw}
+use Rattle.npr_base.specs.Looking.{no_looking}
 use Rattle.npr_base.specs.Family.{Writing, Reading, written_as, unfit_as, written_by, unfit_by}
 use Rattle.npr_base.specs.Refusal.{at_number}
 use Rattle.npr_base.specs.Showing.{Seeing}

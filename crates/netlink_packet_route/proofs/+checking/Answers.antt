@@ -9,9 +9,11 @@ use Rattle.npr_base.specs.declared.refusal.DecodeError.TheVariants.{HeaderTooSho
 use Rattle.npr_base.specs.declared.value.Form.{Form}
 use Rattle.npr_base.specs.declared.value.Form.TheVariants.{List as Listed, Inside}
 use Rattle.netlink_packet_route.proofs.ValueReading.{behind, form-whole, list-cut, list-faulty, list-read, reader-apart, told-read, told-wrong}
-use Rattle.netlink_packet_route.specs.CheckLaws.{IsListAt, ListFaultAt, list-stops, list-wrong, list-more, hops-read, hops-faulty}
-use Rattle.netlink_packet_route.specs.LeftLaws.{Pending, AreLeft, LeftWrong, LeftLeads, HopLeads, left-all, left-on, left-through, hop-on, hop-reached}
-use Rattle.netlink_packet_route.specs.LeftLaws.{hops-wrong-alone, left-ends, left-stops, left-wrong, left-more, left-taken, hop-stops, hop-leads}
+use Rattle.netlink_packet_route.proofs.CheckLaws.{list-stops, list-wrong, list-more, hops-read, hops-faulty}
+use Rattle.netlink_packet_route.specs.NestLists.{IsListAt, ListFaultAt}
+use Rattle.netlink_packet_route.proofs.LeftLaws.{left-all, left-on, left-through, hop-on, hop-reached, hops-wrong-alone, left-ends, left-stops, left-wrong}
+use Rattle.netlink_packet_route.proofs.LeftLaws.{left-more, left-taken, hop-stops, hop-leads}
+use Rattle.netlink_packet_route.specs.Pending.{Pending, AreLeft, LeftWrong, LeftLeads, HopLeads}
 use Rattle.netlink_packet_route.specs.Nests.{Inner, holds_hops, reading_of}
 use Rattle.netlink_packet_route.proofs.+checking.Goals as goal
 

@@ -1,6 +1,7 @@
 use Rattle.std.proofs.Common.{◌≡◌, ◌+◌, ◌*◌, [], length}
-use Rattle.netlink_packet_route.specs.CheckLaws.{Leads, IsListAt, ListFaultAt}
-use Rattle.netlink_packet_route.specs.LeftLaws.{size_of, LeftLeads, AreLeft}
+use Rattle.netlink_packet_route.proofs.CheckLaws.{Leads}
+use Rattle.netlink_packet_route.specs.NestLists.{IsListAt, ListFaultAt}
+use Rattle.netlink_packet_route.specs.Pending.{size_of, LeftLeads, AreLeft}
 use Rattle.netlink_packet_route.proofs.+checking.Given as goal
 
 -- ---- lists and attributes

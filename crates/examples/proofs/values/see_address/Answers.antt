@@ -5,7 +5,7 @@ use Rattle.examples.proofs.Seeing.{seen-last}
 use Rattle.examples.specs.Seen.{seen_address}
 use Rattle.netlink_packet_route.specs.AddressAttribute.{attributes, family}
 use Rattle.netlink_packet_route.specs.AddressMessage.{addresses}
-use Rattle.netlink_packet_route.specs.FaultLaws.{fault-none}
+use Rattle.netlink_packet_route.proofs.FaultLaws.{fault-none}
 use Rattle.netlink_packet_route.specs.Messages.{Stored, view}
 use Rattle.netlink_packet_route.specs.Values.{ValueStep}
 use Rattle.netlink_packet_route.specs.declared.framing.At.{At}

@@ -1,7 +1,7 @@
 use Rattle.std.proofs.Common.{[], ◌∷◌, ◌++◌, ◌∙◌}
 use Rattle.std.proofs.lemmas.List.Elements.{All-push}
 use Rattle.npr_base.specs.Framing.{Item, Front}
-use Rattle.npr_base.specs.FrontLaws.{Passes-more}
+use Rattle.npr_base.specs.lemmas.Front.{Passes-more}
 use Rattle.netlink_packet_core.specs.Extended.{IsNoText}
 use Rattle.netlink_packet_core.proofs.extended.error_text.Goals as goal
 

@@ -1,6 +1,6 @@
 use Rattle.std.proofs.lemmas.Option.{IfSome_then}
 use Rattle.std.proofs.lemmas.Result.{IfOk-weaker, IfErr-weaker}
-use Rattle.netlink_packet_route.specs.CheckLaws.{of_route}
+use Rattle.netlink_packet_route.specs.NestLists.{of_route}
 use Rattle.netlink_packet_route.proofs.apart.check_apart.Goals as goal
 
 pub returns-in-Route-clause-ok : goal.returns-in-Route-clause-ok

@@ -1,6 +1,6 @@
 use Rattle.std.proofs.Common.{sym, ◌∙◌}
 use Rattle.std.proofs.lemmas.Result.{IfOk-weaker, IfErr-weaker}
-use Rattle.netlink_packet_route.specs.CheckLaws.{gateway-read, gateway-faulty}
+use Rattle.netlink_packet_route.proofs.CheckLaws.{gateway-read, gateway-faulty}
 use Rattle.netlink_packet_route.proofs.apart.check_gateway.Goals as goal
 
 pub returns-clause-ok : goal.returns-clause-ok

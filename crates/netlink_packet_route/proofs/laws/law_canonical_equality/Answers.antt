@@ -1,8 +1,8 @@
 use Rattle.std.proofs.Common.{refl}
 use Rattle.std.specs.Cmp.{unsigned_Decides}
 use Rattle.npr_base.specs.Equality.{IsEquality}
-use Rattle.npr_base.specs.EqualityLaws.{enum_equality, one_equality}
-use Rattle.npr_base.specs.StructLaws.{◌beside◌}
+use Rattle.npr_base.proofs.EqualityLaws.{enum_equality, one_equality}
+use Rattle.npr_base.proofs.StructLaws.{◌beside◌}
 use Rattle.netlink_packet_route.specs.contracts.canonical_bytes.CanonicalError.{enum as errors}
 use Rattle.netlink_packet_route.specs.contracts.canonical_bytes.CanonicalErrorPartialEq.TheImpl as ErrorEq
 use Rattle.netlink_packet_route.specs.contracts.canonical_bytes.WriteCanonicalError.{enum as write_errors}

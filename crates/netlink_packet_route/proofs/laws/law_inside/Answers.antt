@@ -1,4 +1,4 @@
-use Rattle.npr_base.specs.Nesting.{opens-here}
+use Rattle.npr_base.proofs.NestLaws.{opens-here}
 use Rattle.netlink_packet_route.proofs.NestLaws.{nests}
 use Rattle.netlink_packet_route.proofs.NestRows.{Own}
 use Rattle.netlink_packet_route.specs.Nests.{Inner, reading_of}

@@ -1,7 +1,7 @@
 use Rattle.std.proofs.Common.{refl}
 use Rattle.npr_base.specs.EnumTable.{◌also◌}
 use Rattle.npr_base.specs.Message.{view}
-use Rattle.npr_base.specs.MeaningLaws.{enum_meaning, one_meaning}
+use Rattle.npr_base.proofs.MeaningLaws.{enum_meaning, one_meaning}
 use Rattle.npr_address.specs.Message.{addresses}
 use Rattle.npr_link.specs.Message.{links}
 use Rattle.npr_neighbour.specs.Message.{neighbours}

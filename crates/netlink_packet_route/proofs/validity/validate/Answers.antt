@@ -1,6 +1,6 @@
 use Rattle.std.proofs.lemmas.Result.{err_from_is_err_and, IfOk-weaker, IfErr-weaker}
 use Rattle.netlink_packet_route.specs.MessageKind.{form_of}
-use Rattle.netlink_packet_route.specs.ValidityLaws.{begun-message, begun-fault, begun-short}
+use Rattle.netlink_packet_route.proofs.ValidityLaws.{begun-message, begun-fault, begun-short}
 use Rattle.netlink_packet_route.proofs.validity.validate.Goals as goal
 
 pub returns-in_err-nest-clause-refused : goal.returns-in_err-nest-clause-refused

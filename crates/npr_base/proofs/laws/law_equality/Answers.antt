@@ -1,9 +1,9 @@
 use Rattle.std.proofs.Common.{rules, refl}
 use Rattle.std.specs.Cmp.{unsigned_Decides}
-use Rattle.npr_base.specs.AddressFamilyLaws.{family_equality}
+use Rattle.npr_base.proofs.AddressFamilyLaws.{family_equality}
 use Rattle.npr_base.specs.Equality.{IsEquality}
-use Rattle.npr_base.specs.EqualityLaws.{bare_equality, enum_equality, one_equality}
-use Rattle.npr_base.specs.StructLaws.{◌beside◌, struct_equality}
+use Rattle.npr_base.proofs.EqualityLaws.{bare_equality, enum_equality, one_equality}
+use Rattle.npr_base.proofs.StructLaws.{◌beside◌, struct_equality}
 use Rattle.npr_base.specs.contracts.refusal.AttributeSet.{the_type as families}
 use Rattle.npr_base.specs.contracts.refusal.AttributeSetPartialEq.TheImpl as FamilyEq
 use Rattle.npr_base.specs.contracts.refusal.At.{struct as at_struct}

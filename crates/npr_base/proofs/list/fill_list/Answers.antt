@@ -5,8 +5,8 @@ use Rattle.npr_base.specs.Counts.{Counts, AddsAtMost, hit, miss}
 use Rattle.npr_base.specs.Framing.{Front, Fault}
 use Rattle.npr_base.specs.Looks.{list_ends, none_stands, faulty_stands, passed}
 use Rattle.npr_base.specs.Lists.{ReadsTo}
-use Rattle.npr_base.specs.FrontLaws.{Front-takes}
-use Rattle.npr_base.specs.LookBounds.{list-walked, list-saw}
+use Rattle.npr_base.specs.lemmas.Front.{Front-takes}
+use Rattle.npr_base.specs.lemmas.LookBounds.{list-walked, list-saw}
 use Rattle.npr_base.proofs.Lists.{begins_so, ReadsTo-more}
 use Rattle.npr_base.proofs.Looking.{SoFar-more, Walked-past, AddsAtMost-none}
 use Rattle.npr_base.proofs.list.fill_list.Goals as goal

@@ -5,7 +5,7 @@ use Rattle.npr_base.specs.Lists.{encodings}
 use Rattle.npr_base.proofs.Checking.{first-none}
 use Rattle.npr_base.proofs.Joined.{joined-append}
 use Rattle.npr_base.proofs.Writing.{room_for, wrote_next}
-use Rattle.npr_base.specs.ListLaws.{length-encoding}
+use Rattle.npr_base.specs.lemmas.List.{length-encoding}
 use Rattle.npr_base.proofs.list.write_list_body.Goals as goal
 use Rattle.npr_base.specs.Family.{shaped_item, shaped_unfit}
 

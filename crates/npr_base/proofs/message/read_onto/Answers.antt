@@ -3,7 +3,7 @@ use Rattle.std.proofs.lemmas.List.{take_rest}
 use Rattle.std.proofs.lemmas.Result.{err_from_is_err_and}
 use Rattle.npr_base.specs.Counts.{AddsAtMostTwice}
 use Rattle.npr_base.specs.Message.{MessageFault, MessageLooks}
-use Rattle.npr_base.specs.LookBounds.{searched-read}
+use Rattle.npr_base.specs.lemmas.LookBounds.{searched-read}
 use Rattle.npr_base.proofs.Messages.{message_read, fault_after, looks_after, message-saw}
 use Rattle.npr_base.proofs.message.read_onto.Goals as goal
 

@@ -1,7 +1,7 @@
 use Rattle.std.specs.List.{concat}
 use Rattle.std.proofs.Common.{◌≡◌, ◌++◌, List, ℕ, length, drop, [], ap, ◌∙◌, arith}
 use Rattle.std.proofs.lemmas.List.{append-nil, drop_all}
-use Rattle.npr_base.specs.V6ListLaws.{length-concat}
+use Rattle.npr_base.proofs.V6ListLaws.{length-concat}
 use Rattle.npr_base.proofs.v6_list.emit_v6_list.Goals as goal
 
 pub write_v6_list-requires : goal.write_v6_list-requires

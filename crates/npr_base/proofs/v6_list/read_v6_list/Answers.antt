@@ -1,7 +1,7 @@
 use Rattle.std.specs.List.{concat}
 use Rattle.std.proofs.Common.{◌≡◌, ◌+◌, ◌-◌, ◌≤◌, length, take, drop, ap, sym, ◌∙◌, arith, length-take, length-drop, List, ℕ, ◌++◌}
 use Rattle.std.proofs.Math.Seq.{take-add}
-use Rattle.npr_base.specs.V6ListLaws.{concat-push, AllOf-push}
+use Rattle.npr_base.proofs.V6ListLaws.{concat-push, AllOf-push}
 use Rattle.npr_base.proofs.v6_list.read_v6_list.Goals as goal
 
 pub loop-at-preserved : goal.loop-at-preserved

@@ -1,7 +1,7 @@
 use Rattle.std.specs.List.{concat}
 use Rattle.std.proofs.Common.{◌≡◌, List, ℕ, get_or, length, take, ap, ◌∙◌, arith, length-append}
 use Rattle.std.proofs.lemmas.List.{take_more}
-use Rattle.npr_base.specs.V6ListLaws.{concat-push, AllOf-push}
+use Rattle.npr_base.proofs.V6ListLaws.{concat-push, AllOf-push}
 use Rattle.npr_base.proofs.v6_list.v6_list_len.Goals as goal
 
 pub loop-address-preserved : goal.loop-address-preserved

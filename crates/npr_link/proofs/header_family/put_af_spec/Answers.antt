@@ -1,6 +1,6 @@
 use Rattle.std.proofs.Common.{◌≡◌, map, refl, rules}
 use Rattle.std.proofs.lemmas.Result.{err_from_is_err_and}
-use Rattle.npr_base.specs.LooksLaws.{none-most}
+use Rattle.npr_base.specs.lemmas.Looks.{none-most}
 use Rattle.npr_link.specs.AfSpec as OfAfSpec
 use Rattle.npr_link.specs.AfSpecs.{as_list, as_bridge, as_bytes, form_of, unspec, bridge, unknown}
 use Rattle.npr_link.specs.AttributeSteps.{unspec_means, bridge_means, unknown_means}

@@ -1,6 +1,6 @@
 use Rattle.std.proofs.Common.{◌≡◌, map, refl, ap, rules}
 use Rattle.std.proofs.lemmas.Result.{err_from_is_err_and}
-use Rattle.npr_base.specs.LooksLaws.{none-most}
+use Rattle.npr_base.specs.lemmas.Looks.{none-most}
 use Rattle.npr_link.specs.AfSpecInet6 as OfAfSpecInet6
 use Rattle.npr_link.specs.AttributeSteps.{inet6_means, port_means, whole_means}
 use Rattle.npr_link.specs.ProtoInfos.{as_inet6, as_bridge, as_whole, form_of, inet6, bridge, unknown}

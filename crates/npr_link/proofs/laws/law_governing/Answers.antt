@@ -1,4 +1,4 @@
-use Rattle.npr_link.specs.GoverningLaws.{governs-one}
+use Rattle.npr_link.specs.lemmas.Governing.{governs-one}
 use Rattle.npr_link.specs.InfoList.{read-governed}
 use Rattle.npr_link.proofs.laws.law_governing.Goals as goal
 

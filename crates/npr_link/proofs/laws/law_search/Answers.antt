@@ -1,4 +1,4 @@
-use Rattle.npr_link.specs.GoverningLaws.{search-governs}
+use Rattle.npr_link.specs.lemmas.Governing.{search-governs}
 use Rattle.npr_link.specs.InfoList.{read-searched, searched-reads, fault-searched}
 use Rattle.npr_link.proofs.laws.law_search.Goals as goal
 

@@ -1,6 +1,6 @@
-use Rattle.npr_link_bridge.specs.EqualityLaws.{bridge_flag_equality, bridge_mode_equality, router_type_equality, port_state_equality}
-use Rattle.npr_link_bridge.specs.EqualityLaws.{stp_state_equality, vlan_protocol_equality, boolean_option_flags_equality}
-use Rattle.npr_link_bridge.specs.EqualityLaws.{boolean_options_equality, bridge_id_equality, vlan_info_flags_equality, vlan_info_equality}
+use Rattle.npr_link_bridge.proofs.EqualityLaws.{bridge_flag_equality, bridge_mode_equality, router_type_equality, port_state_equality}
+use Rattle.npr_link_bridge.proofs.EqualityLaws.{stp_state_equality, vlan_protocol_equality, boolean_option_flags_equality}
+use Rattle.npr_link_bridge.proofs.EqualityLaws.{boolean_options_equality, bridge_id_equality, vlan_info_flags_equality, vlan_info_equality}
 use Rattle.npr_link_bridge.proofs.laws.law_equality.Goals as goal
 
 pub returns : goal.returns

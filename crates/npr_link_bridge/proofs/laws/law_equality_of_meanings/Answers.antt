@@ -1,5 +1,5 @@
-use Rattle.npr_link_bridge.specs.EqualityLaws.{querier_equality, bridge_equality, bridge_port_equality, vlan_tunnel_equality}
-use Rattle.npr_link_bridge.specs.EqualityLaws.{mst_entry_equality, mst_equality, af_spec_bridge_equality}
+use Rattle.npr_link_bridge.proofs.EqualityLaws.{querier_equality, bridge_equality, bridge_port_equality, vlan_tunnel_equality}
+use Rattle.npr_link_bridge.proofs.EqualityLaws.{mst_entry_equality, mst_equality, af_spec_bridge_equality}
 use Rattle.npr_link_bridge.proofs.laws.law_equality_of_meanings.Goals as goal
 
 pub returns : goal.returns

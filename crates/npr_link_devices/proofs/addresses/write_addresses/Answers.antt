@@ -1,6 +1,6 @@
 use Rattle.std.proofs.Common.{◌≡◌, ◌≤◌, ◌+◌, length, arith}
 use Rattle.npr_base.specs.Framing.{encoding}
-use Rattle.npr_base.specs.ListLaws.{length-encoding}
+use Rattle.npr_base.specs.lemmas.List.{length-encoding}
 use Rattle.npr_base.proofs.Writing.{room_behind, wrote_more}
 use Rattle.npr_link_devices.specs.Targets.{target}
 use Rattle.npr_link_devices.proofs.AddressSteps.{bytes_to, bytes-next, bytes-below}

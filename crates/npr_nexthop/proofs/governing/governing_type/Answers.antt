@@ -1,6 +1,6 @@
 use Rattle.std.proofs.Common.{◌≡◌, ◌∷◌, ◌++◌, [], sym, ◌∙◌, ap}
 use Rattle.npr_base.specs.Counts.{hit}
-use Rattle.npr_base.specs.FrontLaws.{Passes-more}
+use Rattle.npr_base.specs.lemmas.Front.{Passes-more}
 use Rattle.npr_base.proofs.Searching.{AllOf-more, hit_each-more}
 use Rattle.npr_nexthop.proofs.governing.governing_type.Goals as goal
 

@@ -4,7 +4,7 @@ use Rattle.npr_base.specs.Framing.{encoding, framed}
 use Rattle.npr_base.specs.Lists.{encodings, joined}
 use Rattle.npr_base.proofs.Checking.{checked-ok, first-past}
 use Rattle.npr_base.proofs.Joined.{joined-more}
-use Rattle.npr_base.specs.ListLaws.{length-encoding}
+use Rattle.npr_base.specs.lemmas.List.{length-encoding}
 use Rattle.npr_route.specs.Attribute.{meaning_unfit, shape_of}
 use Rattle.npr_route.specs.AttributeView.{meaning_of, attribute_item, attribute_unfit, next_hop_bytes, next_hop_unfit}
 use Rattle.npr_route.proofs.Views.{hop_unchecked, hop_checked, multi_path-checked}

@@ -7,7 +7,7 @@ use Rattle.npr_base.specs.Lists.{encodings, joined}
 use Rattle.npr_base.proofs.Checking.{first-none}
 use Rattle.npr_base.proofs.Joined.{joined-append}
 use Rattle.npr_base.proofs.Writing.{Writes-encoding, Writes-before, room_for, wrote_next}
-use Rattle.npr_base.specs.ListLaws.{length-encoding}
+use Rattle.npr_base.specs.lemmas.List.{length-encoding}
 use Rattle.npr_route.specs.Attribute.{shape_of}
 use Rattle.npr_route.specs.AttributeView.{meaning_of, attribute_item, attribute_unfit, next_hop_bytes, next_hop_unfit}
 use Rattle.npr_route.specs.declared.attribute.RouteAttribute.TheViews.{the_lemmas}

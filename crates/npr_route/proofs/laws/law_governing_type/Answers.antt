@@ -1,8 +1,8 @@
-use Rattle.npr_base.specs.FirstToldLaws.{governs-one}
+use Rattle.npr_base.proofs.FirstToldLaws.{governs-one}
 use Rattle.npr_tunnel.specs.declared.encap_type.RouteLwEnCapType.TheVariants.{None as NoEncapsulation}
 use Rattle.npr_route.specs.Attribute.{attributes_of, typed}
 use Rattle.npr_route.specs.Governing.{item_type}
-use Rattle.npr_route.specs.GoverningLaws.{first_governs, all_read}
+use Rattle.npr_route.specs.lemmas.Governing.{first_governs, all_read}
 use Rattle.npr_route.proofs.laws.law_governing_type.Goals as goal
 
 pub returns : goal.returns

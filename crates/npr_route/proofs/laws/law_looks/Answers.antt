@@ -1,4 +1,4 @@
-use Rattle.npr_route.specs.LookBounds.{next-hops-bounded, hops-read, hops-are-wrong}
+use Rattle.npr_route.specs.lemmas.LookBounds.{next-hops-bounded, hops-read, hops-are-wrong}
 use Rattle.npr_route.proofs.laws.law_looks.Goals as goal
 
 pub returns : goal.returns

@@ -1,4 +1,4 @@
-use Rattle.npr_route.specs.AttributeLaws.{hops-one, hops-sound, hops-coherent, hops-back, hops-grow, hops-depth}
+use Rattle.npr_route.specs.lemmas.Attribute.{hops-one, hops-sound, hops-coherent, hops-back, hops-grow, hops-depth}
 use Rattle.npr_route.proofs.laws.law_next_hops.Goals as goal
 
 pub returns-clause-one : goal.returns-clause-one

@@ -1,13 +1,13 @@
 use Rattle.std.proofs.Common.{map}
 use Rattle.std.proofs.lemmas.Result.{IfErr-weaker}
-use Rattle.npr_base.specs.FirstToldLaws.{searched}
-use Rattle.npr_base.specs.LookBounds.{searched-read, searched-saw_ok}
+use Rattle.npr_base.proofs.FirstToldLaws.{searched}
+use Rattle.npr_base.specs.lemmas.LookBounds.{searched-read, searched-saw_ok}
 use Rattle.npr_base.specs.Lists.{list_members}
 use Rattle.npr_tunnel.specs.declared.encap_type.RouteLwEnCapType.TheVariants.{None as NoEncapsulation}
 use Rattle.npr_route.specs.AttributeView.{meaning_of}
 use Rattle.npr_route.specs.AttributeFamily.{attributes, writing}
 use Rattle.npr_route.specs.Governing.{item_type}
-use Rattle.npr_route.specs.RouteListLaws.{route-list-sound}
+use Rattle.npr_route.specs.lemmas.RouteList.{route-list-sound}
 use Rattle.npr_route.proofs.list.read_route_list.Goals as goal
 
 pub returns-clause-none : goal.returns-clause-none

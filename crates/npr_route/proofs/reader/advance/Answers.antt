@@ -4,7 +4,7 @@ use Rattle.std.proofs.lemmas.List.{map_push}
 use Rattle.std.proofs.lemmas.Result.{err_from_is_err_and}
 use Rattle.npr_base.specs.Counts.{Counts, hit, miss}
 use Rattle.npr_base.specs.Framing.{Front, Fault, number_of}
-use Rattle.npr_base.specs.FrontLaws.{Front-takes}
+use Rattle.npr_base.specs.lemmas.Front.{Front-takes}
 use Rattle.npr_base.proofs.Lists.{ReadsTo-more}
 use Rattle.npr_base.proofs.Looking.{AddsAtMost-none}
 use Rattle.npr_route.specs.Attribute.{Reads, none_in_front, first_wrong, hops_wrong, value_wrong, HopFault, no_hop_in_front}
@@ -13,12 +13,12 @@ use Rattle.npr_route.specs.AttributeView.{meaning_of}
 use Rattle.npr_route.specs.Governing.{Searches}
 use Rattle.npr_route.specs.Reader.{IsAt, Waits, Opens, context_inside, weight_of}
 use Rattle.npr_route.specs.Ahead.{SoughtIn}
-use Rattle.npr_route.specs.LookBounds.{attributes-saw}
+use Rattle.npr_route.specs.lemmas.LookBounds.{attributes-saw}
 use Rattle.npr_route.specs.ReaderLooks.{WaitsAt}
-use Rattle.npr_route.specs.NextHopFrontLaws.{HopFront-length}
+use Rattle.npr_route.specs.lemmas.NextHopFront.{HopFront-length}
 use Rattle.npr_route.specs.NextHopHeader.{head_in}
 use Rattle.npr_route.specs.declared.reader.Level.{Level}
-use Rattle.npr_route.specs.AheadLaws.{room_front, stopped_front}
+use Rattle.npr_route.specs.lemmas.Ahead.{room_front, stopped_front}
 use Rattle.npr_route.proofs.ReaderLaws.{wrong_at, chain_wrong, chain_push, weight_push, account_push, opened_first, room_open, Added-inner, Added-read, Ended-inside, Ended-hit-miss, Ended-inner}
 use Rattle.npr_route.proofs.ReadingLooks.{chain_at_stops, chain_at_push, goes_first}
 use Rattle.npr_route.proofs.reader.advance.Goals as goal

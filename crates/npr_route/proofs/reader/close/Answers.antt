@@ -6,7 +6,7 @@ use Rattle.npr_base.proofs.Lists.{ReadsTo-more}
 use Rattle.npr_route.specs.Attribute.{Meaning, Reads, AreHops, multi_path, no_hop_in_front}
 use Rattle.npr_route.specs.AttributeLooks.{HopsLooks, hop_ends, hops_end, no_hop_stands}
 use Rattle.npr_route.specs.AttributeView.{meaning_of, hop_of, hops_of}
-use Rattle.npr_route.specs.NextHopFrontLaws.{HopFront-length}
+use Rattle.npr_route.specs.lemmas.NextHopFront.{HopFront-length}
 use Rattle.npr_route.specs.NextHopHeader.{head_in}
 use Rattle.npr_route.specs.Reader.{IsAt, Chain, Opens, context_inside, account_of, weight_of}
 use Rattle.npr_route.specs.Ahead.{stopped}

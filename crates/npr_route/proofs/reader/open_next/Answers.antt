@@ -1,7 +1,7 @@
 use Rattle.std.proofs.Common.{subst}
 use Rattle.npr_base.specs.Counts.{Counts}
 use Rattle.npr_route.specs.Governing.{Searches}
-use Rattle.npr_route.specs.AheadLaws.{sought}
+use Rattle.npr_route.specs.lemmas.Ahead.{sought}
 use Rattle.npr_route.proofs.reader.open_next.Goals as goal
 
 pub returns-clause-sought : goal.returns-clause-sought

@@ -5,7 +5,7 @@ use Rattle.std.proofs.lemmas.Result.{err_from_is_err_and}
 use Rattle.npr_route.specs.Attribute.{no_hop_in_front}
 use Rattle.npr_route.specs.AttributeLooks.{hops_end, no_hop_stands}
 use Rattle.npr_route.specs.AttributeView.{hop_of, hops_of}
-use Rattle.npr_route.specs.LookBounds.{hops-saw}
+use Rattle.npr_route.specs.lemmas.LookBounds.{hops-saw}
 use Rattle.npr_route.specs.NextHopHeader.{head_in}
 use Rattle.npr_route.specs.Reader.{Opens, account, unread}
 use Rattle.npr_route.proofs.ReaderLaws.{opened_first, room_open, Added-open, Added-more, Ended-bounds}

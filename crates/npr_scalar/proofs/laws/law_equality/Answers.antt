@@ -1,7 +1,7 @@
 use Rattle.std.proofs.Common.{rules}
-use Rattle.npr_scalar.specs.EqualityLaws.{ip_protocol_equality, label_equality, realm_equality, cache_info_equality, mfc_stats_equality}
-use Rattle.npr_scalar.specs.EqualityLaws.{route_protocol_equality, route_scope_equality, route_type_equality, route_preference_equality}
-use Rattle.npr_scalar.specs.EqualityLaws.{ttl_propagation_equality, route_flags_equality, address_equality, via_equality}
+use Rattle.npr_scalar.proofs.EqualityLaws.{ip_protocol_equality, label_equality, realm_equality, cache_info_equality, mfc_stats_equality}
+use Rattle.npr_scalar.proofs.EqualityLaws.{route_protocol_equality, route_scope_equality, route_type_equality, route_preference_equality}
+use Rattle.npr_scalar.proofs.EqualityLaws.{ttl_propagation_equality, route_flags_equality, address_equality, via_equality}
 use Rattle.npr_scalar.proofs.laws.law_equality.Goals as goal
 
 pub returns : goal.returns

@@ -1,4 +1,4 @@
-use Rattle.npr_scalar.specs.MplsLaws.{length-mpls_labels}
+use Rattle.npr_scalar.specs.MplsCodec.{length-mpls_labels}
 use Rattle.npr_scalar.proofs.laws.law_labels_length.Goals as goal
 
 pub returns : goal.returns

@@ -1,5 +1,5 @@
 use Rattle.std.proofs.Common.{arith}
-use Rattle.npr_scalar.specs.MplsLaws.{length-mpls_labels}
+use Rattle.npr_scalar.specs.MplsCodec.{length-mpls_labels}
 use Rattle.npr_scalar.proofs.mpls.labels_len.Goals as goal
 
 pub returns : goal.returns

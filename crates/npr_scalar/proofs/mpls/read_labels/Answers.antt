@@ -2,7 +2,7 @@ use Rattle.std.proofs.Common.{[], List, subst}
 use Rattle.std.proofs.lemmas.List.{append-nil}
 use Rattle.npr_base.specs.Blocks.{AreBlocks}
 use Rattle.npr_scalar.specs.declared.mpls.MplsLabel.{MplsLabel}
-use Rattle.npr_scalar.specs.MplsLaws.{mpls_label}
+use Rattle.npr_scalar.specs.MplsCodec.{mpls_label}
 use Rattle.npr_scalar.proofs.mpls.read_labels.Goals as goal
 
 pub returns-clause-ok : goal.returns-clause-ok

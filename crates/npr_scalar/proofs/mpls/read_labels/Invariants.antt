@@ -1,7 +1,7 @@
 use Rattle.std.proofs.Common.{◌≤◌, List, ◌++◌, length}
 use Rattle.npr_base.specs.Blocks.{AreBlocks}
 use Rattle.npr_scalar.specs.declared.mpls.MplsLabel.{MplsLabel}
-use Rattle.npr_scalar.specs.MplsLaws.{mpls_label}
+use Rattle.npr_scalar.specs.MplsCodec.{mpls_label}
 use Rattle.npr_scalar.proofs.mpls.read_labels.Given as goal
 
 abbrev pub invariant-loop-rest : goal.invariant-loop-rest

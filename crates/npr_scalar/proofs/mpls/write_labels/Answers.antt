@@ -5,7 +5,7 @@ use Rattle.npr_base.specs.Blocks.{block_bytes}
 use Rattle.npr_base.proofs.Joined.{joined-append}
 use Rattle.npr_base.proofs.Writing.{room_for, wrote_next}
 use Rattle.npr_scalar.specs.declared.mpls.MplsLabel.{MplsLabel}
-use Rattle.npr_scalar.specs.MplsLaws.{mpls_label}
+use Rattle.npr_scalar.specs.MplsCodec.{mpls_label}
 use Rattle.npr_scalar.proofs.mpls.write_labels.Goals as goal
 
 -- what an index past the end answers

@@ -1,7 +1,7 @@
 use Rattle.std.proofs.Common.{◌≡◌, length, take}
 use Rattle.npr_base.specs.Framing.{Writes}
 use Rattle.npr_base.specs.Blocks.{block_bytes}
-use Rattle.npr_scalar.specs.MplsLaws.{mpls_label}
+use Rattle.npr_scalar.specs.MplsCodec.{mpls_label}
 use Rattle.npr_scalar.proofs.mpls.write_labels.Given as goal
 
 abbrev pub invariant-loop-entry : goal.invariant-loop-entry

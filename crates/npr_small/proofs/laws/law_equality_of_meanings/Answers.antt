@@ -1,7 +1,7 @@
 use Rattle.npr_base.proofs.Messages.{message_equality}
-use Rattle.npr_small.specs.EqualityLaws.{nsid_attribute_equality, netconf_attribute_equality, address_label_attribute_equality, prefix_attribute_equality}
-use Rattle.npr_small.specs.EqualityLaws.{neighbour_table_parameter_equality, neighbour_table_attribute_equality, nsid_header_equality}
-use Rattle.npr_small.specs.EqualityLaws.{netconf_header_equality, address_label_header_equality, prefix_header_equality, neighbour_table_header_equality}
+use Rattle.npr_small.proofs.EqualityLaws.{nsid_attribute_equality, netconf_attribute_equality, address_label_attribute_equality, prefix_attribute_equality}
+use Rattle.npr_small.proofs.EqualityLaws.{neighbour_table_parameter_equality, neighbour_table_attribute_equality, nsid_header_equality}
+use Rattle.npr_small.proofs.EqualityLaws.{netconf_header_equality, address_label_header_equality, prefix_header_equality, neighbour_table_header_equality}
 use Rattle.npr_small.specs.NsidMessage.{nsids}
 use Rattle.npr_small.specs.NetconfMessage.{netconfs}
 use Rattle.npr_small.specs.AddressLabelMessage.{address_labels}

@@ -1,7 +1,7 @@
 use Rattle.std.proofs.Common.{rules}
-use Rattle.npr_srh.specs.EqualityLaws.{mode_equality, action_equality, ioam6_mode_equality, trace_equality}
-use Rattle.npr_srh.specs.EqualityLaws.{seg6_header_equality, local_header_equality, rpl_header_equality}
-use Rattle.npr_srh.specs.EqualityLaws.{seg6_equality, local_equality, rpl_equality, ioam6_equality}
+use Rattle.npr_srh.proofs.EqualityLaws.{mode_equality, action_equality, ioam6_mode_equality, trace_equality}
+use Rattle.npr_srh.proofs.EqualityLaws.{seg6_header_equality, local_header_equality, rpl_header_equality}
+use Rattle.npr_srh.proofs.EqualityLaws.{seg6_equality, local_equality, rpl_equality, ioam6_equality}
 use Rattle.npr_srh.proofs.laws.law_equality.Goals as goal
 
 pub returns : goal.returns

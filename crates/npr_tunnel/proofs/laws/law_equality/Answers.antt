@@ -1,6 +1,6 @@
 use Rattle.std.proofs.Common.{rules}
-use Rattle.npr_tunnel.specs.EqualityLaws.{encap_type_equality, geneve_equality, vxlan_equality, erspan_equality, tunnel_option_equality}
-use Rattle.npr_tunnel.specs.EqualityLaws.{mpls_equality, ip_equality, ip6_equality, xfrm_equality, encap_equality}
+use Rattle.npr_tunnel.proofs.EqualityLaws.{encap_type_equality, geneve_equality, vxlan_equality, erspan_equality, tunnel_option_equality}
+use Rattle.npr_tunnel.proofs.EqualityLaws.{mpls_equality, ip_equality, ip6_equality, xfrm_equality, encap_equality}
 use Rattle.npr_tunnel.proofs.laws.law_equality.Goals as goal
 
 pub returns : goal.returns

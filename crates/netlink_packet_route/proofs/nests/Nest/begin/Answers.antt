@@ -3,7 +3,7 @@ use Rattle.npr_base.specs.declared.address_family.AddressFamily.{AddressFamily}
 use Rattle.npr_base.specs.declared.refusal.AttributeSet.TheVariants as At
 use Rattle.netlink_packet_route.specs.MessageKind.{begun, form_of, of_family}
 use Rattle.netlink_packet_route.specs.Nests.{FromBytes}
-use Rattle.netlink_packet_route.specs.NumberLaws.{link-bytes, link-number, neighbour-bytes, neighbour-number, next-hop-bytes, plain-bytes, route-bytes}
+use Rattle.netlink_packet_route.proofs.NumberLaws.{link-bytes, link-number, neighbour-bytes, neighbour-number, next-hop-bytes, plain-bytes, route-bytes}
 use Rattle.netlink_packet_route.specs.declared.kind.MessageKind.TheVariants as Kind
 use Rattle.netlink_packet_route.proofs.nests.Nest.begin.Goals as goal
 

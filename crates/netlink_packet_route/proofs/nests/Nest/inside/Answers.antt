@@ -2,7 +2,7 @@ use Rattle.std.proofs.Common.{sym, ap, ◌∙◌, arith}
 use Rattle.npr_base.specs.declared.refusal.At.{At}
 use Rattle.npr_base.specs.declared.value.Form.{Form}
 use Rattle.netlink_packet_route.proofs.ValueReading.{behind}
-use Rattle.netlink_packet_route.specs.NumberLaws.{inner-bytes}
+use Rattle.netlink_packet_route.proofs.NumberLaws.{inner-bytes}
 use Rattle.netlink_packet_route.proofs.nests.Nest.inside.Goals as goal
 
 pub returns-else-value-front-clause-inside : goal.returns-else-value-front-clause-inside

@@ -1,6 +1,6 @@
 use Rattle.std.proofs.Common.{arith, refl}
 use Rattle.npr_base.specs.Framing.{IsBytes}
-use Rattle.netlink_packet_route.specs.NumberLaws.{hop-bytes}
+use Rattle.netlink_packet_route.proofs.NumberLaws.{hop-bytes}
 use Rattle.netlink_packet_route.proofs.nests.Nest.of_next_hop.Goals as goal
 
 pub returns-in-Route-clause-nest : goal.returns-in-Route-clause-nest

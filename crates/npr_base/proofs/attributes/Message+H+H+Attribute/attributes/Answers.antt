@@ -3,7 +3,7 @@ use Rattle.std.proofs.lemmas.List.{take_rest}
 use Rattle.std.proofs.lemmas.Result.{err_from_is_err_and}
 use Rattle.npr_base.specs.Message.{MessageFault}
 use Rattle.npr_base.proofs.Messages.{message_read, fault_after}
-use Rattle.npr_base.specs.AttributesLaws.{steps-read}
+use Rattle.npr_base.proofs.AttributesLaws.{steps-read}
 use Rattle.npr_base.proofs.attributes.«Message+H+H+Attribute».attributes.Goals as goal
 
 pub returns-clause-all : goal.returns-clause-all

@@ -2,7 +2,7 @@ use Rattle.std.proofs.Common.{◌≡◌, [], drop, map, inl, refl, sym, subst}
 use Rattle.std.proofs.lemmas.List.{take_rest}
 use Rattle.std.proofs.lemmas.Result.{err_from_is_err_and}
 use Rattle.npr_base.specs.Message.{MessageFault}
-use Rattle.npr_base.specs.ValuesLaws.{values-seen, values-read, values-fault, values-none}
+use Rattle.npr_base.proofs.ValuesLaws.{values-seen, values-read, values-fault, values-none}
 use Rattle.npr_base.proofs.Messages.{message_list, fault_behind}
 use Rattle.npr_base.proofs.value_walk.«Message+H+H+Attribute».values.Goals as goal
 

@@ -3,7 +3,7 @@ use Rattle.std.proofs.lemmas.Result.{IfErr-weaker, err_from_is_err_and}
 use Rattle.npr_base.specs.declared.refusal.DecodeError.TheVariants.{OutOfMemory}
 use Rattle.npr_base.specs.Framing.{number_of}
 use Rattle.npr_route.specs.Attribute.{Wrong, value_wrong, hops_wrong}
-use Rattle.npr_route.specs.FlatAttributeLaws as Flats
+use Rattle.npr_route.specs.FlatFamily as Flats
 use Rattle.npr_route.specs.AttributeLooks.{AttributeLooks, hops_inside}
 use Rattle.npr_route.proofs.RowLooks.{by_answer}
 use Rattle.npr_route.proofs.attribute.RouteAttributeAttribute.read_onto.Goals as goal

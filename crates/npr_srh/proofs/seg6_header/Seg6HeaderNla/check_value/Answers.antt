@@ -1,7 +1,7 @@
 use Rattle.std.specs.List.{concat}
 use Rattle.std.proofs.Common.{◌≡◌, ◌+◌, ℕ, List, length, subst, arith, ap, ◌∙◌}
 use Rattle.npr_base.specs.Lists.{AllOf, checked, option_or, too_long}
-use Rattle.npr_base.specs.V6ListLaws.{length-concat}
+use Rattle.npr_base.proofs.V6ListLaws.{length-concat}
 use Rattle.npr_srh.specs.Seg6.{seg6_of, seg6_bytes}
 use Rattle.npr_srh.specs.Seg6Codec.{seg6-len}
 use Rattle.npr_srh.specs.Segments.{too_many}

@@ -1,0 +1,1 @@
+-- Lemmas that definitions and bodies need. What they say is checked: nobody has to believe it.

@@ -1,0 +1,3 @@
+-- Lemmas that definitions and bodies need. What they say is checked: nobody has to believe it.
+pub mod Geneve
+pub mod GeneveLooks
