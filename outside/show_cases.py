@@ -18,6 +18,8 @@ BUCKET = bytes.fromhex("40000000740000000000000000000000" "0000000000000000" "08
                        "20000d80" "0600010000000000" "080003000e000000" "0c000200d101000000000000")
 TABLES = bytes.fromhex("14000000420001030000000000000000" "02000000")
 COUNTS_OF_SMALL = COUNTS.replace(b"bytes 40", b"bytes 84").replace(b"nexthops 0", b"nexthops 1").replace(b"tables 0", b"tables 1").replace(b"controls 2", b"controls 0")
+# rules of two families, of which `ip monitor` says the same
+RULES = [bytes.fromhex(f"24000000200000000000000000000000" f"{family:02x}000000080000010000000008000600" "09000000") for family in (2, 10)]
 LABELS = f"0x{ROUTE} 10001600 0c000100 00064600:000c81ff 0600150001000000 # two labels\n\n".encode()
 LONG_MESSAGE = bytes.fromhex("04000400") + bytes(1 << 18) + DONE
 LONG_LINE = b"0" * (1 << 18) + b"\n"
@@ -76,6 +78,7 @@ SHOWN = [
      b"-: message 1 at byte 0, 7 bytes: MessageTooShort: 7 bytes, where a message begins with 16\n"),
     ("a count, which has no names", ["--count", "--links", "-", "/dev/null"], LINK_MESSAGE, 0, COUNTS.replace(b"bytes 40", b"bytes 0").replace(b"controls 2", b"controls 0"), b""),
     ("a text with blanks and a comment", ["--hex", "--as", "route"], LABELS, 0, b"default encap mpls 100[tc 3]/200[ttl 255] proto boot\n", b""),
+    ("rules of two families", [], RULES[0] + RULES[1] + RULES[0], 0, b"9: from all lookup 8\n9: from all lookup 8 family inet6\n9: from all lookup 8 family inet\n", b""),
     ("a bucket of next hops", [], BUCKET, 0, b"id 6 index 0 idle_time 4.65 nhid 14\n", b""),
     ("a request for tables of neighbours", ["--json"], TABLES, 0, b'{"family":"inet","message":"neighbour-table","request":true}\n', b""),
     ("messages of each small kind, counted", ["--count"], BUCKET + TABLES, 0, COUNTS_OF_SMALL, b""),
@@ -107,30 +110,30 @@ def encapsulation(kind, members):
 
 # refusals of nlshow: the kind, the message in hexadecimal, and the words for it
 REFUSED = [
-    ("route", "02", "HeaderTooShort: 1 bytes, where a header of 12 is wanted"),
-    ("route", ROUTE + "0400", "AttributeTooShort: 2 bytes, where an attribute begins with 4"),
-    ("route", ROUTE + "03000100", "AttributeLength: an attribute of length 3 with 4 bytes left"),
-    ("route", ROUTE + "0800090001000000", "NextHopTooShort: 4 bytes, where a next hop begins with 8"),
-    ("route", ROUTE + "0c0009000700000001000000", "NextHopLength: a next hop of length 7 with 8 bytes left"),
-    ("route", ROUTE + "06000f0001020000", "ValueLength: a value of 2 bytes at RTA_TABLE (15)"),
-    ("address", "020880fe01000000060003006cff0000", "NotUtf8: no UTF-8 at IFA_LABEL (3)"),
-    ("rule", "02000000fe000001000000000500060001000000", "ValueLength: a value of 1 bytes at FRA_PRIORITY (6)"),
-    ("link", "11000000", "HeaderTooShort: 4 bytes, where a header of 16 is wanted"),
-    ("link", LINK + "06000400dc050000", "ValueLength: a value of 2 bytes at IFLA_MTU (4)"),
-    ("link", LINK + "1c00120009000100766c616e000000000c0002000800010064000000", "ValueLength: a value of 4 bytes at IFLA_VLAN_ID (1)"),
-    ("nexthop", "0200000000000000" "060006000a000000", "ValueLength: a value of 2 bytes at NHA_GATEWAY (6)"),
-    ("netconf", "1c000000" "08000100ffffffff" "0500070001000000", "ValueLength: a value of 1 bytes at NETCONFA_INPUT (7)"),
-    ("prefix", "0a0000005b0000000340c000" "0b00020008070000100e0000", "HeaderTooShort: 7 bytes, where a header of 8 is wanted"),
-    ("neighbour-table", "00000000" "10000600" "0800010004000000" "0c000500", "AttributeLength: an attribute of length 12 with 4 bytes left"),
-    ("neighbour-table", "00000000" "06000100ff000000", "NotUtf8: no UTF-8 at NDTA_NAME (1)"),
-    ("nsid", "00", "HeaderTooShort: 1 bytes, where a header of 4 is wanted"),
-    ("route", ROUTE + "0a00120002010a0000010000", "ViaFamily: a gateway of address family 258"),
-    ("route", ROUTE + encapsulation(5, "0800010000000000"), "Seg6Header: a SEG6 routing header: Short"),
-    ("route", ROUTE + encapsulation(5, "10000100000000000002040000000000"), "Seg6Header: a SEG6 routing header: Length"),
-    ("route", ROUTE + encapsulation(5, "18000100000000000001040000080000" + "00" * 8), "Seg6Header: a SEG6 routing header: Hmac"),
-    ("route", ROUTE + encapsulation(5, "18000100000000000001040000000000" + "00" * 8), "Seg6Header: a SEG6 routing header: Segments"),
-    ("route", ROUTE + encapsulation(2, "100008800c0001800500020001000000"), "GeneveOrder: LWTUNNEL_IP_OPT_GENEVE_TYPE (2) before a class"),
-    ("route", ROUTE + encapsulation(2, "100008800c0001800500090001000000"), "GeneveChild: Geneve 9 is unknown"),
+    ("route", "02", "HeaderTooShort: 1 bytes, where a header of 12 is wanted, at byte 0"),
+    ("route", ROUTE + "0400", "AttributeTooShort: 2 bytes, where an attribute begins with 4, at byte 12"),
+    ("route", ROUTE + "03000100", "AttributeLength: an attribute of length 3 with 4 bytes left, at byte 12"),
+    ("route", ROUTE + "0800090001000000", "NextHopTooShort: 4 bytes, where a next hop begins with 8, in RTA_MULTIPATH (9) at byte 12"),
+    ("route", ROUTE + "0c0009000700000001000000", "NextHopLength: a next hop of length 7 with 8 bytes left, in RTA_MULTIPATH (9) at byte 12"),
+    ("route", ROUTE + "06000f0001020000", "ValueLength: a value of 2 bytes at RTA_TABLE (15), where 4 are wanted, at byte 12"),
+    ("address", "020880fe01000000060003006cff0000", "NotUtf8: no UTF-8 at IFA_LABEL (3), at byte 8"),
+    ("rule", "02000000fe000001000000000500060001000000", "ValueLength: a value of 1 bytes at FRA_PRIORITY (6), where 4 are wanted, at byte 12"),
+    ("link", "11000000", "HeaderTooShort: 4 bytes, where a header of 16 is wanted, at byte 0"),
+    ("link", LINK + "06000400dc050000", "ValueLength: a value of 2 bytes at IFLA_MTU (4), where 4 are wanted, at byte 16"),
+    ("link", LINK + "1c00120009000100766c616e000000000c0002000800010064000000", "ValueLength: a value of 4 bytes at IFLA_VLAN_ID (1), where 2 are wanted, in IFLA_LINKINFO (18) at byte 16"),
+    ("nexthop", "0200000000000000" "060006000a000000", "ValueLength: a value of 2 bytes at NHA_GATEWAY (6), where 4 are wanted, at byte 8"),
+    ("netconf", "1c000000" "08000100ffffffff" "0500070001000000", "ValueLength: a value of 1 bytes at NETCONFA_INPUT (7), where 4 are wanted, at byte 12"),
+    ("prefix", "0a0000005b0000000340c000" "0b00020008070000100e0000", "HeaderTooShort: 7 bytes, where a header of 8 is wanted, in PREFIX_CACHEINFO (2) at byte 12"),
+    ("neighbour-table", "00000000" "10000600" "0800010004000000" "0c000500", "AttributeLength: an attribute of length 12 with 4 bytes left, in NDTA_PARMS (6) at byte 4"),
+    ("neighbour-table", "00000000" "06000100ff000000", "NotUtf8: no UTF-8 at NDTA_NAME (1), at byte 4"),
+    ("nsid", "00", "HeaderTooShort: 1 bytes, where a header of 4 is wanted, at byte 0"),
+    ("route", ROUTE + "0a00120002010a0000010000", "ViaFamily: a gateway of address family 258, in RTA_VIA (18) at byte 12"),
+    ("route", ROUTE + encapsulation(5, "0800010000000000"), "Seg6Header: a SEG6 routing header without its fixed part, in RTA_ENCAP (22) at byte 20"),
+    ("route", ROUTE + encapsulation(5, "10000100000000000002040000000000"), "Seg6Header: a SEG6 routing header of another length than it states, in RTA_ENCAP (22) at byte 20"),
+    ("route", ROUTE + encapsulation(5, "18000100000000000001040000080000" + "00" * 8), "Seg6Header: a SEG6 routing header without room for its HMAC, in RTA_ENCAP (22) at byte 20"),
+    ("route", ROUTE + encapsulation(5, "18000100000000000001040000000000" + "00" * 8), "Seg6Header: a SEG6 routing header of segments that are not whole, in RTA_ENCAP (22) at byte 20"),
+    ("route", ROUTE + encapsulation(2, "100008800c0001800500020001000000"), "GeneveOrder: LWTUNNEL_IP_OPT_GENEVE_TYPE (2) before a class, in RTA_ENCAP (22) at byte 20"),
+    ("route", ROUTE + encapsulation(2, "100008800c0001800500090001000000"), "GeneveChild: Geneve option attribute 9 is unknown, in RTA_ENCAP (22) at byte 20"),
 ]
 
 # bytes in which no message stands, how many those of the refused message are, the words for it and what they look like
@@ -143,7 +146,7 @@ BROKEN = [
 BAD_LINES = [b"0 2", b"0g", b"020"]
 # inputs of another form than that which is read
 LOOKS = [
-    (["--as", "route"], DONE, "message 1 at byte 0, 20 bytes: AttributeLength: an attribute of length 0 with 8 bytes left", DATAGRAM),
+    (["--as", "route"], DONE, "message 1 at byte 0, 20 bytes: AttributeLength: an attribute of length 0 with 8 bytes left, at byte 12", DATAGRAM),
     ([], DONE.hex().encode(), "message 1 at byte 0, 808465457 bytes: MessageLength: a message of length 808465457 with 40 bytes left", OF_TEXT),
     ([], b"no datagram at all", "message 1 at byte 0, 1679847278 bytes: MessageLength: a message of length 1679847278 with 18 bytes left", NO_DATAGRAM),
     (["--hex"], DONE[:18].hex().encode() + b"\n", "line 1 at byte 0, 18 bytes: MessageLength: a message of length 20 with 18 bytes left", OF_LINES),
