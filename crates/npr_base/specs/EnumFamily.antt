@@ -29,7 +29,8 @@ use denote.Struct.Field.{Field}
 use denote.Struct.Values.{Values}
 use denote.Enum.Compared.{Each, by}
 use denote.Enum.Declared.{Choice}
-use Rattle.npr_base.specs.lemmas.EnumTable.{reads-in, wrong-in, looks-in, form-in, kinds-in, aligned-in, whole-in, wrong-shown, slot-other, back-read, rows-read}
+use Rattle.npr_base.specs.lemmas.EnumTable.{reads-in, wrong-in, looks-in, form-in, kinds-in, aligned-in, whole-in, wrong-shown, slot-other}
+use Rattle.npr_base.specs.lemmas.EnumTable.{back-read, rows-read}
 
 module _ (Fss : List (List Field)) (rows : VariantRows Fss) where
   abbrev pub enum_table : numbered Fss rows ≡ true → Table (MeaningIn Fss rows)

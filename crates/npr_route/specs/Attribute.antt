@@ -85,7 +85,7 @@ abbrev pub typed : Context → RouteLwEnCapType → Context
 typed c type = (c.0, c.1, type)
 
 abbrev mutual
-  -- what an attribute means, by a table of SEG6 modes: number 9 holds next hops
+  -- what an attribute means, by a table of SEG6 modes: number 9 (RTA_MULTIPATH) holds next hops
   pub ReadsBy : ModeTable → Context → Item → Meaning → Type 0
   ReadsBy by c x (flat m) = (number_of x.kind ≢ 9) × (Flats.attributes_by by c).Reads x m
   ReadsBy by c x (multi_path hs) = (number_of x.kind ≡ 9) × AreHopsBy by c x.value hs
