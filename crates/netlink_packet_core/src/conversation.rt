@@ -20,7 +20,12 @@ pub enum End<'a> {
     Acknowledged,
     /// The request was refused, with the code of the error, below 0, and the attributes of an
     /// extended answer.
-    Refused { code: i32, attributes: &'a [u8] },
+    Refused {
+        /// A negative error of `linux/errno.h`.
+        code: i32,
+        /// `NLMSGERR_ATTR_*` of `linux/netlink.h`, in an extended answer.
+        attributes: &'a [u8],
+    },
     /// The dump is over, and a part of it said that the tables changed: ask again.
     Interrupted,
     /// Data were lost.

@@ -1,6 +1,6 @@
 //! The header of an address message: `struct ifaddrmsg` of `linux/if_addr.h`.
 
-ghost use Rattle.std.{specs.Prelude.{◌≡◌, ◌<◌, IfOk, IfErr, refl}, proofs.Common.{rules}};
+ghost use Rattle.std.{specs.Prelude.{◌≡◌, ◌<◌, IfOk, IfErr, refl, codes}, proofs.Common.{rules}};
 ghost use Rattle.{
   npr_base.specs.{Codec.{leading}, Message.{governs_by, none_searched}, lemmas.Message.{of_family, under_by}, Refusal.{no_place}},
   npr_address.specs.{Attribute.{family}, Header.{buffer_of, default_header, header, header_buffer}, Message.{addresses}},
@@ -36,10 +36,15 @@ pub struct AddressHeader {
 /// little endian.
 #[derive(Clone, Copy, Debug, PartialEq, Eq)]
 pub struct AddressMessageBuffer {
+    /// `AF_*` of `linux/socket.h`.
     pub family: u8,
+    /// The length of the prefix, in bits.
     pub prefix_len: u8,
+    /// `IFA_F_*` of `linux/if_addr.h`.
     pub flags: u8,
+    /// `RT_SCOPE_*` of `linux/rtnetlink.h`.
     pub scope: u8,
+    /// The number of the interface.
     pub index: u32,
 }
 
@@ -121,6 +126,12 @@ impl Header for AddressHeader {
     ghost by_family = { of_family family header default_header addresses.body };
 
     ghost under = { under_by family header default_header (λ h. tt) };
+
+    ghost message_text = { codes "AddressMessage" };
+
+    fn message_name() -> &'static str {
+        "AddressMessage"
+    }
 
     fn size() -> usize {
         IFADDRMSG_SIZE

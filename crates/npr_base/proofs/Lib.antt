@@ -1,4 +1,6 @@
 pub mod Fronts
+mod Sought
+pub mod BlockLengths
 pub mod Writing
 pub mod Checking
 pub mod Joined
@@ -13,7 +15,6 @@ pub mod NormalizedLaws
 pub mod AddressFamilyLaws
 pub mod AttributesLaws
 pub mod EqualityLaws
-pub mod FirstToldLaws
 pub mod IpLaws
 pub mod PlaceLaws
 pub mod StructLaws

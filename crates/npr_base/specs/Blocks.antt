@@ -1,4 +1,5 @@
 -- Values in blocks, one after the other, and then fewer bytes than a block, which are dropped.
+--     Width            values of a width
 --     IsBlock          a value stands in front
 --     AreBlocks        the bytes are blocks of these values, and what is left has no room for one more
 --     block_bytes      what is written: the blocks, joined
@@ -17,6 +18,13 @@ use Rattle.npr_base.specs.Codec.{Codec, no_members}
 use Rattle.npr_base.specs.declared.value.Form.TheVariants.{Raw}
 use Rattle.npr_base.specs.Showing.{Showing}
 use Rattle.npr_base.specs.Value.{are_bytes}
+
+-- how a value is read and written, always in so many bytes, and the one that stands for none
+pub record Width (A : Type 0) : Type 1 where
+  pub layout : Layout A
+  pub positive : 0 < layout.size
+  pub long : (x : A) → length (layout.encode x) ≡ layout.size
+  pub none : A
 
 -- a value stands in front, in as many bytes as the layout has
 pub record IsBlock {V : Type 0} (L : Layout V) (bytes : List ℕ) (x : V) : Type 0 where

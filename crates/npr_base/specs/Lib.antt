@@ -10,6 +10,7 @@ pub mod FirstTold
 pub mod Found
 pub mod Looks
 pub mod NameText
+pub mod Unterminated
 pub mod Widths
 pub mod Value
 pub mod Showing
@@ -35,6 +36,10 @@ pub mod FlagCodec
 pub mod UintCodec
 pub mod ViewEquality
 pub mod Blocks
+pub mod Words
+pub mod Choices
+pub mod GovernedBody
+pub mod GovernedList
 pub mod VariantCodec
 pub mod DroppedCodec
 pub mod V6List

@@ -11,4 +11,7 @@ pub mod Bool
 pub mod LookBounds
 pub mod Table
 pub mod EnumTable
+pub mod Fails
+pub mod FirstTold
+pub mod ShortList
 pub mod Rows

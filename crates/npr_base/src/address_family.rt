@@ -9,52 +9,98 @@ use std::fmt;
 /// An address family: `AF_*` of `linux/socket.h`.
 #[derive(Clone, Copy, Debug, Default, PartialEq, Eq)]
 pub enum AddressFamily {
+    /// Any, or none.
     #[default]
     Unspec,
+    /// Sockets of this machine.
     Unix,
+    /// IP, version 4.
     Inet,
+    /// Amateur radio's AX.25.
     Ax25,
+    /// Novell's IPX.
     Ipx,
+    /// AppleTalk's DDP.
     Appletalk,
+    /// Amateur radio's NET/ROM.
     Netrom,
+    /// Bridges of several protocols.
     Bridge,
+    /// ATM's permanent circuits.
     Atmpvc,
+    /// X.25.
     X25,
+    /// IP, version 6.
     Inet6,
+    /// Amateur radio's X.25 packet layer.
     Rose,
+    /// DECnet.
     Decnet,
+    /// NetBEUI, of 802.2 LLC.
     Netbeui,
+    /// Callbacks of security modules.
     Security,
+    /// Management of keys.
     Key,
+    /// Netlink, as `Route`.
     Netlink,
+    /// Packets as a device sees them.
     Packet,
+    /// Ash.
     Ash,
+    /// Acorn's Econet.
     Econet,
+    /// ATM's switched circuits.
     Atmsvc,
+    /// Reliable datagrams.
     Rds,
+    /// Linux-SNA.
     Sna,
+    /// Infrared.
     Irda,
+    /// PPP over something else.
     Pppox,
+    /// Wanpipe.
     Wanpipe,
+    /// 802.2 LLC.
     Llc,
+    /// InfiniBand.
     Ib,
+    /// Labels of MPLS.
     Mpls,
+    /// Controller area networks.
     Can,
+    /// TIPC.
     Tipc,
+    /// Bluetooth.
     Bluetooth,
+    /// IUCV of mainframes.
     Iucv,
+    /// RxRPC.
     Rxrpc,
+    /// ISDN.
     Isdn,
+    /// Phonet.
     Phonet,
+    /// IEEE 802.15.4.
     Ieee802154,
+    /// CAIF.
     Caif,
+    /// Algorithms of the kernel.
     Alg,
+    /// Near field communication.
     Nfc,
+    /// Sockets between a guest and its host.
     Vsock,
+    /// Multiplexed connections of the kernel.
     Kcm,
+    /// Qualcomm's IPC router.
     Qipcrtr,
+    /// Shared memory in place of TCP.
     Smc,
+    /// Sockets of XDP.
     Xdp,
+    /// Management components, MCTP.
     Mctp,
     /// Written as `Unix` is; no number reads as it.
     Local,

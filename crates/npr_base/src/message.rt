@@ -17,6 +17,7 @@ use crate::looks::Looks;
 use crate::refusal::{DecodeError, EmitError};
 use crate::traits::{Emitable, Parseable};
 use std::alloc::{AllocError, Global};
+use std::fmt;
 
 /// The header of a kind of message, with what the bytes after it mean.
 pub trait Header: Emitable + Copy + Default {
@@ -31,6 +32,13 @@ pub trait Header: Emitable + Copy + Default {
 
     /// The search for it takes the counts of looks from these to those.
     ghost searches: { Self → List ℕ → Self.Attribute.Context → Counts → Counts → Type 0 };
+
+    /// The name of its messages.
+    ghost message_text: { List ℕ };
+
+    /// The name of its messages, as `AddressMessage`: what `{:?}` of one begins with.
+    fn message_name() -> &'static str
+        ensures { result.now ≡ message_text };
 
     /// The length of the header, in bytes.
     fn size() -> usize
@@ -72,12 +80,21 @@ pub trait Header: Emitable + Copy + Default {
 }
 
 /// A message: a header, and attributes to the end.
-#[derive(Debug, Drop, PartialEq, Eq)]
+#[derive(Drop, PartialEq, Eq)]
 pub struct Message<H, A> {
     /// The header.
     pub header: H,
     /// The attributes, in their order.
     pub attributes: Vec<A>,
+}
+
+impl<H: Header + fmt::Debug, A: fmt::Debug> fmt::Debug for Message<H, A> {
+    fn fmt<W: fmt::Write>(&self, f: &mut fmt::Formatter<W>) -> fmt::Result {
+        f.debug_struct(H::message_name())
+            .field("header", &self.header)
+            .field("attributes", &self.attributes)
+            .finish()
+    }
 }
 
 impl<H: Header> Message<H, H::Attribute> {

@@ -140,6 +140,38 @@ pub enum AttributeSet {
     /// What an encapsulation holds, by its type: the set is that of the type (`Mpls` .. `Ioam6`), which
     /// refusals name, or none.
     Encap = 64,
+    /// `TCA_*` of `linux/rtnetlink.h`.
+    Tc = 65,
+    /// `TCA_STATS_*` of `linux/gen_stats.h`.
+    TcStats2 = 66,
+    /// `TCA_STAB_*` of `linux/pkt_sched.h`.
+    TcStab = 67,
+    /// The data of `ingress` and of `clsact`, which have no numbers.
+    TcQdiscIngress = 68,
+    /// `TCA_FQ_CODEL_*` of `linux/pkt_sched.h`.
+    TcQdiscFqCodel = 69,
+    /// `TCA_U32_*` of `linux/pkt_cls.h`.
+    TcFilterU32 = 70,
+    /// `TCA_MATCHALL_*` of `linux/pkt_cls.h`.
+    TcFilterMatchAll = 71,
+    /// `TCA_FLOWER_*` of `linux/pkt_cls.h`.
+    TcFilterFlower = 72,
+    /// `TCA_FLOWER_KEY_MPLS_OPTS_*` of `linux/pkt_cls.h`.
+    TcFilterFlowerMpls = 73,
+    /// `TCA_FLOWER_KEY_MPLS_OPT_LSE_*` of `linux/pkt_cls.h`.
+    TcFilterFlowerMplsLse = 74,
+    /// `TCA_ROOT_*` of `linux/rtnetlink.h`.
+    TcActionMessage = 75,
+    /// `TCA_ACT_*` of `linux/pkt_cls.h`.
+    TcAction = 76,
+    /// `TCA_MIRRED_*` of `linux/tc_act/tc_mirred.h`.
+    TcActionMirror = 77,
+    /// `TCA_NAT_*` of `linux/tc_act/tc_nat.h`.
+    TcActionNat = 78,
+    /// `TCA_TUNNEL_KEY_*` of `linux/tc_act/tc_tunnel_key.h`.
+    TcActionTunnelKey = 79,
+    /// A list of actions: the number of each is its place.
+    TcActions = 80,
 }
 
 /// The place of a value: the set of its attribute, and the attribute's number.
@@ -189,40 +221,81 @@ pub enum DecodeError {
     OutOfMemory,
     /// A fixed header has `want` bytes, and `got` were there.
     #[error("{got} bytes, where a header of {want} is wanted")]
-    HeaderTooShort { got: usize, want: usize },
+    HeaderTooShort {
+        /// The bytes that were there.
+        got: usize,
+        /// The bytes of the header.
+        want: usize,
+    },
     /// The header of an attribute has 4 bytes, and `got` were there.
     #[error("{got} bytes, where an attribute begins with 4")]
-    AttributeTooShort { got: usize },
+    AttributeTooShort {
+        /// The bytes that were there.
+        got: usize,
+    },
     /// An attribute's length is below 4, or above the bytes that are left.
     #[error("an attribute of length {length} with {left} bytes left")]
-    AttributeLength { length: u16, left: usize },
+    AttributeLength {
+        /// What its length says.
+        length: u16,
+        /// The bytes that are left.
+        left: usize,
+    },
     /// The header of a next hop has 8 bytes, and `got` were there.
     #[error("{got} bytes, where a next hop begins with 8")]
-    NextHopTooShort { got: usize },
+    NextHopTooShort {
+        /// The bytes that were there.
+        got: usize,
+    },
     /// A next hop's length is below 8, or above the bytes that are left.
     #[error("a next hop of length {length} with {left} bytes left")]
-    NextHopLength { length: u16, left: usize },
+    NextHopLength {
+        /// What its length says.
+        length: u16,
+        /// The bytes that are left.
+        left: usize,
+    },
     /// A value of a length that its place doesn't take.
     #[error("a value of {got} bytes at {at:?}")]
-    ValueLength { at: At, got: usize },
+    ValueLength {
+        /// Where it stands.
+        at: At,
+        /// The bytes of the value.
+        got: usize,
+    },
     /// A name that is no UTF-8.
     #[error("no UTF-8 at {at:?}")]
-    NotUtf8 { at: At },
+    NotUtf8 {
+        /// Where it stands.
+        at: At,
+    },
     /// A SEG6 routing header.
     #[error("a SEG6 routing header: {fault:?}")]
-    Seg6Header { fault: Seg6Fault },
+    Seg6Header {
+        /// What is wrong with it.
+        fault: Seg6Fault,
+    },
     /// A Geneve type or data before any class.
     #[error("Geneve option attribute {kind} before a class")]
-    GeneveOrder { kind: u16 },
+    GeneveOrder {
+        /// The attribute's number.
+        kind: u16,
+    },
     /// A child of a Geneve option of an unknown number.
     #[error("Geneve option attribute {kind} is unknown")]
-    GeneveChild { kind: u16 },
+    GeneveChild {
+        /// The attribute's number.
+        kind: u16,
+    },
     /// An address family of a gateway that no byte holds.
     #[error("a gateway of address family {0}")]
     ViaFamily(u16),
     /// A routing header in a form that is not read.
     #[error("an unsupported header at {at:?}")]
-    Unsupported { at: At },
+    Unsupported {
+        /// Where it stands.
+        at: At,
+    },
 }
 
 /// Why a value can't be written. Lengths are in bytes.
@@ -230,16 +303,30 @@ pub enum DecodeError {
 pub enum EmitError {
     /// The value of the attribute `kind` has more than 65,531 bytes.
     #[error("attribute {kind} with a value of {len} bytes")]
-    TooLong { kind: u16, len: usize },
+    TooLong {
+        /// The attribute's number.
+        kind: u16,
+        /// The bytes of its value.
+        len: usize,
+    },
     /// A next hop has more than 65,535 bytes.
     #[error("a next hop of {len} bytes")]
-    NextHopTooLong { len: usize },
+    NextHopTooLong {
+        /// Its bytes.
+        len: usize,
+    },
     /// A routing header with more segments than its length byte can say.
     #[error("{count} segments")]
-    TooManySegments { count: usize },
+    TooManySegments {
+        /// How many.
+        count: usize,
+    },
     /// A protocol number that no byte holds.
     #[error("IP protocol {number}")]
-    IpProtocol { number: i32 },
+    IpProtocol {
+        /// The number.
+        number: i32,
+    },
     /// A length past the greatest `usize`.
     #[error("too many bytes in all")]
     Total,

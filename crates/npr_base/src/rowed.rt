@@ -5,7 +5,7 @@ ghost use Rattle.npr_base.specs.{
   declared.refusal.DecodeError.{DecodeError},
   Codec.{exactly},
   Framing.{Item, number_of},
-  Layout.{Layout, boolean, byte, signed32, le16, le32, le64, be16, be32, be64, octets4, octets16},
+  Layout.{Layout, boolean, byte, signed32, le16, le32, le64, be16, be32, be64, octets, octets4, octets16},
   Refusal.{at_number},
 };
 
@@ -14,8 +14,8 @@ use crate::ip::{Ipv4Addr, Ipv6Addr};
 use crate::place::Place;
 use crate::refusal::{At, AttributeSet, DecodeError};
 use crate::values::{
-    read_bool, read_i32, read_ipv4, read_ipv6, read_u8, read_u16, read_u16_be, read_u32,
-    read_u32_be, read_u64, read_u64_be,
+    read_bool, read_i32, read_ipv4, read_ipv6, read_octets, read_u8, read_u16, read_u16_be,
+    read_u32, read_u32_be, read_u64, read_u64_be,
 };
 
 /// A family whose attributes are read by the rows of a table.
@@ -27,7 +27,7 @@ pub trait Rowed: Drop {
     ghost wrong: { ℕ → Item → DecodeError → Type 0 };
 }
 
-/// A value of a fixed number of bytes: a number with the lowest byte first, a truth value, an address.
+/// A value of a fixed number of bytes: a number with the lowest byte first, a truth value, an address, bytes.
 pub trait Scalar: Drop {
     /// How it is read and written.
     ghost layout: { Layout Self };
@@ -124,6 +124,15 @@ impl Scalar for Ipv6Addr {
     #[inline(always)]
     fn read_scalar(value: &[u8], at: At) -> Result<Self, DecodeError> {
         read_ipv6(value, at)
+    }
+}
+
+impl<const N: usize> Scalar for [u8; N] {
+    ghost layout = { octets N };
+
+    #[inline(always)]
+    fn read_scalar(value: &[u8], at: At) -> Result<Self, DecodeError> {
+        read_octets(value, at)
     }
 }
 

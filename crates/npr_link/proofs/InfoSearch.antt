@@ -1,27 +1,16 @@
 -- A search for what governs a list, and the reading under what it finds.
-use Rattle.std.proofs.Common.{◌≡◌, ℕ, List, true, Some, map, ap, ◌∙◌}
-use Rattle.std.specs.Prelude.{◌≢◌, ◌==◌, IfOk, IfErr, Result, Ok, Err}
+use Rattle.std.proofs.Common.{ℕ, List, map}
+use Rattle.std.specs.Prelude.{◌≢◌, IfOk, IfErr, Result, Ok, Err}
 use Rattle.std.specs.declared.alloc.Global.{Global}
 use Rattle.std.specs.declared.vec.Vec.{Vec}
 use Rattle.npr_base.specs.Counts.{Counts}
 use Rattle.npr_base.specs.declared.refusal.DecodeError.{DecodeError}
 use Rattle.npr_base.specs.declared.refusal.DecodeError.TheVariants.{OutOfMemory}
-use Rattle.npr_base.specs.Framing.{Item, number_of}
 use Rattle.npr_base.specs.Lists.{ReadsList, FirstFault}
-use Rattle.npr_base.specs.NameText.{IsUnterminated}
-use Rattle.npr_base.specs.lemmas.Name.{name-one}
-use Rattle.npr_link.specs.Governing.{Forms, told_by, Searches}
+use Rattle.npr_link.specs.Governing.{Forms, Searches}
 use Rattle.npr_link.specs.Info.{attributes, family}
 use Rattle.npr_link.specs.InfoList.{IsInfoList, InfoListFault, read-searched, fault-searched}
-use Rattle.npr_link.specs.Kinds.{unterminated, is-unterminated}
 use Rattle.npr_link.specs.declared.info.LinkInfo.{LinkInfo}
-
--- an attribute of the number tells the form of its name
-pub name_told : {F : Type 0} (number : ℕ) (form_named : List ℕ → F) (x : Item) (value name : List ℕ) (form : F) → value ≡ x.value
-    → IsUnterminated value name → (number_of x.kind == number) ≡ true → form ≡ form_named name → Some form ≡ told_by number form_named x
-name_told number form_named x value name form same is here named =
-    let found : name ≡ unterminated x.value = name-one value name (unterminated value) is (is-unterminated value) ∙ ap unterminated same in
-    rw here (ap Some (named ∙ ap form_named found))
 
 -- what is read or refused under what a search finds is so of the list
 pub read_under : (bytes : List ℕ) (c : Forms) (old mid : Counts) → Searches bytes c old mid → (r : Result (Vec LinkInfo Global) DecodeError)

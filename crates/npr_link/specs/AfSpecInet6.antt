@@ -7,7 +7,7 @@ use Rattle.npr_link.specs.Inet6CacheInfo.{inet6_cache_info}
 use Rattle.npr_link.specs.Inet6Flags.{inet6_flags}
 use Rattle.npr_link_numbers.specs.Grown.{grown, parts}
 use Rattle.npr_link_numbers.specs.Names.{icmp6_stats, inet6_devconf, inet6_stats}
-use Rattle.npr_link_numbers.specs.Numbers.{signed_words32, signed_words64}
+use Rattle.npr_base.specs.Words.{signed_words32, signed_words64}
 use Rattle.npr_link.specs.contracts.af_spec_inet6.AfSpecInet6.{enum}
 use Rattle.npr_link.specs.declared.af_spec_inet6.AfSpecInet6.{AfSpecInet6}
 

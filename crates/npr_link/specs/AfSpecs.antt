@@ -8,7 +8,7 @@ use Rattle.npr_base.specs.declared.address_family.AddressFamily.{AddressFamily}
 use Rattle.npr_base.specs.declared.address_family.AddressFamily.TheVariants.{Unspec, Inet, Bridge, Inet6}
 use Rattle.npr_link.specs.AfSpec as OfAfSpec
 use Rattle.npr_link_bridge.specs.AfSpecBridge as OfBridge
-use Rattle.npr_link.specs.Choices.{Held, as_list as listed, as_bytes as kept, Case, list_case, bytes_case, chosen}
+use Rattle.npr_base.specs.Choices.{Held, as_list as listed, as_bytes as kept, Case, list_case, bytes_case, chosen}
 
 pub data AfSpecs : Type 0 where
   unspec : List OfAfSpec.family.Meaning → AfSpecs

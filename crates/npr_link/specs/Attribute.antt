@@ -29,7 +29,7 @@ use Rattle.npr_link.specs.LinkMode.{link_mode}
 use Rattle.npr_link.specs.Map.{device_map}
 use Rattle.npr_link_numbers.specs.Grown.{grown, parts}
 use Rattle.npr_link_numbers.specs.Names.{stats, stats64}
-use Rattle.npr_link_numbers.specs.Numbers.{words32, words64}
+use Rattle.npr_base.specs.Words.{words32, words64}
 use Rattle.npr_link.specs.Prop as OfProp
 use Rattle.npr_link.specs.ProtoInfos.{ProtoInfos, inet6 as proto_inet6, bridge as proto_bridge, unknown as proto_unknown}
 use Rattle.npr_link.specs.ProtoInfos.{Form as ProtoForm, as_inet6, as_bridge as as_bridge_port, as_whole, form_of as proto_form_of}

@@ -12,8 +12,8 @@ use Rattle.npr_base.specs.declared.refusal.DecodeError.{DecodeError}
 use Rattle.npr_base.specs.FirstTold as Told
 use Rattle.npr_base.specs.Framing.{Item, number_of, Front, Fault}
 use Rattle.npr_link.specs.InfoKind as OfKind
-use Rattle.npr_link.specs.Kinds.{unterminated}
 use Rattle.npr_link.specs.PortKind as OfPortKind
+use Rattle.npr_base.specs.Unterminated.{told_by}
 use Rattle.npr_link_tunnels.specs.declared.form.InfoForm.{InfoForm}
 use Rattle.npr_link_tunnels.specs.declared.form.InfoForm.TheVariants.{Kept}
 use Rattle.npr_link.specs.declared.port_kind.InfoPortForm.{InfoPortForm}
@@ -27,10 +27,6 @@ abbrev pub none_governs : Forms
 none_governs = (Kept, PortKept)
 
 -- ---- the rule
-
--- an attribute of this number tells the form of the name that it holds
-abbrev pub told_by : {F : Type 0} → ℕ → (List ℕ → F) → Item → Option F
-told_by number form_named x = if number_of x.kind == number then Some (form_named (unterminated x.value)) else None
 
 abbrev pub told : Item → Option InfoForm
 told x = told_by 1 OfKind.form_named x

@@ -19,7 +19,7 @@ use Rattle.npr_link_tunnels.specs.IpTunnel as OfIpTunnel
 use Rattle.npr_link_tunnels.specs.Vti as OfVti
 use Rattle.npr_link_tunnels.specs.Vxlan as OfVxlan
 use Rattle.npr_link_tunnels.specs.Xfrm as OfXfrm
-use Rattle.npr_link.specs.Choices.{Held, as_list, as_bytes, Case, list_case, bytes_case, chosen}
+use Rattle.npr_base.specs.Choices.{Held, as_list, as_bytes, Case, list_case, bytes_case, chosen}
 use Rattle.npr_link.specs.declared.info_data.InfoData.{InfoData}
 use Rattle.npr_link.specs.declared.info_data.InfoData.TheVariants as Has
 use Rattle.npr_link_tunnels.specs.declared.form.InfoForm.{InfoForm}

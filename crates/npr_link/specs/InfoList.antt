@@ -9,7 +9,7 @@ use Rattle.npr_base.specs.Counts.{Counts, AddsAtMost, SawEach, raised, no_looks}
 use Rattle.npr_base.specs.declared.refusal.DecodeError.{DecodeError}
 use Rattle.npr_base.specs.Family.{fits-small, written_by, unfit_by, list_looking}
 use Rattle.npr_base.specs.FirstTold.{first_told}
-use Rattle.npr_base.proofs.FirstToldLaws.{first_governs}
+use Rattle.npr_base.specs.lemmas.FirstTold.{first_governs}
 use Rattle.npr_base.specs.lemmas.Fit.{none_both}
 use Rattle.npr_base.specs.Framing.{Item, IsBytes, number_of}
 use Rattle.npr_base.specs.Lists.{AllOf, ReadsList, FirstFault, encodings, first_unfit, list_unfit, list_members, overlong}
@@ -17,19 +17,18 @@ use Rattle.npr_base.specs.lemmas.List.{ReadsList-one, FirstFault-excludes, Reads
 use Rattle.npr_base.specs.lemmas.LookBounds.{list-bounded, list-saw, list-walked, searched-read, searched-saw, Passes-length}
 use Rattle.npr_base.specs.Looks.{Looking, Adds, ListLooks, looked_through}
 use Rattle.npr_base.specs.lemmas.Looks.{plus, raised-none, raised-more, none-most, same_counts}
-use Rattle.npr_base.specs.NameText.{IsUnterminated}
-use Rattle.npr_base.specs.lemmas.Name.{name-one}
+use Rattle.npr_base.specs.Unterminated.{told_by, name_is}
 use Rattle.npr_base.specs.Showing.{shows_list}
 use Rattle.npr_base.specs.declared.refusal.AttributeSet.TheVariants.{LinkInfo as AtInfo}
 use Rattle.npr_base.specs.lemmas.Bool.{both, one_of}
-use Rattle.npr_link.specs.lemmas.Fails.{list-once}
-use Rattle.npr_link.specs.Governing.{Forms, told_by, told, port_told, Governs, none_governs, start, Searching, Searches}
+use Rattle.npr_base.specs.lemmas.Fails.{list-once}
+use Rattle.npr_link.specs.Governing.{Forms, told, port_told, Governs, none_governs, start, Searching, Searches}
 use Rattle.npr_link.specs.lemmas.Governing.{governs-one, other_tells, search-governs, below, not_below}
 use Rattle.npr_link.specs.Info.{Meaning, writing, attributes}
 use Rattle.npr_link.specs.InfoKind as OfKind
 use Rattle.npr_link.specs.lemmas.InfoLooks.{search-one, looks-one, search-adds, search-searched}
 use Rattle.npr_link.specs.lemmas.InfoOnce.{info_once}
-use Rattle.npr_link.specs.Kinds.{Kind, IsKind, kind_name, unterminated, is-unterminated}
+use Rattle.npr_link.specs.Kinds.{Kind, IsKind, kind_name}
 use Rattle.npr_link.specs.PortKind as OfPortKind
 use Rattle.npr_link.specs.lemmas.ShortLists.{short-reads, short-fault, short-plain}
 use Rattle.npr_link_tunnels.specs.declared.form.InfoForm.{InfoForm}
@@ -51,9 +50,6 @@ abbrev pub governing : List Meaning → Forms
 governing ms = (first_told told_of Kept ms, first_told port_told_of PortKept ms)
 
 -- ---- what is read tells what its bytes do
-
-name_is : (value text : List ℕ) → IsUnterminated value text → unterminated value ≡ text
-name_is value text is = name-one value (unterminated value) text (is-unterminated value) is
 
 -- a kind that is read tells the form of its name
 kind_tells : {F : Type 0} (number : ℕ) (form_named : List ℕ → F) (names : List (List ℕ)) (x : Item) (k : Kind) → (number_of x.kind == number) ≡ true

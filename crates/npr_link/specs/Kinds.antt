@@ -81,35 +81,6 @@ module _ {K : Type 0} (kind_of : K → Kind) (names : List (List ℕ)) (text : L
   IsKnown (Some k) = kind_of k ≡ kind_in names text
   IsKnown None = kind_in names text ≡ other text
 
--- a name without one final zero, computed
-abbrev pub unterminated : List ℕ → List ℕ
-unterminated [] = []
-unterminated (b ∷ []) = if b == 0 then [] else b ∷ []
-unterminated (b ∷ c ∷ bytes) = b ∷ unterminated (c ∷ bytes)
-
--- which it is
-not_zero : (b : ℕ) (front : List ℕ) → (b ≡ 0 → ⊥) → b ∷ [] ≡ front ++ 0 ∷ [] → ⊥
-not_zero b [] h is = h (ap (λ (w : List ℕ). get_or w 0 0) is)
-not_zero b (f ∷ []) h is = absurd (omega (arith, ap length is))
-not_zero b (f ∷ g ∷ front) h is = absurd (omega (arith, ap length is))
-
-last_zero : (b : ℕ) (e : Bool) → (b == 0) ≡ e → IsUnterminated (b ∷ []) (if e then [] else b ∷ [])
-last_zero b true e = inl (ap (λ (n : ℕ). n ∷ []) (eqb-true b 0 e))
-last_zero b false e = inr (refl, λ front is. not_zero b front (eqb-false b 0 e) is)
-
-longer : (b c : ℕ) (bytes front : List ℕ) → ((f : List ℕ) → c ∷ bytes ≡ f ++ 0 ∷ [] → ⊥) → b ∷ c ∷ bytes ≡ front ++ 0 ∷ [] → ⊥
-longer b c bytes [] none is = absurd (omega (arith, ap length is))
-longer b c bytes (f ∷ front) none is = none front (ap (drop 1) is)
-
-one_more : (b c : ℕ) (bytes text : List ℕ) → IsUnterminated (c ∷ bytes) text → IsUnterminated (b ∷ c ∷ bytes) (b ∷ text)
-one_more b c bytes text (inl is) = inl (ap (λ (w : List ℕ). b ∷ w) is)
-one_more b c bytes text (inr (is, none)) = inr (ap (λ (w : List ℕ). b ∷ w) is, λ front js. longer b c bytes front none js)
-
-pub is-unterminated : (bytes : List ℕ) → IsUnterminated bytes (unterminated bytes)
-is-unterminated [] = inr (refl, λ front is. absurd (omega (arith, ap length is, length-append front (0 ∷ []))))
-is-unterminated (b ∷ []) = last_zero b (b == 0) refl
-is-unterminated (b ∷ c ∷ bytes) = one_more b c bytes (unterminated (c ∷ bytes)) (is-unterminated (c ∷ bytes))
-
 -- a name is read as the kind that it is known as
 pub known_reads : (names : List (List ℕ)) (bytes text told : List ℕ) (k : Kind) → IsName bytes text → told ≡ text → k ≡ kind_in names told
     → IsKind names bytes k

@@ -5,7 +5,6 @@ pub mod AfSpecInet6
 pub mod AfSpecs
 pub mod Attribute
 pub mod AttributeSteps
-pub mod Choices
 pub mod ExtentMask
 pub mod Flags
 pub mod Governing

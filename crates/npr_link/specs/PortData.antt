@@ -6,7 +6,7 @@ use Rattle.npr_base.specs.declared.refusal.AttributeSet.TheVariants as At
 use Rattle.npr_link.specs.Vrf as OfVrf
 use Rattle.npr_link_bridge.specs.BridgePort as OfBridgePort
 use Rattle.npr_link_devices.specs.BondPort as OfBondPort
-use Rattle.npr_link.specs.Choices.{Held, as_list, as_bytes, Case, list_case, bytes_case, chosen}
+use Rattle.npr_base.specs.Choices.{Held, as_list, as_bytes, Case, list_case, bytes_case, chosen}
 use Rattle.npr_link.specs.declared.port_data.InfoPortData.{InfoPortData}
 use Rattle.npr_link.specs.declared.port_data.InfoPortData.TheVariants as Has
 use Rattle.npr_link.specs.declared.port_kind.InfoPortForm.{InfoPortForm}

@@ -1,6 +1,5 @@
 -- Lemmas that definitions and bodies need. What they say is checked: nobody has to believe it.
 pub mod Governing
 pub mod InfoLooks
-pub mod Fails
 pub mod InfoOnce
 pub mod ShortLists

@@ -1,6 +1,6 @@
 //! The header of a link message: `struct ifinfomsg` of `linux/rtnetlink.h`.
 
-ghost use Rattle.std.{specs.Prelude.{◌≡◌, ◌<◌, ◌≤◌, length, IfOk, IfErr, refl}, proofs.Common.{rules}};
+ghost use Rattle.std.{specs.Prelude.{◌≡◌, ◌<◌, ◌≤◌, length, IfOk, IfErr, refl, codes}, proofs.Common.{rules}};
 ghost use Rattle.{
   npr_base.specs.{Codec.{leading}, Message.{governs_by, none_searched}, lemmas.Message.{of_family, under_by}, Refusal.{no_place}},
   npr_link.specs.{Attribute.{family}, Header.{buffer_of, default_header, header, header_buffer}, Message.{links}},
@@ -37,11 +37,17 @@ pub struct LinkHeader {
 /// read, and written 0.
 #[derive(Clone, Copy, Debug, PartialEq, Eq)]
 pub struct LinkMessageBuffer {
+    /// `AF_*` of `linux/socket.h`.
     pub interface_family: u8,
+    /// Padding.
     pub reserved_1: u8,
+    /// `ARPHRD_*` of `linux/if_arp.h`.
     pub link_layer_type: u16,
+    /// The number of the interface.
     pub link_index: u32,
+    /// `IFF_*` of `linux/if.h`.
     pub flags: u32,
+    /// The flags that are meant.
     pub change_mask: u32,
 }
 
@@ -156,6 +162,12 @@ impl Header for LinkHeader {
     ghost by_family = { of_family family header default_header links.body };
 
     ghost under = { under_by family header default_header (λ h. h.interface_family) };
+
+    ghost message_text = { codes "LinkMessage" };
+
+    fn message_name() -> &'static str {
+        "LinkMessage"
+    }
 
     fn size() -> usize {
         IFINFOMSG_SIZE

@@ -17,7 +17,6 @@ use crate::netkit::InfoNetkit;
 use crate::veth::InfoVeth;
 use crate::vlan::InfoVlan;
 use crate::vrf::InfoVrf;
-use crate::{data_checked, data_cloned, data_written};
 use npr_base::{AttributeSet, DecodeError, EmitError, Form, Looks, parse_list, read_bytes};
 use npr_link_bridge::InfoBridge;
 use npr_link_devices::{InfoBond, InfoIpVlan, InfoIpVtap, InfoMacVlan, InfoMacVtap, InfoTun};
@@ -76,7 +75,7 @@ pub enum InfoData {
 /// The variants that hold attributes.
 macro_rules! variants {
     ($body:ident ($($given:tt)*)) => {
-        $body!(($($given)*) InfoData {
+        npr_base::$body!(($($given)*) InfoData {
             Bridge;
             Tun;
             Vlan;

@@ -6,7 +6,7 @@ ghost use Rattle.{
   npr_link.specs.{Kinds.{IsKnown, TakesMemory, other, kind_in, kind_name}, InfoKind.{info_kind_of, info_kind_names, info_kind, form_named}},
 };
 
-use crate::{form_of_kind, name_of_variant, variant_cloned, variant_of_name};
+use crate::{name_of_variant, variant_cloned, variant_of_name};
 use npr_base::{At, DecodeError, without_zero, write_name};
 use npr_link_tunnels::InfoForm;
 use std::alloc::{AllocError, Global};
@@ -124,7 +124,7 @@ macro_rules! names {
 /// What governs data, by the names of the kinds.
 macro_rules! forms {
     ($body:ident ($($given:tt)*)) => {
-        $body!(($($given)*) InfoForm {
+        npr_base::$body!(($($given)*) InfoForm {
             "bridge" Bridge;
             "tun" Tun;
             "vlan" Vlan;

@@ -20,7 +20,9 @@ ghost use Rattle.{
 use crate::info::{IFLA_INFO_KIND, IFLA_INFO_SLAVE_KIND, LinkInfo};
 use crate::info_kind::form_of_name;
 use crate::port_kind::{InfoPortForm, form_of_name as port_form_of_name};
-use npr_base::{DecodeError, Looks, NlaBuffer, NlasIterator, parse_list, without_zero};
+use npr_base::{
+    DecodeError, Looks, NlaBuffer, NlasIterator, parse_list, wants_memory, without_zero,
+};
 use npr_link_tunnels::InfoForm;
 use std::alloc::Global;
 
@@ -105,20 +107,6 @@ pub fn governing_forms(bytes: &[u8], looks: &mut Looks) -> (InfoForm, InfoPortFo
         return (InfoForm::Kept, InfoPortForm::Kept);
     }
     search(bytes, looks)
-}
-
-/// Whether memory was refused.
-fn wants_memory<T>(read: &Result<T, DecodeError>) -> bool
-    ensures answered { result ≡ false → Answered read.now }
-    ensures refused { result ≡ true → Answered read.now → ⊥ }
-{
-    match read {
-        Ok(_) => false,
-        Err(e) => match e {
-            DecodeError::OutOfMemory => true,
-            _ => false,
-        },
-    }
 }
 
 /// What a driver says of a link, under the kinds that stand in the bytes. Each look at a header is

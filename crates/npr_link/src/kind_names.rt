@@ -33,14 +33,3 @@ macro_rules! variant_cloned {
         }
     };
 }
-
-/// What governs data under a kind of a name.
-#[macro_export]
-macro_rules! form_of_kind {
-    (($text:expr) $set:ident { $($name:literal $variant:ident;)* }) => {{
-        $(if $text == $name.as_bytes() {
-            return $set::$variant;
-        })*
-        $set::Kept
-    }};
-}

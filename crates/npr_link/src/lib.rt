@@ -6,7 +6,6 @@ mod af_spec;
 mod af_spec_inet;
 mod af_spec_inet6;
 mod attribute;
-mod data_rows;
 mod extent_mask;
 mod flags;
 mod header;

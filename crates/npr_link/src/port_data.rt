@@ -15,7 +15,6 @@ ghost use Rattle.{
 
 use crate::port_kind::InfoPortForm;
 use crate::vrf::InfoVrf;
-use crate::{data_checked, data_cloned, data_written};
 use npr_base::{AttributeSet, DecodeError, EmitError, Form, Looks, parse_list, read_bytes};
 use npr_link_bridge::InfoBridgePort;
 use npr_link_devices::InfoBondPort;
@@ -37,7 +36,7 @@ pub enum InfoPortData {
 /// The variants that hold attributes.
 macro_rules! variants {
     ($body:ident ($($given:tt)*)) => {
-        $body!(($($given)*) InfoPortData {
+        npr_base::$body!(($($given)*) InfoPortData {
             BridgePort;
             VrfPort;
             BondPort;

@@ -6,7 +6,7 @@ ghost use Rattle.{
   npr_link.specs.{Kinds.{IsKnown, TakesMemory, other, kind_in, kind_name}, PortKind.{port_kind_of, port_kind_names, port_kind, form_named}},
 };
 
-use crate::{form_of_kind, name_of_variant, variant_cloned, variant_of_name};
+use crate::{name_of_variant, variant_cloned, variant_of_name};
 use npr_base::{At, DecodeError, without_zero, write_name};
 use std::alloc::{AllocError, Global};
 use std::fmt;
@@ -52,7 +52,7 @@ macro_rules! names {
 /// What governs data, by the names of the kinds.
 macro_rules! forms {
     ($body:ident ($($given:tt)*)) => {
-        $body!(($($given)*) InfoPortForm {
+        npr_base::$body!(($($given)*) InfoPortForm {
             "bridge" Bridge;
             "vrf" Vrf;
             "bond" Bond;

@@ -1,5 +1,4 @@
 mod Arrays
 mod Coherent
 pub mod EqualityLaws
-mod Lengths
 mod Places

@@ -8,7 +8,8 @@ use Rattle.std.proofs.lemmas.List.{drop-drop, drop_more, take_all, drop_all}
 use Rattle.std.proofs.lemmas.Option.{slice_get_past}
 use Rattle.npr_base.specs.Blocks.{IsBlock, AreBlocks, blocks-one}
 use Rattle.npr_base.specs.Layout.{Layout}
-use Rattle.npr_link_numbers.specs.Grown.{Width, filled, number_or, numbers_in, numbers_in-are}
+use Rattle.npr_base.specs.Blocks.{Width}
+use Rattle.npr_link_numbers.specs.Grown.{filled, number_or, numbers_in, numbers_in-are}
 
 counted : (n m s : ℕ) → 0 < s → m * s ≤ n → n < (m + 1) * s → n / s ≡ m
 counted n m s positive from to =

@@ -1,5 +1,4 @@
 -- Structures of numbers of one width that grew over the years: each kernel writes as many numbers as it has.
---     Width               numbers of a width
 --     Names, parts        the fields of a struct, in the order in which kernels write them, and what a struct is by them
 --     grown_of            numbers by their places, and zero for each field that there is none for
 --     numbers_of          the numbers that there are
@@ -7,17 +6,10 @@
 --     numbers_in          the numbers that bytes are
 use Rattle.std.specs.Prelude.{◌≡◌, ℕ, zero, suc, ◌+◌, ◌-◌, ◌<◌, List, [], ◌∷◌, ◌++◌, length, take, drop, map, Option, None, Some, slice_get}
 use Rattle.std.proofs.Common.{refl, sym, ap, subst, ◌∙◌, arith, le_refl}
-use Rattle.npr_base.specs.Blocks.{AreBlocks, blocks, blocks-whole}
+use Rattle.npr_base.specs.Blocks.{AreBlocks, Width, blocks, blocks-whole}
 use Rattle.npr_base.specs.Codec.{Codec}
 use Rattle.npr_base.specs.Layout.{Layout}
 use Rattle.npr_base.specs.Numbering.{Numbering, IsFormed, of_IsFormed}
-
--- how a number is read and written, always in so many bytes, and the one that stands for none
-pub record Width (A : Type 0) : Type 1 where
-  pub layout : Layout A
-  pub positive : 0 < layout.size
-  pub long : (x : A) → length (layout.encode x) ≡ layout.size
-  pub none : A
 
 -- what is known of a structure: a number for each field, how many of the last fields there was none for, and the numbers
 -- behind the last field

@@ -1,4 +1,3 @@
 pub mod Coherent
 pub mod Grown
 pub mod Names
-pub mod Numbers

@@ -4,7 +4,7 @@ ghost use Rattle.std.specs.Prelude.{◌≡◌, ◌≤◌, ◌<◌, ◌+◌, ◌*
 ghost use Rattle.npr_base.specs.Framing.{Writes};
 ghost use Rattle.npr_link_numbers.specs.Grown.{Names, grown, grown_of, numbers_in, parts};
 
-use crate::number::Number;
+use npr_base::Block;
 use std::alloc::{AllocError, Global};
 
 /// A structure of numbers of one width that grew over the years.
@@ -13,7 +13,7 @@ use std::alloc::{AllocError, Global};
 /// behind it, missing; numbers behind the last field are kept.
 pub trait Grown: Sized {
     /// Its numbers.
-    type Number: Number;
+    type Number: Block;
 
     /// Its fields, in the order in which kernels write them.
     ghost names: { Names Self Self.Number };

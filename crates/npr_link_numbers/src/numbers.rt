@@ -1,10 +1,10 @@
 //! Numbers of one width, one behind the other.
 
 ghost use Rattle.std.specs.Prelude.{◌≡◌, ◌≤◌, ◌<◌, ◌+◌, ◌*◌, ◌-◌, ◌^◌, List, drop, length, slice_get, IfOk, OnErr};
-ghost use Rattle.npr_base.specs.{Blocks.{AreBlocks, block_bytes}, Framing.{Writes}};
+ghost use Rattle.npr_base.specs.{Blocks.{block_bytes}, Framing.{Writes}};
 ghost use Rattle.npr_link_numbers.specs.Grown.{filled, grown_of, number_or, numbers_in, numbers_of};
 
-use crate::number::Number;
+use npr_base::{Block, read_blocks, write_blocks};
 use std::alloc::{AllocError, Global};
 
 /// Reads the numbers of the bytes into the fields, 0 for each that there is none for, and answers how many
@@ -12,7 +12,7 @@ use std::alloc::{AllocError, Global};
 ///
 /// # Errors
 /// `AllocError` where memory is refused; without numbers behind the fields none is taken.
-pub fn read_grown<T: Number>(
+pub fn read_grown<T: Block>(
     alloc: Global,
     bytes: &[u8],
     fields: &mut [T],
@@ -26,7 +26,7 @@ pub fn read_grown<T: Number>(
 }
 
 /// Reads the first numbers of the bytes into the slice, and 0 for each that there is not.
-fn read_front<T: Number>(bytes: &[u8], fields: &mut [T])
+fn read_front<T: Block>(bytes: &[u8], fields: &mut [T])
     ensures { fields.new ≡ filled T.width.none (length fields.old) 0 (numbers_in T.width bytes.now) }
 {
     for at in 0..fields.len() {
@@ -35,7 +35,7 @@ fn read_front<T: Number>(bytes: &[u8], fields: &mut [T])
 }
 
 /// The number at this place of the bytes, and 0 where they end before it.
-fn number_at<T: Number>(bytes: &[u8], at: usize) -> T
+fn number_at<T: Block>(bytes: &[u8], at: usize) -> T
     ensures { result ≡ number_or T.width.none (slice_get (numbers_in T.width bytes.now) at) }
 {
     if at < bytes.len() / T::size() {
@@ -46,7 +46,7 @@ fn number_at<T: Number>(bytes: &[u8], at: usize) -> T
 }
 
 /// How many of so many numbers the bytes do not have.
-fn missing_of<T: Number>(bytes: &[u8], fields: usize) -> usize
+fn missing_of<T: Block>(bytes: &[u8], fields: usize) -> usize
     ensures { result ≡ fields - length (numbers_in T.width bytes.now) }
 {
     fields.saturating_sub(bytes.len() / T::size())
@@ -56,7 +56,7 @@ fn missing_of<T: Number>(bytes: &[u8], fields: usize) -> usize
 ///
 /// # Errors
 /// `AllocError` where memory is refused; where there are none none is taken.
-fn numbers_behind<T: Number>(
+fn numbers_behind<T: Block>(
     alloc: Global,
     bytes: &[u8],
     fields: usize,
@@ -67,31 +67,14 @@ fn numbers_behind<T: Number>(
     if bytes.len() / T::size() <= fields {
         return Ok(Vec::new(alloc));
     }
-    read_numbers(alloc, &bytes[fields * T::size()..])
-}
-
-/// The numbers of the bytes, in order; what is left at the end and too short for one is dropped.
-///
-/// # Errors
-/// `AllocError` where memory is refused; bytes that are too short for one take none.
-fn read_numbers<T: Number>(alloc: Global, bytes: &[u8]) -> Result<Vec<T>, AllocError>
-    ensures ok { IfOk result (λ numbers. AreBlocks T.width.layout bytes.now numbers.items) }
-    ensures memory { OnErr result (T.width.layout.size ≤ length bytes.now) }
-{
-    let mut numbers = Vec::new(alloc);
-    let mut rest = bytes;
-    while T::size() <= rest.len() {
-        numbers.push(T::in_front(rest))?;
-        rest = &rest[T::size()..];
-    }
-    Ok(numbers)
+    read_blocks(alloc, &bytes[fields * T::size()..])
 }
 
 /// The numbers, copied.
 ///
 /// # Errors
 /// `AllocError` where memory is refused; without numbers none is taken.
-pub fn copy_numbers<T: Number>(alloc: Global, numbers: &[T]) -> Result<Vec<T>, AllocError>
+pub fn copy_numbers<T: Block>(alloc: Global, numbers: &[T]) -> Result<Vec<T>, AllocError>
     ensures ok { IfOk result (λ copy. copy.items ≡ numbers.now) }
     ensures memory { OnErr result (0 < length numbers.now) }
 {
@@ -102,7 +85,7 @@ pub fn copy_numbers<T: Number>(alloc: Global, numbers: &[T]) -> Result<Vec<T>, A
 }
 
 /// The length of so many fields but the last that are missing, and of the numbers behind them, in bytes.
-pub fn grown_len<T: Number>(fields: usize, missing: usize, more: &[T]) -> usize
+pub fn grown_len<T: Block>(fields: usize, missing: usize, more: &[T]) -> usize
     requires { (fields + length more.now) * T.width.layout.size < 2 ^ 64 }
     ensures { (xs : List T) → length xs ≡ fields → result ≡ length (block_bytes T.width.layout (numbers_of fields (record { fields = xs; missing = missing; more = more.now }))) }
 {
@@ -111,24 +94,11 @@ pub fn grown_len<T: Number>(fields: usize, missing: usize, more: &[T]) -> usize
 
 /// Writes the fields but the last that are missing, and the numbers behind them, at the front of the
 /// slice, leaves the rest, and answers their length.
-pub fn write_grown<T: Number>(fields: &[T], missing: usize, more: &[T], out: &mut [u8]) -> usize
+pub fn write_grown<T: Block>(fields: &[T], missing: usize, more: &[T], out: &mut [u8]) -> usize
     requires { length (block_bytes T.width.layout (numbers_of (length fields.now) (record { fields = fields.now; missing = missing; more = more.now }))) ≤ length out.old }
     ensures len { result ≡ length (block_bytes T.width.layout (numbers_of (length fields.now) (record { fields = fields.now; missing = missing; more = more.now }))) }
     ensures after { Writes out.old out.new (block_bytes T.width.layout (numbers_of (length fields.now) (record { fields = fields.now; missing = missing; more = more.now }))) }
 {
-    let at = write_numbers(&fields[..fields.len().saturating_sub(missing)], out);
-    at + write_numbers(more, &mut out[at..])
-}
-
-/// Writes the numbers at the front of the slice, leaves the rest, and answers their length.
-fn write_numbers<T: Number>(numbers: &[T], out: &mut [u8]) -> usize
-    requires { length (block_bytes T.width.layout numbers.now) ≤ length out.old }
-    ensures len { result ≡ length (block_bytes T.width.layout numbers.now) }
-    ensures after { Writes out.old out.new (block_bytes T.width.layout numbers.now) }
-{
-    let mut at = 0usize;
-    for number in numbers {
-        at += number.write(&mut out[at..]);
-    }
-    at
+    let at = write_blocks(&fields[..fields.len().saturating_sub(missing)], out);
+    at + write_blocks(more, &mut out[at..])
 }

@@ -1,6 +1,6 @@
 //! The header of a neighbour message: `struct ndmsg` of `linux/neighbour.h`.
 
-ghost use Rattle.std.{specs.Prelude.{◌≡◌, ◌<◌, IfOk, IfErr, refl}, proofs.Common.{rules}};
+ghost use Rattle.std.{specs.Prelude.{◌≡◌, ◌<◌, IfOk, IfErr, refl, codes}, proofs.Common.{rules}};
 ghost use Rattle.{
   npr_base.specs.{Codec.{leading}, Message.{governs_by, none_searched}, lemmas.Message.{of_family, under_by}, Refusal.{no_place}},
   npr_neighbour.specs.{Attribute.{family}, Header.{buffer_of, default_header, header, header_buffer}, Message.{neighbours}},
@@ -38,10 +38,15 @@ pub struct NeighbourHeader {
 /// header is read, and written 0.
 #[derive(Clone, Copy, Debug, PartialEq, Eq)]
 pub struct NeighbourMessageBuffer {
+    /// `AF_*` of `linux/socket.h`.
     pub family: u8,
+    /// The number of the interface.
     pub ifindex: u32,
+    /// `NUD_*` of `linux/neighbour.h`.
     pub state: u16,
+    /// `NTF_*` of `linux/neighbour.h`.
     pub flags: u8,
+    /// `RTN_*` of `linux/rtnetlink.h`.
     pub kind: u8,
 }
 
@@ -128,6 +133,12 @@ impl Header for NeighbourHeader {
     ghost by_family = { of_family family header default_header neighbours.body };
 
     ghost under = { under_by family header default_header (λ h. h.family) };
+
+    ghost message_text = { codes "NeighbourMessage" };
+
+    fn message_name() -> &'static str {
+        "NeighbourMessage"
+    }
 
     fn size() -> usize {
         NDMSG_SIZE

@@ -1,5 +1,4 @@
 pub mod Attribute
-pub mod GovernedBody
 pub mod Governing
 pub mod Group
 pub mod GroupStats

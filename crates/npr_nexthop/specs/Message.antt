@@ -7,7 +7,7 @@ use Rattle.npr_tunnel.specs.declared.encap_type.RouteLwEnCapType.{RouteLwEnCapTy
 use Rattle.npr_tunnel.specs.declared.encap_type.RouteLwEnCapType.TheVariants.{None as NoEncapsulation}
 use Rattle.npr_nexthop.specs.Attribute.{Context, Meaning, attributes, family, writing}
 use Rattle.npr_nexthop.specs.Governing.{Searches, alike, item_type, meaning_type}
-use Rattle.npr_nexthop.specs.GovernedBody as Governed
+use Rattle.npr_base.specs.GovernedBody as Governed
 use Rattle.npr_nexthop.specs.Header.{header, default_header}
 use Rattle.npr_nexthop.specs.declared.attribute.NextHopAttribute.{NextHopAttribute}
 use Rattle.npr_nexthop.specs.declared.header.NextHopHeader.{NextHopHeader}

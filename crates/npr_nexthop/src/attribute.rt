@@ -2,7 +2,7 @@
 
 ghost use Rattle.{npr_base.specs.Tables.{shape_by, shape-by}, npr_nexthop.specs.Attribute.{family, plain}};
 
-use crate::group::{NextHopGroupEntry, group_len, read_group, write_group};
+use crate::group::NextHopGroupEntry;
 use crate::group_stats::NextHopGroupStats;
 use crate::group_type::NextHopGroupType;
 use crate::op_flags::NextHopOpFlags;
@@ -11,7 +11,8 @@ use crate::res_group::NextHopResGroup;
 use bitflags::Flags;
 use npr_base::{
     AddressFamily, At, Attribute, AttributeSet, DecodeError, DefaultNla, EmitError, Form, Looks,
-    NLA_F_NESTED, Nla, NlaBuffer, Place, check_list, clone_list, parse_list, put_read, write_list,
+    NLA_F_NESTED, Nla, NlaBuffer, Place, blocks_len, check_list, clone_list, parse_list, put_read,
+    read_blocks, write_blocks, write_list,
 };
 use npr_scalar::RouteAddress;
 use npr_tunnel::{RouteLwEnCapType, RouteLwTunnelEncap};
@@ -117,7 +118,7 @@ impl Nla for NextHopAttribute {
         Ok(rows!(len_rows(self;
             NextHopAttribute::Gateway(x) => x.len(),
             NextHopAttribute::Encap(xs) => check_list(xs.as_slice())?,
-            NextHopAttribute::Group(xs) => group_len(xs.as_slice()),
+            NextHopAttribute::Group(xs) => blocks_len(xs.as_slice()),
         )))
     }
 
@@ -125,7 +126,7 @@ impl Nla for NextHopAttribute {
         rows!(write_rows(self, out;
             NextHopAttribute::Gateway(x) => x.write(out),
             NextHopAttribute::Encap(xs) => write_list(xs.as_slice(), out),
-            NextHopAttribute::Group(xs) => write_group(xs.as_slice(), out),
+            NextHopAttribute::Group(xs) => write_blocks(xs.as_slice(), out),
         ))
     }
 }
@@ -156,7 +157,10 @@ impl Attribute for NextHopAttribute {
                 parse_list(alloc, encap_type, item.value(), looks),
                 NextHopAttribute::Encap,
             ),
-            NHA_GROUP => put_read(place, read_group(alloc, item.value()), NextHopAttribute::Group),
+            NHA_GROUP => {
+                place.put(NextHopAttribute::Group(read_blocks(alloc, item.value())?));
+                Ok(())
+            }
         ))
     }
 

@@ -1,13 +1,12 @@
 //! The members of a group: `struct nexthop_grp` of `linux/nexthop.h`.
 
-ghost use Rattle.std.specs.Prelude.{◌≡◌, ◌≤◌, length, IfOk, IfErr, IsErr};
+ghost use Rattle.std.specs.Prelude.{◌≡◌, IfOk, IfErr};
 ghost use Rattle.{
-  npr_base.specs.{declared.refusal.DecodeError.TheVariants.{OutOfMemory}, Codec.{leading}, Framing.{Writes}, Refusal.{no_place}},
-  npr_nexthop.specs.Group.{group_entry, group_entries},
+  npr_base.specs.{declared.refusal.DecodeError.TheVariants.{OutOfMemory}, Codec.{leading}, Refusal.{no_place}},
+  npr_nexthop.specs.Group.{group_entry, group_entry_width},
 };
 
-use npr_base::{DecodeError, EmitError, Emitable, leading_octets, write_array};
-use std::alloc::Global;
+use npr_base::{Block, DecodeError, EmitError, Emitable, leading_octets, write_array};
 
 /// The length of `struct nexthop_grp` of `linux/nexthop.h`, in bytes.
 const NEXTHOP_GRP_SIZE: usize = 8;
@@ -33,11 +32,8 @@ impl NextHopGroupEntry {
         ensures ok { IfOk result (λ x. (leading group_entry).Reads bytes.now x) }
         ensures refused { IfErr result (λ e. (leading group_entry).Wrong no_place bytes.now e) }
     {
-        let b = leading_octets(bytes, NEXTHOP_GRP_SIZE)?;
-        Ok(NextHopGroupEntry {
-            id: u32::from_le_bytes([b[0], b[1], b[2], b[3]]),
-            weight: u16::from_le_bytes([b[4], b[5]]),
-        })
+        let octets = leading_octets(bytes, NEXTHOP_GRP_SIZE)?;
+        Ok(Self::in_front(octets))
     }
 
     /// The 8 bytes of the layout.
@@ -62,45 +58,25 @@ impl Emitable for NextHopGroupEntry {
     }
 }
 
-/// The members that stand one behind the other, in order; what is left at the end and too short for
-/// one is dropped.
-///
-/// # Errors
-/// `OutOfMemory` where memory is refused, which is taken for a first whole member alone.
-pub(crate) fn read_group(alloc: Global, bytes: &[u8]) -> Result<Vec<NextHopGroupEntry>, DecodeError>
-    ensures ok { IfOk result (λ entries. group_entries.Reads bytes.now entries.items) }
-    ensures refused { IfErr result (λ e. e ≡ OutOfMemory) }
-    ensures memory { IsErr result → 8 ≤ length bytes.now }
-{
-    let mut entries = Vec::new(alloc);
-    let mut rest = bytes;
-    while NEXTHOP_GRP_SIZE <= rest.len() {
-        entries.push(NextHopGroupEntry {
-            id: u32::from_le_bytes([rest[0], rest[1], rest[2], rest[3]]),
-            weight: u16::from_le_bytes([rest[4], rest[5]]),
-        })?;
-        rest = &rest[NEXTHOP_GRP_SIZE..];
-    }
-    Ok(entries)
-}
+impl Block for NextHopGroupEntry {
+    ghost width = { group_entry_width };
 
-/// The length of the members, in bytes.
-pub(crate) fn group_len(entries: &[NextHopGroupEntry]) -> usize
-    ensures { result ≡ length (group_entries.encode entries.now) }
-{
-    entries.len() * NEXTHOP_GRP_SIZE
-}
-
-/// Writes the members one behind the other at the front of the slice, leaves the rest, and answers
-/// their length. Asks for room of that length.
-pub(crate) fn write_group(entries: &[NextHopGroupEntry], out: &mut [u8]) -> usize
-    requires { length (group_entries.encode entries.now) ≤ length out.old }
-    ensures len { result ≡ length (group_entries.encode entries.now) }
-    ensures after { Writes out.old out.new (group_entries.encode entries.now) }
-{
-    let mut at = 0usize;
-    for entry in entries {
-        at += write_array(entry.to_bytes(), &mut out[at..]);
+    fn zero() -> Self {
+        Self::default()
     }
-    at
+
+    fn size() -> usize {
+        NEXTHOP_GRP_SIZE
+    }
+
+    fn in_front(bytes: &[u8]) -> Self {
+        NextHopGroupEntry {
+            id: u32::from_le_bytes([bytes[0], bytes[1], bytes[2], bytes[3]]),
+            weight: u16::from_le_bytes([bytes[4], bytes[5]]),
+        }
+    }
+
+    fn write(self, out: &mut [u8]) -> usize {
+        write_array(self.to_bytes(), out)
+    }
 }

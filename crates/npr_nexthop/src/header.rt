@@ -1,6 +1,6 @@
 //! The header of a next hop message: `struct nhmsg` of `linux/nexthop.h`.
 
-ghost use Rattle.std.{specs.Prelude.{◌≡◌, IfOk, IfErr, refl}, proofs.Common.{rules}};
+ghost use Rattle.std.{specs.Prelude.{◌≡◌, IfOk, IfErr, refl, codes}, proofs.Common.{rules}};
 ghost use Rattle.{
   npr_base.specs.{Codec.{leading}, lemmas.Message.{of_family}, Refusal.{no_place}},
   npr_nexthop.specs.{
@@ -38,9 +38,13 @@ pub struct NextHopHeader {
 /// the flags in 4, little endian. The byte is not looked at where a header is read, and written 0.
 #[derive(Clone, Copy, Debug, PartialEq, Eq)]
 pub struct NextHopMessageBuffer {
+    /// `AF_*` of `linux/socket.h`.
     pub family: u8,
+    /// `RT_SCOPE_*` of `linux/rtnetlink.h`.
     pub scope: u8,
+    /// `RTPROT_*` of `linux/rtnetlink.h`.
     pub protocol: u8,
+    /// `RTNH_F_*` of `linux/rtnetlink.h`.
     pub flags: u32,
 }
 
@@ -111,6 +115,12 @@ impl Header for NextHopHeader {
     ghost by_family = { of_family family header default_header next_hops.body };
 
     ghost under = { under_context };
+
+    ghost message_text = { codes "NextHopMessage" };
+
+    fn message_name() -> &'static str {
+        "NextHopMessage"
+    }
 
     fn size() -> usize {
         NHMSG_SIZE

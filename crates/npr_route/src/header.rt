@@ -1,6 +1,6 @@
 //! The header of a route message: `struct rtmsg` of `linux/rtnetlink.h`.
 
-ghost use Rattle.std.{specs.Prelude.{◌≡◌, ◌<◌, IfOk, IfErr, refl}, proofs.Common.{rules}};
+ghost use Rattle.std.{specs.Prelude.{◌≡◌, ◌<◌, IfOk, IfErr, refl, codes}, proofs.Common.{rules}};
 ghost use Rattle.{
   npr_base.specs.{Codec.{leading}, lemmas.Message.{of_family}, Refusal.{no_place}},
   npr_route.specs.{
@@ -51,14 +51,23 @@ pub struct RouteHeader {
 /// little endian.
 #[derive(Clone, Copy, Debug, PartialEq, Eq)]
 pub struct RouteMessageBuffer {
+    /// `AF_*` of `linux/socket.h`.
     pub address_family: u8,
+    /// The length of the destination's prefix, in bits.
     pub destination_prefix_length: u8,
+    /// The length of the source's prefix, in bits.
     pub source_prefix_length: u8,
+    /// The type of service.
     pub tos: u8,
+    /// `RT_TABLE_*` of `linux/rtnetlink.h`.
     pub table: u8,
+    /// `RTPROT_*` of `linux/rtnetlink.h`.
     pub protocol: u8,
+    /// `RT_SCOPE_*` of `linux/rtnetlink.h`.
     pub scope: u8,
+    /// `RTN_*` of `linux/rtnetlink.h`.
     pub kind: u8,
+    /// `RTM_F_*` and `RTNH_F_*` of `linux/rtnetlink.h`.
     pub flags: u32,
 }
 
@@ -160,6 +169,12 @@ impl Header for RouteHeader {
     ghost by_family = { of_family family header default_header routes.body };
 
     ghost under = { under_context };
+
+    ghost message_text = { codes "RouteMessage" };
+
+    fn message_name() -> &'static str {
+        "RouteMessage"
+    }
 
     fn size() -> usize {
         RTMSG_SIZE

@@ -1,6 +1,6 @@
 //! The header of a rule message: `struct fib_rule_hdr` of `linux/fib_rules.h`.
 
-ghost use Rattle.std.{specs.Prelude.{◌≡◌, ◌<◌, IfOk, IfErr, refl}, proofs.Common.{rules as known}};
+ghost use Rattle.std.{specs.Prelude.{◌≡◌, ◌<◌, IfOk, IfErr, refl, codes}, proofs.Common.{rules as known}};
 ghost use Rattle.{
   npr_base.specs.{Codec.{leading}, Message.{governs_by, none_searched}, lemmas.Message.{of_family, under_by}, Refusal.{no_place}},
   npr_rule.specs.{Attribute.{family}, Header.{buffer_of, default_header, header, header_buffer}, Message.{rules}},
@@ -40,14 +40,23 @@ pub struct RuleHeader {
 /// little endian. The reserved bytes are dropped where a header is read, and written 0.
 #[derive(Clone, Copy, Debug, PartialEq, Eq)]
 pub struct RuleMessageBuffer {
+    /// `AF_*` of `linux/socket.h`.
     pub family: u8,
+    /// The length of the destination's prefix, in bits.
     pub dst_len: u8,
+    /// The length of the source's prefix, in bits.
     pub src_len: u8,
+    /// The type of service.
     pub tos: u8,
+    /// `RT_TABLE_*` of `linux/rtnetlink.h`.
     pub table: u8,
+    /// Reserved.
     pub reserve_1: u8,
+    /// Reserved.
     pub reserve_2: u8,
+    /// `FR_ACT_*` of `linux/fib_rules.h`.
     pub action: u8,
+    /// `FIB_RULE_*` of `linux/fib_rules.h`.
     pub flags: u32,
 }
 
@@ -141,6 +150,12 @@ impl Header for RuleHeader {
     ghost by_family = { of_family family header default_header rules.body };
 
     ghost under = { under_by family header default_header (λ h. tt) };
+
+    ghost message_text = { codes "RuleMessage" };
+
+    fn message_name() -> &'static str {
+        "RuleMessage"
+    }
 
     fn size() -> usize {
         FIB_RULE_HDR_SIZE

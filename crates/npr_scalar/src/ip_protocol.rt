@@ -10,33 +10,60 @@ use npr_base::EmitError;
 pub enum IpProtocol {
     /// Options for each hop (`linux/in6.h`); `linux/in.h` has `IPPROTO_IP` at its number, 0.
     Hopopts,
+    /// Control messages of version 4.
     Icmp,
+    /// Groups of multicast.
     Igmp,
+    /// Version 4 in IP.
     Ipip,
+    /// TCP.
     Tcp,
+    /// Exterior gateways.
     Egp,
+    /// PUP.
     Pup,
+    /// UDP.
     Udp,
+    /// XNS IDP.
     Idp,
+    /// ISO's transport, class 4.
     Tp,
+    /// DCCP.
     Dccp,
+    /// Version 6 in IP.
     Ipv6,
+    /// RSVP.
     Rsvp,
+    /// GRE.
     Gre,
+    /// Encrypted payload of IPsec.
     Esp,
+    /// Authentication header of IPsec.
     Ah,
+    /// Multicast transport.
     Mtp,
+    /// The pseudo header of IPsec's BEET mode.
     Beetph,
+    /// An encapsulation header.
     Encap,
+    /// Multicast that rests on no protocol.
     Pim,
+    /// Compressed payload.
     Comp,
+    /// L2TP, version 3.
     L2tp,
+    /// SCTP.
     Sctp,
+    /// UDP-Lite.
     Udplite,
+    /// MPLS in IP.
     Mpls,
+    /// Ethernet in version 6.
     Ethernet,
+    /// Packets with their IP header.
     #[default]
     Raw,
+    /// TCP over several paths.
     Mptcp,
     /// Any other number.
     Other(i32),

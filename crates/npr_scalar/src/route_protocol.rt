@@ -23,22 +23,39 @@ pub enum RouteProtocol {
     Boot,
     /// Made by an administrator.
     Static,
+    /// Gated.
     Gated,
+    /// Router advertisements, RDISC and ND.
     Ra,
+    /// Merit's MRT.
     Mrt,
+    /// Zebra.
     Zebra,
+    /// BIRD.
     Bird,
+    /// DECnet's routing daemon.
     DnRouted,
+    /// XORP.
     Xorp,
+    /// Netsukuku.
     Ntk,
+    /// A client of DHCP.
     Dhcp,
+    /// A daemon of multicast.
     Mrouted,
+    /// Keepalived.
     KeepAlived,
+    /// Babel.
     Babel,
+    /// BGP.
     Bgp,
+    /// IS-IS.
     Isis,
+    /// OSPF.
     Ospf,
+    /// RIP.
     Rip,
+    /// EIGRP.
     Eigrp,
     /// Any other number.
     Other(u8),

@@ -41,6 +41,7 @@ pub enum RouteVia {
 /// The layout of the family of a [`RouteVia`]: 2 bytes, little endian.
 #[derive(Clone, Copy, Debug, PartialEq, Eq)]
 pub struct RouteViaBuffer {
+    /// `AF_*` of `linux/socket.h`.
     pub address_family: u16,
 }
 

@@ -1,7 +1,7 @@
 //! The header of a message of address labels (RFC 6724), and the message: `RTM_NEWADDRLABEL`,
 //! `RTM_DELADDRLABEL` and `RTM_GETADDRLABEL`, without the envelope.
 
-ghost use Rattle.std.{specs.Prelude.{◌≡◌, ◌<◌, IfOk, IfErr, refl}, proofs.Common.{rules}};
+ghost use Rattle.std.{specs.Prelude.{◌≡◌, ◌<◌, IfOk, IfErr, refl, codes}, proofs.Common.{rules}};
 ghost use Rattle.{
   npr_base.specs.{Codec.{leading}, Message.{governs_by, none_searched}, lemmas.Message.{of_family, under_by}, Refusal.{no_place}},
   npr_small.specs.{AddressLabelAttribute.{family}, AddressLabelHeader.{buffer_of, default_header, header, header_buffer}, AddressLabelMessage.{address_labels}},
@@ -36,10 +36,15 @@ pub struct AddressLabelHeader {
 /// is not looked at where a header is read, and written 0.
 #[derive(Clone, Copy, Debug, PartialEq, Eq)]
 pub struct AddressLabelMessageBuffer {
+    /// `AF_*` of `linux/socket.h`.
     pub family: u8,
+    /// How many bits of the address count.
     pub prefix_len: u8,
+    /// Flags, of which none is defined.
     pub flags: u8,
+    /// The number of the interface.
     pub index: u32,
+    /// How often the table was changed.
     pub sequence: u32,
 }
 
@@ -129,6 +134,12 @@ impl Header for AddressLabelHeader {
     ghost by_family = { of_family family header default_header address_labels.body };
 
     ghost under = { under_by family header default_header (λ h. tt) };
+
+    ghost message_text = { codes "AddressLabelMessage" };
+
+    fn message_name() -> &'static str {
+        "AddressLabelMessage"
+    }
 
     fn size() -> usize {
         IFADDRLBLMSG_SIZE

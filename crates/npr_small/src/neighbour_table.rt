@@ -1,7 +1,7 @@
 //! The header of a message of tables of neighbours, and the message: `RTM_NEWNEIGHTBL`,
 //! `RTM_GETNEIGHTBL` and `RTM_SETNEIGHTBL`, without the envelope.
 
-ghost use Rattle.std.{specs.Prelude.{◌≡◌, ◌<◌, IfOk, IfErr, refl}, proofs.Common.{rules}};
+ghost use Rattle.std.{specs.Prelude.{◌≡◌, ◌<◌, IfOk, IfErr, refl, codes}, proofs.Common.{rules}};
 ghost use Rattle.{
   npr_base.specs.{Codec.{leading}, Message.{governs_by, none_searched}, lemmas.Message.{of_family, under_by}, Refusal.{no_place}},
   npr_small.specs.{NeighbourTableAttribute.{family}, NeighbourTableHeader.{buffer_of, default_header, header, header_buffer}, NeighbourTableMessage.{neighbour_tables}},
@@ -27,6 +27,7 @@ pub struct NeighbourTableHeader {
 /// is not looked at where a header is read, and written 0.
 #[derive(Clone, Copy, Debug, PartialEq, Eq)]
 pub struct NeighbourTableMessageBuffer {
+    /// `AF_*` of `linux/socket.h`.
     pub family: u8,
 }
 
@@ -91,6 +92,12 @@ impl Header for NeighbourTableHeader {
     ghost by_family = { of_family family header default_header neighbour_tables.body };
 
     ghost under = { under_by family header default_header (λ h. tt) };
+
+    ghost message_text = { codes "NeighbourTableMessage" };
+
+    fn message_name() -> &'static str {
+        "NeighbourTableMessage"
+    }
 
     fn size() -> usize {
         NDTMSG_SIZE

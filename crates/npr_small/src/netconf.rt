@@ -1,7 +1,7 @@
 //! The header of a message of settings, and the message: `RTM_NEWNETCONF`, `RTM_DELNETCONF` and
 //! `RTM_GETNETCONF`, without the envelope.
 
-ghost use Rattle.std.{specs.Prelude.{◌≡◌, ◌<◌, IfOk, IfErr, refl}, proofs.Common.{rules}};
+ghost use Rattle.std.{specs.Prelude.{◌≡◌, ◌<◌, IfOk, IfErr, refl, codes}, proofs.Common.{rules}};
 ghost use Rattle.{
   npr_base.specs.{Codec.{leading}, Message.{governs_by, none_searched}, lemmas.Message.{of_family, under_by}, Refusal.{no_place}},
   npr_small.specs.{NetconfAttribute.{family}, NetconfHeader.{buffer_of, default_header, header, header_buffer}, NetconfMessage.{netconfs}},
@@ -27,6 +27,7 @@ pub struct NetconfHeader {
 /// looked at where a header is read, and written 0.
 #[derive(Clone, Copy, Debug, PartialEq, Eq)]
 pub struct NetconfMessageBuffer {
+    /// `AF_*` of `linux/socket.h`.
     pub family: u8,
 }
 
@@ -91,6 +92,12 @@ impl Header for NetconfHeader {
     ghost by_family = { of_family family header default_header netconfs.body };
 
     ghost under = { under_by family header default_header (λ h. tt) };
+
+    ghost message_text = { codes "NetconfMessage" };
+
+    fn message_name() -> &'static str {
+        "NetconfMessage"
+    }
 
     fn size() -> usize {
         NETCONFMSG_SIZE

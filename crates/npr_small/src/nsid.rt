@@ -1,7 +1,7 @@
 //! The header of a message of name spaces, and the message: `RTM_NEWNSID`, `RTM_DELNSID` and
 //! `RTM_GETNSID`, without the envelope.
 
-ghost use Rattle.std.{specs.Prelude.{◌≡◌, ◌<◌, IfOk, IfErr, refl}, proofs.Common.{rules}};
+ghost use Rattle.std.{specs.Prelude.{◌≡◌, ◌<◌, IfOk, IfErr, refl, codes}, proofs.Common.{rules}};
 ghost use Rattle.{
   npr_base.specs.{Codec.{leading}, Message.{governs_by, none_searched}, lemmas.Message.{of_family, under_by}, Refusal.{no_place}},
   npr_small.specs.{NsidAttribute.{family}, NsidHeader.{buffer_of, default_header, header, header_buffer}, NsidMessage.{nsids}},
@@ -27,6 +27,7 @@ pub struct NsidHeader {
 /// looked at where a header is read, and written 0.
 #[derive(Clone, Copy, Debug, PartialEq, Eq)]
 pub struct NsidMessageBuffer {
+    /// `AF_*` of `linux/socket.h`.
     pub family: u8,
 }
 
@@ -91,6 +92,12 @@ impl Header for NsidHeader {
     ghost by_family = { of_family family header default_header nsids.body };
 
     ghost under = { under_by family header default_header (λ h. tt) };
+
+    ghost message_text = { codes "NsidMessage" };
+
+    fn message_name() -> &'static str {
+        "NsidMessage"
+    }
 
     fn size() -> usize {
         RTGENMSG_SIZE

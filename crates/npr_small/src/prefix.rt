@@ -1,6 +1,6 @@
 //! The header of a message of prefixes, and the message: `RTM_NEWPREFIX`, without the envelope.
 
-ghost use Rattle.std.{specs.Prelude.{◌≡◌, ◌<◌, IfOk, IfErr, refl}, proofs.Common.{rules}};
+ghost use Rattle.std.{specs.Prelude.{◌≡◌, ◌<◌, IfOk, IfErr, refl, codes}, proofs.Common.{rules}};
 ghost use Rattle.{
   npr_base.specs.{Codec.{leading}, Message.{governs_by, none_searched}, lemmas.Message.{of_family, under_by}, Refusal.{no_place}},
   npr_small.specs.{PrefixAttribute.{family}, PrefixHeader.{buffer_of, default_header, header, header_buffer}, PrefixMessage.{prefixes}},
@@ -34,13 +34,21 @@ pub struct PrefixHeader {
 /// where a header is read, and written 0.
 #[derive(Clone, Copy, Debug, PartialEq, Eq)]
 pub struct PrefixMessageBuffer {
+    /// `AF_*` of `linux/socket.h`.
     pub prefix_family: u8,
+    /// Padding.
     pub pad1: u8,
+    /// Padding.
     pub pad2: u16,
+    /// The number of the interface.
     pub ifindex: i32,
+    /// The type of the option (RFC 4861, section 4.6).
     pub prefix_type: u8,
+    /// How many bits of the address count.
     pub prefix_len: u8,
+    /// The flags of the option (RFC 4861, section 4.6.2).
     pub flags: u8,
+    /// Padding.
     pub pad3: u8,
 }
 
@@ -136,6 +144,12 @@ impl Header for PrefixHeader {
     ghost by_family = { of_family family header default_header prefixes.body };
 
     ghost under = { under_by family header default_header (λ h. tt) };
+
+    ghost message_text = { codes "PrefixMessage" };
+
+    fn message_name() -> &'static str {
+        "PrefixMessage"
+    }
 
     fn size() -> usize {
         PREFIXMSG_SIZE

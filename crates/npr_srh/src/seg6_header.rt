@@ -27,13 +27,21 @@ use std::alloc::{AllocError, Global};
 /// `linux/seg6.h`).
 #[derive(Clone, Copy, Debug, PartialEq, Eq)]
 pub struct Seg6MessageBuffer {
+    /// `SEG6_IPTUN_MODE_*` of `linux/seg6_iptunnel.h`.
     pub mode: u32,
+    /// The number of the header behind.
     pub nexthdr: u8,
+    /// The length, in units of 8 bytes behind the first.
     pub hdrlen: u8,
+    /// The type of routing header, 4 for SEG6.
     pub seg_type: u8,
+    /// How many segments are still to be visited.
     pub segments_left: u8,
+    /// The index of the last segment in the list.
     pub first_segment: u8,
+    /// `SR6_FLAG1_*` of `linux/seg6.h`.
     pub flags: u8,
+    /// What packets are grouped by.
     pub tag: u16,
 }
 

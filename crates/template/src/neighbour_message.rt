@@ -1,6 +1,6 @@
 //! A message of one's own: `RTM_NEWNEIGH` of `linux/neighbour.h`, without the envelope.
 
-ghost use Rattle.std.{specs.{Prelude.{◌≡◌, ◌≢◌, ℕ, List, Option, None, IfOk, IfErr, refl}, Option.{option_map}}, proofs.Common.{rules}};
+ghost use Rattle.std.{specs.{Prelude.{◌≡◌, ◌≢◌, ℕ, List, Option, None, IfOk, IfErr, refl, codes}, Option.{option_map}}, proofs.Common.{rules}};
 ghost use Rattle.{
   template.specs.{
     NeighbourHeader.{header, default_header},
@@ -78,6 +78,12 @@ impl Header for NeighbourHeader {
     ghost by_family = { of_family family header default_header neighbours.body };
 
     ghost under = { under_by family header default_header (λ h. tt) };
+
+    ghost message_text = { codes "NeighbourMessage" };
+
+    fn message_name() -> &'static str {
+        "NeighbourMessage"
+    }
 
     fn size() -> usize {
         12

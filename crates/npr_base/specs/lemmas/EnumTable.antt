@@ -4,26 +4,21 @@ use Rattle.std.specs.Prelude.{◌==◌, ◌&&◌, ◌⊎◌, not, if◌then◌el
 use Rattle.std.specs.Bool.{MatchBool, Decides}
 use Rattle.std.specs.Cmp.{first_so, second_so}
 use Rattle.std.proofs.lemmas.Bool.{eqb-true, eqb-false, ne_eqb, not-true}
-use Rattle.std.proofs.Common.{◌≡◌, ℕ, ◌+◌, ◌*◌, ◌<◌, ◌≤◌, ◌^◌, length, Bool, true, false, List, [], ◌∷◌, inl, inr, refl, sym, ap, subst, None, ◌∙◌, true≢false}
+use Rattle.std.proofs.Common.{◌≡◌, ℕ, ◌<◌, ◌^◌, Bool, true, false, List, [], ◌∷◌, inl, inr, refl, sym, ap, subst, None, ◌∙◌, true≢false}
 use Rattle.std.proofs.Common.{arith}
 use Rattle.npr_base.specs.declared.refusal.At.{At}
 use Rattle.npr_base.specs.declared.refusal.AttributeSet.{AttributeSet}
 use Rattle.npr_base.specs.declared.refusal.DecodeError.{DecodeError}
 use Rattle.npr_base.specs.declared.value.Form.{Form}
-use Rattle.npr_base.specs.lemmas.Fit.{unfit_of-none}
-use Rattle.npr_base.specs.Counts.{SawEach}
-use Rattle.npr_base.specs.Framing.{Item, framed, marked, number_of}
-use Rattle.npr_base.specs.Looks.{Looking}
+use Rattle.npr_base.specs.Framing.{Item, marked, number_of}
 use Rattle.npr_base.specs.EnumTable.{VariantRows, kind_at, MeaningIn, meaning_in, other_in, row_in, rows_in, slot_in, shape_in, has_number, numbered, ReadsIn}
-use Rattle.npr_base.specs.EnumTable.{WrongIn, looks_in, family_in, form_in, writing_in, all_rows, CoherentIn}
-use Rattle.npr_base.specs.Family.{Writing, Reading, unfit_as, written_as}
-use Rattle.npr_base.specs.Showing.{Seeing}
+use Rattle.npr_base.specs.EnumTable.{WrongIn, looks_in, form_in, writing_in, all_rows, CoherentIn}
+use Rattle.npr_base.specs.Family.{written_as}
 use Rattle.npr_base.specs.Value.{Shown, Shows, Misshown, IsWhole}
-use Rattle.npr_base.specs.Table.{Row, ReadsAt, WrongAt, Slot, slot_other, slot_unfit, slot_kind, slot_members, IsSlot, IsWritten, Aligned, Table, form_from}
-use Rattle.npr_base.specs.Table.{slot_sees, seen_by, has_row, item_of, plain_item, shape_at, table_with, writing_by, looks_of}
-use Rattle.npr_base.specs.lemmas.Table.{marked-small, rows-show, wrong_or}
+use Rattle.npr_base.specs.Table.{Row, ReadsAt, WrongAt, Slot, slot_other, slot_unfit, slot_kind, slot_members, IsSlot, IsWritten, Aligned, form_from}
+use Rattle.npr_base.specs.Table.{slot_sees, has_row, item_of, shape_at, looks_of}
+use Rattle.npr_base.specs.lemmas.Table.{marked-small, wrong_or}
 use Rattle.npr_base.specs.Looking.{looking_inside}
-use Rattle.npr_base.specs.TableFamily.{table_family}
 use denote.Struct.Field.{Field}
 use denote.Struct.Values.{Values}
 use denote.Enum.Compared.{Each, by}

@@ -7,10 +7,11 @@ use Rattle.std.proofs.lemmas.Bool.Decides.{nat_tests}
 use Rattle.npr_base.specs.Counts.{Counts, hit}
 use Rattle.npr_base.specs.declared.refusal.DecodeError.TheVariants.{AttributeTooShort}
 use Rattle.npr_base.specs.FirstTold as Told
-use Rattle.npr_base.proofs.FirstToldLaws.{governs-one as told-one, first-step}
+use Rattle.npr_base.specs.lemmas.FirstTold.{governs-one as told-one, first-step}
 use Rattle.npr_base.specs.Framing.{Item, number_of, Front}
 use Rattle.npr_base.specs.lemmas.Bool.{one_of}
-use Rattle.npr_link.specs.Governing.{Forms, told_by, told, port_told, Governs, State, start, noted, is_complete, forms_of, Searching, search_ends, search_stops}
+use Rattle.npr_base.specs.Unterminated.{told_by}
+use Rattle.npr_link.specs.Governing.{Forms, told, port_told, Governs, State, start, noted, is_complete, forms_of, Searching, search_ends, search_stops}
 use Rattle.npr_link.specs.Governing.{both_found, searched_past, Searches}
 use Rattle.npr_link_tunnels.specs.declared.form.InfoForm.TheVariants.{Kept}
 use Rattle.npr_link.specs.declared.port_kind.InfoPortForm.TheVariants.{Kept as PortKept}

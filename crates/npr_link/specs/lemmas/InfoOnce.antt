@@ -4,7 +4,7 @@ use Rattle.npr_base.specs.Counts.{Counts}
 use Rattle.npr_base.specs.Message.{MessageLooks}
 use Rattle.npr_link_bridge.specs.Bridge as OfBridge
 use Rattle.npr_link_bridge.specs.BridgePort as OfBridgePort
-use Rattle.npr_link.specs.lemmas.Fails.{FailsOnce, InsideOnce, list-once, once_then, rows-once}
+use Rattle.npr_base.specs.lemmas.Fails.{FailsOnce, InsideOnce, list-once, once_then, rows-once}
 use Rattle.npr_link.specs.Governing.{Forms}
 use Rattle.npr_link.specs.Info as OfInfo
 use Rattle.npr_link.specs.InfoData.{info_data}

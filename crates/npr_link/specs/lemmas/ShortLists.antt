@@ -5,7 +5,7 @@ use Rattle.std.proofs.Common.{◌≡◌, ℕ, ◌<◌, ◌+◌, ◌*◌, ◌⊎�
 use Rattle.std.proofs.lemmas.Bool.{cases_Bool}
 use Rattle.npr_base.specs.declared.refusal.DecodeError.{DecodeError}
 use Rattle.npr_base.specs.FirstTold as Told
-use Rattle.npr_base.proofs.FirstToldLaws.{governs-one as told-one, first-step}
+use Rattle.npr_base.specs.lemmas.FirstTold.{governs-one as told-one, first-step}
 use Rattle.npr_base.specs.Framing.{Item, number_of, Front, Passes}
 use Rattle.npr_base.specs.lemmas.Front.{Front-shrinks}
 use Rattle.npr_base.specs.Lists.{Each, ReadsTo, ReadsList, IsWrong, FirstFault}

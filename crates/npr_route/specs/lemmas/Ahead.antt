@@ -6,7 +6,7 @@ use Rattle.npr_base.specs.declared.refusal.DecodeError.{DecodeError}
 use Rattle.npr_base.specs.declared.refusal.DecodeError.TheVariants.{AttributeTooShort, AttributeLength}
 use Rattle.npr_base.specs.Counts.{Counts, hit, looked}
 use Rattle.npr_base.specs.FirstTold.{hit_each}
-use Rattle.npr_base.proofs.FirstToldLaws.{hit_each-counts, searched}
+use Rattle.npr_base.specs.lemmas.FirstTold.{hit_each-counts, searched}
 use Rattle.npr_base.specs.Framing.{Item, Front, Passes, Fault, Step, pad}
 use Rattle.npr_base.specs.lemmas.Front.{length_at, length_at-is, rest_at, two_bytes, Front-is, Front-takes}
 use Rattle.npr_tunnel.specs.declared.encap_type.RouteLwEnCapType.{RouteLwEnCapType}

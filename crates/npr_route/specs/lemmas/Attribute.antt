@@ -7,7 +7,7 @@ use Rattle.std.proofs.lemmas.Bool.{eqb-true, cases_lt, lt-ltb, le-ltb}
 use Rattle.npr_base.specs.declared.refusal.DecodeError.{DecodeError}
 use Rattle.npr_base.specs.declared.refusal.EmitError.TheVariants.{NextHopTooLong, Total}
 use Rattle.npr_base.specs.Framing.{Item, IsBytes, Proper, Small, number_of, marked, encoding, framed}
-use Rattle.npr_base.proofs.FirstToldLaws.{governs-one}
+use Rattle.npr_base.specs.lemmas.FirstTold.{governs-one}
 use Rattle.npr_base.specs.Lists.{option_or, overlong}
 use Rattle.npr_base.specs.lemmas.Fit.{unfit_of-none, unfit_of-short, none_both}
 use Rattle.npr_base.specs.lemmas.Front.{Front-same, Front-sound, Front-takes, no_front}

@@ -1,7 +1,7 @@
 -- The looks of route attributes are one number.
 use Rattle.std.proofs.Common.{◌≡◌, ℕ, Bool, true, false, List, length, refl, sym, ap, subst, ◌∙◌, arith, true≢false}
 use Rattle.npr_base.specs.Counts.{Counts, no_looks, hit, raised}
-use Rattle.npr_base.proofs.FirstToldLaws.{search-one, search-adds}
+use Rattle.npr_base.specs.lemmas.FirstTold.{search-one, search-adds}
 use Rattle.npr_base.specs.Framing.{Item}
 use Rattle.npr_base.specs.lemmas.Front.{Front-same, Front-sound, no_front}
 use Rattle.npr_base.specs.Looks.{Adds}

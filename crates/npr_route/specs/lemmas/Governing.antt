@@ -4,7 +4,7 @@ use Rattle.std.proofs.Common.{◌≡◌, ℕ, Bool, true, false, List, [], ◌�
 use Rattle.std.proofs.Common.{rules, inl, inr}
 use Rattle.std.proofs.lemmas.Bool.{eqb-true, cases_Bool}
 use Rattle.npr_base.specs.Family.{Reading}
-use Rattle.npr_base.proofs.FirstToldLaws.{governs-one, first-step}
+use Rattle.npr_base.specs.lemmas.FirstTold.{governs-one, first-step}
 use Rattle.npr_base.specs.Framing.{Item, number_of, Passes}
 use Rattle.npr_base.specs.Lists.{Each, ReadsList}
 use Rattle.npr_base.specs.Table.{ReadsAt}

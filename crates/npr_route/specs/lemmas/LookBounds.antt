@@ -3,7 +3,7 @@ use Rattle.std.proofs.Common.{◌≡◌, ◌⊎◌, ℕ, ◌+◌, ◌*◌, ◌/�
 use Rattle.std.proofs.lemmas.Bool.{cases_lt}
 use Rattle.npr_base.specs.declared.refusal.DecodeError.{DecodeError}
 use Rattle.npr_base.specs.Counts.{Counts, AddsAtMost, SawEach, hit}
-use Rattle.npr_base.proofs.FirstToldLaws.{governs-one, searches-governs}
+use Rattle.npr_base.specs.lemmas.FirstTold.{governs-one, searches-governs}
 use Rattle.npr_base.specs.Framing.{Item, Front}
 use Rattle.npr_base.specs.lemmas.Front.{Front-takes, Front-same, Front-sound, no_front}
 use Rattle.npr_base.specs.lemmas.Looks.{none-most, none-saw}

@@ -1,6 +1,6 @@
 -- A route message is read under the type that its list is searched for.
 use Rattle.std.proofs.Common.{ℕ, List, map, sym, ap, subst, ◌∙◌}
-use Rattle.npr_base.proofs.FirstToldLaws.{governs-one, searched}
+use Rattle.npr_base.specs.lemmas.FirstTold.{governs-one, searched}
 use Rattle.npr_base.specs.Lists.{ReadsList}
 use Rattle.npr_base.specs.Message.{IsUnder}
 use Rattle.npr_tunnel.specs.declared.encap_type.RouteLwEnCapType.{RouteLwEnCapType}

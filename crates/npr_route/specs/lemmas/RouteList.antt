@@ -1,7 +1,7 @@
 -- A list of route attributes has one meaning at most, which is coherent and is read again from what is written.
 use Rattle.std.proofs.Common.{◌≡◌, ℕ, ◌*◌, ◌≤◌, List, length, None, ap, subst, ◌∙◌}
 use Rattle.npr_base.specs.declared.refusal.DecodeError.{DecodeError}
-use Rattle.npr_base.proofs.FirstToldLaws.{governs-one, searches-governs, searched, search-one, search-adds}
+use Rattle.npr_base.specs.lemmas.FirstTold.{governs-one, searches-governs, searched, search-one, search-adds}
 use Rattle.npr_base.specs.Framing.{IsBytes}
 use Rattle.npr_base.specs.Lists.{AllOf, ReadsList, encodings, first_unfit, list_members}
 use Rattle.npr_base.specs.lemmas.List.{ReadsList-one, FirstFault-excludes, ReadsList-known, encodings-read, ReadsList-grows}

@@ -1,7 +1,7 @@
 use Rattle.std.specs.Prelude.{◌==◌}
 use Rattle.std.proofs.Common.{ℕ, sym, ap, ◌∙◌}
 use Rattle.npr_link.specs.PortKind.{form_named}
-use Rattle.npr_link.proofs.InfoSearch.{name_told}
+use Rattle.npr_base.specs.Unterminated.{name_told}
 use Rattle.npr_link.proofs.info_list.port_told.Goals as goal
 
 pub returns-in-4 : goal.returns-in-4

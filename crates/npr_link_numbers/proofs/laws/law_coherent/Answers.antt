@@ -4,6 +4,6 @@ use Rattle.npr_link_numbers.proofs.laws.law_coherent.Goals as goal
 
 pub returns : goal.returns
 returns g c =
-    let none = g.G.Number.Number.width.none in
+    let none = g.G.Number.Block.width.none in
     let n = length g.G.Grown.names.fields in
     record { read = formed-coherent none n; again = coherent-formed none n }

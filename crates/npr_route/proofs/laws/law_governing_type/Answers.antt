@@ -1,4 +1,4 @@
-use Rattle.npr_base.proofs.FirstToldLaws.{governs-one}
+use Rattle.npr_base.specs.lemmas.FirstTold.{governs-one}
 use Rattle.npr_tunnel.specs.declared.encap_type.RouteLwEnCapType.TheVariants.{None as NoEncapsulation}
 use Rattle.npr_route.specs.Attribute.{attributes_of, typed}
 use Rattle.npr_route.specs.Governing.{item_type}

@@ -1,6 +1,6 @@
 use Rattle.std.proofs.Common.{map}
 use Rattle.std.proofs.lemmas.Result.{IfErr-weaker}
-use Rattle.npr_base.proofs.FirstToldLaws.{searched}
+use Rattle.npr_base.specs.lemmas.FirstTold.{searched}
 use Rattle.npr_base.specs.lemmas.LookBounds.{searched-read, searched-saw_ok}
 use Rattle.npr_base.specs.Lists.{list_members}
 use Rattle.npr_tunnel.specs.declared.encap_type.RouteLwEnCapType.TheVariants.{None as NoEncapsulation}

@@ -7,5 +7,5 @@ pub returns-clause-ok : goal.returns-clause-ok
 returns-clause-ok g c =
     let names = g.Self.Grown.names in
     IfOk-weaker c.of_numbers.result _ _
-    (λ x e. subst ((grown g.Self.Number.Number.width names).Reads c.args.bytes.now) (sym e) (numbers-read g.Self.Number.Number.width names c.args.bytes.now))
+    (λ x e. subst ((grown g.Self.Number.Block.width names).Reads c.args.bytes.now) (sym e) (numbers-read g.Self.Number.Block.width names c.args.bytes.now))
     c.of_numbers.ensures.ok

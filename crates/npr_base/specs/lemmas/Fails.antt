@@ -2,7 +2,7 @@
 --     FailsOnce        one look fails at most
 --     list-once        so in a list of attributes, of whose values that holds
 --     RowsOnce, rows-once      and in a table, of whose rows that holds
-use Rattle.std.proofs.Common.{◌≡◌, ℕ, ◌+◌, ◌≤◌, List, ◌∷◌, [], ap, arith}
+use Rattle.std.proofs.Common.{ℕ, ◌+◌, ◌≤◌, List, ◌∷◌, [], ap, arith}
 use Rattle.npr_base.specs.Counts.{Counts, hit}
 use Rattle.npr_base.specs.EnumTable.{VariantRows, looks_in}
 use Rattle.npr_base.specs.Family.{Writing, Reading, list_looking}

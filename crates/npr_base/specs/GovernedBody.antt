@@ -8,7 +8,7 @@ use Rattle.npr_base.specs.Counts.{Counts, raised}
 use Rattle.npr_base.specs.declared.refusal.DecodeError.{DecodeError}
 use Rattle.npr_base.specs.Family.{Writing, Reading, Family, fits-small, written_by, unfit_by, list_looking}
 use Rattle.npr_base.specs.FirstTold.{first_told, Governs, Searches}
-use Rattle.npr_base.proofs.FirstToldLaws.{governs-one, first_governs, governs_first, searches-governs, searched, search-one, search-adds}
+use Rattle.npr_base.specs.lemmas.FirstTold.{governs-one, first_governs, governs_first, searches-governs, searched, search-one, search-adds}
 use Rattle.npr_base.specs.Framing.{Item, IsBytes}
 use Rattle.npr_base.specs.Layout.{Layout}
 use Rattle.npr_base.specs.Lists.{AllOf, ReadsList, FirstFault, encodings, first_unfit, list_members}

@@ -1,7 +1,6 @@
--- How long numbers are that are written one behind the other.
+-- How long values are that are written one behind the other.
 use Rattle.std.proofs.Common.{◌≡◌, ◌*◌, List, [], ◌∷◌, length, arith, suc-mul, length-append}
-use Rattle.npr_base.specs.Blocks.{block_bytes}
-use Rattle.npr_link_numbers.specs.Grown.{Width}
+use Rattle.npr_base.specs.Blocks.{Width, block_bytes}
 
 pub blocks-length : {A : Type 0} (width : Width A) (xs : List A) → length (block_bytes width.layout xs) ≡ length xs * width.layout.size
 blocks-length width [] = omega arith

@@ -1,4 +1,4 @@
--- Numbers of four and of eight bytes, the lowest byte first.
+-- Numbers of two, four and eight bytes, the lowest byte first.
 use Rattle.std.specs.Prelude.{ℤ, pos, FitsSigned}
 use Rattle.std.specs.Int.{w64, to_le_bytes, from_le_bytes, cast_signed, cast_unsigned}
 use Rattle.std.proofs.Common.{◌≡◌, ℕ, List, length, refl, ap, ◌∙◌, lit<, to_z-of_z}
@@ -7,10 +7,10 @@ use Rattle.std.proofs.lemmas.Nat.{from_le_bytes-to_le_bytes_8}
 use mir.ValLaws.{of_z_fits}
 use Rattle.npr_base.specs.declared.value.Form.TheVariants.{Exactly}
 use Rattle.npr_base.specs.Framing.{IsBytes}
-use Rattle.npr_base.specs.Layout.{Layout, le32, le64, signed32}
+use Rattle.npr_base.specs.Layout.{Layout, le16, le32, le64, signed32}
 use Rattle.npr_base.specs.lemmas.Layout.{le64-holds}
 use Rattle.npr_base.specs.Value.{is_structure}
-use Rattle.npr_link_numbers.specs.Grown.{Width}
+use Rattle.npr_base.specs.Blocks.{Width}
 
 pub signed64-back : (z : ℤ) → FitsSigned w64 z → cast_signed w64 (from_le_bytes w64 (to_le_bytes w64 (cast_unsigned w64 z))) ≡ z
 signed64-back z fits = ap (cast_signed w64) (from_le_bytes-to_le_bytes_8 (cast_unsigned w64 z) (Fits-lt-pow (of_z_fits w64 z fits))) ∙ to_z-of_z fits
@@ -33,6 +33,9 @@ signed64 = record {
   shows = λ bytes s p. p;
   misshown = λ at bytes e p. p;
 }
+
+abbrev pub words16 : Width ℕ
+words16 = record { layout = le16; positive = lit< tt; long = λ x. refl; none = 0 }
 
 abbrev pub words32 : Width ℕ
 words32 = record { layout = le32; positive = lit< tt; long = λ x. refl; none = 0 }
