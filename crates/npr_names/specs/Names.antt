@@ -6,6 +6,7 @@ use Rattle.npr_names.specs.declared.route.TheConstants as routes
 use Rattle.npr_names.specs.declared.link.TheConstants as links
 use Rattle.npr_names.specs.declared.link_kind.TheConstants as kinds
 use Rattle.npr_names.specs.declared.small.TheConstants as smalls
+use Rattle.npr_names.specs.declared.tc.TheConstants as traffic
 use denote.Enum.Declared.{tag_of}
 
 -- the texts of a list in `src`
@@ -28,7 +29,11 @@ lists =
     ∷ texts kinds.IP_TUNNEL.now ∷ texts kinds.VTI.now ∷ texts kinds.XFRM.now ∷ texts smalls.NEXT_HOP.now
     ∷ texts smalls.NEXT_HOP_RES_GROUP.now ∷ texts smalls.NEXT_HOP_RES_BUCKET.now ∷ texts smalls.NEXT_HOP_GROUP_STATS.now
     ∷ texts smalls.NEXT_HOP_GROUP_STATS_ENTRY.now ∷ texts smalls.NSID.now ∷ texts smalls.PREFIX.now ∷ texts smalls.NETCONF.now
-    ∷ texts smalls.NEIGHBOUR_TABLE.now ∷ texts smalls.NEIGHBOUR_TABLE_PARAMETER.now ∷ texts smalls.ADDRESS_LABEL.now ∷ [] ∷ []
+    ∷ texts smalls.NEIGHBOUR_TABLE.now ∷ texts smalls.NEIGHBOUR_TABLE_PARAMETER.now ∷ texts smalls.ADDRESS_LABEL.now
+    ∷ [] ∷ texts traffic.TC.now ∷ texts traffic.STATS2.now ∷ texts traffic.STAB.now ∷ [] ∷ texts traffic.FQ_CODEL.now ∷ texts traffic.U32.now
+    ∷ texts traffic.MATCH_ALL.now ∷ texts traffic.FLOWER.now ∷ texts traffic.FLOWER_MPLS.now ∷ texts traffic.FLOWER_MPLS_LSE.now
+    ∷ texts traffic.ACTION_MESSAGE.now ∷ texts traffic.ACTION.now ∷ texts traffic.MIRROR.now ∷ texts traffic.NAT.now ∷ texts traffic.TUNNEL_KEY.now
+    ∷ [] ∷ []
 
 unfoldable pub names_of : AttributeSet → List (List ℕ)
 names_of set = unwrap_or (slice_get lists (tag_of the_sets set)) []

@@ -7,6 +7,7 @@ mod names;
 mod refusal;
 mod route;
 mod small;
+mod tc;
 
 pub use names::attribute_name;
 pub use refusal::{Located, Named, front_number, lengths_of, told_of};

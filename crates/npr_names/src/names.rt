@@ -3,7 +3,7 @@
 ghost use Rattle.std.specs.Prelude.{◌≡◌, ◌≤◌, map, length, IfSome, IfNone};
 ghost use Rattle.npr_names.specs.Names.{name_at, names_of};
 
-use crate::{link, link_kind, route, small};
+use crate::{link, link_kind, route, small, tc};
 use npr_base::AttributeSet;
 
 /// The names of a set, by their numbers.
@@ -12,7 +12,10 @@ fn names_of(set: AttributeSet) -> &'static [&'static str]
     ensures { map (λ name. name.now) result.now ≡ names_of set }
 {
     match set {
-        AttributeSet::Value | AttributeSet::Encap => &[],
+        AttributeSet::Value
+        | AttributeSet::Encap
+        | AttributeSet::TcQdiscIngress
+        | AttributeSet::TcActions => &[],
         AttributeSet::Address => route::ADDRESS,
         AttributeSet::Rule => route::RULE,
         AttributeSet::Route => route::ROUTE,
@@ -72,6 +75,20 @@ fn names_of(set: AttributeSet) -> &'static [&'static str]
         AttributeSet::NeighbourTable => small::NEIGHBOUR_TABLE,
         AttributeSet::NeighbourTableParameter => small::NEIGHBOUR_TABLE_PARAMETER,
         AttributeSet::AddressLabel => small::ADDRESS_LABEL,
+        AttributeSet::Tc => tc::TC,
+        AttributeSet::TcStats2 => tc::STATS2,
+        AttributeSet::TcStab => tc::STAB,
+        AttributeSet::TcQdiscFqCodel => tc::FQ_CODEL,
+        AttributeSet::TcFilterU32 => tc::U32,
+        AttributeSet::TcFilterMatchAll => tc::MATCH_ALL,
+        AttributeSet::TcFilterFlower => tc::FLOWER,
+        AttributeSet::TcFilterFlowerMpls => tc::FLOWER_MPLS,
+        AttributeSet::TcFilterFlowerMplsLse => tc::FLOWER_MPLS_LSE,
+        AttributeSet::TcActionMessage => tc::ACTION_MESSAGE,
+        AttributeSet::TcAction => tc::ACTION,
+        AttributeSet::TcActionMirror => tc::MIRROR,
+        AttributeSet::TcActionNat => tc::NAT,
+        AttributeSet::TcActionTunnelKey => tc::TUNNEL_KEY,
     }
 }
 

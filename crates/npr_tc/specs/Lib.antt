@@ -1,0 +1,9 @@
+pub mod ActionAttribute
+pub mod ActionFlags
+pub mod ActionHeader
+pub mod ActionMessage
+pub mod Attribute
+pub mod Header
+pub mod Message
+pub mod Options
+pub mod Steps

@@ -1,0 +1,13 @@
+use Rattle.std.proofs.lemmas.Result.{err_from_is_err_and}
+use Rattle.npr_tc_actions.proofs.action.TcActionAttributeImpl.read_into.Goals as goal
+
+pub returns-in_err-attributes-clause-refused : goal.returns-in_err-attributes-clause-refused
+returns-in_err-attributes-clause-refused g c =
+    let p = err_from_is_err_and c.from_residual.result c.from_residual.ensures.1 in
+    let wrong = rw c.value.ensures at c.in_err-attributes.ensures.refused in
+    rw (p.1, p.2) (λ other. wrong other)
+
+pub returns-clause-ok : goal.returns-clause-ok
+returns-clause-ok g c =
+    let reads = rw c.value.ensures at c.in_ok-attributes.ensures.ok in
+    (record { tab = c.kind.result; attributes = c.in_ok-attributes.attributes }, c.put.ensures, (c.kind.ensures, reads))

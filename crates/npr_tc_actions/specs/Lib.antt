@@ -1,0 +1,17 @@
+pub mod Action
+pub mod ActionOption
+pub mod ActionType
+pub mod Attribute
+pub mod Form
+pub mod Generic
+pub mod Mirror
+pub mod MirrorActionType
+pub mod MirrorOption
+pub mod Nat
+pub mod NatFlags
+pub mod NatOption
+pub mod Numbered
+pub mod Tcf
+pub mod TunnelKey
+pub mod TunnelKeyOption
+pub mod lemmas

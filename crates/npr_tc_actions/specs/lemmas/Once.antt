@@ -1,0 +1,65 @@
+-- The attributes of an action are read with one failed look at most, and a kind is read alike whatever governs.
+use Rattle.std.specs.Prelude.{◌==◌}
+use Rattle.std.proofs.Common.{◌≡◌, Bool, true, false, Some, refl, inl, inr}
+use Rattle.npr_base.specs.declared.refusal.DecodeError.{DecodeError}
+use Rattle.npr_base.specs.Framing.{Item, number_of}
+use Rattle.npr_base.specs.lemmas.Fails.{FailsOnce, InsideOnce, list-once, once_then, rows-once}
+use Rattle.npr_base.specs.lemmas.ShortList.{Plain}
+use Rattle.npr_tc_qdiscs.specs.lemmas.StatsOnce.{stats2_once}
+use Rattle.npr_tc_qdiscs.specs.Stats2 as OfStats2
+use Rattle.npr_tc_qdiscs.specs.declared.form.TcForm.TheVariants.{Kept as NoData}
+use Rattle.npr_tc_actions.specs.ActionOption.{action_option}
+use Rattle.npr_tc_actions.specs.Attribute.{Meaning, attributes, table, tells}
+use Rattle.npr_tc_actions.specs.contracts.attribute.TcActionAttribute.{enum}
+use Rattle.npr_tc_actions.specs.contracts.mirror_option.TcActionMirrorOption.{enum as mirror_enum}
+use Rattle.npr_tc_actions.specs.contracts.nat_option.TcActionNatOption.{enum as nat_enum}
+use Rattle.npr_tc_actions.specs.contracts.tunnel_key_option.TcActionTunnelKeyOption.{enum as tunnel_key_enum}
+use Rattle.npr_tc_actions.specs.declared.form.TcActionForm.{TcActionForm}
+use Rattle.npr_tc_actions.specs.MirrorOption as OfMirror
+use Rattle.npr_tc_actions.specs.NatOption as OfNat
+use Rattle.npr_tc_actions.specs.TunnelKeyOption as OfTunnelKey
+
+-- ---- one failed look
+
+mirror_once : FailsOnce OfMirror.attributes.looks
+unfolding OfMirror.attributes
+mirror_once = rows-once mirror_enum.parts OfMirror.table.rows tt
+
+nat_once : FailsOnce OfNat.attributes.looks
+unfolding OfNat.attributes
+nat_once = rows-once nat_enum.parts OfNat.table.rows tt
+
+tunnel_key_once : FailsOnce OfTunnelKey.attributes.looks
+unfolding OfTunnelKey.attributes
+tunnel_key_once = rows-once tunnel_key_enum.parts OfTunnelKey.table.rows tt
+
+options_once : (form : TcActionForm) → InsideOnce (action_option form).members.looks
+options_once TcActionForm.Mirror = list-once OfMirror.attributes mirror_once
+options_once TcActionForm.Nat = list-once OfNat.attributes nat_once
+options_once TcActionForm.TunnelKey = list-once OfTunnelKey.attributes tunnel_key_once
+options_once TcActionForm.Kept = tt
+
+pub attributes_once : (form : TcActionForm) → FailsOnce (attributes form).looks
+attributes_once form =
+    rows-once enum.parts (table form).rows
+    (once_then (action_option form).members.looks _ (options_once form) (list-once (OfStats2.attributes NoData) (stats2_once NoData), tt))
+
+-- ---- a kind is read alike
+
+is_kind : (b : Bool) (x : Item) (v : TcActionForm) → (number_of x.kind == 1) ≡ b → tells x ≡ Some v → (number_of x.kind == 1) ≡ true
+is_kind true x v e is = e
+is_kind false x v e is = let none = rw e at is in absurd cc
+
+module _ (t u : TcActionForm) (x : Item) where
+  reads_alike : (m : Meaning) → (number_of x.kind == 1) ≡ true → (attributes t).Reads x m → (attributes u).Reads x m
+  reads_alike (inl text) e reads = reads
+  reads_alike (inr m) e reads = absurd (rw e at reads)
+
+  faulty_alike : (e : DecodeError) → (number_of x.kind == 1) ≡ true → (attributes t).Faulty x e → (attributes u).Faulty x e
+  faulty_alike e is bad = rw is (rw is at bad)
+
+pub attributes_plain : Plain tells attributes
+attributes_plain = record {
+  reads = λ t u v x m is p. reads_alike t u x m (is_kind (number_of x.kind == 1) x v refl is) p;
+  faulty = λ t u v x e is p. faulty_alike t u x e (is_kind (number_of x.kind == 1) x v refl is) p;
+}

@@ -1,0 +1,119 @@
+//! The options of an action: `TCA_ACT_OPTIONS` of `linux/pkt_cls.h`.
+
+ghost use Rattle.std.specs.Prelude.{◌≡◌, ◌≢◌, ◌≤◌, ◌<◌, None, length, IfOk, IfErr, IsErrOf, OnErr};
+ghost use Rattle.{
+  npr_base.specs.{
+    declared.refusal.DecodeError.TheVariants.{OutOfMemory},
+    Counts.{AddsAtMost},
+    Framing.{Writes},
+    Lists.{checked},
+    Looks.{Answered, TakesInside},
+    Refusal.{no_place},
+  },
+  npr_tc_actions.specs.ActionOption.{action_option, action_option_of, case, held},
+};
+
+use crate::form::TcActionForm;
+use crate::mirror_option::TcActionMirrorOption;
+use crate::nat_option::TcActionNatOption;
+use crate::tunnel_key_option::TcActionTunnelKeyOption;
+use npr_base::{AttributeSet, DecodeError, EmitError, Form, Looks, parse_list, read_bytes};
+use std::alloc::{AllocError, Global};
+
+/// The options of an action: what they are follows from the first kind in the list that they stand in.
+#[derive(Debug, Drop, PartialEq, Eq)]
+pub enum TcActionOption {
+    /// Of an action that copies packets, or sends them on.
+    Mirror(Vec<TcActionMirrorOption>),
+    /// Of one that changes addresses.
+    Nat(Vec<TcActionNatOption>),
+    /// Of one over the metadata of tunnels.
+    TunnelKey(Vec<TcActionTunnelKeyOption>),
+    /// The bytes of options that nothing governs, or a kind without a set.
+    Other(Vec<u8>),
+}
+
+/// The variants that hold attributes.
+macro_rules! variants {
+    ($body:ident ($($given:tt)*)) => {
+        npr_base::$body!(($($given)*) TcActionOption {
+            Mirror;
+            Nat;
+            TunnelKey;
+        })
+    };
+}
+
+impl TcActionOption {
+    /// The options that these bytes are. Each look at a header is counted.
+    ///
+    /// # Errors
+    /// `OutOfMemory` where memory is refused, and else the first fault in reading order.
+    pub(crate) fn read(
+        alloc: Global,
+        form: TcActionForm,
+        bytes: &[u8],
+        looks: &mut Looks,
+    ) -> Result<Self, DecodeError>
+        ensures ok { IfOk result (λ x. (action_option form).Reads bytes.now (action_option_of x)) }
+        ensures refused { IfErr result (λ e. e ≢ OutOfMemory → (action_option form).Wrong no_place bytes.now e) }
+        ensures exact { Answered result → TakesInside (action_option form).members.looks bytes.now looks.old looks.new }
+        // Memory is taken for a first whole attribute, and for bytes that are kept.
+        ensures memory { IsErrOf result OutOfMemory → (case form).memory bytes.now }
+        ensures bounded { AddsAtMost looks.old looks.new (length bytes.now) }
+    {
+        match form {
+            TcActionForm::Mirror => Ok(TcActionOption::Mirror(parse_list(
+                alloc,
+                (),
+                bytes,
+                looks,
+            )?)),
+            TcActionForm::Nat => Ok(TcActionOption::Nat(parse_list(alloc, (), bytes, looks)?)),
+            TcActionForm::TunnelKey => {
+                Ok(TcActionOption::TunnelKey(parse_list(alloc, (), bytes, looks)?))
+            }
+            TcActionForm::Kept => Ok(TcActionOption::Other(read_bytes(alloc, bytes)?)),
+        }
+    }
+
+    /// How the options are read without memory.
+    pub(crate) fn form(form: TcActionForm) -> Form
+        ensures { result ≡ (action_option form).showing.form }
+    {
+        match form {
+            TcActionForm::Mirror => Form::List(AttributeSet::TcActionMirror, 0),
+            TcActionForm::Nat => Form::List(AttributeSet::TcActionNat, 0),
+            TcActionForm::TunnelKey => Form::List(AttributeSet::TcActionTunnelKey, 0),
+            TcActionForm::Kept => Form::Raw,
+        }
+    }
+
+    /// An equal value.
+    ///
+    /// # Errors
+    /// `AllocError` where memory is refused; where nothing stands in it none is taken.
+    pub fn try_clone(&self, alloc: Global) -> Result<Self, AllocError>
+        ensures ok { IfOk result (λ x. action_option_of x ≡ action_option_of self.now) }
+        ensures memory { OnErr result (0 < (held (action_option_of self.now)).size) }
+    {
+        variants!(data_cloned(self, alloc))
+    }
+
+    /// The length of the bytes, or the first cause inside why there are none.
+    pub(crate) fn check(&self) -> Result<usize, EmitError>
+        ensures { result ≡ checked (held (action_option_of self.now)).unfit (length (held (action_option_of self.now)).encoded) }
+    {
+        variants!(data_checked(self))
+    }
+
+    /// Writes the bytes at the front of the slice, leaves the rest, and answers their length.
+    pub(crate) fn write(&self, out: &mut [u8]) -> usize
+        requires fits { (held (action_option_of self.now)).unfit ≡ None }
+        requires room { length (held (action_option_of self.now)).encoded ≤ length out.old }
+        ensures len { result ≡ length (held (action_option_of self.now)).encoded }
+        ensures after { Writes out.old out.new (held (action_option_of self.now)).encoded }
+    {
+        variants!(data_written(self, out))
+    }
+}

@@ -1,0 +1,2 @@
+mod OtherRows
+pub mod EqualityLaws

@@ -1,0 +1,14 @@
+pub mod Flower
+pub mod FlowerForm
+pub mod FlowerValue
+pub mod FlowerMpls
+pub mod FlowerMplsLse
+pub mod Headed
+pub mod Hits
+pub mod MatchAll
+pub mod U32Key
+pub mod U32Mark
+pub mod U32Option
+pub mod U32OptionFlags
+pub mod U32Selector
+pub mod U32SelectorFlags

@@ -1,0 +1,25 @@
+//! The names of filters.
+
+/// The filter `u32`.
+pub struct TcFilterU32 {}
+
+impl TcFilterU32 {
+    /// Its name.
+    pub const KIND: &'static str = "u32";
+}
+
+/// The filter `flower`.
+pub struct TcFilterFlower {}
+
+impl TcFilterFlower {
+    /// Its name.
+    pub const KIND: &'static str = "flower";
+}
+
+/// The filter `matchall`.
+pub struct TcFilterMatchAll {}
+
+impl TcFilterMatchAll {
+    /// Its name.
+    pub const KIND: &'static str = "matchall";
+}

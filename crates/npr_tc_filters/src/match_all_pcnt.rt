@@ -1,0 +1,85 @@
+//! How often a filter that matches each packet was asked: `struct tc_matchall_pcnt` of `linux/pkt_cls.h`.
+
+ghost use Rattle.std.specs.Prelude.{◌≡◌, ◌≤◌, length, slice_get, IfOk, OnErr};
+ghost use Rattle.{npr_base.specs.Framing.{Writes}, npr_tc_filters.specs.Hits.{hits, hits_at, match_all_hits}};
+
+use npr_base::{blocks_len, read_blocks, write_blocks};
+use std::alloc::{AllocError, Global};
+
+/// How often a filter that matches each packet was asked.
+///
+/// Layout (`struct tc_matchall_pcnt` of `linux/pkt_cls.h`): numbers of 8 bytes, little endian, one
+/// behind the other, of which kernels write one.
+#[derive(Debug, Drop, PartialEq, Eq)]
+pub struct TcMatchAllPcnt {
+    /// The counters, in the order in which kernels write them.
+    pub numbers: Vec<u64>,
+}
+
+impl TcMatchAllPcnt {
+    /// Of these counters.
+    pub fn new(numbers: Vec<u64>) -> Self
+        ensures { result.numbers ≡ numbers }
+    {
+        TcMatchAllPcnt { numbers }
+    }
+
+    /// The counters that the bytes are; what is left at the end and too short for one is dropped.
+    ///
+    /// # Errors
+    /// `AllocError` where memory is refused; bytes that are too short for a counter take none.
+    pub fn read(alloc: Global, bytes: &[u8]) -> Result<Self, AllocError>
+        ensures ok { IfOk result (λ x. hits.Reads bytes.now (match_all_hits x)) }
+        ensures memory { OnErr result (8 ≤ length bytes.now) }
+    {
+        Ok(TcMatchAllPcnt {
+            numbers: read_blocks(alloc, bytes)?,
+        })
+    }
+
+    /// Equal counters.
+    ///
+    /// # Errors
+    /// `AllocError` where memory is refused.
+    pub fn try_clone(&self, alloc: Global) -> Result<Self, AllocError>
+        ensures { IfOk result (λ x. match_all_hits x ≡ match_all_hits self.now) }
+    {
+        Ok(TcMatchAllPcnt {
+            numbers: Vec::from_slice(alloc, self.numbers.as_slice())?,
+        })
+    }
+
+    /// The counter at a place, or `None` where there is none.
+    pub fn number(&self, at: usize) -> Option<u64>
+        ensures { result ≡ slice_get (match_all_hits self.now) at }
+    {
+        self.numbers.as_slice().get(at).copied()
+    }
+
+    /// How often it matched, or 0 where that is not said.
+    pub fn rhit(&self) -> u64
+        ensures { result ≡ hits_at (match_all_hits self.now) 0 }
+    {
+        match self.number(0) {
+            Some(n) => n,
+            None => 0,
+        }
+    }
+
+    /// The length of the bytes.
+    pub fn len(&self) -> usize
+        ensures { result ≡ length (hits.encode (match_all_hits self.now)) }
+    {
+        blocks_len(self.numbers.as_slice())
+    }
+
+    /// Writes the bytes at the front of the slice, leaves the rest, and answers their length. Asks for
+    /// room of that length.
+    pub fn write(&self, out: &mut [u8]) -> usize
+        requires { length (hits.encode (match_all_hits self.now)) ≤ length out.old }
+        ensures len { result ≡ length (hits.encode (match_all_hits self.now)) }
+        ensures after { Writes out.old out.new (hits.encode (match_all_hits self.now)) }
+    {
+        write_blocks(self.numbers.as_slice(), out)
+    }
+}

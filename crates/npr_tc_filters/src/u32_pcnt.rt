@@ -1,0 +1,105 @@
+//! How often a u32 filter matched: `struct tc_u32_pcnt` of `linux/pkt_cls.h`.
+
+ghost use Rattle.std.specs.Prelude.{◌≡◌, ◌≤◌, drop, length, slice_get, IfOk, OnErr};
+ghost use Rattle.{npr_base.specs.Framing.{Writes}, npr_tc_filters.specs.Hits.{hits, hits_at, u32_hits}};
+
+use npr_base::{blocks_len, read_blocks, write_blocks};
+use std::alloc::{AllocError, Global};
+
+/// How often a u32 filter was asked, how often it matched, and how often each of its keys did.
+///
+/// Layout (`struct tc_u32_pcnt` of `linux/pkt_cls.h`): numbers of 8 bytes, little endian, one behind
+/// the other.
+#[derive(Debug, Drop, PartialEq, Eq)]
+pub struct TcU32Pcnt {
+    /// The counters, in the order in which kernels write them.
+    pub numbers: Vec<u64>,
+}
+
+impl TcU32Pcnt {
+    /// Of these counters.
+    pub fn new(numbers: Vec<u64>) -> Self
+        ensures { result.numbers ≡ numbers }
+    {
+        TcU32Pcnt { numbers }
+    }
+
+    /// The counters that the bytes are; what is left at the end and too short for one is dropped.
+    ///
+    /// # Errors
+    /// `AllocError` where memory is refused; bytes that are too short for a counter take none.
+    pub fn read(alloc: Global, bytes: &[u8]) -> Result<Self, AllocError>
+        ensures ok { IfOk result (λ x. hits.Reads bytes.now (u32_hits x)) }
+        ensures memory { OnErr result (8 ≤ length bytes.now) }
+    {
+        Ok(TcU32Pcnt {
+            numbers: read_blocks(alloc, bytes)?,
+        })
+    }
+
+    /// Equal counters.
+    ///
+    /// # Errors
+    /// `AllocError` where memory is refused.
+    pub fn try_clone(&self, alloc: Global) -> Result<Self, AllocError>
+        ensures { IfOk result (λ x. u32_hits x ≡ u32_hits self.now) }
+    {
+        Ok(TcU32Pcnt {
+            numbers: Vec::from_slice(alloc, self.numbers.as_slice())?,
+        })
+    }
+
+    /// The counter at a place, or `None` where there is none.
+    pub fn number(&self, at: usize) -> Option<u64>
+        ensures { result ≡ slice_get (u32_hits self.now) at }
+    {
+        self.numbers.as_slice().get(at).copied()
+    }
+
+    /// How often the filter was asked, or 0 where that is not said.
+    pub fn rcnt(&self) -> u64
+        ensures { result ≡ hits_at (u32_hits self.now) 0 }
+    {
+        match self.number(0) {
+            Some(n) => n,
+            None => 0,
+        }
+    }
+
+    /// How often it matched, or 0 where that is not said.
+    pub fn rhit(&self) -> u64
+        ensures { result ≡ hits_at (u32_hits self.now) 1 }
+    {
+        match self.number(1) {
+            Some(n) => n,
+            None => 0,
+        }
+    }
+
+    /// How often each key matched, in their order.
+    pub fn hits(&self) -> &[u64]
+        ensures { result.now ≡ drop 2 (u32_hits self.now) }
+    {
+        match self.numbers.as_slice().get(2..) {
+            Some(hits) => hits,
+            None => &[],
+        }
+    }
+
+    /// The length of the bytes.
+    pub fn len(&self) -> usize
+        ensures { result ≡ length (hits.encode (u32_hits self.now)) }
+    {
+        blocks_len(self.numbers.as_slice())
+    }
+
+    /// Writes the bytes at the front of the slice, leaves the rest, and answers their length. Asks for
+    /// room of that length.
+    pub fn write(&self, out: &mut [u8]) -> usize
+        requires { length (hits.encode (u32_hits self.now)) ≤ length out.old }
+        ensures len { result ≡ length (hits.encode (u32_hits self.now)) }
+        ensures after { Writes out.old out.new (hits.encode (u32_hits self.now)) }
+    {
+        write_blocks(self.numbers.as_slice(), out)
+    }
+}

@@ -1,0 +1,16 @@
+use Rattle.npr_tc_qdiscs.proofs.EqualityLaws.{cl_stats_equality, fq_codel_equality, fq_codel_xstats_equality, ingress_equality, qd_stats_equality}
+use Rattle.npr_tc_qdiscs.proofs.EqualityLaws.{stab_data_equality, stab_equality, stats2_equality, xstats_equality}
+use Rattle.npr_tc_qdiscs.proofs.laws.law_equality_of_meanings.Goals as goal
+
+pub returns : goal.returns
+returns c = record {
+  qd_stats = qd_stats_equality;
+  cl_stats = cl_stats_equality;
+  fq_codel_xstats = fq_codel_xstats_equality;
+  xstats = xstats_equality;
+  stab_data = stab_data_equality;
+  fq_codel = fq_codel_equality;
+  ingress = ingress_equality;
+  stab = stab_equality;
+  stats2 = stats2_equality;
+}

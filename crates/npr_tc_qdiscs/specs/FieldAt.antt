@@ -1,0 +1,7 @@
+-- Structures that grew over the years, kept as their bytes: a number of them by its place.
+use Rattle.std.specs.Prelude.{ℕ, ◌+◌, List, length, nat_lt, take, drop, if◌then◌else◌}
+use Rattle.npr_base.specs.Blocks.{Width}
+
+-- the number that stands at this place, and none where the bytes end before its end
+abbrev pub field_at : {A : Type 0} → Width A → List ℕ → ℕ → A
+field_at w bytes at = if nat_lt (length bytes) (at + w.layout.size) then w.none else w.layout.decode (take w.layout.size (drop at bytes))

@@ -1,0 +1,17 @@
+//! Structures that grew over the years, kept as their bytes.
+
+ghost use Rattle.std.specs.Prelude.{◌≡◌};
+ghost use Rattle.npr_tc_qdiscs.specs.FieldAt.{field_at};
+
+use npr_base::Block;
+
+/// The number that stands at this place of the bytes, and 0 where they end before its end.
+pub(crate) fn number_at<T: Block>(bytes: &[u8], at: usize) -> T
+    ensures { result ≡ field_at T.width bytes.now at }
+{
+    if at < bytes.len() && T::size() <= bytes.len() - at {
+        T::in_front(&bytes[at..])
+    } else {
+        T::zero()
+    }
+}
