@@ -44,9 +44,9 @@
 
 /* The version of the library. While the first two numbers stay, structures, calls and numbers stay as they are, and others are added. */
 #define NPR_VERSION_MAJOR 0
-#define NPR_VERSION_MINOR 13
+#define NPR_VERSION_MINOR 14
 #define NPR_VERSION_PATCH 0
-#define NPR_VERSION "0.13.0"
+#define NPR_VERSION "0.14.0"
 
 /* The stack of a thread that is enough for every call and every input, in bytes: 1 MiB. The deepest
  * message takes some 773 KiB, and where a fault is looked for some 433 (measured). */
@@ -72,7 +72,9 @@ enum npr_kind {
     NPR_KIND_NETCONF = 8,
     NPR_KIND_ADDRESS_LABEL = 9,
     NPR_KIND_NEIGHBOUR_TABLE = 10,
-    NPR_KIND_PREFIX = 11
+    NPR_KIND_PREFIX = 11,
+    NPR_KIND_TC = 12,
+    NPR_KIND_TC_ACTION = 13
 };
 
 /* The kind of messages of this type, RTM_* of linux/rtnetlink.h, or 0 where it is none that is read. */
@@ -289,7 +291,39 @@ enum npr_family {
     /* NDTPA_* of linux/neighbour.h. */
     NPR_FAMILY_NEIGHBOUR_TABLE_PARAMETER = 62,
     /* IFAL_* of linux/if_addrlabel.h. */
-    NPR_FAMILY_ADDRESS_LABEL = 63
+    NPR_FAMILY_ADDRESS_LABEL = 63,
+    /* TCA_* of linux/rtnetlink.h. */
+    NPR_FAMILY_TC = 65,
+    /* TCA_STATS_* of linux/gen_stats.h. */
+    NPR_FAMILY_TC_STATS2 = 66,
+    /* TCA_STAB_* of linux/pkt_sched.h. */
+    NPR_FAMILY_TC_STAB = 67,
+    /* The data of ingress and clsact, which have no numbers of their own. */
+    NPR_FAMILY_TC_QDISC_INGRESS = 68,
+    /* TCA_FQ_CODEL_* of linux/pkt_sched.h. */
+    NPR_FAMILY_TC_QDISC_FQ_CODEL = 69,
+    /* TCA_U32_* of linux/pkt_cls.h. */
+    NPR_FAMILY_TC_FILTER_U32 = 70,
+    /* TCA_MATCHALL_* of linux/pkt_cls.h. */
+    NPR_FAMILY_TC_FILTER_MATCH_ALL = 71,
+    /* TCA_FLOWER_* of linux/pkt_cls.h. */
+    NPR_FAMILY_TC_FILTER_FLOWER = 72,
+    /* TCA_FLOWER_KEY_MPLS_OPTS_* of linux/pkt_cls.h. */
+    NPR_FAMILY_TC_FILTER_FLOWER_MPLS = 73,
+    /* TCA_FLOWER_KEY_MPLS_OPT_LSE_* of linux/pkt_cls.h. */
+    NPR_FAMILY_TC_FILTER_FLOWER_MPLS_LSE = 74,
+    /* TCA_ROOT_* of linux/rtnetlink.h. */
+    NPR_FAMILY_TC_ACTION_MESSAGE = 75,
+    /* TCA_ACT_* of linux/pkt_cls.h. */
+    NPR_FAMILY_TC_ACTION = 76,
+    /* TCA_MIRRED_* of linux/tc_act/tc_mirred.h. */
+    NPR_FAMILY_TC_ACTION_MIRROR = 77,
+    /* TCA_NAT_* of linux/tc_act/tc_nat.h. */
+    NPR_FAMILY_TC_ACTION_NAT = 78,
+    /* TCA_TUNNEL_KEY_* of linux/tc_act/tc_tunnel_key.h. */
+    NPR_FAMILY_TC_ACTION_TUNNEL_KEY = 79,
+    /* Actions, each with its place as its number. */
+    NPR_FAMILY_TC_ACTIONS = 80
 };
 
 /* What is wrong with a SEG6 routing header (RFC 8754, section 2). */
@@ -578,6 +612,8 @@ NPR_CALLS(netconf, NPR_KIND_NETCONF)
 NPR_CALLS(address_label, NPR_KIND_ADDRESS_LABEL)
 NPR_CALLS(neighbour_table, NPR_KIND_NEIGHBOUR_TABLE)
 NPR_CALLS(prefix, NPR_KIND_PREFIX)
+NPR_CALLS(tc, NPR_KIND_TC)
+NPR_CALLS(tc_action, NPR_KIND_TC_ACTION)
 
 #undef NPR_CALLS
 

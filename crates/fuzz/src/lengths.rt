@@ -165,3 +165,54 @@ pub const TABLE: [u8; 9] = [ANY, ANY, 4, 4, 4, 32, 0, 88, 8];
 pub const PARAMETER: [u8; 20] = [
     ANY, 4, 4, 8, 8, 8, 8, 8, 4, 4, 4, 4, 8, 8, 4, 8, 4, 4, ANY, 8,
 ];
+
+/// Of messages of traffic control; lists are empty here.
+pub const TRAFFIC: [u8; 17] = [
+    ANY, ANY, 0, 40, ANY, 2, ANY, 0, 0, ANY, 0, 4, 1, 4, 4, 8, ANY,
+];
+
+/// Of statistics, and of a table of sizes.
+pub const STATS2: [u8; 9] = [ANY, 16, 8, 20, ANY, 16, ANY, 16, 8];
+
+pub const SIZES: [u8; 3] = [ANY, 24, ANY];
+
+/// Queueing disciplines with data.
+pub const DISCIPLINES: [(&str, Lengths); 3] = [
+    ("fq_codel", &[ANY, 4, 4, 4, 4, 4, 4, 4, 4, 4, 1, 1]),
+    ("ingress", &[ANY, ANY]),
+    ("clsact", &[ANY, ANY]),
+];
+
+/// Filters with data, each with the number of its actions.
+pub const FILTERS: [(&str, u16, Lengths); 3] = [
+    ("u32", 7, &[ANY, 4, 4, 4, 4, 32, ANY, 0, ANY, 24, 12, 4]),
+    ("matchall", 2, &[ANY, 4, 0, 4, 8]),
+    ("flower", 3, FLOWER),
+];
+
+pub const FLOWER: Lengths = &[
+    ANY, 4, ANY, 0, 6, 6, 6, 6, 2, 1, 4, 4, 4, 4, 16, 16, 16, 16, 2, 2, 2, 2, 4, 2, 1, 2, 4, 4, 4,
+    4, 4, 16, 16, 16, 16, 2, 2, 2, 2, 2, 2, 2, 2, 2, 2, 2, 2, 4, 4, 1, 1, 1, 1, 1, 1, 1, 1, 4, 4,
+    4, 4, 1, 1, 6, 6, 6, 6, 1, 1, 1, 4, 2, 2, 1, 1, 1, 1, 2, 1, 2, 1, 1, 1, 1, ANY, ANY, 4, 2, 2,
+    2, 2, 2, 2, 2, 2, 4, 4, 16, 16, 0, 4, 4,
+];
+
+/// Of an entry of labels.
+pub const LABEL_ENTRY: [u8; 6] = [ANY, 1, 1, 1, 1, 4];
+
+/// Of a message of actions, of a list of them, and of one; lists are empty here.
+pub const ACTION_MESSAGE: [u8; 6] = [ANY, 0, 8, 4, 4, ANY];
+
+pub const ACTIONS: Lengths = &[0, 0, 0];
+
+pub const ACTION: [u8; 11] = [ANY, ANY, 0, 4, 0, ANY, ANY, 8, 8, 8, 4];
+
+/// Actions with options.
+pub const ACTION_KINDS: [(&str, Lengths); 3] = [
+    ("mirred", &[ANY, 32, 28, ANY, 4]),
+    ("nat", &[ANY, 36, 32]),
+    (
+        "tunnel_key",
+        &[ANY, 32, 24, 4, 4, 16, 16, 4, ANY, 2, 1, ANY, 1, 1, 0],
+    ),
+];

@@ -101,7 +101,7 @@ impl Maker {
     }
 
     /// A name, mostly with its zero.
-    fn text(&mut self, kind: u16, name: &str) -> Result<(), AllocError> {
+    pub(crate) fn text(&mut self, kind: u16, name: &str) -> Result<(), AllocError> {
         let zeros = usize::from(!self.random.once_in(4));
         self.front(kind, name.len().saturating_add(zeros))?;
         self.list.extend_from_slice(name.as_bytes())?;

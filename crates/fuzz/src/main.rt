@@ -15,6 +15,7 @@ mod random;
 mod small;
 mod subject;
 mod tally;
+mod traffic;
 mod worked;
 
 use netlink_packet_route::MessageKind;

@@ -15,8 +15,8 @@ use std::mem;
 pub const NESTED: u16 = 0x8000;
 
 /// Types of messages: of each kind, and others.
-const TYPES: [u16; 20] = [
-    20, 22, 24, 26, 28, 29, 32, 16, 19, 109, 52, 67, 73, 80, 90, 106, 1, 2, 3, 36,
+const TYPES: [u16; 23] = [
+    20, 22, 24, 26, 28, 29, 32, 16, 19, 109, 52, 67, 73, 80, 90, 106, 36, 45, 50, 1, 2, 3, 56,
 ];
 
 /// A maker of messages.
@@ -135,6 +135,8 @@ impl Maker {
             MessageKind::AddressLabel => self.leaves(&LABEL),
             MessageKind::NeighbourTable => self.neighbour_table(),
             MessageKind::Prefix => self.leaves(&PREFIX),
+            MessageKind::Tc => self.traffic(),
+            MessageKind::TcAction => self.traffic_actions(),
         }
     }
 
@@ -163,6 +165,9 @@ impl Maker {
         ];
         for byte in bytes.iter().take(header_size(kind)) {
             out.push(*byte)?;
+        }
+        for _ in bytes.len()..header_size(kind) {
+            out.push(self.random.byte())?;
         }
         Ok(())
     }
@@ -333,9 +338,13 @@ impl Maker {
 /// The length of the header of messages of this kind, in bytes.
 fn header_size(kind: MessageKind) -> usize {
     match kind {
-        MessageKind::Nsid | MessageKind::Netconf | MessageKind::NeighbourTable => 4,
+        MessageKind::Nsid
+        | MessageKind::Netconf
+        | MessageKind::NeighbourTable
+        | MessageKind::TcAction => 4,
         MessageKind::Address | MessageKind::NextHop => 8,
         MessageKind::Link => 16,
+        MessageKind::Tc => 20,
         _ => 12,
     }
 }

@@ -6,7 +6,8 @@ use Rattle.npr_base.specs.Equality.{IsEqualityOf}
 use Rattle.npr_base.proofs.MeaningLaws.{items_equality}
 use Rattle.npr_base.proofs.StructLaws.{and_decides, decides_as}
 use Rattle.netlink_packet_route.specs.MessageKind.{MessageOf, kind_of_type}
-use Rattle.netlink_packet_route.specs.RouteNetlinkMessage.{Meaning, Under, message, other, other_of}
+use Rattle.netlink_packet_route.specs.RouteNetlinkMessage.{Meaning, message, other, other_of}
+use Rattle.netlink_packet_route.specs.MessageTypes.{Under}
 use Rattle.netlink_packet_route.specs.contracts.message.OtherMessagePartialEq.TheImpl as OtherEq
 use Rattle.netlink_packet_route.specs.declared.kind.MessageKind.{MessageKind}
 use Rattle.netlink_packet_route.specs.declared.kind.MessageKind.TheVariants as Kind
@@ -18,6 +19,8 @@ use Rattle.netlink_packet_route.specs.declared.message_type.MessageType.TheVaria
 use Rattle.netlink_packet_route.specs.declared.message_type.Subject.{Subject}
 use Rattle.netlink_packet_route.specs.declared.message_type.Subject.TheVariants.{Link, Address, Route, Neighbour, Rule, AddressLabel, Netconf, Nsid}
 use Rattle.netlink_packet_route.specs.declared.message_type.Subject.TheVariants.{NextHop, LinkProp, NextHopBucket}
+use Rattle.netlink_packet_route.specs.declared.message_type.Subject.TheVariants.{QueueDiscipline, TrafficClass, TrafficFilter, TrafficChain}
+use Rattle.netlink_packet_route.specs.declared.message_type.Subject.TheVariants.{TrafficAction}
 
 -- the places of the variants
 unfoldable pub action_order : Action → ℕ
@@ -31,25 +34,30 @@ subject_order Address = 4
 subject_order Route = 7
 subject_order Neighbour = 10
 subject_order Rule = 13
-subject_order AddressLabel = 20
-subject_order Netconf = 23
-subject_order Nsid = 26
-subject_order NextHop = 29
-subject_order LinkProp = 32
-subject_order NextHopBucket = 35
+subject_order QueueDiscipline = 16
+subject_order TrafficClass = 19
+subject_order TrafficFilter = 22
+subject_order TrafficAction = 25
+subject_order AddressLabel = 32
+subject_order Netconf = 35
+subject_order Nsid = 38
+subject_order TrafficChain = 41
+subject_order NextHop = 44
+subject_order LinkProp = 47
+subject_order NextHopBucket = 50
 
 abbrev type_order : MessageType → ℕ
 type_order (Of subject a) = subject_order subject + action_order a
 type_order SetLink = 3
-type_order NewPrefix = 16
-type_order NewNeighbourTable = 17
-type_order GetNeighbourTable = 18
-type_order SetNeighbourTable = 19
+type_order NewPrefix = 28
+type_order NewNeighbourTable = 29
+type_order GetNeighbourTable = 30
+type_order SetNeighbourTable = 31
 type_order Unknown = 0
 
 unfoldable pub order : Meaning → ℕ
 order (message type m) = type_order type
-order (other type bytes) = 38
+order (other type bytes) = 53
 
 -- a message of a kind is one
 abbrev as_kind : (kind : MessageKind) → MessageOf kind → Meaning → MessageOf kind
@@ -69,6 +77,11 @@ as_kind Kind.NeighbourTable m (message NewNeighbourTable n) = n
 as_kind Kind.NeighbourTable m (message GetNeighbourTable n) = n
 as_kind Kind.NeighbourTable m (message SetNeighbourTable n) = n
 as_kind Kind.Prefix m (message NewPrefix n) = n
+as_kind Kind.Tc m (message (Of QueueDiscipline a) n) = n
+as_kind Kind.Tc m (message (Of TrafficClass a) n) = n
+as_kind Kind.Tc m (message (Of TrafficFilter a) n) = n
+as_kind Kind.Tc m (message (Of TrafficChain a) n) = n
+as_kind Kind.TcAction m (message (Of TrafficAction a) n) = n
 as_kind kind m x = m
 
 pub message_one : (type : MessageType) (m n : Under (kind_of_type type)) → message type m ≡ message type n → m ≡ n
@@ -83,6 +96,11 @@ message_one (Of Nsid a) m n e = ap (as_kind Kind.Nsid m) e
 message_one (Of NextHop a) m n e = ap (as_kind Kind.NextHop m) e
 message_one (Of LinkProp a) m n e = ap (as_kind Kind.Link m) e
 message_one (Of NextHopBucket a) m n e = ap (as_kind Kind.NextHop m) e
+message_one (Of QueueDiscipline a) m n e = ap (as_kind Kind.Tc m) e
+message_one (Of TrafficClass a) m n e = ap (as_kind Kind.Tc m) e
+message_one (Of TrafficFilter a) m n e = ap (as_kind Kind.Tc m) e
+message_one (Of TrafficAction a) m n e = ap (as_kind Kind.TcAction m) e
+message_one (Of TrafficChain a) m n e = ap (as_kind Kind.Tc m) e
 message_one SetLink m n e = ap (as_kind Kind.Link m) e
 message_one NewPrefix m n e = ap (as_kind Kind.Prefix m) e
 message_one NewNeighbourTable m n e = ap (as_kind Kind.NeighbourTable m) e

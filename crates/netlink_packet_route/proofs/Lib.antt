@@ -7,6 +7,7 @@ mod EqualityLaws
 mod LinkNests
 pub mod NestLaws
 mod NestRows
+mod TcNests
 mod ValueReading
 pub mod FaultLaws
 pub mod NumberLaws

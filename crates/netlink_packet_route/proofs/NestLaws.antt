@@ -13,6 +13,10 @@ use Rattle.npr_base.specs.declared.refusal.AttributeSet.TheVariants.{MacVlanAddr
 use Rattle.npr_base.specs.declared.refusal.AttributeSet.TheVariants.{InfoGre6, InfoIpTunnel, InfoVti, InfoXfrm, NextHop, NextHopResGroup}
 use Rattle.npr_base.specs.declared.refusal.AttributeSet.TheVariants.{NextHopResBucket, NextHopGroupStats, NextHopGroupStatsEntry, Nsid, Netconf}
 use Rattle.npr_base.specs.declared.refusal.AttributeSet.TheVariants.{AddressLabel, NeighbourTable, NeighbourTableParameter, Prefix}
+use Rattle.npr_base.specs.declared.refusal.AttributeSet.TheVariants.{Tc, TcStats2, TcStab, TcQdiscIngress, TcQdiscFqCodel, TcFilterU32}
+use Rattle.npr_base.specs.declared.refusal.AttributeSet.TheVariants.{TcFilterMatchAll, TcFilterFlower, TcFilterFlowerMpls, TcFilterFlowerMplsLse}
+use Rattle.npr_base.specs.declared.refusal.AttributeSet.TheVariants.{TcActionMessage, TcActions, TcAction, TcActionMirror, TcActionNat}
+use Rattle.npr_base.specs.declared.refusal.AttributeSet.TheVariants.{TcActionTunnelKey}
 use Rattle.npr_address.specs.Attribute as OfAddress
 use Rattle.npr_link.specs.Netkit as OfNetkit
 use Rattle.npr_link_devices.specs.AdInfo as OfAdInfo
@@ -60,6 +64,18 @@ use Rattle.npr_small.specs.NeighbourTableParameter as OfNeighbourTableParameter
 use Rattle.npr_small.specs.NetconfAttribute as OfNetconf
 use Rattle.npr_small.specs.NsidAttribute as OfNsid
 use Rattle.npr_small.specs.PrefixAttribute as OfPrefix
+use Rattle.npr_tc.specs.ActionAttribute as OfTcActionMessage
+use Rattle.npr_tc_actions.specs.MirrorOption as OfTcMirror
+use Rattle.npr_tc_actions.specs.NatOption as OfTcNat
+use Rattle.npr_tc_actions.specs.TunnelKeyOption as OfTcTunnelKey
+use Rattle.npr_tc_filters.specs.Flower as OfTcFlower
+use Rattle.npr_tc_filters.specs.FlowerMpls as OfTcMpls
+use Rattle.npr_tc_filters.specs.FlowerMplsLse as OfTcMplsLse
+use Rattle.npr_tc_filters.specs.MatchAll as OfTcMatchAll
+use Rattle.npr_tc_filters.specs.U32Option as OfTcU32
+use Rattle.npr_tc_qdiscs.specs.FqCodel as OfTcFqCodel
+use Rattle.npr_tc_qdiscs.specs.Ingress as OfTcIngress
+use Rattle.npr_tc_qdiscs.specs.Stab as OfTcStab
 use Rattle.npr_tunnel.specs.Encapsulation as OfEncap
 use Rattle.npr_tunnel.specs.ErspanOptions as OfErspan
 use Rattle.npr_tunnel.specs.TunnelOptions as OfOption
@@ -67,17 +83,18 @@ use Rattle.npr_tunnel.specs.VxlanOptions as OfVxlan
 use Rattle.npr_neighbour.specs.NeighbourAddress as OfNeighbourAddress
 use Rattle.npr_scalar.specs.RouteAddress as OfAddresses
 use Rattle.npr_tunnel.specs.declared.encap_type.RouteLwEnCapType.TheVariants as Tunnel
-use Rattle.netlink_packet_route.specs.Nests.{Inner, reading_by, reading_of}
+use Rattle.netlink_packet_route.specs.Nests.{Inner, reading_by, reading_of, within}
 use Rattle.netlink_packet_route.specs.declared.context.Context.{Context}
 use Rattle.netlink_packet_route.specs.declared.nests.Nest.{Nest}
 use Rattle.netlink_packet_route.proofs.NestRows.{Own, listed-row, peer-row, route-nests, next-hop-rows, neighbour-rows}
 use Rattle.netlink_packet_route.proofs.LinkNests.{link-nests, driver-nests, tunnel-nests}
 use Rattle.netlink_packet_route.proofs.EncapNests.{encap-nests}
+use Rattle.netlink_packet_route.proofs.TcNests.{tc-nests, stats2-nests, actions-nests, action-nests}
 
 -- ---- of every set
 
 module _ (c : Context) where
-  pub nests-by : (set : AttributeSet) → Nests reading_of (Inner c) (Own set c) (reading_by set c).reading
+  pub nests-by : (set : AttributeSet) → Nests reading_of (Inner (within set c)) (Own set c) (reading_by set c).reading
   unfolding OfMetric.attributes OfOption.attributes OfVxlan.attributes OfErspan.attributes OfXdp.attributes OfProp.attributes
       OfReason.attributes OfAfSpec.attributes OfAfSpecInet.attributes OfAfSpecInet6.attributes OfAfBridge.attributes
       OfVlanTunnel.attributes OfMst.attributes OfMstEntry.attributes OfBridge.attributes OfQuerier.attributes OfBridgePort.attributes
@@ -85,7 +102,9 @@ module _ (c : Context) where
       OfBondPort.attributes OfMacVlan.attributes OfMacVlanAddress.attributes OfIpVlan.attributes OfNetkit.attributes OfTun.attributes
       OfLinkVxlan.attributes OfLinkGeneve.attributes OfGre.attributes OfGre6.attributes OfVti.attributes OfLinkXfrm.attributes
       OfResGroup.attributes OfResBucket.attributes OfGroupStats.attributes OfGroupStatsEntry.attributes
-      OfNeighbourTableParameter.attributes
+      OfNeighbourTableParameter.attributes OfTcActionMessage.attributes OfTcMirror.attributes OfTcNat.attributes OfTcTunnelKey.attributes
+      OfTcFlower.attributes OfTcMpls.attributes OfTcMplsLse.attributes OfTcMatchAll.attributes OfTcU32.attributes OfTcFqCodel.attributes
+      OfTcIngress.attributes OfTcStab.attributes
   nests-by Address = table-nests reading_of (Inner c) (Own Address c) OfAddress.table tt
   nests-by Rule = table-nests reading_of (Inner c) (Own Rule c) OfRule.table tt
   nests-by Route = route-nests c
@@ -141,7 +160,31 @@ module _ (c : Context) where
   nests-by NeighbourTable = table-nests reading_of (Inner c) (Own NeighbourTable c) OfNeighbourTable.table (listed-row NeighbourTable c NeighbourTableParameter (λ bytes n p. p), tt)
   nests-by NeighbourTableParameter = table-nests reading_of (Inner c) (Own NeighbourTableParameter c) OfNeighbourTableParameter.table tt
   nests-by Prefix = table-nests reading_of (Inner c) (Own Prefix c) OfPrefix.table tt
+  nests-by Tc = tc-nests c
+  nests-by TcStats2 = stats2-nests c
+  nests-by TcStab = table-nests reading_of (Inner c) (Own TcStab c) OfTcStab.table tt
+  nests-by TcQdiscIngress = λ x. tt
+  nests-by TcQdiscFqCodel = table-nests reading_of (Inner c) (Own TcQdiscFqCodel c) OfTcFqCodel.table tt
+  nests-by TcFilterU32 = table-nests reading_of (Inner c) (Own TcFilterU32 c) OfTcU32.table (listed-row TcFilterU32 c TcActions (λ bytes n p. p), tt)
+  nests-by TcFilterMatchAll =
+      table-nests reading_of (Inner c) (Own TcFilterMatchAll c) OfTcMatchAll.table
+      (listed-row TcFilterMatchAll c TcActions (λ bytes n p. p), tt)
+  nests-by TcFilterFlower =
+      table-nests reading_of (Inner c) (Own TcFilterFlower c) OfTcFlower.table
+      (listed-row TcFilterFlower c TcActions (λ bytes n p. p), (listed-row TcFilterFlower c TcFilterFlowerMpls (λ bytes n p. p), tt))
+  nests-by TcFilterFlowerMpls =
+      table-nests reading_of (Inner c) (Own TcFilterFlowerMpls c) OfTcMpls.table
+      (listed-row TcFilterFlowerMpls c TcFilterFlowerMplsLse (λ bytes n p. p), tt)
+  nests-by TcFilterFlowerMplsLse = table-nests reading_of (Inner c) (Own TcFilterFlowerMplsLse c) OfTcMplsLse.table tt
+  nests-by TcActionMessage =
+      table-nests reading_of (Inner c) (Own TcActionMessage c) OfTcActionMessage.table
+      (listed-row TcActionMessage c TcActions (λ bytes n p. p), tt)
+  nests-by TcActions = actions-nests c
+  nests-by TcAction = action-nests c
+  nests-by TcActionMirror = table-nests reading_of (Inner c) (Own TcActionMirror c) OfTcMirror.table tt
+  nests-by TcActionNat = table-nests reading_of (Inner c) (Own TcActionNat c) OfTcNat.table tt
+  nests-by TcActionTunnelKey = table-nests reading_of (Inner c) (Own TcActionTunnelKey c) OfTcTunnelKey.table tt
   nests-by set = encap-nests c Tunnel.None
 
-pub nests : (n : Nest) → Nests reading_of (Inner n.context) (Own n.set n.context) (reading_of n).reading
+pub nests : (n : Nest) → Nests reading_of (Inner (within n.set n.context)) (Own n.set n.context) (reading_of n).reading
 nests n = nests-by n.context n.set

@@ -26,7 +26,7 @@ use Rattle.npr_route.specs.AttributeFamily as OfRoute
 use Rattle.npr_tunnel.specs.Encapsulation as OfEncap
 use Rattle.npr_base.specs.Table.{first_family}
 use Rattle.npr_base.specs.declared.value.Form.TheVariants.{Inside}
-use Rattle.npr_link.specs.Choices.{Held, Case, chosen}
+use Rattle.npr_base.specs.Choices.{Held, Case, chosen}
 use Rattle.npr_link.specs.Header.{header}
 use Rattle.npr_link.specs.InfoList.{info_list, read-searched, fault-searched, searched-reads}
 use Rattle.npr_link.specs.Peer.{peer}

@@ -24,16 +24,19 @@ use Rattle.npr_route.specs.Header.{header as route_header}
 use Rattle.npr_route.specs.Message.{IsContext}
 use Rattle.npr_route.specs.declared.header.RouteHeader.{RouteHeader}
 use Rattle.npr_scalar.specs.RouteType.{route_types}
+use Rattle.npr_tc_actions.specs.declared.form.TcActionForm.{TcActionForm}
+use Rattle.npr_tc_qdiscs.specs.declared.form.TcForm.{TcForm}
 use Rattle.npr_tunnel.specs.EncapType.{encap_type, encap_types}
 use Rattle.npr_tunnel.specs.declared.encap_type.RouteLwEnCapType.{RouteLwEnCapType}
 use Rattle.npr_tunnel.specs.declared.encap_type.RouteLwEnCapType.TheVariants.{None as NoEncapsulation}
 use Rattle.npr_base.specs.declared.address_family.AddressFamily.{AddressFamily}
 use Rattle.npr_base.specs.declared.refusal.AttributeSet.{AttributeSet}
 use Rattle.npr_base.specs.declared.refusal.AttributeSet.TheVariants.{Route, Neighbour, Link, NextHop, Encap, LinkInfo, Value, Mpls, Ip, Ip6, Xfrm, Geneve, Seg6}
-use Rattle.npr_base.specs.declared.refusal.AttributeSet.TheVariants.{Seg6Local, Rpl, Ioam6}
+use Rattle.npr_base.specs.declared.refusal.AttributeSet.TheVariants.{Seg6Local, Rpl, Ioam6, TcAction}
 use Rattle.npr_link.specs.Governing.{Forms}
-use Rattle.netlink_packet_route.specs.MessageKind.{of_family, of_route, of_next_hop}
-use Rattle.netlink_packet_route.specs.Nests.{IsOf, FromBytes, HopUnder, Inner, context_for, driver_nest, hop_nest, listed, nest_in, no_context}
+use Rattle.netlink_packet_route.specs.MessageKind.{of_family, of_route, of_next_hop, of_tc}
+use Rattle.netlink_packet_route.specs.Nests.{IsOf, FromBytes, HopUnder, Inner, action_nest, context_for, driver_nest, hop_nest, listed, nest_in}
+use Rattle.netlink_packet_route.specs.Nests.{no_context, within}
 use Rattle.netlink_packet_route.specs.declared.context.Context.{Context as Outside}
 use Rattle.netlink_packet_route.specs.declared.nests.Nest.{Nest}
 
@@ -102,6 +105,9 @@ neighbour-bytes family is = record { family = is; route_type = no-route-type; en
 pub link-bytes : (family : AddressFamily) → IsOf 256 families family → FromBytes (of_family Link family)
 link-bytes family is = record { family = is; route_type = no-route-type; encap_type = no-type; own = refl; no_more = refl }
 
+pub tc-bytes : (form : TcForm) → FromBytes (of_tc form)
+tc-bytes form = record { family = no-family; route_type = no-route-type; encap_type = no-type; own = refl; no_more = refl }
+
 pub route-bytes : (bytes : List ℕ) (h : RouteHeader) (rest : List ℕ) (c : Context) → IsBytes bytes → (leading route_header).Reads bytes h
     → rest ≡ drop 12 bytes → IsContext h rest c → FromBytes (of_route c)
 route-bytes bytes h rest c is reads behind (type, governs, e) =
@@ -154,10 +160,24 @@ module _ (c : Outside) (f : IsOf 256 families c.family) (t : IsOf 256 route_type
 driver-bytes : (forms : Forms) → FromBytes (driver_nest forms)
 driver-bytes forms = record { family = no-family; route_type = no-route-type; encap_type = no-type; own = refl; no_more = refl }
 
-pub inner-bytes : (set : AttributeSet) (outer : Nest) (value : List ℕ) (inner : Nest) → Inner outer.context set value inner → FromBytes outer
-    → FromBytes inner
-inner-bytes LinkInfo outer value inner (forms, old, new, found, is) from = subst FromBytes (sym is) (driver-bytes forms)
-inner-bytes set outer value inner is from = subst FromBytes (sym is) (listed-bytes outer.context from.family from.route_type from.encap_type set)
+action-bytes : (form : TcActionForm) → FromBytes (action_nest form)
+action-bytes form = record { family = no-family; route_type = no-route-type; encap_type = no-type; own = refl; no_more = refl }
+
+module _ (c : Outside) (f : IsOf 256 families c.family) (t : IsOf 256 route_types c.route_type) (e : IsOf 65536 encap_types c.encap_type) where
+  under-bytes : (set : AttributeSet) (value : List ℕ) (inner : Nest) → Inner c set value inner → FromBytes inner
+  under-bytes LinkInfo value inner (forms, old, new, found, is) = subst FromBytes (sym is) (driver-bytes forms)
+  under-bytes TcAction value inner (form, found, is) = subst FromBytes (sym is) (action-bytes form)
+  under-bytes set value inner is = subst FromBytes (sym is) (listed-bytes c f t e set)
+
+within-bytes : (outer : AttributeSet) (c : Outside) → IsOf 256 families c.family → IsOf 256 route_types c.route_type → IsOf 65536 encap_types c.encap_type
+    → (set : AttributeSet) (value : List ℕ) (inner : Nest) → Inner (within outer c) set value inner → FromBytes inner
+within-bytes TcAction c f t e set value inner is = under-bytes (within TcAction c) f t e set value inner is
+within-bytes outer c f t e set value inner is = under-bytes c f t e set value inner is
+
+pub inner-bytes : (set : AttributeSet) (outer : Nest) (value : List ℕ) (inner : Nest) → Inner (within outer.set outer.context) set value inner
+    → FromBytes outer → FromBytes inner
+inner-bytes set outer value inner is from =
+    within-bytes outer.set outer.context from.family from.route_type from.encap_type set value inner is
 
 -- and of a next hop
 pub hop-bytes : (set : AttributeSet) (c : Outside) (bytes : List ℕ) (inner : Nest) → IsBytes bytes → HopUnder set c bytes inner

@@ -16,7 +16,7 @@ use Rattle.npr_base.specs.declared.value.Form.TheVariants.{List as Listed, Insid
 use Rattle.netlink_packet_route.proofs.NestLaws.{nests}
 use Rattle.netlink_packet_route.proofs.NestRows.{Own}
 use Rattle.netlink_packet_route.specs.NestLists.{IsAttributeAt, IsListAt, ListFaultAt}
-use Rattle.netlink_packet_route.specs.Nests.{Inner, has_reader, holds_hops, reading_of, stands_apart}
+use Rattle.netlink_packet_route.specs.Nests.{Inner, has_reader, holds_hops, reading_of, stands_apart, within}
 use Rattle.netlink_packet_route.specs.declared.nests.Nest.{Nest}
 
 -- a value from some byte on
@@ -38,29 +38,30 @@ module _ (n : Nest) (x : Item) where
   told = (reading_of n).reading.seeing.form_at
 
   module _ (set : AttributeSet) (front : ℕ) (form : (told (number_of x.kind)).1 ≡ Listed set front) where
-    opens : (inner : Nest) → Inner n.context set x.value inner → front ≤ length x.value
+    opens : (inner : Nest) → Inner (within n.set n.context) set x.value inner → front ≤ length x.value
         → Opens (reading_of n).reading (reading_of inner).reading (number_of x.kind) front x.value
     opens inner named long =
-        opens-here reading_of (Inner n.context) (Own n.set n.context) (reading_of n).reading (nests n) (number_of x.kind) set front form x.value inner
-        named long
+        opens-here reading_of (Inner (within n.set n.context)) (Own n.set n.context) (reading_of n).reading (nests n) (number_of x.kind) set front form
+        x.value inner named long
 
-    pub list-read : (inner : Nest) → Inner n.context set x.value inner → front ≤ length x.value → IsListAt inner (drop front x.value)
+    pub list-read : (inner : Nest) → Inner (within n.set n.context) set x.value inner → front ≤ length x.value → IsListAt inner (drop front x.value)
         → IsAttributeAt n x
     list-read inner named long (ms, reads) = (opens inner named long).up x ms refl refl reads
 
-    pub list-faulty : (inner : Nest) (e : DecodeError) → Inner n.context set x.value inner → front ≤ length x.value
+    pub list-faulty : (inner : Nest) (e : DecodeError) → Inner (within n.set n.context) set x.value inner → front ≤ length x.value
         → ListFaultAt inner (drop front x.value) e → (reading_of n).reading.Faulty x e
     list-faulty inner e named long bad = (opens inner named long).fault x e refl refl bad
 
     pub list-cut : length x.value < front → (reading_of n).reading.Faulty x (HeaderTooShort (length x.value) front)
     list-cut short =
-        cut-here reading_of (Inner n.context) (Own n.set n.context) (reading_of n).reading (nests n) (number_of x.kind) set front form x refl short
+        cut-here reading_of (Inner (within n.set n.context)) (Own n.set n.context) (reading_of n).reading (nests n) (number_of x.kind) set front form x
+        refl short
 
   pub reader-apart : (told (number_of x.kind)).1 ≡ Inside → holds_hops n.set (number_of x.kind) ≡ false
       → stands_apart n.set n.context (number_of x.kind) ≡ true
   reader-apart form other =
       only-first (stands_apart n.set n.context (number_of x.kind)) (holds_hops n.set (number_of x.kind)) other
-      (owned-here reading_of (Inner n.context) (Own n.set n.context) (reading_of n).reading (nests n) x form)
+      (owned-here reading_of (Inner (within n.set n.context)) (Own n.set n.context) (reading_of n).reading (nests n) x form)
 
   module _ (p : At × Form) (k : ℕ) (v : List ℕ) (is : p ≡ told k) (number : k ≡ number_of x.kind) (same : v ≡ x.value) where
     here : p ≡ told (number_of x.kind)

@@ -30,6 +30,7 @@ pub use Rattle.npr_base.specs.FlagCodec
 pub use Rattle.npr_base.specs.Found
 pub use Rattle.npr_base.specs.Framing
 pub use Rattle.npr_base.specs.lemmas.Front as FrontLaws
+pub use Rattle.npr_base.specs.GovernedList
 pub use Rattle.npr_base.specs.Ip
 pub use Rattle.npr_base.specs.IpCodec
 pub use Rattle.npr_base.specs.ViewEquality
@@ -45,6 +46,7 @@ pub mod Canonical
 pub mod NestLists
 pub mod Nests
 pub mod MessageKind
+pub mod MessageTypes
 pub mod Messages
 pub mod Pending
 pub mod Request
@@ -65,6 +67,7 @@ pub use Rattle.npr_base.specs.TableFamily
 pub use Rattle.npr_base.specs.lemmas.Table as TableLaws
 pub use Rattle.npr_base.specs.Text
 pub use Rattle.npr_base.specs.UintCodec
+pub use Rattle.npr_base.specs.Unterminated
 pub use Rattle.npr_base.specs.V6List
 pub use Rattle.npr_base.specs.Value
 pub use Rattle.npr_base.specs.Values
@@ -148,9 +151,9 @@ pub use Rattle.npr_link_bridge.specs.BooleanOptions as LinkBooleanOptions
 pub use Rattle.npr_link_bridge.specs.Bridge as LinkBridge
 pub use Rattle.npr_link_bridge.specs.BridgeId as LinkBridgeId
 pub use Rattle.npr_link_bridge.specs.BridgePort as LinkBridgePort
-pub use Rattle.npr_link.specs.Choices as LinkChoices
+pub use Rattle.npr_base.specs.Choices
 pub use Rattle.npr_link.specs.ExtentMask as LinkExtentMask
-pub use Rattle.npr_link.specs.lemmas.Fails as LinkFails
+pub use Rattle.npr_base.specs.lemmas.Fails
 pub use Rattle.npr_link.specs.Flags as LinkFlags
 pub use Rattle.npr_link.specs.Governing as LinkGoverning
 pub use Rattle.npr_link.specs.lemmas.Governing as LinkGoverningLaws
@@ -199,7 +202,7 @@ pub use Rattle.npr_link.specs.XdpAttached as LinkXdpAttached
 pub use Rattle.npr_link_numbers.specs.Coherent as LinkCoherent
 pub use Rattle.npr_link_numbers.specs.Grown as LinkGrown
 pub use Rattle.npr_link_numbers.specs.Names as LinkNumberNames
-pub use Rattle.npr_link_numbers.specs.Numbers as LinkNumbers
+pub use Rattle.npr_base.specs.Words
 pub use Rattle.npr_link_bridge.specs.AfSpecBridge
 pub use Rattle.npr_link_bridge.specs.BridgeFlag
 pub use Rattle.npr_link_bridge.specs.BridgeMode
@@ -245,7 +248,7 @@ pub use Rattle.npr_route.specs.RouteList
 -- next hop messages
 pub use Rattle.npr_nexthop.specs.Attribute as NextHopAttribute
 pub use Rattle.npr_nexthop.specs.Governing as NextHopGoverning
-pub use Rattle.npr_nexthop.specs.GovernedBody
+pub use Rattle.npr_base.specs.GovernedBody
 pub use Rattle.npr_nexthop.specs.Group as NextHopGroup
 pub use Rattle.npr_nexthop.specs.GroupStats as NextHopGroupStats
 pub use Rattle.npr_nexthop.specs.GroupStatsEntry as NextHopGroupStatsEntry
@@ -275,3 +278,64 @@ pub use Rattle.npr_small.specs.PrefixAttribute
 pub use Rattle.npr_small.specs.PrefixCacheInfo
 pub use Rattle.npr_small.specs.PrefixHeader
 pub use Rattle.npr_small.specs.PrefixMessage
+-- messages of traffic control
+pub use Rattle.npr_tc.specs.ActionAttribute as TcActionMessageAttribute
+pub use Rattle.npr_tc.specs.ActionFlags as TcActionMessageFlags
+pub use Rattle.npr_tc.specs.ActionHeader as TcActionMessageHeader
+pub use Rattle.npr_tc.specs.ActionMessage as TcActionMessage
+pub use Rattle.npr_tc.specs.Attribute as TcAttribute
+pub use Rattle.npr_tc.specs.Header as TcHeader
+pub use Rattle.npr_tc.specs.Message as TcMessage
+pub use Rattle.npr_tc.specs.Options as TcOptions
+pub use Rattle.npr_tc.specs.Steps as TcSteps
+pub use Rattle.npr_tc_actions.specs.Action as TcAction
+pub use Rattle.npr_tc_actions.specs.ActionOption as TcActionOption
+pub use Rattle.npr_tc_actions.specs.ActionType as TcActionType
+pub use Rattle.npr_tc_actions.specs.Attribute as TcActionAttribute
+pub use Rattle.npr_tc_actions.specs.Form as TcActionForm
+pub use Rattle.npr_tc_actions.specs.Generic as TcActionGeneric
+pub use Rattle.npr_tc_actions.specs.Mirror as TcMirror
+pub use Rattle.npr_tc_actions.specs.MirrorActionType as TcMirrorActionType
+pub use Rattle.npr_tc_actions.specs.MirrorOption as TcMirrorOption
+pub use Rattle.npr_tc_actions.specs.Nat as TcNat
+pub use Rattle.npr_tc_actions.specs.NatFlags as TcNatFlags
+pub use Rattle.npr_tc_actions.specs.NatOption as TcNatOption
+pub use Rattle.npr_tc_actions.specs.Numbered as TcNumbered
+pub use Rattle.npr_tc_actions.specs.Tcf
+pub use Rattle.npr_tc_actions.specs.TunnelKey as TcTunnelKey
+pub use Rattle.npr_tc_actions.specs.TunnelKeyOption as TcTunnelKeyOption
+pub use Rattle.npr_tc_actions.specs.lemmas.Once as TcActionOnce
+pub use Rattle.npr_tc_filters.specs.Flower as TcFlower
+pub use Rattle.npr_tc_filters.specs.FlowerForm as TcFlowerForm
+pub use Rattle.npr_tc_filters.specs.FlowerValue as TcFlowerValue
+pub use Rattle.npr_tc_filters.specs.FlowerMpls as TcFlowerMpls
+pub use Rattle.npr_tc_filters.specs.FlowerMplsLse as TcFlowerMplsLse
+pub use Rattle.npr_tc_filters.specs.Headed as TcHeaded
+pub use Rattle.npr_tc_filters.specs.Hits as TcHits
+pub use Rattle.npr_tc_filters.specs.MatchAll as TcMatchAll
+pub use Rattle.npr_tc_filters.specs.U32Key as TcU32Key
+pub use Rattle.npr_tc_filters.specs.U32Mark as TcU32Mark
+pub use Rattle.npr_tc_filters.specs.U32Option as TcU32Option
+pub use Rattle.npr_tc_filters.specs.U32OptionFlags as TcU32OptionFlags
+pub use Rattle.npr_tc_filters.specs.U32Selector as TcU32Selector
+pub use Rattle.npr_tc_filters.specs.U32SelectorFlags as TcU32SelectorFlags
+pub use Rattle.npr_tc_qdiscs.specs.Bitfield as TcBitfield
+pub use Rattle.npr_tc_qdiscs.specs.Estimator as TcEstimator
+pub use Rattle.npr_tc_qdiscs.specs.FieldAt as TcFieldAt
+pub use Rattle.npr_tc_qdiscs.specs.Form as TcForm
+pub use Rattle.npr_tc_qdiscs.specs.FqCodel as TcFqCodel
+pub use Rattle.npr_tc_qdiscs.specs.FqCodelXstats as TcFqCodelXstats
+pub use Rattle.npr_tc_qdiscs.specs.Handle as TcHandle
+pub use Rattle.npr_tc_qdiscs.specs.Ingress as TcIngress
+pub use Rattle.npr_tc_qdiscs.specs.Kept as TcKept
+pub use Rattle.npr_tc_qdiscs.specs.SignedFields as TcSignedFields
+pub use Rattle.npr_tc_qdiscs.specs.SizeSpec as TcSizeSpec
+pub use Rattle.npr_tc_qdiscs.specs.Stab as TcStab
+pub use Rattle.npr_tc_qdiscs.specs.StabData as TcStabData
+pub use Rattle.npr_tc_qdiscs.specs.Stats as TcStats
+pub use Rattle.npr_tc_qdiscs.specs.Stats2 as TcStats2
+pub use Rattle.npr_tc_qdiscs.specs.StatsBasic as TcStatsBasic
+pub use Rattle.npr_tc_qdiscs.specs.StatsQueue as TcStatsQueue
+pub use Rattle.npr_tc_qdiscs.specs.StatsRateEst as TcStatsRateEst
+pub use Rattle.npr_tc_qdiscs.specs.StatsRateEst64 as TcStatsRateEst64
+pub use Rattle.npr_tc_qdiscs.specs.Xstats as TcXstats

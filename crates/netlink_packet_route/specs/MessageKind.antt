@@ -44,12 +44,20 @@ use Rattle.npr_small.specs.NsidAttribute as OfNsid
 use Rattle.npr_small.specs.NsidHeader as OfNsidHeader
 use Rattle.npr_small.specs.PrefixAttribute as OfPrefix
 use Rattle.npr_small.specs.PrefixHeader as OfPrefixHeader
+use Rattle.npr_tc.specs.ActionAttribute as OfTcAction
+use Rattle.npr_tc.specs.ActionHeader as OfTcActionHeader
+use Rattle.npr_tc.specs.Attribute as OfTc
+use Rattle.npr_tc.specs.Message.{messages as tc_messages, IsContext as IsTcContext, under_context as under_tc}
+use Rattle.npr_tc.specs.declared.attribute.TcAttribute.{TcAttribute}
+use Rattle.npr_tc.specs.declared.header.TcHeader.{TcHeader}
+use Rattle.npr_tc_qdiscs.specs.declared.form.TcForm.{TcForm}
+use Rattle.npr_tc_qdiscs.specs.declared.form.TcForm.TheVariants.{Kept as NoData}
 use Rattle.npr_tunnel.specs.declared.encap_type.RouteLwEnCapType.TheVariants.{None as NoEncapsulation}
 use Rattle.netlink_packet_route.specs.Nests.{no_context, reading_by, reading_of}
 use Rattle.netlink_packet_route.specs.declared.nests.Nest.{Nest}
 use Rattle.netlink_packet_route.specs.declared.kind.MessageKind.{MessageKind}
 use Rattle.netlink_packet_route.specs.declared.kind.MessageKind.TheVariants.{Address, Route, Rule, Neighbour, Link, NextHop, Nsid, Netconf, AddressLabel}
-use Rattle.netlink_packet_route.specs.declared.kind.MessageKind.TheVariants.{NeighbourTable, Prefix}
+use Rattle.netlink_packet_route.specs.declared.kind.MessageKind.TheVariants.{NeighbourTable, Prefix, Tc, TcAction}
 use Rattle.netlink_packet_route.specs.declared.message_type.MessageType.{MessageType}
 use Rattle.netlink_packet_route.specs.declared.message_type.MessageType.TheVariants as Types
 use Rattle.netlink_packet_route.specs.declared.message_type.Subject.{Subject}
@@ -67,6 +75,8 @@ kind_name Netconf = codes "netconf"
 kind_name AddressLabel = codes "address-label"
 kind_name NeighbourTable = codes "neighbour-table"
 kind_name Prefix = codes "prefix"
+kind_name Tc = codes "tc"
+kind_name TcAction = codes "tc-action"
 
 -- what a kind of message is made of: its header, its attributes, and how they are read and written; what governs the attributes, and
 -- what names their list, which means what the message does; and how those of a message are read that its own words govern
@@ -122,6 +132,9 @@ of_route c = record { set = At.Route; context = record no_context { family = c.0
 abbrev pub of_next_hop : NextHopContext → Nest
 of_next_hop c = record { set = At.NextHop; context = record no_context { family = c.0; encap_type = c.1 } }
 
+abbrev pub of_tc : TcForm → Nest
+of_tc form = record { set = At.Tc; context = record no_context { tc = form } }
+
 abbrev pub form_of : MessageKind → Form
 form_of Address = alone OfAddress.family OfAddressHeader.header OfAddressHeader.default_header At.Address refl (lit≤ tt)
 form_of Rule = alone OfRule.family OfRuleHeader.header OfRuleHeader.default_header At.Rule refl (lit≤ tt)
@@ -134,6 +147,7 @@ form_of AddressLabel = alone OfAddressLabel.family OfAddressLabelHeader.header O
 form_of NeighbourTable =
     alone OfNeighbourTable.family OfNeighbourTableHeader.header OfNeighbourTableHeader.default_header At.NeighbourTable refl (lit≤ tt)
 form_of Prefix = alone OfPrefix.family OfPrefixHeader.header OfPrefixHeader.default_header At.Prefix refl (lit≤ tt)
+form_of TcAction = alone OfTcAction.family OfTcActionHeader.header OfTcActionHeader.default_header At.TcActionMessage refl (lit≤ tt)
 form_of Route = record {
   Header = RouteHeader;
   Attribute = RouteAttribute;
@@ -169,6 +183,24 @@ form_of NextHop = record {
   faulty = λ h bytes c e (type, governs, is) bad.
       (type, governs, subst (λ (d : NextHopContext). IsFaultOf (any_reading (OfNextHop.family.reading d)) bytes e) is bad);
   own = λ m. OfNextHop.attributes (next_hop_context m.header (first_told meaning_type NoEncapsulation m.attributes));
+  coherent = λ m all. all;
+  some = lit≤ tt;
+}
+form_of Tc = record {
+  Header = TcHeader;
+  Attribute = TcAttribute;
+  Context = TcForm;
+  grammar = tc_messages;
+  family = OfTc.family;
+  governs = IsTcContext;
+  one = λ h bytes c d p q. (under_tc h bytes c p).alone d q;
+  nest = of_tc;
+  named = λ c. refl;
+  reads = λ h bytes c (form, governs, is) (ms, list).
+      (ms, (form, governs, subst (λ (d : TcForm). ReadsList (OfTc.family.reading d).Reads bytes ms) is list));
+  faulty = λ h bytes c e (form, governs, is) bad.
+      (form, governs, subst (λ (d : TcForm). IsFaultOf (any_reading (OfTc.family.reading d)) bytes e) is bad);
+  own = λ m. OfTc.attributes (first_told OfTc.told NoData m.attributes);
   coherent = λ m all. all;
   some = lit≤ tt;
 }
@@ -211,6 +243,11 @@ kind_of On.Nsid = Nsid
 kind_of On.NextHop = NextHop
 kind_of On.LinkProp = Link
 kind_of On.NextHopBucket = NextHop
+kind_of On.QueueDiscipline = Tc
+kind_of On.TrafficClass = Tc
+kind_of On.TrafficFilter = Tc
+kind_of On.TrafficChain = Tc
+kind_of On.TrafficAction = TcAction
 
 -- the kind of the messages of a type, where the library has one
 abbrev pub kind_of_type : MessageType → Option MessageKind

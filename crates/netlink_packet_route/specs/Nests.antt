@@ -2,6 +2,7 @@
 --     reading_of       what the attributes of a list mean
 --     context_for      what the attributes of a set rest on: of another set's context no more than that
 --     listed           a set that has no list of its own stands for that of an encapsulation
+--     within           what lists in the values of a set rest on
 --     Inner            what names a list of a set in a value of these bytes
 --     told_set         the set that refusals name
 --     IsInside         the list in a value: what names it, and its bytes, as the form of the value's number says
@@ -10,6 +11,7 @@
 use Rattle.std.specs.Prelude.{◌≡◌, ◌<◌, ◌≤◌, ℕ, ◌==◌, ◌||◌, Bool, true, false, List, length, drop}
 use Rattle.npr_base.specs.AddressFamily.{families}
 use Rattle.npr_base.specs.Counts.{Counts}
+use Rattle.npr_base.specs.FirstTold as FirstTold
 use Rattle.npr_base.specs.Nesting.{AnyReading, any_reading, has_list}
 use Rattle.npr_base.specs.Numbering.{Numbering}
 use Rattle.npr_base.specs.declared.address_family.AddressFamily.TheVariants.{Unspec}
@@ -23,6 +25,10 @@ use Rattle.npr_base.specs.declared.refusal.AttributeSet.TheVariants.{MacVlanAddr
 use Rattle.npr_base.specs.declared.refusal.AttributeSet.TheVariants.{InfoGre6, InfoIpTunnel, InfoVti, InfoXfrm, NextHop, NextHopResGroup}
 use Rattle.npr_base.specs.declared.refusal.AttributeSet.TheVariants.{NextHopResBucket, NextHopGroupStats, NextHopGroupStatsEntry, Nsid, Netconf}
 use Rattle.npr_base.specs.declared.refusal.AttributeSet.TheVariants.{AddressLabel, NeighbourTable, NeighbourTableParameter, Prefix, Value, Mpls, Ip}
+use Rattle.npr_base.specs.declared.refusal.AttributeSet.TheVariants.{Tc, TcStats2, TcStab, TcQdiscIngress, TcQdiscFqCodel, TcFilterU32}
+use Rattle.npr_base.specs.declared.refusal.AttributeSet.TheVariants.{TcFilterMatchAll, TcFilterFlower, TcFilterFlowerMpls, TcFilterFlowerMplsLse}
+use Rattle.npr_base.specs.declared.refusal.AttributeSet.TheVariants.{TcActionMessage, TcActions, TcAction, TcActionMirror, TcActionNat}
+use Rattle.npr_base.specs.declared.refusal.AttributeSet.TheVariants.{TcActionTunnelKey}
 use Rattle.npr_base.specs.declared.refusal.AttributeSet.TheVariants.{Ip6, Xfrm, Geneve, Seg6, Seg6Local, Rpl, Ioam6}
 use Rattle.npr_base.specs.declared.value.Form.TheVariants.{List as Listed}
 use Rattle.npr_address.specs.Attribute as OfAddress
@@ -76,6 +82,25 @@ use Rattle.npr_small.specs.NeighbourTableParameter as OfNeighbourTableParameter
 use Rattle.npr_small.specs.NetconfAttribute as OfNetconf
 use Rattle.npr_small.specs.NsidAttribute as OfNsid
 use Rattle.npr_small.specs.PrefixAttribute as OfPrefix
+use Rattle.npr_tc.specs.ActionAttribute as OfTcActionMessage
+use Rattle.npr_tc.specs.Attribute as OfTc
+use Rattle.npr_tc_actions.specs.Action as OfTcActions
+use Rattle.npr_tc_actions.specs.Attribute as OfTcAction
+use Rattle.npr_tc_actions.specs.MirrorOption as OfTcMirror
+use Rattle.npr_tc_actions.specs.NatOption as OfTcNat
+use Rattle.npr_tc_actions.specs.TunnelKeyOption as OfTcTunnelKey
+use Rattle.npr_tc_actions.specs.declared.form.TcActionForm.{TcActionForm}
+use Rattle.npr_tc_actions.specs.declared.form.TcActionForm.TheVariants.{Kept as ActionKept}
+use Rattle.npr_tc_filters.specs.Flower as OfTcFlower
+use Rattle.npr_tc_filters.specs.FlowerMpls as OfTcMpls
+use Rattle.npr_tc_filters.specs.FlowerMplsLse as OfTcMplsLse
+use Rattle.npr_tc_filters.specs.MatchAll as OfTcMatchAll
+use Rattle.npr_tc_filters.specs.U32Option as OfTcU32
+use Rattle.npr_tc_qdiscs.specs.FqCodel as OfTcFqCodel
+use Rattle.npr_tc_qdiscs.specs.Ingress as OfTcIngress
+use Rattle.npr_tc_qdiscs.specs.Stab as OfTcStab
+use Rattle.npr_tc_qdiscs.specs.Stats2 as OfTcStats2
+use Rattle.npr_tc_qdiscs.specs.declared.form.TcForm.TheVariants.{Kept as TcKept}
 use Rattle.npr_tunnel.specs.Encapsulation as OfEncap
 use Rattle.npr_tunnel.specs.ErspanOptions as OfErspan
 use Rattle.npr_tunnel.specs.TunnelOptions as OfOption
@@ -94,7 +119,15 @@ use Rattle.netlink_packet_route.specs.declared.nests.Nest.{Nest}
 
 -- what nothing rests on
 abbrev pub no_context : Context
-no_context = record { family = Unspec; route_type = NoType; encap_type = Tunnel.None; link = Kept; port = PortKept }
+no_context = record {
+  family = Unspec;
+  route_type = NoType;
+  encap_type = Tunnel.None;
+  link = Kept;
+  port = PortKept;
+  tc = TcKept;
+  tc_action = ActionKept;
+}
 
 -- a set without a list of its own is read as what an encapsulation without a type holds
 abbrev pub reading_by : AttributeSet → Context → AnyReading
@@ -153,12 +186,29 @@ reading_by AddressLabel c = any_reading OfAddressLabel.attributes
 reading_by NeighbourTable c = any_reading OfNeighbourTable.attributes
 reading_by NeighbourTableParameter c = any_reading OfNeighbourTableParameter.attributes
 reading_by Prefix c = any_reading OfPrefix.attributes
+reading_by Tc c = any_reading (OfTc.attributes c.tc)
+reading_by TcStats2 c = any_reading (OfTcStats2.attributes c.tc)
+reading_by TcStab c = any_reading OfTcStab.attributes
+reading_by TcQdiscIngress c = any_reading OfTcIngress.attributes
+reading_by TcQdiscFqCodel c = any_reading OfTcFqCodel.attributes
+reading_by TcFilterU32 c = any_reading OfTcU32.attributes
+reading_by TcFilterMatchAll c = any_reading OfTcMatchAll.attributes
+reading_by TcFilterFlower c = any_reading OfTcFlower.attributes
+reading_by TcFilterFlowerMpls c = any_reading OfTcMpls.attributes
+reading_by TcFilterFlowerMplsLse c = any_reading OfTcMplsLse.attributes
+reading_by TcActionMessage c = any_reading OfTcActionMessage.attributes
+reading_by TcActions c = any_reading OfTcActions.attributes
+reading_by TcAction c = any_reading (OfTcAction.attributes c.tc_action)
+reading_by TcActionMirror c = any_reading OfTcMirror.attributes
+reading_by TcActionNat c = any_reading OfTcNat.attributes
+reading_by TcActionTunnelKey c = any_reading OfTcTunnelKey.attributes
 reading_by set c = any_reading (OfEncap.encapsulation Tunnel.None)
 
 abbrev pub reading_of : Nest → AnyReading
 reading_of n = reading_by n.set n.context
 
--- the header's family, the route's type, the type that governs an encapsulation, and the kinds that govern a driver's data
+-- the header's family, the route's type, the type that governs an encapsulation, the kinds that govern a driver's data, and those of
+-- traffic control
 abbrev pub context_for : AttributeSet → Context → Context
 context_for Route c = record no_context { family = c.family; route_type = c.route_type; encap_type = c.encap_type }
 context_for NextHop c = record no_context { family = c.family; encap_type = c.encap_type }
@@ -167,6 +217,9 @@ context_for Link c = record no_context { family = c.family }
 context_for Encap c = record no_context { encap_type = c.encap_type }
 context_for LinkInfo c = record no_context { link = c.link; port = c.port }
 context_for InfoIpTunnel c = record no_context { link = c.link }
+context_for Tc c = record no_context { tc = c.tc }
+context_for TcStats2 c = record no_context { tc = c.tc }
+context_for TcAction c = record no_context { tc_action = c.tc_action }
 context_for set c = no_context
 
 -- a list of this set in a value, under the context outside
@@ -191,9 +244,19 @@ listed set = set
 abbrev pub driver_nest : Forms → Nest
 driver_nest forms = record { set = LinkInfo; context = record no_context { link = forms.0; port = forms.1 } }
 
+-- and an action's, under the first kind in it, wherever that stands before a fault
+abbrev pub action_nest : TcActionForm → Nest
+action_nest form = record { set = TcAction; context = record no_context { tc_action = form } }
+
 abbrev pub Inner : Context → AttributeSet → List ℕ → Nest → Type 0
 Inner c LinkInfo bytes n = (forms : Forms) × (old : Counts) × (new : Counts) × Searches bytes forms old new × (n ≡ driver_nest forms)
+Inner c TcAction bytes n = (form : TcActionForm) × FirstTold.Governs OfTcAction.tells ActionKept bytes form × (n ≡ action_nest form)
 Inner c set bytes n = n ≡ nest_in (listed set) c
+
+-- what lists in the values of a set rest on, of the context of the set: what an action counts is under no kind of the message
+abbrev pub within : AttributeSet → Context → Context
+within TcAction c = record c { tc = TcKept }
+within set c = c
 
 -- the set that refusals name: of an encapsulation that of its type
 abbrev pub encap_set : RouteLwEnCapType → AttributeSet
@@ -219,7 +282,7 @@ pub record IsInside (outer : Nest) (number : ℕ) (value : List ℕ) (inner : Ne
   pub front : ℕ
   pub form : ((reading_of outer).reading.seeing.form_at number).1 ≡ Listed set front
   pub long : front ≤ length value
-  pub named : Inner outer.context set value inner
+  pub named : Inner (within outer.set outer.context) set value inner
   pub is : inside ≡ drop front value
 
 abbrev pub holds_list : Nest → ℕ → List ℕ → Bool

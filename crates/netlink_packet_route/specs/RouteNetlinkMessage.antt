@@ -1,14 +1,11 @@
 -- The messages of rtnetlink by their types (linux/rtnetlink.h, RTM_*): those of the kinds that the library reads, and any other.
-use Rattle.std.specs.Prelude.{◌≡◌, ℕ, ◌+◌, ◌<◌, ◌==◌, Bool, true, false, List, [], ◌∷◌, length, drop, Option, Some, None, if◌then◌else◌}
+use Rattle.std.specs.Prelude.{◌≡◌, ℕ, ◌<◌, ◌==◌, Bool, false, List, [], length, drop, Option, Some, None}
 use Rattle.std.proofs.Common.{refl, sym, ap, subst, ◌∙◌}
-use Rattle.std.proofs.lemmas.Bool.{eqb-true}
 use Rattle.npr_base.specs.declared.refusal.DecodeError.{DecodeError}
 use Rattle.npr_base.specs.declared.refusal.EmitError.{EmitError}
 use Rattle.npr_base.specs.Framing.{IsBytes, Item, Front}
 use Rattle.npr_base.proofs.Messages.{message-one, message-sound, message-coherent, message-back}
 use Rattle.npr_base.specs.Message.{IsMessage, MessageFault, IsCoherent, canonical_bytes, message_unfit, view}
-use Rattle.npr_base.specs.EnumTable.{◌also◌}
-use Rattle.npr_base.specs.Rows.{form_in}
 use Rattle.npr_address.specs.Message.{addresses}
 use Rattle.npr_link.specs.Message.{links}
 use Rattle.npr_neighbour.specs.Message.{neighbours}
@@ -20,8 +17,11 @@ use Rattle.npr_small.specs.NeighbourTableMessage.{neighbour_tables}
 use Rattle.npr_small.specs.NetconfMessage.{netconfs}
 use Rattle.npr_small.specs.NsidMessage.{nsids}
 use Rattle.npr_small.specs.PrefixMessage.{prefixes}
+use Rattle.npr_tc.specs.ActionMessage.{messages as action_messages}
+use Rattle.npr_tc.specs.Message.{messages as tc_messages}
 use Rattle.netlink_packet_core.specs.Protocol.{Protocol}
 use Rattle.netlink_packet_route.specs.MessageKind.{form_of, kind_of, kind_of_type, MessageOf}
+use Rattle.netlink_packet_route.specs.MessageTypes.{HasNumber, Under, number-back, number-is, type-number, type_number, type_of}
 use Rattle.netlink_packet_route.specs.declared.kind.MessageKind.{MessageKind}
 use Rattle.netlink_packet_route.specs.declared.kind.MessageKind.TheVariants as Kind
 use Rattle.netlink_packet_route.specs.declared.message.OtherMessage.{OtherMessage}
@@ -35,11 +35,8 @@ use Rattle.netlink_packet_route.specs.declared.message_type.MessageType.TheVaria
 use Rattle.netlink_packet_route.specs.declared.message_type.Subject.{Subject}
 use Rattle.netlink_packet_route.specs.declared.message_type.Subject.TheVariants.{Link, Address, Route, Neighbour, Rule, AddressLabel, Netconf, Nsid}
 use Rattle.netlink_packet_route.specs.declared.message_type.Subject.TheVariants.{NextHop, LinkProp, NextHopBucket}
-
--- what stands under a type: a message of its kind
-abbrev pub Under : Option MessageKind → Type 0
-Under (Some kind) = MessageOf kind
-Under None = ⊥
+use Rattle.netlink_packet_route.specs.declared.message_type.Subject.TheVariants.{QueueDiscipline, TrafficClass, TrafficFilter, TrafficChain}
+use Rattle.netlink_packet_route.specs.declared.message_type.Subject.TheVariants.{TrafficAction}
 
 -- what it is, without where it lies in memory: a type and a message of its kind, or another type and its bytes
 pub data Meaning : Type 0 where
@@ -79,6 +76,21 @@ link_prop a m = message (Of LinkProp a) m
 abbrev pub next_hop_bucket : Action → MessageOf Kind.NextHop → Meaning
 next_hop_bucket a m = message (Of NextHopBucket a) m
 
+abbrev pub queue_discipline : Action → MessageOf Kind.Tc → Meaning
+queue_discipline a m = message (Of QueueDiscipline a) m
+
+abbrev pub traffic_class : Action → MessageOf Kind.Tc → Meaning
+traffic_class a m = message (Of TrafficClass a) m
+
+abbrev pub traffic_filter : Action → MessageOf Kind.Tc → Meaning
+traffic_filter a m = message (Of TrafficFilter a) m
+
+abbrev pub traffic_chain : Action → MessageOf Kind.Tc → Meaning
+traffic_chain a m = message (Of TrafficChain a) m
+
+abbrev pub traffic_action : Action → MessageOf Kind.TcAction → Meaning
+traffic_action a m = message (Of TrafficAction a) m
+
 -- another type, and its bytes
 abbrev pub other_of : OtherMessage → ℕ × List ℕ
 other_of m = (m.message_type, m.payload.items)
@@ -100,6 +112,18 @@ meaning_of (Message.GetNeighbour m) = message (Of Neighbour Get) (view neighbour
 meaning_of (Message.NewRule m) = message (Of Rule New) (view rules m)
 meaning_of (Message.DelRule m) = message (Of Rule Del) (view rules m)
 meaning_of (Message.GetRule m) = message (Of Rule Get) (view rules m)
+meaning_of (Message.NewQueueDiscipline m) = message (Of QueueDiscipline New) (view tc_messages m)
+meaning_of (Message.DelQueueDiscipline m) = message (Of QueueDiscipline Del) (view tc_messages m)
+meaning_of (Message.GetQueueDiscipline m) = message (Of QueueDiscipline Get) (view tc_messages m)
+meaning_of (Message.NewTrafficClass m) = message (Of TrafficClass New) (view tc_messages m)
+meaning_of (Message.DelTrafficClass m) = message (Of TrafficClass Del) (view tc_messages m)
+meaning_of (Message.GetTrafficClass m) = message (Of TrafficClass Get) (view tc_messages m)
+meaning_of (Message.NewTrafficFilter m) = message (Of TrafficFilter New) (view tc_messages m)
+meaning_of (Message.DelTrafficFilter m) = message (Of TrafficFilter Del) (view tc_messages m)
+meaning_of (Message.GetTrafficFilter m) = message (Of TrafficFilter Get) (view tc_messages m)
+meaning_of (Message.NewTrafficAction m) = message (Of TrafficAction New) (view action_messages m)
+meaning_of (Message.DelTrafficAction m) = message (Of TrafficAction Del) (view action_messages m)
+meaning_of (Message.GetTrafficAction m) = message (Of TrafficAction Get) (view action_messages m)
 meaning_of (Message.NewPrefix m) = message NewPrefix (view prefixes m)
 meaning_of (Message.NewNeighbourTable m) = message NewNeighbourTable (view neighbour_tables m)
 meaning_of (Message.GetNeighbourTable m) = message GetNeighbourTable (view neighbour_tables m)
@@ -113,6 +137,9 @@ meaning_of (Message.GetNetconf m) = message (Of Netconf Get) (view netconfs m)
 meaning_of (Message.NewNsId m) = message (Of Nsid New) (view nsids m)
 meaning_of (Message.DelNsId m) = message (Of Nsid Del) (view nsids m)
 meaning_of (Message.GetNsId m) = message (Of Nsid Get) (view nsids m)
+meaning_of (Message.NewTrafficChain m) = message (Of TrafficChain New) (view tc_messages m)
+meaning_of (Message.DelTrafficChain m) = message (Of TrafficChain Del) (view tc_messages m)
+meaning_of (Message.GetTrafficChain m) = message (Of TrafficChain Get) (view tc_messages m)
 meaning_of (Message.NewNextHop m) = message (Of NextHop New) (view next_hops m)
 meaning_of (Message.DelNextHop m) = message (Of NextHop Del) (view next_hops m)
 meaning_of (Message.GetNextHop m) = message (Of NextHop Get) (view next_hops m)
@@ -123,46 +150,6 @@ meaning_of (Message.NewNextHopBucket m) = message (Of NextHopBucket New) (view n
 meaning_of (Message.DelNextHopBucket m) = message (Of NextHopBucket Del) (view next_hops m)
 meaning_of (Message.GetNextHopBucket m) = message (Of NextHopBucket Get) (view next_hops m)
 meaning_of (Message.Other m) = other m.message_type m.payload.items
-
--- the types, by their numbers
-abbrev pub types : List (ℕ × MessageType)
-types =
-    (16, Of Link New) ∷ (17, Of Link Del) ∷ (18, Of Link Get) ∷ (19, SetLink) ∷ (20, Of Address New) ∷ (21, Of Address Del)
-    ∷ (22, Of Address Get) ∷ (24, Of Route New) ∷ (25, Of Route Del) ∷ (26, Of Route Get) ∷ (28, Of Neighbour New)
-    ∷ (29, Of Neighbour Del) ∷ (30, Of Neighbour Get) ∷ (32, Of Rule New) ∷ (33, Of Rule Del) ∷ (34, Of Rule Get)
-    ∷ (52, NewPrefix) ∷ (64, NewNeighbourTable) ∷ (66, GetNeighbourTable) ∷ (67, SetNeighbourTable) ∷ (72, Of AddressLabel New)
-    ∷ (73, Of AddressLabel Del) ∷ (74, Of AddressLabel Get) ∷ (80, Of Netconf New) ∷ (81, Of Netconf Del) ∷ (82, Of Netconf Get)
-    ∷ (88, Of Nsid New) ∷ (89, Of Nsid Del) ∷ (90, Of Nsid Get) ∷ (104, Of NextHop New) ∷ (105, Of NextHop Del)
-    ∷ (106, Of NextHop Get) ∷ (108, Of LinkProp New) ∷ (109, Of LinkProp Del) ∷ (110, Of LinkProp Get)
-    ∷ (116, Of NextHopBucket New) ∷ (117, Of NextHopBucket Del) ∷ (118, Of NextHopBucket Get) ∷ []
-
-abbrev pub type_of : ℕ → MessageType
-type_of number = form_in (λ d. Unknown) types number
-
--- the number of a type: those on one subject follow one another
-abbrev pub first_type : Subject → ℕ
-first_type Link = 16
-first_type Address = 20
-first_type Route = 24
-first_type Neighbour = 28
-first_type Rule = 32
-first_type AddressLabel = 72
-first_type Netconf = 80
-first_type Nsid = 88
-first_type NextHop = 104
-first_type LinkProp = 108
-first_type NextHopBucket = 116
-
-abbrev pub type_number : MessageType → ℕ
-type_number (Of subject New) = first_type subject
-type_number (Of subject Del) = first_type subject + 1
-type_number (Of subject Get) = first_type subject + 2
-type_number SetLink = 19
-type_number NewPrefix = 52
-type_number NewNeighbourTable = 64
-type_number GetNeighbourTable = 66
-type_number SetNeighbourTable = 67
-type_number Unknown = 0
 
 abbrev pub number : Meaning → ℕ
 number (message type m) = type_number type
@@ -243,78 +230,6 @@ CoherentBy None m = ⊥
 abbrev pub Coherent : Meaning → Type 0
 Coherent (message type m) = CoherentBy (kind_of_type type) m
 Coherent (other type bytes) = (type_of type ≡ Unknown) × IsBytes bytes
-
--- the number of a type is its own
-unfoldable pub HasNumber : MessageType → ℕ → Type 0
-HasNumber Unknown type = Unit {0}
-HasNumber t type = type ≡ type_number t
-
-in_row : (b : Bool) (t u : MessageType) (type n : ℕ) → (type == n) ≡ b → HasNumber t n → HasNumber u type → HasNumber (if b then t else u) type
-in_row true t u type n e h k = subst (HasNumber t) (sym (eqb-true type n e)) h
-in_row false t u type n e h k = k
-
-abbrev AreNumbered : List (ℕ × MessageType) → Type 0
-AreNumbered [] = Unit {0}
-AreNumbered (row ∷ rows) = HasNumber row.1 row.0 × AreNumbered rows
-
-in_rows : (rows : List (ℕ × MessageType)) → AreNumbered rows → (type : ℕ) → HasNumber (form_in (λ d. Unknown) rows type) type
-unfolding HasNumber
-in_rows [] all type = tt
-in_rows (row ∷ rows) all type = in_row (type == row.0) row.1 (form_in (λ d. Unknown) rows type) type row.0 refl all.0 (in_rows rows all.1 type)
-
-pub number-is : (type : ℕ) → HasNumber (type_of type) type
-unfolding HasNumber
-number-is = in_rows types (
-    refl also refl also refl also refl also refl also refl also refl also refl also refl also refl also refl also refl also refl
-    also refl also refl also refl also refl also refl also refl also refl also refl also refl also refl also refl also refl
-    also refl also refl also refl also refl also refl also refl also refl also refl also refl also refl also refl also refl
-    also refl also tt)
-
-number-back : (t : MessageType) (type : ℕ) → Under (kind_of_type t) → HasNumber t type → type_number t ≡ type
-unfolding HasNumber
-number-back Unknown type m has = absurd m
-number-back t type m has = sym has
-
-type-number : (t : MessageType) → Under (kind_of_type t) → type_of (type_number t) ≡ t
-type-number (Of Link New) m = refl
-type-number (Of Link Del) m = refl
-type-number (Of Link Get) m = refl
-type-number (Of Address New) m = refl
-type-number (Of Address Del) m = refl
-type-number (Of Address Get) m = refl
-type-number (Of Route New) m = refl
-type-number (Of Route Del) m = refl
-type-number (Of Route Get) m = refl
-type-number (Of Neighbour New) m = refl
-type-number (Of Neighbour Del) m = refl
-type-number (Of Neighbour Get) m = refl
-type-number (Of Rule New) m = refl
-type-number (Of Rule Del) m = refl
-type-number (Of Rule Get) m = refl
-type-number (Of AddressLabel New) m = refl
-type-number (Of AddressLabel Del) m = refl
-type-number (Of AddressLabel Get) m = refl
-type-number (Of Netconf New) m = refl
-type-number (Of Netconf Del) m = refl
-type-number (Of Netconf Get) m = refl
-type-number (Of Nsid New) m = refl
-type-number (Of Nsid Del) m = refl
-type-number (Of Nsid Get) m = refl
-type-number (Of NextHop New) m = refl
-type-number (Of NextHop Del) m = refl
-type-number (Of NextHop Get) m = refl
-type-number (Of LinkProp New) m = refl
-type-number (Of LinkProp Del) m = refl
-type-number (Of LinkProp Get) m = refl
-type-number (Of NextHopBucket New) m = refl
-type-number (Of NextHopBucket Del) m = refl
-type-number (Of NextHopBucket Get) m = refl
-type-number SetLink m = refl
-type-number NewPrefix m = refl
-type-number NewNeighbourTable m = refl
-type-number GetNeighbourTable m = refl
-type-number SetNeighbourTable m = refl
-type-number Unknown m = absurd m
 
 one_by : (k : Option MessageKind) (of : Under k → Meaning) (type : ℕ) (bytes : List ℕ) (x y : Meaning) → ReadsBy k of type bytes x
     → ReadsBy k of type bytes y → x ≡ y

@@ -22,6 +22,7 @@ use npr_rule::RuleHeader;
 use npr_small::{
     AddressLabelHeader, NeighbourTableHeader, NetconfHeader, NsidHeader, PrefixHeader,
 };
+use npr_tc::{TcActionMessageHeader, TcHeader};
 use std::alloc::Global;
 use thiserror::Error;
 
@@ -44,7 +45,12 @@ pub enum WriteCanonicalError {
     Canonical(CanonicalError),
     /// There are `want`, and the buffer has room for `got`.
     #[error("a buffer of {got} bytes, where {want} are wanted")]
-    BufferTooShort { got: usize, want: usize },
+    BufferTooShort {
+        /// The bytes of the buffer.
+        got: usize,
+        /// Those that are wanted.
+        want: usize,
+    },
 }
 
 impl From<DecodeError> for CanonicalError {
@@ -89,6 +95,8 @@ macro_rules! by_kind {
             MessageKind::AddressLabel => $function::<AddressLabelHeader> $arguments,
             MessageKind::NeighbourTable => $function::<NeighbourTableHeader> $arguments,
             MessageKind::Prefix => $function::<PrefixHeader> $arguments,
+            MessageKind::Tc => $function::<TcHeader> $arguments,
+            MessageKind::TcAction => $function::<TcActionMessageHeader> $arguments,
         }
     };
 }

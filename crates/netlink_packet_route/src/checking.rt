@@ -239,7 +239,8 @@ impl Nest {
                         want: front,
                     });
                 }
-                self.context.inner(set, value).check(&value[front..])
+                let outer = self.context.within(self.set);
+                outer.inner(set, value).check(&value[front..])
             }
             Form::Inside => {
                 if holds_hops(self.set, item.kind()) {

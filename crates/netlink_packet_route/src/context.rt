@@ -1,12 +1,14 @@
 //! What the numbers of attributes rest on, outside of their list.
 
 ghost use Rattle.std.specs.Prelude.{◌≡◌};
-ghost use Rattle.netlink_packet_route.specs.Nests.{Inner, context_for, encap_set, listed};
+ghost use Rattle.netlink_packet_route.specs.Nests.{Inner, context_for, encap_set, listed, within};
 
 use crate::nests::Nest;
-use npr_base::{AddressFamily, AttributeSet, Looks};
+use npr_base::{AddressFamily, AttributeSet, Looks, governing};
 use npr_link::{InfoForm, InfoPortForm, governing_forms};
 use npr_scalar::RouteType;
+use npr_tc_actions::{TcActionAttribute, TcActionForm};
+use npr_tc_qdiscs::TcForm;
 use npr_tunnel::RouteLwEnCapType;
 
 /// What the numbers of attributes rest on, outside of their list. Each set rests on some of it, and most
@@ -23,6 +25,10 @@ pub struct Context {
     pub link: InfoForm,
     /// What governs the data of a port.
     pub port: InfoPortForm,
+    /// What governs a message of traffic control.
+    pub tc: TcForm,
+    /// What governs the options of an action of traffic control.
+    pub tc_action: TcActionForm,
 }
 
 impl Context {
@@ -33,6 +39,8 @@ impl Context {
         encap_type: RouteLwEnCapType::None,
         link: InfoForm::Kept,
         port: InfoPortForm::Kept,
+        tc: TcForm::Kept,
+        tc_action: TcActionForm::Kept,
     };
 
     /// What the attributes of this set rest on, and no more.
@@ -41,9 +49,10 @@ impl Context {
     {
         match set {
             AttributeSet::Route => Context {
-                link: InfoForm::Kept,
-                port: InfoPortForm::Kept,
-                ..self
+                family: self.family,
+                route_type: self.route_type,
+                encap_type: self.encap_type,
+                ..Context::NONE
             },
             AttributeSet::NextHop => Context {
                 family: self.family,
@@ -67,11 +76,33 @@ impl Context {
                 link: self.link,
                 ..Context::NONE
             },
+            AttributeSet::Tc | AttributeSet::TcStats2 => Context {
+                tc: self.tc,
+                ..Context::NONE
+            },
+            AttributeSet::TcAction => Context {
+                tc_action: self.tc_action,
+                ..Context::NONE
+            },
             _ => Context::NONE,
         }
     }
 
-    /// What names a list of this set in a value: what a driver says is under the kinds that it tells.
+    /// What lists in the values of this set rest on: what an action counts is under no kind of the message.
+    pub(crate) fn within(self, set: AttributeSet) -> Context
+        ensures { result ≡ within set self }
+    {
+        match set {
+            AttributeSet::TcAction => Context {
+                tc: TcForm::Kept,
+                ..self
+            },
+            _ => self,
+        }
+    }
+
+    /// What names a list of this set in a value: what a driver says is under the kinds that it tells, and an
+    /// action under its own.
     pub(crate) fn inner(self, set: AttributeSet, value: &[u8]) -> Nest
         ensures { Inner self set value.now result }
     {
@@ -81,6 +112,13 @@ impl Context {
                 let context = Context {
                     link,
                     port,
+                    ..Context::NONE
+                };
+                Nest { set, context }
+            }
+            AttributeSet::TcAction => {
+                let context = Context {
+                    tc_action: governing::<TcActionAttribute>(value, &mut Looks::new()),
                     ..Context::NONE
                 };
                 Nest { set, context }

@@ -3,7 +3,7 @@
 ghost use Rattle.std.specs.Prelude.{◌≡◌};
 ghost use Rattle.{
   npr_base.specs.Message.{view},
-  netlink_packet_route.specs.RouteNetlinkMessage.{Meaning, meaning_of, address, route, neighbour, rule, link, address_label, netconf, nsid, next_hop},
+  netlink_packet_route.specs.RouteNetlinkMessage.{Meaning, meaning_of, address, route, neighbour, rule, link, address_label, netconf, nsid, next_hop, queue_discipline, traffic_action},
   npr_address.specs.Message.{addresses},
   npr_link.specs.Message.{links},
   npr_neighbour.specs.Message.{neighbours},
@@ -11,6 +11,7 @@ ghost use Rattle.{
   npr_route.specs.Message.{routes},
   npr_rule.specs.Message.{rules},
   npr_small.specs.{AddressLabelMessage.{address_labels}, NetconfMessage.{netconfs}, NsidMessage.{nsids}},
+  npr_tc.specs.{Message.{messages as tc_messages}, ActionMessage.{messages as action_messages}},
 };
 
 use crate::message::RouteNetlinkMessage;
@@ -22,9 +23,13 @@ use npr_nexthop::NextHopMessage;
 use npr_route::RouteMessage;
 use npr_rule::RuleMessage;
 use npr_small::{AddressLabelMessage, NetconfMessage, NsidMessage};
+use npr_tc::{TcActionMessage, TcMessage};
 
 /// A message on an entry of the kernel's tables, which is made, taken away and asked for: a link, an
-/// address, a route, a neighbour, a rule, a label of addresses, settings, a name space or a next hop.
+/// address, a route, a neighbour, a rule, a label of addresses, settings, a name space, a next hop, a
+/// queueing discipline or actions. A message of traffic control is one on a queueing discipline; those on
+/// classes, filters and chains are the same behind other types, which a variant of
+/// [`RouteNetlinkMessage`] says, as `NewTrafficFilter`.
 pub trait Entry: Drop {
     ghost use Rattle.netlink_packet_route.specs.declared.message_type.Action.{Action};
 
@@ -140,6 +145,30 @@ impl Entry for NextHopMessage {
             Action::New => RouteNetlinkMessage::NewNextHop(self),
             Action::Del => RouteNetlinkMessage::DelNextHop(self),
             Action::Get => RouteNetlinkMessage::GetNextHop(self),
+        }
+    }
+}
+
+impl Entry for TcMessage {
+    ghost as_meaning = { λ a m. queue_discipline a (view tc_messages m) };
+
+    fn under(self, action: Action) -> RouteNetlinkMessage {
+        match action {
+            Action::New => RouteNetlinkMessage::NewQueueDiscipline(self),
+            Action::Del => RouteNetlinkMessage::DelQueueDiscipline(self),
+            Action::Get => RouteNetlinkMessage::GetQueueDiscipline(self),
+        }
+    }
+}
+
+impl Entry for TcActionMessage {
+    ghost as_meaning = { λ a m. traffic_action a (view action_messages m) };
+
+    fn under(self, action: Action) -> RouteNetlinkMessage {
+        match action {
+            Action::New => RouteNetlinkMessage::NewTrafficAction(self),
+            Action::Del => RouteNetlinkMessage::DelTrafficAction(self),
+            Action::Get => RouteNetlinkMessage::GetTrafficAction(self),
         }
     }
 }

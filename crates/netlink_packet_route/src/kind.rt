@@ -28,11 +28,15 @@ pub enum MessageKind {
     NeighbourTable,
     /// Prefix messages.
     Prefix,
+    /// Messages of traffic control.
+    Tc,
+    /// Messages of actions of traffic control.
+    TcAction,
 }
 
 impl MessageKind {
     /// Each kind.
-    pub const ALL: [MessageKind; 11] = [
+    pub const ALL: [MessageKind; 13] = [
         MessageKind::Address,
         MessageKind::Route,
         MessageKind::Rule,
@@ -44,6 +48,8 @@ impl MessageKind {
         MessageKind::AddressLabel,
         MessageKind::NeighbourTable,
         MessageKind::Prefix,
+        MessageKind::Tc,
+        MessageKind::TcAction,
     ];
 
     /// The kind that the words of a command line, those after the program's name, consist of.
@@ -74,6 +80,8 @@ impl MessageKind {
             "address-label" => Some(MessageKind::AddressLabel),
             "neighbour-table" => Some(MessageKind::NeighbourTable),
             "prefix" => Some(MessageKind::Prefix),
+            "tc" => Some(MessageKind::Tc),
+            "tc-action" => Some(MessageKind::TcAction),
             _ => None,
         }
     }
@@ -94,6 +102,8 @@ impl MessageKind {
             MessageKind::AddressLabel => "address-label",
             MessageKind::NeighbourTable => "neighbour-table",
             MessageKind::Prefix => "prefix",
+            MessageKind::Tc => "tc",
+            MessageKind::TcAction => "tc-action",
         }
     }
 }

@@ -17,6 +17,8 @@ ghost use Rattle.{
     NsidAttribute.{attributes as nsid_attributes},
     PrefixAttribute.{attributes as prefix_attributes},
   },
+  npr_tc.specs.{ActionAttribute.{attributes as tc_action_attributes}, Attribute.{attributes as tc_attributes}},
+  npr_tc_qdiscs.specs.declared.form.TcForm.{TcForm},
   netlink_packet_core.specs.Message.{message_of},
   netlink_packet_route.specs.{
     MessageKind.{kind_name},
@@ -130,6 +132,29 @@ pub use npr_small::laws::law_equality_of_meanings as law_small_equality;
 pub use npr_srh::laws::law_default as law_routing_header_default;
 pub use npr_srh::laws::law_equality as law_routing_header_equality;
 pub use npr_srh::laws::law_numbers as law_routing_header_numbers;
+use npr_tc::TcActionMessageAttribute;
+use npr_tc::TcAttribute;
+pub use npr_tc::laws::law_default as law_tc_default;
+pub use npr_tc::laws::law_equality as law_tc_value_equality;
+pub use npr_tc::laws::law_equality_of_meanings as law_tc_equality;
+pub use npr_tc::laws::law_flags as law_tc_flags;
+pub use npr_tc::laws::law_governing_form as law_tc_governing_form;
+pub use npr_tc_actions::laws::law_default as law_tc_action_default;
+pub use npr_tc_actions::laws::law_equality as law_tc_action_value_equality;
+pub use npr_tc_actions::laws::law_equality_of_meanings as law_tc_action_equality;
+pub use npr_tc_actions::laws::law_flags as law_tc_action_flags;
+pub use npr_tc_actions::laws::law_numbers as law_tc_action_numbers;
+pub use npr_tc_filters::laws::law_default as law_tc_filter_default;
+pub use npr_tc_filters::laws::law_equality as law_tc_filter_value_equality;
+pub use npr_tc_filters::laws::law_equality_of_meanings as law_tc_filter_equality;
+pub use npr_tc_filters::laws::law_flags as law_tc_filter_flags;
+pub use npr_tc_qdiscs::laws::law_counters as law_tc_counters;
+pub use npr_tc_qdiscs::laws::law_default as law_tc_qdisc_default;
+pub use npr_tc_qdiscs::laws::law_equality as law_tc_qdisc_value_equality;
+pub use npr_tc_qdiscs::laws::law_equality_of_meanings as law_tc_qdisc_equality;
+pub use npr_tc_qdiscs::laws::law_forms as law_tc_forms;
+pub use npr_tc_qdiscs::laws::law_handles as law_tc_handles;
+pub use npr_tc_qdiscs::laws::law_named_handles as law_tc_named_handles;
 pub use npr_tunnel::laws::law_default as law_tunnel_default;
 pub use npr_tunnel::laws::law_encap_type_number;
 pub use npr_tunnel::laws::law_equality as law_tunnel_equality;
@@ -150,6 +175,8 @@ pub fn law_cut()
     ensures address_label { CutsInTwo address_label_attributes.Reads }
     ensures neighbour_table { CutsInTwo neighbour_table_attributes.Reads }
     ensures prefix { CutsInTwo prefix_attributes.Reads }
+    ensures tc { (form : TcForm) → CutsInTwo (tc_attributes form).Reads }
+    ensures tc_action { CutsInTwo tc_action_attributes.Reads }
 {
     law_cut_in_two::<AddressAttribute>();
     law_cut_in_two::<RouteAttribute>();
@@ -162,6 +189,8 @@ pub fn law_cut()
     law_cut_in_two::<AddressLabelAttribute>();
     law_cut_in_two::<NeighbourTableAttribute>();
     law_cut_in_two::<PrefixAttribute>();
+    law_cut_in_two::<TcAttribute>();
+    law_cut_in_two::<TcActionMessageAttribute>();
 }
 
 /// Each kind of message is one of `MessageKind::ALL`, no two have one name, and `==` answers whether
@@ -193,6 +222,7 @@ pub fn law_rtnetlink_equality()
     law_link_equality();
     law_small_equality();
     law_next_hop_equality();
+    law_tc_equality();
     law_message_equality::<RouteNetlinkMessage>();
 }
 

@@ -1,4 +1,22 @@
 //! Link messages: `struct ifinfomsg` of `linux/rtnetlink.h`.
+//!
+//! ```
+//! use netlink_packet_route::link::{LinkAttribute, LinkFlags, LinkMessage};
+//!
+//! // as `ip link set name other up` asks of the interface 4
+//! let mut link = LinkMessage::default();
+//! link.header.index = 4;
+//! link.header.flags = LinkFlags::Up;
+//! link.header.change_mask = LinkFlags::Up;
+//! link.attributes.push(LinkAttribute::IfName("other".into()));
+//! let bytes = [
+//!     0, 0, 0, 0, 4, 0, 0, 0, 1, 0, 0, 0, 1, 0, 0, 0, // the header
+//!     10, 0, 3, 0, 111, 116, 104, 101, 114, 0, 0, 0, // IFLA_IFNAME
+//! ];
+//! assert_eq!(link.to_bytes()?, bytes);
+//! assert_eq!(LinkMessage::try_from(&bytes[..])?, link);
+//! # Ok::<(), Box<dyn std::error::Error>>(())
+//! ```
 
 pub use npr_link::AfSpecBridge;
 pub use npr_link::AfSpecInet;

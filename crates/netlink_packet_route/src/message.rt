@@ -5,10 +5,12 @@ ghost use Rattle.{
   npr_base.specs.{Message.{MessageFault, view}, declared.refusal.DecodeError.TheVariants.{OutOfMemory}},
   netlink_packet_route.specs.{
     MessageKind.{kind_of, form_of},
-    RouteNetlinkMessage.{Meaning, meaning_of, other_of, link_prop, next_hop_bucket, rtnetlink, type_of, encode, meaning_unfit, IsMessageOn, ReadsUnder, FaultUnder, HasFirst, GrowsUnder, CopyGrows},
+    MessageTypes.{type_of},
+    RouteNetlinkMessage.{Meaning, meaning_of, other_of, link_prop, next_hop_bucket, traffic_class, traffic_filter, traffic_chain, rtnetlink, encode, meaning_unfit, IsMessageOn, ReadsUnder, FaultUnder, HasFirst, GrowsUnder, CopyGrows},
   },
   npr_link.specs.Message.{links},
   npr_nexthop.specs.Message.{next_hops},
+  npr_tc.specs.Message.{messages},
 };
 
 use crate::entry::Entry;
@@ -24,6 +26,7 @@ use npr_rule::RuleMessage;
 use npr_small::{
     AddressLabelMessage, NeighbourTableMessage, NetconfMessage, NsidMessage, PrefixMessage,
 };
+use npr_tc::{TcActionMessage, TcMessage};
 use std::alloc::{AllocError, Global};
 
 /// A message of a type that the library does not read, as it stands.
@@ -70,6 +73,30 @@ pub enum RouteNetlinkMessage {
     DelRule(RuleMessage),
     /// `RTM_GETRULE`, 34.
     GetRule(RuleMessage),
+    /// `RTM_NEWQDISC`, 36.
+    NewQueueDiscipline(TcMessage),
+    /// `RTM_DELQDISC`, 37.
+    DelQueueDiscipline(TcMessage),
+    /// `RTM_GETQDISC`, 38.
+    GetQueueDiscipline(TcMessage),
+    /// `RTM_NEWTCLASS`, 40.
+    NewTrafficClass(TcMessage),
+    /// `RTM_DELTCLASS`, 41.
+    DelTrafficClass(TcMessage),
+    /// `RTM_GETTCLASS`, 42.
+    GetTrafficClass(TcMessage),
+    /// `RTM_NEWTFILTER`, 44.
+    NewTrafficFilter(TcMessage),
+    /// `RTM_DELTFILTER`, 45.
+    DelTrafficFilter(TcMessage),
+    /// `RTM_GETTFILTER`, 46.
+    GetTrafficFilter(TcMessage),
+    /// `RTM_NEWACTION`, 48.
+    NewTrafficAction(TcActionMessage),
+    /// `RTM_DELACTION`, 49.
+    DelTrafficAction(TcActionMessage),
+    /// `RTM_GETACTION`, 50.
+    GetTrafficAction(TcActionMessage),
     /// `RTM_NEWPREFIX`, 52.
     NewPrefix(PrefixMessage),
     /// `RTM_NEWNEIGHTBL`, 64.
@@ -96,6 +123,12 @@ pub enum RouteNetlinkMessage {
     DelNsId(NsidMessage),
     /// `RTM_GETNSID`, 90.
     GetNsId(NsidMessage),
+    /// `RTM_NEWCHAIN`, 100.
+    NewTrafficChain(TcMessage),
+    /// `RTM_DELCHAIN`, 101.
+    DelTrafficChain(TcMessage),
+    /// `RTM_GETCHAIN`, 102.
+    GetTrafficChain(TcMessage),
     /// `RTM_NEWNEXTHOP`, 104.
     NewNextHop(NextHopMessage),
     /// `RTM_DELNEXTHOP`, 105.
@@ -142,8 +175,8 @@ macro_rules! each {
 macro_rules! clone_of {
     (($of_message:expr, $alloc:expr) $($number:tt $variant:ident $says:expr;)*) => {
         match $of_message {
-            $(RouteNetlinkMessage::$variant(m) => RouteNetlinkMessage::$variant(m.try_clone($alloc)?),)*
-            RouteNetlinkMessage::Other(m) => RouteNetlinkMessage::Other(m.try_clone($alloc)?),
+            $(RouteNetlinkMessage::$variant(m) => Ok(RouteNetlinkMessage::$variant(m.try_clone($alloc)?)),)*
+            RouteNetlinkMessage::Other(m) => Ok(RouteNetlinkMessage::Other(m.try_clone($alloc)?)),
         }
     };
 }
@@ -206,7 +239,7 @@ impl NetlinkInner for RouteNetlinkMessage {
     }
 
     fn try_clone(&self, alloc: Global) -> Result<Self, AllocError> {
-        Ok(types!(clone_of(self, alloc)))
+        types!(clone_of(self, alloc))
     }
 }
 
@@ -266,6 +299,39 @@ fn on_bucket(message: NextHopMessage, action: Action) -> RouteNetlinkMessage
     }
 }
 
+/// The message on a class of traffic that does this.
+fn on_class(message: TcMessage, action: Action) -> RouteNetlinkMessage
+    ensures { meaning_of result ≡ traffic_class action (view messages message) }
+{
+    match action {
+        Action::New => RouteNetlinkMessage::NewTrafficClass(message),
+        Action::Del => RouteNetlinkMessage::DelTrafficClass(message),
+        Action::Get => RouteNetlinkMessage::GetTrafficClass(message),
+    }
+}
+
+/// The message on a filter of traffic that does this.
+fn on_filter(message: TcMessage, action: Action) -> RouteNetlinkMessage
+    ensures { meaning_of result ≡ traffic_filter action (view messages message) }
+{
+    match action {
+        Action::New => RouteNetlinkMessage::NewTrafficFilter(message),
+        Action::Del => RouteNetlinkMessage::DelTrafficFilter(message),
+        Action::Get => RouteNetlinkMessage::GetTrafficFilter(message),
+    }
+}
+
+/// The message on a chain of filters that does this.
+fn on_chain(message: TcMessage, action: Action) -> RouteNetlinkMessage
+    ensures { meaning_of result ≡ traffic_chain action (view messages message) }
+{
+    match action {
+        Action::New => RouteNetlinkMessage::NewTrafficChain(message),
+        Action::Del => RouteNetlinkMessage::DelTrafficChain(message),
+        Action::Get => RouteNetlinkMessage::GetTrafficChain(message),
+    }
+}
+
 /// The message on this that the bytes are, which does this.
 fn read_on(
     alloc: Global,
@@ -289,5 +355,10 @@ fn read_on(
         Subject::NextHop => Ok(NextHopMessage::parse(alloc, payload)?.under(action)),
         Subject::LinkProp => Ok(on_properties(LinkMessage::parse(alloc, payload)?, action)),
         Subject::NextHopBucket => Ok(on_bucket(NextHopMessage::parse(alloc, payload)?, action)),
+        Subject::QueueDiscipline => Ok(TcMessage::parse(alloc, payload)?.under(action)),
+        Subject::TrafficClass => Ok(on_class(TcMessage::parse(alloc, payload)?, action)),
+        Subject::TrafficFilter => Ok(on_filter(TcMessage::parse(alloc, payload)?, action)),
+        Subject::TrafficChain => Ok(on_chain(TcMessage::parse(alloc, payload)?, action)),
+        Subject::TrafficAction => Ok(TcActionMessage::parse(alloc, payload)?.under(action)),
     }
 }

@@ -3,7 +3,7 @@
 ghost use Rattle.std.specs.Prelude.{◌≡◌};
 ghost use Rattle.netlink_packet_route.specs.{
   MessageKind.{kind_of, kind_of_type},
-  RouteNetlinkMessage.{type_of},
+  MessageTypes.{type_of},
 };
 
 use crate::kind::MessageKind;
@@ -44,6 +44,16 @@ pub enum Subject {
     LinkProp,
     /// A bucket of a group of next hops.
     NextHopBucket,
+    /// A queueing discipline.
+    QueueDiscipline,
+    /// A class of traffic.
+    TrafficClass,
+    /// A filter of traffic.
+    TrafficFilter,
+    /// A chain of filters.
+    TrafficChain,
+    /// Actions of traffic control.
+    TrafficAction,
 }
 
 /// What a type says.
@@ -85,6 +95,18 @@ macro_rules! types {
             32 NewRule MessageType::Of(Subject::Rule, Action::New);
             33 DelRule MessageType::Of(Subject::Rule, Action::Del);
             34 GetRule MessageType::Of(Subject::Rule, Action::Get);
+            36 NewQueueDiscipline MessageType::Of(Subject::QueueDiscipline, Action::New);
+            37 DelQueueDiscipline MessageType::Of(Subject::QueueDiscipline, Action::Del);
+            38 GetQueueDiscipline MessageType::Of(Subject::QueueDiscipline, Action::Get);
+            40 NewTrafficClass MessageType::Of(Subject::TrafficClass, Action::New);
+            41 DelTrafficClass MessageType::Of(Subject::TrafficClass, Action::Del);
+            42 GetTrafficClass MessageType::Of(Subject::TrafficClass, Action::Get);
+            44 NewTrafficFilter MessageType::Of(Subject::TrafficFilter, Action::New);
+            45 DelTrafficFilter MessageType::Of(Subject::TrafficFilter, Action::Del);
+            46 GetTrafficFilter MessageType::Of(Subject::TrafficFilter, Action::Get);
+            48 NewTrafficAction MessageType::Of(Subject::TrafficAction, Action::New);
+            49 DelTrafficAction MessageType::Of(Subject::TrafficAction, Action::Del);
+            50 GetTrafficAction MessageType::Of(Subject::TrafficAction, Action::Get);
             52 NewPrefix MessageType::NewPrefix;
             64 NewNeighbourTable MessageType::NewNeighbourTable;
             66 GetNeighbourTable MessageType::GetNeighbourTable;
@@ -98,6 +120,9 @@ macro_rules! types {
             88 NewNsId MessageType::Of(Subject::Nsid, Action::New);
             89 DelNsId MessageType::Of(Subject::Nsid, Action::Del);
             90 GetNsId MessageType::Of(Subject::Nsid, Action::Get);
+            100 NewTrafficChain MessageType::Of(Subject::TrafficChain, Action::New);
+            101 DelTrafficChain MessageType::Of(Subject::TrafficChain, Action::Del);
+            102 GetTrafficChain MessageType::Of(Subject::TrafficChain, Action::Get);
             104 NewNextHop MessageType::Of(Subject::NextHop, Action::New);
             105 DelNextHop MessageType::Of(Subject::NextHop, Action::Del);
             106 GetNextHop MessageType::Of(Subject::NextHop, Action::Get);
@@ -138,6 +163,11 @@ impl Subject {
             Subject::Netconf => MessageKind::Netconf,
             Subject::Nsid => MessageKind::Nsid,
             Subject::NextHop | Subject::NextHopBucket => MessageKind::NextHop,
+            Subject::QueueDiscipline
+            | Subject::TrafficClass
+            | Subject::TrafficFilter
+            | Subject::TrafficChain => MessageKind::Tc,
+            Subject::TrafficAction => MessageKind::TcAction,
         }
     }
 }

@@ -1,47 +1,45 @@
 //! Lists of attributes of any set, gone through value by value, and into the lists that stand in
 //! values. Nothing takes memory.
 
-ghost use Rattle.std.specs.Prelude.{◌≡◌, ◌<◌, ℕ, false, length, drop, IfOk, IfErr, IfSome, IsNone};
+ghost use Rattle.std.specs.Prelude.{◌≡◌, false, IfOk, IfErr, IfSome, IsNone};
 ghost use Rattle.{
-  npr_base.specs.{
-    Codec.{leading},
-    Framing.{number_of},
-    Value.{shown},
-    Values.{Seen, Unseen},
-    declared.refusal.DecodeError.TheVariants.{HeaderTooShort},
-  },
+  npr_base.specs.{Framing.{number_of}, Value.{shown}, Values.{Seen, Unseen}},
   netlink_packet_route.specs.{
-    MessageKind.{Begins, header_size},
     Nests.{FromBytes, IsInside, OfNextHop, holds_list, listed, nest_in, reading_of, told_set},
   },
 };
 
 use crate::context::{Context, encap_set, listed};
-use crate::kind::MessageKind;
-use npr_address::{AddressAttribute, AddressHeader};
+use npr_address::AddressAttribute;
 use npr_base::{
-    At, Attribute, AttributeSet, DecodeError, Form, Header, Looks, Message, NlaBuffer, Value,
-    read_form,
+    At, Attribute, AttributeSet, DecodeError, Form, Looks, NlaBuffer, Value, read_form,
 };
 use npr_link::{
     AfSpecBridge, AfSpecInet, AfSpecInet6, AfSpecUnspec, BondAdInfo, BridgeMst, BridgeMstEntry,
     BridgeQuerierState, BridgeVlanTunnelInfo, InfoBond, InfoBondPort, InfoBridge, InfoBridgePort,
     InfoGeneve, InfoGre, InfoGre6, InfoIpTunnel, InfoIpVlan, InfoMacVlan, InfoNetkit, InfoTun,
-    InfoVeth, InfoVlan, InfoVrf, InfoVti, InfoVxlan, InfoXfrm, LinkAttribute, LinkHeader, LinkInfo,
+    InfoVeth, InfoVlan, InfoVrf, InfoVti, InfoVxlan, InfoXfrm, LinkAttribute, LinkInfo,
     LinkProtocolDownReason, LinkXdp, MacVlanAddress, PeerAttribute, Prop, VlanQosMapping,
 };
-use npr_neighbour::{NeighbourAttribute, NeighbourHeader};
+use npr_neighbour::NeighbourAttribute;
 use npr_nexthop::{
-    NextHopAttribute, NextHopGroupStats, NextHopGroupStatsEntry, NextHopHeader, NextHopResBucket,
-    NextHopResGroup,
+    NextHopAttribute, NextHopGroupStats, NextHopGroupStatsEntry, NextHopResBucket, NextHopResGroup,
 };
-use npr_route::{RouteAttribute, RouteHeader, RouteMetric, governing_type};
-use npr_rule::{RuleAttribute, RuleHeader};
+use npr_route::{RouteAttribute, RouteMetric, governing_type};
+use npr_rule::RuleAttribute;
 use npr_small::{
-    AddressLabelAttribute, AddressLabelHeader, NeighbourTableAttribute, NeighbourTableHeader,
-    NeighbourTableParameter, NetconfAttribute, NetconfHeader, NsidAttribute, NsidHeader,
-    PrefixAttribute, PrefixHeader,
+    AddressLabelAttribute, NeighbourTableAttribute, NeighbourTableParameter, NetconfAttribute,
+    NsidAttribute, PrefixAttribute,
 };
+use npr_tc::{TcActionMessageAttribute, TcAttribute};
+use npr_tc_actions::{
+    TcAction, TcActionAttribute, TcActionMirrorOption, TcActionNatOption, TcActionTunnelKeyOption,
+};
+use npr_tc_filters::{
+    TcFilterFlowerMplsLseOption, TcFilterFlowerMplsOption, TcFilterFlowerOption,
+    TcFilterMatchAllOption, TcFilterU32Option,
+};
+use npr_tc_qdiscs::{TcQdiscFqCodelOption, TcQdiscIngressOption, TcStab, TcStats2};
 use npr_tunnel::{
     RouteErspanOpt, RouteLwEnCapType, RouteLwTunnelEncap, RouteLwTunnelOpt, RouteVxlanOpt,
 };
@@ -53,21 +51,6 @@ pub struct Nest {
     pub set: AttributeSet,
     /// The context.
     pub context: Context,
-}
-
-/// What the attributes behind the header of a message rest on, and their bytes.
-///
-/// # Errors
-/// `HeaderTooShort` where there is no whole header.
-fn behind<H: Header>(
-    bytes: &[u8],
-) -> Result<(<H::Attribute as Attribute>::Context, &[u8]), DecodeError>
-    ensures ok { IfOk result (λ s. (h : H) × (leading H.grammar.layout).Reads bytes.now h × (s.1.now ≡ drop H.grammar.layout.size bytes.now)
-        × H.governs h s.1.now s.0) }
-    ensures short { IfErr result (λ e. (length bytes.now < H.grammar.layout.size) × (e ≡ HeaderTooShort (length bytes.now) H.grammar.layout.size)) }
-{
-    let (_, values) = Message::<H, H::Attribute>::values(bytes)?;
-    Ok((values.context(), values.rest()))
 }
 
 impl Nest {
@@ -90,100 +73,6 @@ impl Nest {
         match self.set {
             AttributeSet::Encap => encap_set(self.context.encap_type),
             _ => self.set,
-        }
-    }
-
-    /// The list behind the header of a message of this kind: what names it, and its bytes.
-    ///
-    /// # Errors
-    /// `HeaderTooShort` where there is no whole header.
-    pub fn begin(kind: MessageKind, bytes: &[u8]) -> Result<(Nest, &[u8]), DecodeError>
-        ensures ok { IfOk result (λ s. Begins kind bytes.now s.0 s.1.now) }
-        ensures numbers { IfOk result (λ s. FromBytes s.0) }
-        ensures short { IfErr result (λ e. (length bytes.now < header_size kind) × (e ≡ HeaderTooShort (length bytes.now) (header_size kind))) }
-    {
-        match kind {
-            MessageKind::Address => {
-                let (_, attributes) = behind::<AddressHeader>(bytes)?;
-                let set = AttributeSet::Address;
-                let context = Context::NONE;
-                Ok((Nest { set, context }, attributes))
-            }
-            MessageKind::Rule => {
-                let (_, attributes) = behind::<RuleHeader>(bytes)?;
-                let set = AttributeSet::Rule;
-                let context = Context::NONE;
-                Ok((Nest { set, context }, attributes))
-            }
-            MessageKind::Route => {
-                let (told, attributes) = behind::<RouteHeader>(bytes)?;
-                let context = Context {
-                    family: told.0,
-                    route_type: told.1,
-                    encap_type: told.2,
-                    ..Context::NONE
-                };
-                let set = AttributeSet::Route;
-                Ok((Nest { set, context }, attributes))
-            }
-            MessageKind::Neighbour => {
-                let (family, attributes) = behind::<NeighbourHeader>(bytes)?;
-                let context = Context {
-                    family,
-                    ..Context::NONE
-                };
-                let set = AttributeSet::Neighbour;
-                Ok((Nest { set, context }, attributes))
-            }
-            MessageKind::Link => {
-                let (family, attributes) = behind::<LinkHeader>(bytes)?;
-                let context = Context {
-                    family,
-                    ..Context::NONE
-                };
-                let set = AttributeSet::Link;
-                Ok((Nest { set, context }, attributes))
-            }
-            MessageKind::NextHop => {
-                let (told, attributes) = behind::<NextHopHeader>(bytes)?;
-                let context = Context {
-                    family: told.0,
-                    encap_type: told.1,
-                    ..Context::NONE
-                };
-                let set = AttributeSet::NextHop;
-                Ok((Nest { set, context }, attributes))
-            }
-            MessageKind::Nsid => {
-                let (_, attributes) = behind::<NsidHeader>(bytes)?;
-                let set = AttributeSet::Nsid;
-                let context = Context::NONE;
-                Ok((Nest { set, context }, attributes))
-            }
-            MessageKind::Netconf => {
-                let (_, attributes) = behind::<NetconfHeader>(bytes)?;
-                let set = AttributeSet::Netconf;
-                let context = Context::NONE;
-                Ok((Nest { set, context }, attributes))
-            }
-            MessageKind::AddressLabel => {
-                let (_, attributes) = behind::<AddressLabelHeader>(bytes)?;
-                let set = AttributeSet::AddressLabel;
-                let context = Context::NONE;
-                Ok((Nest { set, context }, attributes))
-            }
-            MessageKind::NeighbourTable => {
-                let (_, attributes) = behind::<NeighbourTableHeader>(bytes)?;
-                let set = AttributeSet::NeighbourTable;
-                let context = Context::NONE;
-                Ok((Nest { set, context }, attributes))
-            }
-            MessageKind::Prefix => {
-                let (_, attributes) = behind::<PrefixHeader>(bytes)?;
-                let set = AttributeSet::Prefix;
-                let context = Context::NONE;
-                Ok((Nest { set, context }, attributes))
-            }
         }
     }
 
@@ -255,6 +144,22 @@ impl Nest {
             AttributeSet::NeighbourTable => NeighbourTableAttribute::form((), number),
             AttributeSet::NeighbourTableParameter => NeighbourTableParameter::form((), number),
             AttributeSet::Prefix => PrefixAttribute::form((), number),
+            AttributeSet::Tc => TcAttribute::form(context.tc, number),
+            AttributeSet::TcStats2 => TcStats2::form(context.tc, number),
+            AttributeSet::TcStab => TcStab::form((), number),
+            AttributeSet::TcQdiscIngress => TcQdiscIngressOption::form((), number),
+            AttributeSet::TcQdiscFqCodel => TcQdiscFqCodelOption::form((), number),
+            AttributeSet::TcFilterU32 => TcFilterU32Option::form((), number),
+            AttributeSet::TcFilterMatchAll => TcFilterMatchAllOption::form((), number),
+            AttributeSet::TcFilterFlower => TcFilterFlowerOption::form((), number),
+            AttributeSet::TcFilterFlowerMpls => TcFilterFlowerMplsOption::form((), number),
+            AttributeSet::TcFilterFlowerMplsLse => TcFilterFlowerMplsLseOption::form((), number),
+            AttributeSet::TcActionMessage => TcActionMessageAttribute::form((), number),
+            AttributeSet::TcActions => TcAction::form((), number),
+            AttributeSet::TcAction => TcActionAttribute::form(context.tc_action, number),
+            AttributeSet::TcActionMirror => TcActionMirrorOption::form((), number),
+            AttributeSet::TcActionNat => TcActionNatOption::form((), number),
+            AttributeSet::TcActionTunnelKey => TcActionTunnelKeyOption::form((), number),
             _ => RouteLwTunnelEncap::form(RouteLwEnCapType::None, number),
         }
     }
@@ -288,7 +193,8 @@ impl Nest {
                 if value.len() < front {
                     return None;
                 }
-                Some((self.context.inner(set, value), &value[front..]))
+                let outer = self.context.within(self.set);
+                Some((outer.inner(set, value), &value[front..]))
             }
             _ => None,
         }

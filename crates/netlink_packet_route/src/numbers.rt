@@ -21,6 +21,8 @@ ghost use Rattle.{
     Seg6LocalAction.{actions as seg6_local_actions},
     Seg6Mode.{seg6_modes},
   },
+  npr_tc_actions.specs.{ActionType.{action_types}, MirrorActionType.{mirror_action_types}},
+  npr_tc_qdiscs.specs.Handle.{handles},
   npr_tunnel.specs.EncapType.{encap_types},
 };
 
@@ -32,6 +34,8 @@ use npr_scalar::{
     RouteScope, RouteType,
 };
 use npr_srh::{Ioam6Mode, Seg6LocalAction, Seg6Mode};
+use npr_tc_actions::{TcActionType, TcMirrorActionType};
+use npr_tc_qdiscs::TcHandle;
 use npr_tunnel::RouteLwEnCapType;
 
 /// The number of an address family (`AF_*`).
@@ -137,6 +141,27 @@ pub fn seg6_mode(value: Seg6Mode) -> u32
     ensures { result ≡ seg6_modes.number value }
 {
     u32::from(value)
+}
+
+/// The number of what becomes of a packet behind an action of traffic control (`TC_ACT_*`).
+pub fn tc_action_type(value: TcActionType) -> i32
+    ensures { result ≡ action_types.number value }
+{
+    i32::from(value)
+}
+
+/// The number of a handle of a queueing discipline or a class, of two halves.
+pub fn tc_handle(value: TcHandle) -> u32
+    ensures { result ≡ handles.number value }
+{
+    u32::from(value)
+}
+
+/// The number of where an action of traffic control sends packets (`TCA_*_REDIR`, `TCA_*_MIRROR`).
+pub fn tc_mirror_action_type(value: TcMirrorActionType) -> i32
+    ensures { result ≡ mirror_action_types.number value }
+{
+    i32::from(value)
 }
 
 /// The number of whether a TTL is propagated (`RTA_TTL_PROPAGATE`).

@@ -1,5 +1,20 @@
 //! Requests to the kernel, with the flags that `ip` sets. A sequence number is one of the caller's
 //! choice, which the answer has again.
+//!
+//! ```
+//! use netlink_packet_route::AddressFamily;
+//! use netlink_packet_route::memory::Global;
+//! use netlink_packet_route::request::dump_addresses;
+//!
+//! // as `ip -4 address` asks, with the sequence number 7
+//! let request = dump_addresses(Global, 7, AddressFamily::Inet);
+//! let bytes = [
+//!     24, 0, 0, 0, 22, 0, 1, 3, 7, 0, 0, 0, 0, 0, 0, 0, // the envelope, of RTM_GETADDR
+//!     2, 0, 0, 0, 0, 0, 0, 0, // the header
+//! ];
+//! assert_eq!(request.to_bytes()?, bytes);
+//! # Ok::<(), Box<dyn std::error::Error>>(())
+//! ```
 
 ghost use Rattle.std.specs.Prelude.{◌≡◌, IfOk};
 ghost use Rattle.{

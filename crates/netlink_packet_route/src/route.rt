@@ -1,5 +1,24 @@
 //! Route messages: `struct rtmsg` of `linux/rtnetlink.h`, with the values, tunnels and routing
 //! headers that stand in them.
+//!
+//! ```
+//! use netlink_packet_route::route::{RouteAddress, RouteAttribute, RouteMessage, RouteProtocol};
+//! use std::net::Ipv4Addr;
+//!
+//! let bytes = [
+//!     2, 24, 0, 0, 254, 4, 0, 1, 0, 0, 0, 0, // 24 bits of a destination, in the table 254
+//!     8, 0, 1, 0, 10, 0, 1, 0, // RTA_DST
+//!     8, 0, 5, 0, 10, 0, 0, 9, // RTA_GATEWAY
+//!     8, 0, 4, 0, 3, 0, 0, 0, // RTA_OIF
+//!     8, 0, 6, 0, 77, 0, 0, 0, // RTA_PRIORITY
+//! ];
+//! let route = RouteMessage::try_from(&bytes[..])?;
+//! assert_eq!((route.header.table, route.header.protocol), (254, RouteProtocol::Static));
+//! let gateway = RouteAddress::Inet(Ipv4Addr::new(10, 0, 0, 9));
+//! assert_eq!(route.attributes[1], RouteAttribute::Gateway(gateway));
+//! assert_eq!(route.to_bytes()?, bytes);
+//! # Ok::<(), Box<dyn std::error::Error>>(())
+//! ```
 
 pub use npr_route::{
     NEXT_HOP_HEADER_SIZE, RTNH_ALIGNTO, RouteAttribute, RouteHeader, RouteMessage,

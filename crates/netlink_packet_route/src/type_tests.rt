@@ -6,7 +6,7 @@ ghost use Rattle.netlink_packet_route.specs.{
   declared.message_type.{
     Action.TheVariants.{New, Del, Get},
     MessageType.TheVariants.{Of, SetLink, NewNeighbourTable, GetNeighbourTable, SetNeighbourTable},
-    Subject.TheVariants.{Link, Address, Route, Neighbour, Rule, Nsid},
+    Subject.TheVariants.{Link, Address, Route, Neighbour, Rule, Nsid, QueueDiscipline, TrafficClass, TrafficFilter, TrafficChain, TrafficAction},
   },
 };
 
@@ -183,5 +183,110 @@ impl RouteNetlinkMessage {
         ensures { result ≡ is_of SetNeighbourTable (meaning_of self.now) }
     {
         self.has_number(67)
+    }
+
+    /// Whether it is `RTM_NEWQDISC`.
+    pub fn is_new_queue_discipline(&self) -> bool
+        ensures { result ≡ is_of (Of QueueDiscipline New) (meaning_of self.now) }
+    {
+        self.has_number(36)
+    }
+
+    /// Whether it is `RTM_DELQDISC`.
+    pub fn is_del_queue_discipline(&self) -> bool
+        ensures { result ≡ is_of (Of QueueDiscipline Del) (meaning_of self.now) }
+    {
+        self.has_number(37)
+    }
+
+    /// Whether it is `RTM_GETQDISC`.
+    pub fn is_get_queue_discipline(&self) -> bool
+        ensures { result ≡ is_of (Of QueueDiscipline Get) (meaning_of self.now) }
+    {
+        self.has_number(38)
+    }
+
+    /// Whether it is `RTM_NEWTCLASS`.
+    pub fn is_new_traffic_class(&self) -> bool
+        ensures { result ≡ is_of (Of TrafficClass New) (meaning_of self.now) }
+    {
+        self.has_number(40)
+    }
+
+    /// Whether it is `RTM_DELTCLASS`.
+    pub fn is_del_traffic_class(&self) -> bool
+        ensures { result ≡ is_of (Of TrafficClass Del) (meaning_of self.now) }
+    {
+        self.has_number(41)
+    }
+
+    /// Whether it is `RTM_GETTCLASS`.
+    pub fn is_get_traffic_class(&self) -> bool
+        ensures { result ≡ is_of (Of TrafficClass Get) (meaning_of self.now) }
+    {
+        self.has_number(42)
+    }
+
+    /// Whether it is `RTM_NEWTFILTER`.
+    pub fn is_new_traffic_filter(&self) -> bool
+        ensures { result ≡ is_of (Of TrafficFilter New) (meaning_of self.now) }
+    {
+        self.has_number(44)
+    }
+
+    /// Whether it is `RTM_DELTFILTER`.
+    pub fn is_del_traffic_filter(&self) -> bool
+        ensures { result ≡ is_of (Of TrafficFilter Del) (meaning_of self.now) }
+    {
+        self.has_number(45)
+    }
+
+    /// Whether it is `RTM_GETTFILTER`.
+    pub fn is_get_traffic_filter(&self) -> bool
+        ensures { result ≡ is_of (Of TrafficFilter Get) (meaning_of self.now) }
+    {
+        self.has_number(46)
+    }
+
+    /// Whether it is `RTM_NEWCHAIN`.
+    pub fn is_new_traffic_chain(&self) -> bool
+        ensures { result ≡ is_of (Of TrafficChain New) (meaning_of self.now) }
+    {
+        self.has_number(100)
+    }
+
+    /// Whether it is `RTM_DELCHAIN`.
+    pub fn is_del_traffic_chain(&self) -> bool
+        ensures { result ≡ is_of (Of TrafficChain Del) (meaning_of self.now) }
+    {
+        self.has_number(101)
+    }
+
+    /// Whether it is `RTM_GETCHAIN`.
+    pub fn is_get_traffic_chain(&self) -> bool
+        ensures { result ≡ is_of (Of TrafficChain Get) (meaning_of self.now) }
+    {
+        self.has_number(102)
+    }
+
+    /// Whether it is `RTM_NEWACTION`.
+    pub fn is_new_traffic_action(&self) -> bool
+        ensures { result ≡ is_of (Of TrafficAction New) (meaning_of self.now) }
+    {
+        self.has_number(48)
+    }
+
+    /// Whether it is `RTM_DELACTION`.
+    pub fn is_del_traffic_action(&self) -> bool
+        ensures { result ≡ is_of (Of TrafficAction Del) (meaning_of self.now) }
+    {
+        self.has_number(49)
+    }
+
+    /// Whether it is `RTM_GETACTION`.
+    pub fn is_get_traffic_action(&self) -> bool
+        ensures { result ≡ is_of (Of TrafficAction Get) (meaning_of self.now) }
+    {
+        self.has_number(50)
     }
 }

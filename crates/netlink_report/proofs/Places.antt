@@ -7,7 +7,7 @@ use Rattle.netlink_packet_route.specs.MessageKind.{MessageOf, form_of, kind_of_t
 use Rattle.netlink_packet_route.specs.Messages.{IsMessage}
 use Rattle.netlink_packet_route.specs.NetlinkHeader.{header}
 use Rattle.netlink_packet_route.specs.Refusal.{no_place}
-use Rattle.netlink_packet_route.specs.RouteNetlinkMessage.{type_of}
+use Rattle.netlink_packet_route.specs.MessageTypes.{type_of}
 use Rattle.netlink_packet_route.specs.declared.Located.{Located}
 use Rattle.netlink_packet_route.specs.declared.MessageKind.{MessageKind}
 use Rattle.netlink_packet_route.specs.declared.envelope.NetlinkHeader.{NetlinkHeader}

@@ -6,7 +6,7 @@ use Rattle.netlink_packet_route.specs.Codec.{leading}
 use Rattle.netlink_packet_route.specs.MessageKind.{form_of, header_size, kind_of_type}
 use Rattle.netlink_packet_route.specs.Messages.{MessageFault}
 use Rattle.netlink_packet_route.specs.NetlinkHeader.{header}
-use Rattle.netlink_packet_route.specs.RouteNetlinkMessage.{type_of}
+use Rattle.netlink_packet_route.specs.MessageTypes.{type_of}
 use Rattle.netlink_packet_route.specs.Stops.{StandsIn}
 use Rattle.netlink_packet_route.specs.declared.MessageKind.{MessageKind}
 use Rattle.netlink_packet_route.specs.declared.Located.{Located}

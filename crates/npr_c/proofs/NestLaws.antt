@@ -4,6 +4,8 @@ use Rattle.npr_base.specs.Numbering.{Numbering}
 use Rattle.npr_base.specs.contracts.refusal.AttributeSet.{enum as sets}
 use Rattle.npr_link.specs.contracts.port_kind.InfoPortForm.{enum as ports}
 use Rattle.npr_link_tunnels.specs.contracts.form.InfoForm.{enum as links}
+use Rattle.npr_tc_actions.specs.contracts.form.TcActionForm.{enum as actions}
+use Rattle.npr_tc_qdiscs.specs.contracts.form.TcForm.{enum as disciplines}
 use Rattle.netlink_packet_route.specs.AddressFamily.{families}
 use Rattle.netlink_packet_route.specs.EncapType.{encap_types}
 use Rattle.netlink_packet_route.specs.Nests.{FromBytes, IsOf, encap_set, listed, nest_in, no_context, told_set}
@@ -15,20 +17,24 @@ use Rattle.netlink_packet_route.specs.declared.link.InfoForm.{InfoForm}
 use Rattle.netlink_packet_route.specs.declared.link.InfoForm.TheVariants.{Kept}
 use Rattle.netlink_packet_route.specs.declared.link.InfoPortForm.{InfoPortForm}
 use Rattle.netlink_packet_route.specs.declared.link.InfoPortForm.TheVariants.{Kept as PortKept}
+use Rattle.netlink_packet_route.specs.declared.tc.TcActionForm.{TcActionForm}
+use Rattle.netlink_packet_route.specs.declared.tc.TcActionForm.TheVariants.{Kept as ActionKept}
+use Rattle.netlink_packet_route.specs.declared.tc.TcForm.{TcForm}
+use Rattle.netlink_packet_route.specs.declared.tc.TcForm.TheVariants.{Kept as TcKept}
 use Rattle.netlink_packet_route.specs.declared.context.Context.{Context}
 use Rattle.netlink_packet_route.specs.declared.nests.Nest.{Nest}
 use Rattle.netlink_packet_route.specs.declared.route.RouteLwEnCapType.{RouteLwEnCapType}
 use Rattle.netlink_packet_route.specs.declared.route.RouteLwEnCapType.TheVariants as Kind
 use Rattle.npr_c.specs.Bare.{bare-back, bare-below, bare-past}
 use Rattle.npr_c.specs.Nests.{context_number, context_of, encap_part, form_number, form_of, nest_by, nest_context, nest_of, nest_set}
-use Rattle.npr_c.specs.Nests.{port_form_number, port_form_of, set_number, set_of}
+use Rattle.npr_c.specs.Nests.{port_form_number, port_form_of, set_number, set_of, tc_action_form_number, tc_action_form_of, tc_form_number, tc_form_of}
 
 -- ---- of enums
 
 pub set-back : (set : AttributeSet) → set_of (set_number set) ≡ set
 set-back set = bare-back sets tt At.Value set
 
-pub set-past : (n : ℕ) → 65 ≤ n → set_of n ≡ At.Value
+pub set-past : (n : ℕ) → 81 ≤ n → set_of n ≡ At.Value
 set-past n le = bare-past sets tt At.Value n le
 
 form-back : (form : InfoForm) → form_of (form_number form) ≡ form
@@ -48,6 +54,24 @@ port-below form = omega (arith, bare-below ports tt PortKept form)
 
 pub port-past : (n : ℕ) → 4 ≤ n → port_form_of n ≡ PortKept
 port-past n le = bare-past ports tt PortKept n le
+
+tc-back : (form : TcForm) → tc_form_of (tc_form_number form) ≡ form
+tc-back form = bare-back disciplines tt TcKept form
+
+tc-below : (form : TcForm) → tc_form_number form < 256
+tc-below form = omega (arith, bare-below disciplines tt TcKept form)
+
+pub tc-past : (n : ℕ) → 7 ≤ n → tc_form_of n ≡ TcKept
+tc-past n le = bare-past disciplines tt TcKept n le
+
+action-back : (form : TcActionForm) → tc_action_form_of (tc_action_form_number form) ≡ form
+action-back form = bare-back actions tt ActionKept form
+
+action-below : (form : TcActionForm) → tc_action_form_number form < 256
+action-below form = omega (arith, bare-below actions tt ActionKept form)
+
+pub action-past : (n : ℕ) → 4 ≤ n → tc_action_form_of n ≡ ActionKept
+action-past n le = bare-past actions tt ActionKept n le
 
 -- ---- of families and types
 
@@ -167,6 +191,19 @@ back-by At.InfoIpTunnel c from =
     let back = ap form_of (byte-below (form_number c.link) (form-below c.link)) ∙ form-back c.link in
     (λ i. record { set = At.InfoIpTunnel; context = record no_context { link = back i } })
     ∙ ap (λ (o : Context). record { set = At.InfoIpTunnel; context = o }) (sym from.no_more)
+back-by At.Tc c from =
+    let back = ap tc_form_of (byte-below (tc_form_number c.tc) (tc-below c.tc)) ∙ tc-back c.tc in
+    (λ i. record { set = At.Tc; context = record no_context { tc = back i } })
+    ∙ ap (λ (o : Context). record { set = At.Tc; context = o }) (sym from.no_more)
+back-by At.TcStats2 c from =
+    let back = ap tc_form_of (byte-below (tc_form_number c.tc) (tc-below c.tc)) ∙ tc-back c.tc in
+    (λ i. record { set = At.TcStats2; context = record no_context { tc = back i } })
+    ∙ ap (λ (o : Context). record { set = At.TcStats2; context = o }) (sym from.no_more)
+back-by At.TcAction c from =
+    let k = tc_action_form_number c.tc_action in
+    let back = ap tc_action_form_of (byte-below k (action-below c.tc_action)) ∙ action-back c.tc_action in
+    (λ i. record { set = At.TcAction; context = record no_context { tc_action = back i } })
+    ∙ ap (λ (o : Context). record { set = At.TcAction; context = o }) (sym from.no_more)
 back-by At.Value c from = let own = from.own in absurd cc
 back-by At.Mpls c from = let own = from.own in absurd cc
 back-by At.Ip c from = let own = from.own in absurd cc

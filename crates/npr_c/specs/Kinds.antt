@@ -2,10 +2,10 @@
 use Rattle.std.specs.Prelude.{ℕ, List, [], ◌∷◌, Option, Some, None}
 use Rattle.npr_base.specs.Rows.{form_in}
 use Rattle.netlink_packet_route.specs.MessageKind.{kind_of_type}
-use Rattle.netlink_packet_route.specs.RouteNetlinkMessage.{type_of}
+use Rattle.netlink_packet_route.specs.MessageTypes.{type_of}
 use Rattle.netlink_packet_route.specs.declared.kind.MessageKind.{MessageKind}
 use Rattle.netlink_packet_route.specs.declared.kind.MessageKind.TheVariants.{Address, Route, Rule, Neighbour, Link}
-use Rattle.netlink_packet_route.specs.declared.kind.MessageKind.TheVariants.{NextHop, Nsid, Netconf, AddressLabel, NeighbourTable, Prefix}
+use Rattle.netlink_packet_route.specs.declared.kind.MessageKind.TheVariants.{NextHop, Nsid, Netconf, AddressLabel, NeighbourTable, Prefix, Tc, TcAction}
 
 -- the number of the refusal of a kind, behind those of datagrams
 abbrev pub unknown_kind : ℕ
@@ -23,6 +23,8 @@ kind_number Netconf = 8
 kind_number AddressLabel = 9
 kind_number NeighbourTable = 10
 kind_number Prefix = 11
+kind_number Tc = 12
+kind_number TcAction = 13
 
 abbrev pub numbered : MessageKind → ℕ × Option MessageKind
 numbered kind = (kind_number kind, Some kind)
@@ -30,7 +32,7 @@ numbered kind = (kind_number kind, Some kind)
 abbrev pub kinds : List (ℕ × Option MessageKind)
 kinds =
     numbered Address ∷ numbered Route ∷ numbered Rule ∷ numbered Neighbour ∷ numbered Link ∷ numbered NextHop ∷ numbered Nsid
-    ∷ numbered Netconf ∷ numbered AddressLabel ∷ numbered NeighbourTable ∷ numbered Prefix ∷ []
+    ∷ numbered Netconf ∷ numbered AddressLabel ∷ numbered NeighbourTable ∷ numbered Prefix ∷ numbered Tc ∷ numbered TcAction ∷ []
 
 -- the kind of a number, if it is that of one
 abbrev pub kind_at : ℕ → Option MessageKind

@@ -6,16 +6,22 @@ use Rattle.std.specs.Prelude.{ℕ, ◌+◌, ◌*◌, ◌/◌, ◌%◌}
 use Rattle.npr_base.specs.contracts.refusal.AttributeSet.{the_type as the_sets, enum as sets}
 use Rattle.npr_link.specs.contracts.port_kind.InfoPortForm.{the_type as the_ports, enum as ports}
 use Rattle.npr_link_tunnels.specs.contracts.form.InfoForm.{the_type as the_links, enum as links}
+use Rattle.npr_tc_actions.specs.contracts.form.TcActionForm.{the_type as the_actions, enum as actions}
+use Rattle.npr_tc_qdiscs.specs.contracts.form.TcForm.{the_type as the_disciplines, enum as disciplines}
 use Rattle.netlink_packet_route.specs.AddressFamily.{families}
 use Rattle.netlink_packet_route.specs.EncapType.{encap_types}
 use Rattle.netlink_packet_route.specs.Nests.{listed, nest_in, told_set}
 use Rattle.netlink_packet_route.specs.RouteType.{route_types}
 use Rattle.netlink_packet_route.specs.declared.framing.AttributeSet.{AttributeSet}
-use Rattle.netlink_packet_route.specs.declared.framing.AttributeSet.TheVariants.{Value, Route, NextHop, Encap, LinkInfo, InfoIpTunnel}
+use Rattle.netlink_packet_route.specs.declared.framing.AttributeSet.TheVariants.{Value, Route, NextHop, Encap, LinkInfo, InfoIpTunnel, Tc, TcStats2, TcAction}
 use Rattle.netlink_packet_route.specs.declared.link.InfoForm.{InfoForm}
 use Rattle.netlink_packet_route.specs.declared.link.InfoForm.TheVariants.{Kept}
 use Rattle.netlink_packet_route.specs.declared.link.InfoPortForm.{InfoPortForm}
 use Rattle.netlink_packet_route.specs.declared.link.InfoPortForm.TheVariants.{Kept as PortKept}
+use Rattle.netlink_packet_route.specs.declared.tc.TcActionForm.{TcActionForm}
+use Rattle.netlink_packet_route.specs.declared.tc.TcActionForm.TheVariants.{Kept as ActionKept}
+use Rattle.netlink_packet_route.specs.declared.tc.TcForm.{TcForm}
+use Rattle.netlink_packet_route.specs.declared.tc.TcForm.TheVariants.{Kept as TcKept}
 use Rattle.netlink_packet_route.specs.declared.context.Context.{Context}
 use Rattle.netlink_packet_route.specs.declared.nests.Nest.{Nest}
 use Rattle.npr_c.specs.Bare.{bare_of}
@@ -40,12 +46,28 @@ port_form_number form = tag_of the_ports form
 abbrev pub port_form_of : ℕ → InfoPortForm
 port_form_of n = bare_of ports tt PortKept n
 
+-- what governs a message of traffic control, and the options of an action
+abbrev pub tc_form_number : TcForm → ℕ
+tc_form_number form = tag_of the_disciplines form
+
+abbrev pub tc_form_of : ℕ → TcForm
+tc_form_of n = bare_of disciplines tt TcKept n
+
+abbrev pub tc_action_form_number : TcActionForm → ℕ
+tc_action_form_number form = tag_of the_actions form
+
+abbrev pub tc_action_form_of : ℕ → TcActionForm
+tc_action_form_of n = bare_of actions tt ActionKept n
+
 -- a family in the lowest byte, the type of a route in the next, and that of an encapsulation above both; or that of an encapsulation
--- alone; or what governs the data of a link in the lowest byte, and of a port in the next
+-- alone; or what governs the data of a link in the lowest byte, and of a port in the next; or what governs in traffic control
 abbrev pub context_number : AttributeSet → Context → ℕ
 context_number Encap c = encap_types.number c.encap_type
 context_number LinkInfo c = form_number c.link + 256 * port_form_number c.port
 context_number InfoIpTunnel c = form_number c.link
+context_number Tc c = tc_form_number c.tc
+context_number TcStats2 c = tc_form_number c.tc
+context_number TcAction c = tc_action_form_number c.tc_action
 context_number set c = families.number c.family + 256 * route_types.number c.route_type + 65536 * encap_types.number c.encap_type
 
 abbrev pub nest_set : Nest → ℕ
@@ -68,6 +90,8 @@ context_of set n = record {
   encap_type = encap_types.of (encap_part set n);
   link = form_of (n % 256);
   port = port_form_of (n / 256 % 256);
+  tc = tc_form_of (n % 256);
+  tc_action = tc_action_form_of (n % 256);
 }
 
 -- a set without a list of its own is that of the members of an encapsulation

@@ -27,6 +27,8 @@ pub fn kind_at(number: u32) -> Option<MessageKind>
         9 => Some(MessageKind::AddressLabel),
         10 => Some(MessageKind::NeighbourTable),
         11 => Some(MessageKind::Prefix),
+        12 => Some(MessageKind::Tc),
+        13 => Some(MessageKind::TcAction),
         _ => None,
     }
 }
@@ -47,6 +49,8 @@ fn kind_number(kind: MessageKind) -> u32
         MessageKind::AddressLabel => 9,
         MessageKind::NeighbourTable => 10,
         MessageKind::Prefix => 11,
+        MessageKind::Tc => 12,
+        MessageKind::TcAction => 13,
     }
 }
 

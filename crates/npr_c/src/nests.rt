@@ -14,11 +14,16 @@ ghost use Rattle.npr_c.specs.Nests.{
   port_form_of,
   set_number,
   set_of,
+  tc_action_form_number,
+  tc_action_form_of,
+  tc_form_number,
+  tc_form_of,
 };
 
 use netlink_packet_route::framing::AttributeSet;
 use netlink_packet_route::link::{InfoForm, InfoPortForm};
 use netlink_packet_route::route::{RouteLwEnCapType, RouteType};
+use netlink_packet_route::tc::{TcActionForm, TcForm};
 use netlink_packet_route::{AddressFamily, Context, Nest, numbers};
 
 /// The number of a set of attributes, as refusals tell it.
@@ -98,6 +103,22 @@ pub fn set_of(number: u32) -> AttributeSet
         62 => AttributeSet::NeighbourTableParameter,
         63 => AttributeSet::AddressLabel,
         64 => AttributeSet::Encap,
+        65 => AttributeSet::Tc,
+        66 => AttributeSet::TcStats2,
+        67 => AttributeSet::TcStab,
+        68 => AttributeSet::TcQdiscIngress,
+        69 => AttributeSet::TcQdiscFqCodel,
+        70 => AttributeSet::TcFilterU32,
+        71 => AttributeSet::TcFilterMatchAll,
+        72 => AttributeSet::TcFilterFlower,
+        73 => AttributeSet::TcFilterFlowerMpls,
+        74 => AttributeSet::TcFilterFlowerMplsLse,
+        75 => AttributeSet::TcActionMessage,
+        76 => AttributeSet::TcAction,
+        77 => AttributeSet::TcActionMirror,
+        78 => AttributeSet::TcActionNat,
+        79 => AttributeSet::TcActionTunnelKey,
+        80 => AttributeSet::TcActions,
         _ => AttributeSet::Value,
     }
 }
@@ -146,6 +167,33 @@ fn port_form_of(number: u32) -> InfoPortForm
     }
 }
 
+fn tc_form_of(number: u32) -> TcForm
+    ensures { result ≡ tc_form_of number }
+{
+    match number {
+        0 => TcForm::Kept,
+        1 => TcForm::FqCodel,
+        2 => TcForm::Ingress,
+        3 => TcForm::Clsact,
+        4 => TcForm::U32,
+        5 => TcForm::Flower,
+        6 => TcForm::MatchAll,
+        _ => TcForm::Kept,
+    }
+}
+
+fn tc_action_form_of(number: u32) -> TcActionForm
+    ensures { result ≡ tc_action_form_of number }
+{
+    match number {
+        0 => TcActionForm::Kept,
+        1 => TcActionForm::Mirror,
+        2 => TcActionForm::Nat,
+        3 => TcActionForm::TunnelKey,
+        _ => TcActionForm::Kept,
+    }
+}
+
 /// What the attributes of a set rest on.
 fn context_number(set: AttributeSet, context: Context) -> u32
     ensures { result ≡ context_number set context }
@@ -154,6 +202,8 @@ fn context_number(set: AttributeSet, context: Context) -> u32
         AttributeSet::Encap => u32::from(numbers::encap_type(context.encap_type)),
         AttributeSet::LinkInfo => context.link as u32 + 256 * (context.port as u32),
         AttributeSet::InfoIpTunnel => context.link as u32,
+        AttributeSet::Tc | AttributeSet::TcStats2 => context.tc as u32,
+        AttributeSet::TcAction => context.tc_action as u32,
         _ => {
             let family_number = u32::from(numbers::address_family(context.family));
             let type_number = u32::from(numbers::route_type(context.route_type));
@@ -196,6 +246,8 @@ fn context_of(set: AttributeSet, context: u32) -> Context
         encap_type: RouteLwEnCapType::from(encap_part(set, context) as u16),
         link: form_of(context % 256),
         port: port_form_of(context / 256 % 256),
+        tc: tc_form_of(context % 256),
+        tc_action: tc_action_form_of(context % 256),
     }
 }
 

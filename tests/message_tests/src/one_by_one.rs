@@ -78,5 +78,7 @@ fn a_type_has_a_kind() -> Result<(), Fail> {
         Some(MessageKind::NeighbourTable),
     )?;
     same(MessageType::of(118).kind(), Some(MessageKind::NextHop))?;
-    same(MessageType::of(36).kind(), None)
+    same(MessageType::of(102).kind(), Some(MessageKind::Tc))?;
+    same(MessageType::of(50).kind(), Some(MessageKind::TcAction))?;
+    same(MessageType::of(84).kind(), None)
 }

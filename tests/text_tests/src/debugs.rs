@@ -6,6 +6,7 @@ use netlink_packet_route::address::{
     AddressScope, CacheInfo,
 };
 use netlink_packet_route::framing::Looks;
+use netlink_packet_route::nsid::NsidMessage;
 use netlink_packet_route::route::{
     Ioam6Mode, Ioam6TraceHdr, RouteAddress, RouteAttribute, RouteErspanOpt, RouteFlags,
     RouteGeneveOpt, RouteHeader, RouteIoam6Tunnel, RouteIp6Tunnel, RouteIp6TunnelFlags,
@@ -16,7 +17,7 @@ use netlink_packet_route::route::{
     Seg6LocalAction, Seg6LocalSrh, Seg6Mode,
 };
 use netlink_packet_route::rule::{
-    RuleAction, RuleAttribute, RuleFlags, RuleHeader, RulePortRange, RuleUidRange,
+    RuleAction, RuleAttribute, RuleFlags, RuleHeader, RuleMessage, RulePortRange, RuleUidRange,
 };
 use netlink_packet_route::{AddressFamily, IpProtocol, MessageKind};
 use npr_testing::{LABEL, shows};
@@ -172,4 +173,15 @@ fn new_values(rt: HostRuntime) -> Result<(), Fail> {
         flags: 0, tag: 0, segments: [] }, RplSrh { next_header: 0, routing_type: 0, \
         segments_left: 0, cmpri: 0, cmpre: 0, pad: 0, segments: [] })";
     shows(&rt, values, text)
+}
+
+/// A message begins with its own name, as upstream's, whose messages are structures of their own.
+#[test]
+fn messages(rt: HostRuntime) -> Result<(), Fail> {
+    let messages = (RuleMessage::new(rt.alloc()), NsidMessage::new(rt.alloc()));
+    let text =
+        "(RuleMessage { header: RuleHeader { family: Unspec, dst_len: 0, src_len: 0, tos: 0, table: 0, \
+        action: Unspec, flags: RuleFlags(0) }, attributes: [] }, NsidMessage { header: NsidHeader { family: \
+        Unspec }, attributes: [] })";
+    shows(&rt, messages, text)
 }

@@ -26,7 +26,7 @@ fn word_of(message: &NetlinkMessage<RouteNetlinkMessage>) -> &'static str {
         NetlinkPayload::Overrun(_) => "overrun",
         NetlinkPayload::InnerMessage(RouteNetlinkMessage::NewRule(_)) => "rule",
         NetlinkPayload::InnerMessage(RouteNetlinkMessage::Other(other))
-            if other.message_type == 36 && other.payload.len() == 17 => "other",
+            if other.message_type == 84 && other.payload.len() == 17 => "other",
         _ => "something else",
     }
 }
@@ -76,7 +76,7 @@ fn a_datagram_is_read_by_type(rt: HostRuntime) -> Result<(), Fail> {
         "34000000 20000200 07000000 9c6c0000 0a000000 ff000001 00000000",
         "08000f00 ff000000 08000e00 ffffffff 05001500 02000000",
         "14000000 03000200 07000000 9c6c0000 00000000",
-        "21000000 24000000 00000000 00000000 00000100 02000000 03000000 00000000 04000000",
+        "21000000 54000000 00000000 00000000 00000100 02000000 03000000 00000000 04000000",
     ];
     let bytes = bytes_of(&rt, texts.as_slice())?;
     let (words, written) = rewritten(rt.alloc(), bytes.as_slice())?;
@@ -242,8 +242,8 @@ fn payloads_are_read_by_type(rt: HostRuntime) -> Result<(), Fail> {
     let done = "Done(DoneMessage { code: 0, extended_ack: [] })";
     is_payload(&rt, NLMSG_DONE, "00000000", done)?;
     is_payload(&rt, NLMSG_OVERRUN, "c0ffee", "Overrun([192, 255, 238])")?;
-    let other = "InnerMessage(Other(OtherMessage { message_type: 36, payload: [] }))";
-    is_payload(&rt, 36, "", other)
+    let other = "InnerMessage(Other(OtherMessage { message_type: 84, payload: [] }))";
+    is_payload(&rt, 84, "", other)
 }
 
 /// A code and the bytes behind it, by themselves.

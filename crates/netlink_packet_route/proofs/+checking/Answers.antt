@@ -14,7 +14,8 @@ use Rattle.netlink_packet_route.specs.NestLists.{IsListAt, ListFaultAt}
 use Rattle.netlink_packet_route.proofs.LeftLaws.{left-all, left-on, left-through, hop-on, hop-reached, hops-wrong-alone, left-ends, left-stops, left-wrong}
 use Rattle.netlink_packet_route.proofs.LeftLaws.{left-more, left-taken, hop-stops, hop-leads}
 use Rattle.netlink_packet_route.specs.Pending.{Pending, AreLeft, LeftWrong, LeftLeads, HopLeads}
-use Rattle.netlink_packet_route.specs.Nests.{Inner, holds_hops, reading_of}
+use Rattle.netlink_packet_route.specs.Nests.{Inner, holds_hops, reading_of, within}
+use Rattle.netlink_packet_route.specs.declared.context.Context.{Context}
 use Rattle.netlink_packet_route.proofs.+checking.Goals as goal
 
 -- ---- lists
@@ -69,7 +70,9 @@ nests::Nest::check_attribute-returns-else-value-front-clause-ok t c =
     (sym (ap (λ (f : At × Form). f.1) c.form-form.ensures) ∙ c.in-List.is) in
     let same = c.value-value.ensures in
     let long = subst (λ (v : List ℕ). front ≤ length v) same (omega (arith, c.if-value-front.false)) in
-    let named = subst (λ (v : List ℕ). Inner self.context set v c.inner.result) same c.inner.ensures in
+    let outer : Context = within self.set self.context in
+    let of_outer = subst (λ (d : Context). Inner d set c.value-value.result.now c.inner.result) c.within-outer.ensures c.inner.ensures in
+    let named = subst (λ (v : List ℕ). Inner outer set v c.inner.result) same of_outer in
     let rest = behind front c.value-value.result.now ∙ ap (drop front) same in
     IfOk-weaker c.check.result _ _
     (λ u list. list-read self item set front form c.inner.result named long (subst (λ (b : List ℕ). IsListAt c.inner.result b) rest list))
@@ -85,7 +88,9 @@ nests::Nest::check_attribute-returns-else-value-front-clause-refused t c =
     (sym (ap (λ (f : At × Form). f.1) c.form-form.ensures) ∙ c.in-List.is) in
     let same = c.value-value.ensures in
     let long = subst (λ (v : List ℕ). front ≤ length v) same (omega (arith, c.if-value-front.false)) in
-    let named = subst (λ (v : List ℕ). Inner self.context set v c.inner.result) same c.inner.ensures in
+    let outer : Context = within self.set self.context in
+    let of_outer = subst (λ (d : Context). Inner d set c.value-value.result.now c.inner.result) c.within-outer.ensures c.inner.ensures in
+    let named = subst (λ (v : List ℕ). Inner outer set v c.inner.result) same of_outer in
     let rest = behind front c.value-value.result.now ∙ ap (drop front) same in
     IfErr-weaker c.check.result _ _
     (λ e bad. list-faulty self item set front form c.inner.result e named long (subst (λ (b : List ℕ). ListFaultAt c.inner.result b e) rest bad))

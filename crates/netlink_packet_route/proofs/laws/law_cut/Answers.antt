@@ -20,3 +20,6 @@ returns-clause-neighbour_table c = c.law_cut-10.ensures tt
 
 pub returns-clause-prefix : goal.returns-clause-prefix
 returns-clause-prefix c = c.law_cut-11.ensures tt
+
+pub returns-clause-tc_action : goal.returns-clause-tc_action
+returns-clause-tc_action c = c.law_cut-13.ensures tt

@@ -13,6 +13,8 @@ use Rattle.npr_small.specs.NeighbourTableMessage.{neighbour_tables}
 use Rattle.npr_small.specs.NetconfMessage.{netconfs}
 use Rattle.npr_small.specs.NsidMessage.{nsids}
 use Rattle.npr_small.specs.PrefixMessage.{prefixes}
+use Rattle.npr_tc.specs.ActionMessage.{messages as action_messages}
+use Rattle.npr_tc.specs.Message.{messages as tc_messages}
 use Rattle.netlink_packet_route.specs.RouteNetlinkMessage.{message, other_of, meaning_of}
 use Rattle.netlink_packet_route.specs.contracts.message.RouteNetlinkMessage.{enum}
 use Rattle.netlink_packet_route.specs.declared.message_type.Action.TheVariants.{New, Del, Get}
@@ -20,6 +22,8 @@ use Rattle.netlink_packet_route.specs.declared.message_type.MessageType.TheVaria
 use Rattle.netlink_packet_route.specs.declared.message_type.MessageType.TheVariants.{NewNeighbourTable, GetNeighbourTable, SetNeighbourTable}
 use Rattle.netlink_packet_route.specs.declared.message_type.Subject.TheVariants.{Link, Address, Route, Neighbour, Rule, AddressLabel, Netconf, Nsid}
 use Rattle.netlink_packet_route.specs.declared.message_type.Subject.TheVariants.{NextHop, LinkProp, NextHopBucket}
+use Rattle.netlink_packet_route.specs.declared.message_type.Subject.TheVariants.{QueueDiscipline, TrafficClass, TrafficFilter, TrafficChain}
+use Rattle.netlink_packet_route.specs.declared.message_type.Subject.TheVariants.{TrafficAction}
 use Rattle.netlink_packet_route.proofs.EqualityLaws.{order, action_order, message_one, other_by, other_one, other_equality}
 use Rattle.netlink_packet_route.proofs.laws.law_rtnetlink_equality.Goals as goal
 
@@ -46,6 +50,18 @@ returns-clause-inner c =
     (λ x. refl, one_meaning (view rules) (message (Of Rule New)) c.law_equality-3.ensures.message (message_one (Of Rule New))) also
     (λ x. refl, one_meaning (view rules) (message (Of Rule Del)) c.law_equality-3.ensures.message (message_one (Of Rule Del))) also
     (λ x. refl, one_meaning (view rules) (message (Of Rule Get)) c.law_equality-3.ensures.message (message_one (Of Rule Get))) also
+    (λ x. refl, one_meaning (view tc_messages) (message (Of QueueDiscipline New)) c.law_equality_of_meanings-4.ensures.message (message_one (Of QueueDiscipline New))) also
+    (λ x. refl, one_meaning (view tc_messages) (message (Of QueueDiscipline Del)) c.law_equality_of_meanings-4.ensures.message (message_one (Of QueueDiscipline Del))) also
+    (λ x. refl, one_meaning (view tc_messages) (message (Of QueueDiscipline Get)) c.law_equality_of_meanings-4.ensures.message (message_one (Of QueueDiscipline Get))) also
+    (λ x. refl, one_meaning (view tc_messages) (message (Of TrafficClass New)) c.law_equality_of_meanings-4.ensures.message (message_one (Of TrafficClass New))) also
+    (λ x. refl, one_meaning (view tc_messages) (message (Of TrafficClass Del)) c.law_equality_of_meanings-4.ensures.message (message_one (Of TrafficClass Del))) also
+    (λ x. refl, one_meaning (view tc_messages) (message (Of TrafficClass Get)) c.law_equality_of_meanings-4.ensures.message (message_one (Of TrafficClass Get))) also
+    (λ x. refl, one_meaning (view tc_messages) (message (Of TrafficFilter New)) c.law_equality_of_meanings-4.ensures.message (message_one (Of TrafficFilter New))) also
+    (λ x. refl, one_meaning (view tc_messages) (message (Of TrafficFilter Del)) c.law_equality_of_meanings-4.ensures.message (message_one (Of TrafficFilter Del))) also
+    (λ x. refl, one_meaning (view tc_messages) (message (Of TrafficFilter Get)) c.law_equality_of_meanings-4.ensures.message (message_one (Of TrafficFilter Get))) also
+    (λ x. refl, one_meaning (view action_messages) (message (Of TrafficAction New)) c.law_equality_of_meanings-4.ensures.action_message (message_one (Of TrafficAction New))) also
+    (λ x. refl, one_meaning (view action_messages) (message (Of TrafficAction Del)) c.law_equality_of_meanings-4.ensures.action_message (message_one (Of TrafficAction Del))) also
+    (λ x. refl, one_meaning (view action_messages) (message (Of TrafficAction Get)) c.law_equality_of_meanings-4.ensures.action_message (message_one (Of TrafficAction Get))) also
     (λ x. refl, one_meaning (view prefixes) (message NewPrefix) c.law_equality_of_meanings-2.ensures.prefix_message (message_one NewPrefix)) also
     (λ x. refl, one_meaning (view neighbour_tables) (message NewNeighbourTable) c.law_equality_of_meanings-2.ensures.neighbour_table_message (message_one NewNeighbourTable)) also
     (λ x. refl, one_meaning (view neighbour_tables) (message GetNeighbourTable) c.law_equality_of_meanings-2.ensures.neighbour_table_message (message_one GetNeighbourTable)) also
@@ -59,6 +75,9 @@ returns-clause-inner c =
     (λ x. refl, one_meaning (view nsids) (message (Of Nsid New)) c.law_equality_of_meanings-2.ensures.nsid_message (message_one (Of Nsid New))) also
     (λ x. refl, one_meaning (view nsids) (message (Of Nsid Del)) c.law_equality_of_meanings-2.ensures.nsid_message (message_one (Of Nsid Del))) also
     (λ x. refl, one_meaning (view nsids) (message (Of Nsid Get)) c.law_equality_of_meanings-2.ensures.nsid_message (message_one (Of Nsid Get))) also
+    (λ x. refl, one_meaning (view tc_messages) (message (Of TrafficChain New)) c.law_equality_of_meanings-4.ensures.message (message_one (Of TrafficChain New))) also
+    (λ x. refl, one_meaning (view tc_messages) (message (Of TrafficChain Del)) c.law_equality_of_meanings-4.ensures.message (message_one (Of TrafficChain Del))) also
+    (λ x. refl, one_meaning (view tc_messages) (message (Of TrafficChain Get)) c.law_equality_of_meanings-4.ensures.message (message_one (Of TrafficChain Get))) also
     (λ x. refl, one_meaning (view next_hops) (message (Of NextHop New)) c.law_equality_of_meanings-3.ensures.message (message_one (Of NextHop New))) also
     (λ x. refl, one_meaning (view next_hops) (message (Of NextHop Del)) c.law_equality_of_meanings-3.ensures.message (message_one (Of NextHop Del))) also
     (λ x. refl, one_meaning (view next_hops) (message (Of NextHop Get)) c.law_equality_of_meanings-3.ensures.message (message_one (Of NextHop Get))) also

@@ -8,6 +8,8 @@ use Rattle.npr_rule.specs.Message.{rules}
 use Rattle.npr_small.specs.AddressLabelMessage.{address_labels}
 use Rattle.npr_small.specs.NetconfMessage.{netconfs}
 use Rattle.npr_small.specs.NsidMessage.{nsids}
+use Rattle.npr_tc.specs.ActionMessage.{messages as action_messages}
+use Rattle.npr_tc.specs.Message.{messages as tc_messages}
 use Rattle.netlink_packet_route.proofs.message.read_on.Goals as goal
 
 pub returns-in_ok-parse-in-Link-clause-ok : goal.returns-in_ok-parse-in-Link-clause-ok
@@ -64,3 +66,28 @@ pub returns-in_ok-parse-in-NextHopBucket-clause-ok : goal.returns-in_ok-parse-in
 returns-in_ok-parse-in-NextHopBucket-clause-ok c =
     let read = c.in_ok-parse-in-NextHopBucket in
     rw c.in-NextHopBucket.is (view next_hops read.field-0, read.ensures.ok, c.on_bucket.ensures)
+
+pub returns-in_ok-parse-in-QueueDiscipline-clause-ok : goal.returns-in_ok-parse-in-QueueDiscipline-clause-ok
+returns-in_ok-parse-in-QueueDiscipline-clause-ok c =
+    let read = c.in_ok-parse-in-QueueDiscipline in
+    rw c.in-QueueDiscipline.is (view tc_messages read.field-0, read.ensures.ok, c.under-in-QueueDiscipline.ensures)
+
+pub returns-in_ok-parse-in-TrafficClass-clause-ok : goal.returns-in_ok-parse-in-TrafficClass-clause-ok
+returns-in_ok-parse-in-TrafficClass-clause-ok c =
+    let read = c.in_ok-parse-in-TrafficClass in
+    rw c.in-TrafficClass.is (view tc_messages read.field-0, read.ensures.ok, c.on_class.ensures)
+
+pub returns-in_ok-parse-in-TrafficFilter-clause-ok : goal.returns-in_ok-parse-in-TrafficFilter-clause-ok
+returns-in_ok-parse-in-TrafficFilter-clause-ok c =
+    let read = c.in_ok-parse-in-TrafficFilter in
+    rw c.in-TrafficFilter.is (view tc_messages read.field-0, read.ensures.ok, c.on_filter.ensures)
+
+pub returns-in_ok-parse-in-TrafficChain-clause-ok : goal.returns-in_ok-parse-in-TrafficChain-clause-ok
+returns-in_ok-parse-in-TrafficChain-clause-ok c =
+    let read = c.in_ok-parse-in-TrafficChain in
+    rw c.in-TrafficChain.is (view tc_messages read.field-0, read.ensures.ok, c.on_chain.ensures)
+
+pub returns-in_ok-parse-in-TrafficAction-clause-ok : goal.returns-in_ok-parse-in-TrafficAction-clause-ok
+returns-in_ok-parse-in-TrafficAction-clause-ok c =
+    let read = c.in_ok-parse-in-TrafficAction in
+    rw c.in-TrafficAction.is (view action_messages read.field-0, read.ensures.ok, c.under-in-TrafficAction.ensures)

@@ -1,7 +1,7 @@
 use Rattle.std.proofs.Common.{◌≡◌, ap, sym, ◌∙◌, arith}
 use Rattle.std.specs.Prelude.{is_some}
 use Rattle.netlink_packet_route.specs.MessageKind.{kind_of_type}
-use Rattle.netlink_packet_route.specs.RouteNetlinkMessage.{type_of}
+use Rattle.netlink_packet_route.specs.MessageTypes.{type_of}
 use Rattle.netlink_report.proofs.Places.{envelope-begins, envelope-fits, no-envelope}
 use Rattle.netlink_report.proofs.envelope.is_envelope.Goals as goal
 use Rattle.netlink_report.proofs.envelope.is_envelope.Goals.{then-length-lt-NETLINK_HEADER_LEN-via-then-length-lt-NETLINK_HEADER_LEN, then-length-lt-NETLINK_HEADER_LEN-via-else-length-lt-NETLINK_HEADER_LEN+then-length-bytes}

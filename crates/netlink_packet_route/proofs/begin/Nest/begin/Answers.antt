@@ -3,9 +3,10 @@ use Rattle.npr_base.specs.declared.address_family.AddressFamily.{AddressFamily}
 use Rattle.npr_base.specs.declared.refusal.AttributeSet.TheVariants as At
 use Rattle.netlink_packet_route.specs.MessageKind.{begun, form_of, of_family}
 use Rattle.netlink_packet_route.specs.Nests.{FromBytes}
-use Rattle.netlink_packet_route.proofs.NumberLaws.{link-bytes, link-number, neighbour-bytes, neighbour-number, next-hop-bytes, plain-bytes, route-bytes}
+use Rattle.netlink_packet_route.proofs.NumberLaws.{link-bytes, link-number, neighbour-bytes, neighbour-number, next-hop-bytes}
+use Rattle.netlink_packet_route.proofs.NumberLaws.{plain-bytes, route-bytes, tc-bytes}
 use Rattle.netlink_packet_route.specs.declared.kind.MessageKind.TheVariants as Kind
-use Rattle.netlink_packet_route.proofs.nests.Nest.begin.Goals as goal
+use Rattle.netlink_packet_route.proofs.begin.Nest.begin.Goals as goal
 
 pub returns-in_ok-attributes-in-Address-clause-ok : goal.returns-in_ok-attributes-in-Address-clause-ok
 returns-in_ok-attributes-in-Address-clause-ok c =
@@ -69,6 +70,24 @@ returns-in_ok-attributes-in-Prefix-clause-ok c =
 
 pub returns-in_ok-attributes-in-Prefix-clause-numbers : goal.returns-in_ok-attributes-in-Prefix-clause-numbers
 returns-in_ok-attributes-in-Prefix-clause-numbers c = plain-bytes At.Prefix refl refl
+
+pub returns-in_ok-attributes-in-TcAction-clause-ok : goal.returns-in_ok-attributes-in-TcAction-clause-ok
+returns-in_ok-attributes-in-TcAction-clause-ok c =
+    let found = c.in_ok-attributes-in-TcAction in
+    let (h, reads, behind, governs) = found.ensures.ok in
+    rw c.in-TcAction.is (begun (form_of Kind.TcAction) c.args.bytes.now h found.attributes.now tt reads behind refl)
+
+pub returns-in_ok-attributes-in-TcAction-clause-numbers : goal.returns-in_ok-attributes-in-TcAction-clause-numbers
+returns-in_ok-attributes-in-TcAction-clause-numbers c = plain-bytes At.TcActionMessage refl refl
+
+pub returns-in_ok-tc-in-Tc-clause-ok : goal.returns-in_ok-tc-in-Tc-clause-ok
+returns-in_ok-tc-in-Tc-clause-ok c =
+    let found = c.in_ok-tc-in-Tc in
+    let (h, reads, behind, governs) = found.ensures.ok in
+    rw c.in-Tc.is (begun (form_of Kind.Tc) c.args.bytes.now h found.attributes.now found.tc reads behind governs)
+
+pub returns-in_ok-tc-in-Tc-clause-numbers : goal.returns-in_ok-tc-in-Tc-clause-numbers
+returns-in_ok-tc-in-Tc-clause-numbers c = tc-bytes c.in_ok-tc-in-Tc.tc
 
 pub returns-in_ok-told-in-Route-clause-ok : goal.returns-in_ok-told-in-Route-clause-ok
 returns-in_ok-told-in-Route-clause-ok c =
