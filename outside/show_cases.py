@@ -12,7 +12,7 @@ SHOW_USAGE = b"usage: nlshow [--json | --count] [--numeric] [--hex] [--as KIND] 
 LINK_MESSAGE = bytes.fromhex("28000000100000000000000000000000" "00000100020000000000000000000000" "0700030064300000")
 ROUTE_BY_LINK = bytes.fromhex("24000000180000000000000000000000" "02000000fe03000100000000" "0800040002000000")
 COUNTS = (b"bytes 40\naddresses 0\nroutes 0\nrules 0\nneighbours 0\nlinks 0\nnexthops 0\nnsids 0\nnetconfs 0\naddress-labels 0\nneighbour-tables 0\n"
-          b"prefixes 0\nothers 0\ncontrols 2\nrefused 0\n")
+          b"prefixes 0\ntc 0\ntc-actions 0\nothers 0\ncontrols 2\nrefused 0\n")
 # a bucket of a group of next hops, and a request for tables of neighbours
 BUCKET = bytes.fromhex("40000000740000000000000000000000" "0000000000000000" "0800010006000000"
                        "20000d80" "0600010000000000" "080003000e000000" "0c000200d101000000000000")

@@ -32,6 +32,10 @@ pub struct Counts {
     pub neighbour_tables: u64,
     /// Of prefixes that routers told.
     pub prefixes: u64,
+    /// Of queueing disciplines, classes, filters and chains.
+    pub traffic: u64,
+    /// Of actions of traffic control.
+    pub traffic_actions: u64,
     /// Of types that the library has no message for.
     pub others: u64,
     /// Ends, errors and the like.
@@ -65,6 +69,8 @@ impl Counts {
             Some(MessageKind::AddressLabel) => &mut self.address_labels,
             Some(MessageKind::NeighbourTable) => &mut self.neighbour_tables,
             Some(MessageKind::Prefix) => &mut self.prefixes,
+            Some(MessageKind::Tc) => &mut self.traffic,
+            Some(MessageKind::TcAction) => &mut self.traffic_actions,
             None => &mut self.others,
         };
         *count = count.saturating_add(1);
@@ -88,6 +94,8 @@ impl Counts {
             ("address-labels", self.address_labels),
             ("neighbour-tables", self.neighbour_tables),
             ("prefixes", self.prefixes),
+            ("tc", self.traffic),
+            ("tc-actions", self.traffic_actions),
             ("others", self.others),
             ("controls", self.controls),
             ("refused", self.refused),

@@ -16,6 +16,8 @@ pub struct Head {
     /// The lengths of the prefixes of a route or a rule.
     pub to: Option<u8>,
     pub from: Option<u8>,
+    /// Whether a message of traffic control is on a filter or a chain.
+    pub is_filter: bool,
 }
 
 /// A list of attributes where it stands.

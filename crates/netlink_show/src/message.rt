@@ -13,9 +13,10 @@ use crate::nsid::push_nsid;
 use crate::prefix::push_prefix;
 use crate::route::push_route;
 use crate::rule::push_rule;
+use crate::traffic::{push_traffic, push_traffic_actions};
 use netlink_packet_core::{
-    NLMSG_DONE, NLMSG_ERROR, NLMSG_NOOP, NLMSG_OVERRUN, NetlinkBuffer, done_attributes,
-    error_attributes, error_text, refused_message,
+    NLM_F_REQUEST, NLMSG_DONE, NLMSG_ERROR, NLMSG_NOOP, NLMSG_OVERRUN, NetlinkBuffer,
+    done_attributes, error_attributes, error_text, refused_message,
 };
 use netlink_packet_route::framing::DecodeError;
 use netlink_packet_route::{Action, Located, MessageKind, MessageType, Subject, locate};
@@ -35,6 +36,9 @@ const PROPERTIES: Word = &Wording(1, "properties", "Properties");
 
 /// A message on a bucket of a group of next hops.
 const BUCKET: Word = &Wording(1, "is_bucket", "Bucket");
+
+/// What a message of traffic control is on.
+const SUBJECT: Word = &Wording(2, "subject", "");
 
 const CODE: Word = &Wording(1, "code", "");
 
@@ -123,6 +127,9 @@ fn new_of(kind: MessageKind) -> MessageType {
         MessageKind::AddressLabel => Subject::AddressLabel,
         MessageKind::NeighbourTable => return MessageType::NewNeighbourTable,
         MessageKind::Prefix => return MessageType::NewPrefix,
+        // Only its type says what it is on.
+        MessageKind::Tc => return MessageType::Unknown,
+        MessageKind::TcAction => Subject::TrafficAction,
     };
     MessageType::Of(subject, Action::New)
 }
@@ -133,7 +140,7 @@ pub fn message_fields<'a>(manner: Manner<'a>, message: Shown<'_>) -> Fields<'a> 
     match message.kind {
         Some(kind) => {
             push_payload(&mut fields, kind, message);
-            push_type(&mut fields, kind, message.says);
+            push_type(&mut fields, kind, message);
         }
         None => push_control(&mut fields, message),
     }
@@ -208,6 +215,16 @@ fn push_payload(fields: &mut Fields, kind: MessageKind, message: Shown<'_>) {
         MessageKind::AddressLabel => push_address_label(fields, bytes),
         MessageKind::NeighbourTable => push_neighbour_table(fields, bytes),
         MessageKind::Prefix => push_prefix(fields, bytes),
+        MessageKind::Tc => push_traffic(fields, bytes, subject_of(message.says)),
+        MessageKind::TcAction => push_traffic_actions(fields, bytes),
+    }
+}
+
+/// What its type says that a message is on.
+fn subject_of(says: MessageType) -> Option<Subject> {
+    match says {
+        MessageType::Of(subject, _) => Some(subject),
+        _ => None,
     }
 }
 
@@ -216,10 +233,13 @@ fn is_bucket(says: MessageType) -> bool {
 }
 
 /// What its type says of a message: its kind, and what it does.
-fn push_type(fields: &mut Fields, kind: MessageKind, says: MessageType) {
+fn push_type(fields: &mut Fields, kind: MessageKind, message: Shown<'_>) {
     fields.text(KIND, &kind.name());
     fields.hide();
-    match says {
+    match message.says {
+        // A kernel answers a dump of actions under the type that asks for it.
+        MessageType::Of(Subject::TrafficAction, Action::Get)
+            if message.flags & NLM_F_REQUEST == 0 => {}
         MessageType::Of(subject, action) => {
             push_action(fields, action);
             push_subject(fields, subject, action);
@@ -239,6 +259,10 @@ fn push_subject(fields: &mut Fields, subject: Subject, action: Action) {
             fields.truth(BUCKET, true);
             fields.hide_if(action != Action::Get);
         }
+        Subject::QueueDiscipline => fields.text(SUBJECT, &"qdisc"),
+        Subject::TrafficClass => fields.text(SUBJECT, &"class"),
+        Subject::TrafficFilter => fields.text(SUBJECT, &"filter"),
+        Subject::TrafficChain => fields.text(SUBJECT, &"chain"),
         _ => {}
     }
 }

@@ -45,6 +45,14 @@ impl Size {
     }
 }
 
+/// The number of four bytes that stands at a place: 0 where there are not so many.
+pub fn number_at(bytes: &[u8], at: usize) -> u32 {
+    match bytes.get(at..).unwrap_or(&[]).first_chunk() {
+        Some(number) => u32::from_le_bytes(*number),
+        None => 0,
+    }
+}
+
 /// The parts of a structure, each a piece.
 pub fn push_parts(fields: &mut Fields, list: List<'_>, bytes: &[u8], parts: Parts) {
     for part in parts {

@@ -1,39 +1,114 @@
 //! Which table has the rows of a list of attributes, and where what is odd in it is shown.
 
+use crate::address;
 use crate::address::ADDRESS;
 use crate::address_label::ADDRESS_LABEL;
-use crate::bond::{BOND, BOND_AD_INFO, BOND_PORT};
-use crate::bridge::{BRIDGE, BRIDGE_PORT};
-use crate::bridge_vlan::{AF_SPEC_BRIDGE, TREE, TREES, VLAN_TUNNEL, push_bridge_lists};
-use crate::device::{IP_VLAN, MAC_VLAN, MAC_VLAN_SOURCES, NETKIT, TUN, VETH, VLAN, VLAN_QOS, VRF};
-use crate::field::{Fields, Word};
-use crate::link_attribute::{
-    AF_SPEC, AF_SPEC_INET, AF_SPEC_INET6, LINK, LINK_INFO, PROPERTIES, REASONS, XDP,
-    push_address_modes, push_attached,
-};
-use crate::list::{List, Seen};
-use crate::metric::{METRICS, push_locks};
+use crate::bond;
+use crate::bond::BOND;
+use crate::bond::BOND_AD_INFO;
+use crate::bond::BOND_PORT;
+use crate::bridge;
+use crate::bridge::BRIDGE;
+use crate::bridge::BRIDGE_PORT;
+use crate::bridge_vlan::AF_SPEC_BRIDGE;
+use crate::bridge_vlan::TREE;
+use crate::bridge_vlan::TREES;
+use crate::bridge_vlan::VLAN_TUNNEL;
+use crate::bridge_vlan::push_bridge_lists;
+use crate::device;
+use crate::device::IP_VLAN;
+use crate::device::MAC_VLAN;
+use crate::device::MAC_VLAN_SOURCES;
+use crate::device::NETKIT;
+use crate::device::TUN;
+use crate::device::VETH;
+use crate::device::VLAN;
+use crate::device::VLAN_QOS;
+use crate::device::VRF;
+use crate::field::Fields;
+use crate::field::Word;
+use crate::link_attribute;
+use crate::link_attribute::AF_SPEC;
+use crate::link_attribute::AF_SPEC_INET;
+use crate::link_attribute::AF_SPEC_INET6;
+use crate::link_attribute::LINK;
+use crate::link_attribute::LINK_INFO;
+use crate::link_attribute::PROPERTIES;
+use crate::link_attribute::REASONS;
+use crate::link_attribute::XDP;
+use crate::link_attribute::push_address_modes;
+use crate::link_attribute::push_attached;
+use crate::list::List;
+use crate::list::Seen;
+use crate::metric;
+use crate::metric::METRICS;
+use crate::metric::push_locks;
+use crate::neighbour;
 use crate::neighbour::NEIGHBOUR;
+use crate::neighbour_table;
 use crate::neighbour_table::NEIGHBOUR_TABLE;
+use crate::netconf;
 use crate::netconf::NETCONF;
-use crate::next_hop::{BUCKET, NEXT_HOP, RESILIENT};
+use crate::next_hop;
+use crate::next_hop::BUCKET;
+use crate::next_hop::NEXT_HOP;
+use crate::next_hop::RESILIENT;
 use crate::nsid::NSID;
 use crate::peer::PEER;
+use crate::prefix;
 use crate::prefix::PREFIX;
 use crate::route::ROUTE;
+use crate::route_value;
+use crate::row::Row;
 use crate::row::Rows;
+use crate::rule;
 use crate::rule::RULE;
-use crate::segment_encap::{IOAM6, RPL, SEG6, SEG6_LOCAL};
-use crate::tunnel::{GENEVE, GRE, GRE6, IP_TUNNEL, IP6_TUNNEL, VTI, VXLAN, XFRM};
-use crate::tunnel_encap::{
-    ERSPAN_OPTIONS, IP, IP6, MPLS, OPTIONS, VXLAN_OPTIONS, XFRM_ENCAP, push_erspan, push_geneve,
-};
+use crate::segment_encap;
+use crate::segment_encap::IOAM6;
+use crate::segment_encap::RPL;
+use crate::segment_encap::SEG6;
+use crate::segment_encap::SEG6_LOCAL;
+use crate::traffic;
+use crate::traffic::ACTIONS;
+use crate::traffic::TRAFFIC;
+use crate::traffic_action;
+use crate::traffic_action::ACTION;
+use crate::traffic_action::ANY_ACTION;
+use crate::traffic_action::MIRROR;
+use crate::traffic_action::NAT;
+use crate::traffic_action::TUNNEL_KEY;
+use crate::traffic_filter;
+use crate::traffic_filter::MATCH_ALL;
+use crate::traffic_filter::U32;
+use crate::traffic_flower;
+use crate::traffic_flower::FLOWER;
+use crate::traffic_flower::FLOWER_MPLS;
+use crate::traffic_flower::FLOWER_MPLS_LSE;
+use crate::traffic_qdisc;
+use crate::traffic_qdisc::FQ_CODEL;
+use crate::traffic_qdisc::STAB;
+use crate::traffic_qdisc::STATS;
+use crate::tunnel::GENEVE;
+use crate::tunnel::GRE;
+use crate::tunnel::GRE6;
+use crate::tunnel::IP_TUNNEL;
+use crate::tunnel::IP6_TUNNEL;
+use crate::tunnel::VTI;
+use crate::tunnel::VXLAN;
+use crate::tunnel::XFRM;
+use crate::tunnel_encap;
+use crate::tunnel_encap::ERSPAN_OPTIONS;
+use crate::tunnel_encap::IP;
+use crate::tunnel_encap::IP6;
+use crate::tunnel_encap::MPLS;
+use crate::tunnel_encap::OPTIONS;
+use crate::tunnel_encap::VXLAN_OPTIONS;
+use crate::tunnel_encap::XFRM_ENCAP;
+use crate::tunnel_encap::push_erspan;
+use crate::tunnel_encap::push_geneve;
+use crate::tunnel_value;
 use crate::tunnel_value::push_encap;
 use crate::value::push_labels;
-use crate::{
-    address, bond, bridge, device, link_attribute, metric, neighbour, neighbour_table, netconf,
-    next_hop, prefix, route_value, rule, segment_encap, tunnel_encap, tunnel_value,
-};
 use netlink_packet_route::Nest;
 use netlink_packet_route::framing::AttributeSet;
 use netlink_packet_route::link::InfoForm;
@@ -86,6 +161,20 @@ pub fn rows_of(nest: Nest) -> Rows {
         AttributeSet::AddressLabel => ADDRESS_LABEL,
         AttributeSet::Prefix => PREFIX,
         AttributeSet::NextHop => NEXT_HOP,
+        AttributeSet::Tc => TRAFFIC,
+        AttributeSet::TcActionMessage => ACTIONS,
+        AttributeSet::TcStats2 => STATS,
+        AttributeSet::TcStab => STAB,
+        AttributeSet::TcQdiscFqCodel => FQ_CODEL,
+        AttributeSet::TcFilterU32 => U32,
+        AttributeSet::TcFilterMatchAll => MATCH_ALL,
+        AttributeSet::TcFilterFlower => FLOWER,
+        AttributeSet::TcFilterFlowerMpls => FLOWER_MPLS,
+        AttributeSet::TcFilterFlowerMplsLse => FLOWER_MPLS_LSE,
+        AttributeSet::TcAction => ACTION,
+        AttributeSet::TcActionMirror => MIRROR,
+        AttributeSet::TcActionNat => NAT,
+        AttributeSet::TcActionTunnelKey => TUNNEL_KEY,
         AttributeSet::NextHopResGroup => RESILIENT,
         AttributeSet::NextHopResBucket => BUCKET,
         AttributeSet::Metric => METRICS,
@@ -105,6 +194,8 @@ pub fn rows_of(nest: Nest) -> Rows {
         | AttributeSet::NeighbourTableParameter
         | AttributeSet::NextHopGroupStats
         | AttributeSet::NextHopGroupStatsEntry
+        | AttributeSet::TcQdiscIngress
+        | AttributeSet::TcActions
         | AttributeSet::Geneve
         | AttributeSet::Encap
         | AttributeSet::Value => &[],
@@ -161,7 +252,32 @@ fn push_own_of_message(fields: &mut Fields, list: List<'_>, word: Word, seen: &S
         AttributeSet::NextHop => next_hop::push_own(fields, list, word, seen),
         AttributeSet::Netconf => netconf::push_own(fields, word, seen),
         AttributeSet::Prefix => prefix::push_own(fields, list, seen),
-        _ => {}
+        _ => push_own_of_traffic(fields, list, word, seen),
+    }
+}
+
+/// The same of traffic control.
+fn push_own_of_traffic(fields: &mut Fields, list: List<'_>, word: Word, seen: &Seen<'_>) {
+    match list.nest.set {
+        AttributeSet::Tc | AttributeSet::TcActionMessage => traffic::push_own(
+            fields, list, word, seen,
+        ),
+        AttributeSet::TcStats2 | AttributeSet::TcStab | AttributeSet::TcQdiscFqCodel => {
+            traffic_qdisc::push_own(fields, list, word, seen)
+        }
+        AttributeSet::TcFilterU32 | AttributeSet::TcFilterMatchAll => traffic_filter::push_own(
+            fields, list, word, seen,
+        ),
+        AttributeSet::TcFilterFlower => traffic_flower::push_own(fields, list, word, seen),
+        _ => traffic_action::push_own(fields, list, word, seen),
+    }
+}
+
+/// The row of a number in a list. In a list of actions it is the place of one.
+pub fn row_in(nest: Nest, number: u16) -> Option<&'static Row> {
+    match nest.set {
+        AttributeSet::TcActions => Some(ANY_ACTION),
+        _ => rows_of(nest).iter().find(|row| row.number == number),
     }
 }
 

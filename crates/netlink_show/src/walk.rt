@@ -7,7 +7,8 @@ use crate::next_hop::push_encap_type;
 use crate::peer::push_peer_header;
 use crate::route::push_hop;
 use crate::row::{How, Row, Rows};
-use crate::tables::{hides_padding, push_beside, rows_of};
+use crate::tables::{hides_padding, push_beside, row_in};
+use crate::traffic_action::push_order;
 use crate::value::{is_hidden, push_plain, push_row};
 use netlink_packet_route::framing::{AttributeSet, NlaBuffer, NlasIterator};
 use netlink_packet_route::route::{NEXT_HOP_HEADER_SIZE, RTNH_ALIGNTO, RouteNextHopBuffer};
@@ -46,6 +47,7 @@ fn push_each(objects: &mut Fields, list: List<'_>) {
             return;
         };
         let mut inside = Fields::new(objects.manner);
+        push_order(&mut inside, list, item.kind());
         push_item(&mut inside, list, &item);
         objects.object(ITEM, inside);
     }
@@ -54,7 +56,7 @@ fn push_each(objects: &mut Fields, list: List<'_>) {
 /// What is shown of an attribute: one without a row stands as it is.
 #[cycle(list)]
 fn push_item<'a>(fields: &mut Fields, list: List<'a>, item: &NlaBuffer<'a>) {
-    let Some(row) = row_of(rows_of(list.nest), item.kind()) else {
+    let Some(row) = row_in(list.nest, item.kind()) else {
         return push_nameless(fields, list, item);
     };
     let Some(seen) = list.seen(item) else {
