@@ -34,6 +34,8 @@ static const Kind KINDS[] = {
     {"address-label", NPR_KIND_ADDRESS_LABEL},
     {"neighbour-table", NPR_KIND_NEIGHBOUR_TABLE},
     {"prefix", NPR_KIND_PREFIX},
+    {"tc", NPR_KIND_TC},
+    {"tc-action", NPR_KIND_TC_ACTION},
 };
 
 static constexpr std::string_view DIGITS = "0123456789abcdef";

@@ -55,6 +55,8 @@ static const struct kind KINDS[] = {
     {NPR_KIND_ADDRESS_LABEL, "address_label", RTM_GETADDRLABEL, 12},
     {NPR_KIND_NEIGHBOUR_TABLE, "neighbour_table", RTM_GETNEIGHTBL, 4},
     {NPR_KIND_PREFIX, "prefix", 0, 12},
+    {NPR_KIND_TC, "tc", RTM_GETQDISC, 20},
+    {NPR_KIND_TC_ACTION, "tc_action", 0, 4},
 };
 
 #define KIND_COUNT (sizeof KINDS / sizeof *KINDS)

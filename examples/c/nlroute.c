@@ -4,7 +4,8 @@
  *   nlroute KIND
  *   nlroute compare KIND FILE.. [KIND FILE..]
  *
- * A KIND is address, route, rule, neighbour, link, nexthop, nsid, netconf, address-label, neighbour-table or prefix.
+ * A KIND is address, route, rule, neighbour, link, nexthop, nsid, netconf, address-label, neighbour-table,
+ * prefix, tc or tc-action.
  *
  * It ends with 0 and the report; or with one line on standard error and 1 (refused), 2 (bad
  * hexadecimal text, or the usage), 3 (unfit), 4 (out of memory) or 5 (reading or writing failed). A
@@ -18,7 +19,7 @@
 #include <stdlib.h>
 #include <string.h>
 
-#define KIND_NAMES "address|route|rule|neighbour|link|nexthop|nsid|netconf|address-label|neighbour-table|prefix"
+#define KIND_NAMES "address|route|rule|neighbour|link|nexthop|nsid|netconf|address-label|neighbour-table|prefix|tc|tc-action"
 #define USAGE "usage: nlroute " KIND_NAMES "\n       nlroute compare " KIND_NAMES " FILE.."
 
 enum ending { WELL = 0, REFUSED = 1, BAD_HEX = 2, UNFIT = 3, MEMORY = 4, FAILED = 5 };
@@ -42,6 +43,8 @@ static const struct kind KINDS[] = {
     {"address-label", NPR_KIND_ADDRESS_LABEL, 12},
     {"neighbour-table", NPR_KIND_NEIGHBOUR_TABLE, 4},
     {"prefix", NPR_KIND_PREFIX, 12},
+    {"tc", NPR_KIND_TC, 20},
+    {"tc-action", NPR_KIND_TC_ACTION, 4},
 };
 
 static const struct kind *kind_of(const char *name) {

@@ -37,7 +37,7 @@ def loaded(name):
     )
 
 
-LIBRARY = loaded("libnetlink_packet_route.so.0.13")
+LIBRARY = loaded("libnetlink_packet_route.so.0.14")
 FOUND, FAULT = 0, 1
 REFUSED, UNFIT, SHORT, TEXT_ROOM = 1, 2, 3, 256
 NLA_F_NESTED = 0x8000
@@ -93,6 +93,8 @@ HEADERS = {
     "address_label": 12,
     "neighbour_table": 4,
     "prefix": 12,
+    "tc": 20,
+    "tc_action": 4,
 }
 KINDS = [None, *HEADERS]
 

@@ -11,7 +11,10 @@
     unknown_lints,
     clippy::manual_is_multiple_of,
     clippy::manual_map,
+    clippy::manual_unwrap_or,
+    clippy::manual_unwrap_or_default,
     clippy::match_like_matches_macro,
+    clippy::needless_range_loop,
     clippy::type_complexity,
     clippy::while_let_on_iterator,
     clippy::wrong_self_convention

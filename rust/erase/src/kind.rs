@@ -38,6 +38,7 @@ pub const KINDS: &[(&str, &[&str])] = &[
     ("use of a macro in lib", &[""]),
     ("use of memory", &[""]),
     ("derived Debug in tests", &[""]),
+    ("derived Serialize", &[""]),
     ("field of a set", &[""]),
     ("non_exhaustive", &[""]),
     ("inline", &[""]),

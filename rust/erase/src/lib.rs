@@ -13,6 +13,7 @@ mod hints;
 mod kind;
 mod own_tests;
 mod rules;
+mod serialized;
 mod source;
 mod token;
 mod upstream;
@@ -24,7 +25,7 @@ use std::fs;
 use std::path::{Path, PathBuf};
 
 /// The libraries, each before those that stand on it.
-pub const LIBRARIES: [&str; 18] = [
+pub const LIBRARIES: [&str; 22] = [
     "npr_base",
     "npr_names",
     "netlink_packet_core",
@@ -42,6 +43,10 @@ pub const LIBRARIES: [&str; 18] = [
     "npr_route",
     "npr_small",
     "npr_nexthop",
+    "npr_tc_qdiscs",
+    "npr_tc_actions",
+    "npr_tc_filters",
+    "npr_tc",
     "netlink_packet_route",
 ];
 
@@ -49,13 +54,14 @@ pub const LIBRARIES: [&str; 18] = [
 pub const FOR_C: [&str; 1] = ["npr_c"];
 
 /// The crates of their tests, likewise, and the program whose messages they ask about.
-pub const TESTS: [&str; 7] = [
+pub const TESTS: [&str; 8] = [
     "npr_testing",
     "template",
     "message_tests",
     "value_tests",
     "text_tests",
     "link_tests",
+    "tc_tests",
     own_tests::MAKER,
 ];
 

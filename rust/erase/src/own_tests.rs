@@ -16,8 +16,8 @@ pub const OF_PROGRAMS: [&str; 5] = [
 
 /// The program that makes messages, and its modules that do.
 pub const MAKER: &str = "fuzz";
-pub const OF_MAKER: [&str; 7] = [
-    "lengths", "links", "making", "random", "small", "subject", "worked",
+pub const OF_MAKER: [&str; 8] = [
+    "lengths", "links", "making", "random", "small", "subject", "traffic", "worked",
 ];
 
 impl Eraser<'_> {

@@ -163,6 +163,7 @@ impl<'a> Eraser<'a> {
 
     /// Each type of Rust may be dropped. One that proved text drops can be cloned.
     fn derive(&mut self, at: usize, open: usize, behind: usize) -> Result<usize, Fault> {
+        self.serialize(behind)?;
         let close = self.source.closing(open)?;
         let derived = |name| (open..close).find(|&i| self.source.word(i) == name);
         let (debug, drop, clone) = (derived("Debug"), derived("Drop"), derived("Clone"));

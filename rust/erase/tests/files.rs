@@ -60,6 +60,46 @@ fn what_is_dropped_is_cloned() {
     );
 }
 
+const SERIALIZE: &str = "#[cfg_attr(feature = \"serde\", derive(serde::Serialize))]";
+
+/// What is public and held by messages: no set, nothing that borrows, no layout and no refusal.
+#[test]
+fn what_messages_hold_is_serialized() {
+    let growing = "#[cfg_attr(not(exhaustive), non_exhaustive)]";
+    assert_eq!(
+        erased("#[derive(Drop, Eq)]\npub enum NetlinkPayload<I> {}\n"),
+        format!("#[derive(Clone, Eq)] {SERIALIZE}\n{growing} pub enum NetlinkPayload<I> {{}}\n")
+    );
+    assert_eq!(
+        erased("#[derive(Clone)]\npub struct TcHandle {}\n"),
+        format!("#[derive(Clone)] {SERIALIZE}\npub struct TcHandle {{}}\n")
+    );
+    for held_by_none in [
+        "struct Stop {}",
+        "pub struct Values<'a, A> {}",
+        "pub enum Answer<'a> {}",
+        "pub struct RuleMessageBuffer {}",
+        "pub struct Looks {}",
+        "pub struct S(pub(crate) u8);",
+    ] {
+        let text = format!("#[derive(Clone)]\n{held_by_none}\n");
+        assert_eq!(erased(&text), text);
+    }
+}
+
+#[test]
+fn the_audit_sees_what_is_serialized() {
+    let told = |was| {
+        let put = "# [ cfg_attr ( feature =";
+        format!("file.rt:1: no written form says that `{was}` becomes `{put}`")
+    };
+    let with = |was| audited(was, &format!("{SERIALIZE} {was}"));
+    assert_eq!(with("pub struct S {}"), r#"{"derived Serialize": 1}"#);
+    assert_eq!(with("pub enum E<I> {}"), r#"{"derived Serialize": 1}"#);
+    assert_eq!(with("pub struct S(u8);"), told("pub struct S ( u8 )"));
+    assert_eq!(with("pub enum E<'a> {}"), told("pub enum E < 'a >"));
+}
+
 #[test]
 fn sets_have_calls_of_their_own() {
     assert_eq!(

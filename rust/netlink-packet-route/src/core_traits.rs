@@ -6,7 +6,7 @@ use crate::memory::Global;
 use crate::route::RouteProtocol;
 use crate::{
     AddressFamily, RouteNetlinkMessage, address, address_label, envelope, link, neighbour,
-    neighbour_table, netconf, nexthop, nsid, prefix, route, rule,
+    neighbour_table, netconf, nexthop, nsid, prefix, route, rule, tc,
 };
 use netlink_packet_core as core;
 
@@ -45,6 +45,8 @@ impl core::NetlinkSerializable for RouteNetlinkMessage {
         length(framing::Emitable::check(self))
     }
 
+    /// # Panics
+    /// Where the buffer is shorter than `buffer_len`.
     fn serialize(&self, buffer: &mut [u8]) {
         framing::Emitable::emit(self, buffer);
     }
@@ -103,6 +105,8 @@ macro_rules! emitable {
                 length(framing::Emitable::check(self))
             }
 
+            /// # Panics
+            /// Where the buffer is shorter than `buffer_len`.
             fn emit(&self, buffer: &mut [u8]) {
                 framing::Emitable::emit(self, buffer);
             }
@@ -145,6 +149,26 @@ emitable! {
     [] rule::RuleHeader;
     [] rule::RulePortRange;
     [] rule::RuleUidRange;
+    [] tc::TcActionGeneric;
+    [] tc::TcActionMessageFlagsWithSelector;
+    [] tc::TcActionMessageHeader;
+    [] tc::TcBitfield;
+    [] tc::TcEstimator;
+    [] tc::TcHandle;
+    [] tc::TcHeader;
+    [] tc::TcMirror;
+    [] tc::TcNat;
+    [] tc::TcSizeSpec;
+    [] tc::TcStats;
+    [] tc::TcStatsBasic;
+    [] tc::TcStatsQueue;
+    [] tc::TcStatsRateEst;
+    [] tc::TcStatsRateEst64;
+    [] tc::TcTunnelKey;
+    [] tc::TcU32Key;
+    [] tc::TcU32Mark;
+    [] tc::TcU32Selector;
+    [] tc::Tcf;
 }
 
 /// A value that is written as an attribute, whose frame is that of the other crate.
@@ -161,6 +185,8 @@ macro_rules! nla {
                 framing::Nla::kind(self)
             }
 
+            /// # Panics
+            /// Where the buffer is shorter than `value_len`.
             fn emit_value(&self, buffer: &mut [u8]) {
                 framing::Nla::emit_value(self, buffer);
             }
@@ -244,6 +270,9 @@ under_context! {
     nexthop::NextHopAttribute, (AddressFamily, route::RouteLwEnCapType);
     route::RouteAttribute, HopContext;
     route::RouteLwTunnelEncap, route::RouteLwEnCapType;
+    tc::TcActionAttribute, tc::TcActionForm;
+    tc::TcAttribute, tc::TcForm;
+    tc::TcStats2, tc::TcForm;
 }
 alone! {
     address::AddressAttribute;
@@ -302,4 +331,17 @@ alone! {
     route::RouteVxlanOpt;
     route::RouteXfrmTunnel;
     rule::RuleAttribute;
+    tc::TcAction;
+    tc::TcActionMessageAttribute;
+    tc::TcActionMirrorOption;
+    tc::TcActionNatOption;
+    tc::TcActionTunnelKeyOption;
+    tc::TcFilterFlowerMplsLseOption;
+    tc::TcFilterFlowerMplsOption;
+    tc::TcFilterFlowerOption;
+    tc::TcFilterMatchAllOption;
+    tc::TcFilterU32Option;
+    tc::TcQdiscFqCodelOption;
+    tc::TcQdiscIngressOption;
+    tc::TcStab;
 }

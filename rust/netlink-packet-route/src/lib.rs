@@ -1,5 +1,5 @@
 //! Messages of Linux rtnetlink on links, addresses, routes, rules, neighbours and their tables, next hops,
-//! name spaces, settings, address labels and prefixes: bytes to typed values and back.
+//! name spaces, settings, address labels, prefixes and traffic control: bytes to typed values and back.
 //!
 //! What a socket gives is gone through message by message:
 //!
@@ -57,17 +57,29 @@
 //! The feature `core` gives messages the traits of `netlink-packet-core`, which `netlink-proto` asks for.
 //! Calls of the traits take an allocator, [`memory::Global`]; those above take none.
 //!
+//! The feature `serde` gives messages, and what they hold, `Serialize`: fields and variants by their names,
+//! sets of flags as their numbers, bytes and addresses as those of the standard library. There is no
+//! `Deserialize`: what it made could be a value that no bytes mean, which is not read back as it is written.
+//!
 //! The text of the modules is that of a library that is proved in Rattle, without its contracts.
 //! `memory`, `plain`, `sets` and `core_traits` are written by hand. Where the proved text asks something
 //! of a caller, its documentation says `Asks`, and nothing here tests it.
+//!
+//! # Panics
+//! A call that asks may panic where it is not so. On a slice that is too short it does; of a value that
+//! `check` refuses it may also answer a length or write bytes that are wrong.
 #![forbid(unsafe_code)]
+#![deny(missing_docs)]
 // Flags have upstream's names; clauses alone name some imports, and rows of macros use not each name.
 #![allow(non_upper_case_globals, unused_imports, unused_variables)]
 // Forms that the prover asks for, or names of upstream.
 #![allow(
     clippy::len_without_is_empty,
     clippy::manual_map,
+    clippy::manual_unwrap_or,
+    clippy::manual_unwrap_or_default,
     clippy::match_like_matches_macro,
+    clippy::needless_range_loop,
     clippy::new_without_default,
     clippy::question_mark,
     clippy::type_complexity,

@@ -29,6 +29,7 @@ impl From<TryReserveError> for AllocError {
 /// Memory was refused for a value, which comes back.
 #[derive(Debug)]
 pub struct AllocFailed<T> {
+    /// The value.
     pub value: T,
 }
 
@@ -78,6 +79,9 @@ pub(crate) trait VecIn<T>: Sized {
     fn push_in(&mut self, item: T) -> Result<(), AllocFailed<T>>;
 
     /// Behind the last, where there is room.
+    ///
+    /// # Panics
+    /// Where there is none, with debug assertions.
     fn push_reserved(&mut self, item: T);
 }
 

@@ -12,6 +12,7 @@ use crate::memory::Global;
 use crate::neighbour::{NeighbourHeader, NeighbourState};
 use crate::route::{RouteGeneveOpt, RouteHeader, RouteNextHop, RplSrh, Seg6Header, Seg6LocalSrh};
 use crate::rule::RuleHeader;
+use crate::tc::{TcAttribute, TcHeader, TcMessage};
 use crate::{Located, MessageType, RouteNetlinkMessage, locate};
 use std::fmt;
 use thiserror::Error;
@@ -73,6 +74,25 @@ macro_rules! headers {
     )*};
 }
 headers!(AddressHeader RouteHeader RuleHeader NeighbourHeader LinkHeader);
+
+impl TcMessage {
+    /// The message of these parts.
+    pub fn from_parts(header: TcHeader, attributes: Vec<TcAttribute>) -> Self {
+        Self { header, attributes }
+    }
+
+    /// Its header and its attributes.
+    pub fn into_parts(self) -> (TcHeader, Vec<TcAttribute>) {
+        (self.header, self.attributes)
+    }
+
+    /// A message of this interface, of which nothing else is said.
+    pub fn with_index(index: i32) -> Self {
+        let mut message = Self::default();
+        message.header.index = index;
+        message
+    }
+}
 
 impl<I: NetlinkInner> NetlinkMessage<I> {
     /// The bytes that are sent.

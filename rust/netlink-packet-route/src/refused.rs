@@ -14,6 +14,7 @@ use crate::nsid::NsidHeader;
 use crate::prefix::PrefixHeader;
 use crate::route::RouteHeader;
 use crate::rule::RuleHeader;
+use crate::tc::{TcActionMessageHeader, TcHeader};
 use crate::testing::hex;
 use crate::{CanonicalError, MessageKind, canonical};
 use std::cell::Cell;
@@ -104,6 +105,8 @@ fn each_request_that_is_refused_is_answered() {
         of_files::<AddressLabelHeader>(MessageKind::AddressLabel, &["address-label"]),
         of_files::<NeighbourTableHeader>(MessageKind::NeighbourTable, &["neighbour-table"]),
         of_files::<PrefixHeader>(MessageKind::Prefix, &["prefix"]),
+        of_files::<TcHeader>(MessageKind::Tc, &["tc"]),
+        of_files::<TcActionMessageHeader>(MessageKind::TcAction, &["tc-action"]),
     ];
     let count: usize = counts.iter().sum();
     println!("{count} requests refused, each answered");

@@ -225,6 +225,13 @@ macro_rules! sets {
             }
         }
 
+        #[cfg(feature = "serde")]
+        impl serde::Serialize for crate::$module::$set {
+            fn serialize<S: serde::Serializer>(&self, serializer: S) -> Result<S::Ok, S::Error> {
+                self.bits().serialize(serializer)
+            }
+        }
+
         #[cfg(not(test))]
         impl fmt::Debug for crate::$module::$set {
             fn fmt(&self, f: &mut fmt::Formatter<'_>) -> fmt::Result {
@@ -257,4 +264,8 @@ sets! {
     route::RouteIpTunnelFlags u16;
     route::RouteNextHopFlags u8;
     rule::RuleFlags u32;
+    tc::TcActionMessageFlags u32;
+    tc::TcNatFlags u32;
+    tc::TcU32OptionFlags u32;
+    tc::TcU32SelectorFlags u8;
 }

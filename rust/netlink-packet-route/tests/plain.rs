@@ -5,6 +5,7 @@ use netlink_packet_route::framing::{AttributeSet, DecodeError};
 use netlink_packet_route::neighbour::NeighbourState;
 use netlink_packet_route::request::dump;
 use netlink_packet_route::route::{RouteAddress, RouteAttribute, RouteMessage, RouteNextHop};
+use netlink_packet_route::tc::{TcAttribute, TcHandle, TcHeader, TcMessage};
 use netlink_packet_route::{AddressFamily, Fault, MessageKind, RouteNetlinkMessage, locate};
 use std::net::Ipv4Addr;
 
@@ -100,6 +101,32 @@ fn states_of_neighbours_are_numbers_and_names() {
     assert_eq!(two, NeighbourState::Reachable | NeighbourState::Noarp);
     let texts = [two, NeighbourState::None, NeighbourState::Failed].map(|s| s.to_string());
     assert_eq!(texts, ["reachable | noarp", "none", "failed"]);
+}
+
+/// The discipline `clsact` of the interface 2, by its parts.
+#[test]
+fn messages_of_traffic_control_have_parts() {
+    let handle = TcHandle {
+        major: 0xffff,
+        minor: 0,
+    };
+    let header = TcHeader {
+        index: 2,
+        handle,
+        ..TcHeader::default()
+    };
+    let attributes = vec![TcAttribute::Kind("clsact".into())];
+    let message = TcMessage::from_parts(header, attributes.clone());
+    let bytes = [
+        0, 0, 0, 0, 2, 0, 0, 0, 0, 0, 255, 255, 0, 0, 0, 0, 0, 0, 0, 0, // the header
+        11, 0, 1, 0, 99, 108, 115, 97, 99, 116, 0, 0, // TCA_KIND
+    ];
+    assert_eq!(message.to_bytes().as_deref(), Ok(&bytes[..]));
+    assert_eq!(message.into_parts(), (header, attributes));
+    let alone = TcMessage::with_index(-7).to_bytes();
+    let mut expected = [0; 20];
+    expected[4..8].copy_from_slice(&[249, 255, 255, 255]);
+    assert_eq!(alone.as_deref(), Ok(&expected[..]));
 }
 
 #[test]

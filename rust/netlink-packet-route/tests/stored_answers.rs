@@ -52,6 +52,12 @@ fn next_hops_and_small_messages() {
 }
 
 #[test]
+fn traffic_control() {
+    assert!(compare("tc", &["tc"]) > 500);
+    assert!(compare("tc-action", &["tc-action"]) > 100);
+}
+
+#[test]
 fn datagrams_with_envelopes() {
     assert!(compare("datagrams", &["datagrams"]) > 0);
 }

@@ -5,7 +5,7 @@
 use netlink_packet_route::framing::{DecodeError, Header, Message, WriteError};
 use netlink_packet_route::{
     address, address_label, link, neighbour, neighbour_table, netconf, nexthop, nsid, prefix, route,
-    rule,
+    rule, tc,
 };
 use std::process::ExitCode;
 
@@ -28,6 +28,8 @@ const KINDS: &[(&str, Answer)] = &[
         answer::<neighbour_table::NeighbourTableHeader>,
     ),
     ("prefix", answer::<prefix::PrefixHeader>),
+    ("tc", answer::<tc::TcHeader>),
+    ("tc-action", answer::<tc::TcActionMessageHeader>),
 ];
 
 fn answer<H: Header>(bytes: &[u8]) -> Result<String, String> {

@@ -209,6 +209,9 @@ const CHANGED_IN_TESTS: &[(&str, &str, &str, &str)] = &[
     ("use of testing", ";", "", "use crate : : testing : : * ;"),
 ];
 
+/// What the feature `serde` derives, not for sets, and not for what borrows.
+const SERIALIZE: &str = "# [ cfg_attr ( feature = \"serde\" , derive ( serde : : Serialize ) ) ]";
+
 /// Put in front: kind, words, words behind them.
 const IN_FRONT: &[(&str, &str, &str)] = &[
     (
@@ -236,6 +239,10 @@ const IN_FRONT: &[(&str, &str, &str)] = &[
         "# [ cfg_attr ( test , derive ( Debug ) ) ]",
         "pub struct _ ( _ ) ;",
     ),
+    ("derived Serialize", SERIALIZE, "pub enum _ {"),
+    ("derived Serialize", SERIALIZE, "pub enum _ < _"),
+    ("derived Serialize", SERIALIZE, "pub struct _ {"),
+    ("derived Serialize", SERIALIZE, "pub struct _ < _"),
 ];
 
 /// The forms of a library's files.

@@ -19,6 +19,7 @@ use super::library::nsid::NsidHeader;
 use super::library::prefix::PrefixHeader;
 use super::library::route::RouteHeader;
 use super::library::rule::RuleHeader;
+use super::library::tc::{TcActionMessageHeader, TcHeader};
 use super::library::{CanonicalError, MessageKind, RouteNetlinkMessage, canonical, validate};
 use std::fmt::Debug;
 
@@ -51,7 +52,7 @@ impl Kind {
     }
 }
 
-pub const KINDS: [Kind; 12] = [
+pub const KINDS: [Kind; 14] = [
     Kind {
         word: "address",
         answer: message::<AddressHeader>,
@@ -95,6 +96,14 @@ pub const KINDS: [Kind; 12] = [
     Kind {
         word: "prefix",
         answer: message::<PrefixHeader>,
+    },
+    Kind {
+        word: "tc",
+        answer: message::<TcHeader>,
+    },
+    Kind {
+        word: "tc-action",
+        answer: message::<TcActionMessageHeader>,
     },
     Kind {
         word: "datagrams",
