@@ -98,12 +98,12 @@ number-is = in_rows types (
     also refl also refl also refl also refl also refl also refl also refl also refl also refl also refl also refl also refl
     also refl also refl also refl also refl also refl also tt)
 
-number-back : (t : MessageType) (type : ℕ) → Under (kind_of_type t) → HasNumber t type → type_number t ≡ type
+pub number-back : (t : MessageType) (type : ℕ) → Under (kind_of_type t) → HasNumber t type → type_number t ≡ type
 unfolding HasNumber
 number-back Unknown type m has = absurd m
 number-back t type m has = sym has
 
-type-number : (t : MessageType) → Under (kind_of_type t) → type_of (type_number t) ≡ t
+pub type-number : (t : MessageType) → Under (kind_of_type t) → type_of (type_number t) ≡ t
 type-number (Of Link New) m = refl
 type-number (Of Link Del) m = refl
 type-number (Of Link Get) m = refl

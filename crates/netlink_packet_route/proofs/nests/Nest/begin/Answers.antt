@@ -6,7 +6,7 @@ use Rattle.netlink_packet_route.specs.Nests.{FromBytes}
 use Rattle.netlink_packet_route.proofs.NumberLaws.{link-bytes, link-number, neighbour-bytes, neighbour-number, next-hop-bytes}
 use Rattle.netlink_packet_route.proofs.NumberLaws.{plain-bytes, route-bytes, tc-bytes}
 use Rattle.netlink_packet_route.specs.declared.kind.MessageKind.TheVariants as Kind
-use Rattle.netlink_packet_route.proofs.begin.Nest.begin.Goals as goal
+use Rattle.netlink_packet_route.proofs.nests.Nest.begin.Goals as goal
 
 pub returns-in_ok-attributes-in-Address-clause-ok : goal.returns-in_ok-attributes-in-Address-clause-ok
 returns-in_ok-attributes-in-Address-clause-ok c =
