@@ -1,10 +1,12 @@
-"""Compares what nlshow says of traffic control with what `tc -j -s -d` said of the same messages, for `outside/shown`.
+"""Compares what nlshow says of traffic control with what `tc -j -s -d` and `tc -s -d` said of the same messages, for `outside/shown`.
 
 Each key of an object of `tc` has to be in that of nlshow with the same value, in whichever of the objects of PARTS it stands, but for
-those of LEFT_OUT, and of kinds that are not of READ but for those of EVERY.
+those of LEFT_OUT, and of kinds that are not of READ but for those of EVERY. The words of a line of `tc` have to stand in that of
+nlshow in their order, but for lines that are PASSED and words that stand ALONE; nlshow may have others beside them, as the device.
 """
 
 import json
+import re
 
 FILES = [f"traffic-{it}" for it in ("qdisc", "class", "filter", "chain", "action")]
 # objects whose keys stand beside others in one of the two answers
@@ -42,10 +44,10 @@ def hexadecimal(text):
 
 
 class Comparison:
-    """What was compared, what is wrong, and the names that devices turned out to have."""
+    """What was compared, what is wrong, and the names that devices turned out to have, by their numbers."""
 
-    def __init__(self):
-        self.keys, self.wrong, self.names = 0, [], {}
+    def __init__(self, names):
+        self.keys, self.wrong, self.names = 0, [], names
 
     def same(self, key, theirs, ours):
         """Whether the values are the same."""
@@ -104,9 +106,9 @@ def objects(text):
     return json.loads(text, object_pairs_hook=lambda pairs: [tuple(it) for it in pairs])
 
 
-def compare(name, theirs, ours):
-    """Whether nlshow's lines say what `tc` does; it says what was compared."""
-    it = Comparison()
+def compare(name, theirs, ours, names):
+    """Whether nlshow's objects say what those of `tc` do; it says what was compared, and learns the names of devices."""
+    it = Comparison(names)
     told, shown = objects(theirs), [objects(line) for line in ours.splitlines()]
     if name == "traffic-action":
         told = [action for answer in told for action in dict(answer).get("actions", [])]
@@ -117,3 +119,60 @@ def compare(name, theirs, ours):
         it.compare(*pair)
     print(f"{name}: {len(told)} messages, {it.keys} keys" + "".join(f"\n  WRONG {wrong}" for wrong in it.wrong), flush=True)
     return not it.wrong
+
+
+# lines of statistics, which nlshow has in JSON alone, and lines of data that the library keeps as bytes
+PASSED = re.compile(r"\s*(?:Sent|backlog|Action statistics|maxpacket|new_flows_len|memory used|deficit|\(dropped|-----|police|ref \d|geneve_opts"
+                    r"|vxlan_opts|erspan_opts|pfcp_opts|gtp_opts|enc_flags|num_of_vlans|pppoe_sid|ppp_proto|l2tpv3_sid|spi|l2_miss|cfm)\b.*|\s*|\s*---.*")
+# words without a value in a message, and counts that moved before the lines were printed
+ALONE = re.compile(r" (?:installed|used|firstused) \d+ sec| terminal flowid| -{16}| \(rule hit \d+(?: success \d+)?\)")
+
+
+def parts_of(text):
+    """The words of each message, and those of each action in it, without lines of statistics."""
+    messages = []
+    for line in text.splitlines():
+        if re.match(r"(?:qdisc|class|filter|chain|total acts) ", line):
+            messages.append([[]])
+        elif line.startswith("\taction order "):
+            messages[-1].append([])
+        if not PASSED.fullmatch(line) and messages:
+            messages[-1][-1] += ALONE.sub("", line).split()
+    return messages
+
+
+def is_kept(words):
+    """Whether the data of a kind are kept as bytes."""
+    at = {"qdisc": 1, "class": 1, "action": 3}.get(words[0])
+    kind = words[at] if at else next((it for it in words if it in READ), "")
+    return words[0] not in ("chain", "total") and kind not in READ
+
+
+def is_in(words, all_words):
+    """Whether the words stand among all in their order."""
+    left = iter(all_words)
+    return all(it in left for it in words)
+
+
+def compare_lines(name, theirs, ours, names):
+    """Whether nlshow's lines have the words of those of `tc`."""
+    for number, device in names.items():
+        ours = re.sub(rf"\b(dev|device) {number}\b", rf"\1 {device}", ours)
+    for word, frame in FRAMES.items():
+        theirs = theirs.replace(f" protocol {word} ", f" protocol {frame} ")
+    told, shown = parts_of(theirs), parts_of(ours)
+    wrong = [f"{len(told)} of tc, {len(shown)} of nlshow"] if len(told) != len(shown) else []
+    pairs = [it for its in zip(told, shown) if not is_kept(its[0][0]) for it in zip(*its, strict=True) if not is_kept(it[0])]
+    wrong += [f"{' '.join(their)}, where nlshow has {' '.join(our)}" for their, our in pairs if not is_in(their, our)]
+    count = sum(len(their) for their, _ in pairs)
+    print(f"{name}: {count} words of tc" + "".join(f"\n  WRONG {it}" for it in wrong), flush=True)
+    return not wrong
+
+
+def results(folder, run):
+    """Whether what `run` says of each file, given options and the file, is what `tc` said."""
+    names = {}
+    for name in FILES:
+        with open(f"{folder}/{name}.json", encoding="utf-8") as objects_of_tc, open(f"{folder}/{name}.txt", encoding="utf-8") as lines_of_tc:
+            yield compare(name, objects_of_tc.read(), run("--json", f"{folder}/{name}.bin"), names)
+            yield compare_lines(name, lines_of_tc.read(), run(f"{folder}/{name}.bin"), names)

@@ -11,6 +11,7 @@ use crate::row::Line::{Never, Not};
 use crate::row::{Parts, Rows};
 use crate::traffic_qdisc::push_counters;
 use crate::traffic_text::{Handle, U32Handle};
+use crate::value::push_text;
 use crate::walk::{push_list, push_message};
 use netlink_packet_route::framing::AttributeSet;
 use netlink_packet_route::tc::{TcActionMessageBuffer, TcHeader, TcMessageBuffer};
@@ -257,7 +258,7 @@ fn push_kind(fields: &mut Fields, list: List<'_>, word: Word, seen: &Seen<'_>) {
     } else {
         word
     };
-    crate::value::push_text(fields, word, &seen.value)
+    push_text(fields, word, &seen.value)
 }
 
 /// What is shown of a message of actions.

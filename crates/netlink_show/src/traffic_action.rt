@@ -1,12 +1,12 @@
 //! What is shown of actions: of the list that they stand in, and of mirred, nat and tunnel_key.
 
-use crate::field::{Fields, Flags, Word, Wording};
+use crate::field::{Fields, Flags, ITEM, Word, Wording};
 use crate::list::{List, Seen, small};
 use crate::manner::Hexadecimal;
 use crate::names::Names;
 use crate::part::{number_at, push_parts};
 use crate::row::How::{Apart, Data, Flat, Hundredths, Number, Object, Own, Text, Truth};
-use crate::row::Line::Never;
+use crate::row::Line::{Always, Never};
 use crate::row::{Parts, Row, Rows};
 use crate::traffic_text::prefix_of;
 use netlink_packet_route::framing::AttributeSet;
@@ -17,7 +17,7 @@ pub const ANY_ACTION: &Row = &Row {
     number: 0,
     word: &Wording(0, "", ""),
     how: Flat,
-    line: crate::row::Line::Always,
+    line: Always,
 };
 
 /// Of what every action has (`TCA_ACT_*` of `linux/pkt_cls.h`).
@@ -28,9 +28,9 @@ pub const ACTION: Rows = crate::rows![
     4 40 "stats" "" Object, Never;
     6 23 "cookie" "\n\tcookie " Text;
     7 24 "flags" "" Own;
-    8 25 "hw_stats" "hw_stats " Own;
-    9 26 "used_hw_stats" "used_hw_stats " Own;
-    10 27 "in_hw_count" "" Own;
+    8 27 "hw_stats" "hw_stats " Own;
+    9 28 "used_hw_stats" "used_hw_stats " Own;
+    10 25 "in_hw_count" "" Own;
 ];
 
 /// Of what copies packets or sends them elsewhere (`TCA_MIRRED_*` of `linux/tc_act/tc_mirred.h`).
@@ -128,11 +128,11 @@ const OLD: Word = &Wording(1, "old_addr", "");
 
 const NEW: Word = &Wording(2, "new_addr", "");
 
-const IN_DEVICE: Word = &Wording(27, "in_hw", "in_hw");
+const IN_DEVICE: Word = &Wording(25, "in_hw", "in_hw");
 
-const NOT_IN_DEVICE: Word = &Wording(27, "not_in_hw", "not_in_hw");
+const NOT_IN_DEVICE: Word = &Wording(25, "not_in_hw", "not_in_hw");
 
-const DEVICES: Word = &Wording(28, "in_hw_count", "in_hw_count ");
+const DEVICES: Word = &Wording(26, "in_hw_count", "in_hw_count ");
 
 /// A word for JSON and one for a line.
 type Words = (&'static str, &'static str);
@@ -183,7 +183,7 @@ fn push_of_action(fields: &mut Fields, word: Word, seen: &Seen<'_>) {
         }
         (8 | 9, 0) => {
             let mut inside = Fields::new(fields.manner);
-            inside.text(crate::field::ITEM, &"disabled");
+            inside.text(ITEM, &"disabled");
             fields.list(word, inside, " ")
         }
         (8 | 9, _) => fields.set(word, COUNTED, bits, " "),

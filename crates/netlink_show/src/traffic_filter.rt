@@ -2,6 +2,7 @@
 
 use crate::field::{Fields, Flags, Word, Wording};
 use crate::list::{List, Seen, small};
+use crate::manner;
 use crate::part::{number_at, push_parts};
 use crate::row::How::{Bits, Number, Objects, Own, Text};
 use crate::row::Line::Never;
@@ -15,24 +16,24 @@ pub const U32: Rows = crate::rows![
     2 2 "key_ht" "key ht " Own;
     3 5 "link" "link " Own;
     4 1 "ht_divisor" "ht divisor " Number;
-    5 10 "match" "" Own;
-    7 60 "actions" "" Objects("", "", "");
-    8 7 "input_dev" "\n  input dev " Text;
+    5 11 "match" "" Own;
+    7 90 "actions" "" Objects("", "", "");
+    8 14 "input_dev" "\n  input dev " Text;
     9 9 "rule_hit" "" Own;
-    10 8 "mark" "" Own;
+    10 10 "fwmark_value" "\n  mark " Own;
     11 6 "flags" "" Own;
 ];
 
 /// Of a filter that takes all (`TCA_MATCHALL_*` of `linux/pkt_cls.h`).
 pub const MATCH_ALL: Rows = crate::rows![
     1 4 "flowid" "flowid " Own;
-    2 60 "actions" "" Objects("", "", "");
-    3 6 "flags" "" Own;
-    4 9 "rule_hit" "(rule hit " Own;
+    2 90 "actions" "" Objects("", "", "");
+    3 80 "flags" "" Own;
+    4 85 "rule_hit" "(rule hit " Own;
 ];
 
 /// Where a filter works (`TCA_CLS_FLAGS_*` of `linux/pkt_cls.h`).
-pub const PLACES: Flags = &[
+const PLACES: Flags = &[
     (0x1, &Wording(6, "skip_hw", "skip_hw")),
     (0x2, &Wording(6, "skip_sw", "skip_sw")),
     (0x4, &Wording(6, "in_hw", "in_hw")),
@@ -40,21 +41,22 @@ pub const PLACES: Flags = &[
     (0x10, &Wording(6, "verbose", "verbose")),
 ];
 
-/// `struct tc_u32_mark` of `linux/pkt_cls.h`.
-const MARK: Parts = crate::parts![
-    U32 0 8 "fwmark_value" "\n  mark " Bits;
-    U32 4 8 "fwmark_mask" "/" Bits;
-    U32 8 8 "fwmark_success" "" Number, Never;
+/// The same in lines of their own.
+const PLACES_BELOW: Flags = &[
+    (0x1, &Wording(80, "skip_hw", "\n  skip_hw")),
+    (0x2, &Wording(80, "skip_sw", "\n  skip_sw")),
+    (0x4, &Wording(81, "in_hw", "\n  in_hw")),
+    (0x8, &Wording(81, "not_in_hw", "\n  not_in_hw")),
+    (0x10, &Wording(82, "verbose", "\n  verbose")),
 ];
 
 /// What stands in front of the keys of a filter (`struct tc_u32_sel`), but for how many there are.
 const SELECTOR: Parts = crate::parts![
-    U8 0 11 "sel_flags" "" Bits, Never;
-    U8 1 12 "offshift" "" Number, Never;
-    Be16 4 13 "offmask" "" Bits, Never;
-    U16 6 14 "off" "" Number, Never;
-    U16 8 15 "offoff" "" Number, Never;
-    U16 10 16 "hash_off" "" Number, Never;
+    U8 0 20 "sel_flags" "" Bits, Never;
+    U8 1 21 "offshift" "" Number, Never;
+    Be16 4 22 "offmask" "" Bits, Never;
+    U16 6 23 "off" "" Number, Never;
+    U16 8 24 "offoff" "" Number, Never;
 ];
 
 /// The bytes in front of the keys, and those of a key (`struct tc_u32_key`).
@@ -62,9 +64,18 @@ const FRONT: usize = 16;
 
 const KEY: usize = 16;
 
+/// The number of the attribute with counts, of which two are of the filter (`TCA_U32_PCNT`).
+const COUNTERS: u16 = 9;
+
 const BUCKET: Word = &Wording(3, "bkt", "bkt ");
 
-const HASH_MASK: Word = &Wording(16, "hash_mask", "hash mask ");
+const HASH_MASK: Word = &Wording(12, "hash_mask", "\n    hash mask ");
+
+const HASH_OFFSET: Word = &Wording(13, "hash_off", "at ");
+
+const MARK_MASK: Word = &Wording(10, "fwmark_mask", "");
+
+const MARK_SUCCESSES: Word = &Wording(10, "fwmark_success", "(success ");
 
 const MATCH: Word = &Wording(0, "", "\n  match");
 
@@ -80,7 +91,7 @@ const HITS: Word = &Wording(9, "rule_hit", "(rule hit ");
 
 const SUCCESSES: Word = &Wording(9, "success", "success ");
 
-const OF_KEYS: Word = &Wording(10, "key_success", "");
+const OF_KEY: Word = &Wording(4, "success", "(success ");
 
 /// Handles, structures and counters.
 pub fn push_own(fields: &mut Fields, list: List<'_>, word: Word, seen: &Seen<'_>) {
@@ -91,9 +102,10 @@ pub fn push_own(fields: &mut Fields, list: List<'_>, word: Word, seen: &Seen<'_>
         (AttributeSet::TcFilterU32, 3) => fields.text(word, &U32Handle(number)),
         (AttributeSet::TcFilterU32, 5) => push_selector(fields, list, word, seen.bytes),
         (AttributeSet::TcFilterU32, 9) => push_hits(fields, seen.bytes),
-        (AttributeSet::TcFilterU32, 10) => push_parts(fields, list, seen.bytes, MARK),
+        (AttributeSet::TcFilterU32, 10) => push_mark(fields, word, seen.bytes),
+        (AttributeSet::TcFilterU32, _) => push_places(fields, word, number, PLACES),
         (AttributeSet::TcFilterMatchAll, 4) => push_hit(fields, word, seen.bytes),
-        _ => push_places(fields, word, number),
+        _ => push_places_below(fields, word, number),
     }
 }
 
@@ -102,11 +114,37 @@ pub fn push_handle(fields: &mut Fields, word: Word, bytes: &[u8]) {
     fields.text(word, &Handle(number_at(bytes, 0)))
 }
 
+/// Where a filter works, in lines of their own.
+pub fn push_places_below(fields: &mut Fields, word: Word, bits: u32) {
+    push_places(fields, word, bits, PLACES_BELOW);
+}
+
 /// Where a filter works.
-pub fn push_places(fields: &mut Fields, word: Word, bits: u32) {
-    fields.flags(PLACES, bits, Some(true));
+fn push_places(fields: &mut Fields, word: Word, bits: u32, places: Flags) {
+    fields.flags(places, bits, Some(true));
     fields.bits(word, bits);
     fields.hide();
+}
+
+/// A mark of packets, those bits of it that are looked at, and how often it was that.
+fn push_mark(fields: &mut Fields, word: Word, bytes: &[u8]) {
+    let (value, mask, taken) = (
+        number_at(bytes, 0),
+        number_at(bytes, 4),
+        number_at(bytes, 8),
+    );
+    let alloc = fields.manner.alloc;
+    fields.text_shown(
+        word,
+        &manner::Bits(value.into()),
+        format!(in alloc; "{value:#06x}"),
+    );
+    fields.text_shown(
+        MARK_MASK,
+        &manner::Bits(mask.into()),
+        format!(in alloc; "{mask:#06x}"),
+    );
+    fields.written(MARK_SUCCESSES, taken, format!(in alloc; "{taken})"));
 }
 
 /// The table that an element stands in, and its bucket there.
@@ -120,40 +158,59 @@ fn push_table(fields: &mut Fields, word: Word, handle: u32) {
 /// The keys, each in a line, and what a hash is made of.
 fn push_selector(fields: &mut Fields, list: List<'_>, word: Word, bytes: &[u8]) {
     push_parts(fields, list, bytes, SELECTOR);
-    let hashed = number_at(bytes, 12).swap_bytes();
-    fields.made(HASH_MASK, format!(in fields.manner.alloc; "{hashed:x}"));
-    fields.hide_if(hashed == 0);
+    push_hash(fields, bytes);
+    let counts = match list.first(COUNTERS) {
+        Some(seen) => seen.bytes,
+        None => &[],
+    };
     let mut objects = Fields::new(fields.manner);
     let mut left = bytes.get(FRONT..).unwrap_or(&[]);
-    for _ in 0..bytes.len() {
+    for place in 2..bytes.len() {
         let (Some(key), Some(behind)) = (left.get(..KEY), left.get(KEY..)) else {
             break;
         };
         let mut inside = Fields::new(fields.manner);
-        push_key(&mut inside, key);
+        push_key(&mut inside, key, Size::U64.number_in(counts, place));
         objects.object(MATCH, inside);
         left = behind;
     }
     fields.list(word, objects, "");
 }
 
-/// The value of some bytes of a packet, those bits of it that are looked at, and where it stands.
-fn push_key(inside: &mut Fields, key: &[u8]) {
+/// What a hash is made of, if of anything.
+fn push_hash(fields: &mut Fields, bytes: &[u8]) {
+    let alloc = fields.manner.alloc;
+    let mask = number_at(bytes, 12).swap_bytes();
+    let offset = Size::U16.number_at(bytes, 10).unwrap_or(0);
+    if mask != 0 {
+        fields.text_shown(
+            HASH_MASK,
+            &format_args!("{mask:x}"),
+            format!(in alloc; "{mask:08x}"),
+        );
+        fields.number(HASH_OFFSET, offset)
+    }
+}
+
+/// The value of some bytes of a packet, those bits of it that are looked at, where it stands, and how often
+/// it was there.
+fn push_key(inside: &mut Fields, key: &[u8], taken: Option<u64>) {
     inside.bytes(VALUE, key.get(4..8).unwrap_or(&[]));
     inside.bytes(MASK, key.get(..4).unwrap_or(&[]));
+    let alloc = inside.manner.alloc;
     let (at, mask) = (number_at(key, 8).cast_signed(), number_at(key, 12));
     match mask {
         0 => inside.number(AT, at),
-        _ => {
-            let text = format!(in inside.manner.alloc; "nexthdr+{at}");
-            inside.written(AT, at, text)
-        }
+        _ => inside.written(AT, at, format!(in alloc; "nexthdr+{at}")),
     }
     inside.bits(BEHIND, mask);
-    inside.hide()
+    inside.hide();
+    if let Some(count) = taken {
+        inside.written(OF_KEY, count, format!(in alloc; "{count} )"))
+    }
 }
 
-/// How often a filter was asked, how often it took a packet, and the same of each key.
+/// How often a filter was asked, and how often it took a packet. Counts of keys stand with them.
 fn push_hits(fields: &mut Fields, bytes: &[u8]) {
     let (Some(asked), Some(taken)) = (Size::U64.number_in(bytes, 0), Size::U64.number_in(bytes, 1))
     else {
@@ -161,16 +218,7 @@ fn push_hits(fields: &mut Fields, bytes: &[u8]) {
     };
     fields.number(HITS, asked);
     let text = format!(in fields.manner.alloc; "{taken})");
-    fields.written(SUCCESSES, taken, text);
-    let mut keys = Fields::new(fields.manner);
-    for place in 2..bytes.len() {
-        let Some(count) = Size::U64.number_in(bytes, place) else {
-            break;
-        };
-        keys.number(crate::field::ITEM, count);
-    }
-    fields.list(OF_KEYS, keys, " ");
-    fields.hide()
+    fields.written(SUCCESSES, taken, text)
 }
 
 /// How often a filter took a packet.

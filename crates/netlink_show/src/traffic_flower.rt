@@ -8,7 +8,7 @@ use crate::row::How::{Apart, Flat, Number, Objects, Own, Text};
 use crate::row::Line::IfAny;
 use crate::row::Rows;
 use crate::traffic::push_frame;
-use crate::traffic_filter::{push_handle, push_places};
+use crate::traffic_filter::{push_handle, push_places_below};
 use crate::traffic_text::prefix_of;
 use netlink_packet_route::framing::Value;
 use std::fmt;
@@ -99,7 +99,7 @@ pub const FLOWER: Rows = crate::rows![
     81 0 "enc_tos_mask" "" Apart;
     82 48 "enc_ttl" "\n  enc_ttl " Own;
     83 0 "enc_ttl_mask" "" Apart;
-    86 82 "in_hw_count" "in_hw_count " Number, IfAny;
+    86 83 "in_hw_count" "in_hw_count " Number, IfAny;
     87 33 "src_port" "\n  src_port" Own;
     88 0 "" "" Apart;
     89 32 "dst_port" "\n  dst_port" Own;
@@ -209,7 +209,7 @@ pub fn push_own(fields: &mut Fields, list: List<'_>, word: Word, seen: &Seen<'_>
         8 => push_type(fields, word, number),
         9 if number == ICMPV6 => fields.named(word, ICMPV6_NAME, number),
         9 => fields.named(word, IP_PROTOCOLS, number),
-        22 => push_places(fields, word, number),
+        22 => push_places_below(fields, word, number),
         25 | 79 => push_frame(fields, word, number),
         47 => push_bits(
             fields,

@@ -3,12 +3,11 @@
 use crate::field::{Fields, Word};
 use crate::list::{List, Seen, bytes_of, small};
 use crate::names::Names;
-use crate::part::push_parts;
+use crate::part::{push_parts, push_structure};
 use crate::row::How::{Named, Number, Own, Signed, Text, Truth};
 use crate::row::Line::{IfAny, IfBits, Never};
 use crate::row::{ANY, Parts, Rows, Size};
-use crate::traffic_text;
-use crate::traffic_text::Microseconds;
+use crate::traffic_text::{Bytes, Microseconds};
 use netlink_packet_route::framing::AttributeSet;
 use netlink_packet_route::tc::TcForm;
 
@@ -128,7 +127,7 @@ fn push_stats(fields: &mut Fields, list: List<'_>, word: Word, seen: &Seen<'_>) 
         3 => push_parts(fields, list, seen.bytes, QUEUE),
         4 => push_counters(fields, list, word, seen),
         5 => push_parts(fields, list, seen.bytes, RATE64),
-        _ => crate::part::push_structure(fields, list, word, seen.bytes, BASIC),
+        _ => push_structure(fields, list, word, seen.bytes, BASIC),
     }
 }
 
@@ -149,7 +148,7 @@ fn push_fq_codel(fields: &mut Fields, word: Word, seen: &Seen<'_>) {
             let text = format!(in fields.manner.alloc; "{number}p");
             fields.written(word, number, text)
         }
-        9 => fields.push(word, number, &traffic_text::Size(number)),
+        9 => fields.push(word, number, &Bytes(number)),
         10 | 11 => fields.bits(word, number),
         _ => fields.push(word, number, &Microseconds(number)),
     }

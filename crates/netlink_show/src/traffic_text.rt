@@ -100,13 +100,13 @@ impl fmt::Display for Hundredths {
 
 /// Bytes, where they are close to a number of larger units in these.
 #[derive(Clone, Copy)]
-pub struct Size(pub u32);
+pub struct Bytes(pub u32);
 
 const KIB: u64 = 1024;
 
 const MIB: u64 = 1_048_576;
 
-impl fmt::Display for Size {
+impl fmt::Display for Bytes {
     fn fmt<W: fmt::Write>(&self, f: &mut fmt::Formatter<W>) -> fmt::Result {
         let count = u64::from(self.0);
         let (of_mib, of_kib) = ((count + MIB / 2) / MIB, (count + KIB / 2) / KIB);
