@@ -26,6 +26,8 @@ netconfs 0
 address-labels 0
 neighbour-tables 0
 prefixes 0
+tc 0
+tc-actions 0
 others 0
 controls 0
 refused 0
