@@ -63,13 +63,13 @@ impl fmt::Display for Rounded {
     fn fmt<W: fmt::Write>(&self, f: &mut fmt::Formatter<W>) -> fmt::Result {
         let (count, unit) = (u64::from(self.0), u64::from(self.1));
         match count.checked_div(unit) {
-            Some(100..) => write!(f, "{}", rounded(count, unit)),
+            Some(100..) => write!(f, "{}", nearest(count, unit)),
             Some(10..) => {
-                let tenths = rounded(count.saturating_mul(10), unit);
+                let tenths = nearest(count.saturating_mul(10), unit);
                 write!(f, "{}{}", tenths / 10, Hundredths(tenths % 10 * 10))
             }
             _ => {
-                let hundredths = rounded(count.saturating_mul(100), unit);
+                let hundredths = nearest(count.saturating_mul(100), unit);
                 write!(f, "{}{}", hundredths / 100, Hundredths(hundredths % 100))
             }
         }
@@ -77,7 +77,7 @@ impl fmt::Display for Rounded {
 }
 
 /// How many units the count is, to the nearest.
-fn rounded(count: u64, unit: u64) -> u64 {
+fn nearest(count: u64, unit: u64) -> u64 {
     count
         .saturating_add(unit / 2)
         .checked_div(unit)
