@@ -226,7 +226,7 @@ pub fn push_own(fields: &mut Fields, list: List<'_>, word: Word, seen: &Seen<'_>
             ("", "-", "+"),
             (STATES, number, list.number(92)),
         ),
-        _ => push_masked(fields, word, seen, mask_of(list, seen.number)),
+        _ => push_masked(fields, list, word, seen),
     }
 }
 
@@ -283,18 +283,24 @@ fn mask_of(list: List<'_>, number: u16) -> Option<Seen<'_>> {
     list.first(*mask)
 }
 
-/// A value, and which of its bits count.
-fn push_masked(fields: &mut Fields, word: Word, seen: &Seen<'_>, mask: Option<Seen<'_>>) {
+/// A value, and which of its bits count, where not all do.
+fn push_masked(fields: &mut Fields, list: List<'_>, word: Word, seen: &Seen<'_>) {
+    match mask_of(list, seen.number) {
+        Some(mask) if !is_whole(mask.bytes) => push_part(fields, word, seen, &mask),
+        _ if is_number(seen) => fields.number(word, small(&seen.value)),
+        _ => fields.text(word, &Plain(seen)),
+    }
+}
+
+/// A value, and those of its bits that count: as the length of a prefix, if they are one.
+fn push_part(fields: &mut Fields, word: Word, seen: &Seen<'_>, mask: &Seen<'_>) {
+    if is_number(seen) {
+        return push_number(fields, word, seen, mask);
+    }
     let alloc = fields.manner.alloc;
-    let bits = mask.filter(|mask| !is_whole(mask));
-    let text = match (&bits, is_number(seen)) {
-        (None, true) => return fields.number(word, small(&seen.value)),
-        (None, false) => format!(in alloc; "{}", Plain(seen)),
-        (Some(mask), true) => return push_number(fields, word, seen, mask),
-        (Some(mask), false) => match prefix_of(mask.bytes) {
-            Some(length) => format!(in alloc; "{}/{length}", Plain(seen)),
-            None => format!(in alloc; "{}/{}", Plain(seen), Plain(mask)),
-        },
+    let text = match prefix_of(mask.bytes) {
+        Some(length) => format!(in alloc; "{}/{length}", Plain(seen)),
+        None => format!(in alloc; "{}/{}", Plain(seen), Plain(mask)),
     };
     fields.made(word, text)
 }
@@ -313,9 +319,9 @@ fn push_number(fields: &mut Fields, word: Word, seen: &Seen<'_>, mask: &Seen<'_>
     }
 }
 
-/// Whether all bits of a value count.
-fn is_whole(mask: &Seen<'_>) -> bool {
-    mask.bytes.iter().all(|byte| *byte == 0xff)
+/// Whether a mask has all bits.
+fn is_whole(mask: &[u8]) -> bool {
+    mask.iter().all(|byte| *byte == 0xff)
 }
 
 /// Whether a value is neither an address nor bytes.
