@@ -1,13 +1,12 @@
 //! Where in a message the first fault stands: its attributes are checked one after the other.
 
-ghost use Rattle.std.specs.Prelude.{◌≡◌, ◌≤◌, ◌<◌, ◌⊎◌, ℕ, List, None, length, drop, IfOk, IfErr, IfSome};
+ghost use Rattle.std.specs.Prelude.{◌≡◌, ◌≤◌, ◌<◌, ◌⊎◌, ℕ, List, None, true, false, length, drop, IfOk, IfErr};
 ghost use Rattle.{
   npr_base.specs.Message.{IsMessage, MessageFault},
-  npr_names.specs.Refusals.{HasEither},
   netlink_packet_route.specs.{
     MessageKind.{MessageOf, form_of, header_size},
     NestLists.{IsListAt},
-    Stops.{AreWanted, AreWantedIn, IsHolder, IsHolderIn, StandsIn, StopsAt, form_at},
+    Stops.{AreLengths, AreWanted, AreWantedIn, IsApart, IsHolder, IsHolderIn, StandsIn, StopsAt},
   },
 };
 
@@ -68,14 +67,17 @@ fn check_through(kind: MessageKind, bytes: &[u8]) -> Result<(), Stop>
 }
 
 /// Whether what an encapsulation holds is of another set, as in a next hop.
-fn is_apart(nest: Nest, set: AttributeSet) -> bool {
+fn is_apart(nest: Nest, set: AttributeSet) -> bool
+    ensures apart { result ≡ true → IsApart nest set }
+    ensures not { result ≡ false → IsApart nest set → ⊥ }
+{
     matches!(nest.set, AttributeSet::Encap) && nest.told_set() != set
 }
 
 /// The lengths of the value of an attribute, in a message with this list. None where they are not known: of a
 /// reader of its own, or in another encapsulation.
 fn lengths_at(nest: Nest, at: At) -> Option<(usize, usize)>
-    ensures { IfSome result (λ lengths. HasEither (form_at nest at) lengths.0 lengths.1) }
+    ensures { AreLengths nest at result }
 {
     let inner = Nest::new(at.set, nest.context);
     if is_apart(inner, at.set) {
@@ -87,7 +89,7 @@ fn lengths_at(nest: Nest, at: At) -> Option<(usize, usize)>
 
 /// Those of the value of which a refusal tells another length.
 fn wanted_by(nest: Nest, refusal: DecodeError) -> Option<(usize, usize)>
-    ensures { IfSome result (λ lengths. AreWanted nest refusal lengths.0 lengths.1) }
+    ensures { AreWanted nest refusal result }
 {
     match refusal {
         DecodeError::ValueLength { at, .. } => lengths_at(nest, at),
@@ -114,7 +116,7 @@ fn located(kind: MessageKind, bytes: &[u8], stop: Stop) -> Located
     ensures refusal { result.refusal ≡ stop.refusal }
     ensures offset { result.offset ≡ stop.offset }
     ensures holder { (IsHolderIn kind bytes.now stop.offset result.holder) ⊎ ((length bytes.now < header_size kind) × (result.holder ≡ None)) }
-    ensures wanted { IfSome result.wanted (λ lengths. AreWantedIn kind bytes.now stop.refusal lengths.0 lengths.1) }
+    ensures wanted { (AreWantedIn kind bytes.now stop.refusal result.wanted) ⊎ ((length bytes.now < header_size kind) × (result.wanted ≡ None)) }
 {
     let refusal = stop.refusal;
     let offset = stop.offset;
@@ -146,7 +148,8 @@ pub fn locate(kind: MessageKind, bytes: &[u8]) -> Result<(), Located>
     // The attribute that stands there, and the lengths that a value may have of which another is refused.
     ensures holder { IfErr result (λ place. (IsHolderIn kind bytes.now place.offset place.holder)
         ⊎ ((length bytes.now < header_size kind) × (place.holder ≡ None))) }
-    ensures wanted { IfErr result (λ place. IfSome place.wanted (λ lengths. AreWantedIn kind bytes.now place.refusal lengths.0 lengths.1)) }
+    ensures wanted { IfErr result (λ place. (AreWantedIn kind bytes.now place.refusal place.wanted)
+        ⊎ ((length bytes.now < header_size kind) × (place.wanted ≡ None))) }
 {
     match check_through(kind, bytes) {
         Ok(()) => Ok(()),

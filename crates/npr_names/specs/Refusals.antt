@@ -8,6 +8,8 @@ use Rattle.npr_base.specs.declared.refusal.DecodeError.TheVariants.{ValueLength,
 use Rattle.npr_base.specs.declared.refusal.Seg6Fault.{Seg6Fault}
 use Rattle.npr_base.specs.declared.refusal.Seg6Fault.TheVariants.{Short, Length, Hmac, Segments}
 use Rattle.npr_base.specs.declared.value.Form.{Form}
+use Rattle.npr_base.specs.declared.value.Form.TheVariants.{Byte, Boolean, Little16, Big16, Signed32, Little32, Big32, Octets4, Little64, Big64}
+use Rattle.npr_base.specs.declared.value.Form.TheVariants.{Octets16, Uint, Flag, Ip, Exactly}
 use Rattle.npr_base.specs.Value.{Shown, Shows}
 use Rattle.npr_names.specs.Names.{name_at}
 
@@ -24,6 +26,25 @@ seg6_text Short = codes "without its fixed part"
 seg6_text Length = codes "of another length than it states"
 seg6_text Hmac = codes "without room for its HMAC"
 seg6_text Segments = codes "of segments that are not whole"
+
+-- the lengths of a value that is read so: one, or two that are told apart; none where it may have more
+abbrev pub lengths_told : Form → Option (ℕ × ℕ)
+lengths_told Byte = Some (1, 1)
+lengths_told Boolean = Some (1, 1)
+lengths_told Little16 = Some (2, 2)
+lengths_told Big16 = Some (2, 2)
+lengths_told Signed32 = Some (4, 4)
+lengths_told Little32 = Some (4, 4)
+lengths_told Big32 = Some (4, 4)
+lengths_told Octets4 = Some (4, 4)
+lengths_told Little64 = Some (8, 8)
+lengths_told Big64 = Some (8, 8)
+lengths_told Octets16 = Some (16, 16)
+lengths_told Uint = Some (4, 8)
+lengths_told Flag = Some (0, 1)
+lengths_told Ip = Some (4, 16)
+lengths_told (Exactly size) = Some (size, size)
+lengths_told _ = None
 
 -- each value that is read so has one of two lengths
 abbrev pub HasEither : Form → ℕ → ℕ → Type 0

@@ -1,7 +1,7 @@
 //! Refusals in words: what is wrong, at which attribute, and where.
 
 ghost use Rattle.std.specs.Prelude.{◌≡◌, ℕ, Some, IfSome, IfNone};
-ghost use Rattle.npr_names.specs.Refusals.{Fronts, HasEither, named_text, seg6_text, told_of};
+ghost use Rattle.npr_names.specs.Refusals.{Fronts, HasEither, lengths_told, named_text, seg6_text, told_of};
 
 use crate::names::attribute_name;
 use npr_base::{At, AttributeSet, DecodeError, Form, NlasIterator, Seg6Fault};
@@ -25,7 +25,8 @@ impl fmt::Display for Named {
 
 /// The lengths in bytes of a value that is read so: one, or two that are told apart. None where it may have more.
 pub fn lengths_of(form: Form) -> Option<(usize, usize)>
-    ensures { IfSome result (λ lengths. HasEither form lengths.0 lengths.1) }
+    ensures told { result ≡ lengths_told form }
+    ensures has { IfSome result (λ lengths. HasEither form lengths.0 lengths.1) }
 {
     match form {
         Form::Byte | Form::Boolean => Some((1, 1)),
