@@ -93,8 +93,11 @@ class Comparison:
         for key, value in told:
             key = NAMES.get(key, key)
             if key == "actions":
-                for action, its in zip(value, dict(own).get("actions", [])):
-                    self.compare(action, its)
+                shown = dict(own).get("actions", [])
+                if len(value) != len(shown):
+                    self.wrong.append(f"{kind}: {len(value)} actions of tc, {len(shown)}")
+                for pair in zip(value, shown):
+                    self.compare(*pair)
             elif key not in LEFT_OUT and (kind in READ or key in wanted) and not (key == "nofrag" and value is False):
                 self.keys += 1
                 if not self.same(key, value, dict(own).get(key)):
