@@ -12,8 +12,8 @@ use Rattle.npr_base.proofs.NestLaws.{plain-list, opened-by, table-nests}
 use Rattle.npr_base.specs.declared.refusal.At.{At}
 use Rattle.npr_base.specs.declared.refusal.AttributeSet.TheVariants.{Opt}
 use Rattle.npr_base.specs.declared.value.Form.{Form}
-use Rattle.npr_tunnel.specs.Encapsulation as OfEncap
-use Rattle.npr_tunnel.specs.TunnelOptions as OfOption
+use Rattle.npr_encapsulation.specs.Encapsulation as OfEncap
+use Rattle.npr_encapsulation.specs.TunnelOptions as OfOption
 use Rattle.npr_base.specs.EnumTable.{other_in}
 use Rattle.npr_base.specs.Tables.{Meanings, attributes_of}
 use Rattle.npr_base.specs.Value.{Shown}
@@ -27,12 +27,12 @@ use Rattle.npr_srh.specs.Seg6LocalTunnel as OfSeg6Local
 use Rattle.npr_srh.specs.Seg6Mode.{modes}
 use Rattle.npr_srh.specs.Seg6Tunnel as OfSeg6
 use Rattle.npr_srh.specs.Trace.{trace}
-use Rattle.npr_tunnel.specs.IpTunnel as OfIp
-use Rattle.npr_tunnel.specs.MplsTunnel as OfMpls
-use Rattle.npr_tunnel.specs.Wrapped.{kept, wrapped}
-use Rattle.npr_tunnel.specs.XfrmTunnel as OfXfrm
-use Rattle.npr_tunnel.specs.declared.encap_type.RouteLwEnCapType.{RouteLwEnCapType}
-use Rattle.npr_tunnel.specs.declared.encap_type.RouteLwEnCapType.TheVariants as Tunnel
+use Rattle.npr_encapsulation.specs.IpTunnel as OfIp
+use Rattle.npr_encapsulation.specs.MplsTunnel as OfMpls
+use Rattle.npr_encapsulation.specs.Wrapped.{kept, wrapped}
+use Rattle.npr_encapsulation.specs.XfrmTunnel as OfXfrm
+use Rattle.npr_encapsulation.specs.declared.encap_type.RouteLwEnCapType.{RouteLwEnCapType}
+use Rattle.npr_encapsulation.specs.declared.encap_type.RouteLwEnCapType.TheVariants as Tunnel
 use denote.Enum.Declared.{Record}
 use Rattle.netlink_packet_route.specs.Nests.{Inner, has_header, nest_in, reading_of}
 use Rattle.netlink_packet_route.specs.declared.context.Context.{Context}

@@ -58,12 +58,12 @@ use Rattle.npr_nexthop.specs.ResBucket as OfResBucket
 use Rattle.npr_nexthop.specs.ResGroup as OfResGroup
 use Rattle.npr_route.specs.Metric as OfMetric
 use Rattle.npr_rule.specs.Attribute as OfRule
-use Rattle.npr_small.specs.AddressLabelAttribute as OfAddressLabel
-use Rattle.npr_small.specs.NeighbourTableAttribute as OfNeighbourTable
-use Rattle.npr_small.specs.NeighbourTableParameter as OfNeighbourTableParameter
-use Rattle.npr_small.specs.NetconfAttribute as OfNetconf
-use Rattle.npr_small.specs.NsidAttribute as OfNsid
-use Rattle.npr_small.specs.PrefixAttribute as OfPrefix
+use Rattle.npr_address.specs.AddressLabelAttribute as OfAddressLabel
+use Rattle.npr_neighbour.specs.NeighbourTableAttribute as OfNeighbourTable
+use Rattle.npr_neighbour.specs.NeighbourTableParameter as OfNeighbourTableParameter
+use Rattle.npr_namespace.specs.NetconfAttribute as OfNetconf
+use Rattle.npr_namespace.specs.NsidAttribute as OfNsid
+use Rattle.npr_address.specs.PrefixAttribute as OfPrefix
 use Rattle.npr_tc.specs.ActionAttribute as OfTcActionMessage
 use Rattle.npr_tc_actions.specs.MirrorOption as OfTcMirror
 use Rattle.npr_tc_actions.specs.NatOption as OfTcNat
@@ -76,13 +76,13 @@ use Rattle.npr_tc_filters.specs.U32Option as OfTcU32
 use Rattle.npr_tc_qdiscs.specs.FqCodel as OfTcFqCodel
 use Rattle.npr_tc_qdiscs.specs.Ingress as OfTcIngress
 use Rattle.npr_tc_qdiscs.specs.Stab as OfTcStab
-use Rattle.npr_tunnel.specs.Encapsulation as OfEncap
-use Rattle.npr_tunnel.specs.ErspanOptions as OfErspan
-use Rattle.npr_tunnel.specs.TunnelOptions as OfOption
-use Rattle.npr_tunnel.specs.VxlanOptions as OfVxlan
+use Rattle.npr_encapsulation.specs.Encapsulation as OfEncap
+use Rattle.npr_encapsulation.specs.ErspanOptions as OfErspan
+use Rattle.npr_encapsulation.specs.TunnelOptions as OfOption
+use Rattle.npr_encapsulation.specs.VxlanOptions as OfVxlan
 use Rattle.npr_neighbour.specs.NeighbourAddress as OfNeighbourAddress
-use Rattle.npr_scalar.specs.RouteAddress as OfAddresses
-use Rattle.npr_tunnel.specs.declared.encap_type.RouteLwEnCapType.TheVariants as Tunnel
+use Rattle.npr_route_values.specs.RouteAddress as OfAddresses
+use Rattle.npr_encapsulation.specs.declared.encap_type.RouteLwEnCapType.TheVariants as Tunnel
 use Rattle.netlink_packet_route.specs.Nests.{Inner, reading_by, reading_of, within}
 use Rattle.netlink_packet_route.specs.declared.context.Context.{Context}
 use Rattle.netlink_packet_route.specs.declared.nests.Nest.{Nest}

@@ -23,7 +23,7 @@ use Rattle.npr_link.specs.PeerAttribute as OfPeer
 use Rattle.npr_neighbour.specs.Attribute as OfNeighbour
 use Rattle.npr_nexthop.specs.Attribute as OfNextHopMessage
 use Rattle.npr_route.specs.AttributeFamily as OfRoute
-use Rattle.npr_tunnel.specs.Encapsulation as OfEncap
+use Rattle.npr_encapsulation.specs.Encapsulation as OfEncap
 use Rattle.npr_base.specs.Table.{first_family}
 use Rattle.npr_base.specs.declared.value.Form.TheVariants.{Inside}
 use Rattle.npr_base.specs.Choices.{Held, Case, chosen}
@@ -37,7 +37,7 @@ use Rattle.npr_route.specs.Attribute.{Meaning as RouteMeaning, Reads, Wrong, fla
 use Rattle.npr_route.specs.FlatAttribute as Flat
 use Rattle.npr_route.specs.FlatAttribute.{Context as RouteContext}
 use Rattle.npr_route.specs.FlatFamily as FlatLaws
-use Rattle.npr_scalar.specs.RouteAddress as OfAddresses
+use Rattle.npr_route_values.specs.RouteAddress as OfAddresses
 use Rattle.netlink_packet_route.specs.Nests.{Inner, has_reader, nest_in, reading_of}
 use Rattle.netlink_packet_route.specs.declared.context.Context.{Context}
 use Rattle.netlink_packet_route.specs.declared.nests.Nest.{Nest}

@@ -23,12 +23,12 @@ use Rattle.npr_route.specs.Governing.{item_type, Governs}
 use Rattle.npr_route.specs.Header.{header as route_header}
 use Rattle.npr_route.specs.Message.{IsContext}
 use Rattle.npr_route.specs.declared.header.RouteHeader.{RouteHeader}
-use Rattle.npr_scalar.specs.RouteType.{route_types}
+use Rattle.npr_route_values.specs.RouteType.{route_types}
 use Rattle.npr_tc_actions.specs.declared.form.TcActionForm.{TcActionForm}
 use Rattle.npr_tc_qdiscs.specs.declared.form.TcForm.{TcForm}
-use Rattle.npr_tunnel.specs.EncapType.{encap_type, encap_types}
-use Rattle.npr_tunnel.specs.declared.encap_type.RouteLwEnCapType.{RouteLwEnCapType}
-use Rattle.npr_tunnel.specs.declared.encap_type.RouteLwEnCapType.TheVariants.{None as NoEncapsulation}
+use Rattle.npr_encapsulation.specs.EncapType.{encap_type, encap_types}
+use Rattle.npr_encapsulation.specs.declared.encap_type.RouteLwEnCapType.{RouteLwEnCapType}
+use Rattle.npr_encapsulation.specs.declared.encap_type.RouteLwEnCapType.TheVariants.{None as NoEncapsulation}
 use Rattle.npr_base.specs.declared.address_family.AddressFamily.{AddressFamily}
 use Rattle.npr_base.specs.declared.refusal.AttributeSet.{AttributeSet}
 use Rattle.npr_base.specs.declared.refusal.AttributeSet.TheVariants.{Route, Neighbour, Link, NextHop, Encap, LinkInfo, Value, Mpls, Ip, Ip6, Xfrm, Geneve, Seg6}

@@ -86,21 +86,21 @@ pub use Rattle.netlink_packet_core.specs.Protocol
 pub use Rattle.netlink_packet_core.specs.Request as NetlinkRequest
 pub use Rattle.netlink_packet_core.specs.Walk as EnvelopeWalk
 -- values
-pub use Rattle.npr_scalar.specs.IpProtocol
-pub use Rattle.npr_scalar.specs.Mpls
-pub use Rattle.npr_scalar.specs.MplsCodec as MplsLaws
-pub use Rattle.npr_scalar.specs.Realm as RouteRealm
-pub use Rattle.npr_scalar.specs.RouteAddress
-pub use Rattle.npr_scalar.specs.RouteCacheInfo
-pub use Rattle.npr_scalar.specs.RouteFlags
-pub use Rattle.npr_scalar.specs.RouteMfcStats
-pub use Rattle.npr_scalar.specs.RoutePreference
-pub use Rattle.npr_scalar.specs.RouteProtocol
-pub use Rattle.npr_scalar.specs.RouteScope
-pub use Rattle.npr_scalar.specs.RouteType
-pub use Rattle.npr_scalar.specs.RouteVia
-pub use Rattle.npr_scalar.specs.TtlPropagation
-pub use Rattle.npr_scalar.specs.ViaBuffer as RouteViaBuffer
+pub use Rattle.npr_route_values.specs.IpProtocol
+pub use Rattle.npr_route_values.specs.Mpls
+pub use Rattle.npr_route_values.specs.MplsCodec as MplsLaws
+pub use Rattle.npr_route_values.specs.Realm as RouteRealm
+pub use Rattle.npr_route_values.specs.RouteAddress
+pub use Rattle.npr_route_values.specs.RouteCacheInfo
+pub use Rattle.npr_route_values.specs.RouteFlags
+pub use Rattle.npr_route_values.specs.RouteMfcStats
+pub use Rattle.npr_route_values.specs.RoutePreference
+pub use Rattle.npr_route_values.specs.RouteProtocol
+pub use Rattle.npr_route_values.specs.RouteScope
+pub use Rattle.npr_route_values.specs.RouteType
+pub use Rattle.npr_route_values.specs.RouteVia
+pub use Rattle.npr_route_values.specs.TtlPropagation
+pub use Rattle.npr_route_values.specs.ViaBuffer as RouteViaBuffer
 -- routing headers
 pub use Rattle.npr_srh.specs.Headed
 pub use Rattle.npr_srh.specs.Ioam6Mode
@@ -118,18 +118,18 @@ pub use Rattle.npr_srh.specs.Seg6Tunnel
 pub use Rattle.npr_srh.specs.Segments
 pub use Rattle.npr_srh.specs.Trace
 -- tunnels
-pub use Rattle.npr_tunnel.specs.EncapType
-pub use Rattle.npr_tunnel.specs.Encapsulation
-pub use Rattle.npr_tunnel.specs.ErspanOptions
-pub use Rattle.npr_tunnel.specs.Geneve
-pub use Rattle.npr_tunnel.specs.GeneveChildren
-pub use Rattle.npr_tunnel.specs.GeneveLooks
-pub use Rattle.npr_tunnel.specs.IpTunnel
-pub use Rattle.npr_tunnel.specs.MplsTunnel
-pub use Rattle.npr_tunnel.specs.TunnelOptions
-pub use Rattle.npr_tunnel.specs.VxlanOptions
-pub use Rattle.npr_tunnel.specs.Wrapped
-pub use Rattle.npr_tunnel.specs.XfrmTunnel
+pub use Rattle.npr_encapsulation.specs.EncapType
+pub use Rattle.npr_encapsulation.specs.Encapsulation
+pub use Rattle.npr_encapsulation.specs.ErspanOptions
+pub use Rattle.npr_encapsulation.specs.Geneve
+pub use Rattle.npr_encapsulation.specs.GeneveChildren
+pub use Rattle.npr_encapsulation.specs.GeneveLooks
+pub use Rattle.npr_encapsulation.specs.IpTunnel
+pub use Rattle.npr_encapsulation.specs.MplsTunnel
+pub use Rattle.npr_encapsulation.specs.TunnelOptions
+pub use Rattle.npr_encapsulation.specs.VxlanOptions
+pub use Rattle.npr_encapsulation.specs.Wrapped
+pub use Rattle.npr_encapsulation.specs.XfrmTunnel
 -- address messages
 pub use Rattle.npr_address.specs.AddressFlags
 pub use Rattle.npr_address.specs.AddressProtocol
@@ -199,9 +199,9 @@ pub use Rattle.npr_link.specs.VlanQos as LinkVlanQos
 pub use Rattle.npr_link.specs.Vrf as LinkVrf
 pub use Rattle.npr_link.specs.Xdp as LinkXdp
 pub use Rattle.npr_link.specs.XdpAttached as LinkXdpAttached
-pub use Rattle.npr_link_numbers.specs.Coherent as LinkCoherent
-pub use Rattle.npr_link_numbers.specs.Grown as LinkGrown
-pub use Rattle.npr_link_numbers.specs.Names as LinkNumberNames
+pub use Rattle.npr_link_statistics.specs.Coherent as LinkCoherent
+pub use Rattle.npr_link_statistics.specs.Grown as LinkGrown
+pub use Rattle.npr_link_statistics.specs.Names as LinkNumberNames
 pub use Rattle.npr_base.specs.Words
 pub use Rattle.npr_link_bridge.specs.AfSpecBridge
 pub use Rattle.npr_link_bridge.specs.BridgeFlag
@@ -225,7 +225,7 @@ pub use Rattle.npr_rule.specs.Action as RuleAction
 pub use Rattle.npr_rule.specs.Attribute as RuleAttribute
 pub use Rattle.npr_rule.specs.Flags as RuleFlags
 pub use Rattle.npr_rule.specs.Header as RuleHeader
-pub use Rattle.npr_scalar.specs.IpProtocolByte
+pub use Rattle.npr_route_values.specs.IpProtocolByte
 pub use Rattle.npr_rule.specs.Message as RuleMessage
 pub use Rattle.npr_rule.specs.PortRange as RulePortRange
 pub use Rattle.npr_rule.specs.UidRange as RuleUidRange
@@ -259,25 +259,25 @@ pub use Rattle.npr_nexthop.specs.OpFlags as NextHopOpFlags
 pub use Rattle.npr_nexthop.specs.ResBucket as NextHopResBucket
 pub use Rattle.npr_nexthop.specs.ResGroup as NextHopResGroup
 -- name spaces, settings, address labels, tables of neighbours, prefixes
-pub use Rattle.npr_small.specs.AddressLabelAttribute
-pub use Rattle.npr_small.specs.AddressLabelHeader
-pub use Rattle.npr_small.specs.AddressLabelMessage
-pub use Rattle.npr_small.specs.NeighbourTableAttribute
-pub use Rattle.npr_small.specs.NeighbourTableConfig
-pub use Rattle.npr_small.specs.NeighbourTableHeader
-pub use Rattle.npr_small.specs.NeighbourTableMessage
-pub use Rattle.npr_small.specs.NeighbourTableParameter
-pub use Rattle.npr_small.specs.NeighbourTableStats
-pub use Rattle.npr_small.specs.NetconfAttribute
-pub use Rattle.npr_small.specs.NetconfHeader
-pub use Rattle.npr_small.specs.NetconfMessage
-pub use Rattle.npr_small.specs.NsidAttribute
-pub use Rattle.npr_small.specs.NsidHeader
-pub use Rattle.npr_small.specs.NsidMessage
-pub use Rattle.npr_small.specs.PrefixAttribute
-pub use Rattle.npr_small.specs.PrefixCacheInfo
-pub use Rattle.npr_small.specs.PrefixHeader
-pub use Rattle.npr_small.specs.PrefixMessage
+pub use Rattle.npr_address.specs.AddressLabelAttribute
+pub use Rattle.npr_address.specs.AddressLabelHeader
+pub use Rattle.npr_address.specs.AddressLabelMessage
+pub use Rattle.npr_neighbour.specs.NeighbourTableAttribute
+pub use Rattle.npr_neighbour.specs.NeighbourTableConfig
+pub use Rattle.npr_neighbour.specs.NeighbourTableHeader
+pub use Rattle.npr_neighbour.specs.NeighbourTableMessage
+pub use Rattle.npr_neighbour.specs.NeighbourTableParameter
+pub use Rattle.npr_neighbour.specs.NeighbourTableStats
+pub use Rattle.npr_namespace.specs.NetconfAttribute
+pub use Rattle.npr_namespace.specs.NetconfHeader
+pub use Rattle.npr_namespace.specs.NetconfMessage
+pub use Rattle.npr_namespace.specs.NsidAttribute
+pub use Rattle.npr_namespace.specs.NsidHeader
+pub use Rattle.npr_namespace.specs.NsidMessage
+pub use Rattle.npr_address.specs.PrefixAttribute
+pub use Rattle.npr_address.specs.PrefixCacheInfo
+pub use Rattle.npr_address.specs.PrefixHeader
+pub use Rattle.npr_address.specs.PrefixMessage
 -- messages of traffic control
 pub use Rattle.npr_tc.specs.ActionAttribute as TcActionMessageAttribute
 pub use Rattle.npr_tc.specs.ActionFlags as TcActionMessageFlags

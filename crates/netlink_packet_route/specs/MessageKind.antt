@@ -34,16 +34,16 @@ use Rattle.npr_route.specs.declared.attribute.RouteAttribute.{RouteAttribute}
 use Rattle.npr_route.specs.declared.header.RouteHeader.{RouteHeader}
 use Rattle.npr_rule.specs.Attribute as OfRule
 use Rattle.npr_rule.specs.Header as OfRuleHeader
-use Rattle.npr_small.specs.AddressLabelAttribute as OfAddressLabel
-use Rattle.npr_small.specs.AddressLabelHeader as OfAddressLabelHeader
-use Rattle.npr_small.specs.NeighbourTableAttribute as OfNeighbourTable
-use Rattle.npr_small.specs.NeighbourTableHeader as OfNeighbourTableHeader
-use Rattle.npr_small.specs.NetconfAttribute as OfNetconf
-use Rattle.npr_small.specs.NetconfHeader as OfNetconfHeader
-use Rattle.npr_small.specs.NsidAttribute as OfNsid
-use Rattle.npr_small.specs.NsidHeader as OfNsidHeader
-use Rattle.npr_small.specs.PrefixAttribute as OfPrefix
-use Rattle.npr_small.specs.PrefixHeader as OfPrefixHeader
+use Rattle.npr_address.specs.AddressLabelAttribute as OfAddressLabel
+use Rattle.npr_address.specs.AddressLabelHeader as OfAddressLabelHeader
+use Rattle.npr_neighbour.specs.NeighbourTableAttribute as OfNeighbourTable
+use Rattle.npr_neighbour.specs.NeighbourTableHeader as OfNeighbourTableHeader
+use Rattle.npr_namespace.specs.NetconfAttribute as OfNetconf
+use Rattle.npr_namespace.specs.NetconfHeader as OfNetconfHeader
+use Rattle.npr_namespace.specs.NsidAttribute as OfNsid
+use Rattle.npr_namespace.specs.NsidHeader as OfNsidHeader
+use Rattle.npr_address.specs.PrefixAttribute as OfPrefix
+use Rattle.npr_address.specs.PrefixHeader as OfPrefixHeader
 use Rattle.npr_tc.specs.ActionAttribute as OfTcAction
 use Rattle.npr_tc.specs.ActionHeader as OfTcActionHeader
 use Rattle.npr_tc.specs.Attribute as OfTc
@@ -52,7 +52,7 @@ use Rattle.npr_tc.specs.declared.attribute.TcAttribute.{TcAttribute}
 use Rattle.npr_tc.specs.declared.header.TcHeader.{TcHeader}
 use Rattle.npr_tc_qdiscs.specs.declared.form.TcForm.{TcForm}
 use Rattle.npr_tc_qdiscs.specs.declared.form.TcForm.TheVariants.{Kept as NoData}
-use Rattle.npr_tunnel.specs.declared.encap_type.RouteLwEnCapType.TheVariants.{None as NoEncapsulation}
+use Rattle.npr_encapsulation.specs.declared.encap_type.RouteLwEnCapType.TheVariants.{None as NoEncapsulation}
 use Rattle.netlink_packet_route.specs.Nests.{no_context, reading_by, reading_of}
 use Rattle.netlink_packet_route.specs.declared.nests.Nest.{Nest}
 use Rattle.netlink_packet_route.specs.declared.kind.MessageKind.{MessageKind}

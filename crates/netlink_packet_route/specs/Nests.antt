@@ -76,12 +76,12 @@ use Rattle.npr_nexthop.specs.ResGroup as OfResGroup
 use Rattle.npr_route.specs.AttributeFamily as OfRoute
 use Rattle.npr_route.specs.Metric as OfMetric
 use Rattle.npr_rule.specs.Attribute as OfRule
-use Rattle.npr_small.specs.AddressLabelAttribute as OfAddressLabel
-use Rattle.npr_small.specs.NeighbourTableAttribute as OfNeighbourTable
-use Rattle.npr_small.specs.NeighbourTableParameter as OfNeighbourTableParameter
-use Rattle.npr_small.specs.NetconfAttribute as OfNetconf
-use Rattle.npr_small.specs.NsidAttribute as OfNsid
-use Rattle.npr_small.specs.PrefixAttribute as OfPrefix
+use Rattle.npr_address.specs.AddressLabelAttribute as OfAddressLabel
+use Rattle.npr_neighbour.specs.NeighbourTableAttribute as OfNeighbourTable
+use Rattle.npr_neighbour.specs.NeighbourTableParameter as OfNeighbourTableParameter
+use Rattle.npr_namespace.specs.NetconfAttribute as OfNetconf
+use Rattle.npr_namespace.specs.NsidAttribute as OfNsid
+use Rattle.npr_address.specs.PrefixAttribute as OfPrefix
 use Rattle.npr_tc.specs.ActionAttribute as OfTcActionMessage
 use Rattle.npr_tc.specs.Attribute as OfTc
 use Rattle.npr_tc_actions.specs.Action as OfTcActions
@@ -101,19 +101,19 @@ use Rattle.npr_tc_qdiscs.specs.Ingress as OfTcIngress
 use Rattle.npr_tc_qdiscs.specs.Stab as OfTcStab
 use Rattle.npr_tc_qdiscs.specs.Stats2 as OfTcStats2
 use Rattle.npr_tc_qdiscs.specs.declared.form.TcForm.TheVariants.{Kept as TcKept}
-use Rattle.npr_tunnel.specs.Encapsulation as OfEncap
-use Rattle.npr_tunnel.specs.ErspanOptions as OfErspan
-use Rattle.npr_tunnel.specs.TunnelOptions as OfOption
-use Rattle.npr_tunnel.specs.VxlanOptions as OfVxlan
+use Rattle.npr_encapsulation.specs.Encapsulation as OfEncap
+use Rattle.npr_encapsulation.specs.ErspanOptions as OfErspan
+use Rattle.npr_encapsulation.specs.TunnelOptions as OfOption
+use Rattle.npr_encapsulation.specs.VxlanOptions as OfVxlan
 use Rattle.npr_link.specs.Governing.{Forms, Searches}
 use Rattle.npr_link.specs.declared.port_kind.InfoPortForm.TheVariants.{Kept as PortKept}
 use Rattle.npr_link_tunnels.specs.declared.form.InfoForm.TheVariants.{Kept}
 use Rattle.npr_route.specs.Governing.{Governs}
-use Rattle.npr_scalar.specs.RouteType.{route_types}
-use Rattle.npr_scalar.specs.declared.route_type.RouteType.TheVariants.{Unspec as NoType}
-use Rattle.npr_tunnel.specs.EncapType.{encap_types}
-use Rattle.npr_tunnel.specs.declared.encap_type.RouteLwEnCapType.{RouteLwEnCapType}
-use Rattle.npr_tunnel.specs.declared.encap_type.RouteLwEnCapType.TheVariants as Tunnel
+use Rattle.npr_route_values.specs.RouteType.{route_types}
+use Rattle.npr_route_values.specs.declared.route_type.RouteType.TheVariants.{Unspec as NoType}
+use Rattle.npr_encapsulation.specs.EncapType.{encap_types}
+use Rattle.npr_encapsulation.specs.declared.encap_type.RouteLwEnCapType.{RouteLwEnCapType}
+use Rattle.npr_encapsulation.specs.declared.encap_type.RouteLwEnCapType.TheVariants as Tunnel
 use Rattle.netlink_packet_route.specs.declared.context.Context.{Context}
 use Rattle.netlink_packet_route.specs.declared.nests.Nest.{Nest}
 

@@ -12,10 +12,10 @@ use Rattle.npr_neighbour.specs.Message.{neighbours}
 use Rattle.npr_nexthop.specs.Message.{next_hops}
 use Rattle.npr_route.specs.Message.{routes}
 use Rattle.npr_rule.specs.Message.{rules}
-use Rattle.npr_small.specs.AddressLabelMessage.{address_labels}
-use Rattle.npr_small.specs.NeighbourTableMessage.{neighbour_tables}
-use Rattle.npr_small.specs.NetconfMessage.{netconfs}
-use Rattle.npr_small.specs.NsidMessage.{nsids}
+use Rattle.npr_address.specs.AddressLabelMessage.{address_labels}
+use Rattle.npr_neighbour.specs.NeighbourTableMessage.{neighbour_tables}
+use Rattle.npr_namespace.specs.NetconfMessage.{netconfs}
+use Rattle.npr_namespace.specs.NsidMessage.{nsids}
 
 abbrev pub addresses_of : AddressFamily → View addresses
 addresses_of family = record { header = record addresses.standard { family = family }; attributes = [] }

@@ -12,11 +12,11 @@ use Rattle.npr_neighbour.specs.Message.{neighbours}
 use Rattle.npr_nexthop.specs.Message.{next_hops}
 use Rattle.npr_route.specs.Message.{routes}
 use Rattle.npr_rule.specs.Message.{rules}
-use Rattle.npr_small.specs.AddressLabelMessage.{address_labels}
-use Rattle.npr_small.specs.NeighbourTableMessage.{neighbour_tables}
-use Rattle.npr_small.specs.NetconfMessage.{netconfs}
-use Rattle.npr_small.specs.NsidMessage.{nsids}
-use Rattle.npr_small.specs.PrefixMessage.{prefixes}
+use Rattle.npr_address.specs.AddressLabelMessage.{address_labels}
+use Rattle.npr_neighbour.specs.NeighbourTableMessage.{neighbour_tables}
+use Rattle.npr_namespace.specs.NetconfMessage.{netconfs}
+use Rattle.npr_namespace.specs.NsidMessage.{nsids}
+use Rattle.npr_address.specs.PrefixMessage.{prefixes}
 use Rattle.npr_tc.specs.ActionMessage.{messages as action_messages}
 use Rattle.npr_tc.specs.Message.{messages as tc_messages}
 use Rattle.netlink_packet_core.specs.Protocol.{Protocol}

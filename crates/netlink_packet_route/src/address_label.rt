@@ -16,6 +16,4 @@
 //! # Ok::<(), Box<dyn std::error::Error>>(())
 //! ```
 
-pub use npr_small::{
-    AddressLabelAttribute, AddressLabelHeader, AddressLabelMessage, AddressLabelMessageBuffer,
-};
+pub use npr_address::{AddressLabelAttribute, AddressLabelHeader, AddressLabelMessage, AddressLabelMessageBuffer};

@@ -16,9 +16,9 @@ use npr_neighbour::NeighbourHeader;
 use npr_nexthop::NextHopHeader;
 use npr_route::RouteHeader;
 use npr_rule::RuleHeader;
-use npr_small::{
-    AddressLabelHeader, NeighbourTableHeader, NetconfHeader, NsidHeader, PrefixHeader,
-};
+use npr_address::{AddressLabelHeader, PrefixHeader};
+use npr_namespace::{NetconfHeader, NsidHeader};
+use npr_neighbour::NeighbourTableHeader;
 use npr_tc::{TcActionMessageHeader, TcHeader};
 
 /// What the attributes behind the header of a message rest on, and their bytes.

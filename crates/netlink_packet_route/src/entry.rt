@@ -10,7 +10,8 @@ ghost use Rattle.{
   npr_nexthop.specs.Message.{next_hops},
   npr_route.specs.Message.{routes},
   npr_rule.specs.Message.{rules},
-  npr_small.specs.{AddressLabelMessage.{address_labels}, NetconfMessage.{netconfs}, NsidMessage.{nsids}},
+  npr_address.specs.{AddressLabelMessage.{address_labels}},
+  npr_namespace.specs.{NetconfMessage.{netconfs}, NsidMessage.{nsids}},
   npr_tc.specs.{Message.{messages as tc_messages}, ActionMessage.{messages as action_messages}},
 };
 
@@ -22,7 +23,8 @@ use npr_neighbour::NeighbourMessage;
 use npr_nexthop::NextHopMessage;
 use npr_route::RouteMessage;
 use npr_rule::RuleMessage;
-use npr_small::{AddressLabelMessage, NetconfMessage, NsidMessage};
+use npr_address::AddressLabelMessage;
+use npr_namespace::{NetconfMessage, NsidMessage};
 use npr_tc::{TcActionMessage, TcMessage};
 
 /// A message on an entry of the kernel's tables, which is made, taken away and asked for: a link, an

@@ -10,13 +10,9 @@ ghost use Rattle.{
   npr_nexthop.specs.Attribute.{Context as NextHopContext, attributes as next_hop_attributes},
   npr_route.specs.{FlatAttribute.{Context}, AttributeFamily.{attributes as route_attributes}},
   npr_rule.specs.Attribute.{attributes as rule_attributes},
-  npr_small.specs.{
-    AddressLabelAttribute.{attributes as address_label_attributes},
-    NeighbourTableAttribute.{attributes as neighbour_table_attributes},
-    NetconfAttribute.{attributes as netconf_attributes},
-    NsidAttribute.{attributes as nsid_attributes},
-    PrefixAttribute.{attributes as prefix_attributes},
-  },
+  npr_address.specs.{AddressLabelAttribute.{attributes as address_label_attributes}, PrefixAttribute.{attributes as prefix_attributes}},
+  npr_namespace.specs.{NetconfAttribute.{attributes as netconf_attributes}, NsidAttribute.{attributes as nsid_attributes}},
+  npr_neighbour.specs.{NeighbourTableAttribute.{attributes as neighbour_table_attributes}},
   npr_tc.specs.{ActionAttribute.{attributes as tc_action_attributes}, Attribute.{attributes as tc_attributes}},
   npr_tc_qdiscs.specs.declared.form.TcForm.{TcForm},
   netlink_packet_core.specs.Message.{message_of},
@@ -111,24 +107,30 @@ pub use npr_rule::laws::law_default as law_rule_default;
 pub use npr_rule::laws::law_equality as law_rule_equality;
 pub use npr_rule::laws::law_numbers as law_rule_numbers;
 pub use npr_rule::laws::law_rule_flags;
-pub use npr_scalar::laws::law_default as law_value_default;
-pub use npr_scalar::laws::law_equality as law_value_equality;
-pub use npr_scalar::laws::law_label_number;
-pub use npr_scalar::laws::law_labels_length;
-pub use npr_scalar::laws::law_layouts as law_value_layouts;
-pub use npr_scalar::laws::law_next_hop_flags;
-pub use npr_scalar::laws::law_numbers as law_value_numbers;
-pub use npr_scalar::laws::law_read_back as law_value_read_back;
-pub use npr_scalar::laws::law_realm_number;
-pub use npr_scalar::laws::law_route_flags;
-use npr_small::AddressLabelAttribute;
-use npr_small::NeighbourTableAttribute;
-use npr_small::NetconfAttribute;
-use npr_small::NsidAttribute;
-use npr_small::PrefixAttribute;
-pub use npr_small::laws::law_default as law_small_default;
-pub use npr_small::laws::law_equality as law_small_value_equality;
-pub use npr_small::laws::law_equality_of_meanings as law_small_equality;
+pub use npr_route_values::laws::law_default as law_value_default;
+pub use npr_route_values::laws::law_equality as law_value_equality;
+pub use npr_route_values::laws::law_label_number;
+pub use npr_route_values::laws::law_labels_length;
+pub use npr_route_values::laws::law_layouts as law_value_layouts;
+pub use npr_route_values::laws::law_next_hop_flags;
+pub use npr_route_values::laws::law_numbers as law_value_numbers;
+pub use npr_route_values::laws::law_read_back as law_value_read_back;
+pub use npr_route_values::laws::law_realm_number;
+pub use npr_route_values::laws::law_route_flags;
+use npr_address::AddressLabelAttribute;
+use npr_neighbour::NeighbourTableAttribute;
+use npr_namespace::NetconfAttribute;
+use npr_namespace::NsidAttribute;
+use npr_address::PrefixAttribute;
+pub use npr_address::laws::law_label_default;
+pub use npr_address::laws::law_label_equality;
+pub use npr_address::laws::law_label_equality_of_meanings;
+pub use npr_namespace::laws::law_default as law_namespace_default;
+pub use npr_namespace::laws::law_equality as law_namespace_equality;
+pub use npr_namespace::laws::law_equality_of_meanings as law_namespace_equality_of_meanings;
+pub use npr_neighbour::laws::law_table_default;
+pub use npr_neighbour::laws::law_table_equality;
+pub use npr_neighbour::laws::law_table_equality_of_meanings;
 pub use npr_srh::laws::law_default as law_routing_header_default;
 pub use npr_srh::laws::law_equality as law_routing_header_equality;
 pub use npr_srh::laws::law_numbers as law_routing_header_numbers;
@@ -155,11 +157,11 @@ pub use npr_tc_qdiscs::laws::law_equality_of_meanings as law_tc_qdisc_equality;
 pub use npr_tc_qdiscs::laws::law_forms as law_tc_forms;
 pub use npr_tc_qdiscs::laws::law_handles as law_tc_handles;
 pub use npr_tc_qdiscs::laws::law_named_handles as law_tc_named_handles;
-pub use npr_tunnel::laws::law_default as law_tunnel_default;
-pub use npr_tunnel::laws::law_encap_type_number;
-pub use npr_tunnel::laws::law_equality as law_tunnel_equality;
-pub use npr_tunnel::laws::law_ip_flags;
-pub use npr_tunnel::laws::law_ip6_flags;
+pub use npr_encapsulation::laws::law_default as law_tunnel_default;
+pub use npr_encapsulation::laws::law_encap_type_number;
+pub use npr_encapsulation::laws::law_equality as law_tunnel_equality;
+pub use npr_encapsulation::laws::law_ip_flags;
+pub use npr_encapsulation::laws::law_ip6_flags;
 
 /// A list whose beginning is a multiple of four bytes, and is cut into attributes by itself, is the
 /// list of that beginning and then the list of the rest, in the same context.
@@ -219,8 +221,10 @@ pub fn law_rtnetlink_equality()
     law_route_equality();
     law_rule_equality();
     law_neighbour_equality();
+    law_table_equality_of_meanings();
+    law_label_equality_of_meanings();
     law_link_equality();
-    law_small_equality();
+    law_namespace_equality_of_meanings();
     law_next_hop_equality();
     law_tc_equality();
     law_message_equality::<RouteNetlinkMessage>();

@@ -54,5 +54,5 @@ pub use message_type::{Action, MessageType, Subject};
 pub use nests::Nest;
 pub use npr_base::AddressFamily;
 pub use npr_names::Located;
-pub use npr_scalar::IpProtocol;
+pub use npr_route_values::IpProtocol;
 pub use validity::validate;

@@ -23,9 +23,9 @@ use npr_neighbour::NeighbourMessage;
 use npr_nexthop::NextHopMessage;
 use npr_route::RouteMessage;
 use npr_rule::RuleMessage;
-use npr_small::{
-    AddressLabelMessage, NeighbourTableMessage, NetconfMessage, NsidMessage, PrefixMessage,
-};
+use npr_address::{AddressLabelMessage, PrefixMessage};
+use npr_namespace::{NetconfMessage, NsidMessage};
+use npr_neighbour::NeighbourTableMessage;
 use npr_tc::{TcActionMessage, TcMessage};
 use std::alloc::{AllocError, Global};
 

@@ -27,10 +27,9 @@ use npr_nexthop::{
 };
 use npr_route::{RouteAttribute, RouteMetric, governing_type};
 use npr_rule::RuleAttribute;
-use npr_small::{
-    AddressLabelAttribute, NeighbourTableAttribute, NeighbourTableParameter, NetconfAttribute,
-    NsidAttribute, PrefixAttribute,
-};
+use npr_address::{AddressLabelAttribute, PrefixAttribute};
+use npr_namespace::{NetconfAttribute, NsidAttribute};
+use npr_neighbour::{NeighbourTableAttribute, NeighbourTableParameter};
 use npr_tc::{TcActionMessageAttribute, TcAttribute};
 use npr_tc_actions::{
     TcAction, TcActionAttribute, TcActionMirrorOption, TcActionNatOption, TcActionTunnelKeyOption,
@@ -40,7 +39,7 @@ use npr_tc_filters::{
     TcFilterMatchAllOption, TcFilterU32Option,
 };
 use npr_tc_qdiscs::{TcQdiscFqCodelOption, TcQdiscIngressOption, TcStab, TcStats2};
-use npr_tunnel::{
+use npr_encapsulation::{
     RouteErspanOpt, RouteLwEnCapType, RouteLwTunnelEncap, RouteLwTunnelOpt, RouteVxlanOpt,
 };
 

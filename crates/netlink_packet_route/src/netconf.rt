@@ -17,4 +17,4 @@
 //! # Ok::<(), Box<dyn std::error::Error>>(())
 //! ```
 
-pub use npr_small::{NetconfAttribute, NetconfHeader, NetconfMessage, NetconfMessageBuffer};
+pub use npr_namespace::{NetconfAttribute, NetconfHeader, NetconfMessage, NetconfMessageBuffer};

@@ -17,4 +17,4 @@
 //! # Ok::<(), Box<dyn std::error::Error>>(())
 //! ```
 
-pub use npr_small::{NsidAttribute, NsidHeader, NsidMessage, NsidMessageBuffer};
+pub use npr_namespace::{NsidAttribute, NsidHeader, NsidMessage, NsidMessageBuffer};

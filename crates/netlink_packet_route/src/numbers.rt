@@ -6,7 +6,7 @@ ghost use Rattle.{
   npr_address.specs.{AddressProtocol.{protocols as address_protocols}, AddressScope.{scopes as address_scopes}},
   npr_base.specs.AddressFamily.{families},
   npr_rule.specs.Action.{actions as rule_actions},
-  npr_scalar.specs.{
+  npr_route_values.specs.{
     IpProtocol.{ip_protocols},
     Mpls.{label_number},
     Realm.{realms},
@@ -23,20 +23,20 @@ ghost use Rattle.{
   },
   npr_tc_actions.specs.{ActionType.{action_types}, MirrorActionType.{mirror_action_types}},
   npr_tc_qdiscs.specs.Handle.{handles},
-  npr_tunnel.specs.EncapType.{encap_types},
+  npr_encapsulation.specs.EncapType.{encap_types},
 };
 
 use npr_address::{AddressProtocol, AddressScope};
 use npr_base::AddressFamily;
 use npr_rule::RuleAction;
-use npr_scalar::{
+use npr_route_values::{
     IpProtocol, MplsLabel, RouteMplsTtlPropagation, RoutePreference, RouteProtocol, RouteRealm,
     RouteScope, RouteType,
 };
 use npr_srh::{Ioam6Mode, Seg6LocalAction, Seg6Mode};
 use npr_tc_actions::{TcActionType, TcMirrorActionType};
 use npr_tc_qdiscs::TcHandle;
-use npr_tunnel::RouteLwEnCapType;
+use npr_encapsulation::RouteLwEnCapType;
 
 /// The number of an address family (`AF_*`).
 pub fn address_family(value: AddressFamily) -> u8

@@ -18,4 +18,5 @@
 //! # Ok::<(), Box<dyn std::error::Error>>(())
 //! ```
 
-pub use npr_small::{CacheInfo, PrefixAttribute, PrefixHeader, PrefixMessage, PrefixMessageBuffer};
+pub use npr_address::PrefixCacheInfo as CacheInfo;
+pub use npr_address::{PrefixAttribute, PrefixHeader, PrefixMessage, PrefixMessageBuffer};

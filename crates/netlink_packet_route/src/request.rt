@@ -39,7 +39,9 @@ use npr_neighbour::NeighbourMessage;
 use npr_nexthop::NextHopMessage;
 use npr_route::RouteMessage;
 use npr_rule::RuleMessage;
-use npr_small::{AddressLabelMessage, NeighbourTableMessage, NetconfMessage, NsidMessage};
+use npr_address::AddressLabelMessage;
+use npr_namespace::{NetconfMessage, NsidMessage};
+use npr_neighbour::NeighbourTableMessage;
 use std::alloc::{AllocError, Global};
 
 /// Asks for all that the message names, as `ip route show table 100`.

@@ -25,7 +25,7 @@ pub use npr_route::{
     RouteMessageBuffer, RouteMetric, RouteNextHop, RouteNextHopBuffer, RoutePath, governing_type,
     normalize, read_next_hops, read_route_list,
 };
-pub use npr_scalar::{
+pub use npr_route_values::{
     MplsLabel, RouteAddress, RouteCacheInfo, RouteCacheInfoBuffer, RouteFlags, RouteMfcStats,
     RouteMfcStatsBuffer, RouteMplsTtlPropagation, RouteNextHopFlags, RoutePreference,
     RouteProtocol, RouteRealm, RouteScope, RouteType, RouteVia, RouteViaBuffer, emit_labels,
@@ -36,7 +36,7 @@ pub use npr_srh::{
     RouteSeg6LocalTunnel, RplSrh, Seg6Header, Seg6LocalAction, Seg6LocalSrh, Seg6MessageBuffer,
     Seg6Mode,
 };
-pub use npr_tunnel::{
+pub use npr_encapsulation::{
     RouteErspanOpt, RouteGeneveOpt, RouteIp6Tunnel, RouteIp6TunnelFlags, RouteIpTunnel,
     RouteIpTunnelFlags, RouteLwEnCapType, RouteLwTunnelEncap, RouteLwTunnelOpt, RouteMplsIpTunnel,
     RouteVxlanOpt, RouteXfrmTunnel,

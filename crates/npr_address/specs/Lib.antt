@@ -1,7 +1,14 @@
 pub mod AddressFlags
+pub mod AddressLabelAttribute
+pub mod AddressLabelHeader
+pub mod AddressLabelMessage
 pub mod AddressProtocol
 pub mod AddressScope
 pub mod Attribute
 pub mod CacheInfo
 pub mod Header
 pub mod Message
+pub mod PrefixAttribute
+pub mod PrefixCacheInfo
+pub mod PrefixHeader
+pub mod PrefixMessage

@@ -5,6 +5,12 @@ ghost use Rattle.std.specs.Prelude.{◌≡◌, ◌^◌, ℕ, ◌∷◌, [], true
 ghost use Rattle.{
   npr_base.specs.{Equality.{IsEquality, IsEqualityOf}, Message.{view}, Rows.{agrees}},
   npr_address.specs.{
+    AddressLabelAttribute.{family as address_label_attribute_family},
+    AddressLabelHeader.{default_header as default_address_label_header},
+    AddressLabelMessage.{address_labels},
+    PrefixAttribute.{family as prefix_attribute_family},
+    PrefixHeader.{default_header as default_prefix_header},
+    PrefixMessage.{prefixes},
     AddressFlags.{address_flag_bits, header_flag_bits},
     AddressProtocol.{protocols},
     AddressScope.{scopes},
@@ -14,6 +20,11 @@ ghost use Rattle.{
   },
 };
 
+use crate::address_label::{AddressLabelHeader, AddressLabelMessage, AddressLabelMessageBuffer};
+use crate::address_label_attribute::AddressLabelAttribute;
+use crate::prefix::{PrefixHeader, PrefixMessage, PrefixMessageBuffer};
+use crate::prefix_attribute::PrefixAttribute;
+use crate::prefix_cache_info::CacheInfo as PrefixCacheInfo;
 use crate::addr_flags::{AddressFlags, AddressHeaderFlags};
 use crate::addr_protocol::AddressProtocol;
 use crate::addr_scope::AddressScope;
@@ -60,4 +71,28 @@ pub fn law_equality()
     ensures header_buffer { IsEquality ⟦<AddressMessageBuffer as PartialEq>⟧.eq }
     ensures attribute { IsEqualityOf family.meaning ⟦<AddressAttribute as PartialEq>⟧.eq }
     ensures message { IsEqualityOf (view addresses) ⟦<AddressMessage as PartialEq>⟧.eq }
+{}
+
+/// Which value is the default: each number is 0.
+pub fn law_label_default()
+    ensures address_label_header { (x : AddressLabelHeader) → ⟦<AddressLabelHeader as Default>⟧.is_default x → x ≡ default_address_label_header }
+    ensures prefix_cache_info { (x : PrefixCacheInfo) → ⟦<PrefixCacheInfo as Default>⟧.is_default x → x ≡ record { preferred_time = 0; valid_time = 0 } }
+    ensures prefix_header { (x : PrefixHeader) → ⟦<PrefixHeader as Default>⟧.is_default x → x ≡ default_prefix_header }
+{}
+
+/// `==` of headers, layouts and structures answers whether two values are equal.
+pub fn law_label_equality()
+    ensures address_label_header { IsEquality ⟦<AddressLabelHeader as PartialEq>⟧.eq }
+    ensures address_label_buffer { IsEquality ⟦<AddressLabelMessageBuffer as PartialEq>⟧.eq }
+    ensures prefix_cache_info { IsEquality ⟦<PrefixCacheInfo as PartialEq>⟧.eq }
+    ensures prefix_header { IsEquality ⟦<PrefixHeader as PartialEq>⟧.eq }
+    ensures prefix_buffer { IsEquality ⟦<PrefixMessageBuffer as PartialEq>⟧.eq }
+{}
+
+/// `==` of attributes and messages answers whether two values mean the same.
+pub fn law_label_equality_of_meanings()
+    ensures address_label_attribute { IsEqualityOf address_label_attribute_family.meaning ⟦<AddressLabelAttribute as PartialEq>⟧.eq }
+    ensures prefix_attribute { IsEqualityOf prefix_attribute_family.meaning ⟦<PrefixAttribute as PartialEq>⟧.eq }
+    ensures address_label_message { IsEqualityOf (view address_labels) ⟦<AddressLabelMessage as PartialEq>⟧.eq }
+    ensures prefix_message { IsEqualityOf (view prefixes) ⟦<PrefixMessage as PartialEq>⟧.eq }
 {}

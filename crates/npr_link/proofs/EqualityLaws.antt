@@ -84,8 +84,8 @@ use Rattle.npr_link_bridge.specs.AfSpecBridge as OfAfSpecBridge
 use Rattle.npr_link.proofs.ValueEquality.{address_mode_equality, attachment_equality, cache_info_equality, extent_mask_equality, inet6_flags_equality}
 use Rattle.npr_link.proofs.ValueEquality.{link_event_equality, link_mode_equality, map_equality, state_equality, vlan_flags_equality, header_equality}
 use Rattle.npr_link_bridge.proofs.EqualityLaws.{vlan_protocol_equality, bridge_equality, bridge_port_equality, af_spec_bridge_equality}
-use Rattle.npr_link_numbers.proofs.EqualityLaws.{stats_equality, stats64_equality, inet_devconf_equality}
-use Rattle.npr_link_numbers.proofs.EqualityLaws.{inet6_devconf_equality, inet6_stats_equality, icmp6_stats_equality}
+use Rattle.npr_link_statistics.proofs.EqualityLaws.{stats_equality, stats64_equality, inet_devconf_equality}
+use Rattle.npr_link_statistics.proofs.EqualityLaws.{inet6_devconf_equality, inet6_stats_equality, icmp6_stats_equality}
 use denote.Enum.Declared.{Choice}
 use denote.Struct.Values.{Values}
 

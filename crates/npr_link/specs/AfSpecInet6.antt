@@ -5,8 +5,8 @@ use Rattle.npr_base.specs.Tables.{attributes_of, family_of_table}
 use Rattle.npr_link.specs.AddressMode.{address_mode}
 use Rattle.npr_link.specs.Inet6CacheInfo.{inet6_cache_info}
 use Rattle.npr_link.specs.Inet6Flags.{inet6_flags}
-use Rattle.npr_link_numbers.specs.Grown.{grown, parts}
-use Rattle.npr_link_numbers.specs.Names.{icmp6_stats, inet6_devconf, inet6_stats}
+use Rattle.npr_link_statistics.specs.Grown.{grown, parts}
+use Rattle.npr_link_statistics.specs.Names.{icmp6_stats, inet6_devconf, inet6_stats}
 use Rattle.npr_base.specs.Words.{signed_words32, signed_words64}
 use Rattle.npr_link.specs.contracts.af_spec_inet6.AfSpecInet6.{enum}
 use Rattle.npr_link.specs.declared.af_spec_inet6.AfSpecInet6.{AfSpecInet6}

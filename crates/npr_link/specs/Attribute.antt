@@ -27,8 +27,8 @@ use Rattle.npr_link.specs.InfoList.{info_list}
 use Rattle.npr_link.specs.LinkEvent.{link_event}
 use Rattle.npr_link.specs.LinkMode.{link_mode}
 use Rattle.npr_link.specs.Map.{device_map}
-use Rattle.npr_link_numbers.specs.Grown.{grown, parts}
-use Rattle.npr_link_numbers.specs.Names.{stats, stats64}
+use Rattle.npr_link_statistics.specs.Grown.{grown, parts}
+use Rattle.npr_link_statistics.specs.Names.{stats, stats64}
 use Rattle.npr_base.specs.Words.{words32, words64}
 use Rattle.npr_link.specs.Prop as OfProp
 use Rattle.npr_link.specs.ProtoInfos.{ProtoInfos, inet6 as proto_inet6, bridge as proto_bridge, unknown as proto_unknown}

@@ -6,7 +6,7 @@ ghost use Rattle.{npr_base.specs.Family.{shaped}, npr_link.specs.AfSpecInet.{fam
 use npr_base::{
     At, Attribute, DecodeError, DefaultNla, EmitError, Form, Looks, Nla, NlaBuffer, Place,
 };
-use npr_link_numbers::{Grown, InetDevConf};
+use npr_link_statistics::{Grown, InetDevConf};
 use std::alloc::{AllocError, Global};
 
 /// What IP version 4 says of a link.

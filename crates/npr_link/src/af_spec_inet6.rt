@@ -10,7 +10,7 @@ use bitflags::Flags;
 use npr_base::{
     At, Attribute, DecodeError, DefaultNla, EmitError, Form, Ipv6Addr, Looks, Nla, NlaBuffer, Place,
 };
-use npr_link_numbers::{Grown, Icmp6Stats, Inet6DevConf, Inet6Stats};
+use npr_link_statistics::{Grown, Icmp6Stats, Inet6DevConf, Inet6Stats};
 use std::alloc::{AllocError, Global};
 
 /// What IP version 6 says of a link.

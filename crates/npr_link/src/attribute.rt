@@ -25,7 +25,7 @@ use npr_base::{
     NLA_F_NESTED, Nla, NlaBuffer, Place, Rowed, check_list, clone_list, write_bytes, write_list,
 };
 use npr_link_bridge::{AfSpecBridge, InfoBridgePort};
-use npr_link_numbers::{Grown, Stats, Stats64};
+use npr_link_statistics::{Grown, Stats, Stats64};
 use std::alloc::{AllocError, Global};
 
 /// An attribute of a link message. What its protocol and address families say of it is a list, or stands

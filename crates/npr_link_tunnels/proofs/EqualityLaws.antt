@@ -11,7 +11,7 @@ use Rattle.npr_base.proofs.StructLaws.{◌beside◌, decides_as}
 use Rattle.npr_base.specs.Tables.{table_decides}
 use Rattle.npr_base.specs.ViewEquality.{item_equality, same_item}
 use Rattle.npr_base.specs.lemmas.EnumTable.{choices-decide}
-use Rattle.npr_scalar.proofs.EqualityLaws.{ip_protocol_equality}
+use Rattle.npr_route_values.proofs.EqualityLaws.{ip_protocol_equality}
 use Rattle.npr_base.proofs.Firsts.{head_of, first-decides}
 use Rattle.npr_link_tunnels.specs.TunnelFlags.{Flags, ipv4_flags, sit_flags, ipv6_flags, ipip}
 use Rattle.npr_link_tunnels.specs.contracts.ip_tunnel.InfoIpTunnel.{enum}

@@ -14,7 +14,7 @@ use Rattle.npr_base.specs.declared.refusal.At.{At}
 use Rattle.npr_base.specs.declared.refusal.AttributeSet.TheVariants.{InfoIpTunnel as AtIpTunnel}
 use Rattle.npr_base.specs.declared.refusal.DecodeError.{DecodeError}
 use Rattle.npr_base.specs.declared.value.Form.{Form}
-use Rattle.npr_scalar.specs.IpProtocolByte.{ip_protocol_byte}
+use Rattle.npr_route_values.specs.IpProtocolByte.{ip_protocol_byte}
 use Rattle.npr_base.specs.LeftOut.{left_out, retold}
 use Rattle.npr_link_tunnels.specs.TunnelEncapFlags.{tunnel_encap_flags}
 use Rattle.npr_link_tunnels.specs.TunnelEncapType.{tunnel_encap_type}

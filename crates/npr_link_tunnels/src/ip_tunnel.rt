@@ -18,7 +18,7 @@ use npr_base::{
     At, Attribute, AttributeSet, DecodeError, DefaultNla, EmitError, Form, IpAddr, Ipv4Addr,
     Ipv6Addr, Looks, Nla, NlaBuffer, Place, Rowed, read_u16, read_u32, write_array,
 };
-use npr_scalar::{IpProtocol, check_protocol, protocol_byte};
+use npr_route_values::{IpProtocol, check_protocol, protocol_byte};
 use std::alloc::{AllocError, Global};
 
 /// The data of a tunnel of IP. Which flags it has rests on the kind of the link.

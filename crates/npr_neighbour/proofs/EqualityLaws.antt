@@ -11,7 +11,7 @@ use Rattle.npr_base.proofs.MeaningLaws.{enum_meaning, one_meaning, items_equalit
 use Rattle.npr_base.proofs.EqualityLaws.{one_equality}
 use Rattle.npr_base.proofs.StructLaws.{◌beside◌, struct_equality}
 use Rattle.npr_base.specs.ViewEquality.{item_equality}
-use Rattle.npr_scalar.proofs.EqualityLaws.{route_protocol_equality, route_type_equality}
+use Rattle.npr_route_values.proofs.EqualityLaws.{route_protocol_equality, route_type_equality}
 use Rattle.npr_neighbour.specs.contracts.header.NeighbourHeader.{struct}
 use Rattle.npr_neighbour.specs.Attribute.{family, table}
 use Rattle.npr_neighbour.specs.NeighbourAddress as A

@@ -1,1 +1,2 @@
 mod EqualityLaws
+mod TableEquality

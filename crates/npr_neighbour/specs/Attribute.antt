@@ -6,7 +6,7 @@ use Rattle.npr_base.specs.EnumFamily.{rewritten}
 use Rattle.npr_base.specs.Family.{Writing}
 use Rattle.npr_base.specs.Tables.{EnumTable, table_of, row, others, ◌or◌, value, items, seen, exactly, leading, raw, le16, le32, be16, Reading}
 use Rattle.npr_base.specs.Tables.{Family, Meanings, writing_of, attributes_of, family_of_table}
-use Rattle.npr_scalar.specs.RouteProtocol.{route_protocol}
+use Rattle.npr_route_values.specs.RouteProtocol.{route_protocol}
 use Rattle.npr_neighbour.specs.CacheInfo.{cache_info}
 use Rattle.npr_neighbour.specs.Flags.{ext_flags}
 use Rattle.npr_neighbour.specs.NeighbourAddress.{address_of, address_in, Form, any, form_of}

@@ -4,8 +4,8 @@ use Rattle.npr_base.specs.AddressFamily.{families}
 use Rattle.npr_base.specs.Fields.{one_byte, le_two, le_four, unused, family_byte, ◌holding◌, ◌before◌, ◌fills◌, ◌then◌, last, structure}
 use Rattle.npr_base.specs.Layout.{Layout}
 use Rattle.npr_base.specs.declared.address_family.AddressFamily.TheVariants.{Unspec}
-use Rattle.npr_scalar.specs.RouteType.{route_types}
-use Rattle.npr_scalar.specs.declared.route_type.RouteType.TheVariants.{Unspec as NoType}
+use Rattle.npr_route_values.specs.RouteType.{route_types}
+use Rattle.npr_route_values.specs.declared.route_type.RouteType.TheVariants.{Unspec as NoType}
 use Rattle.npr_neighbour.specs.Flags.{flag_bits}
 use Rattle.npr_neighbour.specs.State.{state_bits}
 use Rattle.npr_neighbour.specs.contracts.header.NeighbourHeader.{struct}

@@ -4,4 +4,10 @@ pub mod Flags
 pub mod Header
 pub mod Message
 pub mod NeighbourAddress
+pub mod NeighbourTableAttribute
+pub mod NeighbourTableConfig
+pub mod NeighbourTableHeader
+pub mod NeighbourTableMessage
+pub mod NeighbourTableParameter
+pub mod NeighbourTableStats
 pub mod State

@@ -10,7 +10,7 @@ use npr_base::{
     AddressFamily, At, Attribute, AttributeSet, DecodeError, DefaultNla, EmitError, Form, Looks,
     Nla, NlaBuffer, Place, put_read,
 };
-use npr_scalar::RouteProtocol;
+use npr_route_values::RouteProtocol;
 use std::alloc::{AllocError, Global};
 
 /// An attribute of a neighbour message. What an address means rests on the family of the message's

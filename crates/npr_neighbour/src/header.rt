@@ -13,7 +13,7 @@ use bitflags::Flags;
 use npr_base::{
     AddressFamily, DecodeError, EmitError, Emitable, Header, Looks, leading_octets, write_array,
 };
-use npr_scalar::RouteType;
+use npr_route_values::RouteType;
 
 /// The length of `struct ndmsg` of `linux/neighbour.h`, in bytes.
 const NDMSG_SIZE: usize = 12;

@@ -5,6 +5,10 @@ ghost use Rattle.std.specs.Prelude.{◌≡◌, ◌^◌, ◌∷◌, [], true};
 ghost use Rattle.{
   npr_base.specs.{Equality.{IsEquality, IsEqualityOf}, Message.{view}, Rows.{agrees}},
   npr_neighbour.specs.{
+    NeighbourTableAttribute.{family as neighbour_table_attribute_family},
+    NeighbourTableHeader.{default_header as default_neighbour_table_header},
+    NeighbourTableMessage.{neighbour_tables},
+    NeighbourTableParameter.{family as neighbour_table_parameter_family},
     Attribute.{family},
     Flags.{flag_bits, ext_flag_bits},
     Header.{default_header, header},
@@ -14,6 +18,13 @@ ghost use Rattle.{
   },
 };
 
+use crate::neighbour_table::{
+    NeighbourTableHeader, NeighbourTableMessage, NeighbourTableMessageBuffer,
+};
+use crate::neighbour_table_attribute::NeighbourTableAttribute;
+use crate::neighbour_table_config::NeighbourTableConfig;
+use crate::neighbour_table_parameter::NeighbourTableParameter;
+use crate::neighbour_table_stats::NeighbourTableStats;
 use crate::address::NeighbourAddress;
 use crate::attribute::NeighbourAttribute;
 use crate::cache_info::NeighbourCacheInfo;
@@ -63,4 +74,26 @@ pub fn law_equality()
     ensures address { IsEqualityOf address_of ⟦<NeighbourAddress as PartialEq>⟧.eq }
     ensures attribute { IsEqualityOf family.meaning ⟦<NeighbourAttribute as PartialEq>⟧.eq }
     ensures message { IsEqualityOf (view neighbours) ⟦<NeighbourMessage as PartialEq>⟧.eq }
+{}
+
+/// Which value is the default: each number is 0.
+pub fn law_table_default()
+    ensures neighbour_table_config { (x : NeighbourTableConfig) → ⟦<NeighbourTableConfig as Default>⟧.is_default x → x ≡ record { key_len = 0; entry_size = 0; entries = 0; last_flush = 0; last_rand = 0; hash_rand = 0; hash_mask = 0; hash_chain_gc = 0; proxy_qlen = 0 } }
+    ensures neighbour_table_stats { (x : NeighbourTableStats) → ⟦<NeighbourTableStats as Default>⟧.is_default x → x ≡ record { allocs = 0; destroys = 0; hash_grows = 0; res_failed = 0; lookups = 0; hits = 0; multicast_probes_received = 0; unicast_probes_received = 0; periodic_gc_runs = 0; forced_gc_runs = 0; table_fulls = 0 } }
+    ensures neighbour_table_header { (x : NeighbourTableHeader) → ⟦<NeighbourTableHeader as Default>⟧.is_default x → x ≡ default_neighbour_table_header }
+{}
+
+/// `==` of headers, layouts and structures answers whether two values are equal.
+pub fn law_table_equality()
+    ensures neighbour_table_config { IsEquality ⟦<NeighbourTableConfig as PartialEq>⟧.eq }
+    ensures neighbour_table_stats { IsEquality ⟦<NeighbourTableStats as PartialEq>⟧.eq }
+    ensures neighbour_table_header { IsEquality ⟦<NeighbourTableHeader as PartialEq>⟧.eq }
+    ensures neighbour_table_buffer { IsEquality ⟦<NeighbourTableMessageBuffer as PartialEq>⟧.eq }
+{}
+
+/// `==` of attributes and messages answers whether two values mean the same.
+pub fn law_table_equality_of_meanings()
+    ensures neighbour_table_parameter { IsEqualityOf neighbour_table_parameter_family.meaning ⟦<NeighbourTableParameter as PartialEq>⟧.eq }
+    ensures neighbour_table_attribute { IsEqualityOf neighbour_table_attribute_family.meaning ⟦<NeighbourTableAttribute as PartialEq>⟧.eq }
+    ensures neighbour_table_message { IsEqualityOf (view neighbour_tables) ⟦<NeighbourTableMessage as PartialEq>⟧.eq }
 {}

@@ -9,8 +9,8 @@ use Rattle.npr_base.proofs.FieldEquality.{one, list, number, kept, nothing}
 use Rattle.npr_base.proofs.MeaningLaws.{items_equality}
 use Rattle.npr_base.proofs.StructLaws.{◌beside◌, struct_equality}
 use Rattle.npr_base.specs.Tables.{table_decides}
-use Rattle.npr_scalar.proofs.EqualityLaws.{address_equality, route_flags_equality, route_protocol_equality, route_scope_equality}
-use Rattle.npr_tunnel.proofs.EqualityLaws.{encap_equality, encap_type_equality}
+use Rattle.npr_route_values.proofs.EqualityLaws.{address_equality, route_flags_equality, route_protocol_equality, route_scope_equality}
+use Rattle.npr_encapsulation.proofs.EqualityLaws.{encap_equality, encap_type_equality}
 use Rattle.npr_nexthop.specs.Attribute as OfAttribute
 use Rattle.npr_nexthop.specs.GroupStats as OfStats
 use Rattle.npr_nexthop.specs.GroupStatsEntry as OfEntry

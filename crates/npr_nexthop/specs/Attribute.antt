@@ -8,11 +8,11 @@ use Rattle.npr_base.specs.EnumFamily.{rewritten}
 use Rattle.npr_base.specs.Family.{Writing}
 use Rattle.npr_base.specs.Tables.{EnumTable, table_of, marked_row, row, others, ◌or◌, dropped, exactly, items, le32, list_of, listed, nothing, seen, value}
 use Rattle.npr_base.specs.Tables.{Family, Meanings, Reading, attributes_of, family_of_table, refl, writing_of}
-use Rattle.npr_scalar.specs.RouteAddress.{Form, address_in, address_of, any, form_of}
-use Rattle.npr_tunnel.specs.EncapType.{encap_type}
-use Rattle.npr_tunnel.specs.Encapsulation as OfEncap
-use Rattle.npr_tunnel.specs.declared.encap_type.RouteLwEnCapType.{RouteLwEnCapType}
-use Rattle.npr_tunnel.specs.declared.encap_type.RouteLwEnCapType.TheVariants.{None as NoEncapsulation}
+use Rattle.npr_route_values.specs.RouteAddress.{Form, address_in, address_of, any, form_of}
+use Rattle.npr_encapsulation.specs.EncapType.{encap_type}
+use Rattle.npr_encapsulation.specs.Encapsulation as OfEncap
+use Rattle.npr_encapsulation.specs.declared.encap_type.RouteLwEnCapType.{RouteLwEnCapType}
+use Rattle.npr_encapsulation.specs.declared.encap_type.RouteLwEnCapType.TheVariants.{None as NoEncapsulation}
 use Rattle.npr_nexthop.specs.Group.{group_entries}
 use Rattle.npr_nexthop.specs.GroupStats as OfStats
 use Rattle.npr_nexthop.specs.GroupType.{group_type}

@@ -12,11 +12,11 @@ use Rattle.npr_base.specs.EnumTable.{other_in}
 use Rattle.npr_base.specs.EnumTable.{all_rows}
 use Rattle.npr_base.specs.Tables.{table-read}
 use Rattle.npr_base.proofs.Unless.{Unless, unless-reads}
-use Rattle.npr_scalar.specs.RouteAddress.{Form, form_of}
-use Rattle.npr_tunnel.specs.EncapType.{encap_type}
-use Rattle.npr_tunnel.specs.Encapsulation as OfEncap
-use Rattle.npr_tunnel.specs.declared.encap_type.RouteLwEnCapType.{RouteLwEnCapType}
-use Rattle.npr_tunnel.specs.declared.encap_type.RouteLwEnCapType.TheVariants.{None as NoEncapsulation}
+use Rattle.npr_route_values.specs.RouteAddress.{Form, form_of}
+use Rattle.npr_encapsulation.specs.EncapType.{encap_type}
+use Rattle.npr_encapsulation.specs.Encapsulation as OfEncap
+use Rattle.npr_encapsulation.specs.declared.encap_type.RouteLwEnCapType.{RouteLwEnCapType}
+use Rattle.npr_encapsulation.specs.declared.encap_type.RouteLwEnCapType.TheVariants.{None as NoEncapsulation}
 use Rattle.npr_nexthop.specs.Attribute.{Context, Meaning, attributes, table}
 use Rattle.npr_nexthop.specs.contracts.attribute.NextHopAttribute.{enum}
 

@@ -4,11 +4,11 @@ use Rattle.npr_base.specs.AddressFamily.{families}
 use Rattle.npr_base.specs.Fields.{one_byte, le_four, unused, family_byte, ◌holding◌, ◌before◌, ◌fills◌, ◌then◌, last, structure}
 use Rattle.npr_base.specs.Layout.{Layout}
 use Rattle.npr_base.specs.declared.address_family.AddressFamily.TheVariants.{Unspec}
-use Rattle.npr_scalar.specs.RouteFlags.{route_flag_bits}
-use Rattle.npr_scalar.specs.RouteProtocol.{route_protocols}
-use Rattle.npr_scalar.specs.RouteScope.{route_scopes}
-use Rattle.npr_scalar.specs.declared.route_protocol.RouteProtocol.TheVariants.{Unspec as NoProtocol}
-use Rattle.npr_scalar.specs.declared.route_scope.RouteScope.TheVariants.{Universe}
+use Rattle.npr_route_values.specs.RouteFlags.{route_flag_bits}
+use Rattle.npr_route_values.specs.RouteProtocol.{route_protocols}
+use Rattle.npr_route_values.specs.RouteScope.{route_scopes}
+use Rattle.npr_route_values.specs.declared.route_protocol.RouteProtocol.TheVariants.{Unspec as NoProtocol}
+use Rattle.npr_route_values.specs.declared.route_scope.RouteScope.TheVariants.{Universe}
 use Rattle.npr_nexthop.specs.contracts.header.NextHopHeader.{struct}
 use Rattle.npr_nexthop.specs.contracts.header.NextHopMessageBuffer.{struct as buffer_struct}
 use Rattle.npr_nexthop.specs.declared.header.NextHopHeader.{NextHopHeader}

@@ -3,8 +3,8 @@
 use Rattle.std.proofs.Common.{ℕ, List, refl}
 use Rattle.npr_base.specs.Counts.{Counts}
 use Rattle.npr_base.specs.Message.{Body, Grammar, grammar_of, IsUnder}
-use Rattle.npr_tunnel.specs.declared.encap_type.RouteLwEnCapType.{RouteLwEnCapType}
-use Rattle.npr_tunnel.specs.declared.encap_type.RouteLwEnCapType.TheVariants.{None as NoEncapsulation}
+use Rattle.npr_encapsulation.specs.declared.encap_type.RouteLwEnCapType.{RouteLwEnCapType}
+use Rattle.npr_encapsulation.specs.declared.encap_type.RouteLwEnCapType.TheVariants.{None as NoEncapsulation}
 use Rattle.npr_nexthop.specs.Attribute.{Context, Meaning, attributes, family, writing}
 use Rattle.npr_nexthop.specs.Governing.{Searches, alike, item_type, meaning_type}
 use Rattle.npr_base.specs.GovernedBody as Governed

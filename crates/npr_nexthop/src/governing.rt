@@ -5,7 +5,7 @@ ghost use Rattle.npr_nexthop.specs.Governing.{item_type, Governs, Searches};
 
 use crate::attribute::NHA_ENCAP_TYPE;
 use npr_base::{Looks, NlaBuffer, NlasIterator};
-use npr_tunnel::RouteLwEnCapType;
+use npr_encapsulation::RouteLwEnCapType;
 
 /// The type that an `NHA_ENCAP_TYPE` of two bytes tells.
 fn stated_type(item: &NlaBuffer<'_>) -> Option<RouteLwEnCapType>

@@ -16,7 +16,7 @@ use bitflags::Flags;
 use npr_base::{
     AddressFamily, DecodeError, EmitError, Emitable, Header, Looks, leading_octets, write_array,
 };
-use npr_scalar::{RouteFlags, RouteProtocol, RouteScope};
+use npr_route_values::{RouteFlags, RouteProtocol, RouteScope};
 
 /// The length of `struct nhmsg` of `linux/nexthop.h`, in bytes.
 const NHMSG_SIZE: usize = 8;

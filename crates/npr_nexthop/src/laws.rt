@@ -4,7 +4,7 @@
 ghost use Rattle.std.specs.Prelude.{◌≡◌, ◌^◌, ◌∷◌, [], ℕ, List, true};
 ghost use Rattle.{
   npr_base.specs.{Equality.{IsEquality, IsEqualityOf}, Message.{view}, Rows.{agrees}},
-  npr_tunnel.specs.declared.encap_type.RouteLwEnCapType.{RouteLwEnCapType},
+  npr_encapsulation.specs.declared.encap_type.RouteLwEnCapType.{RouteLwEnCapType},
   npr_nexthop.specs.{
     Attribute.{Meaning, family},
     Governing.{Governs, first_type},

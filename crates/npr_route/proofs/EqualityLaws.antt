@@ -16,12 +16,12 @@ use Rattle.npr_base.specs.Tables.{table_decides}
 use Rattle.npr_base.proofs.MeaningLaws.{enum_meaning_at, one_meaning, one_meaning_by, text_equality, items_equality, items_meaning}
 use Rattle.npr_base.proofs.EqualityLaws.{one_equality}
 use Rattle.npr_base.proofs.StructLaws.{◌beside◌, struct_equality, and_decides, decides_as}
-use Rattle.npr_scalar.proofs.EqualityLaws.{address_equality, cache_info_equality, label_equality, mfc_stats_equality, realm_equality, route_flags_equality, via_equality, route_protocol_equality, route_scope_equality, route_type_equality, route_preference_equality, ttl_propagation_equality}
-use Rattle.npr_scalar.specs.RouteAddress.{address_of, any}
-use Rattle.npr_scalar.specs.RouteVia.{via_of}
-use Rattle.npr_tunnel.specs.Encapsulation as OfEncap
-use Rattle.npr_tunnel.specs.declared.encap_type.RouteLwEnCapType.TheVariants.{None as NoEncapsulation}
-use Rattle.npr_tunnel.proofs.EqualityLaws.{encap_type_equality, encap_equality}
+use Rattle.npr_route_values.proofs.EqualityLaws.{address_equality, cache_info_equality, label_equality, mfc_stats_equality, realm_equality, route_flags_equality, via_equality, route_protocol_equality, route_scope_equality, route_type_equality, route_preference_equality, ttl_propagation_equality}
+use Rattle.npr_route_values.specs.RouteAddress.{address_of, any}
+use Rattle.npr_route_values.specs.RouteVia.{via_of}
+use Rattle.npr_encapsulation.specs.Encapsulation as OfEncap
+use Rattle.npr_encapsulation.specs.declared.encap_type.RouteLwEnCapType.TheVariants.{None as NoEncapsulation}
+use Rattle.npr_encapsulation.proofs.EqualityLaws.{encap_type_equality, encap_equality}
 use Rattle.npr_route.specs.contracts.header.RouteHeader.{struct}
 use Rattle.npr_route.specs.Attribute.{Meaning, flat, multi_path, Attributes, no_more, attribute, Hops, no_hops, hop, Hop, attributes_of}
 use Rattle.npr_route.specs.AttributeView.{hops_of, attribute_step, hop_step, meaning_of, hop_of}

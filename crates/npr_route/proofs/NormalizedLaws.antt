@@ -6,11 +6,11 @@ use Rattle.npr_base.specs.declared.refusal.EmitError.{EmitError}
 use Rattle.npr_base.specs.Lists.{AllOf, option_or, overlong, too_long, first_unfit, encodings}
 use Rattle.npr_base.specs.Framing.{Item, number_of, encoding, marked}
 use Rattle.npr_base.proofs.NormalizedLaws.{Normalizes, rows-normalized, has_row-normalized, list-normalized, encodings-normalized, unfit-normalized, again-normalized, all-normalized}
-use Rattle.npr_scalar.specs.RouteAddress.{Form, four, sixteen, label, any, form_of}
+use Rattle.npr_route_values.specs.RouteAddress.{Form, four, sixteen, label, any, form_of}
 use Rattle.npr_srh.specs.Seg6Mode.{ModeTable}
-use Rattle.npr_tunnel.specs.Encapsulation as OfEncap
-use Rattle.npr_tunnel.proofs.EncapsulationNormalizedLaws as OfEncapLaws
-use Rattle.npr_tunnel.specs.declared.encap_type.RouteLwEnCapType.{RouteLwEnCapType}
+use Rattle.npr_encapsulation.specs.Encapsulation as OfEncap
+use Rattle.npr_encapsulation.proofs.EncapsulationNormalizedLaws as OfEncapLaws
+use Rattle.npr_encapsulation.specs.declared.encap_type.RouteLwEnCapType.{RouteLwEnCapType}
 use Rattle.npr_route.specs.Attribute.{hop_text, hop_overlong, Meaning, flat, multi_path, Attributes, no_more, attribute, Hops, no_hops, hop}
 use Rattle.npr_route.specs.Attribute.{attributes_of, typed, meaning_type, first_type, ReadsBy, AreAttributesBy, AreHopsBy, Reads, AreAttributes, AreHops}
 use Rattle.npr_route.specs.Attribute.{CoherentBy, AttributesCoherentBy, HopsCoherentBy, Coherent, AttributesCoherent, HopsCoherent}
@@ -24,7 +24,7 @@ use Rattle.npr_route.specs.Header.{header}
 use Rattle.npr_route.proofs.Normalizing.{attributes_of-normalized}
 use Rattle.npr_base.specs.Message.{IsMessage, IsCoherent, View, canonical_bytes, message_unfit}
 use Rattle.npr_route.specs.Message.{routes, under, normalized_route, IsRouteMessageBy, IsCoherentRouteBy}
-use Rattle.npr_tunnel.specs.declared.encap_type.RouteLwEnCapType.TheVariants.{None as NoEncapsulation}
+use Rattle.npr_encapsulation.specs.declared.encap_type.RouteLwEnCapType.TheVariants.{None as NoEncapsulation}
 use Rattle.npr_base.specs.Family.{written_by, unfit_by}
 use Rattle.npr_base.specs.Table.{RowReads}
 

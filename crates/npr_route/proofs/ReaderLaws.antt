@@ -18,8 +18,8 @@ use Rattle.npr_route.specs.NextHopHeader.{head_in}
 use Rattle.npr_route.specs.Reader.{HopsTo, context_inside, IsAt, IsOpen, Waits, Chain, Tied, Opens, level_weight, weight_of}
 use Rattle.npr_route.specs.Reader.{level_account, account_of, account, unread, Account, Added, Ended}
 use Rattle.npr_route.specs.Ahead.{ahead, stopped, SoughtIn}
-use Rattle.npr_scalar.specs.RouteFlags.{next_hop_flag_bits}
-use Rattle.npr_scalar.specs.declared.flags.RouteNextHopFlags.{RouteNextHopFlags}
+use Rattle.npr_route_values.specs.RouteFlags.{next_hop_flag_bits}
+use Rattle.npr_route_values.specs.declared.flags.RouteNextHopFlags.{RouteNextHopFlags}
 use Rattle.npr_route.specs.declared.attribute.RouteAttribute.{RouteAttribute}
 use Rattle.npr_route.specs.declared.next_hops.RouteNextHop.{RouteNextHop, RouteNextHop-F, roll-RouteNextHop}
 use Rattle.npr_route.specs.declared.reader.Level.{Level}

@@ -7,11 +7,11 @@ use Rattle.npr_base.specs.declared.refusal.DecodeError.{DecodeError}
 use Rattle.npr_base.specs.declared.value.Form.TheVariants.{Raw}
 use Rattle.npr_base.specs.Refusal.{at_number}
 use Rattle.npr_base.specs.Table.{RowReads, RowWrong}
-use Rattle.npr_scalar.specs.RouteAddress.{form_of, route_address, Address}
+use Rattle.npr_route_values.specs.RouteAddress.{form_of, route_address, Address}
 use Rattle.npr_base.specs.Codec.{exactly}
 use Rattle.npr_base.specs.Layout.{le32}
-use Rattle.npr_scalar.specs.declared.route_type.RouteType.{RouteType}
-use Rattle.npr_scalar.specs.declared.route_type.RouteType.TheVariants.{Multicast}
+use Rattle.npr_route_values.specs.declared.route_type.RouteType.{RouteType}
+use Rattle.npr_route_values.specs.declared.route_type.RouteType.TheVariants.{Multicast}
 use Rattle.npr_route.specs.FlatAttribute.{is_multicast, expires, expires_row, new_destination_address, new_destination_row}
 
 pub address_reads : (family : AddressFamily) → (family ≡ Mpls → ⊥) → (bytes : List ℕ) (a : Address) → (route_address family).Reads bytes a → RowReads (new_destination_row (form_of family)) bytes (new_destination_address a)

@@ -13,7 +13,7 @@ use Rattle.npr_route.specs.AttributeLooks.{AttributeLooks, value_read, hops_insi
 use Rattle.npr_route.specs.FlatAttribute.{Context}
 use Rattle.npr_route.specs.FlatFamily as Flats
 use Rattle.npr_route.specs.Metric.{attributes as metrics}
-use Rattle.npr_tunnel.specs.Encapsulation.{encapsulation}
+use Rattle.npr_encapsulation.specs.Encapsulation.{encapsulation}
 
 -- an empty list of next hops takes none
 nine_takes : (c : Context) (x : Item) (old new : Counts) → number_of x.kind ≡ 9 → (Flats.attributes c).looks.Takes x old new → new ≡ old

@@ -8,16 +8,16 @@ use Rattle.npr_base.specs.Framing.{encoding}
 use Rattle.npr_base.specs.Lists.{checked, option_or, overlong, first_unfit, list_unfit, encodings, joined}
 use Rattle.npr_route.specs.Attribute.{HopHead, Meaning, flat, multi_path, Hop, shape_of, meaning_unfit, attributes_unfit, attributes_bytes, hops_unfit, hops_bytes, hop_unfit, hop_bytes, hop_overlong, attributes_of}
 use Rattle.npr_route.specs.AttributeView.{hops_of, attribute_step, hop_step, meaning_of, hop_of, attribute_item, attribute_unfit, next_hop_bytes, next_hop_unfit}
-use Rattle.npr_scalar.specs.RouteFlags.{next_hop_flag_bits}
+use Rattle.npr_route_values.specs.RouteFlags.{next_hop_flag_bits}
 use Rattle.npr_route.specs.declared.attribute.RouteAttribute.{RouteAttribute}
 use Rattle.npr_route.specs.declared.attribute.RouteAttribute.TheFolds.{fold_out-RouteNextHop, fold-roll-RouteNextHop, fold-roll-RouteAttribute}
 use Rattle.npr_route.specs.declared.attribute.RouteAttribute.TheOpen as Open
 use Rattle.npr_route.specs.declared.attribute.RouteAttribute.TheVariants.{Metrics, rolls-Metrics, MultiPath, rolls-MultiPath, Encap, rolls-Encap, NewDestination, rolls-NewDestination, NewDestinationAddress, rolls-NewDestinationAddress, Expires, rolls-Expires, MulticastExpires, rolls-MulticastExpires}
-use Rattle.npr_scalar.specs.RouteAddress.{address_of}
-use Rattle.npr_scalar.specs.declared.address.RouteAddress.{RouteAddress}
-use Rattle.npr_scalar.specs.declared.mpls.MplsLabel.{MplsLabel}
-use Rattle.npr_tunnel.specs.Encapsulation.{meaning_of as member_of}
-use Rattle.npr_tunnel.specs.declared.encap.RouteLwTunnelEncap.{RouteLwTunnelEncap}
+use Rattle.npr_route_values.specs.RouteAddress.{address_of}
+use Rattle.npr_route_values.specs.declared.address.RouteAddress.{RouteAddress}
+use Rattle.npr_route_values.specs.declared.mpls.MplsLabel.{MplsLabel}
+use Rattle.npr_encapsulation.specs.Encapsulation.{meaning_of as member_of}
+use Rattle.npr_encapsulation.specs.declared.encap.RouteLwTunnelEncap.{RouteLwTunnelEncap}
 use Rattle.npr_route.specs.Metric.{family as metric_family}
 use Rattle.npr_route.specs.declared.metrics.RouteMetric.{RouteMetric}
 use Rattle.npr_route.specs.FlatAttribute as Flat

@@ -16,7 +16,7 @@ use Rattle.npr_route.specs.FlatAttribute.{Context}
 use Rattle.npr_route.specs.FlatFamily as Flats
 use Rattle.npr_route.specs.Governing.{Governs}
 use Rattle.npr_srh.specs.Seg6Mode.{ModeTable, modes}
-use Rattle.npr_tunnel.specs.declared.encap_type.RouteLwEnCapType.{RouteLwEnCapType}
+use Rattle.npr_encapsulation.specs.declared.encap_type.RouteLwEnCapType.{RouteLwEnCapType}
 
 -- the header without its length, which counts its eight bytes and the attributes
 pub record HopHead : Type 0 where

@@ -9,7 +9,7 @@ use Rattle.npr_route.specs.FlatAttribute as Flat
 use Rattle.npr_route.specs.FlatAttribute.{Context}
 use Rattle.npr_route.specs.FlatFamily as Flats
 use Rattle.npr_route.specs.Governing.{Searches}
-use Rattle.npr_tunnel.specs.declared.encap_type.RouteLwEnCapType.{RouteLwEnCapType}
+use Rattle.npr_encapsulation.specs.declared.encap_type.RouteLwEnCapType.{RouteLwEnCapType}
 
 mutual
   -- inside the value of an attribute

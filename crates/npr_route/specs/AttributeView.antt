@@ -3,10 +3,10 @@ use Rattle.std.specs.Prelude.{ℕ, List, [], ◌∷◌, map, Option}
 use Rattle.npr_base.specs.declared.refusal.EmitError.{EmitError}
 use Rattle.npr_base.specs.Framing.{Item}
 use Rattle.npr_base.specs.Family.{Family, family_of}
-use Rattle.npr_scalar.specs.RouteAddress.{address_of}
-use Rattle.npr_scalar.specs.RouteFlags.{next_hop_flag_bits}
-use Rattle.npr_scalar.specs.RouteVia.{via_of}
-use Rattle.npr_tunnel.specs.Encapsulation as OfEncap
+use Rattle.npr_route_values.specs.RouteAddress.{address_of}
+use Rattle.npr_route_values.specs.RouteFlags.{next_hop_flag_bits}
+use Rattle.npr_route_values.specs.RouteVia.{via_of}
+use Rattle.npr_encapsulation.specs.Encapsulation as OfEncap
 use Rattle.npr_route.specs.Metric.{family as metric_family}
 use Rattle.npr_route.specs.FlatAttribute as Flat
 use Rattle.npr_route.specs.FlatAttribute.{Context}

@@ -9,27 +9,27 @@ use Rattle.npr_base.specs.ListCodec.{list_of}
 use Rattle.npr_base.specs.Family.{Reading, Writing}
 use Rattle.npr_base.specs.Table.{Row, row, Slot, slot_plain, slot_marked, slot_other, IsSlot}
 use Rattle.npr_base.specs.Table.{writing_by}
-use Rattle.npr_scalar.specs.MplsCodec.{mpls_labels}
-use Rattle.npr_scalar.specs.Realm.{route_realm}
-use Rattle.npr_scalar.specs.RouteAddress.{Address as AddressMeaning, address_in, Form, four, sixteen, label, any}
-use Rattle.npr_scalar.specs.RouteCacheInfo.{route_cache_info}
-use Rattle.npr_scalar.specs.RouteMfcStats.{route_mfc_stats}
-use Rattle.npr_scalar.specs.RoutePreference.{route_preference}
-use Rattle.npr_scalar.specs.RouteVia.{Via as ViaMeaning, via_value}
-use Rattle.npr_scalar.specs.TtlPropagation.{ttl_propagation}
-use Rattle.npr_scalar.specs.declared.cache_info.RouteCacheInfo.{RouteCacheInfo}
-use Rattle.npr_scalar.specs.declared.route_type.RouteType.{RouteType}
-use Rattle.npr_scalar.specs.declared.route_type.RouteType.TheVariants.{Multicast}
-use Rattle.npr_scalar.specs.declared.mfc_stats.RouteMfcStats.{RouteMfcStats}
-use Rattle.npr_scalar.specs.declared.mpls.MplsLabel.{MplsLabel}
-use Rattle.npr_scalar.specs.declared.preference.RouteMplsTtlPropagation.{RouteMplsTtlPropagation}
-use Rattle.npr_scalar.specs.declared.preference.RoutePreference.{RoutePreference}
-use Rattle.npr_scalar.specs.declared.realm.RouteRealm.{RouteRealm}
-use Rattle.npr_tunnel.specs.EncapType.{encap_type as encap_type_layout}
-use Rattle.npr_tunnel.specs.Encapsulation as OfEncap
-use Rattle.npr_tunnel.specs.IpTunnel as OfIp
-use Rattle.npr_tunnel.specs.declared.encap_type.RouteLwEnCapType.{RouteLwEnCapType}
-use Rattle.npr_tunnel.specs.declared.encap_type.RouteLwEnCapType.TheVariants.{None as NoEncapsulation}
+use Rattle.npr_route_values.specs.MplsCodec.{mpls_labels}
+use Rattle.npr_route_values.specs.Realm.{route_realm}
+use Rattle.npr_route_values.specs.RouteAddress.{Address as AddressMeaning, address_in, Form, four, sixteen, label, any}
+use Rattle.npr_route_values.specs.RouteCacheInfo.{route_cache_info}
+use Rattle.npr_route_values.specs.RouteMfcStats.{route_mfc_stats}
+use Rattle.npr_route_values.specs.RoutePreference.{route_preference}
+use Rattle.npr_route_values.specs.RouteVia.{Via as ViaMeaning, via_value}
+use Rattle.npr_route_values.specs.TtlPropagation.{ttl_propagation}
+use Rattle.npr_route_values.specs.declared.cache_info.RouteCacheInfo.{RouteCacheInfo}
+use Rattle.npr_route_values.specs.declared.route_type.RouteType.{RouteType}
+use Rattle.npr_route_values.specs.declared.route_type.RouteType.TheVariants.{Multicast}
+use Rattle.npr_route_values.specs.declared.mfc_stats.RouteMfcStats.{RouteMfcStats}
+use Rattle.npr_route_values.specs.declared.mpls.MplsLabel.{MplsLabel}
+use Rattle.npr_route_values.specs.declared.preference.RouteMplsTtlPropagation.{RouteMplsTtlPropagation}
+use Rattle.npr_route_values.specs.declared.preference.RoutePreference.{RoutePreference}
+use Rattle.npr_route_values.specs.declared.realm.RouteRealm.{RouteRealm}
+use Rattle.npr_encapsulation.specs.EncapType.{encap_type as encap_type_layout}
+use Rattle.npr_encapsulation.specs.Encapsulation as OfEncap
+use Rattle.npr_encapsulation.specs.IpTunnel as OfIp
+use Rattle.npr_encapsulation.specs.declared.encap_type.RouteLwEnCapType.{RouteLwEnCapType}
+use Rattle.npr_encapsulation.specs.declared.encap_type.RouteLwEnCapType.TheVariants.{None as NoEncapsulation}
 use Rattle.npr_route.specs.Metric.{family as metric_family, attributes as metric_attributes}
 
 -- what an attribute without next hops is

@@ -4,9 +4,9 @@ use Rattle.std.proofs.Common.{refl}
 use Rattle.npr_base.specs.Family.{Reading}
 use Rattle.npr_base.specs.Table.{table_with}
 use Rattle.npr_base.specs.TableFamily.{table_family}
-use Rattle.npr_scalar.specs.RouteAddress.{Form, form_of}
+use Rattle.npr_route_values.specs.RouteAddress.{Form, form_of}
 use Rattle.npr_srh.specs.Seg6Mode.{ModeTable, modes}
-use Rattle.npr_tunnel.specs.Encapsulation as OfEncap
+use Rattle.npr_encapsulation.specs.Encapsulation as OfEncap
 use Rattle.npr_route.specs.FlatAttribute.{Context}
 use Rattle.npr_route.specs.FlatAttribute.{other, rows, slot_of}
 use Rattle.npr_route.specs.FlatAttribute.{Coherent, is_multicast, writing}

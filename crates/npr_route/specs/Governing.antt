@@ -4,8 +4,8 @@ use Rattle.std.specs.Prelude.{ℕ, ◌==◌, List, length, Option, Some, None, i
 use Rattle.npr_base.specs.Counts.{Counts}
 use Rattle.npr_base.specs.FirstTold as Told
 use Rattle.npr_base.specs.Framing.{Item, number_of}
-use Rattle.npr_tunnel.specs.EncapType.{encap_type}
-use Rattle.npr_tunnel.specs.declared.encap_type.RouteLwEnCapType.{RouteLwEnCapType}
+use Rattle.npr_encapsulation.specs.EncapType.{encap_type}
+use Rattle.npr_encapsulation.specs.declared.encap_type.RouteLwEnCapType.{RouteLwEnCapType}
 
 -- the type that an attribute tells: one of number 21 with a value of two bytes
 abbrev pub item_type : Item → Option RouteLwEnCapType

@@ -4,13 +4,13 @@ use Rattle.npr_base.specs.Fields.{one_byte, le_four, family_byte, ◌holding◌,
 use Rattle.npr_base.specs.Layout.{Layout}
 use Rattle.npr_base.specs.AddressFamily.{families}
 use Rattle.npr_base.specs.declared.address_family.AddressFamily.TheVariants.{Unspec}
-use Rattle.npr_scalar.specs.RouteFlags.{route_flag_bits}
-use Rattle.npr_scalar.specs.RouteProtocol.{route_protocols}
-use Rattle.npr_scalar.specs.RouteScope.{route_scopes}
-use Rattle.npr_scalar.specs.RouteType.{route_types}
-use Rattle.npr_scalar.specs.declared.route_protocol.RouteProtocol.TheVariants.{Unspec as NoProtocol}
-use Rattle.npr_scalar.specs.declared.route_scope.RouteScope.TheVariants.{Universe}
-use Rattle.npr_scalar.specs.declared.route_type.RouteType.TheVariants.{Unspec as NoType}
+use Rattle.npr_route_values.specs.RouteFlags.{route_flag_bits}
+use Rattle.npr_route_values.specs.RouteProtocol.{route_protocols}
+use Rattle.npr_route_values.specs.RouteScope.{route_scopes}
+use Rattle.npr_route_values.specs.RouteType.{route_types}
+use Rattle.npr_route_values.specs.declared.route_protocol.RouteProtocol.TheVariants.{Unspec as NoProtocol}
+use Rattle.npr_route_values.specs.declared.route_scope.RouteScope.TheVariants.{Universe}
+use Rattle.npr_route_values.specs.declared.route_type.RouteType.TheVariants.{Unspec as NoType}
 use Rattle.npr_route.specs.contracts.header.RouteHeader.{struct}
 use Rattle.npr_route.specs.contracts.header.RouteMessageBuffer.{struct as buffer_struct}
 use Rattle.npr_route.specs.declared.header.RouteHeader.{RouteHeader}

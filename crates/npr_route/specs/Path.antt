@@ -2,7 +2,7 @@
 use Rattle.std.specs.Prelude.{ℕ, [], ◌∷◌, Option, Some, None}
 use Rattle.npr_base.specs.declared.ip.IpAddr.{IpAddr}
 use Rattle.npr_base.specs.declared.ip.IpAddr.TheVariants.{V4, V6}
-use Rattle.npr_scalar.specs.RouteAddress.{Address, inet, inet6, address_of, address_of_ip}
+use Rattle.npr_route_values.specs.RouteAddress.{Address, inet, inet6, address_of, address_of_ip}
 use Rattle.npr_route.specs.Attribute.{Meaning, flat, multi_path, Hops, Hop, attributes_of}
 use Rattle.npr_route.specs.FlatAttribute.{gateway, destination, table, oif}
 

@@ -5,9 +5,9 @@ use Rattle.npr_base.specs.declared.refusal.DecodeError.{DecodeError}
 use Rattle.npr_base.specs.Counts.{Counts}
 use Rattle.npr_base.specs.Family.{list_looking}
 use Rattle.npr_base.specs.Lists.{AllOf, ReadsList, FirstFault}
-use Rattle.npr_scalar.specs.declared.route_type.RouteType.{RouteType}
-use Rattle.npr_tunnel.specs.declared.encap_type.RouteLwEnCapType.{RouteLwEnCapType}
-use Rattle.npr_tunnel.specs.declared.encap_type.RouteLwEnCapType.TheVariants.{None as NoEncapsulation}
+use Rattle.npr_route_values.specs.declared.route_type.RouteType.{RouteType}
+use Rattle.npr_encapsulation.specs.declared.encap_type.RouteLwEnCapType.{RouteLwEnCapType}
+use Rattle.npr_encapsulation.specs.declared.encap_type.RouteLwEnCapType.TheVariants.{None as NoEncapsulation}
 use Rattle.npr_srh.specs.Seg6Mode.{ModeTable, modes}
 use Rattle.npr_route.specs.Attribute.{Meaning, ReadsBy, CoherentBy, attributes_of, first_type}
 use Rattle.npr_route.specs.AttributeFamily.{attributes}

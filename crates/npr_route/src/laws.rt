@@ -11,7 +11,7 @@ ghost use Rattle.{
     Message.{IsCoherent, IsMessage, View, message_unfit, canonical_bytes, view},
   },
   npr_srh.specs.Seg6Mode.{first_modes},
-  npr_tunnel.specs.declared.encap_type.RouteLwEnCapType.{RouteLwEnCapType},
+  npr_encapsulation.specs.declared.encap_type.RouteLwEnCapType.{RouteLwEnCapType},
   npr_route.specs.{
     AttributeLooks.{HopsLooks, HopsTake},
     AttributeView.{meaning_of, hop_of},

@@ -4,14 +4,14 @@
 ghost use Rattle.std.specs.Prelude.{◌≡◌, map, Vec};
 ghost use Rattle.{
   npr_base.specs.Message.{view},
-  npr_tunnel.specs.Encapsulation.{meaning_of as member_of, normalized as normalized_member},
+  npr_encapsulation.specs.Encapsulation.{meaning_of as member_of, normalized as normalized_member},
   npr_route.specs.{Attribute.{normalized, normalized_hop}, AttributeView.{meaning_of, hop_of}, Message.{routes, normalized_route}},
 };
 
 use crate::attribute::RouteAttribute;
 use crate::message::RouteMessage;
 use crate::next_hops::RouteNextHop;
-use npr_tunnel::RouteLwTunnelEncap;
+use npr_encapsulation::RouteLwTunnelEncap;
 use std::alloc::Global;
 use std::mem;
 

@@ -8,7 +8,7 @@ use crate::attribute::RouteAttribute;
 use crate::descent::{check_hop, clone_hop, write_hop};
 use bitflags::Flags;
 use npr_base::{EmitError, Emitable};
-use npr_scalar::RouteNextHopFlags;
+use npr_route_values::RouteNextHopFlags;
 use std::alloc::{AllocError, Global};
 
 /// A next hop of a route by several paths.

@@ -10,14 +10,14 @@ ghost use Rattle.{
     declared.attribute.RouteAttribute.{RouteAttribute as Attribute},
   },
   npr_base.specs.Found.{IsFirst},
-  npr_scalar.specs.RouteAddress.{address_of},
+  npr_route_values.specs.RouteAddress.{address_of},
 };
 
 use crate::attribute::RouteAttribute;
 use crate::header::RouteHeader;
 use crate::next_hops::RouteNextHop;
 use npr_base::{IpAddr, Message};
-use npr_scalar::RouteAddress;
+use npr_route_values::RouteAddress;
 use std::alloc::{AllocError, Global};
 
 /// A route, or a next hop of one by several paths: what both have is attributes.

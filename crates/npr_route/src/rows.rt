@@ -11,12 +11,12 @@ ghost use Rattle.{
     Table.{RowReads, RowWrong},
     declared.refusal.DecodeError.TheVariants.{OutOfMemory},
   },
-  npr_scalar.specs.{
+  npr_route_values.specs.{
     RouteAddress.{form_of, address_of, route_address},
     RouteVia.{via_of, via_value},
     declared.{address.RouteAddress.{RouteAddress}, via.RouteVia.{RouteVia}},
   },
-  npr_tunnel.specs.Encapsulation.{encapsulation},
+  npr_encapsulation.specs.Encapsulation.{encapsulation},
   npr_route.specs.{
     Attribute.{flat, typed},
     AttributeLooks.{AttributeLooks},
@@ -38,11 +38,11 @@ use npr_base::{
     AddressFamily, At, AttributeSet, DecodeError, DefaultNla, Form, Ipv6Addr, Looks, NlaBuffer,
     Parseable, borrow_octets, form_row, parse_list, read_ipv4, read_u32, read_u64, read_value,
 };
-use npr_scalar::{
+use npr_route_values::{
     RouteAddress, RouteCacheInfo, RouteMfcStats, RouteMplsTtlPropagation, RoutePreference,
     RouteRealm, RouteType, RouteVia, read_labels,
 };
-use npr_tunnel::RouteLwEnCapType;
+use npr_encapsulation::RouteLwEnCapType;
 use std::alloc::Global;
 use std::mem;
 

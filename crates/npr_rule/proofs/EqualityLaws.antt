@@ -9,7 +9,7 @@ use Rattle.npr_base.specs.Tables.{table_decides}
 use Rattle.npr_base.proofs.MeaningLaws.{text_equality}
 use Rattle.npr_base.proofs.EqualityLaws.{one_equality}
 use Rattle.npr_base.proofs.StructLaws.{◌beside◌, struct_equality}
-use Rattle.npr_scalar.proofs.EqualityLaws.{realm_equality, ip_protocol_equality, route_protocol_equality}
+use Rattle.npr_route_values.proofs.EqualityLaws.{realm_equality, ip_protocol_equality, route_protocol_equality}
 use Rattle.npr_rule.specs.contracts.header.RuleHeader.{struct}
 use Rattle.npr_rule.specs.Attribute.{family, table}
 use Rattle.npr_rule.specs.contracts.action.RuleActionPartialEq.TheImpl as ActionEq

@@ -3,9 +3,9 @@ use Rattle.std.specs.Prelude.{ℕ, Option}
 use Rattle.npr_base.specs.declared.refusal.AttributeSet.TheVariants.{Rule}
 use Rattle.npr_base.specs.Tables.{EnumTable, table_of, row, others, ◌or◌, value, text, exactly, ip, name, le32, be64, boolean, refl, Reading, Family}
 use Rattle.npr_base.specs.Tables.{ValueAt, value_at, found_at, writing_of, attributes_of, family_of_table}
-use Rattle.npr_scalar.specs.Realm.{route_realm}
-use Rattle.npr_scalar.specs.RouteProtocol.{route_protocol}
-use Rattle.npr_scalar.specs.IpProtocolByte.{ip_protocol_byte}
+use Rattle.npr_route_values.specs.Realm.{route_realm}
+use Rattle.npr_route_values.specs.RouteProtocol.{route_protocol}
+use Rattle.npr_route_values.specs.IpProtocolByte.{ip_protocol_byte}
 use Rattle.npr_rule.specs.PortRange.{port_range}
 use Rattle.npr_rule.specs.UidRange.{uid_range}
 use Rattle.npr_rule.specs.declared.attribute.RuleAttribute.{RuleAttribute}

@@ -10,7 +10,7 @@ use crate::uid_range::RuleUidRange;
 use npr_base::{
     At, Attribute, DecodeError, DefaultNla, EmitError, Form, IpAddr, Looks, Nla, NlaBuffer, Place,
 };
-use npr_scalar::{IpProtocol, RouteProtocol, RouteRealm, check_protocol, protocol_byte};
+use npr_route_values::{IpProtocol, RouteProtocol, RouteRealm, check_protocol, protocol_byte};
 use std::alloc::{AllocError, Global};
 
 /// An attribute of a rule message.

@@ -144,8 +144,8 @@ fn addresses_are_those_of_the_standard_library() {
 
 #[test]
 fn crates_are_modules() {
-    let was = "use npr_scalar::A;\nuse std::alloc::Global;\nuse crate::b::{self, C};\n";
-    let is = "use crate::npr_scalar::A; use crate::memory::{SetIn as _, StringIn as _, VecIn as _};\nuse crate::memory::Global;\nuse crate::npr_base::b::{self, C};\n";
+    let was = "use npr_route_values::A;\nuse std::alloc::Global;\nuse crate::b::{self, C};\n";
+    let is = "use crate::npr_route_values::A; use crate::memory::{SetIn as _, StringIn as _, VecIn as _};\nuse crate::memory::Global;\nuse crate::npr_base::b::{self, C};\n";
     assert_eq!(erased(was), is);
 }
 

@@ -9,7 +9,7 @@ use Rattle.npr_base.specs.FirstTold.{hit_each}
 use Rattle.npr_base.specs.lemmas.FirstTold.{hit_each-counts, searched}
 use Rattle.npr_base.specs.Framing.{Item, Front, Passes, Fault, Step, pad}
 use Rattle.npr_base.specs.lemmas.Front.{length_at, length_at-is, rest_at, two_bytes, Front-is, Front-takes}
-use Rattle.npr_tunnel.specs.declared.encap_type.RouteLwEnCapType.{RouteLwEnCapType}
+use Rattle.npr_encapsulation.specs.declared.encap_type.RouteLwEnCapType.{RouteLwEnCapType}
 use Rattle.npr_route.specs.Governing.{item_type, Searches}
 use Rattle.npr_route.specs.Ahead.{stands, along, ahead, stopped, walk_room, SoughtIn}
 

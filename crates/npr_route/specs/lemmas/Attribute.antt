@@ -15,9 +15,9 @@ use Rattle.npr_base.specs.lemmas.List.{encoding-front, Front-proper, length-enco
 use Rattle.npr_base.specs.Family.{Reading, written_by}
 use Rattle.npr_base.specs.Table.{Row, ReadsAt}
 use Rattle.npr_base.specs.lemmas.Bool.{one_of}
-use Rattle.npr_scalar.specs.RouteAddress.{Form, four, sixteen, label, any, form_of}
-use Rattle.npr_tunnel.specs.Encapsulation as OfEncap
-use Rattle.npr_tunnel.specs.declared.encap_type.RouteLwEnCapType.{RouteLwEnCapType}
+use Rattle.npr_route_values.specs.RouteAddress.{Form, four, sixteen, label, any, form_of}
+use Rattle.npr_encapsulation.specs.Encapsulation as OfEncap
+use Rattle.npr_encapsulation.specs.declared.encap_type.RouteLwEnCapType.{RouteLwEnCapType}
 use Rattle.npr_route.specs.FlatAttribute as Flat
 use Rattle.npr_route.specs.FlatAttribute.{Context, rows, other, is_multicast, new_destination_variant, NewDestinationValue, expires_variant}
 use Rattle.npr_route.specs.FlatFamily as Flats

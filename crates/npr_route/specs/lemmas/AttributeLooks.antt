@@ -13,7 +13,7 @@ use Rattle.npr_route.specs.FlatAttribute.{Context}
 use Rattle.npr_route.specs.FlatFamily as Flats
 use Rattle.npr_route.specs.Governing.{item_type, Searches}
 use Rattle.npr_route.specs.lemmas.NextHopFront.{HopFront-same, HopFront-sound, no_hop}
-use Rattle.npr_tunnel.specs.declared.encap_type.RouteLwEnCapType.{RouteLwEnCapType}
+use Rattle.npr_encapsulation.specs.declared.encap_type.RouteLwEnCapType.{RouteLwEnCapType}
 
 -- ---- attributes and next hops: one number, and read or not
 

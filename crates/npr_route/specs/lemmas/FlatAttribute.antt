@@ -9,9 +9,9 @@ use Rattle.npr_base.specs.declared.refusal.AttributeSet.TheVariants.{Encap as At
 use Rattle.npr_base.specs.Family.{Reading}
 use Rattle.npr_base.specs.Table.{slot_kind, slot_value, slot_unfit, slot-reads, item_of, Aligned, IsWritten, ReadsAt}
 use Rattle.npr_base.specs.lemmas.Table.{other-back}
-use Rattle.npr_scalar.specs.MplsCodec.{mpls_labels}
-use Rattle.npr_scalar.specs.RouteAddress.{address_in, Form, four, sixteen, label, any}
-use Rattle.npr_tunnel.specs.Encapsulation as OfEncap
+use Rattle.npr_route_values.specs.MplsCodec.{mpls_labels}
+use Rattle.npr_route_values.specs.RouteAddress.{address_in, Form, four, sixteen, label, any}
+use Rattle.npr_encapsulation.specs.Encapsulation as OfEncap
 use Rattle.npr_route.specs.FlatAttribute.{Meaning, destination, source, gateway, pref_source, new_destination, new_destination_address, encap}
 use Rattle.npr_route.specs.FlatAttribute.{any_marks, expires, multicast_expires, other, rows, new_destination_row, NewDestinationValue, expires_row, slot_of}
 use Rattle.npr_route.specs.FlatAttribute.{Coherent, writing}

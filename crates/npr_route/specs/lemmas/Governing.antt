@@ -9,9 +9,9 @@ use Rattle.npr_base.specs.Framing.{Item, number_of, Passes}
 use Rattle.npr_base.specs.Lists.{Each, ReadsList}
 use Rattle.npr_base.specs.Table.{ReadsAt}
 use Rattle.npr_base.proofs.Unless.{Unless, unless-reads}
-use Rattle.npr_scalar.specs.RouteAddress.{Form, four, sixteen, label, any, form_of}
-use Rattle.npr_tunnel.specs.Encapsulation as OfEncap
-use Rattle.npr_tunnel.specs.declared.encap_type.RouteLwEnCapType.{RouteLwEnCapType}
+use Rattle.npr_route_values.specs.RouteAddress.{Form, four, sixteen, label, any, form_of}
+use Rattle.npr_encapsulation.specs.Encapsulation as OfEncap
+use Rattle.npr_encapsulation.specs.declared.encap_type.RouteLwEnCapType.{RouteLwEnCapType}
 use Rattle.npr_route.specs.Attribute.{Meaning, flat, multi_path, Attributes, no_more, attribute, attributes_of, Reads, AreAttributes}
 use Rattle.npr_route.specs.Attribute.{meaning_type, first_type}
 use Rattle.npr_route.specs.FlatAttribute as Flat

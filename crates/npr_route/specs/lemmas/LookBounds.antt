@@ -19,7 +19,7 @@ use Rattle.npr_route.specs.Governing.{item_type, Governs}
 use Rattle.npr_route.specs.lemmas.NextHopFront.{HopFront-same, HopFront-sound, HopFront-length, no_hop}
 use Rattle.npr_route.specs.Ahead.{stopped, walk_room}
 use Rattle.npr_route.specs.lemmas.Ahead.{room_front, room_opened, stopped_front, stopped_once, sought}
-use Rattle.npr_tunnel.specs.declared.encap_type.RouteLwEnCapType.{RouteLwEnCapType}
+use Rattle.npr_encapsulation.specs.declared.encap_type.RouteLwEnCapType.{RouteLwEnCapType}
 
 -- ---- at most
 

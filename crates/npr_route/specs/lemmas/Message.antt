@@ -3,8 +3,8 @@ use Rattle.std.proofs.Common.{ℕ, List, map, sym, ap, subst, ◌∙◌}
 use Rattle.npr_base.specs.lemmas.FirstTold.{governs-one, searched}
 use Rattle.npr_base.specs.Lists.{ReadsList}
 use Rattle.npr_base.specs.Message.{IsUnder}
-use Rattle.npr_tunnel.specs.declared.encap_type.RouteLwEnCapType.{RouteLwEnCapType}
-use Rattle.npr_tunnel.specs.declared.encap_type.RouteLwEnCapType.TheVariants.{None as NoEncapsulation}
+use Rattle.npr_encapsulation.specs.declared.encap_type.RouteLwEnCapType.{RouteLwEnCapType}
+use Rattle.npr_encapsulation.specs.declared.encap_type.RouteLwEnCapType.TheVariants.{None as NoEncapsulation}
 use Rattle.npr_route.specs.FlatAttribute.{Context}
 use Rattle.npr_route.specs.AttributeView.{family}
 use Rattle.npr_route.specs.Governing.{item_type, Governs, Searches}

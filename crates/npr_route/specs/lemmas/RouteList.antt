@@ -10,8 +10,8 @@ use Rattle.npr_base.specs.Looks.{Adds}
 use Rattle.npr_base.specs.lemmas.LookBounds.{list-walked, list-saw, searched-read, searched-saw}
 use Rattle.npr_base.specs.Family.{list_looking, Reading, fits-small, written_by, unfit_by}
 use Rattle.npr_base.specs.lemmas.Looks.{plus, raised-more}
-use Rattle.npr_tunnel.specs.declared.encap_type.RouteLwEnCapType.{RouteLwEnCapType}
-use Rattle.npr_tunnel.specs.declared.encap_type.RouteLwEnCapType.TheVariants.{None as NoEncapsulation}
+use Rattle.npr_encapsulation.specs.declared.encap_type.RouteLwEnCapType.{RouteLwEnCapType}
+use Rattle.npr_encapsulation.specs.declared.encap_type.RouteLwEnCapType.TheVariants.{None as NoEncapsulation}
 use Rattle.npr_route.specs.Attribute.{Meaning, attributes_of, attributes_depth, first_type}
 use Rattle.npr_route.specs.FlatAttribute.{Context}
 use Rattle.npr_route.specs.AttributeFamily.{attributes, writing}

@@ -8,11 +8,11 @@ use Rattle.npr_neighbour.specs.Message.{neighbours}
 use Rattle.npr_nexthop.specs.Message.{next_hops}
 use Rattle.npr_route.specs.Message.{routes}
 use Rattle.npr_rule.specs.Message.{rules}
-use Rattle.npr_small.specs.AddressLabelMessage.{address_labels}
-use Rattle.npr_small.specs.NeighbourTableMessage.{neighbour_tables}
-use Rattle.npr_small.specs.NetconfMessage.{netconfs}
-use Rattle.npr_small.specs.NsidMessage.{nsids}
-use Rattle.npr_small.specs.PrefixMessage.{prefixes}
+use Rattle.npr_address.specs.AddressLabelMessage.{address_labels}
+use Rattle.npr_neighbour.specs.NeighbourTableMessage.{neighbour_tables}
+use Rattle.npr_namespace.specs.NetconfMessage.{netconfs}
+use Rattle.npr_namespace.specs.NsidMessage.{nsids}
+use Rattle.npr_address.specs.PrefixMessage.{prefixes}
 use Rattle.npr_tc.specs.ActionMessage.{messages as action_messages}
 use Rattle.npr_tc.specs.Message.{messages as tc_messages}
 use Rattle.netlink_packet_route.specs.RouteNetlinkMessage.{message, other_of, meaning_of}
@@ -62,13 +62,13 @@ returns-clause-inner c =
     (λ x. refl, one_meaning (view action_messages) (message (Of TrafficAction New)) c.law_equality_of_meanings-4.ensures.action_message (message_one (Of TrafficAction New))) also
     (λ x. refl, one_meaning (view action_messages) (message (Of TrafficAction Del)) c.law_equality_of_meanings-4.ensures.action_message (message_one (Of TrafficAction Del))) also
     (λ x. refl, one_meaning (view action_messages) (message (Of TrafficAction Get)) c.law_equality_of_meanings-4.ensures.action_message (message_one (Of TrafficAction Get))) also
-    (λ x. refl, one_meaning (view prefixes) (message NewPrefix) c.law_equality_of_meanings-2.ensures.prefix_message (message_one NewPrefix)) also
-    (λ x. refl, one_meaning (view neighbour_tables) (message NewNeighbourTable) c.law_equality_of_meanings-2.ensures.neighbour_table_message (message_one NewNeighbourTable)) also
-    (λ x. refl, one_meaning (view neighbour_tables) (message GetNeighbourTable) c.law_equality_of_meanings-2.ensures.neighbour_table_message (message_one GetNeighbourTable)) also
-    (λ x. refl, one_meaning (view neighbour_tables) (message SetNeighbourTable) c.law_equality_of_meanings-2.ensures.neighbour_table_message (message_one SetNeighbourTable)) also
-    (λ x. refl, one_meaning (view address_labels) (message (Of AddressLabel New)) c.law_equality_of_meanings-2.ensures.address_label_message (message_one (Of AddressLabel New))) also
-    (λ x. refl, one_meaning (view address_labels) (message (Of AddressLabel Del)) c.law_equality_of_meanings-2.ensures.address_label_message (message_one (Of AddressLabel Del))) also
-    (λ x. refl, one_meaning (view address_labels) (message (Of AddressLabel Get)) c.law_equality_of_meanings-2.ensures.address_label_message (message_one (Of AddressLabel Get))) also
+    (λ x. refl, one_meaning (view prefixes) (message NewPrefix) c.law_label_equality_of_meanings.ensures.prefix_message (message_one NewPrefix)) also
+    (λ x. refl, one_meaning (view neighbour_tables) (message NewNeighbourTable) c.law_table_equality_of_meanings.ensures.neighbour_table_message (message_one NewNeighbourTable)) also
+    (λ x. refl, one_meaning (view neighbour_tables) (message GetNeighbourTable) c.law_table_equality_of_meanings.ensures.neighbour_table_message (message_one GetNeighbourTable)) also
+    (λ x. refl, one_meaning (view neighbour_tables) (message SetNeighbourTable) c.law_table_equality_of_meanings.ensures.neighbour_table_message (message_one SetNeighbourTable)) also
+    (λ x. refl, one_meaning (view address_labels) (message (Of AddressLabel New)) c.law_label_equality_of_meanings.ensures.address_label_message (message_one (Of AddressLabel New))) also
+    (λ x. refl, one_meaning (view address_labels) (message (Of AddressLabel Del)) c.law_label_equality_of_meanings.ensures.address_label_message (message_one (Of AddressLabel Del))) also
+    (λ x. refl, one_meaning (view address_labels) (message (Of AddressLabel Get)) c.law_label_equality_of_meanings.ensures.address_label_message (message_one (Of AddressLabel Get))) also
     (λ x. refl, one_meaning (view netconfs) (message (Of Netconf New)) c.law_equality_of_meanings-2.ensures.netconf_message (message_one (Of Netconf New))) also
     (λ x. refl, one_meaning (view netconfs) (message (Of Netconf Del)) c.law_equality_of_meanings-2.ensures.netconf_message (message_one (Of Netconf Del))) also
     (λ x. refl, one_meaning (view netconfs) (message (Of Netconf Get)) c.law_equality_of_meanings-2.ensures.netconf_message (message_one (Of Netconf Get))) also

@@ -2,8 +2,8 @@ use Rattle.std.proofs.Common.{refl, sym, subst, ◌∙◌}
 use Rattle.std.proofs.lemmas.Result.{IfOk-weaker}
 use Rattle.npr_base.specs.Message.{view}
 use Rattle.npr_link.specs.Message.{links}
-use Rattle.npr_small.specs.NeighbourTableMessage.{neighbour_tables}
-use Rattle.npr_small.specs.PrefixMessage.{prefixes}
+use Rattle.npr_neighbour.specs.NeighbourTableMessage.{neighbour_tables}
+use Rattle.npr_address.specs.PrefixMessage.{prefixes}
 use Rattle.netlink_packet_route.specs.RouteNetlinkMessage.{Meaning, ReadsUnder, message, meaning_of}
 use Rattle.netlink_packet_route.specs.declared.message_type.MessageType.{MessageType}
 use Rattle.netlink_packet_route.specs.declared.message_type.MessageType.TheVariants.{SetLink, NewPrefix}

@@ -1,5 +1,5 @@
 use Rattle.npr_base.specs.lemmas.FirstTold.{governs-one, first_governs}
-use Rattle.npr_tunnel.specs.declared.encap_type.RouteLwEnCapType.TheVariants.{None as NoEncapsulation}
+use Rattle.npr_encapsulation.specs.declared.encap_type.RouteLwEnCapType.TheVariants.{None as NoEncapsulation}
 use Rattle.npr_nexthop.specs.Attribute.{attributes}
 use Rattle.npr_nexthop.specs.Governing.{alike, item_type, meaning_type}
 use Rattle.npr_nexthop.specs.Message.{context_of}

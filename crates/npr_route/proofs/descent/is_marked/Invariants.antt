@@ -1,5 +1,5 @@
 use Rattle.std.proofs.Common.{◌≡◌, map, drop}
-use Rattle.npr_tunnel.specs.Encapsulation.{meaning_of}
+use Rattle.npr_encapsulation.specs.Encapsulation.{meaning_of}
 use Rattle.npr_route.specs.FlatAttribute.{any_marks}
 use Rattle.npr_route.proofs.descent.is_marked.Given as goal
 

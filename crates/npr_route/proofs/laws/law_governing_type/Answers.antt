@@ -1,5 +1,5 @@
 use Rattle.npr_base.specs.lemmas.FirstTold.{governs-one}
-use Rattle.npr_tunnel.specs.declared.encap_type.RouteLwEnCapType.TheVariants.{None as NoEncapsulation}
+use Rattle.npr_encapsulation.specs.declared.encap_type.RouteLwEnCapType.TheVariants.{None as NoEncapsulation}
 use Rattle.npr_route.specs.Attribute.{attributes_of, typed}
 use Rattle.npr_route.specs.Governing.{item_type}
 use Rattle.npr_route.specs.lemmas.Governing.{first_governs, all_read}

@@ -3,7 +3,7 @@ use Rattle.std.proofs.lemmas.Result.{IfErr-weaker}
 use Rattle.npr_base.specs.lemmas.FirstTold.{searched}
 use Rattle.npr_base.specs.lemmas.LookBounds.{searched-read, searched-saw_ok}
 use Rattle.npr_base.specs.Lists.{list_members}
-use Rattle.npr_tunnel.specs.declared.encap_type.RouteLwEnCapType.TheVariants.{None as NoEncapsulation}
+use Rattle.npr_encapsulation.specs.declared.encap_type.RouteLwEnCapType.TheVariants.{None as NoEncapsulation}
 use Rattle.npr_route.specs.AttributeView.{meaning_of}
 use Rattle.npr_route.specs.AttributeFamily.{attributes, writing}
 use Rattle.npr_route.specs.Governing.{item_type}

@@ -1,5 +1,5 @@
 use Rattle.std.proofs.Common.{arith}
-use Rattle.npr_tunnel.specs.Encapsulation.{meaning_of as member_of, normalized as normalized_member}
+use Rattle.npr_encapsulation.specs.Encapsulation.{meaning_of as member_of, normalized as normalized_member}
 use Rattle.npr_route.proofs.Normalizing.{normalized_none, normalized_more, normalized_all}
 use Rattle.npr_route.proofs.modes.normalize_members.Goals as goal
 

@@ -1,4 +1,4 @@
-use Rattle.npr_tunnel.specs.Encapsulation.{meaning_of as member_of, normalized as normalized_member}
+use Rattle.npr_encapsulation.specs.Encapsulation.{meaning_of as member_of, normalized as normalized_member}
 use Rattle.npr_route.proofs.Normalizing.{NormalizedSoFar}
 use Rattle.npr_route.proofs.modes.normalize_members.Given as goal
 

@@ -1,6 +1,6 @@
 use Rattle.std.proofs.Common.{map, refl}
 use Rattle.std.proofs.lemmas.Result.{err_from_is_err_and}
-use Rattle.npr_tunnel.specs.Encapsulation.{meaning_of}
+use Rattle.npr_encapsulation.specs.Encapsulation.{meaning_of}
 use Rattle.npr_route.specs.FlatAttribute as Flat
 use Rattle.npr_route.proofs.Views.{view_encapsulation}
 use Rattle.npr_route.proofs.rows.put_encapsulation.Goals as goal

@@ -1,6 +1,6 @@
 use Rattle.std.proofs.Common.{refl}
 use Rattle.std.proofs.lemmas.Result.{err_from_is_err_and}
-use Rattle.npr_scalar.specs.RouteAddress.{address_of}
+use Rattle.npr_route_values.specs.RouteAddress.{address_of}
 use Rattle.npr_route.specs.FlatAttribute as Flat
 use Rattle.npr_route.proofs.RouteRows.{address_reads, address_wrong}
 use Rattle.npr_route.proofs.Views.{view_new_destination, view_new_destination_address}

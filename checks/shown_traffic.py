@@ -1,0 +1,181 @@
+"""Compares what nlshow says of traffic control with what `tc -j -s -d` and `tc -s -d` said of the same messages, for `checks/shown`.
+
+Each key of an object of `tc` has to be in that of nlshow with the same value, in whichever of the objects of PARTS it stands, but for
+those of LEFT_OUT, and of kinds that are not of READ but for those of EVERY. The words of a line of `tc` have to stand in that of
+nlshow in their order, but for lines that are PASSED and words that stand ALONE; nlshow may have others beside them, as the device.
+"""
+
+import json
+import re
+
+FILES = [f"traffic-{it}" for it in ("qdisc", "class", "filter", "chain", "action")]
+# objects whose keys stand beside others in one of the two answers
+PARTS = {"options", "keys", "stats"}
+# the kinds whose data the library reads, and the keys of every kind
+READ = {"fq_codel", "ingress", "clsact", "u32", "flower", "matchall", "mirred", "nat", "tunnel_key", None}
+EVERY = {"kind", "handle", "dev", "parent", "root", "leaf", "refcnt", "pref", "chain", "order"}
+COUNTS = {"bytes", "packets", "drops", "overlimits", "requeues", "backlog", "qlen"}
+# the kind whose rate was measured
+RATED = {"pfifo"}
+# keys of attributes that the library keeps as bytes: options of tunnels, further keys of flower, an old police
+LEFT_OUT = {"geneve_opts", "vxlan_opts", "erspan_opts", "geneve_opt_key", "geneve_opt_mask", "vxlan_opt_key", "vxlan_opt_mask",
+            "erspan_opt_key", "erspan_opt_mask", "pfcp_opt_key", "pfcp_opt_mask", "gtp_opt_key", "gtp_opt_mask", "cfm", "enc_flags",
+            "l2_miss", "l2tpv3_sid", "num_of_vlans", "ppp_proto", "pppoe_sid", "spi"}
+# names of one thing: ours is the second
+NAMES = {"class": "kind", "type": "kind"}
+# times of which `tc` prints the whole seconds
+SECONDS = {"installed", "last_used", "first_used", "expires"}
+INTERFACES = {"dev", "to_dev"}
+# a protocol that has a name in some versions of `tc` alone
+FRAMES = {"cfm": "[35074]"}
+
+
+def pairs_of(it, is_read):
+    """The keys of an object with their values, and of the objects in it that are PARTS, data of a kind only where they are read."""
+    for key, value in it:
+        if key in PARTS and isinstance(value, list) and (not value or isinstance(value[0], tuple)):
+            yield from pairs_of(value, is_read) if is_read or key != "options" else ()
+        else:
+            yield key, value
+
+
+def hexadecimal(text):
+    return int(text or "0", 16)
+
+
+class Comparison:
+    """What was compared, what is wrong, and the names that devices turned out to have, by their numbers."""
+
+    def __init__(self, names):
+        self.keys, self.wrong, self.names = 0, [], names
+
+    def same(self, key, theirs, ours):
+        """Whether the values are the same."""
+        if key in INTERFACES:
+            return self.names.setdefault(ours, theirs) == theirs
+        if key in SECONDS:
+            return isinstance(ours, (int, float)) and int(ours) == theirs
+        if key == "protocol":
+            return FRAMES.get(theirs, theirs) == ours
+        if key in ("ct_state", "ip_flags"):
+            texts = theirs if isinstance(theirs, str) else "".join(("" if is_so else "no") + name for name, is_so in theirs)
+            return texts == "".join(ours)
+        if isinstance(theirs, list) and isinstance(ours, list) and theirs and isinstance(theirs[0], tuple):
+            return all(self.same(name, value, dict(ours).get(name)) for name, value in theirs)
+        if isinstance(theirs, list) and isinstance(ours, list):
+            return len(theirs) == len(ours) and all(self.same(key, *pair) for pair in zip(theirs, ours))
+        if key.startswith("icmp_"):
+            return str(theirs).partition("/")[0] == str(ours)
+        return theirs == ours or str(theirs) == str(ours)
+
+    def matches(self, theirs, ours):
+        """Whether the keys of a filter u32, each an object of the same name, and their counts are the same."""
+        found = [dict(value) for key, value in theirs if key == "match"]
+        listed = [dict(it) for it in dict(ours).get("match", [])]
+        self.keys += 3 * len(found)
+        return len(found) == len(listed) and all(
+            (hexadecimal(it["value"]), hexadecimal(it["mask"]), it["off"]) == (hexadecimal(own["value"]), hexadecimal(own["mask"]), own["off"])
+            for it, own in zip(found, listed))
+
+    def compare(self, theirs, ours):
+        """The keys of an object, and of the actions in it."""
+        kind = next((value for key, value in theirs if NAMES.get(key, key) == "kind"), None)
+        told, own = list(pairs_of(theirs, kind in READ)), list(pairs_of(ours, True))
+        is_filter = any(key == "pref" for key, _ in told)
+        wanted = EVERY | (set() if is_filter else COUNTS) | ({"rate", "pps"} if kind in RATED else set())
+        if any(key == "match" for key, _ in told) and not self.matches(told, own):
+            self.wrong.append(f"match: {told!r} of tc, {own!r}")
+        if kind == "u32" or any(key == "fh" for key, _ in told):
+            # what an old police counts, and the hits of keys, stand under names that were there before
+            told = [(key, value) for at, (key, value) in enumerate(told) if key != "match" and key not in [it for it, _ in told[:at]]]
+            police = next((at for at, (key, _) in enumerate(told) if key == "control_action"), None)
+            told = told if police is None else told[:police - 1]
+        for key, value in told:
+            key = NAMES.get(key, key)
+            if key == "actions":
+                shown = dict(own).get("actions", [])
+                if len(value) != len(shown):
+                    self.wrong.append(f"{kind}: {len(value)} actions of tc, {len(shown)}")
+                for pair in zip(value, shown):
+                    self.compare(*pair)
+            elif key not in LEFT_OUT and (kind in READ or key in wanted) and not (key == "nofrag" and value is False):
+                self.keys += 1
+                if not self.same(key, value, dict(own).get(key)):
+                    self.wrong.append(f"{kind} {key}: {value!r} of tc, {dict(own).get(key)!r}")
+
+
+def objects(text):
+    """Objects as lists of keys and values, since a key can stand twice."""
+    return json.loads(text, object_pairs_hook=lambda pairs: [tuple(it) for it in pairs])
+
+
+def compare(name, theirs, ours, names):
+    """Whether nlshow's objects say what those of `tc` do; it says what was compared, and learns the names of devices."""
+    it = Comparison(names)
+    told, shown = objects(theirs), [objects(line) for line in ours.splitlines()]
+    if name == "traffic-action":
+        told = [action for answer in told for action in dict(answer).get("actions", [])]
+        shown = [action for answer in shown for action in dict(answer).get("actions", [])]
+    if len(told) != len(shown):
+        it.wrong.append(f"{len(told)} of tc, {len(shown)} of nlshow")
+    for pair in zip(told, shown):
+        it.compare(*pair)
+    print(f"{name}: {len(told)} messages, {it.keys} keys" + "".join(f"\n  WRONG {wrong}" for wrong in it.wrong), flush=True)
+    return not it.wrong
+
+
+# lines of statistics, which nlshow has in JSON alone, and lines of data that the library keeps as bytes
+PASSED = re.compile(r"\s*(?:Sent|backlog|Action statistics|maxpacket|new_flows_len|memory used|deficit|\(dropped|-----|police|ref \d|geneve_opts"
+                    r"|vxlan_opts|erspan_opts|pfcp_opts|gtp_opts|enc_flags|num_of_vlans|pppoe_sid|ppp_proto|l2tpv3_sid|spi|l2_miss|cfm)\b.*|\s*|\s*---.*")
+# words without a value in a message, and counts that moved before the lines were printed
+ALONE = re.compile(r" (?:installed|used|firstused) \d+ sec| terminal flowid| -{16}| \(rule hit \d+(?: success \d+)?\)")
+
+
+def parts_of(text):
+    """The words of each message, and those of each action in it, without lines of statistics."""
+    messages = []
+    for line in text.splitlines():
+        if re.match(r"(?:qdisc|class|filter|chain|total acts) ", line):
+            messages.append([[]])
+        elif line.startswith("\taction order "):
+            messages[-1].append([])
+        if not PASSED.fullmatch(line) and messages:
+            messages[-1][-1] += ALONE.sub("", line).split()
+    return messages
+
+
+def is_kept(words):
+    """Whether the data of a kind are kept as bytes."""
+    at = {"qdisc": 1, "class": 1, "action": 3}.get(words[0])
+    kind = words[at] if at else next((it for it in words if it in READ), "")
+    return words[0] not in ("chain", "total") and kind not in READ
+
+
+def is_in(words, all_words):
+    """Whether the words stand among all in their order."""
+    left = iter(all_words)
+    return all(it in left for it in words)
+
+
+def compare_lines(name, theirs, ours, names):
+    """Whether nlshow's lines have the words of those of `tc`."""
+    for number, device in names.items():
+        ours = re.sub(rf"\b(dev|device) {number}\b", rf"\1 {device}", ours)
+    for word, frame in FRAMES.items():
+        theirs = theirs.replace(f" protocol {word} ", f" protocol {frame} ")
+    told, shown = parts_of(theirs), parts_of(ours)
+    wrong = [f"{len(told)} of tc, {len(shown)} of nlshow"] if len(told) != len(shown) else []
+    pairs = [it for its in zip(told, shown) if not is_kept(its[0][0]) for it in zip(*its, strict=True) if not is_kept(it[0])]
+    wrong += [f"{' '.join(their)}, where nlshow has {' '.join(our)}" for their, our in pairs if not is_in(their, our)]
+    count = sum(len(their) for their, _ in pairs)
+    print(f"{name}: {count} words of tc" + "".join(f"\n  WRONG {it}" for it in wrong), flush=True)
+    return not wrong
+
+
+def results(folder, run):
+    """Whether what `run` says of each file, given options and the file, is what `tc` said."""
+    names = {}
+    for name in FILES:
+        with open(f"{folder}/{name}.json", encoding="utf-8") as objects_of_tc, open(f"{folder}/{name}.txt", encoding="utf-8") as lines_of_tc:
+            yield compare(name, objects_of_tc.read(), run("--json", f"{folder}/{name}.bin"), names)
+            yield compare_lines(name, lines_of_tc.read(), run(f"{folder}/{name}.bin"), names)

@@ -1,8 +1,0 @@
-use mir.Syntax.{w64}
-use Rattle.npr_link_numbers.proofs.Arrays.{signed_array}
-use Rattle.npr_link_numbers.proofs.icmp6_stats.Icmp6Stats.of.Goals as goal
-use Rattle.npr_link_numbers.specs.Names.{icmp6_stats}
-
-pub returns : goal.returns
-unfolding icmp6_stats
-returns c = λ i. record { fields = signed_array w64 7 c.args.fields _ c.well_formed.0 i; missing = c.args.missing; more = c.args.more.items }

@@ -1,9 +1,0 @@
-use Rattle.std.proofs.Common.{length}
-use Rattle.npr_link_numbers.proofs.Coherent.{coherent-formed, formed-coherent}
-use Rattle.npr_link_numbers.proofs.laws.law_coherent.Goals as goal
-
-pub returns : goal.returns
-returns g c =
-    let none = g.G.Number.Block.width.none in
-    let n = length g.G.Grown.names.fields in
-    record { read = formed-coherent none n; again = coherent-formed none n }

@@ -1,0 +1,6 @@
+pub mod NetconfAttribute
+pub mod NetconfHeader
+pub mod NetconfMessage
+pub mod NsidAttribute
+pub mod NsidHeader
+pub mod NsidMessage

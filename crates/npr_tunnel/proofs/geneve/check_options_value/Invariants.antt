@@ -1,5 +1,0 @@
-use Rattle.npr_tunnel.proofs.Checked.{SoFarChecked}
-use Rattle.npr_tunnel.proofs.geneve.check_options_value.Given as goal
-
-abbrev pub invariant-loop-next : goal.invariant-loop-next
-invariant-loop-next l = SoFarChecked l.bytes l.inside l.walk
