@@ -44,9 +44,9 @@
 
 /* The version of the library. While the first two numbers stay, structures, calls and numbers stay as they are, and others are added. */
 #define NPR_VERSION_MAJOR 0
-#define NPR_VERSION_MINOR 14
+#define NPR_VERSION_MINOR 15
 #define NPR_VERSION_PATCH 0
-#define NPR_VERSION "0.14.0"
+#define NPR_VERSION "0.15.0"
 
 /* The stack of a thread that is enough for every call and every input, in bytes: 1 MiB. The deepest
  * message takes some 773 KiB, and where a fault is looked for some 433 (measured). */
@@ -323,7 +323,39 @@ enum npr_family {
     /* TCA_TUNNEL_KEY_* of linux/tc_act/tc_tunnel_key.h. */
     NPR_FAMILY_TC_ACTION_TUNNEL_KEY = 79,
     /* Actions, each with its place as its number. */
-    NPR_FAMILY_TC_ACTIONS = 80
+    NPR_FAMILY_TC_ACTIONS = 80,
+    /* TCA_HTB_* of linux/pkt_sched.h. */
+    NPR_FAMILY_TC_QDISC_HTB = 81,
+    /* TCA_TBF_* of linux/pkt_sched.h. */
+    NPR_FAMILY_TC_QDISC_TBF = 82,
+    /* TCA_RED_* of linux/pkt_sched.h. */
+    NPR_FAMILY_TC_QDISC_RED = 83,
+    /* TCA_FQ_* of linux/pkt_sched.h. */
+    NPR_FAMILY_TC_QDISC_FQ = 84,
+    /* TCA_NETEM_* of linux/pkt_sched.h. */
+    NPR_FAMILY_TC_QDISC_NETEM = 85,
+    /* NETEM_LOSS_* of linux/pkt_sched.h. */
+    NPR_FAMILY_TC_NETEM_LOSS = 86,
+    /* TCA_FW_* of linux/pkt_cls.h. */
+    NPR_FAMILY_TC_FILTER_FW = 87,
+    /* TCA_BPF_* of linux/pkt_cls.h. */
+    NPR_FAMILY_TC_FILTER_BPF = 88,
+    /* TCA_GACT_* of linux/tc_act/tc_gact.h. */
+    NPR_FAMILY_TC_ACTION_GACT = 89,
+    /* TCA_POLICE_* of linux/pkt_cls.h. */
+    NPR_FAMILY_TC_ACTION_POLICE = 90,
+    /* TCA_VLAN_* of linux/tc_act/tc_vlan.h. */
+    NPR_FAMILY_TC_ACTION_VLAN = 91,
+    /* TCA_SKBEDIT_* of linux/tc_act/tc_skbedit.h. */
+    NPR_FAMILY_TC_ACTION_SKBEDIT = 92,
+    /* TCA_CSUM_* of linux/tc_act/tc_csum.h. */
+    NPR_FAMILY_TC_ACTION_CSUM = 93,
+    /* TCA_CT_* of linux/tc_act/tc_ct.h. */
+    NPR_FAMILY_TC_ACTION_CT = 94,
+    /* TCA_SAMPLE_* of linux/tc_act/tc_sample.h. */
+    NPR_FAMILY_TC_ACTION_SAMPLE = 95,
+    /* TCA_ACT_BPF_* of linux/tc_act/tc_bpf.h. */
+    NPR_FAMILY_TC_ACTION_BPF = 96
 };
 
 /* What is wrong with a SEG6 routing header (RFC 8754, section 2). */
@@ -543,7 +575,9 @@ enum npr_form {
     NPR_FORM_STRUCTURE = 10,
     /* The bytes of a list of attributes, which `npr_enter` enters; of next hops, for `npr_next_hop_at`; or of what else is
      * read by none of these calls. They can be wrong, and a walk that does not enter them passes what is. */
-    NPR_FORM_INSIDE = 11
+    NPR_FORM_INSIDE = 11,
+    /* A signed number of 8 bytes: `npr_signed64`. */
+    NPR_FORM_I64 = 12
 };
 
 /* What a step over values answers. All members but `status` and `number` are 0 unless the status is NPR_FOUND. */
@@ -689,10 +723,15 @@ static inline const char *npr_text(const struct npr_reader *reader, const struct
     return (const char *)(reader->bytes + value->value);
 }
 
-/* A signed number. */
+/* A signed number of 4 bytes. */
 static inline int32_t npr_signed(const struct npr_value *value) {
     uint32_t low = (uint32_t)value->integer;
     return low <= INT32_MAX ? (int32_t)low : -(int32_t)(UINT32_MAX - low) - 1;
+}
+
+/* A signed number of 4 or 8 bytes. */
+static inline int64_t npr_signed64(const struct npr_value *value) {
+    return value->integer <= INT64_MAX ? (int64_t)value->integer : -(int64_t)(UINT64_MAX - value->integer) - 1;
 }
 
 /* What a step over the messages of a datagram answers. All members but `status` and `number` are 0

@@ -10,19 +10,29 @@ import re
 
 FILES = [f"traffic-{it}" for it in ("qdisc", "class", "filter", "chain", "action")]
 # objects whose keys stand beside others in one of the two answers
-PARTS = {"options", "keys", "stats"}
+PARTS = {"options", "keys", "stats", "fw", "prog"}
 # the kinds whose data the library reads, and the keys of every kind
-READ = {"fq_codel", "ingress", "clsact", "u32", "flower", "matchall", "mirred", "nat", "tunnel_key", None}
+READ = {"fq_codel", "ingress", "clsact", "htb", "tbf", "red", "fq", "netem", "prio", "pfifo_fast", "pfifo", "bfifo", "pfifo_head_drop",
+        "u32", "flower", "matchall", "fw", "bpf",
+        "mirred", "nat", "tunnel_key", "gact", "police", "vlan", "skbedit", "csum", "ct", "sample", None}
 EVERY = {"kind", "handle", "dev", "parent", "root", "leaf", "refcnt", "pref", "chain", "order"}
 COUNTS = {"bytes", "packets", "drops", "overlimits", "requeues", "backlog", "qlen"}
-# the kind whose rate was measured
-RATED = {"pfifo"}
-# keys of attributes that the library keeps as bytes: options of tunnels, further keys of flower, an old police
+# what kinds count of themselves, which the library keeps as bytes
+KEPT = {"fq": {"flows", "inactive", "throttled", "band0_pkts", "band1_pkts", "band2_pkts", "gc", "highprio", "ce_mark"},
+        "red": {"marked", "early", "pdrop", "other"}}
+# keys that no message has: what a kernel is asked of a program, and an attribute that kernels no longer write
+ASKED = {"bpf": {"name", "jited", "load_time", "created_by_uid"}, "prio": {"multiqueue"}, "pfifo_fast": {"multiqueue"}}
+# keys of attributes that the library keeps as bytes: options of tunnels and further keys of flower
 LEFT_OUT = {"geneve_opts", "vxlan_opts", "erspan_opts", "geneve_opt_key", "geneve_opt_mask", "vxlan_opt_key", "vxlan_opt_mask",
             "erspan_opt_key", "erspan_opt_mask", "pfcp_opt_key", "pfcp_opt_mask", "gtp_opt_key", "gtp_opt_mask", "cfm", "enc_flags",
             "l2_miss", "l2tpv3_sid", "num_of_vlans", "ppp_proto", "pppoe_sid", "spi"}
+# what stands in a filter in front of an old police, and what it counts
+POLICE = ("kind", "police")
+OF_POLICE = {"bytes", "packets", "dropped", "overlimits"}
+# what `tc` says where there is no attribute
+SILENT = [("nofrag", False), ("mask", "0xffffffff")]
 # names of one thing: ours is the second
-NAMES = {"class": "kind", "type": "kind"}
+NAMES = {"class": "kind", "type": "kind", "priomap ": "priomap", "weights ": "weights"}
 # times of which `tc` prints the whole seconds
 SECONDS = {"installed", "last_used", "first_used", "expires"}
 INTERFACES = {"dev", "to_dev"}
@@ -41,6 +51,15 @@ def pairs_of(it, is_read):
 
 def hexadecimal(text):
     return int(text or "0", 16)
+
+
+def named(kind, key, value, before):
+    """A key of `tc` and its value as nlshow has them."""
+    if kind == "fw" and key == "mark":
+        return "handle", hexadecimal(value)
+    if kind == "police" and key == "control_action" and any(key == it for it, _ in before):
+        return "result", value
+    return NAMES.get(key, key), value
 
 
 class Comparison:
@@ -77,28 +96,36 @@ class Comparison:
             (hexadecimal(it["value"]), hexadecimal(it["mask"]), it["off"]) == (hexadecimal(own["value"]), hexadecimal(own["mask"]), own["off"])
             for it, own in zip(found, listed))
 
+    def in_front_of_police(self, told, own):
+        """The keys of a filter in front of those of its police; the counts behind them are of it too."""
+        at = told.index(POLICE) if POLICE in told else len(told)
+        if at < len(told):
+            self.compare([it for it in told[at:] if it[0] not in OF_POLICE], [POLICE, *dict(own).get("police", [])])
+        return told[:at]
+
     def compare(self, theirs, ours):
         """The keys of an object, and of the actions in it."""
         kind = next((value for key, value in theirs if NAMES.get(key, key) == "kind"), None)
         told, own = list(pairs_of(theirs, kind in READ)), list(pairs_of(ours, True))
         is_filter = any(key == "pref" for key, _ in told)
-        wanted = EVERY | (set() if is_filter else COUNTS) | ({"rate", "pps"} if kind in RATED else set())
+        if is_filter:
+            told = self.in_front_of_police(told, own)
+        wanted = EVERY | (set() if is_filter else COUNTS)
         if any(key == "match" for key, _ in told) and not self.matches(told, own):
             self.wrong.append(f"match: {told!r} of tc, {own!r}")
         if kind == "u32" or any(key == "fh" for key, _ in told):
-            # what an old police counts, and the hits of keys, stand under names that were there before
+            # the hits of keys stand under a name that was there before
             told = [(key, value) for at, (key, value) in enumerate(told) if key != "match" and key not in [it for it, _ in told[:at]]]
-            police = next((at for at, (key, _) in enumerate(told) if key == "control_action"), None)
-            told = told if police is None else told[:police - 1]
-        for key, value in told:
-            key = NAMES.get(key, key)
+        left_out = LEFT_OUT | KEPT.get(kind, set()) | ASKED.get(kind, set())
+        for at, (key, value) in enumerate(told):
+            key, value = named(kind, key, value, told[:at])
             if key == "actions":
                 shown = dict(own).get("actions", [])
                 if len(value) != len(shown):
                     self.wrong.append(f"{kind}: {len(value)} actions of tc, {len(shown)}")
                 for pair in zip(value, shown):
                     self.compare(*pair)
-            elif key not in LEFT_OUT and (kind in READ or key in wanted) and not (key == "nofrag" and value is False):
+            elif key not in left_out and (kind in READ or key in wanted) and (key, value) not in SILENT:
                 self.keys += 1
                 if not self.same(key, value, dict(own).get(key)):
                     self.wrong.append(f"{kind} {key}: {value!r} of tc, {dict(own).get(key)!r}")
@@ -125,10 +152,15 @@ def compare(name, theirs, ours, names):
 
 
 # lines of statistics, which nlshow has in JSON alone, and lines of data that the library keeps as bytes
-PASSED = re.compile(r"\s*(?:Sent|backlog|Action statistics|maxpacket|new_flows_len|memory used|deficit|\(dropped|-----|police|ref \d|geneve_opts"
+PASSED = re.compile(r"\s*(?:Sent|backlog|Action statistics|maxpacket|new_flows_len|memory used|deficit|\(dropped|-----|lended|tokens|marked \d"
+                    r"|flows \d+ \(|gc \d|rate \w+ \d+pps|geneve_opts"
                     r"|vxlan_opts|erspan_opts|pfcp_opts|gtp_opts|enc_flags|num_of_vlans|pppoe_sid|ppp_proto|l2tpv3_sid|spi|l2_miss|cfm)\b.*|\s*|\s*---.*")
 # words without a value in a message, and counts that moved before the lines were printed
-ALONE = re.compile(r" (?:installed|used|firstused) \d+ sec| terminal flowid| -{16}| \(rule hit \d+(?: success \d+)?\)")
+ALONE = re.compile(r" (?:installed|used|firstused) \d+ sec| terminal flowid| -{16}| \(rule hit \d+(?: success \d+)?\)| name \w+(?= tag )"
+                   r"| jited load_time \d+ created_by_uid \d+")
+# words of `tc` that touch, and a half that C rounds by its binary form
+TOUCHING = re.compile(r"(/\d+)(?=mpu )|(Scell_log \d+)(?=qevent )")
+HALVES = {"2.79ms": "2.8ms"}
 
 
 def parts_of(text):
@@ -140,15 +172,17 @@ def parts_of(text):
         elif line.startswith("\taction order "):
             messages[-1].append([])
         if not PASSED.fullmatch(line) and messages:
-            messages[-1][-1] += ALONE.sub("", line).split()
+            words = TOUCHING.sub(r"\g<0> ", ALONE.sub("", line)).split()
+            messages[-1][-1] += [HALVES.get(it, it) for it in words]
     return messages
 
 
 def is_kept(words):
     """Whether the data of a kind are kept as bytes."""
     at = {"qdisc": 1, "class": 1, "action": 3}.get(words[0])
-    kind = words[at] if at else next((it for it in words if it in READ), "")
-    return words[0] not in ("chain", "total") and kind not in READ
+    if words[0] in ("chain", "total"):
+        return False
+    return words[at or words.index("chain") - 1] not in READ
 
 
 def is_in(words, all_words):

@@ -83,8 +83,8 @@ static void print_plain(const struct npr_reader *reader, const struct npr_value 
         fputs(inet_ntop(value->length == 4 ? AF_INET : AF_INET6, bytes, text, sizeof text), stdout);
     else if (value->form == NPR_FORM_NAME)
         print_text(npr_text(reader, value), value->length);
-    else if (value->form == NPR_FORM_I32)
-        printf("%" PRId32, npr_signed(value));
+    else if (value->form == NPR_FORM_I32 || value->form == NPR_FORM_I64)
+        printf("%" PRId64, npr_signed64(value));
     else if (value->form <= NPR_FORM_BOOL)
         printf("%" PRIu64, value->integer);
     else

@@ -177,17 +177,31 @@ pub const STATS2: [u8; 9] = [ANY, 16, 8, 20, ANY, 16, ANY, 16, 8];
 pub const SIZES: [u8; 3] = [ANY, 24, ANY];
 
 /// Queueing disciplines with data.
-pub const DISCIPLINES: [(&str, Lengths); 3] = [
+pub const DISCIPLINES: [(&str, Lengths); 10] = [
     ("fq_codel", &[ANY, 4, 4, 4, 4, 4, 4, 4, 4, 4, 1, 1]),
     ("ingress", &[ANY, ANY]),
     ("clsact", &[ANY, ANY]),
+    ("htb", &[ANY, 44, 20, ANY, ANY, 4, 8, 8, ANY, 0]),
+    ("tbf", &[ANY, 36, ANY, ANY, 8, 8, 4, 4]),
+    ("red", &[ANY, 16, ANY, 4, 8, 4, 4]),
+    ("fq", FQ),
+    ("netem", NETEM),
+    ("prio", &[ANY, 20]),
+    ("bfifo", &[ANY, ANY]),
 ];
 
+const FQ: Lengths = &[ANY, 4, 4, 4, 4, 4, 4, 4, 4, 4, 4, 4, 4, 4, 4, 1, 20, 12, 4];
+
+/// The first attributes stand where its structure does.
+const NETEM: Lengths = &[ANY, 12, ANY, 8, 8, 0, 16, 4, 8, ANY, 8, 8, 40, ANY, 8];
+
 /// Filters with data, each with the number of its actions.
-pub const FILTERS: [(&str, u16, Lengths); 3] = [
-    ("u32", 7, &[ANY, 4, 4, 4, 4, 32, ANY, 0, ANY, 24, 12, 4]),
+pub const FILTERS: [(&str, u16, Lengths); 5] = [
+    ("u32", 7, &[ANY, 4, 4, 4, 4, 32, 0, 0, ANY, 24, 12, 4]),
     ("matchall", 2, &[ANY, 4, 0, 4, 8]),
     ("flower", 3, FLOWER),
+    ("fw", 4, &[ANY, 4, 0, ANY, 0, 4]),
+    ("bpf", 1, &[ANY, 0, 0, 4, 2, 16, 4, ANY, 4, 4, ANY, 4]),
 ];
 
 pub const FLOWER: Lengths = &[
@@ -208,11 +222,23 @@ pub const ACTIONS: Lengths = &[0, 0, 0];
 pub const ACTION: [u8; 11] = [ANY, ANY, 0, 4, 0, ANY, ANY, 8, 8, 8, 4];
 
 /// Actions with options.
-pub const ACTION_KINDS: [(&str, Lengths); 3] = [
+pub const ACTION_KINDS: [(&str, Lengths); 11] = [
     ("mirred", &[ANY, 32, 28, ANY, 4]),
     ("nat", &[ANY, 36, 32]),
     (
         "tunnel_key",
         &[ANY, 32, 24, 4, 4, 16, 16, 4, ANY, 2, 1, ANY, 1, 1, 0],
     ),
+    ("gact", &[ANY, 32, 20, 8]),
+    ("police", &[ANY, 56, ANY, ANY, 4, 4, 32, ANY, 8, 8, 8, 8]),
+    ("vlan", &[ANY, 32, 24, 2, 2, ANY, 1, 6, 6]),
+    ("skbedit", &[ANY, 32, 20, 4, 2, 4, ANY, 2, 4, 8, 2]),
+    ("csum", &[ANY, 24, 32]),
+    ("ct", CONNECTION),
+    ("sample", &[ANY, 32, 20, 4, 4, 4]),
+    ("bpf", &[ANY, 32, 20, 2, 16, 4, ANY, ANY, ANY, 4]),
+];
+
+const CONNECTION: Lengths = &[
+    ANY, 20, 32, 2, 2, 4, 4, ANY, ANY, 4, 4, 16, 16, 2, 2, ANY, ANY, 1, 1,
 ];

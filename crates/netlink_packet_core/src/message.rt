@@ -56,6 +56,9 @@ impl<I: NetlinkInner> NetlinkMessage<I> {
 
     /// Sets the length and the type of the header to those of the payload, which are written in any
     /// case. Asks that `check` accepts.
+    ///
+    /// # Panics
+    /// May panic where it is not as asked.
     pub fn finalize(&mut self)
         requires { netlink_unfit I.protocol (message_of I.meaning self.old) ≡ None }
         ensures { message_of I.meaning self.new ≡ finalized I.protocol (message_of I.meaning self.old) }

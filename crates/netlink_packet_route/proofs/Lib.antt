@@ -4,6 +4,7 @@ pub mod CanonicalAttributes
 pub mod CanonicalLaws
 mod EncapNests
 mod EqualityLaws
+mod InnerLaws
 mod LinkNests
 pub mod NestLaws
 mod NestRows

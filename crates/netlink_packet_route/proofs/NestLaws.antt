@@ -15,6 +15,9 @@ use Rattle.npr_base.specs.declared.refusal.AttributeSet.TheVariants.{NextHopResB
 use Rattle.npr_base.specs.declared.refusal.AttributeSet.TheVariants.{AddressLabel, NeighbourTable, NeighbourTableParameter, Prefix}
 use Rattle.npr_base.specs.declared.refusal.AttributeSet.TheVariants.{Tc, TcStats2, TcStab, TcQdiscIngress, TcQdiscFqCodel, TcFilterU32}
 use Rattle.npr_base.specs.declared.refusal.AttributeSet.TheVariants.{TcFilterMatchAll, TcFilterFlower, TcFilterFlowerMpls, TcFilterFlowerMplsLse}
+use Rattle.npr_base.specs.declared.refusal.AttributeSet.TheVariants.{TcQdiscHtb, TcQdiscTbf, TcQdiscRed, TcQdiscFq, TcQdiscNetem, TcNetemLoss}
+use Rattle.npr_base.specs.declared.refusal.AttributeSet.TheVariants.{TcFilterFw, TcFilterBpf, TcActionGact, TcActionPolice, TcActionVlan}
+use Rattle.npr_base.specs.declared.refusal.AttributeSet.TheVariants.{TcActionSkbedit, TcActionCsum, TcActionCt, TcActionSample, TcActionBpf}
 use Rattle.npr_base.specs.declared.refusal.AttributeSet.TheVariants.{TcActionMessage, TcActions, TcAction, TcActionMirror, TcActionNat}
 use Rattle.npr_base.specs.declared.refusal.AttributeSet.TheVariants.{TcActionTunnelKey}
 use Rattle.npr_address.specs.Attribute as OfAddress
@@ -73,6 +76,22 @@ use Rattle.npr_tc_filters.specs.FlowerMpls as OfTcMpls
 use Rattle.npr_tc_filters.specs.FlowerMplsLse as OfTcMplsLse
 use Rattle.npr_tc_filters.specs.MatchAll as OfTcMatchAll
 use Rattle.npr_tc_filters.specs.U32Option as OfTcU32
+use Rattle.npr_tc_actions.specs.BpfOption as OfTcBpf
+use Rattle.npr_tc_actions.specs.CsumOption as OfTcCsum
+use Rattle.npr_tc_actions.specs.CtOption as OfTcCt
+use Rattle.npr_tc_actions.specs.GactOption as OfTcGact
+use Rattle.npr_tc_actions.specs.PoliceOption as OfTcPolice
+use Rattle.npr_tc_actions.specs.SampleOption as OfTcSample
+use Rattle.npr_tc_actions.specs.SkbeditOption as OfTcSkbedit
+use Rattle.npr_tc_actions.specs.VlanOption as OfTcVlan
+use Rattle.npr_tc_filters.specs.Bpf as OfTcFilterBpf
+use Rattle.npr_tc_filters.specs.Fw as OfTcFw
+use Rattle.npr_tc_qdiscs.specs.Fq as OfTcFq
+use Rattle.npr_tc_qdiscs.specs.Htb as OfTcHtb
+use Rattle.npr_tc_qdiscs.specs.NetemLoss as OfTcNetemLoss
+use Rattle.npr_tc_qdiscs.specs.NetemOption as OfTcNetem
+use Rattle.npr_tc_qdiscs.specs.Red as OfTcRed
+use Rattle.npr_tc_qdiscs.specs.Tbf as OfTcTbf
 use Rattle.npr_tc_qdiscs.specs.FqCodel as OfTcFqCodel
 use Rattle.npr_tc_qdiscs.specs.Ingress as OfTcIngress
 use Rattle.npr_tc_qdiscs.specs.Stab as OfTcStab
@@ -104,7 +123,9 @@ module _ (c : Context) where
       OfResGroup.attributes OfResBucket.attributes OfGroupStats.attributes OfGroupStatsEntry.attributes
       OfNeighbourTableParameter.attributes OfTcActionMessage.attributes OfTcMirror.attributes OfTcNat.attributes OfTcTunnelKey.attributes
       OfTcFlower.attributes OfTcMpls.attributes OfTcMplsLse.attributes OfTcMatchAll.attributes OfTcU32.attributes OfTcFqCodel.attributes
-      OfTcIngress.attributes OfTcStab.attributes
+      OfTcIngress.attributes OfTcStab.attributes OfTcHtb.attributes OfTcTbf.attributes OfTcRed.attributes OfTcFq.attributes OfTcNetem.attributes
+      OfTcNetemLoss.attributes OfTcFw.attributes OfTcFilterBpf.attributes OfTcGact.attributes OfTcPolice.attributes OfTcVlan.attributes
+      OfTcSkbedit.attributes OfTcCsum.attributes OfTcCt.attributes OfTcSample.attributes OfTcBpf.attributes
   nests-by Address = table-nests reading_of (Inner c) (Own Address c) OfAddress.table tt
   nests-by Rule = table-nests reading_of (Inner c) (Own Rule c) OfRule.table tt
   nests-by Route = route-nests c
@@ -165,7 +186,9 @@ module _ (c : Context) where
   nests-by TcStab = table-nests reading_of (Inner c) (Own TcStab c) OfTcStab.table tt
   nests-by TcQdiscIngress = λ x. tt
   nests-by TcQdiscFqCodel = table-nests reading_of (Inner c) (Own TcQdiscFqCodel c) OfTcFqCodel.table tt
-  nests-by TcFilterU32 = table-nests reading_of (Inner c) (Own TcFilterU32 c) OfTcU32.table (listed-row TcFilterU32 c TcActions (λ bytes n p. p), tt)
+  nests-by TcFilterU32 =
+      table-nests reading_of (Inner c) (Own TcFilterU32 c) OfTcU32.table
+      (listed-row TcFilterU32 c TcActionPolice (λ bytes n p. p), (listed-row TcFilterU32 c TcActions (λ bytes n p. p), tt))
   nests-by TcFilterMatchAll =
       table-nests reading_of (Inner c) (Own TcFilterMatchAll c) OfTcMatchAll.table
       (listed-row TcFilterMatchAll c TcActions (λ bytes n p. p), tt)
@@ -184,6 +207,28 @@ module _ (c : Context) where
   nests-by TcActionMirror = table-nests reading_of (Inner c) (Own TcActionMirror c) OfTcMirror.table tt
   nests-by TcActionNat = table-nests reading_of (Inner c) (Own TcActionNat c) OfTcNat.table tt
   nests-by TcActionTunnelKey = table-nests reading_of (Inner c) (Own TcActionTunnelKey c) OfTcTunnelKey.table tt
+  nests-by TcQdiscHtb = table-nests reading_of (Inner c) (Own TcQdiscHtb c) OfTcHtb.table tt
+  nests-by TcQdiscTbf = table-nests reading_of (Inner c) (Own TcQdiscTbf c) OfTcTbf.table tt
+  nests-by TcQdiscRed = table-nests reading_of (Inner c) (Own TcQdiscRed c) OfTcRed.table tt
+  nests-by TcQdiscFq = table-nests reading_of (Inner c) (Own TcQdiscFq c) OfTcFq.table tt
+  nests-by TcQdiscNetem =
+      table-nests reading_of (Inner c) (Own TcQdiscNetem c) OfTcNetem.table
+      (listed-row TcQdiscNetem c TcNetemLoss (λ bytes n p. p), tt)
+  nests-by TcNetemLoss = table-nests reading_of (Inner c) (Own TcNetemLoss c) OfTcNetemLoss.table tt
+  nests-by TcFilterFw =
+      table-nests reading_of (Inner c) (Own TcFilterFw c) OfTcFw.table
+      (listed-row TcFilterFw c TcActionPolice (λ bytes n p. p), (listed-row TcFilterFw c TcActions (λ bytes n p. p), tt))
+  nests-by TcFilterBpf =
+      table-nests reading_of (Inner c) (Own TcFilterBpf c) OfTcFilterBpf.table
+      (listed-row TcFilterBpf c TcActions (λ bytes n p. p), (listed-row TcFilterBpf c TcActionPolice (λ bytes n p. p), tt))
+  nests-by TcActionGact = table-nests reading_of (Inner c) (Own TcActionGact c) OfTcGact.table tt
+  nests-by TcActionPolice = table-nests reading_of (Inner c) (Own TcActionPolice c) OfTcPolice.table tt
+  nests-by TcActionVlan = table-nests reading_of (Inner c) (Own TcActionVlan c) OfTcVlan.table tt
+  nests-by TcActionSkbedit = table-nests reading_of (Inner c) (Own TcActionSkbedit c) OfTcSkbedit.table tt
+  nests-by TcActionCsum = table-nests reading_of (Inner c) (Own TcActionCsum c) OfTcCsum.table tt
+  nests-by TcActionCt = table-nests reading_of (Inner c) (Own TcActionCt c) OfTcCt.table tt
+  nests-by TcActionSample = table-nests reading_of (Inner c) (Own TcActionSample c) OfTcSample.table tt
+  nests-by TcActionBpf = table-nests reading_of (Inner c) (Own TcActionBpf c) OfTcBpf.table tt
   nests-by set = encap-nests c Tunnel.None
 
 pub nests : (n : Nest) → Nests reading_of (Inner (within n.set n.context)) (Own n.set n.context) (reading_of n).reading

@@ -8,7 +8,10 @@ use Rattle.npr_base.specs.Framing.{Item, number_of}
 use Rattle.npr_base.specs.ListCodec.{list_of}
 use Rattle.npr_base.specs.Lists.{ReadsList}
 use Rattle.npr_base.specs.Message.{IsMessage, MessageFault}
-use Rattle.npr_base.specs.Nesting.{IsListOf, IsFaultOf, Opened, Nests, ListRow, NestRows, NestList}
+use Rattle.npr_base.specs.Nesting.{AnyReading, IsListOf, IsFaultOf, Opened, Nests, ListRow, NestRows, NestList, any_reading}
+use Rattle.npr_base.specs.Family.{Family}
+use Rattle.npr_base.specs.Layout.{Layout}
+use Rattle.npr_base.specs.MessageValue.{message_value}
 use Rattle.npr_base.proofs.NestLaws.{plain-list, opened-by, in-list}
 use Rattle.npr_base.specs.Refusal.{at_number}
 use Rattle.npr_base.specs.declared.refusal.At.{At}
@@ -27,7 +30,7 @@ use Rattle.npr_encapsulation.specs.Encapsulation as OfEncap
 use Rattle.npr_base.specs.Table.{first_family}
 use Rattle.npr_base.specs.declared.value.Form.TheVariants.{Inside}
 use Rattle.npr_base.specs.Choices.{Held, Case, chosen}
-use Rattle.npr_link.specs.Header.{header}
+use Rattle.npr_link.specs.Header.{header, default_header}
 use Rattle.npr_link.specs.InfoList.{info_list, read-searched, fault-searched, searched-reads}
 use Rattle.npr_link.specs.Peer.{peer}
 use Rattle.npr_neighbour.specs.NeighbourAddress as OfNeighbourAddress
@@ -65,31 +68,39 @@ module _ (outer : AttributeSet) (c : Context) where
     cut = λ short. absurd (omega (arith, short));
   }
 
+  -- a list behind a header
+  pub headed-row : {H A : Type 0} (f : Family A (Unit {0})) (L : Layout H) (standard : H) (set : AttributeSet)
+      → ((bytes : List ℕ) (n : Nest) → Inner c set bytes n → reading_of n ≡ any_reading (f.reading tt))
+      → ListRow reading_of (Inner c) (Own outer c) (message_value f L standard set) set L.size
+  unfolding IsMessage MessageFault
+  headed-row f L standard set only = λ at bytes.
+      let behind = drop L.size bytes in
+      record {
+        down = λ n m is p.
+            let same : behind ≡ p.rest = ap (drop L.size) p.is ∙ drop_at p.front p.rest L.size p.size in
+            let list = subst (λ (r : List ℕ). ReadsList (f.reading tt).Reads r m.attributes) (sym same) p.attributes in
+            subst (λ (r : AnyReading). IsListOf r behind) (sym (only bytes n is)) (m.attributes, list);
+        up = λ n is long list.
+            let (ms, p) = subst (λ (r : AnyReading). IsListOf r behind) (only bytes n is) list in (
+              record { header = L.decode (take L.size bytes); attributes = ms },
+              record {
+                front = take L.size bytes;
+                rest = behind;
+                is = sym (take-append-drop L.size bytes);
+                size = length-take-le L.size bytes long;
+                header = refl;
+                attributes = p;
+              },
+            );
+        fault = λ n e is long p.
+            let bad = subst (λ (r : AnyReading). IsFaultOf r behind e) (only bytes n is) p in
+            inr (take L.size bytes, behind, sym (take-append-drop L.size bytes), length-take-le L.size bytes long, bad);
+        cut = λ short. inl (short, refl);
+      }
+
   -- the other end of a pair, behind its header
   pub peer-row : ListRow reading_of (Inner c) (Own outer c) peer Peer 16
-  unfolding IsMessage MessageFault
-  peer-row = λ at bytes. record {
-    down = λ n m is p.
-        let same : drop 16 bytes ≡ p.rest = ap (drop 16) p.is ∙ drop_at p.front p.rest 16 p.size in
-        let list = subst (λ (r : List ℕ). ReadsList OfPeer.attributes.Reads r m.attributes) (sym same) p.attributes in
-        subst (λ (k : Nest). IsListOf (reading_of k) (drop 16 bytes)) (sym is) (m.attributes, list);
-    up = λ n is long list.
-        let (ps, p) = subst (λ (k : Nest). IsListOf (reading_of k) (drop 16 bytes)) is list in (
-          record { header = header.decode (take 16 bytes); attributes = ps },
-          record {
-            front = take 16 bytes;
-            rest = drop 16 bytes;
-            is = sym (take-append-drop 16 bytes);
-            size = length-take-le 16 bytes long;
-            header = refl;
-            attributes = p;
-          },
-        );
-    fault = λ n e is long p.
-        let bad = subst (λ (k : Nest). IsFaultOf (reading_of k) (drop 16 bytes) e) is p in
-        inr (take 16 bytes, drop 16 bytes, sym (take-append-drop 16 bytes), length-take-le 16 bytes long, bad);
-    cut = λ short. inl (short, refl);
-  }
+  peer-row = headed-row OfPeer.family header default_header Peer (λ bytes n is. ap reading_of is)
 
   -- one of several variants
   pub chosen-row : {W : Type 0} (held : W → Held) (case : Case held) (set : AttributeSet) → ListRow reading_of (Inner c) (Own outer c) case.codec set 0

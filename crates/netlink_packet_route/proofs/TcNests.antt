@@ -1,23 +1,24 @@
 -- The lists in the attributes of traffic control: of a message, of statistics, of actions and of one action, under every context.
-use Rattle.std.specs.Prelude.{◌≡◌, List}
+use Rattle.std.specs.Prelude.{◌≡◌}
 use Rattle.std.proofs.Common.{refl, sym, ap, subst, ◌∙◌, arith}
 use Rattle.npr_base.specs.EnumTable.{family_in}
-use Rattle.npr_base.specs.Family.{Writing, Reading}
 use Rattle.npr_base.specs.lemmas.FirstTold.{governs-one}
 use Rattle.npr_base.specs.Framing.{Item, number_of}
 use Rattle.npr_base.specs.ListCodec.{list_of}
 use Rattle.npr_base.specs.Lists.{ReadsList}
-use Rattle.npr_base.specs.Nesting.{IsListOf, IsFaultOf, Lists, Nests, ListRow, NestRows}
+use Rattle.npr_base.specs.Nesting.{IsListOf, IsFaultOf, Nests, Opened, ListRow, NestRows}
 use Rattle.npr_base.specs.Refusal.{at_number}
 use Rattle.npr_base.proofs.NestLaws.{plain-list, opened-by, in-rows, table-nests, beside-nests, retold-nests}
-use Rattle.npr_base.specs.declared.refusal.At.{At}
 use Rattle.npr_base.specs.declared.refusal.AttributeSet.{AttributeSet}
 use Rattle.npr_base.specs.declared.refusal.AttributeSet.TheVariants.{Tc, TcStats2, TcStab, TcQdiscIngress, TcQdiscFqCodel, TcFilterU32}
 use Rattle.npr_base.specs.declared.refusal.AttributeSet.TheVariants.{TcFilterMatchAll, TcFilterFlower, TcActions, TcAction, TcActionMirror}
-use Rattle.npr_base.specs.declared.refusal.AttributeSet.TheVariants.{TcActionNat, TcActionTunnelKey}
+use Rattle.npr_base.specs.declared.refusal.AttributeSet.TheVariants.{TcActionNat, TcActionTunnelKey, TcQdiscHtb, TcQdiscTbf, TcQdiscRed, TcQdiscFq}
+use Rattle.npr_base.specs.declared.refusal.AttributeSet.TheVariants.{TcQdiscNetem, TcFilterFw, TcFilterBpf, TcActionGact, TcActionPolice}
+use Rattle.npr_base.specs.declared.refusal.AttributeSet.TheVariants.{TcActionVlan, TcActionSkbedit, TcActionCsum, TcActionCt, TcActionSample}
+use Rattle.npr_base.specs.declared.refusal.AttributeSet.TheVariants.{TcActionBpf}
 use Rattle.npr_base.specs.declared.value.Form.TheVariants.{List as Listed}
 use Rattle.npr_tc.specs.Attribute as OfTc
-use Rattle.npr_tc.specs.Options.{Said, options, fq_codel, ingress, clsact, u32, flower, match_all, place, said}
+use Rattle.npr_tc.specs.Options.{Kind, Said, kept, holding, kind_of, options, place, said, said_by}
 use Rattle.npr_tc_actions.specs.Action as OfActions
 use Rattle.npr_tc_actions.specs.ActionOption as OfOption
 use Rattle.npr_tc_actions.specs.Attribute as OfAction
@@ -25,19 +26,16 @@ use Rattle.npr_tc_actions.specs.Numbered.{IsNumbered}
 use Rattle.npr_tc_actions.specs.contracts.attribute.TcActionAttribute.{enum as action_enum}
 use Rattle.npr_tc_actions.specs.declared.form.TcActionForm.{TcActionForm}
 use Rattle.npr_tc_actions.specs.declared.form.TcActionForm.TheVariants as Action
-use Rattle.npr_tc_filters.specs.Flower as OfFlower
-use Rattle.npr_tc_filters.specs.MatchAll as OfMatchAll
-use Rattle.npr_tc_filters.specs.U32Option as OfU32
-use Rattle.npr_tc_qdiscs.specs.FqCodel as OfFqCodel
-use Rattle.npr_tc_qdiscs.specs.Ingress as OfIngress
+use Rattle.npr_tc_qdiscs.specs.Netem.{default_qopt}
+use Rattle.npr_tc_qdiscs.specs.NetemOption as OfNetemOption
+use Rattle.npr_tc_qdiscs.specs.NetemQopt.{netem_qopt}
 use Rattle.npr_tc_qdiscs.specs.Stats2 as OfStats2
 use Rattle.npr_tc_qdiscs.specs.contracts.stats2.TcStats2.{enum as stats2_enum}
 use Rattle.npr_tc_qdiscs.specs.declared.form.TcForm.{TcForm}
-use Rattle.npr_tc_qdiscs.specs.declared.form.TcForm.TheVariants as TcForm
 use Rattle.netlink_packet_route.specs.Nests.{Inner, nest_in, reading_of, within}
 use Rattle.netlink_packet_route.specs.declared.context.Context.{Context}
 use Rattle.netlink_packet_route.specs.declared.nests.Nest.{Nest}
-use Rattle.netlink_packet_route.proofs.NestRows.{Own, listed-row, chosen-row}
+use Rattle.netlink_packet_route.proofs.NestRows.{Own, listed-row, headed-row, chosen-row}
 
 module _ (c : Context) where
   -- ---- of a message
@@ -56,46 +54,59 @@ module _ (c : Context) where
   tc-rows TcForm.U32 same = (stats-row TcForm.U32 same, (listed-row Tc c TcStab (λ bytes n p. p), tt))
   tc-rows TcForm.Flower same = (stats-row TcForm.Flower same, (listed-row Tc c TcStab (λ bytes n p. p), tt))
   tc-rows TcForm.MatchAll same = (stats-row TcForm.MatchAll same, (listed-row Tc c TcStab (λ bytes n p. p), tt))
+  tc-rows TcForm.Htb same = (stats-row TcForm.Htb same, (listed-row Tc c TcStab (λ bytes n p. p), tt))
+  tc-rows TcForm.Tbf same = (stats-row TcForm.Tbf same, (listed-row Tc c TcStab (λ bytes n p. p), tt))
+  tc-rows TcForm.Red same = (stats-row TcForm.Red same, (listed-row Tc c TcStab (λ bytes n p. p), tt))
+  tc-rows TcForm.Fq same = (stats-row TcForm.Fq same, (listed-row Tc c TcStab (λ bytes n p. p), tt))
+  tc-rows TcForm.Netem same = (stats-row TcForm.Netem same, (listed-row Tc c TcStab (λ bytes n p. p), tt))
+  tc-rows TcForm.Prio same = (stats-row TcForm.Prio same, (listed-row Tc c TcStab (λ bytes n p. p), tt))
+  tc-rows TcForm.Fifo same = (stats-row TcForm.Fifo same, (listed-row Tc c TcStab (λ bytes n p. p), tt))
+  tc-rows TcForm.Fw same = (stats-row TcForm.Fw same, (listed-row Tc c TcStab (λ bytes n p. p), tt))
+  tc-rows TcForm.Bpf same = (stats-row TcForm.Bpf same, (listed-row Tc c TcStab (λ bytes n p. p), tt))
 
   rest-nests : (form : TcForm) → c.tc ≡ form → Nests reading_of (Inner c) (Own Tc c) (OfTc.rest form)
   rest-nests form same = λ x.
       let rows = (OfTc.rows form).0 in
       in-rows reading_of (Inner c) (Own Tc c) (family_in OfTc.later rows) OfTc.later rows (number_of x.kind) x (tc-rows form same)
 
-  -- data, by the kind
-  data-list : {M : Type 0} {w : Writing M} (set : AttributeSet) (f : Reading w) (made : List M → Said) (at : At) (x : Item)
-      → ListRow reading_of (Inner c) (Own Tc c) (list_of set f) set 0
-      → Lists reading_of (Inner c) (Own Tc c) (λ a. (v : List M) × (list_of set f).Reads x.value v × (a ≡ made v)) ((list_of set f).Wrong at x.value) set 0
-      x.value
-  data-list set f made at x row =
-      let o = row at x.value in
-      record {
-        down = λ n a inside p. o.down n p.0 inside p.1;
-        up = λ n inside long list. let v = o.up n inside long list in (made v.0, (v.0, v.1, refl));
-        fault = o.fault;
-        cut = o.cut;
-      }
+  -- what the bytes of data open, the data of the kind open
+  DataRow : Kind → Type 0
+  DataRow kept = Unit {0}
+  DataRow (holding codec made is) = (x : Item) → Opened reading_of (Inner c) (Own Tc c) 2 codec.showing.form (codec.Reads x.value) (codec.Wrong place x.value) x.value
 
-  data-nests : (form : TcForm) → Nests reading_of (Inner c) (Own Tc c) (said form)
-  data-nests TcForm.FqCodel = λ x.
-      data-list TcQdiscFqCodel OfFqCodel.attributes (λ xs. options (fq_codel xs)) place x (listed-row Tc c TcQdiscFqCodel (λ bytes n p. p))
-  data-nests TcForm.Ingress = λ x.
-      data-list TcQdiscIngress OfIngress.attributes (λ xs. options (ingress xs)) place x (listed-row Tc c TcQdiscIngress (λ bytes n p. p))
-  data-nests TcForm.Clsact = λ x.
-      data-list TcQdiscIngress OfIngress.attributes (λ xs. options (clsact xs)) place x (listed-row Tc c TcQdiscIngress (λ bytes n p. p))
-  data-nests TcForm.U32 = λ x.
-      data-list TcFilterU32 OfU32.attributes (λ xs. options (u32 xs)) place x (listed-row Tc c TcFilterU32 (λ bytes n p. p))
-  data-nests TcForm.Flower = λ x.
-      data-list TcFilterFlower OfFlower.attributes (λ xs. options (flower xs)) place x (listed-row Tc c TcFilterFlower (λ bytes n p. p))
-  data-nests TcForm.MatchAll = λ x.
-      data-list TcFilterMatchAll OfMatchAll.attributes (λ xs. options (match_all xs)) place x (listed-row Tc c TcFilterMatchAll (λ bytes n p. p))
-  data-nests TcForm.Kept = λ x. tt
+  kind-nests : (k : Kind) → DataRow k → Nests reading_of (Inner c) (Own Tc c) (said_by k)
+  unfolding DataRow
+  kind-nests kept row = λ x. tt
+  kind-nests (holding {V} codec made is) row = λ x.
+      let Has = λ (s : Said). (v : V) × codec.Reads x.value v × (s ≡ options (made v)) in
+      opened-by reading_of (Inner c) (Own Tc c) (number_of x.kind) codec.showing.form (codec.Reads x.value) Has (codec.Wrong place x.value)
+      (codec.Wrong place x.value) x.value (λ s p. (p.0, p.1)) (λ v p. (options (made v), (v, p, refl))) (λ e p. p) (row x)
+
+  data-row : (form : TcForm) → DataRow (kind_of form)
+  unfolding DataRow
+  data-row TcForm.FqCodel = λ x. listed-row Tc c TcQdiscFqCodel (λ bytes n p. p) place x.value
+  data-row TcForm.Ingress = λ x. listed-row Tc c TcQdiscIngress (λ bytes n p. p) place x.value
+  data-row TcForm.Clsact = λ x. listed-row Tc c TcQdiscIngress (λ bytes n p. p) place x.value
+  data-row TcForm.U32 = λ x. listed-row Tc c TcFilterU32 (λ bytes n p. p) place x.value
+  data-row TcForm.Flower = λ x. listed-row Tc c TcFilterFlower (λ bytes n p. p) place x.value
+  data-row TcForm.MatchAll = λ x. listed-row Tc c TcFilterMatchAll (λ bytes n p. p) place x.value
+  data-row TcForm.Htb = λ x. listed-row Tc c TcQdiscHtb (λ bytes n p. p) place x.value
+  data-row TcForm.Tbf = λ x. listed-row Tc c TcQdiscTbf (λ bytes n p. p) place x.value
+  data-row TcForm.Red = λ x. listed-row Tc c TcQdiscRed (λ bytes n p. p) place x.value
+  data-row TcForm.Fq = λ x. listed-row Tc c TcQdiscFq (λ bytes n p. p) place x.value
+  data-row TcForm.Fw = λ x. listed-row Tc c TcFilterFw (λ bytes n p. p) place x.value
+  data-row TcForm.Bpf = λ x. listed-row Tc c TcFilterBpf (λ bytes n p. p) place x.value
+  data-row TcForm.Netem =
+      λ x. headed-row Tc c OfNetemOption.family netem_qopt default_qopt TcQdiscNetem (λ bytes n is. ap reading_of is) place x.value
+  data-row TcForm.Prio = λ x. tt
+  data-row TcForm.Fifo = λ x. tt
+  data-row TcForm.Kept = tt
 
   pub tc-nests : Nests reading_of (Inner c) (Own Tc c) (OfTc.attributes c.tc)
   tc-nests =
       let form = c.tc in
       retold-nests reading_of (Inner c) (Own Tc c) (OfTc.reading form) (OfTc.told_form form) (OfTc.told-same form)
-      (beside-nests reading_of (Inner c) (Own Tc c) 2 (said form) (OfTc.rest form) (OfTc.sides form) (data-nests form) (rest-nests form refl))
+      (beside-nests reading_of (Inner c) (Own Tc c) 2 (said form) (OfTc.rest form) (OfTc.sides form) (kind-nests (kind_of form) (data-row form)) (rest-nests form refl))
 
   -- ---- of statistics
 
@@ -107,6 +118,15 @@ module _ (c : Context) where
   stats2-rows TcForm.U32 = tt
   stats2-rows TcForm.Flower = tt
   stats2-rows TcForm.MatchAll = tt
+  stats2-rows TcForm.Htb = tt
+  stats2-rows TcForm.Tbf = tt
+  stats2-rows TcForm.Red = tt
+  stats2-rows TcForm.Fq = tt
+  stats2-rows TcForm.Netem = tt
+  stats2-rows TcForm.Prio = tt
+  stats2-rows TcForm.Fifo = tt
+  stats2-rows TcForm.Fw = tt
+  stats2-rows TcForm.Bpf = tt
 
   pub stats2-nests : Nests reading_of (Inner c) (Own TcStats2 c) (OfStats2.attributes c.tc)
   unfolding OfStats2.attributes
@@ -149,17 +169,22 @@ module _ (c : Context) where
   counted : Counted
   counted = listed-row TcAction alone TcStats2 (λ bytes n p. p)
 
+  option-row : (form : TcActionForm) (set : AttributeSet) → ListRow reading_of (Inner alone) (Own TcAction alone) (OfOption.case form).codec set 0
+      → ListRow reading_of (Inner alone) (Own TcAction alone) (OfOption.action_option form) set 0
+  option-row form set row = chosen-row TcAction alone OfOption.held (OfOption.case form) set row
+
   action-rows : (form : TcActionForm) → NestRows reading_of (Inner alone) (Own TcAction alone) action_enum.parts (OfAction.table form).rows
-  action-rows Action.Mirror = (
-    chosen-row TcAction alone OfOption.held (OfOption.case Action.Mirror) TcActionMirror (listed-row TcAction alone TcActionMirror (λ bytes n p. p)),
-    (counted, tt),
-  )
-  action-rows Action.Nat =
-      (chosen-row TcAction alone OfOption.held (OfOption.case Action.Nat) TcActionNat (listed-row TcAction alone TcActionNat (λ bytes n p. p)), (counted, tt))
-  action-rows Action.TunnelKey = (
-    chosen-row TcAction alone OfOption.held (OfOption.case Action.TunnelKey) TcActionTunnelKey (listed-row TcAction alone TcActionTunnelKey (λ bytes n p. p)),
-    (counted, tt),
-  )
+  action-rows Action.Mirror = (option-row Action.Mirror TcActionMirror (listed-row TcAction alone TcActionMirror (λ bytes n p. p)), (counted, tt))
+  action-rows Action.Nat = (option-row Action.Nat TcActionNat (listed-row TcAction alone TcActionNat (λ bytes n p. p)), (counted, tt))
+  action-rows Action.TunnelKey = (option-row Action.TunnelKey TcActionTunnelKey (listed-row TcAction alone TcActionTunnelKey (λ bytes n p. p)), (counted, tt))
+  action-rows Action.Gact = (option-row Action.Gact TcActionGact (listed-row TcAction alone TcActionGact (λ bytes n p. p)), (counted, tt))
+  action-rows Action.Police = (option-row Action.Police TcActionPolice (listed-row TcAction alone TcActionPolice (λ bytes n p. p)), (counted, tt))
+  action-rows Action.Vlan = (option-row Action.Vlan TcActionVlan (listed-row TcAction alone TcActionVlan (λ bytes n p. p)), (counted, tt))
+  action-rows Action.Skbedit = (option-row Action.Skbedit TcActionSkbedit (listed-row TcAction alone TcActionSkbedit (λ bytes n p. p)), (counted, tt))
+  action-rows Action.Csum = (option-row Action.Csum TcActionCsum (listed-row TcAction alone TcActionCsum (λ bytes n p. p)), (counted, tt))
+  action-rows Action.Ct = (option-row Action.Ct TcActionCt (listed-row TcAction alone TcActionCt (λ bytes n p. p)), (counted, tt))
+  action-rows Action.Sample = (option-row Action.Sample TcActionSample (listed-row TcAction alone TcActionSample (λ bytes n p. p)), (counted, tt))
+  action-rows Action.Bpf = (option-row Action.Bpf TcActionBpf (listed-row TcAction alone TcActionBpf (λ bytes n p. p)), (counted, tt))
   action-rows Action.Kept = (counted, tt)
 
   pub action-nests : Nests reading_of (Inner (within TcAction c)) (Own TcAction c) (OfAction.attributes c.tc_action)

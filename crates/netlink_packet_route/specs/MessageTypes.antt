@@ -6,7 +6,6 @@ use Rattle.npr_base.specs.EnumTable.{◌also◌}
 use Rattle.npr_base.specs.Rows.{form_in}
 use Rattle.netlink_packet_route.specs.MessageKind.{kind_of_type, MessageOf}
 use Rattle.netlink_packet_route.specs.declared.kind.MessageKind.{MessageKind}
-use Rattle.netlink_packet_route.specs.declared.message_type.Action.{Action}
 use Rattle.netlink_packet_route.specs.declared.message_type.Action.TheVariants.{New, Del, Get}
 use Rattle.netlink_packet_route.specs.declared.message_type.MessageType.{MessageType}
 use Rattle.netlink_packet_route.specs.declared.message_type.MessageType.TheVariants.{Of, SetLink, NewPrefix, Unknown}

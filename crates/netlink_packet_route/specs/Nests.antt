@@ -8,7 +8,7 @@
 --     IsInside         the list in a value: what names it, and its bytes, as the form of the value's number says
 --     has_reader       a value of the number holds what has a reader of its own, and no attributes
 --     OfNextHop        what names the attributes of a next hop
-use Rattle.std.specs.Prelude.{◌≡◌, ◌<◌, ◌≤◌, ℕ, ◌==◌, ◌||◌, Bool, true, false, List, length, drop}
+use Rattle.std.specs.Prelude.{◌≡◌, ◌<◌, ◌≤◌, ℕ, ◌==◌, ◌||◌, Bool, false, List, length, drop}
 use Rattle.npr_base.specs.AddressFamily.{families}
 use Rattle.npr_base.specs.Counts.{Counts}
 use Rattle.npr_base.specs.FirstTold as FirstTold
@@ -27,6 +27,9 @@ use Rattle.npr_base.specs.declared.refusal.AttributeSet.TheVariants.{NextHopResB
 use Rattle.npr_base.specs.declared.refusal.AttributeSet.TheVariants.{AddressLabel, NeighbourTable, NeighbourTableParameter, Prefix, Value, Mpls, Ip}
 use Rattle.npr_base.specs.declared.refusal.AttributeSet.TheVariants.{Tc, TcStats2, TcStab, TcQdiscIngress, TcQdiscFqCodel, TcFilterU32}
 use Rattle.npr_base.specs.declared.refusal.AttributeSet.TheVariants.{TcFilterMatchAll, TcFilterFlower, TcFilterFlowerMpls, TcFilterFlowerMplsLse}
+use Rattle.npr_base.specs.declared.refusal.AttributeSet.TheVariants.{TcQdiscHtb, TcQdiscTbf, TcQdiscRed, TcQdiscFq, TcQdiscNetem, TcNetemLoss}
+use Rattle.npr_base.specs.declared.refusal.AttributeSet.TheVariants.{TcFilterFw, TcFilterBpf, TcActionGact, TcActionPolice, TcActionVlan}
+use Rattle.npr_base.specs.declared.refusal.AttributeSet.TheVariants.{TcActionSkbedit, TcActionCsum, TcActionCt, TcActionSample, TcActionBpf}
 use Rattle.npr_base.specs.declared.refusal.AttributeSet.TheVariants.{TcActionMessage, TcActions, TcAction, TcActionMirror, TcActionNat}
 use Rattle.npr_base.specs.declared.refusal.AttributeSet.TheVariants.{TcActionTunnelKey}
 use Rattle.npr_base.specs.declared.refusal.AttributeSet.TheVariants.{Ip6, Xfrm, Geneve, Seg6, Seg6Local, Rpl, Ioam6}
@@ -96,6 +99,22 @@ use Rattle.npr_tc_filters.specs.FlowerMpls as OfTcMpls
 use Rattle.npr_tc_filters.specs.FlowerMplsLse as OfTcMplsLse
 use Rattle.npr_tc_filters.specs.MatchAll as OfTcMatchAll
 use Rattle.npr_tc_filters.specs.U32Option as OfTcU32
+use Rattle.npr_tc_actions.specs.BpfOption as OfTcBpf
+use Rattle.npr_tc_actions.specs.CsumOption as OfTcCsum
+use Rattle.npr_tc_actions.specs.CtOption as OfTcCt
+use Rattle.npr_tc_actions.specs.GactOption as OfTcGact
+use Rattle.npr_tc_actions.specs.PoliceOption as OfTcPolice
+use Rattle.npr_tc_actions.specs.SampleOption as OfTcSample
+use Rattle.npr_tc_actions.specs.SkbeditOption as OfTcSkbedit
+use Rattle.npr_tc_actions.specs.VlanOption as OfTcVlan
+use Rattle.npr_tc_filters.specs.Bpf as OfTcFilterBpf
+use Rattle.npr_tc_filters.specs.Fw as OfTcFw
+use Rattle.npr_tc_qdiscs.specs.Fq as OfTcFq
+use Rattle.npr_tc_qdiscs.specs.Htb as OfTcHtb
+use Rattle.npr_tc_qdiscs.specs.NetemLoss as OfTcNetemLoss
+use Rattle.npr_tc_qdiscs.specs.NetemOption as OfTcNetem
+use Rattle.npr_tc_qdiscs.specs.Red as OfTcRed
+use Rattle.npr_tc_qdiscs.specs.Tbf as OfTcTbf
 use Rattle.npr_tc_qdiscs.specs.FqCodel as OfTcFqCodel
 use Rattle.npr_tc_qdiscs.specs.Ingress as OfTcIngress
 use Rattle.npr_tc_qdiscs.specs.Stab as OfTcStab
@@ -202,6 +221,22 @@ reading_by TcAction c = any_reading (OfTcAction.attributes c.tc_action)
 reading_by TcActionMirror c = any_reading OfTcMirror.attributes
 reading_by TcActionNat c = any_reading OfTcNat.attributes
 reading_by TcActionTunnelKey c = any_reading OfTcTunnelKey.attributes
+reading_by TcQdiscHtb c = any_reading OfTcHtb.attributes
+reading_by TcQdiscTbf c = any_reading OfTcTbf.attributes
+reading_by TcQdiscRed c = any_reading OfTcRed.attributes
+reading_by TcQdiscFq c = any_reading OfTcFq.attributes
+reading_by TcQdiscNetem c = any_reading OfTcNetem.attributes
+reading_by TcNetemLoss c = any_reading OfTcNetemLoss.attributes
+reading_by TcFilterFw c = any_reading OfTcFw.attributes
+reading_by TcFilterBpf c = any_reading OfTcFilterBpf.attributes
+reading_by TcActionGact c = any_reading OfTcGact.attributes
+reading_by TcActionPolice c = any_reading OfTcPolice.attributes
+reading_by TcActionVlan c = any_reading OfTcVlan.attributes
+reading_by TcActionSkbedit c = any_reading OfTcSkbedit.attributes
+reading_by TcActionCsum c = any_reading OfTcCsum.attributes
+reading_by TcActionCt c = any_reading OfTcCt.attributes
+reading_by TcActionSample c = any_reading OfTcSample.attributes
+reading_by TcActionBpf c = any_reading OfTcBpf.attributes
 reading_by set c = any_reading (OfEncap.encapsulation Tunnel.None)
 
 abbrev pub reading_of : Nest → AnyReading

@@ -16,4 +16,6 @@
 //! # Ok::<(), Box<dyn std::error::Error>>(())
 //! ```
 
-pub use npr_address::{AddressLabelAttribute, AddressLabelHeader, AddressLabelMessage, AddressLabelMessageBuffer};
+pub use npr_address::{
+    AddressLabelAttribute, AddressLabelHeader, AddressLabelMessage, AddressLabelMessageBuffer,
+};

@@ -7,9 +7,9 @@ ghost use Rattle.netlink_packet_route.specs.{NestLists.{IsAttributeAt}, Nests.{r
 
 use crate::nests::Nest;
 use npr_base::{AttributeSet, DecodeError, NlaBuffer};
+use npr_encapsulation::{RouteLwTunnelEncap, RouteLwTunnelOpt};
 use npr_link::InfoBond;
 use npr_route_values::RouteVia;
-use npr_encapsulation::{RouteLwTunnelEncap, RouteLwTunnelOpt};
 
 /// `RTA_VIA` of `linux/rtnetlink.h`.
 const RTA_VIA: u16 = 18;

@@ -9,16 +9,14 @@ ghost use Rattle.{
 use crate::context::Context;
 use crate::kind::MessageKind;
 use crate::nests::Nest;
-use npr_address::AddressHeader;
+use npr_address::{AddressHeader, AddressLabelHeader, PrefixHeader};
 use npr_base::{Attribute, AttributeSet, DecodeError, Header, Message};
 use npr_link::LinkHeader;
-use npr_neighbour::NeighbourHeader;
+use npr_namespace::{NetconfHeader, NsidHeader};
+use npr_neighbour::{NeighbourHeader, NeighbourTableHeader};
 use npr_nexthop::NextHopHeader;
 use npr_route::RouteHeader;
 use npr_rule::RuleHeader;
-use npr_address::{AddressLabelHeader, PrefixHeader};
-use npr_namespace::{NetconfHeader, NsidHeader};
-use npr_neighbour::NeighbourTableHeader;
 use npr_tc::{TcActionMessageHeader, TcHeader};
 
 /// What the attributes behind the header of a message rest on, and their bytes.

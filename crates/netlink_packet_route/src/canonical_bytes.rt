@@ -12,16 +12,14 @@ ghost use Rattle.{
 };
 
 use crate::kind::MessageKind;
-use npr_address::AddressHeader;
+use npr_address::{AddressHeader, AddressLabelHeader, PrefixHeader};
 use npr_base::{DecodeError, EmitError, Emitable, Header, Message, Parseable, WriteError, to_vec};
 use npr_link::LinkHeader;
-use npr_neighbour::NeighbourHeader;
+use npr_namespace::{NetconfHeader, NsidHeader};
+use npr_neighbour::{NeighbourHeader, NeighbourTableHeader};
 use npr_nexthop::NextHopHeader;
 use npr_route::RouteHeader;
 use npr_rule::RuleHeader;
-use npr_address::{AddressLabelHeader, PrefixHeader};
-use npr_namespace::{NetconfHeader, NsidHeader};
-use npr_neighbour::NeighbourTableHeader;
 use npr_tc::{TcActionMessageHeader, TcHeader};
 use std::alloc::Global;
 use thiserror::Error;

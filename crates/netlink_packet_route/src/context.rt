@@ -5,11 +5,11 @@ ghost use Rattle.netlink_packet_route.specs.Nests.{Inner, context_for, encap_set
 
 use crate::nests::Nest;
 use npr_base::{AddressFamily, AttributeSet, Looks, governing};
+use npr_encapsulation::RouteLwEnCapType;
 use npr_link::{InfoForm, InfoPortForm, governing_forms};
 use npr_route_values::RouteType;
 use npr_tc_actions::{TcActionAttribute, TcActionForm};
 use npr_tc_qdiscs::TcForm;
-use npr_encapsulation::RouteLwEnCapType;
 
 /// What the numbers of attributes rest on, outside of their list. Each set rests on some of it, and most
 /// on nothing.

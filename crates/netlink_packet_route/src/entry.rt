@@ -17,14 +17,13 @@ ghost use Rattle.{
 
 use crate::message::RouteNetlinkMessage;
 use crate::message_type::Action;
-use npr_address::AddressMessage;
+use npr_address::{AddressLabelMessage, AddressMessage};
 use npr_link::LinkMessage;
+use npr_namespace::{NetconfMessage, NsidMessage};
 use npr_neighbour::NeighbourMessage;
 use npr_nexthop::NextHopMessage;
 use npr_route::RouteMessage;
 use npr_rule::RuleMessage;
-use npr_address::AddressLabelMessage;
-use npr_namespace::{NetconfMessage, NsidMessage};
 use npr_tc::{TcActionMessage, TcMessage};
 
 /// A message on an entry of the kernel's tables, which is made, taken away and asked for: a link, an

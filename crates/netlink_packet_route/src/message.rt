@@ -16,16 +16,14 @@ ghost use Rattle.{
 use crate::entry::Entry;
 use crate::message_type::{Action, MessageType, Subject, types};
 use netlink_packet_core::{NetlinkHeader, NetlinkInner};
-use npr_address::AddressMessage;
+use npr_address::{AddressLabelMessage, AddressMessage, PrefixMessage};
 use npr_base::{DecodeError, EmitError, Emitable, Parseable, read_bytes, write_bytes};
 use npr_link::LinkMessage;
-use npr_neighbour::NeighbourMessage;
+use npr_namespace::{NetconfMessage, NsidMessage};
+use npr_neighbour::{NeighbourMessage, NeighbourTableMessage};
 use npr_nexthop::NextHopMessage;
 use npr_route::RouteMessage;
 use npr_rule::RuleMessage;
-use npr_address::{AddressLabelMessage, PrefixMessage};
-use npr_namespace::{NetconfMessage, NsidMessage};
-use npr_neighbour::NeighbourTableMessage;
 use npr_tc::{TcActionMessage, TcMessage};
 use std::alloc::{AllocError, Global};
 

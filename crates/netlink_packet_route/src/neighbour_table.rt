@@ -17,4 +17,8 @@
 //! # Ok::<(), Box<dyn std::error::Error>>(())
 //! ```
 
-pub use npr_neighbour::{NeighbourTableAttribute, NeighbourTableConfig, NeighbourTableConfigBuffer, NeighbourTableHeader, NeighbourTableMessage, NeighbourTableMessageBuffer, NeighbourTableParameter, NeighbourTableStats, NeighbourTableStatsBuffer};
+pub use npr_neighbour::{
+    NeighbourTableAttribute, NeighbourTableConfig, NeighbourTableConfigBuffer,
+    NeighbourTableHeader, NeighbourTableMessage, NeighbourTableMessageBuffer,
+    NeighbourTableParameter, NeighbourTableStats, NeighbourTableStatsBuffer,
+};

@@ -9,39 +9,107 @@ ghost use Rattle.{
   },
 };
 
-use crate::context::{Context, encap_set, listed};
+use crate::context::Context;
+use crate::context::encap_set;
+use crate::context::listed;
 use npr_address::AddressAttribute;
-use npr_base::{
-    At, Attribute, AttributeSet, DecodeError, Form, Looks, NlaBuffer, Value, read_form,
-};
-use npr_link::{
-    AfSpecBridge, AfSpecInet, AfSpecInet6, AfSpecUnspec, BondAdInfo, BridgeMst, BridgeMstEntry,
-    BridgeQuerierState, BridgeVlanTunnelInfo, InfoBond, InfoBondPort, InfoBridge, InfoBridgePort,
-    InfoGeneve, InfoGre, InfoGre6, InfoIpTunnel, InfoIpVlan, InfoMacVlan, InfoNetkit, InfoTun,
-    InfoVeth, InfoVlan, InfoVrf, InfoVti, InfoVxlan, InfoXfrm, LinkAttribute, LinkInfo,
-    LinkProtocolDownReason, LinkXdp, MacVlanAddress, PeerAttribute, Prop, VlanQosMapping,
-};
+use npr_address::AddressLabelAttribute;
+use npr_address::PrefixAttribute;
+use npr_base::At;
+use npr_base::Attribute;
+use npr_base::AttributeSet;
+use npr_base::DecodeError;
+use npr_base::Form;
+use npr_base::Looks;
+use npr_base::NlaBuffer;
+use npr_base::Value;
+use npr_base::read_form;
+use npr_encapsulation::RouteErspanOpt;
+use npr_encapsulation::RouteLwEnCapType;
+use npr_encapsulation::RouteLwTunnelEncap;
+use npr_encapsulation::RouteLwTunnelOpt;
+use npr_encapsulation::RouteVxlanOpt;
+use npr_link::AfSpecBridge;
+use npr_link::AfSpecInet;
+use npr_link::AfSpecInet6;
+use npr_link::AfSpecUnspec;
+use npr_link::BondAdInfo;
+use npr_link::BridgeMst;
+use npr_link::BridgeMstEntry;
+use npr_link::BridgeQuerierState;
+use npr_link::BridgeVlanTunnelInfo;
+use npr_link::InfoBond;
+use npr_link::InfoBondPort;
+use npr_link::InfoBridge;
+use npr_link::InfoBridgePort;
+use npr_link::InfoGeneve;
+use npr_link::InfoGre;
+use npr_link::InfoGre6;
+use npr_link::InfoIpTunnel;
+use npr_link::InfoIpVlan;
+use npr_link::InfoMacVlan;
+use npr_link::InfoNetkit;
+use npr_link::InfoTun;
+use npr_link::InfoVeth;
+use npr_link::InfoVlan;
+use npr_link::InfoVrf;
+use npr_link::InfoVti;
+use npr_link::InfoVxlan;
+use npr_link::InfoXfrm;
+use npr_link::LinkAttribute;
+use npr_link::LinkInfo;
+use npr_link::LinkProtocolDownReason;
+use npr_link::LinkXdp;
+use npr_link::MacVlanAddress;
+use npr_link::PeerAttribute;
+use npr_link::Prop;
+use npr_link::VlanQosMapping;
+use npr_namespace::NetconfAttribute;
+use npr_namespace::NsidAttribute;
 use npr_neighbour::NeighbourAttribute;
-use npr_nexthop::{
-    NextHopAttribute, NextHopGroupStats, NextHopGroupStatsEntry, NextHopResBucket, NextHopResGroup,
-};
-use npr_route::{RouteAttribute, RouteMetric, governing_type};
+use npr_neighbour::NeighbourTableAttribute;
+use npr_neighbour::NeighbourTableParameter;
+use npr_nexthop::NextHopAttribute;
+use npr_nexthop::NextHopGroupStats;
+use npr_nexthop::NextHopGroupStatsEntry;
+use npr_nexthop::NextHopResBucket;
+use npr_nexthop::NextHopResGroup;
+use npr_route::RouteAttribute;
+use npr_route::RouteMetric;
+use npr_route::governing_type;
 use npr_rule::RuleAttribute;
-use npr_address::{AddressLabelAttribute, PrefixAttribute};
-use npr_namespace::{NetconfAttribute, NsidAttribute};
-use npr_neighbour::{NeighbourTableAttribute, NeighbourTableParameter};
-use npr_tc::{TcActionMessageAttribute, TcAttribute};
-use npr_tc_actions::{
-    TcAction, TcActionAttribute, TcActionMirrorOption, TcActionNatOption, TcActionTunnelKeyOption,
-};
-use npr_tc_filters::{
-    TcFilterFlowerMplsLseOption, TcFilterFlowerMplsOption, TcFilterFlowerOption,
-    TcFilterMatchAllOption, TcFilterU32Option,
-};
-use npr_tc_qdiscs::{TcQdiscFqCodelOption, TcQdiscIngressOption, TcStab, TcStats2};
-use npr_encapsulation::{
-    RouteErspanOpt, RouteLwEnCapType, RouteLwTunnelEncap, RouteLwTunnelOpt, RouteVxlanOpt,
-};
+use npr_tc::TcActionMessageAttribute;
+use npr_tc::TcAttribute;
+use npr_tc_actions::TcAction;
+use npr_tc_actions::TcActionAttribute;
+use npr_tc_actions::TcActionBpfOption;
+use npr_tc_actions::TcActionCsumOption;
+use npr_tc_actions::TcActionCtOption;
+use npr_tc_actions::TcActionGactOption;
+use npr_tc_actions::TcActionMirrorOption;
+use npr_tc_actions::TcActionNatOption;
+use npr_tc_actions::TcActionPoliceOption;
+use npr_tc_actions::TcActionSampleOption;
+use npr_tc_actions::TcActionSkbeditOption;
+use npr_tc_actions::TcActionTunnelKeyOption;
+use npr_tc_actions::TcActionVlanOption;
+use npr_tc_filters::TcFilterBpfOption;
+use npr_tc_filters::TcFilterFlowerMplsLseOption;
+use npr_tc_filters::TcFilterFlowerMplsOption;
+use npr_tc_filters::TcFilterFlowerOption;
+use npr_tc_filters::TcFilterFwOption;
+use npr_tc_filters::TcFilterMatchAllOption;
+use npr_tc_filters::TcFilterU32Option;
+use npr_tc_qdiscs::TcNetemLoss;
+use npr_tc_qdiscs::TcQdiscFqCodelOption;
+use npr_tc_qdiscs::TcQdiscFqOption;
+use npr_tc_qdiscs::TcQdiscHtbOption;
+use npr_tc_qdiscs::TcQdiscIngressOption;
+use npr_tc_qdiscs::TcQdiscNetemOption;
+use npr_tc_qdiscs::TcQdiscRedOption;
+use npr_tc_qdiscs::TcQdiscTbfOption;
+use npr_tc_qdiscs::TcStab;
+use npr_tc_qdiscs::TcStats2;
 
 /// What names a list of attributes: their set, and what their numbers rest on there.
 #[derive(Debug, Clone, Copy, PartialEq, Eq)]
@@ -159,6 +227,22 @@ impl Nest {
             AttributeSet::TcActionMirror => TcActionMirrorOption::form((), number),
             AttributeSet::TcActionNat => TcActionNatOption::form((), number),
             AttributeSet::TcActionTunnelKey => TcActionTunnelKeyOption::form((), number),
+            AttributeSet::TcQdiscHtb => TcQdiscHtbOption::form((), number),
+            AttributeSet::TcQdiscTbf => TcQdiscTbfOption::form((), number),
+            AttributeSet::TcQdiscRed => TcQdiscRedOption::form((), number),
+            AttributeSet::TcQdiscFq => TcQdiscFqOption::form((), number),
+            AttributeSet::TcQdiscNetem => TcQdiscNetemOption::form((), number),
+            AttributeSet::TcNetemLoss => TcNetemLoss::form((), number),
+            AttributeSet::TcFilterFw => TcFilterFwOption::form((), number),
+            AttributeSet::TcFilterBpf => TcFilterBpfOption::form((), number),
+            AttributeSet::TcActionGact => TcActionGactOption::form((), number),
+            AttributeSet::TcActionPolice => TcActionPoliceOption::form((), number),
+            AttributeSet::TcActionVlan => TcActionVlanOption::form((), number),
+            AttributeSet::TcActionSkbedit => TcActionSkbeditOption::form((), number),
+            AttributeSet::TcActionCsum => TcActionCsumOption::form((), number),
+            AttributeSet::TcActionCt => TcActionCtOption::form((), number),
+            AttributeSet::TcActionSample => TcActionSampleOption::form((), number),
+            AttributeSet::TcActionBpf => TcActionBpfOption::form((), number),
             _ => RouteLwTunnelEncap::form(RouteLwEnCapType::None, number),
         }
     }

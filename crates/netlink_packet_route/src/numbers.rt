@@ -28,15 +28,15 @@ ghost use Rattle.{
 
 use npr_address::{AddressProtocol, AddressScope};
 use npr_base::AddressFamily;
-use npr_rule::RuleAction;
+use npr_encapsulation::RouteLwEnCapType;
 use npr_route_values::{
     IpProtocol, MplsLabel, RouteMplsTtlPropagation, RoutePreference, RouteProtocol, RouteRealm,
     RouteScope, RouteType,
 };
+use npr_rule::RuleAction;
 use npr_srh::{Ioam6Mode, Seg6LocalAction, Seg6Mode};
 use npr_tc_actions::{TcActionType, TcMirrorActionType};
 use npr_tc_qdiscs::TcHandle;
-use npr_encapsulation::RouteLwEnCapType;
 
 /// The number of an address family (`AF_*`).
 pub fn address_family(value: AddressFamily) -> u8

@@ -18,5 +18,6 @@
 //! # Ok::<(), Box<dyn std::error::Error>>(())
 //! ```
 
-pub use npr_address::PrefixCacheInfo as CacheInfo;
-pub use npr_address::{PrefixAttribute, PrefixHeader, PrefixMessage, PrefixMessageBuffer};
+pub use npr_address::{
+    PrefixAttribute, PrefixCacheInfo as CacheInfo, PrefixHeader, PrefixMessage, PrefixMessageBuffer,
+};

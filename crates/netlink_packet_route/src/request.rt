@@ -32,16 +32,14 @@ use crate::entry::Entry;
 use crate::message::RouteNetlinkMessage;
 use crate::message_type::Action;
 use netlink_packet_core::NetlinkMessage;
-use npr_address::AddressMessage;
+use npr_address::{AddressLabelMessage, AddressMessage};
 use npr_base::AddressFamily;
 use npr_link::{LinkAttribute, LinkExtentMask, LinkMessage};
-use npr_neighbour::NeighbourMessage;
+use npr_namespace::{NetconfMessage, NsidMessage};
+use npr_neighbour::{NeighbourMessage, NeighbourTableMessage};
 use npr_nexthop::NextHopMessage;
 use npr_route::RouteMessage;
 use npr_rule::RuleMessage;
-use npr_address::AddressLabelMessage;
-use npr_namespace::{NetconfMessage, NsidMessage};
-use npr_neighbour::NeighbourTableMessage;
 use std::alloc::{AllocError, Global};
 
 /// Asks for all that the message names, as `ip route show table 100`.

@@ -20,6 +20,11 @@
 //! # Ok::<(), Box<dyn std::error::Error>>(())
 //! ```
 
+pub use npr_encapsulation::{
+    RouteErspanOpt, RouteGeneveOpt, RouteIp6Tunnel, RouteIp6TunnelFlags, RouteIpTunnel,
+    RouteIpTunnelFlags, RouteLwEnCapType, RouteLwTunnelEncap, RouteLwTunnelOpt, RouteMplsIpTunnel,
+    RouteVxlanOpt, RouteXfrmTunnel,
+};
 pub use npr_route::{
     NEXT_HOP_HEADER_SIZE, RTNH_ALIGNTO, RouteAttribute, RouteHeader, RouteMessage,
     RouteMessageBuffer, RouteMetric, RouteNextHop, RouteNextHopBuffer, RoutePath, governing_type,
@@ -35,9 +40,4 @@ pub use npr_srh::{
     Ioam6Mode, Ioam6TraceHdr, RouteIoam6Tunnel, RouteRplIpTunnel, RouteSeg6IpTunnel,
     RouteSeg6LocalTunnel, RplSrh, Seg6Header, Seg6LocalAction, Seg6LocalSrh, Seg6MessageBuffer,
     Seg6Mode,
-};
-pub use npr_encapsulation::{
-    RouteErspanOpt, RouteGeneveOpt, RouteIp6Tunnel, RouteIp6TunnelFlags, RouteIpTunnel,
-    RouteIpTunnelFlags, RouteLwEnCapType, RouteLwTunnelEncap, RouteLwTunnelOpt, RouteMplsIpTunnel,
-    RouteVxlanOpt, RouteXfrmTunnel,
 };

@@ -35,27 +35,136 @@
 //! # Ok::<(), Box<dyn std::error::Error>>(())
 //! ```
 
-pub use npr_tc::{
-    TcActionMessage, TcActionMessageAttribute, TcActionMessageBuffer, TcActionMessageFlags,
-    TcActionMessageFlagsWithSelector, TcActionMessageHeader, TcAttribute, TcHeader, TcMessage,
-    TcMessageBuffer, TcOption,
-};
-pub use npr_tc_actions::{
-    TcAction, TcActionAttribute, TcActionForm, TcActionGeneric, TcActionGenericBuffer,
-    TcActionMirror, TcActionMirrorOption, TcActionNat, TcActionNatOption, TcActionOption,
-    TcActionTunnelKey, TcActionTunnelKeyOption, TcActionType, TcMirror, TcMirrorActionType,
-    TcMirrorBuffer, TcNat, TcNatBuffer, TcNatFlags, TcTunnelKey, Tcf, TcfBuffer,
-    action_form_of_name,
-};
-pub use npr_tc_filters::{
-    TcFilterFlower, TcFilterFlowerMplsLseOption, TcFilterFlowerMplsOption, TcFilterFlowerOption,
-    TcFilterMatchAll, TcFilterMatchAllOption, TcFilterU32, TcFilterU32Option, TcMatchAllPcnt,
-    TcU32Key, TcU32Mark, TcU32OptionFlags, TcU32Pcnt, TcU32Selector, TcU32SelectorBuffer,
-    TcU32SelectorFlags,
-};
-pub use npr_tc_qdiscs::{
-    TcBitfield, TcEstimator, TcForm, TcFqCodelClStats, TcFqCodelQdStats, TcFqCodelXstats, TcHandle,
-    TcQdiscFqCodel, TcQdiscFqCodelOption, TcQdiscIngress, TcQdiscIngressOption, TcSizeSpec, TcStab,
-    TcStabData, TcStats, TcStats2, TcStatsBasic, TcStatsBasicBuffer, TcStatsBuffer, TcStatsQueue,
-    TcStatsQueueBuffer, TcStatsRateEst, TcStatsRateEst64, TcXstats, form_of_name,
-};
+pub use npr_tc::TcActionMessage;
+pub use npr_tc::TcActionMessageAttribute;
+pub use npr_tc::TcActionMessageBuffer;
+pub use npr_tc::TcActionMessageFlags;
+pub use npr_tc::TcActionMessageFlagsWithSelector;
+pub use npr_tc::TcActionMessageHeader;
+pub use npr_tc::TcAttribute;
+pub use npr_tc::TcHeader;
+pub use npr_tc::TcMessage;
+pub use npr_tc::TcMessageBuffer;
+pub use npr_tc::TcOption;
+pub use npr_tc_actions::TcAction;
+pub use npr_tc_actions::TcActionAttribute;
+pub use npr_tc_actions::TcActionBpf;
+pub use npr_tc_actions::TcActionBpfOption;
+pub use npr_tc_actions::TcActionCsum;
+pub use npr_tc_actions::TcActionCsumOption;
+pub use npr_tc_actions::TcActionCt;
+pub use npr_tc_actions::TcActionCtOption;
+pub use npr_tc_actions::TcActionForm;
+pub use npr_tc_actions::TcActionGact;
+pub use npr_tc_actions::TcActionGactOption;
+pub use npr_tc_actions::TcActionGeneric;
+pub use npr_tc_actions::TcActionGenericBuffer;
+pub use npr_tc_actions::TcActionMirror;
+pub use npr_tc_actions::TcActionMirrorOption;
+pub use npr_tc_actions::TcActionNat;
+pub use npr_tc_actions::TcActionNatOption;
+pub use npr_tc_actions::TcActionOption;
+pub use npr_tc_actions::TcActionPolice;
+pub use npr_tc_actions::TcActionPoliceOption;
+pub use npr_tc_actions::TcActionSample;
+pub use npr_tc_actions::TcActionSampleOption;
+pub use npr_tc_actions::TcActionSkbedit;
+pub use npr_tc_actions::TcActionSkbeditOption;
+pub use npr_tc_actions::TcActionTunnelKey;
+pub use npr_tc_actions::TcActionTunnelKeyOption;
+pub use npr_tc_actions::TcActionType;
+pub use npr_tc_actions::TcActionVlan;
+pub use npr_tc_actions::TcActionVlanOption;
+pub use npr_tc_actions::TcBpfInstruction;
+pub use npr_tc_actions::TcCsum;
+pub use npr_tc_actions::TcCsumFlags;
+pub use npr_tc_actions::TcCtFlags;
+pub use npr_tc_actions::TcGactProbability;
+pub use npr_tc_actions::TcMirror;
+pub use npr_tc_actions::TcMirrorActionType;
+pub use npr_tc_actions::TcMirrorBuffer;
+pub use npr_tc_actions::TcNat;
+pub use npr_tc_actions::TcNatBuffer;
+pub use npr_tc_actions::TcNatFlags;
+pub use npr_tc_actions::TcPolice;
+pub use npr_tc_actions::TcTunnelKey;
+pub use npr_tc_actions::TcVlan;
+pub use npr_tc_actions::TcVlanActionType;
+pub use npr_tc_actions::Tcf;
+pub use npr_tc_actions::TcfBuffer;
+pub use npr_tc_actions::action_form_of_name;
+pub use npr_tc_filters::TcFilterBpf;
+pub use npr_tc_filters::TcFilterBpfOption;
+pub use npr_tc_filters::TcFilterFlower;
+pub use npr_tc_filters::TcFilterFlowerMplsLseOption;
+pub use npr_tc_filters::TcFilterFlowerMplsOption;
+pub use npr_tc_filters::TcFilterFlowerOption;
+pub use npr_tc_filters::TcFilterFw;
+pub use npr_tc_filters::TcFilterFwOption;
+pub use npr_tc_filters::TcFilterMatchAll;
+pub use npr_tc_filters::TcFilterMatchAllOption;
+pub use npr_tc_filters::TcFilterU32;
+pub use npr_tc_filters::TcFilterU32Option;
+pub use npr_tc_filters::TcMatchAllPcnt;
+pub use npr_tc_filters::TcU32Key;
+pub use npr_tc_filters::TcU32Mark;
+pub use npr_tc_filters::TcU32OptionFlags;
+pub use npr_tc_filters::TcU32Pcnt;
+pub use npr_tc_filters::TcU32Selector;
+pub use npr_tc_filters::TcU32SelectorBuffer;
+pub use npr_tc_filters::TcU32SelectorFlags;
+pub use npr_tc_qdiscs::TcBitfield;
+pub use npr_tc_qdiscs::TcEstimator;
+pub use npr_tc_qdiscs::TcFifoQopt;
+pub use npr_tc_qdiscs::TcForm;
+pub use npr_tc_qdiscs::TcFqCodelClStats;
+pub use npr_tc_qdiscs::TcFqCodelQdStats;
+pub use npr_tc_qdiscs::TcFqCodelXstats;
+pub use npr_tc_qdiscs::TcFqWeights;
+pub use npr_tc_qdiscs::TcHandle;
+pub use npr_tc_qdiscs::TcHtbGlob;
+pub use npr_tc_qdiscs::TcHtbOpt;
+pub use npr_tc_qdiscs::TcHtbXstats;
+pub use npr_tc_qdiscs::TcNetem;
+pub use npr_tc_qdiscs::TcNetemCorr;
+pub use npr_tc_qdiscs::TcNetemCorrupt;
+pub use npr_tc_qdiscs::TcNetemGeModel;
+pub use npr_tc_qdiscs::TcNetemGiModel;
+pub use npr_tc_qdiscs::TcNetemLoss;
+pub use npr_tc_qdiscs::TcNetemQopt;
+pub use npr_tc_qdiscs::TcNetemRate;
+pub use npr_tc_qdiscs::TcNetemReorder;
+pub use npr_tc_qdiscs::TcNetemSlot;
+pub use npr_tc_qdiscs::TcPrioQopt;
+pub use npr_tc_qdiscs::TcQdiscFq;
+pub use npr_tc_qdiscs::TcQdiscFqCodel;
+pub use npr_tc_qdiscs::TcQdiscFqCodelOption;
+pub use npr_tc_qdiscs::TcQdiscFqOption;
+pub use npr_tc_qdiscs::TcQdiscHtb;
+pub use npr_tc_qdiscs::TcQdiscHtbOption;
+pub use npr_tc_qdiscs::TcQdiscIngress;
+pub use npr_tc_qdiscs::TcQdiscIngressOption;
+pub use npr_tc_qdiscs::TcQdiscNetem;
+pub use npr_tc_qdiscs::TcQdiscNetemOption;
+pub use npr_tc_qdiscs::TcQdiscPrio;
+pub use npr_tc_qdiscs::TcQdiscRed;
+pub use npr_tc_qdiscs::TcQdiscRedOption;
+pub use npr_tc_qdiscs::TcQdiscTbf;
+pub use npr_tc_qdiscs::TcQdiscTbfOption;
+pub use npr_tc_qdiscs::TcRateSpec;
+pub use npr_tc_qdiscs::TcRedQopt;
+pub use npr_tc_qdiscs::TcSizeSpec;
+pub use npr_tc_qdiscs::TcStab;
+pub use npr_tc_qdiscs::TcStabData;
+pub use npr_tc_qdiscs::TcStats;
+pub use npr_tc_qdiscs::TcStats2;
+pub use npr_tc_qdiscs::TcStatsBasic;
+pub use npr_tc_qdiscs::TcStatsBasicBuffer;
+pub use npr_tc_qdiscs::TcStatsBuffer;
+pub use npr_tc_qdiscs::TcStatsQueue;
+pub use npr_tc_qdiscs::TcStatsQueueBuffer;
+pub use npr_tc_qdiscs::TcStatsRateEst;
+pub use npr_tc_qdiscs::TcStatsRateEst64;
+pub use npr_tc_qdiscs::TcTbfQopt;
+pub use npr_tc_qdiscs::TcXstats;
+pub use npr_tc_qdiscs::form_of_name;

@@ -78,16 +78,36 @@ use crate::traffic_action::MIRROR;
 use crate::traffic_action::NAT;
 use crate::traffic_action::TUNNEL_KEY;
 use crate::traffic_filter;
+use crate::traffic_filter::BPF;
+use crate::traffic_filter::FW;
 use crate::traffic_filter::MATCH_ALL;
 use crate::traffic_filter::U32;
 use crate::traffic_flower;
 use crate::traffic_flower::FLOWER;
 use crate::traffic_flower::FLOWER_MPLS;
 use crate::traffic_flower::FLOWER_MPLS_LSE;
+use crate::traffic_kind;
+use crate::traffic_kind::FQ;
+use crate::traffic_kind::RED;
+use crate::traffic_netem;
+use crate::traffic_netem::NETEM;
+use crate::traffic_netem::NETEM_LOSS;
+use crate::traffic_option;
+use crate::traffic_option::ACTION_BPF;
+use crate::traffic_option::ACTION_VLAN;
+use crate::traffic_option::CSUM;
+use crate::traffic_option::CT;
+use crate::traffic_option::GACT;
+use crate::traffic_option::SAMPLE;
+use crate::traffic_option::SKBEDIT;
+use crate::traffic_police::POLICE;
 use crate::traffic_qdisc;
 use crate::traffic_qdisc::FQ_CODEL;
 use crate::traffic_qdisc::STAB;
 use crate::traffic_qdisc::STATS;
+use crate::traffic_rate;
+use crate::traffic_rate::HTB;
+use crate::traffic_rate::TBF;
 use crate::tunnel::GENEVE;
 use crate::tunnel::GRE;
 use crate::tunnel::GRE6;
@@ -175,6 +195,22 @@ pub fn rows_of(nest: Nest) -> Rows {
         AttributeSet::TcActionMirror => MIRROR,
         AttributeSet::TcActionNat => NAT,
         AttributeSet::TcActionTunnelKey => TUNNEL_KEY,
+        AttributeSet::TcQdiscHtb => HTB,
+        AttributeSet::TcQdiscTbf => TBF,
+        AttributeSet::TcQdiscRed => RED,
+        AttributeSet::TcQdiscFq => FQ,
+        AttributeSet::TcQdiscNetem => NETEM,
+        AttributeSet::TcNetemLoss => NETEM_LOSS,
+        AttributeSet::TcFilterFw => FW,
+        AttributeSet::TcFilterBpf => BPF,
+        AttributeSet::TcActionGact => GACT,
+        AttributeSet::TcActionPolice => POLICE,
+        AttributeSet::TcActionVlan => ACTION_VLAN,
+        AttributeSet::TcActionSkbedit => SKBEDIT,
+        AttributeSet::TcActionCsum => CSUM,
+        AttributeSet::TcActionCt => CT,
+        AttributeSet::TcActionSample => SAMPLE,
+        AttributeSet::TcActionBpf => ACTION_BPF,
         AttributeSet::NextHopResGroup => RESILIENT,
         AttributeSet::NextHopResBucket => BUCKET,
         AttributeSet::Metric => METRICS,
@@ -265,11 +301,25 @@ fn push_own_of_traffic(fields: &mut Fields, list: List<'_>, word: Word, seen: &S
         AttributeSet::TcStats2 | AttributeSet::TcStab | AttributeSet::TcQdiscFqCodel => {
             traffic_qdisc::push_own(fields, list, word, seen)
         }
-        AttributeSet::TcFilterU32 | AttributeSet::TcFilterMatchAll => traffic_filter::push_own(
+        AttributeSet::TcQdiscHtb | AttributeSet::TcQdiscTbf => traffic_rate::push_own(
+            fields, list, seen,
+        ),
+        AttributeSet::TcQdiscRed | AttributeSet::TcQdiscFq => traffic_kind::push_own(
             fields, list, word, seen,
         ),
+        AttributeSet::TcQdiscNetem | AttributeSet::TcNetemLoss => traffic_netem::push_own(
+            fields, list, word, seen,
+        ),
+        AttributeSet::TcFilterU32
+        | AttributeSet::TcFilterMatchAll
+        | AttributeSet::TcFilterFw
+        | AttributeSet::TcFilterBpf => traffic_filter::push_own(fields, list, word, seen),
         AttributeSet::TcFilterFlower => traffic_flower::push_own(fields, list, word, seen),
-        _ => traffic_action::push_own(fields, list, word, seen),
+        AttributeSet::TcAction
+        | AttributeSet::TcActionMirror
+        | AttributeSet::TcActionNat
+        | AttributeSet::TcActionTunnelKey => traffic_action::push_own(fields, list, word, seen),
+        _ => traffic_option::push_own(fields, list, word, seen),
     }
 }
 

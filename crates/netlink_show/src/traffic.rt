@@ -199,6 +199,7 @@ fn push_filter_header(fields: &mut Fields, header: &TcMessageBuffer, kind: Optio
     fields.hide_if(preference == 0);
     match kind {
         Some("u32") => push_u32_handle(fields, header.handle),
+        Some("bpf") => fields.bits(NUMBER, header.handle),
         _ => {
             let text = format!(in fields.manner.alloc; "{:#x}", header.handle);
             fields.written(NUMBER, header.handle, text)

@@ -92,14 +92,14 @@ const JUMP: u32 = 1;
 const GOTO: u32 = 2;
 
 /// What every action has in front of its own (`tc_gen` of `linux/pkt_cls.h`), but for what it does.
-const GENERIC: Parts = crate::parts![
+pub const GENERIC: Parts = crate::parts![
     U32 0 20 "index" "\n\tindex " Number;
     U32 12 21 "ref" "ref " Number;
     U32 16 22 "bind" "bind " Number;
 ];
 
 /// When it was made and used, in hundredths of a second (`struct tcf_t` of `linux/pkt_cls.h`).
-const TIMES: Parts = crate::parts![
+pub const TIMES: Parts = crate::parts![
     U64 0 30 "installed" "" Hundredths, Never;
     U64 8 31 "last_used" "" Hundredths, Never;
     U64 24 32 "first_used" "" Hundredths, Never;
@@ -196,23 +196,32 @@ fn push_of_action(fields: &mut Fields, word: Word, seen: &Seen<'_>) {
 }
 
 /// What becomes of a packet, and what every action says of itself.
-fn push_generic(fields: &mut Fields, list: List<'_>, bytes: &[u8]) {
-    let action = number_at(bytes, 8);
+pub fn push_generic(fields: &mut Fields, list: List<'_>, bytes: &[u8]) {
+    push_control(fields, CONTROL, number_at(bytes, 8));
+    push_parts(fields, list, bytes, GENERIC);
+}
+
+/// What becomes of a packet.
+pub fn push_control(fields: &mut Fields, word: Word, action: u32) {
+    push_control_by(fields, word, TYPE, action)
+}
+
+/// The same, by this word for the type.
+pub fn push_control_by(fields: &mut Fields, word: Word, kind: Word, action: u32) {
     let mut inside = Fields::new(fields.manner);
     let far = action & 0x0fff_ffff;
     match action >> 28 {
         JUMP => {
-            inside.text(TYPE, &"jump");
+            inside.text(kind, &"jump");
             inside.number(COUNT, far)
         }
         GOTO => {
-            inside.text(TYPE, &"goto");
+            inside.text(kind, &"goto");
             inside.number(CHAIN, far)
         }
-        _ => inside.named(TYPE, CONTROLS, action),
+        _ => inside.named(kind, CONTROLS, action),
     }
-    fields.object(CONTROL, inside);
-    push_parts(fields, list, bytes, GENERIC);
+    fields.object(word, inside);
 }
 
 /// Where packets go, and whether they are copied.

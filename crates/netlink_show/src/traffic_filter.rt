@@ -1,12 +1,13 @@
-//! What is shown of the filters u32 and matchall.
+//! What is shown of the filters u32, matchall, fw and bpf.
 
 use crate::field::{Fields, Flags, Word, Wording};
 use crate::list::{List, Seen, small};
 use crate::manner;
 use crate::part::{number_at, push_parts};
-use crate::row::How::{Bits, Number, Objects, Own, Text};
+use crate::row::How::{Bits, Flags as Words, Number, Object, Objects, Own, Text};
 use crate::row::Line::Never;
 use crate::row::{Parts, Rows, Size};
+use crate::traffic_program::push_program;
 use crate::traffic_text::{Handle, U32Handle};
 use netlink_packet_route::framing::AttributeSet;
 
@@ -17,6 +18,7 @@ pub const U32: Rows = crate::rows![
     3 5 "link" "link " Own;
     4 1 "ht_divisor" "ht divisor " Number;
     5 11 "match" "" Own;
+    6 89 "police" "\n police" Object;
     7 90 "actions" "" Objects("", "", "");
     8 14 "input_dev" "\n  input dev " Text;
     9 9 "rule_hit" "" Own;
@@ -31,6 +33,33 @@ pub const MATCH_ALL: Rows = crate::rows![
     3 80 "flags" "" Own;
     4 85 "rule_hit" "(rule hit " Own;
 ];
+
+/// Of a filter by marks (`TCA_FW_*` of `linux/pkt_cls.h`).
+pub const FW: Rows = crate::rows![
+    1 1 "classid" "classid " Own;
+    2 89 "police" "police" Object;
+    3 2 "indev" "input dev " Text;
+    4 90 "actions" "" Objects("", "", "");
+    5 0 "mask" "/" Own;
+];
+
+/// Of a filter that runs a program (`TCA_BPF_*` of `linux/pkt_cls.h`).
+pub const BPF: Rows = crate::rows![
+    1 90 "actions" "" Objects("", "", "");
+    2 89 "police" "\n police" Object;
+    3 1 "flowid" "flowid " Own;
+    4 60 "ops_len" "" Number, Never;
+    5 12 "bytecode" "" Own;
+    6 13 "fd" "fd " Number;
+    7 2 "bpf_name" "" Text;
+    8 3 "flags" "" Words(PROGRAM);
+    9 6 "flags_gen" "" Own;
+    10 15 "tag" "tag " Text;
+    11 14 "id" "id " Number;
+];
+
+/// What a program does (`TCA_BPF_FLAG_*` of `linux/pkt_cls.h`).
+const PROGRAM: Flags = &[(0x1, &Wording(3, "direct-action", "direct-action"))];
 
 /// Where a filter works (`TCA_CLS_FLAGS_*` of `linux/pkt_cls.h`).
 const PLACES: Flags = &[
@@ -105,6 +134,13 @@ pub fn push_own(fields: &mut Fields, list: List<'_>, word: Word, seen: &Seen<'_>
         (AttributeSet::TcFilterU32, 10) => push_mark(fields, word, seen.bytes),
         (AttributeSet::TcFilterU32, _) => push_places(fields, word, number, PLACES),
         (AttributeSet::TcFilterMatchAll, 4) => push_hit(fields, word, seen.bytes),
+        (AttributeSet::TcFilterFw, _) => {
+            fields.bits(word, number);
+            fields.hide_if(number == u32::MAX)
+        }
+        (AttributeSet::TcFilterBpf, 3) => push_handle(fields, word, seen.bytes),
+        (AttributeSet::TcFilterBpf, 5) => push_program(fields, list, word, seen.bytes),
+        (AttributeSet::TcFilterBpf, _) => push_places(fields, word, number, PLACES),
         _ => push_places_below(fields, word, number),
     }
 }

@@ -2,11 +2,11 @@
 
 use crate::field::{Fields, Word};
 use crate::list::{List, Seen, bytes_of, small};
-use crate::names::Names;
 use crate::part::{push_parts, push_structure};
 use crate::row::How::{Named, Number, Own, Signed, Text, Truth};
 use crate::row::Line::{IfAny, IfBits, Never};
 use crate::row::{ANY, Parts, Rows, Size};
+use crate::traffic_rate::{HTB_COUNTS, LAYERS};
 use crate::traffic_text::{Bytes, Microseconds};
 use netlink_packet_route::framing::AttributeSet;
 use netlink_packet_route::tc::TcForm;
@@ -69,9 +69,6 @@ const RATE64: Parts = crate::parts![
     U64 0 20 "rate" "" Number;
     U64 8 21 "pps" "" Number;
 ];
-
-/// What counts the size of a packet (`LINKLAYER_*` of `linux/pkt_sched.h`).
-const LAYERS: Names = &[(0, "unspec"), (1, "ethernet"), (2, "atm")];
 
 /// `struct tc_sizespec` of `linux/pkt_sched.h`.
 const SIZES: Parts = crate::parts![
@@ -136,6 +133,7 @@ pub fn push_counters(fields: &mut Fields, list: List<'_>, word: Word, seen: &See
     match (list.nest.context.tc, Size::U32.number_at(seen.bytes, 0)) {
         (TcForm::FqCodel, Some(0)) => push_parts(fields, list, seen.bytes, FQ_CODEL_COUNTS),
         (TcForm::FqCodel, Some(1)) => push_parts(fields, list, seen.bytes, FQ_CODEL_CLASS),
+        (TcForm::Htb, Some(_)) => push_parts(fields, list, seen.bytes, HTB_COUNTS),
         _ => fields.bytes(word, bytes_of(&seen.value)),
     }
 }

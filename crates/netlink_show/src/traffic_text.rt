@@ -1,5 +1,6 @@
-//! How `tc` writes handles, times and sizes.
+//! How `tc` writes handles, times, sizes, rates and names of bits.
 
+use crate::names::Names;
 use std::fmt;
 
 /// A handle, of which `tc` leaves out a minor number of 0; all bits are the root.
@@ -115,6 +116,64 @@ impl fmt::Display for Bytes {
             KIB.. if of_kib.saturating_mul(KIB).abs_diff(count) < 16 => write!(f, "{of_kib}Kb"),
             _ => write!(f, "{count}b"),
         }
+    }
+}
+
+/// Bytes in a second, as bits in a second in the largest unit that loses little.
+#[derive(Clone, Copy)]
+pub struct Rate(pub u64);
+
+impl fmt::Display for Rate {
+    fn fmt<W: fmt::Write>(&self, f: &mut fmt::Formatter<W>) -> fmt::Result {
+        let bits = self.0.saturating_mul(8);
+        let (kilo, mega) = (bits / 1000, bits / 1_000_000);
+        let (giga, tera) = (bits / 1_000_000_000, bits / 1_000_000_000_000);
+        match (goes(bits), goes(kilo), goes(mega), goes(giga)) {
+            (false, _, _, _) => write!(f, "{bits}bit"),
+            (_, false, _, _) => write!(f, "{kilo}Kbit"),
+            (_, _, false, _) => write!(f, "{mega}Mbit"),
+            (_, _, _, false) => write!(f, "{giga}Gbit"),
+            _ => write!(f, "{tera}Tbit"),
+        }
+    }
+}
+
+/// Whether a number is written in the next unit.
+fn goes(count: u64) -> bool {
+    count >= 1_000_000 || count >= 1000 && count % 1000 == 0
+}
+
+/// Nanoseconds, from a thousand on as microseconds.
+#[derive(Clone, Copy)]
+pub struct Nanoseconds(pub u64);
+
+impl fmt::Display for Nanoseconds {
+    fn fmt<W: fmt::Write>(&self, f: &mut fmt::Formatter<W>) -> fmt::Result {
+        match self.0 {
+            count @ 1000.. => {
+                let whole = u32::try_from(count / 1000).unwrap_or(u32::MAX);
+                write!(f, "{}", Microseconds(whole))
+            }
+            count => write!(f, "{count}ns"),
+        }
+    }
+}
+
+/// The names of the bits that are set, with this between them.
+#[derive(Clone, Copy)]
+pub struct Joined(pub Names, pub u32, pub &'static str);
+
+impl fmt::Display for Joined {
+    fn fmt<W: fmt::Write>(&self, f: &mut fmt::Formatter<W>) -> fmt::Result {
+        let Joined(names, bits, mark) = *self;
+        let mut between = "";
+        for (bit, name) in names {
+            if bits & *bit != 0 {
+                write!(f, "{between}{name}")?;
+                between = mark;
+            }
+        }
+        Ok(())
     }
 }
 

@@ -100,6 +100,7 @@ fn push_other_value(fields: &mut Fields, row: &Row, seen: &Seen<'_>) {
 pub fn push_number(fields: &mut Fields, word: Word, value: &Value<'_>) {
     match *value {
         Value::I32(number) => fields.number(word, number),
+        Value::I64(number) => fields.number(word, number),
         _ => fields.number(word, wide(value)),
     }
 }

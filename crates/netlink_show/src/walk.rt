@@ -9,6 +9,7 @@ use crate::route::push_hop;
 use crate::row::{How, Row, Rows};
 use crate::tables::{hides_padding, push_beside, row_in};
 use crate::traffic_action::push_order;
+use crate::traffic_kind;
 use crate::value::{is_hidden, push_plain, push_row};
 use netlink_packet_route::framing::{AttributeSet, NlaBuffer, NlasIterator};
 use netlink_packet_route::route::{NEXT_HOP_HEADER_SIZE, RTNH_ALIGNTO, RouteNextHopBuffer};
@@ -135,6 +136,7 @@ fn push_front(inside: &mut Fields, list: List<'_>, how: How, seen: &Seen<'_>) ->
     match (how, list.nest.set) {
         (How::Peer, _) => return push_peer_header(inside, seen.bytes),
         (How::Object, AttributeSet::NextHop) => push_encap_type(inside, list, seen.number),
+        (How::Data(_), AttributeSet::Tc) => traffic_kind::push_front(inside, list, seen),
         _ => {}
     }
     list.head
@@ -180,8 +182,7 @@ fn put_nested(fields: &mut Fields, row: &'static Row, seen: &Seen<'_>, inside: F
             fields.hide_if(seen.bytes.is_empty())
         }
         (How::NextHops, _) => fields.list(word, inside, " "),
-        (How::Data(_), true) => fields.object(word, inside),
-        (How::Data(other), _) => fields.bytes(other, seen.bytes),
+        (How::Data(other), false) if inside.is_empty() => fields.bytes(other, seen.bytes),
         _ => fields.object(word, inside),
     }
 }

@@ -20,18 +20,18 @@ ghost use Rattle.{
   },
 };
 
-use crate::address_label::{AddressLabelHeader, AddressLabelMessage, AddressLabelMessageBuffer};
-use crate::address_label_attribute::AddressLabelAttribute;
-use crate::prefix::{PrefixHeader, PrefixMessage, PrefixMessageBuffer};
-use crate::prefix_attribute::PrefixAttribute;
-use crate::prefix_cache_info::CacheInfo as PrefixCacheInfo;
 use crate::addr_flags::{AddressFlags, AddressHeaderFlags};
 use crate::addr_protocol::AddressProtocol;
 use crate::addr_scope::AddressScope;
+use crate::address_label::{AddressLabelHeader, AddressLabelMessage, AddressLabelMessageBuffer};
+use crate::address_label_attribute::AddressLabelAttribute;
 use crate::attribute::AddressAttribute;
 use crate::cache_info::{CacheInfo, CacheInfoBuffer};
 use crate::header::{AddressHeader, AddressMessageBuffer};
 use crate::message::AddressMessage;
+use crate::prefix::{PrefixHeader, PrefixMessage, PrefixMessageBuffer};
+use crate::prefix_attribute::PrefixAttribute;
+use crate::prefix_cache_info::CacheInfo as PrefixCacheInfo;
 
 /// What a number reads as is written as that number.
 pub fn law_numbers()

@@ -1,15 +1,16 @@
 -- Values of a fixed length.
 use Rattle.std.specs.Prelude.{◌≡◌, ℕ, ◌+◌, ◌^◌, ◌<◌, Bool, true, false, nat_lt, ℤ, FitsSigned, List, [], ◌∷◌, length, slice_index}
-use Rattle.std.specs.Int.{w16, w32, w64, to_le_bytes, from_le_bytes, to_be_bytes, from_be_bytes, cast_signed, cast_unsigned}
+use Rattle.std.specs.Int.{Width, w16, w32, w64, to_le_bytes, from_le_bytes, to_be_bytes, from_be_bytes, cast_signed, cast_unsigned}
 use Rattle.npr_base.specs.declared.ip.IpAddr.TheVariants.{V4, V6}
 use Rattle.npr_base.specs.declared.refusal.At.{At}
 use Rattle.npr_base.specs.declared.refusal.DecodeError.{DecodeError}
 use Rattle.npr_base.specs.declared.value.Form.{Form}
-use Rattle.npr_base.specs.declared.value.Form.TheVariants.{Byte, Boolean, Signed32, Little16, Little32, Little64, Big16, Big32, Big64}
-use Rattle.npr_base.specs.declared.value.Form.TheVariants.{Octets4, Octets16, Exactly}
+use Rattle.npr_base.specs.declared.value.Form.TheVariants.{Byte, Boolean, Signed32, Signed64, Little16, Little32, Little64, Big16}
+use Rattle.npr_base.specs.declared.value.Form.TheVariants.{Big32, Big64, Octets4, Octets16, Exactly}
 use Rattle.npr_base.specs.Framing.{IsBytes}
 use Rattle.npr_base.specs.Numbering.{Numbering, IsFormed, of_IsFormed}
 use Rattle.npr_base.specs.lemmas.Layout.{le16-holds, le32-holds, le64-holds, be16-holds, be32-holds, be64-holds, signed32-back, signed32-holds}
+use Rattle.npr_base.specs.lemmas.Layout.{signed64-back, signed64-holds}
 use Rattle.npr_base.specs.Value.{Shown, is_number, is_signed, is_truth, is_address, is_structure, Shows, Misshown, Sized, Missized}
 use Rattle.std.proofs.Common.{arith, refl, sym, ap, subst, ◌∙◌}
 use Rattle.std.proofs.lemmas.Nat.{from_le_bytes-to_le_bytes_2, from_le_bytes-to_le_bytes_4, from_le_bytes-to_le_bytes_8}
@@ -100,21 +101,33 @@ boolean = record {
   misshown = λ at bytes e p. p;
 }
 
--- a signed number in four bytes, the lowest first
-abbrev pub signed32 : Layout ℤ
-signed32 = record {
-  size = 4;
-  decode = λ bytes. cast_signed w32 (from_le_bytes w32 bytes);
-  encode = λ z. to_le_bytes w32 (cast_unsigned w32 z);
-  Holds = FitsSigned w32;
-  length-encode = λ z h. refl;
-  decode-encode = signed32-back;
-  Holds-decode = signed32-holds;
-  form = Signed32;
-  sees = λ bytes z. is_signed z;
-  shows = λ bytes s p. p;
-  misshown = λ at bytes e p. p;
+-- a signed number in so many bytes, the lowest first
+abbrev pub signed_in : (size : ℕ) (w : Width) (form : Form)
+    → ((bytes : List ℕ) (s : Shown) → Shows form bytes s → Sized size (λ b. is_signed size (cast_signed w (from_le_bytes w b))) bytes s)
+    → ((at : At) (bytes : List ℕ) (e : DecodeError) → Misshown form at bytes e → Missized size at bytes e)
+    → ((z : ℤ) → FitsSigned w z → length (to_le_bytes w (cast_unsigned w z)) ≡ size)
+    → ((z : ℤ) → FitsSigned w z → cast_signed w (from_le_bytes w (to_le_bytes w (cast_unsigned w z))) ≡ z)
+    → ((bytes : List ℕ) → IsBytes bytes → length bytes ≡ size → FitsSigned w (cast_signed w (from_le_bytes w bytes))) → Layout ℤ
+signed_in size w form shows misshown long back holds = record {
+  size = size;
+  decode = λ bytes. cast_signed w (from_le_bytes w bytes);
+  encode = λ z. to_le_bytes w (cast_unsigned w z);
+  Holds = FitsSigned w;
+  length-encode = long;
+  decode-encode = back;
+  Holds-decode = holds;
+  form = form;
+  sees = λ bytes z. is_signed size z;
+  shows = shows;
+  misshown = misshown;
 }
+
+-- in four and eight
+abbrev pub signed32 : Layout ℤ
+signed32 = signed_in 4 w32 Signed32 (λ bytes s p. p) (λ at bytes e p. p) (λ z h. refl) signed32-back signed32-holds
+
+abbrev pub signed64 : Layout ℤ
+signed64 = signed_in 8 w64 Signed64 (λ bytes s p. p) (λ at bytes e p. p) (λ z h. refl) signed64-back signed64-holds
 
 -- so many bytes, as they stand
 abbrev pub octets : ℕ → Layout (List ℕ)

@@ -23,6 +23,7 @@ pub mod Fields
 pub mod MoreFields
 pub mod Bits
 pub mod Message
+pub mod MessageValue
 pub mod Numbering
 pub mod Opening
 pub mod RowReading

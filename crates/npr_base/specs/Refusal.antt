@@ -9,6 +9,8 @@ use Rattle.npr_base.specs.declared.refusal.DecodeError.TheVariants.{NextHopLengt
 use Rattle.npr_base.specs.declared.refusal.DecodeError.TheVariants.{Unsupported}
 use Rattle.npr_base.specs.declared.refusal.EmitError.{EmitError}
 use Rattle.npr_base.specs.declared.refusal.EmitError.TheVariants.{TooLong, NextHopTooLong, TooManySegments, IpProtocol, Total}
+use Rattle.npr_base.specs.declared.refusal.Seg6Fault.{Seg6Fault}
+use Rattle.npr_base.specs.declared.refusal.Seg6Fault.TheVariants.{Short, Length, Hmac, Segments}
 
 abbrev pub decode_name : DecodeError → List ℕ
 decode_name OutOfMemory = codes "OutOfMemory"
@@ -32,7 +34,14 @@ emit_name (TooManySegments count) = codes "TooManySegments"
 emit_name (IpProtocol number) = codes "IpProtocol"
 emit_name Total = codes "Total"
 
--- where a value stands: at a number of a family
+-- what is wrong with a SEG6 routing header, as a text
+abbrev pub seg6_text : Seg6Fault → List ℕ
+seg6_text Short = codes "without its fixed part"
+seg6_text Length = codes "of another length than it states"
+seg6_text Hmac = codes "without room for its HMAC"
+seg6_text Segments = codes "of segments that are not whole"
+
+-- where a value stands: at a number of a set
 abbrev pub at_number : AttributeSet → ℕ → At
 at_number set number = record { set = set; number = number }
 

@@ -26,7 +26,7 @@ pub use Rattle.npr_base.specs.DroppedCodec.{dropped}
 pub use Rattle.npr_base.specs.EnumTable.{EnumTable, table_of, row, marked_row, others, ◌or◌, ◌also◌, value, text, items, seen, listed, nothing}
 pub use Rattle.npr_base.specs.FlagCodec.{flag}
 pub use Rattle.npr_base.specs.IpCodec.{ip}
-pub use Rattle.npr_base.specs.Layout.{byte, boolean, signed32, le16, le32, le64, be16, be32, be64, octets, octets4, octets16}
+pub use Rattle.npr_base.specs.Layout.{byte, boolean, signed32, signed64, le16, le32, le64, be16, be32, be64, octets, octets4, octets16}
 pub use Rattle.npr_base.specs.ListCodec.{list_of}
 pub use Rattle.npr_base.specs.Name.{name}
 pub use Rattle.npr_base.specs.UintCodec.{uint}

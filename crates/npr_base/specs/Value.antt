@@ -10,8 +10,8 @@ use Rattle.npr_base.specs.declared.refusal.At.{At}
 use Rattle.npr_base.specs.declared.refusal.DecodeError.{DecodeError}
 use Rattle.npr_base.specs.declared.refusal.DecodeError.TheVariants.{ValueLength, HeaderTooShort, NotUtf8}
 use Rattle.npr_base.specs.declared.value.Form.{Form}
-use Rattle.npr_base.specs.declared.value.Form.TheVariants.{Byte, Boolean, Signed32, Little16, Little32, Little64, Big16, Big32, Big64}
-use Rattle.npr_base.specs.declared.value.Form.TheVariants.{Uint, Flag, Octets4, Octets16, Ip, Name, Raw, Exactly, Leading}
+use Rattle.npr_base.specs.declared.value.Form.TheVariants.{Byte, Boolean, Signed32, Signed64, Little16, Little32, Little64, Big16, Big32}
+use Rattle.npr_base.specs.declared.value.Form.TheVariants.{Big64, Uint, Flag, Octets4, Octets16, Ip, Name, Raw, Exactly, Leading}
 use Rattle.npr_base.specs.declared.value.Form.TheVariants.{List as Listed, Inside, Dropped}
 use Rattle.npr_base.specs.declared.value.Value.{Value}
 use Rattle.npr_base.specs.declared.value.Value.TheVariants as Of
@@ -21,9 +21,9 @@ use Rattle.npr_base.specs.Widths.{IsUint, IsNoUint, IsFlag, IsNoFlag}
 
 -- what a value is
 pub data Shown : Type 0 where
-  -- a number of so many bytes
+  -- a number of so many bytes, and a signed one
   is_number : ℕ → ℕ → Shown
-  is_signed : ℤ → Shown
+  is_signed : ℕ → ℤ → Shown
   is_truth : Bool → Shown
   is_address : IpAddr → Shown
   is_name : List ℕ → Shown
@@ -38,7 +38,8 @@ shown (Of.U8 n) = is_number 1 n
 shown (Of.U16 n) = is_number 2 n
 shown (Of.U32 n) = is_number 4 n
 shown (Of.U64 n) = is_number 8 n
-shown (Of.I32 z) = is_signed z
+shown (Of.I32 z) = is_signed 4 z
+shown (Of.I64 z) = is_signed 8 z
 shown (Of.Bool b) = is_truth b
 shown (Of.Address a) = is_address a
 shown (Of.Name text) = is_name text.now
@@ -55,7 +56,8 @@ Sized size show b s = (length b ≡ size) × (s ≡ show b)
 abbrev pub Shows : Form → List ℕ → Shown → Type 0
 Shows Byte b s = Sized 1 (λ c. is_number 1 (slice_index c 0)) b s
 Shows Boolean b s = Sized 1 (λ c. is_truth (nat_lt 0 (slice_index c 0))) b s
-Shows Signed32 b s = Sized 4 (λ c. is_signed (cast_signed w32 (from_le_bytes w32 c))) b s
+Shows Signed32 b s = Sized 4 (λ c. is_signed 4 (cast_signed w32 (from_le_bytes w32 c))) b s
+Shows Signed64 b s = Sized 8 (λ c. is_signed 8 (cast_signed w64 (from_le_bytes w64 c))) b s
 Shows Little16 b s = Sized 2 (λ c. is_number 2 (from_le_bytes w16 c)) b s
 Shows Little32 b s = Sized 4 (λ c. is_number 4 (from_le_bytes w32 c)) b s
 Shows Little64 b s = Sized 8 (λ c. is_number 8 (from_le_bytes w64 c)) b s
@@ -84,6 +86,7 @@ abbrev pub Misshown : Form → At → List ℕ → DecodeError → Type 0
 Misshown Byte at b e = Missized 1 at b e
 Misshown Boolean at b e = Missized 1 at b e
 Misshown Signed32 at b e = Missized 4 at b e
+Misshown Signed64 at b e = Missized 8 at b e
 Misshown Little16 at b e = Missized 2 at b e
 Misshown Little32 at b e = Missized 4 at b e
 Misshown Little64 at b e = Missized 8 at b e

@@ -6,6 +6,7 @@ pub mod Layout
 pub mod List
 pub mod Looks
 pub mod Message
+pub mod Messages
 pub mod Name
 pub mod Bool
 pub mod LookBounds

@@ -30,11 +30,14 @@ pub trait Attribute: Nla + Drop {
     /// in a context.
     ghost family: { Family Self Self.Context };
 
-    /// Puts the value that the attribute means in the context into a place. Each look at a header
-    /// inside it is counted.
+    /// Puts the value that the attribute means in the context into a place. Asks that the place is ready.
+    /// Each look at a header inside it is counted.
     ///
     /// # Errors
     /// `OutOfMemory` where memory is refused, and else the first fault in reading order.
+    ///
+    /// # Panics
+    /// May panic where it is not as asked.
     fn read_into<P: Place<Self>>(
         place: &mut P,
         alloc: Global,

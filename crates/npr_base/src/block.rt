@@ -23,12 +23,18 @@ pub trait Block: Copy {
     fn size() -> usize
         ensures { result ≡ width.layout.size };
 
-    /// The value in the first bytes, which are there.
+    /// The value in the first bytes. Asks that they are there.
+    ///
+    /// # Panics
+    /// May panic where it is not as asked.
     fn in_front(bytes: &[u8]) -> Self
         requires { width.layout.size ≤ length bytes.now }
         ensures { IsBlock width.layout bytes.now result };
 
-    /// Writes it at the front of the slice, leaves the rest, and answers its length.
+    /// Writes it at the front of the slice, leaves the rest, and answers its length. Asks for room of it.
+    ///
+    /// # Panics
+    /// May panic where it is not as asked.
     fn write(self, out: &mut [u8]) -> usize
         requires { width.layout.size ≤ length out.old }
         ensures len { result ≡ width.layout.size }
@@ -157,6 +163,9 @@ pub fn read_blocks<T: Block>(alloc: Global, bytes: &[u8]) -> Result<Vec<T>, Allo
 }
 
 /// The length of the values, in bytes. Asks that it is below 2 to the 64.
+///
+/// # Panics
+/// May panic where it is not as asked.
 pub fn blocks_len<T: Block>(blocks: &[T]) -> usize
     requires { length (block_bytes T.width.layout blocks.now) < 2 ^ 64 }
     ensures { result ≡ length (block_bytes T.width.layout blocks.now) }
@@ -166,6 +175,9 @@ pub fn blocks_len<T: Block>(blocks: &[T]) -> usize
 
 /// Writes the values at the front of the slice, leaves the rest, and answers their length. Asks for
 /// room of that length.
+///
+/// # Panics
+/// May panic where it is not as asked.
 pub fn write_blocks<T: Block>(blocks: &[T], out: &mut [u8]) -> usize
     requires { length (block_bytes T.width.layout blocks.now) ≤ length out.old }
     ensures len { result ≡ length (block_bytes T.width.layout blocks.now) }

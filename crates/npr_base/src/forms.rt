@@ -30,6 +30,9 @@ macro_rules! form_row {
     (signed32) => {
         $crate::Form::Signed32
     };
+    (signed64) => {
+        $crate::Form::Signed64
+    };
     (le16) => {
         $crate::Form::Little16
     };
@@ -77,6 +80,9 @@ macro_rules! form_row {
     };
     ($of:ident value raw) => {
         $crate::Form::Raw
+    };
+    ($of:ident inside $set:ident $front:literal) => {
+        $crate::Form::List($crate::AttributeSet::$set, $front)
     };
     ($of:ident as $number:ident $(by $by:ident)?) => {
         $crate::form_row!($number)

@@ -260,6 +260,9 @@ pub fn check_len(kind: u16, len: usize) -> Result<usize, EmitError>
 
 /// Writes so many zeros at the front of the slice, and leaves the rest. Asks that they are three at
 /// most, which cost less one by one than a call to fill them, and for room.
+///
+/// # Panics
+/// May panic where it is not as asked.
 pub fn write_zeros(count: usize, out: &mut [u8])
     requires few { count < NLA_ALIGNTO }
     requires room { count ≤ length out.old }
@@ -290,6 +293,9 @@ fn write_header(size: u16, kind: u16, out: &mut [u8])
 /// Writes the header in front of a value that stands already, and zeros after it to the next
 /// multiple of four. Answers the length of all. Asks that `check_len` accepts the length of the value,
 /// and for room of what it answers.
+///
+/// # Panics
+/// May panic where it is not as asked.
 pub fn frame(out: &mut [u8], kind: u16, len: usize) -> usize
     requires short { len ≤ 65531 }
     requires room { framed len ≤ length out.old }

@@ -108,6 +108,7 @@ pub use values::leading_octets;
 pub use values::read_bool;
 pub use values::read_bytes;
 pub use values::read_i32;
+pub use values::read_i64;
 pub use values::read_ip;
 pub use values::read_ipv4;
 pub use values::read_ipv6;

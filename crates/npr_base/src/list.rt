@@ -76,6 +76,9 @@ pub fn make_room<A: Drop>(found: &mut Vec<A>, len: usize) -> Result<(), AllocErr
 /// # Errors
 /// `OutOfMemory` where memory is refused, and else the first fault in reading order. The list is empty
 /// then, and without room.
+///
+/// # Panics
+/// May panic where it is not as asked.
 pub fn fill_list<A: Attribute>(
     list: &mut Vec<A>,
     alloc: Global,
@@ -152,6 +155,9 @@ pub fn check_list<A: Attribute>(list: &[A]) -> Result<usize, EmitError>
 }
 
 /// `emit_list`, with the length of what is written. Asks what that does.
+///
+/// # Panics
+/// May panic where it is not as asked.
 pub fn write_list<A: Attribute>(list: &[A], out: &mut [u8]) -> usize
     requires fits { list_unfit (unfit_by A.family.writing) (written_by A.family.writing) (map A.family.meaning list.now) ≡ None }
     requires room { length (encodings (written_by A.family.writing) (map A.family.meaning list.now)) ≤ length out.old }
@@ -164,6 +170,9 @@ pub fn write_list<A: Attribute>(list: &[A], out: &mut [u8]) -> usize
 /// Writes the encodings one after the other at the front of the slice, and leaves the rest. Asks
 /// that `check_list` accepts, and room for the length that it answers. It is for callers: the library
 /// writes by `write_list`.
+///
+/// # Panics
+/// May panic where it is not as asked.
 pub fn emit_list<A: Attribute>(list: &[A], out: &mut [u8])
     requires fits { list_unfit (unfit_by A.family.writing) (written_by A.family.writing) (map A.family.meaning list.now) ≡ None }
     requires room { length (encodings (written_by A.family.writing) (map A.family.meaning list.now)) ≤ length out.old }

@@ -44,7 +44,10 @@ pub trait Header: Emitable + Copy + Default {
     fn size() -> usize
         ensures { result ≡ grammar.layout.size };
 
-    /// The header in the first bytes, which are there.
+    /// The header in the first bytes. Asks that they are there.
+    ///
+    /// # Panics
+    /// May panic where it is not as asked.
     fn in_front(bytes: &[u8]) -> Self
         requires { grammar.layout.size ≤ length bytes.now }
         ensures { (leading grammar.layout).Reads bytes.now result };

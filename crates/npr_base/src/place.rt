@@ -17,6 +17,9 @@ pub trait Place<A> {
     ghost puts: { Self → A → Self → Type 0 };
 
     /// Puts the value into it. Asks that it is ready: a list for room.
+    ///
+    /// # Panics
+    /// May panic where it is not as asked.
     fn put(&mut self, value: A)
         requires { ready self.old }
         ensures { puts self.old value self.new };
@@ -51,6 +54,9 @@ impl<A: Drop> Place<A> for Option<A> {
 ///
 /// # Errors
 /// The refusal, where nothing was read.
+///
+/// # Panics
+/// May panic where it is not as asked.
 #[inline(always)]
 pub fn put_read<A, T, P: Place<A>, V: FnOnce(T) -> A>(
     place: &mut P,
@@ -71,6 +77,9 @@ pub fn put_read<A, T, P: Place<A>, V: FnOnce(T) -> A>(
 ///
 /// # Errors
 /// `ValueLength` at another length.
+///
+/// # Panics
+/// May panic where it is not as asked.
 #[inline(always)]
 pub fn put_ip<A, P: Place<A>, V: FnOnce(IpAddr) -> A>(
     place: &mut P,

@@ -1,9 +1,10 @@
 //! Why bytes are refused, and why a value can't be written.
 
-ghost use Rattle.std.specs.Prelude.{◌≡◌};
-ghost use Rattle.npr_base.specs.{declared.refusal.DecodeError.TheVariants.{OutOfMemory}, Refusal.{decode_name, emit_name}};
+ghost use Rattle.std.specs.Prelude.{◌≡◌, Some};
+ghost use Rattle.npr_base.specs.{declared.refusal.DecodeError.TheVariants.{OutOfMemory}, Refusal.{decode_name, emit_name, seg6_text}};
 
 use std::alloc::{AllocError, AllocFailed};
+use std::fmt;
 use thiserror::Error;
 
 /// A set of attributes, in which a number is to be understood. Each has the number that C sees.
@@ -172,6 +173,38 @@ pub enum AttributeSet {
     TcActionTunnelKey = 79,
     /// A list of actions: the number of each is its place.
     TcActions = 80,
+    /// `TCA_HTB_*` of `linux/pkt_sched.h`.
+    TcQdiscHtb = 81,
+    /// `TCA_TBF_*` of `linux/pkt_sched.h`.
+    TcQdiscTbf = 82,
+    /// `TCA_RED_*` of `linux/pkt_sched.h`.
+    TcQdiscRed = 83,
+    /// `TCA_FQ_*` of `linux/pkt_sched.h`.
+    TcQdiscFq = 84,
+    /// `TCA_NETEM_*` of `linux/pkt_sched.h`.
+    TcQdiscNetem = 85,
+    /// `NETEM_LOSS_*` of `linux/pkt_sched.h`.
+    TcNetemLoss = 86,
+    /// `TCA_FW_*` of `linux/pkt_cls.h`.
+    TcFilterFw = 87,
+    /// `TCA_BPF_*` of `linux/pkt_cls.h`.
+    TcFilterBpf = 88,
+    /// `TCA_GACT_*` of `linux/tc_act/tc_gact.h`.
+    TcActionGact = 89,
+    /// `TCA_POLICE_*` of `linux/pkt_cls.h`.
+    TcActionPolice = 90,
+    /// `TCA_VLAN_*` of `linux/tc_act/tc_vlan.h`.
+    TcActionVlan = 91,
+    /// `TCA_SKBEDIT_*` of `linux/tc_act/tc_skbedit.h`.
+    TcActionSkbedit = 92,
+    /// `TCA_CSUM_*` of `linux/tc_act/tc_csum.h`.
+    TcActionCsum = 93,
+    /// `TCA_CT_*` of `linux/tc_act/tc_ct.h`.
+    TcActionCt = 94,
+    /// `TCA_SAMPLE_*` of `linux/tc_act/tc_sample.h`.
+    TcActionSample = 95,
+    /// `TCA_ACT_BPF_*` of `linux/tc_act/tc_bpf.h`.
+    TcActionBpf = 96,
 }
 
 /// The place of a value: the set of its attribute, and the attribute's number.
@@ -200,6 +233,15 @@ impl At {
     };
 }
 
+/// The number, and the set that it stands in.
+impl fmt::Display for At {
+    fn fmt<W: fmt::Write>(&self, f: &mut fmt::Formatter<W>) -> fmt::Result {
+        let number = self.number;
+        write!(f, "attribute {number} of ")?;
+        fmt::Debug::fmt(&self.set, f)
+    }
+}
+
 /// What is wrong with a SEG6 routing header (RFC 8754, section 2).
 #[derive(Clone, Copy, Debug, PartialEq, Eq)]
 pub enum Seg6Fault {
@@ -211,6 +253,19 @@ pub enum Seg6Fault {
     Hmac,
     /// The segments are not whole.
     Segments,
+}
+
+impl fmt::Display for Seg6Fault {
+    ghost output = { λ fault. Some (seg6_text fault) };
+
+    fn fmt<W: fmt::Write>(&self, f: &mut fmt::Formatter<W>) -> fmt::Result {
+        f.write_str(match self {
+            Seg6Fault::Short => "without its fixed part",
+            Seg6Fault::Length => "of another length than it states",
+            Seg6Fault::Hmac => "without room for its HMAC",
+            Seg6Fault::Segments => "of segments that are not whole",
+        })
+    }
 }
 
 /// Why bytes are not a value. Lengths are in bytes.
@@ -256,7 +311,7 @@ pub enum DecodeError {
         left: usize,
     },
     /// A value of a length that its place doesn't take.
-    #[error("a value of {got} bytes at {at:?}")]
+    #[error("a value of {got} bytes at {at}")]
     ValueLength {
         /// Where it stands.
         at: At,
@@ -264,13 +319,13 @@ pub enum DecodeError {
         got: usize,
     },
     /// A name that is no UTF-8.
-    #[error("no UTF-8 at {at:?}")]
+    #[error("no UTF-8 at {at}")]
     NotUtf8 {
         /// Where it stands.
         at: At,
     },
     /// A SEG6 routing header.
-    #[error("a SEG6 routing header: {fault:?}")]
+    #[error("a SEG6 routing header {fault}")]
     Seg6Header {
         /// What is wrong with it.
         fault: Seg6Fault,
@@ -291,7 +346,7 @@ pub enum DecodeError {
     #[error("a gateway of address family {0}")]
     ViaFamily(u16),
     /// A routing header in a form that is not read.
-    #[error("an unsupported header at {at:?}")]
+    #[error("an unsupported header at {at}")]
     Unsupported {
         /// Where it stands.
         at: At,

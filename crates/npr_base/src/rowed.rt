@@ -5,7 +5,7 @@ ghost use Rattle.npr_base.specs.{
   declared.refusal.DecodeError.{DecodeError},
   Codec.{exactly},
   Framing.{Item, number_of},
-  Layout.{Layout, boolean, byte, signed32, le16, le32, le64, be16, be32, be64, octets, octets4, octets16},
+  Layout.{Layout, boolean, byte, signed32, signed64, le16, le32, le64, be16, be32, be64, octets, octets4, octets16},
   Refusal.{at_number},
 };
 
@@ -14,8 +14,8 @@ use crate::ip::{Ipv4Addr, Ipv6Addr};
 use crate::place::Place;
 use crate::refusal::{At, AttributeSet, DecodeError};
 use crate::values::{
-    read_bool, read_i32, read_ipv4, read_ipv6, read_octets, read_u8, read_u16, read_u16_be,
-    read_u32, read_u32_be, read_u64, read_u64_be,
+    read_bool, read_i32, read_i64, read_ipv4, read_ipv6, read_octets, read_u8, read_u16,
+    read_u16_be, read_u32, read_u32_be, read_u64, read_u64_be,
 };
 
 /// A family whose attributes are read by the rows of a table.
@@ -79,6 +79,15 @@ impl Scalar for i32 {
     #[inline(always)]
     fn read_scalar(value: &[u8], at: At) -> Result<Self, DecodeError> {
         read_i32(value, at)
+    }
+}
+
+impl Scalar for i64 {
+    ghost layout = { signed64 };
+
+    #[inline(always)]
+    fn read_scalar(value: &[u8], at: At) -> Result<Self, DecodeError> {
+        read_i64(value, at)
     }
 }
 
@@ -169,6 +178,9 @@ impl BigEndian for u64 {
 ///
 /// # Errors
 /// `ValueLength` at another length.
+///
+/// # Panics
+/// May panic where it is not as asked.
 #[inline(always)]
 pub fn put_exactly<A: Rowed, T: Scalar, P: Place<A>, V: FnOnce(T) -> A>(
     place: &mut P,
@@ -189,10 +201,13 @@ pub fn put_exactly<A: Rowed, T: Scalar, P: Place<A>, V: FnOnce(T) -> A>(
     Ok(())
 }
 
-/// The same of a number with the highest byte first.
+/// The same of a number with the highest byte first. Asks the same.
 ///
 /// # Errors
 /// `ValueLength` at another length.
+///
+/// # Panics
+/// May panic where it is not as asked.
 #[inline(always)]
 pub fn put_big<A: Rowed, T: BigEndian, P: Place<A>, V: FnOnce(T) -> A>(
     place: &mut P,
@@ -213,10 +228,13 @@ pub fn put_big<A: Rowed, T: BigEndian, P: Place<A>, V: FnOnce(T) -> A>(
     Ok(())
 }
 
-/// The same of what a number is made into, as an enumeration.
+/// The same of what a number is made into, as an enumeration. Asks the same.
 ///
 /// # Errors
 /// `ValueLength` at another length than that of the number.
+///
+/// # Panics
+/// May panic where it is not as asked.
 #[inline(always)]
 pub fn put_as<A: Rowed, N: Scalar, T: From<N> + Drop, P: Place<A>, V: FnOnce(T) -> A>(
     place: &mut P,
@@ -270,6 +288,9 @@ macro_rules! flat_row {
         $crate::put_exactly($place, $item, $crate::AttributeSet::$at, $number, $family::$variant)
     };
     ([$place:expr, $alloc:expr, $item:expr, $at:ident, $number:tt, $family:ident::$variant:ident] signed32) => {
+        $crate::put_exactly($place, $item, $crate::AttributeSet::$at, $number, $family::$variant)
+    };
+    ([$place:expr, $alloc:expr, $item:expr, $at:ident, $number:tt, $family:ident::$variant:ident] signed64) => {
         $crate::put_exactly($place, $item, $crate::AttributeSet::$at, $number, $family::$variant)
     };
     ([$place:expr, $alloc:expr, $item:expr, $at:ident, $number:tt, $family:ident::$variant:ident] le16) => {

@@ -6,7 +6,7 @@
 //!
 //! | Codec | The value |
 //! |---|---|
-//! | `byte`, `boolean`, `signed32`, `le16`, `le32`, `le64`, `be16`, `be32`, `be64` | a number, the lowest byte first or last |
+//! | `byte`, `boolean`, `signed32`, `signed64`, `le16`, `le32`, `le64`, `be16`, `be32`, `be64` | a number, the lowest byte first or last |
 //! | `uint`; `flag` | a number of 4 or 8 bytes, the lowest first; true without bytes or as one above 0 |
 //! | `octets4`, `octets16`, `ip` | an address of version 4, of version 6, of both |
 //! | `name`, `raw`, `list S` | a name; bytes as they stand; attributes of the set `S` |
@@ -16,6 +16,7 @@
 //! | `T leading 8` | one in front, behind which more may stand |
 //! | `T value` | a value with `read`, which refuses memory alone, `try_clone`, `len` and `write` |
 //! | `T value raw` | such a value, which is seen as bytes where it stands |
+//! | `T inside S 24` | such a value, which has attributes of the set `S` behind so many bytes |
 
 /// An equal attribute.
 #[macro_export]
@@ -46,6 +47,9 @@ macro_rules! clone_row {
         $crate::clone_list($alloc, $x.as_slice()).map($family::$variant)
     };
     ([$family:ident::$variant:ident, $x:ident, $alloc:expr] $of:ident value $($raw:ident)?) => {
+        $x.try_clone($alloc).map($family::$variant)
+    };
+    ([$family:ident::$variant:ident, $x:ident, $alloc:expr] $of:ident inside $set:ident $front:literal) => {
         $x.try_clone($alloc).map($family::$variant)
     };
     ([$family:ident::$variant:ident, $x:ident, $alloc:expr] $($codec:tt)+) => {
@@ -148,6 +152,9 @@ macro_rules! number_len {
     (be64) => {
         8
     };
+    (signed64) => {
+        8
+    };
     ($four:ident) => {
         4
     };
@@ -196,6 +203,9 @@ macro_rules! write_row {
         $crate::write_array($x.to_bytes(), $out)
     };
     ([$x:ident, $out:expr] $of:ident value $($raw:ident)?) => {
+        $x.write($out)
+    };
+    ([$x:ident, $out:expr] $of:ident inside $set:ident $front:literal) => {
         $x.write($out)
     };
     ([$x:ident, $out:expr] $of:ident as $number:ident) => {
@@ -252,6 +262,9 @@ macro_rules! number_of {
     };
     (le32 $x:expr) => {
         u32::from($x)
+    };
+    (signed32 $x:expr) => {
+        i32::from($x)
     };
 }
 
@@ -322,6 +335,9 @@ macro_rules! read_value {
     };
     ([$alloc:expr, $value:expr, $at:expr] signed32) => {
         $crate::read_i32($value, $at)
+    };
+    ([$alloc:expr, $value:expr, $at:expr] signed64) => {
+        $crate::read_i64($value, $at)
     };
     ([$alloc:expr, $value:expr, $at:expr] le16) => {
         $crate::read_u16($value, $at)

@@ -33,6 +33,9 @@ pub trait Nla: Sized {
 
     /// Writes the value at the front of the slice, leaves the rest, and answers the value's
     /// length. Asks that `check_value` accepts, and room for the value.
+    ///
+    /// # Panics
+    /// May panic where it is not as asked.
     fn write_value(&self, out: &mut [u8]) -> usize
         requires fits { (shape self.now).unfit ≡ None }
         requires room { length (shape self.now).item.value ≤ length out.old }
@@ -74,6 +77,9 @@ pub trait Emitable {
 
     /// Writes the bytes at the front of the slice, and leaves the rest. Asks that `check` accepts,
     /// and room for the bytes.
+    ///
+    /// # Panics
+    /// May panic where it is not as asked.
     fn emit(&self, out: &mut [u8])
         requires fits { unfit self.now ≡ None }
         requires room { length (bytes self.now) ≤ length out.old }
@@ -126,6 +132,9 @@ pub fn check_attribute_len<A: Nla>(attribute: &A, len: usize) -> Result<usize, E
 }
 
 /// `emit` of an attribute, with the length of what is written. Asks what that does.
+///
+/// # Panics
+/// May panic where it is not as asked.
 pub fn write_attribute<A: Nla>(attribute: &A, out: &mut [u8]) -> usize
     requires fits { shaped_unfit A.shape attribute.now ≡ None }
     requires room { framed (length (A.shape attribute.now).item.value) ≤ length out.old }

@@ -14,6 +14,9 @@ use std::alloc::Global;
 ///
 /// # Errors
 /// `OutOfMemory` alone, where memory is refused.
+///
+/// # Panics
+/// May panic where it is not as asked.
 pub fn read_v6_list(alloc: Global, bytes: &[u8]) -> Result<Vec<Ipv6Addr>, DecodeError>
     requires { length bytes.now % 16 ≡ 0 }
     ensures ok { IfOk result (λ v. IsV6List bytes.now v.items) }
@@ -45,6 +48,9 @@ pub fn v6_list_len(addresses: &[Ipv6Addr]) -> usize
 
 /// Writes the addresses one after the other at the front of the slice, in the order of the list,
 /// leaves the rest, and answers their length. Asks for room of `v6_list_len`.
+///
+/// # Panics
+/// May panic where it is not as asked.
 pub fn write_v6_list(addresses: &[Ipv6Addr], out: &mut [u8]) -> usize
     requires { length (concat addresses.now) ≤ length out.old }
     ensures len { result ≡ length (concat addresses.now) }
@@ -59,6 +65,9 @@ pub fn write_v6_list(addresses: &[Ipv6Addr], out: &mut [u8]) -> usize
 
 /// Writes the addresses one after the other, in the order of the list. Asks for a slice of exactly 16
 /// bytes for each. It is for callers: the library writes by `write_v6_list`.
+///
+/// # Panics
+/// May panic where it is not as asked.
 pub fn emit_v6_list(addresses: &[Ipv6Addr], out: &mut [u8])
     requires { length out.old ≡ 16 * length addresses.now }
     ensures { out.new ≡ concat addresses.now }

@@ -6,8 +6,8 @@ ghost use Rattle.npr_base.specs.{Name.{name}, Value.{Shows, Misshown, Missized, 
 use crate::ip::IpAddr;
 use crate::refusal::{At, AttributeSet, DecodeError};
 use crate::values::{
-    leading_octets, read_bool, read_i32, read_ip, read_ipv4, read_ipv6, read_u8, read_u16,
-    read_u16_be, read_u32, read_u32_be, read_u64, read_u64_be, without_zero,
+    leading_octets, read_bool, read_i32, read_i64, read_ip, read_ipv4, read_ipv6, read_u8,
+    read_u16, read_u16_be, read_u32, read_u32_be, read_u64, read_u64_be, without_zero,
 };
 use crate::widths::{read_flag, read_uint};
 use std::str::from_utf8;
@@ -21,6 +21,8 @@ pub enum Form {
     Boolean,
     /// A signed number of four bytes, little endian.
     Signed32,
+    /// A signed number of eight bytes, little endian.
+    Signed64,
     /// A number of two bytes, little endian.
     Little16,
     /// A number of four bytes, little endian.
@@ -73,6 +75,8 @@ pub enum Value<'a> {
     U64(u64),
     /// A signed number of four bytes.
     I32(i32),
+    /// A signed number of eight bytes.
+    I64(i64),
     /// A truth value.
     Bool(bool),
     /// An address.
@@ -136,6 +140,7 @@ pub fn read_form<'a>(form: Form, bytes: &'a [u8], at: At) -> Result<Value<'a>, D
         Form::Byte => Value::U8(read_u8(bytes, at)?),
         Form::Boolean => Value::Bool(read_bool(bytes, at)?),
         Form::Signed32 => Value::I32(read_i32(bytes, at)?),
+        Form::Signed64 => Value::I64(read_i64(bytes, at)?),
         Form::Little16 => Value::U16(read_u16(bytes, at)?),
         Form::Little32 => Value::U32(read_u32(bytes, at)?),
         Form::Little64 => Value::U64(read_u64(bytes, at)?),

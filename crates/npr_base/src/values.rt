@@ -4,7 +4,7 @@ ghost use Rattle.std.specs.{Prelude.{◌≡◌, ◌≢◌, ◌≤◌, ◌<◌, �
 ghost use Rattle.npr_base.specs.{
   declared.refusal.DecodeError.TheVariants.{OutOfMemory},
   Framing.{Writes},
-  Layout.{byte, le16, le32, le64, be16, be32, be64, signed32, boolean, octets},
+  Layout.{byte, le16, le32, le64, be16, be32, be64, signed32, signed64, boolean, octets},
   Codec.{exactly, leading, raw},
   Ip.{octets_of},
   IpCodec.{ip},
@@ -147,6 +147,17 @@ pub fn read_i32(value: &[u8], at: At) -> Result<i32, DecodeError>
     Ok(i32::from_le_bytes(read_octets(value, at)?))
 }
 
+/// A signed number of eight bytes, little endian.
+///
+/// # Errors
+/// `ValueLength` at another length.
+pub fn read_i64(value: &[u8], at: At) -> Result<i64, DecodeError>
+    ensures ok { IfOk result (λ n. (exactly signed64).Reads value.now n) }
+    ensures refused { IfErr result (λ e. (exactly signed64).Wrong at value.now e) }
+{
+    Ok(i64::from_le_bytes(read_octets(value, at)?))
+}
+
 /// A number of eight bytes, little endian.
 ///
 /// # Errors
@@ -218,6 +229,9 @@ pub fn ip_len(address: &IpAddr) -> usize
 
 /// Writes an address at the front of the slice, leaves the rest, and answers its length. Asks for
 /// room of `ip_len`.
+///
+/// # Panics
+/// May panic where it is not as asked.
 pub fn write_ip(address: &IpAddr, out: &mut [u8]) -> usize
     requires { length (octets_of address.now) ≤ length out.old }
     ensures len { result ≡ length (octets_of address.now) }
@@ -276,6 +290,9 @@ pub fn read_name(alloc: Global, value: &[u8], at: At) -> Result<String, DecodeEr
 
 /// Writes a name and one zero at the front of the slice, leaves the rest, and answers their length.
 /// Asks for room of that length.
+///
+/// # Panics
+/// May panic where it is not as asked.
 pub fn write_name(text: &str, out: &mut [u8]) -> usize
     requires { length text.now + 1 ≤ length out.old }
     ensures len { result ≡ length text.now + 1 }
@@ -289,6 +306,9 @@ pub fn write_name(text: &str, out: &mut [u8]) -> usize
 
 /// Copies the bytes to the front of the slice, leaves the rest, and answers their length. Asks for
 /// room of that length.
+///
+/// # Panics
+/// May panic where it is not as asked.
 pub fn write_bytes(bytes: &[u8], out: &mut [u8]) -> usize
     requires { length bytes.now ≤ length out.old }
     ensures len { result ≡ length bytes.now }
@@ -312,6 +332,9 @@ fn store<const N: usize>(bytes: [u8; N], place: &mut [u8])
 
 /// Writes an array to the front of the slice, leaves the rest, and answers its length. Asks for room
 /// of that length. An array of known length goes from registers, without a place on the stack that `write_bytes` takes it from.
+///
+/// # Panics
+/// May panic where it is not as asked.
 #[inline(always)]
 pub fn write_array<const N: usize>(bytes: [u8; N], out: &mut [u8]) -> usize
     requires { N ≤ length out.old }

@@ -30,6 +30,9 @@ pub fn uint_len(number: u64) -> usize
 
 /// Writes such a number at the front of the slice, leaves the rest, and answers its length. Asks for
 /// room of `uint_len`.
+///
+/// # Panics
+/// May panic where it is not as asked.
 pub fn write_uint(number: u64, out: &mut [u8]) -> usize
     requires { length (uint.encode number) ≤ length out.old }
     ensures len { result ≡ length (uint.encode number) }
@@ -66,6 +69,9 @@ pub fn flag_len(told: bool) -> usize
 
 /// Writes a flag at the front of the slice, leaves the rest, and answers its length: true has no
 /// bytes, and false is one of 0. Asks for room of `flag_len`.
+///
+/// # Panics
+/// May panic where it is not as asked.
 pub fn write_flag(told: bool, out: &mut [u8]) -> usize
     requires { length (flag.encode told) ≤ length out.old }
     ensures len { result ≡ length (flag.encode told) }

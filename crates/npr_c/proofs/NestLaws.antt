@@ -34,7 +34,7 @@ use Rattle.npr_c.specs.Nests.{port_form_number, port_form_of, set_number, set_of
 pub set-back : (set : AttributeSet) → set_of (set_number set) ≡ set
 set-back set = bare-back sets tt At.Value set
 
-pub set-past : (n : ℕ) → 81 ≤ n → set_of n ≡ At.Value
+pub set-past : (n : ℕ) → 97 ≤ n → set_of n ≡ At.Value
 set-past n le = bare-past sets tt At.Value n le
 
 form-back : (form : InfoForm) → form_of (form_number form) ≡ form
@@ -61,7 +61,7 @@ tc-back form = bare-back disciplines tt TcKept form
 tc-below : (form : TcForm) → tc_form_number form < 256
 tc-below form = omega (arith, bare-below disciplines tt TcKept form)
 
-pub tc-past : (n : ℕ) → 7 ≤ n → tc_form_of n ≡ TcKept
+pub tc-past : (n : ℕ) → 16 ≤ n → tc_form_of n ≡ TcKept
 tc-past n le = bare-past disciplines tt TcKept n le
 
 action-back : (form : TcActionForm) → tc_action_form_of (tc_action_form_number form) ≡ form
@@ -70,7 +70,7 @@ action-back form = bare-back actions tt ActionKept form
 action-below : (form : TcActionForm) → tc_action_form_number form < 256
 action-below form = omega (arith, bare-below actions tt ActionKept form)
 
-pub action-past : (n : ℕ) → 4 ≤ n → tc_action_form_of n ≡ ActionKept
+pub action-past : (n : ℕ) → 12 ≤ n → tc_action_form_of n ≡ ActionKept
 action-past n le = bare-past actions tt ActionKept n le
 
 -- ---- of families and types

@@ -7,8 +7,8 @@ use Rattle.netlink_packet_route.specs.Value.{Shown, Shows, is_address, is_name, 
 use Rattle.npr_base.specs.declared.ip.IpAddr.{IpAddr}
 use Rattle.npr_base.specs.declared.ip.IpAddr.TheVariants.{V4, V6}
 use Rattle.npr_base.specs.declared.value.Form.{Form}
-use Rattle.npr_base.specs.declared.value.Form.TheVariants.{Byte, Boolean, Signed32, Little16, Little32, Little64, Big16, Big32, Big64}
-use Rattle.npr_base.specs.declared.value.Form.TheVariants.{Uint, Flag, Octets4, Octets16, Ip, Name, Raw, Exactly, Leading, List as Listed, Inside, Dropped}
+use Rattle.npr_base.specs.declared.value.Form.TheVariants.{Byte, Boolean, Signed32, Signed64, Little16, Little32, Little64, Big16}
+use Rattle.npr_base.specs.declared.value.Form.TheVariants.{Big32, Big64, Uint, Flag, Octets4, Octets16, Ip, Name, Raw, Exactly, Leading, List as Listed, Inside, Dropped}
 use Rattle.npr_c.specs.Values.{Stands}
 
 -- a front of what stands in front of bytes stands there
@@ -38,6 +38,7 @@ module _ (bytes : List ℕ) (place count : ℕ) where
   stands_there Byte s p = shown_as s _ p.1 tt
   stands_there Boolean s p = shown_as s _ p.1 tt
   stands_there Signed32 s p = shown_as s _ p.1 tt
+  stands_there Signed64 s p = shown_as s _ p.1 tt
   stands_there Little16 s p = shown_as s _ p.1 tt
   stands_there Little32 s p = shown_as s _ p.1 tt
   stands_there Little64 s p = shown_as s _ p.1 tt

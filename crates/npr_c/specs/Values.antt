@@ -33,7 +33,7 @@ number_form size = if size == 1 then 1 else if size == 2 then 2 else if size == 
 abbrev pub form_number : Shown → ℕ
 form_number is_nothing = 0
 form_number (is_number size n) = number_form size
-form_number (is_signed z) = 5
+form_number (is_signed size z) = if size == 4 then 5 else 12
 form_number (is_truth b) = 6
 form_number (is_address a) = 7
 form_number (is_name text) = 8
@@ -44,7 +44,7 @@ form_number (is_inside b) = 11
 -- a number, a signed one by its two's complement in eight bytes
 abbrev pub integer_of : Shown → ℕ
 integer_of (is_number size n) = n
-integer_of (is_signed z) = cast_unsigned w64 z
+integer_of (is_signed size z) = cast_unsigned w64 z
 integer_of (is_truth b) = truth b
 integer_of shown = 0
 
@@ -59,14 +59,14 @@ bytes_of shown = []
 
 abbrev pub length_of : Shown → ℕ
 length_of (is_number size n) = size
-length_of (is_signed z) = 4
+length_of (is_signed size z) = size
 length_of (is_truth b) = 1
 length_of shown = length (bytes_of shown)
 
 -- they stand from the place on, unless it is a number
 abbrev pub Stands : List ℕ → ℕ → Shown → Type 0
 Stands bytes place (is_number size n) = Unit {0}
-Stands bytes place (is_signed z) = Unit {0}
+Stands bytes place (is_signed size z) = Unit {0}
 Stands bytes place (is_truth b) = Unit {0}
 Stands bytes place shown = take (length_of shown) (drop place bytes) ≡ bytes_of shown
 

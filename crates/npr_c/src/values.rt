@@ -107,6 +107,7 @@ fn told(value: &Value<'_>) -> Told
         Value::U32(n) => (3, u64::from(*n), 4),
         Value::U64(n) => (4, *n, 8),
         Value::I32(n) => (5, i64::from(*n).cast_unsigned(), 4),
+        Value::I64(n) => (12, n.cast_unsigned(), 8),
         Value::Bool(b) => (6, u64::from(*b), 1),
         Value::Address(IpAddr::V4(address)) => (7, 0, address.octets().len()),
         Value::Address(IpAddr::V6(address)) => (7, 0, address.octets().len()),

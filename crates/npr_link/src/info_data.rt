@@ -17,7 +17,9 @@ use crate::netkit::InfoNetkit;
 use crate::veth::InfoVeth;
 use crate::vlan::InfoVlan;
 use crate::vrf::InfoVrf;
-use npr_base::{AttributeSet, DecodeError, EmitError, Form, Looks, parse_list, read_bytes};
+use npr_base::{
+    AttributeSet, DecodeError, EmitError, Form, Looks, parse_list, read_bytes, write_bytes,
+};
 use npr_link_bridge::InfoBridge;
 use npr_link_devices::{InfoBond, InfoIpVlan, InfoIpVtap, InfoMacVlan, InfoMacVtap, InfoTun};
 use npr_link_tunnels::{
@@ -76,26 +78,26 @@ pub enum InfoData {
 macro_rules! variants {
     ($body:ident ($($given:tt)*)) => {
         npr_base::$body!(($($given)*) InfoData {
-            Bridge;
-            Tun;
-            Vlan;
-            Veth;
-            Vxlan;
-            Bond;
-            IpVlan;
-            IpVtap;
-            MacVlan;
-            MacVtap;
-            GreTap;
-            GreTap6;
-            IpTunnel;
-            GreTun;
-            GreTun6;
-            Vti;
-            Vrf;
-            Xfrm;
-            Geneve;
-            Netkit;
+            Bridge(list InfoBridge);
+            Tun(list InfoTun);
+            Vlan(list InfoVlan);
+            Veth(list InfoVeth);
+            Vxlan(list InfoVxlan);
+            Bond(list InfoBond);
+            IpVlan(list InfoIpVlan);
+            IpVtap(list InfoIpVlan);
+            MacVlan(list InfoMacVlan);
+            MacVtap(list InfoMacVlan);
+            GreTap(list InfoGre);
+            GreTap6(list InfoGre6);
+            IpTunnel(list InfoIpTunnel);
+            GreTun(list InfoGre);
+            GreTun6(list InfoGre6);
+            Vti(list InfoVti);
+            Vrf(list InfoVrf);
+            Xfrm(list InfoXfrm);
+            Geneve(list InfoGeneve);
+            Netkit(list InfoNetkit);
         })
     };
 }
@@ -195,14 +197,16 @@ impl InfoData {
         ensures ok { IfOk result (λ x. info_data_of x ≡ info_data_of self.now) }
         ensures memory { OnErr result (0 < (held (info_data_of self.now)).size) }
     {
-        variants!(data_cloned(self, alloc))
+        variants!(data_cloned(self, alloc;
+            InfoData::Other(bytes) => read_bytes(alloc, bytes.as_slice()).map(InfoData::Other),
+        ))
     }
 
     /// The length of the bytes, or the first cause inside why there are none.
     pub(crate) fn check(&self) -> Result<usize, EmitError>
         ensures { result ≡ checked (held (info_data_of self.now)).unfit (length (held (info_data_of self.now)).encoded) }
     {
-        variants!(data_checked(self))
+        variants!(data_checked(self; InfoData::Other(bytes) => Ok(bytes.len()),))
     }
 
     /// Writes the bytes at the front of the slice, leaves the rest, and answers their length.
@@ -212,6 +216,8 @@ impl InfoData {
         ensures len { result ≡ length (held (info_data_of self.now)).encoded }
         ensures after { Writes out.old out.new (held (info_data_of self.now)).encoded }
     {
-        variants!(data_written(self, out))
+        variants!(data_written(self, out;
+            InfoData::Other(bytes) => write_bytes(bytes.as_slice(), out),
+        ))
     }
 }

@@ -15,7 +15,9 @@ ghost use Rattle.{
 
 use crate::port_kind::InfoPortForm;
 use crate::vrf::InfoVrf;
-use npr_base::{AttributeSet, DecodeError, EmitError, Form, Looks, parse_list, read_bytes};
+use npr_base::{
+    AttributeSet, DecodeError, EmitError, Form, Looks, parse_list, read_bytes, write_bytes,
+};
 use npr_link_bridge::InfoBridgePort;
 use npr_link_devices::InfoBondPort;
 use std::alloc::{AllocError, Global};
@@ -37,9 +39,9 @@ pub enum InfoPortData {
 macro_rules! variants {
     ($body:ident ($($given:tt)*)) => {
         npr_base::$body!(($($given)*) InfoPortData {
-            BridgePort;
-            VrfPort;
-            BondPort;
+            BridgePort(list InfoBridgePort);
+            VrfPort(list InfoVrf);
+            BondPort(list InfoBondPort);
         })
     };
 }
@@ -95,14 +97,16 @@ impl InfoPortData {
         ensures ok { IfOk result (λ x. port_data_of x ≡ port_data_of self.now) }
         ensures memory { OnErr result (0 < (held (port_data_of self.now)).size) }
     {
-        variants!(data_cloned(self, alloc))
+        variants!(data_cloned(self, alloc;
+            InfoPortData::Other(bytes) => read_bytes(alloc, bytes.as_slice()).map(InfoPortData::Other),
+        ))
     }
 
     /// The length of the bytes, or the first cause inside why there are none.
     pub(crate) fn check(&self) -> Result<usize, EmitError>
         ensures { result ≡ checked (held (port_data_of self.now)).unfit (length (held (port_data_of self.now)).encoded) }
     {
-        variants!(data_checked(self))
+        variants!(data_checked(self; InfoPortData::Other(bytes) => Ok(bytes.len()),))
     }
 
     /// Writes the bytes at the front of the slice, leaves the rest, and answers their length.
@@ -112,6 +116,8 @@ impl InfoPortData {
         ensures len { result ≡ length (held (port_data_of self.now)).encoded }
         ensures after { Writes out.old out.new (held (port_data_of self.now)).encoded }
     {
-        variants!(data_written(self, out))
+        variants!(data_written(self, out;
+            InfoPortData::Other(bytes) => write_bytes(bytes.as_slice(), out),
+        ))
     }
 }

@@ -2,9 +2,9 @@
 use Rattle.std.proofs.Common.{refl}
 use Rattle.npr_base.specs.Fields.{be_two, ◌fills◌, ◌then◌, last, structure}
 use Rattle.npr_base.specs.Layout.{Layout}
-use Rattle.npr_base.specs.MoreFields.{six_bytes}
+use Rattle.npr_base.specs.MoreFields.{bytes_field}
 use Rattle.npr_link_bridge.specs.contracts.bridge_id.BridgeId.{struct}
 use Rattle.npr_link_bridge.specs.declared.bridge_id.BridgeId.{BridgeId}
 
 abbrev pub bridge_id : Layout BridgeId
-bridge_id = structure struct (BridgeId.priority fills be_two then last (BridgeId.address fills six_bytes)) refl (λ v. tt)
+bridge_id = structure struct (BridgeId.priority fills be_two then last (BridgeId.address fills bytes_field 6)) refl (λ v. tt)

@@ -43,7 +43,10 @@ pub trait Grown: Sized {
         ensures { result ≡ length ((grown Self.Number.width names).encode (parts names self.now)) };
 
     /// Writes the fields but those that are missing, and the numbers behind them, at the front of the
-    /// slice, leaves the rest, and answers their length.
+    /// slice, leaves the rest, and answers their length. Asks for room of it.
+    ///
+    /// # Panics
+    /// May panic where it is not as asked.
     fn write(&self, out: &mut [u8]) -> usize
         requires { length ((grown Self.Number.width names).encode (parts names self.now)) ≤ length out.old }
         ensures len { result ≡ length ((grown Self.Number.width names).encode (parts names self.now)) }

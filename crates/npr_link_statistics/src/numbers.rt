@@ -85,6 +85,10 @@ pub fn copy_numbers<T: Block>(alloc: Global, numbers: &[T]) -> Result<Vec<T>, Al
 }
 
 /// The length of so many fields but the last that are missing, and of the numbers behind them, in bytes.
+/// Asks that it is below 2 to the 64.
+///
+/// # Panics
+/// May panic where it is not as asked.
 pub fn grown_len<T: Block>(fields: usize, missing: usize, more: &[T]) -> usize
     requires { (fields + length more.now) * T.width.layout.size < 2 ^ 64 }
     ensures { (xs : List T) → length xs ≡ fields → result ≡ length (block_bytes T.width.layout (numbers_of fields (record { fields = xs; missing = missing; more = more.now }))) }
@@ -93,7 +97,10 @@ pub fn grown_len<T: Block>(fields: usize, missing: usize, more: &[T]) -> usize
 }
 
 /// Writes the fields but the last that are missing, and the numbers behind them, at the front of the
-/// slice, leaves the rest, and answers their length.
+/// slice, leaves the rest, and answers their length. Asks for room of it.
+///
+/// # Panics
+/// May panic where it is not as asked.
 pub fn write_grown<T: Block>(fields: &[T], missing: usize, more: &[T], out: &mut [u8]) -> usize
     requires { length (block_bytes T.width.layout (numbers_of (length fields.now) (record { fields = fields.now; missing = missing; more = more.now }))) ≤ length out.old }
     ensures len { result ≡ length (block_bytes T.width.layout (numbers_of (length fields.now) (record { fields = fields.now; missing = missing; more = more.now }))) }

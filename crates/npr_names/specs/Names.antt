@@ -7,6 +7,8 @@ use Rattle.npr_names.specs.declared.link.TheConstants as links
 use Rattle.npr_names.specs.declared.link_kind.TheConstants as kinds
 use Rattle.npr_names.specs.declared.small.TheConstants as smalls
 use Rattle.npr_names.specs.declared.tc.TheConstants as traffic
+use Rattle.npr_names.specs.declared.tc_action.TheConstants as actions
+use Rattle.npr_names.specs.declared.tc_kind.TheConstants as traffic_kinds
 use denote.Enum.Declared.{tag_of}
 
 -- the texts of a list in `src`
@@ -32,8 +34,11 @@ lists =
     ∷ texts smalls.NEIGHBOUR_TABLE.now ∷ texts smalls.NEIGHBOUR_TABLE_PARAMETER.now ∷ texts smalls.ADDRESS_LABEL.now
     ∷ [] ∷ texts traffic.TC.now ∷ texts traffic.STATS2.now ∷ texts traffic.STAB.now ∷ [] ∷ texts traffic.FQ_CODEL.now ∷ texts traffic.U32.now
     ∷ texts traffic.MATCH_ALL.now ∷ texts traffic.FLOWER.now ∷ texts traffic.FLOWER_MPLS.now ∷ texts traffic.FLOWER_MPLS_LSE.now
-    ∷ texts traffic.ACTION_MESSAGE.now ∷ texts traffic.ACTION.now ∷ texts traffic.MIRROR.now ∷ texts traffic.NAT.now ∷ texts traffic.TUNNEL_KEY.now
-    ∷ [] ∷ []
+    ∷ texts traffic.ACTION_MESSAGE.now ∷ texts traffic.ACTION.now ∷ texts actions.MIRROR.now ∷ texts actions.NAT.now ∷ texts actions.TUNNEL_KEY.now
+    ∷ [] ∷ texts traffic_kinds.HTB.now ∷ texts traffic_kinds.TBF.now ∷ texts traffic_kinds.RED.now ∷ texts traffic_kinds.FQ.now
+    ∷ texts traffic_kinds.NETEM.now ∷ texts traffic_kinds.NETEM_LOSS.now ∷ texts traffic_kinds.FW.now ∷ texts traffic_kinds.BPF.now
+    ∷ texts actions.GACT.now ∷ texts actions.POLICE.now ∷ texts actions.VLAN.now ∷ texts actions.SKBEDIT.now ∷ texts actions.CSUM.now
+    ∷ texts actions.CT.now ∷ texts actions.SAMPLE.now ∷ texts actions.BPF.now ∷ []
 
 unfoldable pub names_of : AttributeSet → List (List ℕ)
 names_of set = unwrap_or (slice_get lists (tag_of the_sets set)) []

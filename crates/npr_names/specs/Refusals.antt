@@ -8,7 +8,7 @@ use Rattle.npr_base.specs.declared.refusal.DecodeError.TheVariants.{ValueLength,
 use Rattle.npr_base.specs.declared.refusal.Seg6Fault.{Seg6Fault}
 use Rattle.npr_base.specs.declared.refusal.Seg6Fault.TheVariants.{Short, Length, Hmac, Segments}
 use Rattle.npr_base.specs.declared.value.Form.{Form}
-use Rattle.npr_base.specs.declared.value.Form.TheVariants.{Byte, Boolean, Little16, Big16, Signed32, Little32, Big32, Octets4, Little64, Big64}
+use Rattle.npr_base.specs.declared.value.Form.TheVariants.{Byte, Boolean, Little16, Big16, Signed32, Signed64, Little32, Big32, Octets4, Little64, Big64}
 use Rattle.npr_base.specs.declared.value.Form.TheVariants.{Octets16, Uint, Flag, Ip, Exactly}
 use Rattle.npr_base.specs.Value.{Shown, Shows}
 use Rattle.npr_names.specs.Names.{name_at}
@@ -37,6 +37,7 @@ lengths_told Signed32 = Some (4, 4)
 lengths_told Little32 = Some (4, 4)
 lengths_told Big32 = Some (4, 4)
 lengths_told Octets4 = Some (4, 4)
+lengths_told Signed64 = Some (8, 8)
 lengths_told Little64 = Some (8, 8)
 lengths_told Big64 = Some (8, 8)
 lengths_told Octets16 = Some (16, 16)

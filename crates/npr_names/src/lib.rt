@@ -8,6 +8,8 @@ mod refusal;
 mod route;
 mod small;
 mod tc;
+mod tc_action;
+mod tc_kind;
 
 pub use names::attribute_name;
 pub use refusal::{Located, Named, front_number, lengths_of, told_of};

@@ -3,7 +3,7 @@
 ghost use Rattle.std.specs.Prelude.{◌≡◌, ◌≤◌, map, length, IfSome, IfNone};
 ghost use Rattle.npr_names.specs.Names.{name_at, names_of};
 
-use crate::{link, link_kind, route, small, tc};
+use crate::{link, link_kind, route, small, tc, tc_action, tc_kind};
 use npr_base::AttributeSet;
 
 /// The names of a set, by their numbers.
@@ -86,9 +86,25 @@ fn names_of(set: AttributeSet) -> &'static [&'static str]
         AttributeSet::TcFilterFlowerMplsLse => tc::FLOWER_MPLS_LSE,
         AttributeSet::TcActionMessage => tc::ACTION_MESSAGE,
         AttributeSet::TcAction => tc::ACTION,
-        AttributeSet::TcActionMirror => tc::MIRROR,
-        AttributeSet::TcActionNat => tc::NAT,
-        AttributeSet::TcActionTunnelKey => tc::TUNNEL_KEY,
+        AttributeSet::TcActionMirror => tc_action::MIRROR,
+        AttributeSet::TcActionNat => tc_action::NAT,
+        AttributeSet::TcActionTunnelKey => tc_action::TUNNEL_KEY,
+        AttributeSet::TcQdiscHtb => tc_kind::HTB,
+        AttributeSet::TcQdiscTbf => tc_kind::TBF,
+        AttributeSet::TcQdiscRed => tc_kind::RED,
+        AttributeSet::TcQdiscFq => tc_kind::FQ,
+        AttributeSet::TcQdiscNetem => tc_kind::NETEM,
+        AttributeSet::TcNetemLoss => tc_kind::NETEM_LOSS,
+        AttributeSet::TcFilterFw => tc_kind::FW,
+        AttributeSet::TcFilterBpf => tc_kind::BPF,
+        AttributeSet::TcActionGact => tc_action::GACT,
+        AttributeSet::TcActionPolice => tc_action::POLICE,
+        AttributeSet::TcActionVlan => tc_action::VLAN,
+        AttributeSet::TcActionSkbedit => tc_action::SKBEDIT,
+        AttributeSet::TcActionCsum => tc_action::CSUM,
+        AttributeSet::TcActionCt => tc_action::CT,
+        AttributeSet::TcActionSample => tc_action::SAMPLE,
+        AttributeSet::TcActionBpf => tc_action::BPF,
     }
 }
 

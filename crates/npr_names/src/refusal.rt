@@ -32,7 +32,7 @@ pub fn lengths_of(form: Form) -> Option<(usize, usize)>
         Form::Byte | Form::Boolean => Some((1, 1)),
         Form::Little16 | Form::Big16 => Some((2, 2)),
         Form::Signed32 | Form::Little32 | Form::Big32 | Form::Octets4 => Some((4, 4)),
-        Form::Little64 | Form::Big64 => Some((8, 8)),
+        Form::Signed64 | Form::Little64 | Form::Big64 => Some((8, 8)),
         Form::Octets16 => Some((16, 16)),
         Form::Uint => Some((4, 8)),
         Form::Flag => Some((0, 1)),

@@ -236,39 +236,3 @@ pub const ACTION: &[&str] = &[
     "TCA_ACT_USED_HW_STATS",
     "TCA_ACT_IN_HW_COUNT",
 ];
-
-/// The options of `mirred`.
-pub const MIRROR: &[&str] = &[
-    "TCA_MIRRED_UNSPEC",
-    "TCA_MIRRED_TM",
-    "TCA_MIRRED_PARMS",
-    "TCA_MIRRED_PAD",
-    "TCA_MIRRED_BLOCKID",
-];
-
-/// The options of `nat`.
-pub const NAT: &[&str] = &[
-    "TCA_NAT_UNSPEC",
-    "TCA_NAT_PARMS",
-    "TCA_NAT_TM",
-    "TCA_NAT_PAD",
-];
-
-/// The options of `tunnel_key`.
-pub const TUNNEL_KEY: &[&str] = &[
-    "TCA_TUNNEL_KEY_UNSPEC",
-    "TCA_TUNNEL_KEY_TM",
-    "TCA_TUNNEL_KEY_PARMS",
-    "TCA_TUNNEL_KEY_ENC_IPV4_SRC",
-    "TCA_TUNNEL_KEY_ENC_IPV4_DST",
-    "TCA_TUNNEL_KEY_ENC_IPV6_SRC",
-    "TCA_TUNNEL_KEY_ENC_IPV6_DST",
-    "TCA_TUNNEL_KEY_ENC_KEY_ID",
-    "TCA_TUNNEL_KEY_PAD",
-    "TCA_TUNNEL_KEY_ENC_DST_PORT",
-    "TCA_TUNNEL_KEY_NO_CSUM",
-    "TCA_TUNNEL_KEY_ENC_OPTS",
-    "TCA_TUNNEL_KEY_ENC_TOS",
-    "TCA_TUNNEL_KEY_ENC_TTL",
-    "TCA_TUNNEL_KEY_NO_FRAG",
-];

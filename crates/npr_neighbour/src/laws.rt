@@ -18,6 +18,12 @@ ghost use Rattle.{
   },
 };
 
+use crate::address::NeighbourAddress;
+use crate::attribute::NeighbourAttribute;
+use crate::cache_info::NeighbourCacheInfo;
+use crate::flags::{NeighbourExtFlags, NeighbourFlags};
+use crate::header::{NeighbourHeader, NeighbourMessageBuffer};
+use crate::message::NeighbourMessage;
 use crate::neighbour_table::{
     NeighbourTableHeader, NeighbourTableMessage, NeighbourTableMessageBuffer,
 };
@@ -25,12 +31,6 @@ use crate::neighbour_table_attribute::NeighbourTableAttribute;
 use crate::neighbour_table_config::NeighbourTableConfig;
 use crate::neighbour_table_parameter::NeighbourTableParameter;
 use crate::neighbour_table_stats::NeighbourTableStats;
-use crate::address::NeighbourAddress;
-use crate::attribute::NeighbourAttribute;
-use crate::cache_info::NeighbourCacheInfo;
-use crate::flags::{NeighbourExtFlags, NeighbourFlags};
-use crate::header::{NeighbourHeader, NeighbourMessageBuffer};
-use crate::message::NeighbourMessage;
 use crate::state::NeighbourState;
 use npr_base::AddressFamily;
 

@@ -14,8 +14,8 @@ use npr_base::{
     NLA_F_NESTED, Nla, NlaBuffer, Place, blocks_len, check_list, clone_list, parse_list, put_read,
     read_blocks, write_blocks, write_list,
 };
-use npr_route_values::RouteAddress;
 use npr_encapsulation::{RouteLwEnCapType, RouteLwTunnelEncap};
+use npr_route_values::RouteAddress;
 use std::alloc::{AllocError, Global};
 
 /// The number of the members of a group, `NHA_GROUP`.

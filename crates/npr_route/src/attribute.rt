@@ -12,11 +12,11 @@ use npr_base::{
     AddressFamily, At, Attribute, DecodeError, DefaultNla, EmitError, Form, Looks, Nla, NlaBuffer,
     Place, kind_rows,
 };
+use npr_encapsulation::{RouteLwEnCapType, RouteLwTunnelEncap};
 use npr_route_values::{
     MplsLabel, RouteAddress, RouteCacheInfo, RouteMfcStats, RouteMplsTtlPropagation,
     RoutePreference, RouteRealm, RouteType, RouteVia,
 };
-use npr_encapsulation::{RouteLwEnCapType, RouteLwTunnelEncap};
 use std::alloc::{AllocError, Global};
 
 /// The number of next hops, `RTA_MULTIPATH`.

@@ -21,8 +21,8 @@ use npr_base::{
     EmitError, Nla, check_len, check_list, clone_list, clone_rows, frame, len_rows, marked_kind,
     total_len, write_array, write_list, write_rows,
 };
-use npr_route_values::{labels_len, write_labels};
 use npr_encapsulation::{RouteIp6Tunnel, RouteIpTunnel, RouteLwTunnelEncap};
+use npr_route_values::{labels_len, write_labels};
 use std::alloc::{AllocError, Global};
 
 /// The most bytes that a next hop has: its length stands in 16 bits.

@@ -18,8 +18,8 @@ use bitflags::Flags;
 use npr_base::{
     AddressFamily, DecodeError, EmitError, Emitable, Header, Looks, leading_octets, write_array,
 };
-use npr_route_values::{RouteFlags, RouteProtocol, RouteScope, RouteType};
 use npr_encapsulation::RouteLwEnCapType;
+use npr_route_values::{RouteFlags, RouteProtocol, RouteScope, RouteType};
 
 /// The length of `struct rtmsg` of `linux/rtnetlink.h`, in bytes.
 const RTMSG_SIZE: usize = 12;

@@ -20,8 +20,8 @@ ghost use Rattle.{
 
 use crate::attribute::{RTA_ENCAP_TYPE, RouteAttribute};
 use npr_base::{AddressFamily, DecodeError, Looks, NlaBuffer, NlasIterator, parse_list};
-use npr_route_values::RouteType;
 use npr_encapsulation::RouteLwEnCapType;
+use npr_route_values::RouteType;
 use std::alloc::Global;
 
 /// The type that an `RTA_ENCAP_TYPE` of two bytes tells.

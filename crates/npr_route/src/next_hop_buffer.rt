@@ -36,6 +36,9 @@ pub struct RouteNextHopBuffer {
 impl RouteNextHopBuffer {
     /// The header of a next hop, with the length that it is written with. Asks that `check`
     /// accepts.
+    ///
+    /// # Panics
+    /// May panic where it is not as asked.
     pub fn of(hop: &RouteNextHop) -> Self
         requires { next_hop_unfit hop.now ≡ None }
         ensures length { result.length ≡ length (next_hop_bytes hop.now) }

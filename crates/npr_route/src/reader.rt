@@ -23,8 +23,8 @@ use crate::next_hops::RouteNextHop;
 use crate::rows::push_flat;
 use bitflags::Flags;
 use npr_base::{DecodeError, Looks, NlasIterator, ParseableParametrized, make_room};
-use npr_route_values::RouteNextHopFlags;
 use npr_encapsulation::RouteLwEnCapType;
+use npr_route_values::RouteNextHopFlags;
 use std::alloc::Global;
 use std::mem;
 

@@ -38,11 +38,11 @@ use npr_base::{
     AddressFamily, At, AttributeSet, DecodeError, DefaultNla, Form, Ipv6Addr, Looks, NlaBuffer,
     Parseable, borrow_octets, form_row, parse_list, read_ipv4, read_u32, read_u64, read_value,
 };
+use npr_encapsulation::RouteLwEnCapType;
 use npr_route_values::{
     RouteAddress, RouteCacheInfo, RouteMfcStats, RouteMplsTtlPropagation, RoutePreference,
     RouteRealm, RouteType, RouteVia, read_labels,
 };
-use npr_encapsulation::RouteLwEnCapType;
 use std::alloc::Global;
 use std::mem;
 

@@ -93,6 +93,9 @@ impl RouteAddress {
 
     /// Writes its bytes at the front of the slice, leaves the rest, and answers their length. Asks for
     /// room of `len`.
+    ///
+    /// # Panics
+    /// May panic where it is not as asked.
     pub fn write(&self, out: &mut [u8]) -> usize
         requires { length (route_address_bytes (address_of self.now)) ≤ length out.old }
         ensures len { result ≡ length (route_address_bytes (address_of self.now)) }

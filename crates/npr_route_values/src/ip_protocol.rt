@@ -154,6 +154,9 @@ pub fn check_protocol(protocol: IpProtocol) -> Result<usize, EmitError>
 }
 
 /// The byte of a protocol. Asks that it has one.
+///
+/// # Panics
+/// May panic where it is not as asked.
 pub fn protocol_byte(protocol: IpProtocol) -> u8
     requires { protocol_unfit protocol ≡ None }
     ensures { result ≡ above_zero (ip_protocols.number protocol) }

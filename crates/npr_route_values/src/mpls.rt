@@ -105,6 +105,9 @@ pub fn labels_len(labels: &[MplsLabel]) -> usize
 
 /// Writes the entries one after the other at the front of the slice, leaves the rest, and answers
 /// their length: four bytes an entry. Asks for room of that length.
+///
+/// # Panics
+/// May panic where it is not as asked.
 pub fn write_labels(labels: &[MplsLabel], out: &mut [u8]) -> usize
     requires { length (mpls_labels.encode labels.now) ≤ length out.old }
     ensures len { result ≡ length (mpls_labels.encode labels.now) }
@@ -119,6 +122,9 @@ pub fn write_labels(labels: &[MplsLabel], out: &mut [u8]) -> usize
 
 /// Writes the entries one after the other. Asks for a slice of exactly their length, which is four
 /// bytes an entry. It is for callers: the library writes by `write_labels`.
+///
+/// # Panics
+/// May panic where it is not as asked.
 pub fn emit_labels(labels: &[MplsLabel], out: &mut [u8])
     requires { length out.old ≡ length (mpls_labels.encode labels.now) }
     ensures { out.new ≡ mpls_labels.encode labels.now }

@@ -14,13 +14,21 @@ use Rattle.npr_base.specs.Framing.{Item}
 use Rattle.npr_base.specs.lemmas.EnumTable.{choices-decide}
 use Rattle.npr_base.specs.Tables.{table_decides}
 use Rattle.npr_tc_actions.proofs.EqualityLaws.{action_equality}
-use Rattle.npr_tc_filters.proofs.EqualityLaws.{flower_equality, match_all_equality, u32_equality}
+use Rattle.npr_tc_filters.proofs.EqualityLaws.{bpf_equality, flower_equality, fw_equality, match_all_equality, u32_equality}
+use Rattle.npr_tc_filters.specs.Bpf as OfBpf
+use Rattle.npr_tc_filters.specs.Fw as OfFw
 use Rattle.npr_tc_filters.specs.Flower as OfFlower
 use Rattle.npr_tc_filters.specs.MatchAll as OfMatchAll
 use Rattle.npr_tc_filters.specs.U32Option as OfU32
 use Rattle.npr_tc_qdiscs.proofs.EqualityLaws.{bitfield_equality, estimator_equality, fq_codel_equality, handle_equality, ingress_equality}
 use Rattle.npr_tc_qdiscs.proofs.EqualityLaws.{stab_equality, stats2_equality, stats_equality, xstats_equality}
+use Rattle.npr_tc_qdiscs.proofs.KindEquality.{fifo_qopt_equality, fq_equality, htb_equality, netem_equality, prio_qopt_equality, red_equality, tbf_equality}
+use Rattle.npr_tc_qdiscs.specs.Fq as OfFq
 use Rattle.npr_tc_qdiscs.specs.FqCodel as OfFqCodel
+use Rattle.npr_tc_qdiscs.specs.Htb as OfHtb
+use Rattle.npr_tc_qdiscs.specs.Netem.{netem_of}
+use Rattle.npr_tc_qdiscs.specs.Red as OfRed
+use Rattle.npr_tc_qdiscs.specs.Tbf as OfTbf
 use Rattle.npr_tc_qdiscs.specs.Ingress as OfIngress
 use Rattle.npr_tc_qdiscs.specs.declared.form.TcForm.TheVariants.{Kept}
 use Rattle.npr_tc.specs.ActionAttribute as OfAction
@@ -72,6 +80,15 @@ option_order (O.clsact xs) = 2
 option_order (O.u32 xs) = 3
 option_order (O.flower xs) = 4
 option_order (O.match_all xs) = 5
+option_order (O.htb xs) = 6
+option_order (O.tbf xs) = 7
+option_order (O.red xs) = 8
+option_order (O.fq xs) = 9
+option_order (O.netem_data x) = 10
+option_order (O.prio x) = 11
+option_order (O.fifo x) = 12
+option_order (O.fw xs) = 13
+option_order (O.bpf xs) = 14
 
 pub option_equality : IsEqualityOf O.options_of OptionEq.ghosts.eq
 unfolding option_order
@@ -82,7 +99,16 @@ option_equality =
     (λ x. refl, one_meaning (λ v. map OfIngress.family.meaning v.items) O.clsact (items_meaning OfIngress.family.meaning ingress_equality) (λ p q e. cc)) also
     (λ x. refl, one_meaning (λ v. map OfU32.family.meaning v.items) O.u32 (items_meaning OfU32.family.meaning u32_equality) (λ p q e. cc)) also
     (λ x. refl, one_meaning (λ v. map OfFlower.family.meaning v.items) O.flower (items_meaning OfFlower.family.meaning flower_equality) (λ p q e. cc)) also
-    (λ x. refl, one_meaning (λ v. map OfMatchAll.family.meaning v.items) O.match_all (items_meaning OfMatchAll.family.meaning match_all_equality) (λ p q e. cc)) also tt)
+    (λ x. refl, one_meaning (λ v. map OfMatchAll.family.meaning v.items) O.match_all (items_meaning OfMatchAll.family.meaning match_all_equality) (λ p q e. cc)) also
+    (λ x. refl, one_meaning (λ v. map OfHtb.family.meaning v.items) O.htb (items_meaning OfHtb.family.meaning htb_equality) (λ p q e. cc)) also
+    (λ x. refl, one_meaning (λ v. map OfTbf.family.meaning v.items) O.tbf (items_meaning OfTbf.family.meaning tbf_equality) (λ p q e. cc)) also
+    (λ x. refl, one_meaning (λ v. map OfRed.family.meaning v.items) O.red (items_meaning OfRed.family.meaning red_equality) (λ p q e. cc)) also
+    (λ x. refl, one_meaning (λ v. map OfFq.family.meaning v.items) O.fq (items_meaning OfFq.family.meaning fq_equality) (λ p q e. cc)) also
+    (λ x. refl, one_meaning netem_of O.netem_data netem_equality (λ p q e. cc)) also
+    (λ x. refl, one_meaning (λ q. q) O.prio prio_qopt_equality (λ p q e. cc)) also
+    (λ x. refl, one_meaning (λ q. q) O.fifo fifo_qopt_equality (λ p q e. cc)) also
+    (λ x. refl, one_meaning (λ v. map OfFw.family.meaning v.items) O.fw (items_meaning OfFw.family.meaning fw_equality) (λ p q e. cc)) also
+    (λ x. refl, one_meaning (λ v. map OfBpf.family.meaning v.items) O.bpf (items_meaning OfBpf.family.meaning bpf_equality) (λ p q e. cc)) also tt)
 
 -- ---- attributes
 

@@ -27,7 +27,7 @@ use Rattle.npr_tc_qdiscs.specs.Stats2 as OfStats2
 use Rattle.npr_tc_qdiscs.specs.Xstats.{xstats, xstats_of}
 use Rattle.npr_tc_qdiscs.specs.declared.form.TcForm.{TcForm}
 use Rattle.npr_tc_qdiscs.specs.declared.form.TcForm.TheVariants.{Kept}
-use Rattle.npr_tc.specs.Options.{Said, options, unknown, options_of, said, shown_as, kept-number}
+use Rattle.npr_tc.specs.Options.{Kind, kept, holding, kind_of, Said, options, unknown, options_of, said, said_by, shown_as, shown_by, kept-number}
 use Rattle.npr_tc.specs.Options as OfOptions
 use Rattle.npr_tc.specs.contracts.attribute.TcAttribute.{enum}
 use Rattle.npr_tc.specs.declared.attribute.TcAttribute.{TcAttribute}
@@ -140,14 +140,13 @@ reading form = beside 2 (said form) (rest form) (sides form)
 abbrev pub told_form : TcForm → ℕ → At × Form
 told_form form number = if number == 2 then (at_number AtTc 2, shown_as form) else (rest form).seeing.form_at number
 
+own-form : (k : Kind) (number : ℕ) → (at_number AtTc 2, shown_by k) ≡ (said_by k).seeing.form_at number
+own-form kept number = refl
+own-form (holding codec made is) number = refl
+
 pub told-same : (form : TcForm) (number : ℕ) → told_form form number ≡ (reading form).seeing.form_at number
-told-same TcForm.Kept number = refl
-told-same TcForm.FqCodel number = refl
-told-same TcForm.Ingress number = refl
-told-same TcForm.Clsact number = refl
-told-same TcForm.U32 number = refl
-told-same TcForm.Flower number = refl
-told-same TcForm.MatchAll number = refl
+told-same form number =
+    ap (λ (own : At × Form). if number == 2 then own else (rest form).seeing.form_at number) (own-form (kind_of form) number)
 
 -- the family, under what governs the message
 abbrev pub attributes : TcForm → Reading writing

@@ -6,4 +6,4 @@ pub mod Attribute
 pub mod Header
 pub mod Message
 pub mod Options
-pub mod Steps
+pub mod lemmas

@@ -136,7 +136,6 @@ impl Nla for TcAttribute {
 ///
 /// # Errors
 /// `OutOfMemory` where memory is refused, and else the first fault in reading order.
-#[tactic(auto, using(crate::specs::Steps::fq_codel_means, crate::specs::Steps::ingress_means, crate::specs::Steps::clsact_means, crate::specs::Steps::u32_means, crate::specs::Steps::flower_means, crate::specs::Steps::match_all_means, crate::specs::Steps::unknown_means))]
 fn put_options<P: Place<TcAttribute>>(
     place: &mut P,
     alloc: Global,
@@ -150,49 +149,14 @@ fn put_options<P: Place<TcAttribute>>(
     ensures exact { Answered result → (said form).looks.Takes item.now looks.old looks.new }
     ensures bounded { AddsAtMost looks.old looks.new (length (item.now).value) }
 {
-    let value = item.value();
     match form {
-        TcForm::FqCodel => {
-            place.put(TcAttribute::Options(TcOption::FqCodel(parse_list(
-                alloc,
-                (),
-                value,
-                looks,
-            )?)));
-            Ok(())
-        }
-        TcForm::Ingress => {
-            place.put(TcAttribute::Options(TcOption::Ingress(parse_list(
-                alloc,
-                (),
-                value,
-                looks,
-            )?)));
-            Ok(())
-        }
-        TcForm::Clsact => {
-            place.put(TcAttribute::Options(TcOption::Clsact(parse_list(alloc, (), value, looks)?)));
-            Ok(())
-        }
-        TcForm::U32 => {
-            place.put(TcAttribute::Options(TcOption::U32(parse_list(alloc, (), value, looks)?)));
-            Ok(())
-        }
-        TcForm::Flower => {
-            place.put(TcAttribute::Options(TcOption::Flower(parse_list(alloc, (), value, looks)?)));
-            Ok(())
-        }
-        TcForm::MatchAll => {
-            place.put(TcAttribute::Options(TcOption::MatchAll(parse_list(
-                alloc,
-                (),
-                value,
-                looks,
-            )?)));
-            Ok(())
-        }
         TcForm::Kept => {
             place.put(TcAttribute::OptionsUnknown(DefaultNla::read(alloc, item)?));
+            Ok(())
+        }
+        _ => {
+            let options = TcOption::read(alloc, form, item.value(), looks)?;
+            place.put(TcAttribute::Options(options));
             Ok(())
         }
     }

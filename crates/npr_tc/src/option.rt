@@ -1,14 +1,28 @@
 //! The data of a queueing discipline, a class or a filter: `TCA_OPTIONS` of `linux/rtnetlink.h`.
 
-ghost use Rattle.std.specs.Prelude.{◌≡◌, ◌≤◌, ◌<◌, None, length, IfOk, OnErr};
+ghost use Rattle.std.specs.Prelude.{◌≡◌, ◌≢◌, ◌≤◌, ◌<◌, None, length, IfOk, IfErr, OnErr};
 ghost use Rattle.{
-  npr_base.specs.{Framing.{Writes}, Lists.{checked}, Table.{slot_bytes, slot_unfit}},
-  npr_tc.specs.Options.{options_of, options_slot, shown_as},
+  npr_base.specs.{
+    declared.refusal.DecodeError.TheVariants.{OutOfMemory},
+    Counts.{AddsAtMost},
+    Framing.{Writes},
+    Lists.{checked},
+    Looks.{Answered},
+    Table.{slot_bytes, slot_unfit},
+  },
+  npr_tc_qdiscs.specs.declared.form.TcForm.TheVariants.{Kept},
+  npr_tc.specs.Options.{AreData, AreNoData, TakesLooks, kind_of, options_of, options_slot, shown_as},
 };
 
-use npr_base::{AttributeSet, EmitError, Form, check_list, clone_list, write_list};
-use npr_tc_filters::{TcFilterFlowerOption, TcFilterMatchAllOption, TcFilterU32Option};
-use npr_tc_qdiscs::{TcForm, TcQdiscFqCodelOption, TcQdiscIngressOption};
+use npr_base::{DecodeError, EmitError, Form, Looks};
+use npr_tc_filters::{
+    TcFilterBpfOption, TcFilterFlowerOption, TcFilterFwOption, TcFilterMatchAllOption,
+    TcFilterU32Option,
+};
+use npr_tc_qdiscs::{
+    TcFifoQopt, TcForm, TcNetem, TcPrioQopt, TcQdiscFqCodelOption, TcQdiscFqOption,
+    TcQdiscHtbOption, TcQdiscIngressOption, TcQdiscRedOption, TcQdiscTbfOption,
+};
 use std::alloc::{AllocError, Global};
 
 /// The data of a queueing discipline, a class or a filter: what they are follows from the first kind in
@@ -27,21 +41,74 @@ pub enum TcOption {
     Flower(Vec<TcFilterFlowerOption>),
     /// Of the filter `matchall`.
     MatchAll(Vec<TcFilterMatchAllOption>),
+    /// Of `htb`.
+    Htb(Vec<TcQdiscHtbOption>),
+    /// Of `tbf`.
+    Tbf(Vec<TcQdiscTbfOption>),
+    /// Of `red`.
+    Red(Vec<TcQdiscRedOption>),
+    /// Of `fq`.
+    Fq(Vec<TcQdiscFqOption>),
+    /// Of `netem`.
+    Netem(TcNetem),
+    /// Of `prio` and `pfifo_fast`.
+    Prio(TcPrioQopt),
+    /// Of `pfifo`, `bfifo` and `pfifo_head_drop`.
+    Fifo(TcFifoQopt),
+    /// Of the filter `fw`.
+    Fw(Vec<TcFilterFwOption>),
+    /// Of the filter `bpf`.
+    Bpf(Vec<TcFilterBpfOption>),
+}
+
+/// The variants.
+macro_rules! variants {
+    ($body:ident ($($given:tt)*)) => {
+        npr_base::$body!(($($given)*) TcOption {
+            FqCodel(list TcQdiscFqCodel);
+            Ingress(list TcQdiscIngress);
+            Clsact(list TcQdiscIngress);
+            U32(list TcFilterU32);
+            Flower(list TcFilterFlower);
+            MatchAll(list TcFilterMatchAll);
+            Htb(list TcQdiscHtb);
+            Tbf(list TcQdiscTbf);
+            Red(list TcQdiscRed);
+            Fq(list TcQdiscFq);
+            Netem(TcNetem inside TcQdiscNetem 24);
+            Prio(TcPrioQopt leading 20);
+            Fifo(TcFifoQopt leading 4);
+            Fw(list TcFilterFw);
+            Bpf(list TcFilterBpf);
+        })
+    };
 }
 
 impl TcOption {
+    /// The data that these bytes are. Each look at a header is counted. Asks that a kind governs.
+    ///
+    /// # Errors
+    /// `OutOfMemory` where memory is refused, and else the first fault in reading order.
+    pub(crate) fn read(
+        alloc: Global,
+        form: TcForm,
+        bytes: &[u8],
+        looks: &mut Looks,
+    ) -> Result<Self, DecodeError>
+        requires { form ≢ Kept }
+        ensures ok { IfOk result (λ x. AreData (kind_of form) bytes.now (options_of x)) }
+        ensures refused { IfErr result (λ e. e ≢ OutOfMemory → AreNoData (kind_of form) bytes.now e) }
+        ensures exact { Answered result → TakesLooks (kind_of form) bytes.now looks.old looks.new }
+        ensures bounded { AddsAtMost looks.old looks.new (length bytes.now) }
+    {
+        variants!(data_read(form, TcForm, alloc, bytes, looks; TcForm::Kept => unreachable!(),))
+    }
+
     /// How the data are read without memory.
     pub(crate) fn form(form: TcForm) -> Form
         ensures { result ≡ shown_as form }
     {
-        match form {
-            TcForm::FqCodel => Form::List(AttributeSet::TcQdiscFqCodel, 0),
-            TcForm::Ingress | TcForm::Clsact => Form::List(AttributeSet::TcQdiscIngress, 0),
-            TcForm::U32 => Form::List(AttributeSet::TcFilterU32, 0),
-            TcForm::Flower => Form::List(AttributeSet::TcFilterFlower, 0),
-            TcForm::MatchAll => Form::List(AttributeSet::TcFilterMatchAll, 0),
-            TcForm::Kept => Form::Raw,
-        }
+        variants!(data_form(form, TcForm; TcForm::Kept => Form::Raw,))
     }
 
     /// An equal value.
@@ -51,28 +118,14 @@ impl TcOption {
     pub fn try_clone(&self, alloc: Global) -> Result<Self, AllocError>
         ensures { IfOk result (λ x. options_of x ≡ options_of self.now) }
     {
-        match self {
-            TcOption::FqCodel(xs) => clone_list(alloc, xs.as_slice()).map(TcOption::FqCodel),
-            TcOption::Ingress(xs) => clone_list(alloc, xs.as_slice()).map(TcOption::Ingress),
-            TcOption::Clsact(xs) => clone_list(alloc, xs.as_slice()).map(TcOption::Clsact),
-            TcOption::U32(xs) => clone_list(alloc, xs.as_slice()).map(TcOption::U32),
-            TcOption::Flower(xs) => clone_list(alloc, xs.as_slice()).map(TcOption::Flower),
-            TcOption::MatchAll(xs) => clone_list(alloc, xs.as_slice()).map(TcOption::MatchAll),
-        }
+        variants!(data_cloned(self, alloc))
     }
 
     /// The length of the bytes, or the first cause inside why there are none.
     pub(crate) fn check(&self) -> Result<usize, EmitError>
         ensures { result ≡ checked (slot_unfit (options_slot (options_of self.now))) (length (slot_bytes (options_slot (options_of self.now)))) }
     {
-        match self {
-            TcOption::FqCodel(xs) => check_list(xs.as_slice()),
-            TcOption::Ingress(xs) => check_list(xs.as_slice()),
-            TcOption::Clsact(xs) => check_list(xs.as_slice()),
-            TcOption::U32(xs) => check_list(xs.as_slice()),
-            TcOption::Flower(xs) => check_list(xs.as_slice()),
-            TcOption::MatchAll(xs) => check_list(xs.as_slice()),
-        }
+        variants!(data_checked(self))
     }
 
     /// Writes the bytes at the front of the slice, leaves the rest, and answers their length.
@@ -82,13 +135,6 @@ impl TcOption {
         ensures len { result ≡ length (slot_bytes (options_slot (options_of self.now))) }
         ensures after { Writes out.old out.new (slot_bytes (options_slot (options_of self.now))) }
     {
-        match self {
-            TcOption::FqCodel(xs) => write_list(xs.as_slice(), out),
-            TcOption::Ingress(xs) => write_list(xs.as_slice(), out),
-            TcOption::Clsact(xs) => write_list(xs.as_slice(), out),
-            TcOption::U32(xs) => write_list(xs.as_slice(), out),
-            TcOption::Flower(xs) => write_list(xs.as_slice(), out),
-            TcOption::MatchAll(xs) => write_list(xs.as_slice(), out),
-        }
+        variants!(data_written(self, out))
     }
 }

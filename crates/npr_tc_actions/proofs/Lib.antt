@@ -1,1 +1,3 @@
 pub mod EqualityLaws
+pub mod KindEquality
+pub mod ValueEquality

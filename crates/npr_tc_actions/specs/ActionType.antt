@@ -2,6 +2,7 @@
 use Rattle.std.specs.Prelude.{ℤ, pos, negsuc, List, [], ◌∷◌}
 use Rattle.std.proofs.Common.{refl}
 use Rattle.npr_base.specs.Enumeration.{by_signed_rows}
+use Rattle.npr_base.specs.Layout.{Layout, formed, signed32}
 use Rattle.npr_base.specs.Numbering.{Numbering}
 use Rattle.npr_base.specs.Rows.{number_by}
 use Rattle.npr_tc_actions.specs.contracts.action_type.TcActionType.{enum}
@@ -17,3 +18,7 @@ action_type_rows =
 
 abbrev pub action_types : Numbering ℤ TcActionType
 action_types = by_signed_rows (number_by enum (pos 0) action_type_rows (λ f. f.0)) Other action_type_rows (λ d. refl) refl
+
+-- four bytes, little endian
+abbrev pub action_type : Layout TcActionType
+action_type = formed signed32 action_types

@@ -13,11 +13,19 @@ ghost use Rattle.{
   npr_tc_actions.specs.ActionOption.{action_option, action_option_of, case, held},
 };
 
+use crate::bpf_option::TcActionBpfOption;
+use crate::csum_option::TcActionCsumOption;
+use crate::ct_option::TcActionCtOption;
 use crate::form::TcActionForm;
+use crate::gact_option::TcActionGactOption;
 use crate::mirror_option::TcActionMirrorOption;
 use crate::nat_option::TcActionNatOption;
+use crate::police_option::TcActionPoliceOption;
+use crate::sample_option::TcActionSampleOption;
+use crate::skbedit_option::TcActionSkbeditOption;
 use crate::tunnel_key_option::TcActionTunnelKeyOption;
-use npr_base::{AttributeSet, DecodeError, EmitError, Form, Looks, parse_list, read_bytes};
+use crate::vlan_option::TcActionVlanOption;
+use npr_base::{DecodeError, EmitError, Form, Looks, read_bytes, write_bytes};
 use std::alloc::{AllocError, Global};
 
 /// The options of an action: what they are follows from the first kind in the list that they stand in.
@@ -29,6 +37,22 @@ pub enum TcActionOption {
     Nat(Vec<TcActionNatOption>),
     /// Of one over the metadata of tunnels.
     TunnelKey(Vec<TcActionTunnelKeyOption>),
+    /// Of one that lets packets through, or drops them.
+    Gact(Vec<TcActionGactOption>),
+    /// Of one that holds packets to a rate.
+    Police(Vec<TcActionPoliceOption>),
+    /// Of one over VLANs.
+    Vlan(Vec<TcActionVlanOption>),
+    /// Of one that changes what is kept of a packet.
+    Skbedit(Vec<TcActionSkbeditOption>),
+    /// Of one that makes checksums anew.
+    Csum(Vec<TcActionCsumOption>),
+    /// Of one over connections.
+    Ct(Vec<TcActionCtOption>),
+    /// Of one that samples packets.
+    Sample(Vec<TcActionSampleOption>),
+    /// Of one that runs a program.
+    Bpf(Vec<TcActionBpfOption>),
     /// The bytes of options that nothing governs, or a kind without a set.
     Other(Vec<u8>),
 }
@@ -37,9 +61,17 @@ pub enum TcActionOption {
 macro_rules! variants {
     ($body:ident ($($given:tt)*)) => {
         npr_base::$body!(($($given)*) TcActionOption {
-            Mirror;
-            Nat;
-            TunnelKey;
+            Mirror(list TcActionMirror);
+            Nat(list TcActionNat);
+            TunnelKey(list TcActionTunnelKey);
+            Gact(list TcActionGact);
+            Police(list TcActionPolice);
+            Vlan(list TcActionVlan);
+            Skbedit(list TcActionSkbedit);
+            Csum(list TcActionCsum);
+            Ct(list TcActionCt);
+            Sample(list TcActionSample);
+            Bpf(list TcActionBpf);
         })
     };
 }
@@ -62,31 +94,16 @@ impl TcActionOption {
         ensures memory { IsErrOf result OutOfMemory → (case form).memory bytes.now }
         ensures bounded { AddsAtMost looks.old looks.new (length bytes.now) }
     {
-        match form {
-            TcActionForm::Mirror => Ok(TcActionOption::Mirror(parse_list(
-                alloc,
-                (),
-                bytes,
-                looks,
-            )?)),
-            TcActionForm::Nat => Ok(TcActionOption::Nat(parse_list(alloc, (), bytes, looks)?)),
-            TcActionForm::TunnelKey => {
-                Ok(TcActionOption::TunnelKey(parse_list(alloc, (), bytes, looks)?))
-            }
+        variants!(data_read(form, TcActionForm, alloc, bytes, looks;
             TcActionForm::Kept => Ok(TcActionOption::Other(read_bytes(alloc, bytes)?)),
-        }
+        ))
     }
 
     /// How the options are read without memory.
     pub(crate) fn form(form: TcActionForm) -> Form
         ensures { result ≡ (action_option form).showing.form }
     {
-        match form {
-            TcActionForm::Mirror => Form::List(AttributeSet::TcActionMirror, 0),
-            TcActionForm::Nat => Form::List(AttributeSet::TcActionNat, 0),
-            TcActionForm::TunnelKey => Form::List(AttributeSet::TcActionTunnelKey, 0),
-            TcActionForm::Kept => Form::Raw,
-        }
+        variants!(data_form(form, TcActionForm; TcActionForm::Kept => Form::Raw,))
     }
 
     /// An equal value.
@@ -97,14 +114,16 @@ impl TcActionOption {
         ensures ok { IfOk result (λ x. action_option_of x ≡ action_option_of self.now) }
         ensures memory { OnErr result (0 < (held (action_option_of self.now)).size) }
     {
-        variants!(data_cloned(self, alloc))
+        variants!(data_cloned(self, alloc;
+            TcActionOption::Other(bytes) => read_bytes(alloc, bytes.as_slice()).map(TcActionOption::Other),
+        ))
     }
 
     /// The length of the bytes, or the first cause inside why there are none.
     pub(crate) fn check(&self) -> Result<usize, EmitError>
         ensures { result ≡ checked (held (action_option_of self.now)).unfit (length (held (action_option_of self.now)).encoded) }
     {
-        variants!(data_checked(self))
+        variants!(data_checked(self; TcActionOption::Other(bytes) => Ok(bytes.len()),))
     }
 
     /// Writes the bytes at the front of the slice, leaves the rest, and answers their length.
@@ -114,6 +133,8 @@ impl TcActionOption {
         ensures len { result ≡ length (held (action_option_of self.now)).encoded }
         ensures after { Writes out.old out.new (held (action_option_of self.now)).encoded }
     {
-        variants!(data_written(self, out))
+        variants!(data_written(self, out;
+            TcActionOption::Other(bytes) => write_bytes(bytes.as_slice(), out),
+        ))
     }
 }

@@ -16,6 +16,22 @@ pub enum TcActionForm {
     Nat = 2,
     /// The options of `tunnel_key`.
     TunnelKey = 3,
+    /// The options of `gact`.
+    Gact = 4,
+    /// The options of `police`.
+    Police = 5,
+    /// The options of `vlan`.
+    Vlan = 6,
+    /// The options of `skbedit`.
+    Skbedit = 7,
+    /// The options of `csum`.
+    Csum = 8,
+    /// The options of `ct`.
+    Ct = 9,
+    /// The options of `sample`.
+    Sample = 10,
+    /// The options of `bpf`.
+    Bpf = 11,
 }
 
 /// What governs options, by the names of the kinds.
@@ -25,6 +41,14 @@ macro_rules! forms {
             "mirred" Mirror;
             "nat" Nat;
             "tunnel_key" TunnelKey;
+            "gact" Gact;
+            "police" Police;
+            "vlan" Vlan;
+            "skbedit" Skbedit;
+            "csum" Csum;
+            "ct" Ct;
+            "sample" Sample;
+            "bpf" Bpf;
         })
     };
 }

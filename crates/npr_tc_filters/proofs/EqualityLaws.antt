@@ -6,19 +6,24 @@ use Rattle.npr_base.specs.Equality.{IsEquality, IsEqualityOf}
 use Rattle.npr_base.specs.Tables.{table_decides}
 use Rattle.npr_base.specs.ViewEquality.{bytes_equality}
 use Rattle.npr_base.proofs.EqualityLaws.{one_equality}
-use Rattle.npr_base.proofs.FieldEquality.{one, list, number, kept}
+use Rattle.npr_base.proofs.FieldEquality.{one, list, number, bytes, kept}
 use Rattle.npr_base.proofs.IpLaws.{ipv4_equality, ipv6_equality}
 use Rattle.npr_base.proofs.MeaningLaws.{items_equality, text_equality}
 use Rattle.npr_base.proofs.StructLaws.{and_decides, decides_as, ◌beside◌, struct_equality}
 use Rattle.npr_tc_actions.proofs.EqualityLaws.{action_equality}
+use Rattle.npr_tc_actions.proofs.KindEquality.{bpf_instruction_equality, police_option_equality}
 use Rattle.npr_tc_qdiscs.proofs.EqualityLaws.{handle_equality}
+use Rattle.npr_tc_filters.specs.Bpf as OfBpf
 use Rattle.npr_tc_filters.specs.Flower as OfFlower
 use Rattle.npr_tc_filters.specs.FlowerMpls as OfMpls
 use Rattle.npr_tc_filters.specs.FlowerMplsLse as OfLse
+use Rattle.npr_tc_filters.specs.Fw as OfFw
 use Rattle.npr_tc_filters.specs.Hits.{u32_hits, match_all_hits}
 use Rattle.npr_tc_filters.specs.MatchAll as OfMatchAll
 use Rattle.npr_tc_filters.specs.U32Option as OfU32
 use Rattle.npr_tc_filters.specs.U32Selector.{U32Front, u32_parts}
+use Rattle.npr_tc_filters.specs.contracts.bpf.TcFilterBpfOptionPartialEq.TheImpl as FilterBpfOptionEq
+use Rattle.npr_tc_filters.specs.contracts.fw.TcFilterFwOptionPartialEq.TheImpl as FilterFwOptionEq
 use Rattle.npr_tc_filters.specs.contracts.flower.TcFilterFlowerOptionPartialEq.TheImpl as FlowerEq
 use Rattle.npr_tc_filters.specs.contracts.flower_mpls.TcFilterFlowerMplsOptionPartialEq.TheImpl as MplsEq
 use Rattle.npr_tc_filters.specs.contracts.flower_mpls_lse.TcFilterFlowerMplsLseOptionPartialEq.TheImpl as LseEq
@@ -108,7 +113,8 @@ match_all_equality =
 pub u32_equality : IsEqualityOf OfU32.family.meaning U32Eq.ghosts.eq
 u32_equality =
     table_decides OfU32.table _
-    (one handle_equality also number also number also number also one u32_selector_equality also list action_equality also
+    (one handle_equality also number also number also number also one u32_selector_equality also list police_option_equality also
+    list action_equality also
     one text_equality also one u32_pcnt_equality also one u32_mark_equality also one u32_option_flags_equality also kept also tt)
 
 pub flower_equality : IsEqualityOf OfFlower.family.meaning FlowerEq.ghosts.eq
@@ -126,3 +132,15 @@ flower_equality =
     number also number also number also number also number also number also number also number also number also number also number also number also
     number also number also number also number also number also number also number also number also one bytes_equality also one bytes_equality also
     list flower_mpls_equality also number also number also kept also tt)
+
+pub fw_equality : IsEqualityOf OfFw.family.meaning FilterFwOptionEq.ghosts.eq
+fw_equality =
+    table_decides OfFw.table _
+    (one handle_equality also list police_option_equality also one text_equality also list action_equality also number also kept also tt)
+
+pub bpf_equality : IsEqualityOf OfBpf.family.meaning FilterBpfOptionEq.ghosts.eq
+bpf_equality =
+    table_decides OfBpf.table _
+    (list action_equality also list police_option_equality also one handle_equality also number also
+    (λ x y. items_equality bpf_instruction_equality x.0 y.0) also number also one text_equality also number also
+    one u32_option_flags_equality also bytes also number also kept also tt)

@@ -1,8 +1,10 @@
+pub mod Bpf
 pub mod Flower
 pub mod FlowerForm
-pub mod FlowerValue
 pub mod FlowerMpls
 pub mod FlowerMplsLse
+pub mod FlowerValue
+pub mod Fw
 pub mod Headed
 pub mod Hits
 pub mod MatchAll

@@ -1,9 +1,10 @@
 -- The data of a u32 filter (linux/pkt_cls.h, TCA_U32_*), by the table.
 use Rattle.npr_base.specs.declared.refusal.AttributeSet.TheVariants.{TcFilterU32 as AtTcFilterU32}
-use Rattle.npr_base.specs.declared.refusal.AttributeSet.TheVariants.{TcActions as AtActions}
+use Rattle.npr_base.specs.declared.refusal.AttributeSet.TheVariants.{TcActionPolice as AtPolice, TcActions as AtActions}
 use Rattle.npr_base.specs.Tables.{EnumTable, table_of, row, others, ◌or◌, exactly, le32, list_of, listed, leading, name, seen, text, value, refl}
 use Rattle.npr_base.specs.Tables.{Reading, Family, writing_of, attributes_of, family_of_table}
 use Rattle.npr_tc_actions.specs.Action as OfAction
+use Rattle.npr_tc_actions.specs.PoliceOption as OfPolice
 use Rattle.npr_tc_qdiscs.specs.Handle.{handle}
 use Rattle.npr_tc_filters.specs.Hits.{hits, u32_hits}
 use Rattle.npr_tc_filters.specs.U32Mark.{u32_mark}
@@ -21,6 +22,7 @@ table =
     or row AtTcFilterU32 3 (exactly le32) (value TcFilterU32Option.Link)  -- TCA_U32_LINK
     or row AtTcFilterU32 4 (exactly le32) (value TcFilterU32Option.Divisor)  -- TCA_U32_DIVISOR
     or row AtTcFilterU32 5 u32_selector (seen u32_parts TcFilterU32Option.Selector)  -- TCA_U32_SEL
+    or row AtTcFilterU32 6 (list_of AtPolice OfPolice.attributes) (listed OfPolice.family.meaning TcFilterU32Option.Police)  -- TCA_U32_POLICE
     or row AtTcFilterU32 7 (list_of AtActions OfAction.attributes) (listed OfAction.family.meaning TcFilterU32Option.Action)  -- TCA_U32_ACT
     or row AtTcFilterU32 8 name (text TcFilterU32Option.Indev)  -- TCA_U32_INDEV
     or row AtTcFilterU32 9 hits (seen u32_hits TcFilterU32Option.Pnct)  -- TCA_U32_PCNT

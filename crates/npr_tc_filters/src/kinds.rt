@@ -23,3 +23,19 @@ impl TcFilterMatchAll {
     /// Its name.
     pub const KIND: &'static str = "matchall";
 }
+
+/// The filter `fw`.
+pub struct TcFilterFw {}
+
+impl TcFilterFw {
+    /// Its name.
+    pub const KIND: &'static str = "fw";
+}
+
+/// The filter `bpf`.
+pub struct TcFilterBpf {}
+
+impl TcFilterBpf {
+    /// Its name.
+    pub const KIND: &'static str = "bpf";
+}

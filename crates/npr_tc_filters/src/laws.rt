@@ -5,9 +5,11 @@ ghost use Rattle.std.specs.Prelude.{◌≡◌, ◌^◌, ◌∷◌, [], true, pos
 ghost use Rattle.{
   npr_base.specs.{Equality.{IsEquality, IsEqualityOf}, Rows.{agrees}},
   npr_tc_filters.specs.{
+    Bpf.{family as bpf_family},
     Flower.{family as flower_family},
     FlowerMpls.{family as flower_mpls_family},
     FlowerMplsLse.{family as flower_mpls_lse_family},
+    Fw.{family as fw_family},
     Hits.{u32_hits, match_all_hits},
     MatchAll.{family as match_all_family},
     U32Option.{family as u32_family},
@@ -17,9 +19,11 @@ ghost use Rattle.{
   },
 };
 
+use crate::bpf::TcFilterBpfOption;
 use crate::flower::TcFilterFlowerOption;
 use crate::flower_mpls::TcFilterFlowerMplsOption;
 use crate::flower_mpls_lse::TcFilterFlowerMplsLseOption;
+use crate::fw::TcFilterFwOption;
 use crate::match_all::TcFilterMatchAllOption;
 use crate::match_all_pcnt::TcMatchAllPcnt;
 use crate::u32_key::TcU32Key;
@@ -61,6 +65,8 @@ pub fn law_equality_of_meanings()
     ensures selector { IsEqualityOf u32_parts ⟦<TcU32Selector as PartialEq>⟧.eq }
     ensures u32 { IsEqualityOf u32_family.meaning ⟦<TcFilterU32Option as PartialEq>⟧.eq }
     ensures match_all { IsEqualityOf match_all_family.meaning ⟦<TcFilterMatchAllOption as PartialEq>⟧.eq }
+    ensures fw { IsEqualityOf fw_family.meaning ⟦<TcFilterFwOption as PartialEq>⟧.eq }
+    ensures bpf { IsEqualityOf bpf_family.meaning ⟦<TcFilterBpfOption as PartialEq>⟧.eq }
     ensures flower_mpls_lse { IsEqualityOf flower_mpls_lse_family.meaning ⟦<TcFilterFlowerMplsLseOption as PartialEq>⟧.eq }
     ensures flower_mpls { IsEqualityOf flower_mpls_family.meaning ⟦<TcFilterFlowerMplsOption as PartialEq>⟧.eq }
     ensures flower { IsEqualityOf flower_family.meaning ⟦<TcFilterFlowerOption as PartialEq>⟧.eq }

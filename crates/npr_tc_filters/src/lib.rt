@@ -1,11 +1,13 @@
-//! Filters of traffic control: u32, flower and matchall.
+//! Filters of traffic control.
 #![tactic(auto)]
 
+mod bpf;
 mod flower;
 mod flower_form;
 mod flower_mpls;
 mod flower_mpls_lse;
 mod flower_value;
+mod fw;
 mod kinds;
 pub mod laws;
 mod match_all;
@@ -19,10 +21,12 @@ mod u32_pcnt;
 mod u32_selector;
 mod u32_selector_flags;
 
+pub use bpf::TcFilterBpfOption;
 pub use flower::TcFilterFlowerOption;
 pub use flower_mpls::TcFilterFlowerMplsOption;
 pub use flower_mpls_lse::TcFilterFlowerMplsLseOption;
-pub use kinds::{TcFilterFlower, TcFilterMatchAll, TcFilterU32};
+pub use fw::TcFilterFwOption;
+pub use kinds::{TcFilterBpf, TcFilterFlower, TcFilterFw, TcFilterMatchAll, TcFilterU32};
 pub use match_all::TcFilterMatchAllOption;
 pub use match_all_pcnt::TcMatchAllPcnt;
 pub use u32_key::TcU32Key;

@@ -75,6 +75,9 @@ impl TcMatchAllPcnt {
 
     /// Writes the bytes at the front of the slice, leaves the rest, and answers their length. Asks for
     /// room of that length.
+    ///
+    /// # Panics
+    /// May panic where it is not as asked.
     pub fn write(&self, out: &mut [u8]) -> usize
         requires { length (hits.encode (match_all_hits self.now)) ≤ length out.old }
         ensures len { result ≡ length (hits.encode (match_all_hits self.now)) }

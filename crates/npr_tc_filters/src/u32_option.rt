@@ -11,7 +11,7 @@ use bitflags::Flags;
 use npr_base::{
     At, Attribute, DecodeError, DefaultNla, EmitError, Form, Looks, Nla, NlaBuffer, Place, put_read,
 };
-use npr_tc_actions::TcAction;
+use npr_tc_actions::{TcAction, TcActionPoliceOption};
 use npr_tc_qdiscs::TcHandle;
 use std::alloc::{AllocError, Global};
 
@@ -28,6 +28,8 @@ pub enum TcFilterU32Option {
     Divisor(u32),
     /// `TCA_U32_SEL`: what it looks for.
     Selector(TcU32Selector),
+    /// `TCA_U32_POLICE`: what goes, and what becomes of the rest, as older kernels have it.
+    Police(Vec<TcActionPoliceOption>),
     /// `TCA_U32_ACT`: what is done with a packet that matches.
     Action(Vec<TcAction>),
     /// `TCA_U32_INDEV`: the name of the interface that packets came in by.
@@ -50,6 +52,7 @@ macro_rules! rows {
             2 Hash(le32);
             3 Link(le32);
             4 Divisor(le32);
+            6 Police(list TcActionPolice);
             7 Action(list TcActions);
             8 Indev(name);
             9 Pnct(TcU32Pcnt value raw);

@@ -127,6 +127,9 @@ impl TcU32Selector {
 
     /// Writes the bytes at the front of the slice, leaves the rest, and answers their length. Asks for
     /// room of that length.
+    ///
+    /// # Panics
+    /// May panic where it is not as asked.
     pub fn write(&self, out: &mut [u8]) -> usize
         requires { length (u32_selector.encode (u32_parts self.now)) ≤ length out.old }
         ensures len { result ≡ length (u32_selector.encode (u32_parts self.now)) }

@@ -26,6 +26,7 @@ use Rattle.npr_tc_qdiscs.specs.contracts.fq_codel_qd_stats.TcFqCodelQdStatsParti
 use Rattle.npr_tc_qdiscs.specs.contracts.fq_codel_xstats.TcFqCodelXstats.{enum as fq_codel_xstats_enum}
 use Rattle.npr_tc_qdiscs.specs.contracts.fq_codel_xstats.TcFqCodelXstatsPartialEq.TheImpl as FqCodelXstatsEq
 use Rattle.npr_tc_qdiscs.specs.contracts.handle.TcHandlePartialEq.TheImpl as HandleEq
+use Rattle.npr_tc_qdiscs.specs.contracts.htb_xstats.TcHtbXstatsPartialEq.TheImpl as HtbXstatsEq
 use Rattle.npr_tc_qdiscs.specs.contracts.ingress.TcQdiscIngressOptionPartialEq.TheImpl as IngressEq
 use Rattle.npr_tc_qdiscs.specs.contracts.size_spec.TcSizeSpec.{struct as size_spec_struct}
 use Rattle.npr_tc_qdiscs.specs.contracts.size_spec.TcSizeSpecPartialEq.TheImpl as SizeSpecEq
@@ -93,6 +94,9 @@ cl_stats_equality a b = items_equality unsigned_Decides a.bytes b.bytes
 pub stab_data_equality : IsEqualityOf stab_data_of StabDataEq.ghosts.eq
 stab_data_equality a b = items_equality unsigned_Decides a.numbers b.numbers
 
+pub htb_xstats_equality : IsEqualityOf (λ x. x.bytes.items) HtbXstatsEq.ghosts.eq
+htb_xstats_equality a b = items_equality unsigned_Decides a.bytes b.bytes
+
 -- the places of the variants
 fq_codel_order : X.FqCodelXstats → ℕ
 fq_codel_order (X.qdisc bytes) = 0
@@ -109,13 +113,15 @@ fq_codel_xstats_equality =
 
 xstats_order : K.Xstats → ℕ
 xstats_order (K.fq_codel x) = 0
-xstats_order (K.other bytes) = 1
+xstats_order (K.htb bytes) = 1
+xstats_order (K.other bytes) = 2
 
 pub xstats_equality : IsEqualityOf K.xstats_of XstatsEq.ghosts.eq
 unfolding xstats_order
 xstats_equality =
     enum_meaning xstats_order xstats_enum K.xstats_of _ (λ t.
     (λ x. refl, one_meaning X.fq_codel_xstats_of K.fq_codel fq_codel_xstats_equality (λ p q e. cc)) also
+    (λ x. refl, one_meaning (λ h. h.bytes.items) K.htb htb_xstats_equality (λ p q e. cc)) also
     (λ x. refl, one_meaning (λ v. v.items) K.other (items_equality unsigned_Decides) (λ p q e. cc)) also tt)
 
 -- ---- sets

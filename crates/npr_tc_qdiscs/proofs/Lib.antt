@@ -1,1 +1,2 @@
 pub mod EqualityLaws
+pub mod KindEquality

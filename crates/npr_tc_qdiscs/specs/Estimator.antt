@@ -2,7 +2,7 @@
 use Rattle.std.proofs.Common.{refl}
 use Rattle.npr_base.specs.Fields.{one_byte, ◌fills◌, ◌then◌, last, structure}
 use Rattle.npr_base.specs.Layout.{Layout}
-use Rattle.npr_tc_qdiscs.specs.SignedFields.{signed_one}
+use Rattle.npr_base.specs.MoreFields.{signed_one}
 use Rattle.npr_tc_qdiscs.specs.contracts.estimator.TcEstimator.{struct}
 use Rattle.npr_tc_qdiscs.specs.declared.estimator.TcEstimator.{TcEstimator}
 

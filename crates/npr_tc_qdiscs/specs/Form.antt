@@ -8,4 +8,7 @@ abbrev pub form_named : List ℕ → TcForm
 form_named =
     named_in TcForm.Kept
     ((codes "fq_codel", TcForm.FqCodel) ∷ (codes "ingress", TcForm.Ingress) ∷ (codes "clsact", TcForm.Clsact) ∷ (codes "u32", TcForm.U32)
-    ∷ (codes "flower", TcForm.Flower) ∷ (codes "matchall", TcForm.MatchAll) ∷ [])
+    ∷ (codes "flower", TcForm.Flower) ∷ (codes "matchall", TcForm.MatchAll) ∷ (codes "htb", TcForm.Htb) ∷ (codes "tbf", TcForm.Tbf)
+    ∷ (codes "red", TcForm.Red) ∷ (codes "fq", TcForm.Fq) ∷ (codes "netem", TcForm.Netem) ∷ (codes "prio", TcForm.Prio)
+    ∷ (codes "pfifo_fast", TcForm.Prio) ∷ (codes "pfifo", TcForm.Fifo) ∷ (codes "bfifo", TcForm.Fifo) ∷ (codes "pfifo_head_drop", TcForm.Fifo)
+    ∷ (codes "fw", TcForm.Fw) ∷ (codes "bpf", TcForm.Bpf) ∷ [])

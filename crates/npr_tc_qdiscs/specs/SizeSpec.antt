@@ -3,7 +3,7 @@ use Rattle.std.proofs.Common.{refl}
 use Rattle.npr_base.specs.Fields.{one_byte, le_four, ◌fills◌, ◌then◌, last, structure}
 use Rattle.npr_base.specs.Layout.{Layout}
 use Rattle.npr_base.specs.MoreFields.{signed_four}
-use Rattle.npr_tc_qdiscs.specs.SignedFields.{signed_two}
+use Rattle.npr_base.specs.MoreFields.{signed_two}
 use Rattle.npr_tc_qdiscs.specs.contracts.size_spec.TcSizeSpec.{struct}
 use Rattle.npr_tc_qdiscs.specs.declared.size_spec.TcSizeSpec.{TcSizeSpec}
 

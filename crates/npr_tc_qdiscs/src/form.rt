@@ -22,6 +22,24 @@ pub enum TcForm {
     Flower = 5,
     /// The data of `matchall`.
     MatchAll = 6,
+    /// The data of `htb`.
+    Htb = 7,
+    /// The data of `tbf`.
+    Tbf = 8,
+    /// The data of `red`.
+    Red = 9,
+    /// The data of `fq`.
+    Fq = 10,
+    /// The data of `netem`.
+    Netem = 11,
+    /// The data of `prio` and `pfifo_fast`.
+    Prio = 12,
+    /// The data of `pfifo`, `bfifo` and `pfifo_head_drop`.
+    Fifo = 13,
+    /// The data of the filter `fw`.
+    Fw = 14,
+    /// The data of the filter `bpf`.
+    Bpf = 15,
 }
 
 /// What governs data, by the names of the kinds.
@@ -34,6 +52,18 @@ macro_rules! forms {
             "u32" U32;
             "flower" Flower;
             "matchall" MatchAll;
+            "htb" Htb;
+            "tbf" Tbf;
+            "red" Red;
+            "fq" Fq;
+            "netem" Netem;
+            "prio" Prio;
+            "pfifo_fast" Prio;
+            "pfifo" Fifo;
+            "bfifo" Fifo;
+            "pfifo_head_drop" Fifo;
+            "fw" Fw;
+            "bpf" Bpf;
         })
     };
 }

@@ -15,3 +15,51 @@ impl TcQdiscIngress {
     /// Its name.
     pub const KIND: &'static str = "ingress";
 }
+
+/// The queueing discipline `htb`.
+pub struct TcQdiscHtb {}
+
+impl TcQdiscHtb {
+    /// Its name.
+    pub const KIND: &'static str = "htb";
+}
+
+/// The queueing discipline `tbf`.
+pub struct TcQdiscTbf {}
+
+impl TcQdiscTbf {
+    /// Its name.
+    pub const KIND: &'static str = "tbf";
+}
+
+/// The queueing discipline `red`.
+pub struct TcQdiscRed {}
+
+impl TcQdiscRed {
+    /// Its name.
+    pub const KIND: &'static str = "red";
+}
+
+/// The queueing discipline `fq`.
+pub struct TcQdiscFq {}
+
+impl TcQdiscFq {
+    /// Its name.
+    pub const KIND: &'static str = "fq";
+}
+
+/// The queueing discipline `netem`.
+pub struct TcQdiscNetem {}
+
+impl TcQdiscNetem {
+    /// Its name.
+    pub const KIND: &'static str = "netem";
+}
+
+/// The queueing discipline `prio`.
+pub struct TcQdiscPrio {}
+
+impl TcQdiscPrio {
+    /// Its name.
+    pub const KIND: &'static str = "prio";
+}

@@ -15,6 +15,7 @@ ghost use Rattle.{
 
 use crate::form::TcForm;
 use crate::fq_codel_xstats::TcFqCodelXstats;
+use crate::htb_xstats::TcHtbXstats;
 use npr_base::{DecodeError, EmitError, Form, Looks, read_bytes, write_bytes};
 use std::alloc::{AllocError, Global};
 
@@ -23,6 +24,8 @@ use std::alloc::{AllocError, Global};
 pub enum TcXstats {
     /// Those of `fq_codel`.
     FqCodel(TcFqCodelXstats),
+    /// Those of a class of `htb`.
+    Htb(TcHtbXstats),
     /// The bytes of a kind whose counters are kept as they stand.
     Other(Vec<u8>),
 }
@@ -47,6 +50,7 @@ impl TcXstats {
     {
         match form {
             TcForm::FqCodel => Ok(TcXstats::FqCodel(TcFqCodelXstats::parse(alloc, bytes)?)),
+            TcForm::Htb => Ok(TcXstats::Htb(TcHtbXstats::read(alloc, bytes)?)),
             _ => Ok(TcXstats::Other(read_bytes(alloc, bytes)?)),
         }
     }
@@ -68,6 +72,7 @@ impl TcXstats {
     {
         match self {
             TcXstats::FqCodel(x) => x.try_clone(alloc).map(TcXstats::FqCodel),
+            TcXstats::Htb(x) => x.try_clone(alloc).map(TcXstats::Htb),
             TcXstats::Other(bytes) => read_bytes(alloc, bytes.as_slice()).map(TcXstats::Other),
         }
     }
@@ -78,12 +83,16 @@ impl TcXstats {
     {
         match self {
             TcXstats::FqCodel(x) => Ok(x.len()),
+            TcXstats::Htb(x) => Ok(x.len()),
             TcXstats::Other(bytes) => Ok(bytes.len()),
         }
     }
 
     /// Writes the bytes at the front of the slice, leaves the rest, and answers their length. Asks that
     /// `check` answers their length, and for room of it.
+    ///
+    /// # Panics
+    /// May panic where it is not as asked.
     pub fn write(&self, out: &mut [u8]) -> usize
         requires fits { (held (xstats_of self.now)).unfit ≡ None }
         requires room { length (held (xstats_of self.now)).encoded ≤ length out.old }
@@ -92,6 +101,7 @@ impl TcXstats {
     {
         match self {
             TcXstats::FqCodel(x) => x.write(out),
+            TcXstats::Htb(x) => x.write(out),
             TcXstats::Other(bytes) => write_bytes(bytes.as_slice(), out),
         }
     }

@@ -265,6 +265,8 @@ sets! {
     route::RouteNextHopFlags u8;
     rule::RuleFlags u32;
     tc::TcActionMessageFlags u32;
+    tc::TcCsumFlags u32;
+    tc::TcCtFlags u16;
     tc::TcNatFlags u32;
     tc::TcU32OptionFlags u32;
     tc::TcU32SelectorFlags u8;

@@ -87,9 +87,9 @@ fn reads_attributes(rt: HostRuntime) -> Result<(), Fail> {
 #[test]
 fn refuses_values(rt: HostRuntime) -> Result<(), Fail> {
     let lines = "
-        06000400 dc050000 => a value of 2 bytes at At { set: Link, number: 4 }
-        08001400 636166e9 => no UTF-8 at At { set: Link, number: 20 }
-        0a004200 00000000 00000000 => a value of 6 bytes at At { set: Link, number: 66 }
+        06000400 dc050000 => a value of 2 bytes at attribute 4 of Link
+        08001400 636166e9 => no UTF-8 at attribute 20 of Link
+        0a004200 00000000 00000000 => a value of 6 bytes at attribute 66 of Link
         20000e00 00000000 00000000 00000000 00000000 00000000 00000000 00000000 => \
             28 bytes, where a header of 32 is wanted";
     messages::<LinkMessage>(&rt, ETHERNET, lines)

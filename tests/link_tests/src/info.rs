@@ -52,8 +52,8 @@ fn governs_by_the_first_kind(rt: HostRuntime) -> Result<(), Fail> {
 fn refuses_data(rt: HostRuntime) -> Result<(), Fail> {
     let lines = "
         1c001200 09000100 766c616e 00000000 0c000200 08000100 64000000 => \
-            a value of 4 bytes at At { set: InfoVlan, number: 1 }
-        14001200 05000100 ff000000 06000200 01020000 => no UTF-8 at At { set: LinkInfo, number: 1 }
+            a value of 4 bytes at attribute 1 of InfoVlan
+        14001200 05000100 ff000000 06000200 01020000 => no UTF-8 at attribute 1 of LinkInfo
         20001200 09000100 766c616e 00000000 0e000200 06000100 64000000 0a000000 => \
             2 bytes, where an attribute begins with 4
         1c001200 0b000100 62726964 67650000 0c000200 07000a00 80002600 => \

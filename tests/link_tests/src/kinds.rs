@@ -31,7 +31,7 @@ fn reads_bonds(rt: HostRuntime) -> Result<(), Fail> {
             28001200 09000100 626f6e64 00000000 18000200 14000800 08000000 0a000001 08000100 0a000002 => \
             [LinkInfo([Kind(Bond), Data(Bond([ArpIpTarget([10.0.0.1, 10.0.0.2])]))])]
         28001200 09000100 626f6e64 00000000 18000200 14000800 08000000 0a000001 06000100 0a000000 => \
-            a value of 2 bytes at At { set: InfoBond, number: 8 }";
+            a value of 2 bytes at attribute 8 of InfoBond";
     messages::<LinkMessage>(&rt, ZEROS, lines)
 }
 
@@ -46,7 +46,7 @@ fn reads_vxlan(rt: HostRuntime) -> Result<(), Fail> {
             [LinkInfo([Kind(Vxlan), Data(Vxlan([Id(42), TtlInherit(true), TtlInherit(true), TtlInherit(false), \
             Gbp(true), Port(4789), PortRange((10000, 20000)), Label(74565)]))])]
         1c001200 0a000100 76786c61 6e000000 0c000200 06001c00 00000000 => \
-            a value of 2 bytes at At { set: InfoVxlan, number: 28 }";
+            a value of 2 bytes at attribute 28 of InfoVxlan";
     messages::<LinkMessage>(&rt, ZEROS, lines)
 }
 
@@ -62,7 +62,7 @@ fn reads_macvlan(rt: HostRuntime) -> Result<(), Fail> {
             08000300 6d743000 1c001200 0c000100 6d616376 74617000 0c000200 08000100 02000000 => \
             [IfName(\"mt0\"), LinkInfo([Kind(MacVtap), Data(MacVtap([Mode(Vepa)]))])]
         1c001200 0c000100 6d616376 74617000 0c000200 05000100 02000000 => \
-            a value of 1 bytes at At { set: InfoMacVlan, number: 1 }";
+            a value of 1 bytes at attribute 1 of InfoMacVlan";
     messages::<LinkMessage>(&rt, ZEROS, lines)
 }
 
@@ -80,7 +80,7 @@ fn reads_gre(rt: HostRuntime) -> Result<(), Fail> {
             EncapType(Fou), EncapFlags(GreEncapFlags(1)), DestinationPort(5555), FwMask(3), \
             PathMTUDiscovery(true), CollectMetadata]))])]
         1c001200 0b000100 69703667 72650000 0c000200 08000600 0a000001 => \
-            a value of 4 bytes at At { set: InfoGre6, number: 6 }";
+            a value of 4 bytes at attribute 6 of InfoGre6";
     messages::<LinkMessage>(&rt, ZEROS, lines)
 }
 
@@ -93,7 +93,7 @@ fn reads_tunnels(rt: HostRuntime) -> Result<(), Fail> {
             [LinkInfo([Kind(SitTun), Data(IpTunnel([Ipv6SitFlags(1)]))]), LinkInfo([Kind(Ip6Tnl), \
             Data(IpTunnel([Ipv6Flags(Ip6TunnelFlags(80)), FlowInfo(17122081), CollectMetadata(true)]))])]
         1c001200 09000100 69706970 00000000 0c000200 08000800 50000000 => \
-            a value of 4 bytes at At { set: InfoIpTunnel, number: 8 }
+            a value of 4 bytes at attribute 8 of InfoIpTunnel
         34001200 09000100 69706970 00000000 24000200 08000200 0a000001 05000900 04000000 05000900 06000000 \
             05000900 07000000 => \
             [LinkInfo([Kind(IpIp), Data(IpTunnel([Local(10.0.0.1), Protocol(Ipip), Protocol(Tcp), \

@@ -26,7 +26,7 @@ fn reads_next_hops(rt: HostRuntime) -> Result<(), Fail> {
             [Id(9), Oif(15), Gateway(Inet(10.0.0.9)), Encap([Mpls(Destination([MplsLabel { label: 100, \
             traffic_class: 0, bottom_of_stack: false, ttl: 0 }, MplsLabel { label: 200, traffic_class: 0, \
             bottom_of_stack: true, ttl: 0 }]))]), EncapType(Mpls)]
-        02000000 00000000 06000600 0a00 => a value of 2 bytes at At { set: NextHop, number: 6 }
+        02000000 00000000 06000600 0a00 => a value of 2 bytes at attribute 6 of NextHop
         00000000 00000000 04000900 => [Groups]
         00000000 00000000 06000700 01000000 06000700 02000000 => [EncapType(Mpls), EncapType(Ip)]";
     messages::<NextHopMessage>(&rt, "", lines)
@@ -86,7 +86,7 @@ fn reads_settings(rt: HostRuntime) -> Result<(), Fail> {
             [IfIndex(15), Forwarding(0), RpFilter(0), McForwarding(0), BcForwarding(0), ProxyNeigh(0), \
             IgnoreRoutesWithLinkdown(0)]
         02000000 08000100 10000000 => [IfIndex(16)]
-        1c000000 08000100 ffffffff 05000700 01000000 => a value of 1 bytes at At { set: Netconf, number: 7 }";
+        1c000000 08000100 ffffffff 05000700 01000000 => a value of 1 bytes at attribute 7 of Netconf";
     messages::<NetconfMessage>(&rt, "", lines)
 }
 

@@ -37,10 +37,10 @@ fn reads_messages(rt: HostRuntime) -> Result<(), Fail> {
         08000a00 ffffffff => [TargetNetNsId(-1)]
         08000800 80000000 0000 => 2 bytes, where an attribute begins with 4
         03000100 => an attribute of length 3 with 4 bytes left
-        06000300 fffe0000 => no UTF-8 at At { set: Address, number: 3 }
-        07000100 7f000000 => a value of 3 bytes at At { set: Address, number: 1 }
+        06000300 fffe0000 => no UTF-8 at attribute 3 of Address
+        07000100 7f000000 => a value of 3 bytes at attribute 1 of Address
         13000600 00000000 00000000 00000000 00000000 => 15 bytes, where a header of 16 is wanted
-        08000700 e0000001 => a value of 4 bytes at At { set: Address, number: 7 } # Multicast.";
+        08000700 e0000001 => a value of 4 bytes at attribute 7 of Address # Multicast.";
     messages::<AddressMessage>(&rt, HEADER, lines)?;
     messages::<AddressMessage>(&rt, "", "=> 0 bytes, where a header of 8 is wanted")
 }

@@ -44,6 +44,6 @@ fn encapsulations(rt: HostRuntime) -> Result<(), Fail> {
         05001600 01000000 06001500 01000000 => \
             1 bytes, where an attribute begins with 4 # The type is found before the fault.
         05001500 01000000 06001500 01000000 => \
-            a value of 1 bytes at At { set: Route, number: 21 } # A type of one byte governs nothing.";
+            a value of 1 bytes at attribute 21 of Route # A type of one byte governs nothing.";
     messages::<RouteMessage>(&rt, INET, lines)
 }

@@ -92,11 +92,11 @@ fn reads_dumped_messages(rt: HostRuntime) -> Result<(), Fail> {
 #[test]
 fn reads_under_a_family(rt: HostRuntime) -> Result<(), Fail> {
     let line = "14000100 fc000000000000000000000000000001 => \
-        a value of 16 bytes at At { set: Neighbour, number: 1 }";
+        a value of 16 bytes at attribute 1 of Neighbour";
     members::<NeighbourAttribute>(&rt, AddressFamily::Inet, line)?;
     let lines = "
         14000100 fc000000000000000000000000000001 => Destination(Inet6(fc00::1))
-        08000100 c0000203 => a value of 4 bytes at At { set: Neighbour, number: 1 }";
+        08000100 c0000203 => a value of 4 bytes at attribute 1 of Neighbour";
     members::<NeighbourAttribute>(&rt, AddressFamily::Inet6, lines)
 }
 
@@ -150,19 +150,19 @@ fn reads_values(rt: HostRuntime) -> Result<(), Fail> {
             14000300 01000000 02000000 03000000 04000000 => \
             [CacheInfo(NeighbourCacheInfo { confirmed: 1, used: 2, updated: 3, refcnt: 4 })]
         04000200 04000e00 => [LinkLocalAddress([]), Other(DefaultNla { kind: 14, value: [] })]
-        04000100 => a value of 0 bytes at At { set: Neighbour, number: 1 }
-        04000400 => a value of 0 bytes at At { set: Neighbour, number: 4 }
-        04000500 => a value of 0 bytes at At { set: Neighbour, number: 5 }
-        04000600 => a value of 0 bytes at At { set: Neighbour, number: 6 }
-        04000700 => a value of 0 bytes at At { set: Neighbour, number: 7 }
-        04000800 => a value of 0 bytes at At { set: Neighbour, number: 8 }
-        04000900 => a value of 0 bytes at At { set: Neighbour, number: 9 }
-        04000a00 => a value of 0 bytes at At { set: Neighbour, number: 10 }
-        04000b00 => a value of 0 bytes at At { set: Neighbour, number: 11 }
-        04000c00 => a value of 0 bytes at At { set: Neighbour, number: 12 }
-        04000d00 => a value of 0 bytes at At { set: Neighbour, number: 13 }
-        04000f00 => a value of 0 bytes at At { set: Neighbour, number: 15 }
-        07000600 12b50000 => a value of 3 bytes at At { set: Neighbour, number: 6 }
+        04000100 => a value of 0 bytes at attribute 1 of Neighbour
+        04000400 => a value of 0 bytes at attribute 4 of Neighbour
+        04000500 => a value of 0 bytes at attribute 5 of Neighbour
+        04000600 => a value of 0 bytes at attribute 6 of Neighbour
+        04000700 => a value of 0 bytes at attribute 7 of Neighbour
+        04000800 => a value of 0 bytes at attribute 8 of Neighbour
+        04000900 => a value of 0 bytes at attribute 9 of Neighbour
+        04000a00 => a value of 0 bytes at attribute 10 of Neighbour
+        04000b00 => a value of 0 bytes at attribute 11 of Neighbour
+        04000c00 => a value of 0 bytes at attribute 12 of Neighbour
+        04000d00 => a value of 0 bytes at attribute 13 of Neighbour
+        04000f00 => a value of 0 bytes at attribute 15 of Neighbour
+        07000600 12b50000 => a value of 3 bytes at attribute 6 of Neighbour
         10000300 01000000 02000000 03000000 => 12 bytes, where a header of 16 is wanted";
     messages::<NeighbourMessage>(&rt, HEADER, lines)
 }

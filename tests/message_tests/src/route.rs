@@ -48,10 +48,10 @@ fn reads_messages(rt: HostRuntime) -> Result<(), Fail> {
         0a000800 08000200 dc050000 => an attribute of length 8 with 6 bytes left
         08000400 01000000 0000 => 2 bytes, where an attribute begins with 4
         03000100 => an attribute of length 3 with 4 bytes left
-        05001500 01000000 => a value of 1 bytes at At { set: Route, number: 21 }
-        07000100 0a000000 => a value of 3 bytes at At { set: Route, number: 1 }
-        07000200 0a000000 => a value of 3 bytes at At { set: Route, number: 2 }
-        09001200 02000a00 00000000 => a value of 3 bytes at At { set: Route, number: 18 }
+        05001500 01000000 => a value of 1 bytes at attribute 21 of Route
+        07000100 0a000000 => a value of 3 bytes at attribute 1 of Route
+        07000200 0a000000 => a value of 3 bytes at attribute 2 of Route
+        09001200 02000a00 00000000 => a value of 3 bytes at attribute 18 of Route
         05001200 02000000 => 1 bytes, where a header of 2 is wanted
         0a001200 02010a00 00010000 => a gateway of address family 258";
     messages::<RouteMessage>(&rt, INET, lines)
@@ -70,7 +70,7 @@ fn reads_whole_messages(rt: HostRuntime) -> Result<(), Fail> {
         => 0 bytes, where a header of 12 is wanted
         020000 => 3 bytes, where a header of 12 is wanted
         02000000fe03000500000000 08001700 b80b0000 => \
-            a value of 4 bytes at At { set: Route, number: 23 } # Multicast.";
+            a value of 4 bytes at attribute 23 of Route # Multicast.";
     messages::<RouteMessage>(&rt, "", lines)
 }
 

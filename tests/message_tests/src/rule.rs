@@ -35,8 +35,8 @@ fn reads_messages(rt: HostRuntime) -> Result<(), Fail> {
             [L3MDev(true), TunId(42), IpProtocol(Tcp), Realm(RouteRealm { source: 250, destination: 254 }), \
             UidRange(RuleUidRange { start: 1, end: 2 }), Protocol(Kernel), \
             Destination(10.0.0.1)]
-        0b001400 00000000 00000000 => a value of 7 bytes at At { set: Rule, number: 20 }
-        04000200 => a value of 0 bytes at At { set: Rule, number: 2 } # `ip rule add from all`.";
+        0b001400 00000000 00000000 => a value of 7 bytes at attribute 20 of Rule
+        04000200 => a value of 0 bytes at attribute 2 of Rule # `ip rule add from all`.";
     messages::<RuleMessage>(&rt, HEADER, lines)
 }
 

@@ -1,6 +1,9 @@
 //! Messages of traffic control: what `tc` asks and Linux tells.
 #![tactic(auto)]
 
+#[cfg(test)]
+mod kinds;
+
 use npr_tc::{TcActionMessage, TcMessage};
 use npr_testing::messages;
 use std::test::Fail;
@@ -37,9 +40,8 @@ fn reads_kinds(rt: HostRuntime) -> Result<(), Fail> {
 fn refuses_messages(rt: HostRuntime) -> Result<(), Fail> {
     let lines = "
         00000000 04000000 00000100 ffffffff 00000000 0d000100 66715f63 6f64656c 00000000 0c000200 06000100 \
-            01000000 => a value of 2 bytes at At { set: TcQdiscFqCodel, number: 1 }
-        00000000 04000000 00000100 ffffffff 00000000 06000100 ff000000 => no UTF-8 at At { set: Tc, number: \
-            1 }
+            01000000 => a value of 2 bytes at attribute 1 of TcQdiscFqCodel
+        00000000 04000000 00000100 ffffffff 00000000 06000100 ff000000 => no UTF-8 at attribute 1 of Tc
         00000000 04000000 00000100 ffffffff 00000000 0d000100 66715f63 6f64656c 00000000 0e000200 08000100 \
             01000000 05000000 => 2 bytes, where an attribute begins with 4
         00000000 04000000 00000100 ffffffff 00000000 14000700 10000100 dc2c0000 00000000 44000000 => 12 \
@@ -49,7 +51,7 @@ fn refuses_messages(rt: HostRuntime) -> Result<(), Fail> {
         00000000 04000000 00000000 f3ffffff 08000100 08000100 75333200 18000200 13000500 00000000 00000000 \
             00000000 00000000 => 15 bytes, where a header of 16 is wanted
         00000000 04000000 00000000 f3ffffff 08000100 0b000100 666c6f77 65720000 0c000200 05006100 ff000000 \
-            => a value of 1 bytes at At { set: TcFilterFlower, number: 97 }";
+            => a value of 1 bytes at attribute 97 of TcFilterFlower";
     messages::<TcMessage>(&rt, "", lines)
 }
 
@@ -69,8 +71,8 @@ fn reads_counters(rt: HostRuntime) -> Result<(), Fail> {
             0c000400 05000000 09000000 => [Kind(\"fq_codel\"), Xstats(FqCodel(Other([0, 0, 0]))), \
             Xstats(FqCodel(Other([5, 0, 0, 0, 9, 0, 0, 0])))]
         00000000 04000000 00000100 ffffffff 00000000 08000100 68746200 1c000700 18000400 01000000 02000000 \
-            00000000 09000000 09000000 => [Kind(\"htb\"), Stats2([App(Other([1, 0, 0, 0, 2, 0, 0, 0, 0, 0, \
-            0, 0, 9, 0, 0, 0, 9, 0, 0, 0]))])]
+            00000000 09000000 09000000 => [Kind(\"htb\"), Stats2([App(Htb(TcHtbXstats { bytes: [1, 0, 0, \
+            0, 2, 0, 0, 0, 0, 0, 0, 0, 9, 0, 0, 0, 9, 0, 0, 0] }))])]
         00000000 04000000 00000100 ffffffff 00000000 34000700 14000100 dc2c0000 00000000 44000000 aabbccdd \
             1c000300 00000000 00000000 03000000 00000000 05000000 09000000 -> 00000000 04000000 00000100 \
             ffffffff 00000000 30000700 14000100 dc2c0000 00000000 44000000 00000000 18000300 00000000 \
@@ -204,8 +206,8 @@ fn reads_actions(rt: HostRuntime) -> Result<(), Fail> {
         00000000 48000100 44000100 09000100 766c616e 00000000 06000600 dead0000 0c000700 01000000 01000000 \
             0c000800 02000000 03000000 08000a00 00000000 0c000280 05000600 03000000 => [Actions([TcAction { \
             tab: 1, attributes: [Kind(\"vlan\"), Cookie([222, 173]), Flags(TcBitfield { value: 1, selector: \
-            1 }), HwStats(TcBitfield { value: 2, selector: 3 }), InHwCount(0), Options(Other([5, 0, 6, 0, \
-            3, 0, 0, 0]))] }])]";
+            1 }), HwStats(TcBitfield { value: 2, selector: 3 }), InHwCount(0), \
+            Options(Vlan([PushVlanPriority(3)]))] }])]";
     messages::<TcActionMessage>(&rt, "", lines)
 }
 

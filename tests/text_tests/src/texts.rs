@@ -13,9 +13,9 @@ fn of_reading(rt: HostRuntime) -> Result<(), Fail> {
     };
     says(&rt, DecodeError::OutOfMemory, "out of memory")?;
     let fault = DecodeError::NotUtf8 { at };
-    says(&rt, fault, "no UTF-8 at At { set: Route, number: 2 }")?;
+    says(&rt, fault, "no UTF-8 at attribute 2 of Route")?;
     let fault = DecodeError::Unsupported { at };
-    let text = "an unsupported header at At { set: Route, number: 2 }";
+    let text = "an unsupported header at attribute 2 of Route";
     says(&rt, fault, text)
 }
 

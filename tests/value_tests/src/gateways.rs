@@ -55,14 +55,14 @@ fn addresses(rt: &impl AllocGlobal, family: AddressFamily, lines: &str) -> Resul
 fn addresses_of_ip(rt: HostRuntime) -> Result<(), Fail> {
     let lines = "
         0a000001 => Inet(10.0.0.1)
-        20010d => a value of 3 bytes at At { set: Route, number: 1 }
-        20010db8000000000000000000000001 => a value of 16 bytes at At { set: Route, number: 1 }";
+        20010d => a value of 3 bytes at attribute 1 of Route
+        20010db8000000000000000000000001 => a value of 16 bytes at attribute 1 of Route";
     addresses(&rt, AddressFamily::Inet, lines)?;
     let lines = "
         20010db8000000000000000000000001 => \
             Inet6(2001:db8::1)
-        20010db8 => a value of 4 bytes at At { set: Route, number: 1 }
-        20010db80000000000000000000000 => a value of 15 bytes at At { set: Route, number: 1 }";
+        20010db8 => a value of 4 bytes at attribute 1 of Route
+        20010db80000000000000000000000 => a value of 15 bytes at attribute 1 of Route";
     addresses(&rt, AddressFamily::Inet6, lines)
 }
 
@@ -71,8 +71,8 @@ fn addresses_of_ip(rt: HostRuntime) -> Result<(), Fail> {
 fn addresses_of_other_families(rt: HostRuntime) -> Result<(), Fail> {
     let lines = "
         000641ff => Mpls(MplsLabel { label: 100, traffic_class: 0, bottom_of_stack: true, ttl: 255 })
-        20010d => a value of 3 bytes at At { set: Route, number: 1 }
-        20010db8 00000000 => a value of 8 bytes at At { set: Route, number: 1 }";
+        20010d => a value of 3 bytes at attribute 1 of Route
+        20010db8 00000000 => a value of 8 bytes at attribute 1 of Route";
     addresses(&rt, AddressFamily::Mpls, lines)?;
     addresses(
         &rt,
@@ -138,8 +138,8 @@ fn gateways(rt: HostRuntime) -> Result<(), Fail> {
         c800 => Other((Other(200), []))
         02 => 1 bytes, where a header of 2 is wanted
         0201 0a000001 => a gateway of address family 258
-        0200 0a0000 => a value of 3 bytes at At { set: Route, number: 1 }
-        0a00 0a000001 => a value of 4 bytes at At { set: Route, number: 1 }";
+        0200 0a0000 => a value of 3 bytes at attribute 1 of Route
+        0a00 0a000001 => a value of 4 bytes at attribute 1 of Route";
     for line in lines.lines() {
         if let Some((digits, text)) = line.split_once("=>") {
             is_gateway(&rt, digits, text.trim())?;

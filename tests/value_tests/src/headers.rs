@@ -193,20 +193,20 @@ fn a_trace_alone(rt: HostRuntime) -> Result<(), Fail> {
 fn unreadable_headers_alone(rt: HostRuntime) -> Result<(), Fail> {
     let bytes = bytes_of(&rt, &["1c000200 29030400 0000002a", FIRST_TEXT])?;
     let item = NlaBuffer::new_checked(bytes.as_slice())?;
-    let text = "an unsupported header at At { set: Seg6Local, number: 2 }";
+    let text = "an unsupported header at attribute 2 of Seg6Local";
     is_alone::<Seg6LocalSrh>(&rt, &item, text)?;
     let bytes = bytes_of(&rt, &["1c000100 00020301 01000000", FIRST_TEXT])?;
     let item = NlaBuffer::new_checked(bytes.as_slice())?;
-    let text = "an unsupported header at At { set: Rpl, number: 1 }";
+    let text = "an unsupported header at attribute 1 of Rpl";
     is_alone::<RplSrh>(&rt, &item, text)
 }
 
 #[test]
 fn nine_bytes_alone(rt: HostRuntime) -> Result<(), Fail> {
     let item = NlaBuffer::new_checked(&[13, 0, 1, 0, 0, 0, 0, 0, 0, 0, 0, 0, 0, 0, 0, 0])?;
-    let text = "an unsupported header at At { set: Rpl, number: 1 }";
+    let text = "an unsupported header at attribute 1 of Rpl";
     is_alone::<RplSrh>(&rt, &item, text)?;
     let item = NlaBuffer::new_checked(&[13, 0, 3, 0, 0, 0, 0, 0, 0, 0, 0, 0, 0, 0, 0, 0])?;
-    let text = "an unsupported header at At { set: Ioam6, number: 3 }";
+    let text = "an unsupported header at attribute 3 of Ioam6";
     is_alone::<Ioam6TraceHdr>(&rt, &item, text)
 }

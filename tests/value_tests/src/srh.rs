@@ -28,11 +28,11 @@ fn members_of_seg6(rt: HostRuntime) -> Result<(), Fail> {
             Seg6(Seg6Header { mode: Inline, segments: [], hmac: None })
         14000100 00000000 00000400 00000000 aabbccdd -> 10000100 00000000 00000400 00000000 => \
             Seg6(Seg6Header { mode: Inline, segments: [], hmac: None })
-        0f000100 00000000 00000000 000000 => a SEG6 routing header: Short
-        10000100 00000000 00020400 00000000 => a SEG6 routing header: Length
-        18000100 00000000 00010400 00080000 0000000000000000 => a SEG6 routing header: Hmac
-        18000100 00000000 00010400 00000000 0000000000000000 => a SEG6 routing header: Segments
-        18000100 00000000 00060400 00080000 0000000000000000 => a SEG6 routing header: Length";
+        0f000100 00000000 00000000 000000 => a SEG6 routing header without its fixed part
+        10000100 00000000 00020400 00000000 => a SEG6 routing header of another length than it states
+        18000100 00000000 00010400 00080000 0000000000000000 => a SEG6 routing header without room for its HMAC
+        18000100 00000000 00010400 00000000 0000000000000000 => a SEG6 routing header of segments that are not whole
+        18000100 00000000 00060400 00080000 0000000000000000 => a SEG6 routing header of another length than it states";
     members::<RouteSeg6IpTunnel>(&rt, (), lines)
 }
 

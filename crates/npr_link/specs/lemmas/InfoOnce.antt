@@ -8,7 +8,8 @@ use Rattle.npr_base.specs.lemmas.Fails.{FailsOnce, InsideOnce, list-once, once_t
 use Rattle.npr_link.specs.Governing.{Forms}
 use Rattle.npr_link.specs.Info as OfInfo
 use Rattle.npr_link.specs.InfoData.{info_data}
-use Rattle.npr_link.specs.Peer.{peer_looking}
+use Rattle.npr_base.specs.MessageValue.{value_looking}
+use Rattle.npr_link.specs.Header.{header, default_header}
 use Rattle.npr_link.specs.PeerAttribute as OfPeer
 use Rattle.npr_link.specs.PortData.{port_data}
 use Rattle.npr_link_bridge.specs.QuerierState as OfQuerier
@@ -141,7 +142,7 @@ vlan_once : FailsOnce OfVlan.attributes.looks
 unfolding OfVlan.attributes
 vlan_once = rows-once vlan_enum.parts OfVlan.table.rows (list-once OfQos.attributes qos_once, (list-once OfQos.attributes qos_once, tt))
 
-peer_once : FailsOnce peer_looking
+peer_once : FailsOnce (value_looking OfPeer.family header default_header)
 unfolding MessageLooks
 peer_once bytes old new (inl (short, p)) = omega (arith, ap (λ (c : Counts). c.failed) p)
 peer_once bytes old new (inr (front, rest, is, size, t)) = list-once OfPeer.attributes peer_attribute_once rest old new t

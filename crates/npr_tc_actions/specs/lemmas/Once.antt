@@ -14,35 +14,48 @@ use Rattle.npr_tc_actions.specs.contracts.attribute.TcActionAttribute.{enum}
 use Rattle.npr_tc_actions.specs.contracts.mirror_option.TcActionMirrorOption.{enum as mirror_enum}
 use Rattle.npr_tc_actions.specs.contracts.nat_option.TcActionNatOption.{enum as nat_enum}
 use Rattle.npr_tc_actions.specs.contracts.tunnel_key_option.TcActionTunnelKeyOption.{enum as tunnel_key_enum}
+use Rattle.npr_tc_actions.specs.contracts.gact_option.TcActionGactOption.{enum as gact_enum}
+use Rattle.npr_tc_actions.specs.contracts.police_option.TcActionPoliceOption.{enum as police_enum}
+use Rattle.npr_tc_actions.specs.contracts.vlan_option.TcActionVlanOption.{enum as vlan_enum}
+use Rattle.npr_tc_actions.specs.contracts.skbedit_option.TcActionSkbeditOption.{enum as skbedit_enum}
+use Rattle.npr_tc_actions.specs.contracts.csum_option.TcActionCsumOption.{enum as csum_enum}
+use Rattle.npr_tc_actions.specs.contracts.ct_option.TcActionCtOption.{enum as ct_enum}
+use Rattle.npr_tc_actions.specs.contracts.sample_option.TcActionSampleOption.{enum as sample_enum}
+use Rattle.npr_tc_actions.specs.contracts.bpf_option.TcActionBpfOption.{enum as bpf_enum}
 use Rattle.npr_tc_actions.specs.declared.form.TcActionForm.{TcActionForm}
+use Rattle.npr_tc_actions.specs.GactOption as OfGact
+use Rattle.npr_tc_actions.specs.PoliceOption as OfPolice
+use Rattle.npr_tc_actions.specs.VlanOption as OfVlan
+use Rattle.npr_tc_actions.specs.SkbeditOption as OfSkbedit
+use Rattle.npr_tc_actions.specs.CsumOption as OfCsum
+use Rattle.npr_tc_actions.specs.CtOption as OfCt
+use Rattle.npr_tc_actions.specs.SampleOption as OfSample
+use Rattle.npr_tc_actions.specs.BpfOption as OfBpf
 use Rattle.npr_tc_actions.specs.MirrorOption as OfMirror
 use Rattle.npr_tc_actions.specs.NatOption as OfNat
 use Rattle.npr_tc_actions.specs.TunnelKeyOption as OfTunnelKey
 
 -- ---- one failed look
 
-mirror_once : FailsOnce OfMirror.attributes.looks
-unfolding OfMirror.attributes
-mirror_once = rows-once mirror_enum.parts OfMirror.table.rows tt
-
-nat_once : FailsOnce OfNat.attributes.looks
-unfolding OfNat.attributes
-nat_once = rows-once nat_enum.parts OfNat.table.rows tt
-
-tunnel_key_once : FailsOnce OfTunnelKey.attributes.looks
-unfolding OfTunnelKey.attributes
-tunnel_key_once = rows-once tunnel_key_enum.parts OfTunnelKey.table.rows tt
-
 options_once : (form : TcActionForm) → InsideOnce (action_option form).members.looks
-options_once TcActionForm.Mirror = list-once OfMirror.attributes mirror_once
-options_once TcActionForm.Nat = list-once OfNat.attributes nat_once
-options_once TcActionForm.TunnelKey = list-once OfTunnelKey.attributes tunnel_key_once
+unfolding OfMirror.attributes OfNat.attributes OfTunnelKey.attributes OfGact.attributes OfPolice.attributes OfVlan.attributes OfSkbedit.attributes OfCsum.attributes OfCt.attributes OfSample.attributes OfBpf.attributes
+options_once TcActionForm.Mirror = list-once OfMirror.attributes (rows-once mirror_enum.parts OfMirror.table.rows tt)
+options_once TcActionForm.Nat = list-once OfNat.attributes (rows-once nat_enum.parts OfNat.table.rows tt)
+options_once TcActionForm.TunnelKey = list-once OfTunnelKey.attributes (rows-once tunnel_key_enum.parts OfTunnelKey.table.rows tt)
+options_once TcActionForm.Gact = list-once OfGact.attributes (rows-once gact_enum.parts OfGact.table.rows tt)
+options_once TcActionForm.Police = list-once OfPolice.attributes (rows-once police_enum.parts OfPolice.table.rows tt)
+options_once TcActionForm.Vlan = list-once OfVlan.attributes (rows-once vlan_enum.parts OfVlan.table.rows tt)
+options_once TcActionForm.Skbedit = list-once OfSkbedit.attributes (rows-once skbedit_enum.parts OfSkbedit.table.rows tt)
+options_once TcActionForm.Csum = list-once OfCsum.attributes (rows-once csum_enum.parts OfCsum.table.rows tt)
+options_once TcActionForm.Ct = list-once OfCt.attributes (rows-once ct_enum.parts OfCt.table.rows tt)
+options_once TcActionForm.Sample = list-once OfSample.attributes (rows-once sample_enum.parts OfSample.table.rows tt)
+options_once TcActionForm.Bpf = list-once OfBpf.attributes (rows-once bpf_enum.parts OfBpf.table.rows tt)
 options_once TcActionForm.Kept = tt
 
 pub attributes_once : (form : TcActionForm) → FailsOnce (attributes form).looks
 attributes_once form =
     rows-once enum.parts (table form).rows
-    (once_then (action_option form).members.looks _ (options_once form) (list-once (OfStats2.attributes NoData) (stats2_once NoData), tt))
+    (once_then (action_option form).members.looks _ (options_once form) (list-once (OfStats2.attributes NoData) stats2_once, tt))
 
 -- ---- a kind is read alike
 

@@ -1,5 +1,7 @@
-use Rattle.npr_tc_actions.proofs.EqualityLaws.{form_equality, action_type_equality, mirror_action_type_equality, nat_flags_equality, generic_equality}
-use Rattle.npr_tc_actions.proofs.EqualityLaws.{times_equality, mirror_equality, nat_equality, tunnel_key_equality}
+use Rattle.npr_tc_actions.proofs.ValueEquality.{form_equality, action_type_equality, mirror_action_type_equality, nat_flags_equality, generic_equality}
+use Rattle.npr_tc_actions.proofs.ValueEquality.{times_equality, mirror_equality, nat_equality, tunnel_key_equality}
+use Rattle.npr_tc_actions.proofs.KindEquality.{vlan_action_type_equality, csum_flags_equality, ct_flags_equality, police_equality, vlan_equality}
+use Rattle.npr_tc_actions.proofs.KindEquality.{csum_equality, gact_probability_equality, bpf_instruction_equality}
 use Rattle.npr_tc_actions.proofs.laws.law_equality.Goals as goal
 
 pub returns : goal.returns
@@ -13,4 +15,12 @@ returns c = record {
   mirror = mirror_equality;
   nat = nat_equality;
   tunnel_key = tunnel_key_equality;
+  vlan_action_type = vlan_action_type_equality;
+  csum_flags = csum_flags_equality;
+  ct_flags = ct_flags_equality;
+  police = police_equality;
+  vlan = vlan_equality;
+  csum = csum_equality;
+  gact_probability = gact_probability_equality;
+  bpf_instruction = bpf_instruction_equality;
 }

@@ -1,5 +1,8 @@
 use Rattle.npr_tc_qdiscs.proofs.EqualityLaws.{cl_stats_equality, fq_codel_equality, fq_codel_xstats_equality, ingress_equality, qd_stats_equality}
 use Rattle.npr_tc_qdiscs.proofs.EqualityLaws.{stab_data_equality, stab_equality, stats2_equality, xstats_equality}
+use Rattle.npr_tc_qdiscs.proofs.EqualityLaws.{htb_xstats_equality}
+use Rattle.npr_tc_qdiscs.proofs.KindEquality.{htb_equality, tbf_equality, red_equality, fq_equality, netem_loss_equality}
+use Rattle.npr_tc_qdiscs.proofs.KindEquality.{netem_option_equality, fq_weights_equality, netem_equality}
 use Rattle.npr_tc_qdiscs.proofs.laws.law_equality_of_meanings.Goals as goal
 
 pub returns : goal.returns
@@ -12,5 +15,14 @@ returns c = record {
   fq_codel = fq_codel_equality;
   ingress = ingress_equality;
   stab = stab_equality;
+  htb_xstats = htb_xstats_equality;
+  htb = htb_equality;
+  tbf = tbf_equality;
+  red = red_equality;
+  fq = fq_equality;
+  netem_loss = netem_loss_equality;
+  netem_option = netem_option_equality;
+  fq_weights = fq_weights_equality;
+  netem = netem_equality;
   stats2 = stats2_equality;
 }

@@ -1,6 +1,6 @@
 use Rattle.std.proofs.Common.{◌≡◌, rules, sym, ◌∙◌}
 use Rattle.std.proofs.lemmas.Result.{IfOk-weaker}
-use Rattle.npr_tc.specs.Steps.{said_reads, rest_reads}
+use Rattle.npr_tc.specs.lemmas.Steps.{said_reads, rest_reads}
 use Rattle.npr_tc.proofs.attribute.TcAttributeAttribute.read_into.Goals as goal
 
 pub returns-in-2-clause-ok : goal.returns-in-2-clause-ok

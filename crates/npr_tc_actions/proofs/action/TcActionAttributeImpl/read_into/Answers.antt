@@ -11,3 +11,9 @@ pub returns-clause-ok : goal.returns-clause-ok
 returns-clause-ok g c =
     let reads = rw c.value.ensures at c.in_ok-attributes.ensures.ok in
     (record { tab = c.kind.result; attributes = c.in_ok-attributes.attributes }, c.put.ensures, (c.kind.ensures, reads))
+
+pub returns-in_err-attributes-clause-exact : goal.returns-in_err-attributes-clause-exact
+returns-in_err-attributes-clause-exact g c =
+    let p = err_from_is_err_and c.from_residual.result c.from_residual.ensures.1 in
+    let looks = rw c.value.ensures at c.in_err-attributes.ensures.exact in
+    rw (p.1, p.2) (λ answered. looks answered)

@@ -1,59 +1,49 @@
 -- An attribute of a message of traffic control is read by its number: the data, which the kind governs, and the others.
 use Rattle.std.specs.Prelude.{◌≢◌, ◌==◌}
-use Rattle.std.specs.declared.alloc.Global.{Global}
-use Rattle.std.specs.declared.vec.Vec.{Vec}
-use Rattle.std.proofs.Common.{◌≡◌, ℕ, true, false, map, refl, ap, subst, sym, inl, inr}
+use Rattle.std.proofs.Common.{◌≡◌, ℕ, true, false, refl, ap, subst, sym, inl, inr}
 use Rattle.std.proofs.lemmas.Bool.{ne_eqb}
 use Rattle.npr_base.specs.Counts.{Counts}
 use Rattle.npr_base.specs.declared.refusal.DecodeError.{DecodeError}
 use Rattle.npr_base.specs.Framing.{Item, number_of}
-use Rattle.npr_tc_filters.specs.Flower as OfFlower
-use Rattle.npr_tc_filters.specs.MatchAll as OfMatchAll
-use Rattle.npr_tc_filters.specs.U32Option as OfU32
-use Rattle.npr_tc_filters.specs.declared.flower.TcFilterFlowerOption.{TcFilterFlowerOption}
-use Rattle.npr_tc_filters.specs.declared.match_all.TcFilterMatchAllOption.{TcFilterMatchAllOption}
-use Rattle.npr_tc_filters.specs.declared.u32_option.TcFilterU32Option.{TcFilterU32Option}
-use Rattle.npr_tc_qdiscs.specs.FqCodel as OfFqCodel
-use Rattle.npr_tc_qdiscs.specs.Ingress as OfIngress
+use Rattle.npr_base.specs.Looks.{Inside, nothing, looked_through, TakesInside}
+use Rattle.npr_base.specs.ByNumber.{looking_within}
 use Rattle.npr_tc_qdiscs.specs.declared.form.TcForm.{TcForm}
-use Rattle.npr_tc_qdiscs.specs.declared.fq_codel.TcQdiscFqCodelOption.{TcQdiscFqCodelOption}
-use Rattle.npr_tc_qdiscs.specs.declared.ingress.TcQdiscIngressOption.{TcQdiscIngressOption}
 use Rattle.npr_tc.specs.Attribute.{Meaning, meaning, attributes, rest, IsRest, MeansSaid, RestReads}
-use Rattle.npr_tc.specs.Options.{Said, options, unknown, fq_codel, ingress, clsact, u32, flower, match_all, said}
+use Rattle.npr_tc.specs.Options.{AreData, AreNoData, TakesLooks, Kind, kept, holding, Options, Said, kind_of, options, options_of, said, said_by, unknown}
 use Rattle.npr_tc.specs.declared.attribute.TcAttribute.{TcAttribute}
 use Rattle.npr_tc.specs.declared.option.TcOption.{TcOption}
 
 -- ---- what data mean
 
-pub fq_codel_means : (v : Vec TcQdiscFqCodelOption Global)
-    → MeansSaid (TcAttribute.Options (TcOption.FqCodel v)) (options (fq_codel (map OfFqCodel.family.meaning v.items)))
+pub options_mean : (o : TcOption) → MeansSaid (TcAttribute.Options o) (options (options_of o))
 unfolding MeansSaid
-fq_codel_means v = refl
+options_mean o = refl
 
-pub ingress_means : (v : Vec TcQdiscIngressOption Global)
-    → MeansSaid (TcAttribute.Options (TcOption.Ingress v)) (options (ingress (map OfIngress.family.meaning v.items)))
-unfolding MeansSaid
-ingress_means v = refl
+-- the bytes of data are read as the attribute is
+by_kind : (k : Kind) (x : Item) (o : Options) → AreData k x.value o → (said_by k).Reads x (options o)
+by_kind kept x o none = absurd none
+by_kind (holding codec made is) x o (v, reads, same) = (v, reads, ap options same)
 
-pub clsact_means : (v : Vec TcQdiscIngressOption Global)
-    → MeansSaid (TcAttribute.Options (TcOption.Clsact v)) (options (clsact (map OfIngress.family.meaning v.items)))
-unfolding MeansSaid
-clsact_means v = refl
+pub data_read : (form : TcForm) (x : Item) (o : Options) → AreData (kind_of form) x.value o → (said form).Reads x (options o)
+data_read form = by_kind (kind_of form)
 
-pub u32_means : (v : Vec TcFilterU32Option Global)
-    → MeansSaid (TcAttribute.Options (TcOption.U32 v)) (options (u32 (map OfU32.family.meaning v.items)))
-unfolding MeansSaid
-u32_means v = refl
+wrong_by_kind : (k : Kind) (x : Item) (e : DecodeError) → AreNoData k x.value e → (said_by k).Faulty x e
+wrong_by_kind kept x e wrong = absurd wrong
+wrong_by_kind (holding codec made is) x e wrong = wrong
 
-pub flower_means : (v : Vec TcFilterFlowerOption Global)
-    → MeansSaid (TcAttribute.Options (TcOption.Flower v)) (options (flower (map OfFlower.family.meaning v.items)))
-unfolding MeansSaid
-flower_means v = refl
+pub data_wrong : (form : TcForm) (x : Item) (e : DecodeError) → AreNoData (kind_of form) x.value e → (said form).Faulty x e
+data_wrong form = wrong_by_kind (kind_of form)
 
-pub match_all_means : (v : Vec TcFilterMatchAllOption Global)
-    → MeansSaid (TcAttribute.Options (TcOption.MatchAll v)) (options (match_all (map OfMatchAll.family.meaning v.items)))
-unfolding MeansSaid
-match_all_means v = refl
+taken_within : (i : Inside) (x : Item) (old new : Counts) → TakesInside i x.value old new → (looking_within i).Takes x old new
+taken_within nothing x old new t = t
+taken_within (looked_through l) x old new t = t
+
+looks_by_kind : (k : Kind) (x : Item) (old new : Counts) → TakesLooks k x.value old new → (said_by k).looks.Takes x old new
+looks_by_kind kept x old new t = absurd t
+looks_by_kind (holding codec made is) x old new t = taken_within codec.members.looks x old new t
+
+pub data_looks : (form : TcForm) (x : Item) (old new : Counts) → TakesLooks (kind_of form) x.value old new → (said form).looks.Takes x old new
+data_looks form = looks_by_kind (kind_of form)
 
 pub unknown_means : (x : Item) → MeansSaid (TcAttribute.OptionsUnknown x) (unknown x)
 unfolding MeansSaid

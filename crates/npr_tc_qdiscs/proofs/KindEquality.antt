@@ -1,0 +1,187 @@
+-- What `==` answers of the data of kinds: whether two values are equal, or mean the same.
+use Rattle.std.specs.Cmp.{signed_Decides, unsigned_Decides}
+use Rattle.std.proofs.Common.{refl, ap}
+use Rattle.npr_base.proofs.EqualityLaws.{one_equality}
+use Rattle.npr_base.proofs.FieldEquality.{one, list, number, bytes, kept, nothing}
+use Rattle.npr_base.proofs.MeaningLaws.{items_equality, items_meaning}
+use Rattle.npr_base.proofs.StructLaws.{◌beside◌, and_decides, decides_as, struct_equality}
+use Rattle.npr_base.specs.EnumTable.{◌also◌}
+use Rattle.npr_base.specs.Equality.{IsEquality, IsEqualityOf}
+use Rattle.npr_base.specs.Tables.{table_decides}
+use Rattle.npr_base.specs.ViewEquality.{bytes_equality}
+use Rattle.npr_tc_qdiscs.proofs.EqualityLaws.{bitfield_equality}
+use Rattle.npr_base.specs.Message.{View}
+use Rattle.npr_tc_qdiscs.specs.Fq as OfFq
+use Rattle.npr_tc_qdiscs.specs.FqWeights.{fq_weights_of}
+use Rattle.npr_tc_qdiscs.specs.Htb as OfHtb
+use Rattle.npr_tc_qdiscs.specs.Netem.{netems, netem_of}
+use Rattle.npr_tc_qdiscs.specs.NetemLoss as OfNetemLoss
+use Rattle.npr_tc_qdiscs.specs.NetemOption as OfNetemOption
+use Rattle.npr_tc_qdiscs.specs.Red as OfRed
+use Rattle.npr_tc_qdiscs.specs.Tbf as OfTbf
+use Rattle.npr_tc_qdiscs.specs.contracts.fifo_qopt.TcFifoQopt.{struct as fifo_qopt_struct}
+use Rattle.npr_tc_qdiscs.specs.contracts.fifo_qopt.TcFifoQoptPartialEq.TheImpl as FifoQoptEq
+use Rattle.npr_tc_qdiscs.specs.contracts.fq.TcQdiscFqOptionPartialEq.TheImpl as QdiscFqOptionEq
+use Rattle.npr_tc_qdiscs.specs.contracts.fq_weights.TcFqWeightsPartialEq.TheImpl as FqWeightsEq
+use Rattle.npr_tc_qdiscs.specs.contracts.htb.TcQdiscHtbOptionPartialEq.TheImpl as QdiscHtbOptionEq
+use Rattle.npr_tc_qdiscs.specs.contracts.htb_glob.TcHtbGlob.{struct as htb_glob_struct}
+use Rattle.npr_tc_qdiscs.specs.contracts.htb_glob.TcHtbGlobPartialEq.TheImpl as HtbGlobEq
+use Rattle.npr_tc_qdiscs.specs.contracts.htb_opt.TcHtbOpt.{struct as htb_opt_struct}
+use Rattle.npr_tc_qdiscs.specs.contracts.htb_opt.TcHtbOptPartialEq.TheImpl as HtbOptEq
+use Rattle.npr_tc_qdiscs.specs.contracts.netem.TcNetemPartialEq.TheImpl as NetemEq
+use Rattle.npr_tc_qdiscs.specs.contracts.netem_corr.TcNetemCorr.{struct as netem_corr_struct}
+use Rattle.npr_tc_qdiscs.specs.contracts.netem_corr.TcNetemCorrPartialEq.TheImpl as NetemCorrEq
+use Rattle.npr_tc_qdiscs.specs.contracts.netem_corrupt.TcNetemCorrupt.{struct as netem_corrupt_struct}
+use Rattle.npr_tc_qdiscs.specs.contracts.netem_corrupt.TcNetemCorruptPartialEq.TheImpl as NetemCorruptEq
+use Rattle.npr_tc_qdiscs.specs.contracts.netem_ge_model.TcNetemGeModel.{struct as netem_ge_model_struct}
+use Rattle.npr_tc_qdiscs.specs.contracts.netem_ge_model.TcNetemGeModelPartialEq.TheImpl as NetemGeModelEq
+use Rattle.npr_tc_qdiscs.specs.contracts.netem_gi_model.TcNetemGiModel.{struct as netem_gi_model_struct}
+use Rattle.npr_tc_qdiscs.specs.contracts.netem_gi_model.TcNetemGiModelPartialEq.TheImpl as NetemGiModelEq
+use Rattle.npr_tc_qdiscs.specs.contracts.netem_loss.TcNetemLossPartialEq.TheImpl as NetemLossEq
+use Rattle.npr_tc_qdiscs.specs.contracts.netem_option.TcQdiscNetemOptionPartialEq.TheImpl as QdiscNetemOptionEq
+use Rattle.npr_tc_qdiscs.specs.contracts.netem_qopt.TcNetemQopt.{struct as netem_qopt_struct}
+use Rattle.npr_tc_qdiscs.specs.contracts.netem_qopt.TcNetemQoptPartialEq.TheImpl as NetemQoptEq
+use Rattle.npr_tc_qdiscs.specs.contracts.netem_rate.TcNetemRate.{struct as netem_rate_struct}
+use Rattle.npr_tc_qdiscs.specs.contracts.netem_rate.TcNetemRatePartialEq.TheImpl as NetemRateEq
+use Rattle.npr_tc_qdiscs.specs.contracts.netem_reorder.TcNetemReorder.{struct as netem_reorder_struct}
+use Rattle.npr_tc_qdiscs.specs.contracts.netem_reorder.TcNetemReorderPartialEq.TheImpl as NetemReorderEq
+use Rattle.npr_tc_qdiscs.specs.contracts.netem_slot.TcNetemSlot.{struct as netem_slot_struct}
+use Rattle.npr_tc_qdiscs.specs.contracts.netem_slot.TcNetemSlotPartialEq.TheImpl as NetemSlotEq
+use Rattle.npr_tc_qdiscs.specs.contracts.prio_qopt.TcPrioQopt.{struct as prio_qopt_struct}
+use Rattle.npr_tc_qdiscs.specs.contracts.prio_qopt.TcPrioQoptPartialEq.TheImpl as PrioQoptEq
+use Rattle.npr_tc_qdiscs.specs.contracts.rate_spec.TcRateSpec.{struct as rate_spec_struct}
+use Rattle.npr_tc_qdiscs.specs.contracts.rate_spec.TcRateSpecPartialEq.TheImpl as RateSpecEq
+use Rattle.npr_tc_qdiscs.specs.contracts.red.TcQdiscRedOptionPartialEq.TheImpl as QdiscRedOptionEq
+use Rattle.npr_tc_qdiscs.specs.contracts.red_qopt.TcRedQopt.{struct as red_qopt_struct}
+use Rattle.npr_tc_qdiscs.specs.contracts.red_qopt.TcRedQoptPartialEq.TheImpl as RedQoptEq
+use Rattle.npr_tc_qdiscs.specs.contracts.tbf.TcQdiscTbfOptionPartialEq.TheImpl as QdiscTbfOptionEq
+use Rattle.npr_tc_qdiscs.specs.contracts.tbf_qopt.TcTbfQopt.{struct as tbf_qopt_struct}
+use Rattle.npr_tc_qdiscs.specs.contracts.tbf_qopt.TcTbfQoptPartialEq.TheImpl as TbfQoptEq
+
+-- ---- structures
+
+pub rate_spec_equality : IsEquality RateSpecEq.ghosts.eq
+rate_spec_equality =
+    struct_equality rate_spec_struct (λ v. tt) (λ d. refl)
+    (unsigned_Decides beside unsigned_Decides beside unsigned_Decides beside signed_Decides beside unsigned_Decides
+    beside one_equality unsigned_Decides)
+
+pub htb_opt_equality : IsEquality HtbOptEq.ghosts.eq
+htb_opt_equality =
+    struct_equality htb_opt_struct (λ v. tt) (λ d. refl)
+    (rate_spec_equality beside rate_spec_equality beside unsigned_Decides beside unsigned_Decides beside unsigned_Decides beside unsigned_Decides
+    beside one_equality unsigned_Decides)
+
+pub htb_glob_equality : IsEquality HtbGlobEq.ghosts.eq
+htb_glob_equality =
+    struct_equality htb_glob_struct (λ v. tt) (λ d. refl)
+    (unsigned_Decides beside unsigned_Decides beside unsigned_Decides beside unsigned_Decides beside one_equality unsigned_Decides)
+
+pub tbf_qopt_equality : IsEquality TbfQoptEq.ghosts.eq
+tbf_qopt_equality =
+    struct_equality tbf_qopt_struct (λ v. tt) (λ d. refl)
+    (rate_spec_equality beside rate_spec_equality beside unsigned_Decides beside unsigned_Decides beside one_equality unsigned_Decides)
+
+pub red_qopt_equality : IsEquality RedQoptEq.ghosts.eq
+red_qopt_equality =
+    struct_equality red_qopt_struct (λ v. tt) (λ d. refl)
+    (unsigned_Decides beside unsigned_Decides beside unsigned_Decides beside unsigned_Decides beside unsigned_Decides beside unsigned_Decides
+    beside one_equality unsigned_Decides)
+
+pub prio_qopt_equality : IsEquality PrioQoptEq.ghosts.eq
+prio_qopt_equality =
+    struct_equality prio_qopt_struct (λ v. tt) (λ d. refl)
+    (signed_Decides beside one_equality bytes_equality)
+
+pub fifo_qopt_equality : IsEquality FifoQoptEq.ghosts.eq
+fifo_qopt_equality =
+    struct_equality fifo_qopt_struct (λ v. tt) (λ d. refl)
+    (one_equality unsigned_Decides)
+
+pub netem_qopt_equality : IsEquality NetemQoptEq.ghosts.eq
+netem_qopt_equality =
+    struct_equality netem_qopt_struct (λ v. tt) (λ d. refl)
+    (unsigned_Decides beside unsigned_Decides beside unsigned_Decides beside unsigned_Decides beside unsigned_Decides
+    beside one_equality unsigned_Decides)
+
+pub netem_corr_equality : IsEquality NetemCorrEq.ghosts.eq
+netem_corr_equality =
+    struct_equality netem_corr_struct (λ v. tt) (λ d. refl)
+    (unsigned_Decides beside unsigned_Decides beside one_equality unsigned_Decides)
+
+pub netem_reorder_equality : IsEquality NetemReorderEq.ghosts.eq
+netem_reorder_equality =
+    struct_equality netem_reorder_struct (λ v. tt) (λ d. refl)
+    (unsigned_Decides beside one_equality unsigned_Decides)
+
+pub netem_corrupt_equality : IsEquality NetemCorruptEq.ghosts.eq
+netem_corrupt_equality =
+    struct_equality netem_corrupt_struct (λ v. tt) (λ d. refl)
+    (unsigned_Decides beside one_equality unsigned_Decides)
+
+pub netem_rate_equality : IsEquality NetemRateEq.ghosts.eq
+netem_rate_equality =
+    struct_equality netem_rate_struct (λ v. tt) (λ d. refl)
+    (unsigned_Decides beside signed_Decides beside unsigned_Decides beside one_equality signed_Decides)
+
+pub netem_slot_equality : IsEquality NetemSlotEq.ghosts.eq
+netem_slot_equality =
+    struct_equality netem_slot_struct (λ v. tt) (λ d. refl)
+    (signed_Decides beside signed_Decides beside signed_Decides beside signed_Decides beside signed_Decides beside one_equality signed_Decides)
+
+pub netem_gi_model_equality : IsEquality NetemGiModelEq.ghosts.eq
+netem_gi_model_equality =
+    struct_equality netem_gi_model_struct (λ v. tt) (λ d. refl)
+    (unsigned_Decides beside unsigned_Decides beside unsigned_Decides beside unsigned_Decides beside one_equality unsigned_Decides)
+
+pub netem_ge_model_equality : IsEquality NetemGeModelEq.ghosts.eq
+netem_ge_model_equality =
+    struct_equality netem_ge_model_struct (λ v. tt) (λ d. refl)
+    (unsigned_Decides beside unsigned_Decides beside unsigned_Decides beside one_equality unsigned_Decides)
+
+-- ---- bytes and numbers
+
+pub fq_weights_equality : IsEqualityOf fq_weights_of FqWeightsEq.ghosts.eq
+fq_weights_equality a b = items_equality signed_Decides a.numbers b.numbers
+
+-- ---- sets
+
+pub htb_equality : IsEqualityOf OfHtb.family.meaning QdiscHtbOptionEq.ghosts.eq
+htb_equality =
+    table_decides OfHtb.table _
+    (one htb_opt_equality also one htb_glob_equality also bytes also bytes also number also number also number also nothing also kept also tt)
+
+pub tbf_equality : IsEqualityOf OfTbf.family.meaning QdiscTbfOptionEq.ghosts.eq
+tbf_equality =
+    table_decides OfTbf.table _
+    (one tbf_qopt_equality also bytes also bytes also number also number also number also number also kept also tt)
+
+pub red_equality : IsEqualityOf OfRed.family.meaning QdiscRedOptionEq.ghosts.eq
+red_equality =
+    table_decides OfRed.table _
+    (one red_qopt_equality also bytes also number also one bitfield_equality also number also number also kept also tt)
+
+pub fq_equality : IsEqualityOf OfFq.family.meaning QdiscFqOptionEq.ghosts.eq
+fq_equality =
+    table_decides OfFq.table _
+    (number also number also number also number also number also number also number also number also number also number also number also
+    number also number also number also number also one prio_qopt_equality also one fq_weights_equality also number also kept also tt)
+
+pub netem_loss_equality : IsEqualityOf OfNetemLoss.family.meaning NetemLossEq.ghosts.eq
+netem_loss_equality =
+    table_decides OfNetemLoss.table _
+    (one netem_gi_model_equality also one netem_ge_model_equality also kept also tt)
+
+pub netem_option_equality : IsEqualityOf OfNetemOption.family.meaning QdiscNetemOptionEq.ghosts.eq
+netem_option_equality =
+    table_decides OfNetemOption.table _
+    (one netem_corr_equality also bytes also one netem_reorder_equality also one netem_corrupt_equality also list netem_loss_equality also
+    one netem_rate_equality also number also number also one signed_Decides also one signed_Decides also one netem_slot_equality also bytes also
+    number also kept also tt)
+
+pub netem_equality : IsEqualityOf netem_of NetemEq.ghosts.eq
+netem_equality a b =
+    decides_as
+    (λ p. λ i. record { header = p.0 i; attributes = p.1 i })
+    (λ e. (ap (λ (m : View netems). m.header) e, ap (λ (m : View netems). m.attributes) e))
+    (and_decides (netem_qopt_equality a.qopt b.qopt) (items_meaning OfNetemOption.family.meaning netem_option_equality a.options b.options))
