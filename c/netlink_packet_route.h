@@ -44,9 +44,9 @@
 
 /* The version of the library. While the first two numbers stay, structures, calls and numbers stay as they are, and others are added. */
 #define NPR_VERSION_MAJOR 0
-#define NPR_VERSION_MINOR 15
+#define NPR_VERSION_MINOR 16
 #define NPR_VERSION_PATCH 0
-#define NPR_VERSION "0.15.0"
+#define NPR_VERSION "0.16.0"
 
 /* The stack of a thread that is enough for every call and every input, in bytes: 1 MiB. The deepest
  * message takes some 773 KiB, and where a fault is looked for some 433 (measured). */
@@ -355,7 +355,69 @@ enum npr_family {
     /* TCA_SAMPLE_* of linux/tc_act/tc_sample.h. */
     NPR_FAMILY_TC_ACTION_SAMPLE = 95,
     /* TCA_ACT_BPF_* of linux/tc_act/tc_bpf.h. */
-    NPR_FAMILY_TC_ACTION_BPF = 96
+    NPR_FAMILY_TC_ACTION_BPF = 96,
+    /* TCA_CAKE_* of linux/pkt_sched.h. */
+    NPR_FAMILY_TC_QDISC_CAKE = 97,
+    /* TCA_CAKE_STATS_* of linux/pkt_sched.h. */
+    NPR_FAMILY_TC_CAKE_STAT = 98,
+    /* A list of cake's tins: the number of each is its place. */
+    NPR_FAMILY_TC_CAKE_TINS = 99,
+    /* TCA_CAKE_TIN_STATS_* of linux/pkt_sched.h. */
+    NPR_FAMILY_TC_CAKE_TIN_STAT = 100,
+    /* TCA_MQPRIO_* of linux/pkt_sched.h. */
+    NPR_FAMILY_TC_QDISC_MQPRIO = 101,
+    /* TCA_MQPRIO_TC_ENTRY_* of linux/pkt_sched.h. */
+    NPR_FAMILY_TC_MQPRIO_ENTRY = 102,
+    /* TCA_BASIC_* of linux/pkt_cls.h. */
+    NPR_FAMILY_TC_FILTER_BASIC = 103,
+    /* TCA_EMATCH_TREE_* of linux/pkt_cls.h. */
+    NPR_FAMILY_TC_EMATCH_TREE = 104,
+    /* A list of extended matches: the number of each is its place. */
+    NPR_FAMILY_TC_EMATCHES = 105,
+    /* TCA_FLOWER_KEY_CFM_* of linux/pkt_cls.h. */
+    NPR_FAMILY_TC_FLOWER_CFM = 106,
+    /* TCA_FLOWER_KEY_ENC_OPTS_* of linux/pkt_cls.h, the options of a tunnel. */
+    NPR_FAMILY_TC_ENC = 107,
+    /* TCA_FLOWER_KEY_ENC_OPT_GENEVE_* of linux/pkt_cls.h. */
+    NPR_FAMILY_TC_ENC_GENEVE = 108,
+    /* TCA_FLOWER_KEY_ENC_OPT_VXLAN_* of linux/pkt_cls.h. */
+    NPR_FAMILY_TC_ENC_VXLAN = 109,
+    /* TCA_FLOWER_KEY_ENC_OPT_ERSPAN_* of linux/pkt_cls.h. */
+    NPR_FAMILY_TC_ENC_ERSPAN = 110,
+    /* TCA_FLOWER_KEY_ENC_OPT_GTP_* of linux/pkt_cls.h. */
+    NPR_FAMILY_TC_ENC_GTP = 111,
+    /* TCA_FLOWER_KEY_ENC_OPT_PFCP_* of linux/pkt_cls.h. */
+    NPR_FAMILY_TC_ENC_PFCP = 112,
+    /* TCA_PEDIT_* of linux/tc_act/tc_pedit.h. */
+    NPR_FAMILY_TC_ACTION_PEDIT = 113,
+    /* TCA_PEDIT_KEY_EX of linux/tc_act/tc_pedit.h, the one entry in a list of entries. */
+    NPR_FAMILY_TC_PEDIT_KEYS_EX = 114,
+    /* TCA_PEDIT_KEY_EX_* of linux/tc_act/tc_pedit.h. */
+    NPR_FAMILY_TC_PEDIT_KEY_EX = 115,
+    /* IFLA_MCTP_* of linux/if_link.h. */
+    NPR_FAMILY_AF_SPEC_MCTP = 116,
+    /* DPLL_A_PIN_* of linux/dpll.h. */
+    NPR_FAMILY_LINK_DPLL_PIN = 117,
+    /* IFLA_HSR_* of linux/if_link.h. */
+    NPR_FAMILY_INFO_HSR = 118,
+    /* IFLA_OVPN_* of linux/if_link.h. */
+    NPR_FAMILY_INFO_OVPN = 119,
+    /* NFEA_* of linux/neighbour.h. */
+    NPR_FAMILY_NEIGHBOUR_FDB = 120,
+    /* IFLA_GTP_* of linux/if_link.h. */
+    NPR_FAMILY_INFO_GTP = 121,
+    /* IFLA_IPOIB_* of linux/if_link.h. */
+    NPR_FAMILY_INFO_IPOIB = 122,
+    /* IFLA_MACSEC_* of linux/if_link.h. */
+    NPR_FAMILY_INFO_MAC_SEC = 123,
+    /* IFLA_VF_INFO of linux/if_link.h, the one entry in a list of virtual functions. */
+    NPR_FAMILY_LINK_VF_INFO = 124,
+    /* IFLA_VF_* of linux/if_link.h. */
+    NPR_FAMILY_VF_INFO = 125,
+    /* IFLA_VF_STATS_* of linux/if_link.h. */
+    NPR_FAMILY_VF_STATS = 126,
+    /* IFLA_VF_VLAN_INFO of linux/if_link.h, the one entry in a list of VLANs. */
+    NPR_FAMILY_VF_VLAN = 127
 };
 
 /* What is wrong with a SEG6 routing header (RFC 8754, section 2). */

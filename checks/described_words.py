@@ -11,7 +11,9 @@ FAMILIES = {"family": ["Ip", "Ip6"]}
 SHAPES = {"byte": "u8", "boolean": "u8", "le16": "u16", "le32": "u32", "le64": "u64", "signed32": "s32", "signed64": "s64", "uint": "uint",
           "be16": "u16 big endian", "be32": "u32 big endian", "be64": "u64 big endian", "ip_protocol_byte": "u8", "one_byte": "u8",
           "family_byte": "u8", "le_two": "u16", "le_four": "u32", "le_eight": "u64", "be_two": "u16 big endian", "be_four": "u32 big endian",
-          "signed_four": "s32", "signed_one": "s8", "signed_two": "s16", "signed_eight": "s64", "bytes_field 4": "4 bytes", "bytes_field 6": "6 bytes", "bytes_field 16": "16 bytes", "octets4": "4 bytes", "octets16": "16 bytes", "octets": "{} bytes",
+          "signed_four": "s32", "signed_one": "s8", "signed_two": "s16", "signed_eight": "s64", "bytes_field 4": "4 bytes", "bytes_field 6": "6 bytes", "bytes_field 16": "16 bytes", "bytes_field 32": "32 bytes",
+          "words_field 16": "32 bytes",
+          "octets4": "4 bytes", "octets16": "16 bytes", "octets": "{} bytes",
           "mpls_label": "4 bytes", "ip": "4 or 16 bytes", "addresses": "list of {} bytes", "raw": "bytes", "via_value": "bytes",
           "headed": "bytes", "kept": "bytes", "kept_case": "bytes", "generic_field": "20 bytes", "rate_field": "12 bytes",
           "peer": "bytes", "beside": "bytes", "bytes_case": "bytes", "name": "string", "kind_codec": "string", "flag": "flag", "dropped": "dropped"}

@@ -154,6 +154,10 @@ IP_BESIDE = {4: BYTES[0], 15: two(2), 16: two(0), 17: two(0), 18: two(0)}
 IPIP_BESIDE = {**IP_BESIDE, 2: V4[0], 3: V4[0], 10: BYTES[1], 11: V6[1], 12: V4[1], 13: two(32), 14: two(24)}
 ENDS, ENDS6 = {6: V4[1], 7: V4[1]}, {6: V6[1], 7: V6[1]}
 NETKIT_ROWS = {2: BYTES[:2], **{kind: [four(it) for it in (0, 1, 2, 7)] for kind in (3, 4, 5, 6, 7)}, 8: number(2), 9: number(2), 10: number(4)}
+HSR_ROWS = {1: INDEXES[1:], 2: INDEXES[1:], 3: BYTES[:2], 4: MACS[:1], 5: number(2), 6: BYTES[:2], 7: BYTES[:2]}
+MACSEC_ROWS = {1: number(8, "big"), 2: number(2, "big"), 3: BYTES[:3], 5: number(4)[:5], 6: BYTES[:5], **{kind: BYTES[:2] for kind in (7, 8, 9, 10, 11, 12)},
+               4: [it.to_bytes(8, "little") for it in (0x80020001000001, 0x80C20001000001, 0x80C20001000002, 0x80C20001000003, 0x80C20001000004)],
+               13: BYTES[:3], 15: BYTES[:3]}
 # of each kind with words, and of each kind of ports: its rows, and those that stand beside each
 INFO_ROWS = [
     *((1, name, rows, {}) for name, rows in (
@@ -164,6 +168,9 @@ INFO_ROWS = [
     # `ip` shows nothing of a MACVLAN without its mode, its sources in one mode alone, and numbers of queues of a device that has several
     (1, "macvlan", MACVLAN_ROWS, {1: four(4)}), (1, "macvtap", MACVLAN_ROWS, {1: four(4)}), (1, "macvlan", MACVLAN_ROWS, {1: four(16), 6: four(2)}),
     (1, "tun", TUN_ROWS, {7: BYTES[1]}),
+    (1, "hsr", HSR_ROWS, {1: four(INDEX), 2: four(INDEX)}), (1, "ipoib", {1: number(2), 2: [two(0), two(1)], 3: number(2)}, {1: two(1), 2: two(0)}),
+    (1, "macsec", MACSEC_ROWS, {}), (1, "gtp", {3: number(4), 4: [four(0), four(1)], 6: BYTES[:3]}, {}),
+    (1, "erspan", GRE_ROWS, {**GRE_BESIDE, **ENDS}), (1, "ip6erspan", GRE6_ROWS, {**GRE_BESIDE, **ENDS6}),
     (1, "gre", GRE_ROWS, {**GRE_BESIDE, **ENDS}), (1, "gretap", GRE_ROWS, {**GRE_BESIDE, **ENDS}),
     (1, "ip6gre", GRE6_ROWS, {**GRE_BESIDE, **ENDS6}), (1, "ip6gretap", GRE6_ROWS, {**GRE_BESIDE, **ENDS6}),
     (1, "ip6gre", {kind: GRE6_ROWS[kind] for kind in (11, 12, 13, 20)}, {**GRE_BESIDE, **ENDS6, 11: BYTES[4], 12: FLOW, 13: four(0), 20: four(7)}),

@@ -1,7 +1,7 @@
 """Compares what nlshow says of traffic control with what `tc -j -s -d` and `tc -s -d` said of the same messages, for `checks/shown`.
 
 Each key of an object of `tc` has to be in that of nlshow with the same value, in whichever of the objects of PARTS it stands, but for
-those of LEFT_OUT, and of kinds that are not of READ but for those of EVERY. The words of a line of `tc` have to stand in that of
+those of ASKED, and of kinds that are not of READ but for those of EVERY. The words of a line of `tc` have to stand in that of
 nlshow in their order, but for lines that are PASSED and words that stand ALONE; nlshow may have others beside them, as the device.
 """
 
@@ -13,19 +13,12 @@ FILES = [f"traffic-{it}" for it in ("qdisc", "class", "filter", "chain", "action
 PARTS = {"options", "keys", "stats", "fw", "prog"}
 # the kinds whose data the library reads, and the keys of every kind
 READ = {"fq_codel", "ingress", "clsact", "htb", "tbf", "red", "fq", "netem", "prio", "pfifo_fast", "pfifo", "bfifo", "pfifo_head_drop",
-        "u32", "flower", "matchall", "fw", "bpf",
-        "mirred", "nat", "tunnel_key", "gact", "police", "vlan", "skbedit", "csum", "ct", "sample", None}
+        "cake", "sfq", "u32", "flower", "matchall", "fw", "bpf", "basic",
+        "mirred", "nat", "tunnel_key", "gact", "police", "vlan", "skbedit", "csum", "ct", "sample", "pedit", None}
 EVERY = {"kind", "handle", "dev", "parent", "root", "leaf", "refcnt", "pref", "chain", "order"}
 COUNTS = {"bytes", "packets", "drops", "overlimits", "requeues", "backlog", "qlen"}
-# what kinds count of themselves, which the library keeps as bytes
-KEPT = {"fq": {"flows", "inactive", "throttled", "band0_pkts", "band1_pkts", "band2_pkts", "gc", "highprio", "ce_mark"},
-        "red": {"marked", "early", "pdrop", "other"}}
 # keys that no message has: what a kernel is asked of a program, and an attribute that kernels no longer write
 ASKED = {"bpf": {"name", "jited", "load_time", "created_by_uid"}, "prio": {"multiqueue"}, "pfifo_fast": {"multiqueue"}}
-# keys of attributes that the library keeps as bytes: options of tunnels and further keys of flower
-LEFT_OUT = {"geneve_opts", "vxlan_opts", "erspan_opts", "geneve_opt_key", "geneve_opt_mask", "vxlan_opt_key", "vxlan_opt_mask",
-            "erspan_opt_key", "erspan_opt_mask", "pfcp_opt_key", "pfcp_opt_mask", "gtp_opt_key", "gtp_opt_mask", "cfm", "enc_flags",
-            "l2_miss", "l2tpv3_sid", "num_of_vlans", "ppp_proto", "pppoe_sid", "spi"}
 # what stands in a filter in front of an old police, and what it counts
 POLICE = ("kind", "police")
 OF_POLICE = {"bytes", "packets", "dropped", "overlimits"}
@@ -33,6 +26,8 @@ OF_POLICE = {"bytes", "packets", "dropped", "overlimits"}
 SILENT = [("nofrag", False), ("mask", "0xffffffff")]
 # names of one thing: ours is the second
 NAMES = {"class": "kind", "type": "kind", "priomap ": "priomap", "weights ": "weights"}
+# bits that each have a truth value in `tc`, and a name in a list here
+BITS = {"ct_state", "ip_flags", "enc_flags"}
 # times of which `tc` prints the whole seconds
 SECONDS = {"installed", "last_used", "first_used", "expires"}
 INTERFACES = {"dev", "to_dev"}
@@ -59,6 +54,9 @@ def named(kind, key, value, before):
         return "handle", hexadecimal(value)
     if kind == "police" and key == "control_action" and any(key == it for it, _ in before):
         return "result", value
+    if kind == "fq" and key == "throttled" and any(key == it for it, _ in before):
+        # flows, and then packets
+        return "throttled_pkts", value
     return NAMES.get(key, key), value
 
 
@@ -76,7 +74,10 @@ class Comparison:
             return isinstance(ours, (int, float)) and int(ours) == theirs
         if key == "protocol":
             return FRAMES.get(theirs, theirs) == ours
-        if key in ("ct_state", "ip_flags"):
+        if key == "seid":
+            # `tc` prints half of it
+            return isinstance(ours, int) and theirs == ours % (1 << 32)
+        if key in BITS:
             texts = theirs if isinstance(theirs, str) else "".join(("" if is_so else "no") + name for name, is_so in theirs)
             return texts == "".join(ours)
         if isinstance(theirs, list) and isinstance(ours, list) and theirs and isinstance(theirs[0], tuple):
@@ -116,7 +117,7 @@ class Comparison:
         if kind == "u32" or any(key == "fh" for key, _ in told):
             # the hits of keys stand under a name that was there before
             told = [(key, value) for at, (key, value) in enumerate(told) if key != "match" and key not in [it for it, _ in told[:at]]]
-        left_out = LEFT_OUT | KEPT.get(kind, set()) | ASKED.get(kind, set())
+        left_out = ASKED.get(kind, set())
         for at, (key, value) in enumerate(told):
             key, value = named(kind, key, value, told[:at])
             if key == "actions":
@@ -131,9 +132,13 @@ class Comparison:
                     self.wrong.append(f"{kind} {key}: {value!r} of tc, {dict(own).get(key)!r}")
 
 
+# extended matches, which `tc` prints among its JSON as they stand in lines
+AMONG = re.compile(r"^  (?:(?:AND|OR) )?(?:NOT )?\w+\(.*\)\n", re.MULTILINE)
+
+
 def objects(text):
     """Objects as lists of keys and values, since a key can stand twice."""
-    return json.loads(text, object_pairs_hook=lambda pairs: [tuple(it) for it in pairs])
+    return json.loads(AMONG.sub("", text), object_pairs_hook=lambda pairs: [tuple(it) for it in pairs])
 
 
 def compare(name, theirs, ours, names):
@@ -151,10 +156,12 @@ def compare(name, theirs, ours, names):
     return not it.wrong
 
 
-# lines of statistics, which nlshow has in JSON alone, and lines of data that the library keeps as bytes
+# lines of statistics, which nlshow has in JSON alone, with those of each class of service of cake, and extended matches, whose data
+# nobody reads
 PASSED = re.compile(r"\s*(?:Sent|backlog|Action statistics|maxpacket|new_flows_len|memory used|deficit|\(dropped|-----|lended|tokens|marked \d"
-                    r"|flows \d+ \(|gc \d|rate \w+ \d+pps|geneve_opts"
-                    r"|vxlan_opts|erspan_opts|pfcp_opts|gtp_opts|enc_flags|num_of_vlans|pppoe_sid|ppp_proto|l2tpv3_sid|spi|l2_miss|cfm)\b.*|\s*|\s*---.*")
+                    r"|flows \d+ \(|gc \d|rate \w+ \d+pps|prob_mark|forced_mark|allot|capacity estimate|min/max|average network|Tin|Bulk"
+                    r"|(?:thresh|target|interval|\w+_delay|pkts|bytes|way_\w+|drops|marks|ack_drop|\w+_flows|max_len|quantum) {2,}"
+                    r"|(?:AND |OR )?(?:NOT )?\w+(?=\())\b.*|\s*|\s*---.*")
 # words without a value in a message, and counts that moved before the lines were printed
 ALONE = re.compile(r" (?:installed|used|firstused) \d+ sec| terminal flowid| -{16}| \(rule hit \d+(?: success \d+)?\)| name \w+(?= tag )"
                    r"| jited load_time \d+ created_by_uid \d+")

@@ -37,7 +37,7 @@ def loaded(name):
     )
 
 
-LIBRARY = loaded("libnetlink_packet_route.so.0.15")
+LIBRARY = loaded("libnetlink_packet_route.so.0.16")
 FOUND, FAULT = 0, 1
 REFUSED, UNFIT, SHORT, TEXT_ROOM = 1, 2, 3, 256
 NLA_F_NESTED = 0x8000

@@ -16,13 +16,15 @@ pub const ROUTE: [u8; 32] = [
 ];
 
 /// Of rules.
-pub const RULE: [u8; 25] = [
+pub const RULE: [u8; 31] = [
     ANY, OF_FAMILY, OF_FAMILY, ANY, 4, ANY, 4, ANY, ANY, ANY, 4, 4, 8, 4, 4, 4, 4, ANY, ANY, 1, 8,
-    1, 1, 4, 4,
+    1, 1, 4, 4, 1, 4, 4, 2, 2, 1,
 ];
 
-/// Of neighbours.
-pub const NEIGHBOUR: [u8; 16] = [ANY, OF_FAMILY, 6, 16, 4, 2, 2, 4, 4, 4, 4, 4, 1, 4, ANY, 4];
+/// Of neighbours; lists are empty here.
+pub const NEIGHBOUR: [u8; 18] = [
+    ANY, OF_FAMILY, 6, 16, 4, 2, 2, 4, 4, 4, 4, 4, 1, 4, 0, 4, 2, 1,
+];
 
 /// Of an extended answer.
 pub const ANSWERS: [u8; 7] = [ANY, ANY, 4, ANY, ANY, 4, 4];
@@ -38,9 +40,9 @@ pub const OPTIONS: [u8; 5] = [ANY, 2, 1, ANY, 4];
 
 /// Of links; lists are empty here.
 pub const LINK: [u8; 70] = [
-    ANY, 6, 6, ANY, 4, 4, ANY, ANY, ANY, ANY, 4, ANY, ANY, 4, 32, ANY, 1, 1, 0, 4, ANY, 4, ANY,
-    ANY, ANY, ANY, 0, 4, 4, 4, 4, 4, 4, 1, ANY, 4, ANY, 4, ANY, 1, 4, 4, ANY, 0, 4, 4, 4, 4, 4, 4,
-    4, 4, 0, ANY, ANY, 0, ANY, ANY, 4, 4, 4, 4, ANY, 4, 4, ANY, 8, 1, 2, 2,
+    ANY, 6, 6, ANY, 4, 4, ANY, ANY, ANY, ANY, 4, ANY, ANY, 4, 32, 4, 1, 1, 0, 4, ANY, 4, 0, ANY,
+    ANY, ANY, 0, 4, 4, 4, 4, 4, 4, 1, ANY, 4, ANY, 4, ANY, 1, 4, 4, ANY, 0, 4, 4, 4, 4, 4, 4, 4, 4,
+    0, ANY, ANY, 0, ANY, ANY, 4, 4, 4, 4, ANY, 4, 4, 0, 8, 1, 2, 2,
 ];
 
 /// Of what drivers say of a link.
@@ -114,7 +116,7 @@ const BOND: Lengths = &[
 pub const BOND_PORT: Lengths = &[ANY, 1, 1, 4, ANY, 2, 2, 1, 2, 4, 2, 1, 1];
 
 /// Kinds without a list inside that is made by itself, each with the lengths of its data.
-pub const KINDS: [(&str, Lengths); 16] = [
+pub const KINDS: [(&str, Lengths); 23] = [
     ("vxlan", VXLAN),
     ("geneve", GENEVE),
     ("gre", GRE),
@@ -131,7 +133,16 @@ pub const KINDS: [(&str, Lengths); 16] = [
     ("macvlan", &[ANY, 4, 2, 4, 6, 0, 4, 4, 4, 4]),
     ("ipvlan", &[ANY, 2, 2]),
     ("netkit", &[ANY, 16, 1, 4, 4, 4, 4, 4, 2, 2, 4]),
+    ("erspan", GRE),
+    ("ip6erspan", GRE6),
+    ("hsr", &[ANY, 4, 4, 1, 6, 2, 1, 1, 4]),
+    ("ipoib", &[ANY, 2, 2, 2]),
+    ("macsec", MAC_SEC),
+    ("gtp", &[ANY, 4, 4, 4, 4, 1, 1, 4, 16]),
+    ("ovpn", &[ANY, 1]),
 ];
+
+const MAC_SEC: Lengths = &[ANY, 8, 2, 1, 8, 4, 1, 1, 1, 1, 1, 1, 1, 1, ANY, 1];
 
 /// Addresses in a list, of version 4 and 6.
 pub const TARGETS: Lengths = &[4, 4, 4, 4, 4, 4, 4, 4];
@@ -177,7 +188,7 @@ pub const STATS2: [u8; 9] = [ANY, 16, 8, 20, ANY, 16, ANY, 16, 8];
 pub const SIZES: [u8; 3] = [ANY, 24, ANY];
 
 /// Queueing disciplines with data.
-pub const DISCIPLINES: [(&str, Lengths); 10] = [
+pub const DISCIPLINES: [(&str, Lengths); 12] = [
     ("fq_codel", &[ANY, 4, 4, 4, 4, 4, 4, 4, 4, 4, 1, 1]),
     ("ingress", &[ANY, ANY]),
     ("clsact", &[ANY, ANY]),
@@ -188,27 +199,32 @@ pub const DISCIPLINES: [(&str, Lengths); 10] = [
     ("netem", NETEM),
     ("prio", &[ANY, 20]),
     ("bfifo", &[ANY, ANY]),
+    ("cake", CAKE),
+    ("sfq", &[ANY, ANY]),
 ];
 
 const FQ: Lengths = &[ANY, 4, 4, 4, 4, 4, 4, 4, 4, 4, 4, 4, 4, 4, 4, 1, 20, 12, 4];
+
+const CAKE: Lengths = &[ANY, ANY, 8, 4, 4, 4, 4, 4, 4, 4, 4, 4, 4, 4, 4, 4, 4, 4, 4];
 
 /// The first attributes stand where its structure does.
 const NETEM: Lengths = &[ANY, 12, ANY, 8, 8, 0, 16, 4, 8, ANY, 8, 8, 40, ANY, 8];
 
 /// Filters with data, each with the number of its actions.
-pub const FILTERS: [(&str, u16, Lengths); 5] = [
+pub const FILTERS: [(&str, u16, Lengths); 6] = [
     ("u32", 7, &[ANY, 4, 4, 4, 4, 32, 0, 0, ANY, 24, 12, 4]),
     ("matchall", 2, &[ANY, 4, 0, 4, 8]),
     ("flower", 3, FLOWER),
     ("fw", 4, &[ANY, 4, 0, ANY, 0, 4]),
     ("bpf", 1, &[ANY, 0, 0, 4, 2, 16, 4, ANY, 4, 4, ANY, 4]),
+    ("basic", 3, &[ANY, 4, 0, 0, 0, 16]),
 ];
 
 pub const FLOWER: Lengths = &[
     ANY, 4, ANY, 0, 6, 6, 6, 6, 2, 1, 4, 4, 4, 4, 16, 16, 16, 16, 2, 2, 2, 2, 4, 2, 1, 2, 4, 4, 4,
     4, 4, 16, 16, 16, 16, 2, 2, 2, 2, 2, 2, 2, 2, 2, 2, 2, 2, 4, 4, 1, 1, 1, 1, 1, 1, 1, 1, 4, 4,
-    4, 4, 1, 1, 6, 6, 6, 6, 1, 1, 1, 4, 2, 2, 1, 1, 1, 1, 2, 1, 2, 1, 1, 1, 1, ANY, ANY, 4, 2, 2,
-    2, 2, 2, 2, 2, 2, 4, 4, 16, 16, 0, 4, 4,
+    4, 4, 1, 1, 6, 6, 6, 6, 1, 1, 1, 4, 2, 2, 1, 1, 1, 1, 2, 1, 2, 1, 1, 1, 1, 0, 0, 4, 2, 2, 2, 2,
+    2, 2, 2, 2, 4, 4, 16, 16, 0, 4, 4, 1, 2, 2, 4, 1, 0, 4, 4, 4, 4,
 ];
 
 /// Of an entry of labels.
@@ -222,12 +238,12 @@ pub const ACTIONS: Lengths = &[0, 0, 0];
 pub const ACTION: [u8; 11] = [ANY, ANY, 0, 4, 0, ANY, ANY, 8, 8, 8, 4];
 
 /// Actions with options.
-pub const ACTION_KINDS: [(&str, Lengths); 11] = [
+pub const ACTION_KINDS: [(&str, Lengths); 12] = [
     ("mirred", &[ANY, 32, 28, ANY, 4]),
     ("nat", &[ANY, 36, 32]),
     (
         "tunnel_key",
-        &[ANY, 32, 24, 4, 4, 16, 16, 4, ANY, 2, 1, ANY, 1, 1, 0],
+        &[ANY, 32, 24, 4, 4, 16, 16, 4, ANY, 2, 1, 0, 1, 1, 0],
     ),
     ("gact", &[ANY, 32, 20, 8]),
     ("police", &[ANY, 56, ANY, ANY, 4, 4, 32, ANY, 8, 8, 8, 8]),
@@ -237,6 +253,7 @@ pub const ACTION_KINDS: [(&str, Lengths); 11] = [
     ("ct", CONNECTION),
     ("sample", &[ANY, 32, 20, 4, 4, 4]),
     ("bpf", &[ANY, 32, 20, 2, 16, 4, ANY, ANY, ANY, 4]),
+    ("pedit", &[ANY, 32, 24, ANY, 48, 0]),
 ];
 
 const CONNECTION: Lengths = &[

@@ -1,7 +1,7 @@
 -- The attributes of an extended answer (linux/netlink.h, enum nlmsgerr_attrs), by their table, and where they stand.
 use Rattle.std.specs.Prelude.{◌≢◌, ℕ, ◌+◌, ◌/◌, ◌%◌, ◌==◌, ◌||◌, ◌⊎◌, nat_lt, Bool, All, List, [], length, take, drop, max, Option, Some, None, if◌then◌else◌}
 use Rattle.std.proofs.Common.{◌≡◌}
-use Rattle.npr_base.specs.declared.refusal.AttributeSet.TheVariants.{Value}
+use Rattle.npr_base.specs.declared.attribute_set.AttributeSet.TheVariants.{Value}
 use Rattle.npr_base.specs.declared.refusal.DecodeError.{DecodeError}
 use Rattle.npr_base.specs.Framing.{Item, Front, Passes, Fault, number_of, pad}
 use Rattle.npr_base.specs.NameText.{IsUnterminated}

@@ -18,8 +18,8 @@ use Rattle.npr_base.specs.Table.{Row, ReadsAt, WrongAt}
 use Rattle.npr_route_values.specs.RouteAddress.{form_of as address_form}
 use Rattle.npr_route_values.specs.RouteVia.{Via, via_value}
 use Rattle.npr_base.specs.Refusal.{at_number}
-use Rattle.npr_base.specs.declared.refusal.AttributeSet.{AttributeSet}
-use Rattle.npr_base.specs.declared.refusal.AttributeSet.TheVariants.{Route}
+use Rattle.npr_base.specs.declared.attribute_set.AttributeSet.{AttributeSet}
+use Rattle.npr_base.specs.declared.attribute_set.AttributeSet.TheVariants.{Route}
 use Rattle.npr_encapsulation.specs.Encapsulation.{encapsulation}
 use Rattle.netlink_packet_route.specs.Nests.{reading_of, HopUnder, hop_nest, holds_hops}
 use Rattle.netlink_packet_route.specs.declared.context.Context.{Context as Outside}

@@ -9,8 +9,8 @@ use Rattle.npr_base.specs.Framing.{Item, number_of}
 use Rattle.npr_base.specs.ListCodec.{list_of}
 use Rattle.npr_base.specs.Nesting.{Opened, Nests, ListRow}
 use Rattle.npr_base.proofs.NestLaws.{plain-list, opened-by, table-nests}
-use Rattle.npr_base.specs.declared.refusal.At.{At}
-use Rattle.npr_base.specs.declared.refusal.AttributeSet.TheVariants.{Opt}
+use Rattle.npr_base.specs.declared.attribute_set.At.{At}
+use Rattle.npr_base.specs.declared.attribute_set.AttributeSet.TheVariants.{Opt}
 use Rattle.npr_base.specs.declared.value.Form.{Form}
 use Rattle.npr_encapsulation.specs.Encapsulation as OfEncap
 use Rattle.npr_encapsulation.specs.TunnelOptions as OfOption

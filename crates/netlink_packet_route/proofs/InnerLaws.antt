@@ -1,8 +1,8 @@
 -- What names a list of a set that rests on no more than the context.
 use Rattle.std.specs.Prelude.{◌≡◌, ◌≢◌, ℕ, List}
 use Rattle.std.proofs.Common.{refl}
-use Rattle.npr_base.specs.declared.refusal.AttributeSet.{AttributeSet}
-use Rattle.npr_base.specs.declared.refusal.AttributeSet.TheVariants.{LinkInfo, TcAction}
+use Rattle.npr_base.specs.declared.attribute_set.AttributeSet.{AttributeSet}
+use Rattle.npr_base.specs.declared.attribute_set.AttributeSet.TheVariants.{LinkInfo, TcAction}
 use Rattle.netlink_packet_route.specs.Nests.{Inner, listed, nest_in}
 use Rattle.netlink_packet_route.specs.declared.context.Context.{Context}
 use Rattle.netlink_packet_route.specs.declared.nests.Nest.{Nest}

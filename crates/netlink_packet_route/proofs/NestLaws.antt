@@ -3,23 +3,8 @@
 use Rattle.std.proofs.Common.{refl}
 use Rattle.npr_base.specs.Nesting.{Nests}
 use Rattle.npr_base.proofs.NestLaws.{table-nests}
-use Rattle.npr_base.specs.declared.refusal.AttributeSet.{AttributeSet}
-use Rattle.npr_base.specs.declared.refusal.AttributeSet.TheVariants.{Address, Rule, Route, Neighbour, Link, Metric, Encap, Opt, Vxlan, Erspan}
-use Rattle.npr_base.specs.declared.refusal.AttributeSet.TheVariants.{LinkInfo, LinkXdp, Prop, LinkProtocolDownReason, AfSpecUnspec, AfSpecInet}
-use Rattle.npr_base.specs.declared.refusal.AttributeSet.TheVariants.{AfSpecInet6, AfSpecBridge, BridgeVlanTunnelInfo, BridgeMst, BridgeMstEntry}
-use Rattle.npr_base.specs.declared.refusal.AttributeSet.TheVariants.{InfoBridge, BridgeQuerierState, InfoBridgePort, InfoVlan, VlanQosMapping}
-use Rattle.npr_base.specs.declared.refusal.AttributeSet.TheVariants.{InfoVrf, InfoVeth, Peer, InfoBond, BondAdInfo, InfoBondPort, InfoMacVlan}
-use Rattle.npr_base.specs.declared.refusal.AttributeSet.TheVariants.{MacVlanAddress, InfoIpVlan, InfoNetkit, InfoTun, InfoVxlan, InfoGeneve, InfoGre}
-use Rattle.npr_base.specs.declared.refusal.AttributeSet.TheVariants.{InfoGre6, InfoIpTunnel, InfoVti, InfoXfrm, NextHop, NextHopResGroup}
-use Rattle.npr_base.specs.declared.refusal.AttributeSet.TheVariants.{NextHopResBucket, NextHopGroupStats, NextHopGroupStatsEntry, Nsid, Netconf}
-use Rattle.npr_base.specs.declared.refusal.AttributeSet.TheVariants.{AddressLabel, NeighbourTable, NeighbourTableParameter, Prefix}
-use Rattle.npr_base.specs.declared.refusal.AttributeSet.TheVariants.{Tc, TcStats2, TcStab, TcQdiscIngress, TcQdiscFqCodel, TcFilterU32}
-use Rattle.npr_base.specs.declared.refusal.AttributeSet.TheVariants.{TcFilterMatchAll, TcFilterFlower, TcFilterFlowerMpls, TcFilterFlowerMplsLse}
-use Rattle.npr_base.specs.declared.refusal.AttributeSet.TheVariants.{TcQdiscHtb, TcQdiscTbf, TcQdiscRed, TcQdiscFq, TcQdiscNetem, TcNetemLoss}
-use Rattle.npr_base.specs.declared.refusal.AttributeSet.TheVariants.{TcFilterFw, TcFilterBpf, TcActionGact, TcActionPolice, TcActionVlan}
-use Rattle.npr_base.specs.declared.refusal.AttributeSet.TheVariants.{TcActionSkbedit, TcActionCsum, TcActionCt, TcActionSample, TcActionBpf}
-use Rattle.npr_base.specs.declared.refusal.AttributeSet.TheVariants.{TcActionMessage, TcActions, TcAction, TcActionMirror, TcActionNat}
-use Rattle.npr_base.specs.declared.refusal.AttributeSet.TheVariants.{TcActionTunnelKey}
+use Rattle.npr_base.specs.declared.attribute_set.AttributeSet.{AttributeSet}
+use Rattle.npr_base.specs.declared.attribute_set.AttributeSet.TheVariants as At
 use Rattle.npr_address.specs.Attribute as OfAddress
 use Rattle.npr_link.specs.Netkit as OfNetkit
 use Rattle.npr_link_devices.specs.AdInfo as OfAdInfo
@@ -95,6 +80,35 @@ use Rattle.npr_tc_qdiscs.specs.Tbf as OfTcTbf
 use Rattle.npr_tc_qdiscs.specs.FqCodel as OfTcFqCodel
 use Rattle.npr_tc_qdiscs.specs.Ingress as OfTcIngress
 use Rattle.npr_tc_qdiscs.specs.Stab as OfTcStab
+use Rattle.npr_neighbour.specs.Fdb as OfFdb
+use Rattle.npr_link.specs.AfSpecMctp as OfAfSpecMctp
+use Rattle.npr_link.specs.DpllPin as OfPin
+use Rattle.npr_link_devices.specs.Hsr as OfHsr
+use Rattle.npr_link_devices.specs.Ipoib as OfIpoib
+use Rattle.npr_link_devices.specs.MacSec as OfMacSec
+use Rattle.npr_link_tunnels.specs.Gtp as OfGtp
+use Rattle.npr_link_tunnels.specs.Ovpn as OfOvpn
+use Rattle.npr_link_functions.specs.LinkVfInfo as OfLinkVfInfo
+use Rattle.npr_link_functions.specs.VfInfo as OfVfInfo
+use Rattle.npr_link_functions.specs.VfStats as OfVfStats
+use Rattle.npr_link_functions.specs.VfVlanList as OfVfVlan
+use Rattle.npr_tc_qdiscs.specs.Cake as OfTcCake
+use Rattle.npr_tc_qdiscs.specs.CakeStat as OfTcCakeStat
+use Rattle.npr_tc_qdiscs.specs.CakeTinStat as OfTcCakeTinStat
+use Rattle.npr_tc_qdiscs.specs.MqprioOption as OfTcMqprio
+use Rattle.npr_tc_qdiscs.specs.MqprioEntry as OfTcMqprioEntry
+use Rattle.npr_tc_filters.specs.Basic as OfTcBasic
+use Rattle.npr_tc_filters.specs.EmatchTree as OfTcEmatchTree
+use Rattle.npr_tc_filters.specs.FlowerCfm as OfTcCfm
+use Rattle.npr_tc_actions.specs.EncOption as OfTcEnc
+use Rattle.npr_tc_actions.specs.EncGeneve as OfTcEncGeneve
+use Rattle.npr_tc_actions.specs.EncVxlan as OfTcEncVxlan
+use Rattle.npr_tc_actions.specs.EncErspan as OfTcEncErspan
+use Rattle.npr_tc_actions.specs.EncGtp as OfTcEncGtp
+use Rattle.npr_tc_actions.specs.EncPfcp as OfTcEncPfcp
+use Rattle.npr_tc_actions.specs.PeditOption as OfTcPedit
+use Rattle.npr_tc_actions.specs.PeditKeysEx as OfTcPeditKeysEx
+use Rattle.npr_tc_actions.specs.PeditKeyEx as OfTcPeditKeyEx
 use Rattle.npr_encapsulation.specs.Encapsulation as OfEncap
 use Rattle.npr_encapsulation.specs.ErspanOptions as OfErspan
 use Rattle.npr_encapsulation.specs.TunnelOptions as OfOption
@@ -102,13 +116,14 @@ use Rattle.npr_encapsulation.specs.VxlanOptions as OfVxlan
 use Rattle.npr_neighbour.specs.NeighbourAddress as OfNeighbourAddress
 use Rattle.npr_route_values.specs.RouteAddress as OfAddresses
 use Rattle.npr_encapsulation.specs.declared.encap_type.RouteLwEnCapType.TheVariants as Tunnel
-use Rattle.netlink_packet_route.specs.Nests.{Inner, reading_by, reading_of, within}
+use Rattle.netlink_packet_route.specs.Nests.{Inner, reading_of, within}
+use Rattle.netlink_packet_route.specs.Readings.{reading_by}
 use Rattle.netlink_packet_route.specs.declared.context.Context.{Context}
 use Rattle.netlink_packet_route.specs.declared.nests.Nest.{Nest}
 use Rattle.netlink_packet_route.proofs.NestRows.{Own, listed-row, peer-row, route-nests, next-hop-rows, neighbour-rows}
 use Rattle.netlink_packet_route.proofs.LinkNests.{link-nests, driver-nests, tunnel-nests}
 use Rattle.netlink_packet_route.proofs.EncapNests.{encap-nests}
-use Rattle.netlink_packet_route.proofs.TcNests.{tc-nests, stats2-nests, actions-nests, action-nests}
+use Rattle.netlink_packet_route.proofs.TcNests.{tc-nests, stats2-nests, tins-nests, actions-nests, action-nests}
 
 -- ---- of every set
 
@@ -126,109 +141,177 @@ module _ (c : Context) where
       OfTcIngress.attributes OfTcStab.attributes OfTcHtb.attributes OfTcTbf.attributes OfTcRed.attributes OfTcFq.attributes OfTcNetem.attributes
       OfTcNetemLoss.attributes OfTcFw.attributes OfTcFilterBpf.attributes OfTcGact.attributes OfTcPolice.attributes OfTcVlan.attributes
       OfTcSkbedit.attributes OfTcCsum.attributes OfTcCt.attributes OfTcSample.attributes OfTcBpf.attributes
-  nests-by Address = table-nests reading_of (Inner c) (Own Address c) OfAddress.table tt
-  nests-by Rule = table-nests reading_of (Inner c) (Own Rule c) OfRule.table tt
-  nests-by Route = route-nests c
-  nests-by Neighbour = table-nests reading_of (Inner c) (Own Neighbour c) (OfNeighbour.table (OfNeighbourAddress.form_of c.family)) (neighbour-rows c (OfNeighbourAddress.form_of c.family))
-  nests-by Link = link-nests c
-  nests-by Metric = table-nests reading_of (Inner c) (Own Metric c) OfMetric.table tt
-  nests-by Encap = encap-nests c c.encap_type
-  nests-by Opt = table-nests reading_of (Inner c) (Own Opt c) OfOption.table (refl, (listed-row Opt c Vxlan (λ bytes n p. p), (listed-row Opt c Erspan (λ bytes n p. p), tt)))
-  nests-by Vxlan = table-nests reading_of (Inner c) (Own Vxlan c) OfVxlan.table tt
-  nests-by Erspan = table-nests reading_of (Inner c) (Own Erspan c) OfErspan.table tt
-  nests-by LinkInfo = driver-nests c
-  nests-by LinkXdp = table-nests reading_of (Inner c) (Own LinkXdp c) OfXdp.table tt
-  nests-by Prop = table-nests reading_of (Inner c) (Own Prop c) OfProp.table tt
-  nests-by LinkProtocolDownReason = table-nests reading_of (Inner c) (Own LinkProtocolDownReason c) OfReason.table tt
-  nests-by AfSpecUnspec = table-nests reading_of (Inner c) (Own AfSpecUnspec c) OfAfSpec.table (listed-row AfSpecUnspec c AfSpecInet (λ bytes n p. p), (listed-row AfSpecUnspec c AfSpecInet6 (λ bytes n p. p), tt))
-  nests-by AfSpecInet = table-nests reading_of (Inner c) (Own AfSpecInet c) OfAfSpecInet.table tt
-  nests-by AfSpecInet6 = table-nests reading_of (Inner c) (Own AfSpecInet6 c) OfAfSpecInet6.table tt
-  nests-by AfSpecBridge = table-nests reading_of (Inner c) (Own AfSpecBridge c) OfAfBridge.table (listed-row AfSpecBridge c BridgeVlanTunnelInfo (λ bytes n p. p), (listed-row AfSpecBridge c BridgeMst (λ bytes n p. p), tt))
-  nests-by BridgeVlanTunnelInfo = table-nests reading_of (Inner c) (Own BridgeVlanTunnelInfo c) OfVlanTunnel.table tt
-  nests-by BridgeMst = table-nests reading_of (Inner c) (Own BridgeMst c) OfMst.table (listed-row BridgeMst c BridgeMstEntry (λ bytes n p. p), tt)
-  nests-by BridgeMstEntry = table-nests reading_of (Inner c) (Own BridgeMstEntry c) OfMstEntry.table tt
-  nests-by InfoBridge = table-nests reading_of (Inner c) (Own InfoBridge c) OfBridge.table (listed-row InfoBridge c BridgeQuerierState (λ bytes n p. p), tt)
-  nests-by BridgeQuerierState = table-nests reading_of (Inner c) (Own BridgeQuerierState c) OfQuerier.table tt
-  nests-by InfoBridgePort = table-nests reading_of (Inner c) (Own InfoBridgePort c) OfBridgePort.table tt
-  nests-by InfoVlan = table-nests reading_of (Inner c) (Own InfoVlan c) OfVlan.table (listed-row InfoVlan c VlanQosMapping (λ bytes n p. p), (listed-row InfoVlan c VlanQosMapping (λ bytes n p. p), tt))
-  nests-by VlanQosMapping = table-nests reading_of (Inner c) (Own VlanQosMapping c) OfVlanQos.table tt
-  nests-by InfoVrf = table-nests reading_of (Inner c) (Own InfoVrf c) OfVrf.table tt
-  nests-by InfoVeth = table-nests reading_of (Inner c) (Own InfoVeth c) OfVeth.table (peer-row InfoVeth c, tt)
-  nests-by Peer = table-nests reading_of (Inner c) (Own Peer c) OfPeer.table tt
-  nests-by InfoBond = table-nests reading_of (Inner c) (Own InfoBond c) OfBond.table (refl, (listed-row InfoBond c BondAdInfo (λ bytes n p. p), (refl, tt)))
-  nests-by BondAdInfo = table-nests reading_of (Inner c) (Own BondAdInfo c) OfAdInfo.table tt
-  nests-by InfoBondPort = table-nests reading_of (Inner c) (Own InfoBondPort c) OfBondPort.table tt
-  nests-by InfoMacVlan = table-nests reading_of (Inner c) (Own InfoMacVlan c) OfMacVlan.table (listed-row InfoMacVlan c MacVlanAddress (λ bytes n p. p), tt)
-  nests-by MacVlanAddress = table-nests reading_of (Inner c) (Own MacVlanAddress c) OfMacVlanAddress.table tt
-  nests-by InfoIpVlan = table-nests reading_of (Inner c) (Own InfoIpVlan c) OfIpVlan.table tt
-  nests-by InfoNetkit = table-nests reading_of (Inner c) (Own InfoNetkit c) OfNetkit.table (peer-row InfoNetkit c, tt)
-  nests-by InfoTun = table-nests reading_of (Inner c) (Own InfoTun c) OfTun.table tt
-  nests-by InfoVxlan = table-nests reading_of (Inner c) (Own InfoVxlan c) OfLinkVxlan.table tt
-  nests-by InfoGeneve = table-nests reading_of (Inner c) (Own InfoGeneve c) OfLinkGeneve.table tt
-  nests-by InfoGre = table-nests reading_of (Inner c) (Own InfoGre c) OfGre.table tt
-  nests-by InfoGre6 = table-nests reading_of (Inner c) (Own InfoGre6 c) OfGre6.table tt
-  nests-by InfoIpTunnel = tunnel-nests c
-  nests-by InfoVti = table-nests reading_of (Inner c) (Own InfoVti c) OfVti.table tt
-  nests-by InfoXfrm = table-nests reading_of (Inner c) (Own InfoXfrm c) OfLinkXfrm.table tt
-  nests-by NextHop = table-nests reading_of (Inner c) (Own NextHop c) (OfNextHopMessage.table (OfAddresses.form_of c.family) (OfEncap.encapsulation c.encap_type)) (next-hop-rows c (OfAddresses.form_of c.family))
-  nests-by NextHopResGroup = table-nests reading_of (Inner c) (Own NextHopResGroup c) OfResGroup.table tt
-  nests-by NextHopResBucket = table-nests reading_of (Inner c) (Own NextHopResBucket c) OfResBucket.table tt
-  nests-by NextHopGroupStats = table-nests reading_of (Inner c) (Own NextHopGroupStats c) OfGroupStats.table (listed-row NextHopGroupStats c NextHopGroupStatsEntry (λ bytes n p. p), tt)
-  nests-by NextHopGroupStatsEntry = table-nests reading_of (Inner c) (Own NextHopGroupStatsEntry c) OfGroupStatsEntry.table tt
-  nests-by Nsid = table-nests reading_of (Inner c) (Own Nsid c) OfNsid.table tt
-  nests-by Netconf = table-nests reading_of (Inner c) (Own Netconf c) OfNetconf.table tt
-  nests-by AddressLabel = table-nests reading_of (Inner c) (Own AddressLabel c) OfAddressLabel.table tt
-  nests-by NeighbourTable = table-nests reading_of (Inner c) (Own NeighbourTable c) OfNeighbourTable.table (listed-row NeighbourTable c NeighbourTableParameter (λ bytes n p. p), tt)
-  nests-by NeighbourTableParameter = table-nests reading_of (Inner c) (Own NeighbourTableParameter c) OfNeighbourTableParameter.table tt
-  nests-by Prefix = table-nests reading_of (Inner c) (Own Prefix c) OfPrefix.table tt
-  nests-by Tc = tc-nests c
-  nests-by TcStats2 = stats2-nests c
-  nests-by TcStab = table-nests reading_of (Inner c) (Own TcStab c) OfTcStab.table tt
-  nests-by TcQdiscIngress = λ x. tt
-  nests-by TcQdiscFqCodel = table-nests reading_of (Inner c) (Own TcQdiscFqCodel c) OfTcFqCodel.table tt
-  nests-by TcFilterU32 =
-      table-nests reading_of (Inner c) (Own TcFilterU32 c) OfTcU32.table
-      (listed-row TcFilterU32 c TcActionPolice (λ bytes n p. p), (listed-row TcFilterU32 c TcActions (λ bytes n p. p), tt))
-  nests-by TcFilterMatchAll =
-      table-nests reading_of (Inner c) (Own TcFilterMatchAll c) OfTcMatchAll.table
-      (listed-row TcFilterMatchAll c TcActions (λ bytes n p. p), tt)
-  nests-by TcFilterFlower =
-      table-nests reading_of (Inner c) (Own TcFilterFlower c) OfTcFlower.table
-      (listed-row TcFilterFlower c TcActions (λ bytes n p. p), (listed-row TcFilterFlower c TcFilterFlowerMpls (λ bytes n p. p), tt))
-  nests-by TcFilterFlowerMpls =
-      table-nests reading_of (Inner c) (Own TcFilterFlowerMpls c) OfTcMpls.table
-      (listed-row TcFilterFlowerMpls c TcFilterFlowerMplsLse (λ bytes n p. p), tt)
-  nests-by TcFilterFlowerMplsLse = table-nests reading_of (Inner c) (Own TcFilterFlowerMplsLse c) OfTcMplsLse.table tt
-  nests-by TcActionMessage =
-      table-nests reading_of (Inner c) (Own TcActionMessage c) OfTcActionMessage.table
-      (listed-row TcActionMessage c TcActions (λ bytes n p. p), tt)
-  nests-by TcActions = actions-nests c
-  nests-by TcAction = action-nests c
-  nests-by TcActionMirror = table-nests reading_of (Inner c) (Own TcActionMirror c) OfTcMirror.table tt
-  nests-by TcActionNat = table-nests reading_of (Inner c) (Own TcActionNat c) OfTcNat.table tt
-  nests-by TcActionTunnelKey = table-nests reading_of (Inner c) (Own TcActionTunnelKey c) OfTcTunnelKey.table tt
-  nests-by TcQdiscHtb = table-nests reading_of (Inner c) (Own TcQdiscHtb c) OfTcHtb.table tt
-  nests-by TcQdiscTbf = table-nests reading_of (Inner c) (Own TcQdiscTbf c) OfTcTbf.table tt
-  nests-by TcQdiscRed = table-nests reading_of (Inner c) (Own TcQdiscRed c) OfTcRed.table tt
-  nests-by TcQdiscFq = table-nests reading_of (Inner c) (Own TcQdiscFq c) OfTcFq.table tt
-  nests-by TcQdiscNetem =
-      table-nests reading_of (Inner c) (Own TcQdiscNetem c) OfTcNetem.table
-      (listed-row TcQdiscNetem c TcNetemLoss (λ bytes n p. p), tt)
-  nests-by TcNetemLoss = table-nests reading_of (Inner c) (Own TcNetemLoss c) OfTcNetemLoss.table tt
-  nests-by TcFilterFw =
-      table-nests reading_of (Inner c) (Own TcFilterFw c) OfTcFw.table
-      (listed-row TcFilterFw c TcActionPolice (λ bytes n p. p), (listed-row TcFilterFw c TcActions (λ bytes n p. p), tt))
-  nests-by TcFilterBpf =
-      table-nests reading_of (Inner c) (Own TcFilterBpf c) OfTcFilterBpf.table
-      (listed-row TcFilterBpf c TcActions (λ bytes n p. p), (listed-row TcFilterBpf c TcActionPolice (λ bytes n p. p), tt))
-  nests-by TcActionGact = table-nests reading_of (Inner c) (Own TcActionGact c) OfTcGact.table tt
-  nests-by TcActionPolice = table-nests reading_of (Inner c) (Own TcActionPolice c) OfTcPolice.table tt
-  nests-by TcActionVlan = table-nests reading_of (Inner c) (Own TcActionVlan c) OfTcVlan.table tt
-  nests-by TcActionSkbedit = table-nests reading_of (Inner c) (Own TcActionSkbedit c) OfTcSkbedit.table tt
-  nests-by TcActionCsum = table-nests reading_of (Inner c) (Own TcActionCsum c) OfTcCsum.table tt
-  nests-by TcActionCt = table-nests reading_of (Inner c) (Own TcActionCt c) OfTcCt.table tt
-  nests-by TcActionSample = table-nests reading_of (Inner c) (Own TcActionSample c) OfTcSample.table tt
-  nests-by TcActionBpf = table-nests reading_of (Inner c) (Own TcActionBpf c) OfTcBpf.table tt
+      OfFdb.attributes OfAfSpecMctp.attributes OfPin.attributes OfHsr.attributes OfIpoib.attributes OfMacSec.attributes
+      OfGtp.attributes OfOvpn.attributes OfLinkVfInfo.attributes OfVfInfo.attributes OfVfStats.attributes OfVfVlan.attributes
+      OfTcCake.attributes OfTcCakeStat.attributes OfTcCakeTinStat.attributes OfTcMqprio.attributes OfTcMqprioEntry.attributes
+      OfTcBasic.attributes OfTcEmatchTree.attributes OfTcCfm.attributes OfTcEnc.attributes OfTcEncGeneve.attributes
+      OfTcEncVxlan.attributes OfTcEncErspan.attributes OfTcEncGtp.attributes OfTcEncPfcp.attributes OfTcPedit.attributes
+      OfTcPeditKeysEx.attributes OfTcPeditKeyEx.attributes
+  nests-by At.Address = table-nests reading_of (Inner c) (Own At.Address c) OfAddress.table tt
+  nests-by At.Rule = table-nests reading_of (Inner c) (Own At.Rule c) OfRule.table tt
+  nests-by At.Route = route-nests c
+  nests-by At.Neighbour = table-nests reading_of (Inner c) (Own At.Neighbour c) (OfNeighbour.table (OfNeighbourAddress.form_of c.family)) (neighbour-rows c (OfNeighbourAddress.form_of c.family))
+  nests-by At.Link = link-nests c
+  nests-by At.Metric = table-nests reading_of (Inner c) (Own At.Metric c) OfMetric.table tt
+  nests-by At.Encap = encap-nests c c.encap_type
+  nests-by At.Opt = table-nests reading_of (Inner c) (Own At.Opt c) OfOption.table (refl, (listed-row At.Opt c At.Vxlan (λ bytes n p. p), (listed-row At.Opt c At.Erspan (λ bytes n p. p), tt)))
+  nests-by At.Vxlan = table-nests reading_of (Inner c) (Own At.Vxlan c) OfVxlan.table tt
+  nests-by At.Erspan = table-nests reading_of (Inner c) (Own At.Erspan c) OfErspan.table tt
+  nests-by At.LinkInfo = driver-nests c
+  nests-by At.LinkXdp = table-nests reading_of (Inner c) (Own At.LinkXdp c) OfXdp.table tt
+  nests-by At.Prop = table-nests reading_of (Inner c) (Own At.Prop c) OfProp.table tt
+  nests-by At.LinkProtocolDownReason = table-nests reading_of (Inner c) (Own At.LinkProtocolDownReason c) OfReason.table tt
+  nests-by At.AfSpecUnspec = table-nests reading_of (Inner c) (Own At.AfSpecUnspec c) OfAfSpec.table (listed-row At.AfSpecUnspec c At.AfSpecInet (λ bytes n p. p), (listed-row At.AfSpecUnspec c At.AfSpecInet6 (λ bytes n p. p), (listed-row At.AfSpecUnspec c At.AfSpecMctp (λ bytes n p. p), tt)))
+  nests-by At.AfSpecInet = table-nests reading_of (Inner c) (Own At.AfSpecInet c) OfAfSpecInet.table tt
+  nests-by At.AfSpecInet6 = table-nests reading_of (Inner c) (Own At.AfSpecInet6 c) OfAfSpecInet6.table tt
+  nests-by At.AfSpecBridge = table-nests reading_of (Inner c) (Own At.AfSpecBridge c) OfAfBridge.table (listed-row At.AfSpecBridge c At.BridgeVlanTunnelInfo (λ bytes n p. p), (listed-row At.AfSpecBridge c At.BridgeMst (λ bytes n p. p), tt))
+  nests-by At.BridgeVlanTunnelInfo = table-nests reading_of (Inner c) (Own At.BridgeVlanTunnelInfo c) OfVlanTunnel.table tt
+  nests-by At.BridgeMst = table-nests reading_of (Inner c) (Own At.BridgeMst c) OfMst.table (listed-row At.BridgeMst c At.BridgeMstEntry (λ bytes n p. p), tt)
+  nests-by At.BridgeMstEntry = table-nests reading_of (Inner c) (Own At.BridgeMstEntry c) OfMstEntry.table tt
+  nests-by At.InfoBridge = table-nests reading_of (Inner c) (Own At.InfoBridge c) OfBridge.table (listed-row At.InfoBridge c At.BridgeQuerierState (λ bytes n p. p), tt)
+  nests-by At.BridgeQuerierState = table-nests reading_of (Inner c) (Own At.BridgeQuerierState c) OfQuerier.table tt
+  nests-by At.InfoBridgePort = table-nests reading_of (Inner c) (Own At.InfoBridgePort c) OfBridgePort.table tt
+  nests-by At.InfoVlan = table-nests reading_of (Inner c) (Own At.InfoVlan c) OfVlan.table (listed-row At.InfoVlan c At.VlanQosMapping (λ bytes n p. p), (listed-row At.InfoVlan c At.VlanQosMapping (λ bytes n p. p), tt))
+  nests-by At.VlanQosMapping = table-nests reading_of (Inner c) (Own At.VlanQosMapping c) OfVlanQos.table tt
+  nests-by At.InfoVrf = table-nests reading_of (Inner c) (Own At.InfoVrf c) OfVrf.table tt
+  nests-by At.InfoVeth = table-nests reading_of (Inner c) (Own At.InfoVeth c) OfVeth.table (peer-row At.InfoVeth c, tt)
+  nests-by At.Peer = table-nests reading_of (Inner c) (Own At.Peer c) OfPeer.table tt
+  nests-by At.InfoBond = table-nests reading_of (Inner c) (Own At.InfoBond c) OfBond.table (refl, (listed-row At.InfoBond c At.BondAdInfo (λ bytes n p. p), (refl, tt)))
+  nests-by At.BondAdInfo = table-nests reading_of (Inner c) (Own At.BondAdInfo c) OfAdInfo.table tt
+  nests-by At.InfoBondPort = table-nests reading_of (Inner c) (Own At.InfoBondPort c) OfBondPort.table tt
+  nests-by At.InfoMacVlan = table-nests reading_of (Inner c) (Own At.InfoMacVlan c) OfMacVlan.table (listed-row At.InfoMacVlan c At.MacVlanAddress (λ bytes n p. p), tt)
+  nests-by At.MacVlanAddress = table-nests reading_of (Inner c) (Own At.MacVlanAddress c) OfMacVlanAddress.table tt
+  nests-by At.InfoIpVlan = table-nests reading_of (Inner c) (Own At.InfoIpVlan c) OfIpVlan.table tt
+  nests-by At.InfoNetkit = table-nests reading_of (Inner c) (Own At.InfoNetkit c) OfNetkit.table (peer-row At.InfoNetkit c, tt)
+  nests-by At.InfoTun = table-nests reading_of (Inner c) (Own At.InfoTun c) OfTun.table tt
+  nests-by At.InfoVxlan = table-nests reading_of (Inner c) (Own At.InfoVxlan c) OfLinkVxlan.table tt
+  nests-by At.InfoGeneve = table-nests reading_of (Inner c) (Own At.InfoGeneve c) OfLinkGeneve.table tt
+  nests-by At.InfoGre = table-nests reading_of (Inner c) (Own At.InfoGre c) OfGre.table tt
+  nests-by At.InfoGre6 = table-nests reading_of (Inner c) (Own At.InfoGre6 c) OfGre6.table tt
+  nests-by At.InfoIpTunnel = tunnel-nests c
+  nests-by At.InfoVti = table-nests reading_of (Inner c) (Own At.InfoVti c) OfVti.table tt
+  nests-by At.InfoXfrm = table-nests reading_of (Inner c) (Own At.InfoXfrm c) OfLinkXfrm.table tt
+  nests-by At.NextHop = table-nests reading_of (Inner c) (Own At.NextHop c) (OfNextHopMessage.table (OfAddresses.form_of c.family) (OfEncap.encapsulation c.encap_type)) (next-hop-rows c (OfAddresses.form_of c.family))
+  nests-by At.NextHopResGroup = table-nests reading_of (Inner c) (Own At.NextHopResGroup c) OfResGroup.table tt
+  nests-by At.NextHopResBucket = table-nests reading_of (Inner c) (Own At.NextHopResBucket c) OfResBucket.table tt
+  nests-by At.NextHopGroupStats = table-nests reading_of (Inner c) (Own At.NextHopGroupStats c) OfGroupStats.table (listed-row At.NextHopGroupStats c At.NextHopGroupStatsEntry (λ bytes n p. p), tt)
+  nests-by At.NextHopGroupStatsEntry = table-nests reading_of (Inner c) (Own At.NextHopGroupStatsEntry c) OfGroupStatsEntry.table tt
+  nests-by At.Nsid = table-nests reading_of (Inner c) (Own At.Nsid c) OfNsid.table tt
+  nests-by At.Netconf = table-nests reading_of (Inner c) (Own At.Netconf c) OfNetconf.table tt
+  nests-by At.AddressLabel = table-nests reading_of (Inner c) (Own At.AddressLabel c) OfAddressLabel.table tt
+  nests-by At.NeighbourTable = table-nests reading_of (Inner c) (Own At.NeighbourTable c) OfNeighbourTable.table (listed-row At.NeighbourTable c At.NeighbourTableParameter (λ bytes n p. p), tt)
+  nests-by At.NeighbourTableParameter = table-nests reading_of (Inner c) (Own At.NeighbourTableParameter c) OfNeighbourTableParameter.table tt
+  nests-by At.Prefix = table-nests reading_of (Inner c) (Own At.Prefix c) OfPrefix.table tt
+  nests-by At.Tc = tc-nests c
+  nests-by At.TcStats2 = stats2-nests c
+  nests-by At.TcStab = table-nests reading_of (Inner c) (Own At.TcStab c) OfTcStab.table tt
+  nests-by At.TcQdiscIngress = λ x. tt
+  nests-by At.TcQdiscFqCodel = table-nests reading_of (Inner c) (Own At.TcQdiscFqCodel c) OfTcFqCodel.table tt
+  nests-by At.TcFilterU32 =
+      table-nests reading_of (Inner c) (Own At.TcFilterU32 c) OfTcU32.table
+      (listed-row At.TcFilterU32 c At.TcActionPolice (λ bytes n p. p), (listed-row At.TcFilterU32 c At.TcActions (λ bytes n p. p), tt))
+  nests-by At.TcFilterMatchAll =
+      table-nests reading_of (Inner c) (Own At.TcFilterMatchAll c) OfTcMatchAll.table
+      (listed-row At.TcFilterMatchAll c At.TcActions (λ bytes n p. p), tt)
+  nests-by At.TcFilterFlower =
+      table-nests reading_of (Inner c) (Own At.TcFilterFlower c) OfTcFlower.table (
+        listed-row At.TcFilterFlower c At.TcActions (λ bytes n p. p),
+        (
+          listed-row At.TcFilterFlower c At.TcEnc (λ bytes n p. p),
+          (
+            listed-row At.TcFilterFlower c At.TcEnc (λ bytes n p. p),
+            (
+              listed-row At.TcFilterFlower c At.TcFilterFlowerMpls (λ bytes n p. p),
+              (listed-row At.TcFilterFlower c At.TcFlowerCfm (λ bytes n p. p), tt),
+            ),
+          ),
+        ),
+      )
+  nests-by At.TcFilterFlowerMpls =
+      table-nests reading_of (Inner c) (Own At.TcFilterFlowerMpls c) OfTcMpls.table
+      (listed-row At.TcFilterFlowerMpls c At.TcFilterFlowerMplsLse (λ bytes n p. p), tt)
+  nests-by At.TcFilterFlowerMplsLse = table-nests reading_of (Inner c) (Own At.TcFilterFlowerMplsLse c) OfTcMplsLse.table tt
+  nests-by At.TcActionMessage =
+      table-nests reading_of (Inner c) (Own At.TcActionMessage c) OfTcActionMessage.table
+      (listed-row At.TcActionMessage c At.TcActions (λ bytes n p. p), tt)
+  nests-by At.TcActions = actions-nests c
+  nests-by At.TcAction = action-nests c
+  nests-by At.TcActionMirror = table-nests reading_of (Inner c) (Own At.TcActionMirror c) OfTcMirror.table tt
+  nests-by At.TcActionNat = table-nests reading_of (Inner c) (Own At.TcActionNat c) OfTcNat.table tt
+  nests-by At.TcActionTunnelKey =
+      table-nests reading_of (Inner c) (Own At.TcActionTunnelKey c) OfTcTunnelKey.table
+      (listed-row At.TcActionTunnelKey c At.TcEnc (λ bytes n p. p), tt)
+  nests-by At.TcQdiscHtb = table-nests reading_of (Inner c) (Own At.TcQdiscHtb c) OfTcHtb.table tt
+  nests-by At.TcQdiscTbf = table-nests reading_of (Inner c) (Own At.TcQdiscTbf c) OfTcTbf.table tt
+  nests-by At.TcQdiscRed = table-nests reading_of (Inner c) (Own At.TcQdiscRed c) OfTcRed.table tt
+  nests-by At.TcQdiscFq = table-nests reading_of (Inner c) (Own At.TcQdiscFq c) OfTcFq.table tt
+  nests-by At.TcQdiscNetem =
+      table-nests reading_of (Inner c) (Own At.TcQdiscNetem c) OfTcNetem.table
+      (listed-row At.TcQdiscNetem c At.TcNetemLoss (λ bytes n p. p), tt)
+  nests-by At.TcNetemLoss = table-nests reading_of (Inner c) (Own At.TcNetemLoss c) OfTcNetemLoss.table tt
+  nests-by At.TcFilterFw =
+      table-nests reading_of (Inner c) (Own At.TcFilterFw c) OfTcFw.table
+      (listed-row At.TcFilterFw c At.TcActionPolice (λ bytes n p. p), (listed-row At.TcFilterFw c At.TcActions (λ bytes n p. p), tt))
+  nests-by At.TcFilterBpf =
+      table-nests reading_of (Inner c) (Own At.TcFilterBpf c) OfTcFilterBpf.table
+      (listed-row At.TcFilterBpf c At.TcActions (λ bytes n p. p), (listed-row At.TcFilterBpf c At.TcActionPolice (λ bytes n p. p), tt))
+  nests-by At.TcActionGact = table-nests reading_of (Inner c) (Own At.TcActionGact c) OfTcGact.table tt
+  nests-by At.TcActionPolice = table-nests reading_of (Inner c) (Own At.TcActionPolice c) OfTcPolice.table tt
+  nests-by At.TcActionVlan = table-nests reading_of (Inner c) (Own At.TcActionVlan c) OfTcVlan.table tt
+  nests-by At.TcActionSkbedit = table-nests reading_of (Inner c) (Own At.TcActionSkbedit c) OfTcSkbedit.table tt
+  nests-by At.TcActionCsum = table-nests reading_of (Inner c) (Own At.TcActionCsum c) OfTcCsum.table tt
+  nests-by At.TcActionCt = table-nests reading_of (Inner c) (Own At.TcActionCt c) OfTcCt.table tt
+  nests-by At.TcActionSample = table-nests reading_of (Inner c) (Own At.TcActionSample c) OfTcSample.table tt
+  nests-by At.TcActionBpf = table-nests reading_of (Inner c) (Own At.TcActionBpf c) OfTcBpf.table tt
+  nests-by At.NeighbourFdb = table-nests reading_of (Inner c) (Own At.NeighbourFdb c) OfFdb.table tt
+  nests-by At.AfSpecMctp = table-nests reading_of (Inner c) (Own At.AfSpecMctp c) OfAfSpecMctp.table tt
+  nests-by At.LinkDpllPin = table-nests reading_of (Inner c) (Own At.LinkDpllPin c) OfPin.table tt
+  nests-by At.InfoHsr = table-nests reading_of (Inner c) (Own At.InfoHsr c) OfHsr.table tt
+  nests-by At.InfoIpoib = table-nests reading_of (Inner c) (Own At.InfoIpoib c) OfIpoib.table tt
+  nests-by At.InfoMacSec = table-nests reading_of (Inner c) (Own At.InfoMacSec c) OfMacSec.table tt
+  nests-by At.InfoGtp = table-nests reading_of (Inner c) (Own At.InfoGtp c) OfGtp.table tt
+  nests-by At.InfoOvpn = table-nests reading_of (Inner c) (Own At.InfoOvpn c) OfOvpn.table tt
+  nests-by At.LinkVfInfo =
+      table-nests reading_of (Inner c) (Own At.LinkVfInfo c) OfLinkVfInfo.table
+      (listed-row At.LinkVfInfo c At.VfInfo (λ bytes n p. p), tt)
+  nests-by At.VfInfo =
+      table-nests reading_of (Inner c) (Own At.VfInfo c) OfVfInfo.table
+      (listed-row At.VfInfo c At.VfStats (λ bytes n p. p), (listed-row At.VfInfo c At.VfVlan (λ bytes n p. p), tt))
+  nests-by At.VfStats = table-nests reading_of (Inner c) (Own At.VfStats c) OfVfStats.table tt
+  nests-by At.VfVlan = table-nests reading_of (Inner c) (Own At.VfVlan c) OfVfVlan.table tt
+  nests-by At.TcQdiscCake = table-nests reading_of (Inner c) (Own At.TcQdiscCake c) OfTcCake.table tt
+  nests-by At.TcCakeStat =
+      table-nests reading_of (Inner c) (Own At.TcCakeStat c) OfTcCakeStat.table
+      (listed-row At.TcCakeStat c At.TcCakeTins (λ bytes n p. p), tt)
+  nests-by At.TcCakeTinStat = table-nests reading_of (Inner c) (Own At.TcCakeTinStat c) OfTcCakeTinStat.table tt
+  nests-by At.TcQdiscMqprio =
+      table-nests reading_of (Inner c) (Own At.TcQdiscMqprio c) OfTcMqprio.table
+      (listed-row At.TcQdiscMqprio c At.TcMqprioEntry (λ bytes n p. p), tt)
+  nests-by At.TcMqprioEntry = table-nests reading_of (Inner c) (Own At.TcMqprioEntry c) OfTcMqprioEntry.table tt
+  nests-by At.TcFilterBasic =
+      table-nests reading_of (Inner c) (Own At.TcFilterBasic c) OfTcBasic.table
+      (listed-row At.TcFilterBasic c At.TcEmatchTree (λ bytes n p. p), (listed-row At.TcFilterBasic c At.TcActions (λ bytes n p. p), (listed-row At.TcFilterBasic c At.TcActionPolice (λ bytes n p. p), tt)))
+  nests-by At.TcEmatchTree =
+      table-nests reading_of (Inner c) (Own At.TcEmatchTree c) OfTcEmatchTree.table
+      (listed-row At.TcEmatchTree c At.TcEmatches (λ bytes n p. p), tt)
+  nests-by At.TcFlowerCfm = table-nests reading_of (Inner c) (Own At.TcFlowerCfm c) OfTcCfm.table tt
+  nests-by At.TcEnc =
+      table-nests reading_of (Inner c) (Own At.TcEnc c) OfTcEnc.table
+      (listed-row At.TcEnc c At.TcEncGeneve (λ bytes n p. p), (listed-row At.TcEnc c At.TcEncVxlan (λ bytes n p. p), (listed-row At.TcEnc c At.TcEncErspan (λ bytes n p. p), (listed-row At.TcEnc c At.TcEncGtp (λ bytes n p. p), (listed-row At.TcEnc c At.TcEncPfcp (λ bytes n p. p), tt)))))
+  nests-by At.TcEncGeneve = table-nests reading_of (Inner c) (Own At.TcEncGeneve c) OfTcEncGeneve.table tt
+  nests-by At.TcEncVxlan = table-nests reading_of (Inner c) (Own At.TcEncVxlan c) OfTcEncVxlan.table tt
+  nests-by At.TcEncErspan = table-nests reading_of (Inner c) (Own At.TcEncErspan c) OfTcEncErspan.table tt
+  nests-by At.TcEncGtp = table-nests reading_of (Inner c) (Own At.TcEncGtp c) OfTcEncGtp.table tt
+  nests-by At.TcEncPfcp = table-nests reading_of (Inner c) (Own At.TcEncPfcp c) OfTcEncPfcp.table tt
+  nests-by At.TcActionPedit =
+      table-nests reading_of (Inner c) (Own At.TcActionPedit c) OfTcPedit.table
+      (listed-row At.TcActionPedit c At.TcPeditKeysEx (λ bytes n p. p), tt)
+  nests-by At.TcPeditKeysEx =
+      table-nests reading_of (Inner c) (Own At.TcPeditKeysEx c) OfTcPeditKeysEx.table
+      (listed-row At.TcPeditKeysEx c At.TcPeditKeyEx (λ bytes n p. p), tt)
+  nests-by At.TcPeditKeyEx = table-nests reading_of (Inner c) (Own At.TcPeditKeyEx c) OfTcPeditKeyEx.table tt
+  nests-by At.TcCakeTins = tins-nests c
+  nests-by At.TcEmatches = λ x. tt
   nests-by set = encap-nests c Tunnel.None
 
 pub nests : (n : Nest) → Nests reading_of (Inner (within n.set n.context)) (Own n.set n.context) (reading_of n).reading

@@ -14,13 +14,13 @@ use Rattle.npr_base.specs.Layout.{Layout}
 use Rattle.npr_base.specs.MessageValue.{message_value}
 use Rattle.npr_base.proofs.NestLaws.{plain-list, opened-by, in-list}
 use Rattle.npr_base.specs.Refusal.{at_number}
-use Rattle.npr_base.specs.declared.refusal.At.{At}
-use Rattle.npr_base.specs.declared.refusal.AttributeSet.{AttributeSet}
-use Rattle.npr_base.specs.declared.refusal.AttributeSet.TheVariants.{Route, Neighbour, Metric, Encap}
-use Rattle.npr_base.specs.declared.refusal.AttributeSet.TheVariants.{LinkInfo}
-use Rattle.npr_base.specs.declared.refusal.AttributeSet.TheVariants.{Peer}
-use Rattle.npr_base.specs.declared.refusal.AttributeSet.TheVariants.{NextHop, NextHopResGroup}
-use Rattle.npr_base.specs.declared.refusal.AttributeSet.TheVariants.{NextHopResBucket, NextHopGroupStats}
+use Rattle.npr_base.specs.declared.attribute_set.At.{At}
+use Rattle.npr_base.specs.declared.attribute_set.AttributeSet.{AttributeSet}
+use Rattle.npr_base.specs.declared.attribute_set.AttributeSet.TheVariants.{Route, Neighbour, NeighbourFdb, Metric, Encap}
+use Rattle.npr_base.specs.declared.attribute_set.AttributeSet.TheVariants.{LinkInfo}
+use Rattle.npr_base.specs.declared.attribute_set.AttributeSet.TheVariants.{Peer}
+use Rattle.npr_base.specs.declared.attribute_set.AttributeSet.TheVariants.{NextHop, NextHopResGroup}
+use Rattle.npr_base.specs.declared.attribute_set.AttributeSet.TheVariants.{NextHopResBucket, NextHopGroupStats}
 use Rattle.npr_base.specs.declared.value.Form.{Form}
 use Rattle.npr_link.specs.PeerAttribute as OfPeer
 use Rattle.npr_neighbour.specs.Attribute as OfNeighbour
@@ -187,6 +187,6 @@ module _ (c : Context) where
   next-hop-rows OfAddresses.any = hop-lists
 
   pub neighbour-rows : (form : OfNeighbourAddress.Form) → NestRows reading_of (Inner c) (Own Neighbour c) enum_of_neighbour.parts (OfNeighbour.table form).rows
-  neighbour-rows OfNeighbourAddress.four = tt
-  neighbour-rows OfNeighbourAddress.sixteen = tt
-  neighbour-rows OfNeighbourAddress.any = tt
+  neighbour-rows OfNeighbourAddress.four = (listed-row Neighbour c NeighbourFdb (λ bytes n p. p), tt)
+  neighbour-rows OfNeighbourAddress.sixteen = (listed-row Neighbour c NeighbourFdb (λ bytes n p. p), tt)
+  neighbour-rows OfNeighbourAddress.any = (listed-row Neighbour c NeighbourFdb (λ bytes n p. p), tt)

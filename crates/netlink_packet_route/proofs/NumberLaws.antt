@@ -30,13 +30,14 @@ use Rattle.npr_encapsulation.specs.EncapType.{encap_type, encap_types}
 use Rattle.npr_encapsulation.specs.declared.encap_type.RouteLwEnCapType.{RouteLwEnCapType}
 use Rattle.npr_encapsulation.specs.declared.encap_type.RouteLwEnCapType.TheVariants.{None as NoEncapsulation}
 use Rattle.npr_base.specs.declared.address_family.AddressFamily.{AddressFamily}
-use Rattle.npr_base.specs.declared.refusal.AttributeSet.{AttributeSet}
-use Rattle.npr_base.specs.declared.refusal.AttributeSet.TheVariants.{Route, Neighbour, Link, NextHop, Encap, LinkInfo, Value, Mpls, Ip, Ip6, Xfrm, Geneve, Seg6}
-use Rattle.npr_base.specs.declared.refusal.AttributeSet.TheVariants.{Seg6Local, Rpl, Ioam6, TcAction}
+use Rattle.npr_base.specs.declared.attribute_set.AttributeSet.{AttributeSet}
+use Rattle.npr_base.specs.declared.attribute_set.AttributeSet.TheVariants.{Route, Neighbour, Link, NextHop, Encap, LinkInfo, Value, Mpls, Ip, Ip6, Xfrm, Geneve, Seg6}
+use Rattle.npr_base.specs.declared.attribute_set.AttributeSet.TheVariants.{Seg6Local, Rpl, Ioam6, TcAction}
 use Rattle.npr_link.specs.Governing.{Forms}
 use Rattle.netlink_packet_route.specs.MessageKind.{of_family, of_route, of_next_hop, of_tc}
 use Rattle.netlink_packet_route.specs.Nests.{IsOf, FromBytes, HopUnder, Inner, action_nest, context_for, driver_nest, hop_nest, listed, nest_in}
-use Rattle.netlink_packet_route.specs.Nests.{no_context, within}
+use Rattle.netlink_packet_route.specs.Nests.{within}
+use Rattle.netlink_packet_route.specs.Readings.{no_context}
 use Rattle.netlink_packet_route.specs.declared.context.Context.{Context as Outside}
 use Rattle.netlink_packet_route.specs.declared.nests.Nest.{Nest}
 

@@ -7,8 +7,8 @@ use Rattle.npr_base.specs.Framing.{Item, number_of}
 use Rattle.npr_base.proofs.NestLaws.{cut-here, opens-here, owned-here}
 use Rattle.npr_base.specs.Opening.{Opens}
 use Rattle.npr_base.specs.Value.{IsWhole, Misshown, Shown, Shows}
-use Rattle.npr_base.specs.declared.refusal.At.{At}
-use Rattle.npr_base.specs.declared.refusal.AttributeSet.{AttributeSet}
+use Rattle.npr_base.specs.declared.attribute_set.At.{At}
+use Rattle.npr_base.specs.declared.attribute_set.AttributeSet.{AttributeSet}
 use Rattle.npr_base.specs.declared.refusal.DecodeError.{DecodeError}
 use Rattle.npr_base.specs.declared.refusal.DecodeError.TheVariants.{HeaderTooShort}
 use Rattle.npr_base.specs.declared.value.Form.{Form}

@@ -9,8 +9,8 @@ use Rattle.npr_base.specs.Lists.{AllOf, ReadsList}
 use Rattle.npr_base.specs.Message.{Grammar, View, grammar_by, governs_by}
 use Rattle.npr_base.specs.Nesting.{any_reading, IsListOf, IsFaultOf}
 use Rattle.npr_base.specs.declared.address_family.AddressFamily.{AddressFamily}
-use Rattle.npr_base.specs.declared.refusal.AttributeSet.{AttributeSet}
-use Rattle.npr_base.specs.declared.refusal.AttributeSet.TheVariants as At
+use Rattle.npr_base.specs.declared.attribute_set.AttributeSet.{AttributeSet}
+use Rattle.npr_base.specs.declared.attribute_set.AttributeSet.TheVariants as At
 use Rattle.npr_base.specs.declared.refusal.DecodeError.{DecodeError}
 use Rattle.npr_address.specs.Attribute as OfAddress
 use Rattle.npr_address.specs.Header as OfAddressHeader
@@ -53,7 +53,8 @@ use Rattle.npr_tc.specs.declared.header.TcHeader.{TcHeader}
 use Rattle.npr_tc_qdiscs.specs.declared.form.TcForm.{TcForm}
 use Rattle.npr_tc_qdiscs.specs.declared.form.TcForm.TheVariants.{Kept as NoData}
 use Rattle.npr_encapsulation.specs.declared.encap_type.RouteLwEnCapType.TheVariants.{None as NoEncapsulation}
-use Rattle.netlink_packet_route.specs.Nests.{no_context, reading_by, reading_of}
+use Rattle.netlink_packet_route.specs.Nests.{reading_of}
+use Rattle.netlink_packet_route.specs.Readings.{no_context, reading_by}
 use Rattle.netlink_packet_route.specs.declared.nests.Nest.{Nest}
 use Rattle.netlink_packet_route.specs.declared.kind.MessageKind.{MessageKind}
 use Rattle.netlink_packet_route.specs.declared.kind.MessageKind.TheVariants.{Address, Route, Rule, Neighbour, Link, NextHop, Nsid, Netconf, AddressLabel}

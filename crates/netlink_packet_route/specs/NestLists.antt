@@ -7,8 +7,8 @@ use Rattle.npr_base.specs.Framing.{Item}
 use Rattle.npr_route.specs.Attribute.{Meaning, Hops, Reads, AreHops}
 use Rattle.npr_route.specs.Attribute.{HopsWrong}
 use Rattle.npr_route.specs.FlatAttribute.{Context}
-use Rattle.npr_base.specs.declared.refusal.AttributeSet.{AttributeSet}
-use Rattle.npr_base.specs.declared.refusal.AttributeSet.TheVariants.{Route}
+use Rattle.npr_base.specs.declared.attribute_set.AttributeSet.{AttributeSet}
+use Rattle.npr_base.specs.declared.attribute_set.AttributeSet.TheVariants.{Route}
 use Rattle.npr_base.specs.Nesting.{IsListOf, IsFaultOf}
 use Rattle.netlink_packet_route.specs.Nests.{reading_of}
 use Rattle.netlink_packet_route.specs.declared.context.Context.{Context as Outside}

@@ -2,12 +2,12 @@
 use Rattle.std.specs.Prelude.{◌≡◌, ◌≢◌, ◌⊎◌, ℕ, ◌+◌, List, length, drop, Option, Some, None}
 use Rattle.npr_base.specs.Framing.{Item}
 use Rattle.npr_base.specs.Lists.{ReadsTo, IsWrong}
-use Rattle.npr_base.specs.declared.refusal.At.{At}
+use Rattle.npr_base.specs.declared.attribute_set.At.{At}
 use Rattle.npr_base.specs.declared.refusal.DecodeError.{DecodeError}
 use Rattle.npr_base.specs.declared.refusal.DecodeError.TheVariants.{ValueLength}
 use Rattle.npr_base.specs.declared.value.Form.{Form}
-use Rattle.npr_base.specs.declared.refusal.AttributeSet.{AttributeSet}
-use Rattle.npr_base.specs.declared.refusal.AttributeSet.TheVariants.{Encap}
+use Rattle.npr_base.specs.declared.attribute_set.AttributeSet.{AttributeSet}
+use Rattle.npr_base.specs.declared.attribute_set.AttributeSet.TheVariants.{Encap}
 use Rattle.npr_names.specs.Refusals.{Fronts, lengths_told}
 use Rattle.netlink_packet_route.specs.MessageKind.{Begins}
 use Rattle.netlink_packet_route.specs.Nests.{listed, nest_in, reading_of, told_set}

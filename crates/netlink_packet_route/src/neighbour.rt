@@ -21,6 +21,6 @@
 
 pub use npr_neighbour::{
     NeighbourAddress, NeighbourAttribute, NeighbourCacheInfo, NeighbourCacheInfoBuffer,
-    NeighbourExtFlags, NeighbourFlags, NeighbourHeader, NeighbourMessage, NeighbourMessageBuffer,
-    NeighbourState,
+    NeighbourExtFlags, NeighbourFdbAttribute, NeighbourFdbNotify, NeighbourFlags, NeighbourHeader,
+    NeighbourMessage, NeighbourMessageBuffer, NeighbourState,
 };

@@ -32,6 +32,7 @@ use npr_encapsulation::RouteVxlanOpt;
 use npr_link::AfSpecBridge;
 use npr_link::AfSpecInet;
 use npr_link::AfSpecInet6;
+use npr_link::AfSpecMctp;
 use npr_link::AfSpecUnspec;
 use npr_link::BondAdInfo;
 use npr_link::BridgeMst;
@@ -45,10 +46,15 @@ use npr_link::InfoBridgePort;
 use npr_link::InfoGeneve;
 use npr_link::InfoGre;
 use npr_link::InfoGre6;
+use npr_link::InfoGtp;
+use npr_link::InfoHsr;
 use npr_link::InfoIpTunnel;
 use npr_link::InfoIpVlan;
+use npr_link::InfoIpoib;
+use npr_link::InfoMacSec;
 use npr_link::InfoMacVlan;
 use npr_link::InfoNetkit;
+use npr_link::InfoOvpn;
 use npr_link::InfoTun;
 use npr_link::InfoVeth;
 use npr_link::InfoVlan;
@@ -57,16 +63,22 @@ use npr_link::InfoVti;
 use npr_link::InfoVxlan;
 use npr_link::InfoXfrm;
 use npr_link::LinkAttribute;
+use npr_link::LinkDpllPin;
 use npr_link::LinkInfo;
 use npr_link::LinkProtocolDownReason;
+use npr_link::LinkVfInfo;
 use npr_link::LinkXdp;
 use npr_link::MacVlanAddress;
 use npr_link::PeerAttribute;
 use npr_link::Prop;
+use npr_link::VfInfo;
+use npr_link::VfStats;
+use npr_link::VfVlan;
 use npr_link::VlanQosMapping;
 use npr_namespace::NetconfAttribute;
 use npr_namespace::NsidAttribute;
 use npr_neighbour::NeighbourAttribute;
+use npr_neighbour::NeighbourFdbAttribute;
 use npr_neighbour::NeighbourTableAttribute;
 use npr_neighbour::NeighbourTableParameter;
 use npr_nexthop::NextHopAttribute;
@@ -88,11 +100,23 @@ use npr_tc_actions::TcActionCtOption;
 use npr_tc_actions::TcActionGactOption;
 use npr_tc_actions::TcActionMirrorOption;
 use npr_tc_actions::TcActionNatOption;
+use npr_tc_actions::TcActionPeditOption;
 use npr_tc_actions::TcActionPoliceOption;
 use npr_tc_actions::TcActionSampleOption;
 use npr_tc_actions::TcActionSkbeditOption;
 use npr_tc_actions::TcActionTunnelKeyOption;
 use npr_tc_actions::TcActionVlanOption;
+use npr_tc_actions::TcEncErspan;
+use npr_tc_actions::TcEncGeneve;
+use npr_tc_actions::TcEncGtp;
+use npr_tc_actions::TcEncOption;
+use npr_tc_actions::TcEncPfcp;
+use npr_tc_actions::TcEncVxlan;
+use npr_tc_actions::TcPeditKeyEx;
+use npr_tc_actions::TcPeditKeysEx;
+use npr_tc_filters::TcEmatch;
+use npr_tc_filters::TcEmatchTree;
+use npr_tc_filters::TcFilterBasicOption;
 use npr_tc_filters::TcFilterBpfOption;
 use npr_tc_filters::TcFilterFlowerMplsLseOption;
 use npr_tc_filters::TcFilterFlowerMplsOption;
@@ -100,11 +124,18 @@ use npr_tc_filters::TcFilterFlowerOption;
 use npr_tc_filters::TcFilterFwOption;
 use npr_tc_filters::TcFilterMatchAllOption;
 use npr_tc_filters::TcFilterU32Option;
+use npr_tc_filters::TcFlowerCfmOption;
+use npr_tc_qdiscs::TcCakeStat;
+use npr_tc_qdiscs::TcCakeTin;
+use npr_tc_qdiscs::TcCakeTinStat;
+use npr_tc_qdiscs::TcMqprioEntry;
 use npr_tc_qdiscs::TcNetemLoss;
+use npr_tc_qdiscs::TcQdiscCakeOption;
 use npr_tc_qdiscs::TcQdiscFqCodelOption;
 use npr_tc_qdiscs::TcQdiscFqOption;
 use npr_tc_qdiscs::TcQdiscHtbOption;
 use npr_tc_qdiscs::TcQdiscIngressOption;
+use npr_tc_qdiscs::TcQdiscMqprioOption;
 use npr_tc_qdiscs::TcQdiscNetemOption;
 use npr_tc_qdiscs::TcQdiscRedOption;
 use npr_tc_qdiscs::TcQdiscTbfOption;
@@ -243,6 +274,37 @@ impl Nest {
             AttributeSet::TcActionCt => TcActionCtOption::form((), number),
             AttributeSet::TcActionSample => TcActionSampleOption::form((), number),
             AttributeSet::TcActionBpf => TcActionBpfOption::form((), number),
+            AttributeSet::NeighbourFdb => NeighbourFdbAttribute::form((), number),
+            AttributeSet::AfSpecMctp => AfSpecMctp::form((), number),
+            AttributeSet::LinkDpllPin => LinkDpllPin::form((), number),
+            AttributeSet::InfoHsr => InfoHsr::form((), number),
+            AttributeSet::InfoIpoib => InfoIpoib::form((), number),
+            AttributeSet::InfoMacSec => InfoMacSec::form((), number),
+            AttributeSet::InfoGtp => InfoGtp::form((), number),
+            AttributeSet::InfoOvpn => InfoOvpn::form((), number),
+            AttributeSet::LinkVfInfo => LinkVfInfo::form((), number),
+            AttributeSet::VfInfo => VfInfo::form((), number),
+            AttributeSet::VfStats => VfStats::form((), number),
+            AttributeSet::VfVlan => VfVlan::form((), number),
+            AttributeSet::TcQdiscCake => TcQdiscCakeOption::form((), number),
+            AttributeSet::TcCakeStat => TcCakeStat::form((), number),
+            AttributeSet::TcCakeTinStat => TcCakeTinStat::form((), number),
+            AttributeSet::TcQdiscMqprio => TcQdiscMqprioOption::form((), number),
+            AttributeSet::TcMqprioEntry => TcMqprioEntry::form((), number),
+            AttributeSet::TcFilterBasic => TcFilterBasicOption::form((), number),
+            AttributeSet::TcEmatchTree => TcEmatchTree::form((), number),
+            AttributeSet::TcFlowerCfm => TcFlowerCfmOption::form((), number),
+            AttributeSet::TcEnc => TcEncOption::form((), number),
+            AttributeSet::TcEncGeneve => TcEncGeneve::form((), number),
+            AttributeSet::TcEncVxlan => TcEncVxlan::form((), number),
+            AttributeSet::TcEncErspan => TcEncErspan::form((), number),
+            AttributeSet::TcEncGtp => TcEncGtp::form((), number),
+            AttributeSet::TcEncPfcp => TcEncPfcp::form((), number),
+            AttributeSet::TcActionPedit => TcActionPeditOption::form((), number),
+            AttributeSet::TcPeditKeysEx => TcPeditKeysEx::form((), number),
+            AttributeSet::TcPeditKeyEx => TcPeditKeyEx::form((), number),
+            AttributeSet::TcCakeTins => TcCakeTin::form((), number),
+            AttributeSet::TcEmatches => TcEmatch::form((), number),
             _ => RouteLwTunnelEncap::form(RouteLwEnCapType::None, number),
         }
     }

@@ -11,9 +11,9 @@ use crate::manner::{Bits as InBits, LinkAddress};
 use crate::part::{push_numbers, push_structure};
 use crate::row::How::{
     Alone, Apart, Bits, Data, Flat, Group, Interface, Items, Keyed, KeyedWide, Known, Named,
-    Number, Object, OfType, Own, Set, Switch, Text,
+    Number, Object, Objects, OfType, Own, Set, Switch, Text, Written,
 };
-use crate::row::Line::{IfAny, Never};
+use crate::row::Line::{IfAny, Never, Told};
 use crate::row::{Parts, Rows, Size};
 use crate::value::push_number;
 use netlink_packet_route::framing::{AttributeSet, NlasIterator, Value};
@@ -28,15 +28,18 @@ pub const LINK: Rows = crate::rows![
     6 7 "qdisc" "qdisc " Text;
     7 93 "stats" "" Own;
     10 8 "master" "master " Interface;
+    11 0 "" "" Written;
     12 94 "protinfo" "" Alone("protinfo { ", " }");
     13 12 "txqlen" "qlen " Number, IfAny;
     14 82 "map" "" Own;
+    15 87 "weight" "weight " Number, IfAny;
     16 9 "operstate" "state " Own;
     17 10 "linkmode" "mode " Known(LINK_MODES, &Wording(10, "linkmode_index", "mode "));
     18 40 "linkinfo" "" Object;
     19 83 "net_ns_pid" "netns-pid " Number;
     20 251 "ifalias" "\n    alias " Text;
     21 70 "num_vf" "num_vf " Number;
+    22 253 "vfinfo_list" "" Objects("", "", "");
     23 93 "stats64" "" Own;
     26 92 "af_spec" "" Data(&Wording(92, "af_spec", "af_spec "));
     27 11 "group" "group " Group;
@@ -73,8 +76,10 @@ pub const LINK: Rows = crate::rows![
     59 55 "tso_max_size" "tso_max_size " Number;
     60 56 "tso_max_segs" "tso_max_segs " Number;
     61 30 "allmulti" "allmulti " Number;
+    62 0 "" "" Written, Told;
     63 58 "gso_ipv4_max_size" "gso_ipv4_max_size " Number;
     64 59 "gro_ipv4_max_size" "gro_ipv4_max_size " Number;
+    65 0 "" "" Flat;
     66 78 "max_pacing_offload_horizon" "max_pacing_offload_horizon " Number;
     67 77 "netns-immutable" "netns-immutable " Switch;
     68 79 "headroom" "headroom " Number;
@@ -115,6 +120,7 @@ pub const XDP: Rows = crate::rows![
 pub const AF_SPEC: Rows = crate::rows![
     2 0 "inet" "" Object;
     10 1 "inet6" "" Object;
+    45 2 "mctp" "" Object;
 ];
 
 /// Of what version 4 says.
@@ -125,12 +131,22 @@ pub const AF_SPEC_INET6: Rows = crate::rows![
     1 1 "flags" "" Set(INET6_FLAGS, ","), Never;
     2 0 "conf" "" Keyed(INET6);
     3 3 "stats" "" Own;
+    4 0 "" "" Written;
     5 2 "cacheinfo" "" Own;
     6 4 "icmp6stats" "" KeyedWide(ICMP6);
     7 5 "token" "token " Text, IfAny;
     8 0 "" "" Apart;
     9 6 "ra_mtu" "ra_mtu " Number, IfAny;
 ];
+
+/// Of what MCTP says.
+pub const AF_SPEC_MCTP: Rows = crate::rows![
+    1 0 "net" "net " Number;
+    2 1 "phys_binding" "binding " Number;
+];
+
+/// Of the pin that a link is clocked by.
+pub const PIN: Rows = crate::rows![1 88 "dpll_pin" "dpll_pin " Number;];
 
 /// How a link makes its address of version 6 (`IFLA_INET6_ADDR_GEN_MODE`), among the pieces of the link.
 const ADDRESS_MODE: Word = &Wording(50, "inet6_addr_gen_mode", "addrgenmode ");

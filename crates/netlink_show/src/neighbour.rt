@@ -3,7 +3,7 @@
 use crate::field::{self, Fields, Word, Wording};
 use crate::list::{Seen, small};
 use crate::names::{Names, PROTOCOLS, TYPES};
-use crate::row::How::{Hardware, Interface, Named, Number, Own, Text};
+use crate::row::How::{Bits, Flags, Flat, Hardware, Interface, Mark, Named, Number, Own, Text};
 use crate::row::Line::IfAny;
 use crate::row::Rows;
 use crate::walk::push_message;
@@ -25,7 +25,19 @@ pub const NEIGHBOUR: Rows = crate::rows![
     11 19 "src_vni" "src_vni " Number;
     12 15 "protocol" "proto " Named(PROTOCOLS), IfAny;
     13 23 "nhid" "nhid " Number;
+    14 26 "" "" Flat;
     15 8 "flags_ext" "flags_ext " Own;
+    16 28 "state_mask" "state_mask " Bits;
+    17 29 "flags_mask" "flags_mask " Bits;
+];
+
+/// Of what a forwarding entry is besides.
+pub const FORWARDING: Rows = crate::rows![
+    1 26 "" "" Flags(&[
+        (0x1, &Wording(26, "activity_notify", "activity_notify")),
+        (0x2, &Wording(26, "inactive", "inactive")),
+    ]);
+    2 27 "norefresh" "norefresh" Mark;
 ];
 
 const INTERFACE: Word = &Wording(3, "dev", "dev ");
@@ -43,7 +55,7 @@ const TYPE: Word = &Wording(24, "type", "type ");
 const FAMILY: Word = &Wording(25, "family", "family ");
 
 /// The flags that have a word (`NTF_*`).
-const FLAGS: field::Flags = &[
+const NEIGHBOUR_FLAGS: field::Flags = &[
     (0x80, &Wording(5, "router", "router")),
     (0x8, &Wording(5, "proxy", "proxy")),
     (0x10, &Wording(7, "extern_learn", "extern_learn")),
@@ -80,7 +92,7 @@ pub fn push_neighbour(fields: &mut Fields, bytes: &[u8]) {
 
 fn push_header(fields: &mut Fields, header: &NeighbourMessageBuffer) {
     fields.some_interface(INTERFACE, header.ifindex);
-    fields.flags(FLAGS, u32::from(header.flags), None);
+    fields.flags(NEIGHBOUR_FLAGS, u32::from(header.flags), None);
     let state = u32::from(header.state);
     if state != 0 {
         fields.set(STATE, STATES, state, " ");

@@ -23,7 +23,7 @@ impl Size {
             Size::U8 => 1,
             Size::U16 | Size::Be16 => 2,
             Size::U32 => 4,
-            Size::U64 => 8,
+            Size::U64 | Size::I64 => 8,
         }
     }
 
@@ -34,9 +34,17 @@ impl Size {
             Size::U8 => u64::from(*rest.first()?),
             Size::U16 => u64::from(u16::from_le_bytes(*rest.first_chunk()?)),
             Size::U32 => u64::from(u32::from_le_bytes(*rest.first_chunk()?)),
-            Size::U64 => u64::from_le_bytes(*rest.first_chunk()?),
+            Size::U64 | Size::I64 => u64::from_le_bytes(*rest.first_chunk()?),
             Size::Be16 => u64::from(u16::from_be_bytes(*rest.first_chunk()?)),
         })
+    }
+
+    /// What a number of this size is.
+    fn value(self, number: u64) -> Value<'static> {
+        match self {
+            Size::I64 => Value::I64(number.cast_signed()),
+            _ => Value::U64(number),
+        }
     }
 
     /// The number at this place of an array.
@@ -62,7 +70,7 @@ pub fn push_parts(fields: &mut Fields, list: List<'_>, bytes: &[u8], parts: Part
                 number: at,
                 kind: at,
                 bytes: &[],
-                value: Value::U64(number),
+                value: part.size.value(number),
             };
             push_plain(fields, list, &part.row, &seen);
         }

@@ -151,6 +151,8 @@ pub enum Size {
     U32,
     /// Eight bytes, little endian.
     U64,
+    /// The same, with a sign.
+    I64,
     /// Two bytes, big endian.
     Be16,
 }

@@ -21,22 +21,28 @@ pub const RULE: Rows = crate::rows![
     1 6 "dst" "to " Own;
     2 4 "src" "from " Own;
     3 11 "iif" "iif " Text;
-    4 31 "goto" "goto " Number;
+    4 35 "goto" "goto " Number;
     6 2 "priority" "" Own;
     10 9 "fwmark" "fwmark " Bits;
-    11 29 "flow_from" "realms " Own;
+    11 33 "flow_from" "realms " Own;
     12 25 "tun_id" "tun_id " Number;
-    13 28 "suppress_ifgroup" "suppress_ifgroup " Group, Not(ANY);
-    14 27 "suppress_prefixlen" "suppress_prefixlength " Signed, Not(ANY);
-    15 26 "table" "lookup " Named(TABLES), IfAny;
+    13 32 "suppress_ifgroup" "suppress_ifgroup " Group, Not(ANY);
+    14 31 "suppress_prefixlen" "suppress_prefixlength " Signed, Not(ANY);
+    15 30 "table" "lookup " Named(TABLES), IfAny;
     16 10 "fwmask" "/" Bits, Not(ANY);
     17 13 "oif" "oif " Text;
     19 15 "l3mdev" "lookup [l3mdev-table]" Lone, IfAny;
     20 16 "uid_start" "uidrange " Own;
-    21 35 "protocol" "proto " Named(PROTOCOLS);
+    21 39 "protocol" "proto " Named(PROTOCOLS);
     22 18 "ipproto" "ipproto " Own;
     23 19 "sport" "sport " Own;
     24 22 "dport" "dport " Own;
+    25 26 "dscp" "dscp " Number;
+    26 28 "flowlabel" "flowlabel " Bits;
+    27 29 "flowlabel_mask" "/" Bits, Not(0xf_ffff);
+    28 20 "sport_mask" "/" Bits, Not(0xffff);
+    29 23 "dport_mask" "/" Bits, Not(0xffff);
+    30 27 "dscp_mask" "/" Bits, Not(63);
 ];
 
 /// The first and the last of users (`struct fib_rule_uid_range`).
@@ -58,25 +64,25 @@ const SERVICE: Word = &Wording(8, "tos", "tos ");
 
 const MARK: Word = &Wording(9, "fwmark", "fwmark ");
 
-const TABLE: Word = &Wording(26, "table", "lookup ");
+const TABLE: Word = &Wording(30, "table", "lookup ");
 
 const FLOW: RealmWords = (
-    &Wording(29, "flow_from", "realms "),
-    &Wording(30, "flow_to", "/"),
-    &Wording(30, "flow_to", "realms "),
+    &Wording(33, "flow_from", "realms "),
+    &Wording(34, "flow_to", "/"),
+    &Wording(34, "flow_to", "realms "),
 );
 
-const GOTO: Word = &Wording(31, "goto", "goto ");
+const GOTO: Word = &Wording(35, "goto", "goto ");
 
-const NOP: Word = &Wording(33, "nop", "nop");
+const NOP: Word = &Wording(37, "nop", "nop");
 
-const MASQUERADE: Word = &Wording(33, "masquerade", "masquerade");
+const MASQUERADE: Word = &Wording(37, "masquerade", "masquerade");
 
-const ACTION: Word = &Wording(34, "action", "");
+const ACTION: Word = &Wording(38, "action", "");
 
-const OTHER_FLAGS: Word = &Wording(37, "flags", "flags ");
+const OTHER_FLAGS: Word = &Wording(41, "flags", "flags ");
 
-const FAMILY: Word = &Wording(38, "family", "family ");
+const FAMILY: Word = &Wording(42, "family", "family ");
 
 /// The words for a port, for the first port of a range and for its last.
 type PortWords = (Word, Word, Word);
@@ -119,9 +125,9 @@ const RTN_NAT: u8 = 10;
 
 /// The flags that have a word (`FIB_RULE_*`).
 const FLAGS: field::Flags = &[
-    (0x1, &Wording(36, "permanent", "permanent")),
+    (0x1, &Wording(40, "permanent", "permanent")),
     (0x2, &Wording(3, "not", "not")),
-    (0x4, &Wording(32, "unresolved", "[unresolved]")),
+    (0x4, &Wording(36, "unresolved", "[unresolved]")),
     (0x8, &Wording(12, "iif_detached", "[detached]")),
     (0x10, &Wording(14, "oif_detached", "[detached]")),
 ];

@@ -25,14 +25,22 @@ use crate::device::VETH;
 use crate::device::VLAN;
 use crate::device::VLAN_QOS;
 use crate::device::VRF;
+use crate::device_kind;
+use crate::device_kind::GTP;
+use crate::device_kind::HSR;
+use crate::device_kind::IPOIB;
+use crate::device_kind::MAC_SEC;
+use crate::device_kind::OVPN;
 use crate::field::Fields;
 use crate::field::Word;
 use crate::link_attribute;
 use crate::link_attribute::AF_SPEC;
 use crate::link_attribute::AF_SPEC_INET;
 use crate::link_attribute::AF_SPEC_INET6;
+use crate::link_attribute::AF_SPEC_MCTP;
 use crate::link_attribute::LINK;
 use crate::link_attribute::LINK_INFO;
+use crate::link_attribute::PIN;
 use crate::link_attribute::PROPERTIES;
 use crate::link_attribute::REASONS;
 use crate::link_attribute::XDP;
@@ -44,6 +52,7 @@ use crate::metric;
 use crate::metric::METRICS;
 use crate::metric::push_locks;
 use crate::neighbour;
+use crate::neighbour::FORWARDING;
 use crate::neighbour::NEIGHBOUR;
 use crate::neighbour_table;
 use crate::neighbour_table::NEIGHBOUR_TABLE;
@@ -68,31 +77,32 @@ use crate::segment_encap::IOAM6;
 use crate::segment_encap::RPL;
 use crate::segment_encap::SEG6;
 use crate::segment_encap::SEG6_LOCAL;
-use crate::traffic;
 use crate::traffic::ACTIONS;
 use crate::traffic::TRAFFIC;
-use crate::traffic_action;
 use crate::traffic_action::ACTION;
-use crate::traffic_action::ANY_ACTION;
 use crate::traffic_action::MIRROR;
 use crate::traffic_action::NAT;
 use crate::traffic_action::TUNNEL_KEY;
-use crate::traffic_filter;
+use crate::traffic_basic::BASIC;
+use crate::traffic_basic::MATCHES;
+use crate::traffic_cake;
+use crate::traffic_cake::CAKE;
+use crate::traffic_cake::CAKE_STATS;
+use crate::traffic_cake::CAKE_TIN;
 use crate::traffic_filter::BPF;
 use crate::traffic_filter::FW;
 use crate::traffic_filter::MATCH_ALL;
 use crate::traffic_filter::U32;
-use crate::traffic_flower;
 use crate::traffic_flower::FLOWER;
 use crate::traffic_flower::FLOWER_MPLS;
 use crate::traffic_flower::FLOWER_MPLS_LSE;
-use crate::traffic_kind;
+use crate::traffic_flower_key::FLOWER_CFM;
 use crate::traffic_kind::FQ;
 use crate::traffic_kind::RED;
-use crate::traffic_netem;
+use crate::traffic_mqprio::MQPRIO;
+use crate::traffic_mqprio::MQPRIO_ENTRY;
 use crate::traffic_netem::NETEM;
 use crate::traffic_netem::NETEM_LOSS;
-use crate::traffic_option;
 use crate::traffic_option::ACTION_BPF;
 use crate::traffic_option::ACTION_VLAN;
 use crate::traffic_option::CSUM;
@@ -100,12 +110,15 @@ use crate::traffic_option::CT;
 use crate::traffic_option::GACT;
 use crate::traffic_option::SAMPLE;
 use crate::traffic_option::SKBEDIT;
+use crate::traffic_own;
+use crate::traffic_own::row_of_traffic;
+use crate::traffic_pedit::PEDIT;
+use crate::traffic_pedit::PEDIT_KEY;
+use crate::traffic_pedit::PEDIT_KEYS;
 use crate::traffic_police::POLICE;
-use crate::traffic_qdisc;
 use crate::traffic_qdisc::FQ_CODEL;
 use crate::traffic_qdisc::STAB;
 use crate::traffic_qdisc::STATS;
-use crate::traffic_rate;
 use crate::traffic_rate::HTB;
 use crate::traffic_rate::TBF;
 use crate::tunnel::GENEVE;
@@ -126,9 +139,21 @@ use crate::tunnel_encap::VXLAN_OPTIONS;
 use crate::tunnel_encap::XFRM_ENCAP;
 use crate::tunnel_encap::push_erspan;
 use crate::tunnel_encap::push_geneve;
+use crate::tunnel_option;
+use crate::tunnel_option::ENC;
+use crate::tunnel_option::ENC_ERSPAN;
+use crate::tunnel_option::ENC_GENEVE;
+use crate::tunnel_option::ENC_GTP;
+use crate::tunnel_option::ENC_PFCP;
+use crate::tunnel_option::ENC_VXLAN;
 use crate::tunnel_value;
 use crate::tunnel_value::push_encap;
 use crate::value::push_labels;
+use crate::virtual_function;
+use crate::virtual_function::FUNCTION;
+use crate::virtual_function::FUNCTION_STATS;
+use crate::virtual_function::FUNCTION_VLANS;
+use crate::virtual_function::FUNCTIONS;
 use netlink_packet_route::Nest;
 use netlink_packet_route::framing::AttributeSet;
 use netlink_packet_route::link::InfoForm;
@@ -171,10 +196,22 @@ pub fn rows_of(nest: Nest) -> Rows {
         AttributeSet::InfoIpTunnel => IP_TUNNEL,
         AttributeSet::InfoVti => VTI,
         AttributeSet::InfoXfrm => XFRM,
+        AttributeSet::InfoHsr => HSR,
+        AttributeSet::InfoIpoib => IPOIB,
+        AttributeSet::InfoMacSec => MAC_SEC,
+        AttributeSet::InfoGtp => GTP,
+        AttributeSet::InfoOvpn => OVPN,
+        AttributeSet::AfSpecMctp => AF_SPEC_MCTP,
+        AttributeSet::LinkDpllPin => PIN,
+        AttributeSet::LinkVfInfo => FUNCTIONS,
+        AttributeSet::VfInfo => FUNCTION,
+        AttributeSet::VfStats => FUNCTION_STATS,
+        AttributeSet::VfVlan => FUNCTION_VLANS,
         AttributeSet::Route => ROUTE,
         AttributeSet::Rule => RULE,
         AttributeSet::Address => ADDRESS,
         AttributeSet::Neighbour => NEIGHBOUR,
+        AttributeSet::NeighbourFdb => FORWARDING,
         AttributeSet::NeighbourTable => NEIGHBOUR_TABLE,
         AttributeSet::Nsid => NSID,
         AttributeSet::Netconf => NETCONF,
@@ -211,6 +248,23 @@ pub fn rows_of(nest: Nest) -> Rows {
         AttributeSet::TcActionCt => CT,
         AttributeSet::TcActionSample => SAMPLE,
         AttributeSet::TcActionBpf => ACTION_BPF,
+        AttributeSet::TcQdiscCake => CAKE,
+        AttributeSet::TcCakeStat => CAKE_STATS,
+        AttributeSet::TcCakeTinStat => CAKE_TIN,
+        AttributeSet::TcQdiscMqprio => MQPRIO,
+        AttributeSet::TcMqprioEntry => MQPRIO_ENTRY,
+        AttributeSet::TcFilterBasic => BASIC,
+        AttributeSet::TcEmatchTree => MATCHES,
+        AttributeSet::TcFlowerCfm => FLOWER_CFM,
+        AttributeSet::TcEnc => ENC,
+        AttributeSet::TcEncGeneve => ENC_GENEVE,
+        AttributeSet::TcEncVxlan => ENC_VXLAN,
+        AttributeSet::TcEncErspan => ENC_ERSPAN,
+        AttributeSet::TcEncGtp => ENC_GTP,
+        AttributeSet::TcEncPfcp => ENC_PFCP,
+        AttributeSet::TcActionPedit => PEDIT,
+        AttributeSet::TcPeditKeysEx => PEDIT_KEYS,
+        AttributeSet::TcPeditKeyEx => PEDIT_KEY,
         AttributeSet::NextHopResGroup => RESILIENT,
         AttributeSet::NextHopResBucket => BUCKET,
         AttributeSet::Metric => METRICS,
@@ -232,6 +286,8 @@ pub fn rows_of(nest: Nest) -> Rows {
         | AttributeSet::NextHopGroupStatsEntry
         | AttributeSet::TcQdiscIngress
         | AttributeSet::TcActions
+        | AttributeSet::TcCakeTins
+        | AttributeSet::TcEmatches
         | AttributeSet::Geneve
         | AttributeSet::Encap
         | AttributeSet::Value => &[],
@@ -266,6 +322,11 @@ pub fn push_own(fields: &mut Fields, list: List<'_>, word: Word, seen: &Seen<'_>
         | AttributeSet::InfoGeneve
         | AttributeSet::InfoGre6
         | AttributeSet::InfoIpTunnel => tunnel_value::push_own(fields, list, word, seen),
+        AttributeSet::InfoIpoib | AttributeSet::InfoMacSec => device_kind::push_own(
+            fields, list, word, seen,
+        ),
+        AttributeSet::VfInfo => virtual_function::push_own(fields, list, word, seen),
+        AttributeSet::VfVlan => virtual_function::push_vlan(fields, list, word, seen),
         _ => push_own_of_message(fields, list, word, seen),
     }
 }
@@ -288,46 +349,15 @@ fn push_own_of_message(fields: &mut Fields, list: List<'_>, word: Word, seen: &S
         AttributeSet::NextHop => next_hop::push_own(fields, list, word, seen),
         AttributeSet::Netconf => netconf::push_own(fields, word, seen),
         AttributeSet::Prefix => prefix::push_own(fields, list, seen),
-        _ => push_own_of_traffic(fields, list, word, seen),
+        _ => traffic_own::push_own(fields, list, word, seen),
     }
 }
 
-/// The same of traffic control.
-fn push_own_of_traffic(fields: &mut Fields, list: List<'_>, word: Word, seen: &Seen<'_>) {
-    match list.nest.set {
-        AttributeSet::Tc | AttributeSet::TcActionMessage => traffic::push_own(
-            fields, list, word, seen,
-        ),
-        AttributeSet::TcStats2 | AttributeSet::TcStab | AttributeSet::TcQdiscFqCodel => {
-            traffic_qdisc::push_own(fields, list, word, seen)
-        }
-        AttributeSet::TcQdiscHtb | AttributeSet::TcQdiscTbf => traffic_rate::push_own(
-            fields, list, seen,
-        ),
-        AttributeSet::TcQdiscRed | AttributeSet::TcQdiscFq => traffic_kind::push_own(
-            fields, list, word, seen,
-        ),
-        AttributeSet::TcQdiscNetem | AttributeSet::TcNetemLoss => traffic_netem::push_own(
-            fields, list, word, seen,
-        ),
-        AttributeSet::TcFilterU32
-        | AttributeSet::TcFilterMatchAll
-        | AttributeSet::TcFilterFw
-        | AttributeSet::TcFilterBpf => traffic_filter::push_own(fields, list, word, seen),
-        AttributeSet::TcFilterFlower => traffic_flower::push_own(fields, list, word, seen),
-        AttributeSet::TcAction
-        | AttributeSet::TcActionMirror
-        | AttributeSet::TcActionNat
-        | AttributeSet::TcActionTunnelKey => traffic_action::push_own(fields, list, word, seen),
-        _ => traffic_option::push_own(fields, list, word, seen),
-    }
-}
-
-/// The row of a number in a list. In a list of actions it is the place of one.
-pub fn row_in(nest: Nest, number: u16) -> Option<&'static Row> {
-    match nest.set {
-        AttributeSet::TcActions => Some(ANY_ACTION),
-        _ => rows_of(nest).iter().find(|row| row.number == number),
+/// The row of a number in a list.
+pub fn row_in(list: List<'_>, number: u16) -> Option<&'static Row> {
+    match row_of_traffic(list, number) {
+        Some(row) => Some(row),
+        None => rows_of(list.nest).iter().find(|row| row.number == number),
     }
 }
 
@@ -345,30 +375,9 @@ pub fn push_beside(fields: &mut Fields, list: List<'_>) {
         AttributeSet::Link => push_address_modes(fields, list),
         AttributeSet::NextHop => next_hop::push_beside(fields, list),
         AttributeSet::Metric => push_locks(fields, list),
+        AttributeSet::TcQdiscCake => traffic_cake::push_beside(fields, list),
+        AttributeSet::TcEnc => tunnel_option::push_beside(fields, list),
         AttributeSet::Erspan => push_erspan(fields, list),
         _ => {}
-    }
-}
-
-/// Whether a line has nothing of an attribute in such a list that nobody knows and that is empty.
-pub fn hides_padding(nest: Nest) -> bool {
-    match nest.set {
-        AttributeSet::Address
-        | AttributeSet::Rule
-        | AttributeSet::Route
-        | AttributeSet::Neighbour
-        | AttributeSet::Metric
-        | AttributeSet::Encap
-        | AttributeSet::Opt
-        | AttributeSet::Vxlan
-        | AttributeSet::Erspan
-        | AttributeSet::NextHop
-        | AttributeSet::NextHopGroupStats
-        | AttributeSet::NextHopGroupStatsEntry
-        | AttributeSet::Nsid
-        | AttributeSet::Netconf
-        | AttributeSet::AddressLabel
-        | AttributeSet::Prefix => false,
-        _ => true,
     }
 }

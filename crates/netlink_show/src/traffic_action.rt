@@ -56,10 +56,11 @@ pub const TUNNEL_KEY: Rows = crate::rows![
     6 2 "dst_ip" "\n\tdst_ip " Text;
     7 3 "key_id" "\n\tkey_id " Number;
     9 4 "dst_port" "\n\tdst_port " Number;
-    10 5 "flag" "\n\t" Own;
-    12 7 "tos" "\n\ttos " Own;
-    13 8 "ttl" "\n\tttl " Number;
-    14 6 "nofrag" "\n\tnofrag" Truth;
+    10 6 "flag" "\n\t" Own;
+    11 0 "" "" Flat;
+    12 8 "tos" "\n\ttos " Own;
+    13 9 "ttl" "\n\tttl " Number;
+    14 7 "nofrag" "\n\tnofrag" Truth;
 ];
 
 /// How an action was made (`TCA_ACT_FLAGS_*` of `linux/pkt_cls.h`).

@@ -247,7 +247,7 @@ fn push_key(inside: &mut Fields, key: &[u8], taken: Option<u64>) {
 }
 
 /// How often a filter was asked, and how often it took a packet. Counts of keys stand with them.
-fn push_hits(fields: &mut Fields, bytes: &[u8]) {
+pub fn push_hits(fields: &mut Fields, bytes: &[u8]) {
     let (Some(asked), Some(taken)) = (Size::U64.number_in(bytes, 0), Size::U64.number_in(bytes, 1))
     else {
         return fields.bytes(HITS, bytes);

@@ -4,11 +4,12 @@ use crate::field::{Fields, ITEM, Word, Wording};
 use crate::list::{List, Seen, small};
 use crate::manner::{Hexadecimal, Inet};
 use crate::names::{IP_PROTOCOLS, Names};
-use crate::row::How::{Apart, Flat, Number, Objects, Own, Text};
+use crate::row::How::{Apart, Flat, Number, Object, Objects, Own, Text};
 use crate::row::Line::IfAny;
 use crate::row::Rows;
 use crate::traffic::push_frame;
 use crate::traffic_filter::{push_handle, push_places_below};
+use crate::traffic_flower_key::push_key;
 use crate::traffic_text::prefix_of;
 use netlink_packet_route::framing::Value;
 use std::fmt;
@@ -99,6 +100,8 @@ pub const FLOWER: Rows = crate::rows![
     81 0 "enc_tos_mask" "" Apart;
     82 48 "enc_ttl" "\n  enc_ttl " Own;
     83 0 "enc_ttl_mask" "" Apart;
+    84 48 "" "" Own;
+    85 0 "" "" Apart;
     86 83 "in_hw_count" "in_hw_count " Number, IfAny;
     87 33 "src_port" "\n  src_port" Own;
     88 0 "" "" Apart;
@@ -115,6 +118,16 @@ pub const FLOWER: Rows = crate::rows![
     99 60 "mpls" "\n  mpls" Objects("", "", "");
     100 54 "hash" "\n  hash " Own;
     101 0 "hash_mask" "" Apart;
+    102 9 "num_of_vlans" "\n  num_of_vlans " Number;
+    103 18 "pppoe_sid" "\n  pppoe_sid " Number;
+    104 18 "ppp_proto" "\n  ppp_proto " Own;
+    105 31 "l2tpv3_sid" "\n  l2tpv3_sid " Number;
+    106 17 "l2_miss" "\n  l2_miss " Number;
+    107 41 "cfm" "\n  cfm" Object;
+    108 31 "spi" "\n  spi " Own;
+    109 0 "" "" Apart;
+    110 49 "enc_flags" "\n  enc_flags " Own;
+    111 0 "" "" Apart;
 ];
 
 /// Of labels in it (`TCA_FLOWER_KEY_MPLS_OPTS_*`).
@@ -219,6 +232,7 @@ pub fn push_own(fields: &mut Fields, list: List<'_>, word: Word, seen: &Seen<'_>
         ),
         61 => fields.named(word, OPERATIONS, number),
         71 => push_flags(fields, word, number, list.number_if(72)),
+        84 | 104 | 108 | 110 => push_key(fields, list, word, seen),
         87 | 89 => push_range(fields, list, word, seen),
         91 => push_bits(
             fields,
@@ -253,7 +267,7 @@ fn push_flags(fields: &mut Fields, word: Word, bits: u32, mask: Option<u32>) {
 
 /// The names of the bits that count, each behind a mark that says whether it is set: what stands between
 /// them, before one that is not, and before one that is.
-fn push_bits(
+pub fn push_bits(
     fields: &mut Fields,
     word: Word,
     (between, not, set): (&str, &str, &str),

@@ -8,6 +8,7 @@ use crate::row::Line::Never;
 use crate::row::{Rows, Size};
 use crate::traffic::BITFIELD;
 use crate::traffic_netem::push_netem_front;
+use crate::traffic_sfq::push_sfq;
 use crate::traffic_share::push_share;
 use crate::traffic_text::{Bytes, Microseconds, Nanoseconds, Rate};
 use netlink_packet_route::framing::AttributeSet;
@@ -94,6 +95,7 @@ pub fn push_front(fields: &mut Fields, list: List<'_>, seen: &Seen<'_>) {
         TcForm::Prio => push_bands(fields, seen.bytes),
         TcForm::Fifo => push_fifo(fields, list, seen.bytes),
         TcForm::Netem => push_netem_front(fields, list, seen),
+        TcForm::Sfq => push_sfq(fields, list, seen.bytes),
         _ => {}
     }
 }

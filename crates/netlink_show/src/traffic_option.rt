@@ -147,7 +147,7 @@ const FAMILIES: Names = &[(2, "ipv4"), (10, "ipv6")];
 
 const PROTOCOLS: Names = &[(6, "tcp"), (17, "udp")];
 
-const ACTION: Word = &Wording(10, "control_action", "action");
+pub const ACTION: Word = &Wording(10, "control_action", "action");
 
 const DEFAULT: Word = &Wording(10, "control_action", "default-action");
 
@@ -186,7 +186,7 @@ pub fn push_own(fields: &mut Fields, list: List<'_>, word: Word, seen: &Seen<'_>
 }
 
 /// What every action has, with a word in front of what becomes of a packet.
-fn push_generic_by(fields: &mut Fields, list: List<'_>, word: Word, bytes: &[u8]) {
+pub fn push_generic_by(fields: &mut Fields, list: List<'_>, word: Word, bytes: &[u8]) {
     push_control(fields, word, number_at(bytes, 8));
     push_parts(fields, list, bytes, GENERIC)
 }

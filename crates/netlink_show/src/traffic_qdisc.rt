@@ -6,7 +6,9 @@ use crate::part::{push_parts, push_structure};
 use crate::row::How::{Named, Number, Own, Signed, Text, Truth};
 use crate::row::Line::{IfAny, IfBits, Never};
 use crate::row::{ANY, Parts, Rows, Size};
+use crate::traffic_counts::{FQ_COUNTS, NETEM_COUNTS, RED_COUNTS};
 use crate::traffic_rate::{HTB_COUNTS, LAYERS};
+use crate::traffic_sfq::SFQ_COUNTS;
 use crate::traffic_text::{Bytes, Microseconds};
 use netlink_packet_route::framing::AttributeSet;
 use netlink_packet_route::tc::TcForm;
@@ -134,6 +136,10 @@ pub fn push_counters(fields: &mut Fields, list: List<'_>, word: Word, seen: &See
         (TcForm::FqCodel, Some(0)) => push_parts(fields, list, seen.bytes, FQ_CODEL_COUNTS),
         (TcForm::FqCodel, Some(1)) => push_parts(fields, list, seen.bytes, FQ_CODEL_CLASS),
         (TcForm::Htb, Some(_)) => push_parts(fields, list, seen.bytes, HTB_COUNTS),
+        (TcForm::Sfq, Some(_)) => push_parts(fields, list, seen.bytes, SFQ_COUNTS),
+        (TcForm::Fq, Some(_)) => push_parts(fields, list, seen.bytes, FQ_COUNTS),
+        (TcForm::Red, Some(_)) => push_parts(fields, list, seen.bytes, RED_COUNTS),
+        (TcForm::Netem, Some(_)) => push_parts(fields, list, seen.bytes, NETEM_COUNTS),
         _ => fields.bytes(word, bytes_of(&seen.value)),
     }
 }

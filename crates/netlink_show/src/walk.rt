@@ -7,7 +7,7 @@ use crate::next_hop::push_encap_type;
 use crate::peer::push_peer_header;
 use crate::route::push_hop;
 use crate::row::{How, Row, Rows};
-use crate::tables::{hides_padding, push_beside, row_in};
+use crate::tables::{push_beside, row_in};
 use crate::traffic_action::push_order;
 use crate::traffic_kind;
 use crate::value::{is_hidden, push_plain, push_row};
@@ -57,7 +57,7 @@ fn push_each(objects: &mut Fields, list: List<'_>) {
 /// What is shown of an attribute: one without a row stands as it is.
 #[cycle(list)]
 fn push_item<'a>(fields: &mut Fields, list: List<'a>, item: &NlaBuffer<'a>) {
-    let Some(row) = row_in(list.nest, item.kind()) else {
+    let Some(row) = row_in(list, item.kind()) else {
         return push_nameless(fields, list, item);
     };
     let Some(seen) = list.seen(item) else {
@@ -245,4 +245,27 @@ fn push_seen<'a>(fields: &mut Fields, list: List<'a>, row: &'static Row, item: &
 pub fn push_nameless(fields: &mut Fields, list: List<'_>, item: &NlaBuffer<'_>) {
     push_raw(fields, item.raw_kind(), item.value());
     fields.hide_if(hides_padding(list.nest) && item.value().is_empty());
+}
+
+/// Whether a line has nothing of an attribute in such a list that nobody knows and that is empty.
+fn hides_padding(nest: Nest) -> bool {
+    match nest.set {
+        AttributeSet::Address
+        | AttributeSet::Rule
+        | AttributeSet::Route
+        | AttributeSet::Neighbour
+        | AttributeSet::Metric
+        | AttributeSet::Encap
+        | AttributeSet::Opt
+        | AttributeSet::Vxlan
+        | AttributeSet::Erspan
+        | AttributeSet::NextHop
+        | AttributeSet::NextHopGroupStats
+        | AttributeSet::NextHopGroupStatsEntry
+        | AttributeSet::Nsid
+        | AttributeSet::Netconf
+        | AttributeSet::AddressLabel
+        | AttributeSet::Prefix => false,
+        _ => true,
+    }
 }

@@ -1,5 +1,5 @@
 -- The attributes of a message of address labels (linux/if_addrlabel.h, IFAL_*), by their table.
-use Rattle.npr_base.specs.declared.refusal.AttributeSet.TheVariants.{AddressLabel as AtAddressLabelAttribute}
+use Rattle.npr_base.specs.declared.attribute_set.AttributeSet.TheVariants.{AddressLabel as AtAddressLabelAttribute}
 use Rattle.npr_base.specs.Tables.{EnumTable, table_of, row, others, ◌or◌, value, exactly, le32, octets16, refl, Reading, Family, writing_of, attributes_of}
 use Rattle.npr_base.specs.Tables.{family_of_table}
 use Rattle.npr_address.specs.contracts.address_label_attribute.AddressLabelAttribute.{enum}

@@ -1,6 +1,6 @@
 -- The attributes of an address message (linux/if_addr.h, IFA_*), by their table.
 use Rattle.std.specs.Prelude.{ℕ, Option}
-use Rattle.npr_base.specs.declared.refusal.AttributeSet.TheVariants.{Address}
+use Rattle.npr_base.specs.declared.attribute_set.AttributeSet.TheVariants.{Address}
 use Rattle.npr_base.specs.Tables.{EnumTable, table_of, row, others, ◌or◌, value, text, exactly, leading, ip, name, signed32, le32, octets4, octets16, refl}
 use Rattle.npr_base.specs.Tables.{Reading, Family, ValueAt, value_at, found_at, writing_of, attributes_of, family_of_table}
 use Rattle.npr_address.specs.AddressFlags.{address_flags}

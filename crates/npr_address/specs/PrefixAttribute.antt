@@ -1,5 +1,5 @@
 -- The attributes of a message of prefixes (linux/rtnetlink.h, PREFIX_*), by their table.
-use Rattle.npr_base.specs.declared.refusal.AttributeSet.TheVariants.{Prefix as AtPrefixAttribute}
+use Rattle.npr_base.specs.declared.attribute_set.AttributeSet.TheVariants.{Prefix as AtPrefixAttribute}
 use Rattle.npr_base.specs.Tables.{EnumTable, table_of, row, others, ◌or◌, value, exactly, leading, octets16, refl, Reading, Family, writing_of, attributes_of}
 use Rattle.npr_base.specs.Tables.{family_of_table}
 use Rattle.npr_address.specs.PrefixCacheInfo.{cache_info}

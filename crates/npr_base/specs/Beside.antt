@@ -17,7 +17,7 @@ use Rattle.npr_base.specs.lemmas.Table.{shown_or, wrong_or}
 use Rattle.npr_base.specs.lemmas.Bool.{both, one_of}
 use Rattle.npr_base.specs.lemmas.Looks.{adds-at}
 use Rattle.npr_base.specs.Value.{Shown, Shows, Misshown, IsWhole}
-use Rattle.npr_base.specs.declared.refusal.At.{At}
+use Rattle.npr_base.specs.declared.attribute_set.At.{At}
 use Rattle.npr_base.specs.declared.refusal.DecodeError.{DecodeError}
 use Rattle.npr_base.specs.declared.value.Form.{Form}
 use denote.Struct.Field.{Field}

@@ -14,7 +14,7 @@ use Rattle.npr_base.specs.lemmas.Looks.{none-most, none-saw}
 use Rattle.npr_base.specs.Looking.{no_looking}
 use Rattle.npr_base.specs.Table.{Slot, slot_plain, slot_other, slot_unfit, slot_members, slot_sees, item_of, plain_item, writing_by, seen_by}
 use Rattle.npr_base.specs.Value.{Shown, Shows}
-use Rattle.npr_base.specs.declared.refusal.At.{At}
+use Rattle.npr_base.specs.declared.attribute_set.At.{At}
 use Rattle.npr_base.specs.declared.value.Form.TheVariants.{Raw}
 
 -- what stands inside the value of an attribute

@@ -2,7 +2,7 @@
 --     attributes_in        what attributes mean by such a table, whose numbers are apart
 --     rewritten            a family under one context, written as under another
 use Rattle.std.proofs.Common.{◌≡◌, ◌+◌, ◌*◌, ◌<◌, ◌≤◌, ◌^◌, length, true, List, refl, sym, ap, subst, ◌∙◌}
-use Rattle.npr_base.specs.declared.refusal.At.{At}
+use Rattle.npr_base.specs.declared.attribute_set.At.{At}
 use Rattle.npr_base.specs.declared.value.Form.{Form}
 use Rattle.npr_base.specs.lemmas.Fit.{unfit_of-none}
 use Rattle.npr_base.specs.Counts.{SawEach}

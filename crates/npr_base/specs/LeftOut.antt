@@ -8,7 +8,7 @@ use Rattle.npr_base.specs.Counts.{Counts, SawEach}
 use Rattle.npr_base.specs.Family.{Reading, Writing, written_by, unfit_by}
 use Rattle.npr_base.specs.Framing.{Item, Proper, framed, number_of}
 use Rattle.npr_base.specs.Value.{Shown, Shows, Misshown, IsWhole, is_nothing}
-use Rattle.npr_base.specs.declared.refusal.At.{At}
+use Rattle.npr_base.specs.declared.attribute_set.At.{At}
 use Rattle.npr_base.specs.declared.refusal.DecodeError.{DecodeError}
 use Rattle.npr_base.specs.declared.value.Form.{Form}
 

@@ -4,7 +4,7 @@ use Rattle.npr_base.specs.Lists.{AllOf, ReadsList, FirstFault, encodings, first_
 use Rattle.npr_base.specs.lemmas.Fit.{none_both}
 use Rattle.npr_base.specs.lemmas.List.{ReadsList-one, FirstFault-excludes, ReadsList-known, encodings-read, list-grows}
 use Rattle.npr_base.specs.Codec.{Codec}
-use Rattle.npr_base.specs.declared.refusal.AttributeSet.{AttributeSet}
+use Rattle.npr_base.specs.declared.attribute_set.AttributeSet.{AttributeSet}
 use Rattle.npr_base.specs.Showing.{shows_list}
 use Rattle.npr_base.specs.lemmas.LookBounds.{list-bounded, list-saw}
 use Rattle.npr_base.specs.Family.{list_looking, Writing, Reading, fits-small, written_by, unfit_by}

@@ -5,7 +5,7 @@
 use Rattle.std.proofs.Common.{ℕ, ◌≡◌, ◌+◌, ◌*◌, ◌≤◌, List, ◌++◌, length, Option, None, inl, inr, arith, ap, length-append}
 use Rattle.npr_base.specs.Codec.{Codec}
 use Rattle.npr_base.specs.Counts.{Counts, AddsAtMost}
-use Rattle.npr_base.specs.declared.refusal.AttributeSet.{AttributeSet}
+use Rattle.npr_base.specs.declared.attribute_set.AttributeSet.{AttributeSet}
 use Rattle.npr_base.specs.declared.refusal.EmitError.{EmitError}
 use Rattle.npr_base.specs.Family.{Family, written_by, unfit_by}
 use Rattle.npr_base.specs.Framing.{IsBytes, framed}

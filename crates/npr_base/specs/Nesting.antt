@@ -8,8 +8,8 @@
 --     NestRows         of the rows of a table that hold lists or have readers: what a table owes
 --     has_list         by its form a value holds a list
 use Rattle.std.specs.Prelude.{ℕ, ◌<◌, ◌≤◌, Bool, false, not, nat_lt, List, [], ◌∷◌, length, drop}
-use Rattle.npr_base.specs.declared.refusal.At.{At}
-use Rattle.npr_base.specs.declared.refusal.AttributeSet.{AttributeSet}
+use Rattle.npr_base.specs.declared.attribute_set.At.{At}
+use Rattle.npr_base.specs.declared.attribute_set.AttributeSet.{AttributeSet}
 use Rattle.npr_base.specs.declared.refusal.DecodeError.{DecodeError}
 use Rattle.npr_base.specs.declared.refusal.DecodeError.TheVariants.{HeaderTooShort}
 use Rattle.npr_base.specs.declared.value.Form.{Form}

@@ -1,8 +1,8 @@
 -- What values that are read from bytes are seen as, with the laws that tie both.
 use Rattle.std.specs.Prelude.{◌≡◌, ℕ, List}
 use Rattle.std.proofs.Common.{refl, sym, ap, ◌∙◌}
-use Rattle.npr_base.specs.declared.refusal.At.{At}
-use Rattle.npr_base.specs.declared.refusal.AttributeSet.{AttributeSet}
+use Rattle.npr_base.specs.declared.attribute_set.At.{At}
+use Rattle.npr_base.specs.declared.attribute_set.AttributeSet.{AttributeSet}
 use Rattle.npr_base.specs.declared.refusal.DecodeError.{DecodeError}
 use Rattle.npr_base.specs.declared.value.Form.{Form}
 use Rattle.npr_base.specs.declared.value.Form.TheVariants.{Raw, List as Listed, Inside, Dropped}

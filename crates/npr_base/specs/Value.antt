@@ -6,7 +6,7 @@ use Rattle.std.specs.Prelude.{◌≡◌, ◌≢◌, ◌<◌, ◌≤◌, ℕ, ℤ
 use Rattle.std.specs.Int.{w16, w32, w64, from_le_bytes, from_be_bytes, cast_signed}
 use Rattle.npr_base.specs.declared.ip.IpAddr.{IpAddr}
 use Rattle.npr_base.specs.declared.ip.IpAddr.TheVariants.{V4, V6}
-use Rattle.npr_base.specs.declared.refusal.At.{At}
+use Rattle.npr_base.specs.declared.attribute_set.At.{At}
 use Rattle.npr_base.specs.declared.refusal.DecodeError.{DecodeError}
 use Rattle.npr_base.specs.declared.refusal.DecodeError.TheVariants.{ValueLength, HeaderTooShort, NotUtf8}
 use Rattle.npr_base.specs.declared.value.Form.{Form}

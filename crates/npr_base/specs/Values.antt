@@ -4,7 +4,7 @@
 --     ValueSteps         steps that answer values, one after the other
 --     SeenAs             the values are what attributes are seen as that the bytes mean
 use Rattle.std.specs.Prelude.{◌≡◌, ℕ, List, [], ◌∷◌, Option, Some, None, Result, Ok, Err}
-use Rattle.npr_base.specs.declared.refusal.At.{At}
+use Rattle.npr_base.specs.declared.attribute_set.At.{At}
 use Rattle.npr_base.specs.declared.refusal.DecodeError.{DecodeError}
 use Rattle.npr_base.specs.declared.value.Value.{Value}
 use Rattle.npr_base.specs.Family.{Writing, Reading}

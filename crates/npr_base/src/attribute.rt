@@ -11,10 +11,11 @@ ghost use Rattle.npr_base.specs.{
   Values.{Seen, Unseen},
 };
 
+use crate::attribute_set::At;
 use crate::framing::NlaBuffer;
 use crate::looks::Looks;
 use crate::place::Place;
-use crate::refusal::{At, DecodeError};
+use crate::refusal::DecodeError;
 use crate::traits::{Nla, Parseable, ParseableParametrized};
 use crate::value::{Form, Value, read_form};
 use std::alloc::{AllocError, Global};

@@ -63,6 +63,9 @@ macro_rules! form_row {
     (octets16) => {
         $crate::Form::Octets16
     };
+    (octets $len:literal) => {
+        $crate::Form::Exactly($len)
+    };
     (ip) => {
         $crate::Form::Ip
     };

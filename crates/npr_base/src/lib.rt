@@ -3,6 +3,7 @@
 
 mod address_family;
 mod attribute;
+mod attribute_set;
 mod attributes;
 mod block;
 mod data_rows;
@@ -20,6 +21,7 @@ mod message;
 mod numbers;
 mod place;
 mod refusal;
+mod row_numbers;
 mod rowed;
 mod rows;
 mod text;
@@ -32,6 +34,8 @@ mod widths;
 
 pub use address_family::AddressFamily;
 pub use attribute::Attribute;
+pub use attribute_set::At;
+pub use attribute_set::AttributeSet;
 pub use attributes::Attributes;
 pub use block::Block;
 pub use block::blocks_len;
@@ -74,8 +78,6 @@ pub use message::Message;
 pub use place::Place;
 pub use place::put_ip;
 pub use place::put_read;
-pub use refusal::At;
-pub use refusal::AttributeSet;
 pub use refusal::DecodeError;
 pub use refusal::EmitError;
 pub use refusal::Seg6Fault;

@@ -3,8 +3,9 @@
 ghost use Rattle.std.specs.Prelude.{◌≡◌, ◌<◌, [], ◌∷◌, ◌++◌, Some, Ok, Err, IfOk, IfErr, vec_len, vec_capacity};
 ghost use Rattle.npr_base.specs.IpCodec.{ip};
 
+use crate::attribute_set::At;
 use crate::ip::{IpAddr, Ipv6Addr};
-use crate::refusal::{At, DecodeError};
+use crate::refusal::DecodeError;
 use crate::values::{borrow_octets, read_ipv4};
 
 /// A place that takes a value. Variants that are put into it one by one don't meet before in a value

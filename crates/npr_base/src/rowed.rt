@@ -9,10 +9,11 @@ ghost use Rattle.npr_base.specs.{
   Refusal.{at_number},
 };
 
+use crate::attribute_set::{At, AttributeSet};
 use crate::framing::NlaBuffer;
 use crate::ip::{Ipv4Addr, Ipv6Addr};
 use crate::place::Place;
-use crate::refusal::{At, AttributeSet, DecodeError};
+use crate::refusal::DecodeError;
 use crate::values::{
     read_bool, read_i32, read_i64, read_ipv4, read_ipv6, read_octets, read_u8, read_u16,
     read_u16_be, read_u32, read_u32_be, read_u64, read_u64_be,

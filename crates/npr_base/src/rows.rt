@@ -9,6 +9,7 @@
 //! | `byte`, `boolean`, `signed32`, `signed64`, `le16`, `le32`, `le64`, `be16`, `be32`, `be64` | a number, the lowest byte first or last |
 //! | `uint`; `flag` | a number of 4 or 8 bytes, the lowest first; true without bytes or as one above 0 |
 //! | `octets4`, `octets16`, `ip` | an address of version 4, of version 6, of both |
+//! | `octets 6` | so many bytes as they stand, an address on a link |
 //! | `name`, `raw`, `list S` | a name; bytes as they stand; attributes of the set `S` |
 //! | `T as le32`, `T as byte by f` | an enumeration over such a number, which `f` gives where not each value has one |
 //! | `T flags le32` | a set of flags over such a number |
@@ -102,6 +103,9 @@ macro_rules! len_row {
     ([$x:ident] octets16) => {
         $x.octets().len()
     };
+    ([$x:ident] octets $len:literal) => {
+        $x.as_slice().len()
+    };
     ([$x:ident] raw) => {
         $x.len()
     };
@@ -131,35 +135,6 @@ macro_rules! len_row {
     };
 }
 
-/// The length of a number, in bytes.
-#[macro_export]
-macro_rules! number_len {
-    (byte) => {
-        1
-    };
-    (boolean) => {
-        1
-    };
-    (le16) => {
-        2
-    };
-    (be16) => {
-        2
-    };
-    (le64) => {
-        8
-    };
-    (be64) => {
-        8
-    };
-    (signed64) => {
-        8
-    };
-    ($four:ident) => {
-        4
-    };
-}
-
 /// Writes the value, and answers its length.
 #[macro_export]
 macro_rules! write_rows {
@@ -186,6 +161,9 @@ macro_rules! write_row {
     };
     ([$x:ident, $out:expr] flag) => {
         $crate::write_flag(*$x, $out)
+    };
+    ([$x:ident, $out:expr] octets $len:literal) => {
+        $crate::write_bytes($x.as_slice(), $out)
     };
     ([$x:ident, $out:expr] raw) => {
         $crate::write_bytes($x.as_slice(), $out)
@@ -222,52 +200,6 @@ macro_rules! write_row {
     };
 }
 
-/// The bytes of a number, or of an address.
-#[macro_export]
-macro_rules! number_bytes {
-    (byte $n:expr) => {
-        [$n]
-    };
-    (boolean $n:expr) => {
-        [u8::from($n)]
-    };
-    (octets4 $n:expr) => {
-        $n.octets()
-    };
-    (octets16 $n:expr) => {
-        $n.octets()
-    };
-    (be16 $n:expr) => {
-        $n.to_be_bytes()
-    };
-    (be32 $n:expr) => {
-        $n.to_be_bytes()
-    };
-    (be64 $n:expr) => {
-        $n.to_be_bytes()
-    };
-    ($little:ident $n:expr) => {
-        $n.to_le_bytes()
-    };
-}
-
-/// The number of a value of an enumeration.
-#[macro_export]
-macro_rules! number_of {
-    (byte $x:expr) => {
-        u8::from($x)
-    };
-    (le16 $x:expr) => {
-        u16::from($x)
-    };
-    (le32 $x:expr) => {
-        u32::from($x)
-    };
-    (signed32 $x:expr) => {
-        i32::from($x)
-    };
-}
-
 /// Puts what the attribute is into a place. What can't be read goes out at once, by `?`: a refusal that
 /// the arms shared would be cleared for each attribute, kept in memory and asked for again.
 #[macro_export]
@@ -294,6 +226,9 @@ macro_rules! put_row {
     }};
     ([$place:expr, $family:ident::$variant:ident, $alloc:expr, $value:expr, $at:expr, $looks:expr] ip) => {
         $crate::put_ip($place, $value, $at, $family::$variant)
+    };
+    ([$place:expr, $family:ident::$variant:ident, $alloc:expr, $value:expr, $at:expr, $looks:expr] octets $len:literal) => {
+        $crate::put_read($place, $crate::read_octets::<$len>($value, $at), $family::$variant)
     };
     ([$place:expr, $family:ident::$variant:ident, $alloc:expr, $value:expr, $at:expr, $looks:expr] name) => {{
         $place.put($family::$variant($crate::read_name($alloc, $value, $at)?));

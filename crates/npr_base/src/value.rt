@@ -3,8 +3,9 @@
 ghost use Rattle.std.specs.Prelude.{◌≡◌, length, IfOk, IfErr};
 ghost use Rattle.npr_base.specs.{Name.{name}, Value.{Shows, Misshown, Missized, shown}};
 
+use crate::attribute_set::{At, AttributeSet};
 use crate::ip::IpAddr;
-use crate::refusal::{At, AttributeSet, DecodeError};
+use crate::refusal::DecodeError;
 use crate::values::{
     leading_octets, read_bool, read_i32, read_i64, read_ip, read_ipv4, read_ipv6, read_u8,
     read_u16, read_u16_be, read_u32, read_u32_be, read_u64, read_u64_be, without_zero,

@@ -5,7 +5,7 @@ ghost use Rattle.std.specs.{
   Iterator.{at_most},
 };
 ghost use Rattle.npr_base.specs.{
-  declared.refusal.{At.{At}, DecodeError.{DecodeError, TheVariants.{HeaderTooShort}}},
+  declared.{attribute_set.At.{At}, refusal.DecodeError.{DecodeError, TheVariants.{HeaderTooShort}}},
   declared.value.Value.{Value as ValueInMemory},
   Codec.{leading},
   Lists.{AllOf, ReadsList},
@@ -15,10 +15,11 @@ ghost use Rattle.npr_base.specs.{
 };
 
 use crate::attribute::Attribute;
+use crate::attribute_set::At;
 use crate::framing::{NlaBuffer, NlasIterator};
 use crate::looks::Looks;
 use crate::message::{Header, Message, check_header};
-use crate::refusal::{At, DecodeError};
+use crate::refusal::DecodeError;
 use crate::value::Value;
 
 /// A walk over attributes of a family, whose values are seen where they stand. A refusal is its last

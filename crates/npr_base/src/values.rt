@@ -13,8 +13,9 @@ ghost use Rattle.npr_base.specs.{
   Refusal.{no_place},
 };
 
+use crate::attribute_set::At;
 use crate::ip::{IpAddr, Ipv4Addr, Ipv6Addr};
-use crate::refusal::{At, DecodeError};
+use crate::refusal::DecodeError;
 use std::alloc::{AllocError, Global};
 use std::str::from_utf8;
 

@@ -3,7 +3,8 @@
 ghost use Rattle.std.specs.Prelude.{◌≡◌, ◌≤◌, length, IfOk, IfErr};
 ghost use Rattle.npr_base.specs.{Framing.{Writes}, FlagCodec.{flag}, UintCodec.{uint}};
 
-use crate::refusal::{At, DecodeError};
+use crate::attribute_set::At;
+use crate::refusal::DecodeError;
 use crate::values::{read_bool, read_u32, read_u64, write_array};
 
 /// A number of 4 bytes or of 8, little endian (`NLA_UINT` of the kernel's `net/netlink.h`).

@@ -1,14 +1,15 @@
 -- What names a list comes back from its two numbers, and two numbers name one that does.
 use Rattle.std.proofs.Common.{◌≡◌, ℕ, ◌+◌, ◌*◌, ◌/◌, ◌%◌, ◌^◌, ◌<◌, ◌≤◌, refl, sym, ap, ◌∙◌, arith, subst}
 use Rattle.npr_base.specs.Numbering.{Numbering}
-use Rattle.npr_base.specs.contracts.refusal.AttributeSet.{enum as sets}
+use Rattle.npr_base.specs.contracts.attribute_set.AttributeSet.{enum as sets}
 use Rattle.npr_link.specs.contracts.port_kind.InfoPortForm.{enum as ports}
 use Rattle.npr_link_tunnels.specs.contracts.form.InfoForm.{enum as links}
 use Rattle.npr_tc_actions.specs.contracts.form.TcActionForm.{enum as actions}
 use Rattle.npr_tc_qdiscs.specs.contracts.form.TcForm.{enum as disciplines}
 use Rattle.netlink_packet_route.specs.AddressFamily.{families}
 use Rattle.netlink_packet_route.specs.EncapType.{encap_types}
-use Rattle.netlink_packet_route.specs.Nests.{FromBytes, IsOf, encap_set, listed, nest_in, no_context, told_set}
+use Rattle.netlink_packet_route.specs.Nests.{FromBytes, IsOf, encap_set, nest_in, told_set}
+use Rattle.netlink_packet_route.specs.Readings.{no_context}
 use Rattle.netlink_packet_route.proofs.NumberLaws.{listed-bytes}
 use Rattle.netlink_packet_route.specs.RouteType.{route_types}
 use Rattle.netlink_packet_route.specs.declared.framing.AttributeSet.{AttributeSet}
@@ -26,7 +27,7 @@ use Rattle.netlink_packet_route.specs.declared.nests.Nest.{Nest}
 use Rattle.netlink_packet_route.specs.declared.route.RouteLwEnCapType.{RouteLwEnCapType}
 use Rattle.netlink_packet_route.specs.declared.route.RouteLwEnCapType.TheVariants as Kind
 use Rattle.npr_c.specs.Bare.{bare-back, bare-below, bare-past}
-use Rattle.npr_c.specs.Nests.{context_number, context_of, encap_part, form_number, form_of, nest_by, nest_context, nest_of, nest_set}
+use Rattle.npr_c.specs.Nests.{context_number, context_of, encap_part, form_number, form_of, nest_context, nest_of, nest_set}
 use Rattle.npr_c.specs.Nests.{port_form_number, port_form_of, set_number, set_of, tc_action_form_number, tc_action_form_of, tc_form_number, tc_form_of}
 
 -- ---- of enums
@@ -34,7 +35,7 @@ use Rattle.npr_c.specs.Nests.{port_form_number, port_form_of, set_number, set_of
 pub set-back : (set : AttributeSet) → set_of (set_number set) ≡ set
 set-back set = bare-back sets tt At.Value set
 
-pub set-past : (n : ℕ) → 97 ≤ n → set_of n ≡ At.Value
+pub set-past : (n : ℕ) → 128 ≤ n → set_of n ≡ At.Value
 set-past n le = bare-past sets tt At.Value n le
 
 form-back : (form : InfoForm) → form_of (form_number form) ≡ form
@@ -43,7 +44,7 @@ form-back form = bare-back links tt Kept form
 form-below : (form : InfoForm) → form_number form < 256
 form-below form = omega (arith, bare-below links tt Kept form)
 
-pub form-past : (n : ℕ) → 24 ≤ n → form_of n ≡ Kept
+pub form-past : (n : ℕ) → 32 ≤ n → form_of n ≡ Kept
 form-past n le = bare-past links tt Kept n le
 
 port-back : (form : InfoPortForm) → port_form_of (port_form_number form) ≡ form
@@ -61,7 +62,7 @@ tc-back form = bare-back disciplines tt TcKept form
 tc-below : (form : TcForm) → tc_form_number form < 256
 tc-below form = omega (arith, bare-below disciplines tt TcKept form)
 
-pub tc-past : (n : ℕ) → 16 ≤ n → tc_form_of n ≡ TcKept
+pub tc-past : (n : ℕ) → 19 ≤ n → tc_form_of n ≡ TcKept
 tc-past n le = bare-past disciplines tt TcKept n le
 
 action-back : (form : TcActionForm) → tc_action_form_of (tc_action_form_number form) ≡ form
@@ -70,7 +71,7 @@ action-back form = bare-back actions tt ActionKept form
 action-below : (form : TcActionForm) → tc_action_form_number form < 256
 action-below form = omega (arith, bare-below actions tt ActionKept form)
 
-pub action-past : (n : ℕ) → 12 ≤ n → tc_action_form_of n ≡ ActionKept
+pub action-past : (n : ℕ) → 13 ≤ n → tc_action_form_of n ≡ ActionKept
 action-past n le = bare-past actions tt ActionKept n le
 
 -- ---- of families and types

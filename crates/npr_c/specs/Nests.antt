@@ -3,7 +3,7 @@
 --     nest_set, nest_context   those of a list: an encapsulation's has the set of its type
 --     nest_of                  what two numbers name
 use Rattle.std.specs.Prelude.{ℕ, ◌+◌, ◌*◌, ◌/◌, ◌%◌}
-use Rattle.npr_base.specs.contracts.refusal.AttributeSet.{the_type as the_sets, enum as sets}
+use Rattle.npr_base.specs.contracts.attribute_set.AttributeSet.{the_type as the_sets, enum as sets}
 use Rattle.npr_link.specs.contracts.port_kind.InfoPortForm.{the_type as the_ports, enum as ports}
 use Rattle.npr_link_tunnels.specs.contracts.form.InfoForm.{the_type as the_links, enum as links}
 use Rattle.npr_tc_actions.specs.contracts.form.TcActionForm.{the_type as the_actions, enum as actions}

@@ -16,7 +16,8 @@ use Rattle.npr_encapsulation.specs.MplsTunnel as OfMpls
 use Rattle.npr_encapsulation.specs.XfrmTunnel as OfXfrm
 use Rattle.npr_encapsulation.specs.Wrapped.{wrapped, kept}
 use Rattle.npr_encapsulation.specs.declared.encap.RouteLwTunnelEncap.{RouteLwTunnelEncap}
-use Rattle.npr_encapsulation.specs.declared.encap.RouteLwTunnelEncap.TheVariants.{Mpls as HasMpls, Seg6 as HasSeg6, Ip as HasIp, Ip6 as HasIp6, Ioam6 as HasIoam6}
+use Rattle.npr_encapsulation.specs.declared.encap.RouteLwTunnelEncap.TheVariants.{Mpls as HasMpls, Seg6 as HasSeg6, Ip as HasIp}
+use Rattle.npr_encapsulation.specs.declared.encap.RouteLwTunnelEncap.TheVariants.{Ip6 as HasIp6, Ioam6 as HasIoam6}
 use Rattle.npr_encapsulation.specs.declared.encap.RouteLwTunnelEncap.TheVariants.{Rpl as HasRpl, Seg6Local as HasSeg6Local, Xfrm as HasXfrm, Other}
 use Rattle.npr_encapsulation.specs.declared.encap_type.RouteLwEnCapType.{RouteLwEnCapType}
 use Rattle.npr_encapsulation.specs.declared.encap_type.RouteLwEnCapType.TheVariants.{Mpls, Seg6, Ip, Ip6, Ioam6, Rpl, Seg6Local, Xfrm}

@@ -2,7 +2,7 @@
 use Rattle.std.specs.Prelude.{◌==◌, if◌then◌else◌, ℕ, List, ◌++◌, Option, None, codes, decimal}
 use Rattle.std.specs.Prelude.{unwrap_or, filter_map}
 use Rattle.std.specs.List.{last_or}
-use Rattle.npr_base.specs.declared.refusal.AttributeSet.TheVariants.{Erspan}
+use Rattle.npr_base.specs.declared.attribute_set.AttributeSet.TheVariants.{Erspan}
 use Rattle.npr_base.specs.Tables.{EnumTable, table_of, row, others, ◌or◌, value, exactly, byte, be32, refl, Reading, Family, ValueAt, value_at}
 use Rattle.npr_base.specs.Tables.{found_at, writing_of, attributes_of, family_of_table}
 use Rattle.npr_encapsulation.specs.contracts.erspan.RouteErspanOpt.{enum}

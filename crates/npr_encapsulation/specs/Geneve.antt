@@ -1,7 +1,7 @@
 -- The options of Geneve (linux/lwtunnel.h, LWTUNNEL_IP_OPT_GENEVE_*): attributes, of which a class opens an option, and
 -- types and data that follow it stand in that option.
 use Rattle.std.specs.Prelude.{◌≡◌, ◌≢◌, ◌⊎◌, ℕ, ◌^◌, ◌<◌, Bool, true, false, List, [], ◌∷◌, ◌++◌, Option, None, codes, decimal}
-use Rattle.npr_base.specs.declared.refusal.AttributeSet.TheVariants.{Geneve as OfGeneve}
+use Rattle.npr_base.specs.declared.attribute_set.AttributeSet.TheVariants.{Geneve as OfGeneve}
 use Rattle.npr_base.specs.declared.refusal.DecodeError.{DecodeError}
 use Rattle.npr_base.specs.declared.refusal.DecodeError.TheVariants.{GeneveOrder, GeneveChild}
 use Rattle.npr_base.specs.declared.refusal.EmitError.{EmitError}

@@ -1,7 +1,7 @@
 -- The children of which options of Geneve are made, as a family of attributes, with the laws of both directions.
 use Rattle.std.proofs.Common.{◌≡◌, ◌+◌, ◌*◌, ◌^◌, ◌<◌, ◌≤◌, true, false, List, length, refl, ap, arith, true≢false}
 use Rattle.std.specs.Prelude.{None}
-use Rattle.npr_base.specs.declared.refusal.AttributeSet.TheVariants.{Geneve as OfGeneve}
+use Rattle.npr_base.specs.declared.attribute_set.AttributeSet.TheVariants.{Geneve as OfGeneve}
 use Rattle.npr_base.specs.declared.refusal.DecodeError.{DecodeError}
 use Rattle.npr_base.specs.declared.value.Form.TheVariants.{Inside}
 use Rattle.npr_base.specs.Codec.{Codec, exactly, raw}
@@ -13,7 +13,8 @@ use Rattle.npr_base.specs.Looking.{no_looking}
 use Rattle.npr_base.specs.Refusal.{at_number}
 use Rattle.npr_base.specs.Value.{is_inside}
 use Rattle.npr_base.specs.Family.{Writing, Reading}
-use Rattle.npr_encapsulation.specs.Geneve.{Child, class_child, type_child, data_child, child_item, ReadsChild, WrongChild, class_length, type_length, order, child}
+use Rattle.npr_encapsulation.specs.Geneve.{Child, class_child, type_child, data_child, child_item, ReadsChild}
+use Rattle.npr_encapsulation.specs.Geneve.{WrongChild, class_length, type_length, order, child}
 
 abbrev pub IsChild : Child → Type 0
 IsChild (class_child n) = n < 2 ^ 16

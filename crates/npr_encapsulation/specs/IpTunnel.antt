@@ -3,8 +3,8 @@
 use Rattle.std.specs.Prelude.{ℕ, Bool, List, [], ◌∷◌, ◌++◌, Option, Some, codes, decimal, is_some}
 use Rattle.std.specs.Net.Addr.{segments_of}
 use Rattle.std.specs.Net.Text.{ipv4_text, ipv6_text}
-use Rattle.npr_base.specs.declared.refusal.AttributeSet.{AttributeSet}
-use Rattle.npr_base.specs.declared.refusal.AttributeSet.TheVariants.{Ip, Ip6, Opt as AtOption}
+use Rattle.npr_base.specs.declared.attribute_set.AttributeSet.{AttributeSet}
+use Rattle.npr_base.specs.declared.attribute_set.AttributeSet.TheVariants.{Ip, Ip6, Opt as AtOption}
 use Rattle.npr_base.specs.EnumTable.{VariantRows, Variant, Names}
 use Rattle.npr_base.specs.Framing.{Item}
 use Rattle.npr_base.specs.Layout.{Layout}

@@ -1,5 +1,5 @@
 -- The members of an MPLS tunnel (linux/mpls_iptunnel.h, MPLS_IPTUNNEL_*), by their table.
-use Rattle.npr_base.specs.declared.refusal.AttributeSet.TheVariants.{Mpls}
+use Rattle.npr_base.specs.declared.attribute_set.AttributeSet.TheVariants.{Mpls}
 use Rattle.npr_base.specs.Tables.{EnumTable, table_of, row, others, ◌or◌, value, items, exactly, byte, refl, Reading, Family, writing_of, attributes_of}
 use Rattle.npr_base.specs.Tables.{family_of_table}
 use Rattle.npr_route_values.specs.MplsCodec.{mpls_labels}

@@ -1,6 +1,6 @@
 -- The options of a tunnel over IP (linux/lwtunnel.h, LWTUNNEL_IP_OPTS_*), by their table. Each is written with NESTED.
 use Rattle.std.specs.Prelude.{ℕ, List, Option, Some, codes}
-use Rattle.npr_base.specs.declared.refusal.AttributeSet.TheVariants.{Opt, Vxlan as AtVxlan, Erspan as AtErspan}
+use Rattle.npr_base.specs.declared.attribute_set.AttributeSet.TheVariants.{Opt, Vxlan as AtVxlan, Erspan as AtErspan}
 use Rattle.npr_base.specs.Text.{joined_by, nla_text}
 use Rattle.npr_base.specs.Tables.{EnumTable, table_of, marked_row, others, ◌or◌, ◌also◌, value, listed, list_of, refl, Reading, Family, writing_of}
 use Rattle.npr_base.specs.Tables.{attributes_of, family_of_table, made_of}

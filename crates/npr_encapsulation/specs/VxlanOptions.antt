@@ -1,6 +1,6 @@
 -- The options of VXLAN (linux/lwtunnel.h, LWTUNNEL_IP_OPT_VXLAN_*), by their table.
 use Rattle.std.specs.Prelude.{ℕ, List, ◌++◌, Option, Some, codes, decimal}
-use Rattle.npr_base.specs.declared.refusal.AttributeSet.TheVariants.{Vxlan}
+use Rattle.npr_base.specs.declared.attribute_set.AttributeSet.TheVariants.{Vxlan}
 use Rattle.npr_base.specs.Text.{nla_text}
 use Rattle.npr_base.specs.Tables.{EnumTable, table_of, row, others, ◌or◌, ◌also◌, value, exactly, le32, refl, Reading, Family, writing_of}
 use Rattle.npr_base.specs.Tables.{attributes_of, family_of_table, made_of}

@@ -1,7 +1,7 @@
 -- A family seen through a variant of another type, and the family of attributes that are kept as they stand.
 use Rattle.std.specs.Prelude.{◌≡◌, ◌+◌, ◌*◌, ◌<◌, ◌≤◌, ◌^◌, length, None}
 use Rattle.std.proofs.Common.{refl, sym, ap, subst, ◌∙◌}
-use Rattle.npr_base.specs.declared.refusal.AttributeSet.TheVariants.{Value as OfValue}
+use Rattle.npr_base.specs.declared.attribute_set.AttributeSet.TheVariants.{Value as OfValue}
 use Rattle.npr_base.specs.declared.value.Form.TheVariants.{Raw}
 use Rattle.npr_base.specs.Codec.{raw}
 use Rattle.npr_base.specs.Framing.{Item, Proper, framed}

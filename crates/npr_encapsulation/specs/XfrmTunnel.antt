@@ -1,6 +1,6 @@
 -- The members of an XFRM tunnel (linux/lwtunnel.h, LWT_XFRM_*), by their table.
 use Rattle.std.specs.Prelude.{ℕ, List, ◌++◌, Option, Some, codes, decimal}
-use Rattle.npr_base.specs.declared.refusal.AttributeSet.TheVariants.{Xfrm}
+use Rattle.npr_base.specs.declared.attribute_set.AttributeSet.TheVariants.{Xfrm}
 use Rattle.npr_base.specs.Text.{nla_text}
 use Rattle.npr_base.specs.Tables.{EnumTable, table_of, row, others, ◌or◌, ◌also◌, value, nothing, exactly, dropped, le32, refl, Reading, Family}
 use Rattle.npr_base.specs.Tables.{writing_of, attributes_of, family_of_table, made_of}

@@ -20,6 +20,10 @@ use Rattle.npr_link.specs.AfSpecInet6 as OfAfSpecInet6
 use Rattle.npr_link.specs.contracts.af_spec_inet6.AfSpecInet6PartialEq.TheImpl as Inet6Eq
 use Rattle.npr_link.specs.AfSpec as OfAfSpec
 use Rattle.npr_link.specs.contracts.af_spec.AfSpecUnspecPartialEq.TheImpl as AfSpecEq
+use Rattle.npr_link.specs.AfSpecMctp as OfMctp
+use Rattle.npr_link.specs.contracts.af_spec_mctp.AfSpecMctpPartialEq.TheImpl as MctpEq
+use Rattle.npr_link.specs.DpllPin as OfPin
+use Rattle.npr_link.specs.contracts.dpll_pin.LinkDpllPinPartialEq.TheImpl as PinEq
 use Rattle.npr_link.specs.Xdp as OfXdp
 use Rattle.npr_link.specs.contracts.xdp.LinkXdpPartialEq.TheImpl as XdpEq
 use Rattle.npr_link.specs.Prop as OfProp
@@ -29,6 +33,11 @@ use Rattle.npr_link.specs.contracts.protocol_down.LinkProtocolDownReasonPartialE
 use Rattle.npr_link_bridge.specs.Bridge as OfBridge
 use Rattle.npr_link_bridge.specs.BridgePort as OfBridgePort
 use Rattle.npr_link.specs.Netkit as OfNetkit
+use Rattle.npr_link_devices.specs.Hsr as OfHsr
+use Rattle.npr_link_devices.specs.Ipoib as OfIpoib
+use Rattle.npr_link_devices.specs.MacSec as OfMacSec
+use Rattle.npr_link_tunnels.specs.Gtp as OfGtp
+use Rattle.npr_link_tunnels.specs.Ovpn as OfOvpn
 use Rattle.npr_link_devices.specs.Bond as OfBond
 use Rattle.npr_link_devices.specs.BondPort as OfBondPort
 use Rattle.npr_link_devices.specs.IpVlan as OfIpVlan
@@ -43,7 +52,10 @@ use Rattle.npr_link_tunnels.specs.Vxlan as OfVxlan
 use Rattle.npr_link_tunnels.specs.Xfrm as OfXfrm
 use Rattle.npr_link.specs.contracts.netkit.InfoNetkitPartialEq.TheImpl as NetkitEq
 use Rattle.npr_link_devices.proofs.EqualityLaws.{tun_equality, bond_equality, bond_port_equality, ip_vlan_equality, mac_vlan_equality}
+use Rattle.npr_link_devices.proofs.EqualityLaws.{hsr_equality, ipoib_equality, mac_sec_equality}
+use Rattle.npr_link_functions.proofs.EqualityLaws.{link_info_equality}
 use Rattle.npr_link_tunnels.proofs.EqualityLaws.{vxlan_equality, geneve_equality, gre_equality, gre6_equality, ip_tunnel_equality, vti_equality, xfrm_equality}
+use Rattle.npr_link_tunnels.proofs.EqualityLaws.{gtp_equality, ovpn_equality}
 use Rattle.npr_link.proofs.ValueEquality.{netkit_mode_equality, netkit_policy_equality, netkit_scrub_equality}
 use Rattle.npr_link.specs.VlanQos as OfVlanQos
 use Rattle.npr_link.specs.contracts.vlan_qos.VlanQosMappingPartialEq.TheImpl as QosEq
@@ -104,13 +116,20 @@ inet_equality =
 pub inet6_equality : IsEqualityOf OfAfSpecInet6.family.meaning Inet6Eq.ghosts.eq
 inet6_equality =
     table_decides OfAfSpecInet6.table _
-    (one inet6_flags_equality also one inet6_devconf_equality also one inet6_stats_equality also one cache_info_equality also
+    (one inet6_flags_equality also one inet6_devconf_equality also one inet6_stats_equality also bytes also
+    one cache_info_equality also
     one icmp6_stats_equality also one ipv6_equality also one address_mode_equality also number also kept also tt)
+
+pub mctp_equality : IsEqualityOf OfMctp.family.meaning MctpEq.ghosts.eq
+mctp_equality = table_decides OfMctp.table _ (number also number also kept also tt)
+
+pub pin_equality : IsEqualityOf OfPin.family.meaning PinEq.ghosts.eq
+pin_equality = table_decides OfPin.table _ (number also kept also tt)
 
 pub af_spec_equality : IsEqualityOf OfAfSpec.family.meaning AfSpecEq.ghosts.eq
 af_spec_equality =
     table_decides OfAfSpec.table _
-    (list inet_equality also list inet6_equality also kept also tt)
+    (list inet_equality also list inet6_equality also list mctp_equality also kept also tt)
 
 pub xdp_equality : IsEqualityOf OfXdp.family.meaning XdpEq.ghosts.eq
 xdp_equality =
@@ -195,6 +214,7 @@ kind_equality =
     bare info_kind_names refl also bare info_kind_names refl also bare info_kind_names refl also bare info_kind_names refl also
     bare info_kind_names refl also bare info_kind_names refl also bare info_kind_names refl also bare info_kind_names refl also
     bare info_kind_names refl also bare info_kind_names refl also bare info_kind_names refl also bare info_kind_names refl also
+    bare info_kind_names refl also bare info_kind_names refl also bare info_kind_names refl also bare info_kind_names refl also
     bare info_kind_names refl also bare info_kind_names refl also bare info_kind_names refl also
     (λ x. refl, one_meaning (λ s. string_bytes s) other text_equality (λ p q e. cc)) also tt)
 
@@ -228,7 +248,15 @@ data_order (D.vrf xs) = 16
 data_order (D.xfrm xs) = 17
 data_order (D.geneve xs) = 18
 data_order (D.netkit xs) = 19
-data_order (D.other bytes) = 20
+data_order (D.erspan xs) = 20
+data_order (D.erspan6 xs) = 21
+data_order (D.vxcan xs) = 22
+data_order (D.hsr xs) = 23
+data_order (D.ipoib xs) = 24
+data_order (D.mac_sec xs) = 25
+data_order (D.gtp xs) = 26
+data_order (D.ovpn xs) = 27
+data_order (D.other bytes) = 28
 
 pub data_equality : IsEqualityOf D.info_data_of DataEq.ghosts.eq
 unfolding data_order
@@ -254,6 +282,14 @@ data_equality =
     (λ x. refl, one_meaning (λ v. map OfXfrm.family.meaning v.items) D.xfrm (items_meaning OfXfrm.family.meaning xfrm_equality) (λ p q e. cc)) also
     (λ x. refl, one_meaning (λ v. map OfGeneve.family.meaning v.items) D.geneve (items_meaning OfGeneve.family.meaning geneve_equality) (λ p q e. cc)) also
     (λ x. refl, one_meaning (λ v. map OfNetkit.family.meaning v.items) D.netkit (items_meaning OfNetkit.family.meaning netkit_equality) (λ p q e. cc)) also
+    (λ x. refl, one_meaning (λ v. map OfGre.family.meaning v.items) D.erspan (items_meaning OfGre.family.meaning gre_equality) (λ p q e. cc)) also
+    (λ x. refl, one_meaning (λ v. map OfGre6.family.meaning v.items) D.erspan6 (items_meaning OfGre6.family.meaning gre6_equality) (λ p q e. cc)) also
+    (λ x. refl, one_meaning (λ v. map OfVeth.family.meaning v.items) D.vxcan (items_meaning OfVeth.family.meaning veth_equality) (λ p q e. cc)) also
+    (λ x. refl, one_meaning (λ v. map OfHsr.family.meaning v.items) D.hsr (items_meaning OfHsr.family.meaning hsr_equality) (λ p q e. cc)) also
+    (λ x. refl, one_meaning (λ v. map OfIpoib.family.meaning v.items) D.ipoib (items_meaning OfIpoib.family.meaning ipoib_equality) (λ p q e. cc)) also
+    (λ x. refl, one_meaning (λ v. map OfMacSec.family.meaning v.items) D.mac_sec (items_meaning OfMacSec.family.meaning mac_sec_equality) (λ p q e. cc)) also
+    (λ x. refl, one_meaning (λ v. map OfGtp.family.meaning v.items) D.gtp (items_meaning OfGtp.family.meaning gtp_equality) (λ p q e. cc)) also
+    (λ x. refl, one_meaning (λ v. map OfOvpn.family.meaning v.items) D.ovpn (items_meaning OfOvpn.family.meaning ovpn_equality) (λ p q e. cc)) also
     (λ x. refl, one_meaning (λ v. v.items) D.other (items_equality unsigned_Decides) (λ p q e. cc)) also tt)
 
 port_data_order : Q.Data → ℕ
@@ -334,5 +370,6 @@ attribute_equality a b =
     one link_event_equality also one signed_Decides also one signed_Decides also number also number also one signed_Decides also
     number also number also list prop_equality also one text_equality also bytes also list reason_equality also
     one text_equality also one text_equality also number also number also number also number also number also number also
-    number also truth also number also number also kept also tt) c d))
+    number also truth also number also number also bytes also number also list link_info_equality also bytes also list pin_equality also
+    kept also tt) c d))
     bridge_apart) unspec_apart) whole_apart) port_apart) inet6_apart (attribute_enum.as_values a) (attribute_enum.as_values b)

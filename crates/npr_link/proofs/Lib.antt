@@ -5,4 +5,6 @@ mod HeaderFamilies
 mod InfoSearch
 mod Names
 mod OkAs
+mod OtherRows
+mod Unlisted
 mod ValueEquality

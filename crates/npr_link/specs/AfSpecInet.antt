@@ -1,5 +1,5 @@
 -- What IP version 4 says of a link (linux/if_link.h, IFLA_INET_*), by the table.
-use Rattle.npr_base.specs.declared.refusal.AttributeSet.TheVariants.{AfSpecInet as AtAfSpecInet}
+use Rattle.npr_base.specs.declared.attribute_set.AttributeSet.TheVariants.{AfSpecInet as AtAfSpecInet}
 use Rattle.npr_base.specs.Tables.{EnumTable, table_of, row, others, ◌or◌, seen, value, refl, Reading, Family, writing_of, attributes_of, family_of_table}
 use Rattle.npr_link_statistics.specs.Grown.{grown, parts}
 use Rattle.npr_link_statistics.specs.Names.{inet_devconf}

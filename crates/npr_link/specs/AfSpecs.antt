@@ -3,7 +3,7 @@
 use Rattle.std.specs.Prelude.{ℕ, List}
 use Rattle.std.proofs.Common.{refl}
 use Rattle.npr_base.specs.Codec.{Codec}
-use Rattle.npr_base.specs.declared.refusal.AttributeSet.TheVariants as At
+use Rattle.npr_base.specs.declared.attribute_set.AttributeSet.TheVariants as At
 use Rattle.npr_base.specs.declared.address_family.AddressFamily.{AddressFamily}
 use Rattle.npr_base.specs.declared.address_family.AddressFamily.TheVariants.{Unspec, Inet, Bridge, Inet6}
 use Rattle.npr_link.specs.AfSpec as OfAfSpec

@@ -1,5 +1,6 @@
 -- The attributes of a link message (linux/if_link.h, IFLA_*), by their table under the header's family.
-use Rattle.npr_base.specs.declared.refusal.AttributeSet.TheVariants.{Link as AtLink, LinkXdp as AtXdp, Prop as AtProp, LinkProtocolDownReason as AtReason}
+use Rattle.npr_base.specs.declared.attribute_set.AttributeSet.TheVariants.{Link as AtLink, LinkXdp as AtXdp, Prop as AtProp, LinkProtocolDownReason as AtReason}
+use Rattle.npr_base.specs.declared.attribute_set.AttributeSet.TheVariants.{LinkVfInfo as AtVfInfo, LinkDpllPin as AtPin}
 use Rattle.std.specs.Prelude.{◌≡◌, ℕ, ◌==◌, ◌||◌, ◌⊎◌, Bool, true, false, List, drop, map, if◌then◌else◌}
 use Rattle.std.proofs.Common.{inl, inr, ap, ◌∙◌}
 use Rattle.npr_base.specs.Beside.{beside, has, numbers-in, Sides, side_writing}
@@ -16,17 +17,19 @@ use Rattle.npr_base.specs.LeftOut.{retold}
 use Rattle.npr_base.specs.Refusal.{at_number}
 use Rattle.npr_base.specs.Tables.{marked_row, row, others, ◌or◌, boolean, byte, exactly, items, le16, le32, leading, list_of, listed, name, raw, seen}
 use Rattle.npr_base.specs.Tables.{signed32, text, uint, value, refl, Reading, Family}
-use Rattle.npr_base.specs.declared.refusal.At.{At}
+use Rattle.npr_base.specs.declared.attribute_set.At.{At}
 use Rattle.npr_base.specs.declared.value.Form.{Form as ValueForm}
 use Rattle.npr_link.specs.AfSpec as OfAfSpec
 use Rattle.npr_link.specs.AfSpecInet6 as OfAfSpecInet6
 use Rattle.npr_link.specs.AfSpecs.{AfSpecs, Form, as_list, form_of, unspec, bridge, unknown, af_specs}
+use Rattle.npr_link.specs.DpllPin as OfPin
 use Rattle.npr_link.specs.ExtentMask.{extent_mask}
 use Rattle.npr_link.specs.Info as OfInfo
 use Rattle.npr_link.specs.InfoList.{info_list}
 use Rattle.npr_link.specs.LinkEvent.{link_event}
 use Rattle.npr_link.specs.LinkMode.{link_mode}
 use Rattle.npr_link.specs.Map.{device_map}
+use Rattle.npr_link_functions.specs.LinkVfInfo as OfVfInfo
 use Rattle.npr_link_statistics.specs.Grown.{grown, parts}
 use Rattle.npr_link_statistics.specs.Names.{stats, stats64}
 use Rattle.npr_base.specs.Words.{words32, words64}
@@ -111,6 +114,11 @@ flat_rows =
     or row AtLink 67 (exactly boolean) (value LinkAttribute.NetnsImmutable)  -- IFLA_NETNS_IMMUTABLE
     or row AtLink 68 (exactly le16) (value LinkAttribute.Headroom)  -- IFLA_HEADROOM
     or row AtLink 69 (exactly le16) (value LinkAttribute.Tailroom)  -- IFLA_TAILROOM
+    or row AtLink 11 raw (items LinkAttribute.Wireless)  -- IFLA_WIRELESS
+    or row AtLink 15 (exactly le32) (value LinkAttribute.Weight)  -- IFLA_WEIGHT
+    or row AtLink 22 (list_of AtVfInfo OfVfInfo.attributes) (listed OfVfInfo.family.meaning LinkAttribute.VfInfoList)  -- IFLA_VFINFO_LIST
+    or marked_row AtLink 62 raw (items LinkAttribute.DevlinkPort)  -- IFLA_DEVLINK_PORT
+    or marked_row AtLink 65 (list_of AtPin OfPin.attributes) (listed OfPin.family.meaning LinkAttribute.DpllPin)  -- IFLA_DPLL_PIN
     or others (value LinkAttribute.Other)
 
 -- all rows but that of what the protocol says; two more variants share the first of them
@@ -244,7 +252,7 @@ FlatLooks x old new = (looks_in flat flat_rows.0).Takes x old new
 
 -- the numbers of those with attributes inside
 abbrev pub is_list : ℕ → Bool
-is_list number = number == 43 || (number == 52 || number == 55)
+is_list number = number == 22 || (number == 43 || (number == 52 || (number == 55 || number == 65)))
 
 -- ---- and of the others: what the protocol and address families say is meant
 

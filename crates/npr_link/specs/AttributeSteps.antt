@@ -7,7 +7,7 @@ use Rattle.std.proofs.Common.{◌≡◌, ℕ, Bool, true, false, List, [], ◌�
 use Rattle.std.proofs.lemmas.Bool.{ne_eqb}
 use Rattle.npr_base.specs.Counts.{Counts}
 use Rattle.npr_base.specs.declared.address_family.AddressFamily.{AddressFamily}
-use Rattle.npr_base.specs.declared.refusal.At.{At}
+use Rattle.npr_base.specs.declared.attribute_set.At.{At}
 use Rattle.npr_base.specs.declared.refusal.DecodeError.{DecodeError}
 use Rattle.npr_base.specs.EnumTable.{VariantRows, looks_in, has_number}
 use Rattle.npr_base.specs.Framing.{Item, number_of}
@@ -189,8 +189,15 @@ flat_looks family x old new o p q t =
     (past 18 info_list.members.looks (looks_in flat flat_rows.0) x old new (ne_eqb (number_of x.kind) 18 q) t))
 
 -- none is taken where no list stands
-pub no_looks : (x : Item) (c : Counts) → (number_of x.kind ≢ 43) → (number_of x.kind ≢ 52) → (number_of x.kind ≢ 55) → FlatLooks x c c
+pub no_looks : (x : Item) (c : Counts) → (number_of x.kind ≢ 22) → (number_of x.kind ≢ 43) → (number_of x.kind ≢ 52) → (number_of x.kind ≢ 55)
+    → (number_of x.kind ≢ 65) → FlatLooks x c c
 unfolding FlatLooks
-no_looks x c o p q =
+no_looks x c n o p q r =
     looks-none is_list flat flat_rows.0 refl x c
-    (rw (ne_eqb (number_of x.kind) 43 o, ne_eqb (number_of x.kind) 52 p, ne_eqb (number_of x.kind) 55 q))
+    (rw (
+      ne_eqb (number_of x.kind) 22 n,
+      ne_eqb (number_of x.kind) 43 o,
+      ne_eqb (number_of x.kind) 52 p,
+      ne_eqb (number_of x.kind) 55 q,
+      ne_eqb (number_of x.kind) 65 r,
+    ))

@@ -1,6 +1,6 @@
 -- What a driver says of a link (linux/if_link.h, IFLA_INFO_*), by their table under what governs the list.
 use Rattle.std.proofs.Common.{◌≡◌, inl, inr, refl}
-use Rattle.npr_base.specs.declared.refusal.AttributeSet.TheVariants.{LinkInfo as AtInfo}
+use Rattle.npr_base.specs.declared.attribute_set.AttributeSet.TheVariants.{LinkInfo as AtInfo}
 use Rattle.npr_base.specs.EnumFamily.{rewritten}
 use Rattle.npr_base.specs.Family.{Writing, Reading, Family}
 use Rattle.npr_base.specs.Tables.{EnumTable, table_of, row, others, ◌or◌, value, items, seen, raw, Meanings, writing_of, attributes_of, family_of_table}

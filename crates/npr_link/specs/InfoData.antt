@@ -2,7 +2,7 @@
 use Rattle.std.specs.Prelude.{ℕ, List, map}
 use Rattle.std.proofs.Common.{refl}
 use Rattle.npr_base.specs.Codec.{Codec}
-use Rattle.npr_base.specs.declared.refusal.AttributeSet.TheVariants as At
+use Rattle.npr_base.specs.declared.attribute_set.AttributeSet.TheVariants as At
 use Rattle.npr_link.specs.Netkit as OfNetkit
 use Rattle.npr_link.specs.Veth as OfVeth
 use Rattle.npr_link.specs.Vlan as OfVlan
@@ -19,6 +19,11 @@ use Rattle.npr_link_tunnels.specs.IpTunnel as OfIpTunnel
 use Rattle.npr_link_tunnels.specs.Vti as OfVti
 use Rattle.npr_link_tunnels.specs.Vxlan as OfVxlan
 use Rattle.npr_link_tunnels.specs.Xfrm as OfXfrm
+use Rattle.npr_link_devices.specs.Hsr as OfHsr
+use Rattle.npr_link_devices.specs.Ipoib as OfIpoib
+use Rattle.npr_link_devices.specs.MacSec as OfMacSec
+use Rattle.npr_link_tunnels.specs.Gtp as OfGtp
+use Rattle.npr_link_tunnels.specs.Ovpn as OfOvpn
 use Rattle.npr_base.specs.Choices.{Held, as_list, as_bytes, Case, list_case, bytes_case, chosen}
 use Rattle.npr_link.specs.declared.info_data.InfoData.{InfoData}
 use Rattle.npr_link.specs.declared.info_data.InfoData.TheVariants as Has
@@ -47,6 +52,14 @@ pub data Data : Type 0 where
   xfrm : List OfXfrm.family.Meaning → Data
   geneve : List OfGeneve.family.Meaning → Data
   netkit : List OfNetkit.family.Meaning → Data
+  erspan : List OfGre.family.Meaning → Data
+  erspan6 : List OfGre6.family.Meaning → Data
+  vxcan : List OfVeth.family.Meaning → Data
+  hsr : List OfHsr.family.Meaning → Data
+  ipoib : List OfIpoib.family.Meaning → Data
+  mac_sec : List OfMacSec.family.Meaning → Data
+  gtp : List OfGtp.family.Meaning → Data
+  ovpn : List OfOvpn.family.Meaning → Data
   other : List ℕ → Data
 
 abbrev pub info_data_of : InfoData → Data
@@ -70,6 +83,14 @@ info_data_of (Has.Vrf xs) = vrf (map OfVrf.family.meaning xs.items)
 info_data_of (Has.Xfrm xs) = xfrm (map OfXfrm.family.meaning xs.items)
 info_data_of (Has.Geneve xs) = geneve (map OfGeneve.family.meaning xs.items)
 info_data_of (Has.Netkit xs) = netkit (map OfNetkit.family.meaning xs.items)
+info_data_of (Has.Erspan xs) = erspan (map OfGre.family.meaning xs.items)
+info_data_of (Has.Erspan6 xs) = erspan6 (map OfGre6.family.meaning xs.items)
+info_data_of (Has.Vxcan xs) = vxcan (map OfVeth.family.meaning xs.items)
+info_data_of (Has.Hsr xs) = hsr (map OfHsr.family.meaning xs.items)
+info_data_of (Has.Ipoib xs) = ipoib (map OfIpoib.family.meaning xs.items)
+info_data_of (Has.MacSec xs) = mac_sec (map OfMacSec.family.meaning xs.items)
+info_data_of (Has.Gtp xs) = gtp (map OfGtp.family.meaning xs.items)
+info_data_of (Has.Ovpn xs) = ovpn (map OfOvpn.family.meaning xs.items)
 info_data_of (Has.Other bytes) = other bytes.items
 
 -- how they are written, whatever governs
@@ -94,6 +115,14 @@ held (vrf xs) = as_list At.InfoVrf OfVrf.attributes xs
 held (xfrm xs) = as_list At.InfoXfrm OfXfrm.attributes xs
 held (geneve xs) = as_list At.InfoGeneve OfGeneve.attributes xs
 held (netkit xs) = as_list At.InfoNetkit OfNetkit.attributes xs
+held (erspan xs) = as_list At.InfoGre OfGre.attributes xs
+held (erspan6 xs) = as_list At.InfoGre6 OfGre6.attributes xs
+held (vxcan xs) = as_list At.InfoVeth OfVeth.attributes xs
+held (hsr xs) = as_list At.InfoHsr OfHsr.attributes xs
+held (ipoib xs) = as_list At.InfoIpoib OfIpoib.attributes xs
+held (mac_sec xs) = as_list At.InfoMacSec OfMacSec.attributes xs
+held (gtp xs) = as_list At.InfoGtp OfGtp.attributes xs
+held (ovpn xs) = as_list At.InfoOvpn OfOvpn.attributes xs
 held (other bytes) = as_bytes bytes
 
 -- and read
@@ -121,6 +150,14 @@ case InfoForm.Vrf = list_case held At.InfoVrf OfVrf.attributes vrf (λ xs. refl)
 case InfoForm.Xfrm = list_case held At.InfoXfrm OfXfrm.attributes xfrm (λ xs. refl)
 case InfoForm.Geneve = list_case held At.InfoGeneve OfGeneve.attributes geneve (λ xs. refl)
 case InfoForm.Netkit = list_case held At.InfoNetkit OfNetkit.attributes netkit (λ xs. refl)
+case InfoForm.Erspan = list_case held At.InfoGre OfGre.attributes erspan (λ xs. refl)
+case InfoForm.Erspan6 = list_case held At.InfoGre6 OfGre6.attributes erspan6 (λ xs. refl)
+case InfoForm.Vxcan = list_case held At.InfoVeth OfVeth.attributes vxcan (λ xs. refl)
+case InfoForm.Hsr = list_case held At.InfoHsr OfHsr.attributes hsr (λ xs. refl)
+case InfoForm.Ipoib = list_case held At.InfoIpoib OfIpoib.attributes ipoib (λ xs. refl)
+case InfoForm.MacSec = list_case held At.InfoMacSec OfMacSec.attributes mac_sec (λ xs. refl)
+case InfoForm.Gtp = list_case held At.InfoGtp OfGtp.attributes gtp (λ xs. refl)
+case InfoForm.Ovpn = list_case held At.InfoOvpn OfOvpn.attributes ovpn (λ xs. refl)
 case InfoForm.Kept = bytes_case held other (λ bytes. refl)
 
 abbrev pub info_data : InfoForm → Codec Data

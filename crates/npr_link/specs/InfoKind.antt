@@ -17,7 +17,7 @@ info_kind_names =
     ∷ codes "vxlan" ∷ codes "bond" ∷ codes "ipvlan" ∷ codes "ipvtap" ∷ codes "macvlan" ∷ codes "macvtap" ∷ codes "gretap"
     ∷ codes "ip6gretap" ∷ codes "ipip" ∷ codes "ip6tnl" ∷ codes "sit" ∷ codes "gre" ∷ codes "ip6gre" ∷ codes "vti"
     ∷ codes "vrf" ∷ codes "gtp" ∷ codes "ipoib" ∷ codes "wireguard" ∷ codes "xfrm" ∷ codes "macsec" ∷ codes "hsr"
-    ∷ codes "geneve" ∷ codes "netkit" ∷ codes "vti6" ∷ []
+    ∷ codes "geneve" ∷ codes "netkit" ∷ codes "vti6" ∷ codes "erspan" ∷ codes "ip6erspan" ∷ codes "vxcan" ∷ codes "ovpn" ∷ []
 
 -- a kind, without where its name lies in memory
 abbrev pub info_kind_of : InfoKind → Kind
@@ -52,4 +52,12 @@ form_named text =
     else if bytes_eq text (codes "geneve") then InfoForm.Geneve
     else if bytes_eq text (codes "netkit") then InfoForm.Netkit
     else if bytes_eq text (codes "vti6") then InfoForm.Vti6
+    else if bytes_eq text (codes "hsr") then InfoForm.Hsr
+    else if bytes_eq text (codes "ipoib") then InfoForm.Ipoib
+    else if bytes_eq text (codes "macsec") then InfoForm.MacSec
+    else if bytes_eq text (codes "gtp") then InfoForm.Gtp
+    else if bytes_eq text (codes "ovpn") then InfoForm.Ovpn
+    else if bytes_eq text (codes "erspan") then InfoForm.Erspan
+    else if bytes_eq text (codes "ip6erspan") then InfoForm.Erspan6
+    else if bytes_eq text (codes "vxcan") then InfoForm.Vxcan
     else InfoForm.Kept

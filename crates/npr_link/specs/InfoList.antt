@@ -19,7 +19,7 @@ use Rattle.npr_base.specs.Looks.{Looking, Adds, ListLooks, looked_through}
 use Rattle.npr_base.specs.lemmas.Looks.{plus, raised-none, raised-more, none-most, same_counts}
 use Rattle.npr_base.specs.Unterminated.{told_by, name_is}
 use Rattle.npr_base.specs.Showing.{shows_list}
-use Rattle.npr_base.specs.declared.refusal.AttributeSet.TheVariants.{LinkInfo as AtInfo}
+use Rattle.npr_base.specs.declared.attribute_set.AttributeSet.TheVariants.{LinkInfo as AtInfo}
 use Rattle.npr_base.specs.lemmas.Bool.{both, one_of}
 use Rattle.npr_base.specs.lemmas.Fails.{list-once}
 use Rattle.npr_link.specs.Governing.{Forms, told, port_told, Governs, none_governs, start, Searching, Searches}

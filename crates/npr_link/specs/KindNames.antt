@@ -14,7 +14,8 @@ info_kinds =
     ∷ (codes "ip6gretap", Link.GreTap6) ∷ (codes "ipip", Link.IpIp) ∷ (codes "ip6tnl", Link.Ip6Tnl) ∷ (codes "sit", Link.SitTun)
     ∷ (codes "gre", Link.GreTun) ∷ (codes "ip6gre", Link.GreTun6) ∷ (codes "vti", Link.Vti) ∷ (codes "vrf", Link.Vrf) ∷ (codes "gtp", Link.Gtp)
     ∷ (codes "ipoib", Link.Ipoib) ∷ (codes "wireguard", Link.Wireguard) ∷ (codes "xfrm", Link.Xfrm) ∷ (codes "macsec", Link.MacSec)
-    ∷ (codes "hsr", Link.Hsr) ∷ (codes "geneve", Link.Geneve) ∷ (codes "netkit", Link.Netkit) ∷ (codes "vti6", Link.Vti6) ∷ []
+    ∷ (codes "hsr", Link.Hsr) ∷ (codes "geneve", Link.Geneve) ∷ (codes "netkit", Link.Netkit) ∷ (codes "vti6", Link.Vti6) ∷ (codes "erspan", Link.Erspan)
+    ∷ (codes "ip6erspan", Link.Erspan6) ∷ (codes "vxcan", Link.Vxcan) ∷ (codes "ovpn", Link.Ovpn) ∷ []
 
 abbrev pub port_kinds : List (List ℕ × InfoPortKind)
 port_kinds =

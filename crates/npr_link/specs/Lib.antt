@@ -2,9 +2,11 @@ pub mod AddressMode
 pub mod AfSpec
 pub mod AfSpecInet
 pub mod AfSpecInet6
+pub mod AfSpecMctp
 pub mod AfSpecs
 pub mod Attribute
 pub mod AttributeSteps
+pub mod DpllPin
 pub mod ExtentMask
 pub mod Flags
 pub mod Governing

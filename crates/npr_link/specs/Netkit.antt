@@ -1,5 +1,5 @@
 -- The data of a pair that runs programs (linux/if_link.h, IFLA_NETKIT_*), by the table.
-use Rattle.npr_base.specs.declared.refusal.AttributeSet.TheVariants.{InfoNetkit as AtInfoNetkit}
+use Rattle.npr_base.specs.declared.attribute_set.AttributeSet.TheVariants.{InfoNetkit as AtInfoNetkit}
 use Rattle.npr_base.specs.Tables.{EnumTable, table_of, row, others, ◌or◌, exactly, boolean, le16, le32, value, seen, refl, Reading, Family, writing_of}
 use Rattle.npr_base.specs.Tables.{attributes_of, family_of_table}
 use Rattle.npr_link.specs.NetkitMode.{netkit_mode}

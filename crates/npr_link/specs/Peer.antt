@@ -2,7 +2,7 @@
 -- end.
 use Rattle.std.proofs.Common.{ℕ, List, map, Option}
 use Rattle.npr_base.specs.Codec.{Codec}
-use Rattle.npr_base.specs.declared.refusal.AttributeSet.TheVariants.{Peer as AtPeer}
+use Rattle.npr_base.specs.declared.attribute_set.AttributeSet.TheVariants.{Peer as AtPeer}
 use Rattle.npr_base.specs.declared.refusal.EmitError.{EmitError}
 use Rattle.npr_base.specs.Message.{Grammar, View}
 use Rattle.npr_base.specs.MessageValue.{value_grammar, value_bytes, value_unfit, message_value}

@@ -1,5 +1,5 @@
 -- An attribute of the other end of a pair, as a request for the pair has it (linux/if_link.h, IFLA_*), by the table.
-use Rattle.npr_base.specs.declared.refusal.AttributeSet.TheVariants.{Peer as AtPeerAttribute}
+use Rattle.npr_base.specs.declared.attribute_set.AttributeSet.TheVariants.{Peer as AtPeerAttribute}
 use Rattle.npr_base.specs.Tables.{EnumTable, table_of, row, others, ◌or◌, exactly, items, le32, name, raw, signed32, text, value, refl, Reading, Family}
 use Rattle.npr_base.specs.Tables.{writing_of, attributes_of}
 use Rattle.npr_base.specs.Tables.{family_of_table}

@@ -2,7 +2,7 @@
 use Rattle.std.specs.Prelude.{ℕ, List, map}
 use Rattle.std.proofs.Common.{refl}
 use Rattle.npr_base.specs.Codec.{Codec}
-use Rattle.npr_base.specs.declared.refusal.AttributeSet.TheVariants as At
+use Rattle.npr_base.specs.declared.attribute_set.AttributeSet.TheVariants as At
 use Rattle.npr_link.specs.Vrf as OfVrf
 use Rattle.npr_link_bridge.specs.BridgePort as OfBridgePort
 use Rattle.npr_link_devices.specs.BondPort as OfBondPort

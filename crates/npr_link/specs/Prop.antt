@@ -1,5 +1,5 @@
 -- A property of a link (linux/if_link.h, IFLA_*), by the table.
-use Rattle.npr_base.specs.declared.refusal.AttributeSet.TheVariants.{Prop as AtProp}
+use Rattle.npr_base.specs.declared.attribute_set.AttributeSet.TheVariants.{Prop as AtProp}
 use Rattle.npr_base.specs.Tables.{EnumTable, table_of, row, others, ◌or◌, name, text, value, refl, Reading, Family, writing_of, attributes_of, family_of_table}
 use Rattle.npr_link.specs.contracts.prop.Prop.{enum}
 use Rattle.npr_link.specs.declared.prop.Prop.{Prop}

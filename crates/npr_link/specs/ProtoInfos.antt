@@ -11,8 +11,8 @@ use Rattle.npr_base.specs.Refusal.{at_number}
 use Rattle.npr_base.specs.Table.{Slot, slot_plain, slot_other, writing_by}
 use Rattle.npr_base.specs.declared.address_family.AddressFamily.{AddressFamily}
 use Rattle.npr_base.specs.declared.address_family.AddressFamily.TheVariants.{Inet6, Bridge}
-use Rattle.npr_base.specs.declared.refusal.At.{At}
-use Rattle.npr_base.specs.declared.refusal.AttributeSet.TheVariants.{Link as AtLink, AfSpecInet6 as AtAfSpecInet6, InfoBridgePort as AtBridgePort}
+use Rattle.npr_base.specs.declared.attribute_set.At.{At}
+use Rattle.npr_base.specs.declared.attribute_set.AttributeSet.TheVariants.{Link as AtLink, AfSpecInet6 as AtAfSpecInet6, InfoBridgePort as AtBridgePort}
 use Rattle.npr_base.specs.declared.value.Form.{Form as ValueForm}
 use Rattle.npr_base.specs.declared.value.Form.TheVariants.{List as Listed, Raw}
 use Rattle.npr_link.specs.AfSpecInet6 as OfAfSpecInet6

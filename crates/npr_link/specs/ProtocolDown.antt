@@ -1,5 +1,5 @@
 -- Who holds a link down (linux/if_link.h, IFLA_PROTO_DOWN_REASON_*), by the table.
-use Rattle.npr_base.specs.declared.refusal.AttributeSet.TheVariants.{LinkProtocolDownReason as AtProtocolDown}
+use Rattle.npr_base.specs.declared.attribute_set.AttributeSet.TheVariants.{LinkProtocolDownReason as AtProtocolDown}
 use Rattle.npr_base.specs.Tables.{EnumTable, table_of, row, others, ◌or◌, exactly, le32, value, refl, Reading, Family, writing_of, attributes_of}
 use Rattle.npr_base.specs.Tables.{family_of_table}
 use Rattle.npr_link.specs.contracts.protocol_down.LinkProtocolDownReason.{enum}

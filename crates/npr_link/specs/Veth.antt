@@ -1,5 +1,5 @@
 -- The data of a pair (linux/veth.h, VETH_INFO_*), by their table.
-use Rattle.npr_base.specs.declared.refusal.AttributeSet.TheVariants.{InfoVeth as AtVeth}
+use Rattle.npr_base.specs.declared.attribute_set.AttributeSet.TheVariants.{InfoVeth as AtVeth}
 use Rattle.npr_base.specs.Tables.{EnumTable, table_of, row, others, ◌or◌, value, seen, refl, Reading, Family, writing_of, attributes_of, family_of_table}
 use Rattle.npr_link.specs.Peer.{peer, peer_of}
 use Rattle.npr_link.specs.contracts.veth.InfoVeth.{enum}

@@ -1,5 +1,5 @@
 -- The data of a VLAN (linux/if_link.h, IFLA_VLAN_*), by the table.
-use Rattle.npr_base.specs.declared.refusal.AttributeSet.TheVariants.{InfoVlan as AtVlan, VlanQosMapping as AtVlanQos}
+use Rattle.npr_base.specs.declared.attribute_set.AttributeSet.TheVariants.{InfoVlan as AtVlan, VlanQosMapping as AtVlanQos}
 use Rattle.npr_base.specs.Tables.{EnumTable, table_of, row, others, ◌or◌, exactly, le16, list_of, listed, value, refl, Reading, Family, writing_of}
 use Rattle.npr_base.specs.Tables.{attributes_of, family_of_table}
 use Rattle.npr_link.specs.Pairs.{two_flags}

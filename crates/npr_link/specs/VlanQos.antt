@@ -1,5 +1,5 @@
 -- A mapping of priorities (linux/if_link.h, IFLA_VLAN_QOS_*), by the table.
-use Rattle.npr_base.specs.declared.refusal.AttributeSet.TheVariants.{VlanQosMapping as AtVlanQos}
+use Rattle.npr_base.specs.declared.attribute_set.AttributeSet.TheVariants.{VlanQosMapping as AtVlanQos}
 use Rattle.npr_base.specs.Tables.{EnumTable, table_of, row, others, ◌or◌, exactly, value, refl, Reading, Family, writing_of, attributes_of, family_of_table}
 use Rattle.npr_link.specs.Pairs.{both, two_numbers}
 use Rattle.npr_link.specs.contracts.vlan_qos.VlanQosMapping.{enum}

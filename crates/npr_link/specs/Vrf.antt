@@ -1,5 +1,5 @@
 -- The data of a routing domain, or of a port of one (linux/if_link.h, IFLA_VRF_*), by the table.
-use Rattle.npr_base.specs.declared.refusal.AttributeSet.TheVariants.{InfoVrf as AtVrf}
+use Rattle.npr_base.specs.declared.attribute_set.AttributeSet.TheVariants.{InfoVrf as AtVrf}
 use Rattle.npr_base.specs.Tables.{EnumTable, table_of, row, others, ◌or◌, exactly, le32, value, refl, Reading, Family, writing_of, attributes_of}
 use Rattle.npr_base.specs.Tables.{family_of_table}
 use Rattle.npr_link.specs.contracts.vrf.InfoVrf.{enum}

@@ -1,5 +1,5 @@
 -- The program at the driver of a link (linux/if_link.h, IFLA_XDP_*), by the table.
-use Rattle.npr_base.specs.declared.refusal.AttributeSet.TheVariants.{LinkXdp as AtXdp}
+use Rattle.npr_base.specs.declared.attribute_set.AttributeSet.TheVariants.{LinkXdp as AtXdp}
 use Rattle.npr_base.specs.Tables.{EnumTable, table_of, row, others, ◌or◌, exactly, le32, signed32, value, refl, Reading, Family, writing_of, attributes_of}
 use Rattle.npr_base.specs.Tables.{family_of_table}
 use Rattle.npr_link.specs.XdpAttached.{attachment}

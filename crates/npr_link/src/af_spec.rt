@@ -5,6 +5,7 @@ ghost use Rattle.{npr_base.specs.Family.{shaped}, npr_link.specs.AfSpec.{family}
 
 use crate::af_spec_inet::AfSpecInet;
 use crate::af_spec_inet6::AfSpecInet6;
+use crate::af_spec_mctp::AfSpecMctp;
 use npr_base::{
     At, Attribute, DecodeError, DefaultNla, EmitError, Form, Looks, Nla, NlaBuffer, Place,
 };
@@ -17,6 +18,8 @@ pub enum AfSpecUnspec {
     Inet(Vec<AfSpecInet>),
     /// `AF_INET6`: IP version 6.
     Inet6(Vec<AfSpecInet6>),
+    /// `AF_MCTP`: the management component transport protocol.
+    Mctp(Vec<AfSpecMctp>),
     /// An attribute of another number, as it stands.
     Other(DefaultNla),
 }
@@ -27,6 +30,7 @@ macro_rules! rows {
         npr_base::$body!(($($given)*) AfSpecUnspec of AfSpecUnspec {
             2 Inet(list AfSpecInet);
             10 Inet6(list AfSpecInet6);
+            45 Mctp(list AfSpecMctp);
         })
     };
 }

@@ -22,6 +22,8 @@ pub enum AfSpecInet6 {
     DevConf(Inet6DevConf),
     /// `IFLA_INET6_STATS`: counters of packets.
     Stats(Inet6Stats),
+    /// `IFLA_INET6_MCAST`, which no kernel sends, as it stands.
+    Multicast(Vec<u8>),
     /// `IFLA_INET6_CACHEINFO`: times of neighbours.
     CacheInfo(Inet6CacheInfo),
     /// `IFLA_INET6_ICMP6STATS`: counters of ICMP.
@@ -43,6 +45,7 @@ macro_rules! rows {
             1 Flags(Inet6IfaceFlags flags le32);
             2 DevConf(Inet6DevConf value raw);
             3 Stats(Inet6Stats value raw);
+            4 Multicast(raw);
             5 CacheInfo(Inet6CacheInfo leading 16);
             6 Icmp6Stats(Icmp6Stats value raw);
             7 Token(octets16);

@@ -8,6 +8,7 @@ ghost use Rattle.{
 
 use crate::af_spec::AfSpecUnspec;
 use crate::af_spec_inet6::AfSpecInet6;
+use crate::dpll_pin::LinkDpllPin;
 use crate::extent_mask::LinkExtentMask;
 use crate::header_family::{af_spec_form, proto_info_form, put_af_spec, put_proto_info};
 use crate::info::LinkInfo;
@@ -25,6 +26,7 @@ use npr_base::{
     NLA_F_NESTED, Nla, NlaBuffer, Place, Rowed, check_list, clone_list, write_bytes, write_list,
 };
 use npr_link_bridge::{AfSpecBridge, InfoBridgePort};
+use npr_link_functions::LinkVfInfo;
 use npr_link_statistics::{Grown, Stats, Stats64};
 use std::alloc::{AllocError, Global};
 
@@ -158,6 +160,17 @@ pub enum LinkAttribute {
     Headroom(u16),
     /// `IFLA_TAILROOM`: the room behind a packet, in bytes.
     Tailroom(u16),
+    /// `IFLA_WIRELESS`: an event of a wireless link, `struct iw_event` of `linux/wireless.h`, as it stands.
+    Wireless(Vec<u8>),
+    /// `IFLA_WEIGHT`: its share of what is received in one round.
+    Weight(u32),
+    /// `IFLA_VFINFO_LIST`: its virtual functions.
+    VfInfoList(Vec<LinkVfInfo>),
+    /// `IFLA_DEVLINK_PORT`: the port of devlink that it belongs to, attributes of `linux/devlink.h` as they
+    /// stand. Written with NESTED.
+    DevlinkPort(Vec<u8>),
+    /// `IFLA_DPLL_PIN`: the pin that it is clocked by. Written with NESTED.
+    DpllPin(Vec<LinkDpllPin>),
     /// An attribute of another number, as it stands.
     Other(DefaultNla),
 }
@@ -189,13 +202,16 @@ macro_rules! rows {
             6 Qdisc(name);
             7 Stats(Stats value raw);
             10 Controller(le32);
+            11 Wireless(raw);
             13 TxQueueLen(le32);
             14 Map(Map leading 32);
+            15 Weight(le32);
             16 OperState(State as byte);
             17 Mode(LinkMode as byte);
             19 NetNsPid(le32);
             20 IfAlias(name);
             21 NumVf(le32);
+            22 VfInfoList(list LinkVfInfo);
             23 Stats64(Stats64 value raw);
             27 Group(le32);
             28 NetNsFd(signed32);
@@ -231,8 +247,10 @@ macro_rules! rows {
             59 TsoMaxSize(le32);
             60 TsoMaxSegs(le32);
             61 AllMulti(le32);
+            62 DevlinkPort(raw) as NLA_F_NESTED + 62;
             63 GsoIpv4MaxSize(le32);
             64 GroIpv4MaxSize(le32);
+            65 DpllPin(list LinkDpllPin) as NLA_F_NESTED + 65;
             66 MaxPacingOffloadHorizon(uint);
             67 NetnsImmutable(boolean);
             68 Headroom(le16);
@@ -303,7 +321,8 @@ pub(crate) fn put_plain<P: Place<LinkAttribute>>(
     item: &NlaBuffer<'_>,
 ) -> Result<(), DecodeError>
     requires ready { P.ready place.old }
-    requires plain { (number_of (item.now).kind ≢ 43) × (number_of (item.now).kind ≢ 52) × (number_of (item.now).kind ≢ 55) }
+    requires plain { (number_of (item.now).kind ≢ 22) × (number_of (item.now).kind ≢ 43) × (number_of (item.now).kind ≢ 52)
+        × (number_of (item.now).kind ≢ 55) × (number_of (item.now).kind ≢ 65) }
     ensures ok { IfOk result (λ _. (a : LinkAttribute) × P.puts place.old a place.new × IsFlat (number_of (item.now).kind) item.now a) }
     ensures refused { IfErr result (λ e. e ≢ OutOfMemory → FlatFault (number_of (item.now).kind) item.now e) }
 {

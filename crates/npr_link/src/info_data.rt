@@ -21,9 +21,13 @@ use npr_base::{
     AttributeSet, DecodeError, EmitError, Form, Looks, parse_list, read_bytes, write_bytes,
 };
 use npr_link_bridge::InfoBridge;
-use npr_link_devices::{InfoBond, InfoIpVlan, InfoIpVtap, InfoMacVlan, InfoMacVtap, InfoTun};
+use npr_link_devices::{
+    InfoBond, InfoHsr, InfoIpVlan, InfoIpVtap, InfoIpoib, InfoMacSec, InfoMacVlan, InfoMacVtap,
+    InfoTun,
+};
 use npr_link_tunnels::{
-    InfoForm, InfoGeneve, InfoGre, InfoGre6, InfoIpTunnel, InfoVti, InfoVxlan, InfoXfrm,
+    InfoForm, InfoGeneve, InfoGre, InfoGre6, InfoGtp, InfoIpTunnel, InfoOvpn, InfoVti, InfoVxlan,
+    InfoXfrm,
 };
 use std::alloc::{AllocError, Global};
 
@@ -70,6 +74,22 @@ pub enum InfoData {
     Geneve(Vec<InfoGeneve>),
     /// One of a pair that runs programs.
     Netkit(Vec<InfoNetkit>),
+    /// A tunnel of ERSPAN.
+    Erspan(Vec<InfoGre>),
+    /// A tunnel of ERSPAN over IP version 6.
+    Erspan6(Vec<InfoGre6>),
+    /// One of a pair of CAN.
+    Vxcan(Vec<InfoVeth>),
+    /// A ring of IEC 62439-3.
+    Hsr(Vec<InfoHsr>),
+    /// IP over InfiniBand.
+    Ipoib(Vec<InfoIpoib>),
+    /// A link of MACsec.
+    MacSec(Vec<InfoMacSec>),
+    /// A tunnel of GTP.
+    Gtp(Vec<InfoGtp>),
+    /// A tunnel of OpenVPN.
+    Ovpn(Vec<InfoOvpn>),
     /// The bytes of data that nothing governs, or a kind without a family.
     Other(Vec<u8>),
 }
@@ -98,6 +118,14 @@ macro_rules! variants {
             Xfrm(list InfoXfrm);
             Geneve(list InfoGeneve);
             Netkit(list InfoNetkit);
+            Erspan(list InfoGre);
+            Erspan6(list InfoGre6);
+            Vxcan(list InfoVeth);
+            Hsr(list InfoHsr);
+            Ipoib(list InfoIpoib);
+            MacSec(list InfoMacSec);
+            Gtp(list InfoGtp);
+            Ovpn(list InfoOvpn);
         })
     };
 }
@@ -159,6 +187,14 @@ impl InfoData {
             InfoForm::Xfrm => Ok(InfoData::Xfrm(parse_list(alloc, (), bytes, looks)?)),
             InfoForm::Geneve => Ok(InfoData::Geneve(parse_list(alloc, (), bytes, looks)?)),
             InfoForm::Netkit => Ok(InfoData::Netkit(parse_list(alloc, (), bytes, looks)?)),
+            InfoForm::Erspan => Ok(InfoData::Erspan(parse_list(alloc, (), bytes, looks)?)),
+            InfoForm::Erspan6 => Ok(InfoData::Erspan6(parse_list(alloc, (), bytes, looks)?)),
+            InfoForm::Vxcan => Ok(InfoData::Vxcan(parse_list(alloc, (), bytes, looks)?)),
+            InfoForm::Hsr => Ok(InfoData::Hsr(parse_list(alloc, (), bytes, looks)?)),
+            InfoForm::Ipoib => Ok(InfoData::Ipoib(parse_list(alloc, (), bytes, looks)?)),
+            InfoForm::MacSec => Ok(InfoData::MacSec(parse_list(alloc, (), bytes, looks)?)),
+            InfoForm::Gtp => Ok(InfoData::Gtp(parse_list(alloc, (), bytes, looks)?)),
+            InfoForm::Ovpn => Ok(InfoData::Ovpn(parse_list(alloc, (), bytes, looks)?)),
             InfoForm::Kept => Ok(InfoData::Other(read_bytes(alloc, bytes)?)),
         }
     }
@@ -171,19 +207,24 @@ impl InfoData {
             InfoForm::Bridge => AttributeSet::InfoBridge,
             InfoForm::Tun => AttributeSet::InfoTun,
             InfoForm::Vlan => AttributeSet::InfoVlan,
-            InfoForm::Veth => AttributeSet::InfoVeth,
+            InfoForm::Veth | InfoForm::Vxcan => AttributeSet::InfoVeth,
             InfoForm::Vxlan => AttributeSet::InfoVxlan,
             InfoForm::Bond => AttributeSet::InfoBond,
             InfoForm::IpVlan | InfoForm::IpVtap => AttributeSet::InfoIpVlan,
             InfoForm::MacVlan | InfoForm::MacVtap => AttributeSet::InfoMacVlan,
-            InfoForm::GreTap | InfoForm::GreTun => AttributeSet::InfoGre,
-            InfoForm::GreTap6 | InfoForm::GreTun6 => AttributeSet::InfoGre6,
+            InfoForm::GreTap | InfoForm::GreTun | InfoForm::Erspan => AttributeSet::InfoGre,
+            InfoForm::GreTap6 | InfoForm::GreTun6 | InfoForm::Erspan6 => AttributeSet::InfoGre6,
             InfoForm::IpIp | InfoForm::Ip6Tnl | InfoForm::SitTun => AttributeSet::InfoIpTunnel,
             InfoForm::Vti | InfoForm::Vti6 => AttributeSet::InfoVti,
             InfoForm::Vrf => AttributeSet::InfoVrf,
             InfoForm::Xfrm => AttributeSet::InfoXfrm,
             InfoForm::Geneve => AttributeSet::InfoGeneve,
             InfoForm::Netkit => AttributeSet::InfoNetkit,
+            InfoForm::Hsr => AttributeSet::InfoHsr,
+            InfoForm::Ipoib => AttributeSet::InfoIpoib,
+            InfoForm::MacSec => AttributeSet::InfoMacSec,
+            InfoForm::Gtp => AttributeSet::InfoGtp,
+            InfoForm::Ovpn => AttributeSet::InfoOvpn,
             InfoForm::Kept => return Form::Raw,
         };
         Form::List(set, 0)

@@ -78,6 +78,14 @@ pub enum InfoKind {
     Netkit,
     /// `vti6`: a virtual tunnel interface over IP version 6.
     Vti6,
+    /// `erspan`: a tunnel of ERSPAN.
+    Erspan,
+    /// `ip6erspan`: a tunnel of ERSPAN over IP version 6.
+    Erspan6,
+    /// `vxcan`: one of a pair of CAN.
+    Vxcan,
+    /// `ovpn`: a tunnel of OpenVPN.
+    Ovpn,
     /// Any other name.
     Other(String),
 }
@@ -117,6 +125,10 @@ macro_rules! names {
             "geneve" Geneve;
             "netkit" Netkit;
             "vti6" Vti6;
+            "erspan" Erspan;
+            "ip6erspan" Erspan6;
+            "vxcan" Vxcan;
+            "ovpn" Ovpn;
         })
     };
 }
@@ -148,6 +160,14 @@ macro_rules! forms {
             "geneve" Geneve;
             "netkit" Netkit;
             "vti6" Vti6;
+            "hsr" Hsr;
+            "ipoib" Ipoib;
+            "macsec" MacSec;
+            "gtp" Gtp;
+            "ovpn" Ovpn;
+            "erspan" Erspan;
+            "ip6erspan" Erspan6;
+            "vxcan" Vxcan;
         })
     };
 }

@@ -19,7 +19,9 @@ ghost use Rattle.{
     AfSpec.{family as af_spec_family},
     AfSpecInet.{family as inet_family},
     AfSpecInet6.{family as inet6_family},
+    AfSpecMctp.{family as mctp_family},
     Attribute.{family, shape},
+    DpllPin.{family as pin_family},
     ExtentMask.{extent_mask_bits},
     Flags.{link_flag_bits},
     Governing.{Forms, Governs, Searches},
@@ -62,7 +64,9 @@ use crate::address_mode::In6AddrGenMode;
 use crate::af_spec::AfSpecUnspec;
 use crate::af_spec_inet::AfSpecInet;
 use crate::af_spec_inet6::AfSpecInet6;
+use crate::af_spec_mctp::AfSpecMctp;
 use crate::attribute::LinkAttribute;
+use crate::dpll_pin::LinkDpllPin;
 use crate::extent_mask::LinkExtentMask;
 use crate::flags::LinkFlags;
 use crate::header::{LinkHeader, LinkMessageBuffer};
@@ -235,4 +239,6 @@ pub fn law_equality_of_meanings()
     ensures info { IsEqualityOf info_family.meaning ⟦<LinkInfo as PartialEq>⟧.eq }
     ensures attribute { IsEqualityOf family.meaning ⟦<LinkAttribute as PartialEq>⟧.eq }
     ensures message { IsEqualityOf (view links) ⟦<LinkMessage as PartialEq>⟧.eq }
+    ensures mctp { IsEqualityOf mctp_family.meaning ⟦<AfSpecMctp as PartialEq>⟧.eq }
+    ensures pin { IsEqualityOf pin_family.meaning ⟦<LinkDpllPin as PartialEq>⟧.eq }
 {}

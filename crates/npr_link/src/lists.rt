@@ -21,6 +21,9 @@ use crate::info_list::read_info;
 use npr_base::{DecodeError, Looks, NlaBuffer, Place, parse_list, put_read};
 use std::alloc::Global;
 
+/// The number of its virtual functions, `IFLA_VFINFO_LIST`.
+const IFLA_VFINFO_LIST: u16 = 22;
+
 /// The number of what runs in front of the network stack, `IFLA_XDP`.
 const IFLA_XDP: u16 = 43;
 
@@ -29,6 +32,9 @@ const IFLA_PROP_LIST: u16 = 52;
 
 /// The number of why the protocol is down, `IFLA_PROTO_DOWN_REASON`.
 const IFLA_PROTO_DOWN_REASON: u16 = 55;
+
+/// The number of the pin that it is clocked by, `IFLA_DPLL_PIN`.
+const IFLA_DPLL_PIN: u16 = 65;
 
 /// Puts what a driver says, under the kinds that stand in it.
 ///
@@ -74,6 +80,11 @@ pub(crate) fn put_flat<P: Place<LinkAttribute>>(
 {
     let value = item.value();
     match item.kind() {
+        IFLA_VFINFO_LIST => put_read(
+            place,
+            parse_list(alloc, (), value, looks),
+            LinkAttribute::VfInfoList,
+        ),
         IFLA_XDP => put_read(
             place,
             parse_list(alloc, (), value, looks),
@@ -88,6 +99,11 @@ pub(crate) fn put_flat<P: Place<LinkAttribute>>(
             place,
             parse_list(alloc, (), value, looks),
             LinkAttribute::ProtoDownReason,
+        ),
+        IFLA_DPLL_PIN => put_read(
+            place,
+            parse_list(alloc, (), value, looks),
+            LinkAttribute::DpllPin,
         ),
         _ => put_plain(place, alloc, item),
     }

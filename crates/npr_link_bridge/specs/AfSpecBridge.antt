@@ -1,5 +1,5 @@
 -- What a bridge says of a port or of itself (linux/if_bridge.h, IFLA_BRIDGE_*), by the table.
-use Rattle.npr_base.specs.declared.refusal.AttributeSet.TheVariants.{AfSpecBridge as AtAfSpecBridge, BridgeVlanTunnelInfo as AtTunnel, BridgeMst as AtMst}
+use Rattle.npr_base.specs.declared.attribute_set.AttributeSet.TheVariants.{AfSpecBridge as AtAfSpecBridge, BridgeVlanTunnelInfo as AtTunnel, BridgeMst as AtMst}
 use Rattle.npr_base.specs.Tables.{EnumTable, table_of, row, marked_row, others, ◌or◌, exactly, list_of, value, listed, refl, Reading, Family, writing_of}
 use Rattle.npr_base.specs.Tables.{attributes_of, family_of_table}
 use Rattle.npr_link_bridge.specs.BridgeFlag.{bridge_flag}

@@ -1,7 +1,7 @@
 -- The data of a bridge (linux/if_link.h, IFLA_BR_*), by the table.
 use Rattle.std.specs.Prelude.{◌≢◌, ◌==◌}
 use Rattle.std.proofs.lemmas.Bool.{ne_eqb}
-use Rattle.npr_base.specs.declared.refusal.AttributeSet.TheVariants.{InfoBridge as AtBridge, BridgeQuerierState as AtQuerier}
+use Rattle.npr_base.specs.declared.attribute_set.AttributeSet.TheVariants.{InfoBridge as AtBridge, BridgeQuerierState as AtQuerier}
 use Rattle.npr_base.specs.Counts.{Counts}
 use Rattle.npr_base.specs.Framing.{Item, number_of}
 use Rattle.npr_base.specs.RowReading.{looks-none}

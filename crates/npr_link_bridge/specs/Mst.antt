@@ -1,5 +1,5 @@
 -- States of a port in spanning trees (linux/if_bridge.h, IFLA_BRIDGE_MST_*), by the table.
-use Rattle.npr_base.specs.declared.refusal.AttributeSet.TheVariants.{BridgeMst as AtBridgeMst, BridgeMstEntry as AtEntry}
+use Rattle.npr_base.specs.declared.attribute_set.AttributeSet.TheVariants.{BridgeMst as AtBridgeMst, BridgeMstEntry as AtEntry}
 use Rattle.npr_base.specs.Tables.{EnumTable, table_of, row, others, ◌or◌, list_of, value, listed, refl, Reading, Family, writing_of}
 use Rattle.npr_base.specs.Tables.{attributes_of, family_of_table}
 use Rattle.npr_link_bridge.specs.MstEntry as OfEntry

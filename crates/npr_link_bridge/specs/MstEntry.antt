@@ -1,5 +1,5 @@
 -- The state of a port in a spanning tree (linux/if_bridge.h, IFLA_BRIDGE_MST_ENTRY_*), by the table.
-use Rattle.npr_base.specs.declared.refusal.AttributeSet.TheVariants.{BridgeMstEntry as AtBridgeMstEntry}
+use Rattle.npr_base.specs.declared.attribute_set.AttributeSet.TheVariants.{BridgeMstEntry as AtBridgeMstEntry}
 use Rattle.npr_base.specs.Tables.{EnumTable, table_of, row, others, ◌or◌, exactly, le16, value, refl, Reading, Family, writing_of}
 use Rattle.npr_base.specs.Tables.{attributes_of, family_of_table}
 use Rattle.npr_link_bridge.specs.PortState.{port_state}

@@ -1,5 +1,5 @@
 -- Who asks for multicast groups (linux/if_bridge.h, BRIDGE_QUERIER_*), by the table.
-use Rattle.npr_base.specs.declared.refusal.AttributeSet.TheVariants.{BridgeQuerierState as AtQuerierState}
+use Rattle.npr_base.specs.declared.attribute_set.AttributeSet.TheVariants.{BridgeQuerierState as AtQuerierState}
 use Rattle.npr_base.specs.Tables.{EnumTable, table_of, row, others, ◌or◌, exactly, le32, le64, octets4, octets16, value, refl, Reading, Family, writing_of}
 use Rattle.npr_base.specs.Tables.{attributes_of, family_of_table}
 use Rattle.npr_link_bridge.specs.contracts.querier_state.BridgeQuerierState.{enum}

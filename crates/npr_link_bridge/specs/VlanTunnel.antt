@@ -1,5 +1,5 @@
 -- The tunnel of a VLAN of a port (linux/if_bridge.h, IFLA_BRIDGE_VLAN_TUNNEL_*), by the table.
-use Rattle.npr_base.specs.declared.refusal.AttributeSet.TheVariants.{BridgeVlanTunnelInfo as AtBridgeVlanTunnelInfo}
+use Rattle.npr_base.specs.declared.attribute_set.AttributeSet.TheVariants.{BridgeVlanTunnelInfo as AtBridgeVlanTunnelInfo}
 use Rattle.npr_base.specs.Tables.{EnumTable, table_of, row, others, ◌or◌, exactly, le16, le32, value, refl, Reading, Family, writing_of}
 use Rattle.npr_base.specs.Tables.{attributes_of, family_of_table}
 use Rattle.npr_link_bridge.specs.VlanInfoFlags.{vlan_info_flags}

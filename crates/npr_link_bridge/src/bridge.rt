@@ -10,8 +10,8 @@ use crate::querier_state::BridgeQuerierState;
 use crate::stp_state::BridgeStpState;
 use crate::vlan_protocol::{VlanProtocol, vlan_protocol_number};
 use npr_base::{
-    At, Attribute, AttributeSet, DecodeError, DefaultNla, EmitError, Form, Looks, NLA_F_NESTED,
-    Nla, NlaBuffer, Place, Rowed, parse_list, put_read, read_octets, write_bytes,
+    At, Attribute, DecodeError, DefaultNla, EmitError, Form, Looks, NLA_F_NESTED, Nla, NlaBuffer,
+    Place, Rowed, parse_list, put_read,
 };
 use std::alloc::{AllocError, Global};
 
@@ -146,6 +146,7 @@ macro_rules! rows {
             17 TcnTimer(le64);
             18 TopologyChangeTimer(le64);
             19 GcTimer(le64);
+            20 GroupAddr(octets 6);
             21 FdbFlush;
             22 MulticastRouter(BridgeMulticastRouterType as byte);
             23 MulticastSnooping(boolean);
@@ -183,7 +184,7 @@ impl Nla for InfoBridge {
     ghost shape = { shape_by table };
 
     fn kind(&self) -> u16 {
-        rows!(kind_rows(self; InfoBridge::GroupAddr(_) => 20,))
+        rows!(kind_rows(self))
     }
 
     fn is_nested(&self) -> bool {
@@ -191,11 +192,11 @@ impl Nla for InfoBridge {
     }
 
     fn check_value(&self) -> Result<usize, EmitError> {
-        Ok(rows!(len_rows(self; InfoBridge::GroupAddr(x) => x.as_slice().len(),)))
+        Ok(rows!(len_rows(self)))
     }
 
     fn write_value(&self, out: &mut [u8]) -> usize {
-        rows!(write_rows(self, out; InfoBridge::GroupAddr(x) => write_bytes(x.as_slice(), out),))
+        rows!(write_rows(self, out))
     }
 }
 
@@ -220,7 +221,7 @@ fn put_flat<P: Place<InfoBridge>>(
     ensures ok { IfOk result (λ _. (a : InfoBridge) × P.puts place.old a place.new × attributes.Reads item.now (family.meaning a)) }
     ensures refused { IfErr result (λ e. e ≢ OutOfMemory → attributes.Faulty item.now e) }
 {
-    rows!(flat_rows(place, alloc, item; 20 => put_read(place, read_octets::<6>(item.value(), AttributeSet::InfoBridge.at(20)), InfoBridge::GroupAddr),))
+    rows!(flat_rows(place, alloc, item))
 }
 
 impl Attribute for InfoBridge {
@@ -250,10 +251,10 @@ impl Attribute for InfoBridge {
 
     #[tactic(auto, unfolding(crate::specs::Bridge::attributes))]
     fn form(_context: (), number: u16) -> (At, Form) {
-        rows!(form_rows(number; 20 => Form::Exactly(6),))
+        rows!(form_rows(number))
     }
 
     fn try_clone(&self, alloc: Global) -> Result<Self, AllocError> {
-        rows!(clone_rows(self, alloc; InfoBridge::GroupAddr(x) => Ok(InfoBridge::GroupAddr(*x)),))
+        rows!(clone_rows(self, alloc))
     }
 }

@@ -1,18 +1,18 @@
 -- What `==` answers of the attributes of such devices: whether they mean the same.
-use Rattle.std.specs.Prelude.{ℕ, List, Bool, ◌==◌, map, nat_eq}
-use Rattle.std.specs.Bool.{Decides, beq}
-use Rattle.std.specs.Cmp.{booleans_Decides, signed_Decides, unsigned_Decides}
+use Rattle.std.specs.Prelude.{ℕ, List, Bool, map}
+use Rattle.std.specs.Bool.{Decides}
+use Rattle.std.specs.Cmp.{signed_Decides}
 use Rattle.std.specs.Cmp.Lexicographic.{pointwise}
 use Rattle.std.specs.declared.alloc.Global.{Global}
 use Rattle.std.specs.declared.vec.Vec.{Vec}
 use Rattle.std.proofs.Common.{◌≡◌}
 use Rattle.npr_base.specs.Equality.{IsEquality, IsEqualityOf}
 use Rattle.npr_base.specs.EnumTable.{◌also◌}
-use Rattle.npr_base.specs.Framing.{Item}
+use Rattle.npr_base.proofs.FieldEquality.{one, list, number, truth, bytes, kept}
 use Rattle.npr_base.proofs.IpLaws.{ipv4_equality, ipv6_equality}
-use Rattle.npr_base.proofs.MeaningLaws.{items_equality, items_meaning}
+use Rattle.npr_base.proofs.MeaningLaws.{items_meaning}
 use Rattle.npr_base.specs.Tables.{table_decides}
-use Rattle.npr_base.specs.ViewEquality.{bytes_equality, item_equality, same_item}
+use Rattle.npr_base.specs.ViewEquality.{bytes_equality}
 use Rattle.npr_link_devices.specs.IpVlan as OfIpVlan
 use Rattle.npr_link_devices.specs.contracts.ip_vlan.InfoIpVlanPartialEq.TheImpl as InfoIpVlanEq
 use Rattle.npr_link_devices.specs.Tun as OfTun
@@ -32,33 +32,41 @@ use Rattle.npr_link_devices.proofs.ValueEquality.{all_port_active_equality, arp_
 use Rattle.npr_link_devices.proofs.ValueEquality.{bond_port_state_equality, fail_over_mac_equality, ip_vlan_flags_equality, ip_vlan_mode_equality}
 use Rattle.npr_link_devices.proofs.ValueEquality.{lacp_rate_equality, mac_vlan_address_mode_equality, mac_vlan_flags_equality, mac_vlan_mode_equality}
 use Rattle.npr_link_devices.proofs.ValueEquality.{mii_status_equality, primary_reselect_equality, tun_type_equality, xmit_hash_policy_equality}
+use Rattle.npr_link_devices.specs.Hsr as OfHsr
+use Rattle.npr_link_devices.specs.contracts.hsr.InfoHsrPartialEq.TheImpl as InfoHsrEq
+use Rattle.npr_link_devices.proofs.ValueEquality.{hsr_protocol_equality}
+use Rattle.npr_link_devices.specs.Ipoib as OfIpoib
+use Rattle.npr_link_devices.specs.contracts.ipoib.InfoIpoibPartialEq.TheImpl as InfoIpoibEq
+use Rattle.npr_link_devices.proofs.ValueEquality.{ipoib_mode_equality}
+use Rattle.npr_link_devices.specs.MacSec as OfMacSec
+use Rattle.npr_link_devices.specs.contracts.mac_sec.InfoMacSecPartialEq.TheImpl as InfoMacSecEq
+use Rattle.npr_link_devices.proofs.ValueEquality.{mac_sec_cipher_equality}
+use Rattle.npr_link_devices.proofs.ValueEquality.{mac_sec_offload_equality}
+use Rattle.npr_link_devices.proofs.ValueEquality.{mac_sec_validation_equality}
 
--- ---- a variant of one field, by what it holds
-
-one : {A : Type 0} {P : A → A → Type 0} → ((a b : A) → P a b) → (x y : A × Unit {0}) → P x.0 y.0
-one h x y = h x.0 y.0
-
-list : {A M : Type 0} {meaning : A → M} {test : A → A → Bool} → IsEqualityOf meaning test → (x y : Vec A Global × Unit {0})
-    → Decides (pointwise test x.0.items y.0.items) (map meaning x.0.items ≡ map meaning y.0.items)
-list {meaning = meaning} h x y = items_meaning meaning h x.0 y.0
-
-number : (x y : ℕ × Unit {0}) → Decides (x.0 == y.0) (x.0 ≡ y.0)
-number = one unsigned_Decides
-
-truth : (x y : Bool × Unit {0}) → Decides (beq x.0 y.0) (x.0 ≡ y.0)
-truth = one booleans_Decides
-
-bytes : (x y : Vec ℕ Global × Unit {0}) → Decides (pointwise nat_eq x.0.items y.0.items) (x.0.items ≡ y.0.items)
-bytes = one (items_equality unsigned_Decides)
+-- ---- addresses, one behind the other
 
 addresses : {test : List ℕ → List ℕ → Bool} → IsEquality test → (x y : Vec (List ℕ) Global × Unit {0})
     → Decides (pointwise test x.0.items y.0.items) (map octets_of x.0.items ≡ map octets_of y.0.items)
 addresses h x y = items_meaning octets_of h x.0 y.0
 
-kept : (x y : Item × Unit {0}) → Decides (same_item x.0 y.0) (x.0 ≡ y.0)
-kept = one item_equality
-
 -- ---- families
+
+pub mac_sec_equality : IsEqualityOf OfMacSec.family.meaning InfoMacSecEq.ghosts.eq
+mac_sec_equality =
+    table_decides OfMacSec.table _
+    (number also number also number also one mac_sec_cipher_equality also number also number also number also number also number also
+    number also number also number also one mac_sec_validation_equality also one mac_sec_offload_equality also kept also tt)
+
+pub ipoib_equality : IsEqualityOf OfIpoib.family.meaning InfoIpoibEq.ghosts.eq
+ipoib_equality =
+    table_decides OfIpoib.table _
+    (number also one ipoib_mode_equality also number also kept also tt)
+
+pub hsr_equality : IsEqualityOf OfHsr.family.meaning InfoHsrEq.ghosts.eq
+hsr_equality =
+    table_decides OfHsr.table _
+    (number also number also number also one bytes_equality also number also number also one hsr_protocol_equality also number also kept also tt)
 
 pub ip_vlan_equality : IsEqualityOf OfIpVlan.family.meaning InfoIpVlanEq.ghosts.eq
 ip_vlan_equality =

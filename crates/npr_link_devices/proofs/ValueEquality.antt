@@ -33,6 +33,16 @@ use Rattle.npr_link_devices.specs.contracts.tun_type.TunType.{enum as tun_type_e
 use Rattle.npr_link_devices.specs.contracts.tun_type.TunTypePartialEq.TheImpl as TunTypeEq
 use Rattle.npr_link_devices.specs.contracts.mac_vlan_flags.MacVlanFlagsPartialEq.TheImpl as MacVlanFlagsEq
 use Rattle.npr_link_devices.specs.contracts.ip_vlan_flags.IpVlanFlagsPartialEq.TheImpl as IpVlanFlagsEq
+use Rattle.npr_link_devices.specs.contracts.hsr_protocol.HsrProtocol.{enum as hsr_protocol_enum}
+use Rattle.npr_link_devices.specs.contracts.hsr_protocol.HsrProtocolPartialEq.TheImpl as HsrProtocolEq
+use Rattle.npr_link_devices.specs.contracts.ipoib_mode.IpoibMode.{enum as ipoib_mode_enum}
+use Rattle.npr_link_devices.specs.contracts.ipoib_mode.IpoibModePartialEq.TheImpl as IpoibModeEq
+use Rattle.npr_link_devices.specs.contracts.mac_sec_cipher.MacSecCipherId.{enum as mac_sec_cipher_enum}
+use Rattle.npr_link_devices.specs.contracts.mac_sec_cipher.MacSecCipherIdPartialEq.TheImpl as MacSecCipherIdEq
+use Rattle.npr_link_devices.specs.contracts.mac_sec_offload.MacSecOffload.{enum as mac_sec_offload_enum}
+use Rattle.npr_link_devices.specs.contracts.mac_sec_offload.MacSecOffloadPartialEq.TheImpl as MacSecOffloadEq
+use Rattle.npr_link_devices.specs.contracts.mac_sec_validate.MacSecValidate.{enum as mac_sec_validate_enum}
+use Rattle.npr_link_devices.specs.contracts.mac_sec_validate.MacSecValidatePartialEq.TheImpl as MacSecValidateEq
 
 -- ---- enumerations
 
@@ -77,6 +87,21 @@ ip_vlan_mode_equality = enum_equality ip_vlan_mode_enum _ refl (one_equality uns
 
 pub tun_type_equality : IsEquality TunTypeEq.ghosts.eq
 tun_type_equality = enum_equality tun_type_enum _ refl (one_equality unsigned_Decides, tt)
+
+pub hsr_protocol_equality : IsEquality HsrProtocolEq.ghosts.eq
+hsr_protocol_equality = enum_equality hsr_protocol_enum _ refl (one_equality unsigned_Decides, tt)
+
+pub ipoib_mode_equality : IsEquality IpoibModeEq.ghosts.eq
+ipoib_mode_equality = enum_equality ipoib_mode_enum _ refl (one_equality unsigned_Decides, tt)
+
+pub mac_sec_cipher_equality : IsEquality MacSecCipherIdEq.ghosts.eq
+mac_sec_cipher_equality = enum_equality mac_sec_cipher_enum _ refl (one_equality unsigned_Decides, tt)
+
+pub mac_sec_offload_equality : IsEquality MacSecOffloadEq.ghosts.eq
+mac_sec_offload_equality = enum_equality mac_sec_offload_enum _ refl (one_equality unsigned_Decides, tt)
+
+pub mac_sec_validation_equality : IsEquality MacSecValidateEq.ghosts.eq
+mac_sec_validation_equality = enum_equality mac_sec_validate_enum _ refl (one_equality unsigned_Decides, tt)
 
 -- ---- flags
 

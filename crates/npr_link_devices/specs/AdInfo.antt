@@ -1,5 +1,5 @@
 -- What ports of a bond agreed on by IEEE 802.3ad (linux/if_link.h, IFLA_BOND_AD_INFO_*), by the table.
-use Rattle.npr_base.specs.declared.refusal.AttributeSet.TheVariants.{BondAdInfo as AtAdInfo}
+use Rattle.npr_base.specs.declared.attribute_set.AttributeSet.TheVariants.{BondAdInfo as AtAdInfo}
 use Rattle.npr_base.specs.Tables.{EnumTable, table_of, row, others, ◌or◌, exactly, le16, octets, value, refl, Reading, Family, writing_of, attributes_of}
 use Rattle.npr_base.specs.Tables.{family_of_table}
 use Rattle.npr_link_devices.specs.contracts.ad_info.BondAdInfo.{enum}

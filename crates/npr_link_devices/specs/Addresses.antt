@@ -5,7 +5,7 @@
 --     AddressesLooks                 the looks that reading them takes
 --     addresses                      the codec
 use Rattle.std.specs.Prelude.{◌≡◌, ℕ, true, List, length}
-use Rattle.npr_base.specs.declared.refusal.At.{At}
+use Rattle.npr_base.specs.declared.attribute_set.At.{At}
 use Rattle.npr_base.specs.declared.refusal.DecodeError.{DecodeError}
 use Rattle.npr_base.specs.Codec.{Codec}
 use Rattle.npr_base.specs.Counts.{Counts}

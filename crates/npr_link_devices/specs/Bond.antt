@@ -1,7 +1,7 @@
 -- The data of a bond (linux/if_link.h, IFLA_BOND_*), by the table.
 use Rattle.std.specs.Prelude.{◌≢◌, ℕ, ◌==◌, ◌||◌, Bool}
 use Rattle.std.proofs.lemmas.Bool.{ne_eqb}
-use Rattle.npr_base.specs.declared.refusal.AttributeSet.TheVariants.{InfoBond as AtBond, BondAdInfo as AtAdInfo}
+use Rattle.npr_base.specs.declared.attribute_set.AttributeSet.TheVariants.{InfoBond as AtBond, BondAdInfo as AtAdInfo}
 use Rattle.npr_base.specs.Counts.{Counts}
 use Rattle.npr_base.specs.Framing.{Item, number_of}
 use Rattle.npr_base.specs.RowReading.{looks-none}

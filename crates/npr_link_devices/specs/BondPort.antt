@@ -1,5 +1,5 @@
 -- The data of a port of a bond (linux/if_link.h, IFLA_BOND_SLAVE_*), by the table.
-use Rattle.npr_base.specs.declared.refusal.AttributeSet.TheVariants.{InfoBondPort as AtBondPort}
+use Rattle.npr_base.specs.declared.attribute_set.AttributeSet.TheVariants.{InfoBondPort as AtBondPort}
 use Rattle.npr_base.specs.Tables.{EnumTable, table_of, row, others, ◌or◌, byte, exactly, items, le16, le32, raw, signed32, value, refl, Reading, Family}
 use Rattle.npr_base.specs.Tables.{writing_of, attributes_of, family_of_table}
 use Rattle.npr_link_devices.specs.BondPortState.{bond_port_state}

@@ -1,5 +1,5 @@
 -- The data of an IPVLAN (linux/if_link.h, IFLA_IPVLAN_*), by the table.
-use Rattle.npr_base.specs.declared.refusal.AttributeSet.TheVariants.{InfoIpVlan as AtIpVlan}
+use Rattle.npr_base.specs.declared.attribute_set.AttributeSet.TheVariants.{InfoIpVlan as AtIpVlan}
 use Rattle.npr_base.specs.Tables.{EnumTable, table_of, row, others, ◌or◌, exactly, value, refl, Reading, Family, writing_of, attributes_of}
 use Rattle.npr_base.specs.Tables.{family_of_table}
 use Rattle.npr_link_devices.specs.IpVlanFlags.{ip_vlan_flags}

@@ -1,5 +1,5 @@
 -- The data of a MACVLAN (linux/if_link.h, IFLA_MACVLAN_*), by the table.
-use Rattle.npr_base.specs.declared.refusal.AttributeSet.TheVariants.{InfoMacVlan as AtMacVlan, MacVlanAddress as AtAddress}
+use Rattle.npr_base.specs.declared.attribute_set.AttributeSet.TheVariants.{InfoMacVlan as AtMacVlan, MacVlanAddress as AtAddress}
 use Rattle.npr_base.specs.Tables.{EnumTable, table_of, row, others, ◌or◌, exactly, le32, list_of, listed, octets, signed32, value, refl, Reading, Family}
 use Rattle.npr_base.specs.Tables.{writing_of, attributes_of, family_of_table}
 use Rattle.npr_link_devices.specs.MacVlanAddress as OfAddress

@@ -1,5 +1,5 @@
 -- A source of a MACVLAN (linux/if_link.h, IFLA_MACVLAN_MACADDR), by the table.
-use Rattle.npr_base.specs.declared.refusal.AttributeSet.TheVariants.{MacVlanAddress as AtMacVlanAddress}
+use Rattle.npr_base.specs.declared.attribute_set.AttributeSet.TheVariants.{MacVlanAddress as AtMacVlanAddress}
 use Rattle.npr_base.specs.Tables.{EnumTable, table_of, row, others, ◌or◌, exactly, octets, value, refl, Reading, Family, writing_of, attributes_of}
 use Rattle.npr_base.specs.Tables.{family_of_table}
 use Rattle.npr_link_devices.specs.contracts.mac_vlan_address.MacVlanAddress.{enum}

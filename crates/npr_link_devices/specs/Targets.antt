@@ -10,7 +10,7 @@
 use Rattle.std.specs.Prelude.{None, false}
 use Rattle.std.proofs.Common.{◌≡◌, ℕ, ◌+◌, ◌%◌, ◌^◌, ◌*◌, ◌<◌, ◌≤◌, true, List, [], ◌∷◌, length, refl, ap, arith, length-append, lit<}
 use Rattle.std.proofs.lemmas.Bool.{ltb-true}
-use Rattle.npr_base.specs.declared.refusal.At.{At}
+use Rattle.npr_base.specs.declared.attribute_set.At.{At}
 use Rattle.npr_base.specs.declared.refusal.DecodeError.{DecodeError}
 use Rattle.npr_base.specs.declared.value.Form.TheVariants.{Inside}
 use Rattle.npr_base.specs.Codec.{exactly}

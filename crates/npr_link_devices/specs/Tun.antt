@@ -1,5 +1,5 @@
 -- The data of a TUN device (linux/if_link.h, IFLA_TUN_*), by the table.
-use Rattle.npr_base.specs.declared.refusal.AttributeSet.TheVariants.{InfoTun as AtTun}
+use Rattle.npr_base.specs.declared.attribute_set.AttributeSet.TheVariants.{InfoTun as AtTun}
 use Rattle.npr_base.specs.Tables.{EnumTable, table_of, row, others, ◌or◌, boolean, exactly, le32, value, refl, Reading, Family, writing_of, attributes_of}
 use Rattle.npr_base.specs.Tables.{family_of_table}
 use Rattle.npr_link_devices.specs.TunType.{tun_type}

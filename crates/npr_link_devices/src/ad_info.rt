@@ -4,8 +4,7 @@ ghost use Rattle.std.specs.Prelude.{refl};
 ghost use Rattle.{npr_base.specs.Family.{shaped}, npr_link_devices.specs.AdInfo.{family}};
 
 use npr_base::{
-    At, Attribute, AttributeSet, DecodeError, DefaultNla, EmitError, Form, Looks, Nla, NlaBuffer,
-    Place, put_read, read_octets, write_bytes,
+    At, Attribute, DecodeError, DefaultNla, EmitError, Form, Looks, Nla, NlaBuffer, Place,
 };
 use std::alloc::{AllocError, Global};
 
@@ -34,6 +33,7 @@ macro_rules! rows {
             2 NumPorts(le16);
             3 ActorKey(le16);
             4 PartnerKey(le16);
+            5 PartnerMac(octets 6);
         })
     };
 }
@@ -42,7 +42,7 @@ impl Nla for BondAdInfo {
     ghost shape = { shaped family };
 
     fn kind(&self) -> u16 {
-        rows!(kind_rows(self; BondAdInfo::PartnerMac(_) => 5,))
+        rows!(kind_rows(self))
     }
 
     fn is_nested(&self) -> bool {
@@ -50,11 +50,11 @@ impl Nla for BondAdInfo {
     }
 
     fn check_value(&self) -> Result<usize, EmitError> {
-        Ok(rows!(len_rows(self; BondAdInfo::PartnerMac(x) => x.as_slice().len(),)))
+        Ok(rows!(len_rows(self)))
     }
 
     fn write_value(&self, out: &mut [u8]) -> usize {
-        rows!(write_rows(self, out; BondAdInfo::PartnerMac(x) => write_bytes(x.as_slice(), out),))
+        rows!(write_rows(self, out))
     }
 }
 
@@ -73,15 +73,15 @@ impl Attribute for BondAdInfo {
         item: &NlaBuffer<'_>,
         looks: &mut Looks,
     ) -> Result<(), DecodeError> {
-        rows!(put_rows(place, alloc, item, looks; 5 => put_read(place, read_octets::<6>(item.value(), AttributeSet::BondAdInfo.at(5)), BondAdInfo::PartnerMac),))
+        rows!(put_rows(place, alloc, item, looks))
     }
 
     #[tactic(auto, unfolding(crate::specs::AdInfo::attributes))]
     fn form(_context: (), number: u16) -> (At, Form) {
-        rows!(form_rows(number; 5 => Form::Exactly(6),))
+        rows!(form_rows(number))
     }
 
     fn try_clone(&self, alloc: Global) -> Result<Self, AllocError> {
-        rows!(clone_rows(self, alloc; BondAdInfo::PartnerMac(x) => Ok(BondAdInfo::PartnerMac(*x)),))
+        rows!(clone_rows(self, alloc))
     }
 }

@@ -15,8 +15,7 @@ use crate::primary_reselect::BondPrimaryReselect;
 use crate::xmit_hash_policy::BondXmitHashPolicy;
 use npr_base::{
     At, Attribute, AttributeSet, DecodeError, DefaultNla, EmitError, Form, Ipv4Addr, Ipv6Addr,
-    Looks, NLA_F_NESTED, Nla, NlaBuffer, Place, Rowed, parse_list, put_read, read_octets,
-    write_bytes,
+    Looks, NLA_F_NESTED, Nla, NlaBuffer, Place, Rowed, parse_list, put_read,
 };
 use std::alloc::{AllocError, Global};
 
@@ -134,6 +133,7 @@ macro_rules! rows {
             23 AdInfo(list BondAdInfo);
             24 AdActorSysPrio(le16);
             25 AdUserPortKey(le16);
+            26 AdActorSystem(octets 6);
             27 TlbDynamicLb(boolean);
             28 PeerNotifDelay(le32);
             29 AdLacpActive(boolean);
@@ -149,7 +149,7 @@ impl Nla for InfoBond {
     ghost shape = { shape_by table };
 
     fn kind(&self) -> u16 {
-        rows!(kind_rows(self; InfoBond::ArpIpTarget(_) => 8, InfoBond::AdActorSystem(_) => 26, InfoBond::NsIp6Target(_) => NLA_F_NESTED + 31,))
+        rows!(kind_rows(self; InfoBond::ArpIpTarget(_) => 8, InfoBond::NsIp6Target(_) => NLA_F_NESTED + 31,))
     }
 
     fn is_nested(&self) -> bool {
@@ -158,12 +158,12 @@ impl Nla for InfoBond {
 
     fn check_value(&self) -> Result<usize, EmitError> {
         Ok(
-            rows!(len_rows(self; InfoBond::ArpIpTarget(x) => check_addresses(x.as_slice())?, InfoBond::AdActorSystem(x) => x.as_slice().len(), InfoBond::NsIp6Target(x) => check_addresses(x.as_slice())?,)),
+            rows!(len_rows(self; InfoBond::ArpIpTarget(x) => check_addresses(x.as_slice())?, InfoBond::NsIp6Target(x) => check_addresses(x.as_slice())?,)),
         )
     }
 
     fn write_value(&self, out: &mut [u8]) -> usize {
-        rows!(write_rows(self, out; InfoBond::ArpIpTarget(x) => write_addresses(x.as_slice(), out), InfoBond::AdActorSystem(x) => write_bytes(x.as_slice(), out), InfoBond::NsIp6Target(x) => write_addresses(x.as_slice(), out),))
+        rows!(write_rows(self, out; InfoBond::ArpIpTarget(x) => write_addresses(x.as_slice(), out), InfoBond::NsIp6Target(x) => write_addresses(x.as_slice(), out),))
     }
 }
 
@@ -188,7 +188,7 @@ fn put_flat<P: Place<InfoBond>>(
     ensures ok { IfOk result (λ _. (a : InfoBond) × P.puts place.old a place.new × attributes.Reads item.now (family.meaning a)) }
     ensures refused { IfErr result (λ e. e ≢ OutOfMemory → attributes.Faulty item.now e) }
 {
-    rows!(flat_rows(place, alloc, item; 26 => put_read(place, read_octets::<6>(item.value(), AttributeSet::InfoBond.at(26)), InfoBond::AdActorSystem),))
+    rows!(flat_rows(place, alloc, item))
 }
 
 impl Attribute for InfoBond {
@@ -229,11 +229,11 @@ impl Attribute for InfoBond {
 
     #[tactic(auto, unfolding(crate::specs::Bond::attributes))]
     fn form(_context: (), number: u16) -> (At, Form) {
-        rows!(form_rows(number; 8 => Form::Inside, 26 => Form::Exactly(6), 31 => Form::Inside,))
+        rows!(form_rows(number; 8 => Form::Inside, 31 => Form::Inside,))
     }
 
     fn try_clone(&self, alloc: Global) -> Result<Self, AllocError> {
-        rows!(clone_rows(self, alloc; InfoBond::ArpIpTarget(x) => Vec::from_slice(alloc, x.as_slice()).map(InfoBond::ArpIpTarget), InfoBond::AdActorSystem(x) => Ok(InfoBond::AdActorSystem(*x)), InfoBond::NsIp6Target(x) => Vec::from_slice(alloc, x.as_slice()).map(InfoBond::NsIp6Target),))
+        rows!(clone_rows(self, alloc; InfoBond::ArpIpTarget(x) => Vec::from_slice(alloc, x.as_slice()).map(InfoBond::ArpIpTarget), InfoBond::NsIp6Target(x) => Vec::from_slice(alloc, x.as_slice()).map(InfoBond::NsIp6Target),))
     }
 }
 

@@ -14,10 +14,18 @@ ghost use Rattle.{
     BondPort.{family as bond_port_family},
     BondPortState.{bond_port_states},
     FailOverMac.{fail_over_macs},
+    Hsr.{family as hsr_family},
+    HsrProtocol.{hsr_protocols},
     IpVlan.{family as ip_vlan_family},
     IpVlanFlags.{ip_vlan_flag_bits},
     IpVlanMode.{ip_vlan_modes},
+    Ipoib.{family as ipoib_family},
+    IpoibMode.{ipoib_modes},
     LacpRate.{lacp_rates},
+    MacSec.{family as mac_sec_family},
+    MacSecCipher.{mac_sec_ciphers},
+    MacSecOffload.{mac_sec_offloads},
+    MacSecValidate.{mac_sec_validations},
     MacVlan.{family as mac_vlan_family},
     MacVlanAddress.{family as mac_vlan_address_family},
     MacVlanAddressMode.{mac_vlan_address_modes},
@@ -41,10 +49,18 @@ use crate::bond_mode::BondMode;
 use crate::bond_port::InfoBondPort;
 use crate::bond_port_state::BondPortState;
 use crate::fail_over_mac::BondFailOverMac;
+use crate::hsr::InfoHsr;
+use crate::hsr_protocol::HsrProtocol;
 use crate::ip_vlan::InfoIpVlan;
 use crate::ip_vlan_flags::IpVlanFlags;
 use crate::ip_vlan_mode::IpVlanMode;
+use crate::ipoib::InfoIpoib;
+use crate::ipoib_mode::IpoibMode;
 use crate::lacp_rate::BondLacpRate;
+use crate::mac_sec::InfoMacSec;
+use crate::mac_sec_cipher::MacSecCipherId;
+use crate::mac_sec_offload::MacSecOffload;
+use crate::mac_sec_validate::MacSecValidate;
 use crate::mac_vlan::InfoMacVlan;
 use crate::mac_vlan_address::MacVlanAddress;
 use crate::mac_vlan_address_mode::MacVlanMacAddressMode;
@@ -72,6 +88,11 @@ pub fn law_numbers()
     ensures mac_vlan_address_modes { (d : ℕ) → mac_vlan_address_modes.number (mac_vlan_address_modes.of d) ≡ d }
     ensures ip_vlan_modes { (d : ℕ) → ip_vlan_modes.number (ip_vlan_modes.of d) ≡ d }
     ensures tun_types { (d : ℕ) → tun_types.number (tun_types.of d) ≡ d }
+    ensures hsr_protocols { (d : ℕ) → hsr_protocols.number (hsr_protocols.of d) ≡ d }
+    ensures ipoib_modes { (d : ℕ) → ipoib_modes.number (ipoib_modes.of d) ≡ d }
+    ensures mac_sec_ciphers { (d : ℕ) → mac_sec_ciphers.number (mac_sec_ciphers.of d) ≡ d }
+    ensures mac_sec_offloads { (d : ℕ) → mac_sec_offloads.number (mac_sec_offloads.of d) ≡ d }
+    ensures mac_sec_validations { (d : ℕ) → mac_sec_validations.number (mac_sec_validations.of d) ≡ d }
 {}
 
 /// Targets of a bond that an attribute can hold are written with the numbers 0, 1, 2 and so on.
@@ -115,6 +136,11 @@ pub fn law_equality()
     ensures tun_type { IsEquality ⟦<TunType as PartialEq>⟧.eq }
     ensures mac_vlan_flags { IsEquality ⟦<MacVlanFlags as PartialEq>⟧.eq }
     ensures ip_vlan_flags { IsEquality ⟦<IpVlanFlags as PartialEq>⟧.eq }
+    ensures hsr_protocol { IsEquality ⟦<HsrProtocol as PartialEq>⟧.eq }
+    ensures ipoib_mode { IsEquality ⟦<IpoibMode as PartialEq>⟧.eq }
+    ensures mac_sec_cipher { IsEquality ⟦<MacSecCipherId as PartialEq>⟧.eq }
+    ensures mac_sec_offload { IsEquality ⟦<MacSecOffload as PartialEq>⟧.eq }
+    ensures mac_sec_validate { IsEquality ⟦<MacSecValidate as PartialEq>⟧.eq }
 {}
 
 /// `==` answers whether two values mean the same, where they hold a vector.
@@ -126,4 +152,7 @@ pub fn law_equality_of_meanings()
     ensures ad_info { IsEqualityOf ad_info_family.meaning ⟦<BondAdInfo as PartialEq>⟧.eq }
     ensures bond_port { IsEqualityOf bond_port_family.meaning ⟦<InfoBondPort as PartialEq>⟧.eq }
     ensures bond { IsEqualityOf bond_family.meaning ⟦<InfoBond as PartialEq>⟧.eq }
+    ensures hsr { IsEqualityOf hsr_family.meaning ⟦<InfoHsr as PartialEq>⟧.eq }
+    ensures ipoib { IsEqualityOf ipoib_family.meaning ⟦<InfoIpoib as PartialEq>⟧.eq }
+    ensures mac_sec { IsEqualityOf mac_sec_family.meaning ⟦<InfoMacSec as PartialEq>⟧.eq }
 {}

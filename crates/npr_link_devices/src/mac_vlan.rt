@@ -9,8 +9,7 @@ use crate::mac_vlan_flags::MacVlanFlags;
 use crate::mac_vlan_mode::MacVlanMode;
 use bitflags::Flags;
 use npr_base::{
-    At, Attribute, AttributeSet, DecodeError, DefaultNla, EmitError, Form, Looks, Nla, NlaBuffer,
-    Place, put_read, read_octets, write_bytes,
+    At, Attribute, DecodeError, DefaultNla, EmitError, Form, Looks, Nla, NlaBuffer, Place,
 };
 use std::alloc::{AllocError, Global};
 
@@ -46,6 +45,7 @@ macro_rules! rows {
             1 Mode(MacVlanMode as le32);
             2 Flags(MacVlanFlags flags le16);
             3 MacAddrMode(MacVlanMacAddressMode as le32);
+            4 MacAddr(octets 6);
             5 MacAddrData(list MacVlanAddress);
             6 MacAddrCount(le32);
             7 BcQueueLen(le32);
@@ -59,7 +59,7 @@ impl Nla for InfoMacVlan {
     ghost shape = { shaped family };
 
     fn kind(&self) -> u16 {
-        rows!(kind_rows(self; InfoMacVlan::MacAddr(_) => 4,))
+        rows!(kind_rows(self))
     }
 
     fn is_nested(&self) -> bool {
@@ -67,11 +67,11 @@ impl Nla for InfoMacVlan {
     }
 
     fn check_value(&self) -> Result<usize, EmitError> {
-        Ok(rows!(len_rows(self; InfoMacVlan::MacAddr(x) => x.as_slice().len(),)))
+        Ok(rows!(len_rows(self)))
     }
 
     fn write_value(&self, out: &mut [u8]) -> usize {
-        rows!(write_rows(self, out; InfoMacVlan::MacAddr(x) => write_bytes(x.as_slice(), out),))
+        rows!(write_rows(self, out))
     }
 }
 
@@ -90,16 +90,16 @@ impl Attribute for InfoMacVlan {
         item: &NlaBuffer<'_>,
         looks: &mut Looks,
     ) -> Result<(), DecodeError> {
-        rows!(put_rows(place, alloc, item, looks; 4 => put_read(place, read_octets::<6>(item.value(), AttributeSet::InfoMacVlan.at(4)), InfoMacVlan::MacAddr),))
+        rows!(put_rows(place, alloc, item, looks))
     }
 
     #[tactic(auto, unfolding(crate::specs::MacVlan::attributes))]
     fn form(_context: (), number: u16) -> (At, Form) {
-        rows!(form_rows(number; 4 => Form::Exactly(6),))
+        rows!(form_rows(number))
     }
 
     fn try_clone(&self, alloc: Global) -> Result<Self, AllocError> {
-        rows!(clone_rows(self, alloc; InfoMacVlan::MacAddr(x) => Ok(InfoMacVlan::MacAddr(*x)),))
+        rows!(clone_rows(self, alloc))
     }
 }
 

@@ -4,8 +4,7 @@ ghost use Rattle.std.specs.Prelude.{refl};
 ghost use Rattle.{npr_base.specs.Family.{shaped}, npr_link_devices.specs.MacVlanAddress.{family}};
 
 use npr_base::{
-    At, Attribute, AttributeSet, DecodeError, DefaultNla, EmitError, Form, Looks, Nla, NlaBuffer,
-    Place, put_read, read_octets, write_bytes,
+    At, Attribute, DecodeError, DefaultNla, EmitError, Form, Looks, Nla, NlaBuffer, Place,
 };
 use std::alloc::{AllocError, Global};
 
@@ -22,6 +21,7 @@ pub enum MacVlanAddress {
 macro_rules! rows {
     ($body:ident ($($given:tt)*)) => {
         npr_base::$body!(($($given)*) MacVlanAddress of MacVlanAddress {
+            4 MacAddr(octets 6);
         })
     };
 }
@@ -30,7 +30,7 @@ impl Nla for MacVlanAddress {
     ghost shape = { shaped family };
 
     fn kind(&self) -> u16 {
-        rows!(kind_rows(self; MacVlanAddress::MacAddr(_) => 4,))
+        rows!(kind_rows(self))
     }
 
     fn is_nested(&self) -> bool {
@@ -38,11 +38,11 @@ impl Nla for MacVlanAddress {
     }
 
     fn check_value(&self) -> Result<usize, EmitError> {
-        Ok(rows!(len_rows(self; MacVlanAddress::MacAddr(x) => x.as_slice().len(),)))
+        Ok(rows!(len_rows(self)))
     }
 
     fn write_value(&self, out: &mut [u8]) -> usize {
-        rows!(write_rows(self, out; MacVlanAddress::MacAddr(x) => write_bytes(x.as_slice(), out),))
+        rows!(write_rows(self, out))
     }
 }
 
@@ -61,15 +61,15 @@ impl Attribute for MacVlanAddress {
         item: &NlaBuffer<'_>,
         looks: &mut Looks,
     ) -> Result<(), DecodeError> {
-        rows!(put_rows(place, alloc, item, looks; 4 => put_read(place, read_octets::<6>(item.value(), AttributeSet::MacVlanAddress.at(4)), MacVlanAddress::MacAddr),))
+        rows!(put_rows(place, alloc, item, looks))
     }
 
     #[tactic(auto, unfolding(crate::specs::MacVlanAddress::attributes))]
     fn form(_context: (), number: u16) -> (At, Form) {
-        rows!(form_rows(number; 4 => Form::Exactly(6),))
+        rows!(form_rows(number))
     }
 
     fn try_clone(&self, alloc: Global) -> Result<Self, AllocError> {
-        rows!(clone_rows(self, alloc; MacVlanAddress::MacAddr(x) => Ok(MacVlanAddress::MacAddr(*x)),))
+        rows!(clone_rows(self, alloc))
     }
 }

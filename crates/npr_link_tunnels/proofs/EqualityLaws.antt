@@ -1,15 +1,14 @@
 -- What `==` answers of the data of tunnels: whether they mean the same.
-use Rattle.std.specs.Prelude.{ℕ, Bool, true, ◌==◌, drop}
-use Rattle.std.specs.Bool.{Decides, beq}
-use Rattle.std.specs.Cmp.{booleans_Decides, unsigned_Decides}
-use Rattle.std.proofs.Common.{◌≡◌, refl, ap, inl, inr}
+use Rattle.std.specs.Prelude.{ℕ, ◌==◌, drop}
+use Rattle.std.specs.Bool.{Decides}
+use Rattle.std.specs.Cmp.{unsigned_Decides}
+use Rattle.std.proofs.Common.{◌≡◌, ap, inl, inr}
 use Rattle.npr_base.specs.Equality.{IsEqualityOf}
 use Rattle.npr_base.specs.EnumTable.{◌also◌}
-use Rattle.npr_base.specs.Framing.{Item}
+use Rattle.npr_base.proofs.FieldEquality.{one, number, truth, kept, nothing}
 use Rattle.npr_base.proofs.IpLaws.{ip_equality, ipv4_equality, ipv6_equality}
 use Rattle.npr_base.proofs.StructLaws.{◌beside◌, decides_as}
 use Rattle.npr_base.specs.Tables.{table_decides}
-use Rattle.npr_base.specs.ViewEquality.{item_equality, same_item}
 use Rattle.npr_base.specs.lemmas.EnumTable.{choices-decide}
 use Rattle.npr_route_values.proofs.EqualityLaws.{ip_protocol_equality}
 use Rattle.npr_base.proofs.Firsts.{head_of, first-decides}
@@ -32,25 +31,23 @@ use Rattle.npr_link_tunnels.specs.contracts.vxlan.InfoVxlanPartialEq.TheImpl as 
 use Rattle.npr_link_tunnels.specs.Xfrm as OfXfrm
 use Rattle.npr_link_tunnels.specs.contracts.xfrm.InfoXfrmPartialEq.TheImpl as XfrmEq
 use Rattle.npr_link_tunnels.proofs.ValueEquality.{geneve_df_equality, gre_encap_type_equality, tunnel_encap_type_equality, gre_io_flags_equality, gre_encap_flags_equality, tunnel_encap_flags_equality, ip6_tunnel_flags_equality}
-
--- ---- a variant of one field, by what it holds, and one without
-
-one : {A : Type 0} {P : A → A → Type 0} → ((a b : A) → P a b) → (x y : A × Unit {0}) → P x.0 y.0
-one h x y = h x.0 y.0
-
-number : (x y : ℕ × Unit {0}) → Decides (x.0 == y.0) (x.0 ≡ y.0)
-number = one unsigned_Decides
-
-truth : (x y : Bool × Unit {0}) → Decides (beq x.0 y.0) (x.0 ≡ y.0)
-truth = one booleans_Decides
-
-kept : (x y : Item × Unit {0}) → Decides (same_item x.0 y.0) (x.0 ≡ y.0)
-kept = one item_equality
-
-nothing : (x y : Unit {0}) → Decides true (◌≡◌ {A = Unit {0}} tt tt)
-nothing x y = (λ e. refl, λ e. refl)
+use Rattle.npr_link_tunnels.specs.Gtp as OfGtp
+use Rattle.npr_link_tunnels.specs.contracts.gtp.InfoGtpPartialEq.TheImpl as InfoGtpEq
+use Rattle.npr_link_tunnels.specs.Ovpn as OfOvpn
+use Rattle.npr_link_tunnels.specs.contracts.ovpn.InfoOvpnPartialEq.TheImpl as InfoOvpnEq
+use Rattle.npr_link_tunnels.proofs.ValueEquality.{ovpn_mode_equality}
 
 -- ---- families
+
+pub ovpn_equality : IsEqualityOf OfOvpn.family.meaning InfoOvpnEq.ghosts.eq
+ovpn_equality =
+    table_decides OfOvpn.table _
+    (one ovpn_mode_equality also kept also tt)
+
+pub gtp_equality : IsEqualityOf OfGtp.family.meaning InfoGtpEq.ghosts.eq
+gtp_equality =
+    table_decides OfGtp.table _
+    (number also number also number also number also truth also number also one ipv4_equality also one ipv6_equality also kept also tt)
 
 pub geneve_equality : IsEqualityOf OfGeneve.family.meaning GeneveEq.ghosts.eq
 geneve_equality =

@@ -15,6 +15,8 @@ use Rattle.npr_link_tunnels.specs.contracts.gre_io_flags.GreIOFlagsPartialEq.The
 use Rattle.npr_link_tunnels.specs.contracts.gre_encap_flags.GreEncapFlagsPartialEq.TheImpl as GreEncapFlagsEq
 use Rattle.npr_link_tunnels.specs.contracts.tunnel_encap_flags.TunnelEncapFlagsPartialEq.TheImpl as TunnelEncapFlagsEq
 use Rattle.npr_link_tunnels.specs.contracts.ip6_tunnel_flags.Ip6TunnelFlagsPartialEq.TheImpl as Ip6TunnelFlagsEq
+use Rattle.npr_link_tunnels.specs.contracts.ovpn_mode.OvpnMode.{enum as ovpn_mode_enum}
+use Rattle.npr_link_tunnels.specs.contracts.ovpn_mode.OvpnModePartialEq.TheImpl as OvpnModeEq
 
 -- ---- enumerations
 
@@ -29,6 +31,9 @@ gre_encap_type_equality = enum_equality gre_encap_type_enum _ refl (one_equality
 
 pub tunnel_encap_type_equality : IsEquality TunnelEncapTypeEq.ghosts.eq
 tunnel_encap_type_equality = enum_equality tunnel_encap_type_enum _ refl (one_equality unsigned_Decides, tt)
+
+pub ovpn_mode_equality : IsEquality OvpnModeEq.ghosts.eq
+ovpn_mode_equality = enum_equality ovpn_mode_enum _ refl (one_equality unsigned_Decides, tt)
 
 -- ---- flags
 

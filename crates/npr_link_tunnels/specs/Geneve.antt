@@ -1,6 +1,6 @@
 -- The data of a tunnel of Geneve (linux/if_link.h, IFLA_GENEVE_*), by the table.
 use Rattle.std.specs.Prelude.{false}
-use Rattle.npr_base.specs.declared.refusal.AttributeSet.TheVariants.{InfoGeneve as AtGeneve}
+use Rattle.npr_base.specs.declared.attribute_set.AttributeSet.TheVariants.{InfoGeneve as AtGeneve}
 use Rattle.npr_base.specs.Counts.{Counts}
 use Rattle.npr_base.specs.Framing.{Item}
 use Rattle.npr_base.specs.RowReading.{looks-none}

@@ -1,6 +1,6 @@
 -- The data of a tunnel of GRE over IP version 4 (linux/if_tunnel.h, IFLA_GRE_*), by the table.
 use Rattle.std.specs.Prelude.{false}
-use Rattle.npr_base.specs.declared.refusal.AttributeSet.TheVariants.{InfoGre as AtGre}
+use Rattle.npr_base.specs.declared.attribute_set.AttributeSet.TheVariants.{InfoGre as AtGre}
 use Rattle.npr_base.specs.Counts.{Counts}
 use Rattle.npr_base.specs.Framing.{Item}
 use Rattle.npr_base.specs.RowReading.{looks-none}

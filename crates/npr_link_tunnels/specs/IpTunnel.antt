@@ -10,8 +10,8 @@ use Rattle.npr_base.specs.Family.{Writing, Shape, family_of}
 use Rattle.npr_base.specs.Framing.{Item, number_of}
 use Rattle.npr_base.specs.Refusal.{at_number}
 use Rattle.npr_base.specs.Tables.{row, others, ◌or◌, be16, be32, boolean, byte, exactly, flag, ip, le16, le32, octets4, octets16, seen, value, Reading, Family}
-use Rattle.npr_base.specs.declared.refusal.At.{At}
-use Rattle.npr_base.specs.declared.refusal.AttributeSet.TheVariants.{InfoIpTunnel as AtIpTunnel}
+use Rattle.npr_base.specs.declared.attribute_set.At.{At}
+use Rattle.npr_base.specs.declared.attribute_set.AttributeSet.TheVariants.{InfoIpTunnel as AtIpTunnel}
 use Rattle.npr_base.specs.declared.refusal.DecodeError.{DecodeError}
 use Rattle.npr_base.specs.declared.value.Form.{Form}
 use Rattle.npr_route_values.specs.IpProtocolByte.{ip_protocol_byte}

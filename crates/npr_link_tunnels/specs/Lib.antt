@@ -5,9 +5,12 @@ pub mod Gre6
 pub mod GreEncapFlags
 pub mod GreEncapType
 pub mod GreIoFlags
+pub mod Gtp
 pub mod Ip6TunnelFlags
 pub mod IpTunnel
 pub mod IpTunnelSteps
+pub mod Ovpn
+pub mod OvpnMode
 pub mod Ports
 pub mod TunnelEncapFlags
 pub mod TunnelEncapType

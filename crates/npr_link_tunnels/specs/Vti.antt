@@ -1,5 +1,5 @@
 -- The data of a virtual tunnel interface (linux/if_tunnel.h, IFLA_VTI_*), by the table.
-use Rattle.npr_base.specs.declared.refusal.AttributeSet.TheVariants.{InfoVti as AtVti}
+use Rattle.npr_base.specs.declared.attribute_set.AttributeSet.TheVariants.{InfoVti as AtVti}
 use Rattle.npr_base.specs.Tables.{EnumTable, table_of, row, others, ◌or◌, be32, exactly, ip, le32}
 use Rattle.npr_base.specs.Tables.{value, refl, Reading, Family, writing_of, attributes_of, family_of_table}
 use Rattle.npr_link_tunnels.specs.contracts.vti.InfoVti.{enum}

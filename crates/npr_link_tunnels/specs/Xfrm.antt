@@ -1,5 +1,5 @@
 -- The data of an interface of IPsec (linux/if_link.h, IFLA_XFRM_*), by the table.
-use Rattle.npr_base.specs.declared.refusal.AttributeSet.TheVariants.{InfoXfrm as AtXfrm}
+use Rattle.npr_base.specs.declared.attribute_set.AttributeSet.TheVariants.{InfoXfrm as AtXfrm}
 use Rattle.npr_base.specs.Tables.{EnumTable, table_of, row, others, ◌or◌, dropped, exactly, le32, nothing}
 use Rattle.npr_base.specs.Tables.{value, refl, Reading, Family, writing_of, attributes_of, family_of_table}
 use Rattle.npr_link_tunnels.specs.contracts.xfrm.InfoXfrm.{enum}

@@ -51,4 +51,20 @@ pub enum InfoForm {
     Geneve = 22,
     /// The data of `netkit`.
     Netkit = 23,
+    /// The data of `hsr`.
+    Hsr = 24,
+    /// The data of `ipoib`.
+    Ipoib = 25,
+    /// The data of `macsec`.
+    MacSec = 26,
+    /// The data of `gtp`.
+    Gtp = 27,
+    /// The data of `ovpn`.
+    Ovpn = 28,
+    /// The data of `erspan`.
+    Erspan = 29,
+    /// The data of `ip6erspan`.
+    Erspan6 = 30,
+    /// The data of `vxcan`.
+    Vxcan = 31,
 }

@@ -12,8 +12,11 @@ ghost use Rattle.{
     GreEncapFlags.{gre_encap_flag_bits},
     GreEncapType.{gre_encap_types},
     GreIoFlags.{gre_io_flag_bits},
+    Gtp.{family as gtp_family},
     Ip6TunnelFlags.{ip6_tunnel_flag_bits},
     IpTunnel.{family as ip_tunnel_family},
+    Ovpn.{family as ovpn_family},
+    OvpnMode.{ovpn_modes},
     TunnelEncapFlags.{tunnel_encap_flag_bits},
     TunnelEncapType.{tunnel_encap_types},
     Vti.{family as vti_family},
@@ -30,8 +33,11 @@ use crate::gre_encap_flags::GreEncapFlags;
 use crate::gre_encap_type::GreEncapType;
 use crate::gre_io_flags::GreIOFlags;
 use crate::gre6::InfoGre6;
+use crate::gtp::InfoGtp;
 use crate::ip_tunnel::InfoIpTunnel;
 use crate::ip6_tunnel_flags::Ip6TunnelFlags;
+use crate::ovpn::InfoOvpn;
+use crate::ovpn_mode::OvpnMode;
 use crate::tunnel_encap_flags::TunnelEncapFlags;
 use crate::tunnel_encap_type::TunnelEncapType;
 use crate::vti::InfoVti;
@@ -43,6 +49,7 @@ pub fn law_numbers()
     ensures geneve_dfs { (d : ℕ) → geneve_dfs.number (geneve_dfs.of d) ≡ d }
     ensures gre_encap_types { (d : ℕ) → gre_encap_types.number (gre_encap_types.of d) ≡ d }
     ensures tunnel_encap_types { (d : ℕ) → tunnel_encap_types.number (tunnel_encap_types.of d) ≡ d }
+    ensures ovpn_modes { (d : ℕ) → ovpn_modes.number (ovpn_modes.of d) ≡ d }
 {}
 
 /// The named flags of tunnels, by their bits (`linux/if_tunnel.h`, `linux/ip6_tunnel.h`, and the kernel's
@@ -82,6 +89,7 @@ pub fn law_equality()
     ensures gre_encap_flags { IsEquality ⟦<GreEncapFlags as PartialEq>⟧.eq }
     ensures tunnel_encap_flags { IsEquality ⟦<TunnelEncapFlags as PartialEq>⟧.eq }
     ensures ip6_tunnel_flags { IsEquality ⟦<Ip6TunnelFlags as PartialEq>⟧.eq }
+    ensures ovpn_mode { IsEquality ⟦<OvpnMode as PartialEq>⟧.eq }
 {}
 
 /// `==` answers whether two values mean the same, where they hold a vector.
@@ -93,4 +101,6 @@ pub fn law_equality_of_meanings()
     ensures vti { IsEqualityOf vti_family.meaning ⟦<InfoVti as PartialEq>⟧.eq }
     ensures vxlan { IsEqualityOf vxlan_family.meaning ⟦<InfoVxlan as PartialEq>⟧.eq }
     ensures xfrm { IsEqualityOf xfrm_family.meaning ⟦<InfoXfrm as PartialEq>⟧.eq }
+    ensures gtp { IsEqualityOf gtp_family.meaning ⟦<InfoGtp as PartialEq>⟧.eq }
+    ensures ovpn { IsEqualityOf ovpn_family.meaning ⟦<InfoOvpn as PartialEq>⟧.eq }
 {}

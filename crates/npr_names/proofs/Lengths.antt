@@ -1,7 +1,7 @@
 -- How long a name is at most.
 use Rattle.std.proofs.Common.{◌≡◌, ◌≤◌, ℕ, Bool, true, ◌&&◌, nat_lt, List, [], ◌∷◌, length, Some, slice_get, unwrap_or, zero, suc, refl, arith}
-use Rattle.npr_base.specs.declared.refusal.AttributeSet.{AttributeSet}
-use Rattle.npr_base.specs.contracts.refusal.AttributeSet.{the_type as the_sets}
+use Rattle.npr_base.specs.declared.attribute_set.AttributeSet.{AttributeSet}
+use Rattle.npr_base.specs.contracts.attribute_set.AttributeSet.{the_type as the_sets}
 use Rattle.npr_names.specs.Names.{lists, names_of}
 use denote.Enum.Declared.{tag_of}
 

@@ -1,9 +1,10 @@
 -- The names of attributes, by their sets and numbers. The lists stand in `src`: here is which set has which.
 use Rattle.std.specs.Prelude.{ℕ, List, [], ◌∷◌, Option, map, slice_get, unwrap_or}
-use Rattle.npr_base.specs.contracts.refusal.AttributeSet.{the_type as the_sets}
-use Rattle.npr_base.specs.declared.refusal.AttributeSet.{AttributeSet}
+use Rattle.npr_base.specs.contracts.attribute_set.AttributeSet.{the_type as the_sets}
+use Rattle.npr_base.specs.declared.attribute_set.AttributeSet.{AttributeSet}
 use Rattle.npr_names.specs.declared.route.TheConstants as routes
 use Rattle.npr_names.specs.declared.link.TheConstants as links
+use Rattle.npr_names.specs.declared.link_function.TheConstants as functions
 use Rattle.npr_names.specs.declared.link_kind.TheConstants as kinds
 use Rattle.npr_names.specs.declared.small.TheConstants as smalls
 use Rattle.npr_names.specs.declared.tc.TheConstants as traffic
@@ -38,7 +39,15 @@ lists =
     ∷ [] ∷ texts traffic_kinds.HTB.now ∷ texts traffic_kinds.TBF.now ∷ texts traffic_kinds.RED.now ∷ texts traffic_kinds.FQ.now
     ∷ texts traffic_kinds.NETEM.now ∷ texts traffic_kinds.NETEM_LOSS.now ∷ texts traffic_kinds.FW.now ∷ texts traffic_kinds.BPF.now
     ∷ texts actions.GACT.now ∷ texts actions.POLICE.now ∷ texts actions.VLAN.now ∷ texts actions.SKBEDIT.now ∷ texts actions.CSUM.now
-    ∷ texts actions.CT.now ∷ texts actions.SAMPLE.now ∷ texts actions.BPF.now ∷ []
+    ∷ texts actions.CT.now ∷ texts actions.SAMPLE.now ∷ texts actions.BPF.now
+    ∷ texts traffic_kinds.CAKE.now ∷ texts traffic_kinds.CAKE_STATS.now ∷ [] ∷ texts traffic_kinds.CAKE_TIN_STATS.now
+    ∷ texts traffic_kinds.MQPRIO.now ∷ texts traffic_kinds.MQPRIO_ENTRY.now ∷ texts traffic_kinds.BASIC.now
+    ∷ texts traffic_kinds.EMATCH_TREE.now ∷ [] ∷ texts traffic.FLOWER_CFM.now ∷ texts actions.ENC.now ∷ texts actions.ENC_GENEVE.now
+    ∷ texts actions.ENC_VXLAN.now ∷ texts actions.ENC_ERSPAN.now ∷ texts actions.ENC_GTP.now ∷ texts actions.ENC_PFCP.now
+    ∷ texts actions.PEDIT.now ∷ texts actions.PEDIT.now ∷ texts actions.PEDIT_KEY_EX.now ∷ texts functions.MCTP.now
+    ∷ texts functions.DPLL_PIN.now ∷ texts functions.HSR.now ∷ texts functions.OVPN.now ∷ texts smalls.NEIGHBOUR_FDB.now
+    ∷ texts functions.GTP.now ∷ texts functions.IPOIB.now ∷ texts functions.MAC_SEC.now ∷ texts functions.VF_INFO_LIST.now
+    ∷ texts functions.VF_INFO.now ∷ texts functions.VF_STATS.now ∷ texts functions.VF_VLAN.now ∷ []
 
 unfoldable pub names_of : AttributeSet → List (List ℕ)
 names_of set = unwrap_or (slice_get lists (tag_of the_sets set)) []

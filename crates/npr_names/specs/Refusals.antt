@@ -1,8 +1,8 @@
 -- What is told of refusals: the attribute by its name, and lengths.
 use Rattle.std.specs.Prelude.{◌≡◌, ◌⊎◌, ℕ, List, ◌++◌, length, Option, Some, None, codes, decimal}
 use Rattle.npr_base.specs.Framing.{Item, Front, number_of}
-use Rattle.npr_base.specs.declared.refusal.At.{At}
-use Rattle.npr_base.specs.declared.refusal.AttributeSet.TheVariants.{Geneve}
+use Rattle.npr_base.specs.declared.attribute_set.At.{At}
+use Rattle.npr_base.specs.declared.attribute_set.AttributeSet.TheVariants.{Geneve}
 use Rattle.npr_base.specs.declared.refusal.DecodeError.{DecodeError}
 use Rattle.npr_base.specs.declared.refusal.DecodeError.TheVariants.{ValueLength, NotUtf8, Unsupported, GeneveOrder, GeneveChild}
 use Rattle.npr_base.specs.declared.refusal.Seg6Fault.{Seg6Fault}

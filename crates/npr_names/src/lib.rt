@@ -2,6 +2,7 @@
 #![tactic(auto)]
 
 mod link;
+mod link_function;
 mod link_kind;
 mod names;
 mod refusal;

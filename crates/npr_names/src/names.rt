@@ -3,7 +3,7 @@
 ghost use Rattle.std.specs.Prelude.{◌≡◌, ◌≤◌, map, length, IfSome, IfNone};
 ghost use Rattle.npr_names.specs.Names.{name_at, names_of};
 
-use crate::{link, link_kind, route, small, tc, tc_action, tc_kind};
+use crate::{link, link_function, link_kind, route, small, tc, tc_action, tc_kind};
 use npr_base::AttributeSet;
 
 /// The names of a set, by their numbers.
@@ -15,7 +15,9 @@ fn names_of(set: AttributeSet) -> &'static [&'static str]
         AttributeSet::Value
         | AttributeSet::Encap
         | AttributeSet::TcQdiscIngress
-        | AttributeSet::TcActions => &[],
+        | AttributeSet::TcActions
+        | AttributeSet::TcCakeTins
+        | AttributeSet::TcEmatches => &[],
         AttributeSet::Address => route::ADDRESS,
         AttributeSet::Rule => route::RULE,
         AttributeSet::Route => route::ROUTE,
@@ -105,6 +107,34 @@ fn names_of(set: AttributeSet) -> &'static [&'static str]
         AttributeSet::TcActionCt => tc_action::CT,
         AttributeSet::TcActionSample => tc_action::SAMPLE,
         AttributeSet::TcActionBpf => tc_action::BPF,
+        AttributeSet::TcQdiscCake => tc_kind::CAKE,
+        AttributeSet::TcCakeStat => tc_kind::CAKE_STATS,
+        AttributeSet::TcCakeTinStat => tc_kind::CAKE_TIN_STATS,
+        AttributeSet::TcQdiscMqprio => tc_kind::MQPRIO,
+        AttributeSet::TcMqprioEntry => tc_kind::MQPRIO_ENTRY,
+        AttributeSet::TcFilterBasic => tc_kind::BASIC,
+        AttributeSet::TcEmatchTree => tc_kind::EMATCH_TREE,
+        AttributeSet::TcFlowerCfm => tc::FLOWER_CFM,
+        AttributeSet::TcEnc => tc_action::ENC,
+        AttributeSet::TcEncGeneve => tc_action::ENC_GENEVE,
+        AttributeSet::TcEncVxlan => tc_action::ENC_VXLAN,
+        AttributeSet::TcEncErspan => tc_action::ENC_ERSPAN,
+        AttributeSet::TcEncGtp => tc_action::ENC_GTP,
+        AttributeSet::TcEncPfcp => tc_action::ENC_PFCP,
+        AttributeSet::TcActionPedit | AttributeSet::TcPeditKeysEx => tc_action::PEDIT,
+        AttributeSet::TcPeditKeyEx => tc_action::PEDIT_KEY_EX,
+        AttributeSet::AfSpecMctp => link_function::MCTP,
+        AttributeSet::LinkDpllPin => link_function::DPLL_PIN,
+        AttributeSet::InfoHsr => link_function::HSR,
+        AttributeSet::InfoOvpn => link_function::OVPN,
+        AttributeSet::NeighbourFdb => small::NEIGHBOUR_FDB,
+        AttributeSet::InfoGtp => link_function::GTP,
+        AttributeSet::InfoIpoib => link_function::IPOIB,
+        AttributeSet::InfoMacSec => link_function::MAC_SEC,
+        AttributeSet::LinkVfInfo => link_function::VF_INFO_LIST,
+        AttributeSet::VfInfo => link_function::VF_INFO,
+        AttributeSet::VfStats => link_function::VF_STATS,
+        AttributeSet::VfVlan => link_function::VF_VLAN,
     }
 }
 

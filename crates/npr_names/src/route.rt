@@ -43,6 +43,12 @@ pub const RULE: &[&str] = &[
     "FRA_IP_PROTO",
     "FRA_SPORT_RANGE",
     "FRA_DPORT_RANGE",
+    "FRA_DSCP",
+    "FRA_FLOWLABEL",
+    "FRA_FLOWLABEL_MASK",
+    "FRA_SPORT_MASK",
+    "FRA_DPORT_MASK",
+    "FRA_DSCP_MASK",
 ];
 
 /// A neighbour.

@@ -118,3 +118,6 @@ pub const NEIGHBOUR_TABLE_PARAMETER: &[&str] = &[
 
 /// A label of addresses.
 pub const ADDRESS_LABEL: &[&str] = &["IFAL_UNSPEC", "IFAL_ADDRESS", "IFAL_LABEL"];
+
+/// What a forwarding entry is besides.
+pub const NEIGHBOUR_FDB: &[&str] = &["NFEA_UNSPEC", "NFEA_ACTIVITY_NOTIFY", "NFEA_DONT_REFRESH"];

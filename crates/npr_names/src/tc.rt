@@ -236,3 +236,10 @@ pub const ACTION: &[&str] = &[
     "TCA_ACT_USED_HW_STATS",
     "TCA_ACT_IN_HW_COUNT",
 ];
+
+/// The connectivity fault management of a frame.
+pub const FLOWER_CFM: &[&str] = &[
+    "TCA_FLOWER_KEY_CFM_OPT_UNSPEC",
+    "TCA_FLOWER_KEY_CFM_MD_LEVEL",
+    "TCA_FLOWER_KEY_CFM_OPCODE",
+];

@@ -144,3 +144,68 @@ pub const BPF: &[&str] = &[
     "TCA_ACT_BPF_TAG",
     "TCA_ACT_BPF_ID",
 ];
+
+/// The options of a tunnel.
+pub const ENC: &[&str] = &[
+    "TCA_FLOWER_KEY_ENC_OPTS_UNSPEC",
+    "TCA_FLOWER_KEY_ENC_OPTS_GENEVE",
+    "TCA_FLOWER_KEY_ENC_OPTS_VXLAN",
+    "TCA_FLOWER_KEY_ENC_OPTS_ERSPAN",
+    "TCA_FLOWER_KEY_ENC_OPTS_GTP",
+    "TCA_FLOWER_KEY_ENC_OPTS_PFCP",
+];
+
+/// Those of Geneve.
+pub const ENC_GENEVE: &[&str] = &[
+    "TCA_FLOWER_KEY_ENC_OPT_GENEVE_UNSPEC",
+    "TCA_FLOWER_KEY_ENC_OPT_GENEVE_CLASS",
+    "TCA_FLOWER_KEY_ENC_OPT_GENEVE_TYPE",
+    "TCA_FLOWER_KEY_ENC_OPT_GENEVE_DATA",
+];
+
+/// Those of VXLAN.
+pub const ENC_VXLAN: &[&str] = &[
+    "TCA_FLOWER_KEY_ENC_OPT_VXLAN_UNSPEC",
+    "TCA_FLOWER_KEY_ENC_OPT_VXLAN_GBP",
+];
+
+/// Those of ERSPAN.
+pub const ENC_ERSPAN: &[&str] = &[
+    "TCA_FLOWER_KEY_ENC_OPT_ERSPAN_UNSPEC",
+    "TCA_FLOWER_KEY_ENC_OPT_ERSPAN_VER",
+    "TCA_FLOWER_KEY_ENC_OPT_ERSPAN_INDEX",
+    "TCA_FLOWER_KEY_ENC_OPT_ERSPAN_DIR",
+    "TCA_FLOWER_KEY_ENC_OPT_ERSPAN_HWID",
+];
+
+/// Those of GTP.
+pub const ENC_GTP: &[&str] = &[
+    "TCA_FLOWER_KEY_ENC_OPT_GTP_UNSPEC",
+    "TCA_FLOWER_KEY_ENC_OPT_GTP_PDU_TYPE",
+    "TCA_FLOWER_KEY_ENC_OPT_GTP_QFI",
+];
+
+/// Those of PFCP.
+pub const ENC_PFCP: &[&str] = &[
+    "TCA_FLOWER_KEY_ENC_OPT_PFCP_UNSPEC",
+    "TCA_FLOWER_KEY_ENC_OPT_PFCP_TYPE",
+    "TCA_FLOWER_KEY_ENC_OPT_PFCP_SEID",
+];
+
+/// The options of `pedit`.
+pub const PEDIT: &[&str] = &[
+    "TCA_PEDIT_UNSPEC",
+    "TCA_PEDIT_TM",
+    "TCA_PEDIT_PARMS",
+    "TCA_PEDIT_PAD",
+    "TCA_PEDIT_PARMS_EX",
+    "TCA_PEDIT_KEYS_EX",
+    "TCA_PEDIT_KEY_EX",
+];
+
+/// What a key of `pedit` is besides. The header names no number 0.
+pub const PEDIT_KEY_EX: &[&str] = &[
+    "TCA_PEDIT_KEY_EX_UNSPEC",
+    "TCA_PEDIT_KEY_EX_HTYPE",
+    "TCA_PEDIT_KEY_EX_CMD",
+];

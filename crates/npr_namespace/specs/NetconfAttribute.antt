@@ -1,5 +1,5 @@
 -- The attributes of a message of settings (linux/netconf.h, NETCONFA_*), by their table.
-use Rattle.npr_base.specs.declared.refusal.AttributeSet.TheVariants.{Netconf as AtNetconfAttribute}
+use Rattle.npr_base.specs.declared.attribute_set.AttributeSet.TheVariants.{Netconf as AtNetconfAttribute}
 use Rattle.npr_base.specs.Tables.{EnumTable, table_of, row, others, ◌or◌, value, exactly, signed32, refl, Reading, Family, writing_of, attributes_of}
 use Rattle.npr_base.specs.Tables.{family_of_table}
 use Rattle.npr_namespace.specs.contracts.netconf_attribute.NetconfAttribute.{enum}

@@ -7,7 +7,8 @@ use Rattle.npr_base.specs.Equality.{IsEquality, IsEqualityOf}
 use Rattle.npr_base.proofs.IpLaws.{ipv4_equality, ipv6_equality}
 use Rattle.npr_base.specs.EnumTable.{◌also◌}
 use Rattle.npr_base.specs.Tables.{table_decides}
-use Rattle.npr_base.proofs.MeaningLaws.{enum_meaning, one_meaning, items_equality}
+use Rattle.npr_base.proofs.FieldEquality.{one, kept, nothing}
+use Rattle.npr_base.proofs.MeaningLaws.{enum_meaning, one_meaning, items_equality, items_meaning}
 use Rattle.npr_base.proofs.EqualityLaws.{one_equality}
 use Rattle.npr_base.proofs.StructLaws.{◌beside◌, struct_equality}
 use Rattle.npr_base.specs.ViewEquality.{item_equality}
@@ -20,6 +21,9 @@ use Rattle.npr_neighbour.specs.contracts.address.NeighbourAddressPartialEq.TheIm
 use Rattle.npr_neighbour.specs.contracts.attribute.NeighbourAttributePartialEq.TheImpl as AttributeEq
 use Rattle.npr_neighbour.specs.contracts.cache_info.NeighbourCacheInfoPartialEq.TheImpl as InfoEq
 use Rattle.npr_neighbour.specs.contracts.flags.NeighbourExtFlagsPartialEq.TheImpl as ExtendedFlagsEq
+use Rattle.npr_neighbour.specs.Fdb as OfFdb
+use Rattle.npr_neighbour.specs.contracts.fdb.NeighbourFdbAttributePartialEq.TheImpl as FdbEq
+use Rattle.npr_neighbour.specs.contracts.flags.NeighbourFdbNotifyPartialEq.TheImpl as FdbNotifyEq
 use Rattle.npr_neighbour.specs.contracts.flags.NeighbourFlagsPartialEq.TheImpl as FlagsEq
 use Rattle.npr_neighbour.specs.contracts.header.NeighbourHeaderPartialEq.TheImpl as HeaderEq
 use Rattle.npr_neighbour.specs.contracts.state.NeighbourStatePartialEq.TheImpl as StateEq
@@ -55,7 +59,25 @@ header_equality =
     struct_equality struct (λ v. tt) (λ d. refl)
     (family_equality beside unsigned_Decides beside state_equality beside flags_equality beside one_equality route_type_equality)
 
+fdb_notify_equality : IsEquality FdbNotifyEq.ghosts.eq
+fdb_notify_equality = search rules
+
+pub fdb_equality : IsEqualityOf OfFdb.family.meaning FdbEq.ghosts.eq
+fdb_equality = table_decides OfFdb.table _ (one fdb_notify_equality also nothing also kept also tt)
+
 pub attribute_equality : IsEqualityOf family.meaning AttributeEq.ghosts.eq
 attribute_equality =
     table_decides (table A.any) _
-    (search (address_equality, items_equality, unsigned_Decides, info_equality, route_protocol_equality, extended_flags_equality, item_equality) depth 40)
+    (search (
+      address_equality,
+      items_equality,
+      items_meaning,
+      fdb_equality,
+      unsigned_Decides,
+      info_equality,
+      route_protocol_equality,
+      extended_flags_equality,
+      state_equality,
+      flags_equality,
+      item_equality,
+    ) depth 40)

@@ -1,15 +1,17 @@
 -- The attributes of a neighbour message (linux/neighbour.h, NDA_*), by their table under the header's family.
 use Rattle.std.proofs.Common.{◌≡◌, inl, inr, refl}
 use Rattle.npr_base.specs.declared.address_family.AddressFamily.{AddressFamily}
-use Rattle.npr_base.specs.declared.refusal.AttributeSet.TheVariants.{Neighbour}
+use Rattle.npr_base.specs.declared.attribute_set.AttributeSet.TheVariants.{Neighbour, NeighbourFdb}
 use Rattle.npr_base.specs.EnumFamily.{rewritten}
 use Rattle.npr_base.specs.Family.{Writing}
-use Rattle.npr_base.specs.Tables.{EnumTable, table_of, row, others, ◌or◌, value, items, seen, exactly, leading, raw, le16, le32, be16, Reading}
-use Rattle.npr_base.specs.Tables.{Family, Meanings, writing_of, attributes_of, family_of_table}
+use Rattle.npr_base.specs.Tables.{EnumTable, table_of, row, marked_row, others, ◌or◌, value, items, seen, exactly, leading, raw, le16, le32, be16, Reading}
+use Rattle.npr_base.specs.Tables.{list_of, listed, Family, Meanings, writing_of, attributes_of, family_of_table}
 use Rattle.npr_route_values.specs.RouteProtocol.{route_protocol}
 use Rattle.npr_neighbour.specs.CacheInfo.{cache_info}
-use Rattle.npr_neighbour.specs.Flags.{ext_flags}
+use Rattle.npr_neighbour.specs.Fdb as OfFdb
+use Rattle.npr_neighbour.specs.Flags.{ext_flags, flag_mask}
 use Rattle.npr_neighbour.specs.NeighbourAddress.{address_of, address_in, Form, any, form_of}
+use Rattle.npr_neighbour.specs.State.{state_mask}
 use Rattle.npr_neighbour.specs.contracts.attribute.NeighbourAttribute.{enum}
 use Rattle.npr_neighbour.specs.declared.attribute.NeighbourAttribute.{NeighbourAttribute}
 
@@ -31,6 +33,9 @@ table form =
     or row Neighbour 12 (exactly route_protocol) (value NeighbourAttribute.Protocol)  -- NDA_PROTOCOL
     or row Neighbour 13 (exactly le32) (value NeighbourAttribute.NhId)  -- NDA_NH_ID
     or row Neighbour 15 (exactly ext_flags) (value NeighbourAttribute.ExtFlags)  -- NDA_FLAGS_EXT
+    or marked_row Neighbour 14 (list_of NeighbourFdb OfFdb.attributes) (listed OfFdb.family.meaning NeighbourAttribute.FdbExtAttributes)  -- NDA_FDB_EXT_ATTRS
+    or row Neighbour 16 (exactly state_mask) (value NeighbourAttribute.StateMask)  -- NDA_NDM_STATE_MASK
+    or row Neighbour 17 (exactly flag_mask) (value NeighbourAttribute.FlagsMask)  -- NDA_NDM_FLAGS_MASK
     or others (value NeighbourAttribute.Other)) refl refl
 
 -- what an attribute is, without where it lies in memory

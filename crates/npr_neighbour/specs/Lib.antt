@@ -1,5 +1,6 @@
 pub mod Attribute
 pub mod CacheInfo
+pub mod Fdb
 pub mod Flags
 pub mod Header
 pub mod Message

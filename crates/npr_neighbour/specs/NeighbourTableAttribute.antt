@@ -1,5 +1,5 @@
 -- The attributes of a message of tables of neighbours (linux/neighbour.h, NDTA_*), by their table.
-use Rattle.npr_base.specs.declared.refusal.AttributeSet.TheVariants.{NeighbourTable as AtTable, NeighbourTableParameter as AtParameter}
+use Rattle.npr_base.specs.declared.attribute_set.AttributeSet.TheVariants.{NeighbourTable as AtTable, NeighbourTableParameter as AtParameter}
 use Rattle.npr_base.specs.Tables.{EnumTable, table_of, row, others, ◌or◌, value, text, listed, exactly, leading, list_of, name, le32, le64, refl, Reading}
 use Rattle.npr_base.specs.Tables.{Family, writing_of, attributes_of, family_of_table}
 use Rattle.npr_neighbour.specs.NeighbourTableConfig.{table_config}

@@ -1,5 +1,5 @@
 -- The parameters of a table of neighbours (linux/neighbour.h, NDTPA_*), by the table.
-use Rattle.npr_base.specs.declared.refusal.AttributeSet.TheVariants.{NeighbourTableParameter as AtNeighbourTableParameter}
+use Rattle.npr_base.specs.declared.attribute_set.AttributeSet.TheVariants.{NeighbourTableParameter as AtNeighbourTableParameter}
 use Rattle.npr_base.specs.Tables.{EnumTable, table_of, row, others, ◌or◌, value, exactly, le32, le64, refl, Reading, Family, writing_of, attributes_of}
 use Rattle.npr_base.specs.Tables.{family_of_table}
 use Rattle.npr_neighbour.specs.contracts.neighbour_table_parameter.NeighbourTableParameter.{enum}

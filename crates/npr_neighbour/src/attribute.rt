@@ -4,11 +4,13 @@ ghost use Rattle.{npr_base.specs.Tables.{shape_by, shape-by}, npr_neighbour.spec
 
 use crate::address::NeighbourAddress;
 use crate::cache_info::NeighbourCacheInfo;
-use crate::flags::NeighbourExtFlags;
+use crate::fdb::NeighbourFdbAttribute;
+use crate::flags::{NeighbourExtFlags, NeighbourFlags};
+use crate::state::NeighbourState;
 use bitflags::Flags;
 use npr_base::{
     AddressFamily, At, Attribute, AttributeSet, DecodeError, DefaultNla, EmitError, Form, Looks,
-    Nla, NlaBuffer, Place, put_read,
+    NLA_F_NESTED, Nla, NlaBuffer, Place, put_read,
 };
 use npr_route_values::RouteProtocol;
 use std::alloc::{AllocError, Global};
@@ -45,6 +47,12 @@ pub enum NeighbourAttribute {
     NhId(u32),
     /// `NDA_FLAGS_EXT`: the flags for which the header has no room.
     ExtFlags(NeighbourExtFlags),
+    /// `NDA_FDB_EXT_ATTRS`: what an entry of a bridge is besides. Written with NESTED.
+    FdbExtAttributes(Vec<NeighbourFdbAttribute>),
+    /// `NDA_NDM_STATE_MASK`: of which states a dump is wanted.
+    StateMask(NeighbourState),
+    /// `NDA_NDM_FLAGS_MASK`: of which flags.
+    FlagsMask(NeighbourFlags),
     /// An attribute of another number, as it stands.
     Other(DefaultNla),
 }
@@ -68,7 +76,10 @@ macro_rules! rows {
             11 SourceVni(le32);
             12 Protocol(RouteProtocol as byte);
             13 NhId(le32);
+            14 FdbExtAttributes(list NeighbourFdb) as NLA_F_NESTED + 14;
             15 ExtFlags(NeighbourExtFlags flags le32);
+            16 StateMask(NeighbourState flags le16);
+            17 FlagsMask(NeighbourFlags flags byte);
         })
     };
 }

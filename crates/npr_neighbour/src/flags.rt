@@ -1,7 +1,7 @@
 //! What a neighbour is besides: `NTF_*` of `linux/neighbour.h`. Every bit is kept.
 
 ghost use Rattle.std.specs.Prelude.{⊤, [], ◌∷◌, codes};
-ghost use Rattle.npr_neighbour.specs.Flags.{flag_bits, ext_flag_bits};
+ghost use Rattle.npr_neighbour.specs.Flags.{flag_bits, ext_flag_bits, fdb_notify_bits};
 
 use bitflags::{Flag, Flags};
 use npr_base::named_flags;
@@ -102,5 +102,44 @@ impl Flags for NeighbourExtFlags {
 
     fn from_bits_retain(bits: u32) -> NeighbourExtFlags {
         NeighbourExtFlags(bits)
+    }
+}
+
+/// Of what a bridge tells about an entry that it learned: `FDB_NOTIFY_*` of `linux/neighbour.h`.
+#[derive(Clone, Copy, Debug, Default, PartialEq, Eq)]
+pub struct NeighbourFdbNotify(u8);
+
+impl NeighbourFdbNotify {
+    /// `FDB_NOTIFY_BIT`: that it is used, and that it is no more.
+    pub const Notify: NeighbourFdbNotify = NeighbourFdbNotify(0x1);
+
+    /// `FDB_NOTIFY_INACTIVE_BIT`: that it is not used has been told.
+    pub const Inactive: NeighbourFdbNotify = NeighbourFdbNotify(0x2);
+
+    const FLAGS: &'static [Flag<NeighbourFdbNotify>] = named_flags![NeighbourFdbNotify:
+        Notify, Inactive;
+        u8::MAX
+    ];
+}
+
+impl Flags for NeighbourFdbNotify {
+    type Bits = u8;
+
+    ghost exact = { ⊤ };
+
+    ghost table = { (codes "Notify", 1) ∷ (codes "Inactive", 2) ∷ ([], 255) ∷ [] };
+
+    ghost set_of = { fdb_notify_bits.number };
+
+    fn flags<'a>() -> &'a [Flag<NeighbourFdbNotify>] {
+        NeighbourFdbNotify::FLAGS
+    }
+
+    fn bits(&self) -> u8 {
+        self.0
+    }
+
+    fn from_bits_retain(bits: u8) -> NeighbourFdbNotify {
+        NeighbourFdbNotify(bits)
     }
 }

@@ -10,7 +10,8 @@ ghost use Rattle.{
     NeighbourTableMessage.{neighbour_tables},
     NeighbourTableParameter.{family as neighbour_table_parameter_family},
     Attribute.{family},
-    Flags.{flag_bits, ext_flag_bits},
+    Fdb.{family as fdb_family},
+    Flags.{flag_bits, ext_flag_bits, fdb_notify_bits},
     Header.{default_header, header},
     Message.{neighbours},
     NeighbourAddress.{Address, address_of, neighbour_address},
@@ -21,7 +22,8 @@ ghost use Rattle.{
 use crate::address::NeighbourAddress;
 use crate::attribute::NeighbourAttribute;
 use crate::cache_info::NeighbourCacheInfo;
-use crate::flags::{NeighbourExtFlags, NeighbourFlags};
+use crate::fdb::NeighbourFdbAttribute;
+use crate::flags::{NeighbourExtFlags, NeighbourFdbNotify, NeighbourFlags};
 use crate::header::{NeighbourHeader, NeighbourMessageBuffer};
 use crate::message::NeighbourMessage;
 use crate::neighbour_table::{
@@ -46,7 +48,8 @@ pub fn law_neighbour_flags()
     ensures flags { agrees flag_bits.number ((2 ^ 0, NeighbourFlags.Use) ∷ (2 ^ 1, NeighbourFlags.Own) ∷ (2 ^ 2, NeighbourFlags.Controller)
         ∷ (2 ^ 3, NeighbourFlags.Proxy) ∷ (2 ^ 4, NeighbourFlags.ExtLearned) ∷ (2 ^ 5, NeighbourFlags.Offloaded) ∷ (2 ^ 6, NeighbourFlags.Sticky)
         ∷ (2 ^ 7, NeighbourFlags.Router) ∷ []) ≡ true }
-    ensures ext_flags { agrees ext_flag_bits.number ((2 ^ 0, NeighbourExtFlags.Managed) ∷ []) ≡ true }
+    ensures ext_flags { agrees ext_flag_bits.number ((2 ^ 0, NeighbourExtFlags.Managed) ∷ (2 ^ 1, NeighbourExtFlags.Locked) ∷ (2 ^ 2, NeighbourExtFlags.ExtValidated) ∷ []) ≡ true }
+    ensures fdb_notify { agrees fdb_notify_bits.number ((2 ^ 0, NeighbourFdbNotify.Notify) ∷ (2 ^ 1, NeighbourFdbNotify.Inactive) ∷ []) ≡ true }
 {}
 
 /// An address that its family can hold is read again from its bytes.
@@ -59,6 +62,7 @@ pub fn law_default()
     ensures state { (x : NeighbourState) → ⟦<NeighbourState as Default>⟧.is_default x → x ≡ state_bits.of 0 }
     ensures flags { (x : NeighbourFlags) → ⟦<NeighbourFlags as Default>⟧.is_default x → x ≡ flag_bits.of 0 }
     ensures ext_flags { (x : NeighbourExtFlags) → ⟦<NeighbourExtFlags as Default>⟧.is_default x → x ≡ ext_flag_bits.of 0 }
+    ensures fdb_notify { (x : NeighbourFdbNotify) → ⟦<NeighbourFdbNotify as Default>⟧.is_default x → x ≡ fdb_notify_bits.of 0 }
     ensures cache_info { (x : NeighbourCacheInfo) → ⟦<NeighbourCacheInfo as Default>⟧.is_default x → x ≡ record { confirmed = 0; used = 0; updated = 0; refcnt = 0 } }
     ensures header { (x : NeighbourHeader) → ⟦<NeighbourHeader as Default>⟧.is_default x → x ≡ default_header }
 {}
@@ -68,10 +72,12 @@ pub fn law_equality()
     ensures state { IsEquality ⟦<NeighbourState as PartialEq>⟧.eq }
     ensures flags { IsEquality ⟦<NeighbourFlags as PartialEq>⟧.eq }
     ensures ext_flags { IsEquality ⟦<NeighbourExtFlags as PartialEq>⟧.eq }
+    ensures fdb_notify { IsEquality ⟦<NeighbourFdbNotify as PartialEq>⟧.eq }
     ensures cache_info { IsEquality ⟦<NeighbourCacheInfo as PartialEq>⟧.eq }
     ensures header { IsEquality ⟦<NeighbourHeader as PartialEq>⟧.eq }
     ensures header_buffer { IsEquality ⟦<NeighbourMessageBuffer as PartialEq>⟧.eq }
     ensures address { IsEqualityOf address_of ⟦<NeighbourAddress as PartialEq>⟧.eq }
+    ensures fdb { IsEqualityOf fdb_family.meaning ⟦<NeighbourFdbAttribute as PartialEq>⟧.eq }
     ensures attribute { IsEqualityOf family.meaning ⟦<NeighbourAttribute as PartialEq>⟧.eq }
     ensures message { IsEqualityOf (view neighbours) ⟦<NeighbourMessage as PartialEq>⟧.eq }
 {}

@@ -4,6 +4,7 @@
 mod address;
 mod attribute;
 mod cache_info;
+mod fdb;
 mod flags;
 mod header;
 pub mod laws;
@@ -18,7 +19,8 @@ mod state;
 pub use address::NeighbourAddress;
 pub use attribute::NeighbourAttribute;
 pub use cache_info::{NeighbourCacheInfo, NeighbourCacheInfoBuffer};
-pub use flags::{NeighbourExtFlags, NeighbourFlags};
+pub use fdb::NeighbourFdbAttribute;
+pub use flags::{NeighbourExtFlags, NeighbourFdbNotify, NeighbourFlags};
 pub use header::{NeighbourHeader, NeighbourMessageBuffer};
 pub use message::NeighbourMessage;
 pub use neighbour_table::{

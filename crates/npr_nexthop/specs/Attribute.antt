@@ -2,8 +2,8 @@
 -- encapsulation that governs them.
 use Rattle.std.proofs.Common.{◌≡◌, inl, inr}
 use Rattle.npr_base.specs.declared.address_family.AddressFamily.{AddressFamily}
-use Rattle.npr_base.specs.declared.refusal.AttributeSet.TheVariants.{NextHop as AtNextHop, Encap as AtEncap, NextHopResGroup as AtGroup}
-use Rattle.npr_base.specs.declared.refusal.AttributeSet.TheVariants.{NextHopResBucket as AtBucket, NextHopGroupStats as AtStats}
+use Rattle.npr_base.specs.declared.attribute_set.AttributeSet.TheVariants.{NextHop as AtNextHop, Encap as AtEncap, NextHopResGroup as AtGroup}
+use Rattle.npr_base.specs.declared.attribute_set.AttributeSet.TheVariants.{NextHopResBucket as AtBucket, NextHopGroupStats as AtStats}
 use Rattle.npr_base.specs.EnumFamily.{rewritten}
 use Rattle.npr_base.specs.Family.{Writing}
 use Rattle.npr_base.specs.Tables.{EnumTable, table_of, marked_row, row, others, ◌or◌, dropped, exactly, items, le32, list_of, listed, nothing, seen, value}

@@ -1,5 +1,5 @@
 -- What went by the members of a group (linux/nexthop.h, NHA_GROUP_STATS_*), by the table.
-use Rattle.npr_base.specs.declared.refusal.AttributeSet.TheVariants.{NextHopGroupStats as AtGroupStats, NextHopGroupStatsEntry as AtEntry}
+use Rattle.npr_base.specs.declared.attribute_set.AttributeSet.TheVariants.{NextHopGroupStats as AtGroupStats, NextHopGroupStatsEntry as AtEntry}
 use Rattle.npr_base.specs.Tables.{EnumTable, table_of, marked_row, others, ◌or◌, list_of, listed, value, refl, Reading, Family, writing_of}
 use Rattle.npr_base.specs.Tables.{attributes_of, family_of_table}
 use Rattle.npr_nexthop.specs.GroupStatsEntry as OfEntry

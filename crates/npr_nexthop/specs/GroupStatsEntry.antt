@@ -1,5 +1,5 @@
 -- What went by one member of a group (linux/nexthop.h, NHA_GROUP_STATS_ENTRY_*), by the table.
-use Rattle.npr_base.specs.declared.refusal.AttributeSet.TheVariants.{NextHopGroupStatsEntry as AtGroupStatsEntry}
+use Rattle.npr_base.specs.declared.attribute_set.AttributeSet.TheVariants.{NextHopGroupStatsEntry as AtGroupStatsEntry}
 use Rattle.npr_base.specs.Tables.{EnumTable, table_of, row, others, ◌or◌, exactly, le32, uint, value, refl, Reading, Family, writing_of}
 use Rattle.npr_base.specs.Tables.{attributes_of, family_of_table}
 use Rattle.npr_nexthop.specs.contracts.group_stats_entry.NextHopGroupStatsEntry.{enum}

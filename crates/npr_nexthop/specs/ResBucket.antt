@@ -1,5 +1,5 @@
 -- A bucket of a resilient group (linux/nexthop.h, NHA_RES_BUCKET_*), by the table.
-use Rattle.npr_base.specs.declared.refusal.AttributeSet.TheVariants.{NextHopResBucket as AtResBucket}
+use Rattle.npr_base.specs.declared.attribute_set.AttributeSet.TheVariants.{NextHopResBucket as AtResBucket}
 use Rattle.npr_base.specs.Tables.{EnumTable, table_of, row, others, ◌or◌, exactly, le16, le32, le64, value, refl, Reading, Family, writing_of}
 use Rattle.npr_base.specs.Tables.{attributes_of, family_of_table}
 use Rattle.npr_nexthop.specs.contracts.res_bucket.NextHopResBucket.{enum}

@@ -1,5 +1,5 @@
 -- What a resilient group is made with (linux/nexthop.h, NHA_RES_GROUP_*), by the table.
-use Rattle.npr_base.specs.declared.refusal.AttributeSet.TheVariants.{NextHopResGroup as AtResGroup}
+use Rattle.npr_base.specs.declared.attribute_set.AttributeSet.TheVariants.{NextHopResGroup as AtResGroup}
 use Rattle.npr_base.specs.Tables.{EnumTable, table_of, row, others, ◌or◌, exactly, le16, le32, le64, value, refl, Reading, Family, writing_of}
 use Rattle.npr_base.specs.Tables.{attributes_of, family_of_table}
 use Rattle.npr_nexthop.specs.contracts.res_group.NextHopResGroup.{enum}

@@ -2,8 +2,8 @@
 use Rattle.std.specs.Prelude.{◌≡◌, ◌≢◌, ℕ, ◌==◌, Bool, true, false, if◌then◌else◌}
 use Rattle.std.proofs.Common.{refl, sym, subst}
 use Rattle.std.proofs.lemmas.Bool.{eqb-false, ne_eqb}
-use Rattle.npr_base.specs.declared.refusal.At.{At}
-use Rattle.npr_base.specs.declared.refusal.AttributeSet.TheVariants.{Route as OfRoute}
+use Rattle.npr_base.specs.declared.attribute_set.At.{At}
+use Rattle.npr_base.specs.declared.attribute_set.AttributeSet.TheVariants.{Route as OfRoute}
 use Rattle.npr_base.specs.declared.refusal.DecodeError.{DecodeError}
 use Rattle.npr_base.specs.declared.value.Form.{Form}
 use Rattle.npr_base.specs.declared.value.Form.TheVariants.{Inside}

@@ -1,6 +1,6 @@
 -- The attributes of a route message but next hops (linux/rtnetlink.h, RTA_*), by their table under the header.
 use Rattle.std.specs.Prelude.{◌≡◌, ◌≢◌, ℕ, ◌<◌, ◌^◌, Bool, true, false, List, [], ◌∷◌, map, if◌then◌else◌}
-use Rattle.npr_base.specs.declared.refusal.AttributeSet.TheVariants.{Route as OfRoute, Metric as AtMetric, Encap as AtEncap}
+use Rattle.npr_base.specs.declared.attribute_set.AttributeSet.TheVariants.{Route as OfRoute, Metric as AtMetric, Encap as AtEncap}
 use Rattle.npr_base.specs.declared.address_family.AddressFamily.{AddressFamily}
 use Rattle.npr_base.specs.Framing.{Item}
 use Rattle.npr_base.specs.Layout.{Layout, byte, le32, le64, be16, be32}

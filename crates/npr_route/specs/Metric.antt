@@ -1,5 +1,5 @@
 -- The metrics of a route (linux/rtnetlink.h, RTAX_*), by their table.
-use Rattle.npr_base.specs.declared.refusal.AttributeSet.TheVariants.{Metric as OfMetric}
+use Rattle.npr_base.specs.declared.attribute_set.AttributeSet.TheVariants.{Metric as OfMetric}
 use Rattle.npr_base.specs.Tables.{EnumTable, table_of, row, others, ◌or◌, value, text, exactly, name, le32, refl, Reading, Family, writing_of}
 use Rattle.npr_base.specs.Tables.{attributes_of, family_of_table}
 use Rattle.npr_route.specs.declared.metrics.RouteMetric.{RouteMetric}

@@ -6,8 +6,10 @@ use Rattle.npr_base.specs.Numbering.{Numbering}
 use Rattle.npr_base.specs.Rows.{number_by}
 use Rattle.npr_base.specs.Enumeration.{by_signed_rows}
 use Rattle.npr_route_values.specs.declared.ip_protocol.IpProtocol.{IpProtocol}
-use Rattle.npr_route_values.specs.declared.ip_protocol.IpProtocol.TheVariants.{Hopopts, Icmp, Igmp, Ipip, Tcp, Egp, Pup, Udp, Idp, Tp, Dccp, Ipv6, Rsvp, Gre, Esp}
-use Rattle.npr_route_values.specs.declared.ip_protocol.IpProtocol.TheVariants.{Ah, Mtp, Beetph, Encap, Pim, Comp, L2tp, Sctp, Udplite, Mpls, Ethernet, Raw, Mptcp}
+use Rattle.npr_route_values.specs.declared.ip_protocol.IpProtocol.TheVariants.{Hopopts, Icmp, Igmp, Ipip, Tcp, Egp, Pup, Udp}
+use Rattle.npr_route_values.specs.declared.ip_protocol.IpProtocol.TheVariants.{Idp, Tp, Dccp, Ipv6, Rsvp, Gre, Esp}
+use Rattle.npr_route_values.specs.declared.ip_protocol.IpProtocol.TheVariants.{Ah, Mtp, Beetph, Encap, Pim, Comp, L2tp}
+use Rattle.npr_route_values.specs.declared.ip_protocol.IpProtocol.TheVariants.{Sctp, Udplite, Mpls, Ethernet, Raw, Mptcp}
 use Rattle.npr_route_values.specs.declared.ip_protocol.IpProtocol.TheVariants.{Other}
 use Rattle.npr_route_values.specs.contracts.ip_protocol.IpProtocol.{enum}
 

@@ -12,7 +12,8 @@ use Rattle.npr_base.specs.VariantCodec.{variant, written_alike}
 use Rattle.npr_route_values.specs.MplsCodec.{mpls_label}
 use Rattle.npr_route_values.specs.declared.mpls.MplsLabel.{MplsLabel}
 use Rattle.npr_route_values.specs.declared.address.RouteAddress.{RouteAddress}
-use Rattle.npr_route_values.specs.declared.address.RouteAddress.TheVariants.{Inet as AddressInet, Inet6 as AddressInet6, Mpls as AddressMpls, Other as AddressOther}
+use Rattle.npr_route_values.specs.declared.address.RouteAddress.TheVariants.{Inet as AddressInet, Inet6 as AddressInet6}
+use Rattle.npr_route_values.specs.declared.address.RouteAddress.TheVariants.{Mpls as AddressMpls, Other as AddressOther}
 
 -- an address, without where it lies in memory
 pub data Address : Type 0 where

@@ -8,7 +8,8 @@ use Rattle.npr_base.specs.Enumeration.{enumeration}
 use Rattle.npr_base.specs.Text.{other_text}
 use Rattle.npr_route_values.specs.declared.route_protocol.RouteProtocol.{RouteProtocol}
 use Rattle.npr_route_values.specs.declared.route_protocol.RouteProtocol.TheVariants.{Unspec, IcmpRedirect, Kernel, Boot, Static, Gated, Ra, Mrt, Zebra, Bird}
-use Rattle.npr_route_values.specs.declared.route_protocol.RouteProtocol.TheVariants.{DnRouted, Xorp, Ntk, Dhcp, Mrouted, KeepAlived, Babel, Bgp, Isis, Ospf, Rip}
+use Rattle.npr_route_values.specs.declared.route_protocol.RouteProtocol.TheVariants.{DnRouted, Xorp, Ntk, Dhcp, Mrouted, KeepAlived}
+use Rattle.npr_route_values.specs.declared.route_protocol.RouteProtocol.TheVariants.{Babel, Bgp, Isis, Ospf, Rip}
 use Rattle.npr_route_values.specs.declared.route_protocol.RouteProtocol.TheVariants.{Eigrp, Other}
 use Rattle.npr_route_values.specs.contracts.route_protocol.RouteProtocol.{enum}
 

@@ -1,8 +1,8 @@
 -- The attributes of a rule message (linux/fib_rules.h, FRA_*), by their table.
 use Rattle.std.specs.Prelude.{ℕ, Option}
-use Rattle.npr_base.specs.declared.refusal.AttributeSet.TheVariants.{Rule}
-use Rattle.npr_base.specs.Tables.{EnumTable, table_of, row, others, ◌or◌, value, text, exactly, ip, name, le32, be64, boolean, refl, Reading, Family}
-use Rattle.npr_base.specs.Tables.{ValueAt, value_at, found_at, writing_of, attributes_of, family_of_table}
+use Rattle.npr_base.specs.declared.attribute_set.AttributeSet.TheVariants.{Rule}
+use Rattle.npr_base.specs.Tables.{EnumTable, table_of, row, others, ◌or◌, value, text, exactly, ip, name, le32, be64, boolean}
+use Rattle.npr_base.specs.Tables.{be32, byte, le16, refl, Reading, Family, ValueAt, value_at, found_at, writing_of, attributes_of, family_of_table}
 use Rattle.npr_route_values.specs.Realm.{route_realm}
 use Rattle.npr_route_values.specs.RouteProtocol.{route_protocol}
 use Rattle.npr_route_values.specs.IpProtocolByte.{ip_protocol_byte}
@@ -34,6 +34,12 @@ table =
     or row Rule 22 ip_protocol_byte (value RuleAttribute.IpProtocol)  -- FRA_IP_PROTO
     or row Rule 23 (exactly port_range) (value RuleAttribute.SourcePortRange)  -- FRA_SPORT_RANGE
     or row Rule 24 (exactly port_range) (value RuleAttribute.DestinationPortRange)  -- FRA_DPORT_RANGE
+    or row Rule 25 (exactly byte) (value RuleAttribute.Dscp)  -- FRA_DSCP
+    or row Rule 26 (exactly be32) (value RuleAttribute.FlowLabel)  -- FRA_FLOWLABEL
+    or row Rule 27 (exactly be32) (value RuleAttribute.FlowLabelMask)  -- FRA_FLOWLABEL_MASK
+    or row Rule 28 (exactly le16) (value RuleAttribute.SourcePortMask)  -- FRA_SPORT_MASK
+    or row Rule 29 (exactly le16) (value RuleAttribute.DestinationPortMask)  -- FRA_DPORT_MASK
+    or row Rule 30 (exactly byte) (value RuleAttribute.DscpMask)  -- FRA_DSCP_MASK
     or others (value RuleAttribute.Other)) refl refl
 
 -- the family

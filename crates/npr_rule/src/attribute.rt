@@ -54,6 +54,18 @@ pub enum RuleAttribute {
     SourcePortRange(RulePortRange),
     /// `FRA_DPORT_RANGE`: the ports of the destination.
     DestinationPortRange(RulePortRange),
+    /// `FRA_DSCP`: the differentiated services code point, six bits.
+    Dscp(u8),
+    /// `FRA_FLOWLABEL`: the flow label of IP version 6, 20 bits.
+    FlowLabel(u32),
+    /// `FRA_FLOWLABEL_MASK`: the bits of the flow label that count.
+    FlowLabelMask(u32),
+    /// `FRA_SPORT_MASK`: the bits of the source's port that count.
+    SourcePortMask(u16),
+    /// `FRA_DPORT_MASK`: the bits of the destination's port that count.
+    DestinationPortMask(u16),
+    /// `FRA_DSCP_MASK`: the bits of the code point that count.
+    DscpMask(u8),
     /// An attribute of another number, as it stands.
     Other(DefaultNla),
 }
@@ -81,6 +93,12 @@ macro_rules! rows {
             22 IpProtocol(IpProtocol as byte by protocol_byte);
             23 SourcePortRange(RulePortRange exactly 4);
             24 DestinationPortRange(RulePortRange exactly 4);
+            25 Dscp(byte);
+            26 FlowLabel(be32);
+            27 FlowLabelMask(be32);
+            28 SourcePortMask(le16);
+            29 DestinationPortMask(le16);
+            30 DscpMask(byte);
         })
     };
 }

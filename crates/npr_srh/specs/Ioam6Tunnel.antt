@@ -2,8 +2,8 @@
 use Rattle.std.specs.Prelude.{ℕ, List, ◌++◌, Option, Some, codes, decimal}
 use Rattle.std.specs.Net.Addr.{segments_of}
 use Rattle.std.specs.Net.Text.{ipv6_text}
-use Rattle.npr_base.specs.declared.refusal.At.{At}
-use Rattle.npr_base.specs.declared.refusal.AttributeSet.TheVariants.{Ioam6}
+use Rattle.npr_base.specs.declared.attribute_set.At.{At}
+use Rattle.npr_base.specs.declared.attribute_set.AttributeSet.TheVariants.{Ioam6}
 use Rattle.npr_base.specs.Refusal.{at_number}
 use Rattle.npr_base.specs.Text.{nla_text}
 use Rattle.npr_base.specs.Tables.{EnumTable, table_of, row, others, ◌or◌, ◌also◌, value, nothing, exactly, dropped, le32, octets16, refl, Reading}

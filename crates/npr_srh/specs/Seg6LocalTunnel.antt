@@ -2,8 +2,8 @@
 use Rattle.std.specs.Prelude.{ℕ, List, ◌+◌, ◌++◌, Option, Some, codes, decimal}
 use Rattle.std.specs.Net.Addr.{segments_of}
 use Rattle.std.specs.Net.Text.{ipv4_text, ipv6_text}
-use Rattle.npr_base.specs.declared.refusal.At.{At}
-use Rattle.npr_base.specs.declared.refusal.AttributeSet.TheVariants.{Seg6Local}
+use Rattle.npr_base.specs.declared.attribute_set.At.{At}
+use Rattle.npr_base.specs.declared.attribute_set.AttributeSet.TheVariants.{Seg6Local}
 use Rattle.npr_base.specs.Refusal.{at_number}
 use Rattle.npr_base.specs.Text.{nla_text}
 use Rattle.npr_base.specs.Tables.{EnumTable, table_of, row, others, ◌or◌, ◌also◌, value, seen, nothing, exactly, dropped, le32, octets4, octets16, refl}

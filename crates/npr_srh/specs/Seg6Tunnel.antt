@@ -1,6 +1,6 @@
 -- The members of a SEG6 tunnel (linux/seg6_iptunnel.h, SEG6_IPTUNNEL_*), by their table.
 use Rattle.std.proofs.Common.{◌≡◌, inl, inr, refl}
-use Rattle.npr_base.specs.declared.refusal.AttributeSet.TheVariants.{Seg6}
+use Rattle.npr_base.specs.declared.attribute_set.AttributeSet.TheVariants.{Seg6}
 use Rattle.npr_base.specs.EnumFamily.{rewritten}
 use Rattle.npr_base.specs.Family.{Writing}
 use Rattle.npr_base.specs.Tables.{EnumTable, table_of, row, others, ◌or◌, value, seen, exactly, le32, octets16, Reading, Family, Meanings, writing_of}

@@ -14,7 +14,8 @@ use Rattle.npr_base.specs.Framing.{Item}
 use Rattle.npr_base.specs.lemmas.EnumTable.{choices-decide}
 use Rattle.npr_base.specs.Tables.{table_decides}
 use Rattle.npr_tc_actions.proofs.EqualityLaws.{action_equality}
-use Rattle.npr_tc_filters.proofs.EqualityLaws.{bpf_equality, flower_equality, fw_equality, match_all_equality, u32_equality}
+use Rattle.npr_tc_filters.proofs.EqualityLaws.{basic_equality, bpf_equality, flower_equality, fw_equality, match_all_equality, u32_equality}
+use Rattle.npr_tc_filters.specs.Basic as OfBasic
 use Rattle.npr_tc_filters.specs.Bpf as OfBpf
 use Rattle.npr_tc_filters.specs.Fw as OfFw
 use Rattle.npr_tc_filters.specs.Flower as OfFlower
@@ -22,7 +23,9 @@ use Rattle.npr_tc_filters.specs.MatchAll as OfMatchAll
 use Rattle.npr_tc_filters.specs.U32Option as OfU32
 use Rattle.npr_tc_qdiscs.proofs.EqualityLaws.{bitfield_equality, estimator_equality, fq_codel_equality, handle_equality, ingress_equality}
 use Rattle.npr_tc_qdiscs.proofs.EqualityLaws.{stab_equality, stats2_equality, stats_equality, xstats_equality}
+use Rattle.npr_tc_qdiscs.proofs.CounterEquality.{cake_equality, sfq_qopt_equality}
 use Rattle.npr_tc_qdiscs.proofs.KindEquality.{fifo_qopt_equality, fq_equality, htb_equality, netem_equality, prio_qopt_equality, red_equality, tbf_equality}
+use Rattle.npr_tc_qdiscs.specs.Cake as OfCake
 use Rattle.npr_tc_qdiscs.specs.Fq as OfFq
 use Rattle.npr_tc_qdiscs.specs.FqCodel as OfFqCodel
 use Rattle.npr_tc_qdiscs.specs.Htb as OfHtb
@@ -89,6 +92,9 @@ option_order (O.prio x) = 11
 option_order (O.fifo x) = 12
 option_order (O.fw xs) = 13
 option_order (O.bpf xs) = 14
+option_order (O.cake xs) = 15
+option_order (O.sfq bytes) = 16
+option_order (O.basic xs) = 17
 
 pub option_equality : IsEqualityOf O.options_of OptionEq.ghosts.eq
 unfolding option_order
@@ -108,7 +114,10 @@ option_equality =
     (λ x. refl, one_meaning (λ q. q) O.prio prio_qopt_equality (λ p q e. cc)) also
     (λ x. refl, one_meaning (λ q. q) O.fifo fifo_qopt_equality (λ p q e. cc)) also
     (λ x. refl, one_meaning (λ v. map OfFw.family.meaning v.items) O.fw (items_meaning OfFw.family.meaning fw_equality) (λ p q e. cc)) also
-    (λ x. refl, one_meaning (λ v. map OfBpf.family.meaning v.items) O.bpf (items_meaning OfBpf.family.meaning bpf_equality) (λ p q e. cc)) also tt)
+    (λ x. refl, one_meaning (λ v. map OfBpf.family.meaning v.items) O.bpf (items_meaning OfBpf.family.meaning bpf_equality) (λ p q e. cc)) also
+    (λ x. refl, one_meaning (λ v. map OfCake.family.meaning v.items) O.cake (items_meaning OfCake.family.meaning cake_equality) (λ p q e. cc)) also
+    (λ x. refl, one_meaning (λ q. q.bytes.items) O.sfq sfq_qopt_equality (λ p q e. cc)) also
+    (λ x. refl, one_meaning (λ v. map OfBasic.family.meaning v.items) O.basic (items_meaning OfBasic.family.meaning basic_equality) (λ p q e. cc)) also tt)
 
 -- ---- attributes
 

@@ -1,5 +1,5 @@
 -- The attributes of a message of actions (linux/rtnetlink.h, TCA_ROOT_*), by the table.
-use Rattle.npr_base.specs.declared.refusal.AttributeSet.TheVariants.{TcActionMessage as AtTcActionMessage, TcActions as AtTcActions}
+use Rattle.npr_base.specs.declared.attribute_set.AttributeSet.TheVariants.{TcActionMessage as AtTcActionMessage, TcActions as AtTcActions}
 use Rattle.npr_base.specs.Tables.{EnumTable, table_of, row, others, ◌or◌, exactly, list_of, name, le32, value, text, listed, refl, Reading, Family}
 use Rattle.npr_base.specs.Tables.{writing_of, attributes_of, family_of_table}
 use Rattle.npr_tc_actions.specs.Action as OfAction

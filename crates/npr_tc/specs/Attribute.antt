@@ -15,8 +15,8 @@ use Rattle.npr_base.specs.Refusal.{at_number}
 use Rattle.npr_base.specs.Tables.{row, others, ◌or◌, value, text, items, seen, listed, nothing, exactly, leading, raw, dropped, byte, le32, list_of, name}
 use Rattle.npr_base.specs.NameText.{IsName}
 use Rattle.npr_base.specs.Unterminated.{told_by, name_is}
-use Rattle.npr_base.specs.declared.refusal.At.{At}
-use Rattle.npr_base.specs.declared.refusal.AttributeSet.TheVariants.{Tc as AtTc, TcStats2 as AtStats2, TcStab as AtStab}
+use Rattle.npr_base.specs.declared.attribute_set.At.{At}
+use Rattle.npr_base.specs.declared.attribute_set.AttributeSet.TheVariants.{Tc as AtTc, TcStats2 as AtStats2, TcStab as AtStab}
 use Rattle.npr_base.specs.declared.value.Form.{Form}
 use Rattle.npr_tc_qdiscs.specs.Bitfield.{bitfield}
 use Rattle.npr_tc_qdiscs.specs.Estimator.{estimator}

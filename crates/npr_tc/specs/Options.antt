@@ -4,7 +4,7 @@ use Rattle.std.specs.Prelude.{◌≡◌, ℕ, ◌<◌, ◌^◌, ◌==◌, true, 
 use Rattle.std.proofs.Common.{refl, ap, ◌∙◌, arith}
 use Rattle.npr_base.specs.Beside.{has}
 use Rattle.npr_base.specs.ByNumber.{valued, whole, valued-number, whole-written}
-use Rattle.npr_base.specs.Codec.{Codec, leading}
+use Rattle.npr_base.specs.Codec.{Codec, leading, raw}
 use Rattle.npr_base.specs.Counts.{Counts}
 use Rattle.npr_base.specs.Family.{Writing, Reading, written_by}
 use Rattle.npr_base.specs.Framing.{Item}
@@ -13,16 +13,18 @@ use Rattle.npr_base.specs.Looks.{TakesInside}
 use Rattle.npr_base.specs.Message.{View}
 use Rattle.npr_base.specs.Refusal.{at_number}
 use Rattle.npr_base.specs.Table.{Slot, slot_plain, slot_other, writing_by}
-use Rattle.npr_base.specs.declared.refusal.At.{At}
-use Rattle.npr_base.specs.declared.refusal.AttributeSet.TheVariants as At
+use Rattle.npr_base.specs.declared.attribute_set.At.{At}
+use Rattle.npr_base.specs.declared.attribute_set.AttributeSet.TheVariants as At
 use Rattle.npr_base.specs.declared.refusal.DecodeError.{DecodeError}
 use Rattle.npr_base.specs.declared.value.Form.{Form}
 use Rattle.npr_base.specs.declared.value.Form.TheVariants.{Raw}
+use Rattle.npr_tc_filters.specs.Basic as OfBasic
 use Rattle.npr_tc_filters.specs.Bpf as OfBpf
 use Rattle.npr_tc_filters.specs.Flower as OfFlower
 use Rattle.npr_tc_filters.specs.Fw as OfFw
 use Rattle.npr_tc_filters.specs.MatchAll as OfMatchAll
 use Rattle.npr_tc_filters.specs.U32Option as OfU32
+use Rattle.npr_tc_qdiscs.specs.Cake as OfCake
 use Rattle.npr_tc_qdiscs.specs.Fq as OfFq
 use Rattle.npr_tc_qdiscs.specs.FqCodel as OfFqCodel
 use Rattle.npr_tc_qdiscs.specs.Htb as OfHtb
@@ -55,6 +57,9 @@ pub data Options : Type 0 where
   fifo : TcFifoQopt → Options
   fw : List OfFw.family.Meaning → Options
   bpf : List OfBpf.family.Meaning → Options
+  cake : List OfCake.family.Meaning → Options
+  sfq : List ℕ → Options
+  basic : List OfBasic.family.Meaning → Options
 
 abbrev pub options_of : TcOption → Options
 options_of (Has.FqCodel xs) = fq_codel (map OfFqCodel.family.meaning xs.items)
@@ -72,6 +77,9 @@ options_of (Has.Prio x) = prio x
 options_of (Has.Fifo x) = fifo x
 options_of (Has.Fw xs) = fw (map OfFw.family.meaning xs.items)
 options_of (Has.Bpf xs) = bpf (map OfBpf.family.meaning xs.items)
+options_of (Has.Cake xs) = cake (map OfCake.family.meaning xs.items)
+options_of (Has.Sfq x) = sfq x.bytes.items
+options_of (Has.Basic xs) = basic (map OfBasic.family.meaning xs.items)
 
 -- how they are written, whatever governs
 abbrev pub options_slot : Options → Slot
@@ -90,6 +98,9 @@ options_slot (prio x) = slot_plain 2 (leading prio_qopt) x
 options_slot (fifo x) = slot_plain 2 (leading fifo_qopt) x
 options_slot (fw x) = slot_plain 2 (list_of At.TcFilterFw OfFw.attributes) x
 options_slot (bpf x) = slot_plain 2 (list_of At.TcFilterBpf OfBpf.attributes) x
+options_slot (cake x) = slot_plain 2 (list_of At.TcQdiscCake OfCake.attributes) x
+options_slot (sfq x) = slot_plain 2 raw x
+options_slot (basic x) = slot_plain 2 (list_of At.TcFilterBasic OfBasic.attributes) x
 
 -- what a kind has: its codec, and the data of it; or none
 pub data Kind : Type 1 where
@@ -114,6 +125,9 @@ kind_of TcForm.Prio = holding (leading prio_qopt) prio (λ x. refl)
 kind_of TcForm.Fifo = holding (leading fifo_qopt) fifo (λ x. refl)
 kind_of TcForm.Fw = holding (list_of At.TcFilterFw OfFw.attributes) fw (λ x. refl)
 kind_of TcForm.Bpf = holding (list_of At.TcFilterBpf OfBpf.attributes) bpf (λ x. refl)
+kind_of TcForm.Cake = holding (list_of At.TcQdiscCake OfCake.attributes) cake (λ x. refl)
+kind_of TcForm.Sfq = holding raw sfq (λ x. refl)
+kind_of TcForm.Basic = holding (list_of At.TcFilterBasic OfBasic.attributes) basic (λ x. refl)
 
 -- data that are read, or the attribute as it stands
 pub data Said : Type 0 where

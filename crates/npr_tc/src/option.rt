@@ -16,12 +16,13 @@ ghost use Rattle.{
 
 use npr_base::{DecodeError, EmitError, Form, Looks};
 use npr_tc_filters::{
-    TcFilterBpfOption, TcFilterFlowerOption, TcFilterFwOption, TcFilterMatchAllOption,
-    TcFilterU32Option,
+    TcFilterBasicOption, TcFilterBpfOption, TcFilterFlowerOption, TcFilterFwOption,
+    TcFilterMatchAllOption, TcFilterU32Option,
 };
 use npr_tc_qdiscs::{
-    TcFifoQopt, TcForm, TcNetem, TcPrioQopt, TcQdiscFqCodelOption, TcQdiscFqOption,
-    TcQdiscHtbOption, TcQdiscIngressOption, TcQdiscRedOption, TcQdiscTbfOption,
+    TcFifoQopt, TcForm, TcNetem, TcPrioQopt, TcQdiscCakeOption, TcQdiscFqCodelOption,
+    TcQdiscFqOption, TcQdiscHtbOption, TcQdiscIngressOption, TcQdiscRedOption, TcQdiscTbfOption,
+    TcSfqQopt,
 };
 use std::alloc::{AllocError, Global};
 
@@ -59,6 +60,12 @@ pub enum TcOption {
     Fw(Vec<TcFilterFwOption>),
     /// Of the filter `bpf`.
     Bpf(Vec<TcFilterBpfOption>),
+    /// Of `cake`.
+    Cake(Vec<TcQdiscCakeOption>),
+    /// Of `sfq`.
+    Sfq(TcSfqQopt),
+    /// Of the filter `basic`.
+    Basic(Vec<TcFilterBasicOption>),
 }
 
 /// The variants.
@@ -80,6 +87,9 @@ macro_rules! variants {
             Fifo(TcFifoQopt leading 4);
             Fw(list TcFilterFw);
             Bpf(list TcFilterBpf);
+            Cake(list TcQdiscCake);
+            Sfq(TcSfqQopt value raw);
+            Basic(list TcFilterBasic);
         })
     };
 }

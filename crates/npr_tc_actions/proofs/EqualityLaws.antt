@@ -32,6 +32,9 @@ use Rattle.npr_tc_actions.specs.CsumOption as OfCsum
 use Rattle.npr_tc_actions.specs.CtOption as OfCt
 use Rattle.npr_tc_actions.specs.SampleOption as OfSample
 use Rattle.npr_tc_actions.specs.BpfOption as OfBpf
+use Rattle.npr_tc_actions.specs.PeditOption as OfPedit
+use Rattle.npr_tc_actions.proofs.PeditEquality.{pedit_option_equality}
+use Rattle.npr_tc_actions.proofs.EncEquality.{enc_option_equality}
 use Rattle.npr_tc_actions.proofs.ValueEquality.{times_equality, mirror_equality, nat_equality, tunnel_key_equality}
 use Rattle.npr_tc_actions.proofs.KindEquality.{gact_option_equality, police_option_equality, vlan_option_equality, skbedit_option_equality}
 use Rattle.npr_tc_actions.proofs.KindEquality.{csum_option_equality, ct_option_equality, sample_option_equality, bpf_option_equality}
@@ -48,7 +51,7 @@ pub tunnel_key_option_equality : IsEqualityOf OfTunnelKey.family.meaning TunnelK
 tunnel_key_option_equality =
     table_decides OfTunnelKey.table _
     (one times_equality also one tunnel_key_equality also one ipv4_equality also one ipv4_equality also one ipv6_equality also
-    one ipv6_equality also number also number also truth also number also number also nothing also kept also tt)
+    one ipv6_equality also number also number also truth also list enc_option_equality also number also number also nothing also kept also tt)
 
 -- the places of the variants
 option_order : O.Options → ℕ
@@ -63,7 +66,8 @@ option_order (O.csum xs) = 7
 option_order (O.ct xs) = 8
 option_order (O.sample xs) = 9
 option_order (O.bpf xs) = 10
-option_order (O.other bytes) = 11
+option_order (O.pedit xs) = 11
+option_order (O.other bytes) = 12
 
 pub option_equality : IsEqualityOf O.action_option_of OptionEq.ghosts.eq
 unfolding option_order
@@ -80,6 +84,7 @@ option_equality =
     (λ x. refl, one_meaning (λ v. map OfCt.family.meaning v.items) O.ct (items_meaning OfCt.family.meaning ct_option_equality) (λ p q e. cc)) also
     (λ x. refl, one_meaning (λ v. map OfSample.family.meaning v.items) O.sample (items_meaning OfSample.family.meaning sample_option_equality) (λ p q e. cc)) also
     (λ x. refl, one_meaning (λ v. map OfBpf.family.meaning v.items) O.bpf (items_meaning OfBpf.family.meaning bpf_option_equality) (λ p q e. cc)) also
+    (λ x. refl, one_meaning (λ v. map OfPedit.family.meaning v.items) O.pedit (items_meaning OfPedit.family.meaning pedit_option_equality) (λ p q e. cc)) also
     (λ x. refl, one_meaning (λ v. v.items) O.other (items_equality unsigned_Decides) (λ p q e. cc)) also tt)
 
 pub attribute_equality : IsEqualityOf OfAttribute.family.meaning AttributeEq.ghosts.eq

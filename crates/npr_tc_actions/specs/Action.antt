@@ -2,7 +2,7 @@
 -- attributes under its own kind.
 use Rattle.std.proofs.Common.{List, map}
 use Rattle.npr_base.specs.Codec.{Codec}
-use Rattle.npr_base.specs.declared.refusal.AttributeSet.TheVariants.{TcAction as AtTcAction, TcActions as AtTcActions}
+use Rattle.npr_base.specs.declared.attribute_set.AttributeSet.TheVariants.{TcAction as AtTcAction, TcActions as AtTcActions}
 use Rattle.npr_base.specs.Family.{Reading, Family}
 use Rattle.npr_base.specs.GovernedList.{governed_list}
 use Rattle.npr_base.specs.ListCodec.{list_of}
@@ -10,8 +10,8 @@ use Rattle.npr_tc_actions.specs.Attribute as OfAttribute
 use Rattle.npr_tc_actions.specs.declared.action.TcAction.{TcAction}
 use Rattle.npr_tc_actions.specs.declared.form.TcActionForm.TheVariants.{Kept}
 use Rattle.npr_tc_actions.specs.lemmas.Once.{attributes_once, attributes_plain}
-use Rattle.npr_tc_actions.specs.Numbered as Of
-use Rattle.npr_tc_actions.specs.Numbered.{Numbered}
+use Rattle.npr_tc_qdiscs.specs.Numbered as Of
+use Rattle.npr_tc_qdiscs.specs.Numbered.{Numbered}
 
 -- the attributes of one, under the first kind among them
 abbrev pub action_list : Codec (List OfAttribute.Meaning)

@@ -3,7 +3,7 @@ use Rattle.std.specs.Prelude.{ℕ, List, map}
 use Rattle.std.proofs.Common.{refl}
 use Rattle.npr_base.specs.Choices.{Held, as_list, as_bytes, Case, list_case, bytes_case, chosen}
 use Rattle.npr_base.specs.Codec.{Codec}
-use Rattle.npr_base.specs.declared.refusal.AttributeSet.TheVariants as At
+use Rattle.npr_base.specs.declared.attribute_set.AttributeSet.TheVariants as At
 use Rattle.npr_tc_actions.specs.MirrorOption as OfMirror
 use Rattle.npr_tc_actions.specs.NatOption as OfNat
 use Rattle.npr_tc_actions.specs.TunnelKeyOption as OfTunnelKey
@@ -15,6 +15,7 @@ use Rattle.npr_tc_actions.specs.CsumOption as OfCsum
 use Rattle.npr_tc_actions.specs.CtOption as OfCt
 use Rattle.npr_tc_actions.specs.SampleOption as OfSample
 use Rattle.npr_tc_actions.specs.BpfOption as OfBpf
+use Rattle.npr_tc_actions.specs.PeditOption as OfPedit
 use Rattle.npr_tc_actions.specs.declared.action_option.TcActionOption.{TcActionOption}
 use Rattle.npr_tc_actions.specs.declared.action_option.TcActionOption.TheVariants as Has
 use Rattle.npr_tc_actions.specs.declared.form.TcActionForm.{TcActionForm}
@@ -32,6 +33,7 @@ pub data Options : Type 0 where
   ct : List OfCt.family.Meaning → Options
   sample : List OfSample.family.Meaning → Options
   bpf : List OfBpf.family.Meaning → Options
+  pedit : List OfPedit.family.Meaning → Options
   other : List ℕ → Options
 
 abbrev pub action_option_of : TcActionOption → Options
@@ -46,6 +48,7 @@ action_option_of (Has.Csum xs) = csum (map OfCsum.family.meaning xs.items)
 action_option_of (Has.Ct xs) = ct (map OfCt.family.meaning xs.items)
 action_option_of (Has.Sample xs) = sample (map OfSample.family.meaning xs.items)
 action_option_of (Has.Bpf xs) = bpf (map OfBpf.family.meaning xs.items)
+action_option_of (Has.Pedit xs) = pedit (map OfPedit.family.meaning xs.items)
 action_option_of (Has.Other bytes) = other bytes.items
 
 -- how they are written, whatever governs
@@ -61,6 +64,7 @@ held (csum xs) = as_list At.TcActionCsum OfCsum.attributes xs
 held (ct xs) = as_list At.TcActionCt OfCt.attributes xs
 held (sample xs) = as_list At.TcActionSample OfSample.attributes xs
 held (bpf xs) = as_list At.TcActionBpf OfBpf.attributes xs
+held (pedit xs) = as_list At.TcActionPedit OfPedit.attributes xs
 held (other bytes) = as_bytes bytes
 
 -- and read
@@ -76,6 +80,7 @@ case TcActionForm.Csum = list_case held At.TcActionCsum OfCsum.attributes csum (
 case TcActionForm.Ct = list_case held At.TcActionCt OfCt.attributes ct (λ xs. refl)
 case TcActionForm.Sample = list_case held At.TcActionSample OfSample.attributes sample (λ xs. refl)
 case TcActionForm.Bpf = list_case held At.TcActionBpf OfBpf.attributes bpf (λ xs. refl)
+case TcActionForm.Pedit = list_case held At.TcActionPedit OfPedit.attributes pedit (λ xs. refl)
 case TcActionForm.Kept = bytes_case held other (λ bytes. refl)
 
 abbrev pub action_option : TcActionForm → Codec Options

@@ -2,7 +2,7 @@
 -- the first TCA_ACT_KIND beside them, wherever that stands, without one final zero.
 use Rattle.std.specs.Prelude.{◌==◌}
 use Rattle.std.proofs.Common.{◌≡◌, ℕ, List, Option, Some, None, inl, inr, refl, ap}
-use Rattle.npr_base.specs.declared.refusal.AttributeSet.TheVariants.{TcAction as AtTcAction, TcStats2 as AtStats2}
+use Rattle.npr_base.specs.declared.attribute_set.AttributeSet.TheVariants.{TcAction as AtTcAction, TcStats2 as AtStats2}
 use Rattle.npr_base.specs.EnumFamily.{rewritten}
 use Rattle.npr_base.specs.Family.{Writing, Reading, Family}
 use Rattle.npr_base.specs.Framing.{Item, number_of}

@@ -1,5 +1,5 @@
 -- What is said of an action that runs a program (linux/tc_act/tc_bpf.h, TCA_ACT_BPF_*), by the table.
-use Rattle.npr_base.specs.declared.refusal.AttributeSet.TheVariants.{TcActionBpf as AtTcActionBpf}
+use Rattle.npr_base.specs.declared.attribute_set.AttributeSet.TheVariants.{TcActionBpf as AtTcActionBpf}
 use Rattle.npr_base.specs.Tables.{EnumTable, table_of, row, others, ◌or◌, exactly, items, le16, le32, leading, name, raw, text, value, refl, Reading}
 use Rattle.npr_base.specs.Tables.{Family, writing_of, attributes_of, family_of_table}
 use Rattle.npr_tc_actions.specs.BpfInstruction.{instructions}

@@ -1,5 +1,5 @@
 -- What is said of an action that makes checksums anew (linux/tc_act/tc_csum.h, TCA_CSUM_*), by the table.
-use Rattle.npr_base.specs.declared.refusal.AttributeSet.TheVariants.{TcActionCsum as AtTcActionCsum}
+use Rattle.npr_base.specs.declared.attribute_set.AttributeSet.TheVariants.{TcActionCsum as AtTcActionCsum}
 use Rattle.npr_base.specs.Tables.{EnumTable, table_of, row, others, ◌or◌, leading, value, refl, Reading, Family, writing_of, attributes_of}
 use Rattle.npr_base.specs.Tables.{family_of_table}
 use Rattle.npr_tc_actions.specs.Csum.{csum}

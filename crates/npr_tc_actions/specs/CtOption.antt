@@ -1,5 +1,5 @@
 -- What is said of an action over connections (linux/tc_act/tc_ct.h, TCA_CT_*), by the table.
-use Rattle.npr_base.specs.declared.refusal.AttributeSet.TheVariants.{TcActionCt as AtTcActionCt}
+use Rattle.npr_base.specs.declared.attribute_set.AttributeSet.TheVariants.{TcActionCt as AtTcActionCt}
 use Rattle.npr_base.specs.Tables.{EnumTable, table_of, row, others, ◌or◌, be16, byte, exactly, items, le16, le32, leading, name, octets16, octets4}
 use Rattle.npr_base.specs.Tables.{raw, text, value, refl, Reading, Family, writing_of, attributes_of, family_of_table}
 use Rattle.npr_tc_actions.specs.CtFlags.{ct_flags}

@@ -10,4 +10,4 @@ form_named =
     ((codes "mirred", TcActionForm.Mirror) ∷ (codes "nat", TcActionForm.Nat) ∷ (codes "tunnel_key", TcActionForm.TunnelKey)
     ∷ (codes "gact", TcActionForm.Gact) ∷ (codes "police", TcActionForm.Police) ∷ (codes "vlan", TcActionForm.Vlan)
     ∷ (codes "skbedit", TcActionForm.Skbedit) ∷ (codes "csum", TcActionForm.Csum) ∷ (codes "ct", TcActionForm.Ct)
-    ∷ (codes "sample", TcActionForm.Sample) ∷ (codes "bpf", TcActionForm.Bpf) ∷ [])
+    ∷ (codes "sample", TcActionForm.Sample) ∷ (codes "bpf", TcActionForm.Bpf) ∷ (codes "pedit", TcActionForm.Pedit) ∷ [])

@@ -1,5 +1,5 @@
 -- What is said of an action that lets packets through or drops them (linux/tc_act/tc_gact.h, TCA_GACT_*), by the table.
-use Rattle.npr_base.specs.declared.refusal.AttributeSet.TheVariants.{TcActionGact as AtTcActionGact}
+use Rattle.npr_base.specs.declared.attribute_set.AttributeSet.TheVariants.{TcActionGact as AtTcActionGact}
 use Rattle.npr_base.specs.Tables.{EnumTable, table_of, row, others, ◌or◌, leading, value, refl, Reading, Family, writing_of, attributes_of}
 use Rattle.npr_base.specs.Tables.{family_of_table}
 use Rattle.npr_tc_actions.specs.GactProbability.{gact_probability}

@@ -1,5 +1,5 @@
 -- What is said of an action that copies packets, or sends them on (linux/tc_act/tc_mirred.h, TCA_MIRRED_*), by the table.
-use Rattle.npr_base.specs.declared.refusal.AttributeSet.TheVariants.{TcActionMirror as AtTcActionMirror}
+use Rattle.npr_base.specs.declared.attribute_set.AttributeSet.TheVariants.{TcActionMirror as AtTcActionMirror}
 use Rattle.npr_base.specs.Tables.{EnumTable, table_of, row, others, ◌or◌, exactly, leading, le32, value, refl, Reading, Family, writing_of}
 use Rattle.npr_base.specs.Tables.{attributes_of, family_of_table}
 use Rattle.npr_tc_actions.specs.Mirror.{mirror}

@@ -1,5 +1,5 @@
 -- What is said of an action that changes addresses (linux/tc_act/tc_nat.h, TCA_NAT_*), by the table.
-use Rattle.npr_base.specs.declared.refusal.AttributeSet.TheVariants.{TcActionNat as AtTcActionNat}
+use Rattle.npr_base.specs.declared.attribute_set.AttributeSet.TheVariants.{TcActionNat as AtTcActionNat}
 use Rattle.npr_base.specs.Tables.{EnumTable, table_of, row, others, ◌or◌, leading, value, refl, Reading, Family, writing_of}
 use Rattle.npr_base.specs.Tables.{attributes_of, family_of_table}
 use Rattle.npr_tc_actions.specs.Nat.{nat}

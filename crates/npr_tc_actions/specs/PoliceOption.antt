@@ -1,5 +1,5 @@
 -- What is said of an action that holds packets to a rate (linux/pkt_cls.h, TCA_POLICE_*), by the table.
-use Rattle.npr_base.specs.declared.refusal.AttributeSet.TheVariants.{TcActionPolice as AtTcActionPolice}
+use Rattle.npr_base.specs.declared.attribute_set.AttributeSet.TheVariants.{TcActionPolice as AtTcActionPolice}
 use Rattle.npr_base.specs.Tables.{EnumTable, table_of, row, others, ◌or◌, exactly, items, le32, le64, leading, raw, value, refl, Reading, Family}
 use Rattle.npr_base.specs.Tables.{writing_of, attributes_of, family_of_table}
 use Rattle.npr_tc_actions.specs.ActionType.{action_type}

@@ -1,5 +1,5 @@
 -- What is said of an action that samples packets (linux/tc_act/tc_sample.h, TCA_SAMPLE_*), by the table.
-use Rattle.npr_base.specs.declared.refusal.AttributeSet.TheVariants.{TcActionSample as AtTcActionSample}
+use Rattle.npr_base.specs.declared.attribute_set.AttributeSet.TheVariants.{TcActionSample as AtTcActionSample}
 use Rattle.npr_base.specs.Tables.{EnumTable, table_of, row, others, ◌or◌, exactly, le32, leading, value, refl, Reading, Family, writing_of}
 use Rattle.npr_base.specs.Tables.{attributes_of, family_of_table}
 use Rattle.npr_tc_actions.specs.Generic.{generic}

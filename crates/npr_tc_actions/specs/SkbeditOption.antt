@@ -1,5 +1,5 @@
 -- What is said of an action that changes what is kept of a packet (linux/tc_act/tc_skbedit.h, TCA_SKBEDIT_*), by the table.
-use Rattle.npr_base.specs.declared.refusal.AttributeSet.TheVariants.{TcActionSkbedit as AtTcActionSkbedit}
+use Rattle.npr_base.specs.declared.attribute_set.AttributeSet.TheVariants.{TcActionSkbedit as AtTcActionSkbedit}
 use Rattle.npr_base.specs.Tables.{EnumTable, table_of, row, others, ◌or◌, exactly, le16, le32, le64, leading, value, refl, Reading, Family}
 use Rattle.npr_base.specs.Tables.{writing_of, attributes_of, family_of_table}
 use Rattle.npr_tc_qdiscs.specs.Handle.{handle}

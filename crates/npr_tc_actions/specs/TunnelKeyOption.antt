@@ -1,7 +1,8 @@
 -- What is said of an action over the metadata of tunnels (linux/tc_act/tc_tunnel_key.h, TCA_TUNNEL_KEY_*), by the table.
-use Rattle.npr_base.specs.declared.refusal.AttributeSet.TheVariants.{TcActionTunnelKey as AtTcActionTunnelKey}
-use Rattle.npr_base.specs.Tables.{EnumTable, table_of, row, others, ◌or◌, exactly, leading, dropped, boolean, byte, be16, be32, octets4, octets16, value}
-use Rattle.npr_base.specs.Tables.{nothing, refl, Reading, Family, writing_of, attributes_of, family_of_table}
+use Rattle.npr_base.specs.declared.attribute_set.AttributeSet.TheVariants.{TcActionTunnelKey as AtTcActionTunnelKey, TcEnc as AtTcEnc}
+use Rattle.npr_base.specs.Tables.{EnumTable, table_of, row, others, ◌or◌, exactly, leading, dropped, boolean, byte, be16, be32, octets4, octets16}
+use Rattle.npr_base.specs.Tables.{list_of, listed, nothing, value, refl, Reading, Family, writing_of, attributes_of, family_of_table}
+use Rattle.npr_tc_actions.specs.EncOption as OfEnc
 use Rattle.npr_tc_actions.specs.Tcf.{tcf}
 use Rattle.npr_tc_actions.specs.TunnelKey.{tunnel_key}
 use Rattle.npr_tc_actions.specs.contracts.tunnel_key_option.TcActionTunnelKeyOption.{enum}
@@ -20,6 +21,7 @@ table =
     or row AtTcActionTunnelKey 7 (exactly be32) (value TcActionTunnelKeyOption.EncKeyId)  -- TCA_TUNNEL_KEY_ENC_KEY_ID
     or row AtTcActionTunnelKey 9 (exactly be16) (value TcActionTunnelKeyOption.EncDstPort)  -- TCA_TUNNEL_KEY_ENC_DST_PORT
     or row AtTcActionTunnelKey 10 (exactly boolean) (value TcActionTunnelKeyOption.NoCsum)  -- TCA_TUNNEL_KEY_NO_CSUM
+    or row AtTcActionTunnelKey 11 (list_of AtTcEnc OfEnc.attributes) (listed OfEnc.family.meaning TcActionTunnelKeyOption.EncOpts)  -- TCA_TUNNEL_KEY_ENC_OPTS
     or row AtTcActionTunnelKey 12 (exactly byte) (value TcActionTunnelKeyOption.EncTos)  -- TCA_TUNNEL_KEY_ENC_TOS
     or row AtTcActionTunnelKey 13 (exactly byte) (value TcActionTunnelKeyOption.EncTtl)  -- TCA_TUNNEL_KEY_ENC_TTL
     or row AtTcActionTunnelKey 14 dropped (nothing TcActionTunnelKeyOption.NoFrag)  -- TCA_TUNNEL_KEY_NO_FRAG

@@ -1,5 +1,5 @@
 -- What is said of an action over VLANs (linux/tc_act/tc_vlan.h, TCA_VLAN_*), by the table.
-use Rattle.npr_base.specs.declared.refusal.AttributeSet.TheVariants.{TcActionVlan as AtTcActionVlan}
+use Rattle.npr_base.specs.declared.attribute_set.AttributeSet.TheVariants.{TcActionVlan as AtTcActionVlan}
 use Rattle.npr_base.specs.Tables.{EnumTable, table_of, row, others, ◌or◌, be16, byte, exactly, le16, leading, octets, value, refl, Reading, Family}
 use Rattle.npr_base.specs.Tables.{writing_of, attributes_of, family_of_table}
 use Rattle.npr_tc_actions.specs.Tcf.{tcf}

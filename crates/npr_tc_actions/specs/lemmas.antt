@@ -1,2 +1,4 @@
 -- Lemmas that definitions and bodies need. What they say is checked: nobody has to believe it.
 pub mod Once
+pub mod PeditOnce
+pub mod TunnelOnce

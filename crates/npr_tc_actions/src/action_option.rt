@@ -20,6 +20,7 @@ use crate::form::TcActionForm;
 use crate::gact_option::TcActionGactOption;
 use crate::mirror_option::TcActionMirrorOption;
 use crate::nat_option::TcActionNatOption;
+use crate::pedit_option::TcActionPeditOption;
 use crate::police_option::TcActionPoliceOption;
 use crate::sample_option::TcActionSampleOption;
 use crate::skbedit_option::TcActionSkbeditOption;
@@ -53,6 +54,8 @@ pub enum TcActionOption {
     Sample(Vec<TcActionSampleOption>),
     /// Of one that runs a program.
     Bpf(Vec<TcActionBpfOption>),
+    /// Of one that edits packets.
+    Pedit(Vec<TcActionPeditOption>),
     /// The bytes of options that nothing governs, or a kind without a set.
     Other(Vec<u8>),
 }
@@ -72,6 +75,7 @@ macro_rules! variants {
             Ct(list TcActionCt);
             Sample(list TcActionSample);
             Bpf(list TcActionBpf);
+            Pedit(list TcActionPedit);
         })
     };
 }

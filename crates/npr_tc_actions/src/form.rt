@@ -32,6 +32,8 @@ pub enum TcActionForm {
     Sample = 10,
     /// The options of `bpf`.
     Bpf = 11,
+    /// The options of `pedit`.
+    Pedit = 12,
 }
 
 /// What governs options, by the names of the kinds.
@@ -49,6 +51,7 @@ macro_rules! forms {
             "ct" Ct;
             "sample" Sample;
             "bpf" Bpf;
+            "pedit" Pedit;
         })
     };
 }

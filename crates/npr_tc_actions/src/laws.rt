@@ -14,7 +14,19 @@ ghost use Rattle.{
     CsumOption.{family as csum_option_family},
     CtFlags.{ct_flag_bits},
     CtOption.{family as ct_option_family},
+    EncErspan.{family as enc_erspan_family},
+    EncGeneve.{family as enc_geneve_family},
+    EncGtp.{family as enc_gtp_family},
+    EncOption.{family as enc_option_family},
+    EncPfcp.{family as enc_pfcp_family},
+    EncVxlan.{family as enc_vxlan_family},
     GactOption.{family as gact_option_family},
+    PeditCommand.{pedit_commands},
+    PeditHeaderType.{pedit_header_types},
+    PeditKeyEx.{family as pedit_key_ex_family},
+    PeditKeysEx.{family as pedit_keys_ex_family},
+    PeditOption.{family as pedit_option_family},
+    PeditSelector.{pedit_parts},
     PoliceOption.{family as police_option_family},
     SampleOption.{family as sample_option_family},
     SkbeditOption.{family as skbedit_option_family},
@@ -40,6 +52,12 @@ use crate::csum_flags::TcCsumFlags;
 use crate::csum_option::TcActionCsumOption;
 use crate::ct_flags::TcCtFlags;
 use crate::ct_option::TcActionCtOption;
+use crate::enc_erspan::TcEncErspan;
+use crate::enc_geneve::TcEncGeneve;
+use crate::enc_gtp::TcEncGtp;
+use crate::enc_option::TcEncOption;
+use crate::enc_pfcp::TcEncPfcp;
+use crate::enc_vxlan::TcEncVxlan;
 use crate::form::TcActionForm;
 use crate::gact_option::TcActionGactOption;
 use crate::gact_probability::TcGactProbability;
@@ -50,6 +68,13 @@ use crate::mirror_option::TcActionMirrorOption;
 use crate::nat::TcNat;
 use crate::nat_flags::TcNatFlags;
 use crate::nat_option::TcActionNatOption;
+use crate::pedit_command::TcPeditCommand;
+use crate::pedit_header_type::TcPeditHeaderType;
+use crate::pedit_key::TcPeditKey;
+use crate::pedit_key_ex::TcPeditKeyEx;
+use crate::pedit_keys_ex::TcPeditKeysEx;
+use crate::pedit_option::TcActionPeditOption;
+use crate::pedit_selector::TcPeditSelector;
 use crate::police::TcPolice;
 use crate::police_option::TcActionPoliceOption;
 use crate::sample_option::TcActionSampleOption;
@@ -65,6 +90,8 @@ use crate::vlan_option::TcActionVlanOption;
 pub fn law_numbers()
     ensures action { (d : ℤ) → action_types.number (action_types.of d) ≡ d }
     ensures mirror { (d : ℤ) → mirror_action_types.number (mirror_action_types.of d) ≡ d }
+    ensures pedit_header_type { (d : ℕ) → pedit_header_types.number (pedit_header_types.of d) ≡ d }
+    ensures pedit_command { (d : ℕ) → pedit_commands.number (pedit_commands.of d) ≡ d }
     ensures vlan { (d : ℤ) → vlan_action_types.number (vlan_action_types.of d) ≡ d }
 {}
 
@@ -90,6 +117,8 @@ pub fn law_default()
     ensures gact_probability { (x : TcGactProbability) → ⟦<TcGactProbability as Default>⟧.is_default x
         → x ≡ record { ptype = 0; pval = 0; paction = TcActionType.Unspec } }
     ensures bpf_instruction { (x : TcBpfInstruction) → ⟦<TcBpfInstruction as Default>⟧.is_default x → x ≡ record { code = 0; jt = 0; jf = 0; k = 0 } }
+    ensures pedit_key { (x : TcPeditKey) → ⟦<TcPeditKey as Default>⟧.is_default x
+        → x ≡ record { mask = 0; val = 0; off = 0; at = 0; offmask = 0; shift = 0 } }
     ensures police { (x : TcPolice) → ⟦<TcPolice as Default>⟧.is_default x → x ≡ record {
       index = 0;
       action = TcActionType.Unspec;
@@ -122,6 +151,9 @@ pub fn law_equality()
     ensures vlan { IsEquality ⟦<TcVlan as PartialEq>⟧.eq }
     ensures csum { IsEquality ⟦<TcCsum as PartialEq>⟧.eq }
     ensures gact_probability { IsEquality ⟦<TcGactProbability as PartialEq>⟧.eq }
+    ensures pedit_header_type { IsEquality ⟦<TcPeditHeaderType as PartialEq>⟧.eq }
+    ensures pedit_command { IsEquality ⟦<TcPeditCommand as PartialEq>⟧.eq }
+    ensures pedit_key { IsEquality ⟦<TcPeditKey as PartialEq>⟧.eq }
     ensures bpf_instruction { IsEquality ⟦<TcBpfInstruction as PartialEq>⟧.eq }
 {}
 
@@ -129,6 +161,12 @@ pub fn law_equality()
 pub fn law_equality_of_meanings()
     ensures mirror_option { IsEqualityOf mirror_family.meaning ⟦<TcActionMirrorOption as PartialEq>⟧.eq }
     ensures nat_option { IsEqualityOf nat_family.meaning ⟦<TcActionNatOption as PartialEq>⟧.eq }
+    ensures enc_geneve { IsEqualityOf enc_geneve_family.meaning ⟦<TcEncGeneve as PartialEq>⟧.eq }
+    ensures enc_vxlan { IsEqualityOf enc_vxlan_family.meaning ⟦<TcEncVxlan as PartialEq>⟧.eq }
+    ensures enc_erspan { IsEqualityOf enc_erspan_family.meaning ⟦<TcEncErspan as PartialEq>⟧.eq }
+    ensures enc_gtp { IsEqualityOf enc_gtp_family.meaning ⟦<TcEncGtp as PartialEq>⟧.eq }
+    ensures enc_pfcp { IsEqualityOf enc_pfcp_family.meaning ⟦<TcEncPfcp as PartialEq>⟧.eq }
+    ensures enc_option { IsEqualityOf enc_option_family.meaning ⟦<TcEncOption as PartialEq>⟧.eq }
     ensures tunnel_key_option { IsEqualityOf tunnel_key_family.meaning ⟦<TcActionTunnelKeyOption as PartialEq>⟧.eq }
     ensures gact_option { IsEqualityOf gact_option_family.meaning ⟦<TcActionGactOption as PartialEq>⟧.eq }
     ensures police_option { IsEqualityOf police_option_family.meaning ⟦<TcActionPoliceOption as PartialEq>⟧.eq }
@@ -138,6 +176,10 @@ pub fn law_equality_of_meanings()
     ensures ct_option { IsEqualityOf ct_option_family.meaning ⟦<TcActionCtOption as PartialEq>⟧.eq }
     ensures sample_option { IsEqualityOf sample_option_family.meaning ⟦<TcActionSampleOption as PartialEq>⟧.eq }
     ensures bpf_option { IsEqualityOf bpf_option_family.meaning ⟦<TcActionBpfOption as PartialEq>⟧.eq }
+    ensures pedit_selector { IsEqualityOf pedit_parts ⟦<TcPeditSelector as PartialEq>⟧.eq }
+    ensures pedit_key_ex { IsEqualityOf pedit_key_ex_family.meaning ⟦<TcPeditKeyEx as PartialEq>⟧.eq }
+    ensures pedit_keys_ex { IsEqualityOf pedit_keys_ex_family.meaning ⟦<TcPeditKeysEx as PartialEq>⟧.eq }
+    ensures pedit_option { IsEqualityOf pedit_option_family.meaning ⟦<TcActionPeditOption as PartialEq>⟧.eq }
     ensures option { IsEqualityOf action_option_of ⟦<TcActionOption as PartialEq>⟧.eq }
     ensures attribute { IsEqualityOf family.meaning ⟦<TcActionAttribute as PartialEq>⟧.eq }
     ensures action { IsEqualityOf action_family.meaning ⟦<TcAction as PartialEq>⟧.eq }

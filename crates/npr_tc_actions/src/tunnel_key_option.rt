@@ -1,9 +1,9 @@
 //! An action that gives packets the metadata of tunnels, or takes them: `TCA_TUNNEL_KEY_*` of
 //! `linux/tc_act/tc_tunnel_key.h`.
 
-ghost use Rattle.std.specs.Prelude.{refl};
-ghost use Rattle.{npr_base.specs.Family.{shaped}, npr_tc_actions.specs.TunnelKeyOption.{family}};
+ghost use Rattle.{npr_base.specs.Tables.{shape_by, shape-by}, npr_tc_actions.specs.TunnelKeyOption.{family, table}};
 
+use crate::enc_option::TcEncOption;
 use crate::tcf::Tcf;
 use crate::tunnel_key::TcTunnelKey;
 use npr_base::{
@@ -41,6 +41,8 @@ pub enum TcActionTunnelKeyOption {
     EncDstPort(u16),
     /// `TCA_TUNNEL_KEY_NO_CSUM`: whether it goes without a checksum.
     NoCsum(bool),
+    /// `TCA_TUNNEL_KEY_ENC_OPTS`: the options of the tunnel.
+    EncOpts(Vec<TcEncOption>),
     /// `TCA_TUNNEL_KEY_ENC_TOS`: its type of service.
     EncTos(u8),
     /// `TCA_TUNNEL_KEY_ENC_TTL`: its time to live.
@@ -64,6 +66,7 @@ macro_rules! rows {
             7 EncKeyId(be32);
             9 EncDstPort(be16);
             10 NoCsum(boolean);
+            11 EncOpts(list TcEnc);
             12 EncTos(byte);
             13 EncTtl(byte);
             14 NoFrag;
@@ -72,7 +75,7 @@ macro_rules! rows {
 }
 
 impl Nla for TcActionTunnelKeyOption {
-    ghost shape = { shaped family };
+    ghost shape = { shape_by table };
 
     fn kind(&self) -> u16 {
         rows!(kind_rows(self))
@@ -96,7 +99,7 @@ impl Attribute for TcActionTunnelKeyOption {
 
     ghost family = { family };
 
-    ghost shape_is = { λ a. refl };
+    ghost shape_is = { shape-by table };
 
     #[tactic(auto, unfolding(crate::specs::TunnelKeyOption::attributes))]
     fn read_into<P: Place<Self>>(

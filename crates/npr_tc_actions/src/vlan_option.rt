@@ -6,8 +6,7 @@ ghost use Rattle.{npr_base.specs.Family.{shaped}, npr_tc_actions.specs.VlanOptio
 use crate::tcf::Tcf;
 use crate::vlan::TcVlan;
 use npr_base::{
-    At, Attribute, AttributeSet, DecodeError, DefaultNla, EmitError, Form, Looks, Nla, NlaBuffer,
-    Place, put_read, read_octets, write_bytes,
+    At, Attribute, DecodeError, DefaultNla, EmitError, Form, Looks, Nla, NlaBuffer, Place,
 };
 use std::alloc::{AllocError, Global};
 
@@ -49,6 +48,8 @@ macro_rules! rows {
             3 PushVlanId(le16);
             4 PushVlanProtocol(be16);
             6 PushVlanPriority(byte);
+            7 PushEthDst(octets 6);
+            8 PushEthSrc(octets 6);
         })
     };
 }
@@ -57,7 +58,7 @@ impl Nla for TcActionVlanOption {
     ghost shape = { shaped family };
 
     fn kind(&self) -> u16 {
-        rows!(kind_rows(self; TcActionVlanOption::PushEthDst(_) => 7, TcActionVlanOption::PushEthSrc(_) => 8,))
+        rows!(kind_rows(self))
     }
 
     fn is_nested(&self) -> bool {
@@ -65,13 +66,11 @@ impl Nla for TcActionVlanOption {
     }
 
     fn check_value(&self) -> Result<usize, EmitError> {
-        Ok(
-            rows!(len_rows(self; TcActionVlanOption::PushEthDst(x) | TcActionVlanOption::PushEthSrc(x) => x.as_slice().len(),)),
-        )
+        Ok(rows!(len_rows(self)))
     }
 
     fn write_value(&self, out: &mut [u8]) -> usize {
-        rows!(write_rows(self, out; TcActionVlanOption::PushEthDst(x) | TcActionVlanOption::PushEthSrc(x) => write_bytes(x.as_slice(), out),))
+        rows!(write_rows(self, out))
     }
 }
 
@@ -90,15 +89,15 @@ impl Attribute for TcActionVlanOption {
         item: &NlaBuffer<'_>,
         looks: &mut Looks,
     ) -> Result<(), DecodeError> {
-        rows!(put_rows(place, alloc, item, looks; 7 => put_read(place, read_octets::<6>(item.value(), AttributeSet::TcActionVlan.at(7)), TcActionVlanOption::PushEthDst), 8 => put_read(place, read_octets::<6>(item.value(), AttributeSet::TcActionVlan.at(8)), TcActionVlanOption::PushEthSrc),))
+        rows!(put_rows(place, alloc, item, looks))
     }
 
     #[tactic(auto, unfolding(crate::specs::VlanOption::attributes))]
     fn form(_context: (), number: u16) -> (At, Form) {
-        rows!(form_rows(number; 7 | 8 => Form::Exactly(6),))
+        rows!(form_rows(number))
     }
 
     fn try_clone(&self, alloc: Global) -> Result<Self, AllocError> {
-        rows!(clone_rows(self, alloc; TcActionVlanOption::PushEthDst(x) => Ok(TcActionVlanOption::PushEthDst(*x)), TcActionVlanOption::PushEthSrc(x) => Ok(TcActionVlanOption::PushEthSrc(*x)),))
+        rows!(clone_rows(self, alloc))
     }
 }

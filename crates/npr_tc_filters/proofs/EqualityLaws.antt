@@ -4,29 +4,31 @@ use Rattle.std.proofs.Common.{List, refl, rules, ap}
 use Rattle.npr_base.specs.EnumTable.{◌also◌}
 use Rattle.npr_base.specs.Equality.{IsEquality, IsEqualityOf}
 use Rattle.npr_base.specs.Tables.{table_decides}
-use Rattle.npr_base.specs.ViewEquality.{bytes_equality}
 use Rattle.npr_base.proofs.EqualityLaws.{one_equality}
 use Rattle.npr_base.proofs.FieldEquality.{one, list, number, bytes, kept}
-use Rattle.npr_base.proofs.IpLaws.{ipv4_equality, ipv6_equality}
 use Rattle.npr_base.proofs.MeaningLaws.{items_equality, text_equality}
 use Rattle.npr_base.proofs.StructLaws.{and_decides, decides_as, ◌beside◌, struct_equality}
 use Rattle.npr_tc_actions.proofs.EqualityLaws.{action_equality}
 use Rattle.npr_tc_actions.proofs.KindEquality.{bpf_instruction_equality, police_option_equality}
 use Rattle.npr_tc_qdiscs.proofs.EqualityLaws.{handle_equality}
+use Rattle.npr_tc_filters.specs.Basic as OfBasic
 use Rattle.npr_tc_filters.specs.Bpf as OfBpf
-use Rattle.npr_tc_filters.specs.Flower as OfFlower
-use Rattle.npr_tc_filters.specs.FlowerMpls as OfMpls
-use Rattle.npr_tc_filters.specs.FlowerMplsLse as OfLse
+use Rattle.npr_tc_filters.specs.Ematch as OfEmatch
+use Rattle.npr_tc_filters.specs.EmatchTree as OfTree
+pub use Rattle.npr_tc_filters.specs.FlowerEquality.{flower_equality, flower_mpls_equality, flower_mpls_lse_equality, flower_cfm_equality}
 use Rattle.npr_tc_filters.specs.Fw as OfFw
-use Rattle.npr_tc_filters.specs.Hits.{u32_hits, match_all_hits}
+use Rattle.npr_tc_filters.specs.Hits.{u32_hits, match_all_hits, basic_hits}
 use Rattle.npr_tc_filters.specs.MatchAll as OfMatchAll
 use Rattle.npr_tc_filters.specs.U32Option as OfU32
 use Rattle.npr_tc_filters.specs.U32Selector.{U32Front, u32_parts}
+use Rattle.npr_tc_filters.specs.contracts.basic.TcFilterBasicOptionPartialEq.TheImpl as BasicEq
+use Rattle.npr_tc_filters.specs.contracts.basic_pcnt.TcBasicPcntPartialEq.TheImpl as BasicPcntEq
+use Rattle.npr_tc_filters.specs.contracts.ematch.TcEmatchPartialEq.TheImpl as EmatchEq
+use Rattle.npr_tc_filters.specs.contracts.ematch_header.TcEmatchHeaderPartialEq.TheImpl as EmatchHeaderEq
+use Rattle.npr_tc_filters.specs.contracts.ematch_tree.TcEmatchTreePartialEq.TheImpl as TreeEq
+use Rattle.npr_tc_filters.specs.contracts.ematch_tree_header.TcEmatchTreeHeaderPartialEq.TheImpl as TreeHeaderEq
 use Rattle.npr_tc_filters.specs.contracts.bpf.TcFilterBpfOptionPartialEq.TheImpl as FilterBpfOptionEq
 use Rattle.npr_tc_filters.specs.contracts.fw.TcFilterFwOptionPartialEq.TheImpl as FilterFwOptionEq
-use Rattle.npr_tc_filters.specs.contracts.flower.TcFilterFlowerOptionPartialEq.TheImpl as FlowerEq
-use Rattle.npr_tc_filters.specs.contracts.flower_mpls.TcFilterFlowerMplsOptionPartialEq.TheImpl as MplsEq
-use Rattle.npr_tc_filters.specs.contracts.flower_mpls_lse.TcFilterFlowerMplsLseOptionPartialEq.TheImpl as LseEq
 use Rattle.npr_tc_filters.specs.contracts.match_all.TcFilterMatchAllOptionPartialEq.TheImpl as MatchAllEq
 use Rattle.npr_tc_filters.specs.contracts.match_all_pcnt.TcMatchAllPcntPartialEq.TheImpl as MatchAllPcntEq
 use Rattle.npr_tc_filters.specs.contracts.u32_key.TcU32Key.{struct as key_struct}
@@ -55,11 +57,20 @@ u32_key_equality =
 pub u32_mark_equality : IsEquality MarkEq.ghosts.eq
 u32_mark_equality = search rules
 
+pub ematch_header_equality : IsEquality EmatchHeaderEq.ghosts.eq
+ematch_header_equality = search rules
+
+pub ematch_tree_header_equality : IsEquality TreeHeaderEq.ghosts.eq
+ematch_tree_header_equality = search rules
+
 pub u32_pcnt_equality : IsEqualityOf u32_hits U32PcntEq.ghosts.eq
 u32_pcnt_equality a b = items_equality unsigned_Decides a.numbers b.numbers
 
 pub match_all_pcnt_equality : IsEqualityOf match_all_hits MatchAllPcntEq.ghosts.eq
 match_all_pcnt_equality a b = items_equality unsigned_Decides a.numbers b.numbers
+
+pub basic_pcnt_equality : IsEqualityOf basic_hits BasicPcntEq.ghosts.eq
+basic_pcnt_equality a b = items_equality unsigned_Decides a.numbers b.numbers
 
 abbrev Selector : Type 0
 Selector = U32Front × List TcU32Key
@@ -99,11 +110,25 @@ u32_selector_equality a b =
 
 -- ---- families
 
-pub flower_mpls_lse_equality : IsEqualityOf OfLse.family.meaning LseEq.ghosts.eq
-flower_mpls_lse_equality = table_decides OfLse.table _ (number also number also number also number also number also kept also tt)
+-- number, structure and bytes one by one
+pub ematch_equality : IsEqualityOf OfEmatch.family.meaning EmatchEq.ghosts.eq
+ematch_equality a b =
+    decides_as (λ p. λ i. record { number = p.0 i; value = (p.1.0 i, p.1.1 i) })
+    (λ e. (
+      ap (λ (m : OfEmatch.Meaning). m.number) e,
+      (ap (λ (m : OfEmatch.Meaning). m.value.0) e, ap (λ (m : OfEmatch.Meaning). m.value.1) e),
+    ))
+    (and_decides (unsigned_Decides a.tab b.tab)
+    (and_decides (ematch_header_equality a.header b.header) (items_equality unsigned_Decides a.data b.data)))
 
-pub flower_mpls_equality : IsEqualityOf OfMpls.family.meaning MplsEq.ghosts.eq
-flower_mpls_equality = table_decides OfMpls.table _ (list flower_mpls_lse_equality also kept also tt)
+pub ematch_tree_equality : IsEqualityOf OfTree.family.meaning TreeEq.ghosts.eq
+ematch_tree_equality = table_decides OfTree.table _ (one ematch_tree_header_equality also list ematch_equality also kept also tt)
+
+pub basic_equality : IsEqualityOf OfBasic.family.meaning BasicEq.ghosts.eq
+basic_equality =
+    table_decides OfBasic.table _
+    (one handle_equality also list ematch_tree_equality also list action_equality also list police_option_equality also
+    one basic_pcnt_equality also kept also tt)
 
 pub match_all_equality : IsEqualityOf OfMatchAll.family.meaning MatchAllEq.ghosts.eq
 match_all_equality =
@@ -116,22 +141,6 @@ u32_equality =
     (one handle_equality also number also number also number also one u32_selector_equality also list police_option_equality also
     list action_equality also
     one text_equality also one u32_pcnt_equality also one u32_mark_equality also one u32_option_flags_equality also kept also tt)
-
-pub flower_equality : IsEqualityOf OfFlower.family.meaning FlowerEq.ghosts.eq
-flower_equality =
-    table_decides OfFlower.table _
-    (one handle_equality also one text_equality also list action_equality also one bytes_equality also one bytes_equality also
-    one bytes_equality also one bytes_equality also number also number also one ipv4_equality also one ipv4_equality also one ipv4_equality also
-    one ipv4_equality also one ipv6_equality also one ipv6_equality also one ipv6_equality also one ipv6_equality also number also number also
-    number also number also number also number also number also number also number also one ipv4_equality also one ipv4_equality also
-    one ipv4_equality also one ipv4_equality also one ipv6_equality also one ipv6_equality also one ipv6_equality also one ipv6_equality also
-    number also number also number also number also number also number also number also number also number also number also number also number also
-    number also number also number also number also number also number also number also number also number also number also one ipv4_equality also
-    one ipv4_equality also one ipv4_equality also one ipv4_equality also number also number also one bytes_equality also one bytes_equality also
-    one bytes_equality also one bytes_equality also number also number also number also number also number also number also number also number also
-    number also number also number also number also number also number also number also number also number also number also number also number also
-    number also number also number also number also number also number also number also number also one bytes_equality also one bytes_equality also
-    list flower_mpls_equality also number also number also kept also tt)
 
 pub fw_equality : IsEqualityOf OfFw.family.meaning FilterFwOptionEq.ghosts.eq
 fw_equality =

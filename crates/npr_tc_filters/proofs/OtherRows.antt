@@ -6,7 +6,7 @@ use Rattle.std.specs.Prelude.{Bool, true, false, not, ◌&&◌, ◌==◌, if◌t
 use Rattle.std.specs.Bool.{MatchBool}
 use Rattle.std.proofs.Common.{◌≡◌, ℕ, List, [], ◌∷◌, refl, sym, ap, ◌∙◌, true≢false}
 use Rattle.std.proofs.lemmas.Bool.{eqb-true}
-use Rattle.npr_base.specs.declared.refusal.AttributeSet.{AttributeSet}
+use Rattle.npr_base.specs.declared.attribute_set.AttributeSet.{AttributeSet}
 use Rattle.npr_base.specs.declared.value.Form.TheVariants.{Raw}
 use Rattle.npr_base.specs.EnumTable.{VariantRows, ReadsIn, other_in, form_in}
 use Rattle.npr_base.specs.Framing.{Item}

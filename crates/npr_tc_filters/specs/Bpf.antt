@@ -1,8 +1,8 @@
 -- The data of the filter `bpf` (linux/pkt_cls.h, TCA_BPF_*), by the table.
-use Rattle.npr_base.specs.declared.refusal.AttributeSet.TheVariants.{TcFilterBpf as AtTcFilterBpf}
+use Rattle.npr_base.specs.declared.attribute_set.AttributeSet.TheVariants.{TcFilterBpf as AtTcFilterBpf}
 use Rattle.npr_base.specs.Tables.{EnumTable, table_of, row, others, ◌or◌, exactly, items, le16, le32, list_of, listed, name, raw, text, value, refl}
 use Rattle.npr_base.specs.Tables.{Reading, Family, writing_of, attributes_of, family_of_table}
-use Rattle.npr_base.specs.declared.refusal.AttributeSet.TheVariants.{TcActionPolice as AtPolice, TcActions as AtActions}
+use Rattle.npr_base.specs.declared.attribute_set.AttributeSet.TheVariants.{TcActionPolice as AtPolice, TcActions as AtActions}
 use Rattle.npr_tc_actions.specs.Action as OfAction
 use Rattle.npr_tc_actions.specs.BpfInstruction.{instructions}
 use Rattle.npr_tc_actions.specs.PoliceOption as OfPolice

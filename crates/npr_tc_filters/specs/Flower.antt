@@ -1,17 +1,20 @@
 -- The data of a flower filter (linux/pkt_cls.h, TCA_FLOWER_*), by the table.
 use Rattle.std.specs.Prelude.{◌≢◌, ℕ, ◌==◌, ◌||◌, Bool, nat_lt}
 use Rattle.std.proofs.lemmas.Bool.{ne_eqb}
-use Rattle.npr_base.specs.declared.refusal.AttributeSet.TheVariants.{TcFilterFlower as AtFlower, TcFilterFlowerMpls as AtMpls, TcActions as AtActions}
+use Rattle.npr_base.specs.declared.attribute_set.AttributeSet.TheVariants.{TcFilterFlower as AtFlower, TcFilterFlowerMpls as AtMpls, TcActions as AtActions}
+use Rattle.npr_base.specs.declared.attribute_set.AttributeSet.TheVariants.{TcFlowerCfm as AtCfm, TcEnc as AtEnc}
 use Rattle.npr_base.specs.Counts.{Counts}
 use Rattle.npr_base.specs.Framing.{Item, number_of}
 use Rattle.npr_base.specs.RowReading.{looks-none}
 use Rattle.npr_base.specs.Tables.{EnumTable, table_of, row, others, ◌or◌, be16, be32, byte, exactly, le16, le32, list_of, listed, marked_row}
 use Rattle.npr_base.specs.Tables.{name, octets, octets4, octets16, text, value, refl, Reading, Family, writing_of, attributes_of, family_of_table}
 use Rattle.npr_tc_actions.specs.Action as OfAction
+use Rattle.npr_tc_actions.specs.EncOption as OfEnc
 use Rattle.npr_tc_qdiscs.specs.Handle.{handle}
+use Rattle.npr_tc_filters.specs.FlowerCfm as OfCfm
 use Rattle.npr_tc_filters.specs.FlowerMpls as OfMpls
-use Rattle.npr_tc_filters.specs.contracts.flower.TcFilterFlowerOption.{enum}
-use Rattle.npr_tc_filters.specs.declared.flower.TcFilterFlowerOption.{TcFilterFlowerOption}
+use Rattle.npr_tc_filters.specs.contracts.flower_option.TcFilterFlowerOption.{enum}
+use Rattle.npr_tc_filters.specs.declared.flower_option.TcFilterFlowerOption.{TcFilterFlowerOption}
 
 -- the table, in the order of the variants
 abbrev pub table : EnumTable enum
@@ -100,6 +103,8 @@ table =
     or row AtFlower 81 (exactly byte) (value TcFilterFlowerOption.EncKeyIpTosMask)  -- TCA_FLOWER_KEY_ENC_IP_TOS_MASK
     or row AtFlower 82 (exactly byte) (value TcFilterFlowerOption.EncKeyIpTtl)  -- TCA_FLOWER_KEY_ENC_IP_TTL
     or row AtFlower 83 (exactly byte) (value TcFilterFlowerOption.EncKeyIpTtlMask)  -- TCA_FLOWER_KEY_ENC_IP_TTL_MASK
+    or row AtFlower 84 (list_of AtEnc OfEnc.attributes) (listed OfEnc.family.meaning TcFilterFlowerOption.EncOpts)  -- TCA_FLOWER_KEY_ENC_OPTS
+    or row AtFlower 85 (list_of AtEnc OfEnc.attributes) (listed OfEnc.family.meaning TcFilterFlowerOption.EncOptsMask)  -- TCA_FLOWER_KEY_ENC_OPTS_MASK
     or row AtFlower 86 (exactly le32) (value TcFilterFlowerOption.InHwCount)  -- TCA_FLOWER_IN_HW_COUNT
     or row AtFlower 87 (exactly be16) (value TcFilterFlowerOption.PortSrcMin)  -- TCA_FLOWER_KEY_PORT_SRC_MIN
     or row AtFlower 88 (exactly be16) (value TcFilterFlowerOption.PortSrcMax)  -- TCA_FLOWER_KEY_PORT_SRC_MAX
@@ -116,6 +121,16 @@ table =
     or marked_row AtFlower 99 (list_of AtMpls OfMpls.attributes) (listed OfMpls.family.meaning TcFilterFlowerOption.MplsOpts)  -- TCA_FLOWER_KEY_MPLS_OPTS
     or row AtFlower 100 (exactly le32) (value TcFilterFlowerOption.KeyHash)  -- TCA_FLOWER_KEY_HASH
     or row AtFlower 101 (exactly le32) (value TcFilterFlowerOption.KeyHashMask)  -- TCA_FLOWER_KEY_HASH_MASK
+    or row AtFlower 102 (exactly byte) (value TcFilterFlowerOption.NumOfVlans)  -- TCA_FLOWER_KEY_NUM_OF_VLANS
+    or row AtFlower 103 (exactly be16) (value TcFilterFlowerOption.PppoeSid)  -- TCA_FLOWER_KEY_PPPOE_SID
+    or row AtFlower 104 (exactly be16) (value TcFilterFlowerOption.PppProto)  -- TCA_FLOWER_KEY_PPP_PROTO
+    or row AtFlower 105 (exactly be32) (value TcFilterFlowerOption.L2tpv3Sid)  -- TCA_FLOWER_KEY_L2TPV3_SID
+    or row AtFlower 106 (exactly byte) (value TcFilterFlowerOption.L2Miss)  -- TCA_FLOWER_L2_MISS
+    or marked_row AtFlower 107 (list_of AtCfm OfCfm.attributes) (listed OfCfm.family.meaning TcFilterFlowerOption.Cfm)  -- TCA_FLOWER_KEY_CFM
+    or row AtFlower 108 (exactly be32) (value TcFilterFlowerOption.Spi)  -- TCA_FLOWER_KEY_SPI
+    or row AtFlower 109 (exactly be32) (value TcFilterFlowerOption.SpiMask)  -- TCA_FLOWER_KEY_SPI_MASK
+    or row AtFlower 110 (exactly be32) (value TcFilterFlowerOption.EncFlags)  -- TCA_FLOWER_KEY_ENC_FLAGS
+    or row AtFlower 111 (exactly be32) (value TcFilterFlowerOption.EncFlagsMask)  -- TCA_FLOWER_KEY_ENC_FLAGS_MASK
     or others (value TcFilterFlowerOption.Other)) refl refl
 
 -- the family
@@ -127,13 +142,25 @@ family = family_of_table table (λ c. attributes)
 
 -- whether a number is that of no row
 abbrev pub no_row : ℕ → Bool
-no_row number = number == 0 || (nat_lt 101 number || (number == 84 || number == 85))
+no_row number = number == 0 || nat_lt 111 number
 
 -- the numbers of those with attributes inside
 abbrev pub is_list : ℕ → Bool
-is_list number = number == 3 || number == 99
+is_list number = number == 3 || (number == 84 || (number == 85 || (number == 99 || number == 107)))
 
-pub no_looks : (x : Item) (c : Counts) → (number_of x.kind ≢ 3) → (number_of x.kind ≢ 99) → attributes.looks.Takes x c c
+-- and of all others
+abbrev pub IsFlat : ℕ → Type 0
+IsFlat number = (number ≢ 3) × (number ≢ 84) × (number ≢ 85) × (number ≢ 99) × (number ≢ 107)
+
+pub no_looks : (x : Item) (c : Counts) → (number_of x.kind ≢ 3) → (number_of x.kind ≢ 84) → (number_of x.kind ≢ 85)
+    → (number_of x.kind ≢ 99) → (number_of x.kind ≢ 107) → attributes.looks.Takes x c c
 unfolding attributes
-no_looks x c o p =
-    looks-none is_list enum.parts table.rows refl x c (rw (ne_eqb (number_of x.kind) 3 o, ne_eqb (number_of x.kind) 99 p))
+no_looks x c o p q r s =
+    looks-none is_list enum.parts table.rows refl x c
+    (rw (
+      ne_eqb (number_of x.kind) 3 o,
+      ne_eqb (number_of x.kind) 84 p,
+      ne_eqb (number_of x.kind) 85 q,
+      ne_eqb (number_of x.kind) 99 r,
+      ne_eqb (number_of x.kind) 107 s,
+    ))

@@ -1,6 +1,6 @@
 -- The label stack that a flower filter looks for (linux/pkt_cls.h, TCA_FLOWER_KEY_MPLS_OPTS_*), by the table.
-use Rattle.npr_base.specs.declared.refusal.AttributeSet.TheVariants.{TcFilterFlowerMpls as AtMpls}
-use Rattle.npr_base.specs.declared.refusal.AttributeSet.TheVariants.{TcFilterFlowerMplsLse as AtLse}
+use Rattle.npr_base.specs.declared.attribute_set.AttributeSet.TheVariants.{TcFilterFlowerMpls as AtMpls}
+use Rattle.npr_base.specs.declared.attribute_set.AttributeSet.TheVariants.{TcFilterFlowerMplsLse as AtLse}
 use Rattle.npr_base.specs.Tables.{EnumTable, table_of, marked_row, others, ◌or◌, list_of, listed, value, refl, Reading, Family, writing_of}
 use Rattle.npr_base.specs.Tables.{attributes_of, family_of_table}
 use Rattle.npr_tc_filters.specs.FlowerMplsLse as OfLse

@@ -1,5 +1,5 @@
 -- An entry of a label stack that a flower filter looks for (linux/pkt_cls.h, TCA_FLOWER_KEY_MPLS_OPT_LSE_*), by the table.
-use Rattle.npr_base.specs.declared.refusal.AttributeSet.TheVariants.{TcFilterFlowerMplsLse as AtTcFilterFlowerMplsLse}
+use Rattle.npr_base.specs.declared.attribute_set.AttributeSet.TheVariants.{TcFilterFlowerMplsLse as AtTcFilterFlowerMplsLse}
 use Rattle.npr_base.specs.Tables.{EnumTable, table_of, row, others, ◌or◌, byte, exactly, le32, value, refl, Reading, Family, writing_of}
 use Rattle.npr_base.specs.Tables.{attributes_of, family_of_table}
 use Rattle.npr_tc_filters.specs.contracts.flower_mpls_lse.TcFilterFlowerMplsLseOption.{enum}

@@ -1,8 +1,8 @@
 -- The data of the filter `fw` (linux/pkt_cls.h, TCA_FW_*), by the table.
-use Rattle.npr_base.specs.declared.refusal.AttributeSet.TheVariants.{TcFilterFw as AtTcFilterFw}
+use Rattle.npr_base.specs.declared.attribute_set.AttributeSet.TheVariants.{TcFilterFw as AtTcFilterFw}
 use Rattle.npr_base.specs.Tables.{EnumTable, table_of, row, others, ◌or◌, exactly, le32, list_of, listed, name, text, value, refl, Reading, Family}
 use Rattle.npr_base.specs.Tables.{writing_of, attributes_of, family_of_table}
-use Rattle.npr_base.specs.declared.refusal.AttributeSet.TheVariants.{TcActionPolice as AtPolice, TcActions as AtActions}
+use Rattle.npr_base.specs.declared.attribute_set.AttributeSet.TheVariants.{TcActionPolice as AtPolice, TcActions as AtActions}
 use Rattle.npr_tc_actions.specs.Action as OfAction
 use Rattle.npr_tc_actions.specs.PoliceOption as OfPolice
 use Rattle.npr_tc_qdiscs.specs.Handle.{handle}

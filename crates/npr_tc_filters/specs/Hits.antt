@@ -1,10 +1,11 @@
--- How often filters were asked, and matched: numbers of eight bytes, one behind the other (linux/pkt_cls.h, struct tc_u32_pcnt and
--- struct tc_matchall_pcnt).
+-- How often filters were asked, and matched: numbers of eight bytes, one behind the other (linux/pkt_cls.h, struct tc_u32_pcnt,
+-- struct tc_matchall_pcnt and struct tc_basic_pcnt).
 use Rattle.std.specs.Prelude.{ℕ, List, Option, None, Some, slice_get}
 use Rattle.std.proofs.Common.{lit<}
 use Rattle.npr_base.specs.Blocks.{blocks}
 use Rattle.npr_base.specs.Codec.{Codec}
 use Rattle.npr_base.specs.Layout.{le64}
+use Rattle.npr_tc_filters.specs.declared.basic_pcnt.TcBasicPcnt.{TcBasicPcnt}
 use Rattle.npr_tc_filters.specs.declared.match_all_pcnt.TcMatchAllPcnt.{TcMatchAllPcnt}
 use Rattle.npr_tc_filters.specs.declared.u32_pcnt.TcU32Pcnt.{TcU32Pcnt}
 
@@ -26,3 +27,6 @@ u32_hits x = x.numbers.items
 
 abbrev pub match_all_hits : TcMatchAllPcnt → List ℕ
 match_all_hits x = x.numbers.items
+
+abbrev pub basic_hits : TcBasicPcnt → List ℕ
+basic_hits x = x.numbers.items

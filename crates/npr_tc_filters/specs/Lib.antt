@@ -1,6 +1,14 @@
+pub mod Basic
 pub mod Bpf
+pub mod Ematch
+pub mod EmatchHeader
+pub mod EmatchTree
+pub mod EmatchTreeHeader
 pub mod Flower
+pub mod FlowerCfm
+pub mod FlowerEquality
 pub mod FlowerForm
+pub mod FlowerHeld
 pub mod FlowerMpls
 pub mod FlowerMplsLse
 pub mod FlowerValue

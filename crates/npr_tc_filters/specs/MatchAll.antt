@@ -1,6 +1,6 @@
 -- The data of a filter that matches each packet (linux/pkt_cls.h, TCA_MATCHALL_*), by the table.
-use Rattle.npr_base.specs.declared.refusal.AttributeSet.TheVariants.{TcFilterMatchAll as AtTcFilterMatchAll}
-use Rattle.npr_base.specs.declared.refusal.AttributeSet.TheVariants.{TcActions as AtActions}
+use Rattle.npr_base.specs.declared.attribute_set.AttributeSet.TheVariants.{TcFilterMatchAll as AtTcFilterMatchAll}
+use Rattle.npr_base.specs.declared.attribute_set.AttributeSet.TheVariants.{TcActions as AtActions}
 use Rattle.npr_base.specs.Tables.{EnumTable, table_of, row, others, ◌or◌, exactly, le32, list_of, listed, seen, value, refl, Reading, Family, writing_of}
 use Rattle.npr_base.specs.Tables.{attributes_of, family_of_table}
 use Rattle.npr_tc_actions.specs.Action as OfAction

@@ -1,6 +1,6 @@
 -- The data of a u32 filter (linux/pkt_cls.h, TCA_U32_*), by the table.
-use Rattle.npr_base.specs.declared.refusal.AttributeSet.TheVariants.{TcFilterU32 as AtTcFilterU32}
-use Rattle.npr_base.specs.declared.refusal.AttributeSet.TheVariants.{TcActionPolice as AtPolice, TcActions as AtActions}
+use Rattle.npr_base.specs.declared.attribute_set.AttributeSet.TheVariants.{TcFilterU32 as AtTcFilterU32}
+use Rattle.npr_base.specs.declared.attribute_set.AttributeSet.TheVariants.{TcActionPolice as AtPolice, TcActions as AtActions}
 use Rattle.npr_base.specs.Tables.{EnumTable, table_of, row, others, ◌or◌, exactly, le32, list_of, listed, leading, name, seen, text, value, refl}
 use Rattle.npr_base.specs.Tables.{Reading, Family, writing_of, attributes_of, family_of_table}
 use Rattle.npr_tc_actions.specs.Action as OfAction

@@ -1,7 +1,6 @@
 //! The data of the filter `bpf`: `TCA_BPF_*` of `linux/pkt_cls.h`.
 
-ghost use Rattle.std.specs.Prelude.{refl};
-ghost use Rattle.{npr_base.specs.Family.{shaped}, npr_tc_filters.specs.Bpf.{family}};
+ghost use Rattle.{npr_base.specs.Tables.{shape_by, shape-by}, npr_tc_filters.specs.Bpf.{family, table}};
 
 use crate::u32_option_flags::TcU32OptionFlags;
 use bitflags::Flags;
@@ -61,7 +60,7 @@ macro_rules! rows {
 }
 
 impl Nla for TcFilterBpfOption {
-    ghost shape = { shaped family };
+    ghost shape = { shape_by table };
 
     fn kind(&self) -> u16 {
         rows!(kind_rows(self; TcFilterBpfOption::Ops(_) => 5,))
@@ -85,7 +84,7 @@ impl Attribute for TcFilterBpfOption {
 
     ghost family = { family };
 
-    ghost shape_is = { λ a. refl };
+    ghost shape_is = { shape-by table };
 
     #[tactic(auto, unfolding(crate::specs::Bpf::attributes))]
     fn read_into<P: Place<Self>>(

@@ -39,3 +39,11 @@ impl TcFilterBpf {
     /// Its name.
     pub const KIND: &'static str = "bpf";
 }
+
+/// The filter `basic`.
+pub struct TcFilterBasic {}
+
+impl TcFilterBasic {
+    /// Its name.
+    pub const KIND: &'static str = "basic";
+}

@@ -5,12 +5,16 @@ ghost use Rattle.std.specs.Prelude.{◌≡◌, ◌^◌, ◌∷◌, [], true, pos
 ghost use Rattle.{
   npr_base.specs.{Equality.{IsEquality, IsEqualityOf}, Rows.{agrees}},
   npr_tc_filters.specs.{
+    Basic.{family as basic_family},
     Bpf.{family as bpf_family},
+    Ematch.{family as ematch_family},
+    EmatchTree.{family as ematch_tree_family},
     Flower.{family as flower_family},
+    FlowerCfm.{family as flower_cfm_family},
     FlowerMpls.{family as flower_mpls_family},
     FlowerMplsLse.{family as flower_mpls_lse_family},
     Fw.{family as fw_family},
-    Hits.{u32_hits, match_all_hits},
+    Hits.{u32_hits, match_all_hits, basic_hits},
     MatchAll.{family as match_all_family},
     U32Option.{family as u32_family},
     U32OptionFlags.{u32_option_flag_bits},
@@ -19,10 +23,17 @@ ghost use Rattle.{
   },
 };
 
+use crate::basic::TcFilterBasicOption;
+use crate::basic_pcnt::TcBasicPcnt;
 use crate::bpf::TcFilterBpfOption;
-use crate::flower::TcFilterFlowerOption;
+use crate::ematch::TcEmatch;
+use crate::ematch_header::TcEmatchHeader;
+use crate::ematch_tree::TcEmatchTree;
+use crate::ematch_tree_header::TcEmatchTreeHeader;
+use crate::flower_cfm::TcFlowerCfmOption;
 use crate::flower_mpls::TcFilterFlowerMplsOption;
 use crate::flower_mpls_lse::TcFilterFlowerMplsLseOption;
+use crate::flower_option::TcFilterFlowerOption;
 use crate::fw::TcFilterFwOption;
 use crate::match_all::TcFilterMatchAllOption;
 use crate::match_all_pcnt::TcMatchAllPcnt;
@@ -48,6 +59,8 @@ pub fn law_default()
     ensures option_flags { (x : TcU32OptionFlags) → ⟦<TcU32OptionFlags as Default>⟧.is_default x → x ≡ u32_option_flag_bits.of 0 }
     ensures key { (x : TcU32Key) → ⟦<TcU32Key as Default>⟧.is_default x → x ≡ record { mask = 0; val = 0; off = pos 0; offmask = pos 0 } }
     ensures mark { (x : TcU32Mark) → ⟦<TcU32Mark as Default>⟧.is_default x → x ≡ record { val = 0; mask = 0; success = 0 } }
+    ensures ematch_header { (x : TcEmatchHeader) → ⟦<TcEmatchHeader as Default>⟧.is_default x → x ≡ record { matchid = 0; kind = 0; flags = 0 } }
+    ensures ematch_tree_header { (x : TcEmatchTreeHeader) → ⟦<TcEmatchTreeHeader as Default>⟧.is_default x → x ≡ record { nmatches = 0; progid = 0 } }
 {}
 
 /// `==` answers whether two values are equal.
@@ -56,17 +69,24 @@ pub fn law_equality()
     ensures option_flags { IsEquality ⟦<TcU32OptionFlags as PartialEq>⟧.eq }
     ensures key { IsEquality ⟦<TcU32Key as PartialEq>⟧.eq }
     ensures mark { IsEquality ⟦<TcU32Mark as PartialEq>⟧.eq }
+    ensures ematch_header { IsEquality ⟦<TcEmatchHeader as PartialEq>⟧.eq }
+    ensures ematch_tree_header { IsEquality ⟦<TcEmatchTreeHeader as PartialEq>⟧.eq }
 {}
 
 /// `==` answers whether two values mean the same, where they hold a vector.
 pub fn law_equality_of_meanings()
     ensures u32_pcnt { IsEqualityOf u32_hits ⟦<TcU32Pcnt as PartialEq>⟧.eq }
     ensures match_all_pcnt { IsEqualityOf match_all_hits ⟦<TcMatchAllPcnt as PartialEq>⟧.eq }
+    ensures basic_pcnt { IsEqualityOf basic_hits ⟦<TcBasicPcnt as PartialEq>⟧.eq }
     ensures selector { IsEqualityOf u32_parts ⟦<TcU32Selector as PartialEq>⟧.eq }
     ensures u32 { IsEqualityOf u32_family.meaning ⟦<TcFilterU32Option as PartialEq>⟧.eq }
     ensures match_all { IsEqualityOf match_all_family.meaning ⟦<TcFilterMatchAllOption as PartialEq>⟧.eq }
     ensures fw { IsEqualityOf fw_family.meaning ⟦<TcFilterFwOption as PartialEq>⟧.eq }
     ensures bpf { IsEqualityOf bpf_family.meaning ⟦<TcFilterBpfOption as PartialEq>⟧.eq }
+    ensures ematch { IsEqualityOf ematch_family.meaning ⟦<TcEmatch as PartialEq>⟧.eq }
+    ensures ematch_tree { IsEqualityOf ematch_tree_family.meaning ⟦<TcEmatchTree as PartialEq>⟧.eq }
+    ensures basic { IsEqualityOf basic_family.meaning ⟦<TcFilterBasicOption as PartialEq>⟧.eq }
+    ensures flower_cfm { IsEqualityOf flower_cfm_family.meaning ⟦<TcFlowerCfmOption as PartialEq>⟧.eq }
     ensures flower_mpls_lse { IsEqualityOf flower_mpls_lse_family.meaning ⟦<TcFilterFlowerMplsLseOption as PartialEq>⟧.eq }
     ensures flower_mpls { IsEqualityOf flower_mpls_family.meaning ⟦<TcFilterFlowerMplsOption as PartialEq>⟧.eq }
     ensures flower { IsEqualityOf flower_family.meaning ⟦<TcFilterFlowerOption as PartialEq>⟧.eq }

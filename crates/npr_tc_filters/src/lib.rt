@@ -1,11 +1,21 @@
 //! Filters of traffic control.
 #![tactic(auto)]
 
+mod basic;
+mod basic_pcnt;
 mod bpf;
+mod ematch;
+mod ematch_header;
+mod ematch_tree;
+mod ematch_tree_header;
 mod flower;
+mod flower_cfm;
 mod flower_form;
 mod flower_mpls;
 mod flower_mpls_lse;
+mod flower_option;
+mod flower_put;
+mod flower_rows;
 mod flower_value;
 mod fw;
 mod kinds;
@@ -21,12 +31,21 @@ mod u32_pcnt;
 mod u32_selector;
 mod u32_selector_flags;
 
+pub use basic::TcFilterBasicOption;
+pub use basic_pcnt::TcBasicPcnt;
 pub use bpf::TcFilterBpfOption;
-pub use flower::TcFilterFlowerOption;
+pub use ematch::TcEmatch;
+pub use ematch_header::TcEmatchHeader;
+pub use ematch_tree::TcEmatchTree;
+pub use ematch_tree_header::TcEmatchTreeHeader;
+pub use flower_cfm::TcFlowerCfmOption;
 pub use flower_mpls::TcFilterFlowerMplsOption;
 pub use flower_mpls_lse::TcFilterFlowerMplsLseOption;
+pub use flower_option::TcFilterFlowerOption;
 pub use fw::TcFilterFwOption;
-pub use kinds::{TcFilterBpf, TcFilterFlower, TcFilterFw, TcFilterMatchAll, TcFilterU32};
+pub use kinds::{
+    TcFilterBasic, TcFilterBpf, TcFilterFlower, TcFilterFw, TcFilterMatchAll, TcFilterU32,
+};
 pub use match_all::TcFilterMatchAllOption;
 pub use match_all_pcnt::TcMatchAllPcnt;
 pub use u32_key::TcU32Key;

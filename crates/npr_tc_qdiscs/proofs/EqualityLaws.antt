@@ -1,14 +1,17 @@
 -- What `==` answers of queueing disciplines and their counters: whether two values are equal, or mean the same.
 use Rattle.std.specs.Prelude.{ℕ}
 use Rattle.std.specs.Cmp.{signed_Decides, unsigned_Decides}
-use Rattle.std.proofs.Common.{refl, rules}
+use Rattle.std.proofs.Common.{refl, rules, map}
 use Rattle.npr_base.specs.EnumTable.{◌also◌}
 use Rattle.npr_base.specs.Equality.{IsEquality, IsEqualityOf}
 use Rattle.npr_base.specs.Tables.{table_decides}
 use Rattle.npr_base.proofs.EqualityLaws.{one_equality}
 use Rattle.npr_base.proofs.FieldEquality.{one, number, kept}
-use Rattle.npr_base.proofs.MeaningLaws.{enum_meaning, one_meaning, items_equality}
+use Rattle.npr_base.proofs.MeaningLaws.{enum_meaning, one_meaning, items_equality, items_meaning}
 use Rattle.npr_base.proofs.StructLaws.{◌beside◌, struct_equality}
+use Rattle.npr_tc_qdiscs.proofs.CounterEquality.{fq_qd_stats_equality, red_xstats_equality, netem_xstats_equality, sfq_xstats_equality}
+use Rattle.npr_tc_qdiscs.proofs.CounterEquality.{cake_stat_equality}
+use Rattle.npr_tc_qdiscs.specs.CakeStat as OfCakeStat
 use Rattle.npr_tc_qdiscs.specs.FqCodel as OfFqCodel
 use Rattle.npr_tc_qdiscs.specs.FqCodelXstats as X
 use Rattle.npr_tc_qdiscs.specs.Ingress as OfIngress
@@ -114,7 +117,12 @@ fq_codel_xstats_equality =
 xstats_order : K.Xstats → ℕ
 xstats_order (K.fq_codel x) = 0
 xstats_order (K.htb bytes) = 1
-xstats_order (K.other bytes) = 2
+xstats_order (K.fq bytes) = 2
+xstats_order (K.red bytes) = 3
+xstats_order (K.netem bytes) = 4
+xstats_order (K.sfq bytes) = 5
+xstats_order (K.cake xs) = 6
+xstats_order (K.other bytes) = 7
 
 pub xstats_equality : IsEqualityOf K.xstats_of XstatsEq.ghosts.eq
 unfolding xstats_order
@@ -122,6 +130,14 @@ xstats_equality =
     enum_meaning xstats_order xstats_enum K.xstats_of _ (λ t.
     (λ x. refl, one_meaning X.fq_codel_xstats_of K.fq_codel fq_codel_xstats_equality (λ p q e. cc)) also
     (λ x. refl, one_meaning (λ h. h.bytes.items) K.htb htb_xstats_equality (λ p q e. cc)) also
+    (λ x. refl, one_meaning (λ h. h.bytes.items) K.fq fq_qd_stats_equality (λ p q e. cc)) also
+    (λ x. refl, one_meaning (λ h. h.bytes.items) K.red red_xstats_equality (λ p q e. cc)) also
+    (λ x. refl, one_meaning (λ h. h.bytes.items) K.netem netem_xstats_equality (λ p q e. cc)) also
+    (λ x. refl, one_meaning (λ h. h.bytes.items) K.sfq sfq_xstats_equality (λ p q e. cc)) also (
+      λ x. refl,
+      one_meaning (λ v. map OfCakeStat.family.meaning v.items) K.cake (items_meaning OfCakeStat.family.meaning cake_stat_equality)
+          (λ p q e. cc),
+    ) also
     (λ x. refl, one_meaning (λ v. v.items) K.other (items_equality unsigned_Decides) (λ p q e. cc)) also tt)
 
 -- ---- sets

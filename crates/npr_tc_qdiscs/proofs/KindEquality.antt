@@ -14,6 +14,9 @@ use Rattle.npr_base.specs.Message.{View}
 use Rattle.npr_tc_qdiscs.specs.Fq as OfFq
 use Rattle.npr_tc_qdiscs.specs.FqWeights.{fq_weights_of}
 use Rattle.npr_tc_qdiscs.specs.Htb as OfHtb
+use Rattle.npr_tc_qdiscs.specs.Mqprio.{Mqprio, mqprio_of}
+use Rattle.npr_tc_qdiscs.specs.MqprioEntry as OfMqprioEntry
+use Rattle.npr_tc_qdiscs.specs.MqprioOption as OfMqprioOption
 use Rattle.npr_tc_qdiscs.specs.Netem.{netems, netem_of}
 use Rattle.npr_tc_qdiscs.specs.NetemLoss as OfNetemLoss
 use Rattle.npr_tc_qdiscs.specs.NetemOption as OfNetemOption
@@ -28,6 +31,11 @@ use Rattle.npr_tc_qdiscs.specs.contracts.htb_glob.TcHtbGlob.{struct as htb_glob_
 use Rattle.npr_tc_qdiscs.specs.contracts.htb_glob.TcHtbGlobPartialEq.TheImpl as HtbGlobEq
 use Rattle.npr_tc_qdiscs.specs.contracts.htb_opt.TcHtbOpt.{struct as htb_opt_struct}
 use Rattle.npr_tc_qdiscs.specs.contracts.htb_opt.TcHtbOptPartialEq.TheImpl as HtbOptEq
+use Rattle.npr_tc_qdiscs.specs.contracts.mqprio.TcMqprioPartialEq.TheImpl as MqprioEq
+use Rattle.npr_tc_qdiscs.specs.contracts.mqprio_entry.TcMqprioEntryPartialEq.TheImpl as MqprioEntryEq
+use Rattle.npr_tc_qdiscs.specs.contracts.mqprio_option.TcQdiscMqprioOptionPartialEq.TheImpl as QdiscMqprioOptionEq
+use Rattle.npr_tc_qdiscs.specs.contracts.mqprio_qopt.TcMqprioQopt.{struct as mqprio_qopt_struct}
+use Rattle.npr_tc_qdiscs.specs.contracts.mqprio_qopt.TcMqprioQoptPartialEq.TheImpl as MqprioQoptEq
 use Rattle.npr_tc_qdiscs.specs.contracts.netem.TcNetemPartialEq.TheImpl as NetemEq
 use Rattle.npr_tc_qdiscs.specs.contracts.netem_corr.TcNetemCorr.{struct as netem_corr_struct}
 use Rattle.npr_tc_qdiscs.specs.contracts.netem_corr.TcNetemCorrPartialEq.TheImpl as NetemCorrEq
@@ -139,6 +147,11 @@ netem_ge_model_equality =
     struct_equality netem_ge_model_struct (λ v. tt) (λ d. refl)
     (unsigned_Decides beside unsigned_Decides beside unsigned_Decides beside one_equality unsigned_Decides)
 
+pub mqprio_qopt_equality : IsEquality MqprioQoptEq.ghosts.eq
+mqprio_qopt_equality =
+    struct_equality mqprio_qopt_struct (λ v. tt) (λ d. refl)
+    (unsigned_Decides beside bytes_equality beside unsigned_Decides beside bytes_equality beside one_equality bytes_equality)
+
 -- ---- bytes and numbers
 
 pub fq_weights_equality : IsEqualityOf fq_weights_of FqWeightsEq.ghosts.eq
@@ -185,3 +198,18 @@ netem_equality a b =
     (λ p. λ i. record { header = p.0 i; attributes = p.1 i })
     (λ e. (ap (λ (m : View netems). m.header) e, ap (λ (m : View netems). m.attributes) e))
     (and_decides (netem_qopt_equality a.qopt b.qopt) (items_meaning OfNetemOption.family.meaning netem_option_equality a.options b.options))
+
+pub mqprio_entry_equality : IsEqualityOf OfMqprioEntry.family.meaning MqprioEntryEq.ghosts.eq
+mqprio_entry_equality = table_decides OfMqprioEntry.table _ (number also number also kept also tt)
+
+pub mqprio_option_equality : IsEqualityOf OfMqprioOption.family.meaning QdiscMqprioOptionEq.ghosts.eq
+mqprio_option_equality =
+    table_decides OfMqprioOption.table _
+    (number also number also bytes also bytes also list mqprio_entry_equality also kept also tt)
+
+pub mqprio_equality : IsEqualityOf mqprio_of MqprioEq.ghosts.eq
+mqprio_equality a b =
+    decides_as
+    (λ p. λ i. record { header = p.0 i; attributes = p.1 i })
+    (λ e. (ap (λ (m : Mqprio). m.header) e, ap (λ (m : Mqprio). m.attributes) e))
+    (and_decides (mqprio_qopt_equality a.qopt b.qopt) (items_meaning OfMqprioOption.family.meaning mqprio_option_equality a.options b.options))

@@ -1,2 +1,4 @@
+pub mod CounterEquality
 pub mod EqualityLaws
+pub mod KeptUnder
 pub mod KindEquality

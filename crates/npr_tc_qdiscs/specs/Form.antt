@@ -11,4 +11,5 @@ form_named =
     ∷ (codes "flower", TcForm.Flower) ∷ (codes "matchall", TcForm.MatchAll) ∷ (codes "htb", TcForm.Htb) ∷ (codes "tbf", TcForm.Tbf)
     ∷ (codes "red", TcForm.Red) ∷ (codes "fq", TcForm.Fq) ∷ (codes "netem", TcForm.Netem) ∷ (codes "prio", TcForm.Prio)
     ∷ (codes "pfifo_fast", TcForm.Prio) ∷ (codes "pfifo", TcForm.Fifo) ∷ (codes "bfifo", TcForm.Fifo) ∷ (codes "pfifo_head_drop", TcForm.Fifo)
-    ∷ (codes "fw", TcForm.Fw) ∷ (codes "bpf", TcForm.Bpf) ∷ [])
+    ∷ (codes "fw", TcForm.Fw) ∷ (codes "bpf", TcForm.Bpf) ∷ (codes "cake", TcForm.Cake) ∷ (codes "sfq", TcForm.Sfq)
+    ∷ (codes "basic", TcForm.Basic) ∷ [])

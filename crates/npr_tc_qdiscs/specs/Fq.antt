@@ -1,5 +1,5 @@
 -- The data of `fq` (linux/pkt_sched.h, TCA_FQ_*), by the table.
-use Rattle.npr_base.specs.declared.refusal.AttributeSet.TheVariants.{TcQdiscFq as AtTcQdiscFq}
+use Rattle.npr_base.specs.declared.attribute_set.AttributeSet.TheVariants.{TcQdiscFq as AtTcQdiscFq}
 use Rattle.npr_base.specs.Tables.{EnumTable, table_of, row, others, ◌or◌, byte, exactly, le32, leading, seen, value, refl, Reading, Family}
 use Rattle.npr_base.specs.Tables.{writing_of, attributes_of, family_of_table}
 use Rattle.npr_tc_qdiscs.specs.FqWeights.{fq_weights, fq_weights_of}

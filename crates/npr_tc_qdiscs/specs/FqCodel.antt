@@ -1,5 +1,5 @@
 -- The data of fq_codel (linux/pkt_sched.h, TCA_FQ_CODEL_*), by the table.
-use Rattle.npr_base.specs.declared.refusal.AttributeSet.TheVariants.{TcQdiscFqCodel as AtFqCodel}
+use Rattle.npr_base.specs.declared.attribute_set.AttributeSet.TheVariants.{TcQdiscFqCodel as AtFqCodel}
 use Rattle.npr_base.specs.Tables.{EnumTable, table_of, row, others, ◌or◌, exactly, le32, byte, value, refl, Reading, Family, writing_of}
 use Rattle.npr_base.specs.Tables.{attributes_of, family_of_table}
 use Rattle.npr_tc_qdiscs.specs.contracts.fq_codel.TcQdiscFqCodelOption.{enum}

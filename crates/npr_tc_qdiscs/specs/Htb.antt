@@ -1,5 +1,5 @@
 -- The data of `htb` (linux/pkt_sched.h, TCA_HTB_*), by the table.
-use Rattle.npr_base.specs.declared.refusal.AttributeSet.TheVariants.{TcQdiscHtb as AtTcQdiscHtb}
+use Rattle.npr_base.specs.declared.attribute_set.AttributeSet.TheVariants.{TcQdiscHtb as AtTcQdiscHtb}
 use Rattle.npr_base.specs.Tables.{EnumTable, table_of, row, others, ◌or◌, dropped, exactly, items, le32, le64, leading, nothing, raw, value, refl}
 use Rattle.npr_base.specs.Tables.{Reading, Family, writing_of, attributes_of, family_of_table}
 use Rattle.npr_tc_qdiscs.specs.HtbGlob.{htb_glob}

@@ -1,5 +1,5 @@
 -- The data of ingress and of clsact (linux/pkt_sched.h), which have no numbers: each attribute stands for itself.
-use Rattle.npr_base.specs.declared.refusal.AttributeSet.TheVariants.{TcQdiscIngress as AtIngress}
+use Rattle.npr_base.specs.declared.attribute_set.AttributeSet.TheVariants.{TcQdiscIngress as AtIngress}
 use Rattle.npr_base.specs.declared.value.Form.TheVariants.{Raw}
 use Rattle.npr_base.specs.Refusal.{at_number}
 use Rattle.npr_base.specs.Tables.{EnumTable, table_of, others, value, refl, Reading, Family, writing_of, attributes_of, family_of_table}

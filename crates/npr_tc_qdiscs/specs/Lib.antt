@@ -1,4 +1,12 @@
 pub mod Bitfield
+pub mod Cake
+pub mod CakeAckFilter
+pub mod CakeAtm
+pub mod CakeDiffservMode
+pub mod CakeFlowMode
+pub mod CakeStat
+pub mod CakeTin
+pub mod CakeTinStat
 pub mod Estimator
 pub mod FieldAt
 pub mod FifoQopt
@@ -13,6 +21,10 @@ pub mod HtbGlob
 pub mod HtbOpt
 pub mod Ingress
 pub mod Kept
+pub mod Mqprio
+pub mod MqprioEntry
+pub mod MqprioOption
+pub mod MqprioQopt
 pub mod Netem
 pub mod NetemCorr
 pub mod NetemCorrupt
@@ -24,11 +36,13 @@ pub mod NetemQopt
 pub mod NetemRate
 pub mod NetemReorder
 pub mod NetemSlot
+pub mod Numbered
 pub mod PrioQopt
 pub mod RateSpec
 pub mod Red
 pub mod RedQopt
 pub mod SizeSpec
+pub mod Spaced
 pub mod Stab
 pub mod StabData
 pub mod Stats
@@ -39,5 +53,6 @@ pub mod StatsRateEst
 pub mod StatsRateEst64
 pub mod Tbf
 pub mod TbfQopt
+pub mod WordsField
 pub mod Xstats
 pub mod lemmas

@@ -1,7 +1,7 @@
 -- The data of netem (linux/pkt_sched.h, struct tc_netem_qopt and TCA_NETEM_*): a structure, and attributes to the end.
 use Rattle.std.proofs.Common.{map}
 use Rattle.npr_base.specs.Codec.{Codec}
-use Rattle.npr_base.specs.declared.refusal.AttributeSet.TheVariants.{TcQdiscNetem as AtTcQdiscNetem}
+use Rattle.npr_base.specs.declared.attribute_set.AttributeSet.TheVariants.{TcQdiscNetem as AtTcQdiscNetem}
 use Rattle.npr_base.specs.Message.{Grammar, View}
 use Rattle.npr_base.specs.MessageValue.{value_grammar, message_value}
 use Rattle.npr_tc_qdiscs.specs.NetemOption as OfNetemOption

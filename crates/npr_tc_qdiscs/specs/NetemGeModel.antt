@@ -9,4 +9,5 @@ use Rattle.npr_tc_qdiscs.specs.declared.netem_ge_model.TcNetemGeModel.{TcNetemGe
 abbrev pub netem_ge_model : Layout TcNetemGeModel
 netem_ge_model =
     structure struct
-    (TcNetemGeModel.p fills le_four then TcNetemGeModel.r fills le_four then TcNetemGeModel.h fills le_four then last (TcNetemGeModel.k1 fills le_four)) refl (λ v. tt)
+    (TcNetemGeModel.p fills le_four then TcNetemGeModel.r fills le_four then TcNetemGeModel.h fills le_four
+    then last (TcNetemGeModel.k1 fills le_four)) refl (λ v. tt)

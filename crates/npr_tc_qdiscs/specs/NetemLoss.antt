@@ -1,5 +1,5 @@
 -- The loss of packets by `netem` (linux/pkt_sched.h, NETEM_LOSS_*), by the table.
-use Rattle.npr_base.specs.declared.refusal.AttributeSet.TheVariants.{TcNetemLoss as AtTcNetemLoss}
+use Rattle.npr_base.specs.declared.attribute_set.AttributeSet.TheVariants.{TcNetemLoss as AtTcNetemLoss}
 use Rattle.npr_base.specs.Tables.{EnumTable, table_of, row, others, ◌or◌, leading, value, refl, Reading, Family, writing_of, attributes_of}
 use Rattle.npr_base.specs.Tables.{family_of_table}
 use Rattle.npr_tc_qdiscs.specs.NetemGeModel.{netem_ge_model}

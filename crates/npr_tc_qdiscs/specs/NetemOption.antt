@@ -1,8 +1,8 @@
 -- The attributes of `netem` (linux/pkt_sched.h, TCA_NETEM_*), by the table.
-use Rattle.npr_base.specs.declared.refusal.AttributeSet.TheVariants.{TcQdiscNetem as AtTcQdiscNetem}
+use Rattle.npr_base.specs.declared.attribute_set.AttributeSet.TheVariants.{TcQdiscNetem as AtTcQdiscNetem}
 use Rattle.npr_base.specs.Tables.{EnumTable, table_of, row, others, ◌or◌, exactly, items, le32, le64, leading, list_of, listed, raw, signed64, value}
 use Rattle.npr_base.specs.Tables.{refl, Reading, Family, writing_of, attributes_of, family_of_table}
-use Rattle.npr_base.specs.declared.refusal.AttributeSet.TheVariants.{TcNetemLoss as AtTcNetemLoss}
+use Rattle.npr_base.specs.declared.attribute_set.AttributeSet.TheVariants.{TcNetemLoss as AtTcNetemLoss}
 use Rattle.npr_tc_qdiscs.specs.NetemCorr.{netem_corr}
 use Rattle.npr_tc_qdiscs.specs.NetemCorrupt.{netem_corrupt}
 use Rattle.npr_tc_qdiscs.specs.NetemLoss as OfNetemLoss

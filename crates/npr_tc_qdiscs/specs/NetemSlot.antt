@@ -11,4 +11,5 @@ abbrev pub netem_slot : Layout TcNetemSlot
 netem_slot =
     structure struct
     (TcNetemSlot.min_delay fills signed_eight then TcNetemSlot.max_delay fills signed_eight then TcNetemSlot.max_packets fills signed_four
-    then TcNetemSlot.max_bytes fills signed_four then TcNetemSlot.dist_delay fills signed_eight then last (TcNetemSlot.dist_jitter fills signed_eight)) refl (λ v. tt)
+    then TcNetemSlot.max_bytes fills signed_four then TcNetemSlot.dist_delay fills signed_eight
+    then last (TcNetemSlot.dist_jitter fills signed_eight)) refl (λ v. tt)

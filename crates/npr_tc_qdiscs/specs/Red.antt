@@ -1,5 +1,5 @@
 -- The data of `red` (linux/pkt_sched.h, TCA_RED_*), by the table.
-use Rattle.npr_base.specs.declared.refusal.AttributeSet.TheVariants.{TcQdiscRed as AtTcQdiscRed}
+use Rattle.npr_base.specs.declared.attribute_set.AttributeSet.TheVariants.{TcQdiscRed as AtTcQdiscRed}
 use Rattle.npr_base.specs.Tables.{EnumTable, table_of, row, others, ◌or◌, exactly, items, le32, leading, raw, value, refl, Reading, Family}
 use Rattle.npr_base.specs.Tables.{writing_of, attributes_of, family_of_table}
 use Rattle.npr_tc_qdiscs.specs.Bitfield.{bitfield}

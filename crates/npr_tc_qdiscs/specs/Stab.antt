@@ -1,5 +1,5 @@
 -- A table of sizes (linux/pkt_sched.h, TCA_STAB_*), by the table.
-use Rattle.npr_base.specs.declared.refusal.AttributeSet.TheVariants.{TcStab as AtStab}
+use Rattle.npr_base.specs.declared.attribute_set.AttributeSet.TheVariants.{TcStab as AtStab}
 use Rattle.npr_base.specs.Tables.{EnumTable, table_of, row, others, ◌or◌, leading, seen, value, refl, Reading, Family, writing_of}
 use Rattle.npr_base.specs.Tables.{attributes_of, family_of_table}
 use Rattle.npr_tc_qdiscs.specs.SizeSpec.{size_spec}

@@ -1,6 +1,6 @@
 -- What went by (linux/gen_stats.h, TCA_STATS_*), by the table under what governs the message.
 use Rattle.std.proofs.Common.{◌≡◌, inl, inr}
-use Rattle.npr_base.specs.declared.refusal.AttributeSet.TheVariants.{TcStats2 as AtStats2}
+use Rattle.npr_base.specs.declared.attribute_set.AttributeSet.TheVariants.{TcStats2 as AtStats2}
 use Rattle.npr_base.specs.EnumFamily.{rewritten}
 use Rattle.npr_base.specs.Family.{Writing}
 use Rattle.npr_base.specs.Tables.{EnumTable, table_of, row, others, ◌or◌, exactly, leading, le64, value, seen, refl, Reading, Family}

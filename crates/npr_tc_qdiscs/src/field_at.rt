@@ -1,7 +1,7 @@
 //! Structures that grew over the years, kept as their bytes.
 
 ghost use Rattle.std.specs.Prelude.{◌≡◌};
-ghost use Rattle.npr_tc_qdiscs.specs.FieldAt.{field_at};
+ghost use Rattle.npr_tc_qdiscs.specs.FieldAt.{field_at, word8};
 
 use npr_base::Block;
 
@@ -14,4 +14,11 @@ pub(crate) fn number_at<T: Block>(bytes: &[u8], at: usize) -> T
     } else {
         T::zero()
     }
+}
+
+/// The byte that stands at this place, and 0 where they end before it.
+pub(crate) fn byte_at(bytes: &[u8], at: usize) -> u8
+    ensures { result ≡ field_at word8 bytes.now at }
+{
+    if at < bytes.len() { bytes[at] } else { 0 }
 }

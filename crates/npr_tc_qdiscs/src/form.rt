@@ -40,6 +40,12 @@ pub enum TcForm {
     Fw = 14,
     /// The data of the filter `bpf`.
     Bpf = 15,
+    /// The data of `cake`.
+    Cake = 16,
+    /// The data of `sfq`.
+    Sfq = 17,
+    /// The data of the filter `basic`.
+    Basic = 18,
 }
 
 /// What governs data, by the names of the kinds.
@@ -64,6 +70,9 @@ macro_rules! forms {
             "pfifo_head_drop" Fifo;
             "fw" Fw;
             "bpf" Bpf;
+            "cake" Cake;
+            "sfq" Sfq;
+            "basic" Basic;
         })
     };
 }

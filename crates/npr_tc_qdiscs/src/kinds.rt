@@ -63,3 +63,27 @@ impl TcQdiscPrio {
     /// Its name.
     pub const KIND: &'static str = "prio";
 }
+
+/// The queueing discipline `cake`.
+pub struct TcQdiscCake {}
+
+impl TcQdiscCake {
+    /// Its name.
+    pub const KIND: &'static str = "cake";
+}
+
+/// The queueing discipline `sfq`.
+pub struct TcQdiscSfq {}
+
+impl TcQdiscSfq {
+    /// Its name.
+    pub const KIND: &'static str = "sfq";
+}
+
+/// The queueing discipline `mqprio`.
+pub struct TcQdiscMqprio {}
+
+impl TcQdiscMqprio {
+    /// Its name.
+    pub const KIND: &'static str = "mqprio";
+}

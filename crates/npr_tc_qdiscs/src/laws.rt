@@ -5,6 +5,14 @@ ghost use Rattle.std.specs.Prelude.{◌≡◌, ◌<◌, ◌^◌, ◌∷◌, ◌+
 ghost use Rattle.{
   npr_base.specs.{Equality.{IsEquality, IsEqualityOf}},
   npr_tc_qdiscs.specs.{
+    Cake.{family as cake_family},
+    CakeAckFilter.{cake_ack_filters},
+    CakeAtm.{cake_atms},
+    CakeDiffservMode.{cake_diffserv_modes},
+    CakeFlowMode.{cake_flow_modes},
+    CakeStat.{family as cake_stat_family},
+    CakeTin.{family as cake_tin_family},
+    CakeTinStat.{family as cake_tin_stat_family},
     Form.{form_named},
     FqCodel.{family as fq_codel_family},
     FqCodelXstats.{class, class_mark, counter_bytes, counters_in, fq_codel_xstats_of, has_mark, other, qdisc, qdisc_mark},
@@ -12,6 +20,9 @@ ghost use Rattle.{
     Fq.{family as fq_family},
     FqWeights.{fq_weights_of},
     Htb.{family as htb_family},
+    Mqprio.{mqprio_of},
+    MqprioEntry.{family as mqprio_entry_family},
+    MqprioOption.{family as mqprio_option_family},
     Netem.{netem_of},
     NetemLoss.{family as netem_loss_family},
     NetemOption.{family as netem_option_family},
@@ -27,6 +38,14 @@ ghost use Rattle.{
 };
 
 use crate::bitfield::TcBitfield;
+use crate::cake::TcQdiscCakeOption;
+use crate::cake_ack_filter::TcCakeAckFilter;
+use crate::cake_atm::TcCakeAtm;
+use crate::cake_diffserv_mode::TcCakeDiffservMode;
+use crate::cake_flow_mode::TcCakeFlowMode;
+use crate::cake_stat::TcCakeStat;
+use crate::cake_tin::TcCakeTin;
+use crate::cake_tin_stat::TcCakeTinStat;
 use crate::estimator::TcEstimator;
 use crate::fifo_qopt::TcFifoQopt;
 use crate::form::TcForm;
@@ -35,6 +54,7 @@ use crate::fq_codel::TcQdiscFqCodelOption;
 use crate::fq_codel_cl_stats::TcFqCodelClStats;
 use crate::fq_codel_qd_stats::TcFqCodelQdStats;
 use crate::fq_codel_xstats::TcFqCodelXstats;
+use crate::fq_qd_stats::TcFqQdStats;
 use crate::fq_weights::TcFqWeights;
 use crate::handle::TcHandle;
 use crate::htb::TcQdiscHtbOption;
@@ -43,9 +63,13 @@ use crate::htb_opt::TcHtbOpt;
 use crate::htb_xstats::TcHtbXstats;
 use crate::ingress::TcQdiscIngressOption;
 use crate::kinds::{
-    TcQdiscFq, TcQdiscFqCodel, TcQdiscHtb, TcQdiscIngress, TcQdiscNetem, TcQdiscPrio, TcQdiscRed,
-    TcQdiscTbf,
+    TcQdiscCake, TcQdiscFq, TcQdiscFqCodel, TcQdiscHtb, TcQdiscIngress, TcQdiscMqprio,
+    TcQdiscNetem, TcQdiscPrio, TcQdiscRed, TcQdiscSfq, TcQdiscTbf,
 };
+use crate::mqprio::TcMqprio;
+use crate::mqprio_entry::TcMqprioEntry;
+use crate::mqprio_option::TcQdiscMqprioOption;
+use crate::mqprio_qopt::TcMqprioQopt;
 use crate::netem::TcNetem;
 use crate::netem_corr::TcNetemCorr;
 use crate::netem_corrupt::TcNetemCorrupt;
@@ -57,10 +81,14 @@ use crate::netem_qopt::TcNetemQopt;
 use crate::netem_rate::TcNetemRate;
 use crate::netem_reorder::TcNetemReorder;
 use crate::netem_slot::TcNetemSlot;
+use crate::netem_xstats::TcNetemXstats;
 use crate::prio_qopt::TcPrioQopt;
 use crate::rate_spec::TcRateSpec;
 use crate::red::TcQdiscRedOption;
 use crate::red_qopt::TcRedQopt;
+use crate::red_xstats::TcRedXstats;
+use crate::sfq_qopt::TcSfqQopt;
+use crate::sfq_xstats::TcSfqXstats;
 use crate::size_spec::TcSizeSpec;
 use crate::stab::TcStab;
 use crate::stab_data::TcStabData;
@@ -78,6 +106,14 @@ use crate::xstats::TcXstats;
 pub fn law_handles()
     ensures number { (d : ℕ) → handles.number (handles.of d) ≡ d }
     ensures back { (h : Handle) → h.minor < 2 ^ 16 → handles.of (handles.number h) ≡ h }
+{}
+
+/// What a number reads as is written as that number.
+pub fn law_numbers()
+    ensures diffserv { (d : ℕ) → cake_diffserv_modes.number (cake_diffserv_modes.of d) ≡ d }
+    ensures atm { (d : ℕ) → cake_atms.number (cake_atms.of d) ≡ d }
+    ensures flow { (d : ℕ) → cake_flow_modes.number (cake_flow_modes.of d) ≡ d }
+    ensures ack_filter { (d : ℕ) → cake_ack_filters.number (cake_ack_filters.of d) ≡ d }
 {}
 
 /// The named handles and minor numbers (`linux/pkt_sched.h`).
@@ -111,6 +147,10 @@ pub fn law_forms()
     ensures pfifo_head_drop { form_named (codes "pfifo_head_drop") ≡ TcForm.Fifo }
     ensures fw { form_named (codes "fw") ≡ TcForm.Fw }
     ensures bpf { form_named (codes "bpf") ≡ TcForm.Bpf }
+    ensures cake { form_named (TcQdiscCake.KIND).now ≡ TcForm.Cake }
+    ensures sfq { form_named (TcQdiscSfq.KIND).now ≡ TcForm.Sfq }
+    ensures basic { form_named (codes "basic") ≡ TcForm.Basic }
+    ensures mqprio { form_named (TcQdiscMqprio.KIND).now ≡ TcForm.Kept }
     ensures unknown { form_named (codes "noqueue") ≡ TcForm.Kept }
 {}
 
@@ -176,6 +216,13 @@ pub fn law_default()
         → x ≡ record { p13 = 0; p31 = 0; p32 = 0; p14 = 0; p23 = 0 } }
     ensures netem_ge_model { (x : TcNetemGeModel) → ⟦<TcNetemGeModel as Default>⟧.is_default x
         → x ≡ record { p = 0; r = 0; h = 0; k1 = 0 } }
+    ensures mqprio_qopt { (x : TcMqprioQopt) → ⟦<TcMqprioQopt as Default>⟧.is_default x → x ≡ record {
+      num_tc = 0;
+      prio_tc_map = 0 ∷ 0 ∷ 0 ∷ 0 ∷ 0 ∷ 0 ∷ 0 ∷ 0 ∷ 0 ∷ 0 ∷ 0 ∷ 0 ∷ 0 ∷ 0 ∷ 0 ∷ 0 ∷ [];
+      hw = 0;
+      count = 0 ∷ 0 ∷ 0 ∷ 0 ∷ 0 ∷ 0 ∷ 0 ∷ 0 ∷ 0 ∷ 0 ∷ 0 ∷ 0 ∷ 0 ∷ 0 ∷ 0 ∷ 0 ∷ [];
+      offset = 0 ∷ 0 ∷ 0 ∷ 0 ∷ 0 ∷ 0 ∷ 0 ∷ 0 ∷ 0 ∷ 0 ∷ 0 ∷ 0 ∷ 0 ∷ 0 ∷ 0 ∷ 0 ∷ [];
+    } }
 {}
 
 /// `==` answers whether two values are equal.
@@ -205,6 +252,11 @@ pub fn law_equality()
     ensures netem_slot { IsEquality ⟦<TcNetemSlot as PartialEq>⟧.eq }
     ensures netem_gi_model { IsEquality ⟦<TcNetemGiModel as PartialEq>⟧.eq }
     ensures netem_ge_model { IsEquality ⟦<TcNetemGeModel as PartialEq>⟧.eq }
+    ensures mqprio_qopt { IsEquality ⟦<TcMqprioQopt as PartialEq>⟧.eq }
+    ensures cake_diffserv_mode { IsEquality ⟦<TcCakeDiffservMode as PartialEq>⟧.eq }
+    ensures cake_atm { IsEquality ⟦<TcCakeAtm as PartialEq>⟧.eq }
+    ensures cake_flow_mode { IsEquality ⟦<TcCakeFlowMode as PartialEq>⟧.eq }
+    ensures cake_ack_filter { IsEquality ⟦<TcCakeAckFilter as PartialEq>⟧.eq }
 {}
 
 /// `==` answers whether two values mean the same, where they hold a vector.
@@ -218,6 +270,11 @@ pub fn law_equality_of_meanings()
     ensures ingress { IsEqualityOf ingress_family.meaning ⟦<TcQdiscIngressOption as PartialEq>⟧.eq }
     ensures stab { IsEqualityOf stab_family.meaning ⟦<TcStab as PartialEq>⟧.eq }
     ensures htb_xstats { IsEqualityOf (λ x. x.bytes.items) ⟦<TcHtbXstats as PartialEq>⟧.eq }
+    ensures fq_qd_stats { IsEqualityOf (λ x. x.bytes.items) ⟦<TcFqQdStats as PartialEq>⟧.eq }
+    ensures red_xstats { IsEqualityOf (λ x. x.bytes.items) ⟦<TcRedXstats as PartialEq>⟧.eq }
+    ensures netem_xstats { IsEqualityOf (λ x. x.bytes.items) ⟦<TcNetemXstats as PartialEq>⟧.eq }
+    ensures sfq_qopt { IsEqualityOf (λ x. x.bytes.items) ⟦<TcSfqQopt as PartialEq>⟧.eq }
+    ensures sfq_xstats { IsEqualityOf (λ x. x.bytes.items) ⟦<TcSfqXstats as PartialEq>⟧.eq }
     ensures fq_weights { IsEqualityOf fq_weights_of ⟦<TcFqWeights as PartialEq>⟧.eq }
     ensures htb { IsEqualityOf htb_family.meaning ⟦<TcQdiscHtbOption as PartialEq>⟧.eq }
     ensures tbf { IsEqualityOf tbf_family.meaning ⟦<TcQdiscTbfOption as PartialEq>⟧.eq }
@@ -226,5 +283,12 @@ pub fn law_equality_of_meanings()
     ensures netem_loss { IsEqualityOf netem_loss_family.meaning ⟦<TcNetemLoss as PartialEq>⟧.eq }
     ensures netem_option { IsEqualityOf netem_option_family.meaning ⟦<TcQdiscNetemOption as PartialEq>⟧.eq }
     ensures netem { IsEqualityOf netem_of ⟦<TcNetem as PartialEq>⟧.eq }
+    ensures cake { IsEqualityOf cake_family.meaning ⟦<TcQdiscCakeOption as PartialEq>⟧.eq }
+    ensures cake_tin_stat { IsEqualityOf cake_tin_stat_family.meaning ⟦<TcCakeTinStat as PartialEq>⟧.eq }
+    ensures cake_tin { IsEqualityOf cake_tin_family.meaning ⟦<TcCakeTin as PartialEq>⟧.eq }
+    ensures cake_stat { IsEqualityOf cake_stat_family.meaning ⟦<TcCakeStat as PartialEq>⟧.eq }
+    ensures mqprio_entry { IsEqualityOf mqprio_entry_family.meaning ⟦<TcMqprioEntry as PartialEq>⟧.eq }
+    ensures mqprio_option { IsEqualityOf mqprio_option_family.meaning ⟦<TcQdiscMqprioOption as PartialEq>⟧.eq }
+    ensures mqprio { IsEqualityOf mqprio_of ⟦<TcMqprio as PartialEq>⟧.eq }
     ensures stats2 { IsEqualityOf stats2_family.meaning ⟦<TcStats2 as PartialEq>⟧.eq }
 {}

@@ -13,9 +13,14 @@ ghost use Rattle.{
   npr_tc_qdiscs.specs.Xstats.{case, held, xstats, xstats_of},
 };
 
+use crate::cake_stat::TcCakeStat;
 use crate::form::TcForm;
 use crate::fq_codel_xstats::TcFqCodelXstats;
+use crate::fq_qd_stats::TcFqQdStats;
 use crate::htb_xstats::TcHtbXstats;
+use crate::netem_xstats::TcNetemXstats;
+use crate::red_xstats::TcRedXstats;
+use crate::sfq_xstats::TcSfqXstats;
 use npr_base::{DecodeError, EmitError, Form, Looks, read_bytes, write_bytes};
 use std::alloc::{AllocError, Global};
 
@@ -26,15 +31,40 @@ pub enum TcXstats {
     FqCodel(TcFqCodelXstats),
     /// Those of a class of `htb`.
     Htb(TcHtbXstats),
+    /// Those of `fq`.
+    Fq(TcFqQdStats),
+    /// Those of `red`.
+    Red(TcRedXstats),
+    /// Those of `netem`.
+    Netem(TcNetemXstats),
+    /// Those of a flow of `sfq`.
+    Sfq(TcSfqXstats),
+    /// Those of `cake`, or of one of its flows.
+    Cake(Vec<TcCakeStat>),
     /// The bytes of a kind whose counters are kept as they stand.
     Other(Vec<u8>),
+}
+
+/// The variants that hold fields or attributes. That of `fq_codel` stands beside them in each match.
+macro_rules! variants {
+    ($body:ident ($($given:tt)*)) => {
+        npr_base::$body!(($($given)*) TcXstats {
+            Htb(TcHtbXstats value raw);
+            Fq(TcFqQdStats value raw);
+            Red(TcRedXstats value raw);
+            Netem(TcNetemXstats value raw);
+            Sfq(TcSfqXstats value raw);
+            Cake(list TcCakeStat);
+        })
+    };
 }
 
 impl TcXstats {
     /// The counters of these bytes. Each look at a header is counted.
     ///
     /// # Errors
-    /// `OutOfMemory` where memory is refused; no bytes are refused.
+    /// `OutOfMemory` where memory is refused, and else the first fault in reading order; of bytes that are
+    /// kept none is one.
     pub fn read(
         alloc: Global,
         form: TcForm,
@@ -44,48 +74,45 @@ impl TcXstats {
         ensures ok { IfOk result (λ x. (xstats form).Reads bytes.now (xstats_of x)) }
         ensures refused { IfErr result (λ e. e ≢ OutOfMemory → (xstats form).Wrong no_place bytes.now e) }
         ensures exact { Answered result → TakesInside (xstats form).members.looks bytes.now looks.old looks.new }
-        // Memory is taken for bytes that are kept.
+        // Memory is taken for a first whole attribute, and for bytes that are kept.
         ensures memory { IsErrOf result OutOfMemory → (case form).memory bytes.now }
         ensures bounded { AddsAtMost looks.old looks.new (length bytes.now) }
     {
-        match form {
+        variants!(data_read(form, TcForm, alloc, bytes, looks;
             TcForm::FqCodel => Ok(TcXstats::FqCodel(TcFqCodelXstats::parse(alloc, bytes)?)),
-            TcForm::Htb => Ok(TcXstats::Htb(TcHtbXstats::read(alloc, bytes)?)),
             _ => Ok(TcXstats::Other(read_bytes(alloc, bytes)?)),
-        }
+        ))
     }
 
     /// How the counters are read without memory.
     pub fn form(form: TcForm) -> Form
         ensures { result ≡ (xstats form).showing.form }
     {
-        Form::Raw
+        variants!(data_form(form, TcForm; _ => Form::Raw,))
     }
 
     /// An equal value.
     ///
     /// # Errors
-    /// `AllocError` where memory is refused; without bytes to keep none is taken.
+    /// `AllocError` where memory is refused; where nothing stands in it none is taken.
     pub fn try_clone(&self, alloc: Global) -> Result<Self, AllocError>
         ensures ok { IfOk result (λ x. xstats_of x ≡ xstats_of self.now) }
         ensures memory { OnErr result (0 < (held (xstats_of self.now)).size) }
     {
-        match self {
+        variants!(data_cloned(self, alloc;
             TcXstats::FqCodel(x) => x.try_clone(alloc).map(TcXstats::FqCodel),
-            TcXstats::Htb(x) => x.try_clone(alloc).map(TcXstats::Htb),
             TcXstats::Other(bytes) => read_bytes(alloc, bytes.as_slice()).map(TcXstats::Other),
-        }
+        ))
     }
 
     /// The length of the bytes, or the first cause inside why there are none.
     pub fn check(&self) -> Result<usize, EmitError>
         ensures { result ≡ checked (held (xstats_of self.now)).unfit (length (held (xstats_of self.now)).encoded) }
     {
-        match self {
+        variants!(data_checked(self;
             TcXstats::FqCodel(x) => Ok(x.len()),
-            TcXstats::Htb(x) => Ok(x.len()),
             TcXstats::Other(bytes) => Ok(bytes.len()),
-        }
+        ))
     }
 
     /// Writes the bytes at the front of the slice, leaves the rest, and answers their length. Asks that
@@ -99,10 +126,9 @@ impl TcXstats {
         ensures len { result ≡ length (held (xstats_of self.now)).encoded }
         ensures after { Writes out.old out.new (held (xstats_of self.now)).encoded }
     {
-        match self {
+        variants!(data_written(self, out;
             TcXstats::FqCodel(x) => x.write(out),
-            TcXstats::Htb(x) => x.write(out),
             TcXstats::Other(bytes) => write_bytes(bytes.as_slice(), out),
-        }
+        ))
     }
 }

@@ -25,7 +25,7 @@ use std::fs;
 use std::path::{Path, PathBuf};
 
 /// The libraries, each before those that stand on it.
-pub const LIBRARIES: [&str; 22] = [
+pub const LIBRARIES: [&str; 23] = [
     "npr_base",
     "npr_names",
     "netlink_packet_core",
@@ -38,6 +38,7 @@ pub const LIBRARIES: [&str; 22] = [
     "npr_link_statistics",
     "npr_link_bridge",
     "npr_link_devices",
+    "npr_link_functions",
     "npr_link_tunnels",
     "npr_link",
     "npr_route",

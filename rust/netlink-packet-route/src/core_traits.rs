@@ -115,80 +115,36 @@ macro_rules! emitable {
 }
 emitable! {
     [H: Header] Message<H, H::Attribute>;
-    [] address::AddressHeader;
-    [] address::CacheInfo;
-    [] address_label::AddressLabelHeader;
-    [] link::BridgeBooleanOptions;
-    [] link::BridgeId;
-    [] link::Inet6CacheInfo;
-    [] link::LinkHeader;
-    [] link::LinkPeer;
-    [] link::Map;
-    [] neighbour::NeighbourAddress;
-    [] neighbour::NeighbourCacheInfo;
-    [] neighbour::NeighbourHeader;
-    [] neighbour_table::NeighbourTableConfig;
-    [] neighbour_table::NeighbourTableHeader;
-    [] neighbour_table::NeighbourTableStats;
-    [] netconf::NetconfHeader;
-    [] nexthop::NextHopGroupEntry;
-    [] nexthop::NextHopHeader;
-    [] nsid::NsidHeader;
-    [] prefix::CacheInfo;
-    [] prefix::PrefixHeader;
-    [] route::MplsLabel;
-    [] route::RouteAddress;
-    [] route::RouteCacheInfo;
-    [] route::RouteHeader;
-    [] route::RouteLwEnCapType;
-    [] route::RouteMfcStats;
-    [] route::RouteNextHop;
-    [] route::RouteProtocol;
-    [] route::RouteRealm;
-    [] route::RouteVia;
-    [] rule::RuleHeader;
-    [] rule::RulePortRange;
-    [] rule::RuleUidRange;
-    [] tc::TcActionGeneric;
-    [] tc::TcActionMessageFlagsWithSelector;
-    [] tc::TcActionMessageHeader;
-    [] tc::TcBitfield;
-    [] tc::TcBpfInstruction;
-    [] tc::TcCsum;
-    [] tc::TcEstimator;
-    [] tc::TcFifoQopt;
-    [] tc::TcGactProbability;
-    [] tc::TcHandle;
-    [] tc::TcHeader;
-    [] tc::TcHtbGlob;
-    [] tc::TcHtbOpt;
-    [] tc::TcMirror;
-    [] tc::TcNat;
-    [] tc::TcNetemCorr;
-    [] tc::TcNetemCorrupt;
-    [] tc::TcNetemGeModel;
-    [] tc::TcNetemGiModel;
-    [] tc::TcNetemQopt;
-    [] tc::TcNetemRate;
-    [] tc::TcNetemReorder;
-    [] tc::TcNetemSlot;
-    [] tc::TcPolice;
-    [] tc::TcPrioQopt;
-    [] tc::TcRateSpec;
-    [] tc::TcRedQopt;
-    [] tc::TcSizeSpec;
-    [] tc::TcStats;
-    [] tc::TcStatsBasic;
-    [] tc::TcStatsQueue;
-    [] tc::TcStatsRateEst;
-    [] tc::TcStatsRateEst64;
-    [] tc::TcTbfQopt;
-    [] tc::TcTunnelKey;
-    [] tc::TcU32Key;
-    [] tc::TcU32Mark;
-    [] tc::TcU32Selector;
-    [] tc::TcVlan;
-    [] tc::Tcf;
+}
+
+/// The same of those of a module.
+macro_rules! all_emitable {
+    ($($module:ident: $($value:ident)+;)*) => {$(
+        emitable! { $([] $module::$value;)+ }
+    )*};
+}
+all_emitable! {
+    address: AddressHeader CacheInfo;
+    address_label: AddressLabelHeader;
+    link: BridgeBooleanOptions BridgeId Inet6CacheInfo LinkHeader LinkPeer Map VfInfoBroadcast
+        VfInfoGuid VfInfoLinkState VfInfoMac VfInfoRate VfInfoSetting VfInfoTxRate VfInfoVlan
+        VfVlanInfo;
+    neighbour: NeighbourAddress NeighbourCacheInfo NeighbourHeader;
+    neighbour_table: NeighbourTableConfig NeighbourTableHeader NeighbourTableStats;
+    netconf: NetconfHeader;
+    nexthop: NextHopGroupEntry NextHopHeader;
+    nsid: NsidHeader;
+    prefix: CacheInfo PrefixHeader;
+    route: MplsLabel RouteAddress RouteCacheInfo RouteHeader RouteLwEnCapType RouteMfcStats
+        RouteNextHop RouteProtocol RouteRealm RouteVia;
+    rule: RuleHeader RulePortRange RuleUidRange;
+    tc: TcActionGeneric TcActionMessageFlagsWithSelector TcActionMessageHeader TcBitfield
+        TcBpfInstruction TcCsum TcEmatchHeader TcEmatchTreeHeader TcEstimator TcFifoQopt
+        TcGactProbability TcHandle TcHeader TcHtbGlob TcHtbOpt TcMirror TcMqprioQopt TcNat
+        TcNetemCorr TcNetemCorrupt TcNetemGeModel TcNetemGiModel TcNetemQopt TcNetemRate
+        TcNetemReorder TcNetemSlot TcPeditKey TcPeditSelector TcPolice TcPrioQopt TcRateSpec
+        TcRedQopt TcSizeSpec TcStats TcStatsBasic TcStatsQueue TcStatsRateEst64 TcStatsRateEst
+        TcTbfQopt TcTunnelKey TcU32Key TcU32Mark TcU32Selector TcVlan Tcf;
 }
 
 /// A value that is written as an attribute, whose frame is that of the other crate.
@@ -298,8 +254,9 @@ alone! {
     address::AddressAttribute;
     address_label::AddressLabelAttribute;
     link::AfSpecBridge;
-    link::AfSpecInet;
     link::AfSpecInet6;
+    link::AfSpecInet;
+    link::AfSpecMctp;
     link::AfSpecUnspec;
     link::BondAdInfo;
     link::BridgeMst;
@@ -311,11 +268,16 @@ alone! {
     link::InfoBridge;
     link::InfoBridgePort;
     link::InfoGeneve;
-    link::InfoGre;
     link::InfoGre6;
+    link::InfoGre;
+    link::InfoGtp;
+    link::InfoHsr;
     link::InfoIpVlan;
+    link::InfoIpoib;
+    link::InfoMacSec;
     link::InfoMacVlan;
     link::InfoNetkit;
+    link::InfoOvpn;
     link::InfoTun;
     link::InfoVeth;
     link::InfoVlan;
@@ -323,12 +285,18 @@ alone! {
     link::InfoVti;
     link::InfoVxlan;
     link::InfoXfrm;
+    link::LinkDpllPin;
     link::LinkProtocolDownReason;
+    link::LinkVfInfo;
     link::LinkXdp;
     link::MacVlanAddress;
     link::PeerAttribute;
     link::Prop;
+    link::VfInfo;
+    link::VfStats;
+    link::VfVlan;
     link::VlanQosMapping;
+    neighbour::NeighbourFdbAttribute;
     neighbour_table::NeighbourTableAttribute;
     neighbour_table::NeighbourTableParameter;
     netconf::NetconfAttribute;
@@ -359,11 +327,24 @@ alone! {
     tc::TcActionMessageAttribute;
     tc::TcActionMirrorOption;
     tc::TcActionNatOption;
+    tc::TcActionPeditOption;
     tc::TcActionPoliceOption;
     tc::TcActionSampleOption;
     tc::TcActionSkbeditOption;
     tc::TcActionTunnelKeyOption;
     tc::TcActionVlanOption;
+    tc::TcCakeStat;
+    tc::TcCakeTin;
+    tc::TcCakeTinStat;
+    tc::TcEmatch;
+    tc::TcEmatchTree;
+    tc::TcEncErspan;
+    tc::TcEncGeneve;
+    tc::TcEncGtp;
+    tc::TcEncOption;
+    tc::TcEncPfcp;
+    tc::TcEncVxlan;
+    tc::TcFilterBasicOption;
     tc::TcFilterBpfOption;
     tc::TcFilterFlowerMplsLseOption;
     tc::TcFilterFlowerMplsOption;
@@ -371,11 +352,17 @@ alone! {
     tc::TcFilterFwOption;
     tc::TcFilterMatchAllOption;
     tc::TcFilterU32Option;
+    tc::TcFlowerCfmOption;
+    tc::TcMqprioEntry;
     tc::TcNetemLoss;
+    tc::TcPeditKeyEx;
+    tc::TcPeditKeysEx;
+    tc::TcQdiscCakeOption;
     tc::TcQdiscFqCodelOption;
     tc::TcQdiscFqOption;
     tc::TcQdiscHtbOption;
     tc::TcQdiscIngressOption;
+    tc::TcQdiscMqprioOption;
     tc::TcQdiscNetemOption;
     tc::TcQdiscRedOption;
     tc::TcQdiscTbfOption;

@@ -256,6 +256,7 @@ sets! {
     link::TunnelEncapFlags u16;
     link::VlanFlags u32;
     neighbour::NeighbourExtFlags u32;
+    neighbour::NeighbourFdbNotify u8;
     neighbour::NeighbourFlags u8;
     neighbour::NeighbourState u16;
     nexthop::NextHopOpFlags u32;

@@ -66,8 +66,7 @@ fn reads_attributes(rt: HostRuntime) -> Result<(), Fail> {
         08000300 65746830 -> 09000300 65746830 00000000 => [IfName(\"eth0\")]
         09000340 65746830 00000000 060044c0 02000000 -> 09000300 65746830 00000000 06004400 02000000 => \
             [IfName(\"eth0\"), Headroom(2)]
-        04003e80 04004180 => \
-            [Other(DefaultNla { kind: 32830, value: [] }), Other(DefaultNla { kind: 32833, value: [] })]
+        04003e80 04004180 => [DevlinkPort([]), DpllPin([])]
         05001000 06000000 05001000 09000000 05001100 01000000 => \
             [OperState(Up), OperState(Other(9)), Mode(Dormant)]
         24000e00 00000000 00000000 00000000 00000000 00000000 00000000 0b000102 ffffffff -> \

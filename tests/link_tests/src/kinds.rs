@@ -140,3 +140,42 @@ fn prints_encapsulations(rt: HostRuntime) -> Result<(), Fail> {
     says(&rt, TunnelEncapType::Mpls, "mpls")?;
     says(&rt, TunnelEncapType::Other(4), "4")
 }
+
+/// Links of MACsec, rings, and IP over InfiniBand.
+#[test]
+fn reads_devices(rt: HostRuntime) -> Result<(), Fail> {
+    let lines = "
+        44001200 0b000100 6d616373 65630000 34000200 0c000100 12345678 9abcdef0 0c000400 02000001 00c28000 \
+            06000200 000b0000 05000700 01000000 05000f00 02000000 => \
+            [LinkInfo([Kind(MacSec), Data(MacSec([Sci(1311768467463790320), CipherSuite(GcmAes256), Port(11), \
+            Encrypt(1), Offload(Mac)]))])]
+        30001200 08000100 68737200 24000200 08000100 04000000 08000200 05000000 05000700 01000000 08000800 \
+            06000000 => \
+            [LinkInfo([Kind(Hsr), Data(Hsr([Port1(4), Port2(5), Protocol(Prp), Interlink(6)]))])]
+        2c001200 0a000100 69706f69 62000000 1c000200 06000100 01800000 06000200 01000000 06000300 01000000 => \
+            [LinkInfo([Kind(Ipoib), Data(Ipoib([Pkey(32769), Mode(Connected), UmCast(1)]))])]
+        1c001200 08000100 68737200 10000200 09000400 02000000 05000000 => \
+            a value of 5 bytes at attribute 4 of InfoHsr";
+    messages::<LinkMessage>(&rt, ZEROS, lines)
+}
+
+/// Kinds whose data are those of another, and tunnels of GTP and of OpenVPN.
+#[test]
+fn reads_others(rt: HostRuntime) -> Result<(), Fail> {
+    let lines = "
+        24001200 0b000100 65727370 616e0000 14000200 05001600 01000000 08001500 7b000000 => \
+            [LinkInfo([Kind(Erspan), Data(Erspan([ErspanVer(1), ErspanIndex(123)]))])]
+        30001200 0a000100 76786361 6e000000 20000200 1c000100 00000000 00000000 00000000 00000000 07000300 \
+            63310000 => \
+            [LinkInfo([Kind(Vxcan), Data(Vxcan([Peer(LinkPeer { header: LinkHeader { interface_family: Unspec, \
+            link_layer_type: Netrom, index: 0, flags: LinkFlags(0), change_mask: LinkFlags(0) }, \
+            attributes: [IfName(\"c1\")] })]))])]
+        24001200 08000100 67747000 18000200 08000300 00040000 08000400 01000000 04000500 => \
+            a value of 0 bytes at attribute 5 of InfoGtp
+        30001200 08000100 67747000 24000200 08000300 00040000 08000400 01000000 05000500 01000000 05000600 \
+            07000000 => \
+            [LinkInfo([Kind(Gtp), Data(Gtp([PdpHashSize(1024), Role(1), CreateSockets(true), RestartCount(7)]))])]
+        1c001200 09000100 6f76706e 00000000 0c000200 05000100 01000000 => \
+            [LinkInfo([Kind(Ovpn), Data(Ovpn([Mode(MultiPeer)]))])]";
+    messages::<LinkMessage>(&rt, ZEROS, lines)
+}

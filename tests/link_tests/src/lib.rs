@@ -7,6 +7,8 @@
 #[cfg(test)]
 mod flat;
 #[cfg(test)]
+mod functions;
+#[cfg(test)]
 mod header_family;
 #[cfg(test)]
 mod info;

@@ -142,14 +142,15 @@ fn reads_values(rt: HostRuntime) -> Result<(), Fail> {
     let lines = "
         06000500 64000000 06000600 12b50000 08000700 2a000000 08000800 05000000 \
             08000900 07000000 08000a00 01000000 08000b00 2b000000 08000d00 09000000 \
-            08000e00 04000100 08000f00 01000080 => \
+            10000e80 05000100 01000000 04000200 08000f00 01000080 06001000 02000000 05001100 10000000 => \
             [Vlan(100), Port(4789), Vni(42), IfIndex(5), Controller(7), LinkNetNsId(1), SourceVni(43), \
-            NhId(9), Other(DefaultNla { kind: 14, value: [4, 0, 1, 0] }), \
-            ExtFlags(NeighbourExtFlags(2147483649))]
+            NhId(9), FdbExtAttributes([ActivityNotify(NeighbourFdbNotify(1)), DontRefresh]), \
+            ExtFlags(NeighbourExtFlags(2147483649)), StateMask(NeighbourState(2)), FlagsMask(NeighbourFlags(16))]
+        08000e00 04000100 => a value of 0 bytes at attribute 1 of NeighbourFdb
         18000300 01000000 02000000 03000000 04000000 05000000 -> \
             14000300 01000000 02000000 03000000 04000000 => \
             [CacheInfo(NeighbourCacheInfo { confirmed: 1, used: 2, updated: 3, refcnt: 4 })]
-        04000200 04000e00 => [LinkLocalAddress([]), Other(DefaultNla { kind: 14, value: [] })]
+        04000200 04000e00 -> 04000200 04000e80 => [LinkLocalAddress([]), FdbExtAttributes([])]
         04000100 => a value of 0 bytes at attribute 1 of Neighbour
         04000400 => a value of 0 bytes at attribute 4 of Neighbour
         04000500 => a value of 0 bytes at attribute 5 of Neighbour

@@ -74,7 +74,7 @@ fn reads_structures_of_disciplines(rt: HostRuntime) -> Result<(), Fail> {
     messages::<TcMessage>(&rt, QDISC, lines)
 }
 
-/// Weights of bands; counters of these kinds are bytes.
+/// Weights of bands, and counters of a structure that grows.
 #[test]
 fn reads_fq_and_red(rt: HostRuntime) -> Result<(), Fail> {
     let lines = "
@@ -82,13 +82,13 @@ fn reads_fq_and_red(rt: HostRuntime) -> Result<(), Fail> {
             00000000 00000000 00000000 00000000 00000000 00000000 00000000 00000000 00000000 00000000 \
             00000000 00000000 00000000 00000000 ffffffff ffffffff 03000000 01000000 00000000 00000000 => \
             [Kind(\"fq\"), Options(Fq([Weights(TcFqWeights { numbers: [90000, 40000, 20000] }), \
-            HorizonDrop(1)])), Stats2([App(Other([0, 0, 0, 0, 0, 0, 0, 0, 0, 0, 0, 0, 0, 0, 0, 0, 0, 0, 0, \
+            HorizonDrop(1)])), Stats2([App(Fq(TcFqQdStats { bytes: [0, 0, 0, 0, 0, 0, 0, 0, 0, 0, 0, 0, 0, 0, 0, 0, 0, 0, 0, \
             0, 0, 0, 0, 0, 0, 0, 0, 0, 0, 0, 0, 0, 0, 0, 0, 0, 0, 0, 0, 0, 0, 0, 0, 0, 0, 0, 0, 0, 0, 0, \
             0, 0, 0, 0, 0, 0, 255, 255, 255, 255, 255, 255, 255, 255, 3, 0, 0, 0, 1, 0, 0, 0, 0, 0, 0, 0, \
-            0, 0, 0, 0]))])]
+            0, 0, 0, 0] }))])]
         08000100 72656400 18000200 0c000400 01000000 01000000 08000300 51b81e05 14000400 01000000 00000000 \
             00000000 02000000 => [Kind(\"red\"), Options(Red([Flags(TcBitfield { value: 1, selector: 1 }), \
-            MaxP(85899345)])), Xstats(Other([1, 0, 0, 0, 0, 0, 0, 0, 0, 0, 0, 0, 2, 0, 0, 0]))]";
+            MaxP(85899345)])), Xstats(Red(TcRedXstats { bytes: [1, 0, 0, 0, 0, 0, 0, 0, 0, 0, 0, 0, 2, 0, 0, 0] }))]";
     messages::<TcMessage>(&rt, QDISC, lines)
 }
 

@@ -3,6 +3,8 @@
 
 #[cfg(test)]
 mod kinds;
+#[cfg(test)]
+mod later_kinds;
 
 use npr_tc::{TcActionMessage, TcMessage};
 use npr_testing::messages;

@@ -2,13 +2,14 @@
 use Rattle.std.specs.Prelude.{None, min}
 use Rattle.std.proofs.Common.{◌≡◌, ℕ, ◌+◌, ◌*◌, ◌%◌, ◌^◌, ◌<◌, ◌≤◌, true, false, List, [], ◌∷◌, ◌++◌, length, refl, sym, ap, subst, ◌∙◌, arith, inl, inr}
 use Rattle.std.proofs.Common.{length-append, true≢false}
-use Rattle.npr_base.specs.declared.refusal.At.{At}
+use Rattle.npr_base.specs.declared.attribute_set.At.{At}
 use Rattle.npr_base.specs.declared.refusal.DecodeError.{DecodeError}
 use Rattle.npr_base.specs.Lists.{Each, AllOf}
 use Rattle.npr_base.specs.Framing.{Item, IsBytes, Front, Passes, framed, encoding, pad}
 use Rattle.npr_base.specs.lemmas.Front.{Front-takes}
 use Rattle.npr_base.specs.lemmas.List.{length-encoding}
-use Rattle.npr_encapsulation.specs.Geneve.{Geneve, Child, class_child, type_child, data_child, ReadsChild, WrongChild, class_length, type_length, order, child, fresh}
+use Rattle.npr_encapsulation.specs.Geneve.{Geneve, Child, class_child, type_child, data_child, ReadsChild}
+use Rattle.npr_encapsulation.specs.Geneve.{WrongChild, class_length, type_length, order, child, fresh}
 use Rattle.npr_encapsulation.specs.Geneve.{options_behind, AreGroups, AreOptions, OptionsFault, children_of, child_item, option_bytes, options_unfit, IsOption}
 use Rattle.npr_encapsulation.specs.GeneveChildren.{IsChild, children_list}
 use Rattle.npr_encapsulation.specs.lemmas.GeneveLooks.{options-outside}

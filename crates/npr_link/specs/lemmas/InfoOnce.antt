@@ -42,6 +42,16 @@ use Rattle.npr_link_devices.specs.Bond as OfBond
 use Rattle.npr_link_devices.specs.contracts.bond.InfoBond.{enum as bond_enum}
 use Rattle.npr_link_tunnels.specs.IpTunnel as OfIpTunnel
 use Rattle.npr_link_tunnels.specs.TunnelFlags.{Kind, ipip, sit, ip6tnl, kind_of}
+use Rattle.npr_link_devices.specs.Hsr as OfHsr
+use Rattle.npr_link_devices.specs.contracts.hsr.InfoHsr.{enum as hsr_enum}
+use Rattle.npr_link_devices.specs.Ipoib as OfIpoib
+use Rattle.npr_link_devices.specs.contracts.ipoib.InfoIpoib.{enum as ipoib_enum}
+use Rattle.npr_link_devices.specs.MacSec as OfMacSec
+use Rattle.npr_link_devices.specs.contracts.mac_sec.InfoMacSec.{enum as mac_sec_enum}
+use Rattle.npr_link_tunnels.specs.Gtp as OfGtp
+use Rattle.npr_link_tunnels.specs.contracts.gtp.InfoGtp.{enum as gtp_enum}
+use Rattle.npr_link_tunnels.specs.Ovpn as OfOvpn
+use Rattle.npr_link_tunnels.specs.contracts.ovpn.InfoOvpn.{enum as ovpn_enum}
 use Rattle.npr_link.specs.Netkit as OfNetkit
 use Rattle.npr_link.specs.contracts.netkit.InfoNetkit.{enum as netkit_enum}
 use Rattle.npr_link.specs.Veth as OfVeth
@@ -128,6 +138,26 @@ mac_vlan_address_once : FailsOnce OfMacVlanAddress.attributes.looks
 unfolding OfMacVlanAddress.attributes
 mac_vlan_address_once = rows-once mac_vlan_address_enum.parts OfMacVlanAddress.table.rows tt
 
+hsr_once : FailsOnce OfHsr.attributes.looks
+unfolding OfHsr.attributes
+hsr_once = rows-once hsr_enum.parts OfHsr.table.rows tt
+
+ipoib_once : FailsOnce OfIpoib.attributes.looks
+unfolding OfIpoib.attributes
+ipoib_once = rows-once ipoib_enum.parts OfIpoib.table.rows tt
+
+mac_sec_once : FailsOnce OfMacSec.attributes.looks
+unfolding OfMacSec.attributes
+mac_sec_once = rows-once mac_sec_enum.parts OfMacSec.table.rows tt
+
+gtp_once : FailsOnce OfGtp.attributes.looks
+unfolding OfGtp.attributes
+gtp_once = rows-once gtp_enum.parts OfGtp.table.rows tt
+
+ovpn_once : FailsOnce OfOvpn.attributes.looks
+unfolding OfOvpn.attributes
+ovpn_once = rows-once ovpn_enum.parts OfOvpn.table.rows tt
+
 -- an address takes no look
 target_once : (size : ℕ) → FailsOnce (target_reading size).looks
 target_once size x old new t = omega (arith, ap (λ (c : Counts). c.failed) t)
@@ -201,6 +231,14 @@ data_once InfoForm.Vrf = list-once OfVrf.attributes vrf_once
 data_once InfoForm.Xfrm = list-once OfXfrm.attributes xfrm_once
 data_once InfoForm.Geneve = list-once OfGeneve.attributes geneve_once
 data_once InfoForm.Netkit = list-once OfNetkit.attributes netkit_once
+data_once InfoForm.Erspan = list-once OfGre.attributes gre_once
+data_once InfoForm.Erspan6 = list-once OfGre6.attributes gre6_once
+data_once InfoForm.Vxcan = list-once OfVeth.attributes veth_once
+data_once InfoForm.Hsr = list-once OfHsr.attributes hsr_once
+data_once InfoForm.Ipoib = list-once OfIpoib.attributes ipoib_once
+data_once InfoForm.MacSec = list-once OfMacSec.attributes mac_sec_once
+data_once InfoForm.Gtp = list-once OfGtp.attributes gtp_once
+data_once InfoForm.Ovpn = list-once OfOvpn.attributes ovpn_once
 data_once InfoForm.Kept = tt
 
 port_data_once : (form : InfoPortForm) → InsideOnce (port_data form).members.looks

@@ -5,7 +5,7 @@ use Rattle.npr_base.specs.Framing.{marked, number_of}
 use Rattle.npr_base.specs.Layout.{le32, le64}
 use Rattle.npr_base.specs.Codec.{exactly}
 use Rattle.npr_base.specs.ListCodec.{list_of}
-use Rattle.npr_base.specs.declared.refusal.AttributeSet.TheVariants.{Encap as AtEncap}
+use Rattle.npr_base.specs.declared.attribute_set.AttributeSet.TheVariants.{Encap as AtEncap}
 use Rattle.npr_base.specs.Family.{Reading}
 use Rattle.npr_base.specs.Table.{slot_kind, slot_value, slot_unfit, slot-reads, item_of, Aligned, IsWritten, ReadsAt}
 use Rattle.npr_base.specs.lemmas.Table.{other-back}

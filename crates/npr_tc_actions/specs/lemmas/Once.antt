@@ -13,7 +13,6 @@ use Rattle.npr_tc_actions.specs.Attribute.{Meaning, attributes, table, tells}
 use Rattle.npr_tc_actions.specs.contracts.attribute.TcActionAttribute.{enum}
 use Rattle.npr_tc_actions.specs.contracts.mirror_option.TcActionMirrorOption.{enum as mirror_enum}
 use Rattle.npr_tc_actions.specs.contracts.nat_option.TcActionNatOption.{enum as nat_enum}
-use Rattle.npr_tc_actions.specs.contracts.tunnel_key_option.TcActionTunnelKeyOption.{enum as tunnel_key_enum}
 use Rattle.npr_tc_actions.specs.contracts.gact_option.TcActionGactOption.{enum as gact_enum}
 use Rattle.npr_tc_actions.specs.contracts.police_option.TcActionPoliceOption.{enum as police_enum}
 use Rattle.npr_tc_actions.specs.contracts.vlan_option.TcActionVlanOption.{enum as vlan_enum}
@@ -34,14 +33,18 @@ use Rattle.npr_tc_actions.specs.BpfOption as OfBpf
 use Rattle.npr_tc_actions.specs.MirrorOption as OfMirror
 use Rattle.npr_tc_actions.specs.NatOption as OfNat
 use Rattle.npr_tc_actions.specs.TunnelKeyOption as OfTunnelKey
+use Rattle.npr_tc_actions.specs.PeditOption as OfPedit
+use Rattle.npr_tc_actions.specs.lemmas.PeditOnce.{pedit_once}
+use Rattle.npr_tc_actions.specs.lemmas.TunnelOnce.{tunnel_key_once}
 
 -- ---- one failed look
 
 options_once : (form : TcActionForm) → InsideOnce (action_option form).members.looks
-unfolding OfMirror.attributes OfNat.attributes OfTunnelKey.attributes OfGact.attributes OfPolice.attributes OfVlan.attributes OfSkbedit.attributes OfCsum.attributes OfCt.attributes OfSample.attributes OfBpf.attributes
+unfolding OfMirror.attributes OfNat.attributes OfGact.attributes OfPolice.attributes OfVlan.attributes OfSkbedit.attributes
+    OfCsum.attributes OfCt.attributes OfSample.attributes OfBpf.attributes
 options_once TcActionForm.Mirror = list-once OfMirror.attributes (rows-once mirror_enum.parts OfMirror.table.rows tt)
 options_once TcActionForm.Nat = list-once OfNat.attributes (rows-once nat_enum.parts OfNat.table.rows tt)
-options_once TcActionForm.TunnelKey = list-once OfTunnelKey.attributes (rows-once tunnel_key_enum.parts OfTunnelKey.table.rows tt)
+options_once TcActionForm.TunnelKey = list-once OfTunnelKey.attributes tunnel_key_once
 options_once TcActionForm.Gact = list-once OfGact.attributes (rows-once gact_enum.parts OfGact.table.rows tt)
 options_once TcActionForm.Police = list-once OfPolice.attributes (rows-once police_enum.parts OfPolice.table.rows tt)
 options_once TcActionForm.Vlan = list-once OfVlan.attributes (rows-once vlan_enum.parts OfVlan.table.rows tt)
@@ -50,6 +53,7 @@ options_once TcActionForm.Csum = list-once OfCsum.attributes (rows-once csum_enu
 options_once TcActionForm.Ct = list-once OfCt.attributes (rows-once ct_enum.parts OfCt.table.rows tt)
 options_once TcActionForm.Sample = list-once OfSample.attributes (rows-once sample_enum.parts OfSample.table.rows tt)
 options_once TcActionForm.Bpf = list-once OfBpf.attributes (rows-once bpf_enum.parts OfBpf.table.rows tt)
+options_once TcActionForm.Pedit = list-once OfPedit.attributes pedit_once
 options_once TcActionForm.Kept = tt
 
 pub attributes_once : (form : TcActionForm) → FailsOnce (attributes form).looks

@@ -1,6 +1,6 @@
 use Rattle.std.proofs.Common.{◌∙◌, sym}
 use Rattle.std.proofs.lemmas.Bool.{not-false}
-use Rattle.npr_base.specs.contracts.refusal.AttributeSet.{the_type as sets}
+use Rattle.npr_base.specs.contracts.attribute_set.AttributeSet.{the_type as sets}
 use denote.Enum.Bare.{sameb, same_true}
 use Rattle.netlink_packet_route.proofs.locating.is_apart.Goals as goal
 

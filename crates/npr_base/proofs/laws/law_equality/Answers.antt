@@ -4,10 +4,10 @@ use Rattle.npr_base.proofs.AddressFamilyLaws.{family_equality}
 use Rattle.npr_base.specs.Equality.{IsEquality}
 use Rattle.npr_base.proofs.EqualityLaws.{bare_equality, enum_equality, one_equality}
 use Rattle.npr_base.proofs.StructLaws.{◌beside◌, struct_equality}
-use Rattle.npr_base.specs.contracts.refusal.AttributeSet.{the_type as families}
-use Rattle.npr_base.specs.contracts.refusal.AttributeSetPartialEq.TheImpl as FamilyEq
-use Rattle.npr_base.specs.contracts.refusal.At.{struct as at_struct}
-use Rattle.npr_base.specs.contracts.refusal.AtPartialEq.TheImpl as AtEq
+use Rattle.npr_base.specs.contracts.attribute_set.AttributeSet.{the_type as families}
+use Rattle.npr_base.specs.contracts.attribute_set.AttributeSetPartialEq.TheImpl as FamilyEq
+use Rattle.npr_base.specs.contracts.attribute_set.At.{struct as at_struct}
+use Rattle.npr_base.specs.contracts.attribute_set.AtPartialEq.TheImpl as AtEq
 use Rattle.npr_base.specs.contracts.refusal.Seg6FaultPartialEq.TheImpl as FaultEq
 use Rattle.npr_base.specs.contracts.refusal.DecodeError.{enum}
 use Rattle.npr_base.proofs.laws.law_equality.Goals as goal

@@ -5,6 +5,8 @@ use Rattle.npr_link.proofs.EqualityLaws.{inet_equality, inet6_equality, af_spec_
 use Rattle.npr_link.proofs.EqualityLaws.{qos_equality, vlan_equality, vrf_equality}
 use Rattle.npr_link.proofs.EqualityLaws.{peer_attribute_equality, peer_equality, veth_equality, netkit_equality, kind_equality, port_kind_equality, data_equality}
 use Rattle.npr_link.proofs.EqualityLaws.{port_data_equality, info_equality, attribute_equality}
+use Rattle.npr_link.proofs.EqualityLaws.{mctp_equality}
+use Rattle.npr_link.proofs.EqualityLaws.{pin_equality}
 use Rattle.npr_link.proofs.laws.law_equality_of_meanings.Goals as goal
 
 pub returns : goal.returns
@@ -29,4 +31,6 @@ returns c = record {
   info = info_equality;
   attribute = attribute_equality;
   message = message_equality links header_equality attribute_equality;
+  mctp = mctp_equality;
+  pin = pin_equality;
 }

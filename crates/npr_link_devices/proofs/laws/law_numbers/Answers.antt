@@ -12,6 +12,11 @@ use Rattle.npr_link_devices.specs.MiiStatus.{mii_statuses}
 use Rattle.npr_link_devices.specs.PrimaryReselect.{primary_reselects}
 use Rattle.npr_link_devices.specs.TunType.{tun_types}
 use Rattle.npr_link_devices.specs.XmitHashPolicy.{xmit_hash_policies}
+use Rattle.npr_link_devices.specs.HsrProtocol.{hsr_protocols}
+use Rattle.npr_link_devices.specs.IpoibMode.{ipoib_modes}
+use Rattle.npr_link_devices.specs.MacSecCipher.{mac_sec_ciphers}
+use Rattle.npr_link_devices.specs.MacSecOffload.{mac_sec_offloads}
+use Rattle.npr_link_devices.specs.MacSecValidate.{mac_sec_validations}
 use Rattle.npr_link_devices.proofs.laws.law_numbers.Goals as goal
 
 pub returns : goal.returns
@@ -30,4 +35,9 @@ returns c = record {
   mac_vlan_address_modes = mac_vlan_address_modes.back;
   ip_vlan_modes = ip_vlan_modes.back;
   tun_types = tun_types.back;
+  hsr_protocols = hsr_protocols.back;
+  ipoib_modes = ipoib_modes.back;
+  mac_sec_ciphers = mac_sec_ciphers.back;
+  mac_sec_offloads = mac_sec_offloads.back;
+  mac_sec_validations = mac_sec_validations.back;
 }

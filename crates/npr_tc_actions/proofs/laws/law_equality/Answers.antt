@@ -2,6 +2,7 @@ use Rattle.npr_tc_actions.proofs.ValueEquality.{form_equality, action_type_equal
 use Rattle.npr_tc_actions.proofs.ValueEquality.{times_equality, mirror_equality, nat_equality, tunnel_key_equality}
 use Rattle.npr_tc_actions.proofs.KindEquality.{vlan_action_type_equality, csum_flags_equality, ct_flags_equality, police_equality, vlan_equality}
 use Rattle.npr_tc_actions.proofs.KindEquality.{csum_equality, gact_probability_equality, bpf_instruction_equality}
+use Rattle.npr_tc_actions.proofs.PeditEquality.{pedit_header_type_equality, pedit_command_equality, pedit_key_equality}
 use Rattle.npr_tc_actions.proofs.laws.law_equality.Goals as goal
 
 pub returns : goal.returns
@@ -23,4 +24,7 @@ returns c = record {
   csum = csum_equality;
   gact_probability = gact_probability_equality;
   bpf_instruction = bpf_instruction_equality;
+  pedit_header_type = pedit_header_type_equality;
+  pedit_command = pedit_command_equality;
+  pedit_key = pedit_key_equality;
 }

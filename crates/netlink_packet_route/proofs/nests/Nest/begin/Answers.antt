@@ -1,6 +1,6 @@
 use Rattle.std.proofs.Common.{arith, refl, subst, sym}
 use Rattle.npr_base.specs.declared.address_family.AddressFamily.{AddressFamily}
-use Rattle.npr_base.specs.declared.refusal.AttributeSet.TheVariants as At
+use Rattle.npr_base.specs.declared.attribute_set.AttributeSet.TheVariants as At
 use Rattle.netlink_packet_route.specs.MessageKind.{begun, form_of, of_family}
 use Rattle.netlink_packet_route.specs.Nests.{FromBytes}
 use Rattle.netlink_packet_route.proofs.NumberLaws.{link-bytes, link-number, neighbour-bytes, neighbour-number, next-hop-bytes}

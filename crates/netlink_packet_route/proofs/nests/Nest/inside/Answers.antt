@@ -1,5 +1,5 @@
 use Rattle.std.proofs.Common.{sym, ap, subst, ◌∙◌, arith}
-use Rattle.npr_base.specs.declared.refusal.At.{At}
+use Rattle.npr_base.specs.declared.attribute_set.At.{At}
 use Rattle.npr_base.specs.declared.value.Form.{Form}
 use Rattle.netlink_packet_route.specs.Nests.{Inner}
 use Rattle.netlink_packet_route.specs.declared.context.Context.{Context}

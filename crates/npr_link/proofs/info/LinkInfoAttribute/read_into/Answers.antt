@@ -4,8 +4,8 @@ use Rattle.std.proofs.lemmas.Result.{IfErr-weaker}
 use Rattle.npr_base.specs.EnumTable.{WrongIn}
 use Rattle.npr_base.specs.Framing.{Item, number_of}
 use Rattle.npr_base.specs.Refusal.{at_number, no_place}
-use Rattle.npr_base.specs.declared.refusal.At.{At}
-use Rattle.npr_base.specs.declared.refusal.AttributeSet.TheVariants.{LinkInfo}
+use Rattle.npr_base.specs.declared.attribute_set.At.{At}
+use Rattle.npr_base.specs.declared.attribute_set.AttributeSet.TheVariants.{LinkInfo}
 use Rattle.npr_base.specs.declared.refusal.DecodeError.{DecodeError}
 use Rattle.npr_base.specs.declared.refusal.DecodeError.TheVariants.{OutOfMemory}
 use Rattle.npr_link.specs.Governing.{Forms}
@@ -14,7 +14,6 @@ use Rattle.npr_link.specs.PortData.{port_data}
 use Rattle.npr_link.specs.contracts.info.LinkInfo.{enum}
 use Rattle.npr_link.specs.declared.port_data.InfoPortData.{InfoPortData}
 use Rattle.npr_link.specs.declared.port_kind.InfoPortForm.{InfoPortForm}
-use Rattle.npr_link.specs.declared.port_kind.InfoPortForm.TheVariants as InfoPortForm
 use Rattle.npr_link.proofs.info.LinkInfoAttribute.read_into.Goals as goal
 
 -- data of a port are refused wherever they stand

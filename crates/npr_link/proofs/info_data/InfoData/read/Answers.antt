@@ -15,6 +15,11 @@ use Rattle.npr_link_tunnels.specs.IpTunnel as OfIpTunnel
 use Rattle.npr_link_tunnels.specs.Vti as OfVti
 use Rattle.npr_link_tunnels.specs.Vxlan as OfVxlan
 use Rattle.npr_link_tunnels.specs.Xfrm as OfXfrm
+use Rattle.npr_link_devices.specs.Hsr as OfHsr
+use Rattle.npr_link_devices.specs.Ipoib as OfIpoib
+use Rattle.npr_link_devices.specs.MacSec as OfMacSec
+use Rattle.npr_link_tunnels.specs.Gtp as OfGtp
+use Rattle.npr_link_tunnels.specs.Ovpn as OfOvpn
 use Rattle.npr_link.proofs.info_data.InfoData.read.Goals as goal
 
 pub returns-in_ok-parse_list-in-Bridge-clause-ok : goal.returns-in_ok-parse_list-in-Bridge-clause-ok
@@ -136,3 +141,43 @@ pub returns-in_ok-read_bytes-in-Kept-clause-ok : goal.returns-in_ok-read_bytes-i
 returns-in_ok-read_bytes-in-Kept-clause-ok c =
     let read = c.in_ok-read_bytes-in-Kept in
     rw c.in-Kept.is (read.field-0.items, read.ensures.ok, refl)
+
+pub returns-in_ok-parse_list-in-Erspan-clause-ok : goal.returns-in_ok-parse_list-in-Erspan-clause-ok
+returns-in_ok-parse_list-in-Erspan-clause-ok c =
+    let read = c.in_ok-parse_list-in-Erspan in
+    rw c.in-Erspan.is (map OfGre.family.meaning read.field-0.items, read.ensures.ok, refl)
+
+pub returns-in_ok-parse_list-in-Erspan6-clause-ok : goal.returns-in_ok-parse_list-in-Erspan6-clause-ok
+returns-in_ok-parse_list-in-Erspan6-clause-ok c =
+    let read = c.in_ok-parse_list-in-Erspan6 in
+    rw c.in-Erspan6.is (map OfGre6.family.meaning read.field-0.items, read.ensures.ok, refl)
+
+pub returns-in_ok-parse_list-in-Vxcan-clause-ok : goal.returns-in_ok-parse_list-in-Vxcan-clause-ok
+returns-in_ok-parse_list-in-Vxcan-clause-ok c =
+    let read = c.in_ok-parse_list-in-Vxcan in
+    rw c.in-Vxcan.is (map OfVeth.family.meaning read.field-0.items, read.ensures.ok, refl)
+
+pub returns-in_ok-parse_list-in-Hsr-clause-ok : goal.returns-in_ok-parse_list-in-Hsr-clause-ok
+returns-in_ok-parse_list-in-Hsr-clause-ok c =
+    let read = c.in_ok-parse_list-in-Hsr in
+    rw c.in-Hsr.is (map OfHsr.family.meaning read.field-0.items, read.ensures.ok, refl)
+
+pub returns-in_ok-parse_list-in-Ipoib-clause-ok : goal.returns-in_ok-parse_list-in-Ipoib-clause-ok
+returns-in_ok-parse_list-in-Ipoib-clause-ok c =
+    let read = c.in_ok-parse_list-in-Ipoib in
+    rw c.in-Ipoib.is (map OfIpoib.family.meaning read.field-0.items, read.ensures.ok, refl)
+
+pub returns-in_ok-parse_list-in-MacSec-clause-ok : goal.returns-in_ok-parse_list-in-MacSec-clause-ok
+returns-in_ok-parse_list-in-MacSec-clause-ok c =
+    let read = c.in_ok-parse_list-in-MacSec in
+    rw c.in-MacSec.is (map OfMacSec.family.meaning read.field-0.items, read.ensures.ok, refl)
+
+pub returns-in_ok-parse_list-in-Gtp-clause-ok : goal.returns-in_ok-parse_list-in-Gtp-clause-ok
+returns-in_ok-parse_list-in-Gtp-clause-ok c =
+    let read = c.in_ok-parse_list-in-Gtp in
+    rw c.in-Gtp.is (map OfGtp.family.meaning read.field-0.items, read.ensures.ok, refl)
+
+pub returns-in_ok-parse_list-in-Ovpn-clause-ok : goal.returns-in_ok-parse_list-in-Ovpn-clause-ok
+returns-in_ok-parse_list-in-Ovpn-clause-ok c =
+    let read = c.in_ok-parse_list-in-Ovpn in
+    rw c.in-Ovpn.is (map OfOvpn.family.meaning read.field-0.items, read.ensures.ok, refl)

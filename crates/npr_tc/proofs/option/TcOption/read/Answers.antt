@@ -1,9 +1,11 @@
 use Rattle.std.proofs.Common.{map, refl}
+use Rattle.npr_tc_filters.specs.Basic as OfBasic
 use Rattle.npr_tc_filters.specs.Bpf as OfBpf
 use Rattle.npr_tc_filters.specs.Flower as OfFlower
 use Rattle.npr_tc_filters.specs.Fw as OfFw
 use Rattle.npr_tc_filters.specs.MatchAll as OfMatchAll
 use Rattle.npr_tc_filters.specs.U32Option as OfU32
+use Rattle.npr_tc_qdiscs.specs.Cake as OfCake
 use Rattle.npr_tc_qdiscs.specs.Fq as OfFq
 use Rattle.npr_tc_qdiscs.specs.FqCodel as OfFqCodel
 use Rattle.npr_tc_qdiscs.specs.Htb as OfHtb
@@ -87,3 +89,18 @@ pub returns-in_Continue-data_read-data_read-15-clause-ok : goal.returns-in_Conti
 returns-in_Continue-data_read-data_read-15-clause-ok c =
     let read = c.in_Continue-data_read-data_read-15 in
     rw c.in-Bpf-data_read.is (map OfBpf.family.meaning read.field-0.items, read.ensures.ok, refl)
+
+pub returns-in_Continue-data_read-data_read-16-clause-ok : goal.returns-in_Continue-data_read-data_read-16-clause-ok
+returns-in_Continue-data_read-data_read-16-clause-ok c =
+    let read = c.in_Continue-data_read-data_read-16 in
+    rw c.in-Cake-data_read.is (map OfCake.family.meaning read.field-0.items, read.ensures.ok, refl)
+
+pub returns-in_Continue-data_read-data_read-17-clause-ok : goal.returns-in_Continue-data_read-data_read-17-clause-ok
+returns-in_Continue-data_read-data_read-17-clause-ok c =
+    let read = c.in_Continue-data_read-data_read-17 in
+    rw c.in-Sfq-data_read.is (read.field-0.bytes.items, read.ensures.ok, refl)
+
+pub returns-in_Continue-data_read-data_read-18-clause-ok : goal.returns-in_Continue-data_read-data_read-18-clause-ok
+returns-in_Continue-data_read-data_read-18-clause-ok c =
+    let read = c.in_Continue-data_read-data_read-18 in
+    rw c.in-Basic-data_read.is (map OfBasic.family.meaning read.field-0.items, read.ensures.ok, refl)

@@ -1,0 +1,2 @@
+pub mod EqualityLaws
+mod ValueEquality

@@ -1,0 +1,10 @@
+use Rattle.npr_link_functions.proofs.EqualityLaws.{stats_equality, vlan_list_equality, info_equality, link_info_equality}
+use Rattle.npr_link_functions.proofs.laws.law_equality_of_meanings.Goals as goal
+
+pub returns : goal.returns
+returns c = record {
+  stats = stats_equality;
+  vlan_list = vlan_list_equality;
+  info = info_equality;
+  link_info = link_info_equality;
+}

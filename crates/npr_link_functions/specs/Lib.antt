@@ -1,0 +1,14 @@
+pub mod LinkState
+pub mod LinkVfInfo
+pub mod VfBroadcast
+pub mod VfGuid
+pub mod VfInfo
+pub mod VfLinkState
+pub mod VfMac
+pub mod VfRate
+pub mod VfSetting
+pub mod VfStats
+pub mod VfTxRate
+pub mod VfVlan
+pub mod VfVlanInfo
+pub mod VfVlanList

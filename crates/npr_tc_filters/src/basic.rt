@@ -1,0 +1,91 @@
+//! The data of the filter `basic`: `TCA_BASIC_*` of `linux/pkt_cls.h`.
+
+ghost use Rattle.std.specs.Prelude.{refl};
+ghost use Rattle.{npr_base.specs.Family.{shaped}, npr_tc_filters.specs.Basic.{family}};
+
+use crate::basic_pcnt::TcBasicPcnt;
+use crate::ematch_tree::TcEmatchTree;
+use npr_base::{
+    At, Attribute, DecodeError, DefaultNla, EmitError, Form, Looks, Nla, NlaBuffer, Place,
+};
+use npr_tc_actions::{TcAction, TcActionPoliceOption};
+use npr_tc_qdiscs::TcHandle;
+use std::alloc::{AllocError, Global};
+
+/// The data of the filter `basic`: `TCA_BASIC_*` of `linux/pkt_cls.h`.
+#[derive(Debug, Drop, PartialEq, Eq)]
+pub enum TcFilterBasicOption {
+    /// `TCA_BASIC_CLASSID`: the class of a packet that matches.
+    ClassId(TcHandle),
+    /// `TCA_BASIC_EMATCHES`: what a packet is tested for.
+    Ematches(Vec<TcEmatchTree>),
+    /// `TCA_BASIC_ACT`: what is done with a packet that matches.
+    Action(Vec<TcAction>),
+    /// `TCA_BASIC_POLICE`: what goes, and what becomes of the rest.
+    Police(Vec<TcActionPoliceOption>),
+    /// `TCA_BASIC_PCNT`: how often it matched.
+    Pcnt(TcBasicPcnt),
+    /// An attribute of another number, as it stands.
+    Other(DefaultNla),
+}
+
+/// The rows of the table.
+macro_rules! rows {
+    ($body:ident ($($given:tt)*)) => {
+        npr_base::$body!(($($given)*) TcFilterBasicOption of TcFilterBasic {
+            1 ClassId(TcHandle exactly 4);
+            2 Ematches(list TcEmatchTree);
+            3 Action(list TcActions);
+            4 Police(list TcActionPolice);
+            5 Pcnt(TcBasicPcnt value raw);
+        })
+    };
+}
+
+impl Nla for TcFilterBasicOption {
+    ghost shape = { shaped family };
+
+    fn kind(&self) -> u16 {
+        rows!(kind_rows(self))
+    }
+
+    fn is_nested(&self) -> bool {
+        false
+    }
+
+    fn check_value(&self) -> Result<usize, EmitError> {
+        Ok(rows!(len_rows(self)))
+    }
+
+    fn write_value(&self, out: &mut [u8]) -> usize {
+        rows!(write_rows(self, out))
+    }
+}
+
+impl Attribute for TcFilterBasicOption {
+    type Context = ();
+
+    ghost family = { family };
+
+    ghost shape_is = { λ a. refl };
+
+    #[tactic(auto, unfolding(crate::specs::Basic::attributes))]
+    fn read_into<P: Place<Self>>(
+        place: &mut P,
+        alloc: Global,
+        _context: (),
+        item: &NlaBuffer<'_>,
+        looks: &mut Looks,
+    ) -> Result<(), DecodeError> {
+        rows!(put_rows(place, alloc, item, looks))
+    }
+
+    #[tactic(auto, unfolding(crate::specs::Basic::attributes))]
+    fn form(_context: (), number: u16) -> (At, Form) {
+        rows!(form_rows(number))
+    }
+
+    fn try_clone(&self, alloc: Global) -> Result<Self, AllocError> {
+        rows!(clone_rows(self, alloc))
+    }
+}
