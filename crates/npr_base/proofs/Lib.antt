@@ -25,3 +25,4 @@ pub mod Firsts
 pub mod MeaningLaws
 pub mod Unless
 pub mod NestLaws
+pub mod OtherRows

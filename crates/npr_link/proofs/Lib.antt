@@ -5,6 +5,5 @@ mod HeaderFamilies
 mod InfoSearch
 mod Names
 mod OkAs
-mod OtherRows
 mod Unlisted
 mod ValueEquality

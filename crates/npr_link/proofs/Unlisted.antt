@@ -13,7 +13,7 @@ use Rattle.npr_link.specs.AfSpecs.{Form}
 use Rattle.npr_link.specs.Attribute.{IsFlat, flat, flat_rows, later, rows, told}
 use Rattle.npr_link.specs.ProtoInfos.{Form as ProtoForm}
 use Rattle.npr_link.specs.declared.attribute.LinkAttribute.{LinkAttribute}
-use Rattle.npr_link.proofs.OtherRows.{other-reads, other-form}
+use Rattle.npr_base.proofs.OtherRows.{other-reads, other-form}
 
 abbrev pub NoneOf : List ℕ → ℕ → Type 0
 NoneOf [] n = Unit {0}

@@ -1,2 +1,1 @@
-mod OtherRows
 pub mod EqualityLaws

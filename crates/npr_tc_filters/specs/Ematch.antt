@@ -7,7 +7,7 @@ use Rattle.npr_base.specs.Family.{Reading, Family}
 use Rattle.npr_tc_qdiscs.specs.Numbered as Of
 use Rattle.npr_tc_qdiscs.specs.Numbered.{Numbered}
 use Rattle.npr_tc_filters.specs.EmatchHeader.{ematch_header}
-use Rattle.npr_tc_filters.specs.Headed.{headed_bytes}
+use Rattle.npr_tc_actions.specs.Headed.{headed_bytes}
 use Rattle.npr_tc_filters.specs.declared.ematch.TcEmatch.{TcEmatch}
 use Rattle.npr_tc_filters.specs.declared.ematch_header.TcEmatchHeader.{TcEmatchHeader}
 

@@ -13,7 +13,6 @@ pub mod FlowerMpls
 pub mod FlowerMplsLse
 pub mod FlowerValue
 pub mod Fw
-pub mod Headed
 pub mod Hits
 pub mod MatchAll
 pub mod U32Key

@@ -4,7 +4,7 @@ use Rattle.npr_base.specs.Codec.{Codec}
 use Rattle.npr_base.specs.Fields.{one_byte, le_two, be_two, be_four, unused, ◌holding◌, ◌and◌, fields}
 use Rattle.npr_base.specs.Layout.{Layout}
 use Rattle.npr_base.specs.MoreFields.{◌behind◌}
-use Rattle.npr_tc_filters.specs.Headed.{headed}
+use Rattle.npr_tc_actions.specs.Headed.{headed}
 use Rattle.npr_tc_filters.specs.U32Key.{u32_key_width}
 use Rattle.npr_tc_filters.specs.U32SelectorFlags.{u32_selector_flag_bits}
 use Rattle.npr_tc_filters.specs.declared.u32_key.TcU32Key.{TcU32Key}

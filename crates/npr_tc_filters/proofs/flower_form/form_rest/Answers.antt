@@ -4,7 +4,7 @@ use Rattle.npr_base.specs.declared.attribute_set.AttributeSet.TheVariants.{TcFil
 use Rattle.npr_base.specs.declared.value.Form.TheVariants.{Raw}
 use Rattle.npr_tc_filters.specs.Flower.{table, no_row}
 use Rattle.npr_tc_filters.specs.contracts.flower_option.TcFilterFlowerOption.{enum}
-use Rattle.npr_tc_filters.proofs.OtherRows.{other-form}
+use Rattle.npr_base.proofs.OtherRows.{other-form}
 use Rattle.npr_tc_filters.proofs.flower_form.form_rest.Goals as goal
 
 pub returns : goal.returns

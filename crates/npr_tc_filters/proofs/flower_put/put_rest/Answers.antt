@@ -4,7 +4,7 @@ use Rattle.npr_base.specs.RowReading.{reads_at}
 use Rattle.npr_tc_filters.specs.Flower.{table, no_row}
 use Rattle.npr_tc_filters.specs.contracts.flower_option.TcFilterFlowerOption.{enum}
 use Rattle.npr_tc_filters.specs.declared.flower_option.TcFilterFlowerOption.{TcFilterFlowerOption}
-use Rattle.npr_tc_filters.proofs.OtherRows.{other-reads}
+use Rattle.npr_base.proofs.OtherRows.{other-reads}
 use Rattle.npr_tc_filters.proofs.flower_put.put_rest.Goals as goal
 
 pub returns-clause-ok : goal.returns-clause-ok
