@@ -15,7 +15,7 @@ use Rattle.npr_tc_filters.specs.Basic as OfBasic
 use Rattle.npr_tc_filters.specs.Bpf as OfBpf
 use Rattle.npr_tc_filters.specs.Ematch as OfEmatch
 use Rattle.npr_tc_filters.specs.EmatchTree as OfTree
-pub use Rattle.npr_tc_filters.specs.FlowerEquality.{flower_equality, flower_mpls_equality, flower_mpls_lse_equality, flower_cfm_equality}
+pub use Rattle.npr_tc_filters.specs.lemmas.FlowerEquality.{flower_equality, flower_mpls_equality, flower_mpls_lse_equality, flower_cfm_equality}
 use Rattle.npr_tc_filters.specs.Fw as OfFw
 use Rattle.npr_tc_filters.specs.Hits.{u32_hits, match_all_hits, basic_hits}
 use Rattle.npr_tc_filters.specs.MatchAll as OfMatchAll

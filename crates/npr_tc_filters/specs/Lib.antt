@@ -6,7 +6,6 @@ pub mod EmatchTree
 pub mod EmatchTreeHeader
 pub mod Flower
 pub mod FlowerCfm
-pub mod FlowerEquality
 pub mod FlowerForm
 pub mod FlowerHeld
 pub mod FlowerMpls
@@ -21,3 +20,4 @@ pub mod U32Option
 pub mod U32OptionFlags
 pub mod U32Selector
 pub mod U32SelectorFlags
+pub mod lemmas

@@ -5,9 +5,9 @@ ghost use Rattle.{
   npr_base.specs.Tables.{shape_by, shape-by},
   npr_tc_filters.specs.{
     Flower.{table, family},
-    FlowerEquality.{flower_equivalence},
     FlowerHeld.{held_at, held_of, same_option, tag_at},
     FlowerValue.{shape_of},
+    lemmas.FlowerEquality.{flower_equivalence},
   },
 };
 

@@ -59,12 +59,6 @@ module _ (form : TcForm) (x : Item) where
   unfolding MeansSaid
   said_reads a s is means reads = subst (λ (m : Meaning). (attributes form).Reads x m) (sym means) (rw (is_2 (number_of x.kind) is) reads)
 
-  pub said_wrong : (e : DecodeError) → number_of x.kind ≡ 2 → (said form).Faulty x e → (attributes form).Faulty x e
-  said_wrong e is wrong = rw (is_2 (number_of x.kind) is) wrong
-
-  pub said_looks : (old new : Counts) → number_of x.kind ≡ 2 → (said form).looks.Takes x old new → (attributes form).looks.Takes x old new
-  said_looks old new is takes = rw (is_2 (number_of x.kind) is) takes
-
   rest_means : (m : Meaning) → (number_of x.kind == 2) ≡ false → RestReads form x m → (attributes form).Reads x m
   rest_means (inl s) other reads = absurd reads
   rest_means (inr m) other reads = rw other reads
@@ -72,9 +66,3 @@ module _ (form : TcForm) (x : Item) where
   pub rest_reads : (a : TcAttribute) → number_of x.kind ≢ 2 → IsRest form x a → (attributes form).Reads x (meaning a)
   unfolding IsRest
   rest_reads a other reads = rest_means (meaning a) (ne_eqb (number_of x.kind) 2 other) reads
-
-  pub rest_wrong : (e : DecodeError) → number_of x.kind ≢ 2 → (rest form).Faulty x e → (attributes form).Faulty x e
-  rest_wrong e other wrong = rw (ne_eqb (number_of x.kind) 2 other) wrong
-
-  pub rest_looks : (old new : Counts) → number_of x.kind ≢ 2 → (rest form).looks.Takes x old new → (attributes form).looks.Takes x old new
-  rest_looks old new other takes = rw (ne_eqb (number_of x.kind) 2 other) takes
