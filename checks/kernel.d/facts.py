@@ -208,7 +208,7 @@ def kind_of(it, name):
 
 
 KINDS = {"Tun": "tun", "IpTunnel": "ipip", "Ip6Tnl": "ip6tnl", "SitTun": "sit", "GreTun": "gre", "GreTap": "gretap", "GreTun6": "ip6gre",
-         "GreTap6": "ip6gretap", "MacVlan": "macvlan", "MacVtap": "macvtap", "IpVlan": "ipvlan", "IpVtap": "ipvtap"}
+         "GreTap6": "ip6gretap", "Erspan6": "ip6erspan", "MacVlan": "macvlan", "MacVtap": "macvtap", "IpVlan": "ipvlan", "IpVtap": "ipvtap"}
 
 
 def destination(it):

@@ -126,15 +126,20 @@ def add_modules(archive, folder):
     archive.add("modules/order", 0o100644, "".join(f"{it}\n" for it in order).encode())
 
 
-def write_archive(path, program, modules):
-    """Writes what the guest starts from: busybox, `ip`, `tc`, `bridge`, the program that asks, the modules and the scene."""
+def write_archive(path, programs, modules):
+    """Writes what the guest starts from: busybox, `ip`, `tc`, `bridge`, our programs by their names, the modules and the scene."""
     archive = Archive()
     archive.add_file("init", f"{HERE}/init")
     archive.add_file("scene", f"{HERE}/scene", 0o100644)
-    archive.add_program(program, "bin/kernel")
+    for name, program in programs.items():
+        if program:
+            archive.add_program(program, f"bin/{name}")
     archive.add_program(shutil.which("busybox"), "bin/busybox")
     for name in ("ip", "tc", "bridge"):
         archive.add_program(shutil.which(name), f"sbin/{name}")
+    # the names by which `tc` takes extended matches
+    for names in glob.glob("/etc/iproute2/ematch_map"):
+        archive.add_file(names, names, 0o100644)
     add_modules(archive, modules)
     with open(path, "wb") as file:
         file.write(archive.whole())

@@ -1,13 +1,22 @@
 //! Neighbours.
 
-use crate::{buffers, AddressFamily};
+use crate::AddressFamily;
+use crate::buffers::{layout, list, message, value};
+pub use crate::netlink_packet_route::neighbour::*;
 use netlink_packet_core::{DecodeError, ParseableParametrized};
-pub use proved::neighbour::*;
 
-include!(concat!(env!("OUT_DIR"), "/neighbour.rs"));
+layout!(NeighbourCacheInfoBuffer {
+    confirmed: u32,
+    used: u32,
+    updated: u32,
+    refcnt: u32
+});
+layout!(NeighbourMessageBuffer {
+    family: u8, - 3, ifindex: u32, state: u16, flags: u8, kind: u8, payload: ..
+});
 
-buffers::message!(NeighbourMessageBuffer: NeighbourMessage, NeighbourHeader);
-buffers::value!(NeighbourCacheInfoBuffer: NeighbourCacheInfo;);
+message!(NeighbourMessageBuffer: NeighbourMessage, NeighbourHeader);
+value!(NeighbourCacheInfoBuffer: NeighbourCacheInfo;);
 
 impl<'a, T: AsRef<[u8]> + 'a> ParseableParametrized<NeighbourMessageBuffer<&'a T>, AddressFamily>
     for Vec<NeighbourAttribute>
@@ -16,12 +25,13 @@ impl<'a, T: AsRef<[u8]> + 'a> ParseableParametrized<NeighbourMessageBuffer<&'a T
         buffer: &NeighbourMessageBuffer<&'a T>,
         family: AddressFamily,
     ) -> Result<Self, DecodeError> {
-        buffers::list(buffer.payload(), family)
+        list(buffer.payload(), family)
     }
 }
 
-/// Upstream's private modules, which its tests name.
-#[cfg(test)]
-mod flags {
-    pub(crate) use super::NeighbourFlags;
-}
+#[cfg(upstream_tests)]
+include!(concat!(env!("OUT_DIR"), "/upstream/neighbour.rs"));
+
+// Private modules that these name.
+#[cfg(upstream_tests)]
+crate::buffers::same_as_this!(flags);

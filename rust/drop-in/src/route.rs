@@ -1,15 +1,49 @@
 //! Routes.
 
-use crate::{buffers, AddressFamily};
+use crate::AddressFamily;
+use crate::buffers::{layout, message, value};
+use crate::framing::Looks;
+use crate::memory::Global;
+pub use crate::netlink_packet_route::route::*;
 use netlink_packet_core::{DecodeError, NlaBuffer, NlasIterator, Parseable, ParseableParametrized};
-use proved::framing::Looks;
-use proved::memory::Global;
-pub use proved::route::*;
 
-include!(concat!(env!("OUT_DIR"), "/route.rs"));
+layout!(RouteCacheInfoBuffer {
+    clntref: u32,
+    last_use: u32,
+    expires: u32,
+    error: u32,
+    used: u32,
+    id: u32,
+    ts: u32,
+    ts_age: u32
+});
+layout!(RouteMessageBuffer {
+    address_family: u8,
+    destination_prefix_length: u8,
+    source_prefix_length: u8,
+    tos: u8,
+    table: u8,
+    protocol: u8,
+    scope: u8,
+    kind: u8,
+    flags: u32,
+    payload: ..
+});
+layout!(RouteMfcStatsBuffer {
+    packets: u64,
+    bytes: u64,
+    wrong_if: u64
+});
+layout!(RouteNextHopBuffer unchecked {
+    length: u16, flags: u8, hops: u8, interface_index: u32, payload: ..
+});
+layout!(RouteViaBuffer {
+    address_family: u16,
+    address: ..
+});
 
-buffers::message!(RouteMessageBuffer: RouteMessage, RouteHeader);
-buffers::value! {
+message!(RouteMessageBuffer: RouteMessage, RouteHeader);
+value! {
     RouteCacheInfoBuffer: RouteCacheInfo;
     RouteMfcStatsBuffer: RouteMfcStats;
 }
@@ -22,12 +56,8 @@ impl<'a, T: AsRef<[u8]> + 'a>
         buffer: &RouteMessageBuffer<&'a T>,
         under: (AddressFamily, RouteType),
     ) -> Result<Self, DecodeError> {
-        Ok(read_route_list(
-            Global,
-            buffer.payload(),
-            under,
-            &mut Looks::new(),
-        )?)
+        let looks = &mut Looks::new();
+        Ok(read_route_list(Global, buffer.payload(), under, looks)?)
     }
 }
 
@@ -39,7 +69,7 @@ impl<T: AsRef<[u8]> + ?Sized> Parseable<RouteViaBuffer<&T>> for RouteVia {
 
 impl<T: AsRef<[u8]>> RouteNextHopBuffer<T> {
     pub fn new_checked(buffer: T) -> Result<Self, DecodeError> {
-        proved::route::RouteNextHopBuffer::new_checked(buffer.as_ref())?;
+        crate::netlink_packet_route::route::RouteNextHopBuffer::new_checked(buffer.as_ref())?;
         Ok(Self { buffer })
     }
 }
@@ -59,7 +89,7 @@ impl<T: AsRef<[u8]>> ParseableParametrized<RouteNextHopBuffer<&T>, Context> for 
         buffer: &RouteNextHopBuffer<&T>,
         context: Context,
     ) -> Result<Self, DecodeError> {
-        let bytes = &buffer.inner().as_ref()[..usize::from(buffer.length())];
+        let bytes = &buffer.inner()[..usize::from(buffer.length())];
         let mut hops = read_next_hops(Global, bytes, context, &mut Looks::new())?;
         hops.pop().ok_or_else(|| "there is no next hop".into())
     }
@@ -76,16 +106,9 @@ impl<'a, T: AsRef<[u8]> + 'a> ParseableParametrized<RouteNextHopBuffer<&'a T>, C
     }
 }
 
-/// Upstream's private modules, which its tests name.
-#[cfg(test)]
-mod flags {
-    pub(crate) use super::RouteFlags;
-}
-#[cfg(test)]
-mod lwtunnel {
-    pub(crate) use super::RouteIp6TunnelFlags;
-}
-#[cfg(test)]
-mod seg6 {
-    pub(crate) use super::{RouteSeg6IpTunnel, Seg6Mode};
-}
+#[cfg(upstream_tests)]
+include!(concat!(env!("OUT_DIR"), "/upstream/route.rs"));
+
+// Private modules that these name.
+#[cfg(upstream_tests)]
+crate::buffers::same_as_this!(flags lwtunnel seg6);

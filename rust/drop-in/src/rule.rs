@@ -1,15 +1,27 @@
 //! Rules.
 
-use crate::buffers;
-pub use proved::rule::*;
+use crate::buffers::{attributes, layout, message};
+pub use crate::netlink_packet_route::rule::*;
 
-include!(concat!(env!("OUT_DIR"), "/rule.rs"));
+layout!(RuleMessageBuffer {
+    family: u8,
+    dst_len: u8,
+    src_len: u8,
+    tos: u8,
+    table: u8,
+    reserve_1: u8,
+    reserve_2: u8,
+    action: u8,
+    flags: u32,
+    payload: ..
+});
 
-buffers::message!(RuleMessageBuffer: RuleMessage, RuleHeader);
-buffers::attributes!(RuleMessageBuffer: RuleAttribute);
+message!(RuleMessageBuffer: RuleMessage, RuleHeader);
+attributes!(RuleMessageBuffer: RuleAttribute);
 
-/// Upstream's private modules, which its tests name.
-#[cfg(test)]
-mod flags {
-    pub(crate) use super::RuleFlags;
-}
+#[cfg(upstream_tests)]
+include!(concat!(env!("OUT_DIR"), "/upstream/rule.rs"));
+
+// Private modules that these name.
+#[cfg(upstream_tests)]
+crate::buffers::same_as_this!(flags);

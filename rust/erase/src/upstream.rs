@@ -5,7 +5,7 @@ use crate::rules::{Erased, Eraser};
 use crate::source::Source;
 
 /// Enumerations that never have one more variant. Each other one is `#[non_exhaustive]`, unless the crate
-/// is built with `--cfg exhaustive`, for upstream's own tests.
+/// is built with `--cfg upstream`, for upstream's own tests.
 pub const CLOSED: &[&str] = &[
     "Action",
     "Answer",
@@ -93,7 +93,7 @@ impl Eraser<'_> {
             _ => false,
         };
         if may_grow {
-            let put = "#[cfg_attr(not(exhaustive), non_exhaustive)] ";
+            let put = "#[cfg_attr(not(upstream), non_exhaustive)] ";
             self.edits
                 .insert_before(&self.source, at, "non_exhaustive", put)?;
         }

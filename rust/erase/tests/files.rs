@@ -65,7 +65,7 @@ const SERIALIZE: &str = "#[cfg_attr(feature = \"serde\", derive(serde::Serialize
 /// What is public and held by messages: no set, nothing that borrows, no layout and no refusal.
 #[test]
 fn what_messages_hold_is_serialized() {
-    let growing = "#[cfg_attr(not(exhaustive), non_exhaustive)]";
+    let growing = "#[cfg_attr(not(upstream), non_exhaustive)]";
     assert_eq!(
         erased("#[derive(Drop, Eq)]\npub enum NetlinkPayload<I> {}\n"),
         format!("#[derive(Clone, Eq)] {SERIALIZE}\n{growing} pub enum NetlinkPayload<I> {{}}\n")
@@ -119,7 +119,7 @@ fn sets_have_calls_of_their_own() {
 #[test]
 fn what_may_grow_is_told() {
     let was = "pub enum RouteType {}\npub enum Action {}\npub struct Message<A> {}\npub struct RouteHeader {}\n";
-    let is = "#[cfg_attr(not(exhaustive), non_exhaustive)] pub enum RouteType {}\npub enum Action {}\n#[cfg_attr(not(exhaustive), non_exhaustive)] pub struct Message<A> {}\npub struct RouteHeader {}\n";
+    let is = "#[cfg_attr(not(upstream), non_exhaustive)] pub enum RouteType {}\npub enum Action {}\n#[cfg_attr(not(upstream), non_exhaustive)] pub struct Message<A> {}\npub struct RouteHeader {}\n";
     assert_eq!(erased(was), is);
 }
 
@@ -210,14 +210,14 @@ fn the_audit_sees_what_is_cut_put_in_and_moved() {
     assert_eq!(
         audited(
             "f(pub struct S)",
-            "f(#[cfg_attr(not(exhaustive), non_exhaustive)] pub struct S)"
+            "f(#[cfg_attr(not(upstream), non_exhaustive)] pub struct S)"
         ),
         r#"{"non_exhaustive": 1}"#
     );
     assert_eq!(
         audited(
             "f(struct S)",
-            "f(#[cfg_attr(not(exhaustive), non_exhaustive)] struct S)"
+            "f(#[cfg_attr(not(upstream), non_exhaustive)] struct S)"
         ),
         told("struct S )", "# [ cfg_attr ( not (")
     );

@@ -20,6 +20,7 @@ impl From<framing::DecodeError> for core::DecodeError {
     }
 }
 
+#[cfg(not(upstream))]
 impl From<core::DefaultNla> for framing::DefaultNla {
     fn from(nla: core::DefaultNla) -> Self {
         let mut value = vec![0; core::Nla::value_len(&nla)];
@@ -28,6 +29,7 @@ impl From<core::DefaultNla> for framing::DefaultNla {
     }
 }
 
+#[cfg(not(upstream))]
 impl From<framing::DefaultNla> for core::DefaultNla {
     fn from(nla: framing::DefaultNla) -> Self {
         core::DefaultNla::new(framing::Nla::kind(&nla), nla.value().to_vec())
@@ -126,7 +128,7 @@ macro_rules! all_emitable {
 all_emitable! {
     address: AddressHeader CacheInfo;
     address_label: AddressLabelHeader;
-    link: BridgeBooleanOptions BridgeId Inet6CacheInfo LinkHeader LinkPeer Map VfInfoBroadcast
+    link: BridgeBooleanOptions BridgeId Inet6CacheInfo LinkHeader Map VfInfoBroadcast
         VfInfoGuid VfInfoLinkState VfInfoMac VfInfoRate VfInfoSetting VfInfoTxRate VfInfoVlan
         VfVlanInfo;
     neighbour: NeighbourAddress NeighbourCacheInfo NeighbourHeader;
@@ -138,8 +140,7 @@ all_emitable! {
     route: MplsLabel RouteAddress RouteCacheInfo RouteHeader RouteLwEnCapType RouteMfcStats
         RouteNextHop RouteProtocol RouteRealm RouteVia;
     rule: RuleHeader RulePortRange RuleUidRange;
-    tc: TcActionGeneric TcActionMessageFlagsWithSelector TcActionMessageHeader TcBitfield
-        TcBpfInstruction TcCsum TcEmatchHeader TcEmatchTreeHeader TcEstimator TcFifoQopt
+    tc: TcActionGeneric TcActionMessageHeader TcBitfield TcBpfInstruction TcCsum TcEmatchHeader TcEmatchTreeHeader TcEstimator TcFifoQopt
         TcGactProbability TcHandle TcHeader TcHtbGlob TcHtbOpt TcMirror TcMqprioQopt TcNat
         TcNetemCorr TcNetemCorrupt TcNetemGeModel TcNetemGiModel TcNetemQopt TcNetemRate
         TcNetemReorder TcNetemSlot TcPeditKey TcPeditSelector TcPolice TcPrioQopt TcRateSpec
@@ -229,8 +230,16 @@ macro_rules! headers {
     )*};
 }
 
+#[cfg(not(upstream))]
+emitable! {
+    [] link::LinkPeer;
+    [] tc::TcActionMessageFlagsWithSelector;
+}
+#[cfg(not(upstream))]
 nla! {
     framing::DefaultNla;
+}
+nla! {
     route::Seg6Header;
 }
 headers! {

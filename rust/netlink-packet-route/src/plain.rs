@@ -12,7 +12,7 @@ use crate::memory::Global;
 use crate::neighbour::{NeighbourHeader, NeighbourState};
 use crate::route::{RouteGeneveOpt, RouteHeader, RouteNextHop, RplSrh, Seg6Header, Seg6LocalSrh};
 use crate::rule::RuleHeader;
-use crate::tc::{TcAttribute, TcHeader, TcMessage};
+use crate::tc::*;
 use crate::{Located, MessageType, RouteNetlinkMessage, locate};
 use std::fmt;
 use thiserror::Error;
@@ -60,6 +60,7 @@ impl<H: Header> Default for Message<H, H::Attribute> {
     }
 }
 
+#[cfg(not(upstream))]
 macro_rules! headers {
     ($($header:ty)*) => {$(
         impl $header {
@@ -73,6 +74,7 @@ macro_rules! headers {
         }
     )*};
 }
+#[cfg(not(upstream))]
 headers!(AddressHeader RouteHeader RuleHeader NeighbourHeader LinkHeader);
 
 impl TcMessage {
@@ -158,7 +160,7 @@ macro_rules! defaults {
         }
     )*};
 }
-defaults!(RouteGeneveOpt RouteNextHop RplSrh Seg6Header Seg6LocalSrh);
+defaults!(RouteGeneveOpt RouteNextHop RplSrh Seg6Header Seg6LocalSrh TcAction TcU32Selector);
 
 impl From<NeighbourState> for u16 {
     fn from(state: NeighbourState) -> u16 {
@@ -182,4 +184,34 @@ impl fmt::Display for NeighbourState {
             false => f.write_str(&names.to_lowercase()),
         }
     }
+}
+
+/// The name of a kind is a constant of a type without values of its own.
+macro_rules! kinds {
+    ($($kind:ident)*) => {$(
+        impl Clone for $kind {
+            fn clone(&self) -> Self {
+                *self
+            }
+        }
+
+        impl Copy for $kind {}
+
+        impl fmt::Debug for $kind {
+            fn fmt(&self, f: &mut fmt::Formatter<'_>) -> fmt::Result {
+                f.write_str(stringify!($kind))
+            }
+        }
+
+        impl PartialEq for $kind {
+            fn eq(&self, _other: &Self) -> bool {
+                true
+            }
+        }
+
+        impl Eq for $kind {}
+    )*};
+}
+kinds! {
+    TcActionMirror TcActionNat TcActionTunnelKey TcFilterFlower TcFilterMatchAll TcFilterU32 TcQdiscFqCodel TcQdiscIngress
 }

@@ -5,8 +5,8 @@
 #[allow(dead_code)]
 mod common;
 
-use netlink_packet_route as library;
 use netlink_packet_core::{Emitable, Nla, NlaBuffer, Parseable, ParseableParametrized};
+use netlink_packet_route as library;
 use netlink_packet_route::RouteNetlinkMessage;
 use netlink_packet_route::envelope::NetlinkIterator;
 use netlink_packet_route::framing;

@@ -46,7 +46,14 @@ fn links() {
 
 #[test]
 fn next_hops_and_small_messages() {
-    for word in ["nexthop", "nsid", "netconf", "address-label", "neighbour-table", "prefix"] {
+    for word in [
+        "nexthop",
+        "nsid",
+        "netconf",
+        "address-label",
+        "neighbour-table",
+        "prefix",
+    ] {
         assert!(compare(word, &[word]) > 0);
     }
 }

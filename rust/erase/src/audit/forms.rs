@@ -216,12 +216,12 @@ const SERIALIZE: &str = "# [ cfg_attr ( feature = \"serde\" , derive ( serde : :
 const IN_FRONT: &[(&str, &str, &str)] = &[
     (
         "non_exhaustive",
-        "# [ cfg_attr ( not ( exhaustive ) , non_exhaustive ) ]",
+        "# [ cfg_attr ( not ( upstream ) , non_exhaustive ) ]",
         "pub enum _",
     ),
     (
         "non_exhaustive",
-        "# [ cfg_attr ( not ( exhaustive ) , non_exhaustive ) ]",
+        "# [ cfg_attr ( not ( upstream ) , non_exhaustive ) ]",
         "pub struct _",
     ),
     ("inline", "# [ inline ]", "fn _"),

@@ -1,0 +1,3 @@
+//! Any message behind its envelope, as bytes.
+
+buffer!(RouteNetlinkMessageBuffer);
