@@ -15,7 +15,7 @@ import tarfile
 
 HERE = os.path.dirname(os.path.abspath(__file__))
 QEMU = "qemu-system-x86_64"
-MEMORY = "1024"
+MEMORY = "512"
 # how a module may be compressed
 READERS = {".ko": open, ".ko.gz": gzip.open, ".ko.xz": lzma.open}
 

@@ -64,5 +64,5 @@ fn nothing_of_a_label_is_lost(rt: HostRuntime) -> Result<(), Fail> {
 fn an_attribute_has_its_name() -> Result<(), Fail> {
     let name = attribute_name(AttributeSet::Rule, 24);
     same(name, Some("FRA_DPORT_RANGE"))?;
-    same(attribute_name(AttributeSet::Rule, 25), None)
+    same(attribute_name(AttributeSet::Rule, 31), None)
 }
