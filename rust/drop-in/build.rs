@@ -47,7 +47,7 @@ const CHANGES: [(&str, &str, &str); 35] = [
     (
         "npr_link/attribute.rs",
         "kind_rows(self;\n",
-        "kind_rows(self; LinkAttribute::ExtMask(_) => 29,\n",
+        "kind_rows(self; LinkAttribute::ExtMask(_) => crate::extent_mask::IFLA_EXT_MASK,\n",
     ),
     (
         "npr_link/attribute.rs",
@@ -62,12 +62,12 @@ const CHANGES: [(&str, &str, &str); 35] = [
     (
         "npr_link/attribute.rs",
         "flat_rows(place, alloc, item)",
-        "flat_rows(place, alloc, item; 29 => crate::extent_mask::put(place, item),)",
+        "flat_rows(place, alloc, item; crate::extent_mask::IFLA_EXT_MASK => crate::extent_mask::put(place, item),)",
     ),
     (
         "npr_link/attribute.rs",
         "form_rows(number;\n",
-        "form_rows(number; 29 => Form::Little32,\n",
+        "form_rows(number; crate::extent_mask::IFLA_EXT_MASK => Form::Little32,\n",
     ),
     (
         "npr_link/attribute.rs",

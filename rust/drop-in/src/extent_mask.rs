@@ -3,30 +3,17 @@
 use crate::npr_base::{At, AttributeSet, DecodeError, NlaBuffer, Place, read_u32, write_array};
 use crate::npr_link::{LinkAttribute, LinkExtentMask};
 
-/// Each name of the set, and its other bits as one.
-fn names(mask: LinkExtentMask) -> Vec<LinkExtentMask> {
-    let (names, rest) = (0..9)
-        .map(|bit| LinkExtentMask::from_bits_retain(1 << bit))
-        .fold((Vec::new(), mask), |(mut names, rest), name| {
-            if rest.contains(name) {
-                names.push(name);
-            }
-            (names, rest - name)
-        });
-    names
-        .into_iter()
-        .chain(Some(rest).filter(|rest| !rest.is_empty()))
-        .collect()
-}
+/// The number of the attribute, `IFLA_EXT_MASK` of `linux/if_link.h`.
+pub(crate) const IFLA_EXT_MASK: u16 = 29;
 
 pub(crate) fn put<P: Place<LinkAttribute>>(
     place: &mut P,
     item: &NlaBuffer<'_>,
 ) -> Result<(), DecodeError> {
-    let number = read_u32(item.value(), AttributeSet::Link.at(29))?;
-    place.put(LinkAttribute::ExtMask(names(
-        LinkExtentMask::from_bits_retain(number),
-    )));
+    let number = read_u32(item.value(), AttributeSet::Link.at(IFLA_EXT_MASK))?;
+    // each name, and the other bits as one
+    let names = LinkExtentMask::from_bits_retain(number).iter().collect();
+    place.put(LinkAttribute::ExtMask(names));
     Ok(())
 }
 
