@@ -44,9 +44,9 @@
 
 /* The version of the library. While the first two numbers stay, structures, calls and numbers stay as they are, and others are added. */
 #define NPR_VERSION_MAJOR 0
-#define NPR_VERSION_MINOR 16
+#define NPR_VERSION_MINOR 17
 #define NPR_VERSION_PATCH 0
-#define NPR_VERSION "0.16.0"
+#define NPR_VERSION "0.17.0"
 
 /* The stack of a thread that is enough for every call and every input, in bytes: 1 MiB. The deepest
  * message takes some 773 KiB, and where a fault is looked for some 433 (measured). */
@@ -74,7 +74,8 @@ enum npr_kind {
     NPR_KIND_NEIGHBOUR_TABLE = 10,
     NPR_KIND_PREFIX = 11,
     NPR_KIND_TC = 12,
-    NPR_KIND_TC_ACTION = 13
+    NPR_KIND_TC_ACTION = 13,
+    NPR_KIND_STATS = 14
 };
 
 /* The kind of messages of this type, RTM_* of linux/rtnetlink.h, or 0 where it is none that is read. */
@@ -417,7 +418,31 @@ enum npr_family {
     /* IFLA_VF_STATS_* of linux/if_link.h. */
     NPR_FAMILY_VF_STATS = 126,
     /* IFLA_VF_VLAN_INFO of linux/if_link.h, the one entry in a list of VLANs. */
-    NPR_FAMILY_VF_VLAN = 127
+    NPR_FAMILY_VF_VLAN = 127,
+    /* IFLA_VF_PORT of linux/if_link.h, the one entry in a list of ports. */
+    NPR_FAMILY_LINK_VF_PORT = 128,
+    /* IFLA_PORT_* of linux/if_link.h. */
+    NPR_FAMILY_VF_PORT = 129,
+    /* IFLA_STATS_* of linux/if_link.h. */
+    NPR_FAMILY_STATS = 130,
+    /* LINK_XSTATS_TYPE_* of linux/if_link.h. */
+    NPR_FAMILY_LINK_XSTATS = 131,
+    /* BRIDGE_XSTATS_* of linux/if_bridge.h. */
+    NPR_FAMILY_BRIDGE_XSTATS = 132,
+    /* BOND_XSTATS_* of linux/if_bonding.h. */
+    NPR_FAMILY_BOND_XSTATS = 133,
+    /* BOND_3AD_STAT_* of linux/if_bonding.h. */
+    NPR_FAMILY_BOND_AD_STAT = 134,
+    /* IFLA_OFFLOAD_XSTATS_* of linux/if_link.h. */
+    NPR_FAMILY_OFFLOAD_XSTATS = 135,
+    /* IFLA_OFFLOAD_XSTATS_* of linux/if_link.h, each with what is known of counting it in hardware. */
+    NPR_FAMILY_OFFLOAD_HW_INFO = 136,
+    /* IFLA_OFFLOAD_XSTATS_HW_S_INFO_* of linux/if_link.h. */
+    NPR_FAMILY_OFFLOAD_HW_STATE = 137,
+    /* Address families in IFLA_STATS_AF_SPEC: AF_* of linux/socket.h. */
+    NPR_FAMILY_STATS_AF_SPEC = 138,
+    /* MPLS_STATS_* of linux/mpls.h. */
+    NPR_FAMILY_MPLS_STATS = 139
 };
 
 /* What is wrong with a SEG6 routing header (RFC 8754, section 2). */
@@ -710,6 +735,7 @@ NPR_CALLS(neighbour_table, NPR_KIND_NEIGHBOUR_TABLE)
 NPR_CALLS(prefix, NPR_KIND_PREFIX)
 NPR_CALLS(tc, NPR_KIND_TC)
 NPR_CALLS(tc_action, NPR_KIND_TC_ACTION)
+NPR_CALLS(stats, NPR_KIND_STATS)
 
 #undef NPR_CALLS
 

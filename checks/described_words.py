@@ -27,7 +27,7 @@ COUNTED = {"stats": "rtnl-link-stats", "stats64": "rtnl-link-stats64", "inet_dev
 # the files that say what is inside under each kind, and the definition in the second
 GOVERNED = {"linkinfo-data-msg": ("npr_link/specs/InfoKind", "npr_link/specs/InfoData", "case"),
             "linkinfo-member-data-msg": ("npr_link/specs/PortKind", "npr_link/specs/PortData", "case"),
-            "options-msg": ("npr_tc_qdiscs/specs/Form", "npr_tc/specs/Options", "kind_of"),
+            "options-msg": ("npr_tc_values/specs/Form", "npr_tc/specs/Options", "kind_of"),
             "act-options-msg": ("npr_tc_actions/specs/Form", "npr_tc_actions/specs/ActionOption", "case")}
 # those of which the kinds that stand alone are compared
 IN_PARTS = {"options-msg", "act-options-msg"}

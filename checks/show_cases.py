@@ -12,7 +12,7 @@ SHOW_USAGE = b"usage: nlshow [--json | --count] [--numeric] [--hex] [--as KIND] 
 LINK_MESSAGE = bytes.fromhex("28000000100000000000000000000000" "00000100020000000000000000000000" "0700030064300000")
 ROUTE_BY_LINK = bytes.fromhex("24000000180000000000000000000000" "02000000fe03000100000000" "0800040002000000")
 COUNTS = (b"bytes 40\naddresses 0\nroutes 0\nrules 0\nneighbours 0\nlinks 0\nnexthops 0\nnsids 0\nnetconfs 0\naddress-labels 0\nneighbour-tables 0\n"
-          b"prefixes 0\ntc 0\ntc-actions 0\nothers 0\ncontrols 2\nrefused 0\n")
+          b"prefixes 0\ntc 0\ntc-actions 0\nstats 0\nothers 0\ncontrols 2\nrefused 0\n")
 # a bucket of a group of next hops, and a request for tables of neighbours
 BUCKET = bytes.fromhex("40000000740000000000000000000000" "0000000000000000" "0800010006000000"
                        "20000d80" "0600010000000000" "080003000e000000" "0c000200d101000000000000")
@@ -90,7 +90,9 @@ SHOWN = [
         ("neighbour-table", "020000000e0001006172705f63616368650000000800020080000000", "inet arp_cache\n    thresh1 128"),
         ("prefix", "0a0000005b0000000340c000" "1400010020010db8007700000000000000000000", "prefix 2001:db8:77::/64 dev 91 onlink autoconf"),
         ("tc", "00000000020000000000fffff1ffffff00000000" "0b000100636c736163740000", "clsact ffff: dev 2 parent ffff:fff1"),
-        ("tc-action", "00000000" "0800030002000000", "total acts 2"))),
+        ("tc-action", "00000000" "0800030002000000", "total acts 2"),
+        ("stats", "000000000100000008000000" "1c000400" "18000280" "14000380" "0500010001000000" "0500020000000000",
+         "dev 1\n    l3_stats request on used off"))),
     ("a message that is too long", ["--keep", "/dev/full"], LONG_MESSAGE, 5, b"", b"/dev/full: write failed\n"),
     ("the message behind it", [], LONG_MESSAGE, 1, b"done\n",
      b"-: message 1 at byte 0, 262148 bytes: TooLong: 262148 bytes, where 262144 have room\n" + NO_DATAGRAM),
@@ -128,6 +130,8 @@ REFUSED = [
     ("prefix", "0a0000005b0000000340c000" "0b00020008070000100e0000", "HeaderTooShort: 7 bytes, where a header of 8 is wanted, in PREFIX_CACHEINFO (2) at byte 12"),
     ("neighbour-table", "00000000" "10000600" "0800010004000000" "0c000500", "AttributeLength: an attribute of length 12 with 4 bytes left, in NDTA_PARMS (6) at byte 4"),
     ("neighbour-table", "00000000" "06000100ff000000", "NotUtf8: no UTF-8 at NDTA_NAME (1), at byte 4"),
+    ("stats", "000000000100000008000000" "1c000400" "1800020014000300" "0500010000000000" "0600020000000000",
+     "ValueLength: a value of 2 bytes at IFLA_OFFLOAD_XSTATS_HW_S_INFO_USED (2), where 1 are wanted, in IFLA_STATS_LINK_OFFLOAD_XSTATS (4) at byte 12"),
     ("nsid", "00", "HeaderTooShort: 1 bytes, where a header of 4 is wanted, at byte 0"),
     ("route", ROUTE + "0a00120002010a0000010000", "ViaFamily: a gateway of address family 258, in RTA_VIA (18) at byte 12"),
     ("route", ROUTE + encapsulation(5, "0800010000000000"), "Seg6Header: a SEG6 routing header without its fixed part, in RTA_ENCAP (22) at byte 20"),

@@ -28,6 +28,9 @@ static const struct kind KINDS[] = {
     {"address-label", npr_address_label_canonical, npr_address_label_fault},
     {"neighbour-table", npr_neighbour_table_canonical, npr_neighbour_table_fault},
     {"prefix", npr_prefix_canonical, npr_prefix_fault},
+    {"tc", npr_tc_canonical, npr_tc_fault},
+    {"tc-action", npr_tc_action_canonical, npr_tc_action_fault},
+    {"stats", npr_stats_canonical, npr_stats_fault},
 };
 
 #define KIND_COUNT (sizeof KINDS / sizeof *KINDS)

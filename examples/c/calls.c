@@ -259,6 +259,7 @@ static const struct {
     {108, NPR_KIND_LINK}, {110, NPR_KIND_LINK},
     {116, NPR_KIND_NEXT_HOP}, {118, NPR_KIND_NEXT_HOP},
     {36, NPR_KIND_TC}, {46, NPR_KIND_TC}, {48, NPR_KIND_TC_ACTION}, {50, NPR_KIND_TC_ACTION}, {102, NPR_KIND_TC},
+    {92, NPR_KIND_STATS}, {94, 0},
     {0, 0}, {3, 0}, {23, 0}, {39, 0}, {65, 0}, {68, 0}, {119, 0}, {65535, 0},
 };
 
@@ -266,9 +267,9 @@ static int kinds(void) {
     uint8_t out[8] = {1, 2, 3, 4, 5, 6, 7, 8};
     for (size_t i = 0; i < LENGTH(TYPES); i++)
         WANT(npr_kind_of(TYPES[i].type) == TYPES[i].kind);
-    for (uint32_t kind = 1; kind <= NPR_KIND_TC_ACTION; kind++)
+    for (uint32_t kind = 1; kind <= NPR_KIND_STATS; kind++)
         WANT(npr_fault_of(kind, ADDRESS, 3).number == NPR_HEADER_TOO_SHORT);
-    for (uint32_t kind = 0; kind < 300; kind += kind == 0 ? 14 : 1) {
+    for (uint32_t kind = 0; kind < 300; kind += kind == 0 ? 15 : 1) {
         struct npr_answer answer = npr_canonical(kind, ADDRESS, 24, out, sizeof out);
         WANT(answer.status == NPR_REFUSED && answer.number == NPR_UNKNOWN_KIND && answer.length == 0 && out[0] == 1 && out[7] == 8);
         struct npr_fault wanted = {NPR_UNKNOWN_KIND, 0, 0, 0, 0, 0, 0};

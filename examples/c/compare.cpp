@@ -36,6 +36,7 @@ static const Kind KINDS[] = {
     {"prefix", NPR_KIND_PREFIX},
     {"tc", NPR_KIND_TC},
     {"tc-action", NPR_KIND_TC_ACTION},
+    {"stats", NPR_KIND_STATS},
 };
 
 static constexpr std::string_view DIGITS = "0123456789abcdef";

@@ -57,6 +57,7 @@ static const struct kind KINDS[] = {
     {NPR_KIND_PREFIX, "prefix", 0, 12},
     {NPR_KIND_TC, "tc", RTM_GETQDISC, 20},
     {NPR_KIND_TC_ACTION, "tc_action", 0, 4},
+    {NPR_KIND_STATS, "stats", 0, 12},
 };
 
 #define KIND_COUNT (sizeof KINDS / sizeof *KINDS)

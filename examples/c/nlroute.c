@@ -5,7 +5,7 @@
  *   nlroute compare KIND FILE.. [KIND FILE..]
  *
  * A KIND is address, route, rule, neighbour, link, nexthop, nsid, netconf, address-label, neighbour-table,
- * prefix, tc or tc-action.
+ * prefix, tc, tc-action or stats.
  *
  * It ends with 0 and the report; or with one line on standard error and 1 (refused), 2 (bad
  * hexadecimal text, or the usage), 3 (unfit), 4 (out of memory) or 5 (reading or writing failed). A
@@ -19,7 +19,7 @@
 #include <stdlib.h>
 #include <string.h>
 
-#define KIND_NAMES "address|route|rule|neighbour|link|nexthop|nsid|netconf|address-label|neighbour-table|prefix|tc|tc-action"
+#define KIND_NAMES "address|route|rule|neighbour|link|nexthop|nsid|netconf|address-label|neighbour-table|prefix|tc|tc-action|stats"
 #define USAGE "usage: nlroute " KIND_NAMES "\n       nlroute compare " KIND_NAMES " FILE.."
 
 enum ending { WELL = 0, REFUSED = 1, BAD_HEX = 2, UNFIT = 3, MEMORY = 4, FAILED = 5 };
@@ -45,6 +45,7 @@ static const struct kind KINDS[] = {
     {"prefix", NPR_KIND_PREFIX, 12},
     {"tc", NPR_KIND_TC, 20},
     {"tc-action", NPR_KIND_TC_ACTION, 4},
+    {"stats", NPR_KIND_STATS, 12},
 };
 
 static const struct kind *kind_of(const char *name) {

@@ -37,7 +37,7 @@ def loaded(name):
     )
 
 
-LIBRARY = loaded("libnetlink_packet_route.so.0.16")
+LIBRARY = loaded("libnetlink_packet_route.so.0.17")
 FOUND, FAULT = 0, 1
 REFUSED, UNFIT, SHORT, TEXT_ROOM = 1, 2, 3, 256
 NLA_F_NESTED = 0x8000
@@ -95,6 +95,7 @@ HEADERS = {
     "prefix": 12,
     "tc": 20,
     "tc_action": 4,
+    "stats": 12,
 }
 KINDS = [None, *HEADERS]
 

@@ -259,3 +259,17 @@ pub const ACTION_KINDS: [(&str, Lengths); 12] = [
 const CONNECTION: Lengths = &[
     ANY, 20, 32, 2, 2, 4, 4, ANY, ANY, 4, 4, 16, 16, 2, 2, ANY, ANY, 1, 1,
 ];
+
+/// Of statistics; lists are empty here.
+pub const COUNTERS: [u8; 6] = [ANY, 200, 0, 0, 0, 0];
+
+/// Of what bridges, bonds, hardware and MPLS count, and of whether hardware does.
+pub const BRIDGE_COUNTERS: [u8; 5] = [ANY, 40, 240, ANY, 48];
+
+pub const BOND_COUNTERS: [u8; 10] = [8, 8, 8, 8, 8, 8, 8, 8, 8, ANY];
+
+pub const HARDWARE_COUNTERS: [u8; 4] = [ANY, 200, 0, 72];
+
+pub const HARDWARE_STATE: [u8; 3] = [ANY, 1, 1];
+
+pub const MPLS_COUNTERS: [u8; 2] = [ANY, 72];

@@ -137,6 +137,7 @@ impl Maker {
             MessageKind::Prefix => self.leaves(&PREFIX),
             MessageKind::Tc => self.traffic(),
             MessageKind::TcAction => self.traffic_actions(),
+            MessageKind::Stats => self.statistics(),
         }
     }
 

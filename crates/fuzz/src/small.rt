@@ -1,6 +1,9 @@
-//! Next hops and tables of neighbours, with lists inside.
+//! Next hops, tables of neighbours and statistics, with lists inside.
 
-use crate::lengths::{BUCKET, MEMBERS, NEXT_HOP, PARAMETER, RESILIENT, STATISTICS, TABLE};
+use crate::lengths::{
+    BOND_COUNTERS, BRIDGE_COUNTERS, BUCKET, COUNTERS, HARDWARE_COUNTERS, HARDWARE_STATE, MEMBERS,
+    MPLS_COUNTERS, NEXT_HOP, PARAMETER, RESILIENT, STATISTICS, TABLE,
+};
 use crate::making::{Maker, NESTED};
 use std::alloc::AllocError;
 
@@ -45,5 +48,35 @@ impl Maker {
             self.wrap(6, &[])?;
         }
         self.leaves(&TABLE)
+    }
+    /// The list of statistics, mostly with those of a bridge, of a bond, of hardware or of MPLS.
+    pub(crate) fn statistics(&mut self) -> Result<(), AllocError> {
+        match self.random.below(5) {
+            0 => {
+                self.leaves(&BRIDGE_COUNTERS)?;
+                self.wrap(1, &[])?;
+                self.wrap(2, &[])?;
+            }
+            1 => {
+                self.leaves(&BOND_COUNTERS)?;
+                self.wrap(1, &[])?;
+                self.wrap(2, &[])?;
+                self.wrap(3, &[])?;
+            }
+            2 => {
+                self.leaves(&HARDWARE_STATE)?;
+                self.wrap(NESTED | 3, &[])?;
+                self.wrap(NESTED | 2, &[])?;
+                self.leaves(&HARDWARE_COUNTERS)?;
+                self.wrap(4, &[])?;
+            }
+            3 => {
+                self.leaves(&MPLS_COUNTERS)?;
+                self.wrap(28, &[])?;
+                self.wrap(5, &[])?;
+            }
+            _ => {}
+        }
+        self.leaves(&COUNTERS)
     }
 }

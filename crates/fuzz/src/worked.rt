@@ -149,6 +149,13 @@ const ACTIONS: [&str; 3] = [
     "0000000014000100100001000b0001006d697272656400000c00020001000000010000000800040088130000",
 ];
 
+/// Messages of statistics: what hardware counts, and what bridges, bonds and MPLS do.
+const STATISTICS: [&str; 3] = [
+    "0000000001000000080000001c000400180002801400038005000100000000000500020000000000",
+    "0000000005000000020000003c0002003800010034000400010000000000000002000000000000000300000000000000040000000000000005000000000000000600000000000000",
+    "0000000003000000140000001800030014000200100001000c00000054000000000000005400050050001c004c000100010000000000000002000000000000000300000000000000040000000000000005000000000000000600000000000000070000000000000008000000000000000900000000000000",
+];
+
 /// Datagrams: two rules of a dump and its end, the second of them interrupted; a message of 17 bytes and
 /// an overrun; an error with the words of an extended answer behind a capped message, and an
 /// acknowledgement.
@@ -174,6 +181,7 @@ pub fn messages(subject: Subject) -> &'static [&'static str] {
         Subject::Message(MessageKind::Prefix) => &PREFIXES,
         Subject::Message(MessageKind::Tc) => &TRAFFIC,
         Subject::Message(MessageKind::TcAction) => &ACTIONS,
+        Subject::Message(MessageKind::Stats) => &STATISTICS,
         Subject::Datagram => &DATAGRAMS,
     }
 }

@@ -14,7 +14,7 @@ use Rattle.netlink_packet_route.specs.declared.kind.MessageKind.TheVariants as K
 use Rattle.netlink_packet_route.specs.declared.message_type.Action.{Action}
 use Rattle.netlink_packet_route.specs.declared.message_type.Action.TheVariants.{New, Del, Get}
 use Rattle.netlink_packet_route.specs.declared.message_type.MessageType.{MessageType}
-use Rattle.netlink_packet_route.specs.declared.message_type.MessageType.TheVariants.{Of, SetLink, NewPrefix, Unknown}
+use Rattle.netlink_packet_route.specs.declared.message_type.MessageType.TheVariants.{Of, SetLink, NewPrefix, NewStats, Unknown}
 use Rattle.netlink_packet_route.specs.declared.message_type.MessageType.TheVariants.{NewNeighbourTable, GetNeighbourTable, SetNeighbourTable}
 use Rattle.netlink_packet_route.specs.declared.message_type.Subject.{Subject}
 use Rattle.netlink_packet_route.specs.declared.message_type.Subject.TheVariants.{Link, Address, Route, Neighbour, Rule, AddressLabel, Netconf, Nsid}
@@ -41,15 +41,16 @@ subject_order TrafficAction = 25
 subject_order AddressLabel = 32
 subject_order Netconf = 35
 subject_order Nsid = 38
-subject_order TrafficChain = 41
-subject_order NextHop = 44
-subject_order LinkProp = 47
-subject_order NextHopBucket = 50
+subject_order TrafficChain = 42
+subject_order NextHop = 45
+subject_order LinkProp = 48
+subject_order NextHopBucket = 51
 
 abbrev type_order : MessageType → ℕ
 type_order (Of subject a) = subject_order subject + action_order a
 type_order SetLink = 3
 type_order NewPrefix = 28
+type_order NewStats = 41
 type_order NewNeighbourTable = 29
 type_order GetNeighbourTable = 30
 type_order SetNeighbourTable = 31
@@ -57,7 +58,7 @@ type_order Unknown = 0
 
 unfoldable pub order : Meaning → ℕ
 order (message type m) = type_order type
-order (other type bytes) = 53
+order (other type bytes) = 54
 
 -- a message of a kind is one
 abbrev as_kind : (kind : MessageKind) → MessageOf kind → Meaning → MessageOf kind
@@ -77,6 +78,7 @@ as_kind Kind.NeighbourTable m (message NewNeighbourTable n) = n
 as_kind Kind.NeighbourTable m (message GetNeighbourTable n) = n
 as_kind Kind.NeighbourTable m (message SetNeighbourTable n) = n
 as_kind Kind.Prefix m (message NewPrefix n) = n
+as_kind Kind.Stats m (message NewStats n) = n
 as_kind Kind.Tc m (message (Of QueueDiscipline a) n) = n
 as_kind Kind.Tc m (message (Of TrafficClass a) n) = n
 as_kind Kind.Tc m (message (Of TrafficFilter a) n) = n
@@ -103,6 +105,7 @@ message_one (Of TrafficAction a) m n e = ap (as_kind Kind.TcAction m) e
 message_one (Of TrafficChain a) m n e = ap (as_kind Kind.Tc m) e
 message_one SetLink m n e = ap (as_kind Kind.Link m) e
 message_one NewPrefix m n e = ap (as_kind Kind.Prefix m) e
+message_one NewStats m n e = ap (as_kind Kind.Stats m) e
 message_one NewNeighbourTable m n e = ap (as_kind Kind.NeighbourTable m) e
 message_one GetNeighbourTable m n e = ap (as_kind Kind.NeighbourTable m) e
 message_one SetNeighbourTable m n e = ap (as_kind Kind.NeighbourTable m) e

@@ -44,14 +44,21 @@ module _ (c : Context) where
 
   -- those that stand under any family
   lists : ListRow reading_of (Inner c) (Own At.Link c) info_list At.LinkInfo 0
-      × (Held At.LinkXdp × (Held At.Prop × (Held At.LinkProtocolDownReason × (Held At.LinkVfInfo × (Held At.LinkDpllPin × Unit {0})))))
+      × (Held At.LinkXdp × (Held At.Prop × (Held At.LinkProtocolDownReason × (Held At.LinkVfInfo
+      × (Held At.LinkVfPort × (Held At.VfPort × (Held At.LinkDpllPin × Unit {0})))))))
   lists = (
     driver-row At.Link c,
     (
       held At.LinkXdp (λ bytes n p. p),
       (
         held At.Prop (λ bytes n p. p),
-        (held At.LinkProtocolDownReason (λ bytes n p. p), (held At.LinkVfInfo (λ bytes n p. p), (held At.LinkDpllPin (λ bytes n p. p), tt))),
+        (
+          held At.LinkProtocolDownReason (λ bytes n p. p),
+          (
+            held At.LinkVfInfo (λ bytes n p. p),
+            (held At.LinkVfPort (λ bytes n p. p), (held At.VfPort (λ bytes n p. p), (held At.LinkDpllPin (λ bytes n p. p), tt))),
+          ),
+        ),
       ),
     ),
   )

@@ -92,9 +92,21 @@ use Rattle.npr_link_functions.specs.LinkVfInfo as OfLinkVfInfo
 use Rattle.npr_link_functions.specs.VfInfo as OfVfInfo
 use Rattle.npr_link_functions.specs.VfStats as OfVfStats
 use Rattle.npr_link_functions.specs.VfVlanList as OfVfVlan
+use Rattle.npr_link_functions.specs.LinkVfPort as OfLinkVfPort
+use Rattle.npr_link_functions.specs.VfPort as OfVfPort
+use Rattle.npr_stats.specs.Attribute as OfStats
+use Rattle.npr_stats.specs.LinkXstats as OfLinkXstats
+use Rattle.npr_stats.specs.BridgeXstats as OfBridgeXstats
+use Rattle.npr_stats.specs.BondXstats as OfBondXstats
+use Rattle.npr_stats.specs.BondAdStat as OfBondAdStat
+use Rattle.npr_stats.specs.OffloadXstats as OfOffloadXstats
+use Rattle.npr_stats.specs.OffloadHwInfo as OfOffloadHwInfo
+use Rattle.npr_stats.specs.OffloadHwState as OfOffloadHwState
+use Rattle.npr_stats.specs.AfSpec as OfStatsAfSpec
+use Rattle.npr_stats.specs.MplsStats as OfMplsStats
 use Rattle.npr_tc_qdiscs.specs.Cake as OfTcCake
-use Rattle.npr_tc_qdiscs.specs.CakeStat as OfTcCakeStat
-use Rattle.npr_tc_qdiscs.specs.CakeTinStat as OfTcCakeTinStat
+use Rattle.npr_tc_values.specs.CakeStat as OfTcCakeStat
+use Rattle.npr_tc_values.specs.CakeTinStat as OfTcCakeTinStat
 use Rattle.npr_tc_qdiscs.specs.MqprioOption as OfTcMqprio
 use Rattle.npr_tc_qdiscs.specs.MqprioEntry as OfTcMqprioEntry
 use Rattle.npr_tc_filters.specs.Basic as OfTcBasic
@@ -143,6 +155,9 @@ module _ (c : Context) where
       OfTcSkbedit.attributes OfTcCsum.attributes OfTcCt.attributes OfTcSample.attributes OfTcBpf.attributes
       OfFdb.attributes OfAfSpecMctp.attributes OfPin.attributes OfHsr.attributes OfIpoib.attributes OfMacSec.attributes
       OfGtp.attributes OfOvpn.attributes OfLinkVfInfo.attributes OfVfInfo.attributes OfVfStats.attributes OfVfVlan.attributes
+      OfLinkVfPort.attributes OfVfPort.attributes OfLinkXstats.attributes OfBridgeXstats.attributes
+      OfBondXstats.attributes OfBondAdStat.attributes OfOffloadXstats.attributes
+      OfOffloadHwInfo.attributes OfOffloadHwState.attributes OfStatsAfSpec.attributes OfMplsStats.attributes
       OfTcCake.attributes OfTcCakeStat.attributes OfTcCakeTinStat.attributes OfTcMqprio.attributes OfTcMqprioEntry.attributes
       OfTcBasic.attributes OfTcEmatchTree.attributes OfTcCfm.attributes OfTcEnc.attributes OfTcEncGeneve.attributes
       OfTcEncVxlan.attributes OfTcEncErspan.attributes OfTcEncGtp.attributes OfTcEncPfcp.attributes OfTcPedit.attributes
@@ -279,6 +294,32 @@ module _ (c : Context) where
       (listed-row At.VfInfo c At.VfStats (λ bytes n p. p), (listed-row At.VfInfo c At.VfVlan (λ bytes n p. p), tt))
   nests-by At.VfStats = table-nests reading_of (Inner c) (Own At.VfStats c) OfVfStats.table tt
   nests-by At.VfVlan = table-nests reading_of (Inner c) (Own At.VfVlan c) OfVfVlan.table tt
+  nests-by At.LinkVfPort =
+      table-nests reading_of (Inner c) (Own At.LinkVfPort c) OfLinkVfPort.table
+      (listed-row At.LinkVfPort c At.VfPort (λ bytes n p. p), tt)
+  nests-by At.VfPort = table-nests reading_of (Inner c) (Own At.VfPort c) OfVfPort.table tt
+  nests-by At.Stats =
+      table-nests reading_of (Inner c) (Own At.Stats c) OfStats.table
+      (listed-row At.Stats c At.LinkXstats (λ bytes n p. p), (listed-row At.Stats c At.LinkXstats (λ bytes n p. p), (listed-row At.Stats c At.OffloadXstats (λ bytes n p. p), (listed-row At.Stats c At.StatsAfSpec (λ bytes n p. p), tt))))
+  nests-by At.LinkXstats =
+      table-nests reading_of (Inner c) (Own At.LinkXstats c) OfLinkXstats.table
+      (listed-row At.LinkXstats c At.BridgeXstats (λ bytes n p. p), (listed-row At.LinkXstats c At.BondXstats (λ bytes n p. p), tt))
+  nests-by At.BridgeXstats = table-nests reading_of (Inner c) (Own At.BridgeXstats c) OfBridgeXstats.table tt
+  nests-by At.BondXstats =
+      table-nests reading_of (Inner c) (Own At.BondXstats c) OfBondXstats.table
+      (listed-row At.BondXstats c At.BondAdStat (λ bytes n p. p), tt)
+  nests-by At.BondAdStat = table-nests reading_of (Inner c) (Own At.BondAdStat c) OfBondAdStat.table tt
+  nests-by At.OffloadXstats =
+      table-nests reading_of (Inner c) (Own At.OffloadXstats c) OfOffloadXstats.table
+      (listed-row At.OffloadXstats c At.OffloadHwInfo (λ bytes n p. p), tt)
+  nests-by At.OffloadHwInfo =
+      table-nests reading_of (Inner c) (Own At.OffloadHwInfo c) OfOffloadHwInfo.table
+      (listed-row At.OffloadHwInfo c At.OffloadHwState (λ bytes n p. p), tt)
+  nests-by At.OffloadHwState = table-nests reading_of (Inner c) (Own At.OffloadHwState c) OfOffloadHwState.table tt
+  nests-by At.StatsAfSpec =
+      table-nests reading_of (Inner c) (Own At.StatsAfSpec c) OfStatsAfSpec.table
+      (listed-row At.StatsAfSpec c At.MplsStats (λ bytes n p. p), tt)
+  nests-by At.MplsStats = table-nests reading_of (Inner c) (Own At.MplsStats c) OfMplsStats.table tt
   nests-by At.TcQdiscCake = table-nests reading_of (Inner c) (Own At.TcQdiscCake c) OfTcCake.table tt
   nests-by At.TcCakeStat =
       table-nests reading_of (Inner c) (Own At.TcCakeStat c) OfTcCakeStat.table

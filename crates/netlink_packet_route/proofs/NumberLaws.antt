@@ -25,7 +25,7 @@ use Rattle.npr_route.specs.Message.{IsContext}
 use Rattle.npr_route.specs.declared.header.RouteHeader.{RouteHeader}
 use Rattle.npr_route_values.specs.RouteType.{route_types}
 use Rattle.npr_tc_actions.specs.declared.form.TcActionForm.{TcActionForm}
-use Rattle.npr_tc_qdiscs.specs.declared.form.TcForm.{TcForm}
+use Rattle.npr_tc_values.specs.declared.form.TcForm.{TcForm}
 use Rattle.npr_encapsulation.specs.EncapType.{encap_type, encap_types}
 use Rattle.npr_encapsulation.specs.declared.encap_type.RouteLwEnCapType.{RouteLwEnCapType}
 use Rattle.npr_encapsulation.specs.declared.encap_type.RouteLwEnCapType.TheVariants.{None as NoEncapsulation}

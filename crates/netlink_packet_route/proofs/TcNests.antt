@@ -17,18 +17,18 @@ use Rattle.npr_tc.specs.Options.{Kind, Said, kept, holding, kind_of, options, pl
 use Rattle.npr_tc_actions.specs.Action as OfActions
 use Rattle.npr_tc_actions.specs.ActionOption as OfOption
 use Rattle.npr_tc_actions.specs.Attribute as OfAction
-use Rattle.npr_tc_qdiscs.specs.Numbered.{IsNumbered}
+use Rattle.npr_tc_values.specs.Numbered.{IsNumbered}
 use Rattle.npr_tc_actions.specs.contracts.attribute.TcActionAttribute.{enum as action_enum}
 use Rattle.npr_tc_actions.specs.declared.form.TcActionForm.{TcActionForm}
 use Rattle.npr_tc_actions.specs.declared.form.TcActionForm.TheVariants as Action
-use Rattle.npr_tc_qdiscs.specs.CakeTin as OfTins
+use Rattle.npr_tc_values.specs.CakeTin as OfTins
 use Rattle.npr_tc_qdiscs.specs.Netem.{default_qopt}
 use Rattle.npr_tc_qdiscs.specs.NetemOption as OfNetemOption
 use Rattle.npr_tc_qdiscs.specs.NetemQopt.{netem_qopt}
-use Rattle.npr_tc_qdiscs.specs.Stats2 as OfStats2
-use Rattle.npr_tc_qdiscs.specs.Xstats as OfXstats
-use Rattle.npr_tc_qdiscs.specs.contracts.stats2.TcStats2.{enum as stats2_enum}
-use Rattle.npr_tc_qdiscs.specs.declared.form.TcForm.{TcForm}
+use Rattle.npr_tc_values.specs.Stats2 as OfStats2
+use Rattle.npr_tc_values.specs.Xstats as OfXstats
+use Rattle.npr_tc_values.specs.contracts.stats2.TcStats2.{enum as stats2_enum}
+use Rattle.npr_tc_values.specs.declared.form.TcForm.{TcForm}
 use Rattle.netlink_packet_route.specs.Nests.{Inner, nest_in, reading_of, within}
 use Rattle.netlink_packet_route.specs.declared.context.Context.{Context}
 use Rattle.netlink_packet_route.specs.declared.nests.Nest.{Nest}

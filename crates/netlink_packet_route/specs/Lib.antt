@@ -30,6 +30,8 @@ pub use Rattle.npr_link.specs as OfLink
 pub use Rattle.npr_route.specs as OfRoute
 pub use Rattle.npr_namespace.specs as OfNamespace
 pub use Rattle.npr_nexthop.specs as OfNextHop
+pub use Rattle.npr_stats.specs as OfStats
+pub use Rattle.npr_tc_values.specs as OfTcValues
 pub use Rattle.npr_tc_qdiscs.specs as OfTcQdiscs
 pub use Rattle.npr_tc_actions.specs as OfTcActions
 pub use Rattle.npr_tc_filters.specs as OfTcFilters
@@ -120,9 +122,10 @@ pub use Rattle.npr_route.specs.NextHopHeader
 pub use Rattle.npr_route.specs.Path as RoutePath
 pub use Rattle.npr_namespace.specs.NetconfAttribute
 pub use Rattle.npr_namespace.specs.NsidAttribute
-pub use Rattle.npr_tc_qdiscs.specs.Form as TcForm
-pub use Rattle.npr_tc_qdiscs.specs.FqCodelXstats as TcFqCodelXstats
-pub use Rattle.npr_tc_qdiscs.specs.Handle as TcHandle
+pub use Rattle.npr_stats.specs.Attribute as StatsAttribute
+pub use Rattle.npr_tc_values.specs.Form as TcForm
+pub use Rattle.npr_tc_values.specs.FqCodelXstats as TcFqCodelXstats
+pub use Rattle.npr_tc_values.specs.Handle as TcHandle
 pub use Rattle.npr_tc_actions.specs.Action as TcAction
 pub use Rattle.npr_tc_actions.specs.ActionOption as TcActionOption
 pub use Rattle.npr_tc_actions.specs.Form as TcActionForm

@@ -44,21 +44,23 @@ use Rattle.npr_namespace.specs.NsidAttribute as OfNsid
 use Rattle.npr_namespace.specs.NsidHeader as OfNsidHeader
 use Rattle.npr_address.specs.PrefixAttribute as OfPrefix
 use Rattle.npr_address.specs.PrefixHeader as OfPrefixHeader
+use Rattle.npr_stats.specs.Attribute as OfStats
+use Rattle.npr_stats.specs.Header as OfStatsHeader
 use Rattle.npr_tc.specs.ActionAttribute as OfTcAction
 use Rattle.npr_tc.specs.ActionHeader as OfTcActionHeader
 use Rattle.npr_tc.specs.Attribute as OfTc
 use Rattle.npr_tc.specs.Message.{messages as tc_messages, IsContext as IsTcContext, under_context as under_tc}
 use Rattle.npr_tc.specs.declared.attribute.TcAttribute.{TcAttribute}
 use Rattle.npr_tc.specs.declared.header.TcHeader.{TcHeader}
-use Rattle.npr_tc_qdiscs.specs.declared.form.TcForm.{TcForm}
-use Rattle.npr_tc_qdiscs.specs.declared.form.TcForm.TheVariants.{Kept as NoData}
+use Rattle.npr_tc_values.specs.declared.form.TcForm.{TcForm}
+use Rattle.npr_tc_values.specs.declared.form.TcForm.TheVariants.{Kept as NoData}
 use Rattle.npr_encapsulation.specs.declared.encap_type.RouteLwEnCapType.TheVariants.{None as NoEncapsulation}
 use Rattle.netlink_packet_route.specs.Nests.{reading_of}
 use Rattle.netlink_packet_route.specs.Readings.{no_context, reading_by}
 use Rattle.netlink_packet_route.specs.declared.nests.Nest.{Nest}
 use Rattle.netlink_packet_route.specs.declared.kind.MessageKind.{MessageKind}
 use Rattle.netlink_packet_route.specs.declared.kind.MessageKind.TheVariants.{Address, Route, Rule, Neighbour, Link, NextHop, Nsid, Netconf, AddressLabel}
-use Rattle.netlink_packet_route.specs.declared.kind.MessageKind.TheVariants.{NeighbourTable, Prefix, Tc, TcAction}
+use Rattle.netlink_packet_route.specs.declared.kind.MessageKind.TheVariants.{NeighbourTable, Prefix, Tc, TcAction, Stats}
 use Rattle.netlink_packet_route.specs.declared.message_type.MessageType.{MessageType}
 use Rattle.netlink_packet_route.specs.declared.message_type.MessageType.TheVariants as Types
 use Rattle.netlink_packet_route.specs.declared.message_type.Subject.{Subject}
@@ -78,6 +80,7 @@ kind_name NeighbourTable = codes "neighbour-table"
 kind_name Prefix = codes "prefix"
 kind_name Tc = codes "tc"
 kind_name TcAction = codes "tc-action"
+kind_name Stats = codes "stats"
 
 -- what a kind of message is made of: its header, its attributes, and how they are read and written; what governs the attributes, and
 -- what names their list, which means what the message does; and how those of a message are read that its own words govern
@@ -149,6 +152,7 @@ form_of NeighbourTable =
     alone OfNeighbourTable.family OfNeighbourTableHeader.header OfNeighbourTableHeader.default_header At.NeighbourTable refl (lit≤ tt)
 form_of Prefix = alone OfPrefix.family OfPrefixHeader.header OfPrefixHeader.default_header At.Prefix refl (lit≤ tt)
 form_of TcAction = alone OfTcAction.family OfTcActionHeader.header OfTcActionHeader.default_header At.TcActionMessage refl (lit≤ tt)
+form_of Stats = alone OfStats.family OfStatsHeader.header OfStatsHeader.default_header At.Stats refl (lit≤ tt)
 form_of Route = record {
   Header = RouteHeader;
   Attribute = RouteAttribute;
@@ -255,6 +259,7 @@ abbrev pub kind_of_type : MessageType → Option MessageKind
 kind_of_type (Types.Of subject action) = Some (kind_of subject)
 kind_of_type Types.SetLink = Some Link
 kind_of_type Types.NewPrefix = Some Prefix
+kind_of_type Types.NewStats = Some Stats
 kind_of_type Types.NewNeighbourTable = Some NeighbourTable
 kind_of_type Types.GetNeighbourTable = Some NeighbourTable
 kind_of_type Types.SetNeighbourTable = Some NeighbourTable

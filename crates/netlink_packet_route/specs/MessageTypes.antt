@@ -8,7 +8,7 @@ use Rattle.netlink_packet_route.specs.MessageKind.{kind_of_type, MessageOf}
 use Rattle.netlink_packet_route.specs.declared.kind.MessageKind.{MessageKind}
 use Rattle.netlink_packet_route.specs.declared.message_type.Action.TheVariants.{New, Del, Get}
 use Rattle.netlink_packet_route.specs.declared.message_type.MessageType.{MessageType}
-use Rattle.netlink_packet_route.specs.declared.message_type.MessageType.TheVariants.{Of, SetLink, NewPrefix, Unknown}
+use Rattle.netlink_packet_route.specs.declared.message_type.MessageType.TheVariants.{Of, SetLink, NewPrefix, NewStats, Unknown}
 use Rattle.netlink_packet_route.specs.declared.message_type.MessageType.TheVariants.{NewNeighbourTable, GetNeighbourTable, SetNeighbourTable}
 use Rattle.netlink_packet_route.specs.declared.message_type.Subject.{Subject}
 use Rattle.netlink_packet_route.specs.declared.message_type.Subject.TheVariants.{Link, Address, Route, Neighbour, Rule, AddressLabel, Netconf, Nsid}
@@ -28,7 +28,8 @@ types =
     ∷ (48, Of TrafficAction New) ∷ (49, Of TrafficAction Del) ∷ (50, Of TrafficAction Get)
     ∷ (52, NewPrefix) ∷ (64, NewNeighbourTable) ∷ (66, GetNeighbourTable) ∷ (67, SetNeighbourTable) ∷ (72, Of AddressLabel New)
     ∷ (73, Of AddressLabel Del) ∷ (74, Of AddressLabel Get) ∷ (80, Of Netconf New) ∷ (81, Of Netconf Del) ∷ (82, Of Netconf Get)
-    ∷ (88, Of Nsid New) ∷ (89, Of Nsid Del) ∷ (90, Of Nsid Get) ∷ (100, Of TrafficChain New) ∷ (101, Of TrafficChain Del) ∷ (102, Of TrafficChain Get)
+    ∷ (88, Of Nsid New) ∷ (89, Of Nsid Del) ∷ (90, Of Nsid Get) ∷ (92, NewStats)
+    ∷ (100, Of TrafficChain New) ∷ (101, Of TrafficChain Del) ∷ (102, Of TrafficChain Get)
     ∷ (104, Of NextHop New) ∷ (105, Of NextHop Del) ∷ (106, Of NextHop Get) ∷ (108, Of LinkProp New) ∷ (109, Of LinkProp Del) ∷ (110, Of LinkProp Get)
     ∷ (116, Of NextHopBucket New) ∷ (117, Of NextHopBucket Del) ∷ (118, Of NextHopBucket Get) ∷ []
 
@@ -60,6 +61,7 @@ type_number (Of subject Del) = first_type subject + 1
 type_number (Of subject Get) = first_type subject + 2
 type_number SetLink = 19
 type_number NewPrefix = 52
+type_number NewStats = 92
 type_number NewNeighbourTable = 64
 type_number GetNeighbourTable = 66
 type_number SetNeighbourTable = 67
@@ -95,7 +97,7 @@ number-is = in_rows types (
     also refl also refl also refl also refl also refl also refl also refl also refl also refl also refl also refl also refl
     also refl also refl also refl also refl also refl also refl also refl also refl also refl also refl also refl also refl
     also refl also refl also refl also refl also refl also refl also refl also refl also refl also refl also refl also refl
-    also refl also refl also refl also refl also refl also tt)
+    also refl also refl also refl also refl also refl also refl also tt)
 
 pub number-back : (t : MessageType) (type : ℕ) → Under (kind_of_type t) → HasNumber t type → type_number t ≡ type
 unfolding HasNumber
@@ -153,6 +155,7 @@ type-number (Of TrafficAction Del) m = refl
 type-number (Of TrafficAction Get) m = refl
 type-number SetLink m = refl
 type-number NewPrefix m = refl
+type-number NewStats m = refl
 type-number NewNeighbourTable m = refl
 type-number GetNeighbourTable m = refl
 type-number SetNeighbourTable m = refl

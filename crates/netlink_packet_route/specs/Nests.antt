@@ -20,7 +20,7 @@ use Rattle.npr_base.specs.declared.value.Form.TheVariants.{List as Listed}
 use Rattle.npr_tc_actions.specs.Attribute as OfTcAction
 use Rattle.npr_tc_actions.specs.declared.form.TcActionForm.{TcActionForm}
 use Rattle.npr_tc_actions.specs.declared.form.TcActionForm.TheVariants.{Kept as ActionKept}
-use Rattle.npr_tc_qdiscs.specs.declared.form.TcForm.TheVariants.{Kept as TcKept}
+use Rattle.npr_tc_values.specs.declared.form.TcForm.TheVariants.{Kept as TcKept}
 use Rattle.npr_link.specs.Governing.{Forms, Searches}
 use Rattle.npr_route.specs.Governing.{Governs}
 use Rattle.npr_route_values.specs.RouteType.{route_types}

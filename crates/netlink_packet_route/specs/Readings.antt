@@ -88,8 +88,8 @@ use Rattle.npr_tc_qdiscs.specs.Tbf as OfTcTbf
 use Rattle.npr_tc_qdiscs.specs.FqCodel as OfTcFqCodel
 use Rattle.npr_tc_qdiscs.specs.Ingress as OfTcIngress
 use Rattle.npr_tc_qdiscs.specs.Stab as OfTcStab
-use Rattle.npr_tc_qdiscs.specs.Stats2 as OfTcStats2
-use Rattle.npr_tc_qdiscs.specs.declared.form.TcForm.TheVariants.{Kept as TcKept}
+use Rattle.npr_tc_values.specs.Stats2 as OfTcStats2
+use Rattle.npr_tc_values.specs.declared.form.TcForm.TheVariants.{Kept as TcKept}
 use Rattle.npr_neighbour.specs.Fdb as OfFdb
 use Rattle.npr_link.specs.AfSpecMctp as OfAfSpecMctp
 use Rattle.npr_link.specs.DpllPin as OfPin
@@ -102,9 +102,21 @@ use Rattle.npr_link_functions.specs.LinkVfInfo as OfLinkVfInfo
 use Rattle.npr_link_functions.specs.VfInfo as OfVfInfo
 use Rattle.npr_link_functions.specs.VfStats as OfVfStats
 use Rattle.npr_link_functions.specs.VfVlanList as OfVfVlan
+use Rattle.npr_link_functions.specs.LinkVfPort as OfLinkVfPort
+use Rattle.npr_link_functions.specs.VfPort as OfVfPort
+use Rattle.npr_stats.specs.Attribute as OfStats
+use Rattle.npr_stats.specs.LinkXstats as OfLinkXstats
+use Rattle.npr_stats.specs.BridgeXstats as OfBridgeXstats
+use Rattle.npr_stats.specs.BondXstats as OfBondXstats
+use Rattle.npr_stats.specs.BondAdStat as OfBondAdStat
+use Rattle.npr_stats.specs.OffloadXstats as OfOffloadXstats
+use Rattle.npr_stats.specs.OffloadHwInfo as OfOffloadHwInfo
+use Rattle.npr_stats.specs.OffloadHwState as OfOffloadHwState
+use Rattle.npr_stats.specs.AfSpec as OfStatsAfSpec
+use Rattle.npr_stats.specs.MplsStats as OfMplsStats
 use Rattle.npr_tc_qdiscs.specs.Cake as OfTcCake
-use Rattle.npr_tc_qdiscs.specs.CakeStat as OfTcCakeStat
-use Rattle.npr_tc_qdiscs.specs.CakeTinStat as OfTcCakeTinStat
+use Rattle.npr_tc_values.specs.CakeStat as OfTcCakeStat
+use Rattle.npr_tc_values.specs.CakeTinStat as OfTcCakeTinStat
 use Rattle.npr_tc_qdiscs.specs.MqprioOption as OfTcMqprio
 use Rattle.npr_tc_qdiscs.specs.MqprioEntry as OfTcMqprioEntry
 use Rattle.npr_tc_filters.specs.Basic as OfTcBasic
@@ -119,7 +131,7 @@ use Rattle.npr_tc_actions.specs.EncPfcp as OfTcEncPfcp
 use Rattle.npr_tc_actions.specs.PeditOption as OfTcPedit
 use Rattle.npr_tc_actions.specs.PeditKeysEx as OfTcPeditKeysEx
 use Rattle.npr_tc_actions.specs.PeditKeyEx as OfTcPeditKeyEx
-use Rattle.npr_tc_qdiscs.specs.CakeTin as OfTcTins
+use Rattle.npr_tc_values.specs.CakeTin as OfTcTins
 use Rattle.npr_tc_filters.specs.Ematch as OfTcEmatches
 use Rattle.npr_encapsulation.specs.Encapsulation as OfEncap
 use Rattle.npr_encapsulation.specs.ErspanOptions as OfErspan
@@ -244,6 +256,18 @@ reading_by At.LinkVfInfo c = any_reading OfLinkVfInfo.attributes
 reading_by At.VfInfo c = any_reading OfVfInfo.attributes
 reading_by At.VfStats c = any_reading OfVfStats.attributes
 reading_by At.VfVlan c = any_reading OfVfVlan.attributes
+reading_by At.LinkVfPort c = any_reading OfLinkVfPort.attributes
+reading_by At.VfPort c = any_reading OfVfPort.attributes
+reading_by At.Stats c = any_reading OfStats.attributes
+reading_by At.LinkXstats c = any_reading OfLinkXstats.attributes
+reading_by At.BridgeXstats c = any_reading OfBridgeXstats.attributes
+reading_by At.BondXstats c = any_reading OfBondXstats.attributes
+reading_by At.BondAdStat c = any_reading OfBondAdStat.attributes
+reading_by At.OffloadXstats c = any_reading OfOffloadXstats.attributes
+reading_by At.OffloadHwInfo c = any_reading OfOffloadHwInfo.attributes
+reading_by At.OffloadHwState c = any_reading OfOffloadHwState.attributes
+reading_by At.StatsAfSpec c = any_reading OfStatsAfSpec.attributes
+reading_by At.MplsStats c = any_reading OfMplsStats.attributes
 reading_by At.TcQdiscCake c = any_reading OfTcCake.attributes
 reading_by At.TcCakeStat c = any_reading OfTcCakeStat.attributes
 reading_by At.TcCakeTinStat c = any_reading OfTcCakeTinStat.attributes

@@ -1,6 +1,6 @@
 -- What a request for all of a family has in it: a header with the family, each other field at 0, and no attributes. That for all links
--- has one attribute, the mask.
-use Rattle.std.specs.Prelude.{[], ◌∷◌}
+-- has one attribute, the mask; that for statistics is a header alone, with the mask of what is asked for, under a type of its own.
+use Rattle.std.specs.Prelude.{ℕ, [], ◌∷◌}
 use Rattle.npr_base.specs.declared.address_family.AddressFamily.{AddressFamily}
 use Rattle.npr_base.specs.Message.{View}
 use Rattle.npr_address.specs.Message.{addresses}
@@ -16,6 +16,8 @@ use Rattle.npr_address.specs.AddressLabelMessage.{address_labels}
 use Rattle.npr_neighbour.specs.NeighbourTableMessage.{neighbour_tables}
 use Rattle.npr_namespace.specs.NetconfMessage.{netconfs}
 use Rattle.npr_namespace.specs.NsidMessage.{nsids}
+use Rattle.npr_stats.specs.Header.{default_header}
+use Rattle.npr_stats.specs.declared.header.StatsHeader.{StatsHeader}
 
 abbrev pub addresses_of : AddressFamily → View addresses
 addresses_of family = record { header = record addresses.standard { family = family }; attributes = [] }
@@ -46,3 +48,10 @@ nsids_of_all = record { header = nsids.standard; attributes = [] }
 
 abbrev pub links_of : LinkExtentMask → View links
 links_of mask = record { header = links.standard; attributes = link_family.meaning (LinkAttribute.ExtMask mask) ∷ [] }
+
+-- RTM_GETSTATS (linux/rtnetlink.h)
+abbrev pub get_stats : ℕ
+get_stats = 94
+
+abbrev pub stats_of : ℕ → StatsHeader
+stats_of mask = record default_header { filter_mask = mask }

@@ -17,6 +17,7 @@ use Rattle.npr_neighbour.specs.NeighbourTableMessage.{neighbour_tables}
 use Rattle.npr_namespace.specs.NetconfMessage.{netconfs}
 use Rattle.npr_namespace.specs.NsidMessage.{nsids}
 use Rattle.npr_address.specs.PrefixMessage.{prefixes}
+use Rattle.npr_stats.specs.Message.{stats_messages}
 use Rattle.npr_tc.specs.ActionMessage.{messages as action_messages}
 use Rattle.npr_tc.specs.Message.{messages as tc_messages}
 use Rattle.netlink_packet_core.specs.Protocol.{Protocol}
@@ -30,7 +31,7 @@ use Rattle.netlink_packet_route.specs.declared.message.RouteNetlinkMessage.TheVa
 use Rattle.netlink_packet_route.specs.declared.message_type.Action.{Action}
 use Rattle.netlink_packet_route.specs.declared.message_type.Action.TheVariants.{New, Del, Get}
 use Rattle.netlink_packet_route.specs.declared.message_type.MessageType.{MessageType}
-use Rattle.netlink_packet_route.specs.declared.message_type.MessageType.TheVariants.{Of, SetLink, NewPrefix, Unknown}
+use Rattle.netlink_packet_route.specs.declared.message_type.MessageType.TheVariants.{Of, SetLink, NewPrefix, NewStats, Unknown}
 use Rattle.netlink_packet_route.specs.declared.message_type.MessageType.TheVariants.{NewNeighbourTable, GetNeighbourTable, SetNeighbourTable}
 use Rattle.netlink_packet_route.specs.declared.message_type.Subject.{Subject}
 use Rattle.netlink_packet_route.specs.declared.message_type.Subject.TheVariants.{Link, Address, Route, Neighbour, Rule, AddressLabel, Netconf, Nsid}
@@ -125,6 +126,7 @@ meaning_of (Message.NewTrafficAction m) = message (Of TrafficAction New) (view a
 meaning_of (Message.DelTrafficAction m) = message (Of TrafficAction Del) (view action_messages m)
 meaning_of (Message.GetTrafficAction m) = message (Of TrafficAction Get) (view action_messages m)
 meaning_of (Message.NewPrefix m) = message NewPrefix (view prefixes m)
+meaning_of (Message.NewStats m) = message NewStats (view stats_messages m)
 meaning_of (Message.NewNeighbourTable m) = message NewNeighbourTable (view neighbour_tables m)
 meaning_of (Message.GetNeighbourTable m) = message GetNeighbourTable (view neighbour_tables m)
 meaning_of (Message.SetNeighbourTable m) = message SetNeighbourTable (view neighbour_tables m)

@@ -17,6 +17,7 @@ use npr_neighbour::{NeighbourHeader, NeighbourTableHeader};
 use npr_nexthop::NextHopHeader;
 use npr_route::RouteHeader;
 use npr_rule::RuleHeader;
+use npr_stats::StatsHeader;
 use npr_tc::{TcActionMessageHeader, TcHeader};
 
 /// What the attributes behind the header of a message rest on, and their bytes.
@@ -138,6 +139,12 @@ impl Nest {
             MessageKind::TcAction => {
                 let (_, attributes) = behind::<TcActionMessageHeader>(bytes)?;
                 let set = AttributeSet::TcActionMessage;
+                let context = Context::NONE;
+                Ok((Nest { set, context }, attributes))
+            }
+            MessageKind::Stats => {
+                let (_, attributes) = behind::<StatsHeader>(bytes)?;
+                let set = AttributeSet::Stats;
                 let context = Context::NONE;
                 Ok((Nest { set, context }, attributes))
             }

@@ -20,6 +20,7 @@ use npr_neighbour::{NeighbourHeader, NeighbourTableHeader};
 use npr_nexthop::NextHopHeader;
 use npr_route::RouteHeader;
 use npr_rule::RuleHeader;
+use npr_stats::StatsHeader;
 use npr_tc::{TcActionMessageHeader, TcHeader};
 use std::alloc::Global;
 use thiserror::Error;
@@ -95,6 +96,7 @@ macro_rules! by_kind {
             MessageKind::Prefix => $function::<PrefixHeader> $arguments,
             MessageKind::Tc => $function::<TcHeader> $arguments,
             MessageKind::TcAction => $function::<TcActionMessageHeader> $arguments,
+            MessageKind::Stats => $function::<StatsHeader> $arguments,
         }
     };
 }

@@ -9,7 +9,7 @@ use npr_encapsulation::RouteLwEnCapType;
 use npr_link::{InfoForm, InfoPortForm, governing_forms};
 use npr_route_values::RouteType;
 use npr_tc_actions::{TcActionAttribute, TcActionForm};
-use npr_tc_qdiscs::TcForm;
+use npr_tc_values::TcForm;
 
 /// What the numbers of attributes rest on, outside of their list. Each set rests on some of it, and most
 /// on nothing.

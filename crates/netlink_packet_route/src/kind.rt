@@ -32,11 +32,13 @@ pub enum MessageKind {
     Tc,
     /// Messages of actions of traffic control.
     TcAction,
+    /// Messages of statistics.
+    Stats,
 }
 
 impl MessageKind {
     /// Each kind.
-    pub const ALL: [MessageKind; 13] = [
+    pub const ALL: [MessageKind; 14] = [
         MessageKind::Address,
         MessageKind::Route,
         MessageKind::Rule,
@@ -50,6 +52,7 @@ impl MessageKind {
         MessageKind::Prefix,
         MessageKind::Tc,
         MessageKind::TcAction,
+        MessageKind::Stats,
     ];
 
     /// The kind that the words of a command line, those after the program's name, consist of.
@@ -82,6 +85,7 @@ impl MessageKind {
             "prefix" => Some(MessageKind::Prefix),
             "tc" => Some(MessageKind::Tc),
             "tc-action" => Some(MessageKind::TcAction),
+            "stats" => Some(MessageKind::Stats),
             _ => None,
         }
     }
@@ -104,6 +108,7 @@ impl MessageKind {
             MessageKind::Prefix => "prefix",
             MessageKind::Tc => "tc",
             MessageKind::TcAction => "tc-action",
+            MessageKind::Stats => "stats",
         }
     }
 }

@@ -13,8 +13,9 @@ ghost use Rattle.{
   npr_address.specs.{AddressLabelAttribute.{attributes as address_label_attributes}, PrefixAttribute.{attributes as prefix_attributes}},
   npr_namespace.specs.{NetconfAttribute.{attributes as netconf_attributes}, NsidAttribute.{attributes as nsid_attributes}},
   npr_neighbour.specs.{NeighbourTableAttribute.{attributes as neighbour_table_attributes}},
+  npr_stats.specs.Attribute.{attributes as stats_attributes},
   npr_tc.specs.{ActionAttribute.{attributes as tc_action_attributes}, Attribute.{attributes as tc_attributes}},
-  npr_tc_qdiscs.specs.declared.form.TcForm.{TcForm},
+  npr_tc_values.specs.declared.form.TcForm.{TcForm},
   netlink_packet_core.specs.Message.{message_of},
   netlink_packet_route.specs.{
     MessageKind.{kind_name},
@@ -88,6 +89,10 @@ pub use npr_link_devices::laws::law_equality_of_meanings as law_device_equality;
 pub use npr_link_devices::laws::law_flags as law_device_flags;
 pub use npr_link_devices::laws::law_numbers as law_device_numbers;
 pub use npr_link_devices::laws::law_targets;
+pub use npr_link_functions::laws::law_default as law_link_function_default;
+pub use npr_link_functions::laws::law_equality as law_link_function_value_equality;
+pub use npr_link_functions::laws::law_equality_of_meanings as law_link_function_equality;
+pub use npr_link_functions::laws::law_numbers as law_link_function_numbers;
 pub use npr_link_tunnels::laws::law_default as law_link_tunnel_default;
 pub use npr_link_tunnels::laws::law_equality as law_link_tunnel_value_equality;
 pub use npr_link_tunnels::laws::law_equality_of_meanings as law_link_tunnel_equality;
@@ -139,6 +144,10 @@ pub use npr_rule::laws::law_rule_flags;
 pub use npr_srh::laws::law_default as law_routing_header_default;
 pub use npr_srh::laws::law_equality as law_routing_header_equality;
 pub use npr_srh::laws::law_numbers as law_routing_header_numbers;
+use npr_stats::StatsAttribute;
+pub use npr_stats::laws::law_default as law_stats_default;
+pub use npr_stats::laws::law_equality as law_stats_value_equality;
+pub use npr_stats::laws::law_equality_of_meanings as law_stats_equality;
 use npr_tc::TcActionMessageAttribute;
 use npr_tc::TcAttribute;
 pub use npr_tc::laws::law_default as law_tc_default;
@@ -155,13 +164,17 @@ pub use npr_tc_filters::laws::law_default as law_tc_filter_default;
 pub use npr_tc_filters::laws::law_equality as law_tc_filter_value_equality;
 pub use npr_tc_filters::laws::law_equality_of_meanings as law_tc_filter_equality;
 pub use npr_tc_filters::laws::law_flags as law_tc_filter_flags;
-pub use npr_tc_qdiscs::laws::law_counters as law_tc_counters;
 pub use npr_tc_qdiscs::laws::law_default as law_tc_qdisc_default;
 pub use npr_tc_qdiscs::laws::law_equality as law_tc_qdisc_value_equality;
 pub use npr_tc_qdiscs::laws::law_equality_of_meanings as law_tc_qdisc_equality;
 pub use npr_tc_qdiscs::laws::law_forms as law_tc_forms;
-pub use npr_tc_qdiscs::laws::law_handles as law_tc_handles;
-pub use npr_tc_qdiscs::laws::law_named_handles as law_tc_named_handles;
+pub use npr_tc_qdiscs::laws::law_numbers as law_tc_qdisc_numbers;
+pub use npr_tc_values::laws::law_counters as law_tc_counters;
+pub use npr_tc_values::laws::law_default as law_tc_base_default;
+pub use npr_tc_values::laws::law_equality as law_tc_base_value_equality;
+pub use npr_tc_values::laws::law_equality_of_meanings as law_tc_base_equality;
+pub use npr_tc_values::laws::law_handles as law_tc_handles;
+pub use npr_tc_values::laws::law_named_handles as law_tc_named_handles;
 
 /// A list whose beginning is a multiple of four bytes, and is cut into attributes by itself, is the
 /// list of that beginning and then the list of the rest, in the same context.
@@ -177,6 +190,7 @@ pub fn law_cut()
     ensures address_label { CutsInTwo address_label_attributes.Reads }
     ensures neighbour_table { CutsInTwo neighbour_table_attributes.Reads }
     ensures prefix { CutsInTwo prefix_attributes.Reads }
+    ensures stats { CutsInTwo stats_attributes.Reads }
     ensures tc { (form : TcForm) → CutsInTwo (tc_attributes form).Reads }
     ensures tc_action { CutsInTwo tc_action_attributes.Reads }
 {
@@ -193,6 +207,7 @@ pub fn law_cut()
     law_cut_in_two::<PrefixAttribute>();
     law_cut_in_two::<TcAttribute>();
     law_cut_in_two::<TcActionMessageAttribute>();
+    law_cut_in_two::<StatsAttribute>();
 }
 
 /// Each kind of message is one of `MessageKind::ALL`, no two have one name, and `==` answers whether
@@ -227,6 +242,7 @@ pub fn law_rtnetlink_equality()
     law_namespace_equality_of_meanings();
     law_next_hop_equality();
     law_tc_equality();
+    law_stats_equality();
     law_message_equality::<RouteNetlinkMessage>();
 }
 

@@ -1,6 +1,6 @@
 //! Messages of Linux rtnetlink on links, addresses, routes, rules, neighbours and their tables, next
-//! hops, name spaces, settings, address labels, prefixes and traffic control: bytes to typed values and
-//! back.
+//! hops, name spaces, settings, address labels, prefixes, statistics and traffic control: bytes to typed
+//! values and back.
 //!
 //! A message is read by `parse` and written by `emit`, once `check` accepts it. Names and paths are
 //! those of the Rust crate `netlink-packet-route`; what that crate takes from others stands in
@@ -39,6 +39,7 @@ pub mod prefix;
 pub mod request;
 pub mod route;
 pub mod rule;
+pub mod stats;
 pub mod tc;
 mod type_tests;
 mod validity;

@@ -24,6 +24,7 @@ use npr_neighbour::{NeighbourMessage, NeighbourTableMessage};
 use npr_nexthop::NextHopMessage;
 use npr_route::RouteMessage;
 use npr_rule::RuleMessage;
+use npr_stats::StatsMessage;
 use npr_tc::{TcActionMessage, TcMessage};
 use std::alloc::{AllocError, Global};
 
@@ -121,6 +122,8 @@ pub enum RouteNetlinkMessage {
     DelNsId(NsidMessage),
     /// `RTM_GETNSID`, 90.
     GetNsId(NsidMessage),
+    /// `RTM_NEWSTATS`, 92.
+    NewStats(StatsMessage),
     /// `RTM_NEWCHAIN`, 100.
     NewTrafficChain(TcMessage),
     /// `RTM_DELCHAIN`, 101.
@@ -257,6 +260,9 @@ fn read_under(
             alloc, payload,
         )?)),
         MessageType::NewPrefix => Ok(RouteNetlinkMessage::NewPrefix(PrefixMessage::parse(
+            alloc, payload,
+        )?)),
+        MessageType::NewStats => Ok(RouteNetlinkMessage::NewStats(StatsMessage::parse(
             alloc, payload,
         )?)),
         MessageType::NewNeighbourTable => Ok(RouteNetlinkMessage::NewNeighbourTable(

@@ -65,6 +65,8 @@ pub enum MessageType {
     SetLink,
     /// A prefix that a router told.
     NewPrefix,
+    /// Statistics of a link.
+    NewStats,
     /// A table of neighbours.
     NewNeighbourTable,
     /// It asks for tables of neighbours.
@@ -120,6 +122,7 @@ macro_rules! types {
             88 NewNsId MessageType::Of(Subject::Nsid, Action::New);
             89 DelNsId MessageType::Of(Subject::Nsid, Action::Del);
             90 GetNsId MessageType::Of(Subject::Nsid, Action::Get);
+            92 NewStats MessageType::NewStats;
             100 NewTrafficChain MessageType::Of(Subject::TrafficChain, Action::New);
             101 DelTrafficChain MessageType::Of(Subject::TrafficChain, Action::Del);
             102 GetTrafficChain MessageType::Of(Subject::TrafficChain, Action::Get);
@@ -188,6 +191,7 @@ impl MessageType {
             MessageType::Of(subject, _) => Some(subject.kind()),
             MessageType::SetLink => Some(MessageKind::Link),
             MessageType::NewPrefix => Some(MessageKind::Prefix),
+            MessageType::NewStats => Some(MessageKind::Stats),
             MessageType::NewNeighbourTable => Some(MessageKind::NeighbourTable),
             MessageType::GetNeighbourTable => Some(MessageKind::NeighbourTable),
             MessageType::SetNeighbourTable => Some(MessageKind::NeighbourTable),

@@ -67,11 +67,13 @@ use npr_link::LinkDpllPin;
 use npr_link::LinkInfo;
 use npr_link::LinkProtocolDownReason;
 use npr_link::LinkVfInfo;
+use npr_link::LinkVfPort;
 use npr_link::LinkXdp;
 use npr_link::MacVlanAddress;
 use npr_link::PeerAttribute;
 use npr_link::Prop;
 use npr_link::VfInfo;
+use npr_link::VfPort;
 use npr_link::VfStats;
 use npr_link::VfVlan;
 use npr_link::VlanQosMapping;
@@ -90,6 +92,16 @@ use npr_route::RouteAttribute;
 use npr_route::RouteMetric;
 use npr_route::governing_type;
 use npr_rule::RuleAttribute;
+use npr_stats::BondAdStat;
+use npr_stats::BondXstats;
+use npr_stats::BridgeXstats;
+use npr_stats::LinkXstats;
+use npr_stats::MplsStats;
+use npr_stats::OffloadHwInfo;
+use npr_stats::OffloadHwState;
+use npr_stats::OffloadXstats;
+use npr_stats::StatsAfSpec;
+use npr_stats::StatsAttribute;
 use npr_tc::TcActionMessageAttribute;
 use npr_tc::TcAttribute;
 use npr_tc_actions::TcAction;
@@ -125,9 +137,6 @@ use npr_tc_filters::TcFilterFwOption;
 use npr_tc_filters::TcFilterMatchAllOption;
 use npr_tc_filters::TcFilterU32Option;
 use npr_tc_filters::TcFlowerCfmOption;
-use npr_tc_qdiscs::TcCakeStat;
-use npr_tc_qdiscs::TcCakeTin;
-use npr_tc_qdiscs::TcCakeTinStat;
 use npr_tc_qdiscs::TcMqprioEntry;
 use npr_tc_qdiscs::TcNetemLoss;
 use npr_tc_qdiscs::TcQdiscCakeOption;
@@ -140,7 +149,10 @@ use npr_tc_qdiscs::TcQdiscNetemOption;
 use npr_tc_qdiscs::TcQdiscRedOption;
 use npr_tc_qdiscs::TcQdiscTbfOption;
 use npr_tc_qdiscs::TcStab;
-use npr_tc_qdiscs::TcStats2;
+use npr_tc_values::TcCakeStat;
+use npr_tc_values::TcCakeTin;
+use npr_tc_values::TcCakeTinStat;
+use npr_tc_values::TcStats2;
 
 /// What names a list of attributes: their set, and what their numbers rest on there.
 #[derive(Debug, Clone, Copy, PartialEq, Eq)]
@@ -286,6 +298,18 @@ impl Nest {
             AttributeSet::VfInfo => VfInfo::form((), number),
             AttributeSet::VfStats => VfStats::form((), number),
             AttributeSet::VfVlan => VfVlan::form((), number),
+            AttributeSet::LinkVfPort => LinkVfPort::form((), number),
+            AttributeSet::VfPort => VfPort::form((), number),
+            AttributeSet::Stats => StatsAttribute::form((), number),
+            AttributeSet::LinkXstats => LinkXstats::form((), number),
+            AttributeSet::BridgeXstats => BridgeXstats::form((), number),
+            AttributeSet::BondXstats => BondXstats::form((), number),
+            AttributeSet::BondAdStat => BondAdStat::form((), number),
+            AttributeSet::OffloadXstats => OffloadXstats::form((), number),
+            AttributeSet::OffloadHwInfo => OffloadHwInfo::form((), number),
+            AttributeSet::OffloadHwState => OffloadHwState::form((), number),
+            AttributeSet::StatsAfSpec => StatsAfSpec::form((), number),
+            AttributeSet::MplsStats => MplsStats::form((), number),
             AttributeSet::TcQdiscCake => TcQdiscCakeOption::form((), number),
             AttributeSet::TcCakeStat => TcCakeStat::form((), number),
             AttributeSet::TcCakeTinStat => TcCakeTinStat::form((), number),

@@ -22,7 +22,7 @@ ghost use Rattle.{
     Seg6Mode.{seg6_modes},
   },
   npr_tc_actions.specs.{ActionType.{action_types}, MirrorActionType.{mirror_action_types}},
-  npr_tc_qdiscs.specs.Handle.{handles},
+  npr_tc_values.specs.Handle.{handles},
   npr_encapsulation.specs.EncapType.{encap_types},
 };
 
@@ -36,7 +36,7 @@ use npr_route_values::{
 use npr_rule::RuleAction;
 use npr_srh::{Ioam6Mode, Seg6LocalAction, Seg6Mode};
 use npr_tc_actions::{TcActionType, TcMirrorActionType};
-use npr_tc_qdiscs::TcHandle;
+use npr_tc_values::TcHandle;
 
 /// The number of an address family (`AF_*`).
 pub fn address_family(value: AddressFamily) -> u8

@@ -20,16 +20,17 @@ ghost use Rattle.std.specs.Prelude.{◌≡◌, IfOk};
 ghost use Rattle.{
   npr_base.specs.Message.{view},
   npr_link.specs.Message.{links},
+  npr_stats.specs.Header.{buffer_of, header_buffer},
   netlink_packet_core.specs.{Message.{message_of}, Request.{IsRequest, dump_flags, get_flags, new_flags, replace_flags, delete_flags}},
   netlink_packet_route.specs.{
     declared.message_type.{Action.TheVariants.{New, Del, Get}, MessageType.TheVariants.{GetNeighbourTable}},
-    RouteNetlinkMessage.{meaning_of, rtnetlink, message, address, route, neighbour, rule, link, next_hop, nsid, netconf, address_label},
-    Request.{addresses_of, routes_of, neighbours_of, rules_of, links_of, next_hops_of, nsids_of_all, netconfs_of, address_labels_of, neighbour_tables_of},
+    RouteNetlinkMessage.{meaning_of, rtnetlink, message, other, other_of, address, route, neighbour, rule, link, next_hop, nsid, netconf, address_label},
+    Request.{addresses_of, routes_of, neighbours_of, rules_of, links_of, next_hops_of, nsids_of_all, netconfs_of, address_labels_of, neighbour_tables_of, get_stats, stats_of},
   },
 };
 
 use crate::entry::Entry;
-use crate::message::RouteNetlinkMessage;
+use crate::message::{OtherMessage, RouteNetlinkMessage};
 use crate::message_type::Action;
 use netlink_packet_core::NetlinkMessage;
 use npr_address::{AddressLabelMessage, AddressMessage};
@@ -40,6 +41,7 @@ use npr_neighbour::{NeighbourMessage, NeighbourTableMessage};
 use npr_nexthop::NextHopMessage;
 use npr_route::RouteMessage;
 use npr_rule::RuleMessage;
+use npr_stats::{StatsHeader, StatsMessageBuffer};
 use std::alloc::{AllocError, Global};
 
 /// Asks for all that the message names, as `ip route show table 100`.
@@ -191,6 +193,41 @@ fn masked(alloc: Global, mask: LinkExtentMask) -> Result<LinkMessage, AllocError
     let mut message = LinkMessage::new(alloc);
     message.attributes.push(LinkAttribute::ExtMask(mask))?;
     Ok(message)
+}
+
+/// The type that asks for statistics. The library does not read such messages, whose attributes are not those of
+/// the answers.
+const RTM_GETSTATS: u16 = 94;
+
+/// Asks for the statistics of all links that the mask names, as `ip stats`: for the attribute of a number the bit
+/// below it, `IFLA_STATS_FILTER_BIT` of `linux/if_link.h`.
+///
+/// # Errors
+/// `AllocError` where memory for the header is refused.
+pub fn dump_stats(
+    alloc: Global,
+    sequence_number: u32,
+    filter_mask: u32,
+) -> Result<NetlinkMessage<RouteNetlinkMessage>, AllocError>
+    ensures { IfOk result (λ r. IsRequest rtnetlink dump_flags sequence_number (other get_stats (header_buffer.encode (buffer_of (stats_of filter_mask)))) (message_of meaning_of r)) }
+{
+    let asked = RouteNetlinkMessage::Other(stats_request(alloc, filter_mask)?);
+    Ok(NetlinkMessage::dump_request(sequence_number, asked))
+}
+
+/// A header with this mask, under the type that asks for statistics.
+fn stats_request(alloc: Global, filter_mask: u32) -> Result<OtherMessage, AllocError>
+    ensures { IfOk result (λ m. other_of m ≡ (get_stats, header_buffer.encode (buffer_of (stats_of filter_mask)))) }
+{
+    let header = StatsHeader {
+        filter_mask,
+        ..StatsHeader::default()
+    };
+    let bytes = StatsMessageBuffer::from(&header).to_bytes();
+    Ok(OtherMessage {
+        message_type: RTM_GETSTATS,
+        payload: Vec::from_slice(alloc, &bytes)?,
+    })
 }
 
 /// Asks for the one that the message names, as `ip route get`.

@@ -7,7 +7,7 @@ use netlink_packet_route::MessageKind;
 
 /// The line for a command line that names no kind of message.
 pub const USAGE: &str =
-    "usage: nlroute address|route|rule|neighbour|link|nexthop|nsid|netconf|address-label|neighbour-table|prefix|tc|tc-action";
+    "usage: nlroute address|route|rule|neighbour|link|nexthop|nsid|netconf|address-label|neighbour-table|prefix|tc|tc-action|stats";
 
 /// What `--help` says behind the usage.
 pub const HELP: &str =

@@ -36,6 +36,8 @@ pub struct Counts {
     pub traffic: u64,
     /// Of actions of traffic control.
     pub traffic_actions: u64,
+    /// Of statistics.
+    pub stats: u64,
     /// Of types that the library has no message for.
     pub others: u64,
     /// Ends, errors and the like.
@@ -71,6 +73,7 @@ impl Counts {
             Some(MessageKind::Prefix) => &mut self.prefixes,
             Some(MessageKind::Tc) => &mut self.traffic,
             Some(MessageKind::TcAction) => &mut self.traffic_actions,
+            Some(MessageKind::Stats) => &mut self.stats,
             None => &mut self.others,
         };
         *count = count.saturating_add(1);
@@ -96,6 +99,7 @@ impl Counts {
             ("prefixes", self.prefixes),
             ("tc", self.traffic),
             ("tc-actions", self.traffic_actions),
+            ("stats", self.stats),
             ("others", self.others),
             ("controls", self.controls),
             ("refused", self.refused),

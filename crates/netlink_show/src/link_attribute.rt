@@ -41,6 +41,8 @@ pub const LINK: Rows = crate::rows![
     21 70 "num_vf" "num_vf " Number;
     22 253 "vfinfo_list" "" Objects("", "", "");
     23 93 "stats64" "" Own;
+    24 253 "vf_ports" "" Objects("", "", "");
+    25 253 "port_self" "\n    port" Object;
     26 92 "af_spec" "" Data(&Wording(92, "af_spec", "af_spec "));
     27 11 "group" "group " Group;
     28 84 "net_ns_fd" "netns-fd " Number;

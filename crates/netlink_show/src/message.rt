@@ -13,6 +13,7 @@ use crate::nsid::push_nsid;
 use crate::prefix::push_prefix;
 use crate::route::push_route;
 use crate::rule::push_rule;
+use crate::stats::push_stats;
 use crate::traffic::{push_traffic, push_traffic_actions};
 use netlink_packet_core::{
     NLM_F_REQUEST, NLMSG_DONE, NLMSG_ERROR, NLMSG_NOOP, NLMSG_OVERRUN, NetlinkBuffer,
@@ -127,6 +128,7 @@ fn new_of(kind: MessageKind) -> MessageType {
         MessageKind::AddressLabel => Subject::AddressLabel,
         MessageKind::NeighbourTable => return MessageType::NewNeighbourTable,
         MessageKind::Prefix => return MessageType::NewPrefix,
+        MessageKind::Stats => return MessageType::NewStats,
         // Only its type says what it is on.
         MessageKind::Tc => return MessageType::Unknown,
         MessageKind::TcAction => Subject::TrafficAction,
@@ -217,6 +219,7 @@ fn push_payload(fields: &mut Fields, kind: MessageKind, message: Shown<'_>) {
         MessageKind::Prefix => push_prefix(fields, bytes),
         MessageKind::Tc => push_traffic(fields, bytes, subject_of(message.says)),
         MessageKind::TcAction => push_traffic_actions(fields, bytes),
+        MessageKind::Stats => push_stats(fields, bytes),
     }
 }
 
@@ -246,7 +249,10 @@ fn push_type(fields: &mut Fields, kind: MessageKind, message: Shown<'_>) {
         }
         MessageType::SetLink | MessageType::SetNeighbourTable => fields.truth(SET, true),
         MessageType::GetNeighbourTable => fields.truth(REQUEST, true),
-        MessageType::NewPrefix | MessageType::NewNeighbourTable | MessageType::Unknown => {}
+        MessageType::NewPrefix
+        | MessageType::NewStats
+        | MessageType::NewNeighbourTable
+        | MessageType::Unknown => {}
     }
 }
 

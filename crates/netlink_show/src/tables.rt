@@ -1,21 +1,16 @@
 //! Which table has the rows of a list of attributes, and where what is odd in it is shown.
 
-use crate::address;
 use crate::address::ADDRESS;
 use crate::address_label::ADDRESS_LABEL;
-use crate::bond;
 use crate::bond::BOND;
 use crate::bond::BOND_AD_INFO;
 use crate::bond::BOND_PORT;
-use crate::bridge;
 use crate::bridge::BRIDGE;
 use crate::bridge::BRIDGE_PORT;
 use crate::bridge_vlan::AF_SPEC_BRIDGE;
 use crate::bridge_vlan::TREE;
 use crate::bridge_vlan::TREES;
 use crate::bridge_vlan::VLAN_TUNNEL;
-use crate::bridge_vlan::push_bridge_lists;
-use crate::device;
 use crate::device::IP_VLAN;
 use crate::device::MAC_VLAN;
 use crate::device::MAC_VLAN_SOURCES;
@@ -25,15 +20,11 @@ use crate::device::VETH;
 use crate::device::VLAN;
 use crate::device::VLAN_QOS;
 use crate::device::VRF;
-use crate::device_kind;
 use crate::device_kind::GTP;
 use crate::device_kind::HSR;
 use crate::device_kind::IPOIB;
 use crate::device_kind::MAC_SEC;
 use crate::device_kind::OVPN;
-use crate::field::Fields;
-use crate::field::Word;
-use crate::link_attribute;
 use crate::link_attribute::AF_SPEC;
 use crate::link_attribute::AF_SPEC_INET;
 use crate::link_attribute::AF_SPEC_INET6;
@@ -44,39 +35,36 @@ use crate::link_attribute::PIN;
 use crate::link_attribute::PROPERTIES;
 use crate::link_attribute::REASONS;
 use crate::link_attribute::XDP;
-use crate::link_attribute::push_address_modes;
-use crate::link_attribute::push_attached;
 use crate::list::List;
-use crate::list::Seen;
-use crate::metric;
 use crate::metric::METRICS;
-use crate::metric::push_locks;
-use crate::neighbour;
 use crate::neighbour::FORWARDING;
 use crate::neighbour::NEIGHBOUR;
-use crate::neighbour_table;
 use crate::neighbour_table::NEIGHBOUR_TABLE;
-use crate::netconf;
 use crate::netconf::NETCONF;
-use crate::next_hop;
 use crate::next_hop::BUCKET;
 use crate::next_hop::NEXT_HOP;
 use crate::next_hop::RESILIENT;
 use crate::nsid::NSID;
 use crate::peer::PEER;
-use crate::prefix;
 use crate::prefix::PREFIX;
 use crate::route::ROUTE;
-use crate::route_value;
 use crate::row::Row;
 use crate::row::Rows;
-use crate::rule;
 use crate::rule::RULE;
-use crate::segment_encap;
 use crate::segment_encap::IOAM6;
 use crate::segment_encap::RPL;
 use crate::segment_encap::SEG6;
 use crate::segment_encap::SEG6_LOCAL;
+use crate::stats::AF_STATS;
+use crate::stats::BOND_AD_STATS;
+use crate::stats::BOND_XSTATS;
+use crate::stats::BRIDGE_XSTATS;
+use crate::stats::LINK_XSTATS;
+use crate::stats::MPLS_STATS;
+use crate::stats::OFFLOAD_INFO;
+use crate::stats::OFFLOAD_STATE;
+use crate::stats::OFFLOAD_XSTATS;
+use crate::stats::STATISTICS;
 use crate::traffic::ACTIONS;
 use crate::traffic::TRAFFIC;
 use crate::traffic_action::ACTION;
@@ -85,7 +73,6 @@ use crate::traffic_action::NAT;
 use crate::traffic_action::TUNNEL_KEY;
 use crate::traffic_basic::BASIC;
 use crate::traffic_basic::MATCHES;
-use crate::traffic_cake;
 use crate::traffic_cake::CAKE;
 use crate::traffic_cake::CAKE_STATS;
 use crate::traffic_cake::CAKE_TIN;
@@ -110,7 +97,6 @@ use crate::traffic_option::CT;
 use crate::traffic_option::GACT;
 use crate::traffic_option::SAMPLE;
 use crate::traffic_option::SKBEDIT;
-use crate::traffic_own;
 use crate::traffic_own::row_of_traffic;
 use crate::traffic_pedit::PEDIT;
 use crate::traffic_pedit::PEDIT_KEY;
@@ -129,7 +115,6 @@ use crate::tunnel::IP6_TUNNEL;
 use crate::tunnel::VTI;
 use crate::tunnel::VXLAN;
 use crate::tunnel::XFRM;
-use crate::tunnel_encap;
 use crate::tunnel_encap::ERSPAN_OPTIONS;
 use crate::tunnel_encap::IP;
 use crate::tunnel_encap::IP6;
@@ -137,20 +122,15 @@ use crate::tunnel_encap::MPLS;
 use crate::tunnel_encap::OPTIONS;
 use crate::tunnel_encap::VXLAN_OPTIONS;
 use crate::tunnel_encap::XFRM_ENCAP;
-use crate::tunnel_encap::push_erspan;
-use crate::tunnel_encap::push_geneve;
-use crate::tunnel_option;
 use crate::tunnel_option::ENC;
 use crate::tunnel_option::ENC_ERSPAN;
 use crate::tunnel_option::ENC_GENEVE;
 use crate::tunnel_option::ENC_GTP;
 use crate::tunnel_option::ENC_PFCP;
 use crate::tunnel_option::ENC_VXLAN;
-use crate::tunnel_value;
-use crate::tunnel_value::push_encap;
-use crate::value::push_labels;
-use crate::virtual_function;
 use crate::virtual_function::FUNCTION;
+use crate::virtual_function::FUNCTION_PORT;
+use crate::virtual_function::FUNCTION_PORTS;
 use crate::virtual_function::FUNCTION_STATS;
 use crate::virtual_function::FUNCTION_VLANS;
 use crate::virtual_function::FUNCTIONS;
@@ -207,6 +187,18 @@ pub fn rows_of(nest: Nest) -> Rows {
         AttributeSet::VfInfo => FUNCTION,
         AttributeSet::VfStats => FUNCTION_STATS,
         AttributeSet::VfVlan => FUNCTION_VLANS,
+        AttributeSet::LinkVfPort => FUNCTION_PORTS,
+        AttributeSet::VfPort => FUNCTION_PORT,
+        AttributeSet::Stats => STATISTICS,
+        AttributeSet::LinkXstats => LINK_XSTATS,
+        AttributeSet::BridgeXstats => BRIDGE_XSTATS,
+        AttributeSet::BondXstats => BOND_XSTATS,
+        AttributeSet::BondAdStat => BOND_AD_STATS,
+        AttributeSet::OffloadXstats => OFFLOAD_XSTATS,
+        AttributeSet::OffloadHwInfo => OFFLOAD_INFO,
+        AttributeSet::OffloadHwState => OFFLOAD_STATE,
+        AttributeSet::StatsAfSpec => AF_STATS,
+        AttributeSet::MplsStats => MPLS_STATS,
         AttributeSet::Route => ROUTE,
         AttributeSet::Rule => RULE,
         AttributeSet::Address => ADDRESS,
@@ -299,85 +291,10 @@ pub fn is_over_6(nest: Nest) -> bool {
     matches!(nest.context.link, InfoForm::Ip6Tnl)
 }
 
-/// What is shown of a value in a way of its own.
-pub fn push_own(fields: &mut Fields, list: List<'_>, word: Word, seen: &Seen<'_>) {
-    match list.nest.told_set() {
-        AttributeSet::Link => link_attribute::push_own(fields, list, word, seen),
-        AttributeSet::LinkInfo
-        | AttributeSet::LinkXdp
-        | AttributeSet::LinkProtocolDownReason
-        | AttributeSet::AfSpecInet6 => link_attribute::push_inner(fields, list, word, seen),
-        AttributeSet::InfoBridge | AttributeSet::InfoBridgePort => bridge::push_own(
-            fields, list, word, seen,
-        ),
-        AttributeSet::InfoBond | AttributeSet::InfoBondPort => bond::push_own(
-            fields, list, word, seen,
-        ),
-        AttributeSet::InfoVlan
-        | AttributeSet::VlanQosMapping
-        | AttributeSet::InfoMacVlan
-        | AttributeSet::InfoIpVlan
-        | AttributeSet::InfoTun => device::push_own(fields, list, word, seen),
-        AttributeSet::InfoVxlan
-        | AttributeSet::InfoGeneve
-        | AttributeSet::InfoGre6
-        | AttributeSet::InfoIpTunnel => tunnel_value::push_own(fields, list, word, seen),
-        AttributeSet::InfoIpoib | AttributeSet::InfoMacSec => device_kind::push_own(
-            fields, list, word, seen,
-        ),
-        AttributeSet::VfInfo => virtual_function::push_own(fields, list, word, seen),
-        AttributeSet::VfVlan => virtual_function::push_vlan(fields, list, word, seen),
-        _ => push_own_of_message(fields, list, word, seen),
-    }
-}
-
-/// The same but for links.
-fn push_own_of_message(fields: &mut Fields, list: List<'_>, word: Word, seen: &Seen<'_>) {
-    match list.nest.told_set() {
-        AttributeSet::Route => route_value::push_own(fields, list, word, seen),
-        AttributeSet::Metric => metric::push_own(fields, list, word, seen),
-        AttributeSet::Mpls => push_labels(fields, word, seen.bytes),
-        AttributeSet::Ip | AttributeSet::Ip6 => { tunnel_encap::push_own(fields, word, seen) }
-        AttributeSet::Seg6 | AttributeSet::Seg6Local | AttributeSet::Rpl | AttributeSet::Ioam6 => {
-            segment_encap::push_own(fields, list, word, seen)
-        }
-        AttributeSet::Opt => push_geneve(fields, word, seen.bytes),
-        AttributeSet::Rule => rule::push_own(fields, list, word, seen),
-        AttributeSet::Address => address::push_own(fields, list, word, seen),
-        AttributeSet::Neighbour => neighbour::push_own(fields, word, seen),
-        AttributeSet::NeighbourTable => neighbour_table::push_own(fields, list, seen),
-        AttributeSet::NextHop => next_hop::push_own(fields, list, word, seen),
-        AttributeSet::Netconf => netconf::push_own(fields, word, seen),
-        AttributeSet::Prefix => prefix::push_own(fields, list, seen),
-        _ => traffic_own::push_own(fields, list, word, seen),
-    }
-}
-
 /// The row of a number in a list.
 pub fn row_in(list: List<'_>, number: u16) -> Option<&'static Row> {
     match row_of_traffic(list, number) {
         Some(row) => Some(row),
         None => rows_of(list.nest).iter().find(|row| row.number == number),
-    }
-}
-
-/// What several attributes of a list tell together.
-pub fn push_beside(fields: &mut Fields, list: List<'_>) {
-    match list.nest.told_set() {
-        AttributeSet::InfoGre | AttributeSet::InfoGre6 => push_encap(
-            fields,
-            list,
-            [14, 15, 16, 17],
-        ),
-        AttributeSet::InfoIpTunnel => push_encap(fields, list, [15, 16, 17, 18]),
-        AttributeSet::LinkXdp => push_attached(fields, list),
-        AttributeSet::AfSpecBridge => push_bridge_lists(fields, list),
-        AttributeSet::Link => push_address_modes(fields, list),
-        AttributeSet::NextHop => next_hop::push_beside(fields, list),
-        AttributeSet::Metric => push_locks(fields, list),
-        AttributeSet::TcQdiscCake => traffic_cake::push_beside(fields, list),
-        AttributeSet::TcEnc => tunnel_option::push_beside(fields, list),
-        AttributeSet::Erspan => push_erspan(fields, list),
-        _ => {}
     }
 }

@@ -1,4 +1,4 @@
-//! What is shown of the virtual functions of a link.
+//! What is shown of the virtual functions and ports of a link.
 
 use crate::bridge::push_tag;
 use crate::field::{Fields, Word, Wording};
@@ -6,9 +6,10 @@ use crate::list::{List, Seen};
 use crate::manner::LinkAddress;
 use crate::names::Names;
 use crate::part::{number_at, push_parts, push_structure};
-use crate::row::How::{Flat, Named, Number, Object, Objects, Own};
+use crate::row::How::{Flat, Named, Number, Object, Objects, Own, Text};
 use crate::row::Line::{IfAny, Never};
 use crate::row::{Parts, Rows};
+use std::alloc::AllocError;
 
 /// Of virtual functions, in a list of them.
 pub const FUNCTIONS: Rows = crate::rows![1 0 "" "" Flat;];
@@ -44,6 +45,19 @@ pub const FUNCTION_STATS: Rows = crate::rows![
 
 /// Of the VLANs of one.
 pub const FUNCTION_VLANS: Rows = crate::rows![1 0 "protocol" "protocol " Own;];
+
+/// Of ports, in a list of them.
+pub const FUNCTION_PORTS: Rows = crate::rows![1 0 "" "\n    port" Object;];
+
+/// Of a port.
+pub const FUNCTION_PORT: Rows = crate::rows![
+    1 0 "vf" "vf " Number;
+    2 1 "profile" "profile " Text;
+    4 2 "instance" "instance " Own;
+    5 3 "host" "host " Own;
+    6 4 "request" "request " Number;
+    7 5 "response" "response " Number;
+];
 
 /// The VLAN and its priority, behind the number of the function (`struct ifla_vf_vlan`).
 const VLAN: Parts = crate::parts![
@@ -112,6 +126,22 @@ fn push_address(fields: &mut Fields, list: List<'_>, word: Word, bytes: Option<&
     match bytes.unwrap_or(&[]).get(..length) {
         Some(address) => fields.text(word, &LinkAddress(address, of_type)),
         None => {}
+    }
+}
+
+/// An identifier of a port, in the form of RFC 9562 (section 4).
+pub fn push_uuid(fields: &mut Fields, word: Word, bytes: &[u8]) {
+    let (Some(front), Some(back)) = (bytes.first_chunk(), bytes.last_chunk()) else {
+        return;
+    };
+    let (high, low) = (u64::from_be_bytes(*front), u64::from_be_bytes(*back));
+    let (time, middle, version) = (high >> 32, high >> 16 & 0xffff, high & 0xffff);
+    let (variant, node) = (low >> 48, low & 0xffff_ffff_ffff);
+    match format!(in fields.manner.alloc;
+        "{time:08x}-{middle:04x}-{version:04x}-{variant:04x}-{node:012x}"
+    ) {
+        Ok(text) => fields.text(word, &text),
+        Err(AllocError) => fields.refuse(),
     }
 }
 

@@ -10,7 +10,7 @@ use std::rt::Env;
 use std::{env, io};
 
 /// The version, which is the repository's.
-const VERSION: &str = "nlroute 0.16.0";
+const VERSION: &str = "nlroute 0.17.0";
 
 fn main(rt: HostRuntime) -> ExitCode {
     match chosen(&rt) {

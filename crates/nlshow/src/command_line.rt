@@ -18,7 +18,7 @@ also as `ip route save` and its like keep them, and captures of nlmon (pcap, pca
   --numeric   numbers in place of names
   --hex       the input is hexadecimal text, a message a line
   --as KIND   messages of this kind without an envelope: address, route, rule, neighbour, link,
-              nexthop, nsid, netconf, address-label, neighbour-table, prefix, tc or tc-action
+              nexthop, nsid, netconf, address-label, neighbour-table, prefix, tc, tc-action or stats
   --links FILE
               the names of interfaces are those of the links in FILE, a dump that is not shown;
               a link that is shown tells its name to what stands behind it

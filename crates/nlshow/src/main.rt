@@ -18,7 +18,7 @@ use std::process::ExitCode;
 use std::{env, fs, io};
 
 /// The version, which is the repository's.
-const VERSION: &str = "nlshow 0.16.0";
+const VERSION: &str = "nlshow 0.17.0";
 
 fn main(rt: HostRuntime) -> ExitCode {
     // Also where a word is no UTF-8.

@@ -264,6 +264,30 @@ pub enum AttributeSet {
     VfStats = 126,
     /// `IFLA_VF_VLAN_INFO` of `linux/if_link.h`, the one entry in a list of VLANs.
     VfVlan = 127,
+    /// `IFLA_VF_PORT` of `linux/if_link.h`, the one entry in a list of ports.
+    LinkVfPort = 128,
+    /// `IFLA_PORT_*` of `linux/if_link.h`.
+    VfPort = 129,
+    /// `IFLA_STATS_*` of `linux/if_link.h`.
+    Stats = 130,
+    /// `LINK_XSTATS_TYPE_*` of `linux/if_link.h`.
+    LinkXstats = 131,
+    /// `BRIDGE_XSTATS_*` of `linux/if_bridge.h`.
+    BridgeXstats = 132,
+    /// `BOND_XSTATS_*` of `linux/if_bonding.h`.
+    BondXstats = 133,
+    /// `BOND_3AD_STAT_*` of `linux/if_bonding.h`.
+    BondAdStat = 134,
+    /// `IFLA_OFFLOAD_XSTATS_*` of `linux/if_link.h`.
+    OffloadXstats = 135,
+    /// `IFLA_OFFLOAD_XSTATS_*` of `linux/if_link.h`, each with what is known of counting it in hardware.
+    OffloadHwInfo = 136,
+    /// `IFLA_OFFLOAD_XSTATS_HW_S_INFO_*` of `linux/if_link.h`.
+    OffloadHwState = 137,
+    /// Address families in `IFLA_STATS_AF_SPEC`: `AF_*` of `linux/socket.h`.
+    StatsAfSpec = 138,
+    /// `MPLS_STATS_*` of `linux/mpls.h`.
+    MplsStats = 139,
 }
 
 /// The place of a value: the set of its attribute, and the attribute's number.

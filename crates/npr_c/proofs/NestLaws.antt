@@ -5,7 +5,7 @@ use Rattle.npr_base.specs.contracts.attribute_set.AttributeSet.{enum as sets}
 use Rattle.npr_link.specs.contracts.port_kind.InfoPortForm.{enum as ports}
 use Rattle.npr_link_tunnels.specs.contracts.form.InfoForm.{enum as links}
 use Rattle.npr_tc_actions.specs.contracts.form.TcActionForm.{enum as actions}
-use Rattle.npr_tc_qdiscs.specs.contracts.form.TcForm.{enum as disciplines}
+use Rattle.npr_tc_values.specs.contracts.form.TcForm.{enum as disciplines}
 use Rattle.netlink_packet_route.specs.AddressFamily.{families}
 use Rattle.netlink_packet_route.specs.EncapType.{encap_types}
 use Rattle.netlink_packet_route.specs.Nests.{FromBytes, IsOf, encap_set, nest_in, told_set}
@@ -35,7 +35,7 @@ use Rattle.npr_c.specs.Nests.{port_form_number, port_form_of, set_number, set_of
 pub set-back : (set : AttributeSet) → set_of (set_number set) ≡ set
 set-back set = bare-back sets tt At.Value set
 
-pub set-past : (n : ℕ) → 128 ≤ n → set_of n ≡ At.Value
+pub set-past : (n : ℕ) → 140 ≤ n → set_of n ≡ At.Value
 set-past n le = bare-past sets tt At.Value n le
 
 form-back : (form : InfoForm) → form_of (form_number form) ≡ form

@@ -5,7 +5,7 @@ use Rattle.netlink_packet_route.specs.MessageKind.{kind_of_type}
 use Rattle.netlink_packet_route.specs.MessageTypes.{type_of}
 use Rattle.netlink_packet_route.specs.declared.kind.MessageKind.{MessageKind}
 use Rattle.netlink_packet_route.specs.declared.kind.MessageKind.TheVariants.{Address, Route, Rule, Neighbour, Link}
-use Rattle.netlink_packet_route.specs.declared.kind.MessageKind.TheVariants.{NextHop, Nsid, Netconf, AddressLabel, NeighbourTable, Prefix, Tc, TcAction}
+use Rattle.netlink_packet_route.specs.declared.kind.MessageKind.TheVariants.{NextHop, Nsid, Netconf, AddressLabel, NeighbourTable, Prefix, Tc, TcAction, Stats}
 
 -- the number of the refusal of a kind, behind those of datagrams
 abbrev pub unknown_kind : ℕ
@@ -25,6 +25,7 @@ kind_number NeighbourTable = 10
 kind_number Prefix = 11
 kind_number Tc = 12
 kind_number TcAction = 13
+kind_number Stats = 14
 
 abbrev pub numbered : MessageKind → ℕ × Option MessageKind
 numbered kind = (kind_number kind, Some kind)
@@ -32,7 +33,8 @@ numbered kind = (kind_number kind, Some kind)
 abbrev pub kinds : List (ℕ × Option MessageKind)
 kinds =
     numbered Address ∷ numbered Route ∷ numbered Rule ∷ numbered Neighbour ∷ numbered Link ∷ numbered NextHop ∷ numbered Nsid
-    ∷ numbered Netconf ∷ numbered AddressLabel ∷ numbered NeighbourTable ∷ numbered Prefix ∷ numbered Tc ∷ numbered TcAction ∷ []
+    ∷ numbered Netconf ∷ numbered AddressLabel ∷ numbered NeighbourTable ∷ numbered Prefix ∷ numbered Tc ∷ numbered TcAction
+    ∷ numbered Stats ∷ []
 
 -- the kind of a number, if it is that of one
 abbrev pub kind_at : ℕ → Option MessageKind

@@ -7,7 +7,7 @@ use Rattle.npr_base.specs.contracts.attribute_set.AttributeSet.{the_type as the_
 use Rattle.npr_link.specs.contracts.port_kind.InfoPortForm.{the_type as the_ports, enum as ports}
 use Rattle.npr_link_tunnels.specs.contracts.form.InfoForm.{the_type as the_links, enum as links}
 use Rattle.npr_tc_actions.specs.contracts.form.TcActionForm.{the_type as the_actions, enum as actions}
-use Rattle.npr_tc_qdiscs.specs.contracts.form.TcForm.{the_type as the_disciplines, enum as disciplines}
+use Rattle.npr_tc_values.specs.contracts.form.TcForm.{the_type as the_disciplines, enum as disciplines}
 use Rattle.netlink_packet_route.specs.AddressFamily.{families}
 use Rattle.netlink_packet_route.specs.EncapType.{encap_types}
 use Rattle.netlink_packet_route.specs.Nests.{listed, nest_in, told_set}

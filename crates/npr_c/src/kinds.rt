@@ -29,6 +29,7 @@ pub fn kind_at(number: u32) -> Option<MessageKind>
         11 => Some(MessageKind::Prefix),
         12 => Some(MessageKind::Tc),
         13 => Some(MessageKind::TcAction),
+        14 => Some(MessageKind::Stats),
         _ => None,
     }
 }
@@ -51,6 +52,7 @@ fn kind_number(kind: MessageKind) -> u32
         MessageKind::Prefix => 11,
         MessageKind::Tc => 12,
         MessageKind::TcAction => 13,
+        MessageKind::Stats => 14,
     }
 }
 

@@ -166,6 +166,18 @@ pub fn set_of(number: u32) -> AttributeSet
         125 => AttributeSet::VfInfo,
         126 => AttributeSet::VfStats,
         127 => AttributeSet::VfVlan,
+        128 => AttributeSet::LinkVfPort,
+        129 => AttributeSet::VfPort,
+        130 => AttributeSet::Stats,
+        131 => AttributeSet::LinkXstats,
+        132 => AttributeSet::BridgeXstats,
+        133 => AttributeSet::BondXstats,
+        134 => AttributeSet::BondAdStat,
+        135 => AttributeSet::OffloadXstats,
+        136 => AttributeSet::OffloadHwInfo,
+        137 => AttributeSet::OffloadHwState,
+        138 => AttributeSet::StatsAfSpec,
+        139 => AttributeSet::MplsStats,
         _ => AttributeSet::Value,
     }
 }

@@ -4,7 +4,7 @@ ghost use Rattle.std.specs.Prelude.{◌≡◌, ◌+◌, ◌*◌};
 
 const MAJOR: u32 = 0;
 
-const MINOR: u32 = 16;
+const MINOR: u32 = 17;
 
 const PATCH: u32 = 0;
 

@@ -53,7 +53,7 @@ use Rattle.npr_link_tunnels.specs.Xfrm as OfXfrm
 use Rattle.npr_link.specs.contracts.netkit.InfoNetkitPartialEq.TheImpl as NetkitEq
 use Rattle.npr_link_devices.proofs.EqualityLaws.{tun_equality, bond_equality, bond_port_equality, ip_vlan_equality, mac_vlan_equality}
 use Rattle.npr_link_devices.proofs.EqualityLaws.{hsr_equality, ipoib_equality, mac_sec_equality}
-use Rattle.npr_link_functions.proofs.EqualityLaws.{link_info_equality}
+use Rattle.npr_link_functions.proofs.EqualityLaws.{link_info_equality, link_port_equality, port_equality}
 use Rattle.npr_link_tunnels.proofs.EqualityLaws.{vxlan_equality, geneve_equality, gre_equality, gre6_equality, ip_tunnel_equality, vti_equality, xfrm_equality}
 use Rattle.npr_link_tunnels.proofs.EqualityLaws.{gtp_equality, ovpn_equality}
 use Rattle.npr_link.proofs.ValueEquality.{netkit_mode_equality, netkit_policy_equality, netkit_scrub_equality}
@@ -370,6 +370,6 @@ attribute_equality a b =
     one link_event_equality also one signed_Decides also one signed_Decides also number also number also one signed_Decides also
     number also number also list prop_equality also one text_equality also bytes also list reason_equality also
     one text_equality also one text_equality also number also number also number also number also number also number also
-    number also truth also number also number also bytes also number also list link_info_equality also bytes also list pin_equality also
-    kept also tt) c d))
+    number also truth also number also number also bytes also number also list link_info_equality also list link_port_equality also
+    list port_equality also bytes also list pin_equality also kept also tt) c d))
     bridge_apart) unspec_apart) whole_apart) port_apart) inet6_apart (attribute_enum.as_values a) (attribute_enum.as_values b)

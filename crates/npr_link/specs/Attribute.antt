@@ -1,6 +1,7 @@
 -- The attributes of a link message (linux/if_link.h, IFLA_*), by their table under the header's family.
 use Rattle.npr_base.specs.declared.attribute_set.AttributeSet.TheVariants.{Link as AtLink, LinkXdp as AtXdp, Prop as AtProp, LinkProtocolDownReason as AtReason}
-use Rattle.npr_base.specs.declared.attribute_set.AttributeSet.TheVariants.{LinkVfInfo as AtVfInfo, LinkDpllPin as AtPin}
+use Rattle.npr_base.specs.declared.attribute_set.AttributeSet.TheVariants.{LinkVfInfo as AtVfInfo, LinkVfPort as AtVfPort, VfPort as AtPort}
+use Rattle.npr_base.specs.declared.attribute_set.AttributeSet.TheVariants.{LinkDpllPin as AtPin}
 use Rattle.std.specs.Prelude.{◌≡◌, ℕ, ◌==◌, ◌||◌, ◌⊎◌, Bool, true, false, List, drop, map, if◌then◌else◌}
 use Rattle.std.proofs.Common.{inl, inr, ap, ◌∙◌}
 use Rattle.npr_base.specs.Beside.{beside, has, numbers-in, Sides, side_writing}
@@ -30,6 +31,8 @@ use Rattle.npr_link.specs.LinkEvent.{link_event}
 use Rattle.npr_link.specs.LinkMode.{link_mode}
 use Rattle.npr_link.specs.Map.{device_map}
 use Rattle.npr_link_functions.specs.LinkVfInfo as OfVfInfo
+use Rattle.npr_link_functions.specs.LinkVfPort as OfVfPort
+use Rattle.npr_link_functions.specs.VfPort as OfPort
 use Rattle.npr_link_statistics.specs.Grown.{grown, parts}
 use Rattle.npr_link_statistics.specs.Names.{stats, stats64}
 use Rattle.npr_base.specs.Words.{words32, words64}
@@ -117,6 +120,8 @@ flat_rows =
     or row AtLink 11 raw (items LinkAttribute.Wireless)  -- IFLA_WIRELESS
     or row AtLink 15 (exactly le32) (value LinkAttribute.Weight)  -- IFLA_WEIGHT
     or row AtLink 22 (list_of AtVfInfo OfVfInfo.attributes) (listed OfVfInfo.family.meaning LinkAttribute.VfInfoList)  -- IFLA_VFINFO_LIST
+    or row AtLink 24 (list_of AtVfPort OfVfPort.attributes) (listed OfVfPort.family.meaning LinkAttribute.VfPorts)  -- IFLA_VF_PORTS
+    or row AtLink 25 (list_of AtPort OfPort.attributes) (listed OfPort.family.meaning LinkAttribute.PortSelf)  -- IFLA_PORT_SELF
     or marked_row AtLink 62 raw (items LinkAttribute.DevlinkPort)  -- IFLA_DEVLINK_PORT
     or marked_row AtLink 65 (list_of AtPin OfPin.attributes) (listed OfPin.family.meaning LinkAttribute.DpllPin)  -- IFLA_DPLL_PIN
     or others (value LinkAttribute.Other)
@@ -252,7 +257,7 @@ FlatLooks x old new = (looks_in flat flat_rows.0).Takes x old new
 
 -- the numbers of those with attributes inside
 abbrev pub is_list : ℕ → Bool
-is_list number = number == 22 || (number == 43 || (number == 52 || (number == 55 || number == 65)))
+is_list number = number == 22 || (number == 24 || (number == 25 || (number == 43 || (number == 52 || (number == 55 || number == 65)))))
 
 -- ---- and of the others: what the protocol and address families say is meant
 

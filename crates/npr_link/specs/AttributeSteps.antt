@@ -189,13 +189,15 @@ flat_looks family x old new o p q t =
     (past 18 info_list.members.looks (looks_in flat flat_rows.0) x old new (ne_eqb (number_of x.kind) 18 q) t))
 
 -- none is taken where no list stands
-pub no_looks : (x : Item) (c : Counts) → (number_of x.kind ≢ 22) → (number_of x.kind ≢ 43) → (number_of x.kind ≢ 52) → (number_of x.kind ≢ 55)
-    → (number_of x.kind ≢ 65) → FlatLooks x c c
+pub no_looks : (x : Item) (c : Counts) → (number_of x.kind ≢ 22) → (number_of x.kind ≢ 24) → (number_of x.kind ≢ 25) → (number_of x.kind ≢ 43)
+    → (number_of x.kind ≢ 52) → (number_of x.kind ≢ 55) → (number_of x.kind ≢ 65) → FlatLooks x c c
 unfolding FlatLooks
-no_looks x c n o p q r =
+no_looks x c n s t o p q r =
     looks-none is_list flat flat_rows.0 refl x c
     (rw (
       ne_eqb (number_of x.kind) 22 n,
+      ne_eqb (number_of x.kind) 24 s,
+      ne_eqb (number_of x.kind) 25 t,
       ne_eqb (number_of x.kind) 43 o,
       ne_eqb (number_of x.kind) 52 p,
       ne_eqb (number_of x.kind) 55 q,

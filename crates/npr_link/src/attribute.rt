@@ -26,7 +26,7 @@ use npr_base::{
     NLA_F_NESTED, Nla, NlaBuffer, Place, Rowed, check_list, clone_list, write_bytes, write_list,
 };
 use npr_link_bridge::{AfSpecBridge, InfoBridgePort};
-use npr_link_functions::LinkVfInfo;
+use npr_link_functions::{LinkVfInfo, LinkVfPort, VfPort};
 use npr_link_statistics::{Grown, Stats, Stats64};
 use std::alloc::{AllocError, Global};
 
@@ -166,6 +166,10 @@ pub enum LinkAttribute {
     Weight(u32),
     /// `IFLA_VFINFO_LIST`: its virtual functions.
     VfInfoList(Vec<LinkVfInfo>),
+    /// `IFLA_VF_PORTS`: the ports of its virtual functions.
+    VfPorts(Vec<LinkVfPort>),
+    /// `IFLA_PORT_SELF`: its own port.
+    PortSelf(Vec<VfPort>),
     /// `IFLA_DEVLINK_PORT`: the port of devlink that it belongs to, attributes of `linux/devlink.h` as they
     /// stand. Written with NESTED.
     DevlinkPort(Vec<u8>),
@@ -213,6 +217,8 @@ macro_rules! rows {
             21 NumVf(le32);
             22 VfInfoList(list LinkVfInfo);
             23 Stats64(Stats64 value raw);
+            24 VfPorts(list LinkVfPort);
+            25 PortSelf(list VfPort);
             27 Group(le32);
             28 NetNsFd(signed32);
             29 ExtMask(LinkExtentMask flags le32);
@@ -321,8 +327,9 @@ pub(crate) fn put_plain<P: Place<LinkAttribute>>(
     item: &NlaBuffer<'_>,
 ) -> Result<(), DecodeError>
     requires ready { P.ready place.old }
-    requires plain { (number_of (item.now).kind ≢ 22) × (number_of (item.now).kind ≢ 43) × (number_of (item.now).kind ≢ 52)
-        × (number_of (item.now).kind ≢ 55) × (number_of (item.now).kind ≢ 65) }
+    requires plain { (number_of (item.now).kind ≢ 22) × (number_of (item.now).kind ≢ 24) × (number_of (item.now).kind ≢ 25)
+        × (number_of (item.now).kind ≢ 43) × (number_of (item.now).kind ≢ 52) × (number_of (item.now).kind ≢ 55)
+        × (number_of (item.now).kind ≢ 65) }
     ensures ok { IfOk result (λ _. (a : LinkAttribute) × P.puts place.old a place.new × IsFlat (number_of (item.now).kind) item.now a) }
     ensures refused { IfErr result (λ e. e ≢ OutOfMemory → FlatFault (number_of (item.now).kind) item.now e) }
 {

@@ -24,6 +24,12 @@ use std::alloc::Global;
 /// The number of its virtual functions, `IFLA_VFINFO_LIST`.
 const IFLA_VFINFO_LIST: u16 = 22;
 
+/// The number of the ports of virtual functions, `IFLA_VF_PORTS`.
+const IFLA_VF_PORTS: u16 = 24;
+
+/// The number of a link's own port, `IFLA_PORT_SELF`.
+const IFLA_PORT_SELF: u16 = 25;
+
 /// The number of what runs in front of the network stack, `IFLA_XDP`.
 const IFLA_XDP: u16 = 43;
 
@@ -84,6 +90,16 @@ pub(crate) fn put_flat<P: Place<LinkAttribute>>(
             place,
             parse_list(alloc, (), value, looks),
             LinkAttribute::VfInfoList,
+        ),
+        IFLA_VF_PORTS => put_read(
+            place,
+            parse_list(alloc, (), value, looks),
+            LinkAttribute::VfPorts,
+        ),
+        IFLA_PORT_SELF => put_read(
+            place,
+            parse_list(alloc, (), value, looks),
+            LinkAttribute::PortSelf,
         ),
         IFLA_XDP => put_read(
             place,

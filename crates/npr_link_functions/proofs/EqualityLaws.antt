@@ -1,8 +1,10 @@
--- What `==` answers of what a link says of its virtual functions: whether it means the same.
+-- What `==` answers of what a link says of its virtual functions and ports: whether it means the same.
 use Rattle.npr_base.specs.Equality.{IsEqualityOf}
 use Rattle.npr_base.specs.EnumTable.{◌also◌}
 use Rattle.npr_base.specs.Tables.{table_decides}
 use Rattle.npr_base.proofs.FieldEquality.{one, list, number, kept}
+use Rattle.npr_base.proofs.MeaningLaws.{text_equality}
+use Rattle.npr_base.specs.ViewEquality.{bytes_equality}
 use Rattle.npr_link_functions.specs.VfStats as OfVfStats
 use Rattle.npr_link_functions.specs.contracts.vf_stats.VfStatsPartialEq.TheImpl as VfStatsEq
 use Rattle.npr_link_functions.specs.VfVlanList as OfVfVlanList
@@ -11,6 +13,10 @@ use Rattle.npr_link_functions.specs.VfInfo as OfVfInfo
 use Rattle.npr_link_functions.specs.contracts.vf_info.VfInfoPartialEq.TheImpl as VfInfoEq
 use Rattle.npr_link_functions.specs.LinkVfInfo as OfLinkVfInfo
 use Rattle.npr_link_functions.specs.contracts.link_vf_info.LinkVfInfoPartialEq.TheImpl as LinkVfInfoEq
+use Rattle.npr_link_functions.specs.LinkVfPort as OfLinkVfPort
+use Rattle.npr_link_functions.specs.contracts.link_vf_port.LinkVfPortPartialEq.TheImpl as LinkVfPortEq
+use Rattle.npr_link_functions.specs.VfPort as OfVfPort
+use Rattle.npr_link_functions.specs.contracts.vf_port.VfPortPartialEq.TheImpl as VfPortEq
 use Rattle.npr_link_functions.proofs.ValueEquality.{mac_equality, broadcast_equality, vlan_equality, tx_rate_equality, rate_equality, setting_equality, link_state_of_equality, guid_equality}
 use Rattle.npr_link_functions.proofs.ValueEquality.{vlan_info_equality}
 
@@ -35,3 +41,13 @@ pub link_info_equality : IsEqualityOf OfLinkVfInfo.family.meaning LinkVfInfoEq.g
 link_info_equality =
     table_decides OfLinkVfInfo.table _
     (list info_equality also kept also tt)
+
+pub port_equality : IsEqualityOf OfVfPort.family.meaning VfPortEq.ghosts.eq
+port_equality =
+    table_decides OfVfPort.table _
+    (number also one text_equality also one bytes_equality also one bytes_equality also number also number also kept also tt)
+
+pub link_port_equality : IsEqualityOf OfLinkVfPort.family.meaning LinkVfPortEq.ghosts.eq
+link_port_equality =
+    table_decides OfLinkVfPort.table _
+    (list port_equality also kept also tt)

@@ -1,10 +1,12 @@
 pub mod LinkState
 pub mod LinkVfInfo
+pub mod LinkVfPort
 pub mod VfBroadcast
 pub mod VfGuid
 pub mod VfInfo
 pub mod VfLinkState
 pub mod VfMac
+pub mod VfPort
 pub mod VfRate
 pub mod VfSetting
 pub mod VfStats

@@ -1,4 +1,4 @@
-//! The laws of what a link says of its virtual functions, over their definitions alone. Each function does
+//! The laws of what a link says of its virtual functions and ports, over their definitions alone. Each function does
 //! nothing, and its contract is the law.
 
 ghost use Rattle.std.specs.Prelude.{◌≡◌, ℕ};
@@ -7,7 +7,9 @@ ghost use Rattle.{
   npr_link_functions.specs.{
     LinkState.{vf_link_states},
     LinkVfInfo.{family as link_info_family},
+    LinkVfPort.{family as link_port_family},
     VfInfo.{family as info_family},
+    VfPort.{family as port_family},
     VfStats.{family as stats_family},
     VfVlanList.{family as vlan_list_family},
   },
@@ -15,11 +17,13 @@ ghost use Rattle.{
 
 use crate::link_state::VfLinkState;
 use crate::link_vf_info::LinkVfInfo;
+use crate::link_vf_port::LinkVfPort;
 use crate::vf_broadcast::VfInfoBroadcast;
 use crate::vf_guid::VfInfoGuid;
 use crate::vf_info::VfInfo;
 use crate::vf_link_state::VfInfoLinkState;
 use crate::vf_mac::VfInfoMac;
+use crate::vf_port::VfPort;
 use crate::vf_rate::VfInfoRate;
 use crate::vf_setting::VfInfoSetting;
 use crate::vf_stats::VfStats;
@@ -58,4 +62,6 @@ pub fn law_equality_of_meanings()
     ensures vlan_list { IsEqualityOf vlan_list_family.meaning ⟦<VfVlan as PartialEq>⟧.eq }
     ensures info { IsEqualityOf info_family.meaning ⟦<VfInfo as PartialEq>⟧.eq }
     ensures link_info { IsEqualityOf link_info_family.meaning ⟦<LinkVfInfo as PartialEq>⟧.eq }
+    ensures port { IsEqualityOf port_family.meaning ⟦<VfPort as PartialEq>⟧.eq }
+    ensures link_port { IsEqualityOf link_port_family.meaning ⟦<LinkVfPort as PartialEq>⟧.eq }
 {}

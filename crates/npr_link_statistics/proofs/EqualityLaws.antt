@@ -16,7 +16,7 @@ use Rattle.npr_link_statistics.specs.contracts.inet6_stats.Inet6StatsPartialEq.T
 use Rattle.npr_link_statistics.specs.contracts.icmp6_stats.Icmp6StatsPartialEq.TheImpl as Icmp6StatsEq
 
 -- two structs of the same fields, each field and then the rest
-each : {D A : Type 0} → (A → A → Bool) → List (D → A) → D → D → Bool → Bool
+unfoldable pub each : {D A : Type 0} → (A → A → Bool) → List (D → A) → D → D → Bool → Bool
 each test [] a b rest = rest
 each test (field ∷ fields) a b rest = test (field a) (field b) && each test fields a b rest
 
@@ -29,10 +29,10 @@ module _ {D A : Type 0} {test : A → A → Bool} (h : IsEquality test) where
       decides_as (λ p. ((λ i. p.0 i ∷ p.1.0 i), p.1.1)) (λ p. ((cc), (cc, p.1)))
       (and_decides (h (field a) (field b)) (each-decides fields a b d))
 
-  same_parts : Names D A → D → D → Bool
+  unfoldable pub same_parts : Names D A → D → D → Bool
   same_parts names a b = each test names.fields a b ((names.missing a == names.missing b) && pointwise test (names.more a) (names.more b))
 
-  parts_equality : (names : Names D A) → IsEqualityOf (parts names) (same_parts names)
+  pub parts_equality : (names : Names D A) → IsEqualityOf (parts names) (same_parts names)
   unfolding same_parts
   parts_equality names a b =
       decides_as

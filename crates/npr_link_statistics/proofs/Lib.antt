@@ -1,4 +1,4 @@
-mod Arrays
+pub mod Arrays
 mod Coherent
 pub mod EqualityLaws
 mod Places

@@ -7,6 +7,7 @@ use Rattle.npr_names.specs.declared.link.TheConstants as links
 use Rattle.npr_names.specs.declared.link_function.TheConstants as functions
 use Rattle.npr_names.specs.declared.link_kind.TheConstants as kinds
 use Rattle.npr_names.specs.declared.small.TheConstants as smalls
+use Rattle.npr_names.specs.declared.statistics.TheConstants as statistics
 use Rattle.npr_names.specs.declared.tc.TheConstants as traffic
 use Rattle.npr_names.specs.declared.tc_action.TheConstants as actions
 use Rattle.npr_names.specs.declared.tc_kind.TheConstants as traffic_kinds
@@ -47,7 +48,11 @@ lists =
     ∷ texts actions.PEDIT.now ∷ texts actions.PEDIT.now ∷ texts actions.PEDIT_KEY_EX.now ∷ texts functions.MCTP.now
     ∷ texts functions.DPLL_PIN.now ∷ texts functions.HSR.now ∷ texts functions.OVPN.now ∷ texts smalls.NEIGHBOUR_FDB.now
     ∷ texts functions.GTP.now ∷ texts functions.IPOIB.now ∷ texts functions.MAC_SEC.now ∷ texts functions.VF_INFO_LIST.now
-    ∷ texts functions.VF_INFO.now ∷ texts functions.VF_STATS.now ∷ texts functions.VF_VLAN.now ∷ []
+    ∷ texts functions.VF_INFO.now ∷ texts functions.VF_STATS.now ∷ texts functions.VF_VLAN.now
+    ∷ texts functions.VF_PORTS.now ∷ texts functions.VF_PORT.now ∷ texts statistics.STATS.now ∷ texts statistics.LINK_XSTATS.now
+    ∷ texts statistics.BRIDGE_XSTATS.now ∷ texts statistics.BOND_XSTATS.now ∷ texts statistics.BOND_AD_STAT.now
+    ∷ texts statistics.OFFLOAD_XSTATS.now ∷ texts statistics.OFFLOAD_XSTATS.now ∷ texts statistics.OFFLOAD_HW_STATE.now
+    ∷ texts links.AF_SPEC.now ∷ texts statistics.MPLS_STATS.now ∷ []
 
 unfoldable pub names_of : AttributeSet → List (List ℕ)
 names_of set = unwrap_or (slice_get lists (tag_of the_sets set)) []

@@ -5,8 +5,6 @@ use Rattle.npr_base.specs.declared.attribute_set.At.{At}
 use Rattle.npr_base.specs.declared.attribute_set.AttributeSet.TheVariants.{Geneve}
 use Rattle.npr_base.specs.declared.refusal.DecodeError.{DecodeError}
 use Rattle.npr_base.specs.declared.refusal.DecodeError.TheVariants.{ValueLength, NotUtf8, Unsupported, GeneveOrder, GeneveChild}
-use Rattle.npr_base.specs.declared.refusal.Seg6Fault.{Seg6Fault}
-use Rattle.npr_base.specs.declared.refusal.Seg6Fault.TheVariants.{Short, Length, Hmac, Segments}
 use Rattle.npr_base.specs.declared.value.Form.{Form}
 use Rattle.npr_base.specs.declared.value.Form.TheVariants.{Byte, Boolean, Little16, Big16, Signed32, Signed64, Little32, Big32, Octets4, Little64, Big64}
 use Rattle.npr_base.specs.declared.value.Form.TheVariants.{Octets16, Uint, Flag, Ip, Exactly}
@@ -20,12 +18,6 @@ text_by_name None number = codes "attribute " ++ decimal number
 -- an attribute as a text: IFLA_MTU (4)
 abbrev pub named_text : At → List ℕ
 named_text at = text_by_name (name_at at.set at.number) at.number
-
-abbrev pub seg6_text : Seg6Fault → List ℕ
-seg6_text Short = codes "without its fixed part"
-seg6_text Length = codes "of another length than it states"
-seg6_text Hmac = codes "without room for its HMAC"
-seg6_text Segments = codes "of segments that are not whole"
 
 -- the lengths of a value that is read so: one, or two that are told apart; none where it may have more
 abbrev pub lengths_told : Form → Option (ℕ × ℕ)

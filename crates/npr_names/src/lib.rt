@@ -8,6 +8,7 @@ mod names;
 mod refusal;
 mod route;
 mod small;
+mod statistics;
 mod tc;
 mod tc_action;
 mod tc_kind;

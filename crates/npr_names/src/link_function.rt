@@ -37,6 +37,21 @@ pub const VF_STATS: &[&str] = &[
 /// One of the VLANs of a virtual function.
 pub const VF_VLAN: &[&str] = &["IFLA_VF_VLAN_INFO_UNSPEC", "IFLA_VF_VLAN_INFO"];
 
+/// One of the ports of a link.
+pub const VF_PORTS: &[&str] = &["IFLA_VF_PORT_UNSPEC", "IFLA_VF_PORT"];
+
+/// What a link says of a port.
+pub const VF_PORT: &[&str] = &[
+    "IFLA_PORT_UNSPEC",
+    "IFLA_PORT_VF",
+    "IFLA_PORT_PROFILE",
+    "IFLA_PORT_VSI_TYPE",
+    "IFLA_PORT_INSTANCE_UUID",
+    "IFLA_PORT_HOST_UUID",
+    "IFLA_PORT_REQUEST",
+    "IFLA_PORT_RESPONSE",
+];
+
 /// What MCTP says of a link.
 pub const MCTP: &[&str] = &[
     "IFLA_MCTP_UNSPEC",

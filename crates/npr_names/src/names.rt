@@ -3,7 +3,7 @@
 ghost use Rattle.std.specs.Prelude.{◌≡◌, ◌≤◌, map, length, IfSome, IfNone};
 ghost use Rattle.npr_names.specs.Names.{name_at, names_of};
 
-use crate::{link, link_function, link_kind, route, small, tc, tc_action, tc_kind};
+use crate::{link, link_function, link_kind, route, small, statistics, tc, tc_action, tc_kind};
 use npr_base::AttributeSet;
 
 /// The names of a set, by their numbers.
@@ -39,7 +39,7 @@ fn names_of(set: AttributeSet) -> &'static [&'static str]
         AttributeSet::LinkInfo => link::INFO,
         AttributeSet::LinkXdp => link::XDP,
         AttributeSet::LinkProtocolDownReason => link::PROTOCOL_DOWN,
-        AttributeSet::AfSpecUnspec => link::AF_SPEC,
+        AttributeSet::AfSpecUnspec | AttributeSet::StatsAfSpec => link::AF_SPEC,
         AttributeSet::AfSpecInet => link::AF_SPEC_INET,
         AttributeSet::AfSpecInet6 => link::AF_SPEC_INET6,
         AttributeSet::InfoBridge => link::BRIDGE,
@@ -135,6 +135,16 @@ fn names_of(set: AttributeSet) -> &'static [&'static str]
         AttributeSet::VfInfo => link_function::VF_INFO,
         AttributeSet::VfStats => link_function::VF_STATS,
         AttributeSet::VfVlan => link_function::VF_VLAN,
+        AttributeSet::LinkVfPort => link_function::VF_PORTS,
+        AttributeSet::VfPort => link_function::VF_PORT,
+        AttributeSet::Stats => statistics::STATS,
+        AttributeSet::LinkXstats => statistics::LINK_XSTATS,
+        AttributeSet::BridgeXstats => statistics::BRIDGE_XSTATS,
+        AttributeSet::BondXstats => statistics::BOND_XSTATS,
+        AttributeSet::BondAdStat => statistics::BOND_AD_STAT,
+        AttributeSet::OffloadXstats | AttributeSet::OffloadHwInfo => statistics::OFFLOAD_XSTATS,
+        AttributeSet::OffloadHwState => statistics::OFFLOAD_HW_STATE,
+        AttributeSet::MplsStats => statistics::MPLS_STATS,
     }
 }
 

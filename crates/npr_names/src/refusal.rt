@@ -1,10 +1,10 @@
 //! Refusals in words: what is wrong, at which attribute, and where.
 
 ghost use Rattle.std.specs.Prelude.{◌≡◌, ℕ, Some, IfSome, IfNone};
-ghost use Rattle.npr_names.specs.Refusals.{Fronts, HasEither, lengths_told, named_text, seg6_text, told_of};
+ghost use Rattle.npr_names.specs.Refusals.{Fronts, HasEither, lengths_told, named_text, told_of};
 
 use crate::names::attribute_name;
-use npr_base::{At, AttributeSet, DecodeError, Form, NlasIterator, Seg6Fault};
+use npr_base::{At, AttributeSet, DecodeError, Form, NlasIterator};
 use std::fmt;
 
 /// An attribute by its name and number: `IFLA_MTU (4)`, or `attribute 99` where it has no name.
@@ -124,23 +124,7 @@ fn write_refusal<W: fmt::Write>(
             let named = Named(AttributeSet::Geneve.at(kind));
             write!(f, "{named} before a class")
         }
-        DecodeError::Seg6Header { fault } => {
-            let text = seg6_text(fault);
-            write!(f, "a SEG6 routing header {text}")
-        }
         _ => write!(f, "{refusal}"),
-    }
-}
-
-/// What is wrong with a SEG6 routing header.
-fn seg6_text(fault: Seg6Fault) -> &'static str
-    ensures { result.now ≡ seg6_text fault }
-{
-    match fault {
-        Seg6Fault::Short => "without its fixed part",
-        Seg6Fault::Length => "of another length than it states",
-        Seg6Fault::Hmac => "without room for its HMAC",
-        Seg6Fault::Segments => "of segments that are not whole",
     }
 }
 

@@ -21,10 +21,12 @@ use Rattle.npr_tc_filters.specs.Fw as OfFw
 use Rattle.npr_tc_filters.specs.Flower as OfFlower
 use Rattle.npr_tc_filters.specs.MatchAll as OfMatchAll
 use Rattle.npr_tc_filters.specs.U32Option as OfU32
-use Rattle.npr_tc_qdiscs.proofs.EqualityLaws.{bitfield_equality, estimator_equality, fq_codel_equality, handle_equality, ingress_equality}
-use Rattle.npr_tc_qdiscs.proofs.EqualityLaws.{stab_equality, stats2_equality, stats_equality, xstats_equality}
-use Rattle.npr_tc_qdiscs.proofs.CounterEquality.{cake_equality, sfq_qopt_equality}
-use Rattle.npr_tc_qdiscs.proofs.KindEquality.{fifo_qopt_equality, fq_equality, htb_equality, netem_equality, prio_qopt_equality, red_equality, tbf_equality}
+use Rattle.npr_tc_qdiscs.proofs.EqualityLaws.{fq_codel_equality, ingress_equality}
+use Rattle.npr_tc_values.proofs.EqualityLaws.{bitfield_equality, estimator_equality, handle_equality}
+use Rattle.npr_tc_qdiscs.proofs.EqualityLaws.{stab_equality}
+use Rattle.npr_tc_values.proofs.EqualityLaws.{stats2_equality, stats_equality, xstats_equality}
+use Rattle.npr_tc_qdiscs.proofs.EqualityLaws.{cake_equality, sfq_qopt_equality}
+use Rattle.npr_tc_qdiscs.proofs.EqualityLaws.{fifo_qopt_equality, fq_equality, htb_equality, netem_equality, prio_qopt_equality, red_equality, tbf_equality}
 use Rattle.npr_tc_qdiscs.specs.Cake as OfCake
 use Rattle.npr_tc_qdiscs.specs.Fq as OfFq
 use Rattle.npr_tc_qdiscs.specs.FqCodel as OfFqCodel
@@ -33,7 +35,7 @@ use Rattle.npr_tc_qdiscs.specs.Netem.{netem_of}
 use Rattle.npr_tc_qdiscs.specs.Red as OfRed
 use Rattle.npr_tc_qdiscs.specs.Tbf as OfTbf
 use Rattle.npr_tc_qdiscs.specs.Ingress as OfIngress
-use Rattle.npr_tc_qdiscs.specs.declared.form.TcForm.TheVariants.{Kept}
+use Rattle.npr_tc_values.specs.declared.form.TcForm.TheVariants.{Kept}
 use Rattle.npr_tc.specs.ActionAttribute as OfAction
 use Rattle.npr_tc.specs.Attribute as OfAttribute
 use Rattle.npr_tc.specs.Options as O

@@ -18,15 +18,15 @@ use Rattle.npr_base.specs.Unterminated.{told_by, name_is}
 use Rattle.npr_base.specs.declared.attribute_set.At.{At}
 use Rattle.npr_base.specs.declared.attribute_set.AttributeSet.TheVariants.{Tc as AtTc, TcStats2 as AtStats2, TcStab as AtStab}
 use Rattle.npr_base.specs.declared.value.Form.{Form}
-use Rattle.npr_tc_qdiscs.specs.Bitfield.{bitfield}
-use Rattle.npr_tc_qdiscs.specs.Estimator.{estimator}
-use Rattle.npr_tc_qdiscs.specs.Form.{form_named}
+use Rattle.npr_tc_values.specs.Bitfield.{bitfield}
+use Rattle.npr_tc_values.specs.Estimator.{estimator}
+use Rattle.npr_tc_values.specs.Form.{form_named}
 use Rattle.npr_tc_qdiscs.specs.Stab as OfStab
-use Rattle.npr_tc_qdiscs.specs.Stats.{stats}
-use Rattle.npr_tc_qdiscs.specs.Stats2 as OfStats2
-use Rattle.npr_tc_qdiscs.specs.Xstats.{xstats, xstats_of}
-use Rattle.npr_tc_qdiscs.specs.declared.form.TcForm.{TcForm}
-use Rattle.npr_tc_qdiscs.specs.declared.form.TcForm.TheVariants.{Kept}
+use Rattle.npr_tc_values.specs.Stats.{stats}
+use Rattle.npr_tc_values.specs.Stats2 as OfStats2
+use Rattle.npr_tc_values.specs.Xstats.{xstats, xstats_of}
+use Rattle.npr_tc_values.specs.declared.form.TcForm.{TcForm}
+use Rattle.npr_tc_values.specs.declared.form.TcForm.TheVariants.{Kept}
 use Rattle.npr_tc.specs.Options.{Kind, kept, holding, kind_of, Said, options, unknown, options_of, said, said_by, shown_as, shown_by, kept-number}
 use Rattle.npr_tc.specs.Options as OfOptions
 use Rattle.npr_tc.specs.contracts.attribute.TcAttribute.{enum}

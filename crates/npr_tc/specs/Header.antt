@@ -7,7 +7,7 @@ use Rattle.npr_base.specs.Fields.{one_byte, le_four, unused, family_byte, ◌hol
 use Rattle.npr_base.specs.Layout.{Layout}
 use Rattle.npr_base.specs.MoreFields.{signed_four}
 use Rattle.npr_base.specs.declared.address_family.AddressFamily.TheVariants.{Unspec}
-use Rattle.npr_tc_qdiscs.specs.Handle.{handles}
+use Rattle.npr_tc_values.specs.Handle.{handles}
 use Rattle.npr_tc.specs.contracts.header.TcHeader.{struct}
 use Rattle.npr_tc.specs.contracts.header.TcMessageBuffer.{struct as buffer_struct}
 use Rattle.npr_tc.specs.declared.header.TcHeader.{TcHeader}

@@ -3,8 +3,8 @@ use Rattle.std.proofs.Common.{ℕ, List, refl}
 use Rattle.npr_base.specs.Counts.{Counts}
 use Rattle.npr_base.specs.GovernedBody as Governed
 use Rattle.npr_base.specs.Message.{Body, Grammar, grammar_of, IsUnder}
-use Rattle.npr_tc_qdiscs.specs.declared.form.TcForm.{TcForm}
-use Rattle.npr_tc_qdiscs.specs.declared.form.TcForm.TheVariants.{Kept}
+use Rattle.npr_tc_values.specs.declared.form.TcForm.{TcForm}
+use Rattle.npr_tc_values.specs.declared.form.TcForm.TheVariants.{Kept}
 use Rattle.npr_tc.specs.Attribute.{alike, attributes, family, tells, told, writing}
 use Rattle.npr_tc.specs.declared.attribute.TcAttribute.{TcAttribute}
 use Rattle.npr_tc.specs.declared.header.TcHeader.{TcHeader}

@@ -35,7 +35,7 @@ use Rattle.npr_tc_qdiscs.specs.FifoQopt.{fifo_qopt}
 use Rattle.npr_tc_qdiscs.specs.Netem.{netem, netem_of, netems}
 use Rattle.npr_tc_qdiscs.specs.PrioQopt.{prio_qopt}
 use Rattle.npr_tc_qdiscs.specs.declared.fifo_qopt.TcFifoQopt.{TcFifoQopt}
-use Rattle.npr_tc_qdiscs.specs.declared.form.TcForm.{TcForm}
+use Rattle.npr_tc_values.specs.declared.form.TcForm.{TcForm}
 use Rattle.npr_tc_qdiscs.specs.declared.prio_qopt.TcPrioQopt.{TcPrioQopt}
 use Rattle.npr_tc.specs.declared.option.TcOption.{TcOption}
 use Rattle.npr_tc.specs.declared.option.TcOption.TheVariants as Has

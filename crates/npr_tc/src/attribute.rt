@@ -7,7 +7,7 @@ ghost use Rattle.{
     Counts.{AddsAtMost},
     Looks.{Answered},
   },
-  npr_tc_qdiscs.specs.declared.form.TcForm.TheVariants.{Kept},
+  npr_tc_values.specs.declared.form.TcForm.TheVariants.{Kept},
   npr_tc.specs.{
     Attribute.{IsRest, MeansSaid, family, rest, shape, shape-by, tells},
     Options.{Said, said},
@@ -20,9 +20,8 @@ use npr_base::{
     NlaBuffer, Place, check_list, clone_list, parse_list, put_read, without_zero, write_bytes,
     write_list,
 };
-use npr_tc_qdiscs::{
-    TcBitfield, TcEstimator, TcForm, TcStab, TcStats, TcStats2, TcXstats, form_of_name,
-};
+use npr_tc_qdiscs::TcStab;
+use npr_tc_values::{TcBitfield, TcEstimator, TcForm, TcStats, TcStats2, TcXstats, form_of_name};
 use std::alloc::{AllocError, Global};
 
 /// The number of the kind, `TCA_KIND`.

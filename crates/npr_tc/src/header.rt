@@ -15,7 +15,7 @@ use npr_base::{
     AddressFamily, DecodeError, EmitError, Emitable, Header, Looks, governing, leading_octets,
     write_array,
 };
-use npr_tc_qdiscs::{TcForm, TcHandle};
+use npr_tc_values::{TcForm, TcHandle};
 
 /// The length of `struct tcmsg` of `linux/rtnetlink.h`, in bytes.
 const TCMSG_SIZE: usize = 20;

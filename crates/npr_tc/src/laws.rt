@@ -4,7 +4,7 @@
 ghost use Rattle.std.specs.Prelude.{◌≡◌, ◌^◌, ◌∷◌, [], ℕ, List, true};
 ghost use Rattle.{
   npr_base.specs.{Equality.{IsEquality, IsEqualityOf}, FirstTold.{Governs, first_told}, Message.{view}, Rows.{agrees}},
-  npr_tc_qdiscs.specs.declared.form.TcForm.{TcForm, TheVariants.{Kept}},
+  npr_tc_values.specs.declared.form.TcForm.{TcForm, TheVariants.{Kept}},
   npr_tc.specs.{
     ActionAttribute.{family as action_family},
     ActionFlags.{action_flag_bits},

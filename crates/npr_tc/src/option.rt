@@ -10,7 +10,7 @@ ghost use Rattle.{
     Looks.{Answered},
     Table.{slot_bytes, slot_unfit},
   },
-  npr_tc_qdiscs.specs.declared.form.TcForm.TheVariants.{Kept},
+  npr_tc_values.specs.declared.form.TcForm.TheVariants.{Kept},
   npr_tc.specs.Options.{AreData, AreNoData, TakesLooks, kind_of, options_of, options_slot, shown_as},
 };
 
@@ -20,10 +20,10 @@ use npr_tc_filters::{
     TcFilterMatchAllOption, TcFilterU32Option,
 };
 use npr_tc_qdiscs::{
-    TcFifoQopt, TcForm, TcNetem, TcPrioQopt, TcQdiscCakeOption, TcQdiscFqCodelOption,
-    TcQdiscFqOption, TcQdiscHtbOption, TcQdiscIngressOption, TcQdiscRedOption, TcQdiscTbfOption,
-    TcSfqQopt,
+    TcFifoQopt, TcNetem, TcPrioQopt, TcQdiscCakeOption, TcQdiscFqCodelOption, TcQdiscFqOption,
+    TcQdiscHtbOption, TcQdiscIngressOption, TcQdiscRedOption, TcQdiscTbfOption, TcSfqQopt,
 };
+use npr_tc_values::TcForm;
 use std::alloc::{AllocError, Global};
 
 /// The data of a queueing discipline, a class or a filter: what they are follows from the first kind in

@@ -9,7 +9,7 @@ use Rattle.npr_base.proofs.StructLaws.{and_decides, decides_as}
 use Rattle.npr_base.specs.EnumTable.{◌also◌}
 use Rattle.npr_base.specs.Equality.{IsEqualityOf}
 use Rattle.npr_base.specs.Tables.{table_decides}
-use Rattle.npr_tc_qdiscs.proofs.EqualityLaws.{bitfield_equality, stats2_equality}
+use Rattle.npr_tc_values.proofs.EqualityLaws.{bitfield_equality, stats2_equality}
 use Rattle.npr_tc_actions.specs.Action as OfAction
 use Rattle.npr_tc_actions.specs.ActionOption as O
 use Rattle.npr_tc_actions.specs.Attribute as OfAttribute

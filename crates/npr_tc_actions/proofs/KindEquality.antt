@@ -10,8 +10,8 @@ use Rattle.npr_base.specs.EnumTable.{◌also◌}
 use Rattle.npr_base.specs.Equality.{IsEquality, IsEqualityOf}
 use Rattle.npr_base.specs.Tables.{table_decides}
 use Rattle.npr_base.specs.ViewEquality.{bytes_equality}
-use Rattle.npr_tc_qdiscs.proofs.EqualityLaws.{handle_equality}
-use Rattle.npr_tc_qdiscs.proofs.KindEquality.{rate_spec_equality}
+use Rattle.npr_tc_values.proofs.EqualityLaws.{handle_equality}
+use Rattle.npr_tc_values.proofs.EqualityLaws.{rate_spec_equality}
 use Rattle.npr_tc_actions.proofs.ValueEquality.{action_type_equality, generic_equality, times_equality}
 use Rattle.npr_tc_actions.specs.BpfOption as OfBpfOption
 use Rattle.npr_tc_actions.specs.CsumOption as OfCsumOption

@@ -10,8 +10,8 @@ use Rattle.npr_tc_actions.specs.Attribute as OfAttribute
 use Rattle.npr_tc_actions.specs.declared.action.TcAction.{TcAction}
 use Rattle.npr_tc_actions.specs.declared.form.TcActionForm.TheVariants.{Kept}
 use Rattle.npr_tc_actions.specs.lemmas.Once.{attributes_once, attributes_plain}
-use Rattle.npr_tc_qdiscs.specs.Numbered as Of
-use Rattle.npr_tc_qdiscs.specs.Numbered.{Numbered}
+use Rattle.npr_tc_values.specs.Numbered as Of
+use Rattle.npr_tc_values.specs.Numbered.{Numbered}
 
 -- the attributes of one, under the first kind among them
 abbrev pub action_list : Codec (List OfAttribute.Meaning)

@@ -11,9 +11,9 @@ use Rattle.npr_base.specs.Tables.{EnumTable, table_of, row, marked_row, others, 
 use Rattle.npr_base.specs.Tables.{Meanings, writing_of, attributes_of, family_of_table}
 use Rattle.npr_base.specs.NameText.{IsName}
 use Rattle.npr_base.specs.Unterminated.{told_by, name_is}
-use Rattle.npr_tc_qdiscs.specs.Bitfield.{bitfield}
-use Rattle.npr_tc_qdiscs.specs.Stats2 as OfStats2
-use Rattle.npr_tc_qdiscs.specs.declared.form.TcForm.TheVariants.{Kept as NoData}
+use Rattle.npr_tc_values.specs.Bitfield.{bitfield}
+use Rattle.npr_tc_values.specs.Stats2 as OfStats2
+use Rattle.npr_tc_values.specs.declared.form.TcForm.TheVariants.{Kept as NoData}
 use Rattle.npr_tc_actions.specs.ActionOption.{action_option, action_option_of}
 use Rattle.npr_tc_actions.specs.contracts.attribute.TcActionAttribute.{enum}
 use Rattle.npr_tc_actions.specs.declared.attribute.TcActionAttribute.{TcActionAttribute}

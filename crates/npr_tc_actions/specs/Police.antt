@@ -5,7 +5,7 @@ use Rattle.npr_base.specs.Fields.{le_four, ◌holding◌, ◌fills◌, ◌then�
 use Rattle.npr_base.specs.Layout.{Layout}
 use Rattle.npr_base.specs.MoreFields.{signed_four}
 use Rattle.npr_tc_actions.specs.ActionType.{action_types}
-use Rattle.npr_tc_qdiscs.specs.RateSpec.{rate_field}
+use Rattle.npr_tc_values.specs.RateSpec.{rate_field}
 use Rattle.npr_tc_actions.specs.contracts.police.TcPolice.{struct}
 use Rattle.npr_tc_actions.specs.declared.police.TcPolice.{TcPolice}
 

@@ -2,7 +2,7 @@
 use Rattle.npr_base.specs.declared.attribute_set.AttributeSet.TheVariants.{TcActionSkbedit as AtTcActionSkbedit}
 use Rattle.npr_base.specs.Tables.{EnumTable, table_of, row, others, ◌or◌, exactly, le16, le32, le64, leading, value, refl, Reading, Family}
 use Rattle.npr_base.specs.Tables.{writing_of, attributes_of, family_of_table}
-use Rattle.npr_tc_qdiscs.specs.Handle.{handle}
+use Rattle.npr_tc_values.specs.Handle.{handle}
 use Rattle.npr_tc_actions.specs.Generic.{generic}
 use Rattle.npr_tc_actions.specs.Tcf.{tcf}
 use Rattle.npr_tc_actions.specs.contracts.skbedit_option.TcActionSkbeditOption.{enum}

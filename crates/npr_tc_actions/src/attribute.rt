@@ -14,7 +14,7 @@ use npr_base::{
     Looks, NLA_F_NESTED, Nla, NlaBuffer, Place, check_list, clone_list, parse_list, put_read,
     without_zero, write_list,
 };
-use npr_tc_qdiscs::{TcBitfield, TcForm, TcStats2};
+use npr_tc_values::{TcBitfield, TcForm, TcStats2};
 use std::alloc::{AllocError, Global};
 
 /// The number of the kind, `TCA_ACT_KIND`.

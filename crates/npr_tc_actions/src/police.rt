@@ -5,7 +5,7 @@ ghost use Rattle.{npr_base.specs.{Codec.{leading}, Refusal.{no_place}}, npr_tc_a
 
 use crate::action_type::TcActionType;
 use npr_base::{DecodeError, EmitError, Emitable, leading_octets, write_array};
-use npr_tc_qdiscs::TcRateSpec;
+use npr_tc_values::TcRateSpec;
 
 /// How much an action lets through.
 ///

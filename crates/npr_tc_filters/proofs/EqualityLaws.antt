@@ -10,7 +10,7 @@ use Rattle.npr_base.proofs.MeaningLaws.{items_equality, text_equality}
 use Rattle.npr_base.proofs.StructLaws.{and_decides, decides_as, ◌beside◌, struct_equality}
 use Rattle.npr_tc_actions.proofs.EqualityLaws.{action_equality}
 use Rattle.npr_tc_actions.proofs.KindEquality.{bpf_instruction_equality, police_option_equality}
-use Rattle.npr_tc_qdiscs.proofs.EqualityLaws.{handle_equality}
+use Rattle.npr_tc_values.proofs.EqualityLaws.{handle_equality}
 use Rattle.npr_tc_filters.specs.Basic as OfBasic
 use Rattle.npr_tc_filters.specs.Bpf as OfBpf
 use Rattle.npr_tc_filters.specs.Ematch as OfEmatch

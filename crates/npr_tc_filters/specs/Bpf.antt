@@ -6,7 +6,7 @@ use Rattle.npr_base.specs.declared.attribute_set.AttributeSet.TheVariants.{TcAct
 use Rattle.npr_tc_actions.specs.Action as OfAction
 use Rattle.npr_tc_actions.specs.BpfInstruction.{instructions}
 use Rattle.npr_tc_actions.specs.PoliceOption as OfPolice
-use Rattle.npr_tc_qdiscs.specs.Handle.{handle}
+use Rattle.npr_tc_values.specs.Handle.{handle}
 use Rattle.npr_tc_filters.specs.U32OptionFlags.{u32_option_flags}
 use Rattle.npr_tc_filters.specs.contracts.bpf.TcFilterBpfOption.{enum}
 use Rattle.npr_tc_filters.specs.declared.bpf.TcFilterBpfOption.{TcFilterBpfOption}

@@ -4,8 +4,8 @@ use Rattle.std.specs.Prelude.{ℕ, List}
 use Rattle.npr_base.specs.Codec.{Codec}
 use Rattle.npr_base.specs.declared.attribute_set.AttributeSet.TheVariants.{TcEmatches as AtTcEmatches}
 use Rattle.npr_base.specs.Family.{Reading, Family}
-use Rattle.npr_tc_qdiscs.specs.Numbered as Of
-use Rattle.npr_tc_qdiscs.specs.Numbered.{Numbered}
+use Rattle.npr_tc_values.specs.Numbered as Of
+use Rattle.npr_tc_values.specs.Numbered.{Numbered}
 use Rattle.npr_tc_filters.specs.EmatchHeader.{ematch_header}
 use Rattle.npr_tc_actions.specs.Headed.{headed_bytes}
 use Rattle.npr_tc_filters.specs.declared.ematch.TcEmatch.{TcEmatch}

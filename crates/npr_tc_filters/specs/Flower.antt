@@ -10,7 +10,7 @@ use Rattle.npr_base.specs.Tables.{EnumTable, table_of, row, others, ◌or◌, be
 use Rattle.npr_base.specs.Tables.{name, octets, octets4, octets16, text, value, refl, Reading, Family, writing_of, attributes_of, family_of_table}
 use Rattle.npr_tc_actions.specs.Action as OfAction
 use Rattle.npr_tc_actions.specs.EncOption as OfEnc
-use Rattle.npr_tc_qdiscs.specs.Handle.{handle}
+use Rattle.npr_tc_values.specs.Handle.{handle}
 use Rattle.npr_tc_filters.specs.FlowerCfm as OfCfm
 use Rattle.npr_tc_filters.specs.FlowerMpls as OfMpls
 use Rattle.npr_tc_filters.specs.contracts.flower_option.TcFilterFlowerOption.{enum}

@@ -22,8 +22,8 @@ use Rattle.npr_tc_actions.specs.contracts.action.TcActionPartialEq.TheImpl as Ac
 use Rattle.npr_tc_actions.specs.declared.action.TcAction.{TcAction}
 use Rattle.npr_tc_actions.specs.contracts.enc_option.TcEncOptionPartialEq.TheImpl as EncEq
 use Rattle.npr_tc_actions.specs.declared.enc_option.TcEncOption.{TcEncOption}
-use Rattle.npr_tc_qdiscs.specs.contracts.handle.TcHandlePartialEq.TheImpl as HandleEq
-use Rattle.npr_tc_qdiscs.specs.declared.handle.TcHandle.{TcHandle}
+use Rattle.npr_tc_values.specs.contracts.handle.TcHandlePartialEq.TheImpl as HandleEq
+use Rattle.npr_tc_values.specs.declared.handle.TcHandle.{TcHandle}
 use Rattle.npr_tc_filters.specs.Flower.{table}
 use Rattle.npr_tc_filters.specs.contracts.flower_cfm.TcFlowerCfmOptionPartialEq.TheImpl as CfmEq
 use Rattle.npr_tc_filters.specs.contracts.flower_mpls.TcFilterFlowerMplsOptionPartialEq.TheImpl as MplsEq

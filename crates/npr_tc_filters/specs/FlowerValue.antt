@@ -12,7 +12,7 @@ use Rattle.npr_base.specs.declared.attribute_set.AttributeSet.TheVariants.{TcFlo
 use Rattle.npr_base.specs.declared.refusal.EmitError.{EmitError}
 use Rattle.npr_tc_actions.specs.Action as OfAction
 use Rattle.npr_tc_actions.specs.EncOption as OfEnc
-use Rattle.npr_tc_qdiscs.specs.Handle.{handle}
+use Rattle.npr_tc_values.specs.Handle.{handle}
 use Rattle.npr_tc_filters.specs.FlowerCfm as OfCfm
 use Rattle.npr_tc_filters.specs.FlowerMpls as OfMpls
 use Rattle.npr_tc_filters.specs.declared.flower_value.FlowerValue.{FlowerValue}

@@ -5,7 +5,7 @@ use Rattle.npr_base.specs.Tables.{writing_of, attributes_of, family_of_table}
 use Rattle.npr_base.specs.declared.attribute_set.AttributeSet.TheVariants.{TcActionPolice as AtPolice, TcActions as AtActions}
 use Rattle.npr_tc_actions.specs.Action as OfAction
 use Rattle.npr_tc_actions.specs.PoliceOption as OfPolice
-use Rattle.npr_tc_qdiscs.specs.Handle.{handle}
+use Rattle.npr_tc_values.specs.Handle.{handle}
 use Rattle.npr_tc_filters.specs.contracts.fw.TcFilterFwOption.{enum}
 use Rattle.npr_tc_filters.specs.declared.fw.TcFilterFwOption.{TcFilterFwOption}
 

@@ -4,7 +4,7 @@ use Rattle.npr_base.specs.declared.attribute_set.AttributeSet.TheVariants.{TcAct
 use Rattle.npr_base.specs.Tables.{EnumTable, table_of, row, others, ◌or◌, exactly, le32, list_of, listed, seen, value, refl, Reading, Family, writing_of}
 use Rattle.npr_base.specs.Tables.{attributes_of, family_of_table}
 use Rattle.npr_tc_actions.specs.Action as OfAction
-use Rattle.npr_tc_qdiscs.specs.Handle.{handle}
+use Rattle.npr_tc_values.specs.Handle.{handle}
 use Rattle.npr_tc_filters.specs.Hits.{hits, match_all_hits}
 use Rattle.npr_tc_filters.specs.contracts.match_all.TcFilterMatchAllOption.{enum}
 use Rattle.npr_tc_filters.specs.declared.match_all.TcFilterMatchAllOption.{TcFilterMatchAllOption}

@@ -5,7 +5,7 @@ use Rattle.npr_base.specs.Tables.{EnumTable, table_of, row, others, ◌or◌, ex
 use Rattle.npr_base.specs.Tables.{Reading, Family, writing_of, attributes_of, family_of_table}
 use Rattle.npr_tc_actions.specs.Action as OfAction
 use Rattle.npr_tc_actions.specs.PoliceOption as OfPolice
-use Rattle.npr_tc_qdiscs.specs.Handle.{handle}
+use Rattle.npr_tc_values.specs.Handle.{handle}
 use Rattle.npr_tc_filters.specs.Hits.{hits, u32_hits}
 use Rattle.npr_tc_filters.specs.U32Mark.{u32_mark}
 use Rattle.npr_tc_filters.specs.U32OptionFlags.{u32_option_flags}

@@ -9,7 +9,7 @@ use npr_base::{
     At, Attribute, DecodeError, DefaultNla, EmitError, Form, Looks, Nla, NlaBuffer, Place,
 };
 use npr_tc_actions::{TcAction, TcActionPoliceOption};
-use npr_tc_qdiscs::TcHandle;
+use npr_tc_values::TcHandle;
 use std::alloc::{AllocError, Global};
 
 /// The data of the filter `basic`: `TCA_BASIC_*` of `linux/pkt_cls.h`.

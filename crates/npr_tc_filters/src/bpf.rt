@@ -9,7 +9,7 @@ use npr_base::{
     blocks_len, read_blocks, write_blocks,
 };
 use npr_tc_actions::{TcAction, TcActionPoliceOption, TcBpfInstruction};
-use npr_tc_qdiscs::TcHandle;
+use npr_tc_values::TcHandle;
 use std::alloc::{AllocError, Global};
 
 /// The data of the filter `bpf`: `TCA_BPF_*` of `linux/pkt_cls.h`.

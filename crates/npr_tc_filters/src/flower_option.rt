@@ -4,7 +4,7 @@ use crate::flower_cfm::TcFlowerCfmOption;
 use crate::flower_mpls::TcFilterFlowerMplsOption;
 use npr_base::{DefaultNla, Ipv4Addr, Ipv6Addr};
 use npr_tc_actions::{TcAction, TcEncOption};
-use npr_tc_qdiscs::TcHandle;
+use npr_tc_values::TcHandle;
 
 /// The data of a flower filter: `TCA_FLOWER_*` of `linux/pkt_cls.h`. A packet matches that has what
 /// they say.

@@ -13,7 +13,7 @@ use npr_base::{
     write_list, write_name,
 };
 use npr_tc_actions::{TcAction, TcEncOption};
-use npr_tc_qdiscs::TcHandle;
+use npr_tc_values::TcHandle;
 use std::fmt;
 
 /// What an attribute of a flower filter holds, where it lies.

@@ -7,7 +7,7 @@ use npr_base::{
     At, Attribute, DecodeError, DefaultNla, EmitError, Form, Looks, Nla, NlaBuffer, Place,
 };
 use npr_tc_actions::{TcAction, TcActionPoliceOption};
-use npr_tc_qdiscs::TcHandle;
+use npr_tc_values::TcHandle;
 use std::alloc::{AllocError, Global};
 
 /// The data of the filter `fw`: `TCA_FW_*` of `linux/pkt_cls.h`.

@@ -8,7 +8,7 @@ use npr_base::{
     At, Attribute, DecodeError, DefaultNla, EmitError, Form, Looks, Nla, NlaBuffer, Place,
 };
 use npr_tc_actions::TcAction;
-use npr_tc_qdiscs::TcHandle;
+use npr_tc_values::TcHandle;
 use std::alloc::{AllocError, Global};
 
 /// The data of a filter that matches each packet: `TCA_MATCHALL_*` of `linux/pkt_cls.h`.

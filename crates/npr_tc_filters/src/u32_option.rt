@@ -12,7 +12,7 @@ use npr_base::{
     At, Attribute, DecodeError, DefaultNla, EmitError, Form, Looks, Nla, NlaBuffer, Place, put_read,
 };
 use npr_tc_actions::{TcAction, TcActionPoliceOption};
-use npr_tc_qdiscs::TcHandle;
+use npr_tc_values::TcHandle;
 use std::alloc::{AllocError, Global};
 
 /// The data of a u32 filter: `TCA_U32_*` of `linux/pkt_cls.h`.

@@ -1,4 +1,1 @@
-pub mod CounterEquality
 pub mod EqualityLaws
-pub mod KeptUnder
-pub mod KindEquality

@@ -2,7 +2,7 @@
 use Rattle.npr_base.specs.declared.attribute_set.AttributeSet.TheVariants.{TcQdiscRed as AtTcQdiscRed}
 use Rattle.npr_base.specs.Tables.{EnumTable, table_of, row, others, ◌or◌, exactly, items, le32, leading, raw, value, refl, Reading, Family}
 use Rattle.npr_base.specs.Tables.{writing_of, attributes_of, family_of_table}
-use Rattle.npr_tc_qdiscs.specs.Bitfield.{bitfield}
+use Rattle.npr_tc_values.specs.Bitfield.{bitfield}
 use Rattle.npr_tc_qdiscs.specs.RedQopt.{red_qopt}
 use Rattle.npr_tc_qdiscs.specs.contracts.red.TcQdiscRedOption.{enum}
 use Rattle.npr_tc_qdiscs.specs.declared.red.TcQdiscRedOption.{TcQdiscRedOption}

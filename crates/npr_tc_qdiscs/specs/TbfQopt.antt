@@ -2,7 +2,7 @@
 use Rattle.std.proofs.Common.{refl}
 use Rattle.npr_base.specs.Fields.{le_four, ◌fills◌, ◌then◌, last, structure}
 use Rattle.npr_base.specs.Layout.{Layout}
-use Rattle.npr_tc_qdiscs.specs.RateSpec.{rate_field}
+use Rattle.npr_tc_values.specs.RateSpec.{rate_field}
 use Rattle.npr_tc_qdiscs.specs.contracts.tbf_qopt.TcTbfQopt.{struct}
 use Rattle.npr_tc_qdiscs.specs.declared.tbf_qopt.TcTbfQopt.{TcTbfQopt}
 

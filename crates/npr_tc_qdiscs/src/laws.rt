@@ -1,7 +1,7 @@
-//! The laws of handles, counters and queueing disciplines, over their definitions alone. Each function
-//! does nothing, and its contract is the law.
+//! The laws of queueing disciplines, over their definitions alone. Each function does nothing, and its contract
+//! is the law.
 
-ghost use Rattle.std.specs.Prelude.{◌≡◌, ◌<◌, ◌^◌, ◌∷◌, ◌++◌, [], ℕ, List, pos, codes, false};
+ghost use Rattle.std.specs.Prelude.{◌≡◌, ◌∷◌, [], ℕ, pos, codes};
 ghost use Rattle.{
   npr_base.specs.{Equality.{IsEquality, IsEqualityOf}},
   npr_tc_qdiscs.specs.{
@@ -10,13 +10,7 @@ ghost use Rattle.{
     CakeAtm.{cake_atms},
     CakeDiffservMode.{cake_diffserv_modes},
     CakeFlowMode.{cake_flow_modes},
-    CakeStat.{family as cake_stat_family},
-    CakeTin.{family as cake_tin_family},
-    CakeTinStat.{family as cake_tin_stat_family},
-    Form.{form_named},
     FqCodel.{family as fq_codel_family},
-    FqCodelXstats.{class, class_mark, counter_bytes, counters_in, fq_codel_xstats_of, has_mark, other, qdisc, qdisc_mark},
-    Handle.{handles},
     Fq.{family as fq_family},
     FqWeights.{fq_weights_of},
     Htb.{family as htb_family},
@@ -31,36 +25,24 @@ ghost use Rattle.{
     Ingress.{family as ingress_family},
     Stab.{family as stab_family},
     StabData.{stab_data_of},
-    Stats2.{family as stats2_family},
-    Xstats.{xstats_of},
-    declared.handle.TcHandle.{TcHandle as Handle},
+  },
+  npr_tc_values.specs.{
+    Form.{form_named},
   },
 };
 
-use crate::bitfield::TcBitfield;
 use crate::cake::TcQdiscCakeOption;
 use crate::cake_ack_filter::TcCakeAckFilter;
 use crate::cake_atm::TcCakeAtm;
 use crate::cake_diffserv_mode::TcCakeDiffservMode;
 use crate::cake_flow_mode::TcCakeFlowMode;
-use crate::cake_stat::TcCakeStat;
-use crate::cake_tin::TcCakeTin;
-use crate::cake_tin_stat::TcCakeTinStat;
-use crate::estimator::TcEstimator;
 use crate::fifo_qopt::TcFifoQopt;
-use crate::form::TcForm;
 use crate::fq::TcQdiscFqOption;
 use crate::fq_codel::TcQdiscFqCodelOption;
-use crate::fq_codel_cl_stats::TcFqCodelClStats;
-use crate::fq_codel_qd_stats::TcFqCodelQdStats;
-use crate::fq_codel_xstats::TcFqCodelXstats;
-use crate::fq_qd_stats::TcFqQdStats;
 use crate::fq_weights::TcFqWeights;
-use crate::handle::TcHandle;
 use crate::htb::TcQdiscHtbOption;
 use crate::htb_glob::TcHtbGlob;
 use crate::htb_opt::TcHtbOpt;
-use crate::htb_xstats::TcHtbXstats;
 use crate::ingress::TcQdiscIngressOption;
 use crate::kinds::{
     TcQdiscCake, TcQdiscFq, TcQdiscFqCodel, TcQdiscHtb, TcQdiscIngress, TcQdiscMqprio,
@@ -81,32 +63,16 @@ use crate::netem_qopt::TcNetemQopt;
 use crate::netem_rate::TcNetemRate;
 use crate::netem_reorder::TcNetemReorder;
 use crate::netem_slot::TcNetemSlot;
-use crate::netem_xstats::TcNetemXstats;
 use crate::prio_qopt::TcPrioQopt;
-use crate::rate_spec::TcRateSpec;
 use crate::red::TcQdiscRedOption;
 use crate::red_qopt::TcRedQopt;
-use crate::red_xstats::TcRedXstats;
 use crate::sfq_qopt::TcSfqQopt;
-use crate::sfq_xstats::TcSfqXstats;
 use crate::size_spec::TcSizeSpec;
 use crate::stab::TcStab;
 use crate::stab_data::TcStabData;
-use crate::stats::TcStats;
-use crate::stats_basic::TcStatsBasic;
-use crate::stats_queue::TcStatsQueue;
-use crate::stats_rate_est::TcStatsRateEst;
-use crate::stats_rate_est64::TcStatsRateEst64;
-use crate::stats2::TcStats2;
 use crate::tbf::TcQdiscTbfOption;
 use crate::tbf_qopt::TcTbfQopt;
-use crate::xstats::TcXstats;
-
-/// What a number reads as is written as that number, and a handle is read again from its number.
-pub fn law_handles()
-    ensures number { (d : ℕ) → handles.number (handles.of d) ≡ d }
-    ensures back { (h : Handle) → h.minor < 2 ^ 16 → handles.of (handles.number h) ≡ h }
-{}
+use npr_tc_values::TcForm;
 
 /// What a number reads as is written as that number.
 pub fn law_numbers()
@@ -114,17 +80,6 @@ pub fn law_numbers()
     ensures atm { (d : ℕ) → cake_atms.number (cake_atms.of d) ≡ d }
     ensures flow { (d : ℕ) → cake_flow_modes.number (cake_flow_modes.of d) ≡ d }
     ensures ack_filter { (d : ℕ) → cake_ack_filters.number (cake_ack_filters.of d) ≡ d }
-{}
-
-/// The named handles and minor numbers (`linux/pkt_sched.h`).
-pub fn law_named_handles()
-    ensures unspec { TcHandle.UNSPEC ≡ handles.of 0 }
-    ensures root { TcHandle.ROOT ≡ handles.of 0xffffffff }
-    ensures ingress { TcHandle.INGRESS ≡ handles.of 0xfffffff1 }
-    ensures clsact { TcHandle.CLSACT ≡ handles.of 0xfffffff1 }
-    ensures min_priority { TcHandle.MIN_PRIORITY ≡ 0xffe0 }
-    ensures min_ingress { TcHandle.MIN_INGRESS ≡ 0xfff2 }
-    ensures min_egress { TcHandle.MIN_EGRESS ≡ 0xfff3 }
 {}
 
 /// What governs data under the kernel's names of the kinds.
@@ -154,28 +109,8 @@ pub fn law_forms()
     ensures unknown { form_named (codes "noqueue") ≡ TcForm.Kept }
 {}
 
-/// The counters of `fq_codel` are written as the bytes that they are read from; and they are read again
-/// from what they are written as, unless other bytes begin with a mark.
-pub fn law_counters()
-    ensures bytes { (bytes : List ℕ) → counter_bytes (counters_in bytes) ≡ bytes }
-    ensures qdisc { (bytes : List ℕ) → counters_in (qdisc_mark ++ bytes) ≡ qdisc bytes }
-    ensures class { (bytes : List ℕ) → counters_in (class_mark ++ bytes) ≡ class bytes }
-    ensures other { (bytes : List ℕ) → has_mark qdisc_mark bytes ≡ false → has_mark class_mark bytes ≡ false → counters_in bytes ≡ other bytes }
-{}
-
 /// Which value is the default.
 pub fn law_default()
-    ensures handle { (x : TcHandle) → ⟦<TcHandle as Default>⟧.is_default x → x ≡ handles.of 0 }
-    ensures bitfield { (x : TcBitfield) → ⟦<TcBitfield as Default>⟧.is_default x → x ≡ record { value = 0; selector = 0 } }
-    ensures form { (x : TcForm) → ⟦<TcForm as Default>⟧.is_default x → x ≡ TcForm.Kept }
-    ensures stats { (x : TcStats) → ⟦<TcStats as Default>⟧.is_default x
-        → x ≡ record { bytes = 0; packets = 0; drops = 0; overlimits = 0; bps = 0; pps = 0; qlen = 0; backlog = 0 } }
-    ensures basic { (x : TcStatsBasic) → ⟦<TcStatsBasic as Default>⟧.is_default x → x ≡ record { bytes = 0; packets = 0 } }
-    ensures queue { (x : TcStatsQueue) → ⟦<TcStatsQueue as Default>⟧.is_default x
-        → x ≡ record { qlen = 0; backlog = 0; drops = 0; requeues = 0; overlimits = 0 } }
-    ensures rate_est { (x : TcStatsRateEst) → ⟦<TcStatsRateEst as Default>⟧.is_default x → x ≡ record { bps = 0; pps = 0 } }
-    ensures rate_est64 { (x : TcStatsRateEst64) → ⟦<TcStatsRateEst64 as Default>⟧.is_default x → x ≡ record { bps = 0; pps = 0 } }
-    ensures estimator { (x : TcEstimator) → ⟦<TcEstimator as Default>⟧.is_default x → x ≡ record { interval = pos 0; ewma_log = 0 } }
     ensures size_spec { (x : TcSizeSpec) → ⟦<TcSizeSpec as Default>⟧.is_default x → x ≡ record {
       cell_log = 0;
       size_log = 0;
@@ -186,8 +121,6 @@ pub fn law_default()
       mtu = 0;
       tsize = 0;
     } }
-    ensures rate_spec { (x : TcRateSpec) → ⟦<TcRateSpec as Default>⟧.is_default x
-        → x ≡ record { cell_log = 0; linklayer = 0; overhead = 0; cell_align = pos 0; mpu = 0; rate = 0 } }
     ensures htb_opt { (x : TcHtbOpt) → ⟦<TcHtbOpt as Default>⟧.is_default x
         → x ≡ record { rate = record { cell_log = 0; linklayer = 0; overhead = 0; cell_align = pos 0; mpu = 0; rate = 0 }; ceil = record { cell_log = 0; linklayer = 0; overhead = 0; cell_align = pos 0; mpu = 0; rate = 0 }; buffer = 0; cbuffer = 0; quantum = 0; level = 0; prio = 0 } }
     ensures htb_glob { (x : TcHtbGlob) → ⟦<TcHtbGlob as Default>⟧.is_default x
@@ -227,17 +160,7 @@ pub fn law_default()
 
 /// `==` answers whether two values are equal.
 pub fn law_equality()
-    ensures handle { IsEquality ⟦<TcHandle as PartialEq>⟧.eq }
-    ensures bitfield { IsEquality ⟦<TcBitfield as PartialEq>⟧.eq }
-    ensures form { IsEquality ⟦<TcForm as PartialEq>⟧.eq }
-    ensures stats { IsEquality ⟦<TcStats as PartialEq>⟧.eq }
-    ensures basic { IsEquality ⟦<TcStatsBasic as PartialEq>⟧.eq }
-    ensures queue { IsEquality ⟦<TcStatsQueue as PartialEq>⟧.eq }
-    ensures rate_est { IsEquality ⟦<TcStatsRateEst as PartialEq>⟧.eq }
-    ensures rate_est64 { IsEquality ⟦<TcStatsRateEst64 as PartialEq>⟧.eq }
-    ensures estimator { IsEquality ⟦<TcEstimator as PartialEq>⟧.eq }
     ensures size_spec { IsEquality ⟦<TcSizeSpec as PartialEq>⟧.eq }
-    ensures rate_spec { IsEquality ⟦<TcRateSpec as PartialEq>⟧.eq }
     ensures htb_opt { IsEquality ⟦<TcHtbOpt as PartialEq>⟧.eq }
     ensures htb_glob { IsEquality ⟦<TcHtbGlob as PartialEq>⟧.eq }
     ensures tbf_qopt { IsEquality ⟦<TcTbfQopt as PartialEq>⟧.eq }
@@ -261,20 +184,11 @@ pub fn law_equality()
 
 /// `==` answers whether two values mean the same, where they hold a vector.
 pub fn law_equality_of_meanings()
-    ensures qd_stats { IsEqualityOf (λ x. x.bytes.items) ⟦<TcFqCodelQdStats as PartialEq>⟧.eq }
-    ensures cl_stats { IsEqualityOf (λ x. x.bytes.items) ⟦<TcFqCodelClStats as PartialEq>⟧.eq }
-    ensures fq_codel_xstats { IsEqualityOf fq_codel_xstats_of ⟦<TcFqCodelXstats as PartialEq>⟧.eq }
-    ensures xstats { IsEqualityOf xstats_of ⟦<TcXstats as PartialEq>⟧.eq }
     ensures stab_data { IsEqualityOf stab_data_of ⟦<TcStabData as PartialEq>⟧.eq }
     ensures fq_codel { IsEqualityOf fq_codel_family.meaning ⟦<TcQdiscFqCodelOption as PartialEq>⟧.eq }
     ensures ingress { IsEqualityOf ingress_family.meaning ⟦<TcQdiscIngressOption as PartialEq>⟧.eq }
     ensures stab { IsEqualityOf stab_family.meaning ⟦<TcStab as PartialEq>⟧.eq }
-    ensures htb_xstats { IsEqualityOf (λ x. x.bytes.items) ⟦<TcHtbXstats as PartialEq>⟧.eq }
-    ensures fq_qd_stats { IsEqualityOf (λ x. x.bytes.items) ⟦<TcFqQdStats as PartialEq>⟧.eq }
-    ensures red_xstats { IsEqualityOf (λ x. x.bytes.items) ⟦<TcRedXstats as PartialEq>⟧.eq }
-    ensures netem_xstats { IsEqualityOf (λ x. x.bytes.items) ⟦<TcNetemXstats as PartialEq>⟧.eq }
     ensures sfq_qopt { IsEqualityOf (λ x. x.bytes.items) ⟦<TcSfqQopt as PartialEq>⟧.eq }
-    ensures sfq_xstats { IsEqualityOf (λ x. x.bytes.items) ⟦<TcSfqXstats as PartialEq>⟧.eq }
     ensures fq_weights { IsEqualityOf fq_weights_of ⟦<TcFqWeights as PartialEq>⟧.eq }
     ensures htb { IsEqualityOf htb_family.meaning ⟦<TcQdiscHtbOption as PartialEq>⟧.eq }
     ensures tbf { IsEqualityOf tbf_family.meaning ⟦<TcQdiscTbfOption as PartialEq>⟧.eq }
@@ -284,11 +198,7 @@ pub fn law_equality_of_meanings()
     ensures netem_option { IsEqualityOf netem_option_family.meaning ⟦<TcQdiscNetemOption as PartialEq>⟧.eq }
     ensures netem { IsEqualityOf netem_of ⟦<TcNetem as PartialEq>⟧.eq }
     ensures cake { IsEqualityOf cake_family.meaning ⟦<TcQdiscCakeOption as PartialEq>⟧.eq }
-    ensures cake_tin_stat { IsEqualityOf cake_tin_stat_family.meaning ⟦<TcCakeTinStat as PartialEq>⟧.eq }
-    ensures cake_tin { IsEqualityOf cake_tin_family.meaning ⟦<TcCakeTin as PartialEq>⟧.eq }
-    ensures cake_stat { IsEqualityOf cake_stat_family.meaning ⟦<TcCakeStat as PartialEq>⟧.eq }
     ensures mqprio_entry { IsEqualityOf mqprio_entry_family.meaning ⟦<TcMqprioEntry as PartialEq>⟧.eq }
     ensures mqprio_option { IsEqualityOf mqprio_option_family.meaning ⟦<TcQdiscMqprioOption as PartialEq>⟧.eq }
     ensures mqprio { IsEqualityOf mqprio_of ⟦<TcMqprio as PartialEq>⟧.eq }
-    ensures stats2 { IsEqualityOf stats2_family.meaning ⟦<TcStats2 as PartialEq>⟧.eq }
 {}

@@ -1,6 +1,6 @@
 //! The data of `mqprio`: `struct tc_mqprio_qopt` and `TCA_MQPRIO_*` of `linux/pkt_sched.h`.
 
-ghost use Rattle.std.specs.Prelude.{◌≡◌, ◌≢◌, ◌≤◌, ◌<◌, ◌+◌, ◌∷◌, ◌++◌, [], ℕ, List, None, length, drop, IfOk, IfErr, IsErrOf, OnErr};
+ghost use Rattle.std.specs.Prelude.{◌≡◌, ◌≢◌, ◌≤◌, ◌<◌, ◌+◌, ◌++◌, ℕ, List, None, length, drop, IfOk, IfErr, IsErrOf, OnErr};
 ghost use Rattle.{
   npr_base.specs.{
     declared.refusal.DecodeError.TheVariants.{OutOfMemory},
@@ -11,7 +11,7 @@ ghost use Rattle.{
     Looks.{Answered, TakesInside},
     Refusal.{no_place},
   },
-  npr_tc_qdiscs.specs.Mqprio.{mqprio, mqprio_of},
+  npr_tc_qdiscs.specs.Mqprio.{mqprio, mqprio_of, options_place, space},
   npr_tc_qdiscs.specs.MqprioOption.{family},
 };
 
@@ -56,7 +56,7 @@ impl TcMqprio {
         ensures ok { IfOk result (λ x. mqprio.Reads bytes.now (mqprio_of x)) }
         ensures refused { IfErr result (λ e. e ≢ OutOfMemory → mqprio.Wrong no_place bytes.now e) }
         // Memory is taken behind a first whole attribute alone.
-        ensures memory { IsErrOf result OutOfMemory → (x : Item) × (rest : List ℕ) × Front (drop 84 bytes.now) x rest }
+        ensures memory { IsErrOf result OutOfMemory → (x : Item) × (rest : List ℕ) × Front (drop options_place bytes.now) x rest }
     {
         Self::read(alloc, bytes, &mut Looks::new())
     }
@@ -66,7 +66,7 @@ impl TcMqprio {
         ensures ok { IfOk result (λ x. mqprio.Reads bytes.now (mqprio_of x)) }
         ensures refused { IfErr result (λ e. e ≢ OutOfMemory → mqprio.Wrong no_place bytes.now e) }
         // Memory is taken behind a first whole attribute alone.
-        ensures memory { IsErrOf result OutOfMemory → (x : Item) × (rest : List ℕ) × Front (drop 84 bytes.now) x rest }
+        ensures memory { IsErrOf result OutOfMemory → (x : Item) × (rest : List ℕ) × Front (drop options_place bytes.now) x rest }
         ensures exact { Answered result → TakesInside mqprio.members.looks bytes.now looks.old looks.new }
         ensures bounded { AddsAtMost looks.old looks.new (length bytes.now) }
     {
@@ -104,9 +104,9 @@ impl TcMqprio {
     /// May panic where it is not as asked.
     fn write_behind(&self, out: &mut [u8]) -> usize
         requires fits { list_unfit (unfit_by family.writing) (written_by family.writing) (mqprio_of self.now).attributes ≡ None }
-        requires room { 2 + length (encodings (written_by family.writing) (mqprio_of self.now).attributes) ≤ length out.old }
-        ensures len { result ≡ 2 + length (encodings (written_by family.writing) (mqprio_of self.now).attributes) }
-        ensures after { Writes out.old out.new ((0 ∷ 0 ∷ []) ++ encodings (written_by family.writing) (mqprio_of self.now).attributes) }
+        requires room { length space + length (encodings (written_by family.writing) (mqprio_of self.now).attributes) ≤ length out.old }
+        ensures len { result ≡ length space + length (encodings (written_by family.writing) (mqprio_of self.now).attributes) }
+        ensures after { Writes out.old out.new (space ++ encodings (written_by family.writing) (mqprio_of self.now).attributes) }
     {
         let len = write_list(self.options.as_slice(), &mut out[2..]);
         write_array([0u8, 0], out);

@@ -3,11 +3,11 @@
 ghost use Rattle.std.specs.Prelude.{refl};
 ghost use Rattle.{npr_base.specs.Family.{shaped}, npr_tc_qdiscs.specs.Red.{family}};
 
-use crate::bitfield::TcBitfield;
 use crate::red_qopt::TcRedQopt;
 use npr_base::{
     At, Attribute, DecodeError, DefaultNla, EmitError, Form, Looks, Nla, NlaBuffer, Place,
 };
+use npr_tc_values::TcBitfield;
 use std::alloc::{AllocError, Global};
 
 /// The data of `red`: `TCA_RED_*` of `linux/pkt_sched.h`.

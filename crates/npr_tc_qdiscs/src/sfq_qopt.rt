@@ -3,11 +3,11 @@
 ghost use Rattle.std.specs.Prelude.{◌≡◌, ◌≤◌, ◌<◌, length, IfOk, OnErr};
 ghost use Rattle.{
   npr_base.specs.{Framing.{Writes}, Words.{words32, signed_words32}},
-  npr_tc_qdiscs.specs.FieldAt.{field_at, word8},
+  npr_tc_values.specs.FieldAt.{field_at, word8},
 };
 
-use crate::field_at::{byte_at, number_at};
 use npr_base::{read_bytes, write_bytes};
+use npr_tc_values::{byte_at, number_at};
 use std::alloc::{AllocError, Global};
 
 /// The data of `sfq`: `struct tc_sfq_qopt_v1`, or the older `struct tc_sfq_qopt` in front of it, of

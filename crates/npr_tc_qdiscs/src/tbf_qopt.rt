@@ -3,8 +3,8 @@
 ghost use Rattle.std.specs.Prelude.{◌≡◌, IfOk, IfErr};
 ghost use Rattle.{npr_base.specs.{Codec.{leading}, Refusal.{no_place}}, npr_tc_qdiscs.specs.TbfQopt.{tbf_qopt}};
 
-use crate::rate_spec::TcRateSpec;
 use npr_base::{DecodeError, EmitError, Emitable, leading_octets, write_array};
+use npr_tc_values::TcRateSpec;
 
 /// What `tbf` lets through.
 ///

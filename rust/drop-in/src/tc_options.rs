@@ -9,6 +9,7 @@ use crate::npr_tc_actions::action_option::TcActionOption as ActionData;
 use crate::npr_tc_actions::*;
 use crate::npr_tc_filters::*;
 use crate::npr_tc_qdiscs::*;
+use crate::npr_tc_values::*;
 use netlink_packet_core as core;
 use std::slice;
 

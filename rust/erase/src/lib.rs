@@ -25,7 +25,7 @@ use std::fs;
 use std::path::{Path, PathBuf};
 
 /// The libraries, each before those that stand on it.
-pub const LIBRARIES: [&str; 23] = [
+pub const LIBRARIES: [&str; 25] = [
     "npr_base",
     "npr_names",
     "netlink_packet_core",
@@ -44,6 +44,8 @@ pub const LIBRARIES: [&str; 23] = [
     "npr_route",
     "npr_namespace",
     "npr_nexthop",
+    "npr_stats",
+    "npr_tc_values",
     "npr_tc_qdiscs",
     "npr_tc_actions",
     "npr_tc_filters",

@@ -111,7 +111,7 @@ fn other_neighbours() -> [Table; 2] {
 }
 
 /// Tables that are small.
-fn small() -> [Table; 8] {
+fn small() -> [Table; 9] {
     let every = AddressFamily::Unspec;
     let buckets = GetNextHopBucket(NextHopMessage::default());
     [
@@ -150,6 +150,11 @@ fn small() -> [Table; 8] {
             "qdisc",
             "tc -j -s -d qdisc",
             dump(NUMBER, TcMessage::default()),
+        ),
+        table(
+            "stats",
+            "",
+            dump_stats(Global, NUMBER, 0x1f).expect("memory for a header"),
         ),
     ]
 }

@@ -6,7 +6,7 @@ use crate::memory::Global;
 use crate::route::RouteProtocol;
 use crate::{
     AddressFamily, RouteNetlinkMessage, address, address_label, envelope, link, neighbour,
-    neighbour_table, netconf, nexthop, nsid, prefix, route, rule, tc,
+    neighbour_table, netconf, nexthop, nsid, prefix, route, rule, stats, tc,
 };
 use netlink_packet_core as core;
 
@@ -140,6 +140,7 @@ all_emitable! {
     route: MplsLabel RouteAddress RouteCacheInfo RouteHeader RouteLwEnCapType RouteMfcStats
         RouteNextHop RouteProtocol RouteRealm RouteVia;
     rule: RuleHeader RulePortRange RuleUidRange;
+    stats: BridgeStpXstats BridgeVlanXstats HwStats64 MplsLinkStats StatsHeader;
     tc: TcActionGeneric TcActionMessageHeader TcBitfield TcBpfInstruction TcCsum TcEmatchHeader TcEmatchTreeHeader TcEstimator TcFifoQopt
         TcGactProbability TcHandle TcHeader TcHtbGlob TcHtbOpt TcMirror TcMqprioQopt TcNat
         TcNetemCorr TcNetemCorrupt TcNetemGeModel TcNetemGiModel TcNetemQopt TcNetemRate
@@ -297,11 +298,13 @@ alone! {
     link::LinkDpllPin;
     link::LinkProtocolDownReason;
     link::LinkVfInfo;
+    link::LinkVfPort;
     link::LinkXdp;
     link::MacVlanAddress;
     link::PeerAttribute;
     link::Prop;
     link::VfInfo;
+    link::VfPort;
     link::VfStats;
     link::VfVlan;
     link::VlanQosMapping;
@@ -328,6 +331,16 @@ alone! {
     route::RouteVxlanOpt;
     route::RouteXfrmTunnel;
     rule::RuleAttribute;
+    stats::BondAdStat;
+    stats::BondXstats;
+    stats::BridgeXstats;
+    stats::LinkXstats;
+    stats::MplsStats;
+    stats::OffloadHwInfo;
+    stats::OffloadHwState;
+    stats::OffloadXstats;
+    stats::StatsAfSpec;
+    stats::StatsAttribute;
     tc::TcAction;
     tc::TcActionBpfOption;
     tc::TcActionCsumOption;

@@ -1,5 +1,6 @@
 //! Messages of Linux rtnetlink on links, addresses, routes, rules, neighbours and their tables, next hops,
-//! name spaces, settings, address labels, prefixes and traffic control: bytes to typed values and back.
+//! name spaces, settings, address labels, prefixes, statistics and traffic control: bytes to typed values and
+//! back.
 //!
 //! What a socket gives is gone through message by message:
 //!

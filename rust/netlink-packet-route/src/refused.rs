@@ -12,6 +12,7 @@ use crate::netconf::NetconfHeader;
 use crate::nexthop::NextHopHeader;
 use crate::nsid::NsidHeader;
 use crate::prefix::PrefixHeader;
+use crate::stats::StatsHeader;
 use crate::route::RouteHeader;
 use crate::rule::RuleHeader;
 use crate::tc::{TcActionMessageHeader, TcHeader};
@@ -107,6 +108,7 @@ fn each_request_that_is_refused_is_answered() {
         of_files::<PrefixHeader>(MessageKind::Prefix, &["prefix"]),
         of_files::<TcHeader>(MessageKind::Tc, &["tc"]),
         of_files::<TcActionMessageHeader>(MessageKind::TcAction, &["tc-action"]),
+        of_files::<StatsHeader>(MessageKind::Stats, &["stats"]),
     ];
     let count: usize = counts.iter().sum();
     println!("{count} requests refused, each answered");

@@ -53,6 +53,7 @@ fn next_hops_and_small_messages() {
         "address-label",
         "neighbour-table",
         "prefix",
+        "stats",
     ] {
         assert!(compare(word, &[word]) > 0);
     }

@@ -78,7 +78,7 @@ fn reads_attributes(rt: HostRuntime) -> Result<(), Fail> {
             [PhysSwitchId([0, 1, 2, 3, 4, 5, 6, 7, 8, 9, 10, 11, 12, 13, 14, 15, 16, 17, 18, 19, 20, 21, \
             22, 23, 24, 25, 26, 27, 28, 29, 30, 31])]
         10001800 0c000100 08000100 05000000 => \
-            [Other(DefaultNla { kind: 24, value: [12, 0, 1, 0, 8, 0, 1, 0, 5, 0, 0, 0] })]";
+            [VfPorts([Port([Vf(5)])])]";
     messages::<LinkMessage>(&rt, ETHERNET, lines)
 }
 

@@ -33,6 +33,23 @@ fn tells_settings(rt: HostRuntime) -> Result<(), Fail> {
     shows(&rt, [of(0), of(1), of(u32::MAX)], "[false, true, false]")
 }
 
+/// Ports as IEEE 802.1Qbg has them: those of virtual functions, and a link's own.
+#[test]
+fn reads_ports(rt: HostRuntime) -> Result<(), Fail> {
+    let lines = "
+        48001800 44000100 08000100 02000000 09000200 76706e31 00000000 14000400 00010203 04050607 08090a0b \
+            0c0d0e0f 05000600 02000000 06000700 03000000 08000300 01020304 -> \
+            48001800 44000100 08000100 02000000 09000200 76706e31 00000000 14000400 00010203 04050607 08090a0b \
+            0c0d0e0f 05000600 02000000 06000700 03000000 08000300 01020304 => \
+            [VfPorts([Port([Vf(2), Profile(\"vpn1\"), InstanceUuid([0, 1, 2, 3, 4, 5, 6, 7, 8, 9, 10, 11, 12, \
+            13, 14, 15]), Request(2), Response(3), Other(DefaultNla { kind: 3, value: [1, 2, 3, 4] })])])]
+        1c001980 06000700 00010000 10000580 00010203 04050607 08090a0b => a value of 12 bytes at attribute 5 of VfPort
+        0c001980 06000700 00010000 -> 0c001900 06000700 00010000 => [PortSelf([Response(256)])]
+        08001800 04000200 => [VfPorts([Other(DefaultNla { kind: 2, value: [] })])]
+        0c001900 08000200 ff000000 => no UTF-8 at attribute 2 of VfPort";
+    messages::<LinkMessage>(&rt, FOUR, lines)
+}
+
 /// The pin that a link is clocked by, and its port of devlink, are written with NESTED.
 #[test]
 fn reads_pins(rt: HostRuntime) -> Result<(), Fail> {

@@ -14,5 +14,3 @@ mod header_family;
 mod info;
 #[cfg(test)]
 mod kinds;
-#[cfg(test)]
-mod small;

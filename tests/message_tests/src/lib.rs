@@ -25,4 +25,6 @@ mod route;
 #[cfg(test)]
 mod rule;
 #[cfg(test)]
+mod small;
+#[cfg(test)]
 mod values;

@@ -9,7 +9,7 @@ use netlink_packet_route::framing::{Emitable, Parseable, to_vec};
 use netlink_packet_route::link::LinkExtentMask;
 use netlink_packet_route::request::{
     dump_address_labels, dump_addresses, dump_links, dump_neighbour_tables, dump_neighbours,
-    dump_netconfs, dump_next_hops, dump_nsids, dump_routes, dump_rules,
+    dump_netconfs, dump_next_hops, dump_nsids, dump_routes, dump_rules, dump_stats,
 };
 use netlink_packet_route::{AddressFamily, RouteNetlinkMessage};
 use npr_testing::{bytes_of, holds, same, shows, writes};
@@ -326,6 +326,12 @@ fn dumps_of_small_messages_are_asked_for(rt: HostRuntime) -> Result<(), Fail> {
         &rt,
         settings,
         &["14000000 5200 0103 07000000 00000000 0a000000"],
+    )?;
+    let statistics = dump_stats(alloc, 7, 0x1f)?;
+    writes(
+        &rt,
+        statistics,
+        &["1c000000 5e00 0103 07000000 00000000 00000000 00000000 1f000000"],
     )?;
     let labels = dump_address_labels(alloc, 7, AddressFamily::Inet6);
     writes(

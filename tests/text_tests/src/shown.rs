@@ -28,6 +28,7 @@ neighbour-tables 0
 prefixes 0
 tc 0
 tc-actions 0
+stats 0
 others 0
 controls 0
 refused 0

@@ -7,7 +7,7 @@ use Rattle.npr_base.specs.declared.refusal.DecodeError.{DecodeError}
 use Rattle.npr_base.specs.Framing.{Item, number_of}
 use Rattle.npr_base.specs.Looks.{Inside, nothing, looked_through, TakesInside}
 use Rattle.npr_base.specs.ByNumber.{looking_within}
-use Rattle.npr_tc_qdiscs.specs.declared.form.TcForm.{TcForm}
+use Rattle.npr_tc_values.specs.declared.form.TcForm.{TcForm}
 use Rattle.npr_tc.specs.Attribute.{Meaning, meaning, attributes, rest, IsRest, MeansSaid, RestReads}
 use Rattle.npr_tc.specs.Options.{AreData, AreNoData, TakesLooks, Kind, kept, holding, Options, Said, kind_of, options, options_of, said, said_by, unknown}
 use Rattle.npr_tc.specs.declared.attribute.TcAttribute.{TcAttribute}

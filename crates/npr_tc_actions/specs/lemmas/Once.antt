@@ -5,9 +5,9 @@ use Rattle.npr_base.specs.declared.refusal.DecodeError.{DecodeError}
 use Rattle.npr_base.specs.Framing.{Item, number_of}
 use Rattle.npr_base.specs.lemmas.Fails.{FailsOnce, InsideOnce, list-once, once_then, rows-once}
 use Rattle.npr_base.specs.lemmas.ShortList.{Plain}
-use Rattle.npr_tc_qdiscs.specs.lemmas.StatsOnce.{stats2_once}
-use Rattle.npr_tc_qdiscs.specs.Stats2 as OfStats2
-use Rattle.npr_tc_qdiscs.specs.declared.form.TcForm.TheVariants.{Kept as NoData}
+use Rattle.npr_tc_values.specs.lemmas.StatsOnce.{stats2_once}
+use Rattle.npr_tc_values.specs.Stats2 as OfStats2
+use Rattle.npr_tc_values.specs.declared.form.TcForm.TheVariants.{Kept as NoData}
 use Rattle.npr_tc_actions.specs.ActionOption.{action_option}
 use Rattle.npr_tc_actions.specs.Attribute.{Meaning, attributes, table, tells}
 use Rattle.npr_tc_actions.specs.contracts.attribute.TcActionAttribute.{enum}

@@ -14,7 +14,7 @@ use Rattle.npr_base.proofs.IpLaws.{ipv4_equality, ipv6_equality}
 use Rattle.npr_base.proofs.MeaningLaws.{text_equality}
 use Rattle.npr_tc_actions.proofs.EqualityLaws.{action_equality}
 use Rattle.npr_tc_actions.proofs.EncEquality.{enc_option_equality}
-use Rattle.npr_tc_qdiscs.proofs.EqualityLaws.{handle_equality}
+use Rattle.npr_tc_values.proofs.EqualityLaws.{handle_equality}
 use Rattle.npr_tc_filters.specs.Flower.{table, family}
 use Rattle.npr_tc_filters.specs.FlowerCfm as OfCfm
 use Rattle.npr_tc_filters.specs.FlowerHeld.{Helds, helds, held_in, same_held, tag_in, same_option}

@@ -5,7 +5,7 @@
 use netlink_packet_route::framing::{DecodeError, Header, Message, WriteError};
 use netlink_packet_route::{
     address, address_label, link, neighbour, neighbour_table, netconf, nexthop, nsid, prefix, route,
-    rule, tc,
+    rule, stats, tc,
 };
 use std::process::ExitCode;
 
@@ -30,6 +30,7 @@ const KINDS: &[(&str, Answer)] = &[
     ("prefix", answer::<prefix::PrefixHeader>),
     ("tc", answer::<tc::TcHeader>),
     ("tc-action", answer::<tc::TcActionMessageHeader>),
+    ("stats", answer::<stats::StatsHeader>),
 ];
 
 fn answer<H: Header>(bytes: &[u8]) -> Result<String, String> {

@@ -19,6 +19,7 @@ use super::library::nsid::NsidHeader;
 use super::library::prefix::PrefixHeader;
 use super::library::route::RouteHeader;
 use super::library::rule::RuleHeader;
+use super::library::stats::StatsHeader;
 use super::library::tc::{TcActionMessageHeader, TcHeader};
 use super::library::{CanonicalError, MessageKind, RouteNetlinkMessage, canonical, validate};
 use std::fmt::Debug;
@@ -52,7 +53,7 @@ impl Kind {
     }
 }
 
-pub const KINDS: [Kind; 14] = [
+pub const KINDS: [Kind; 15] = [
     Kind {
         word: "address",
         answer: message::<AddressHeader>,
@@ -104,6 +105,10 @@ pub const KINDS: [Kind; 14] = [
     Kind {
         word: "tc-action",
         answer: message::<TcActionMessageHeader>,
+    },
+    Kind {
+        word: "stats",
+        answer: message::<StatsHeader>,
     },
     Kind {
         word: "datagrams",

@@ -23,3 +23,6 @@ returns-clause-prefix c = c.law_cut-11.ensures tt
 
 pub returns-clause-tc_action : goal.returns-clause-tc_action
 returns-clause-tc_action c = c.law_cut-13.ensures tt
+
+pub returns-clause-stats : goal.returns-clause-stats
+returns-clause-stats c = c.law_cut-14.ensures tt

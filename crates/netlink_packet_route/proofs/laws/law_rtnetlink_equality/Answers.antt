@@ -13,12 +13,13 @@ use Rattle.npr_neighbour.specs.NeighbourTableMessage.{neighbour_tables}
 use Rattle.npr_namespace.specs.NetconfMessage.{netconfs}
 use Rattle.npr_namespace.specs.NsidMessage.{nsids}
 use Rattle.npr_address.specs.PrefixMessage.{prefixes}
+use Rattle.npr_stats.specs.Message.{stats_messages}
 use Rattle.npr_tc.specs.ActionMessage.{messages as action_messages}
 use Rattle.npr_tc.specs.Message.{messages as tc_messages}
 use Rattle.netlink_packet_route.specs.RouteNetlinkMessage.{message, other_of, meaning_of}
 use Rattle.netlink_packet_route.specs.contracts.message.RouteNetlinkMessage.{enum}
 use Rattle.netlink_packet_route.specs.declared.message_type.Action.TheVariants.{New, Del, Get}
-use Rattle.netlink_packet_route.specs.declared.message_type.MessageType.TheVariants.{Of, SetLink, NewPrefix}
+use Rattle.netlink_packet_route.specs.declared.message_type.MessageType.TheVariants.{Of, SetLink, NewPrefix, NewStats}
 use Rattle.netlink_packet_route.specs.declared.message_type.MessageType.TheVariants.{NewNeighbourTable, GetNeighbourTable, SetNeighbourTable}
 use Rattle.netlink_packet_route.specs.declared.message_type.Subject.TheVariants.{Link, Address, Route, Neighbour, Rule, AddressLabel, Netconf, Nsid}
 use Rattle.netlink_packet_route.specs.declared.message_type.Subject.TheVariants.{NextHop, LinkProp, NextHopBucket}
@@ -75,6 +76,7 @@ returns-clause-inner c =
     (λ x. refl, one_meaning (view nsids) (message (Of Nsid New)) c.law_equality_of_meanings-2.ensures.nsid_message (message_one (Of Nsid New))) also
     (λ x. refl, one_meaning (view nsids) (message (Of Nsid Del)) c.law_equality_of_meanings-2.ensures.nsid_message (message_one (Of Nsid Del))) also
     (λ x. refl, one_meaning (view nsids) (message (Of Nsid Get)) c.law_equality_of_meanings-2.ensures.nsid_message (message_one (Of Nsid Get))) also
+    (λ x. refl, one_meaning (view stats_messages) (message NewStats) c.law_equality_of_meanings-5.ensures.message (message_one NewStats)) also
     (λ x. refl, one_meaning (view tc_messages) (message (Of TrafficChain New)) c.law_equality_of_meanings-4.ensures.message (message_one (Of TrafficChain New))) also
     (λ x. refl, one_meaning (view tc_messages) (message (Of TrafficChain Del)) c.law_equality_of_meanings-4.ensures.message (message_one (Of TrafficChain Del))) also
     (λ x. refl, one_meaning (view tc_messages) (message (Of TrafficChain Get)) c.law_equality_of_meanings-4.ensures.message (message_one (Of TrafficChain Get))) also

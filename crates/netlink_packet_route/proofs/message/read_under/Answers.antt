@@ -4,9 +4,10 @@ use Rattle.npr_base.specs.Message.{view}
 use Rattle.npr_link.specs.Message.{links}
 use Rattle.npr_neighbour.specs.NeighbourTableMessage.{neighbour_tables}
 use Rattle.npr_address.specs.PrefixMessage.{prefixes}
+use Rattle.npr_stats.specs.Message.{stats_messages}
 use Rattle.netlink_packet_route.specs.RouteNetlinkMessage.{Meaning, ReadsUnder, message, meaning_of}
 use Rattle.netlink_packet_route.specs.declared.message_type.MessageType.{MessageType}
-use Rattle.netlink_packet_route.specs.declared.message_type.MessageType.TheVariants.{SetLink, NewPrefix}
+use Rattle.netlink_packet_route.specs.declared.message_type.MessageType.TheVariants.{SetLink, NewPrefix, NewStats}
 use Rattle.netlink_packet_route.specs.declared.message_type.MessageType.TheVariants.{NewNeighbourTable, GetNeighbourTable, SetNeighbourTable}
 use Rattle.netlink_packet_route.proofs.message.read_under.Goals as goal
 
@@ -30,6 +31,13 @@ returns-in_ok-parse-in-NewPrefix-clause-ok c =
     let x : Meaning = message NewPrefix (view prefixes read.field-0) in
     let same = sym (sym c.of.ensures ∙ c.in-NewPrefix.is) in
     subst (λ (t : MessageType). ReadsUnder t c.args.message_type c.args.payload.now x) same (view prefixes read.field-0, read.ensures.ok, refl)
+
+pub returns-in_ok-parse-in-NewStats-clause-ok : goal.returns-in_ok-parse-in-NewStats-clause-ok
+returns-in_ok-parse-in-NewStats-clause-ok c =
+    let read = c.in_ok-parse-in-NewStats in
+    let x : Meaning = message NewStats (view stats_messages read.field-0) in
+    let same = sym (sym c.of.ensures ∙ c.in-NewStats.is) in
+    subst (λ (t : MessageType). ReadsUnder t c.args.message_type c.args.payload.now x) same (view stats_messages read.field-0, read.ensures.ok, refl)
 
 pub returns-in_ok-parse-in-NewNeighbourTable-clause-ok : goal.returns-in_ok-parse-in-NewNeighbourTable-clause-ok
 returns-in_ok-parse-in-NewNeighbourTable-clause-ok c =

@@ -1,5 +1,5 @@
 use Rattle.npr_base.specs.lemmas.FirstTold.{governs-one, first_governs}
-use Rattle.npr_tc_qdiscs.specs.declared.form.TcForm.TheVariants.{Kept}
+use Rattle.npr_tc_values.specs.declared.form.TcForm.TheVariants.{Kept}
 use Rattle.npr_tc.specs.Attribute.{alike, attributes, tells, told}
 use Rattle.npr_tc.proofs.laws.law_governing_form.Goals as goal
 

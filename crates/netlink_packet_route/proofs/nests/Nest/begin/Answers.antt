@@ -71,6 +71,15 @@ returns-in_ok-attributes-in-Prefix-clause-ok c =
 pub returns-in_ok-attributes-in-Prefix-clause-numbers : goal.returns-in_ok-attributes-in-Prefix-clause-numbers
 returns-in_ok-attributes-in-Prefix-clause-numbers c = plain-bytes At.Prefix refl refl
 
+pub returns-in_ok-attributes-in-Stats-clause-ok : goal.returns-in_ok-attributes-in-Stats-clause-ok
+returns-in_ok-attributes-in-Stats-clause-ok c =
+    let found = c.in_ok-attributes-in-Stats in
+    let (h, reads, behind, governs) = found.ensures.ok in
+    rw c.in-Stats.is (begun (form_of Kind.Stats) c.args.bytes.now h found.attributes.now tt reads behind refl)
+
+pub returns-in_ok-attributes-in-Stats-clause-numbers : goal.returns-in_ok-attributes-in-Stats-clause-numbers
+returns-in_ok-attributes-in-Stats-clause-numbers c = plain-bytes At.Stats refl refl
+
 pub returns-in_ok-attributes-in-TcAction-clause-ok : goal.returns-in_ok-attributes-in-TcAction-clause-ok
 returns-in_ok-attributes-in-TcAction-clause-ok c =
     let found = c.in_ok-attributes-in-TcAction in

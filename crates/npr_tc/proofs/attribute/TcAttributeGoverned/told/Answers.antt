@@ -1,7 +1,7 @@
 use Rattle.std.specs.Prelude.{◌==◌}
 use Rattle.std.proofs.Common.{ℕ, sym, ap, ◌∙◌}
 use Rattle.npr_base.specs.Unterminated.{name_told}
-use Rattle.npr_tc_qdiscs.specs.Form.{form_named}
+use Rattle.npr_tc_values.specs.Form.{form_named}
 use Rattle.npr_tc.proofs.attribute.TcAttributeGoverned.told.Goals as goal
 
 pub returns-in-1 : goal.returns-in-1

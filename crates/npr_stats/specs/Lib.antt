@@ -1,0 +1,17 @@
+pub mod AfSpec
+pub mod Attribute
+pub mod BondAdStat
+pub mod BondXstats
+pub mod BridgeMulticastStats
+pub mod BridgeStpXstats
+pub mod BridgeVlanXstats
+pub mod BridgeXstats
+pub mod Header
+pub mod HwStats64
+pub mod LinkXstats
+pub mod Message
+pub mod MplsLinkStats
+pub mod MplsStats
+pub mod OffloadHwInfo
+pub mod OffloadHwState
+pub mod OffloadXstats

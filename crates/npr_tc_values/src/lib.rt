@@ -1,0 +1,53 @@
+//! What all of traffic control stands on: handles, kinds, rates, and counters.
+#![tactic(auto)]
+
+mod bitfield;
+mod cake_stat;
+mod cake_tin;
+mod cake_tin_stat;
+mod estimator;
+mod field_at;
+mod form;
+mod fq_codel_cl_stats;
+mod fq_codel_qd_stats;
+mod fq_codel_xstats;
+mod fq_qd_stats;
+mod handle;
+mod htb_xstats;
+pub mod laws;
+mod netem_xstats;
+mod rate_spec;
+mod red_xstats;
+mod sfq_xstats;
+mod stats;
+mod stats2;
+mod stats_basic;
+mod stats_queue;
+mod stats_rate_est;
+mod stats_rate_est64;
+mod xstats;
+
+pub use bitfield::TcBitfield;
+pub use cake_stat::TcCakeStat;
+pub use cake_tin::TcCakeTin;
+pub use cake_tin_stat::TcCakeTinStat;
+pub use estimator::TcEstimator;
+pub use field_at::{byte_at, number_at};
+pub use form::{TcForm, form_of_name};
+pub use fq_codel_cl_stats::TcFqCodelClStats;
+pub use fq_codel_qd_stats::TcFqCodelQdStats;
+pub use fq_codel_xstats::TcFqCodelXstats;
+pub use fq_qd_stats::TcFqQdStats;
+pub use handle::TcHandle;
+pub use htb_xstats::TcHtbXstats;
+pub use netem_xstats::TcNetemXstats;
+pub use rate_spec::TcRateSpec;
+pub use red_xstats::TcRedXstats;
+pub use sfq_xstats::TcSfqXstats;
+pub use stats::{TcStats, TcStatsBuffer};
+pub use stats_basic::{TcStatsBasic, TcStatsBasicBuffer};
+pub use stats_queue::{TcStatsQueue, TcStatsQueueBuffer};
+pub use stats_rate_est::TcStatsRateEst;
+pub use stats_rate_est64::TcStatsRateEst64;
+pub use stats2::TcStats2;
+pub use xstats::TcXstats;
