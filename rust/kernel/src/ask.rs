@@ -1,5 +1,6 @@
 //! Asks a kernel for its tables, in the exact form that it tests where it is told to be strict.
 
+use crate::receive::receive;
 use crate::tables::{NUMBER, Table, classes, filters, first};
 use netlink_packet_route::RouteNetlinkMessage::{NewLink, NewQueueDiscipline};
 use netlink_packet_route::envelope::{
@@ -24,7 +25,7 @@ fn ask(socket: &Socket, table: &Table) -> Result<(Vec<u8>, Ended), Box<dyn Error
     let mut talk = Conversation::new(NUMBER, 0);
     let mut datagrams = Vec::new();
     loop {
-        let (datagram, _sender) = socket.recv_from_full()?;
+        let datagram = receive(socket)?;
         datagrams.extend_from_slice(&datagram);
         let mut walk = NetlinkIterator::new(&datagram);
         while let Some(answer) = talk.next(&mut walk) {

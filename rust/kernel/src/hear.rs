@@ -1,5 +1,6 @@
 //! Hears what a kernel tells of changes.
 
+use crate::receive::receive;
 use netlink_sys::{Socket, protocols::NETLINK_ROUTE};
 use std::error::Error;
 use std::fs::File;
@@ -24,8 +25,8 @@ pub fn hear(file: &str) -> Result<(), Box<dyn Error>> {
     }
     let mut kept = File::create(file)?;
     loop {
-        match socket.recv_from_full() {
-            Ok((datagram, _sender)) => kept.write_all(&datagram)?,
+        match receive(&socket) {
+            Ok(datagram) => kept.write_all(&datagram)?,
             Err(fault) if fault.raw_os_error() == Some(LOST) => {}
             Err(fault) => return Err(fault.into()),
         }

@@ -5,6 +5,7 @@
 mod ask;
 mod hear;
 mod read;
+mod receive;
 mod tables;
 
 use std::error::Error;
