@@ -10,7 +10,7 @@ ghost use Rattle.{
 use crate::address_label_attribute::AddressLabelAttribute;
 use npr_base::{
     AddressFamily, DecodeError, EmitError, Emitable, Header, Looks, Message, leading_octets,
-    write_array,
+    octets_at, write_array,
 };
 
 /// The length of `struct ifaddrlblmsg` of `linux/if_addrlabel.h`, in bytes.
@@ -62,8 +62,8 @@ impl AddressLabelMessageBuffer {
             family: b[0],
             prefix_len: b[2],
             flags: b[3],
-            index: u32::from_le_bytes([b[4], b[5], b[6], b[7]]),
-            sequence: u32::from_le_bytes([b[8], b[9], b[10], b[11]]),
+            index: u32::from_le_bytes(octets_at(b, 4)),
+            sequence: u32::from_le_bytes(octets_at(b, 8)),
         })
     }
 
@@ -152,8 +152,8 @@ impl Header for AddressLabelHeader {
             family: AddressFamily::from(b[0]),
             prefix_len: b[2],
             flags: b[3],
-            index: u32::from_le_bytes([b[4], b[5], b[6], b[7]]),
-            sequence: u32::from_le_bytes([b[8], b[9], b[10], b[11]]),
+            index: u32::from_le_bytes(octets_at(b, 4)),
+            sequence: u32::from_le_bytes(octets_at(b, 8)),
         }
     }
 

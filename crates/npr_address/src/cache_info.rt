@@ -3,7 +3,7 @@
 ghost use Rattle.std.specs.Prelude.{◌≡◌, ◌<◌, IfOk, IfErr};
 ghost use Rattle.{npr_base.specs.{Codec.{leading}, Refusal.{no_place}}, npr_address.specs.CacheInfo.{cache_info}};
 
-use npr_base::{DecodeError, EmitError, Emitable, leading_octets, write_array};
+use npr_base::{DecodeError, EmitError, Emitable, leading_octets, octets_at, write_array};
 
 /// How long an address is preferred and valid, in seconds, and when it was made and changed, in
 /// hundredths of a second since the start of the system.
@@ -33,10 +33,10 @@ impl CacheInfo {
     {
         let b = leading_octets(bytes, 16)?;
         Ok(CacheInfo {
-            ifa_preferred: u32::from_le_bytes([b[0], b[1], b[2], b[3]]),
-            ifa_valid: u32::from_le_bytes([b[4], b[5], b[6], b[7]]),
-            cstamp: u32::from_le_bytes([b[8], b[9], b[10], b[11]]),
-            tstamp: u32::from_le_bytes([b[12], b[13], b[14], b[15]]),
+            ifa_preferred: u32::from_le_bytes(octets_at(b, 0)),
+            ifa_valid: u32::from_le_bytes(octets_at(b, 4)),
+            cstamp: u32::from_le_bytes(octets_at(b, 8)),
+            tstamp: u32::from_le_bytes(octets_at(b, 12)),
         })
     }
 
@@ -44,13 +44,12 @@ impl CacheInfo {
     pub fn to_bytes(&self) -> [u8; 16]
         ensures { result ≡ cache_info.encode self.now }
     {
-        let [a0, a1, a2, a3] = self.ifa_preferred.to_le_bytes();
-        let [b0, b1, b2, b3] = self.ifa_valid.to_le_bytes();
-        let [c0, c1, c2, c3] = self.cstamp.to_le_bytes();
-        let [d0, d1, d2, d3] = self.tstamp.to_le_bytes();
-        [
-            a0, a1, a2, a3, b0, b1, b2, b3, c0, c1, c2, c3, d0, d1, d2, d3,
-        ]
+        let mut out = [0; 16];
+        write_array(self.ifa_preferred.to_le_bytes(), &mut out);
+        write_array(self.ifa_valid.to_le_bytes(), &mut out[4..]);
+        write_array(self.cstamp.to_le_bytes(), &mut out[8..]);
+        write_array(self.tstamp.to_le_bytes(), &mut out[12..]);
+        out
     }
 }
 

@@ -11,7 +11,8 @@ use crate::addr_scope::AddressScope;
 use crate::attribute::AddressAttribute;
 use bitflags::Flags;
 use npr_base::{
-    AddressFamily, DecodeError, EmitError, Emitable, Header, Looks, leading_octets, write_array,
+    AddressFamily, DecodeError, EmitError, Emitable, Header, Looks, leading_octets, octets_at,
+    write_array,
 };
 
 /// The length of `struct ifaddrmsg` of `linux/if_addr.h`, in bytes.
@@ -63,7 +64,7 @@ impl AddressMessageBuffer {
             prefix_len: b[1],
             flags: b[2],
             scope: b[3],
-            index: u32::from_le_bytes([b[4], b[5], b[6], b[7]]),
+            index: u32::from_le_bytes(octets_at(b, 4)),
         })
     }
 
@@ -145,7 +146,7 @@ impl Header for AddressHeader {
             prefix_len: b[1],
             flags: AddressHeaderFlags::from_bits_retain(b[2]),
             scope: AddressScope::from(b[3]),
-            index: u32::from_le_bytes([b[4], b[5], b[6], b[7]]),
+            index: u32::from_le_bytes(octets_at(b, 4)),
         }
     }
 

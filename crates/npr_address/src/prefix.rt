@@ -8,7 +8,8 @@ ghost use Rattle.{
 
 use crate::prefix_attribute::PrefixAttribute;
 use npr_base::{
-    DecodeError, EmitError, Emitable, Header, Looks, Message, leading_octets, write_array,
+    DecodeError, EmitError, Emitable, Header, Looks, Message, leading_octets, octets_at,
+    write_array,
 };
 
 /// The length of `struct prefixmsg` of `linux/rtnetlink.h`, in bytes.
@@ -65,8 +66,8 @@ impl PrefixMessageBuffer {
         Ok(PrefixMessageBuffer {
             prefix_family: b[0],
             pad1: b[1],
-            pad2: u16::from_le_bytes([b[2], b[3]]),
-            ifindex: i32::from_le_bytes([b[4], b[5], b[6], b[7]]),
+            pad2: u16::from_le_bytes(octets_at(b, 2)),
+            ifindex: i32::from_le_bytes(octets_at(b, 4)),
             prefix_type: b[8],
             prefix_len: b[9],
             flags: b[10],
@@ -160,7 +161,7 @@ impl Header for PrefixHeader {
         let b = &bytes[..PREFIXMSG_SIZE];
         PrefixHeader {
             prefix_family: b[0],
-            ifindex: i32::from_le_bytes([b[4], b[5], b[6], b[7]]),
+            ifindex: i32::from_le_bytes(octets_at(b, 4)),
             prefix_type: b[8],
             prefix_len: b[9],
             flags: b[10],

@@ -3,7 +3,7 @@
 ghost use Rattle.std.specs.Prelude.{◌≡◌, ◌<◌, IfOk, IfErr};
 ghost use Rattle.{npr_base.specs.{Codec.{leading}, Refusal.{no_place}}, npr_address.specs.PrefixCacheInfo.{cache_info}};
 
-use npr_base::{DecodeError, EmitError, Emitable, leading_octets, write_array};
+use npr_base::{DecodeError, EmitError, Emitable, leading_octets, octets_at, write_array};
 
 /// How long a prefix is preferred and valid: 8 bytes, two numbers of 4, little endian.
 #[derive(Clone, Copy, Debug, Default, PartialEq, Eq)]
@@ -25,8 +25,8 @@ impl CacheInfo {
     {
         let b = leading_octets(bytes, 8)?;
         Ok(CacheInfo {
-            preferred_time: u32::from_le_bytes([b[0], b[1], b[2], b[3]]),
-            valid_time: u32::from_le_bytes([b[4], b[5], b[6], b[7]]),
+            preferred_time: u32::from_le_bytes(octets_at(b, 0)),
+            valid_time: u32::from_le_bytes(octets_at(b, 4)),
         })
     }
 

@@ -26,3 +26,4 @@ pub mod MeaningLaws
 pub mod Unless
 pub mod NestLaws
 pub mod OtherRows
+mod Octets

@@ -107,6 +107,7 @@ pub use value_walk::Values;
 pub use values::borrow_octets;
 pub use values::ip_len;
 pub use values::leading_octets;
+pub use values::octets_at;
 pub use values::read_bool;
 pub use values::read_bytes;
 pub use values::read_i32;

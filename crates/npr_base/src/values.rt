@@ -8,6 +8,7 @@ ghost use Rattle.npr_base.specs.{
   Codec.{exactly, leading, raw},
   Ip.{octets_of},
   IpCodec.{ip},
+  MoreFields.{bytes_at},
   Name.{name},
   NameText.{IsUnterminated},
   Refusal.{no_place},
@@ -68,6 +69,21 @@ pub fn leading_octets(bytes: &[u8], want: usize) -> Result<&[u8], DecodeError>
         });
     }
     Ok(&bytes[..want])
+}
+
+/// So many bytes at this place of a structure. Asks that they are there.
+///
+/// # Panics
+/// May panic where it is not as asked.
+#[inline(always)]
+pub fn octets_at<const N: usize>(bytes: &[u8], at: usize) -> [u8; N]
+    requires { at + N ≤ length bytes.now }
+    ensures { result ≡ bytes_at N bytes.now at }
+{
+    match bytes[at..].first_chunk::<N>() {
+        Some(octets) => *octets,
+        None => unreachable!(),
+    }
 }
 
 /// A number of one byte.

@@ -3,7 +3,7 @@
 ghost use Rattle.std.specs.Prelude.{◌≡◌, ◌<◌, IfOk, IfErr};
 ghost use Rattle.{npr_base.specs.{Codec.{leading}, Refusal.{no_place}}, npr_link_bridge.specs.BridgeId.{bridge_id}};
 
-use npr_base::{DecodeError, EmitError, Emitable, leading_octets, write_array};
+use npr_base::{DecodeError, EmitError, Emitable, leading_octets, octets_at, write_array};
 
 /// The id of a bridge (IEEE 802.1D).
 #[derive(Clone, Copy, Debug, Default, PartialEq, Eq)]
@@ -28,8 +28,8 @@ impl BridgeId {
     {
         let b = leading_octets(bytes, 8)?;
         Ok(BridgeId {
-            priority: u16::from_be_bytes([b[0], b[1]]),
-            address: [b[2], b[3], b[4], b[5], b[6], b[7]],
+            priority: u16::from_be_bytes(octets_at(b, 0)),
+            address: octets_at(b, 2),
         })
     }
 

@@ -3,7 +3,7 @@
 ghost use Rattle.std.specs.Prelude.{◌≡◌, ◌<◌, IfOk, IfErr};
 ghost use Rattle.{npr_base.specs.{Codec.{leading}, Refusal.{no_place}}, npr_neighbour.specs.CacheInfo.{cache_info}};
 
-use npr_base::{DecodeError, EmitError, Emitable, leading_octets, write_array};
+use npr_base::{DecodeError, EmitError, Emitable, leading_octets, octets_at, write_array};
 
 /// When a neighbour was last confirmed, used and changed, in hundredths of a second before now, and
 /// how many hold it.
@@ -33,10 +33,10 @@ impl NeighbourCacheInfo {
     {
         let b = leading_octets(bytes, 16)?;
         Ok(NeighbourCacheInfo {
-            confirmed: u32::from_le_bytes([b[0], b[1], b[2], b[3]]),
-            used: u32::from_le_bytes([b[4], b[5], b[6], b[7]]),
-            updated: u32::from_le_bytes([b[8], b[9], b[10], b[11]]),
-            refcnt: u32::from_le_bytes([b[12], b[13], b[14], b[15]]),
+            confirmed: u32::from_le_bytes(octets_at(b, 0)),
+            used: u32::from_le_bytes(octets_at(b, 4)),
+            updated: u32::from_le_bytes(octets_at(b, 8)),
+            refcnt: u32::from_le_bytes(octets_at(b, 12)),
         })
     }
 
@@ -44,13 +44,12 @@ impl NeighbourCacheInfo {
     pub fn to_bytes(&self) -> [u8; 16]
         ensures { result ≡ cache_info.encode self.now }
     {
-        let [a0, a1, a2, a3] = self.confirmed.to_le_bytes();
-        let [b0, b1, b2, b3] = self.used.to_le_bytes();
-        let [c0, c1, c2, c3] = self.updated.to_le_bytes();
-        let [d0, d1, d2, d3] = self.refcnt.to_le_bytes();
-        [
-            a0, a1, a2, a3, b0, b1, b2, b3, c0, c1, c2, c3, d0, d1, d2, d3,
-        ]
+        let mut out = [0; 16];
+        write_array(self.confirmed.to_le_bytes(), &mut out);
+        write_array(self.used.to_le_bytes(), &mut out[4..]);
+        write_array(self.updated.to_le_bytes(), &mut out[8..]);
+        write_array(self.refcnt.to_le_bytes(), &mut out[12..]);
+        out
     }
 }
 

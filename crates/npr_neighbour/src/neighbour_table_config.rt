@@ -3,7 +3,7 @@
 ghost use Rattle.std.specs.Prelude.{◌≡◌, ◌<◌, IfOk, IfErr};
 ghost use Rattle.{npr_base.specs.{Codec.{leading}, Refusal.{no_place}}, npr_neighbour.specs.NeighbourTableConfig.{table_config}};
 
-use npr_base::{DecodeError, EmitError, Emitable, leading_octets, write_array};
+use npr_base::{DecodeError, EmitError, Emitable, leading_octets, octets_at, write_array};
 
 /// How a table of neighbours is made. Times are in milliseconds before now.
 #[derive(Clone, Copy, Debug, Default, PartialEq, Eq)]
@@ -43,15 +43,15 @@ impl NeighbourTableConfig {
     {
         let b = leading_octets(bytes, 32)?;
         Ok(NeighbourTableConfig {
-            key_len: u16::from_le_bytes([b[0], b[1]]),
-            entry_size: u16::from_le_bytes([b[2], b[3]]),
-            entries: u32::from_le_bytes([b[4], b[5], b[6], b[7]]),
-            last_flush: u32::from_le_bytes([b[8], b[9], b[10], b[11]]),
-            last_rand: u32::from_le_bytes([b[12], b[13], b[14], b[15]]),
-            hash_rand: u32::from_le_bytes([b[16], b[17], b[18], b[19]]),
-            hash_mask: u32::from_le_bytes([b[20], b[21], b[22], b[23]]),
-            hash_chain_gc: u32::from_le_bytes([b[24], b[25], b[26], b[27]]),
-            proxy_qlen: u32::from_le_bytes([b[28], b[29], b[30], b[31]]),
+            key_len: u16::from_le_bytes(octets_at(b, 0)),
+            entry_size: u16::from_le_bytes(octets_at(b, 2)),
+            entries: u32::from_le_bytes(octets_at(b, 4)),
+            last_flush: u32::from_le_bytes(octets_at(b, 8)),
+            last_rand: u32::from_le_bytes(octets_at(b, 12)),
+            hash_rand: u32::from_le_bytes(octets_at(b, 16)),
+            hash_mask: u32::from_le_bytes(octets_at(b, 20)),
+            hash_chain_gc: u32::from_le_bytes(octets_at(b, 24)),
+            proxy_qlen: u32::from_le_bytes(octets_at(b, 28)),
         })
     }
 
@@ -59,19 +59,17 @@ impl NeighbourTableConfig {
     pub fn to_bytes(&self) -> [u8; 32]
         ensures { result ≡ table_config.encode self.now }
     {
-        let [a0, a1] = self.key_len.to_le_bytes();
-        let [b0, b1] = self.entry_size.to_le_bytes();
-        let [c0, c1, c2, c3] = self.entries.to_le_bytes();
-        let [d0, d1, d2, d3] = self.last_flush.to_le_bytes();
-        let [e0, e1, e2, e3] = self.last_rand.to_le_bytes();
-        let [f0, f1, f2, f3] = self.hash_rand.to_le_bytes();
-        let [g0, g1, g2, g3] = self.hash_mask.to_le_bytes();
-        let [h0, h1, h2, h3] = self.hash_chain_gc.to_le_bytes();
-        let [i0, i1, i2, i3] = self.proxy_qlen.to_le_bytes();
-        [
-            a0, a1, b0, b1, c0, c1, c2, c3, d0, d1, d2, d3, e0, e1, e2, e3, f0, f1, f2, f3, g0, g1,
-            g2, g3, h0, h1, h2, h3, i0, i1, i2, i3,
-        ]
+        let mut out = [0; 32];
+        write_array(self.key_len.to_le_bytes(), &mut out);
+        write_array(self.entry_size.to_le_bytes(), &mut out[2..]);
+        write_array(self.entries.to_le_bytes(), &mut out[4..]);
+        write_array(self.last_flush.to_le_bytes(), &mut out[8..]);
+        write_array(self.last_rand.to_le_bytes(), &mut out[12..]);
+        write_array(self.hash_rand.to_le_bytes(), &mut out[16..]);
+        write_array(self.hash_mask.to_le_bytes(), &mut out[20..]);
+        write_array(self.hash_chain_gc.to_le_bytes(), &mut out[24..]);
+        write_array(self.proxy_qlen.to_le_bytes(), &mut out[28..]);
+        out
     }
 }
 

@@ -3,7 +3,7 @@
 ghost use Rattle.std.specs.Prelude.{◌≡◌, IfOk, IfErr};
 ghost use Rattle.{npr_base.specs.{Codec.{leading}, Refusal.{no_place}}, npr_route_values.specs.RouteCacheInfo.{route_cache_info}};
 
-use npr_base::{DecodeError, EmitError, Emitable, leading_octets, write_array};
+use npr_base::{DecodeError, EmitError, Emitable, leading_octets, octets_at, write_array};
 
 /// What the kernel remembers of a route.
 #[derive(Clone, Copy, Debug, Default, PartialEq, Eq)]
@@ -40,14 +40,14 @@ impl RouteCacheInfo {
     {
         let b = leading_octets(bytes, 32)?;
         Ok(RouteCacheInfo {
-            clntref: u32::from_le_bytes([b[0], b[1], b[2], b[3]]),
-            last_use: u32::from_le_bytes([b[4], b[5], b[6], b[7]]),
-            expires: u32::from_le_bytes([b[8], b[9], b[10], b[11]]),
-            error: u32::from_le_bytes([b[12], b[13], b[14], b[15]]),
-            used: u32::from_le_bytes([b[16], b[17], b[18], b[19]]),
-            id: u32::from_le_bytes([b[20], b[21], b[22], b[23]]),
-            ts: u32::from_le_bytes([b[24], b[25], b[26], b[27]]),
-            ts_age: u32::from_le_bytes([b[28], b[29], b[30], b[31]]),
+            clntref: u32::from_le_bytes(octets_at(b, 0)),
+            last_use: u32::from_le_bytes(octets_at(b, 4)),
+            expires: u32::from_le_bytes(octets_at(b, 8)),
+            error: u32::from_le_bytes(octets_at(b, 12)),
+            used: u32::from_le_bytes(octets_at(b, 16)),
+            id: u32::from_le_bytes(octets_at(b, 20)),
+            ts: u32::from_le_bytes(octets_at(b, 24)),
+            ts_age: u32::from_le_bytes(octets_at(b, 28)),
         })
     }
 
@@ -55,18 +55,16 @@ impl RouteCacheInfo {
     pub fn to_bytes(&self) -> [u8; 32]
         ensures { result ≡ route_cache_info.encode self.now }
     {
-        let [a0, a1, a2, a3] = self.clntref.to_le_bytes();
-        let [b0, b1, b2, b3] = self.last_use.to_le_bytes();
-        let [c0, c1, c2, c3] = self.expires.to_le_bytes();
-        let [d0, d1, d2, d3] = self.error.to_le_bytes();
-        let [e0, e1, e2, e3] = self.used.to_le_bytes();
-        let [f0, f1, f2, f3] = self.id.to_le_bytes();
-        let [g0, g1, g2, g3] = self.ts.to_le_bytes();
-        let [h0, h1, h2, h3] = self.ts_age.to_le_bytes();
-        [
-            a0, a1, a2, a3, b0, b1, b2, b3, c0, c1, c2, c3, d0, d1, d2, d3, e0, e1, e2, e3, f0, f1,
-            f2, f3, g0, g1, g2, g3, h0, h1, h2, h3,
-        ]
+        let mut out = [0; 32];
+        write_array(self.clntref.to_le_bytes(), &mut out);
+        write_array(self.last_use.to_le_bytes(), &mut out[4..]);
+        write_array(self.expires.to_le_bytes(), &mut out[8..]);
+        write_array(self.error.to_le_bytes(), &mut out[12..]);
+        write_array(self.used.to_le_bytes(), &mut out[16..]);
+        write_array(self.id.to_le_bytes(), &mut out[20..]);
+        write_array(self.ts.to_le_bytes(), &mut out[24..]);
+        write_array(self.ts_age.to_le_bytes(), &mut out[28..]);
+        out
     }
 }
 

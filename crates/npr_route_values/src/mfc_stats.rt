@@ -3,7 +3,7 @@
 ghost use Rattle.std.specs.Prelude.{◌≡◌, IfOk, IfErr};
 ghost use Rattle.{npr_base.specs.{Codec.{leading}, Refusal.{no_place}}, npr_route_values.specs.RouteMfcStats.{route_mfc_stats}};
 
-use npr_base::{DecodeError, EmitError, Emitable, leading_octets, write_array};
+use npr_base::{DecodeError, EmitError, Emitable, leading_octets, octets_at, write_array};
 
 /// How much a multicast route forwarded.
 #[derive(Clone, Copy, Debug, Default, PartialEq, Eq)]
@@ -30,9 +30,9 @@ impl RouteMfcStats {
     {
         let b = leading_octets(bytes, 24)?;
         Ok(RouteMfcStats {
-            packets: u64::from_le_bytes([b[0], b[1], b[2], b[3], b[4], b[5], b[6], b[7]]),
-            bytes: u64::from_le_bytes([b[8], b[9], b[10], b[11], b[12], b[13], b[14], b[15]]),
-            wrong_if: u64::from_le_bytes([b[16], b[17], b[18], b[19], b[20], b[21], b[22], b[23]]),
+            packets: u64::from_le_bytes(octets_at(b, 0)),
+            bytes: u64::from_le_bytes(octets_at(b, 8)),
+            wrong_if: u64::from_le_bytes(octets_at(b, 16)),
         })
     }
 
@@ -40,13 +40,11 @@ impl RouteMfcStats {
     pub fn to_bytes(&self) -> [u8; 24]
         ensures { result ≡ route_mfc_stats.encode self.now }
     {
-        let [a0, a1, a2, a3, a4, a5, a6, a7] = self.packets.to_le_bytes();
-        let [b0, b1, b2, b3, b4, b5, b6, b7] = self.bytes.to_le_bytes();
-        let [c0, c1, c2, c3, c4, c5, c6, c7] = self.wrong_if.to_le_bytes();
-        [
-            a0, a1, a2, a3, a4, a5, a6, a7, b0, b1, b2, b3, b4, b5, b6, b7, c0, c1, c2, c3, c4, c5,
-            c6, c7,
-        ]
+        let mut out = [0; 24];
+        write_array(self.packets.to_le_bytes(), &mut out);
+        write_array(self.bytes.to_le_bytes(), &mut out[8..]);
+        write_array(self.wrong_if.to_le_bytes(), &mut out[16..]);
+        out
     }
 }
 

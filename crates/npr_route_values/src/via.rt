@@ -18,7 +18,7 @@ ghost use Rattle.{
 
 use npr_base::{
     AddressFamily, At, DecodeError, EmitError, Emitable, IpAddr, Ipv4Addr, Ipv6Addr,
-    leading_octets, read_bytes, read_ipv4, read_ipv6, write_bytes,
+    leading_octets, octets_at, read_bytes, read_ipv4, read_ipv6, write_bytes,
 };
 use std::alloc::{AllocError, Global};
 
@@ -56,7 +56,7 @@ impl RouteViaBuffer {
     {
         let b = leading_octets(bytes, 2)?;
         Ok(RouteViaBuffer {
-            address_family: u16::from_le_bytes([b[0], b[1]]),
+            address_family: u16::from_le_bytes(octets_at(b, 0)),
         })
     }
 

@@ -11,7 +11,8 @@ use crate::attribute::RuleAttribute;
 use crate::flags::RuleFlags;
 use bitflags::Flags;
 use npr_base::{
-    AddressFamily, DecodeError, EmitError, Emitable, Header, Looks, leading_octets, write_array,
+    AddressFamily, DecodeError, EmitError, Emitable, Header, Looks, leading_octets, octets_at,
+    write_array,
 };
 
 /// The length of `struct fib_rule_hdr` of `linux/fib_rules.h`, in bytes.
@@ -79,7 +80,7 @@ impl RuleMessageBuffer {
             reserve_1: b[5],
             reserve_2: b[6],
             action: b[7],
-            flags: u32::from_le_bytes([b[8], b[9], b[10], b[11]]),
+            flags: u32::from_le_bytes(octets_at(b, 8)),
         })
     }
 
@@ -171,7 +172,7 @@ impl Header for RuleHeader {
             tos: b[3],
             table: b[4],
             action: RuleAction::from(b[7]),
-            flags: RuleFlags::from_bits_retain(u32::from_le_bytes([b[8], b[9], b[10], b[11]])),
+            flags: RuleFlags::from_bits_retain(u32::from_le_bytes(octets_at(b, 8))),
         }
     }
 

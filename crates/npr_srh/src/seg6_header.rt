@@ -18,7 +18,8 @@ ghost use Rattle.{
 use crate::seg6_mode::Seg6Mode;
 use crate::segments::check_header;
 use npr_base::{
-    DecodeError, EmitError, Ipv6Addr, Nla, Seg6Fault, leading_octets, read_v6_list, write_array,
+    DecodeError, EmitError, Ipv6Addr, Nla, Seg6Fault, leading_octets, octets_at, read_v6_list,
+    write_array,
 };
 use std::alloc::{AllocError, Global};
 
@@ -56,14 +57,14 @@ impl Seg6MessageBuffer {
     {
         let b = leading_octets(bytes, 12)?;
         Ok(Seg6MessageBuffer {
-            mode: u32::from_le_bytes([b[0], b[1], b[2], b[3]]),
+            mode: u32::from_le_bytes(octets_at(b, 0)),
             nexthdr: b[4],
             hdrlen: b[5],
             seg_type: b[6],
             segments_left: b[7],
             first_segment: b[8],
             flags: b[9],
-            tag: u16::from_le_bytes([b[10], b[11]]),
+            tag: u16::from_le_bytes(octets_at(b, 10)),
         })
     }
 

@@ -3,7 +3,7 @@
 ghost use Rattle.std.specs.Prelude.{◌≡◌, IfOk, IfErr};
 ghost use Rattle.{npr_base.specs.{Codec.{leading}, Refusal.{no_place}}, npr_stats.specs.BridgeVlanXstats.{bridge_vlan_xstats}};
 
-use npr_base::{DecodeError, EmitError, Emitable, leading_octets, write_array};
+use npr_base::{DecodeError, EmitError, Emitable, leading_octets, octets_at, write_array};
 
 /// What went by a VLAN of a bridge.
 ///
@@ -36,14 +36,12 @@ impl BridgeVlanXstats {
     {
         let b = leading_octets(bytes, 40)?;
         Ok(BridgeVlanXstats {
-            rx_bytes: u64::from_le_bytes([b[0], b[1], b[2], b[3], b[4], b[5], b[6], b[7]]),
-            rx_packets: u64::from_le_bytes([b[8], b[9], b[10], b[11], b[12], b[13], b[14], b[15]]),
-            tx_bytes: u64::from_le_bytes([b[16], b[17], b[18], b[19], b[20], b[21], b[22], b[23]]),
-            tx_packets: u64::from_le_bytes([
-                b[24], b[25], b[26], b[27], b[28], b[29], b[30], b[31],
-            ]),
-            vid: u16::from_le_bytes([b[32], b[33]]),
-            flags: u16::from_le_bytes([b[34], b[35]]),
+            rx_bytes: u64::from_le_bytes(octets_at(b, 0)),
+            rx_packets: u64::from_le_bytes(octets_at(b, 8)),
+            tx_bytes: u64::from_le_bytes(octets_at(b, 16)),
+            tx_packets: u64::from_le_bytes(octets_at(b, 24)),
+            vid: u16::from_le_bytes(octets_at(b, 32)),
+            flags: u16::from_le_bytes(octets_at(b, 34)),
         })
     }
 
@@ -51,16 +49,14 @@ impl BridgeVlanXstats {
     pub fn to_bytes(&self) -> [u8; 40]
         ensures { result ≡ bridge_vlan_xstats.encode self.now }
     {
-        let [a0, a1, a2, a3, a4, a5, a6, a7] = self.rx_bytes.to_le_bytes();
-        let [b0, b1, b2, b3, b4, b5, b6, b7] = self.rx_packets.to_le_bytes();
-        let [c0, c1, c2, c3, c4, c5, c6, c7] = self.tx_bytes.to_le_bytes();
-        let [d0, d1, d2, d3, d4, d5, d6, d7] = self.tx_packets.to_le_bytes();
-        let [e0, e1] = self.vid.to_le_bytes();
-        let [f0, f1] = self.flags.to_le_bytes();
-        [
-            a0, a1, a2, a3, a4, a5, a6, a7, b0, b1, b2, b3, b4, b5, b6, b7, c0, c1, c2, c3, c4, c5,
-            c6, c7, d0, d1, d2, d3, d4, d5, d6, d7, e0, e1, f0, f1, 0, 0, 0, 0,
-        ]
+        let mut out = [0; 40];
+        write_array(self.rx_bytes.to_le_bytes(), &mut out);
+        write_array(self.rx_packets.to_le_bytes(), &mut out[8..]);
+        write_array(self.tx_bytes.to_le_bytes(), &mut out[16..]);
+        write_array(self.tx_packets.to_le_bytes(), &mut out[24..]);
+        write_array(self.vid.to_le_bytes(), &mut out[32..]);
+        write_array(self.flags.to_le_bytes(), &mut out[34..]);
+        out
     }
 }
 

@@ -10,7 +10,7 @@ ghost use Rattle.{
 use crate::attribute::StatsAttribute;
 use npr_base::{
     AddressFamily, DecodeError, EmitError, Emitable, Header, Looks, Message, leading_octets,
-    write_array,
+    octets_at, write_array,
 };
 
 /// The length of `struct if_stats_msg` of `linux/if_link.h`, in bytes.
@@ -52,8 +52,8 @@ impl StatsMessageBuffer {
         let b = leading_octets(bytes, IF_STATS_MSG_SIZE)?;
         Ok(StatsMessageBuffer {
             family: b[0],
-            index: u32::from_le_bytes([b[4], b[5], b[6], b[7]]),
-            filter_mask: u32::from_le_bytes([b[8], b[9], b[10], b[11]]),
+            index: u32::from_le_bytes(octets_at(b, 4)),
+            filter_mask: u32::from_le_bytes(octets_at(b, 8)),
         })
     }
 
@@ -125,8 +125,8 @@ impl Header for StatsHeader {
         let b = &bytes[..IF_STATS_MSG_SIZE];
         StatsHeader {
             family: AddressFamily::from(b[0]),
-            index: u32::from_le_bytes([b[4], b[5], b[6], b[7]]),
-            filter_mask: u32::from_le_bytes([b[8], b[9], b[10], b[11]]),
+            index: u32::from_le_bytes(octets_at(b, 4)),
+            filter_mask: u32::from_le_bytes(octets_at(b, 8)),
         }
     }
 

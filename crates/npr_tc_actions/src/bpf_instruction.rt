@@ -3,7 +3,7 @@
 ghost use Rattle.std.specs.Prelude.{◌≡◌, IfOk, IfErr};
 ghost use Rattle.{npr_base.specs.{Codec.{leading}, Refusal.{no_place}}, npr_tc_actions.specs.BpfInstruction.{instruction, instruction_width}};
 
-use npr_base::{Block, DecodeError, EmitError, Emitable, leading_octets, write_array};
+use npr_base::{Block, DecodeError, EmitError, Emitable, leading_octets, octets_at, write_array};
 
 /// An instruction of a classic program.
 ///
@@ -68,10 +68,10 @@ impl Block for TcBpfInstruction {
 
     fn in_front(b: &[u8]) -> Self {
         TcBpfInstruction {
-            code: u16::from_le_bytes([b[0], b[1]]),
+            code: u16::from_le_bytes(octets_at(b, 0)),
             jt: b[2],
             jf: b[3],
-            k: u32::from_le_bytes([b[4], b[5], b[6], b[7]]),
+            k: u32::from_le_bytes(octets_at(b, 4)),
         }
     }
 

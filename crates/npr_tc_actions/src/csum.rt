@@ -7,7 +7,7 @@ ghost use Rattle.{npr_base.specs.{Codec.{leading}, Refusal.{no_place}}, npr_tc_a
 use crate::csum_flags::TcCsumFlags;
 use crate::generic::TcActionGeneric;
 use bitflags::Flags;
-use npr_base::{DecodeError, EmitError, Emitable, leading_octets, write_array};
+use npr_base::{DecodeError, EmitError, Emitable, leading_octets, octets_at, write_array};
 
 /// Which checksums an action makes anew, with what every action has.
 ///
@@ -33,9 +33,7 @@ impl TcCsum {
         let b = leading_octets(bytes, 24)?;
         Ok(TcCsum {
             generic: TcActionGeneric::in_front(b),
-            update_flags: TcCsumFlags::from_bits_retain(u32::from_le_bytes([
-                b[20], b[21], b[22], b[23],
-            ])),
+            update_flags: TcCsumFlags::from_bits_retain(u32::from_le_bytes(octets_at(b, 20))),
         })
     }
 

@@ -6,7 +6,9 @@ ghost use Rattle.{npr_base.specs.{Codec.{leading}, Refusal.{no_place}}, npr_tc_a
 use crate::generic::TcActionGeneric;
 use crate::nat_flags::TcNatFlags;
 use bitflags::Flags;
-use npr_base::{DecodeError, EmitError, Emitable, Ipv4Addr, leading_octets, write_array};
+use npr_base::{
+    DecodeError, EmitError, Emitable, Ipv4Addr, leading_octets, octets_at, write_array,
+};
 
 /// How an action changes addresses: `struct tc_nat` of `linux/tc_act/tc_nat.h`, 36 bytes, what every
 /// action has, three addresses of 4 bytes, and the flags in 4, little endian.
@@ -57,7 +59,7 @@ impl TcNat {
             old_addr: Ipv4Addr::new(b[20], b[21], b[22], b[23]),
             new_addr: Ipv4Addr::new(b[24], b[25], b[26], b[27]),
             mask: Ipv4Addr::new(b[28], b[29], b[30], b[31]),
-            flags: TcNatFlags::from_bits_retain(u32::from_le_bytes([b[32], b[33], b[34], b[35]])),
+            flags: TcNatFlags::from_bits_retain(u32::from_le_bytes(octets_at(b, 32))),
         })
     }
 

@@ -5,7 +5,7 @@ ghost use Rattle.std.specs.Prelude.{◌≡◌, IfOk, IfErr};
 ghost use Rattle.{npr_base.specs.{Codec.{leading}, Refusal.{no_place}}, npr_tc_actions.specs.TunnelKey.{tunnel_key}};
 
 use crate::generic::TcActionGeneric;
-use npr_base::{DecodeError, EmitError, Emitable, leading_octets, write_array};
+use npr_base::{DecodeError, EmitError, Emitable, leading_octets, octets_at, write_array};
 
 /// What an action does with the metadata of tunnels: `struct tc_tunnel_key` of
 /// `linux/tc_act/tc_tunnel_key.h`, 24 bytes, what every action has, and a signed number of 4 bytes,
@@ -30,7 +30,7 @@ impl TcTunnelKey {
         let b = leading_octets(bytes, 24)?;
         Ok(TcTunnelKey {
             generic: TcActionGeneric::in_front(b),
-            t_action: i32::from_le_bytes([b[20], b[21], b[22], b[23]]),
+            t_action: i32::from_le_bytes(octets_at(b, 20)),
         })
     }
 

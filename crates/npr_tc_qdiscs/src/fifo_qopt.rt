@@ -3,7 +3,7 @@
 ghost use Rattle.std.specs.Prelude.{◌≡◌, IfOk, IfErr};
 ghost use Rattle.{npr_base.specs.{Codec.{leading}, Refusal.{no_place}}, npr_tc_qdiscs.specs.FifoQopt.{fifo_qopt}};
 
-use npr_base::{DecodeError, EmitError, Emitable, leading_octets, write_array};
+use npr_base::{DecodeError, EmitError, Emitable, leading_octets, octets_at, write_array};
 
 /// How much a queue holds.
 ///
@@ -25,7 +25,7 @@ impl TcFifoQopt {
     {
         let b = leading_octets(bytes, 4)?;
         Ok(TcFifoQopt {
-            limit: u32::from_le_bytes([b[0], b[1], b[2], b[3]]),
+            limit: u32::from_le_bytes(octets_at(b, 0)),
         })
     }
 

@@ -3,7 +3,7 @@
 ghost use Rattle.std.specs.Prelude.{◌≡◌, IfOk, IfErr};
 ghost use Rattle.{npr_base.specs.{Codec.{leading}, Refusal.{no_place}}, npr_tc_qdiscs.specs.HtbGlob.{htb_glob}};
 
-use npr_base::{DecodeError, EmitError, Emitable, leading_octets, write_array};
+use npr_base::{DecodeError, EmitError, Emitable, leading_octets, octets_at, write_array};
 
 /// What holds for all classes of `htb`.
 ///
@@ -33,11 +33,11 @@ impl TcHtbGlob {
     {
         let b = leading_octets(bytes, 20)?;
         Ok(TcHtbGlob {
-            version: u32::from_le_bytes([b[0], b[1], b[2], b[3]]),
-            rate2quantum: u32::from_le_bytes([b[4], b[5], b[6], b[7]]),
-            defcls: u32::from_le_bytes([b[8], b[9], b[10], b[11]]),
-            debug: u32::from_le_bytes([b[12], b[13], b[14], b[15]]),
-            direct_pkts: u32::from_le_bytes([b[16], b[17], b[18], b[19]]),
+            version: u32::from_le_bytes(octets_at(b, 0)),
+            rate2quantum: u32::from_le_bytes(octets_at(b, 4)),
+            defcls: u32::from_le_bytes(octets_at(b, 8)),
+            debug: u32::from_le_bytes(octets_at(b, 12)),
+            direct_pkts: u32::from_le_bytes(octets_at(b, 16)),
         })
     }
 
@@ -45,14 +45,13 @@ impl TcHtbGlob {
     pub fn to_bytes(&self) -> [u8; 20]
         ensures { result ≡ htb_glob.encode self.now }
     {
-        let [a0, a1, a2, a3] = self.version.to_le_bytes();
-        let [b0, b1, b2, b3] = self.rate2quantum.to_le_bytes();
-        let [c0, c1, c2, c3] = self.defcls.to_le_bytes();
-        let [d0, d1, d2, d3] = self.debug.to_le_bytes();
-        let [e0, e1, e2, e3] = self.direct_pkts.to_le_bytes();
-        [
-            a0, a1, a2, a3, b0, b1, b2, b3, c0, c1, c2, c3, d0, d1, d2, d3, e0, e1, e2, e3,
-        ]
+        let mut out = [0; 20];
+        write_array(self.version.to_le_bytes(), &mut out);
+        write_array(self.rate2quantum.to_le_bytes(), &mut out[4..]);
+        write_array(self.defcls.to_le_bytes(), &mut out[8..]);
+        write_array(self.debug.to_le_bytes(), &mut out[12..]);
+        write_array(self.direct_pkts.to_le_bytes(), &mut out[16..]);
+        out
     }
 }
 

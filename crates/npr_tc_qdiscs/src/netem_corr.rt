@@ -3,7 +3,7 @@
 ghost use Rattle.std.specs.Prelude.{◌≡◌, IfOk, IfErr};
 ghost use Rattle.{npr_base.specs.{Codec.{leading}, Refusal.{no_place}}, npr_tc_qdiscs.specs.NetemCorr.{netem_corr}};
 
-use npr_base::{DecodeError, EmitError, Emitable, leading_octets, write_array};
+use npr_base::{DecodeError, EmitError, Emitable, leading_octets, octets_at, write_array};
 
 /// How far one packet is as the last.
 ///
@@ -29,9 +29,9 @@ impl TcNetemCorr {
     {
         let b = leading_octets(bytes, 12)?;
         Ok(TcNetemCorr {
-            delay_corr: u32::from_le_bytes([b[0], b[1], b[2], b[3]]),
-            loss_corr: u32::from_le_bytes([b[4], b[5], b[6], b[7]]),
-            dup_corr: u32::from_le_bytes([b[8], b[9], b[10], b[11]]),
+            delay_corr: u32::from_le_bytes(octets_at(b, 0)),
+            loss_corr: u32::from_le_bytes(octets_at(b, 4)),
+            dup_corr: u32::from_le_bytes(octets_at(b, 8)),
         })
     }
 

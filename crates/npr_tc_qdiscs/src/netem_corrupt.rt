@@ -3,7 +3,7 @@
 ghost use Rattle.std.specs.Prelude.{◌≡◌, IfOk, IfErr};
 ghost use Rattle.{npr_base.specs.{Codec.{leading}, Refusal.{no_place}}, npr_tc_qdiscs.specs.NetemCorrupt.{netem_corrupt}};
 
-use npr_base::{DecodeError, EmitError, Emitable, leading_octets, write_array};
+use npr_base::{DecodeError, EmitError, Emitable, leading_octets, octets_at, write_array};
 
 /// How many packets are damaged.
 ///
@@ -27,8 +27,8 @@ impl TcNetemCorrupt {
     {
         let b = leading_octets(bytes, 8)?;
         Ok(TcNetemCorrupt {
-            probability: u32::from_le_bytes([b[0], b[1], b[2], b[3]]),
-            correlation: u32::from_le_bytes([b[4], b[5], b[6], b[7]]),
+            probability: u32::from_le_bytes(octets_at(b, 0)),
+            correlation: u32::from_le_bytes(octets_at(b, 4)),
         })
     }
 

@@ -3,7 +3,7 @@
 ghost use Rattle.std.specs.Prelude.{◌≡◌, IfOk, IfErr};
 ghost use Rattle.{npr_base.specs.{Codec.{leading}, Refusal.{no_place}}, npr_tc_qdiscs.specs.NetemGeModel.{netem_ge_model}};
 
-use npr_base::{DecodeError, EmitError, Emitable, leading_octets, write_array};
+use npr_base::{DecodeError, EmitError, Emitable, leading_octets, octets_at, write_array};
 
 /// The loss of packets by two states.
 ///
@@ -32,10 +32,10 @@ impl TcNetemGeModel {
     {
         let b = leading_octets(bytes, 16)?;
         Ok(TcNetemGeModel {
-            p: u32::from_le_bytes([b[0], b[1], b[2], b[3]]),
-            r: u32::from_le_bytes([b[4], b[5], b[6], b[7]]),
-            h: u32::from_le_bytes([b[8], b[9], b[10], b[11]]),
-            k1: u32::from_le_bytes([b[12], b[13], b[14], b[15]]),
+            p: u32::from_le_bytes(octets_at(b, 0)),
+            r: u32::from_le_bytes(octets_at(b, 4)),
+            h: u32::from_le_bytes(octets_at(b, 8)),
+            k1: u32::from_le_bytes(octets_at(b, 12)),
         })
     }
 
@@ -43,13 +43,12 @@ impl TcNetemGeModel {
     pub fn to_bytes(&self) -> [u8; 16]
         ensures { result ≡ netem_ge_model.encode self.now }
     {
-        let [a0, a1, a2, a3] = self.p.to_le_bytes();
-        let [b0, b1, b2, b3] = self.r.to_le_bytes();
-        let [c0, c1, c2, c3] = self.h.to_le_bytes();
-        let [d0, d1, d2, d3] = self.k1.to_le_bytes();
-        [
-            a0, a1, a2, a3, b0, b1, b2, b3, c0, c1, c2, c3, d0, d1, d2, d3,
-        ]
+        let mut out = [0; 16];
+        write_array(self.p.to_le_bytes(), &mut out);
+        write_array(self.r.to_le_bytes(), &mut out[4..]);
+        write_array(self.h.to_le_bytes(), &mut out[8..]);
+        write_array(self.k1.to_le_bytes(), &mut out[12..]);
+        out
     }
 }
 

@@ -3,7 +3,7 @@
 ghost use Rattle.std.specs.Prelude.{◌≡◌, IfOk, IfErr};
 ghost use Rattle.{npr_base.specs.{Codec.{leading}, Refusal.{no_place}}, npr_tc_qdiscs.specs.NetemGiModel.{netem_gi_model}};
 
-use npr_base::{DecodeError, EmitError, Emitable, leading_octets, write_array};
+use npr_base::{DecodeError, EmitError, Emitable, leading_octets, octets_at, write_array};
 
 /// The loss of packets by four states.
 ///
@@ -34,11 +34,11 @@ impl TcNetemGiModel {
     {
         let b = leading_octets(bytes, 20)?;
         Ok(TcNetemGiModel {
-            p13: u32::from_le_bytes([b[0], b[1], b[2], b[3]]),
-            p31: u32::from_le_bytes([b[4], b[5], b[6], b[7]]),
-            p32: u32::from_le_bytes([b[8], b[9], b[10], b[11]]),
-            p14: u32::from_le_bytes([b[12], b[13], b[14], b[15]]),
-            p23: u32::from_le_bytes([b[16], b[17], b[18], b[19]]),
+            p13: u32::from_le_bytes(octets_at(b, 0)),
+            p31: u32::from_le_bytes(octets_at(b, 4)),
+            p32: u32::from_le_bytes(octets_at(b, 8)),
+            p14: u32::from_le_bytes(octets_at(b, 12)),
+            p23: u32::from_le_bytes(octets_at(b, 16)),
         })
     }
 
@@ -46,14 +46,13 @@ impl TcNetemGiModel {
     pub fn to_bytes(&self) -> [u8; 20]
         ensures { result ≡ netem_gi_model.encode self.now }
     {
-        let [a0, a1, a2, a3] = self.p13.to_le_bytes();
-        let [b0, b1, b2, b3] = self.p31.to_le_bytes();
-        let [c0, c1, c2, c3] = self.p32.to_le_bytes();
-        let [d0, d1, d2, d3] = self.p14.to_le_bytes();
-        let [e0, e1, e2, e3] = self.p23.to_le_bytes();
-        [
-            a0, a1, a2, a3, b0, b1, b2, b3, c0, c1, c2, c3, d0, d1, d2, d3, e0, e1, e2, e3,
-        ]
+        let mut out = [0; 20];
+        write_array(self.p13.to_le_bytes(), &mut out);
+        write_array(self.p31.to_le_bytes(), &mut out[4..]);
+        write_array(self.p32.to_le_bytes(), &mut out[8..]);
+        write_array(self.p14.to_le_bytes(), &mut out[12..]);
+        write_array(self.p23.to_le_bytes(), &mut out[16..]);
+        out
     }
 }
 

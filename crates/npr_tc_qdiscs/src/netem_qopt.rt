@@ -3,7 +3,7 @@
 ghost use Rattle.std.specs.Prelude.{◌≡◌, IfOk, IfErr};
 ghost use Rattle.{npr_base.specs.{Codec.{leading}, Refusal.{no_place}}, npr_tc_qdiscs.specs.NetemQopt.{netem_qopt}};
 
-use npr_base::{DecodeError, EmitError, Emitable, leading_octets, write_array};
+use npr_base::{DecodeError, EmitError, Emitable, leading_octets, octets_at, write_array};
 
 /// What `netem` does to packets.
 ///
@@ -35,12 +35,12 @@ impl TcNetemQopt {
     {
         let b = leading_octets(bytes, 24)?;
         Ok(TcNetemQopt {
-            latency: u32::from_le_bytes([b[0], b[1], b[2], b[3]]),
-            limit: u32::from_le_bytes([b[4], b[5], b[6], b[7]]),
-            loss: u32::from_le_bytes([b[8], b[9], b[10], b[11]]),
-            gap: u32::from_le_bytes([b[12], b[13], b[14], b[15]]),
-            duplicate: u32::from_le_bytes([b[16], b[17], b[18], b[19]]),
-            jitter: u32::from_le_bytes([b[20], b[21], b[22], b[23]]),
+            latency: u32::from_le_bytes(octets_at(b, 0)),
+            limit: u32::from_le_bytes(octets_at(b, 4)),
+            loss: u32::from_le_bytes(octets_at(b, 8)),
+            gap: u32::from_le_bytes(octets_at(b, 12)),
+            duplicate: u32::from_le_bytes(octets_at(b, 16)),
+            jitter: u32::from_le_bytes(octets_at(b, 20)),
         })
     }
 
@@ -48,16 +48,14 @@ impl TcNetemQopt {
     pub fn to_bytes(&self) -> [u8; 24]
         ensures { result ≡ netem_qopt.encode self.now }
     {
-        let [a0, a1, a2, a3] = self.latency.to_le_bytes();
-        let [b0, b1, b2, b3] = self.limit.to_le_bytes();
-        let [c0, c1, c2, c3] = self.loss.to_le_bytes();
-        let [d0, d1, d2, d3] = self.gap.to_le_bytes();
-        let [e0, e1, e2, e3] = self.duplicate.to_le_bytes();
-        let [f0, f1, f2, f3] = self.jitter.to_le_bytes();
-        [
-            a0, a1, a2, a3, b0, b1, b2, b3, c0, c1, c2, c3, d0, d1, d2, d3, e0, e1, e2, e3, f0, f1,
-            f2, f3,
-        ]
+        let mut out = [0; 24];
+        write_array(self.latency.to_le_bytes(), &mut out);
+        write_array(self.limit.to_le_bytes(), &mut out[4..]);
+        write_array(self.loss.to_le_bytes(), &mut out[8..]);
+        write_array(self.gap.to_le_bytes(), &mut out[12..]);
+        write_array(self.duplicate.to_le_bytes(), &mut out[16..]);
+        write_array(self.jitter.to_le_bytes(), &mut out[20..]);
+        out
     }
 }
 

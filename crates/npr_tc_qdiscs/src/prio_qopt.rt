@@ -3,7 +3,7 @@
 ghost use Rattle.std.specs.Prelude.{◌≡◌, IfOk, IfErr};
 ghost use Rattle.{npr_base.specs.{Codec.{leading}, Refusal.{no_place}}, npr_tc_qdiscs.specs.PrioQopt.{prio_qopt}};
 
-use npr_base::{DecodeError, EmitError, Emitable, leading_octets, write_array};
+use npr_base::{DecodeError, EmitError, Emitable, leading_octets, octets_at, write_array};
 
 /// The bands of `prio`.
 ///
@@ -28,11 +28,8 @@ impl TcPrioQopt {
     {
         let b = leading_octets(bytes, 20)?;
         Ok(TcPrioQopt {
-            bands: i32::from_le_bytes([b[0], b[1], b[2], b[3]]),
-            priomap: [
-                b[4], b[5], b[6], b[7], b[8], b[9], b[10], b[11], b[12], b[13], b[14], b[15],
-                b[16], b[17], b[18], b[19],
-            ],
+            bands: i32::from_le_bytes(octets_at(b, 0)),
+            priomap: octets_at(b, 4),
         })
     }
 

@@ -3,7 +3,7 @@
 ghost use Rattle.std.specs.Prelude.{◌≡◌, IfOk, IfErr};
 ghost use Rattle.{npr_base.specs.{Codec.{leading}, Refusal.{no_place}}, npr_tc_qdiscs.specs.RedQopt.{red_qopt}};
 
-use npr_base::{DecodeError, EmitError, Emitable, leading_octets, write_array};
+use npr_base::{DecodeError, EmitError, Emitable, leading_octets, octets_at, write_array};
 
 /// When `red` drops.
 ///
@@ -38,9 +38,9 @@ impl TcRedQopt {
     {
         let b = leading_octets(bytes, 16)?;
         Ok(TcRedQopt {
-            limit: u32::from_le_bytes([b[0], b[1], b[2], b[3]]),
-            qth_min: u32::from_le_bytes([b[4], b[5], b[6], b[7]]),
-            qth_max: u32::from_le_bytes([b[8], b[9], b[10], b[11]]),
+            limit: u32::from_le_bytes(octets_at(b, 0)),
+            qth_min: u32::from_le_bytes(octets_at(b, 4)),
+            qth_max: u32::from_le_bytes(octets_at(b, 8)),
             wlog: b[12],
             plog: b[13],
             scell_log: b[14],
@@ -52,27 +52,15 @@ impl TcRedQopt {
     pub fn to_bytes(&self) -> [u8; 16]
         ensures { result ≡ red_qopt.encode self.now }
     {
-        let [a0, a1, a2, a3] = self.limit.to_le_bytes();
-        let [b0, b1, b2, b3] = self.qth_min.to_le_bytes();
-        let [c0, c1, c2, c3] = self.qth_max.to_le_bytes();
-        [
-            a0,
-            a1,
-            a2,
-            a3,
-            b0,
-            b1,
-            b2,
-            b3,
-            c0,
-            c1,
-            c2,
-            c3,
-            self.wlog,
-            self.plog,
-            self.scell_log,
-            self.flags,
-        ]
+        let mut out = [0; 16];
+        write_array(self.limit.to_le_bytes(), &mut out);
+        write_array(self.qth_min.to_le_bytes(), &mut out[4..]);
+        write_array(self.qth_max.to_le_bytes(), &mut out[8..]);
+        out[12] = self.wlog;
+        out[13] = self.plog;
+        out[14] = self.scell_log;
+        out[15] = self.flags;
+        out
     }
 }
 

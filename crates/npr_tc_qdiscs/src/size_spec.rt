@@ -3,7 +3,7 @@
 ghost use Rattle.std.specs.Prelude.{◌≡◌, IfOk, IfErr};
 ghost use Rattle.{npr_base.specs.{Codec.{leading}, Refusal.{no_place}}, npr_tc_qdiscs.specs.SizeSpec.{size_spec}};
 
-use npr_base::{DecodeError, EmitError, Emitable, leading_octets, write_array};
+use npr_base::{DecodeError, EmitError, Emitable, leading_octets, octets_at, write_array};
 
 /// How the size of a packet is looked up in a table of sizes.
 ///
@@ -42,12 +42,12 @@ impl TcSizeSpec {
         Ok(TcSizeSpec {
             cell_log: b[0],
             size_log: b[1],
-            cell_align: i16::from_le_bytes([b[2], b[3]]),
-            overhead: i32::from_le_bytes([b[4], b[5], b[6], b[7]]),
-            linklayer: u32::from_le_bytes([b[8], b[9], b[10], b[11]]),
-            mpu: u32::from_le_bytes([b[12], b[13], b[14], b[15]]),
-            mtu: u32::from_le_bytes([b[16], b[17], b[18], b[19]]),
-            tsize: u32::from_le_bytes([b[20], b[21], b[22], b[23]]),
+            cell_align: i16::from_le_bytes(octets_at(b, 2)),
+            overhead: i32::from_le_bytes(octets_at(b, 4)),
+            linklayer: u32::from_le_bytes(octets_at(b, 8)),
+            mpu: u32::from_le_bytes(octets_at(b, 12)),
+            mtu: u32::from_le_bytes(octets_at(b, 16)),
+            tsize: u32::from_le_bytes(octets_at(b, 20)),
         })
     }
 

@@ -3,7 +3,7 @@
 ghost use Rattle.std.specs.Prelude.{◌≡◌, IfOk, IfErr};
 ghost use Rattle.{npr_base.specs.{Codec.{leading}, Refusal.{no_place}}, npr_tc_values.specs.RateSpec.{rate_spec}};
 
-use npr_base::{DecodeError, EmitError, Emitable, leading_octets, write_array};
+use npr_base::{DecodeError, EmitError, Emitable, leading_octets, octets_at, write_array};
 
 /// A rate, as tables of rates are made for it.
 ///
@@ -35,9 +35,7 @@ impl TcRateSpec {
         ensures refused { IfErr result (λ e. (leading rate_spec).Wrong no_place bytes.now e) }
     {
         let b = leading_octets(bytes, 12)?;
-        Ok(Self::of([
-            b[0], b[1], b[2], b[3], b[4], b[5], b[6], b[7], b[8], b[9], b[10], b[11],
-        ]))
+        Ok(Self::of(octets_at(&b, 0)))
     }
 
     /// The values of these bytes.
@@ -47,10 +45,10 @@ impl TcRateSpec {
         TcRateSpec {
             cell_log: b[0],
             linklayer: b[1],
-            overhead: u16::from_le_bytes([b[2], b[3]]),
-            cell_align: i16::from_le_bytes([b[4], b[5]]),
-            mpu: u16::from_le_bytes([b[6], b[7]]),
-            rate: u32::from_le_bytes([b[8], b[9], b[10], b[11]]),
+            overhead: u16::from_le_bytes(octets_at(&b, 2)),
+            cell_align: i16::from_le_bytes(octets_at(&b, 4)),
+            mpu: u16::from_le_bytes(octets_at(&b, 6)),
+            rate: u32::from_le_bytes(octets_at(&b, 8)),
         }
     }
 

@@ -3,7 +3,7 @@
 ghost use Rattle.std.specs.Prelude.{◌≡◌, IfOk, IfErr};
 ghost use Rattle.{npr_base.specs.{Codec.{leading}, Refusal.{no_place}}, npr_tc_values.specs.Stats.{stats}};
 
-use npr_base::{DecodeError, EmitError, Emitable, leading_octets, write_array};
+use npr_base::{DecodeError, EmitError, Emitable, leading_octets, octets_at, write_array};
 
 /// What went by a queueing discipline or a class, in the older layout.
 ///
@@ -43,14 +43,14 @@ impl TcStats {
     {
         let b = leading_octets(bytes, 40)?;
         Ok(TcStats {
-            bytes: u64::from_le_bytes([b[0], b[1], b[2], b[3], b[4], b[5], b[6], b[7]]),
-            packets: u32::from_le_bytes([b[8], b[9], b[10], b[11]]),
-            drops: u32::from_le_bytes([b[12], b[13], b[14], b[15]]),
-            overlimits: u32::from_le_bytes([b[16], b[17], b[18], b[19]]),
-            bps: u32::from_le_bytes([b[20], b[21], b[22], b[23]]),
-            pps: u32::from_le_bytes([b[24], b[25], b[26], b[27]]),
-            qlen: u32::from_le_bytes([b[28], b[29], b[30], b[31]]),
-            backlog: u32::from_le_bytes([b[32], b[33], b[34], b[35]]),
+            bytes: u64::from_le_bytes(octets_at(b, 0)),
+            packets: u32::from_le_bytes(octets_at(b, 8)),
+            drops: u32::from_le_bytes(octets_at(b, 12)),
+            overlimits: u32::from_le_bytes(octets_at(b, 16)),
+            bps: u32::from_le_bytes(octets_at(b, 20)),
+            pps: u32::from_le_bytes(octets_at(b, 24)),
+            qlen: u32::from_le_bytes(octets_at(b, 28)),
+            backlog: u32::from_le_bytes(octets_at(b, 32)),
         })
     }
 
@@ -58,18 +58,16 @@ impl TcStats {
     pub fn to_bytes(&self) -> [u8; 40]
         ensures { result ≡ stats.encode self.now }
     {
-        let [a0, a1, a2, a3, a4, a5, a6, a7] = self.bytes.to_le_bytes();
-        let [b0, b1, b2, b3] = self.packets.to_le_bytes();
-        let [c0, c1, c2, c3] = self.drops.to_le_bytes();
-        let [d0, d1, d2, d3] = self.overlimits.to_le_bytes();
-        let [e0, e1, e2, e3] = self.bps.to_le_bytes();
-        let [f0, f1, f2, f3] = self.pps.to_le_bytes();
-        let [g0, g1, g2, g3] = self.qlen.to_le_bytes();
-        let [h0, h1, h2, h3] = self.backlog.to_le_bytes();
-        [
-            a0, a1, a2, a3, a4, a5, a6, a7, b0, b1, b2, b3, c0, c1, c2, c3, d0, d1, d2, d3, e0, e1,
-            e2, e3, f0, f1, f2, f3, g0, g1, g2, g3, h0, h1, h2, h3, 0, 0, 0, 0,
-        ]
+        let mut out = [0; 40];
+        write_array(self.bytes.to_le_bytes(), &mut out);
+        write_array(self.packets.to_le_bytes(), &mut out[8..]);
+        write_array(self.drops.to_le_bytes(), &mut out[12..]);
+        write_array(self.overlimits.to_le_bytes(), &mut out[16..]);
+        write_array(self.bps.to_le_bytes(), &mut out[20..]);
+        write_array(self.pps.to_le_bytes(), &mut out[24..]);
+        write_array(self.qlen.to_le_bytes(), &mut out[28..]);
+        write_array(self.backlog.to_le_bytes(), &mut out[32..]);
+        out
     }
 }
 

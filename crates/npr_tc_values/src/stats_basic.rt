@@ -3,7 +3,7 @@
 ghost use Rattle.std.specs.Prelude.{◌≡◌, IfOk, IfErr};
 ghost use Rattle.{npr_base.specs.{Codec.{leading}, Refusal.{no_place}}, npr_tc_values.specs.StatsBasic.{stats_basic}};
 
-use npr_base::{DecodeError, EmitError, Emitable, leading_octets, write_array};
+use npr_base::{DecodeError, EmitError, Emitable, leading_octets, octets_at, write_array};
 
 /// How much went by.
 ///
@@ -31,8 +31,8 @@ impl TcStatsBasic {
     {
         let b = leading_octets(bytes, 16)?;
         Ok(TcStatsBasic {
-            bytes: u64::from_le_bytes([b[0], b[1], b[2], b[3], b[4], b[5], b[6], b[7]]),
-            packets: u32::from_le_bytes([b[8], b[9], b[10], b[11]]),
+            bytes: u64::from_le_bytes(octets_at(b, 0)),
+            packets: u32::from_le_bytes(octets_at(b, 8)),
         })
     }
 
@@ -40,9 +40,10 @@ impl TcStatsBasic {
     pub fn to_bytes(&self) -> [u8; 16]
         ensures { result ≡ stats_basic.encode self.now }
     {
-        let [a0, a1, a2, a3, a4, a5, a6, a7] = self.bytes.to_le_bytes();
-        let [b0, b1, b2, b3] = self.packets.to_le_bytes();
-        [a0, a1, a2, a3, a4, a5, a6, a7, b0, b1, b2, b3, 0, 0, 0, 0]
+        let mut out = [0; 16];
+        write_array(self.bytes.to_le_bytes(), &mut out);
+        write_array(self.packets.to_le_bytes(), &mut out[8..]);
+        out
     }
 }
 

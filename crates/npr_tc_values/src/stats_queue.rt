@@ -3,7 +3,7 @@
 ghost use Rattle.std.specs.Prelude.{◌≡◌, IfOk, IfErr};
 ghost use Rattle.{npr_base.specs.{Codec.{leading}, Refusal.{no_place}}, npr_tc_values.specs.StatsQueue.{stats_queue}};
 
-use npr_base::{DecodeError, EmitError, Emitable, leading_octets, write_array};
+use npr_base::{DecodeError, EmitError, Emitable, leading_octets, octets_at, write_array};
 
 /// What waits in a queue, and what was dropped.
 ///
@@ -36,11 +36,11 @@ impl TcStatsQueue {
     {
         let b = leading_octets(bytes, 20)?;
         Ok(TcStatsQueue {
-            qlen: u32::from_le_bytes([b[0], b[1], b[2], b[3]]),
-            backlog: u32::from_le_bytes([b[4], b[5], b[6], b[7]]),
-            drops: u32::from_le_bytes([b[8], b[9], b[10], b[11]]),
-            requeues: u32::from_le_bytes([b[12], b[13], b[14], b[15]]),
-            overlimits: u32::from_le_bytes([b[16], b[17], b[18], b[19]]),
+            qlen: u32::from_le_bytes(octets_at(b, 0)),
+            backlog: u32::from_le_bytes(octets_at(b, 4)),
+            drops: u32::from_le_bytes(octets_at(b, 8)),
+            requeues: u32::from_le_bytes(octets_at(b, 12)),
+            overlimits: u32::from_le_bytes(octets_at(b, 16)),
         })
     }
 
@@ -48,14 +48,13 @@ impl TcStatsQueue {
     pub fn to_bytes(&self) -> [u8; 20]
         ensures { result ≡ stats_queue.encode self.now }
     {
-        let [a0, a1, a2, a3] = self.qlen.to_le_bytes();
-        let [b0, b1, b2, b3] = self.backlog.to_le_bytes();
-        let [c0, c1, c2, c3] = self.drops.to_le_bytes();
-        let [d0, d1, d2, d3] = self.requeues.to_le_bytes();
-        let [e0, e1, e2, e3] = self.overlimits.to_le_bytes();
-        [
-            a0, a1, a2, a3, b0, b1, b2, b3, c0, c1, c2, c3, d0, d1, d2, d3, e0, e1, e2, e3,
-        ]
+        let mut out = [0; 20];
+        write_array(self.qlen.to_le_bytes(), &mut out);
+        write_array(self.backlog.to_le_bytes(), &mut out[4..]);
+        write_array(self.drops.to_le_bytes(), &mut out[8..]);
+        write_array(self.requeues.to_le_bytes(), &mut out[12..]);
+        write_array(self.overlimits.to_le_bytes(), &mut out[16..]);
+        out
     }
 }
 

@@ -3,7 +3,7 @@
 ghost use Rattle.std.specs.Prelude.{◌≡◌, IfOk, IfErr};
 ghost use Rattle.{npr_base.specs.{Codec.{leading}, Refusal.{no_place}}, npr_tc_values.specs.StatsRateEst.{stats_rate_est}};
 
-use npr_base::{DecodeError, EmitError, Emitable, leading_octets, write_array};
+use npr_base::{DecodeError, EmitError, Emitable, leading_octets, octets_at, write_array};
 
 /// An estimated rate.
 ///
@@ -27,8 +27,8 @@ impl TcStatsRateEst {
     {
         let b = leading_octets(bytes, 8)?;
         Ok(TcStatsRateEst {
-            bps: u32::from_le_bytes([b[0], b[1], b[2], b[3]]),
-            pps: u32::from_le_bytes([b[4], b[5], b[6], b[7]]),
+            bps: u32::from_le_bytes(octets_at(b, 0)),
+            pps: u32::from_le_bytes(octets_at(b, 4)),
         })
     }
 

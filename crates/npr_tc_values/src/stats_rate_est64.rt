@@ -3,7 +3,7 @@
 ghost use Rattle.std.specs.Prelude.{◌≡◌, IfOk, IfErr};
 ghost use Rattle.{npr_base.specs.{Codec.{leading}, Refusal.{no_place}}, npr_tc_values.specs.StatsRateEst64.{stats_rate_est64}};
 
-use npr_base::{DecodeError, EmitError, Emitable, leading_octets, write_array};
+use npr_base::{DecodeError, EmitError, Emitable, leading_octets, octets_at, write_array};
 
 /// An estimated rate, with room for a large one.
 ///
@@ -27,8 +27,8 @@ impl TcStatsRateEst64 {
     {
         let b = leading_octets(bytes, 16)?;
         Ok(TcStatsRateEst64 {
-            bps: u64::from_le_bytes([b[0], b[1], b[2], b[3], b[4], b[5], b[6], b[7]]),
-            pps: u64::from_le_bytes([b[8], b[9], b[10], b[11], b[12], b[13], b[14], b[15]]),
+            bps: u64::from_le_bytes(octets_at(b, 0)),
+            pps: u64::from_le_bytes(octets_at(b, 8)),
         })
     }
 
@@ -36,11 +36,10 @@ impl TcStatsRateEst64 {
     pub fn to_bytes(&self) -> [u8; 16]
         ensures { result ≡ stats_rate_est64.encode self.now }
     {
-        let [a0, a1, a2, a3, a4, a5, a6, a7] = self.bps.to_le_bytes();
-        let [b0, b1, b2, b3, b4, b5, b6, b7] = self.pps.to_le_bytes();
-        [
-            a0, a1, a2, a3, a4, a5, a6, a7, b0, b1, b2, b3, b4, b5, b6, b7,
-        ]
+        let mut out = [0; 16];
+        write_array(self.bps.to_le_bytes(), &mut out);
+        write_array(self.pps.to_le_bytes(), &mut out[8..]);
+        out
     }
 }
 
