@@ -6,7 +6,7 @@ ghost use Rattle.{
   netlink_packet_route.specs.{Codec.{leading}, Refusal.{no_place}, Family.{shaped}},
 };
 
-use netlink_packet_route::family::{Place, leading_octets, octets_at};
+use netlink_packet_route::family::{Place, leading_octets};
 use netlink_packet_route::framing::{
     At, Attribute, DecodeError, DefaultNla, EmitError, Form, Looks, Nla, NlaBuffer,
 };
@@ -38,10 +38,10 @@ impl NeighbourCacheInfo {
     {
         let b = leading_octets(bytes, 16)?;
         Ok(NeighbourCacheInfo {
-            confirmed: u32::from_le_bytes(octets_at(b, 0)),
-            used: u32::from_le_bytes(octets_at(b, 4)),
-            updated: u32::from_le_bytes(octets_at(b, 8)),
-            references: u32::from_le_bytes(octets_at(b, 12)),
+            confirmed: u32::from_le_bytes([b[0], b[1], b[2], b[3]]),
+            used: u32::from_le_bytes([b[4], b[5], b[6], b[7]]),
+            updated: u32::from_le_bytes([b[8], b[9], b[10], b[11]]),
+            references: u32::from_le_bytes([b[12], b[13], b[14], b[15]]),
         })
     }
 

@@ -16,7 +16,7 @@ ghost use Rattle.{
 };
 
 use crate::neighbour::NeighbourAttribute;
-use netlink_packet_route::family::{octets_at, write_array};
+use netlink_packet_route::family::write_array;
 use netlink_packet_route::framing::{
     DecodeError, EmitError, Emitable, Header, Looks, Message, Parseable,
 };
@@ -93,8 +93,8 @@ impl Header for NeighbourHeader {
     fn in_front(b: &[u8]) -> Self {
         NeighbourHeader {
             family: AddressFamily::from(b[0]),
-            ifindex: u32::from_le_bytes(octets_at(b, 4)),
-            state: u16::from_le_bytes(octets_at(b, 8)),
+            ifindex: u32::from_le_bytes([b[4], b[5], b[6], b[7]]),
+            state: u16::from_le_bytes([b[8], b[9]]),
             flags: b[10],
             kind: RouteType::from(b[11]),
         }
