@@ -2,7 +2,7 @@
 //! `linux/rtnetlink.h`; and the names of kinds of messages.
 
 use bitflags::Flags;
-use netlink_packet_route::family::{octets_at, read_bytes, read_name};
+use netlink_packet_route::family::{read_bytes, read_name};
 use netlink_packet_route::framing::{At, DecodeError};
 use netlink_packet_route::route::{
     MplsLabel, RouteCacheInfo, RouteCacheInfoBuffer, RouteFlags, RouteMfcStats,
@@ -123,10 +123,9 @@ fn mfc_stats(rt: HostRuntime) -> Result<(), Fail> {
     writes(&rt, wanted, &texts)
 }
 
-/// Bytes stand at their place. More than a structure has are not looked at, and fewer are refused.
+/// More bytes than a structure has are not looked at, and fewer are refused.
 #[test]
 fn structures_at_the_front() -> Result<(), Fail> {
-    same(octets_at(&[1u8, 2, 3, 4], 1), [2, 3])?;
     let zeros = [0u8; 33];
     same(RouteCacheInfo::parse(&zeros)?, RouteCacheInfo::default())?;
     same(RouteMfcStats::parse(&zeros)?, RouteMfcStats::default())?;
