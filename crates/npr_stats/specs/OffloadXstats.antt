@@ -6,7 +6,7 @@ use Rattle.npr_base.specs.Words.{words64}
 use Rattle.npr_link_statistics.specs.Grown.{grown, parts}
 use Rattle.npr_link_statistics.specs.Names.{stats64}
 use Rattle.npr_stats.specs.HwStats64.{hw_stats64}
-use Rattle.npr_stats.specs.OffloadHwInfo as OfHwInfo
+use Rattle.npr_stats.specs.OffloadHwInfo as OfInfo
 use Rattle.npr_stats.specs.contracts.offload_xstats.OffloadXstats.{enum}
 use Rattle.npr_stats.specs.declared.offload_xstats.OffloadXstats.{OffloadXstats}
 
@@ -15,7 +15,7 @@ abbrev pub table : EnumTable enum
 table =
     table_of enum (
     row AtOffload 1 (grown words64 stats64) (seen (parts stats64) OffloadXstats.CpuHit)  -- IFLA_OFFLOAD_XSTATS_CPU_HIT
-    or marked_row AtOffload 2 (list_of AtHwInfo OfHwInfo.attributes) (listed OfHwInfo.family.meaning OffloadXstats.HwStatsInfo)  -- IFLA_OFFLOAD_XSTATS_HW_S_INFO
+    or marked_row AtOffload 2 (list_of AtHwInfo OfInfo.attributes) (listed OfInfo.family.meaning OffloadXstats.HwStatsInfo)  -- IFLA_OFFLOAD_XSTATS_HW_S_INFO
     or row AtOffload 3 (leading hw_stats64) (value OffloadXstats.L3Stats)  -- IFLA_OFFLOAD_XSTATS_L3_STATS
     or others (value OffloadXstats.Other)) refl refl
 
